@@ -1,0 +1,162 @@
+-- Worked examples of lengths and encodings: the definitions compute them.
+use Rattle.std.proofs.Common.{◌≡◌, true, List, ℕ, [], ◌∷◌, take, replicate, refl}
+use Rattle.picky_der_core.specs.Element.{len}
+use Rattle.picky_der_core.specs.Tree.{ListKind, Tree, trees}
+use Rattle.picky_der_core.specs.Encoding.{der}
+use Rattle.picky_der_core.proofs.OnLiterals.{der_on_literals}
+
+-- "Testolope" and "example.com"
+abbrev testolope : List ℕ
+testolope = 0x54 ∷ 0x65 ∷ 0x73 ∷ 0x74 ∷ 0x6F ∷ 0x6C ∷ 0x6F ∷ 0x70 ∷ 0x65 ∷ []
+
+abbrev example_com : List ℕ
+example_com = 0x65 ∷ 0x78 ∷ 0x61 ∷ 0x6D ∷ 0x70 ∷ 0x6C ∷ 0x65 ∷ 0x2E ∷ 0x63 ∷ 0x6F ∷ 0x6D ∷ []
+
+-- the identifier of RSA encryption, 1.2.840.113549.1.1.1
+abbrev rsa_encryption : List ℕ
+rsa_encryption = 0x2A ∷ 0x86 ∷ 0x48 ∷ 0x86 ∷ 0xF7 ∷ 0x0D ∷ 0x01 ∷ 0x01 ∷ 0x01 ∷ []
+
+-- ---- lengths
+
+length_10 : len 10 ≡ 0x0A ∷ []
+unfolding der_on_literals
+length_10 = refl
+
+length_127 : len 127 ≡ 0x7F ∷ []
+unfolding der_on_literals
+length_127 = refl
+
+length_128 : len 128 ≡ 0x81 ∷ 0x80 ∷ []
+unfolding der_on_literals
+length_128 = refl
+
+length_129 : len 129 ≡ 0x81 ∷ 0x81 ∷ []
+unfolding der_on_literals
+length_129 = refl
+
+length_290 : len 290 ≡ 0x82 ∷ 0x01 ∷ 0x22 ∷ []
+unfolding der_on_literals
+length_290 = refl
+
+length_greatest : len 0xFFFF_FFFF_FFFF_FFFF ≡ 0x88 ∷ replicate 8 0xFF
+unfolding der_on_literals
+length_greatest = refl
+
+-- ---- plain values
+
+zero : der (Tree.unsigned 0) ≡ 0x02 ∷ 0x01 ∷ 0x00 ∷ []
+unfolding der_on_literals
+zero = refl
+
+above_127 : der (Tree.unsigned 128) ≡ 0x02 ∷ 0x02 ∷ 0x00 ∷ 0x80 ∷ []
+unfolding der_on_literals
+above_127 = refl
+
+greatest : der (Tree.unsigned 0xFFFF_FFFF_FFFF_FFFF_FFFF_FFFF_FFFF_FFFF) ≡ 0x02 ∷ 0x11 ∷ 0x00 ∷ replicate 16 0xFF
+unfolding der_on_literals
+greatest = refl
+
+truth : der (Tree.boolean true) ≡ 0x01 ∷ 0x01 ∷ 0xFF ∷ []
+unfolding der_on_literals
+truth = refl
+
+nothing : der Tree.null ≡ 0x05 ∷ 0x00 ∷ []
+unfolding der_on_literals
+nothing = refl
+
+-- ---- lists
+
+struct : der (Tree.list ListKind.sequence (trees (Tree.unsigned 7 ∷ Tree.bytes 0x04 testolope ∷ Tree.list ListKind.sequence (trees (Tree.unsigned 4 ∷ Tree.null ∷ [])) ∷ [])))
+    ≡ 0x30 ∷ 0x15 ∷ 0x02 ∷ 0x01 ∷ 0x07 ∷ 0x04 ∷ 0x09 ∷ 0x54 ∷ 0x65 ∷ 0x73 ∷ 0x74 ∷ 0x6F ∷ 0x6C ∷ 0x6F ∷ 0x70 ∷ 0x65 ∷ 0x30 ∷ 0x05 ∷ 0x02 ∷ 0x01 ∷ 0x04 ∷ 0x05 ∷ 0x00 ∷ []
+unfolding der_on_literals
+struct = refl
+
+algorithm : der (Tree.list ListKind.sequence (trees (Tree.bytes 0x06 rsa_encryption ∷ Tree.null ∷ [])))
+    ≡ 0x30 ∷ 0x0D ∷ 0x06 ∷ 0x09 ∷ 0x2A ∷ 0x86 ∷ 0x48 ∷ 0x86 ∷ 0xF7 ∷ 0x0D ∷ 0x01 ∷ 0x01 ∷ 0x01 ∷ 0x05 ∷ 0x00 ∷ []
+unfolding der_on_literals
+algorithm = refl
+
+set_in_given_order : der (Tree.list ListKind.set (trees (Tree.unsigned 5 ∷ Tree.unsigned 3 ∷ []))) ≡ 0x31 ∷ 0x06 ∷ 0x02 ∷ 0x01 ∷ 0x05 ∷ 0x02 ∷ 0x01 ∷ 0x03 ∷ []
+unfolding der_on_literals
+set_in_given_order = refl
+
+-- ---- tags and containers
+
+application_10 : der (Tree.application 10 (Tree.bytes 0x0C example_com))
+    ≡ 0x6A ∷ 0x0D ∷ 0x0C ∷ 0x0B ∷ 0x65 ∷ 0x78 ∷ 0x61 ∷ 0x6D ∷ 0x70 ∷ 0x6C ∷ 0x65 ∷ 0x2E ∷ 0x63 ∷ 0x6F ∷ 0x6D ∷ []
+unfolding der_on_literals
+application_10 = refl
+
+application_30 : der (Tree.application 30 (Tree.unsigned 7)) ≡ 0x7E ∷ 0x03 ∷ 0x02 ∷ 0x01 ∷ 0x07 ∷ []
+unfolding der_on_literals
+application_30 = refl
+
+explicit_bit_container : der (Tree.explicit 0 (Tree.bit_container (Tree.unsigned 7))) ≡ 0xA0 ∷ 0x06 ∷ 0x03 ∷ 0x04 ∷ 0x00 ∷ 0x02 ∷ 0x01 ∷ 0x07 ∷ []
+unfolding der_on_literals
+explicit_bit_container = refl
+
+explicit_raw : der (Tree.explicit 0 (Tree.raw (0x02 ∷ 0x01 ∷ 0x07 ∷ []))) ≡ 0xA0 ∷ 0x03 ∷ 0x02 ∷ 0x01 ∷ 0x07 ∷ []
+unfolding der_on_literals
+explicit_raw = refl
+
+implicit_number : der (Tree.implicit 1 (Tree.unsigned 7)) ≡ 0x81 ∷ 0x01 ∷ 0x07 ∷ []
+unfolding der_on_literals
+implicit_number = refl
+
+implicit_sequence : der (Tree.implicit 1 (Tree.list ListKind.sequence (trees (Tree.unsigned 7 ∷ [])))) ≡ 0x81 ∷ 0x03 ∷ 0x02 ∷ 0x01 ∷ 0x07 ∷ []
+unfolding der_on_literals
+implicit_sequence = refl
+
+implicit_octet_container : der (Tree.implicit 1 (Tree.octet_container (Tree.unsigned 7))) ≡ 0x81 ∷ 0x05 ∷ 0x04 ∷ 0x03 ∷ 0x02 ∷ 0x01 ∷ 0x07 ∷ []
+unfolding der_on_literals
+implicit_octet_container = refl
+
+implicit_implicit : der (Tree.implicit 0 (Tree.implicit 1 (Tree.unsigned 7))) ≡ 0x80 ∷ 0x03 ∷ 0x81 ∷ 0x01 ∷ 0x07 ∷ []
+unfolding der_on_literals
+implicit_implicit = refl
+
+implicit_explicit : der (Tree.implicit 0 (Tree.explicit 1 (Tree.unsigned 7))) ≡ 0x80 ∷ 0x05 ∷ 0xA1 ∷ 0x03 ∷ 0x02 ∷ 0x01 ∷ 0x07 ∷ []
+unfolding der_on_literals
+implicit_explicit = refl
+
+implicit_choice : der (Tree.implicit 1 (Tree.choice (Tree.boolean true))) ≡ 0x81 ∷ 0x01 ∷ 0xFF ∷ []
+unfolding der_on_literals
+implicit_choice = refl
+
+implicit_application : der (Tree.implicit 1 (Tree.application 10 (Tree.unsigned 7))) ≡ 0x81 ∷ 0x05 ∷ 0x6A ∷ 0x03 ∷ 0x02 ∷ 0x01 ∷ 0x07 ∷ []
+unfolding der_on_literals
+implicit_application = refl
+
+-- ---- what is absent
+
+absent_member : der (Tree.list ListKind.sequence (trees (Tree.absent ∷ []))) ≡ 0x30 ∷ 0x00 ∷ []
+unfolding der_on_literals
+absent_member = refl
+
+absent_in_explicit : der (Tree.explicit 0 Tree.absent) ≡ []
+unfolding der_on_literals
+absent_in_explicit = refl
+
+absent_in_application : der (Tree.application 10 Tree.absent) ≡ 0x6A ∷ 0x00 ∷ []
+unfolding der_on_literals
+absent_in_application = refl
+
+-- an empty raw part is written as nothing too, but isn't absent: its container stays
+empty_raw_in_container : der (Tree.octet_container (Tree.raw [])) ≡ 0x04 ∷ 0x00 ∷ []
+unfolding der_on_literals
+empty_raw_in_container = refl
+
+-- ---- the first length of the long form
+
+container_of_124 : take 5 (der (Tree.bit_container (Tree.bytes 0x04 (replicate 124 0)))) ≡ 0x03 ∷ 0x7F ∷ 0x00 ∷ 0x04 ∷ 0x7C ∷ []
+unfolding der_on_literals
+container_of_124 = refl
+
+container_of_125 : take 6 (der (Tree.bit_container (Tree.bytes 0x04 (replicate 125 0)))) ≡ 0x03 ∷ 0x81 ∷ 0x80 ∷ 0x00 ∷ 0x04 ∷ 0x7D ∷ []
+unfolding der_on_literals
+container_of_125 = refl
+
+explicit_container_of_125 : take 9 (der (Tree.explicit 0 (Tree.bit_container (Tree.bytes 0x04 (replicate 125 0)))))
+    ≡ 0xA0 ∷ 0x81 ∷ 0x83 ∷ 0x03 ∷ 0x81 ∷ 0x80 ∷ 0x00 ∷ 0x04 ∷ 0x7D ∷ []
+unfolding der_on_literals
+explicit_container_of_125 = refl

@@ -1,0 +1,5 @@
+pub mod Unique
+pub mod OnLiterals
+pub mod EncodingRows
+pub mod RefusalRows
+pub mod ShapeRows

@@ -1,0 +1,14 @@
+-- What a proof unfolds to compute encodings, and refusals of texts, on literals.
+use Rattle.std.specs.Prelude.{⊤}
+use Rattle.std.specs.Str.{is_utf8, chars}
+use lib.Utf8.{encode}
+use Rattle.picky_der_core.specs.Element.{big_endian, len, tlv}
+use Rattle.picky_der_core.specs.Encoding.{unsigned_content, headed, around, written, der, inside, content}
+
+unfoldable pub der_on_literals : ⊤
+unfolding big_endian len tlv unsigned_content headed around written der inside content
+der_on_literals = tt
+
+unfoldable pub text_on_literals : ⊤
+unfolding is_utf8 chars encode
+text_on_literals = tt

@@ -1,0 +1,70 @@
+-- Worked examples of shapes, and what the laws would fail without.
+use Rattle.std.proofs.Common.{◌≡◌, false, [], ◌∷◌, ◌++◌, inl, inr, refl, arith}
+use Rattle.picky_der_core.specs.Tree.{ListKind, Tree, trees}
+use Rattle.picky_der_core.specs.Encoding.{der, inside}
+use Rattle.picky_der_core.specs.Readable.{IsReadable}
+use Rattle.picky_der_core.specs.Shape.{Shape, shapes, IsOf, IsSound, tags_below}
+use Rattle.picky_der_core.proofs.OnLiterals.{der_on_literals}
+
+-- ---- choices that are told by the first byte, and one that isn't
+
+number_or_flag : IsSound (Shape.choice (shapes (Shape.unsigned 255 ∷ Shape.boolean ∷ [])))
+number_or_flag = ((tt, (tt, tt)), (refl, (refl, tt)))
+
+raw_or_long_tag : IsSound (Shape.choice (shapes (Shape.raw ∷ Shape.bytes 0x1F ∷ [])))
+unfolding tags_below
+raw_or_long_tag = ((tt, (tt, tt)), (refl, (refl, tt)))
+
+two_numbers : IsSound (Shape.choice (shapes (Shape.unsigned 255 ∷ Shape.unsigned 65535 ∷ []))) → ⊥
+two_numbers sound = let untold = sound.1.0 in cc
+
+-- ---- a struct of a number, bytes, and a pair
+
+abbrev struct : Tree
+struct = Tree.list ListKind.sequence (trees (Tree.unsigned 7 ∷ Tree.bytes 0x04 (0x54 ∷ 0x65 ∷ []) ∷ Tree.list ListKind.sequence (trees (Tree.unsigned 4 ∷ Tree.null ∷ [])) ∷ []))
+
+abbrev struct_shape : Shape
+struct_shape = Shape.fields ListKind.sequence (shapes (Shape.unsigned 255 ∷ Shape.bytes 0x04 ∷ Shape.fields ListKind.sequence (shapes (Shape.unsigned 0xFFFF_FFFF_FFFF_FFFF ∷ Shape.null ∷ [])) ∷ []))
+
+struct_is_of : IsOf struct_shape struct
+struct_is_of = ((refl, ((omega arith, omega arith), ((refl, (omega arith, (omega arith, tt))), ((refl, ((omega arith, omega arith), (tt, tt))), tt)))))
+
+struct_is_readable : IsReadable struct
+struct_is_readable = (tt, (omega arith, ((tt, (tt, tt)), tt)))
+
+-- ---- alternatives that aren't told: null, and an element
+
+abbrev null_or_raw : Shape
+null_or_raw = Shape.choice (shapes (Shape.null ∷ Shape.raw ∷ []))
+
+as_null : IsOf null_or_raw (Tree.choice Tree.null)
+as_null = inl tt
+
+as_raw : IsOf null_or_raw (Tree.choice (Tree.raw (0x05 ∷ 0x00 ∷ [])))
+as_raw = inr (inl (omega arith, (omega arith, tt)))
+
+raw_is_readable : IsReadable (Tree.choice (Tree.raw (0x05 ∷ 0x00 ∷ [])))
+unfolding der_on_literals
+raw_is_readable = record { tag = 0x05; content = []; number = omega arith; is = refl }
+
+same_encoding : der (Tree.choice Tree.null) ≡ der (Tree.choice (Tree.raw (0x05 ∷ 0x00 ∷ [])))
+unfolding der_on_literals
+same_encoding = refl
+
+-- ---- a choice directly under an implicit tag: its first byte isn't there
+
+no_first_byte : der (Tree.implicit 1 (Tree.choice (Tree.boolean false))) ≡ der (Tree.implicit 1 (Tree.choice (Tree.unsigned 0)))
+unfolding der_on_literals
+no_first_byte = refl
+
+-- ---- a plain value that needn't fill its implicit tag
+
+begins_another : inside (Tree.unsigned 7) ++ (0x07 ∷ []) ≡ inside (Tree.unsigned 0x0707)
+unfolding der_on_literals
+begins_another = refl
+
+-- ---- a raw part that is no element
+
+no_element : der (Tree.list ListKind.sequence (trees (Tree.raw [] ∷ []))) ≡ der (Tree.list ListKind.sequence (trees []))
+unfolding der_on_literals
+no_element = refl

@@ -1,0 +1,246 @@
+-- Two readable trees of one sound shape that are written alike are the same tree.
+use Rattle.std.proofs.Common.{◌≡◌, ℕ, Bool, true, false, List, [], ◌∷◌, ◌++◌, length, ◌<◌, ◌⊎◌, inl, inr, refl, sym, ap, ◌∙◌, subst, arith}
+use Rattle.std.specs.Prelude.{⊤}
+use Rattle.std.specs.List.{concat}
+use Rattle.picky_der_core.specs.Tree.{ListKind, Tree, Trees}
+use Rattle.picky_der_core.specs.Encoding.{headed, around, written, encodings, der, boolean_content, list_content}
+use Rattle.picky_der_core.specs.Readable.{IsReadable, AreReadable, IsNoChoice}
+use Rattle.picky_der_core.specs.Shape.{Shape, Shapes, IsOf, AreOf, IsOneOf, firsts, firsts_of, has, are_apart, IsBoolean, IsUnsigned, IsNull, IsText, IsCharacter, IsBytes, IsRaw, IsList, IsOptional, IsOctetContainer, IsBitContainer, IsExplicit, IsImplicit, IsApplication, IsChoice, EachIs, FirstAndRest, IsEmpty, IsSound, AreSound, AreTold}
+use Rattle.picky_der_core.specs.ElementLaws.{tlv-same}
+use Rattle.picky_der_core.specs.EncodingLaws.{is_absent-readable, same_encoding, length-der, unsigned_content-same}
+use Rattle.picky_der_core.specs.FirstLaws.{BeginsIn, begins_in, begins_in_one, apart_has, is_of-optional}
+
+-- directly under an implicit tag stands no choice
+abbrev pub MayStand : Bool → Tree → Type 0
+MayStand true t = ⊤
+MayStand false t = IsNoChoice t
+
+-- a readable tree with P is known by what is written of it
+abbrev pub IsKnown : Bool → (Tree → Type 0) → Type 0
+IsKnown header P = (t u : Tree) → P t → P u → IsReadable t → IsReadable u → MayStand header t → MayStand header u → written header t ≡ written header u → t ≡ u
+
+abbrev pub AreKnown : (Trees → Type 0) → Type 0
+AreKnown Q = (ts us : Trees) → Q ts → Q us → AreReadable ts → AreReadable us → concat (encodings ts) ≡ concat (encodings us) → ts ≡ us
+
+-- ---- what is written under a header
+
+headed-same : (header : Bool) (x y : ℕ) (c d : List ℕ) → headed header x c ≡ headed header y d → c ≡ d
+unfolding headed
+headed-same true x y c d e = (tlv-same x y c d e).1
+headed-same false x y c d e = e
+
+around-same : (p q : Bool) (x y : ℕ) (c d : List ℕ) → p ≡ false → q ≡ false → around p x c ≡ around q y d → c ≡ d
+unfolding around
+around-same false false x y c d h k e = (tlv-same x y c d e).1
+around-same true _ x y c d h k e = cc
+around-same false true x y c d h k e = cc
+
+boolean_content-same : (b c : Bool) → boolean_content b ≡ boolean_content c → b ≡ c
+boolean_content-same true true e = refl
+boolean_content-same false false e = refl
+boolean_content-same true false e = cc
+boolean_content-same false true e = cc
+
+-- ---- each kind of shape
+
+boolean_known : (header : Bool) → IsKnown header IsBoolean
+unfolding written
+boolean_known header (Tree.boolean b) (Tree.boolean c) p q r s m n e = ap Tree.boolean (boolean_content-same b c (headed-same header _ _ _ _ e))
+boolean_known header (Tree.boolean b) _ p q r s m n e = absurd q
+boolean_known header _ _ p q r s m n e = absurd p
+
+unsigned_known : (most : ℕ) (header : Bool) → IsKnown header (IsUnsigned most)
+unfolding written
+unsigned_known most header (Tree.unsigned b) (Tree.unsigned c) p q r s m n e = ap Tree.unsigned (unsigned_content-same b c (headed-same header _ _ _ _ e))
+unsigned_known most header (Tree.unsigned b) _ p q r s m n e = absurd q
+unsigned_known most header _ _ p q r s m n e = absurd p
+
+null_known : (header : Bool) → IsKnown header IsNull
+null_known header Tree.null Tree.null p q r s m n e = refl
+null_known header Tree.null _ p q r s m n e = absurd q
+null_known header _ _ p q r s m n e = absurd p
+
+text_known : (header : Bool) → IsKnown header IsText
+unfolding written
+text_known header (Tree.text b) (Tree.text c) p q r s m n e = ap Tree.text (headed-same header _ _ _ _ e)
+text_known header (Tree.text b) _ p q r s m n e = absurd q
+text_known header _ _ p q r s m n e = absurd p
+
+character_known : (header : Bool) → IsKnown header IsCharacter
+unfolding written
+character_known header (Tree.text b) (Tree.text c) p q r s m n e = ap Tree.text (headed-same header _ _ _ _ e)
+character_known header (Tree.text b) _ p q r s m n e = absurd q
+character_known header _ _ p q r s m n e = absurd p
+
+bytes_known : (tag : ℕ) (header : Bool) → IsKnown header (IsBytes tag)
+unfolding written
+bytes_known tag header (Tree.bytes x b) (Tree.bytes y c) p q r s m n e =
+    let f : x ≡ y = p.0 ∙ sym q.0 in
+    let g : b ≡ c = headed-same header _ _ _ _ e in
+    cc
+bytes_known tag header (Tree.bytes x b) _ p q r s m n e = absurd q
+bytes_known tag header _ _ p q r s m n e = absurd p
+
+list_content-same : (kind : ListKind) (Q : Trees → Type 0) → AreKnown Q → (ts us : Trees) → Q ts → Q us → AreReadable ts → AreReadable us
+    → list_content kind (encodings ts) ≡ list_content kind (encodings us) → ts ≡ us
+list_content-same ListKind.sequence Q known ts us = known ts us
+list_content-same ListKind.set Q known ts us = known ts us
+
+list_known : (kind : ListKind) (Q : Trees → Type 0) → AreKnown Q → (header : Bool) → IsKnown header (IsList kind Q)
+unfolding written
+list_known kind Q known header (Tree.list x ts) (Tree.list y us) p q r s m n e =
+    let f : x ≡ y = p.0 ∙ sym q.0 in
+    let h : list_content x (encodings ts) ≡ list_content y (encodings us) = headed-same header _ _ _ _ e in
+    let k : list_content x (encodings ts) ≡ list_content x (encodings us) = h ∙ ap (λ z. list_content z (encodings us)) (sym f) in
+    let g : ts ≡ us = list_content-same x Q known ts us p.1 q.1 r s k in
+    cc
+list_known kind Q known header (Tree.list x ts) _ p q r s m n e = absurd q
+list_known kind Q known header _ _ p q r s m n e = absurd p
+
+optional_known : (P : Tree → Type 0) (header : Bool) → IsKnown header P → IsKnown header (IsOptional P)
+optional_known P header known t u p q r s = known t u (is_of-optional P t p r) (is_of-optional P u q s) r s
+
+octet_container_known : (P : Tree → Type 0) → IsKnown true P → (header : Bool) → IsKnown header (IsOctetContainer P)
+unfolding written
+octet_container_known P known header (Tree.octet_container t) (Tree.octet_container u) p q r s m n e =
+    ap Tree.octet_container (known t u p q r s tt tt (around-same _ _ _ _ _ _ (is_absent-readable t r) (is_absent-readable u s) e))
+octet_container_known P known header (Tree.octet_container t) _ p q r s m n e = absurd q
+octet_container_known P known header _ _ p q r s m n e = absurd p
+
+bit_container_known : (P : Tree → Type 0) → IsKnown true P → (header : Bool) → IsKnown header (IsBitContainer P)
+unfolding written
+bit_container_known P known header (Tree.bit_container t) (Tree.bit_container u) p q r s m n e =
+    let f : 0x00 ∷ written true t ≡ 0x00 ∷ written true u = around-same _ _ _ _ _ _ (is_absent-readable t r) (is_absent-readable u s) e in
+    ap Tree.bit_container (known t u p q r s tt tt (cc))
+bit_container_known P known header (Tree.bit_container t) _ p q r s m n e = absurd q
+bit_container_known P known header _ _ p q r s m n e = absurd p
+
+explicit_known : (k : ℕ) (P : Tree → Type 0) → IsKnown true P → (header : Bool) → IsKnown header (IsExplicit k P)
+unfolding written
+explicit_known k P known header (Tree.explicit x t) (Tree.explicit y u) p q r s m n e =
+    let f : x ≡ y = p.0 ∙ sym q.0 in
+    let g : t ≡ u = known t u p.1 q.1 r.1 s.1 tt tt (around-same _ _ _ _ _ _ (is_absent-readable t r.1) (is_absent-readable u s.1) e) in
+    cc
+explicit_known k P known header (Tree.explicit x t) _ p q r s m n e = absurd q
+explicit_known k P known header _ _ p q r s m n e = absurd p
+
+implicit_known : (k : ℕ) (P : Tree → Type 0) → IsKnown false P → (header : Bool) → IsKnown header (IsImplicit k P)
+unfolding written
+implicit_known k P known header (Tree.implicit x t) (Tree.implicit y u) p q r s m n e =
+    let f : x ≡ y = p.0 ∙ sym q.0 in
+    let g : t ≡ u = known t u p.1 q.1 r.2 s.2 r.1 s.1 (around-same _ _ _ _ _ _ (is_absent-readable t r.2) (is_absent-readable u s.2) e) in
+    cc
+implicit_known k P known header (Tree.implicit x t) _ p q r s m n e = absurd q
+implicit_known k P known header _ _ p q r s m n e = absurd p
+
+application_known : (k : ℕ) (P : Tree → Type 0) → IsKnown true P → (header : Bool) → IsKnown header (IsApplication k P)
+unfolding written
+application_known k P known header (Tree.application x t) (Tree.application y u) p q r s m n e =
+    let f : x ≡ y = p.0 ∙ sym q.0 in
+    let g : t ≡ u = known t u p.1 q.1 r.1 s.1 tt tt (tlv-same _ _ _ _ e).1 in
+    cc
+application_known k P known header (Tree.application x t) _ p q r s m n e = absurd q
+application_known k P known header _ _ p q r s m n e = absurd p
+
+raw_known : (header : Bool) → IsKnown header IsRaw
+unfolding written
+raw_known header (Tree.raw b) (Tree.raw c) p q r s m n e = ap Tree.raw e
+raw_known header (Tree.raw b) _ p q r s m n e = absurd q
+raw_known header _ _ p q r s m n e = absurd p
+
+choice_known : (P : Tree → Type 0) → IsKnown true P → (header : Bool) → IsKnown header (IsChoice P)
+unfolding written
+choice_known P known true (Tree.choice t) (Tree.choice u) p q r s m n e = ap Tree.choice (known t u p q r s tt tt e)
+choice_known P known true (Tree.choice t) _ p q r s m n e = absurd q
+choice_known P known true _ _ p q r s m n e = absurd p
+choice_known P known false (Tree.choice t) _ p q r s m n e = absurd m
+choice_known P known false _ _ p q r s m n e = absurd p
+
+-- ---- members
+
+pub not_empty : (t : Tree) (rest : List ℕ) → IsReadable t → der t ++ rest ≡ [] → ⊥
+not_empty t rest r e = by_bytes (der t) (length-der t r) e
+  where
+    by_bytes : (b : List ℕ) → 0 < length b → b ++ rest ≡ [] → ⊥
+    by_bytes [] h e = omega arith
+    by_bytes (x ∷ b) h e = cc
+
+-- members that stand at the front of one list are the same, and so is what follows
+member_known : (P : Tree → Type 0) → IsKnown true P → (t u : Tree) (a b : List ℕ) → P t → P u → IsReadable t → IsReadable u → der t ++ a ≡ der u ++ b → (t ≡ u) × (a ≡ b)
+unfolding der
+member_known P known t u a b p q r s e =
+    let parts = same_encoding t u a b r s e in
+    (known t u p q r s tt tt parts.0, parts.1)
+
+each_known : (P : Tree → Type 0) → IsKnown true P → AreKnown (EachIs P)
+unfolding written der
+each_known P known Trees.none Trees.none p q r s e = refl
+each_known P known Trees.none (Trees.more u us) p q r s e = absurd (not_empty u (concat (encodings us)) s.0 (sym e))
+each_known P known (Trees.more t ts) Trees.none p q r s e = absurd (not_empty t (concat (encodings ts)) r.0 e)
+each_known P known (Trees.more t ts) (Trees.more u us) p q r s e =
+    let first = member_known P known t u (concat (encodings ts)) (concat (encodings us)) p.0 q.0 r.0 s.0 e in
+    let f : t ≡ u = first.0 in
+    let g : ts ≡ us = each_known P known ts us p.1 q.1 r.1 s.1 first.1 in
+    cc
+
+empty_known : AreKnown IsEmpty
+empty_known Trees.none Trees.none p q r s e = refl
+empty_known Trees.none _ p q r s e = absurd q
+empty_known _ _ p q r s e = absurd p
+
+first_and_rest_known : (P : Tree → Type 0) (Q : Trees → Type 0) → IsKnown true P → AreKnown Q → AreKnown (FirstAndRest P Q)
+unfolding written der
+first_and_rest_known P Q known others (Trees.more t ts) (Trees.more u us) p q r s e =
+    let first = member_known P known t u (concat (encodings ts)) (concat (encodings us)) p.0 q.0 r.0 s.0 e in
+    let f : t ≡ u = first.0 in
+    let g : ts ≡ us = others ts us p.1 q.1 r.1 s.1 first.1 in
+    cc
+first_and_rest_known P Q known others (Trees.more t ts) _ p q r s e = absurd q
+first_and_rest_known P Q known others _ _ p q r s e = absurd p
+
+-- ---- alternatives
+
+-- trees that begin with bytes of two lists apart aren't written alike
+told : (fs gs : List ℕ) (t u : Tree) → are_apart fs gs ≡ true → BeginsIn fs t → BeginsIn gs u → der t ≡ der u → ⊥
+told fs gs t u a b c e =
+    let same : b.first ∷ b.others ≡ c.first ∷ c.others = sym b.is ∙ e ∙ c.is in
+    let first : b.first ≡ c.first = cc in
+    apart_has c.first fs gs a (subst (λ x. has fs x ≡ true) first b.listed) c.listed
+
+one_known : (s : Shape) (ss : Shapes) → are_apart (firsts s) (firsts_of ss) ≡ true → IsKnown true (IsOf s) → IsKnown true (IsOneOf ss) → IsKnown true (λ t. IsOf s t ⊎ IsOneOf ss t)
+unfolding der
+one_known s ss a known others t u (inl p) (inl q) r v m n e = known t u p q r v tt tt e
+one_known s ss a known others t u (inr p) (inr q) r v m n e = others t u p q r v tt tt e
+one_known s ss a known others t u (inl p) (inr q) r v m n e = absurd (told (firsts s) (firsts_of ss) t u a (begins_in s t p r) (begins_in_one ss u q v) e)
+one_known s ss a known others t u (inr p) (inl q) r v m n e = absurd (told (firsts s) (firsts_of ss) u t a (begins_in s u q v) (begins_in_one ss t p r) (sym e))
+
+mutual
+  pub known : (s : Shape) → IsSound s → (header : Bool) → IsKnown header (IsOf s)
+  known Shape.boolean = λ sound header. boolean_known header
+  known (Shape.unsigned most) = λ sound header. unsigned_known most header
+  known Shape.null = λ sound header. null_known header
+  known Shape.character = λ sound header. character_known header
+  known Shape.text = λ sound header. text_known header
+  known (Shape.bytes tag) = λ sound header. bytes_known tag header
+  known (Shape.list_of kind s) = λ sound header. list_known kind _ (each_known _ (known s sound true)) header
+  known (Shape.fields kind ss) = λ sound header. list_known kind _ (fields_known ss sound) header
+  known (Shape.optional s) = λ sound header. optional_known _ header (known s sound header)
+  known (Shape.octet_container s) = λ sound header. octet_container_known _ (known s sound true) header
+  known (Shape.bit_container s) = λ sound header. bit_container_known _ (known s sound true) header
+  known (Shape.explicit n s) = λ sound header. explicit_known n _ (known s sound true) header
+  known (Shape.implicit n s) = λ sound header. implicit_known n _ (known s sound false) header
+  known (Shape.application n s) = λ sound header. application_known n _ (known s sound true) header
+  known Shape.raw = λ sound header. raw_known header
+  known (Shape.choice ss) = λ sound header. choice_known _ (alternatives_known ss sound.0 sound.1) header
+
+  fields_known : (ss : Shapes) → AreSound ss → AreKnown (AreOf ss)
+  fields_known Shapes.none = λ sound. empty_known
+  fields_known (Shapes.more s ss) = λ sound. first_and_rest_known _ _ (known s sound.0 true) (fields_known ss sound.1)
+
+  alternatives_known : (ss : Shapes) → AreSound ss → AreTold ss → IsKnown true (IsOneOf ss)
+  alternatives_known Shapes.none = λ sound apart t u p. absurd p
+  alternatives_known (Shapes.more s ss) = λ sound apart. one_known s ss apart.0 (known s sound.0 true) (alternatives_known ss sound.1 apart.1)
+
+-- of what stands at the front of one list, the tree and the rest
+pub same_tree : (s : Shape) → IsSound s → (t u : Tree) → IsOf s t → IsOf s u → IsReadable t → IsReadable u → (a b : List ℕ) → der t ++ a ≡ der u ++ b → (t ≡ u) × (a ≡ b)
+same_tree s sound t u p q r v a b e = member_known (IsOf s) (known s sound true) t u a b p q r v e

@@ -1,0 +1,89 @@
+-- A length and an element say where they end, and what they hold.
+use Rattle.std.proofs.Common.{◌≡◌, ℕ, zero, suc, ◌+◌, ◌/◌, ◌%◌, ◌^◌, ◌<◌, ◌≤◌, Bool, true, false, cond, List, [], ◌∷◌, ◌++◌, length, nat_lt, ◌==◌, refl, sym, ap, ◌∙◌, arith, append_assoc, lt-ltb, ltb-true}
+use Rattle.std.specs.Int.Digits.{digits_with_fuel, number_from_digits}
+use Rattle.std.proofs.lemmas.Int.Digits.{digits_of_step, length-digits_of-le, number_digits_of}
+use Rattle.picky_der_core.specs.Element.{big_endian_within, big_endian, len, tlv}
+
+-- lists that are as long and begin one list are the same
+pub same_front : (xs ys a b : List ℕ) → length xs ≡ length ys → xs ++ a ≡ ys ++ b → (xs ≡ ys) × (a ≡ b)
+same_front [] [] a b l e = (refl, e)
+same_front (x ∷ xs) (y ∷ ys) a b l e =
+    let others = same_front xs ys a b (omega arith) (cc) in
+    (cc, others.1)
+same_front [] (y ∷ ys) a b l e = absurd (omega arith)
+same_front (x ∷ xs) [] a b l e = absurd (omega arith)
+
+-- ---- numbers as bytes
+
+one_digit_more : (b : Bool) (n : ℕ) {xs ys : List ℕ} → xs ≡ ys → elim b as (λ x. List ℕ) [ true ↦ [] | false ↦ xs ++ (n ∷ []) ] ≡ cond b [] (ys ++ (n ∷ []))
+one_digit_more true n e = refl
+one_digit_more false n e = ap (λ ds. ds ++ (n ∷ [])) e
+
+-- the bytes of a number are its digits at the base 256
+big_endian_within-digits : (most n : ℕ) → big_endian_within most n ≡ digits_with_fuel 256 most n
+big_endian_within-digits zero n = refl
+big_endian_within-digits (suc most) n = one_digit_more (n == 0) (n % 256) (big_endian_within-digits most (n / 256))
+
+pub big_endian-digits : (n : ℕ) → big_endian n ≡ digits_with_fuel 256 n n
+unfolding big_endian
+big_endian-digits n = big_endian_within-digits n n
+
+pub number-big_endian : (n : ℕ) → number_from_digits 256 (big_endian n) ≡ n
+number-big_endian n = ap (number_from_digits 256) (big_endian-digits n) ∙ number_digits_of 256 n (omega arith)
+
+pub big_endian-same : (m n : ℕ) → big_endian m ≡ big_endian n → m ≡ n
+big_endian-same m n e = sym (number-big_endian m) ∙ ap (number_from_digits 256) e ∙ number-big_endian n
+
+-- the last byte apart
+pub big_endian-step : (n : ℕ) → 0 < n → big_endian n ≡ big_endian (n / 256) ++ (n % 256 ∷ [])
+big_endian-step n h = big_endian-digits n ∙ digits_of_step 256 n (omega arith) h ∙ ap (λ ds. ds ++ (n % 256 ∷ [])) (sym (big_endian-digits (n / 256)))
+
+pub length-big_endian : (k n : ℕ) → n < 256 ^ k → length (big_endian n) ≤ k
+length-big_endian k n h = rw (big_endian-digits n) (length-digits_of-le 256 k n (omega arith) h)
+
+-- ---- lengths
+
+pub len-short : (n : ℕ) → n < 0x80 → len n ≡ n ∷ []
+unfolding len
+len-short n h = rw (lt-ltb n 0x80 h) refl
+
+is_long : (n : ℕ) → 0x80 ≤ n → (b : Bool) → nat_lt n 0x80 ≡ b → b ≡ false
+is_long n h false e = refl
+is_long n h true e = absurd (omega (arith, ltb-true))
+
+pub len-long : (n : ℕ) → 0x80 ≤ n → len n ≡ (0x80 + length (big_endian n)) ∷ big_endian n
+unfolding len
+len-long n h = rw (is_long n h (nat_lt n 0x80) refl) refl
+
+-- no length begins another
+pub len_prefix : (m n : ℕ) (a b : List ℕ) → len m ++ a ≡ len n ++ b → (m ≡ n) × (a ≡ b)
+unfolding len
+len_prefix m n a b = by_form (nat_lt m 0x80) (nat_lt n 0x80) refl refl
+  where
+    by_form : (p q : Bool) → nat_lt m 0x80 ≡ p → nat_lt n 0x80 ≡ q → cond p (m ∷ []) ((0x80 + length (big_endian m)) ∷ big_endian m) ++ a ≡ cond q (n ∷ []) ((0x80 + length (big_endian n)) ∷ big_endian n) ++ b → (m ≡ n) × (a ≡ b)
+    by_form true true s t e = (cc, cc)
+    by_form true false s t e = let h : m ≡ 0x80 + length (big_endian n) = cc in absurd (omega (arith, ltb-true))
+    by_form false true s t e = let h : n ≡ 0x80 + length (big_endian m) = cc in absurd (omega (arith, ltb-true))
+    by_form false false s t e =
+        let k : 0x80 + length (big_endian m) ≡ 0x80 + length (big_endian n) = cc in
+        let h : big_endian m ++ a ≡ big_endian n ++ b = cc in
+        let parts = same_front (big_endian m) (big_endian n) a b (omega arith) h in
+        (big_endian-same m n parts.0, parts.1)
+
+-- ---- elements
+
+-- no element begins another
+pub tlv_prefix : (x y : ℕ) (c d a b : List ℕ) → tlv x c ++ a ≡ tlv y d ++ b → (x ≡ y) × (c ≡ d) × (a ≡ b)
+unfolding tlv
+tlv_prefix x y c d a b e =
+    let g : (len (length c) ++ c) ++ a ≡ (len (length d) ++ d) ++ b = cc in
+    let h : len (length c) ++ (c ++ a) ≡ len (length d) ++ (d ++ b) = simp append_assoc at g in
+    let sizes = len_prefix (length c) (length d) (c ++ a) (d ++ b) h in
+    let parts = same_front c d a b sizes.0 sizes.1 in
+    (cc, parts.0, parts.1)
+
+pub tlv-same : (x y : ℕ) (c d : List ℕ) → tlv x c ≡ tlv y d → (x ≡ y) × (c ≡ d)
+tlv-same x y c d e =
+    let h : tlv x c ++ [] ≡ tlv y d ++ [] = ap (λ b. b ++ []) e in
+    let parts = tlv_prefix x y c d [] [] h in
+    (parts.0, parts.1)

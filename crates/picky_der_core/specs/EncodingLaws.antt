@@ -1,0 +1,223 @@
+-- The encoding of each kind of tree, and how encodings tell each other apart.
+use Rattle.std.proofs.Common.{◌≡◌, ℕ, ◌+◌, ◌<◌, Bool, true, false, cond, List, [], ◌∷◌, ◌++◌, length, nat_lt, map, refl, sym, ap, ◌∙◌, arith}
+use Rattle.std.specs.Int.Digits.{number_from_digits}
+use Rattle.picky_der_core.specs.Tag.{number_of, IsTagNumber}
+use Rattle.picky_der_core.specs.Element.{big_endian, tlv, IsElement}
+use Rattle.picky_der_core.specs.Tree.{ListKind, Tree, trees, is_plain, is_absent}
+use Rattle.picky_der_core.specs.Encoding.{boolean_content, positive, unsigned_content, list_content, list_tag, headed, around, written, encodings, der, inside, content, plain_tag}
+use Rattle.picky_der_core.specs.Readable.{IsReadable, IsNoChoice}
+use Rattle.picky_der_core.specs.ElementLaws.{tlv_prefix, number-big_endian}
+
+-- ---- the encoding by its kinds
+
+pub around-present : (b : Bool) (x : ℕ) (c : List ℕ) → b ≡ false → around b x c ≡ tlv x c
+unfolding around
+around-present true x c e = cc
+around-present false x c e = refl
+
+around-absent : (b : Bool) (x : ℕ) (c : List ℕ) → b ≡ true → around b x c ≡ []
+unfolding around
+around-absent true x c e = refl
+around-absent false x c e = cc
+
+-- a plain tree: its tag, and its content
+pub der-plain : (t : Tree) → is_plain t ≡ true → der t ≡ tlv (plain_tag t) (content t)
+unfolding der written headed content
+der-plain (Tree.boolean b) p = refl
+der-plain (Tree.unsigned n) p = refl
+der-plain Tree.null p = refl
+der-plain (Tree.text s) p = refl
+der-plain (Tree.bytes tag s) p = refl
+der-plain (Tree.list kind ts) p = refl
+der-plain _ p = cc
+
+-- nothing is written of what is absent
+pub der-absent : (t : Tree) → is_absent t ≡ true → der t ≡ []
+unfolding der written
+der-absent Tree.absent h = refl
+der-absent (Tree.octet_container t) h = around-absent _ _ _ h
+der-absent (Tree.bit_container t) h = around-absent _ _ _ h
+der-absent (Tree.explicit n t) h = around-absent _ _ _ h
+der-absent (Tree.implicit n t) h = around-absent _ _ _ h
+der-absent (Tree.choice t) h = der-absent t h
+der-absent _ h = cc
+
+-- the containers and tags, around something
+pub der-octet_container : (t : Tree) → is_absent t ≡ false → der (Tree.octet_container t) ≡ tlv 0x04 (der t)
+unfolding der written
+der-octet_container t h = around-present _ _ _ h
+
+pub der-bit_container : (t : Tree) → is_absent t ≡ false → der (Tree.bit_container t) ≡ tlv 0x03 (0x00 ∷ der t)
+unfolding der written
+der-bit_container t h = around-present _ _ _ h
+
+pub der-explicit : (n : ℕ) (t : Tree) → is_absent t ≡ false → der (Tree.explicit n t) ≡ tlv (0xA0 + n) (der t)
+unfolding der written
+der-explicit n t h = around-present _ _ _ h
+
+pub der-implicit : (n : ℕ) (t : Tree) → is_absent t ≡ false → der (Tree.implicit n t) ≡ tlv (0x80 + n) (inside t)
+unfolding der inside written
+der-implicit n t h = around-present _ _ _ h
+
+pub der-application : (n : ℕ) (t : Tree) → der (Tree.application n t) ≡ tlv (0x60 + n) (der t)
+unfolding der written
+der-application n t = refl
+
+pub der-raw : (s : List ℕ) → der (Tree.raw s) ≡ s
+unfolding der written
+der-raw s = refl
+
+pub der-choice : (t : Tree) → der (Tree.choice t) ≡ der t
+unfolding der written
+der-choice t = refl
+
+-- ---- directly under an implicit tag
+
+pub inside-plain : (t : Tree) → is_plain t ≡ true → inside t ≡ content t
+unfolding inside written headed content
+inside-plain (Tree.boolean b) p = refl
+inside-plain (Tree.unsigned n) p = refl
+inside-plain Tree.null p = refl
+inside-plain (Tree.text s) p = refl
+inside-plain (Tree.bytes tag s) p = refl
+inside-plain (Tree.list kind ts) p = refl
+inside-plain _ p = cc
+
+pub inside-choice : (t : Tree) → inside (Tree.choice t) ≡ inside t
+unfolding inside written
+inside-choice t = refl
+
+-- what is neither plain nor a choice keeps its header
+pub inside-other : (t : Tree) → is_plain t ≡ false → IsNoChoice t → inside t ≡ der t
+unfolding inside der written
+inside-other (Tree.choice t) p n = absurd n
+inside-other (Tree.boolean b) p n = cc
+inside-other (Tree.unsigned b) p n = cc
+inside-other Tree.null p n = cc
+inside-other (Tree.text b) p n = cc
+inside-other (Tree.bytes x b) p n = cc
+inside-other (Tree.list x b) p n = cc
+inside-other _ p n = refl
+
+-- ---- plain trees
+
+pub der-boolean : (b : Bool) → der (Tree.boolean b) ≡ tlv 0x01 (boolean_content b)
+unfolding der written headed
+der-boolean b = refl
+
+pub der-unsigned : (n : ℕ) → der (Tree.unsigned n) ≡ tlv 0x02 (unsigned_content n)
+unfolding der written headed
+der-unsigned n = refl
+
+pub der-null : der Tree.null ≡ tlv 0x05 []
+unfolding der written headed
+der-null = refl
+
+pub der-text : (s : List ℕ) → der (Tree.text s) ≡ tlv 0x0C s
+unfolding der written headed
+der-text s = refl
+
+pub der-bytes : (tag : ℕ) (s : List ℕ) → der (Tree.bytes tag s) ≡ tlv tag s
+unfolding der written headed
+der-bytes tag s = refl
+
+pub encodings-trees : (ts : List Tree) → encodings (trees ts) ≡ map der ts
+unfolding der written
+encodings-trees [] = refl
+encodings-trees (t ∷ ts) = ap (λ l. der t ∷ l) (encodings-trees ts)
+
+pub der-list : (kind : ListKind) (ts : List Tree) → der (Tree.list kind (trees ts)) ≡ tlv (list_tag kind) (list_content kind (map der ts))
+unfolding der written headed
+der-list kind ts = ap (λ l. tlv (list_tag kind) (list_content kind l)) (encodings-trees ts)
+
+-- a list of what values mean
+pub der-list_of_meanings : {V : Type 0} (meaning : V → Tree) (kind : ListKind) (vs : List V) → der (Tree.list kind (trees (map meaning vs))) ≡ tlv (list_tag kind) (list_content kind (map (λ v. der (meaning v)) vs))
+der-list_of_meanings {V} meaning kind vs =
+    der-list kind (map meaning vs) ∙ ap (λ l. tlv (list_tag kind) (list_content kind l)) (each vs)
+  where
+    each : (us : List V) → map der (map meaning us) ≡ map (λ v. der (meaning v)) us
+    each [] = refl
+    each (u ∷ us) = ap (λ l. der (meaning u) ∷ l) (each us)
+
+-- ---- readable trees
+
+pub is_absent-readable : (t : Tree) → IsReadable t → is_absent t ≡ false
+is_absent-readable (Tree.boolean b) r = refl
+is_absent-readable (Tree.unsigned n) r = refl
+is_absent-readable Tree.null r = refl
+is_absent-readable (Tree.text s) r = refl
+is_absent-readable (Tree.bytes tag s) r = refl
+is_absent-readable (Tree.list kind ts) r = refl
+is_absent-readable (Tree.octet_container t) r = is_absent-readable t r
+is_absent-readable (Tree.bit_container t) r = is_absent-readable t r
+is_absent-readable (Tree.explicit n t) r = is_absent-readable t r.1
+is_absent-readable (Tree.implicit n t) r = is_absent-readable t r.2
+is_absent-readable (Tree.application n t) r = refl
+is_absent-readable (Tree.raw s) r = refl
+is_absent-readable (Tree.choice t) r = is_absent-readable t r
+is_absent-readable Tree.absent r = absurd r
+
+list_tag_number : (kind : ListKind) → IsTagNumber (number_of (list_tag kind))
+list_tag_number ListKind.sequence = omega arith
+list_tag_number ListKind.set = omega arith
+
+headed_element : (tag : ℕ) (c : List ℕ) → IsTagNumber (number_of tag) → IsElement (headed true tag c)
+unfolding headed
+headed_element tag c h = record { tag = tag; content = c; number = h; is = refl }
+
+around_element : (t : Tree) (tag : ℕ) (c : List ℕ) → is_absent t ≡ false → IsTagNumber (number_of tag) → IsElement (around (is_absent t) tag c)
+around_element t tag c p h = record { tag = tag; content = c; number = h; is = around-present _ tag c p }
+
+-- the encoding of a readable tree is one element
+pub der-element : (t : Tree) → IsReadable t → IsElement (der t)
+unfolding der written
+der-element (Tree.boolean b) r = headed_element _ _ (omega arith)
+der-element (Tree.unsigned n) r = headed_element _ _ (omega arith)
+der-element Tree.null r = headed_element _ _ (omega arith)
+der-element (Tree.text s) r = headed_element _ _ (omega arith)
+der-element (Tree.bytes tag s) r = headed_element _ _ r
+der-element (Tree.list kind ts) r = headed_element _ _ (list_tag_number kind)
+der-element (Tree.octet_container t) r = around_element t _ _ (is_absent-readable t r) (omega arith)
+der-element (Tree.bit_container t) r = around_element t _ _ (is_absent-readable t r) (omega arith)
+der-element (Tree.explicit n t) r = around_element t _ _ (is_absent-readable t r.1) (omega arith)
+der-element (Tree.implicit n t) r = around_element t _ _ (is_absent-readable t r.2) (omega arith)
+der-element (Tree.application n t) r = record { tag = 0x60 + n; content = _; number = omega arith; is = refl }
+der-element (Tree.raw s) r = r
+der-element (Tree.choice t) r = der-element t r
+der-element Tree.absent r = absurd r
+
+-- no encoding of a readable tree begins another
+pub same_encoding : (t u : Tree) (a b : List ℕ) → IsReadable t → IsReadable u → der t ++ a ≡ der u ++ b → (der t ≡ der u) × (a ≡ b)
+same_encoding t u a b r q e =
+    let p = der-element t r in
+    let s = der-element u q in
+    let f : der t ≡ tlv p.tag p.content = p.is in
+    let g : der u ≡ tlv s.tag s.content = s.is in
+    let h : tlv p.tag p.content ++ a ≡ tlv s.tag s.content ++ b = cc in
+    let parts = tlv_prefix p.tag s.tag p.content s.content a b h in
+    let x : p.tag ≡ s.tag = parts.0 in
+    let c : p.content ≡ s.content = parts.1 in
+    (cc, parts.2)
+
+-- it isn't empty
+pub length-der : (t : Tree) → IsReadable t → 0 < length (der t)
+unfolding tlv
+length-der t r = let p = der-element t r in rw p.is (omega arith)
+
+-- ---- numbers
+
+padded : (p : Bool) (b : ℕ) (bs : List ℕ) → number_from_digits 256 (cond p (b ∷ bs) (0 ∷ b ∷ bs)) ≡ number_from_digits 256 (b ∷ bs)
+padded true b bs = refl
+padded false b bs = refl
+
+number-positive : (bs : List ℕ) → number_from_digits 256 (positive bs) ≡ number_from_digits 256 bs
+number-positive [] = refl
+number-positive (b ∷ bs) = padded (nat_lt b 0x80) b bs
+
+-- the content of a number gives the number back
+pub number-unsigned_content : (n : ℕ) → number_from_digits 256 (unsigned_content n) ≡ n
+unfolding unsigned_content
+number-unsigned_content n = number-positive (big_endian n) ∙ number-big_endian n
+
+pub unsigned_content-same : (m n : ℕ) → unsigned_content m ≡ unsigned_content n → m ≡ n
+unsigned_content-same m n e = sym (number-unsigned_content m) ∙ ap (number_from_digits 256) e ∙ number-unsigned_content n

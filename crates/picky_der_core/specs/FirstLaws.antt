@@ -1,0 +1,205 @@
+-- With which byte the encoding of a readable tree begins.
+use Rattle.std.proofs.Common.{◌≡◌, ℕ, zero, suc, ◌+◌, ◌<◌, Bool, true, false, ◌||◌, ◌&&◌, not, List, [], ◌∷◌, ◌++◌, ◌==◌, ◌⊎◌, inl, inr, refl, sym, subst, arith, eq-eqb, eqb-true, false-eqb, le-leb}
+use Rattle.picky_der_core.specs.Tag.{number_of, IsTagNumber}
+use Rattle.picky_der_core.specs.Element.{tlv}
+use Rattle.picky_der_core.specs.Tree.{ListKind, Tree, Trees}
+use Rattle.picky_der_core.specs.Encoding.{headed, written, der, list_tag}
+use Rattle.picky_der_core.specs.Readable.{IsReadable}
+use Rattle.picky_der_core.specs.Shape.{Shape, Shapes, IsOf, IsOneOf, firsts, firsts_of, has, are_apart, tags_below, tag_with_number, AreBytes, IsBoolean, IsUnsigned, IsNull, IsText, IsCharacter, IsBytes, IsRaw, IsList, IsOptional, IsOctetContainer, IsBitContainer, IsExplicit, IsImplicit, IsApplication, IsChoice}
+use Rattle.picky_der_core.specs.EncodingLaws.{is_absent-readable, around-present}
+
+-- its encoding begins with one of these bytes
+pub record BeginsIn (fs : List ℕ) (t : Tree) : Type 0 where
+  pub first : ℕ
+  pub others : List ℕ
+  pub is : der t ≡ first ∷ others
+  pub listed : has fs first ≡ true
+
+-- ---- lists of bytes
+
+has_itself : (x : ℕ) (ys : List ℕ) → has (x ∷ ys) x ≡ true
+has_itself x ys = rw eq-eqb refl
+
+or_left : (a b : Bool) → a ≡ true → (a || b) ≡ true
+or_left true b h = refl
+or_left false b h = cc
+
+or_right : (a b : Bool) → b ≡ true → (a || b) ≡ true
+or_right true b h = refl
+or_right false b h = h
+
+or_more : (a b c d : Bool) → (a || b) ≡ true → (a ≡ true → c ≡ true) → (b ≡ true → d ≡ true) → (c || d) ≡ true
+or_more true b c d h f g = or_left c d (f refl)
+or_more false b c d h f g = or_right c d (g h)
+
+pub has-append_left : (x : ℕ) (xs ys : List ℕ) → has xs x ≡ true → has (xs ++ ys) x ≡ true
+has-append_left x [] ys h = cc
+has-append_left x (y ∷ xs) ys h = or_more (x == y) (has xs x) (x == y) (has (xs ++ ys) x) h (λ e. e) (has-append_left x xs ys)
+
+pub has-append_right : (x : ℕ) (xs ys : List ℕ) → has ys x ≡ true → has (xs ++ ys) x ≡ true
+has-append_right x [] ys h = h
+has-append_right x (y ∷ xs) ys h = or_right (x == y) (has (xs ++ ys) x) (has-append_right x xs ys h)
+
+and_parts : (a b : Bool) → (a && b) ≡ true → (a ≡ true) × (b ≡ true)
+and_parts true b h = (refl, h)
+and_parts false b h = (cc, cc)
+
+not_both : (b : Bool) → not b ≡ true → b ≡ true → ⊥
+not_both true h k = cc
+not_both false h k = cc
+
+-- no byte is in both of two lists that are apart
+pub apart_has : (x : ℕ) (xs ys : List ℕ) → are_apart xs ys ≡ true → has xs x ≡ true → has ys x ≡ true → ⊥
+apart_has x [] ys a h k = cc
+apart_has x (y ∷ xs) ys a h k =
+    let parts = and_parts (not (has ys y)) (are_apart xs ys) a in
+    by_first (x == y) refl h (λ later. apart_has x xs ys parts.1 later k)
+  where
+    by_first : (b : Bool) → (x == y) ≡ b → (b || has xs x) ≡ true → (has xs x ≡ true → ⊥) → ⊥
+    by_first true e h next =
+        let same : x ≡ y = eqb-true x y e in
+        let fresh = and_parts (not (has ys y)) (are_apart xs ys) a in
+        not_both (has ys y) fresh.0 (subst (λ z. has ys z ≡ true) same k)
+    by_first false e h next = next h
+
+has_numbered : (number tag : ℕ) → IsTagNumber number → has (tag_with_number number tag) tag ≡ true
+has_numbered number tag h = rw (le-leb number 30 h) (has_itself tag [])
+
+-- each byte that isn't a tag of the long form
+pub has-tags_below : (x n : ℕ) → x < n → IsTagNumber (number_of x) → has (tags_below n) x ≡ true
+unfolding tags_below
+has-tags_below x zero l h = absurd (omega arith)
+has-tags_below x (suc n) l h = by_last (x == n) refl (λ k. has-tags_below x n k h)
+  where
+    by_last : (b : Bool) → (x == n) ≡ b → (x < n → has (tags_below n) x ≡ true) → has (tag_with_number (number_of n) n ++ tags_below n) x ≡ true
+    by_last true e next =
+        let same : x ≡ n = eqb-true x n e in
+        has-append_left x (tag_with_number (number_of n) n) (tags_below n) (subst (λ m. has (tag_with_number (number_of m) m) x ≡ true) same (has_numbered (number_of x) x h))
+    by_last false e next =
+        let less : x < n = omega (arith, false-eqb x n (sym e)) in
+        has-append_right x (tag_with_number (number_of n) n) (tags_below n) (next less)
+
+-- ---- each kind of shape
+
+begins_headed : (tag : ℕ) (c fs : List ℕ) (t : Tree) → der t ≡ headed true tag c → has fs tag ≡ true → BeginsIn fs t
+unfolding headed tlv
+begins_headed tag c fs t e h = record { first = tag; others = _; is = e; listed = h }
+
+begins_tlv : (tag : ℕ) (c fs : List ℕ) (t : Tree) → der t ≡ tlv tag c → has fs tag ≡ true → BeginsIn fs t
+unfolding tlv
+begins_tlv tag c fs t e h = record { first = tag; others = _; is = e; listed = h }
+
+boolean_first : (t : Tree) → IsBoolean t → IsReadable t → BeginsIn (0x01 ∷ []) t
+unfolding der written
+boolean_first (Tree.boolean b) p r = begins_headed _ _ _ (Tree.boolean b) refl refl
+boolean_first _ p r = absurd p
+
+unsigned_first : (most : ℕ) (t : Tree) → IsUnsigned most t → IsReadable t → BeginsIn (0x02 ∷ []) t
+unfolding der written
+unsigned_first most (Tree.unsigned n) p r = begins_headed _ _ _ (Tree.unsigned n) refl refl
+unsigned_first most _ p r = absurd p
+
+null_first : (t : Tree) → IsNull t → IsReadable t → BeginsIn (0x05 ∷ []) t
+unfolding der written
+null_first Tree.null p r = begins_headed _ _ _ Tree.null refl refl
+null_first _ p r = absurd p
+
+text_first : (t : Tree) → IsText t → IsReadable t → BeginsIn (0x0C ∷ []) t
+unfolding der written
+text_first (Tree.text s) p r = begins_headed _ _ _ (Tree.text s) refl refl
+text_first _ p r = absurd p
+
+character_first : (t : Tree) → IsCharacter t → IsReadable t → BeginsIn (0x0C ∷ []) t
+unfolding der written
+character_first (Tree.text s) p r = begins_headed _ _ _ (Tree.text s) refl refl
+character_first _ p r = absurd p
+
+bytes_first : (tag : ℕ) (t : Tree) → IsBytes tag t → IsReadable t → BeginsIn (tag_with_number (number_of tag) tag) t
+unfolding der written
+bytes_first tag (Tree.bytes x s) p r =
+    subst (λ n. BeginsIn (tag_with_number (number_of n) n) (Tree.bytes x s)) p.0 (begins_headed x _ _ (Tree.bytes x s) refl (has_numbered (number_of x) x r))
+bytes_first tag _ p r = absurd p
+
+list_first : (kind : ListKind) (P : Trees → Type 0) (t : Tree) → IsList kind P t → IsReadable t → BeginsIn (list_tag kind ∷ []) t
+unfolding der written
+list_first kind P (Tree.list x ts) p r =
+    subst (λ n. BeginsIn (list_tag n ∷ []) (Tree.list x ts)) p.0 (begins_headed _ _ _ (Tree.list x ts) refl (has_itself (list_tag x) []))
+list_first kind P _ p r = absurd p
+
+octet_container_first : (P : Tree → Type 0) (t : Tree) → IsOctetContainer P t → IsReadable t → BeginsIn (0x04 ∷ []) t
+unfolding der written
+octet_container_first P (Tree.octet_container t) p r = begins_tlv _ _ _ (Tree.octet_container t) (around-present _ _ _ (is_absent-readable t r)) refl
+octet_container_first P _ p r = absurd p
+
+bit_container_first : (P : Tree → Type 0) (t : Tree) → IsBitContainer P t → IsReadable t → BeginsIn (0x03 ∷ []) t
+unfolding der written
+bit_container_first P (Tree.bit_container t) p r = begins_tlv _ _ _ (Tree.bit_container t) (around-present _ _ _ (is_absent-readable t r)) refl
+bit_container_first P _ p r = absurd p
+
+explicit_first : (n : ℕ) (P : Tree → Type 0) (t : Tree) → IsExplicit n P t → IsReadable t → BeginsIn (tag_with_number n (0xA0 + n)) t
+unfolding der written
+explicit_first n P (Tree.explicit m t) p r =
+    subst (λ k. BeginsIn (tag_with_number k (0xA0 + k)) (Tree.explicit m t)) p.0 (begins_tlv _ _ _ (Tree.explicit m t) (around-present _ _ _ (is_absent-readable t r.1)) (has_numbered m (0xA0 + m) r.0))
+explicit_first n P _ p r = absurd p
+
+implicit_first : (n : ℕ) (P : Tree → Type 0) (t : Tree) → IsImplicit n P t → IsReadable t → BeginsIn (tag_with_number n (0x80 + n)) t
+unfolding der written
+implicit_first n P (Tree.implicit m t) p r =
+    subst (λ k. BeginsIn (tag_with_number k (0x80 + k)) (Tree.implicit m t)) p.0 (begins_tlv _ _ _ (Tree.implicit m t) (around-present _ _ _ (is_absent-readable t r.2)) (has_numbered m (0x80 + m) r.0))
+implicit_first n P _ p r = absurd p
+
+application_first : (n : ℕ) (P : Tree → Type 0) (t : Tree) → IsApplication n P t → IsReadable t → BeginsIn (tag_with_number n (0x60 + n)) t
+unfolding der written
+application_first n P (Tree.application m t) p r =
+    subst (λ k. BeginsIn (tag_with_number k (0x60 + k)) (Tree.application m t)) p.0 (begins_tlv _ _ _ (Tree.application m t) refl (has_numbered m (0x60 + m) r.0))
+application_first n P _ p r = absurd p
+
+raw_first : (t : Tree) → IsRaw t → IsReadable t → BeginsIn (tags_below 256) t
+unfolding der written tlv
+raw_first (Tree.raw s) p r =
+    let bytes : AreBytes (tlv r.tag r.content) = subst AreBytes r.is p in
+    begins_tlv _ _ _ (Tree.raw s) r.is (has-tags_below r.tag 256 bytes.0 r.number)
+raw_first _ p r = absurd p
+
+-- a readable tree of an optional shape is there
+pub is_of-optional : (P : Tree → Type 0) (t : Tree) → IsOptional P t → IsReadable t → P t
+is_of-optional P t (inl e) r = absurd (subst IsReadable e r)
+is_of-optional P t (inr p) r = p
+
+choice_first : (P : Tree → Type 0) (fs : List ℕ) → ((t : Tree) → P t → IsReadable t → BeginsIn fs t) → (t : Tree) → IsChoice P t → IsReadable t → BeginsIn fs t
+unfolding der written
+choice_first P fs next (Tree.choice t) p r = let b = next t p r in record { first = b.first; others = b.others; is = b.is; listed = b.listed }
+choice_first P fs next _ p r = absurd p
+
+begins_left : (fs gs : List ℕ) (t : Tree) → BeginsIn fs t → BeginsIn (fs ++ gs) t
+begins_left fs gs t b = record { first = b.first; others = b.others; is = b.is; listed = has-append_left b.first fs gs b.listed }
+
+begins_right : (fs gs : List ℕ) (t : Tree) → BeginsIn gs t → BeginsIn (fs ++ gs) t
+begins_right fs gs t b = record { first = b.first; others = b.others; is = b.is; listed = has-append_right b.first fs gs b.listed }
+
+one_of_first : (P Q : Tree → Type 0) (fs gs : List ℕ) → ((t : Tree) → P t → IsReadable t → BeginsIn fs t) → ((t : Tree) → Q t → IsReadable t → BeginsIn gs t) → (t : Tree) → P t ⊎ Q t → IsReadable t → BeginsIn (fs ++ gs) t
+one_of_first P Q fs gs f g t (inl p) r = begins_left fs gs t (f t p r)
+one_of_first P Q fs gs f g t (inr q) r = begins_right fs gs t (g t q r)
+
+mutual
+  pub begins_in : (s : Shape) (t : Tree) → IsOf s t → IsReadable t → BeginsIn (firsts s) t
+  begins_in Shape.boolean = boolean_first
+  begins_in (Shape.unsigned most) = unsigned_first most
+  begins_in Shape.null = null_first
+  begins_in Shape.character = character_first
+  begins_in Shape.text = text_first
+  begins_in (Shape.bytes tag) = bytes_first tag
+  begins_in (Shape.list_of kind s) = list_first kind _
+  begins_in (Shape.fields kind ss) = list_first kind _
+  begins_in (Shape.optional s) = λ t p r. begins_in s t (is_of-optional (IsOf s) t p r) r
+  begins_in (Shape.octet_container s) = octet_container_first _
+  begins_in (Shape.bit_container s) = bit_container_first _
+  begins_in (Shape.explicit n s) = explicit_first n _
+  begins_in (Shape.implicit n s) = implicit_first n _
+  begins_in (Shape.application n s) = application_first n _
+  begins_in Shape.raw = raw_first
+  begins_in (Shape.choice ss) = choice_first (IsOneOf ss) (firsts_of ss) (begins_in_one ss)
+
+  pub begins_in_one : (ss : Shapes) (t : Tree) → IsOneOf ss t → IsReadable t → BeginsIn (firsts_of ss) t
+  begins_in_one Shapes.none = λ t p r. absurd p
+  begins_in_one (Shapes.more s ss) = one_of_first (IsOf s) (IsOneOf ss) (firsts s) (firsts_of ss) (begins_in s) (begins_in_one ss)

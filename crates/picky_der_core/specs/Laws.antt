@@ -1,0 +1,61 @@
+-- The laws of canonical DER, each over the definitions alone.
+use Rattle.std.specs.Prelude.{◌≡◌, ℕ, ◌+◌, ◌≤◌, ◌↔◌, List, ◌∷◌, ◌++◌, length, map, IsFalse}
+use Rattle.std.specs.List.{AllByRecursion, concat}
+use Rattle.picky_der_core.specs.declared.asn1.wrapper.Wrapper.{Wrapper}
+use Rattle.picky_der_core.specs.Tag.{number_of, IsTagNumber}
+use Rattle.picky_der_core.specs.Element.{len, tlv, Begins}
+use Rattle.picky_der_core.specs.Tree.{Tree, is_absent}
+use Rattle.picky_der_core.specs.Encoding.{der}
+use Rattle.picky_der_core.specs.Readable.{IsReadable}
+use Rattle.picky_der_core.specs.Shape.{Shape, IsOf, IsSound, IsFirst}
+use Rattle.picky_der_core.specs.Wrapper.{wrap, wrapper_tag, held, HasTagNumber}
+use Rattle.picky_der_core.specs.Reading.{Place, StandsAt}
+
+-- a readable tree of the shape stands at the front of the input, within the limit
+abbrev pub Stands : Shape → List ℕ → ℕ → Tree → Type 0
+Stands s input limit t = StandsAt Place.whole s input limit t
+
+-- a length that begins another, followed by any bytes, is that length
+abbrev pub LengthBothWays : Type 0
+LengthBothWays = (n k : ℕ) (rest : List ℕ) → Begins (len n) (len k ++ rest) → n ≡ k
+
+-- around something, a wrapper or application tag of a number up to 30 is one element, which holds just what it should
+abbrev pub WrapperLengths : Type 0
+WrapperLengths =
+    ((w : Wrapper) (t : Tree) → HasTagNumber w → IsFalse (is_absent t) → IsTagNumber (number_of (wrapper_tag w)) × (der (wrap w t) ≡ tlv (wrapper_tag w) (held w t)))
+    × ((n : ℕ) (t : Tree) → IsTagNumber n → IsTagNumber (number_of (0x60 + n)) × (der (Tree.application n t) ≡ tlv (0x60 + n) (der t)))
+
+-- the encoding of a readable tree isn't empty, and its first byte is one of its shape's
+abbrev pub FirstsTell : Type 0
+FirstsTell =
+    (s : Shape) (t : Tree) → IsOf s t → IsReadable t → (b : ℕ) × (rest : List ℕ) × (der t ≡ b ∷ rest) × IsFirst s b
+
+-- two readable trees are one tree if the encoding of one begins the other's
+abbrev pub UniqueReadability : Type 0
+UniqueReadability =
+    (s : Shape) → IsSound s → (t u : Tree) → IsOf s t → IsOf s u → IsReadable t → IsReadable u → Begins (der t) (der u) → t ≡ u
+
+-- what stands at the front of an input is one tree
+abbrev pub OneValue : Type 0
+OneValue =
+    (s : Shape) → IsSound s → (input : List ℕ) (limit : ℕ) (t u : Tree) → Stands s input limit t → Stands s input limit u → (t ≡ u) × (der t ≡ der u)
+
+-- an encoding is read back as its tree alone, and what follows it is left
+abbrev pub RoundTrip : Type 0
+RoundTrip =
+    (s : Shape) → IsSound s → (t : Tree) (rest : List ℕ) (limit : ℕ) → IsOf s t → IsReadable t → length (der t) ≤ limit
+    → Stands s (der t ++ rest) limit t
+    × ((u : Tree) → (stands : Stands s (der t ++ rest) limit u) → (u ≡ t) × (stands.front.rest ≡ rest))
+
+-- lists of readable trees are equal exactly where their encodings, one after another, are
+abbrev pub SameBytes : Type 0
+SameBytes =
+    (s : Shape) → IsSound s → (ts us : List Tree)
+    → AllByRecursion (λ t. IsOf s t × IsReadable t) ts → AllByRecursion (λ t. IsOf s t × IsReadable t) us
+    → (concat (map der ts) ≡ concat (map der us)) ↔ (ts ≡ us)
+
+-- what stands directly under an implicit tag, within one end, is one tree
+abbrev pub OneInside : Type 0
+OneInside =
+    (s : Shape) → IsSound s → (rest : List ℕ) (ahead : ℕ) (t u : Tree)
+    → StandsAt (Place.under_implicit ahead) s rest ahead t → StandsAt (Place.under_implicit ahead) s rest ahead u → t ≡ u

@@ -1,0 +1,16 @@
+pub mod Error
+pub mod Tag
+pub mod Element
+pub mod Tree
+pub mod Encoding
+pub mod Readable
+pub mod Shape
+pub mod Wrapper
+pub mod Reading
+pub mod Refusal
+pub mod ElementLaws
+pub mod EncodingLaws
+pub mod WrapperLaws
+pub mod FirstLaws
+pub mod ShapeLaws
+pub mod Laws

@@ -1,0 +1,55 @@
+-- What reading means: which value stands at the front of some bytes.
+use Rattle.std.specs.Prelude.{◌≡◌, ℕ, ◌≤◌, ◌⊎◌, List, length, ⊤, IsTrue}
+use Rattle.picky_der_core.specs.Element.{Begins}
+use Rattle.picky_der_core.specs.Tree.{Tree, is_plain}
+use Rattle.picky_der_core.specs.Encoding.{der, inside}
+use Rattle.picky_der_core.specs.Readable.{IsReadable, IsNoChoice}
+use Rattle.picky_der_core.specs.Shape.{Shape, IsOf}
+
+-- where a value stands
+pub data Place : Type 0 where
+  -- with its own header
+  whole : Place
+  -- directly under an implicit tag, whose end is so many bytes ahead
+  under_implicit : ℕ → Place
+
+-- what stands there of a tree
+abbrev pub written_at : Place → Tree → List ℕ
+written_at Place.whole t = der t
+written_at (Place.under_implicit ahead) t = inside t
+
+-- Directly under an implicit tag no choice is read, since its first byte isn't there to tell it, and a plain value fills
+-- the tag's content, since its length isn't there.
+pub record FillsTag (ahead : ℕ) (t : Tree) : Type 0 where
+  pub no_choice : IsNoChoice t
+  pub filled : IsTrue (is_plain t) → length (inside t) ≡ ahead
+
+abbrev pub MayStand : Place → Tree → Type 0
+MayStand Place.whole t = ⊤
+MayStand (Place.under_implicit ahead) t = FillsTag ahead t
+
+-- a readable tree of the shape stands at the front of these bytes, and takes at most `limit` of them
+pub record StandsAt (place : Place) (s : Shape) (bs : List ℕ) (limit : ℕ) (t : Tree) : Type 0 where
+  pub of_shape : IsOf s t
+  pub readable : IsReadable t
+  pub may_stand : MayStand place t
+  pub within : length (written_at place t) ≤ limit
+  pub front : Begins (written_at place t) bs
+
+-- a value v of a type, known by what it means, is read from the input within the limit
+abbrev pub Reads : {V : Type 0} → (V → Tree) → Shape → List ℕ → ℕ → V → Type 0
+Reads meaning s input limit v = StandsAt Place.whole s input limit (meaning v)
+
+-- the same directly under an implicit tag, from what the reader has of the bytes before that tag's end
+abbrev pub ReadsInside : {V : Type 0} → (V → Tree) → Shape → List ℕ → ℕ → V → Type 0
+ReadsInside meaning s rest ahead v = StandsAt (Place.under_implicit ahead) s rest ahead (meaning v)
+
+-- more bytes behind b could make a value of the type of it: of some value, of at most `room` bytes, b is the beginning, or
+-- it is the beginning of b
+pub record IsMendable {V : Type 0} (meaning : V → Tree) (s : Shape) (place : Place) (b : List ℕ) (room : ℕ) : Type 0 where
+  pub value : V
+  pub of_shape : IsOf s (meaning value)
+  pub readable : IsReadable (meaning value)
+  pub may_stand : MayStand place (meaning value)
+  pub within : length (written_at place (meaning value)) ≤ room
+  pub agrees : Begins (written_at place (meaning value)) b ⊎ Begins b (written_at place (meaning value))

@@ -1,0 +1,129 @@
+-- Which reads are refused, and with which error.
+use Rattle.std.specs.Prelude.{ℕ, ◌-◌, Bool, true, ◌&&◌, ◌||◌, List, [], ◌∷◌, length, take, drop, nat_lt, ◌==◌, Option, Some, None, Result, Ok, Err, chars, if◌then◌else◌}
+use Rattle.std.specs.Int.Digits.{number_from_digits}
+use Rattle.std.specs.Str.{is_utf8}
+use Rattle.picky_der_core.specs.declared.error.Asn1DerError.{Asn1DerError}
+use Rattle.picky_der_core.specs.declared.error.Asn1DerError.TheVariants.{TruncatedData, InvalidData, UnsupportedValue}
+use Rattle.picky_der_core.specs.Tag.{number_of, is_tag_number}
+
+-- ---- ends
+
+-- A length that reaches past an end. Past a hard end no byte can come.
+abbrev pub past : Bool → Asn1DerError
+past hard = if hard then InvalidData else TruncatedData
+
+-- a byte that isn't there, where the innermost end is `ahead` bytes away and the reader has `rest` of these
+abbrev pub missing : Bool → ℕ → List ℕ → Asn1DerError
+missing hard ahead rest = past (hard && (length rest == ahead))
+
+-- ---- lengths
+
+-- a length and the bytes after it, or why there is none
+abbrev pub Length : Type 0
+Length = Result (ℕ × List ℕ) Asn1DerError
+
+-- the number of a length of the long form, which is the shortest
+abbrev pub long_length : ℕ → Bool → List ℕ → Length
+long_length n leading_zero rest = if leading_zero || nat_lt n 0x80 then Err InvalidData else Ok (n, rest)
+
+abbrev pub begins_with_zero : List ℕ → Bool
+begins_with_zero [] = true
+begins_with_zero (b ∷ bs) = b == 0
+
+-- the length at the front of these bytes, where a byte that isn't there is refused with `lacking`
+abbrev pub length_of : Asn1DerError → List ℕ → Length
+length_of lacking [] = Err lacking
+length_of lacking (b ∷ bs) =
+    if nat_lt b 0x80 then Ok (b, bs)
+    else (if b == 0x80 then Err InvalidData
+    else (if nat_lt 0x88 b then Err UnsupportedValue
+    else (if nat_lt (length bs) (b - 0x80) then Err lacking
+    else long_length (number_from_digits 256 (take (b - 0x80) bs)) (begins_with_zero (take (b - 0x80) bs)) (drop (b - 0x80) bs))))
+
+-- ---- headers
+
+-- the length behind the tag, if it doesn't reach past the innermost end
+abbrev pub within_end : Bool → ℕ → List ℕ → Length → Length
+within_end hard ahead rest (Err e) = Err e
+within_end hard ahead rest (Ok (n, left)) = if nat_lt (ahead - (length rest - length left)) n then Err (past hard) else Ok (n, left)
+
+abbrev pub length_behind : Bool → ℕ → List ℕ → List ℕ → Length
+length_behind hard ahead rest behind = within_end hard ahead rest (length_of (missing hard ahead rest) behind)
+
+abbrev pub header_with : ℕ → Bool → ℕ → List ℕ → Length
+header_with tag hard ahead [] = Err (missing hard ahead [])
+header_with tag hard ahead (b ∷ bs) = if b == tag then length_behind hard ahead (b ∷ bs) bs else Err InvalidData
+
+-- the header of an element with this tag: the length of the content, and the bytes from there on
+abbrev pub header : ℕ → Bool → ℕ → List ℕ → Length
+header tag hard ahead rest = if is_tag_number (number_of tag) then header_with tag hard ahead rest else Err UnsupportedValue
+
+-- the header of any element
+abbrev pub any_header : Bool → ℕ → List ℕ → Length
+any_header hard ahead [] = Err (missing hard ahead [])
+any_header hard ahead (b ∷ bs) = if is_tag_number (number_of b) then length_behind hard ahead (b ∷ bs) bs else Err UnsupportedValue
+
+abbrev pub error_of : {A : Type 0} → Result A Asn1DerError → Option Asn1DerError
+error_of (Ok a) = None
+error_of (Err e) = Some e
+
+-- ---- contents
+
+-- why these bytes are no content, if they aren't
+abbrev pub Judge : Type 0
+Judge = List ℕ → Option Asn1DerError
+
+abbrev pub boolean_fault : Judge
+boolean_fault [] = Some TruncatedData
+boolean_fault (b ∷ []) = if (b == 0x00) || (b == 0xFF) then None else Some InvalidData
+boolean_fault (b ∷ c ∷ bs) = Some InvalidData
+
+-- bytes of a number, without a leading 00
+abbrev pub number_fault : ℕ → Judge
+number_fault most bs = if nat_lt 16 (length bs) || nat_lt most (number_from_digits 256 bs) then Some UnsupportedValue else None
+
+abbrev pub unsigned_fault : ℕ → Judge
+unsigned_fault most [] = Some TruncatedData
+unsigned_fault most (b ∷ []) = if nat_lt b 0x80 then number_fault most (b ∷ []) else Some UnsupportedValue
+unsigned_fault most (b ∷ c ∷ bs) =
+    if nat_lt b 0x80 then (if b == 0 then (if nat_lt c 0x80 then Some InvalidData else number_fault most (c ∷ bs)) else number_fault most (b ∷ c ∷ bs))
+    else Some UnsupportedValue
+
+abbrev pub null_fault : Judge
+null_fault [] = None
+null_fault (b ∷ bs) = Some InvalidData
+
+abbrev pub text_fault : Judge
+text_fault bs = if is_utf8 bs then None else Some InvalidData
+
+abbrev pub character_count_fault : ℕ → Option Asn1DerError
+character_count_fault n = if n == 0 then Some UnsupportedValue else (if n == 1 then None else Some InvalidData)
+
+abbrev pub character_fault : Judge
+character_fault bs = if is_utf8 bs then character_count_fault (length (chars bs)) else Some InvalidData
+
+abbrev pub bytes_fault : Judge
+bytes_fault bs = None
+
+-- ---- whole reads
+
+-- the content, which is drawn whole before it is judged
+abbrev pub content_fault : Judge → Length → Option Asn1DerError
+content_fault judge (Err e) = Some e
+content_fault judge (Ok (n, rest)) = if nat_lt (length rest) n then Some TruncatedData else judge (take n rest)
+
+-- why a plain value with this tag isn't read, if it isn't
+abbrev pub plain_fault : ℕ → Judge → Bool → ℕ → List ℕ → Option Asn1DerError
+plain_fault tag judge hard ahead rest = content_fault judge (header tag hard ahead rest)
+
+-- the same directly under an implicit tag, whose content is all that is ahead
+abbrev pub inside_fault : ℕ → Judge → ℕ → List ℕ → Option Asn1DerError
+inside_fault tag judge ahead rest = if is_tag_number (number_of tag) then content_fault judge (Ok (ahead, rest)) else Some UnsupportedValue
+
+-- why the header of a wrapper, a sequence or a set isn't read
+abbrev pub header_fault : ℕ → Bool → ℕ → List ℕ → Option Asn1DerError
+header_fault tag hard ahead rest = error_of (header tag hard ahead rest)
+
+-- why an element isn't taken whole, whatever its tag
+abbrev pub element_fault : Bool → ℕ → List ℕ → Option Asn1DerError
+element_fault hard ahead rest = content_fault bytes_fault (any_header hard ahead rest)

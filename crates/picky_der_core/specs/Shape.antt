@@ -1,0 +1,219 @@
+-- The shapes of types, which trees are of a shape, and with which bytes their encodings begin.
+use Rattle.std.specs.Prelude.{◌≡◌, ℕ, zero, suc, ◌+◌, ◌^◌, ◌<◌, ◌≤◌, Bool, not, ◌⊎◌, List, [], ◌∷◌, ◌++◌, length, ◌==◌, IsUtf8, chars, ⊤, IsTrue, if◌then◌else◌}
+use Rattle.std.specs.List.{AllByRecursion, list_any, list_all}
+use Rattle.picky_der_core.specs.Tag.{number_of, is_tag_number}
+use Rattle.picky_der_core.specs.Tree.{ListKind, Tree, Trees}
+use Rattle.picky_der_core.specs.Encoding.{list_tag}
+
+mutual
+  pub data Shape : Type 0 where
+    boolean : Shape
+    -- with the greatest number
+    unsigned : ℕ → Shape
+    null : Shape
+    character : Shape
+    text : Shape
+    -- with the tag
+    bytes : ℕ → Shape
+    -- a list whose members are all of one shape
+    list_of : ListKind → Shape → Shape
+    -- a list of one member for each shape, in order
+    fields : ListKind → Shapes → Shape
+    optional : Shape → Shape
+    octet_container : Shape → Shape
+    bit_container : Shape → Shape
+    explicit : ℕ → Shape → Shape
+    implicit : ℕ → Shape → Shape
+    application : ℕ → Shape → Shape
+    raw : Shape
+    -- of one of these shapes
+    choice : Shapes → Shape
+
+  pub data Shapes : Type 0 where
+    none : Shapes
+    more : Shape → Shapes → Shapes
+
+abbrev pub shapes : List Shape → Shapes
+shapes [] = Shapes.none
+shapes (s ∷ ss) = Shapes.more s (shapes ss)
+
+-- ---- trees of a shape
+
+abbrev pub AreBytes : List ℕ → Type 0
+AreBytes s = AllByRecursion (λ b. b < 256) s
+
+-- the tree is of that kind, and its parts are as said
+
+abbrev pub IsBoolean : Tree → Type 0
+IsBoolean (Tree.boolean b) = ⊤
+IsBoolean _ = ⊥
+
+abbrev pub IsUnsigned : ℕ → Tree → Type 0
+IsUnsigned most (Tree.unsigned n) = (n ≤ most) × (n < 2 ^ 128)
+IsUnsigned most _ = ⊥
+
+abbrev pub IsNull : Tree → Type 0
+IsNull Tree.null = ⊤
+IsNull _ = ⊥
+
+abbrev pub IsCharacter : Tree → Type 0
+IsCharacter (Tree.text s) = IsUtf8 s × (length (chars s) ≡ 1)
+IsCharacter _ = ⊥
+
+abbrev pub IsText : Tree → Type 0
+IsText (Tree.text s) = IsUtf8 s
+IsText _ = ⊥
+
+abbrev pub IsBytes : ℕ → Tree → Type 0
+IsBytes tag (Tree.bytes x s) = (x ≡ tag) × AreBytes s
+IsBytes tag _ = ⊥
+
+abbrev pub IsList : ListKind → (Trees → Type 0) → Tree → Type 0
+IsList kind P (Tree.list x ts) = (x ≡ kind) × P ts
+IsList kind P _ = ⊥
+
+abbrev pub IsOptional : (Tree → Type 0) → Tree → Type 0
+IsOptional P t = (t ≡ Tree.absent) ⊎ P t
+
+abbrev pub IsOctetContainer : (Tree → Type 0) → Tree → Type 0
+IsOctetContainer P (Tree.octet_container t) = P t
+IsOctetContainer P _ = ⊥
+
+abbrev pub IsBitContainer : (Tree → Type 0) → Tree → Type 0
+IsBitContainer P (Tree.bit_container t) = P t
+IsBitContainer P _ = ⊥
+
+abbrev pub IsExplicit : ℕ → (Tree → Type 0) → Tree → Type 0
+IsExplicit n P (Tree.explicit m t) = (m ≡ n) × P t
+IsExplicit n P _ = ⊥
+
+abbrev pub IsImplicit : ℕ → (Tree → Type 0) → Tree → Type 0
+IsImplicit n P (Tree.implicit m t) = (m ≡ n) × P t
+IsImplicit n P _ = ⊥
+
+abbrev pub IsApplication : ℕ → (Tree → Type 0) → Tree → Type 0
+IsApplication n P (Tree.application m t) = (m ≡ n) × P t
+IsApplication n P _ = ⊥
+
+abbrev pub IsRaw : Tree → Type 0
+IsRaw (Tree.raw s) = AreBytes s
+IsRaw _ = ⊥
+
+abbrev pub IsChoice : (Tree → Type 0) → Tree → Type 0
+IsChoice P (Tree.choice t) = P t
+IsChoice P _ = ⊥
+
+-- P of each member
+abbrev pub EachIs : (Tree → Type 0) → Trees → Type 0
+EachIs P Trees.none = ⊤
+EachIs P (Trees.more t ts) = P t × EachIs P ts
+
+-- P of the first member, and Q of the others
+abbrev pub FirstAndRest : (Tree → Type 0) → (Trees → Type 0) → Trees → Type 0
+FirstAndRest P Q Trees.none = ⊥
+FirstAndRest P Q (Trees.more t ts) = P t × Q ts
+
+abbrev pub IsEmpty : Trees → Type 0
+IsEmpty Trees.none = ⊤
+IsEmpty (Trees.more t ts) = ⊥
+
+-- the tree is of the shape
+abbrev mutual
+  pub IsOf : Shape → Tree → Type 0
+  IsOf Shape.boolean = IsBoolean
+  IsOf (Shape.unsigned most) = IsUnsigned most
+  IsOf Shape.null = IsNull
+  IsOf Shape.character = IsCharacter
+  IsOf Shape.text = IsText
+  IsOf (Shape.bytes tag) = IsBytes tag
+  IsOf (Shape.list_of kind s) = IsList kind (EachIs (IsOf s))
+  IsOf (Shape.fields kind ss) = IsList kind (AreOf ss)
+  IsOf (Shape.optional s) = IsOptional (IsOf s)
+  IsOf (Shape.octet_container s) = IsOctetContainer (IsOf s)
+  IsOf (Shape.bit_container s) = IsBitContainer (IsOf s)
+  IsOf (Shape.explicit n s) = IsExplicit n (IsOf s)
+  IsOf (Shape.implicit n s) = IsImplicit n (IsOf s)
+  IsOf (Shape.application n s) = IsApplication n (IsOf s)
+  IsOf Shape.raw = IsRaw
+  IsOf (Shape.choice ss) = IsChoice (IsOneOf ss)
+
+  -- one tree for each shape, in order
+  pub AreOf : Shapes → Trees → Type 0
+  AreOf Shapes.none = IsEmpty
+  AreOf (Shapes.more s ss) = FirstAndRest (IsOf s) (AreOf ss)
+
+  -- of one of the shapes
+  pub IsOneOf : Shapes → Tree → Type 0
+  IsOneOf Shapes.none = λ t. ⊥
+  IsOneOf (Shapes.more s ss) = λ t. IsOf s t ⊎ IsOneOf ss t
+
+-- ---- first bytes
+
+-- the tag alone, unless its number is that of the long form
+abbrev pub tag_with_number : ℕ → ℕ → List ℕ
+tag_with_number number tag = if is_tag_number number then tag ∷ [] else []
+
+-- the bytes below a bound that are no tag of the long form
+unfoldable pub tags_below : ℕ → List ℕ
+tags_below zero = []
+tags_below (suc b) = tag_with_number (number_of b) b ++ tags_below b
+
+-- the bytes with which an encoding of the shape can begin
+abbrev mutual
+  pub firsts : Shape → List ℕ
+  firsts Shape.boolean = 0x01 ∷ []
+  firsts (Shape.unsigned most) = 0x02 ∷ []
+  firsts Shape.null = 0x05 ∷ []
+  firsts Shape.character = 0x0C ∷ []
+  firsts Shape.text = 0x0C ∷ []
+  firsts (Shape.bytes tag) = tag_with_number (number_of tag) tag
+  firsts (Shape.list_of kind s) = list_tag kind ∷ []
+  firsts (Shape.fields kind ss) = list_tag kind ∷ []
+  firsts (Shape.optional s) = firsts s
+  firsts (Shape.octet_container s) = 0x04 ∷ []
+  firsts (Shape.bit_container s) = 0x03 ∷ []
+  firsts (Shape.explicit n s) = tag_with_number n (0xA0 + n)
+  firsts (Shape.implicit n s) = tag_with_number n (0x80 + n)
+  firsts (Shape.application n s) = tag_with_number n (0x60 + n)
+  firsts Shape.raw = tags_below 256
+  firsts (Shape.choice ss) = firsts_of ss
+
+  pub firsts_of : Shapes → List ℕ
+  firsts_of Shapes.none = []
+  firsts_of (Shapes.more s ss) = firsts s ++ firsts_of ss
+
+abbrev pub has : List ℕ → ℕ → Bool
+has xs x = list_any (λ y. x == y) xs
+
+-- an encoding of the shape can begin with this byte
+abbrev pub IsFirst : Shape → ℕ → Type 0
+IsFirst s b = IsTrue (has (firsts s) b)
+
+-- no byte in common
+abbrev pub are_apart : List ℕ → List ℕ → Bool
+are_apart xs ys = list_all (λ x. not (has ys x)) xs
+
+-- ---- shapes whose choices are told
+
+-- each of the shapes is told from those after it by the first byte
+abbrev pub AreTold : Shapes → Type 0
+AreTold Shapes.none = ⊤
+AreTold (Shapes.more s ss) = IsTrue (are_apart (firsts s) (firsts_of ss)) × AreTold ss
+
+-- in every choice inside, the alternatives are told by their first byte
+abbrev mutual
+  pub IsSound : Shape → Type 0
+  IsSound (Shape.list_of kind s) = IsSound s
+  IsSound (Shape.fields kind ss) = AreSound ss
+  IsSound (Shape.optional s) = IsSound s
+  IsSound (Shape.octet_container s) = IsSound s
+  IsSound (Shape.bit_container s) = IsSound s
+  IsSound (Shape.explicit n s) = IsSound s
+  IsSound (Shape.implicit n s) = IsSound s
+  IsSound (Shape.application n s) = IsSound s
+  IsSound (Shape.choice ss) = AreSound ss × AreTold ss
+  IsSound _ = ⊤
+
+  pub AreSound : Shapes → Type 0
+  AreSound Shapes.none = ⊤
+  AreSound (Shapes.more s ss) = IsSound s × AreSound ss

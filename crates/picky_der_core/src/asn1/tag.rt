@@ -1,0 +1,171 @@
+//! Identifier bytes (X.690, 8.1.2).
+ghost use Rattle.std.specs.Prelude.{◌≡◌, ◌+◌, ◌≤◌, ◌↔◌, ℕ, IsTrue, IsBitSet};
+ghost use Rattle.picky_der_core.specs.Tag.{class_of, number_of};
+
+use std::marker::Model;
+
+/// The class of an identifier byte: its bits 8 and 7.
+#[derive(Debug, Clone, Copy, PartialEq, Eq)]
+pub enum TagClass {
+    Universal = 0,
+    Application = 1,
+    ContextSpecific = 2,
+    Private = 3,
+}
+
+/// An identifier byte: the class, whether it is constructed, and a number up to 30 (X.690, 8.1.2).
+///
+/// A number of 31, five bits set, would announce the long form, which isn't supported.
+#[derive(Debug, Clone, Copy, PartialEq, Eq)]
+pub struct Tag(u8);
+
+impl Model for Tag {
+    ghost Value = { ℕ };
+
+    ghost view = { λ t. t.0 };
+
+    ghost inverse = { λ n. record { 0 = n } };
+}
+
+impl Tag {
+    /// A truth value (X.690, 8.2).
+    pub const BOOLEAN: Tag = Tag(0x01);
+
+    /// A number (8.3).
+    pub const INTEGER: Tag = Tag(0x02);
+
+    /// A bit string (8.6).
+    pub const BIT_STRING: Tag = Tag(0x03);
+
+    /// An octet string (8.7).
+    pub const OCTET_STRING: Tag = Tag(0x04);
+
+    /// Nothing (8.8).
+    pub const NULL: Tag = Tag(0x05);
+
+    /// An object identifier (8.19).
+    pub const OID: Tag = Tag(0x06);
+
+    /// A text in UTF-8 (8.23).
+    pub const UTF8_STRING: Tag = Tag(0x0C);
+
+    /// A text of digits and spaces.
+    pub const NUMERIC_STRING: Tag = Tag(0x12);
+
+    /// A text of letters, digits and a few signs.
+    pub const PRINTABLE_STRING: Tag = Tag(0x13);
+
+    /// A text in ASCII.
+    pub const IA5_STRING: Tag = Tag(0x16);
+
+    /// A time with a year of two digits.
+    pub const UTC_TIME: Tag = Tag(0x17);
+
+    /// A time with a year of four digits.
+    pub const GENERALIZED_TIME: Tag = Tag(0x18);
+
+    /// A text of any registered character sets.
+    pub const GENERAL_STRING: Tag = Tag(0x1B);
+
+    /// A text in UTF-16 without surrogates.
+    pub const BMP_STRING: Tag = Tag(0x1E);
+
+    /// A sequence (8.9), which is constructed.
+    pub const SEQUENCE: Tag = Tag(0x30);
+
+    /// A set (8.11), which is constructed.
+    pub const SET: Tag = Tag(0x31);
+
+    /// The constructed tag of the application class with this number.
+    pub const fn application_constructed(number: u8) -> Tag
+        requires { number ≤ 30 }
+        ensures { result ≡ 0x60 + number }
+    {
+        Tag(0x60 | number)
+    }
+
+    /// The constructed context-specific tag with this number, as of an explicit tag.
+    pub const fn context_specific_constructed(number: u8) -> Tag
+        requires { number ≤ 30 }
+        ensures { result ≡ 0xA0 + number }
+    {
+        Tag(0xA0 | number)
+    }
+
+    /// The primitive context-specific tag with this number, as of an implicit tag.
+    pub const fn context_specific_primitive(number: u8) -> Tag
+        requires { number ≤ 30 }
+        ensures { result ≡ 0x80 + number }
+    {
+        Tag(0x80 | number)
+    }
+
+    /// The identifier byte.
+    pub const fn inner(self) -> u8
+        ensures { result ≡ self }
+    {
+        self.0
+    }
+
+    /// The class: bits 8 and 7.
+    pub fn class(self) -> TagClass
+        ensures { result ≡ class_of self }
+    {
+        match self.0 >> 6 {
+            0 => TagClass::Universal,
+            1 => TagClass::Application,
+            2 => TagClass::ContextSpecific,
+            _ => TagClass::Private,
+        }
+    }
+
+    /// The number: the low five bits. 31 announces the long form.
+    pub const fn number(self) -> u8
+        ensures { result ≡ number_of self }
+    {
+        self.0 & 0x1F
+    }
+
+    /// Whether bits 8 and 7 are both clear.
+    pub fn is_universal(self) -> bool
+        ensures { IsTrue result ↔ (class_of self ≡ TagClass.Universal) }
+    {
+        self.class() == TagClass::Universal
+    }
+
+    /// Whether bit 7 alone of bits 8 and 7 is set.
+    pub fn is_application(self) -> bool
+        ensures { IsTrue result ↔ (class_of self ≡ TagClass.Application) }
+    {
+        self.class() == TagClass::Application
+    }
+
+    /// Whether bit 8 alone of bits 8 and 7 is set.
+    pub fn is_context_specific(self) -> bool
+        ensures { IsTrue result ↔ (class_of self ≡ TagClass.ContextSpecific) }
+    {
+        self.class() == TagClass::ContextSpecific
+    }
+
+    /// Whether bit 6 is clear: the content is a value's own.
+    pub fn is_primitive(self) -> bool
+        ensures { IsTrue result ↔ (¬ IsBitSet self 5) }
+    {
+        !self.is_constructed()
+    }
+
+    /// Whether bit 6 is set: the content is made of elements.
+    pub const fn is_constructed(self) -> bool
+        ensures { IsTrue result ↔ IsBitSet self 5 }
+    {
+        self.0 & 0x20 != 0
+    }
+}
+
+impl From<u8> for Tag {
+    ghost from_gives = { λ byte tag. tag ≡ byte };
+
+    fn from(byte: u8) -> Tag {
+        Tag(byte)
+    }
+}

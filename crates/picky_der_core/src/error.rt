@@ -1,0 +1,76 @@
+//! The error of the workspace.
+ghost use Rattle.std.specs.Prelude.{◌≡◌};
+ghost use Rattle.std.specs.IoError.{error_kind};
+ghost use Rattle.picky_der_core.specs.Error.{kind_of};
+
+use std::io;
+use thiserror::Error;
+
+/// Why a value could not be written or read.
+///
+/// It prints as the name of its variant; `Message` and `Other` show what they hold.
+#[derive(Debug, Clone, Copy, PartialEq, Eq, Error)]
+pub enum Asn1DerError {
+    /// The data ended too early: more bytes could mend it.
+    #[error("TruncatedData")]
+    TruncatedData,
+
+    /// The data is no canonical encoding of the type.
+    #[error("InvalidData")]
+    InvalidData,
+
+    /// The value may be valid but isn't supported, as a number that is too large or a tag number past 30.
+    #[error("UnsupportedValue")]
+    UnsupportedValue,
+
+    /// The type isn't supported by the serializer or the deserializer.
+    #[error("UnsupportedType")]
+    UnsupportedType,
+
+    /// The sink took fewer bytes than the encoding has.
+    #[error("InvalidSink")]
+    InvalidSink,
+
+    /// A message of an implementation by hand. The text is shown as it is.
+    #[error("Message(\"{0}\")")]
+    Message(&'static str),
+
+    /// A fault of the device that was read from or written to.
+    #[error("Other({0:?})")]
+    Other(io::ErrorKind),
+
+    /// Memory was refused.
+    #[error("OutOfMemory")]
+    OutOfMemory,
+}
+
+impl Asn1DerError {
+    /// An error with this message.
+    pub fn custom(text: &'static str) -> Asn1DerError
+        ensures { result ≡ Asn1DerError.Message text.entry }
+    {
+        Asn1DerError::Message(text)
+    }
+}
+
+/// An early end of the input is `TruncatedData`, a sink that takes no more is `InvalidSink`, want of memory stays
+/// want of memory, and any other kind is `Other`.
+impl From<io::Error> for Asn1DerError {
+    ghost from_gives = { λ e k. k ≡ kind_of (error_kind e) };
+
+    #[tactic(auto, unfolding(crate::specs::Error::kind_of))]
+    fn from(error: io::Error) -> Asn1DerError {
+        match error.kind() {
+            io::ErrorKind::UnexpectedEof => Asn1DerError::TruncatedData,
+            io::ErrorKind::WriteZero => Asn1DerError::InvalidSink,
+            io::ErrorKind::OutOfMemory => Asn1DerError::OutOfMemory,
+            kind => Asn1DerError::Other(kind),
+        }
+    }
+}
+
+/// What the calls of the workspace answer.
+pub type Result<T> = std::result::Result<T, Asn1DerError>;
+
+#[cfg(test)]
+mod tests;

@@ -1,0 +1,42 @@
+//! The laws of canonical DER: each is the contract of a function without arguments, over the definitions alone.
+ghost use Rattle.picky_der_core.specs.Laws.{LengthBothWays, WrapperLengths, FirstsTell, UniqueReadability, OneValue, RoundTrip, SameBytes, OneInside};
+
+/// A length that begins another length, followed by any bytes, is that length (X.690, 8.1.3 and 10.1).
+pub fn length_both_ways()
+    ensures { LengthBothWays }
+{}
+
+/// Around something, a wrapper or application tag is one element that holds just what stands in it, at every depth.
+pub fn wrapper_lengths()
+    ensures { WrapperLengths }
+{}
+
+/// The encoding of a readable tree isn't empty, and its first byte is one of its shape's.
+pub fn firsts_tell()
+    ensures { FirstsTell }
+{}
+
+/// Two readable trees of a sound shape are one tree if the encoding of one begins the other's.
+pub fn unique_readability()
+    ensures { UniqueReadability }
+{}
+
+/// Two readable trees at the front of one input are one tree.
+pub fn one_value()
+    ensures { OneValue }
+{}
+
+/// An encoding is read back as its tree alone, and what follows it is left.
+pub fn round_trip()
+    ensures { RoundTrip }
+{}
+
+/// Lists of readable trees are equal exactly where their encodings, one after another, are.
+pub fn same_bytes()
+    ensures { SameBytes }
+{}
+
+/// What stands directly under an implicit tag, within one end, is one tree.
+pub fn one_inside()
+    ensures { OneInside }
+{}

@@ -1,0 +1,8 @@
+//! The base of the workspace: the error, the types of ASN.1, and what canonical DER is (`specs/`), with its laws.
+#![tactic(auto)]
+
+pub mod asn1;
+mod error;
+pub mod laws;
+
+pub use error::{Asn1DerError, Result};
