@@ -14,3 +14,8 @@ pub mod WrapperLaws
 pub mod FirstLaws
 pub mod ShapeLaws
 pub mod Laws
+pub mod Faults
+pub mod Reader
+pub mod Writer
+pub mod Watching
+pub mod Sink

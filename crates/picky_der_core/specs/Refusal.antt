@@ -1,5 +1,6 @@
 -- Which reads are refused, and with which error.
 use Rattle.std.specs.Prelude.{ℕ, ◌-◌, Bool, true, ◌&&◌, ◌||◌, List, [], ◌∷◌, length, take, drop, nat_lt, ◌==◌, Option, Some, None, Result, Ok, Err, chars, if◌then◌else◌}
+use Rattle.std.specs.Option.{option_map}
 use Rattle.std.specs.Int.Digits.{number_from_digits}
 use Rattle.std.specs.Str.{is_utf8}
 use Rattle.picky_der_core.specs.declared.error.Asn1DerError.{Asn1DerError}
@@ -18,54 +19,58 @@ missing hard ahead rest = past (hard && (length rest == ahead))
 
 -- ---- lengths
 
--- a length and the bytes after it, or why there is none
-abbrev pub Length : Type 0
-Length = Result (ℕ × List ℕ) Asn1DerError
+-- the error of a refusal, and the bytes that are left behind those that were drawn
+abbrev pub Refusal : Type 0
+Refusal = Asn1DerError × List ℕ
 
--- the number of a length of the long form, which is the shortest
-abbrev pub long_length : ℕ → Bool → List ℕ → Length
-long_length n leading_zero rest = if leading_zero || nat_lt n 0x80 then Err InvalidData else Ok (n, rest)
+-- what was read and the bytes behind it, or the refusal
+abbrev pub Outcome : Type 0 → Type 0
+Outcome A = Result (A × List ℕ) Refusal
+
+-- the number of a length of the long form, which must be the shortest
+abbrev pub long_length : ℕ → Bool → List ℕ → Outcome ℕ
+long_length n leading_zero rest = if leading_zero || nat_lt n 0x80 then Err (InvalidData, rest) else Ok (n, rest)
 
 abbrev pub begins_with_zero : List ℕ → Bool
 begins_with_zero [] = true
 begins_with_zero (b ∷ bs) = b == 0
 
 -- the length at the front of these bytes, where a byte that isn't there is refused with `lacking`
-abbrev pub length_of : Asn1DerError → List ℕ → Length
-length_of lacking [] = Err lacking
+abbrev pub length_of : Asn1DerError → List ℕ → Outcome ℕ
+length_of lacking [] = Err (lacking, [])
 length_of lacking (b ∷ bs) =
     if nat_lt b 0x80 then Ok (b, bs)
-    else (if b == 0x80 then Err InvalidData
-    else (if nat_lt 0x88 b then Err UnsupportedValue
-    else (if nat_lt (length bs) (b - 0x80) then Err lacking
+    else (if b == 0x80 then Err (InvalidData, bs)
+    else (if nat_lt 0x88 b then Err (UnsupportedValue, bs)
+    else (if nat_lt (length bs) (b - 0x80) then Err (lacking, [])
     else long_length (number_from_digits 256 (take (b - 0x80) bs)) (begins_with_zero (take (b - 0x80) bs)) (drop (b - 0x80) bs))))
 
 -- ---- headers
 
 -- the length behind the tag, if it doesn't reach past the innermost end
-abbrev pub within_end : Bool → ℕ → List ℕ → Length → Length
+abbrev pub within_end : Bool → ℕ → List ℕ → Outcome ℕ → Outcome ℕ
 within_end hard ahead rest (Err e) = Err e
-within_end hard ahead rest (Ok (n, left)) = if nat_lt (ahead - (length rest - length left)) n then Err (past hard) else Ok (n, left)
+within_end hard ahead rest (Ok (n, left)) = if nat_lt (ahead - (length rest - length left)) n then Err (past hard, left) else Ok (n, left)
 
-abbrev pub length_behind : Bool → ℕ → List ℕ → List ℕ → Length
+abbrev pub length_behind : Bool → ℕ → List ℕ → List ℕ → Outcome ℕ
 length_behind hard ahead rest behind = within_end hard ahead rest (length_of (missing hard ahead rest) behind)
 
-abbrev pub header_with : ℕ → Bool → ℕ → List ℕ → Length
-header_with tag hard ahead [] = Err (missing hard ahead [])
-header_with tag hard ahead (b ∷ bs) = if b == tag then length_behind hard ahead (b ∷ bs) bs else Err InvalidData
+abbrev pub header_with : ℕ → Bool → ℕ → List ℕ → Outcome ℕ
+header_with tag hard ahead [] = Err (missing hard ahead [], [])
+header_with tag hard ahead (b ∷ bs) = if b == tag then length_behind hard ahead (b ∷ bs) bs else Err (InvalidData, bs)
 
 -- the header of an element with this tag: the length of the content, and the bytes from there on
-abbrev pub header : ℕ → Bool → ℕ → List ℕ → Length
-header tag hard ahead rest = if is_tag_number (number_of tag) then header_with tag hard ahead rest else Err UnsupportedValue
+abbrev pub header : ℕ → Bool → ℕ → List ℕ → Outcome ℕ
+header tag hard ahead rest = if is_tag_number (number_of tag) then header_with tag hard ahead rest else Err (UnsupportedValue, rest)
 
 -- the header of any element
-abbrev pub any_header : Bool → ℕ → List ℕ → Length
-any_header hard ahead [] = Err (missing hard ahead [])
-any_header hard ahead (b ∷ bs) = if is_tag_number (number_of b) then length_behind hard ahead (b ∷ bs) bs else Err UnsupportedValue
+abbrev pub any_header : Bool → ℕ → List ℕ → Outcome ℕ
+any_header hard ahead [] = Err (missing hard ahead [], [])
+any_header hard ahead (b ∷ bs) = if is_tag_number (number_of b) then length_behind hard ahead (b ∷ bs) bs else Err (UnsupportedValue, bs)
 
-abbrev pub error_of : {A : Type 0} → Result A Asn1DerError → Option Asn1DerError
-error_of (Ok a) = None
-error_of (Err e) = Some e
+abbrev pub refusal_of : Outcome ℕ → Option Refusal
+refusal_of (Ok read) = None
+refusal_of (Err e) = Some e
 
 -- ---- contents
 
@@ -107,23 +112,32 @@ bytes_fault bs = None
 
 -- ---- whole reads
 
--- the content, which is drawn whole before it is judged
-abbrev pub content_fault : Judge → Length → Option Asn1DerError
-content_fault judge (Err e) = Some e
-content_fault judge (Ok (n, rest)) = if nat_lt (length rest) n then Some TruncatedData else judge (take n rest)
+abbrev pub judged : Option Asn1DerError → List ℕ → Option Refusal
+judged None left = None
+judged (Some e) left = Some (e, left)
 
--- why a plain value with this tag isn't read, if it isn't
-abbrev pub plain_fault : ℕ → Judge → Bool → ℕ → List ℕ → Option Asn1DerError
-plain_fault tag judge hard ahead rest = content_fault judge (header tag hard ahead rest)
+-- the content, which is drawn whole before it is judged
+abbrev pub content_refusal : Judge → Outcome ℕ → Option Refusal
+content_refusal judge (Err e) = Some e
+content_refusal judge (Ok (n, rest)) = if nat_lt (length rest) n then Some (TruncatedData, []) else judged (judge (take n rest)) (drop n rest)
+
+-- how a plain value with this tag is refused, if it is
+abbrev pub plain_refusal : ℕ → Judge → Bool → ℕ → List ℕ → Option Refusal
+plain_refusal tag judge hard ahead rest = content_refusal judge (header tag hard ahead rest)
 
 -- the same directly under an implicit tag, whose content is all that is ahead
-abbrev pub inside_fault : ℕ → Judge → ℕ → List ℕ → Option Asn1DerError
-inside_fault tag judge ahead rest = if is_tag_number (number_of tag) then content_fault judge (Ok (ahead, rest)) else Some UnsupportedValue
+abbrev pub inside_refusal : ℕ → Judge → ℕ → List ℕ → Option Refusal
+inside_refusal tag judge ahead rest =
+    if is_tag_number (number_of tag) then content_refusal judge (Ok (ahead, rest)) else Some (UnsupportedValue, rest)
 
--- why the header of a wrapper, a sequence or a set isn't read
-abbrev pub header_fault : ℕ → Bool → ℕ → List ℕ → Option Asn1DerError
-header_fault tag hard ahead rest = error_of (header tag hard ahead rest)
+-- how the header of a wrapper, a sequence or a set is refused
+abbrev pub header_refusal : ℕ → Bool → ℕ → List ℕ → Option Refusal
+header_refusal tag hard ahead rest = refusal_of (header tag hard ahead rest)
 
--- why an element isn't taken whole, whatever its tag
-abbrev pub element_fault : Bool → ℕ → List ℕ → Option Asn1DerError
-element_fault hard ahead rest = content_fault bytes_fault (any_header hard ahead rest)
+-- how an element is refused that is taken whole, whatever its tag
+abbrev pub element_refusal : Bool → ℕ → List ℕ → Option Refusal
+element_refusal hard ahead rest = content_refusal bytes_fault (any_header hard ahead rest)
+
+-- the error alone
+abbrev pub fault : Option Refusal → Option Asn1DerError
+fault refusal = option_map (λ r. r.0) refusal

@@ -4,5 +4,6 @@
 pub mod asn1;
 mod error;
 pub mod laws;
+pub mod misc;
 
 pub use error::{Asn1DerError, Result};

@@ -1,0 +1,13 @@
+//! Readers and writers, and lengths.
+
+mod buf_sink;
+mod faults;
+mod reader;
+mod watched;
+mod writer;
+
+pub use buf_sink::BufSink;
+pub use faults::Faults;
+pub use reader::ReadExt;
+pub use watched::Watched;
+pub use writer::WriteExt;

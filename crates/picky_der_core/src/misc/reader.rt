@@ -1,0 +1,48 @@
+//! Readers of one byte at a time.
+ghost use Rattle.std.specs.Prelude.{◌≡◌, ℕ, List, [], ◌∷◌};
+ghost use Rattle.picky_der_core.specs.Reader.{GivesByte, CountsFault};
+
+use std::io;
+use std::io::{Error, ErrorKind, Read};
+
+/// A reader that gives one byte at a time, and whose faults are counted in contracts.
+pub trait ReadExt: Read {
+    // Reads that answered an error so far. The end of the input is none.
+    ghost faults: { Self → ℕ };
+
+    // The references that it reads through, outermost first.
+    ghost through: { Self → List ℕ };
+
+    /// The next byte. At the end of the input it is an error of kind `UnexpectedEof`; any other error is the device's.
+    fn read_one(&mut self) -> io::Result<u8>
+        ensures byte { GivesByte (Self.remaining self.old) (Self.remaining self.new) result }
+        ensures fault { CountsFault (Self.remaining self.old) (faults self.old) (faults self.new) result }
+        ensures same_references { through self.new ≡ through self.old };
+}
+
+impl ReadExt for &[u8] {
+    ghost faults = { λ _. 0 };
+
+    ghost through = { λ _. [] };
+
+    fn read_one(&mut self) -> io::Result<u8> {
+        let bytes = *self;
+        match bytes {
+            [first, rest @ ..] => {
+                *self = rest;
+                Ok(*first)
+            }
+            [] => Err(Error::from(ErrorKind::UnexpectedEof)),
+        }
+    }
+}
+
+impl<R: ReadExt> ReadExt for &mut R {
+    ghost faults = { λ r. R.faults r.now };
+
+    ghost through = { λ r. r.ghost_name ∷ R.through r.now };
+
+    fn read_one(&mut self) -> io::Result<u8> {
+        ReadExt::read_one(&mut **self)
+    }
+}

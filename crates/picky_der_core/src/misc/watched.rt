@@ -1,0 +1,149 @@
+//! Readers and writers whose faults are counted.
+ghost use Rattle.std.specs.Prelude.{◌≡◌, ◌<◌, ◌≤◌, [], length, IfOk, OnErr, IfErr, OnOk};
+ghost use Rattle.std.specs.Io.KnownBytes.{WriteAppends, ReadConsumes};
+ghost use Rattle.std.specs.Io.{WritesAtMost, ReadsAtMost};
+ghost use Rattle.std.proofs.Common.{refl};
+ghost use Rattle.picky_der_core.specs.Faults.{count_of};
+
+use super::{Faults, ReadExt, WriteExt};
+use std::io;
+use std::io::{Error, ErrorKind, Read, Write};
+use std::marker::Model;
+
+/// Any reader or writer, as a file, a pipe or one of tests: it tells the bytes that the inner one tells, and its
+/// faults are counted.
+#[derive(Drop)]
+pub struct Watched<T> {
+    inner: T,
+    faults: Faults,
+}
+
+impl<T> Model for Watched<T> {
+    ghost use Rattle.picky_der_core.specs.Watching.{Watching, watching_code};
+    ghost use Rattle.picky_der_core.specs.Faults.{count_of};
+
+    ghost Value = { Watching T };
+
+    ghost coded = { watching_code T.code };
+
+    ghost view = { λ w. record { inner = w.inner; faults = count_of w.faults } };
+}
+
+impl<T> Watched<T> {
+    /// Watches the reader or writer from here on.
+    pub fn new(inner: T) -> Watched<T>
+        ensures { result ≡ record { inner = inner; faults = 0 } }
+    {
+        Watched {
+            inner,
+            faults: Faults::new(),
+        }
+    }
+
+    /// The reader or writer that is watched.
+    pub fn get_ref(&self) -> &T
+        ensures { result.now ≡ self.now.inner }
+    {
+        &self.inner
+    }
+
+    /// Gives the reader or writer back.
+    pub fn into_inner(self) -> T
+        ensures { result ≡ self.inner }
+    {
+        let Watched { inner, faults: _ } = self;
+        inner
+    }
+}
+
+impl<T: Read> Read for Watched<T> {
+    ghost remaining = { λ w. T.remaining w.inner };
+
+    fn read(&mut self, buf: &mut [u8]) -> io::Result<usize>
+        ensures bound { ReadsAtMost result buf.new }
+        ensures bytes { ReadConsumes (T.remaining self.old.inner) (T.remaining self.new.inner) result buf.new }
+        ensures fault { OnErr result (self.old.faults < self.new.faults) }
+        ensures no_fault { OnOk result (self.new.faults ≡ self.old.faults) }
+    {
+        match self.inner.read(buf) {
+            Ok(n) => Ok(n),
+            Err(e) => {
+                self.faults.raise();
+                Err(e)
+            }
+        }
+    }
+}
+
+impl<T: Read> ReadExt for Watched<T> {
+    ghost faults = { λ w. w.faults };
+
+    ghost through = { λ _. [] };
+
+    fn read_one(&mut self) -> io::Result<u8> {
+        let mut byte = [0];
+        match self.read(&mut byte) {
+            Ok(0) => Err(Error::from(ErrorKind::UnexpectedEof)),
+            Ok(_) => Ok(byte[0]),
+            Err(e) => Err(e),
+        }
+    }
+}
+
+impl<T: Write> Write for Watched<T> {
+    ghost contents = { λ w. T.contents w.inner };
+
+    fn write(&mut self, buf: &[u8]) -> io::Result<usize>
+        ensures bound { WritesAtMost result buf.now }
+        ensures bytes { WriteAppends (T.contents self.old.inner) (T.contents self.new.inner) result buf.now }
+        ensures fault { OnErr result (self.old.faults < self.new.faults) }
+        ensures nothing { IfOk result (λ n. n ≡ 0 → 0 < length buf.now → self.old.faults < self.new.faults) }
+        ensures no_fault { IfOk result (λ n. 0 < n → self.new.faults ≡ self.old.faults) }
+        ensures counted { self.old.faults ≤ self.new.faults }
+    {
+        match self.inner.write(buf) {
+            Ok(n) => {
+                if n == 0 && !buf.is_empty() {
+                    self.faults.raise();
+                }
+                Ok(n)
+            }
+            Err(e) => {
+                self.faults.raise();
+                Err(e)
+            }
+        }
+    }
+
+    fn flush(&mut self) -> io::Result<()> {
+        self.inner.flush()
+    }
+}
+
+impl<T: Write> WriteExt for Watched<T> {
+    ghost told = { λ w. T.contents w.inner };
+
+    ghost faults = { λ w. w.faults };
+
+    ghost answers = { λ _. Unit {0} };
+
+    ghost later = { λ _ _. Unit {0} };
+
+    fn write_exact(&mut self, bytes: &[u8]) -> io::Result<usize> {
+        let mut rest = bytes;
+        while !rest.is_empty() {
+            match self.write(rest) {
+                Ok(0) => return Err(Error::from(ErrorKind::WriteZero)),
+                Ok(n) => rest = &rest[n..],
+                Err(e) => return Err(e),
+            }
+        }
+        Ok(bytes.len())
+    }
+
+    ghost tells = { λ _. refl };
+
+    ghost later_refl = { λ _. tt };
+
+    ghost later_trans = { λ _ _ _ _ _. tt };
+}
