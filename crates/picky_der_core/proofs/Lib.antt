@@ -3,3 +3,4 @@ pub mod OnLiterals
 pub mod EncodingRows
 pub mod RefusalRows
 pub mod ShapeRows
+pub mod LengthSteps

@@ -1,5 +1,6 @@
 -- A length and an element say where they end, and what they hold.
-use Rattle.std.proofs.Common.{◌≡◌, ℕ, zero, suc, ◌+◌, ◌/◌, ◌%◌, ◌^◌, ◌<◌, ◌≤◌, Bool, true, false, cond, List, [], ◌∷◌, ◌++◌, length, nat_lt, ◌==◌, refl, sym, ap, ◌∙◌, arith, append_assoc, lt-ltb, ltb-true}
+use Rattle.std.proofs.Common.{◌≡◌, ℕ, zero, suc, ◌+◌, ◌/◌, ◌%◌, ◌^◌, ◌<◌, ◌≤◌, Bool, true, false, cond, List, [], ◌∷◌, ◌++◌, length, nat_lt, ◌==◌, refl, sym, ap, ◌∙◌, arith, append_assoc, length-append, lt-ltb, ltb-true}
+use Rattle.std.proofs.lemmas.Bool.{ltb-false}
 use Rattle.std.specs.Int.Digits.{digits_with_fuel, number_from_digits}
 use Rattle.std.proofs.lemmas.Int.Digits.{digits_of_step, length-digits_of-le, number_digits_of}
 use Rattle.picky_der_core.specs.Element.{big_endian_within, big_endian, len, tlv}
@@ -55,6 +56,16 @@ pub len-long : (n : ℕ) → 0x80 ≤ n → len n ≡ (0x80 + length (big_endian
 unfolding len
 len-long n h = rw (is_long n h (nat_lt n 0x80) refl) refl
 
+-- a length takes at most nine bytes
+pub length-len : (n : ℕ) → n < 2 ^ 64 → length (len n) ≤ 9
+length-len n h = by_form (nat_lt n 0x80) refl
+  where
+    by_form : (b : Bool) → nat_lt n 0x80 ≡ b → length (len n) ≤ 9
+    by_form true e = rw (len-short n (omega (arith, ltb-true))) (omega arith)
+    by_form false e =
+        let most = length-big_endian 8 n (omega arith) in
+        rw (len-long n (ltb-false n 0x80 e)) (omega (arith, most))
+
 -- no length begins another
 pub len_prefix : (m n : ℕ) (a b : List ℕ) → len m ++ a ≡ len n ++ b → (m ≡ n) × (a ≡ b)
 unfolding len
@@ -71,6 +82,10 @@ len_prefix m n a b = by_form (nat_lt m 0x80) (nat_lt n 0x80) refl refl
         (big_endian-same m n parts.0, parts.1)
 
 -- ---- elements
+
+pub length-tlv : (x : ℕ) (c : List ℕ) → length c < 2 ^ 64 → length (tlv x c) ≤ 10 + length c
+unfolding tlv
+length-tlv x c h = omega (arith, length-append (len (length c)) c, length-len (length c) h)
 
 -- no element begins another
 pub tlv_prefix : (x y : ℕ) (c d a b : List ℕ) → tlv x c ++ a ≡ tlv y d ++ b → (x ≡ y) × (c ≡ d) × (a ≡ b)

@@ -1,4 +1,4 @@
--- The encoding of a tree (X.690, 8.1 to 8.3, 8.8, 8.14, 10.1, 11.1).
+-- The encoding of a tree (X.690, 8.1 to 8.3, 8.6.2, 8.7 to 8.14, 8.23, 10.1, 11.1).
 use Rattle.std.specs.Prelude.{ℕ, ◌+◌, Bool, true, false, List, [], ◌∷◌, nat_lt, if◌then◌else◌}
 use Rattle.std.specs.List.{concat}
 use Rattle.picky_der_core.specs.Element.{big_endian, tlv}
@@ -20,7 +20,7 @@ positive (b ∷ bs) = if nat_lt b 0x80 then b ∷ bs else 0x00 ∷ b ∷ bs
 unfoldable pub unsigned_content : ℕ → List ℕ
 unsigned_content n = positive (big_endian n)
 
--- a list, from the encodings of its members: one after another, as they are given (8.9, 8.11)
+-- a list, from the encodings of its members: one after another, as they are given (8.9 to 8.12)
 abbrev pub list_content : ListKind → List (List ℕ) → List ℕ
 list_content ListKind.sequence members = concat members
 list_content ListKind.set members = concat members
@@ -75,7 +75,7 @@ unfoldable pub inside : Tree → List ℕ
 inside t = written false t
 
 -- the content of a plain tree, and its tag
-unfoldable pub content : Tree → List ℕ
+abbrev pub content : Tree → List ℕ
 content (Tree.boolean b) = boolean_content b
 content (Tree.unsigned n) = unsigned_content n
 content Tree.null = []

@@ -22,7 +22,7 @@ around-absent false x c e = cc
 
 -- a plain tree: its tag, and its content
 pub der-plain : (t : Tree) → is_plain t ≡ true → der t ≡ tlv (plain_tag t) (content t)
-unfolding der written headed content
+unfolding der written headed
 der-plain (Tree.boolean b) p = refl
 der-plain (Tree.unsigned n) p = refl
 der-plain Tree.null p = refl
@@ -74,7 +74,7 @@ der-choice t = refl
 -- ---- directly under an implicit tag
 
 pub inside-plain : (t : Tree) → is_plain t ≡ true → inside t ≡ content t
-unfolding inside written headed content
+unfolding inside written headed
 inside-plain (Tree.boolean b) p = refl
 inside-plain (Tree.unsigned n) p = refl
 inside-plain Tree.null p = refl

@@ -19,3 +19,8 @@ pub mod Reader
 pub mod Writer
 pub mod Watching
 pub mod Sink
+pub mod WriterFaults
+pub mod UnsignedLaws
+pub mod BooleanLaws
+pub mod Lengths
+pub mod LengthLaws

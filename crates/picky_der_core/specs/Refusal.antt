@@ -1,5 +1,5 @@
 -- Which reads are refused, and with which error.
-use Rattle.std.specs.Prelude.{ℕ, ◌-◌, Bool, true, ◌&&◌, ◌||◌, List, [], ◌∷◌, length, take, drop, nat_lt, ◌==◌, Option, Some, None, Result, Ok, Err, chars, if◌then◌else◌}
+use Rattle.std.specs.Prelude.{ℕ, ◌+◌, ◌-◌, Bool, true, ◌&&◌, ◌||◌, List, [], ◌∷◌, length, take, drop, nat_lt, ◌==◌, Option, Some, None, Result, Ok, Err, chars, if◌then◌else◌}
 use Rattle.std.specs.Option.{option_map}
 use Rattle.std.specs.Int.Digits.{number_from_digits}
 use Rattle.std.specs.Str.{is_utf8}
@@ -62,6 +62,10 @@ header_with tag hard ahead (b ∷ bs) = if b == tag then length_behind hard ahea
 -- the header of an element with this tag: the length of the content, and the bytes from there on
 abbrev pub header : ℕ → Bool → ℕ → List ℕ → Outcome ℕ
 header tag hard ahead rest = if is_tag_number (number_of tag) then header_with tag hard ahead rest else Err (UnsupportedValue, rest)
+
+-- the same with a tag by its number, as of an explicit, an implicit and an application tag
+abbrev pub numbered_header : ℕ → ℕ → Bool → ℕ → List ℕ → Outcome ℕ
+numbered_header base n hard ahead rest = if is_tag_number n then header_with (base + n) hard ahead rest else Err (UnsupportedValue, rest)
 
 -- the header of any element
 abbrev pub any_header : Bool → ℕ → List ℕ → Outcome ℕ
@@ -133,6 +137,9 @@ inside_refusal tag judge ahead rest =
 -- how the header of a wrapper, a sequence or a set is refused
 abbrev pub header_refusal : ℕ → Bool → ℕ → List ℕ → Option Refusal
 header_refusal tag hard ahead rest = refusal_of (header tag hard ahead rest)
+
+abbrev pub numbered_header_refusal : ℕ → ℕ → Bool → ℕ → List ℕ → Option Refusal
+numbered_header_refusal base n hard ahead rest = refusal_of (numbered_header base n hard ahead rest)
 
 -- how an element is refused that is taken whole, whatever its tag
 abbrev pub element_refusal : Bool → ℕ → List ℕ → Option Refusal

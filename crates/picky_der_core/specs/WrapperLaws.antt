@@ -1,11 +1,12 @@
 -- What is written in open wrappers.
-use Rattle.std.proofs.Common.{◌≡◌, ◌+◌, Bool, true, false, List, [], ◌∷◌, ◌++◌, refl, sym, ap, ap₂, ◌∙◌, arith}
+use Rattle.std.proofs.Common.{◌≡◌, ◌+◌, Bool, true, false, ◌&&◌, List, [], ◌∷◌, ◌++◌, refl, sym, ap, ap₂, ◌∙◌, arith}
 use Rattle.picky_der_core.specs.declared.asn1.wrapper.Wrapper.{Wrapper}
 use Rattle.picky_der_core.specs.declared.asn1.wrapper.Wrapper.TheVariants.{OctetContainer, BitContainer, Explicit, Implicit}
-use Rattle.picky_der_core.specs.Tag.{number_of, IsTagNumber}
+use Rattle.picky_der_core.specs.Tag.{number_of, is_tag_number, IsTagNumber}
 use Rattle.picky_der_core.specs.Element.{tlv}
-use Rattle.picky_der_core.specs.Tree.{Tree, is_absent}
-use Rattle.picky_der_core.specs.Encoding.{around, written, der, inside}
+use Rattle.picky_der_core.specs.Tree.{Tree, is_plain, is_absent}
+use Rattle.picky_der_core.specs.Encoding.{around, written, der, inside, content, plain_tag}
+use Rattle.picky_der_core.specs.Readable.{has_tag_numbers}
 use Rattle.picky_der_core.specs.Wrapper.{wrap, under, wrapper_tag, held, HasTagNumber}
 use Rattle.picky_der_core.specs.EncodingLaws.{around-present, der-absent}
 
@@ -39,21 +40,55 @@ under-push (v ∷ ws) w t = ap (wrap v) (under-push ws w t)
 pub der-under_absent : (ws : List Wrapper) (t : Tree) → is_absent t ≡ true → der (under ws t) ≡ []
 der-under_absent ws t h = der-absent (under ws t) (is_absent-under ws t ∙ h)
 
--- what is written in a wrapper depends on what is written of the tree inside, and on whether there is anything
-wrap_alike : (w : Wrapper) (t u : Tree) → is_absent t ≡ is_absent u → ((header : Bool) → written header t ≡ written header u) → (header : Bool) → written header (wrap w t) ≡ written header (wrap w u)
+-- ---- trees that are written alike
+
+-- with a header and without, and one is absent or has a tag number past 30 where the other does
+pub record AreAlike (t u : Tree) : Type 0 where
+  pub written_same : (header : Bool) → written header t ≡ written header u
+  pub absent_same : is_absent t ≡ is_absent u
+  pub numbers_same : has_tag_numbers t ≡ has_tag_numbers u
+
+pub alike-wrap : (w : Wrapper) (t u : Tree) → AreAlike t u → AreAlike (wrap w t) (wrap w u)
 unfolding written
-wrap_alike OctetContainer t u a e h = ap₂ (λ b c. around b 0x04 c) a (e true)
-wrap_alike BitContainer t u a e h = ap₂ (λ b c. around b 0x03 (0x00 ∷ c)) a (e true)
-wrap_alike (Explicit n) t u a e h = ap₂ (λ b c. around b (0xA0 + n) c) a (e true)
-wrap_alike (Implicit n) t u a e h = ap₂ (λ b c. around b (0x80 + n) c) a (e false)
+alike-wrap OctetContainer t u a =
+    record { written_same = λ h. ap₂ (λ b c. around b 0x04 c) a.absent_same (a.written_same true); absent_same = a.absent_same; numbers_same = a.numbers_same }
+alike-wrap BitContainer t u a =
+    record { written_same = λ h. ap₂ (λ b c. around b 0x03 (0x00 ∷ c)) a.absent_same (a.written_same true); absent_same = a.absent_same; numbers_same = a.numbers_same }
+alike-wrap (Explicit n) t u a =
+    record { written_same = λ h. ap₂ (λ b c. around b (0xA0 + n) c) a.absent_same (a.written_same true); absent_same = a.absent_same; numbers_same = ap (λ b. is_tag_number n && b) a.numbers_same }
+alike-wrap (Implicit n) t u a =
+    record { written_same = λ h. ap₂ (λ b c. around b (0x80 + n) c) a.absent_same (a.written_same false); absent_same = a.absent_same; numbers_same = ap (λ b. is_tag_number n && b) a.numbers_same }
 
--- trees that are written alike, also without a header, are so in open wrappers
-under_alike : (ws : List Wrapper) (t u : Tree) → is_absent t ≡ is_absent u → ((header : Bool) → written header t ≡ written header u) → (header : Bool) → written header (under ws t) ≡ written header (under ws u)
-under_alike [] t u a e = e
-under_alike (w ∷ ws) t u a e =
-    wrap_alike w (under ws t) (under ws u) (is_absent-under ws t ∙ a ∙ sym (is_absent-under ws u)) (under_alike ws t u a e)
+-- trees that are written alike are so in open wrappers
+pub alike-under : (ws : List Wrapper) (t u : Tree) → AreAlike t u → AreAlike (under ws t) (under ws u)
+alike-under [] t u a = a
+alike-under (w ∷ ws) t u a = alike-wrap w (under ws t) (under ws u) (alike-under ws t u a)
 
--- a choice is written as the alternative that was made, whatever is open
+pub alike-sym : (t u : Tree) → AreAlike t u → AreAlike u t
+alike-sym t u a = record { written_same = λ h. sym (a.written_same h); absent_same = sym a.absent_same; numbers_same = sym a.numbers_same }
+
+pub der-alike : (t u : Tree) → AreAlike t u → der t ≡ der u
+unfolding der
+der-alike t u a = a.written_same true
+
+-- a choice is written as the alternative that was made
+pub alike-choice : (t : Tree) → AreAlike (Tree.choice t) t
+unfolding written
+alike-choice t = record { written_same = λ h. refl; absent_same = refl; numbers_same = refl }
+
 pub der-under_choice : (ws : List Wrapper) (t : Tree) → der (under ws (Tree.choice t)) ≡ der (under ws t)
-unfolding der written
-der-under_choice ws t = under_alike ws (Tree.choice t) t refl (λ header. refl) true
+der-under_choice ws t = der-alike _ _ (alike-under ws (Tree.choice t) t (alike-choice t))
+
+-- a plain value, but a list, is written as bytes with its tag
+abbrev pub is_simple : Tree → Bool
+is_simple (Tree.list kind ts) = false
+is_simple t = is_plain t
+
+pub alike-bytes : (t : Tree) → is_simple t ≡ true → AreAlike (Tree.bytes (plain_tag t) (content t)) t
+unfolding written
+alike-bytes (Tree.boolean b) p = record { written_same = λ h. refl; absent_same = refl; numbers_same = refl }
+alike-bytes (Tree.unsigned n) p = record { written_same = λ h. refl; absent_same = refl; numbers_same = refl }
+alike-bytes Tree.null p = record { written_same = λ h. refl; absent_same = refl; numbers_same = refl }
+alike-bytes (Tree.text s) p = record { written_same = λ h. refl; absent_same = refl; numbers_same = refl }
+alike-bytes (Tree.bytes tag s) p = record { written_same = λ h. refl; absent_same = refl; numbers_same = refl }
+alike-bytes _ p = cc

@@ -6,7 +6,8 @@ pub fn length_both_ways()
     ensures { LengthBothWays }
 {}
 
-/// Around something, a wrapper or application tag is one element that holds just what stands in it, at every depth.
+/// Around something, a wrapper with a number up to 30 is one element that holds just what stands in it, at every depth;
+/// an application tag with such a number is so around anything.
 pub fn wrapper_lengths()
     ensures { WrapperLengths }
 {}
@@ -21,22 +22,22 @@ pub fn unique_readability()
     ensures { UniqueReadability }
 {}
 
-/// Two readable trees at the front of one input are one tree.
+/// Two readable trees of a sound shape at the front of one input are one tree.
 pub fn one_value()
     ensures { OneValue }
 {}
 
-/// An encoding is read back as its tree alone, and what follows it is left.
+/// An encoding of a readable tree of a sound shape is read back as that tree alone, and what follows it is left.
 pub fn round_trip()
     ensures { RoundTrip }
 {}
 
-/// Lists of readable trees are equal exactly where their encodings, one after another, are.
+/// Lists of readable trees of a sound shape are equal exactly where their encodings, one after another, are.
 pub fn same_bytes()
     ensures { SameBytes }
 {}
 
-/// What stands directly under an implicit tag, within one end, is one tree.
+/// What stands directly under an implicit tag, within one end, is one tree of a sound shape.
 pub fn one_inside()
     ensures { OneInside }
 {}

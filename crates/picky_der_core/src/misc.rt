@@ -2,12 +2,14 @@
 
 mod buf_sink;
 mod faults;
+mod length;
 mod reader;
 mod watched;
 mod writer;
 
 pub use buf_sink::BufSink;
 pub use faults::Faults;
+pub use length::Length;
 pub use reader::ReadExt;
 pub use watched::Watched;
 pub use writer::WriteExt;

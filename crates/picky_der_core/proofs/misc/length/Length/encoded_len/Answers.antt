@@ -1,0 +1,9 @@
+use Rattle.std.proofs.Common.{sym, arith}
+use Rattle.picky_der_core.specs.LengthLaws.{length-len-short, length-len-long, big_endian-zeros}
+use Rattle.picky_der_core.proofs.misc.length.Length.encoded_len.Goals as goal
+
+pub returns-then-len-lt128 : goal.returns-then-len-lt128
+returns-then-len-lt128 c = sym (length-len-short c.args.len (omega arith))
+
+pub returns : goal.returns
+returns c = omega (arith, length-len-long c.args.len (omega arith), big_endian-zeros c.args.len (omega arith) (omega arith))

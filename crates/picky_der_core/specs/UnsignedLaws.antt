@@ -1,0 +1,317 @@
+-- The bytes of a number, and the contents that are numbers.
+use Rattle.std.proofs.Common.{◌≡◌, ℕ, zero, suc, ◌+◌, ◌-◌, ◌*◌, ◌/◌, ◌%◌, ◌^◌, ◌<◌, ◌≤◌, Bool, true, false, ◌||◌, cond, List, [], ◌∷◌, ◌++◌, length, drop, replicate, nat_lt, ◌==◌, refl, sym, ap, ap₂, subst, ◌∙◌, arith, append_assoc, append-nil, length-append, lt-ltb, le-ltb, ltb-true, ltb-false, pow-suc, Some, None, pow_mono, inl, inr, ne_eqb, eqb-true, mul-le-mul_right}
+use Rattle.std.specs.Int.{byte_at, bytes_high_first, to_be_bytes, leading_zeros, w128}
+use Rattle.std.specs.Int.Count.{count_leading_zeros, leading_of_zero}
+use Rattle.std.specs.Int.Digits.{digits_of, number_from_digits, number_from_digits_after}
+use Rattle.std.proofs.Math.Nat.{pow-le-pow_right, pow-zero, pow-succ', div-div-eq-div-mul, zero-div, sub-zero}
+use Rattle.std.proofs.lemmas.Nat.{pow_pos, pow-add, leading_top, div_below, div-mul-add, mod-mul-add}
+use Rattle.std.proofs.lemmas.Bool.{cases_lt, cond_both, eqb-false}
+use Rattle.std.proofs.lemmas.Int.Digits.{all_below_base_digits_of, first_digits_of, number_after_lt, number_lt}
+use Rattle.picky_der_core.specs.Element.{big_endian}
+use Rattle.picky_der_core.specs.Encoding.{positive, unsigned_content}
+use Rattle.picky_der_core.specs.Refusal.{number_fault, unsigned_fault}
+use Rattle.picky_der_core.specs.Shape.{AreBytes}
+use Rattle.picky_der_core.specs.ElementLaws.{big_endian-digits, number-big_endian, big_endian-step, length-big_endian}
+use Rattle.picky_der_core.specs.declared.error.Asn1DerError.TheVariants.{InvalidData, UnsupportedValue}
+
+-- ---- the bytes of a number
+
+-- 0 has none
+big_endian-zero : big_endian 0 ≡ []
+unfolding big_endian
+big_endian-zero = refl
+
+-- each of them is a byte
+pub AreBytes-big_endian : (n : ℕ) → AreBytes (big_endian n)
+AreBytes-big_endian n = rw (big_endian-digits n) (all_below_base_digits_of 256 n (omega arith))
+
+-- the first of them isn't 0
+pub first-big_endian : (n b : ℕ) (bs : List ℕ) → big_endian n ≡ b ∷ bs → 0 < b
+first-big_endian zero b bs e = absurd (cc (big_endian-zero))
+first-big_endian (suc n) b bs e =
+    let first = first_digits_of 256 (suc n) (omega arith) (omega arith) in
+    let same : digits_of 256 (suc n) ≡ b ∷ bs = sym (big_endian-digits (suc n)) ∙ e in
+    rw same at first
+
+-- one more byte behind them
+big_endian-more : (n b : ℕ) → 0 < n * 256 + b → b < 256 → big_endian (n * 256 + b) ≡ big_endian n ++ (b ∷ [])
+big_endian-more n b h byte = big_endian-step (n * 256 + b) h ∙ rw (div-mul-add n 256 b byte, mod-mul-add n 256 b byte) refl
+
+-- any bytes behind them
+big_endian-after : (n : ℕ) (bs : List ℕ) → 0 < n → AreBytes bs → big_endian (number_from_digits_after 256 n bs) ≡ big_endian n ++ bs
+big_endian-after n [] h p = rw append-nil refl
+big_endian-after n (b ∷ bs) h p = big_endian-after (n * 256 + b) bs (omega arith) p.1 ∙ rw (big_endian-more n b (omega arith) p.0, append_assoc) refl
+
+-- bytes that don't begin with 0 are those of the number that they make
+pub big_endian-number : (b : ℕ) (bs : List ℕ) → 0 < b → AreBytes (b ∷ bs) → big_endian (number_from_digits 256 (b ∷ bs)) ≡ b ∷ bs
+big_endian-number b bs h p =
+    let front : big_endian (0 * 256 + b) ≡ big_endian 0 ++ (b ∷ []) = big_endian-more 0 b (omega arith) p.0 in
+    big_endian-after (0 * 256 + b) bs (omega arith) p.1 ∙ rw (front, big_endian-zero) refl
+
+-- ---- the bytes of an integer
+
+-- a byte of a number is one of the number without its last byte
+byte_at-next : (i n : ℕ) → byte_at (suc i) n ≡ byte_at i (n / 256)
+byte_at-next zero n = refl
+byte_at-next (suc i) n = ap (λ m. m % 256) (rw (pow-succ' 256 (suc i)) (sym (div-div-eq-div-mul n 256 (256 ^ suc i))))
+
+-- the last byte apart
+bytes_high_first-step : (k n : ℕ) → bytes_high_first (suc k) n ≡ bytes_high_first k (n / 256) ++ (n % 256 ∷ [])
+bytes_high_first-step zero n = refl
+bytes_high_first-step (suc k) n = ap₂ (λ b bs. b ∷ bs) (byte_at-next k n) (bytes_high_first-step k n)
+
+-- each byte of 0 is 0
+byte_at-zero : (i : ℕ) → byte_at i 0 ≡ 0
+byte_at-zero zero = refl
+byte_at-zero (suc i) = rw (zero-div (256 ^ suc i)) refl
+
+-- 0 is written as zeros
+bytes_high_first-zero : (k : ℕ) → bytes_high_first k 0 ≡ replicate k 0
+bytes_high_first-zero zero = refl
+bytes_high_first-zero (suc k) = ap₂ (λ b bs. b ∷ bs) (byte_at-zero k) (bytes_high_first-zero k)
+
+-- an integer of k bytes is written as zeros and the bytes of its number
+pub bytes_high_first-big_endian : (k n : ℕ) → n < 256 ^ k → bytes_high_first k n ≡ replicate (k - length (big_endian n)) 0 ++ big_endian n
+bytes_high_first-big_endian k zero h = rw (big_endian-zero, append-nil, sub-zero) (bytes_high_first-zero k)
+bytes_high_first-big_endian zero (suc n) h = absurd (omega (arith, pow-zero 256))
+bytes_high_first-big_endian (suc k) (suc n) h =
+    let step = big_endian-step (suc n) (omega arith) in
+    let front = bytes_high_first-big_endian k (suc n / 256) (div_below (suc n) 256 (256 ^ k) (omega arith) (omega (arith, pow-suc 256 k))) in
+    let as_many : k - length (big_endian (suc n / 256)) ≡ suc k - length (big_endian (suc n)) = omega (arith, ap length step, length-append {A = ℕ}) in
+    bytes_high_first-step k (suc n) ∙ ap (λ bs. bs ++ (suc n % 256 ∷ [])) front ∙ rw (as_many, step, append_assoc) refl
+
+-- ---- how many bits a number takes
+
+-- the first byte alone
+number-first : (b : ℕ) (bs : List ℕ) → number_from_digits 256 (b ∷ bs) ≡ number_from_digits_after 256 b bs
+number-first b bs = ap (λ n. number_from_digits_after 256 n bs) (omega arith)
+
+-- a byte more behind a number
+front_counts : (n b unit : ℕ) → n * (unit * 256) ≤ (n * 256 + b) * unit
+front_counts n b unit = grind arith
+
+-- what a number counts in front of bytes
+number_after-least : (n : ℕ) (bs : List ℕ) → n * 256 ^ length bs ≤ number_from_digits_after 256 n bs
+number_after-least n [] = omega (arith, pow-zero 256)
+number_after-least n (b ∷ bs) = rw (pow-suc 256 (length bs)) (grind (arith, number_after-least (n * 256 + b) bs, front_counts n b (256 ^ length bs)))
+
+-- n lies between what b counts in front of l bytes, and what the next byte would
+abbrev BeginsWith : ℕ → ℕ → ℕ → Type 0
+BeginsWith b l n = (b * 256 ^ l ≤ n) × (n < (b + 1) * 256 ^ l)
+
+-- so does a number whose first byte is b
+big_endian-begins : (n b : ℕ) (bs : List ℕ) → big_endian n ≡ b ∷ bs → BeginsWith b (length bs) n
+big_endian-begins n b bs e =
+    let is : number_from_digits_after 256 b bs ≡ n = sym (number-first b bs) ∙ ap (number_from_digits 256) (sym e) ∙ number-big_endian n in
+    let bytes : AreBytes (b ∷ bs) = subst AreBytes e (AreBytes-big_endian n) in
+    (omega (arith, number_after-least b bs), omega (arith, number_after_lt 256 b bs bytes.1))
+
+-- a byte is eight bits
+power_of_256 : (k : ℕ) → 256 ^ k ≡ 2 ^ (8 * k)
+power_of_256 zero = refl
+power_of_256 (suc k) =
+    let more : 8 * suc k ≡ 8 * k + 8 = omega arith in
+    rw (more, pow-suc 256 k, power_of_256 k, pow-add 2 (8 * k) 8) refl
+
+-- n lies between these powers of two
+abbrev IsBetweenPowers : ℕ → ℕ → ℕ → Type 0
+IsBetweenPowers i j n = (2 ^ i ≤ n) × (n < 2 ^ j)
+
+-- a first byte below 80 takes one to seven bits
+few_bits : (b l n : ℕ) → 0 < b → b < 0x80 → BeginsWith b l n → IsBetweenPowers (8 * l) (8 * l + 7) n
+few_bits b l n h low begins =
+    let unit = power_of_256 l in
+    let least = mul-le-mul_right (256 ^ l) h in
+    let most : (b + 1) * 256 ^ l ≤ 0x80 * 256 ^ l = mul-le-mul_right (256 ^ l) (omega arith) in
+    (omega arith, omega (arith, pow-add 2 (8 * l) 7))
+
+-- any other takes eight
+eight_bits : (b l n : ℕ) → 0x80 ≤ b → b < 256 → BeginsWith b l n → IsBetweenPowers (8 * l + 7) (8 * l + 8) n
+eight_bits b l n high byte begins =
+    let unit = power_of_256 l in
+    let least = mul-le-mul_right (256 ^ l) high in
+    let most : (b + 1) * 256 ^ l ≤ 256 * 256 ^ l = mul-le-mul_right (256 ^ l) (omega arith) in
+    (omega (arith, pow-add 2 (8 * l) 7), omega (arith, pow-add 2 (8 * l) 8))
+
+-- the powers around a number are in order
+powers_in_order : (i j n : ℕ) → 2 ^ i ≤ n → n < 2 ^ j → i < j
+powers_in_order i j n under over = elim (cases_lt i j) [
+  | inl h ↦ h
+  | inr h ↦ let p : 2 ^ j ≤ 2 ^ i = pow_mono h in absurd (omega arith)
+]
+
+-- the zero bits in front of a number between two powers
+leading_between : (k i j n : ℕ) → n < 256 ^ k → IsBetweenPowers i j n → (count_leading_zeros (8 * k) n + i < 8 * k) × (8 * k ≤ count_leading_zeros (8 * k) n + j)
+leading_between k i j n h between =
+    let top = leading_top (8 * k) n (omega (arith, pow_pos i)) (omega (arith, power_of_256 k)) in
+    let under = powers_in_order i (suc top.0) n between.0 top.3 in
+    let over = powers_in_order top.0 j n top.2 between.1 in
+    (omega (arith, top.1), omega (arith, top.1))
+
+-- ---- the content among the bytes of an integer
+
+-- what stands behind zeros
+drop_zeros : (j : ℕ) (bs : List ℕ) → drop (suc j) (0 ∷ (replicate j 0 ++ bs)) ≡ bs
+drop_zeros zero bs = refl
+drop_zeros (suc j) bs = drop_zeros j bs
+
+-- and what behind all but one
+drop_other_zeros : (j : ℕ) (bs : List ℕ) → drop j (0 ∷ (replicate j 0 ++ bs)) ≡ 0 ∷ bs
+drop_other_zeros zero bs = refl
+drop_other_zeros (suc j) bs = drop_other_zeros j bs
+
+-- behind the zeros that are left out of a content
+drop_all_or_other : (all : Bool) (j b : ℕ) (bs : List ℕ) → drop (cond all (suc j) j) (0 ∷ (replicate j 0 ++ (b ∷ bs))) ≡ cond all (b ∷ bs) (0 ∷ b ∷ bs)
+drop_all_or_other true j b bs = drop_zeros j (b ∷ bs)
+drop_all_or_other false j b bs = drop_other_zeros j (b ∷ bs)
+
+-- the zero bits tell how many of the zeros in front are left out: all where the first byte is below 80
+left_out : (k n b : ℕ) (bs : List ℕ) → n < 256 ^ k → big_endian n ≡ b ∷ bs → (count_leading_zeros (8 * k) n + 7) / 8 ≡ cond (nat_lt b 0x80) (suc (k - length (b ∷ bs))) (k - length (b ∷ bs))
+left_out k n b bs h e = elim (cases_lt b 0x80) [
+  | inl low ↦
+      let zeros = leading_between k _ _ n h (few_bits b (length bs) n (first-big_endian n b bs e) low (big_endian-begins n b bs e)) in
+      rw (lt-ltb b 0x80 low) (omega arith)
+  | inr high ↦
+      let bytes : AreBytes (b ∷ bs) = subst AreBytes e (AreBytes-big_endian n) in
+      let zeros = leading_between k _ _ n h (eight_bits b (length bs) n high bytes.0 (big_endian-begins n b bs e)) in
+      rw (le-ltb b 0x80 high) (omega arith)
+]
+
+-- the content of an integer of k bytes, from 00 and these bytes
+pub unsigned_content-bytes_high_first : (k n : ℕ) → n < 256 ^ k → drop ((count_leading_zeros (8 * k) n + 7) / 8) (0 ∷ bytes_high_first k n) ≡ unsigned_content n
+unfolding unsigned_content
+unsigned_content-bytes_high_first k n h = by_bytes (big_endian n) refl
+  where
+    by_bytes : (bs : List ℕ) → big_endian n ≡ bs → drop ((count_leading_zeros (8 * k) n + 7) / 8) (0 ∷ bytes_high_first k n) ≡ positive (big_endian n)
+    by_bytes [] e =
+        let is : n ≡ 0 = sym (number-big_endian n) ∙ ap (number_from_digits 256) e in
+        let zeros : count_leading_zeros (8 * k) n ≡ 8 * k = ap (count_leading_zeros (8 * k)) is ∙ leading_of_zero (8 * k) in
+        let all_but_one : (count_leading_zeros (8 * k) n + 7) / 8 ≡ k - length (big_endian n) = omega (arith, ap length e) in
+        rw (bytes_high_first-big_endian k n h, all_but_one, e) (drop_other_zeros (k - 0) [])
+    by_bytes (b ∷ bs) e = rw (bytes_high_first-big_endian k n h, left_out k n b bs h e, e) (drop_all_or_other (nat_lt b 0x80) (k - length (b ∷ bs)) b bs)
+
+-- the same of a `u128`
+pub unsigned_content-be_bytes : (n : ℕ) → n < 2 ^ 128 → drop ((leading_zeros w128 n + 7) / 8) (0 ∷ to_be_bytes w128 n) ≡ unsigned_content n
+unsigned_content-be_bytes n h = unsigned_content-bytes_high_first 16 n h
+
+-- ---- contents
+
+-- a byte in front is one more byte
+AreBytes-positive : (bs : List ℕ) → AreBytes bs → AreBytes (positive bs)
+AreBytes-positive [] p = (omega arith, tt)
+AreBytes-positive (b ∷ bs) p = cond_both (nat_lt b 0x80) (b ∷ bs) (0 ∷ b ∷ bs) AreBytes (λ e. p) (λ e. (omega arith, p))
+
+-- the content of a number is bytes
+pub AreBytes-unsigned_content : (n : ℕ) → AreBytes (unsigned_content n)
+unfolding unsigned_content
+AreBytes-unsigned_content n = AreBytes-positive (big_endian n) (AreBytes-big_endian n)
+
+-- at most one byte is put in front
+length-positive : (bs : List ℕ) → length (positive bs) ≤ suc (length bs)
+length-positive [] = omega arith
+length-positive (b ∷ bs) = cond_both (nat_lt b 0x80) (b ∷ bs) (0 ∷ b ∷ bs) (λ cs. length cs ≤ suc (suc (length bs))) (λ e. omega arith) (λ e. omega arith)
+
+-- the content of a number of 128 bits takes at most 17 bytes
+pub length-unsigned_content : (n : ℕ) → n < 2 ^ 128 → length (unsigned_content n) ≤ 17
+unfolding unsigned_content
+length-unsigned_content n h =
+    let bytes : length (big_endian n) ≤ 16 = length-big_endian 16 n h in
+    omega (arith, length-positive (big_endian n))
+
+-- the content of the number that bytes make
+unsigned_content-number : (b : ℕ) (bs : List ℕ) → 0 < b → AreBytes (b ∷ bs) → unsigned_content (number_from_digits 256 (b ∷ bs)) ≡ positive (b ∷ bs)
+unfolding unsigned_content
+unsigned_content-number b bs h p = ap positive (big_endian-number b bs h p)
+
+-- ---- which contents are read
+
+-- the number of these bytes isn't too large to be read
+abbrev IsSmall : ℕ → List ℕ → Type 0
+IsSmall most bs = (length bs ≤ 16) × (number_from_digits 256 bs ≤ most)
+
+-- such a number is read
+number_fault-small : (most : ℕ) (bs : List ℕ) → IsSmall most bs → number_fault most bs ≡ None
+number_fault-small most bs h = rw (le-ltb 16 (length bs) h.0, le-ltb most (number_from_digits 256 bs) h.1) refl
+
+-- and no other
+small-number_fault : (most : ℕ) (bs : List ℕ) → number_fault most bs ≡ None → IsSmall most bs
+small-number_fault most bs = by_tests (nat_lt 16 (length bs)) (nat_lt most (number_from_digits 256 bs)) refl refl
+  where
+    by_tests : (long large : Bool) → nat_lt 16 (length bs) ≡ long → nat_lt most (number_from_digits 256 bs) ≡ large → cond (long || large) (Some UnsupportedValue) None ≡ None → IsSmall most bs
+    by_tests false false e f h = (ltb-false 16 (length bs) e, ltb-false most (number_from_digits 256 bs) f)
+    by_tests true large e f h = cc
+    by_tests false true e f h = cc
+
+-- a first byte from 01 to 7F stands alone
+unsigned_fault-low : (most b : ℕ) (bs : List ℕ) → 0 < b → b < 0x80 → unsigned_fault most (b ∷ bs) ≡ number_fault most (b ∷ bs)
+unsigned_fault-low most b [] h low = rw (lt-ltb b 0x80 low) refl
+unsigned_fault-low most b (c ∷ bs) h low = rw (lt-ltb b 0x80 low, ne_eqb b 0 (λ e. omega arith)) refl
+
+-- one from 80 stands behind 00
+unsigned_fault-high : (most b : ℕ) (bs : List ℕ) → 0x80 ≤ b → unsigned_fault most (0 ∷ b ∷ bs) ≡ number_fault most (b ∷ bs)
+unsigned_fault-high most b bs high = rw (le-ltb b 0x80 high) refl
+
+-- the rule of the first byte is that of `positive`
+unsigned_fault-positive : (most b : ℕ) (bs : List ℕ) → 0 < b → unsigned_fault most (positive (b ∷ bs)) ≡ number_fault most (b ∷ bs)
+unsigned_fault-positive most b bs h = elim (cases_lt b 0x80) [
+  | inl low ↦ rw (lt-ltb b 0x80 low) (unsigned_fault-low most b bs h low)
+  | inr high ↦ rw (le-ltb b 0x80 high) (unsigned_fault-high most b bs high)
+]
+
+-- the content of a number is read
+pub unsigned_fault-content : (most n : ℕ) → n ≤ most → n < 2 ^ 128 → unsigned_fault most (unsigned_content n) ≡ None
+unfolding unsigned_content
+unsigned_fault-content most n h k = by_bytes (big_endian n) refl
+  where
+    small : IsSmall most (big_endian n)
+    small = (length-big_endian 16 n k, rw (number-big_endian n) h)
+
+    by_bytes : (bs : List ℕ) → big_endian n ≡ bs → unsigned_fault most (positive bs) ≡ None
+    by_bytes [] e = number_fault-small most (0 ∷ []) (omega arith, omega arith)
+    by_bytes (b ∷ bs) e = unsigned_fault-positive most b bs (first-big_endian n b bs e) ∙ number_fault-small most (b ∷ bs) (subst (IsSmall most) e small)
+
+-- these bytes are the content of the number that they make, and this isn't too large
+abbrev IsContent : ℕ → List ℕ → Type 0
+IsContent most bs = (bs ≡ unsigned_content (number_from_digits 256 bs)) × (number_from_digits 256 bs ≤ most) × (number_from_digits 256 bs < 2 ^ 128)
+
+-- it takes at most 128 bits
+number_below : (most : ℕ) (bs : List ℕ) → AreBytes bs → IsSmall most bs → number_from_digits 256 bs < 2 ^ 128
+number_below most bs p small =
+    let power : 256 ^ length bs ≤ 256 ^ 16 = pow-le-pow_right (omega arith) small.0 in
+    omega (arith, number_lt 256 bs p)
+
+-- 00 alone
+content_zero : (most : ℕ) → IsContent most (0 ∷ [])
+unfolding unsigned_content big_endian
+content_zero most = (refl, omega arith, omega arith)
+
+-- a first byte from 01 to 7F
+content_low : (most b : ℕ) (bs : List ℕ) → 0 < b → b < 0x80 → AreBytes (b ∷ bs) → IsSmall most (b ∷ bs) → IsContent most (b ∷ bs)
+content_low most b bs h low p small =
+    let alone : positive (b ∷ bs) ≡ b ∷ bs = rw (lt-ltb b 0x80 low) refl in
+    (sym (unsigned_content-number b bs h p ∙ alone), small.1, number_below most (b ∷ bs) p small)
+
+-- 00, and a byte from 80 behind it
+content_high : (most b : ℕ) (bs : List ℕ) → 0x80 ≤ b → AreBytes (b ∷ bs) → IsSmall most (b ∷ bs) → IsContent most (0 ∷ b ∷ bs)
+content_high most b bs high p small =
+    let behind : positive (b ∷ bs) ≡ 0 ∷ b ∷ bs = rw (le-ltb b 0x80 high) refl in
+    (sym (unsigned_content-number b bs (omega arith) p ∙ behind), small.1, number_below most (b ∷ bs) p small)
+
+-- what is read is the content of a number
+pub content-unsigned_fault : (most : ℕ) (bs : List ℕ) → AreBytes bs → unsigned_fault most bs ≡ None → (bs ≡ unsigned_content (number_from_digits 256 bs)) × (number_from_digits 256 bs ≤ most) × (number_from_digits 256 bs < 2 ^ 128)
+content-unsigned_fault most [] p e = cc
+content-unsigned_fault most (b ∷ []) p e = by_tests (nat_lt b 0x80) (b == 0) refl refl e
+  where
+    by_tests : (low none : Bool) → nat_lt b 0x80 ≡ low → (b == 0) ≡ none → cond low (number_fault most (b ∷ [])) (Some UnsupportedValue) ≡ None → IsContent most (b ∷ [])
+    by_tests true true f g h = let is : b ≡ 0 = eqb-true b 0 g in rw is (content_zero most)
+    by_tests true false f g h = content_low most b [] (omega (arith, eqb-false b 0 g)) (ltb-true b 0x80 f) p (small-number_fault most (b ∷ []) h)
+    by_tests false none f g h = cc
+content-unsigned_fault most (b ∷ c ∷ bs) p e = by_tests (nat_lt b 0x80) (b == 0) (nat_lt c 0x80) refl refl refl e
+  where
+    by_tests : (low none needless : Bool) → nat_lt b 0x80 ≡ low → (b == 0) ≡ none → nat_lt c 0x80 ≡ needless → cond low (cond none (cond needless (Some InvalidData) (number_fault most (c ∷ bs))) (number_fault most (b ∷ c ∷ bs))) (Some UnsupportedValue) ≡ None → IsContent most (b ∷ c ∷ bs)
+    by_tests true true false f g i h =
+        let is : b ≡ 0 = eqb-true b 0 g in
+        rw is (content_high most c bs (ltb-false c 0x80 i) p.1 (small-number_fault most (c ∷ bs) h))
+    by_tests true false needless f g i h = content_low most b (c ∷ bs) (omega (arith, eqb-false b 0 g)) (ltb-true b 0x80 f) p (small-number_fault most (b ∷ c ∷ bs) h)
+    by_tests true true true f g i h = cc
+    by_tests false none needless f g i h = cc

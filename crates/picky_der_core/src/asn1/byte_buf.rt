@@ -1,0 +1,29 @@
+//! Octet strings.
+ghost use Rattle.std.specs.Prelude.{◌≡◌, IfOk, IfErr};
+
+use crate::{Asn1DerError, Result};
+
+/// An octet string (X.690, 8.7).
+#[derive(Debug, Drop, PartialEq, Eq)]
+pub struct ByteBuf(pub Vec<u8>);
+
+impl ByteBuf {
+    /// A copy, on the same allocator. `OutOfMemory` where memory is refused.
+    pub fn clone(&self) -> Result<ByteBuf>
+        ensures same { IfOk result (λ copy. copy.0.items ≡ self.now.0.items) }
+        ensures memory { IfErr result (λ e. e ≡ Asn1DerError.OutOfMemory) }
+    {
+        match self.0.clone() {
+            Ok(bytes) => Ok(ByteBuf(bytes)),
+            Err(_) => Err(Asn1DerError::OutOfMemory),
+        }
+    }
+}
+
+impl From<Vec<u8>> for ByteBuf {
+    ghost from_gives = { λ bytes octets. octets.0 ≡ bytes };
+
+    fn from(bytes: Vec<u8>) -> ByteBuf {
+        ByteBuf(bytes)
+    }
+}

@@ -1,0 +1,104 @@
+//! Lengths (X.690, 8.1.3 and 10.1).
+ghost use Rattle.std.specs.Prelude.{◌≡◌, ◌≢◌, ◌+◌, ◌^◌, ◌<◌, ◌≤◌, ℕ, length, IfOk, OnOk, OnErr, IfErr, IfSome};
+ghost use Rattle.std.specs.Io.KnownBytes.{Appends, Consumes};
+ghost use Rattle.picky_der_core.specs.Element.{len as bytes_of, Begins};
+ghost use Rattle.picky_der_core.specs.Writer.{AppendsBeginning};
+ghost use Rattle.picky_der_core.specs.WriterFaults.{Faulted};
+ghost use Rattle.picky_der_core.specs.Lengths.{IsReadAs, IsRefusedAs, IsOfDevice, IsLongCount, IsNoLongCount};
+ghost use Rattle.picky_der_core.specs.Refusal.{length_of};
+
+use super::{ReadExt, WriteExt};
+use crate::{Asn1DerError, Result};
+
+/// The length of a content in canonical DER: one byte below 128, else a byte `80+k` and the `k` bytes of the number,
+/// as few as can be.
+pub struct Length;
+
+impl Length {
+    /// Reads a length.
+    ///
+    /// `TruncatedData` where a byte is missing; `InvalidData` for `80`, a first length byte 00 and a number below 128
+    /// in the long form; `UnsupportedValue` for a first byte past `88`; else the reader's fault. No byte is drawn
+    /// past the one that shows the refusal.
+    pub fn deserialized<R: ReadExt>(reader: &mut R) -> Result<usize>
+        ensures ok { IfOk result (λ n. Consumes (R.remaining reader.old) (R.remaining reader.new) (bytes_of n)) }
+        ensures read { IfOk result (IsReadAs (length_of Asn1DerError.TruncatedData) (R.remaining reader.old) (R.remaining reader.new)) }
+        ensures refused { IfErr result (λ e. R.faults reader.new ≡ R.faults reader.old
+            → IsRefusedAs (length_of Asn1DerError.TruncatedData) (R.remaining reader.old) (R.remaining reader.new) e) }
+        ensures none { OnErr result (R.faults reader.new ≡ R.faults reader.old
+            → IfSome (R.remaining reader.old) (λ bs. (n : ℕ) → n < 2 ^ 64 → Begins (bytes_of n) bs → ⊥)) }
+        ensures device { IfErr result (λ e. IsOfDevice e → R.faults reader.old < R.faults reader.new) }
+        ensures counted { R.faults reader.old ≤ R.faults reader.new }
+        ensures no_fault { OnOk result (R.faults reader.new ≡ R.faults reader.old) }
+        ensures same_references { R.through reader.new ≡ R.through reader.old }
+    {
+        let first = reader.read_one()?;
+        if first < 0x80 {
+            return Ok(usize::from(first));
+        }
+        let count = Length::long_count(first)?;
+        let mut len = 0;
+        for _ in 0..count {
+            len = len * 256 + usize::from(reader.read_one()?);
+        }
+        Length::shortest(count, len)
+    }
+
+    /// Writes a length, and answers how many bytes it took. At an error of the writer a beginning was written.
+    pub fn serialize<W: WriteExt>(len: usize, writer: &mut W) -> Result<usize>
+        ensures count { IfOk result (λ n. n ≡ length (bytes_of len)) }
+        ensures appends { OnOk result (Appends (W.told writer.old) (W.told writer.new) (bytes_of len)) }
+        ensures beginning { OnErr result (AppendsBeginning (W.told writer.old) (W.told writer.new) (bytes_of len)) }
+        ensures fault { IfErr result (λ e. Faulted W.WriteExt.own writer.old e writer.new) }
+        ensures counted { W.faults writer.old ≤ W.faults writer.new }
+        ensures no_fault { OnOk result (W.faults writer.new ≡ W.faults writer.old) }
+        ensures goes_on { W.later writer.old writer.new }
+    {
+        if len < 0x80 {
+            return Ok(writer.write_one(len as u8)?);
+        }
+        let bytes = len.to_be_bytes();
+        let skipped = bytes.len() + 1 - Length::encoded_len(len);
+        let digits = &bytes[skipped..];
+        let first = writer.write_one(0x80 | digits.len() as u8)?;
+        Ok(first + writer.write_exact(digits)?)
+    }
+
+    /// How many bytes the length takes.
+    pub fn encoded_len(len: usize) -> usize
+        ensures { result ≡ length (bytes_of len) }
+    {
+        if len < 0x80 {
+            return 1;
+        }
+        let zeros = len.leading_zeros() as usize / 8;
+        1 + size_of::<usize>() - zeros
+    }
+
+    /// How many length bytes stand behind a first byte of the long form. `InvalidData` for `80`, `UnsupportedValue`
+    /// past `88`.
+    pub fn long_count(first: u8) -> Result<usize>
+        requires { 0x80 ≤ first }
+        ensures ok { IfOk result (IsLongCount first) }
+        ensures err { IfErr result (IsNoLongCount first) }
+    {
+        match first {
+            0x81..=0x88 => Ok(usize::from(first & 0x0F)),
+            0x80 => Err(Asn1DerError::InvalidData),
+            _ => Err(Asn1DerError::UnsupportedValue),
+        }
+    }
+
+    /// The number of so many length bytes, if no shorter length gives it, and else `InvalidData`.
+    pub fn shortest(count: usize, len: usize) -> Result<usize>
+        requires { count < 2 ^ 32 }
+        ensures ok { IfOk result (λ n. (n ≡ len) × (length (bytes_of len) ≡ 1 + count)) }
+        ensures err { IfErr result (λ e. (e ≡ Asn1DerError.InvalidData) × (length (bytes_of len) ≢ 1 + count)) }
+    {
+        if Length::encoded_len(len) == 1 + count {
+            Ok(len)
+        } else {
+            Err(Asn1DerError::InvalidData)
+        }
+    }
+}

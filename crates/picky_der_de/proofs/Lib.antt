@@ -1,0 +1,4 @@
+pub mod Steps
+pub mod ReaderFaults
+pub mod Numbers
+pub mod Contents

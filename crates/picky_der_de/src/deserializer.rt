@@ -1,0 +1,188 @@
+//! The deserializer.
+ghost use Rattle.std.specs.Prelude.{◌≡◌, ◌∷◌, [], length, None, Some, IfOk, IfErr, OnOk, OnErr};
+ghost use Rattle.picky_der_de.specs.State.{fresh};
+ghost use Rattle.picky_der_de.specs.Steps.{Takes, TakesKept, StopsShort, Fails, IsMissing, IsOther, TakesNoMemory, in_front};
+
+use crate::End;
+use arrayvec::ArrayVec;
+use picky_der_core::misc::ReadExt;
+use picky_der_core::{Asn1DerError, Result};
+use std::alloc::Global;
+use std::marker::Model;
+
+// How many bytes of a number or truth value are kept: one more than the longest content of a number has.
+const KEPT: usize = 18;
+
+/// Reads values from a reader. After an error it has failed: each later call answers that error and takes nothing.
+#[derive(Drop)]
+pub struct Deserializer<R: ReadExt> {
+    alloc: Global,
+    reader: R,
+    peeked: Option<u8>,
+    taken: usize,
+    limit: usize,
+    room: usize,
+    end: End,
+    direct: Option<u8>,
+    failed: Option<Asn1DerError>,
+}
+
+impl<R: ReadExt> Model for Deserializer<R> {
+    ghost use Rattle.std.specs.Prelude.{◌+◌, ◌<◌, ◌^◌};
+    ghost use Rattle.picky_der_de.specs.State.{State};
+    ghost use Rattle.picky_der_de.specs.Steps.{in_front, IsUnpeekedIfDirect};
+
+    ghost Value = { State };
+
+    ghost view = { λ d. record {
+      input = in_front d.peeked (R.remaining d.reader);
+      peeked = d.peeked;
+      taken = d.taken;
+      limit = d.limit;
+      room = d.room;
+      end = d.end;
+      direct = d.direct;
+      failed = d.failed;
+      faults = R.faults d.reader;
+      through = R.through d.reader;
+    } };
+
+    ghost invariant = { λ d. (d.taken + d.room < 2 ^ 64) × IsUnpeekedIfDirect d.direct d.peeked };
+}
+
+impl<'a> Deserializer<&'a [u8]> {
+    /// Reads from a slice, whose length is the limit.
+    pub fn new_from_bytes(alloc: Global, bytes: &'a [u8]) -> Deserializer<&'a [u8]>
+        ensures { result ≡ fresh (Some bytes.now) (length bytes.now) 0 [] }
+    {
+        Deserializer::over(alloc, bytes, bytes.len())
+    }
+}
+
+impl<R: ReadExt> Deserializer<R> {
+    // Reads from the reader, so many bytes at most.
+    fn over(alloc: Global, reader: R, limit: usize) -> Deserializer<R>
+        ensures { result ≡ fresh (R.remaining reader) limit (R.faults reader) (R.through reader) }
+    {
+        Deserializer {
+            alloc,
+            reader,
+            peeked: None,
+            taken: 0,
+            limit,
+            room: limit,
+            end: End::Limit,
+            direct: None,
+            failed: None,
+        }
+    }
+
+    // The reader, behind a byte that was peeked.
+    pub(crate) fn into_reader(self) -> R
+        ensures input { self.input ≡ in_front self.peeked (R.remaining result) }
+        ensures faults { R.faults result ≡ self.faults }
+        ensures same_references { R.through result ≡ self.through }
+    {
+        let Deserializer {
+            alloc: _,
+            reader,
+            peeked: _,
+            taken: _,
+            limit: _,
+            room: _,
+            end: _,
+            direct: _,
+            failed: _,
+        } = self;
+        reader
+    }
+
+    /// How many bytes were taken so far, a peeked one not counted.
+    pub fn taken(&self) -> usize
+        ensures { result ≡ self.now.taken }
+    {
+        self.taken
+    }
+
+    // Has failed from here on with an error that is no fault of the reader.
+    pub(crate) fn fail(&mut self, error: Asn1DerError) -> Asn1DerError
+        requires had_not_failed { self.old.failed ≡ None }
+        requires no_fault { IsOther error → ⊥ }
+        ensures error { result ≡ error }
+        ensures same { self.new ≡ record self.old { failed = Some error } }
+        ensures fails { Fails self.old self.new result }
+    {
+        self.failed = Some(error);
+        error
+    }
+
+    // The next byte before the innermost end.
+    fn next_byte(&mut self) -> Result<u8>
+        ensures ok { IfOk result (λ b. Takes self.old self.new (b ∷ [])) }
+        ensures direct { OnOk result (self.new.direct ≡ self.old.direct) }
+        ensures err { IfErr result (Fails self.old self.new) }
+        ensures missing { IfErr result (λ e. self.old.failed ≡ None → self.new.faults ≡ self.old.faults → IsMissing self.old e) }
+        ensures unmoved { IfErr result (λ e. self.new ≡ record self.old { failed = Some e; faults = self.new.faults; input = self.new.input }) }
+    {
+        if let Some(error) = self.failed {
+            return Err(error);
+        }
+        if self.room == 0 {
+            let error = self.end.missing();
+            return Err(self.fail(error));
+        }
+        if let Some(byte) = self.peeked {
+            self.peeked = None;
+            self.taken += 1;
+            self.room -= 1;
+            return Ok(byte);
+        }
+        match self.reader.read_one() {
+            Ok(byte) => {
+                self.taken += 1;
+                self.room -= 1;
+                Ok(byte)
+            }
+            Err(e) => {
+                let error = Asn1DerError::from(e);
+                self.failed = Some(error);
+                Err(error)
+            }
+        }
+    }
+
+    // Takes the content, and keeps its first bytes: one more than the longest content of a number has.
+    fn draw_kept(&mut self, len: usize) -> Result<ArrayVec<u8, KEPT>>
+        requires had_not_failed { self.old.failed ≡ None }
+        requires unpeeked { self.old.peeked ≡ None }
+        ensures ok { IfOk result (λ kept. TakesKept self.old self.new len kept.items) }
+        ensures direct { OnOk result (self.new.direct ≡ self.old.direct) }
+        ensures err { IfErr result (StopsShort self.old self.new len) }
+        ensures memory { IfErr result (TakesNoMemory self.old self.new) }
+    {
+        let mut kept = ArrayVec::new();
+        for _i in 0..len {
+            let byte = self.next_byte()?;
+            let _ = kept.try_push(byte);
+        }
+        Ok(kept)
+    }
+
+    // Takes the content into a vector.
+    fn draw_vec(&mut self, len: usize) -> Result<Vec<u8>>
+        requires had_not_failed { self.old.failed ≡ None }
+        requires unpeeked { self.old.peeked ≡ None }
+        ensures ok { IfOk result (λ bytes. Takes self.old self.new bytes.items × (length bytes.items ≡ len)) }
+        ensures direct { OnOk result (self.new.direct ≡ self.old.direct) }
+        ensures err { IfErr result (StopsShort self.old self.new len) }
+    {
+        let mut bytes = Vec::new(self.alloc);
+        for _i in 0..len {
+            let byte = self.next_byte()?;
+            if bytes.push(byte).is_err() {
+                return Err(self.fail(Asn1DerError::OutOfMemory));
+            }
+        }
+        Ok(bytes)
+    }
+}

@@ -1,0 +1,62 @@
+-- What is written of trees that are written alike.
+use Rattle.std.proofs.Common.{◌≡◌, ◌<◌, ◌^◌, List, [], ◌∷◌, length, true, Option, None, Some, ap, ◌∙◌, subst, Result, Ok, Err, IfOk, IfErr, ℕ}
+use Rattle.std.specs.Prelude.{IfNone, IsTrue}
+use Rattle.picky_der_core.specs.Writer.{AppendsBeginning}
+use Rattle.picky_der_core.specs.declared.misc.writer.WriteExt.{Ghosts}
+use Rattle.picky_der_core.specs.declared.error.Asn1DerError.{Asn1DerError}
+use Rattle.picky_der_core.specs.Tree.{Tree}
+use Rattle.picky_der_core.specs.Encoding.{content, plain_tag}
+use Rattle.picky_der_core.specs.Readable.{IsWritable}
+use Rattle.picky_der_core.specs.WrapperLaws.{AreAlike, alike-under, der-alike, alike-sym, is_simple, alike-bytes}
+use Rattle.picky_der_ser.specs.State.{State, Level}
+use Rattle.picky_der_ser.specs.Calls.{Adds, Excuse, no_memory, unwritable, no_sink, MemoryExcuse, no_room, no_way, Refused, RefusedIn, Writes, Fails, WritesPlain}
+
+pub writable-alike : (t u : Tree) → AreAlike t u → IsWritable t → IsWritable u
+writable-alike t u a h = record { numbers = subst IsTrue a.numbers_same h.numbers; fits = subst (λ l. length l < 2 ^ 64) (der-alike t u a) h.fits }
+
+memory_excuse-alike : (t u : Tree) (e : Asn1DerError) → AreAlike t u → MemoryExcuse t e → MemoryExcuse u e
+memory_excuse-alike t u e a (no_room m) = no_room m
+memory_excuse-alike t u e a (no_way m n) = no_way m (λ h. n (writable-alike u t (alike-sym t u a) h))
+
+module _ {W : Type 0} (g : Ghosts W) where
+  excuse-alike : (t u : Tree) (old new : W) (e : Asn1DerError) → AreAlike t u → Excuse g t old e new → Excuse g u old e new
+  excuse-alike t u old new e a (no_memory m) = no_memory m
+  excuse-alike t u old new e a (unwritable m n s) = unwritable m (λ h. n (writable-alike u t (alike-sym t u a) h)) s
+  excuse-alike t u old new e a (no_sink h f) = no_sink (writable-alike t u a h) f
+
+  refused-alike : (t u : Tree) (old new : W) (e : Asn1DerError) → AreAlike t u → Refused g t old e new → Refused g u old e new
+  refused-alike t u old new e a h =
+      record { begins = subst (AppendsBeginning (g.told old) (g.told new)) (der-alike t u a) h.begins; excuse = excuse-alike t u old new e a h.excuse }
+
+  refused_in-alike : (ls : List Level) (t u : Tree) (old new : W) (e : Asn1DerError) → AreAlike t u → RefusedIn g ls t old e new → RefusedIn g ls u old e new
+  refused_in-alike [] t u old new e a h = refused-alike t u old new e a h
+  refused_in-alike (l ∷ ls) t u old new e a h = (memory_excuse-alike t u e a h.0, h.1)
+
+  refused_first-alike : (f : Option Asn1DerError) (ls : List Level) (t u : Tree) (old new : W) (e : Asn1DerError) → AreAlike t u → IfNone f (RefusedIn g ls t old e new) → IfNone f (RefusedIn g ls u old e new)
+  refused_first-alike None ls t u old new e a h = refused_in-alike ls t u old new e a h
+  refused_first-alike (Some j) ls t u old new e a h = tt
+
+  writes-alike : (t u : Tree) (old new : State W) (r : Result ℕ Asn1DerError) → AreAlike t u → IfOk r (λ n. Writes g t old n new) → IfOk r (λ n. Writes g u old n new)
+  writes-alike t u old new (Ok n) a h =
+      let b = alike-under old.around t u a in
+      let d = der-alike _ _ b in
+      record { had_not_failed = h.had_not_failed; writable = writable-alike _ _ b h.writable; count = h.count ∙ ap length d; adds = subst (Adds g old new) d h.adds; closed = h.closed; not_failed = h.not_failed }
+  writes-alike t u old new (Err e) a h = tt
+
+  fails-alike : (t u : Tree) (old new : State W) (r : Result ℕ Asn1DerError) → AreAlike t u → IfErr r (λ e. Fails g t old e new) → IfErr r (λ e. Fails g u old e new)
+  fails-alike t u old new (Ok n) a h = tt
+  fails-alike t u old new (Err e) a h =
+      record { failed = h.failed; again = h.again; first = refused_first-alike old.failed _ _ _ _ _ e (alike-under old.around t u a) h.first }
+
+  -- a plain value is written as its tag and content
+  pub writes_plain-as : (t : Tree) (c : List ℕ) → is_simple t ≡ true → c ≡ content t → (old new : State W) (r : Result ℕ Asn1DerError) → WritesPlain g (Tree.bytes (plain_tag t) c) old r new → WritesPlain g t old r new
+  writes_plain-as t c p e old new r h =
+      let a = alike-bytes t p in
+      let k : WritesPlain g (Tree.bytes (plain_tag t) (content t)) old r new = subst (λ b. WritesPlain g (Tree.bytes (plain_tag t) b) old r new) e h in
+      record {
+        wrote = writes-alike (Tree.bytes (plain_tag t) (content t)) t old new r a k.wrote;
+        failed = fails-alike (Tree.bytes (plain_tag t) (content t)) t old new r a k.failed;
+        outside = k.outside;
+        counted = k.counted;
+        goes_on = k.goes_on;
+      }

@@ -1,0 +1,76 @@
+-- What the calls of a serializer do.
+use Rattle.std.specs.Prelude.{◌≡◌, ℕ, List, [], ◌∷◌, ◌++◌, length, None, Some, IfSome, IfNone, Result, IfOk, IfErr, ◌≤◌}
+use Rattle.std.specs.Io.KnownBytes.{Appends}
+use Rattle.picky_der_core.specs.Writer.{AppendsBeginning}
+use Rattle.picky_der_core.specs.WriterFaults.{Faulted}
+use Rattle.picky_der_core.specs.declared.misc.writer.WriteExt.{Ghosts}
+use Rattle.picky_der_core.specs.declared.error.Asn1DerError.{Asn1DerError}
+use Rattle.picky_der_core.specs.declared.error.Asn1DerError.TheVariants.{UnsupportedValue, OutOfMemory}
+use Rattle.picky_der_core.specs.Tree.{Tree}
+use Rattle.picky_der_core.specs.Encoding.{der}
+use Rattle.picky_der_core.specs.Readable.{IsWritable}
+use Rattle.picky_der_core.specs.Wrapper.{under}
+use Rattle.picky_der_ser.specs.State.{State, Level}
+
+-- why a tree isn't written into memory
+pub data MemoryExcuse (t : Tree) (e : Asn1DerError) : Type 0 where
+  no_room : e ≡ OutOfMemory → MemoryExcuse t e
+  no_way : e ≡ UnsupportedValue → ¬ IsWritable t → MemoryExcuse t e
+
+module _ {W : Type 0} (g : Ghosts W) where
+  -- these bytes were added to what was written, or inside a level to what the innermost one holds
+  abbrev pub AddsIn : List Level → List Level → W → W → List ℕ → Type 0
+  AddsIn [] levels old new bs = (levels ≡ []) × Appends (g.told old) (g.told new) bs
+  AddsIn (l ∷ ls) levels old new bs = (levels ≡ record l { content = l.content ++ bs } ∷ ls) × (new ≡ old)
+
+  abbrev pub Adds : State W → State W → List ℕ → Type 0
+  Adds old new bs = AddsIn old.inside new.inside old.sink new.sink bs
+
+  -- why a serializer that hadn't failed may refuse to write a tree to its sink
+  pub data Excuse (t : Tree) (old : W) (e : Asn1DerError) (new : W) : Type 0 where
+    no_memory : e ≡ OutOfMemory → Excuse t old e new
+    unwritable : e ≡ UnsupportedValue → ¬ IsWritable t → new ≡ old → Excuse t old e new
+    no_sink : IsWritable t → Faulted g old e new → Excuse t old e new
+
+  -- the tree was written to the sink, and n is its length
+  pub record Wrote (t : Tree) (old : W) (n : ℕ) (new : W) : Type 0 where
+    pub writable : IsWritable t
+    pub count : n ≡ length (der t)
+    pub appends : Appends (g.told old) (g.told new) (der t)
+
+  -- a beginning of the tree's encoding was written to the sink, and why no more
+  pub record Refused (t : Tree) (old : W) (e : Asn1DerError) (new : W) : Type 0 where
+    pub begins : AppendsBeginning (g.told old) (g.told new) (der t)
+    pub excuse : Excuse t old e new
+
+  -- the tree wasn't written, and why: inside a level nothing reaches the sink
+  abbrev pub RefusedIn : List Level → Tree → W → Asn1DerError → W → Type 0
+  RefusedIn [] t old e new = Refused t old e new
+  RefusedIn (l ∷ ls) t old e new = MemoryExcuse t e × (new ≡ old)
+
+  -- the call wrote the tree in the open wrappers, and closed them
+  pub record Writes (t : Tree) (old : State W) (n : ℕ) (new : State W) : Type 0 where
+    pub had_not_failed : old.failed ≡ None
+    pub writable : IsWritable (under old.around t)
+    pub count : n ≡ length (der (under old.around t))
+    pub adds : Adds old new (der (under old.around t))
+    pub closed : new.around ≡ []
+    pub not_failed : new.failed ≡ None
+
+  -- the call answered an error in place of writing the tree
+  pub record Fails (t : Tree) (old : State W) (e : Asn1DerError) (new : State W) : Type 0 where
+    pub failed : new.failed ≡ Some e
+    pub again : IfSome old.failed (λ f. (e ≡ f) × (new.sink ≡ old.sink))
+    pub first : IfNone old.failed (RefusedIn old.inside (under old.around t) old.sink e new.sink)
+
+  -- outside wrappers and levels only the sink can refuse a plain value, since no memory is taken
+  abbrev pub OnlySinkFails : State W → Asn1DerError → State W → Type 0
+  OnlySinkFails old e new = old.failed ≡ None → old.inside ≡ [] → old.around ≡ [] → Faulted g old.sink e new.sink
+
+  -- the call writes a plain value
+  pub record WritesPlain (t : Tree) (old : State W) (r : Result ℕ Asn1DerError) (new : State W) : Type 0 where
+    pub wrote : IfOk r (λ n. Writes t old n new)
+    pub failed : IfErr r (λ e. Fails t old e new)
+    pub outside : IfErr r (λ e. OnlySinkFails old e new)
+    pub counted : g.faults old.sink ≤ g.faults new.sink
+    pub goes_on : g.later old.sink new.sink

@@ -1,0 +1,7 @@
+-- The content of a number, in an array.
+use Rattle.std.specs.Prelude.{◌≡◌, ℕ, List, drop}
+use Rattle.picky_der_core.specs.Encoding.{unsigned_content}
+
+-- from `start` on stands the content of the number
+abbrev pub IsUnsignedContent : ℕ → List ℕ → ℕ → Type 0
+IsUnsignedContent n bytes start = drop start bytes ≡ unsigned_content n

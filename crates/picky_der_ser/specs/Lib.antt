@@ -1,0 +1,4 @@
+pub mod Heading
+pub mod State
+pub mod Calls
+pub mod Integer

@@ -1,0 +1,44 @@
+-- What a serializer is to its callers.
+use Rattle.std.specs.Prelude.{ℕ, List, Option, refl}
+use Rattle.std.specs.Coded.{Coded, code_by, coded×, coded_list, coded_option, coded_ℕ}
+use Rattle.picky_der_core.specs.declared.error.Asn1DerError.{Asn1DerError}
+use Rattle.picky_der_core.specs.contracts.error.Asn1DerError as error
+use Rattle.picky_der_core.specs.declared.asn1.wrapper.Wrapper.{Wrapper}
+use Rattle.picky_der_core.specs.contracts.asn1.wrapper.Wrapper as wrapper
+use Rattle.picky_der_ser.specs.declared.header.Header.{Header}
+use Rattle.picky_der_ser.specs.contracts.header.Header as header
+
+-- a level: a sequence, set or application tag that is open
+pub record Level : Type 0 where
+  pub header : Header
+  -- the wrappers around it, outermost first
+  pub around : List Wrapper
+  -- the encodings of its members so far
+  pub content : List ℕ
+
+abbrev pub level_code : Coded Level
+level_code =
+    code_by (Header × (List Wrapper × List ℕ))
+    (coded× header.the_row.coded (coded× (coded_list wrapper.the_row.coded) (coded_list coded_ℕ)))
+    (λ l. (l.header, (l.around, l.content)))
+    (λ p. record { header = p.0; around = p.1.0; content = p.1.1 })
+    (λ _. refl)
+
+pub record State (W : Type 0) : Type 0 where
+  pub sink : W
+  -- the open wrappers, outermost first
+  pub around : List Wrapper
+  -- the error that it has failed with
+  pub failed : Option Asn1DerError
+  -- the levels of which a member is being written, innermost first
+  pub inside : List Level
+  -- the level that was opened last, until it ends or another call is made
+  pub pending : Option Level
+
+abbrev pub state_code : {W : Type 0} → Coded W → Coded (State W)
+state_code {W} sink =
+    code_by (W × (List Wrapper × (Option Asn1DerError × (List Level × Option Level))))
+    (coded× sink (coded× (coded_list wrapper.the_row.coded) (coded× (coded_option error.the_row.coded) (coded× (coded_list level_code) (coded_option level_code)))))
+    (λ s. (s.sink, (s.around, (s.failed, (s.inside, s.pending)))))
+    (λ p. record { sink = p.0; around = p.1.0; failed = p.1.1.0; inside = p.1.1.1.0; pending = p.1.1.1.1 })
+    (λ _. refl)

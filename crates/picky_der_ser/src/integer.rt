@@ -1,0 +1,105 @@
+//! Unsigned integers (X.690, 8.3).
+ghost use Rattle.std.specs.Prelude.{◌≡◌, ◌≤◌, ◌^◌, ◌<◌, ℕ, IfOk, IfErr};
+ghost use Rattle.picky_der_core.specs.Tree.{Tree};
+ghost use Rattle.picky_der_core.specs.Encoding.{unsigned_content};
+ghost use Rattle.picky_der_ser.specs.Calls.{WritesPlain};
+ghost use Rattle.picky_der_ser.specs.Integer.{IsUnsignedContent};
+
+use crate::Serializer;
+use picky_der_core::Result;
+use picky_der_core::asn1::Tag;
+use picky_der_core::misc::WriteExt;
+
+/// An unsigned integer type.
+pub trait UInt: Sized + Copy {
+    // The number.
+    ghost number: { Self → ℕ };
+
+    /// The same number, of 128 bits.
+    fn into_u128(self) -> u128
+        ensures { result ≡ number self };
+}
+
+impl UInt for u8 {
+    ghost number = { λ n. n };
+
+    fn into_u128(self) -> u128 {
+        u128::from(self)
+    }
+}
+
+impl UInt for u16 {
+    ghost number = { λ n. n };
+
+    fn into_u128(self) -> u128 {
+        u128::from(self)
+    }
+}
+
+impl UInt for u32 {
+    ghost number = { λ n. n };
+
+    fn into_u128(self) -> u128 {
+        u128::from(self)
+    }
+}
+
+impl UInt for u64 {
+    ghost number = { λ n. n };
+
+    fn into_u128(self) -> u128 {
+        u128::from(self)
+    }
+}
+
+impl UInt for u128 {
+    ghost number = { λ n. n };
+
+    fn into_u128(self) -> u128 {
+        self
+    }
+}
+
+impl UInt for usize {
+    ghost number = { λ n. n };
+
+    fn into_u128(self) -> u128 {
+        self as u128
+    }
+}
+
+// A 00 and the sixteen bytes of a number, and where its content begins among these.
+#[derive(Drop)]
+struct Content {
+    bytes: [u8; 17],
+    start: usize,
+    ghost within: { start ≤ 16 },
+}
+
+impl Content {
+    // The fewest bytes that don't begin with 80 or more: one more than the number's bits fill.
+    fn of(number: u128) -> Content
+        ensures { IsUnsignedContent number result.bytes result.start }
+    {
+        let mut bytes = [0; 17];
+        bytes[1..].copy_from_slice(&number.to_be_bytes());
+        let zeros = number.leading_zeros() as usize;
+        Content {
+            bytes,
+            start: (zeros + 7) / 8,
+        }
+    }
+}
+
+/// Writes unsigned integers.
+pub struct UnsignedInteger;
+
+impl UnsignedInteger {
+    /// Writes a number, as `Serializer::serialize_u128` does.
+    pub fn serialize<T: UInt, W: WriteExt>(value: T, ser: &mut Serializer<W>) -> Result<usize>
+        ensures { WritesPlain W.WriteExt.own (Tree.unsigned (T.number value)) ser.old result ser.new }
+    {
+        let content = Content::of(value.into_u128());
+        ser.write_plain(Tag::INTEGER, &content.bytes[content.start..])
+    }
+}
