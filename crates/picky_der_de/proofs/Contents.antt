@@ -35,7 +35,7 @@ consumes-keeps (Some xs) None bs l c = c
 consumes-keeps (Some xs) (Some ys) [] l c = sym c
 consumes-keeps (Some xs) (Some ys) (b ∷ bs) l c = absurd (omega arith)
 
-kept_input : {a b : State} → Took a b → b.taken ≡ a.taken → Keeps a.input b.input
+pub kept_input : {a b : State} → Took a b → b.taken ≡ a.taken → Keeps a.input b.input
 kept_input {a} {b} t e = consumes-keeps a.input b.input t.bytes (omega (arith, t.count)) t.input
 
 -- no byte came

@@ -2,3 +2,8 @@ pub mod Steps
 pub mod ReaderFaults
 pub mod Numbers
 pub mod Contents
+pub mod Lengths
+pub mod Refusals
+pub mod Known
+pub mod Headers
+pub mod PlainReads

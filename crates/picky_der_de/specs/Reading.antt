@@ -54,20 +54,27 @@ abbrev pub refusal_at : ℕ → Judge → State → List ℕ → Option Refusal
 refusal_at tag judge s rest = refusal_in s.direct tag judge s rest
 
 -- known bytes were refused just so: with this error, and what is left is left
-pub record IsJustRefused (tag : ℕ) (judge : Judge) (old new : State) (e : Asn1DerError) (bs : List ℕ) : Type 0 where
+pub record IsJustRefused (refusal : List ℕ → Option Refusal) (old new : State) (e : Asn1DerError) (bs : List ℕ) : Type 0 where
   pub left : List ℕ
-  pub refusal : refusal_at tag judge old (take old.room bs) ≡ Some (e, left)
+  pub refused : refusal (take old.room bs) ≡ Some (e, left)
   pub input : new.input ≡ Some (left ++ drop old.room bs)
   -- a peeked byte stays where nothing was drawn, and else was the first
   pub kept : new.taken ≡ old.taken → new.peeked ≡ old.peeked
   pub used : old.taken < new.taken → new.peeked ≡ None
 
+abbrev pub AreJustRefused : (List ℕ → Option Refusal) → State → State → Asn1DerError → Type 0
+AreJustRefused refusal old new e = IsJudged old new e → (bs : List ℕ) → old.input ≡ Some bs → IsJustRefused refusal old new e bs
+
+-- known bytes aren't refused
+abbrev pub AreNotRefused : (List ℕ → Option Refusal) → State → Type 0
+AreNotRefused refusal old = (bs : List ℕ) → old.input ≡ Some bs → refusal (take old.room bs) ≡ None
+
 -- a plain value was read, and nothing speaks against it
 pub record ReadsPlain (tag : ℕ) (judge : Judge) (s : Shape) (old new : State) (t : Tree) : Type 0 where
   pub reads : Reads s old new t
-  pub no_refusal : (bs : List ℕ) → old.input ≡ Some bs → refusal_at tag judge old (take old.room bs) ≡ None
+  pub no_refusal : AreNotRefused (refusal_at tag judge old) old
 
 -- a plain value was refused, and just so
 pub record RefusesPlain {V : Type 0} (meaning : V → Tree) (tag : ℕ) (judge : Judge) (s : Shape) (old new : State) (e : Asn1DerError) : Type 0 where
   pub refuses : Refuses meaning s old new e
-  pub just : IsJudged old new e → (bs : List ℕ) → old.input ≡ Some bs → IsJustRefused tag judge old new e bs
+  pub just : AreJustRefused (refusal_at tag judge old) old new e

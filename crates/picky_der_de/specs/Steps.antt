@@ -61,6 +61,11 @@ abbrev pub IsUnpeekedIfDirect : Option ℕ → Option ℕ → Type 0
 IsUnpeekedIfDirect None peeked = ⊤
 IsUnpeekedIfDirect (Some tag) peeked = peeked ≡ None
 
+-- a peeked byte is a byte
+abbrev pub IsByteIfPeeked : Option ℕ → Type 0
+IsByteIfPeeked None = ⊤
+IsByteIfPeeked (Some b) = b < 256
+
 -- ---- steps
 
 -- these bytes were taken, and nothing else changed

@@ -1,7 +1,9 @@
 //! The deserializer.
-ghost use Rattle.std.specs.Prelude.{◌≡◌, ◌∷◌, [], length, None, Some, IfOk, IfErr, OnOk, OnErr};
+ghost use Rattle.std.specs.Prelude.{◌≡◌, ◌<◌, ◌∷◌, [], length, None, Some, IfOk, IfErr, OnOk, OnErr};
 ghost use Rattle.picky_der_de.specs.State.{fresh};
 ghost use Rattle.picky_der_de.specs.Steps.{Takes, TakesKept, StopsShort, Fails, IsMissing, IsOther, TakesNoMemory, in_front};
+
+mod header;
 
 use crate::End;
 use arrayvec::ArrayVec;
@@ -30,7 +32,7 @@ pub struct Deserializer<R: ReadExt> {
 impl<R: ReadExt> Model for Deserializer<R> {
     ghost use Rattle.std.specs.Prelude.{◌+◌, ◌<◌, ◌^◌};
     ghost use Rattle.picky_der_de.specs.State.{State};
-    ghost use Rattle.picky_der_de.specs.Steps.{in_front, IsUnpeekedIfDirect};
+    ghost use Rattle.picky_der_de.specs.Steps.{in_front, IsUnpeekedIfDirect, IsByteIfPeeked};
 
     ghost Value = { State };
 
@@ -47,7 +49,7 @@ impl<R: ReadExt> Model for Deserializer<R> {
       through = R.through d.reader;
     } };
 
-    ghost invariant = { λ d. (d.taken + d.room < 2 ^ 64) × IsUnpeekedIfDirect d.direct d.peeked };
+    ghost invariant = { λ d. (d.taken + d.room < 2 ^ 64) × IsUnpeekedIfDirect d.direct d.peeked × IsByteIfPeeked d.peeked };
 }
 
 impl<'a> Deserializer<&'a [u8]> {
@@ -117,8 +119,9 @@ impl<R: ReadExt> Deserializer<R> {
     }
 
     // The next byte before the innermost end.
-    fn next_byte(&mut self) -> Result<u8>
+    pub(crate) fn next_byte(&mut self) -> Result<u8>
         ensures ok { IfOk result (λ b. Takes self.old self.new (b ∷ [])) }
+        ensures byte { IfOk result (λ b. b < 256) }
         ensures direct { OnOk result (self.new.direct ≡ self.old.direct) }
         ensures err { IfErr result (Fails self.old self.new) }
         ensures missing { IfErr result (λ e. self.old.failed ≡ None → self.new.faults ≡ self.old.faults → IsMissing self.old e) }
@@ -152,7 +155,7 @@ impl<R: ReadExt> Deserializer<R> {
     }
 
     // Takes the content, and keeps its first bytes: one more than the longest content of a number has.
-    fn draw_kept(&mut self, len: usize) -> Result<ArrayVec<u8, KEPT>>
+    pub(crate) fn draw_kept(&mut self, len: usize) -> Result<ArrayVec<u8, KEPT>>
         requires had_not_failed { self.old.failed ≡ None }
         requires unpeeked { self.old.peeked ≡ None }
         ensures ok { IfOk result (λ kept. TakesKept self.old self.new len kept.items) }
@@ -169,7 +172,7 @@ impl<R: ReadExt> Deserializer<R> {
     }
 
     // Takes the content into a vector.
-    fn draw_vec(&mut self, len: usize) -> Result<Vec<u8>>
+    pub(crate) fn draw_vec(&mut self, len: usize) -> Result<Vec<u8>>
         requires had_not_failed { self.old.failed ≡ None }
         requires unpeeked { self.old.peeked ≡ None }
         ensures ok { IfOk result (λ bytes. Takes self.old self.new bytes.items × (length bytes.items ≡ len)) }
