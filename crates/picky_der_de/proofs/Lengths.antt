@@ -15,7 +15,7 @@ use Rattle.picky_der_de.specs.Steps.{Takes, Fails, IsCut, StopsShort, failed_wit
 use Rattle.picky_der_de.specs.Headers.{ReadsDigits, cut, bad, RefusesLength}
 use Rattle.picky_der_de.proofs.Steps.{takes_then, takes_none, fails_after, judged_after}
 
-bytes_push : (bs : List ℕ) (b : ℕ) → AreBytes bs → b < 256 → AreBytes (bs ++ (b ∷ []))
+pub bytes_push : (bs : List ℕ) (b : ℕ) → AreBytes bs → b < 256 → AreBytes (bs ++ (b ∷ []))
 bytes_push [] b h l = (l, tt)
 bytes_push (x ∷ bs) b h l = (h.0, bytes_push bs b h.1 l)
 

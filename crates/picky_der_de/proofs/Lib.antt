@@ -7,3 +7,4 @@ pub mod Refusals
 pub mod Known
 pub mod Headers
 pub mod PlainReads
+pub mod PlainKinds

@@ -152,7 +152,7 @@ content_missing : {b c : State} {e : Asn1DerError} {n : ℕ} {t : Tree} → IsCu
 content_missing {t = t} m w =
     let v = behind m.takes (cut_grows m) w.concerns in
     let sizes : length m.bytes + length v.rest ≡ length (content t) + length w.rest =
-        sym (length-append m.bytes v.rest) ∙ ap length (sym v.begins ∙ w.begins) ∙ length-append (content t) w.rest in
+    sym (length-append m.bytes v.rest) ∙ ap length (sym v.begins ∙ w.begins) ∙ length-append (content t) w.rest in
     elim (missing_here m.missing v.concerns) [
       | inl here ↦ omega (arith, w.fits, v.ends, m.short)
       | inr ended ↦ omega (arith, w.size, m.short, sizes, ap length ended)
@@ -164,8 +164,8 @@ just_content_cut tag n judge {a} {b} {c} {e} i h m k =
     let header = header_bytes a.direct tag n in
     let few : length (header ++ m.bytes) < a.room = omega (arith, length-append header m.bytes, h.takes.room, h.fits, m.short) in
     just_cut (refusal_at tag judge a) (cut_after h.takes refl m) k (λ is.
-        let error : e ≡ TruncatedData = sym is ∙ missing_before a.end a.room (header ++ m.bytes) few in
-        content_at a.direct tag n b.room judge a m.bytes i (fits_below h) h.takes.room h.fits h.all ∙ content_cut judge n m.bytes m.short ∙ ap (λ x. Some (x, [])) (sym error))
+    let error : e ≡ TruncatedData = sym is ∙ missing_before a.end a.room (header ++ m.bytes) few in
+    content_at a.direct tag n b.room judge a m.bytes i (fits_below h) h.takes.room h.fits h.all ∙ content_cut judge n m.bytes m.short ∙ ap (λ x. Some (x, [])) (sym error))
 
 -- the content ended before it was whole
 pub refuses_cut : {V : Type 0} {meaning : V → Tree} {s : Shape} {tag n : ℕ} {judge : Judge} {a b c : State} {e : Asn1DerError} → IsPlainKind meaning s tag judge → Begins tag a b n → StopsShort b c n e → RefusesPlain meaning tag judge s a c e
@@ -184,10 +184,10 @@ just_judged : (tag n : ℕ) (judge : Judge) {a b c d : State} {e : Asn1DerError}
 just_judged tag n judge {a} {b} {c} {d} {e} {x} i h t l bad same k =
     let header = header_bytes a.direct tag n in
     just_taken (refusal_at tag judge a) (takes_then h.takes t) same k (λ y.
-        ap (refusal_at tag judge a) (append_assoc header x y)
-        ∙ content_at a.direct tag n b.room judge a (x ++ y) i (fits_below h) h.takes.room h.fits h.all
-        ∙ ap (λ m. content_refusal judge (Ok (m, x ++ y))) (sym l)
-        ∙ content_judged judge x y ∙ ap (λ r. judged r y) bad)
+    ap (refusal_at tag judge a) (append_assoc header x y)
+    ∙ content_at a.direct tag n b.room judge a (x ++ y) i (fits_below h) h.takes.room h.fits h.all
+    ∙ ap (λ m. content_refusal judge (Ok (m, x ++ y))) (sym l)
+    ∙ content_judged judge x y ∙ ap (λ r. judged r y) bad)
 
 -- the content isn't one of the kind
 pub refuses_content : {V : Type 0} {meaning : V → Tree} {s : Shape} {tag n : ℕ} {judge : Judge} {a b c d : State} {e : Asn1DerError} {x : List ℕ} → IsPlainKind meaning s tag judge → Begins tag a b n → Takes b c x → length x ≡ n

@@ -100,6 +100,10 @@ abbrev pub IsOther : Asn1DerError → Type 0
 IsOther (Other kind) = ⊤
 IsOther _ = ⊥
 
+-- an error that neither a device gives nor memory
+abbrev pub IsOfContent : Asn1DerError → Type 0
+IsOfContent e = (IsOther e → ⊥) × (e ≢ OutOfMemory)
+
 -- no more was drawn than the reader had
 abbrev pub HasDrawn : Option (List ℕ) → ℕ → ℕ → Type 0
 HasDrawn input taken n = IfSome input (λ bs. n ≤ taken + length bs)

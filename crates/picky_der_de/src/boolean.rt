@@ -2,6 +2,7 @@
 ghost use Rattle.std.specs.Prelude.{◌≡◌, None, Some, IfOk, OnOk, IfErr};
 ghost use Rattle.picky_der_core.specs.Encoding.{boolean_content};
 ghost use Rattle.picky_der_core.specs.Refusal.{boolean_fault};
+ghost use Rattle.picky_der_de.specs.Steps.{IsOfContent};
 
 use picky_der_core::{Asn1DerError, Result};
 
@@ -15,6 +16,7 @@ impl Boolean {
         ensures ok { IfOk result (λ value. content.now ≡ boolean_content value) }
         ensures no_fault { OnOk result (boolean_fault content.now ≡ None) }
         ensures fault { IfErr result (λ e. boolean_fault content.now ≡ Some e) }
+        ensures no_device { IfErr result IsOfContent }
     {
         match content {
             [] => Err(Asn1DerError::TruncatedData),

@@ -1,9 +1,11 @@
 //! The deserializer.
 ghost use Rattle.std.specs.Prelude.{◌≡◌, ◌<◌, ◌∷◌, [], length, None, Some, IfOk, IfErr, OnOk, OnErr};
+ghost use Rattle.picky_der_core.specs.Shape.{AreBytes};
 ghost use Rattle.picky_der_de.specs.State.{fresh};
 ghost use Rattle.picky_der_de.specs.Steps.{Takes, TakesKept, StopsShort, Fails, IsMissing, IsOther, TakesNoMemory, in_front};
 
 mod header;
+mod plain;
 
 use crate::End;
 use arrayvec::ArrayVec;
@@ -175,7 +177,7 @@ impl<R: ReadExt> Deserializer<R> {
     pub(crate) fn draw_vec(&mut self, len: usize) -> Result<Vec<u8>>
         requires had_not_failed { self.old.failed ≡ None }
         requires unpeeked { self.old.peeked ≡ None }
-        ensures ok { IfOk result (λ bytes. Takes self.old self.new bytes.items × (length bytes.items ≡ len)) }
+        ensures ok { IfOk result (λ bytes. Takes self.old self.new bytes.items × (length bytes.items ≡ len) × AreBytes bytes.items) }
         ensures direct { OnOk result (self.new.direct ≡ self.old.direct) }
         ensures err { IfErr result (StopsShort self.old self.new len) }
     {

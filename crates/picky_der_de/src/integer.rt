@@ -3,6 +3,7 @@ ghost use Rattle.std.specs.Prelude.{◌≡◌, ◌<◌, ◌≤◌, ◌^◌, ◌-
 ghost use Rattle.std.specs.Int.Digits.{number_from_digits};
 ghost use Rattle.picky_der_core.specs.Encoding.{unsigned_content};
 ghost use Rattle.picky_der_core.specs.Refusal.{unsigned_fault, number_fault};
+ghost use Rattle.picky_der_de.specs.Steps.{IsOfContent};
 
 use picky_der_core::{Asn1DerError, Result};
 
@@ -32,6 +33,58 @@ impl UInt for u8 {
     }
 }
 
+impl UInt for u16 {
+    ghost number = { λ n. n };
+
+    ghost greatest = { 2 ^ 16 - 1 };
+
+    fn from_u128(num: u128) -> Result<u16> {
+        match u16::try_from(num) {
+            Ok(value) => Ok(value),
+            Err(_) => Err(Asn1DerError::UnsupportedValue),
+        }
+    }
+}
+
+impl UInt for u32 {
+    ghost number = { λ n. n };
+
+    ghost greatest = { 2 ^ 32 - 1 };
+
+    fn from_u128(num: u128) -> Result<u32> {
+        match u32::try_from(num) {
+            Ok(value) => Ok(value),
+            Err(_) => Err(Asn1DerError::UnsupportedValue),
+        }
+    }
+}
+
+impl UInt for u64 {
+    ghost number = { λ n. n };
+
+    ghost greatest = { 2 ^ 64 - 1 };
+
+    fn from_u128(num: u128) -> Result<u64> {
+        match u64::try_from(num) {
+            Ok(value) => Ok(value),
+            Err(_) => Err(Asn1DerError::UnsupportedValue),
+        }
+    }
+}
+
+impl UInt for usize {
+    ghost number = { λ n. n };
+
+    ghost greatest = { 2 ^ 64 - 1 };
+
+    fn from_u128(num: u128) -> Result<usize> {
+        match usize::try_from(num) {
+            Ok(value) => Ok(value),
+            Err(_) => Err(Asn1DerError::UnsupportedValue),
+        }
+    }
+}
+
 impl UInt for u128 {
     ghost number = { λ n. n };
 
@@ -47,6 +100,7 @@ fn digits_of(content: &[u8]) -> Result<&[u8]>
     ensures ok { IfOk result (λ digits. (most : ℕ) → unsigned_fault most content.now ≡ number_fault most digits.now) }
     ensures same { IfOk result (λ digits. number_from_digits 256 digits.now ≡ number_from_digits 256 content.now) }
     ensures err { IfErr result (λ e. (most : ℕ) → unsigned_fault most content.now ≡ Some e) }
+    ensures no_device { IfErr result IsOfContent }
 {
     match content {
         [] => Err(Asn1DerError::TruncatedData),
@@ -81,6 +135,7 @@ impl UnsignedInteger {
         ensures ok { IfOk result (λ value. content.now ≡ unsigned_content (T.number value)) }
         ensures no_fault { OnOk result (unsigned_fault T.greatest content.now ≡ None) }
         ensures fault { IfErr result (λ e. unsigned_fault T.greatest content.now ≡ Some e) }
+        ensures no_device { IfErr result IsOfContent }
     {
         let digits = digits_of(content)?;
         if digits.len() > 16 {
