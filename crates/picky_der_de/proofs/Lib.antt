@@ -8,3 +8,4 @@ pub mod Known
 pub mod Headers
 pub mod PlainReads
 pub mod PlainKinds
+pub mod EntryReads

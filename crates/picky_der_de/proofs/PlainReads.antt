@@ -17,7 +17,7 @@ use Rattle.picky_der_core.specs.Reading.{written_at, MayStand, StandsAt}
 use Rattle.picky_der_core.specs.Refusal.{Judge, Refusal, judged, header, header_refusal, refusal_of, content_refusal, Outcome}
 use Rattle.picky_der_de.specs.State.{State}
 use Rattle.picky_der_de.specs.Steps.{Takes, Fails, IsCut, StopsShort, IsJudged, failed_with, is_hard, place_in, place_of, drawn}
-use Rattle.picky_der_de.specs.Reading.{Concerns, refusal_in, refusal_at, IsJustRefused, ReadsPlain, RefusesPlain}
+use Rattle.picky_der_de.specs.Reading.{Concerns, Refuses, refusal_in, refusal_at, IsJustRefused, ReadsPlain, RefusesPlain}
 use Rattle.picky_der_de.specs.Headers.{header_bytes, Begins, RefusesBegin, NoElement}
 use Rattle.picky_der_de.proofs.Steps.{takes_then, fails_after, judged_after}
 use Rattle.picky_der_de.proofs.Refusals.{behind, failed_grows, cut_grows, missing_here, end_below, taken_first}
@@ -231,3 +231,7 @@ reads_plain {meaning = meaning} {tag = tag} {n = n} {judge = judge} {a = a} {b =
   };
   no_refusal = λ bs k. not_refused tag n judge kind.number h t l (kind.judged v o) k;
 }
+
+-- the same of values that hold such a value
+pub refuses_of : {V W : Type 0} {meaning : V → Tree} {s : Shape} {a c : State} {e : Asn1DerError} (part : W → V) → Refuses meaning s a c e → Refuses (λ w. meaning (part w)) s a c e
+refuses_of part h = record { fails = h.fails; none = λ j end bs k w. h.none j end bs k (part w); first = h.first }

@@ -2,3 +2,5 @@ pub mod State
 pub mod Steps
 pub mod Reading
 pub mod Headers
+pub mod KnownLaws
+pub mod Entry

@@ -1,12 +1,12 @@
 -- What reading a value of a type does.
-use Rattle.std.specs.Prelude.{◌≡◌, ◌≢◌, ℕ, ◌+◌, ◌<◌, List, ◌∷◌, ◌++◌, length, take, drop, Option, Some, None}
+use Rattle.std.specs.Prelude.{◌≡◌, ◌≢◌, ℕ, Bool, ◌+◌, ◌<◌, List, ◌∷◌, ◌++◌, length, take, drop, Option, Some, None}
 use Rattle.picky_der_core.specs.declared.error.Asn1DerError.{Asn1DerError}
 use Rattle.picky_der_core.specs.declared.error.Asn1DerError.TheVariants.{TruncatedData}
 use Rattle.picky_der_core.specs.Tree.{Tree}
 use Rattle.picky_der_core.specs.Readable.{IsReadable}
 use Rattle.picky_der_core.specs.Shape.{Shape, IsOf, IsFirst}
 use Rattle.picky_der_core.specs.Reading.{written_at, MayStand, StandsAt}
-use Rattle.picky_der_core.specs.Refusal.{Judge, Refusal, plain_refusal, inside_refusal}
+use Rattle.picky_der_core.specs.Refusal.{Judge, Refusal, plain_refusal, inside_refusal, boolean_fault, unsigned_fault, bytes_fault}
 use Rattle.picky_der_de.specs.State.{State}
 use Rattle.picky_der_de.specs.Steps.{Takes, Fails, IsJudged, drawn, reach, place_of, is_hard}
 
@@ -78,3 +78,24 @@ pub record ReadsPlain (tag : ℕ) (judge : Judge) (s : Shape) (old new : State) 
 pub record RefusesPlain {V : Type 0} (meaning : V → Tree) (tag : ℕ) (judge : Judge) (s : Shape) (old new : State) (e : Asn1DerError) : Type 0 where
   pub refuses : Refuses meaning s old new e
   pub just : AreJustRefused (refusal_at tag judge old) old new e
+
+-- ---- the kinds of plain values
+
+abbrev pub ReadsBoolean : State → State → Bool → Type 0
+ReadsBoolean old new b = ReadsPlain 0x01 boolean_fault Shape.boolean old new (Tree.boolean b)
+
+abbrev pub RefusesBoolean : State → State → Asn1DerError → Type 0
+RefusesBoolean old new e = RefusesPlain Tree.boolean 0x01 boolean_fault Shape.boolean old new e
+
+-- a number up to the greatest one of a type
+abbrev pub ReadsUnsigned : ℕ → State → State → ℕ → Type 0
+ReadsUnsigned most old new n = ReadsPlain 0x02 (unsigned_fault most) (Shape.unsigned most) old new (Tree.unsigned n)
+
+abbrev pub RefusesUnsigned : ℕ → State → State → Asn1DerError → Type 0
+RefusesUnsigned most old new e = RefusesPlain Tree.unsigned 0x02 (unsigned_fault most) (Shape.unsigned most) old new e
+
+abbrev pub ReadsBytes : ℕ → State → State → List ℕ → Type 0
+ReadsBytes tag old new bs = ReadsPlain tag bytes_fault (Shape.bytes tag) old new (Tree.bytes tag bs)
+
+abbrev pub RefusesBytes : ℕ → State → State → Asn1DerError → Type 0
+RefusesBytes tag old new e = RefusesPlain (Tree.bytes tag) tag bytes_fault (Shape.bytes tag) old new e

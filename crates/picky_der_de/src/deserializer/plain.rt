@@ -1,10 +1,7 @@
 //! Plain values: a header, a content, and its judge.
-ghost use Rattle.std.specs.Prelude.{IfOk, IfErr};
-ghost use Rattle.picky_der_core.specs.Tree.{Tree};
-ghost use Rattle.picky_der_core.specs.Shape.{Shape};
-ghost use Rattle.picky_der_core.specs.Refusal.{boolean_fault, unsigned_fault, bytes_fault};
+ghost use Rattle.std.specs.Prelude.{◌^◌, ◌-◌, IfOk, IfErr};
 ghost use Rattle.picky_der_de.specs.Steps.{TakesNoMemory};
-ghost use Rattle.picky_der_de.specs.Reading.{ReadsPlain, RefusesPlain};
+ghost use Rattle.picky_der_de.specs.Reading.{ReadsBoolean, RefusesBoolean, ReadsUnsigned, RefusesUnsigned, ReadsBytes, RefusesBytes};
 
 use super::Deserializer;
 use crate::{Boolean, UInt, UnsignedInteger};
@@ -18,8 +15,8 @@ impl<R: ReadExt> Deserializer<R> {
     /// `InvalidData` for another tag and for a content other than one byte `00` or `FF`; `TruncatedData` for an empty
     /// content; the refusals of a header and of an end; else the reader's fault.
     pub fn deserialize_bool(&mut self) -> Result<bool>
-        ensures ok { IfOk result (λ b. ReadsPlain 0x01 boolean_fault Shape.boolean self.old self.new (Tree.boolean b)) }
-        ensures err { IfErr result (RefusesPlain Tree.boolean 0x01 boolean_fault Shape.boolean self.old self.new) }
+        ensures ok { IfOk result (ReadsBoolean self.old self.new) }
+        ensures err { IfErr result (RefusesBoolean self.old self.new) }
         ensures memory { IfErr result (TakesNoMemory self.old self.new) }
     {
         let len = self.begin(Tag::BOOLEAN)?;
@@ -32,8 +29,8 @@ impl<R: ReadExt> Deserializer<R> {
 
     // Reads a number (X.690, 8.3).
     pub(crate) fn read_unsigned<T: UInt>(&mut self) -> Result<T>
-        ensures ok { IfOk result (λ value. ReadsPlain 0x02 (unsigned_fault T.greatest) (Shape.unsigned T.greatest) self.old self.new (Tree.unsigned (T.number value))) }
-        ensures err { IfErr result (RefusesPlain Tree.unsigned 0x02 (unsigned_fault T.greatest) (Shape.unsigned T.greatest) self.old self.new) }
+        ensures ok { IfOk result (λ value. ReadsUnsigned T.greatest self.old self.new (T.number value)) }
+        ensures err { IfErr result (RefusesUnsigned T.greatest self.old self.new) }
         ensures memory { IfErr result (TakesNoMemory self.old self.new) }
     {
         let len = self.begin(Tag::INTEGER)?;
@@ -44,13 +41,62 @@ impl<R: ReadExt> Deserializer<R> {
         }
     }
 
+    /// Reads a number of 8 bits (X.690, 8.3).
+    ///
+    /// `InvalidData` for another tag and for a needless 00 in front; `UnsupportedValue` for a negative number and past
+    /// the greatest one; `TruncatedData` for an empty content; the refusals of a header and of an end; else the
+    /// reader's fault.
+    pub fn deserialize_u8(&mut self) -> Result<u8>
+        ensures ok { IfOk result (ReadsUnsigned (2 ^ 8 - 1) self.old self.new) }
+        ensures err { IfErr result (RefusesUnsigned (2 ^ 8 - 1) self.old self.new) }
+        ensures memory { IfErr result (TakesNoMemory self.old self.new) }
+    {
+        self.read_unsigned()
+    }
+
+    /// Reads a number of 16 bits. It is refused as one of 8 bits is.
+    pub fn deserialize_u16(&mut self) -> Result<u16>
+        ensures ok { IfOk result (ReadsUnsigned (2 ^ 16 - 1) self.old self.new) }
+        ensures err { IfErr result (RefusesUnsigned (2 ^ 16 - 1) self.old self.new) }
+        ensures memory { IfErr result (TakesNoMemory self.old self.new) }
+    {
+        self.read_unsigned()
+    }
+
+    /// Reads a number of 32 bits. It is refused as one of 8 bits is.
+    pub fn deserialize_u32(&mut self) -> Result<u32>
+        ensures ok { IfOk result (ReadsUnsigned (2 ^ 32 - 1) self.old self.new) }
+        ensures err { IfErr result (RefusesUnsigned (2 ^ 32 - 1) self.old self.new) }
+        ensures memory { IfErr result (TakesNoMemory self.old self.new) }
+    {
+        self.read_unsigned()
+    }
+
+    /// Reads a number of 64 bits. It is refused as one of 8 bits is.
+    pub fn deserialize_u64(&mut self) -> Result<u64>
+        ensures ok { IfOk result (ReadsUnsigned (2 ^ 64 - 1) self.old self.new) }
+        ensures err { IfErr result (RefusesUnsigned (2 ^ 64 - 1) self.old self.new) }
+        ensures memory { IfErr result (TakesNoMemory self.old self.new) }
+    {
+        self.read_unsigned()
+    }
+
+    /// Reads a number of 128 bits. It is refused as one of 8 bits is.
+    pub fn deserialize_u128(&mut self) -> Result<u128>
+        ensures ok { IfOk result (ReadsUnsigned (2 ^ 128 - 1) self.old self.new) }
+        ensures err { IfErr result (RefusesUnsigned (2 ^ 128 - 1) self.old self.new) }
+        ensures memory { IfErr result (TakesNoMemory self.old self.new) }
+    {
+        self.read_unsigned()
+    }
+
     /// Reads an octet string (X.690, 8.7) into one vector, of which nothing is grown before a byte came for it.
     ///
     /// `InvalidData` for another tag; the refusals of a header and of an end; `OutOfMemory` where memory is refused;
     /// else the reader's fault.
     pub fn deserialize_byte_buf(&mut self) -> Result<Vec<u8>>
-        ensures ok { IfOk result (λ v. ReadsPlain 0x04 bytes_fault (Shape.bytes 0x04) self.old self.new (Tree.bytes 0x04 v.items)) }
-        ensures err { IfErr result (RefusesPlain (Tree.bytes 0x04) 0x04 bytes_fault (Shape.bytes 0x04) self.old self.new) }
+        ensures ok { IfOk result (λ content. ReadsBytes 0x04 self.old self.new content.items) }
+        ensures err { IfErr result (RefusesBytes 0x04 self.old self.new) }
     {
         let len = self.begin(Tag::OCTET_STRING)?;
         self.draw_vec(len)

@@ -1,0 +1,31 @@
+//! The trait of what is read.
+ghost use Rattle.std.specs.Prelude.{IfOk, IfErr};
+ghost use Rattle.picky_der_core.specs.Shape.{Shape, IsSound};
+ghost use Rattle.picky_der_de.specs.Reading.{Reads, Refuses};
+ghost use Rattle.picky_der_de.specs.KnownLaws.{IsKnownByTree};
+
+use crate::Deserializer;
+use picky_der_core::Result;
+use picky_der_core::misc::ReadExt;
+use picky_der_ser::Serialize;
+
+/// A value that is read back from its canonical encoding.
+pub trait Deserialize: Serialize + PartialEq + Drop + Sized {
+    // The trees of its values.
+    ghost shape: { Shape };
+
+    /// Reads a value, and takes just the bytes of its encoding. Directly under an implicit tag these are its content's.
+    ///
+    /// An implementation passes on the errors of the calls that it makes, and has the deserializer fail with its own.
+    /// An error that neither the reader nor want of memory gave means that no value of the type stands there. But for
+    /// `TruncatedData` it is final: no bytes behind those that were drawn could help.
+    fn deserialize<R: ReadExt>(de: &mut Deserializer<R>) -> Result<Self>
+        ensures ok { IfOk result (λ value. Reads shape de.old de.new (Self.meaning value)) }
+        ensures err { IfErr result (Refuses Self.meaning shape de.old de.new) };
+
+    // Two readable values with one tree are equal.
+    ghost known_by_tree: { IsKnownByTree Self.meaning shape Self.eq };
+
+    // The choices in the shape are told by their first byte.
+    ghost sound: { IsSound shape };
+}
