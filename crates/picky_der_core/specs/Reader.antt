@@ -1,5 +1,5 @@
 -- What a read of one byte does.
-use Rattle.std.specs.Prelude.{◌≡◌, ℕ, ◌<◌, List, [], ◌∷◌, Option, Result, MatchResult}
+use Rattle.std.specs.Prelude.{◌≡◌, ℕ, ◌<◌, List, [], ◌∷◌, Option, MatchOption, Result, MatchResult}
 use Rattle.std.specs.Io.KnownBytes.{Consumes, Keeps, IsAtEnd}
 use Rattle.std.specs.IoError.{error_kind}
 use Rattle.std.specs.declared.io.Error.{Error}
@@ -8,6 +8,11 @@ use Rattle.std.specs.declared.io.ErrorKind.TheVariants.{UnexpectedEof}
 -- the next byte was taken, or none
 abbrev pub GivesByte : Option (List ℕ) → Option (List ℕ) → Result ℕ Error → Type 0
 GivesByte old new r = MatchResult r (λ b. Consumes old new (b ∷ [])) (λ _. Keeps old new)
+
+-- the next byte was taken; at the end of the input there is none, and an error takes none
+abbrev pub GivesNext : Option (List ℕ) → Option (List ℕ) → Result (Option ℕ) Error → Type 0
+GivesNext old new r =
+    MatchResult r (λ next. MatchOption next (Keeps old new × IsAtEnd new) (λ b. Consumes old new (b ∷ []))) (λ _. Keeps old new)
 
 -- an error is a fault, or the end of the input
 pub data IsFaultOrEnd (left : Option (List ℕ)) (old new : ℕ) (e : Error) : Type 0 where

@@ -1,6 +1,6 @@
 //! Readers of one byte at a time.
-ghost use Rattle.std.specs.Prelude.{◌≡◌, ℕ, List, [], ◌∷◌};
-ghost use Rattle.picky_der_core.specs.Reader.{GivesByte, CountsFault};
+ghost use Rattle.std.specs.Prelude.{◌≡◌, ◌<◌, ℕ, List, [], ◌∷◌, OnOk, OnErr};
+ghost use Rattle.picky_der_core.specs.Reader.{GivesByte, GivesNext, CountsFault};
 
 use std::io;
 use std::io::{Error, ErrorKind, Read};
@@ -13,11 +13,25 @@ pub trait ReadExt: Read {
     // The references that it reads through, outermost first.
     ghost through: { Self → List ℕ };
 
+    /// The next byte, and `None` at the end of the input. Each error is the device's, and takes no byte.
+    fn read_next(&mut self) -> io::Result<Option<u8>>
+        ensures byte { GivesNext (Self.remaining self.old) (Self.remaining self.new) result }
+        ensures fault { OnErr result (faults self.old < faults self.new) }
+        ensures no_fault { OnOk result (faults self.new ≡ faults self.old) }
+        ensures same_references { through self.new ≡ through self.old };
+
     /// The next byte. At the end of the input it is an error of kind `UnexpectedEof`; any other error is the device's.
     fn read_one(&mut self) -> io::Result<u8>
         ensures byte { GivesByte (Self.remaining self.old) (Self.remaining self.new) result }
         ensures fault { CountsFault (Self.remaining self.old) (faults self.old) (faults self.new) result }
-        ensures same_references { through self.new ≡ through self.old };
+        ensures same_references { through self.new ≡ through self.old }
+    {
+        match self.read_next() {
+            Ok(Some(byte)) => Ok(byte),
+            Ok(None) => Err(Error::from(ErrorKind::UnexpectedEof)),
+            Err(error) => Err(error),
+        }
+    }
 }
 
 impl ReadExt for &[u8] {
@@ -25,14 +39,14 @@ impl ReadExt for &[u8] {
 
     ghost through = { λ _. [] };
 
-    fn read_one(&mut self) -> io::Result<u8> {
+    fn read_next(&mut self) -> io::Result<Option<u8>> {
         let bytes = *self;
         match bytes {
             [first, rest @ ..] => {
                 *self = rest;
-                Ok(*first)
+                Ok(Some(*first))
             }
-            [] => Err(Error::from(ErrorKind::UnexpectedEof)),
+            [] => Ok(None),
         }
     }
 }
@@ -42,7 +56,7 @@ impl<R: ReadExt> ReadExt for &mut R {
 
     ghost through = { λ r. r.ghost_name ∷ R.through r.now };
 
-    fn read_one(&mut self) -> io::Result<u8> {
-        ReadExt::read_one(&mut **self)
+    fn read_next(&mut self) -> io::Result<Option<u8>> {
+        ReadExt::read_next(&mut **self)
     }
 }

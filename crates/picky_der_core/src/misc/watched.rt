@@ -80,11 +80,11 @@ impl<T: Read> ReadExt for Watched<T> {
 
     ghost through = { λ _. [] };
 
-    fn read_one(&mut self) -> io::Result<u8> {
+    fn read_next(&mut self) -> io::Result<Option<u8>> {
         let mut byte = [0];
         match self.read(&mut byte) {
-            Ok(0) => Err(Error::from(ErrorKind::UnexpectedEof)),
-            Ok(_) => Ok(byte[0]),
+            Ok(0) => Ok(None),
+            Ok(_) => Ok(Some(byte[0])),
             Err(e) => Err(e),
         }
     }

@@ -1,0 +1,13 @@
+//! A tool of lines: each line of the input asks for one thing, and gets one line of answer.
+#![tactic(auto)]
+
+mod answer;
+mod line;
+mod lines;
+
+pub use answer::{answer_to, kind_word};
+pub use line::Request;
+pub use lines::run;
+
+#[cfg(test)]
+mod tests;
