@@ -4,7 +4,7 @@ ghost use Rattle.std.specs.Io.KnownBytes.{Appends, Consumes};
 ghost use Rattle.picky_der_core.specs.Element.{len as bytes_of, Begins};
 ghost use Rattle.picky_der_core.specs.Writer.{AppendsBeginning};
 ghost use Rattle.picky_der_core.specs.WriterFaults.{Faulted};
-ghost use Rattle.picky_der_core.specs.Lengths.{IsReadAs, IsRefusedAs, IsOfDevice, IsLongCount, IsNoLongCount};
+ghost use Rattle.picky_der_core.specs.Lengths.{IsReadAs, IsRefusedAs, IsOfDevice, IsKindOfFault, IsLongCount, IsNoLongCount};
 ghost use Rattle.picky_der_core.specs.Refusal.{length_of};
 
 use super::{ReadExt, WriteExt};
@@ -28,6 +28,7 @@ impl Length {
         ensures none { OnErr result (R.faults reader.new ≡ R.faults reader.old
             → IfSome (R.remaining reader.old) (λ bs. (n : ℕ) → n < 2 ^ 64 → Begins (bytes_of n) bs → ⊥)) }
         ensures device { IfErr result (λ e. IsOfDevice e → R.faults reader.old < R.faults reader.new) }
+        ensures told { IfErr result (λ e. R.faults reader.old < R.faults reader.new → IsKindOfFault e) }
         ensures counted { R.faults reader.old ≤ R.faults reader.new }
         ensures no_fault { OnOk result (R.faults reader.new ≡ R.faults reader.old) }
         ensures same_references { R.through reader.new ≡ R.through reader.old }
