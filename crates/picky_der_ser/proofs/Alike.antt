@@ -40,7 +40,7 @@ module _ {W : Type 0} (g : Ghosts W) where
   writes-alike t u old new (Ok n) a h =
       let b = alike-under old.around t u a in
       let d = der-alike _ _ b in
-      record { had_not_failed = h.had_not_failed; writable = writable-alike _ _ b h.writable; count = h.count ∙ ap length d; adds = subst (Adds g old new) d h.adds; closed = h.closed; not_failed = h.not_failed }
+      record { had_not_failed = h.had_not_failed; writable = writable-alike _ _ b h.writable; count = h.count ∙ ap length d; adds = subst (Adds g old new) d h.adds; closed = h.closed; not_failed = h.not_failed; no_fault = h.no_fault }
   writes-alike t u old new (Err e) a h = tt
 
   fails-alike : (t u : Tree) (old new : State W) (r : Result ℕ Asn1DerError) → AreAlike t u → IfErr r (λ e. Fails g t old e new) → IfErr r (λ e. Fails g u old e new)

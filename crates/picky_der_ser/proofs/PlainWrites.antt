@@ -26,14 +26,15 @@ outside sink failed = record { sink = sink; around = []; failed = failed; inside
 
 module _ {W : Type 0} (g : Ghosts W) where
   plain-writes : (tag : ℕ) (c : List ℕ) (old new : W) (failed : Option Asn1DerError) (n : ℕ) → failed ≡ None → IsTagNumber (number_of tag) → length c + 10 < 2 ^ 64
-      → n ≡ length (tlv tag c) → Appends (g.told old) (g.told new) (tlv tag c) → Writes g (Tree.bytes tag c) (outside old failed) n (outside new failed)
-  plain-writes tag c old new failed n f h l count appends = let d = der-bytes tag c in record {
+      → n ≡ length (tlv tag c) → Appends (g.told old) (g.told new) (tlv tag c) → g.faults new ≡ g.faults old → Writes g (Tree.bytes tag c) (outside old failed) n (outside new failed)
+  plain-writes tag c old new failed n f h l count appends q = let d = der-bytes tag c in record {
     had_not_failed = f;
     writable = writable-bytes tag c h l;
     count = count ∙ ap length (sym d);
     adds = (refl, subst (Appends (g.told old) (g.told new)) (sym d) appends);
     closed = refl;
     not_failed = f;
+    no_fault = q;
   }
 
   plain-fails : (tag : ℕ) (c : List ℕ) (old new : W) (failed : Option Asn1DerError) (e : Asn1DerError) → failed ≡ None → IsTagNumber (number_of tag) → length c + 10 < 2 ^ 64
@@ -45,9 +46,9 @@ module _ {W : Type 0} (g : Ghosts W) where
       record { failed = refl; again = rw f tt; first = rw f refused }
 
   pub put-ok : (tag : ℕ) (c : List ℕ) (old new : W) (failed : Option Asn1DerError) (n : ℕ) → failed ≡ None → IsTagNumber (number_of tag) → length c + 10 < 2 ^ 64
-      → n ≡ length (tlv tag c) → Appends (g.told old) (g.told new) (tlv tag c) → g.faults old ≤ g.faults new → g.later old new → WritesPlain g (Tree.bytes tag c) (outside old failed) (Ok n) (outside new failed)
-  put-ok tag c old new failed n f h l count appends k m =
-      record { wrote = plain-writes tag c old new failed n f h l count appends; failed = tt; outside = tt; counted = k; goes_on = m }
+      → n ≡ length (tlv tag c) → Appends (g.told old) (g.told new) (tlv tag c) → g.faults old ≤ g.faults new → g.faults new ≡ g.faults old → g.later old new → WritesPlain g (Tree.bytes tag c) (outside old failed) (Ok n) (outside new failed)
+  put-ok tag c old new failed n f h l count appends k q m =
+      record { wrote = plain-writes tag c old new failed n f h l count appends q; failed = tt; outside = tt; counted = k; goes_on = m }
 
   pub put-err : (tag : ℕ) (c : List ℕ) (old new : W) (failed : Option Asn1DerError) (e : Asn1DerError) → failed ≡ None → IsTagNumber (number_of tag) → length c + 10 < 2 ^ 64
       → AppendsBeginning (g.told old) (g.told new) (tlv tag c) → Faulted g old e new → g.faults old ≤ g.faults new → g.later old new → WritesPlain g (Tree.bytes tag c) (outside old failed) (Err e) (outside new (Some e))

@@ -48,7 +48,7 @@ module _ {W : Type 0} (g : Ghosts W) where
   RefusedIn [] t old e new = Refused t old e new
   RefusedIn (l ∷ ls) t old e new = MemoryExcuse t e × (new ≡ old)
 
-  -- the call wrote the tree in the open wrappers, and closed them
+  -- the call wrote the tree in the open wrappers, and closed them; no fault of the sink was passed over
   pub record Writes (t : Tree) (old : State W) (n : ℕ) (new : State W) : Type 0 where
     pub had_not_failed : old.failed ≡ None
     pub writable : IsWritable (under old.around t)
@@ -56,6 +56,7 @@ module _ {W : Type 0} (g : Ghosts W) where
     pub adds : Adds old new (der (under old.around t))
     pub closed : new.around ≡ []
     pub not_failed : new.failed ≡ None
+    pub no_fault : g.faults new.sink ≡ g.faults old.sink
 
   -- the call answered an error in place of writing the tree
   pub record Fails (t : Tree) (old : State W) (e : Asn1DerError) (new : State W) : Type 0 where

@@ -26,3 +26,6 @@ pub fn to_vec<T: Serialize>(alloc: Global, value: &T) -> Result<Vec<u8>>
         Err(error) => Err(error),
     }
 }
+
+#[cfg(test)]
+mod tests;

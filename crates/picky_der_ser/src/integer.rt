@@ -103,3 +103,6 @@ impl UnsignedInteger {
         ser.write_plain(Tag::INTEGER, &content.bytes[content.start..])
     }
 }
+
+#[cfg(test)]
+mod tests;

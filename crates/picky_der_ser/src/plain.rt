@@ -16,6 +16,7 @@ pub(crate) fn put_element<W: WriteExt>(sink: &mut W, tag: Tag, content: &[u8]) -
     ensures beginning { OnErr result (AppendsBeginning (W.told sink.old) (W.told sink.new) (tlv tag content.now)) }
     ensures fault { IfErr result (λ e. Faulted W.WriteExt.own sink.old e sink.new) }
     ensures counted { W.faults sink.old ≤ W.faults sink.new }
+    ensures no_fault { OnOk result (W.faults sink.new ≡ W.faults sink.old) }
     ensures goes_on { W.later sink.old sink.new }
 {
     let identifier = sink.write_one(tag.inner())?;

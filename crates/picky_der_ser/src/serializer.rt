@@ -63,6 +63,7 @@ impl<'a> Serializer<BufSink<'a>> {
         ensures around { result.around ≡ [] }
         ensures failed { result.failed ≡ None }
         ensures outside { result.inside ≡ [] }
+        ensures pending { result.pending ≡ None }
     {
         Serializer::over(alloc, BufSink::new(buf))
     }
@@ -159,3 +160,6 @@ impl<W: WriteExt> Serializer<W> {
         self.write_plain(Tag::OCTET_STRING, bytes)
     }
 }
+
+#[cfg(test)]
+mod tests;
