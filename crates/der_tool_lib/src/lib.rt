@@ -4,10 +4,12 @@
 mod answer;
 mod line;
 mod lines;
+mod value;
 
 pub use answer::{answer_to, kind_word};
 pub use line::Request;
 pub use lines::run;
+pub use value::{ValueType, answer_read};
 
 #[cfg(test)]
 mod tests;

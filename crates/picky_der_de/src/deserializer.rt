@@ -81,8 +81,8 @@ impl<R: ReadExt> Deserializer<R> {
         }
     }
 
-    // The reader, behind a byte that was peeked.
-    pub(crate) fn into_reader(self) -> R
+    /// The reader, behind a byte that was peeked.
+    pub fn into_reader(self) -> R
         ensures input { self.input ≡ in_front self.peeked (R.remaining result) }
         ensures faults { R.faults result ≡ self.faults }
         ensures same_references { R.through result ≡ self.through }
