@@ -3,12 +3,16 @@
 
 /// Reading.
 pub mod de {
-    pub use picky_der_de::{Boolean, Deserialize, Deserializer, End, UInt, UnsignedInteger, from_bytes};
+    pub use picky_der_de::{
+        Boolean, Deserialize, Deserializer, End, UInt, UnsignedInteger, from_bytes,
+    };
 }
 
 /// Writing.
 pub mod ser {
-    pub use picky_der_ser::{Boolean, Header, Serialize, Serializer, UInt, UnsignedInteger, to_vec};
+    pub use picky_der_ser::{
+        Boolean, Header, Serialize, Serializer, UInt, UnsignedInteger, to_vec,
+    };
 }
 
 pub use picky_der_core::{Asn1DerError, Result, asn1, laws, misc};
