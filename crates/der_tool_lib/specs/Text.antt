@@ -1,0 +1,50 @@
+-- The text that answers an input.
+use Rattle.std.specs.Prelude.{◌≡◌, ◌≢◌, ℕ, List, [], ◌∷◌, ◌++◌, Option, Some, None, ⊤}
+use Rattle.std.specs.Io.KnownBytes.{Appends}
+use Rattle.der_tool_lib.specs.Answer.{IsAnswer}
+
+-- no byte ends a line
+abbrev pub IsLine : List ℕ → Type 0
+IsLine [] = ⊤
+IsLine (byte ∷ bytes) = (byte ≢ 0x0A) × IsLine bytes
+
+abbrev pub AreLines : List (List ℕ) → Type 0
+AreLines [] = ⊤
+AreLines (line ∷ lines) = IsLine line × AreLines lines
+
+-- the lines one after another, each ended by the byte 0A
+abbrev pub ended : List (List ℕ) → List ℕ
+ended [] = []
+ended (line ∷ lines) = line ++ (0x0A ∷ ended lines)
+
+-- a last line without an end counts if it isn't empty
+abbrev pub unless_empty : List ℕ → List (List ℕ)
+unless_empty [] = []
+unless_empty (byte ∷ bytes) = (byte ∷ bytes) ∷ []
+
+-- what an input is made of: lines that are ended, and what stands behind the last end
+pub record IsSplit (input : List ℕ) (lines : List (List ℕ)) (last : List ℕ) : Type 0 where
+  pub are_lines : AreLines lines
+  pub is_line : IsLine last
+  pub is : input ≡ ended lines ++ last
+
+-- the answers to lines, in order
+abbrev pub AreAnswers : List (List ℕ) → List (List ℕ) → Type 0
+AreAnswers [] [] = ⊤
+AreAnswers [] (answer ∷ answers) = ⊥
+AreAnswers (line ∷ lines) [] = ⊥
+AreAnswers (line ∷ lines) (answer ∷ answers) = IsAnswer line answer × AreAnswers lines answers
+
+-- the text that answers an input: the answers to its lines, in order, each ended by the byte 0A
+pub record IsText (input text : List ℕ) : Type 0 where
+  pub lines : List (List ℕ)
+  pub last : List ℕ
+  pub split : IsSplit input lines last
+  pub answers : List (List ℕ)
+  pub answered : AreAnswers (lines ++ unless_empty last) answers
+  pub is : text ≡ ended answers
+
+-- the text of the known bytes of an input was written
+abbrev pub WritesText : Option (List ℕ) → Option (List ℕ) → Option (List ℕ) → Type 0
+WritesText None old new = ⊤
+WritesText (Some input) old new = (text : List ℕ) × IsText input text × Appends old new text

@@ -1,0 +1,56 @@
+//! The answer to a line.
+ghost use Rattle.std.specs.Prelude.{◌≡◌, IfOk, IfErr, string_bytes};
+ghost use Rattle.hex.specs.Hex.{encode_lower};
+ghost use Rattle.picky_der_core.specs.Element.{len};
+ghost use Rattle.der_tool_lib.specs.Answer.{IsAnswer, word_of};
+
+use crate::Request;
+use picky_der_core::misc::{BufSink, Length};
+use picky_der_core::{Asn1DerError, Result};
+use std::alloc::Global;
+
+/// The answer to a line; neither has the byte that ends it. The only error is `OutOfMemory`.
+pub fn answer_to(alloc: Global, line: &[u8]) -> Result<String>
+    ensures ok { IfOk result (λ text. IsAnswer line.now (string_bytes text)) }
+    ensures err { IfErr result (λ e. e ≡ Asn1DerError.OutOfMemory) }
+{
+    match Request::of(line) {
+        Request::Len(n) => length_in_hex(alloc, n),
+        Request::Refused => {
+            String::from_str(alloc, "refused Line").map_err(|_| Asn1DerError::OutOfMemory)
+        }
+    }
+}
+
+// The bytes of a length in hexadecimal.
+fn length_in_hex(alloc: Global, n: usize) -> Result<String>
+    ensures ok { IfOk result (λ text. string_bytes text ≡ encode_lower (len n)) }
+    ensures err { IfErr result (λ e. e ≡ Asn1DerError.OutOfMemory) }
+{
+    let mut bytes = Vec::new(alloc);
+    let mut sink = BufSink::new(&mut bytes);
+    let outcome = Length::serialize(n, &mut sink);
+    let written = sink.into_inner();
+    // No effect at run time. The proof reads what `bytes` holds from this use.
+    let _ = &*written;
+    match outcome {
+        Ok(_) => hex::encode(alloc, bytes).map_err(|_| Asn1DerError::OutOfMemory),
+        Err(error) => Err(error),
+    }
+}
+
+/// The name of the error's variant.
+pub fn kind_word(error: Asn1DerError) -> &'static str
+    ensures { result.now ≡ word_of error }
+{
+    match error {
+        Asn1DerError::TruncatedData => "TruncatedData",
+        Asn1DerError::InvalidData => "InvalidData",
+        Asn1DerError::UnsupportedValue => "UnsupportedValue",
+        Asn1DerError::UnsupportedType => "UnsupportedType",
+        Asn1DerError::InvalidSink => "InvalidSink",
+        Asn1DerError::Message(_) => "Message",
+        Asn1DerError::Other(_) => "Other",
+        Asn1DerError::OutOfMemory => "OutOfMemory",
+    }
+}
