@@ -3,6 +3,11 @@
 
 mod answer;
 mod line;
+mod lines;
 
 pub use answer::{answer_to, kind_word};
 pub use line::Request;
+pub use lines::run;
+
+#[cfg(test)]
+mod tests;

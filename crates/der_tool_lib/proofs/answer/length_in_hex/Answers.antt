@@ -1,4 +1,4 @@
-use Rattle.std.proofs.Common.{ap, refl, ◌∙◌}
+use Rattle.std.proofs.Common.{ap, ◌∙◌}
 use Rattle.picky_der_core.specs.Error.{kind_of}
 use Rattle.der_tool_lib.proofs.answer.length_in_hex.Goals as goal
 

@@ -1,0 +1,199 @@
+-- The steps of a run.
+use Rattle.std.proofs.Common.{◌≡◌, ◌≢◌, ℕ, ◌+◌, ◌-◌, ◌^◌, ◌<◌, List, [], ◌∷◌, ◌++◌, length, length-append, Option, Some, None, refl, sym, ap, ◌∙◌, subst, arith, append_assoc, append-nil}
+use Rattle.std.specs.Io.KnownBytes.{Appends, Consumes, Keeps, IsAtEnd}
+use Rattle.std.proofs.KnownBytes.{Appends-nil, Appends-trans, Consumes-nil, Consumes-trans, Consumes-kept}
+use Rattle.picky_der_core.specs.Writer.{AppendsBeginning, beginning_after}
+use Rattle.der_tool_lib.specs.Answer.{IsAnswer}
+use Rattle.der_tool_lib.specs.Text.{IsLine, AreLines, AreAnswers, ended, unless_empty, IsSplit, IsText, WritesText}
+use Rattle.der_tool_lib.specs.Run.{AnswersLine, WroteWhole, WroteBeginning, IsTooLong}
+
+-- ---- one more
+
+pub line_push : (line : List ℕ) (b : ℕ) → IsLine line → b ≢ 0x0A → IsLine (line ++ (b ∷ []))
+line_push [] b h n = (n, tt)
+line_push (x ∷ xs) b h n = (h.0, line_push xs b h.1 n)
+
+lines_push : (lines : List (List ℕ)) (line : List ℕ) → AreLines lines → IsLine line → AreLines (lines ++ (line ∷ []))
+lines_push [] line h k = (k, tt)
+lines_push (l ∷ ls) line h k = (h.0, lines_push ls line h.1 k)
+
+answers_push : (lines answers : List (List ℕ)) (line answer : List ℕ) → AreAnswers lines answers → IsAnswer line answer → AreAnswers (lines ++ (line ∷ [])) (answers ++ (answer ∷ []))
+answers_push [] [] line answer h k = (k, tt)
+answers_push [] (a ∷ as') line answer h k = absurd h
+answers_push (l ∷ ls) [] line answer h k = absurd h
+answers_push (l ∷ ls) (a ∷ as') line answer h k = (h.0, answers_push ls as' line answer h.1 k)
+
+ended_push : (lines : List (List ℕ)) (line : List ℕ) → ended (lines ++ (line ∷ [])) ≡ ended lines ++ (line ++ (0x0A ∷ []))
+ended_push [] line = refl
+ended_push (l ∷ ls) line = ap (λ t. l ++ (0x0A ∷ t)) (ended_push ls line) ∙ sym (append_assoc l (0x0A ∷ ended ls) (line ++ (0x0A ∷ [])))
+
+-- a line that isn't empty is a last line
+last_of : (line : List ℕ) → 0 < length line → unless_empty line ≡ line ∷ []
+last_of [] n = absurd (omega (arith, n))
+last_of (x ∷ xs) n = refl
+
+none_last : (line : List ℕ) → length line ≡ 0 → unless_empty line ≡ []
+none_last [] n = refl
+none_last (x ∷ xs) n = absurd (omega (arith, n))
+
+-- all of the input was drawn
+whole_text : {bytes text : List ℕ} (a b c d : Option (List ℕ)) → Consumes a b bytes → IsAtEnd b → IsText bytes text → Appends c d text → WritesText a c d
+whole_text None b c d k e t w = tt
+whole_text (Some input) None c d k e t w = absurd k
+whole_text {bytes} {text} (Some input) (Some left) c d k e t w =
+    let all : bytes ≡ input = sym (append-nil bytes) ∙ ap (λ l. bytes ++ l) (sym e) ∙ sym k in
+    (text, subst (λ i. IsText i text) all t, w)
+
+-- more was drawn than an input within the limit has
+longer : (a b : Option (List ℕ)) (bytes : List ℕ) → Consumes a b bytes → length bytes ≡ 2 ^ 64 - 1 → IsTooLong a
+longer None b bytes k n = tt
+longer (Some xs) None bytes k n = absurd k
+longer (Some xs) (Some ys) bytes k n = omega (arith, n, ap length k, length-append bytes ys)
+
+-- ---- what stands while the input is read
+
+-- so many bytes were drawn, of which `line` has no end yet; the lines before it were answered
+pub record RunsOn (a b c d : Option (List ℕ)) (line : List ℕ) (count : ℕ) : Type 0 where
+  pub whole : WroteWhole a b c d line
+  pub is_line : IsLine line
+  pub counted : length (ended whole.lines ++ line) ≡ count
+
+pub run_starts : (a c : Option (List ℕ)) → RunsOn a a c c [] 0
+run_starts a c = record {
+  whole = record { lines = []; answers = []; are_lines = tt; drawn = Consumes-nil a; answered = tt; written = Appends-nil c };
+  is_line = tt;
+  counted = refl;
+}
+
+module _ {a b c d : Option (List ℕ)} {line : List ℕ} {count : ℕ} (h : RunsOn a b c d line count) where
+  drawn_more : (b' : Option (List ℕ)) (x : ℕ) → Consumes b b' (x ∷ []) → Consumes a b' (ended h.whole.lines ++ (line ++ (x ∷ [])))
+  drawn_more b' x k =
+      subst (Consumes a b') (append_assoc (ended h.whole.lines) line (x ∷ [])) (Consumes-trans a b b' (ended h.whole.lines ++ line) (x ∷ []) h.whole.drawn k)
+
+  -- one byte more was drawn
+  pub draws : (b' : Option (List ℕ)) (x : ℕ) → Consumes b b' (x ∷ []) → WroteWhole a b' c d (line ++ (x ∷ []))
+  draws b' x k = record {
+    lines = h.whole.lines;
+    answers = h.whole.answers;
+    are_lines = h.whole.are_lines;
+    drawn = drawn_more b' x k;
+    answered = h.whole.answered;
+    written = h.whole.written;
+  }
+
+  more : (x : ℕ) → length (ended h.whole.lines ++ (line ++ (x ∷ []))) ≡ count + 1
+  more x =
+      omega (arith, h.counted, length-append (ended h.whole.lines) line, length-append (ended h.whole.lines) (line ++ (x ∷ [])), length-append line (x ∷ []))
+
+  pub byte_drawn : (b' : Option (List ℕ)) (x : ℕ) → Consumes b b' (x ∷ []) → x ≢ 0x0A → RunsOn a b' c d (line ++ (x ∷ [])) (count + 1)
+  unfolding draws
+  byte_drawn b' x k n = record { whole = draws b' x k; is_line = line_push line x h.is_line n; counted = more x }
+
+  drawn_still : (b' : Option (List ℕ)) → Keeps b b' → Consumes a b' (ended h.whole.lines ++ line)
+  drawn_still b' k = Consumes-kept a b b' _ h.whole.drawn k
+
+  -- nothing more was drawn
+  pub stands : (b' : Option (List ℕ)) → Keeps b b' → WroteWhole a b' c d line
+  stands b' k = record {
+    lines = h.whole.lines;
+    answers = h.whole.answers;
+    are_lines = h.whole.are_lines;
+    drawn = drawn_still b' k;
+    answered = h.whole.answered;
+    written = h.whole.written;
+  }
+
+  -- the line was answered
+  answered_bytes : (b' : Option (List ℕ)) → Consumes b b' (0x0A ∷ []) → Consumes a b' (ended (h.whole.lines ++ (line ∷ [])) ++ [])
+  answered_bytes b' k = subst (Consumes a b') (sym (append-nil _ ∙ ended_push h.whole.lines line)) (drawn_more b' 0x0A k)
+
+  answered_text : (d' : Option (List ℕ)) (k : AnswersLine line d d') → Appends c d' (ended (h.whole.answers ++ (k.answer ∷ [])))
+  answered_text d' k = subst (Appends c d') (sym (ended_push h.whole.answers k.answer)) (Appends-trans c d d' _ _ h.whole.written k.written)
+
+  begun_text : (d' : Option (List ℕ)) (answer : List ℕ) → AppendsBeginning d d' (answer ++ (0x0A ∷ [])) → AppendsBeginning c d' (ended (h.whole.answers ++ (answer ∷ [])))
+  begun_text d' answer k = subst (AppendsBeginning c d') (sym (ended_push h.whole.answers answer)) (beginning_after c d d' _ _ h.whole.written k)
+
+  pub line_answered : (b' d' : Option (List ℕ)) → Consumes b b' (0x0A ∷ []) → AnswersLine line d d' → RunsOn a b' c d' [] (count + 1)
+  line_answered b' d' k w = record {
+    whole = record {
+      lines = h.whole.lines ++ (line ∷ []);
+      answers = h.whole.answers ++ (w.answer ∷ []);
+      are_lines = lines_push _ _ h.whole.are_lines h.is_line;
+      drawn = answered_bytes b' k;
+      answered = answers_push _ _ _ _ h.whole.answered w.is_answer;
+      written = answered_text d' w;
+    };
+    is_line = tt;
+    counted = ap length (append-nil _ ∙ ended_push h.whole.lines line) ∙ more 0x0A;
+  }
+
+  -- ---- the text of what was drawn
+
+  text_of_ended : (answer : List ℕ) → IsAnswer line answer → IsText (ended (h.whole.lines ++ (line ∷ [])) ++ []) (ended (h.whole.answers ++ (answer ∷ [])))
+  text_of_ended answer k = record {
+    lines = h.whole.lines ++ (line ∷ []);
+    last = [];
+    split = record { are_lines = lines_push _ _ h.whole.are_lines h.is_line; is_line = tt; is = refl };
+    answers = h.whole.answers ++ (answer ∷ []);
+    answered = subst (λ ls. AreAnswers ls (h.whole.answers ++ (answer ∷ []))) (sym (append-nil _)) (answers_push _ _ _ _ h.whole.answered k);
+    is = refl;
+  }
+
+  -- the writer failed in the answer to the line, whose end was drawn
+  pub begins : (b' d' : Option (List ℕ)) → Consumes b b' (0x0A ∷ []) → (answer : List ℕ) → IsAnswer line answer → AppendsBeginning d d' (answer ++ (0x0A ∷ [])) → WroteBeginning a b' c d'
+  unfolding text_of_ended
+  begins b' d' k answer n w = record {
+    bytes = _;
+    drawn = answered_bytes b' k;
+    text = _;
+    is_text = text_of_ended answer n;
+    at_end = λ l. absurd (omega (arith, l));
+    written = begun_text d' answer w;
+  }
+
+  split_of : IsSplit (ended h.whole.lines ++ line) h.whole.lines line
+  split_of = record { are_lines = h.whole.are_lines; is_line = h.is_line; is = refl }
+
+  text_of_last : (answer : List ℕ) → 0 < length line → IsAnswer line answer → IsText (ended h.whole.lines ++ line) (ended (h.whole.answers ++ (answer ∷ [])))
+  text_of_last answer some k = record {
+    lines = h.whole.lines;
+    last = line;
+    split = split_of;
+    answers = h.whole.answers ++ (answer ∷ []);
+    answered = subst (λ ls. AreAnswers (h.whole.lines ++ ls) (h.whole.answers ++ (answer ∷ []))) (sym (last_of line some)) (answers_push _ _ _ _ h.whole.answered k);
+    is = refl;
+  }
+
+  -- the same with the end of the input in place of the line's
+  pub begins_last : (b' d' : Option (List ℕ)) → Keeps b b' → IsAtEnd b' → 0 < length line → (answer : List ℕ) → IsAnswer line answer → AppendsBeginning d d' (answer ++ (0x0A ∷ [])) → WroteBeginning a b' c d'
+  begins_last b' d' k e some answer n w = record {
+    bytes = _;
+    drawn = drawn_still b' k;
+    text = _;
+    is_text = text_of_last answer some n;
+    at_end = λ _. e;
+    written = begun_text d' answer w;
+  }
+
+  -- ---- the end of the input
+
+  text_of_none : length line ≡ 0 → IsText (ended h.whole.lines ++ line) (ended h.whole.answers)
+  text_of_none none = record {
+    lines = h.whole.lines;
+    last = line;
+    split = split_of;
+    answers = h.whole.answers;
+    answered = subst (λ ls. AreAnswers ls h.whole.answers) (sym (ap (λ ls. h.whole.lines ++ ls) (none_last line none) ∙ append-nil _)) h.whole.answered;
+    is = refl;
+  }
+
+  pub ends : (b' : Option (List ℕ)) → Keeps b b' → IsAtEnd b' → length line ≡ 0 → WritesText a c d
+  ends b' k e none = whole_text a b' c d (drawn_still b' k) e (text_of_none none) h.whole.written
+
+  pub ends_answered : (b' d' : Option (List ℕ)) → Keeps b b' → IsAtEnd b' → 0 < length line → AnswersLine line d d' → WritesText a c d'
+  ends_answered b' d' k e some w = whole_text a b' c d' (drawn_still b' k) e (text_of_last w.answer some w.is_answer) (answered_text d' w)
+
+  -- ---- too long an input
+
+  pub too_many : count ≡ 2 ^ 64 - 1 → IsTooLong a
+  too_many all = longer a b _ h.whole.drawn (h.counted ∙ all)

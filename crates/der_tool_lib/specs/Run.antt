@@ -1,0 +1,74 @@
+-- What a run over an input draws and writes.
+use Rattle.std.specs.Prelude.{◌≡◌, ℕ, ◌-◌, ◌^◌, ◌<◌, ◌≤◌, List, [], ◌∷◌, ◌++◌, length, Option, Some, None, ⊤}
+use Rattle.std.specs.Io.KnownBytes.{Appends, Consumes, IsAtEnd}
+use Rattle.std.specs.declared.io.ErrorKind.{ErrorKind}
+use Rattle.picky_der_core.specs.declared.error.Asn1DerError.{Asn1DerError}
+use Rattle.picky_der_core.specs.declared.error.Asn1DerError.TheVariants.{UnsupportedValue, OutOfMemory}
+use Rattle.picky_der_core.specs.declared.misc.writer.WriteExt.{Ghosts}
+use Rattle.picky_der_core.specs.Error.{kind_of}
+use Rattle.picky_der_core.specs.Writer.{AppendsBeginning}
+use Rattle.picky_der_core.specs.WriterFaults.{Faulted}
+use Rattle.der_tool_lib.specs.Answer.{IsAnswer}
+use Rattle.der_tool_lib.specs.Text.{IsLine, AreLines, AreAnswers, ended, IsText}
+
+-- ---- one line
+
+-- the answer to the line was written, with its end
+pub record AnswersLine (line : List ℕ) (old new : Option (List ℕ)) : Type 0 where
+  pub answer : List ℕ
+  pub is_answer : IsAnswer line answer
+  pub written : Appends old new (answer ++ (0x0A ∷ []))
+
+module _ {W : Type 0} (g : Ghosts W) where
+  -- why no answer was written, or not all of it
+  pub data StopsAt (line : List ℕ) (old new : W) (e : Asn1DerError) : Type 0 where
+    no_memory : e ≡ OutOfMemory → new ≡ old → StopsAt line old new e
+    no_sink : Faulted g old e new → (answer : List ℕ) → IsAnswer line answer → AppendsBeginning (g.told old) (g.told new) (answer ++ (0x0A ∷ [])) → StopsAt line old new e
+
+-- ---- a run
+
+-- Of an input these were drawn: lines up to their ends, and then `rest`. Whole answers to the lines were written, and
+-- nothing else.
+pub record WroteWhole (in_old in_new out_old out_new : Option (List ℕ)) (rest : List ℕ) : Type 0 where
+  pub lines : List (List ℕ)
+  pub answers : List (List ℕ)
+  pub are_lines : AreLines lines
+  pub drawn : Consumes in_old in_new (ended lines ++ rest)
+  pub answered : AreAnswers lines answers
+  pub written : Appends out_old out_new (ended answers)
+
+-- Lines were drawn, the last one up to its end or that of the input, and a beginning of the text that answers them was
+-- written.
+pub record WroteBeginning (in_old in_new out_old out_new : Option (List ℕ)) : Type 0 where
+  pub bytes : List ℕ
+  pub drawn : Consumes in_old in_new bytes
+  pub text : List ℕ
+  pub is_text : IsText bytes text
+  pub at_end : 0 < length is_text.last → IsAtEnd in_new
+  pub written : AppendsBeginning out_old out_new text
+
+-- these bytes are one line, with its end or still without it
+pub data IsLastLine (bytes : List ℕ) : Type 0 where
+  not_ended : IsLine bytes → IsLastLine bytes
+  just_ended : (line : List ℕ) → IsLine line → bytes ≡ line ++ (0x0A ∷ []) → IsLastLine bytes
+
+-- a reader failed, and e says how
+pub record ReaderFaulted (old new : ℕ) (e : Asn1DerError) : Type 0 where
+  pub rose : old < new
+  pub kind : ErrorKind
+  pub is : e ≡ kind_of kind
+
+-- no end came within as many bytes as are read
+abbrev pub IsTooLong : Option (List ℕ) → Type 0
+IsTooLong None = ⊤
+IsTooLong (Some input) = 2 ^ 64 - 1 ≤ length input
+
+module _ {W : Type 0} (g : Ghosts W) where
+  -- why a run ended with an error, and what it left
+  pub data Stops (in_old in_new : Option (List ℕ)) (faults_old faults_new : ℕ) (out_old out_new : W) (e : Asn1DerError) : Type 0 where
+    -- of the line before whose answer memory was refused nothing was written
+    memory : e ≡ OutOfMemory → (line : List ℕ) → IsLastLine line → WroteWhole in_old in_new (g.told out_old) (g.told out_new) line → Stops in_old in_new faults_old faults_new out_old out_new e
+    -- nor of the line that the reader cut
+    reader : ReaderFaulted faults_old faults_new e → (line : List ℕ) → IsLine line → WroteWhole in_old in_new (g.told out_old) (g.told out_new) line → Stops in_old in_new faults_old faults_new out_old out_new e
+    writer : Faulted g out_old e out_new → WroteBeginning in_old in_new (g.told out_old) (g.told out_new) → Stops in_old in_new faults_old faults_new out_old out_new e
+    too_long : e ≡ UnsupportedValue → IsTooLong in_old → (line : List ℕ) → IsLine line → WroteWhole in_old in_new (g.told out_old) (g.told out_new) line → Stops in_old in_new faults_old faults_new out_old out_new e

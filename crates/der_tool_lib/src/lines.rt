@@ -1,0 +1,62 @@
+//! The lines of an input, one after another.
+ghost use Rattle.std.specs.Prelude.{◌≡◌, ◌≤◌, OnOk, IfErr};
+ghost use Rattle.std.specs.Io.KnownBytes.{IsAtEnd};
+ghost use Rattle.der_tool_lib.specs.Run.{AnswersLine, Stops, StopsAt};
+ghost use Rattle.der_tool_lib.specs.Text.{WritesText};
+
+use crate::answer_to;
+use picky_der_core::misc::{ReadExt, WriteExt};
+use picky_der_core::{Asn1DerError, Result};
+use std::alloc::Global;
+
+// Writes the answer to a line, and the byte that ends it.
+fn answer_line<W: WriteExt>(alloc: Global, line: &[u8], output: &mut W) -> Result<()>
+    ensures ok { OnOk result (AnswersLine line.now (W.told output.old) (W.told output.new)) }
+    ensures err { IfErr result (StopsAt W.WriteExt.own line.now output.old output.new) }
+    ensures counted { W.faults output.old ≤ W.faults output.new }
+    ensures no_fault { OnOk result (W.faults output.new ≡ W.faults output.old) }
+    ensures goes_on { W.later output.old output.new }
+{
+    let mut answer = answer_to(alloc, line)?;
+    if answer.push('\n').is_err() {
+        return Err(Asn1DerError::OutOfMemory);
+    }
+    output.write_exact(answer.as_bytes())?;
+    Ok(())
+}
+
+/// Answers each line of the input by one line of output.
+///
+/// A line ends with the byte 0A; a last one without it counts if it isn't empty. At an error the output has whole
+/// answers to the lines before the one that couldn't be drawn or answered, but where the writer failed, a beginning of
+/// the text. It is `OutOfMemory` where memory was refused, the kind of a device's fault, or `UnsupportedValue` where the
+/// input hasn't ended after `u64::MAX` bytes.
+pub fn run<R: ReadExt, W: WriteExt>(alloc: Global, input: &mut R, output: &mut W) -> Result<()>
+    ensures text { OnOk result (WritesText (R.remaining input.old) (W.told output.old) (W.told output.new)) }
+    ensures at_end { OnOk result (IsAtEnd (R.remaining input.new)) }
+    ensures stops { IfErr result (Stops W.WriteExt.own (R.remaining input.old) (R.remaining input.new)
+        (R.faults input.old) (R.faults input.new) output.old output.new) }
+    ensures reads_counted { R.faults input.old ≤ R.faults input.new }
+    ensures writes_counted { W.faults output.old ≤ W.faults output.new }
+    ensures no_read_fault { OnOk result (R.faults input.new ≡ R.faults input.old) }
+    ensures no_write_fault { OnOk result (W.faults output.new ≡ W.faults output.old) }
+    ensures same_references { R.through input.new ≡ R.through input.old }
+    ensures goes_on { W.later output.old output.new }
+{
+    let mut line = Vec::new(alloc);
+    for _drawn in 0..u64::MAX {
+        let Some(byte) = input.read_next()? else {
+            if !line.is_empty() {
+                answer_line(alloc, &line, output)?;
+            }
+            return Ok(());
+        };
+        if byte == b'\n' {
+            answer_line(alloc, &line, output)?;
+            line.clear();
+        } else if line.push(byte).is_err() {
+            return Err(Asn1DerError::OutOfMemory);
+        }
+    }
+    Err(Asn1DerError::UnsupportedValue)
+}
