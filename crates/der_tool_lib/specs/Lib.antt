@@ -2,3 +2,4 @@ pub mod Line
 pub mod Answer
 pub mod Text
 pub mod Run
+pub mod Laws
