@@ -2,4 +2,5 @@ pub mod Line
 pub mod Answer
 pub mod Text
 pub mod Run
+pub mod Laws
 pub mod Value

@@ -19,11 +19,11 @@ pub record AnswersLine (line : List ℕ) (old new : Option (List ℕ)) : Type 0 
   pub is_answer : IsAnswer line answer
   pub written : Appends old new (answer ++ (0x0A ∷ []))
 
-module _ {W : Type 0} (g : Ghosts W) where
+module _ {W : Type 0} (g : Ghosts W) (line : List ℕ) (old new : W) where
   -- why no answer was written, or not all of it
-  pub data StopsAt (line : List ℕ) (old new : W) (e : Asn1DerError) : Type 0 where
-    no_memory : e ≡ OutOfMemory → new ≡ old → StopsAt line old new e
-    no_sink : Faulted g old e new → (answer : List ℕ) → IsAnswer line answer → AppendsBeginning (g.told old) (g.told new) (answer ++ (0x0A ∷ [])) → StopsAt line old new e
+  pub data StopsAt (e : Asn1DerError) : Type 0 where
+    no_memory : e ≡ OutOfMemory → new ≡ old → StopsAt e
+    no_sink : Faulted g old e new → (answer : List ℕ) → IsAnswer line answer → AppendsBeginning (g.told old) (g.told new) (answer ++ (0x0A ∷ [])) → StopsAt e
 
 -- ---- a run
 
@@ -63,12 +63,16 @@ abbrev pub IsTooLong : Option (List ℕ) → Type 0
 IsTooLong None = ⊤
 IsTooLong (Some input) = 2 ^ 64 - 1 ≤ length input
 
-module _ {W : Type 0} (g : Ghosts W) where
+module _ {W : Type 0} (g : Ghosts W) (in_old in_new : Option (List ℕ)) (faults_old faults_new : ℕ) (out_old out_new : W) where
+  -- the lines before this one were answered, and it wasn't
+  abbrev pub StopsBefore : List ℕ → Type 0
+  StopsBefore line = WroteWhole in_old in_new (g.told out_old) (g.told out_new) line
+
   -- why a run ended with an error, and what it left
-  pub data Stops (in_old in_new : Option (List ℕ)) (faults_old faults_new : ℕ) (out_old out_new : W) (e : Asn1DerError) : Type 0 where
-    -- of the line before whose answer memory was refused nothing was written
-    memory : e ≡ OutOfMemory → (line : List ℕ) → IsLastLine line → WroteWhole in_old in_new (g.told out_old) (g.told out_new) line → Stops in_old in_new faults_old faults_new out_old out_new e
-    -- nor of the line that the reader cut
-    reader : ReaderFaulted faults_old faults_new e → (line : List ℕ) → IsLine line → WroteWhole in_old in_new (g.told out_old) (g.told out_new) line → Stops in_old in_new faults_old faults_new out_old out_new e
-    writer : Faulted g out_old e out_new → WroteBeginning in_old in_new (g.told out_old) (g.told out_new) → Stops in_old in_new faults_old faults_new out_old out_new e
-    too_long : e ≡ UnsupportedValue → IsTooLong in_old → (line : List ℕ) → IsLine line → WroteWhole in_old in_new (g.told out_old) (g.told out_new) line → Stops in_old in_new faults_old faults_new out_old out_new e
+  pub data Stops (e : Asn1DerError) : Type 0 where
+    -- memory was refused for the line or its answer
+    memory : e ≡ OutOfMemory → (line : List ℕ) → IsLastLine line → StopsBefore line → Stops e
+    -- the reader cut the line
+    reader : ReaderFaulted faults_old faults_new e → (line : List ℕ) → IsLine line → StopsBefore line → Stops e
+    writer : Faulted g out_old e out_new → WroteBeginning in_old in_new (g.told out_old) (g.told out_new) → Stops e
+    too_long : e ≡ UnsupportedValue → IsTooLong in_old → (line : List ℕ) → IsLine line → StopsBefore line → Stops e
