@@ -1,7 +1,8 @@
 -- Values that lines name, and the answers to their bytes.
-use Rattle.std.specs.Prelude.{◌≡◌, ℕ, ◌-◌, ◌^◌, false, List, ◌++◌, length, codes, decimal, Some}
+use Rattle.std.specs.Prelude.{◌≡◌, ℕ, ◌-◌, ◌^◌, Bool, true, false, List, ◌++◌, length, codes, decimal, Some}
 use Rattle.hex.specs.Hex.{encode_lower}
 use Rattle.picky_der_core.specs.declared.error.Asn1DerError.{Asn1DerError}
+use Rattle.picky_der_core.specs.declared.error.Asn1DerError.TheVariants.{OutOfMemory}
 use Rattle.picky_der_core.specs.Tree.{Tree}
 use Rattle.picky_der_core.specs.Encoding.{der}
 use Rattle.picky_der_core.specs.Shape.{Shape}
@@ -10,7 +11,7 @@ use Rattle.picky_der_core.specs.Refusal.{Judge, boolean_fault, unsigned_fault, b
 use Rattle.picky_der_de.specs.State.{State}
 use Rattle.picky_der_de.specs.Reading.{ReadsPlain, RefusesPlain}
 use Rattle.der_tool_lib.specs.declared.value.ValueType.{ValueType}
-use Rattle.der_tool_lib.specs.declared.value.ValueType.TheVariants.{Bool, U8, U16, U32, U64, U128, Octets}
+use Rattle.der_tool_lib.specs.declared.value.ValueType.TheVariants as named
 use Rattle.der_tool_lib.specs.Answer.{word_of}
 
 -- ---- the types
@@ -25,26 +26,30 @@ abbrev pub unsigned_of : ℕ → Plain
 unsigned_of bits = record { shape = Shape.unsigned (2 ^ bits - 1); tag = 0x02; judge = unsigned_fault (2 ^ bits - 1) }
 
 abbrev pub plain_of : ValueType → Plain
-plain_of Bool = record { shape = Shape.boolean; tag = 0x01; judge = boolean_fault }
-plain_of U8 = unsigned_of 8
-plain_of U16 = unsigned_of 16
-plain_of U32 = unsigned_of 32
-plain_of U64 = unsigned_of 64
-plain_of U128 = unsigned_of 128
-plain_of Octets = record { shape = Shape.bytes 0x04; tag = 0x04; judge = bytes_fault }
+plain_of named.Bool = record { shape = Shape.boolean; tag = 0x01; judge = boolean_fault }
+plain_of named.U8 = unsigned_of 8
+plain_of named.U16 = unsigned_of 16
+plain_of named.U32 = unsigned_of 32
+plain_of named.U64 = unsigned_of 64
+plain_of named.U128 = unsigned_of 128
+plain_of named.Octets = record { shape = Shape.bytes 0x04; tag = 0x04; judge = bytes_fault }
 
 -- each tree of the shape is what a value of the type means
 abbrev pub ReadsTree : ValueType → State → State → Tree → Type 0
-ReadsTree named old new t = ReadsPlain (plain_of named).tag (plain_of named).judge (plain_of named).shape old new t
+ReadsTree type old new t = ReadsPlain (plain_of type).tag (plain_of type).judge (plain_of type).shape old new t
 
 abbrev pub RefusesTree : ValueType → State → State → Asn1DerError → Type 0
-RefusesTree named old new e = RefusesPlain {V = Tree} (λ t. t) (plain_of named).tag (plain_of named).judge (plain_of named).shape old new e
+RefusesTree type old new e = RefusesPlain {V = Tree} (λ t. t) (plain_of type).tag (plain_of type).judge (plain_of type).shape old new e
 
 -- ---- the answers
 
+abbrev pub is_memory : Asn1DerError → Bool
+is_memory OutOfMemory = true
+is_memory _ = false
+
 -- the answer to bytes to be read as a value of the type
-pub data AnswersRead (named : ValueType) (bytes answer : List ℕ) : Type 0 where
-  read : (t : Tree) → Stands (plain_of named).shape bytes (length bytes) t → answer ≡ codes "ok " ++ decimal (length (der t)) ++ codes " " ++ encode_lower (der t) → AnswersRead named bytes answer
-  refused : (e : Asn1DerError) → ((t : Tree) → Stands (plain_of named).shape bytes (length bytes) t → ⊥)
-      → fault (plain_refusal (plain_of named).tag (plain_of named).judge false (length bytes) bytes) ≡ Some e
-      → answer ≡ codes "refused " ++ word_of e → AnswersRead named bytes answer
+pub data AnswersRead (type : ValueType) (bytes answer : List ℕ) : Type 0 where
+  read : (t : Tree) → Stands (plain_of type).shape bytes (length bytes) t → answer ≡ codes "ok " ++ (decimal (length (der t)) ++ (codes " " ++ encode_lower (der t))) → AnswersRead type bytes answer
+  refused : (e : Asn1DerError) → ((t : Tree) → Stands (plain_of type).shape bytes (length bytes) t → ⊥)
+      → fault (plain_refusal (plain_of type).tag (plain_of type).judge false (length bytes) bytes) ≡ Some e
+      → answer ≡ codes "refused " ++ word_of e → AnswersRead type bytes answer

@@ -1,11 +1,15 @@
 //! Values that lines name, read and written again.
-ghost use Rattle.std.specs.Prelude.{◌≡◌, ℕ, IfOk, IfErr, string_bytes};
-ghost use Rattle.der_tool_lib.specs.Value.{ReadsTree, RefusesTree, AnswersRead};
+ghost use Rattle.std.specs.Prelude.{◌≡◌, ◌++◌, codes, decimal, IfOk, IfErr, string_bytes};
+ghost use Rattle.hex.specs.Hex.{encode_lower};
+ghost use Rattle.picky_der_core.specs.Encoding.{der};
+ghost use Rattle.picky_der_core.specs.Readable.{IsWritable};
+ghost use Rattle.der_tool_lib.specs.Answer.{word_of};
+ghost use Rattle.der_tool_lib.specs.Value.{is_memory, ReadsTree, RefusesTree, AnswersRead};
 
 use crate::kind_word;
 use picky_asn1_der::asn1::ByteBuf;
 use picky_asn1_der::misc::ReadExt;
-use picky_asn1_der::{Asn1DerError, Deserialize, Deserializer, Result, to_vec};
+use picky_asn1_der::{Asn1DerError, Deserialize, Deserializer, Result, Serialize, to_vec};
 use std::alloc::Global;
 
 /// A type that lines name.
@@ -128,14 +132,39 @@ fn answer_as<T: Plain>(alloc: Global, bytes: &[u8]) -> Result<String>
     // No effect at run time. The proof reads from it that a slice has no faults.
     let _ = de.into_reader();
     match outcome {
-        Ok(value) => {
-            let digits = hex::encode(alloc, to_vec(alloc, &value)?).map_err(|_| Asn1DerError::OutOfMemory)?;
-            format!(in alloc; "ok {taken} {digits}").map_err(|_| Asn1DerError::OutOfMemory)
-        }
-        Err(Asn1DerError::OutOfMemory) => Err(Asn1DerError::OutOfMemory),
-        Err(error) => {
-            let word = kind_word(error);
-            format!(in alloc; "refused {word}").map_err(|_| Asn1DerError::OutOfMemory)
-        }
+        Ok(value) => read_text(alloc, taken, &hexadecimal(alloc, &value)?),
+        Err(error) if wants_memory(error) => Err(Asn1DerError::OutOfMemory),
+        Err(error) => refused_text(alloc, error),
     }
+}
+
+fn wants_memory(error: Asn1DerError) -> bool
+    ensures { result ≡ is_memory error }
+{
+    matches!(error, Asn1DerError::OutOfMemory)
+}
+
+// The encoding of the value in hexadecimal.
+fn hexadecimal<T: Serialize>(alloc: Global, value: &T) -> Result<String>
+    requires { IsWritable (T.meaning value.now) }
+    ensures ok { IfOk result (λ text. string_bytes text ≡ encode_lower (der (T.meaning value.now))) }
+    ensures err { IfErr result (λ e. e ≡ Asn1DerError.OutOfMemory) }
+{
+    let encoding = to_vec(alloc, value)?;
+    hex::encode(alloc, encoding).map_err(|_| Asn1DerError::OutOfMemory)
+}
+
+fn read_text(alloc: Global, taken: usize, digits: &str) -> Result<String>
+    ensures ok { IfOk result (λ text. string_bytes text ≡ codes "ok " ++ (decimal taken ++ (codes " " ++ digits.now))) }
+    ensures err { IfErr result (λ e. e ≡ Asn1DerError.OutOfMemory) }
+{
+    format!(in alloc; "ok {taken} {digits}").map_err(|_| Asn1DerError::OutOfMemory)
+}
+
+fn refused_text(alloc: Global, error: Asn1DerError) -> Result<String>
+    ensures ok { IfOk result (λ text. string_bytes text ≡ codes "refused " ++ word_of error) }
+    ensures err { IfErr result (λ e. e ≡ Asn1DerError.OutOfMemory) }
+{
+    let word = kind_word(error);
+    format!(in alloc; "refused {word}").map_err(|_| Asn1DerError::OutOfMemory)
 }
