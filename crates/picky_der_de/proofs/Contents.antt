@@ -5,7 +5,7 @@ use Rattle.picky_der_core.specs.declared.error.Asn1DerError.{Asn1DerError}
 use Rattle.picky_der_core.specs.declared.error.Asn1DerError.TheVariants.{OutOfMemory}
 use Rattle.picky_der_de.specs.State.{State}
 use Rattle.std.specs.Io.KnownBytes.{Consumes, Keeps}
-use Rattle.picky_der_de.specs.Steps.{Takes, Took, TakesKept, StopsShort, Fails, IsMissing}
+use Rattle.picky_der_de.specs.Steps.{failed_with, Takes, Took, TakesKept, StopsShort, Fails, IsMissing}
 use Rattle.picky_der_de.proofs.Steps.{takes_then, takes_none, fails_after, judged_after}
 
 -- the first bytes of one byte more
@@ -38,6 +38,17 @@ consumes-keeps (Some xs) (Some ys) (b ∷ bs) l c = absurd (omega arith)
 pub kept_input : {a b : State} → Took a b → b.taken ≡ a.taken → Keeps a.input b.input
 kept_input {a} {b} t e = consumes-keeps a.input b.input t.bytes (omega (arith, t.count)) t.input
 
+-- what is unmoved behind an error
+pub unmoved_taken : (b c : State) {e : Asn1DerError} → c ≡ record b { failed = Some e; faults = c.faults; input = c.input } → c.taken ≡ b.taken
+unmoved_taken b c u = ap (λ (s : State). s.taken) u
+
+pub unmoved_peeked : (b c : State) {e : Asn1DerError} → c ≡ record b { failed = Some e; faults = c.faults; input = c.input } → c.peeked ≡ b.peeked
+unmoved_peeked b c u = ap (λ (s : State). s.peeked) u
+
+-- it has failed with what it answers
+pub failed_same : (b : State) {c : State} {e r : Asn1DerError} → r ≡ e → c ≡ failed_with b e → c ≡ failed_with b r
+failed_same b {e = e} {r = r} h u = u ∙ ap (failed_with b) (sym h)
+
 -- no byte came
 pub stops_short : {a b c : State} {n k : ℕ} {e : Asn1DerError} {content : List ℕ} → Takes a b content → length content ≡ k → k < n → Fails b c e → (b.failed ≡ None → c.faults ≡ b.faults → IsMissing b e) → c ≡ record b { failed = Some e; faults = c.faults; input = c.input } → StopsShort a c n e
 stops_short {a} {b} {c} {n} {k} {e} {content} t l s f m u = record {
@@ -48,9 +59,9 @@ stops_short {a} {b} {c} {n} {k} {e} {content} t l s f m u = record {
     takes = t;
     short = omega arith;
     missing = m i.had_not_failed i.faults;
-    input = kept_input (f.took) (ap (λ (s : State). s.taken) u);
-    taken = ap (λ (s : State). s.taken) u;
-    peeked = ap (λ (s : State). s.peeked) u;
+    input = kept_input (f.took) (unmoved_taken b c u);
+    taken = unmoved_taken b c u;
+    peeked = unmoved_peeked b c u;
   };
 }
 

@@ -26,3 +26,6 @@ impl Boolean {
         }
     }
 }
+
+#[cfg(test)]
+mod tests;

@@ -191,3 +191,6 @@ impl<R: ReadExt> Deserializer<R> {
         Ok(bytes)
     }
 }
+
+#[cfg(test)]
+mod tests;

@@ -19,3 +19,6 @@ pub fn from_bytes<T: Deserialize>(alloc: Global, bytes: &[u8]) -> Result<T>
     let _ = de.into_reader();
     result
 }
+
+#[cfg(test)]
+mod tests;

@@ -144,3 +144,6 @@ impl UnsignedInteger {
         T::from_u128(number_of(digits))
     }
 }
+
+#[cfg(test)]
+mod tests;

@@ -2,7 +2,7 @@ use Rattle.std.proofs.Common.{◌<◌, Bool, length, true, false, Some, arith, s
 use Rattle.std.proofs.lemmas.Result.{err_from_is_err_and}
 use Rattle.picky_der_core.specs.Encoding.{boolean_content}
 use Rattle.picky_der_core.specs.Refusal.{boolean_fault}
-use Rattle.picky_der_de.specs.Steps.{failed_with}
+use Rattle.picky_der_de.proofs.Contents.{failed_same}
 use Rattle.picky_der_de.proofs.PlainReads.{refuses_header, refuses_cut}
 use Rattle.picky_der_de.proofs.PlainKinds.{boolean_kind, boolean_told, reads_kept, refuses_kept}
 use Rattle.picky_der_de.proofs.deserializer.Deserializer.deserialize_bool.Goals as goal
@@ -30,4 +30,4 @@ returns-in-Ok-clause-ok g c =
 pub returns-in-Err-clause-err : goal.returns-in-Err-clause-err
 returns-in-Err-clause-err g c =
     let f = c.fail.ensures in
-    refuses_kept boolean_kind boolean_told c.in_ok-len.ensures.ok c.in_ok-content.ensures.ok f.fails (ap boolean_fault (sym c.deref.ensures.0) ∙ c.in-Err.ensures.fault ∙ ap (λ e. Some e) (sym f.error)) (f.same ∙ ap (failed_with c.draw_kept.new.self) (sym f.error))
+    refuses_kept boolean_kind boolean_told c.in_ok-len.ensures.ok c.in_ok-content.ensures.ok f.fails (ap boolean_fault (sym c.deref.ensures.0) ∙ c.in-Err.ensures.fault ∙ ap (λ e. Some e) (sym f.error)) (failed_same c.draw_kept.new.self f.error f.same)

@@ -3,7 +3,7 @@ use Rattle.std.proofs.lemmas.Result.{err_from_is_err_and}
 use Rattle.picky_der_core.specs.Encoding.{unsigned_content}
 use Rattle.picky_der_core.specs.UnsignedLaws.{length-unsigned_content}
 use Rattle.picky_der_core.specs.Refusal.{unsigned_fault}
-use Rattle.picky_der_de.specs.Steps.{failed_with}
+use Rattle.picky_der_de.proofs.Contents.{failed_same}
 use Rattle.picky_der_de.proofs.PlainReads.{refuses_header, refuses_cut}
 use Rattle.picky_der_de.proofs.PlainKinds.{unsigned_kind, unsigned_told, unsigned_read, reads_kept, refuses_kept}
 use Rattle.picky_der_de.proofs.deserializer.Deserializer.read_unsigned.Goals as goal
@@ -31,4 +31,4 @@ returns-in-Ok-clause-ok g c =
 pub returns-in-Err-clause-err : goal.returns-in-Err-clause-err
 returns-in-Err-clause-err g c =
     let f = c.fail.ensures in
-    refuses_kept (unsigned_kind g.T.UInt.greatest) (unsigned_told g.T.UInt.greatest) c.in_ok-len.ensures.ok c.in_ok-content.ensures.ok f.fails (ap (unsigned_fault g.T.UInt.greatest) (sym c.deref.ensures.0) ∙ c.in-Err.ensures.fault ∙ ap (λ e. Some e) (sym f.error)) (f.same ∙ ap (failed_with c.draw_kept.new.self) (sym f.error))
+    refuses_kept (unsigned_kind g.T.UInt.greatest) (unsigned_told g.T.UInt.greatest) c.in_ok-len.ensures.ok c.in_ok-content.ensures.ok f.fails (ap (unsigned_fault g.T.UInt.greatest) (sym c.deref.ensures.0) ∙ c.in-Err.ensures.fault ∙ ap (λ e. Some e) (sym f.error)) (failed_same c.draw_kept.new.self f.error f.same)
