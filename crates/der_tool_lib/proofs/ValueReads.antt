@@ -1,5 +1,5 @@
 -- Trees of a plain type, and the values that mean them.
-use Rattle.std.proofs.Common.{◌≡◌, ◌≢◌, ℕ, ◌+◌, ◌≤◌, Bool, false, List, [], ◌++◌, length, take, codes, decimal, Option, Some, None, refl, sym, ◌∙◌, ap, subst, arith}
+use Rattle.std.proofs.Common.{◌≡◌, ◌≢◌, ℕ, Bool, false, List, [], ◌++◌, length, take, codes, decimal, Option, Some, None, refl, sym, ◌∙◌, ap, subst, arith}
 use Rattle.std.proofs.lemmas.Grind.{common_steps}
 use Rattle.std.specs.Io.KnownBytes.{Consumes}
 use Rattle.hex.specs.Hex.{encode_lower}
@@ -8,7 +8,7 @@ use Rattle.picky_der_core.specs.Element.{Begins}
 use Rattle.picky_der_core.specs.Encoding.{der}
 use Rattle.picky_der_core.specs.Laws.{Stands}
 use Rattle.der_tool_lib.specs.declared.value.ValueType.{ValueType}
-use Rattle.der_tool_lib.specs.Answer.{word_of}
+use Rattle.der_tool_lib.specs.Words.{word_of}
 use Rattle.der_tool_lib.specs.Value.{plain_of, ReadsTree, RefusesTree, AnswersRead, read, refused}
 use Rattle.picky_der_core.specs.declared.error.Asn1DerError.{Asn1DerError}
 use Rattle.picky_der_core.specs.Tree.{Tree}
@@ -111,5 +111,5 @@ answers_refused {named} {old} {new} {bytes} {answer} {e} is none memory r a =
     let just = h.just judged bytes refl in
     let all : take (length bytes) bytes ≡ bytes = grind (arith, common_steps) in
     let kind : fault (plain_refusal (plain_of named).tag (plain_of named).judge false (length bytes) bytes) ≡ Some e =
-        ap (λ x. fault (plain_refusal (plain_of named).tag (plain_of named).judge false (length bytes) x)) (sym all) ∙ ap fault just.refused in
+    ap (λ x. fault (plain_refusal (plain_of named).tag (plain_of named).judge false (length bytes) x)) (sym all) ∙ ap fault just.refused in
     refused e (λ t stands. h.refuses.none judged (length bytes) bytes (now refl refl) t stands) kind a

@@ -1,31 +1,25 @@
 -- The answer to a line.
-use Rattle.std.specs.Prelude.{◌≡◌, ℕ, List, codes}
-use Rattle.hex.specs.Hex.{encode_lower}
-use Rattle.picky_der_core.specs.Element.{len}
-use Rattle.picky_der_core.specs.declared.error.Asn1DerError.{Asn1DerError}
-use Rattle.picky_der_core.specs.declared.error.Asn1DerError.TheVariants as error
-use Rattle.der_tool_lib.specs.declared.line.Request.{Request}
-use Rattle.der_tool_lib.specs.declared.line.Request.TheVariants.{Len, Refused}
-use Rattle.der_tool_lib.specs.Line.{Asks}
+use Rattle.std.specs.Prelude.{◌≡◌, ℕ, List, codes, Result, Ok, Err}
+use Rattle.hex.specs.declared.error.FromHexError.{FromHexError}
+use Rattle.hex.specs.Hex.{encode_lower, decode_of}
+use Rattle.picky_der_core.specs.Element.{len as bytes_of}
+use Rattle.der_tool_lib.specs.declared.value.ValueType.{ValueType}
+use Rattle.der_tool_lib.specs.Line.{Query, len, read, nothing, Asks}
+use Rattle.der_tool_lib.specs.Value.{AnswersRead}
 
--- this answers what a line asks for: a length's bytes in hexadecimal, with lower case letters
-abbrev pub Answers : Request → List ℕ → Type 0
-Answers (Len n) answer = answer ≡ encode_lower (len n)
-Answers Refused answer = answer ≡ codes "refused Line"
+-- digits that aren't those of bytes ask for nothing
+abbrev pub AnswersDigits : ValueType → Result (List ℕ) FromHexError → List ℕ → Type 0
+AnswersDigits type (Ok bytes) answer = AnswersRead type bytes answer
+AnswersDigits type (Err e) answer = answer ≡ codes "refused Line"
+
+-- This answers what a line asks for: a length's bytes in hexadecimal, with lower case letters, or what is read.
+abbrev pub Answers : Query → List ℕ → Type 0
+Answers (len n) answer = answer ≡ encode_lower (bytes_of n)
+Answers (read type digits) answer = AnswersDigits type (decode_of digits) answer
+Answers nothing answer = answer ≡ codes "refused Line"
 
 -- this is the answer to the line; neither has the byte that ends it
 pub record IsAnswer (line answer : List ℕ) : Type 0 where
-  pub request : Request
-  pub asked : Asks line request
-  pub answers : Answers request answer
-
--- the name of an error's variant
-abbrev pub word_of : Asn1DerError → List ℕ
-word_of error.TruncatedData = codes "TruncatedData"
-word_of error.InvalidData = codes "InvalidData"
-word_of error.UnsupportedValue = codes "UnsupportedValue"
-word_of error.UnsupportedType = codes "UnsupportedType"
-word_of error.InvalidSink = codes "InvalidSink"
-word_of (error.Message text) = codes "Message"
-word_of (error.Other kind) = codes "Other"
-word_of error.OutOfMemory = codes "OutOfMemory"
+  pub query : Query
+  pub asked : Asks line query
+  pub answers : Answers query answer

@@ -1,3 +1,4 @@
+pub mod Words
 pub mod Line
 pub mod Answer
 pub mod Text

@@ -12,7 +12,7 @@ use Rattle.picky_der_de.specs.State.{State}
 use Rattle.picky_der_de.specs.Reading.{ReadsPlain, RefusesPlain}
 use Rattle.der_tool_lib.specs.declared.value.ValueType.{ValueType}
 use Rattle.der_tool_lib.specs.declared.value.ValueType.TheVariants as named
-use Rattle.der_tool_lib.specs.Answer.{word_of}
+use Rattle.der_tool_lib.specs.Words.{word_of}
 
 -- ---- the types
 

@@ -1,10 +1,12 @@
 //! The answer to a line.
-ghost use Rattle.std.specs.Prelude.{◌≡◌, IfOk, IfErr, string_bytes};
-ghost use Rattle.hex.specs.Hex.{encode_lower};
+ghost use Rattle.std.specs.Prelude.{◌≡◌, codes, IfOk, IfErr, string_bytes};
+ghost use Rattle.hex.specs.Hex.{encode_lower, decode_of};
 ghost use Rattle.picky_der_core.specs.Element.{len};
-ghost use Rattle.der_tool_lib.specs.Answer.{IsAnswer, word_of};
+ghost use Rattle.der_tool_lib.specs.Answer.{AnswersDigits, IsAnswer};
+ghost use Rattle.der_tool_lib.specs.Words.{word_of};
 
-use crate::Request;
+use crate::{Request, ValueType, answer_read};
+use hex::FromHexError;
 use picky_der_core::misc::{BufSink, Length};
 use picky_der_core::{Asn1DerError, Result};
 use std::alloc::Global;
@@ -16,10 +18,30 @@ pub fn answer_to(alloc: Global, line: &[u8]) -> Result<String>
 {
     match Request::of(line) {
         Request::Len(n) => length_in_hex(alloc, n),
-        Request::Refused => {
-            String::from_str(alloc, "refused Line").map_err(|_| Asn1DerError::OutOfMemory)
-        }
+        Request::Read(named, digits) => answer_digits(alloc, named, digits),
+        Request::Refused => refuse_line(alloc),
     }
+}
+
+// The answer to a line that asks for a value, which is refused where the digits aren't those of bytes.
+fn answer_digits(alloc: Global, named: ValueType, digits: &[u8]) -> Result<String>
+    ensures ok { IfOk result (λ text. AnswersDigits named (decode_of digits.now) (string_bytes text)) }
+    ensures err { IfErr result (λ e. e ≡ Asn1DerError.OutOfMemory) }
+{
+    match hex::decode(alloc, digits) {
+        Ok(bytes) => answer_read(alloc, named, &bytes),
+        Err(FromHexError::OutOfMemory) => Err(Asn1DerError::OutOfMemory),
+        Err(FromHexError::InvalidHexCharacter { .. }) => refuse_line(alloc),
+        Err(FromHexError::OddLength) => refuse_line(alloc),
+        Err(FromHexError::InvalidStringLength) => refuse_line(alloc),
+    }
+}
+
+fn refuse_line(alloc: Global) -> Result<String>
+    ensures ok { IfOk result (λ text. string_bytes text ≡ codes "refused Line") }
+    ensures err { IfErr result (λ e. e ≡ Asn1DerError.OutOfMemory) }
+{
+    String::from_str(alloc, "refused Line").map_err(|_| Asn1DerError::OutOfMemory)
 }
 
 // The bytes of a length in hexadecimal.

@@ -54,6 +54,48 @@ fn refuses_lines(rt: HostRuntime) {
     expect(&rt, rt.alloc(), b"len \xFF\nlen 7\n", "refused Line\n07\n");
 }
 
+#[test]
+fn reads_values(rt: HostRuntime) {
+    for (line, wanted) in [
+        ("read bool 0101ff", "ok 3 0101ff\n"),
+        ("read bool 010101", "refused InvalidData\n"),
+        ("read u8 02010705", "ok 3 020107\n"),
+        ("read u8 0202007F", "refused InvalidData\n"),
+        ("read u8 02020100", "refused UnsupportedValue\n"),
+        ("read u8 ", "refused TruncatedData\n"),
+        ("read u16 02020100", "ok 4 02020100\n"),
+        ("read u32 0203010000", "ok 5 0203010000\n"),
+        ("read u64 02050100000000", "ok 7 02050100000000\n"),
+        (
+            "read u128 021100ffffffffffffffffffffffffffffffff",
+            "ok 19 021100ffffffffffffffffffffffffffffffff\n",
+        ),
+        ("read octets 0403AABBCC", "ok 5 0403aabbcc\n"),
+        (
+            "read octets 0488FFFFFFFFFFFFFFFF",
+            "refused TruncatedData\n",
+        ),
+    ] {
+        expect(&rt, rt.alloc(), line.as_bytes(), wanted);
+    }
+}
+
+#[test]
+fn refuses_lines_that_name_no_value(rt: HostRuntime) {
+    for line in [
+        "read u8 0",
+        "read u8 0g",
+        "read u8  020107",
+        "read u8 020107 ",
+        "read u7 020107",
+        "read  020107",
+        "READ u8 020107",
+        "read null 0500",
+    ] {
+        expect(&rt, rt.alloc(), line.as_bytes(), "refused Line\n");
+    }
+}
+
 // Gives the bytes one by one, and then fails.
 #[derive(Drop)]
 struct FailingReader<'a> {

@@ -3,7 +3,7 @@ ghost use Rattle.std.specs.Prelude.{◌≡◌, ◌++◌, codes, decimal, IfOk, I
 ghost use Rattle.hex.specs.Hex.{encode_lower};
 ghost use Rattle.picky_der_core.specs.Encoding.{der};
 ghost use Rattle.picky_der_core.specs.Readable.{IsWritable};
-ghost use Rattle.der_tool_lib.specs.Answer.{word_of};
+ghost use Rattle.der_tool_lib.specs.Words.{word_of};
 ghost use Rattle.der_tool_lib.specs.Value.{is_memory, ReadsTree, RefusesTree, AnswersRead};
 
 use crate::kind_word;
