@@ -103,3 +103,6 @@ impl Length {
         }
     }
 }
+
+#[cfg(test)]
+mod tests;
