@@ -2,8 +2,6 @@
 use Rattle.std.specs.Prelude.{◌≡◌, ℕ, ◌+◌, ◌<◌, ◌≤◌, List, Option, Some, None, Ok, Err, ⊤}
 use Rattle.picky_der_core.specs.declared.error.Asn1DerError.{Asn1DerError}
 use Rattle.picky_der_core.specs.declared.error.Asn1DerError.TheVariants.{InvalidData, UnsupportedValue, Other, OutOfMemory}
-use Rattle.std.specs.declared.io.ErrorKind.{ErrorKind}
-use Rattle.picky_der_core.specs.Error.{kind_of}
 use Rattle.picky_der_core.specs.Refusal.{Outcome}
 
 -- known bytes were read as the outcome says, and what it leaves is left
@@ -23,10 +21,6 @@ abbrev pub IsOfDevice : Asn1DerError → Type 0
 IsOfDevice (Other kind) = ⊤
 IsOfDevice OutOfMemory = ⊤
 IsOfDevice _ = ⊥
-
--- the error that a device's is answered as
-abbrev pub IsKindOfFault : Asn1DerError → Type 0
-IsKindOfFault e = (kind : ErrorKind) × (e ≡ kind_of kind)
 
 -- ---- the first byte of the long form
 

@@ -59,6 +59,7 @@ module _ {old new : State} {e : Asn1DerError} (s : StopsAt old new e) (error : E
         again = λ k w. absurd (let q : None ≡ Some k = sym s.had_not_failed ∙ w in cc);
         faults = faults_grow f;
         other = λ w o. other_rose f o;
+        fault = λ w rose. (error_kind error, is);
         took = record { bytes = []; input = keeps_consumes old.input new.input s.input; count = omega (arith, s.taken) };
         grows = omega (arith, p, s.taken);
         end = omega (arith, s.taken, s.room);

@@ -63,6 +63,7 @@ fails_after {a} {b} {c} {x} {e} h f =
       again = λ k w. absurd (let q : None ≡ Some k = sym h.had_not_failed ∙ w in cc);
       faults = omega (arith, f.faults, h.faults);
       other = λ w o. let q = f.other h.not_failed o in omega (arith, q, h.faults);
+      fault = λ w rose. f.fault h.not_failed (omega (arith, h.faults, rose));
       took = took_after h f.took;
       grows = omega (arith, f.grows, h.drawn, p);
       end = omega (arith, f.end, h.taken, h.room);
@@ -92,6 +93,7 @@ fails_again a {e} h = record {
   again = λ f w. (let q : Some e ≡ Some f = sym h ∙ w in cc, unmoved a);
   faults = omega arith;
   other = λ w. absurd (let q : None ≡ Some e = sym w ∙ h in cc);
+  fault = λ w. absurd (let q : None ≡ Some e = sym w ∙ h in cc);
   took = took_none a;
   grows = omega arith;
   end = omega arith;

@@ -3,6 +3,7 @@ use Rattle.std.specs.Prelude.{◌≡◌, ◌≢◌, ℕ, ◌+◌, ◌-◌, ◌^�
 use Rattle.std.specs.Io.KnownBytes.{Consumes, Keeps, IsAtEnd}
 use Rattle.picky_der_core.specs.declared.error.Asn1DerError.{Asn1DerError}
 use Rattle.picky_der_core.specs.declared.error.Asn1DerError.TheVariants.{TruncatedData, Other, OutOfMemory}
+use Rattle.picky_der_core.specs.Error.{IsKindOfFault}
 use Rattle.picky_der_core.specs.Refusal.{past}
 use Rattle.picky_der_core.specs.Reading.{Place}
 use Rattle.picky_der_de.specs.declared.end.End.{End}
@@ -115,6 +116,8 @@ pub record Fails (old new : State) (e : Asn1DerError) : Type 0 where
   pub faults : old.faults ≤ new.faults
   -- `Other` comes from a fault of the reader alone
   pub other : old.failed ≡ None → IsOther e → old.faults < new.faults
+  -- what a fault becomes is answered as that
+  pub fault : old.failed ≡ None → old.faults < new.faults → IsKindOfFault e
   pub took : Took old new
   -- a peeked byte stays, or was taken
   pub grows : drawn old ≤ drawn new

@@ -4,7 +4,8 @@ ghost use Rattle.std.specs.Io.KnownBytes.{Appends, Consumes};
 ghost use Rattle.picky_der_core.specs.Element.{len as bytes_of, Begins};
 ghost use Rattle.picky_der_core.specs.Writer.{AppendsBeginning};
 ghost use Rattle.picky_der_core.specs.WriterFaults.{Faulted};
-ghost use Rattle.picky_der_core.specs.Lengths.{IsReadAs, IsRefusedAs, IsOfDevice, IsKindOfFault, IsLongCount, IsNoLongCount};
+ghost use Rattle.picky_der_core.specs.Lengths.{IsReadAs, IsRefusedAs, IsOfDevice, IsLongCount, IsNoLongCount};
+ghost use Rattle.picky_der_core.specs.Error.{IsKindOfFault};
 ghost use Rattle.picky_der_core.specs.Refusal.{length_of};
 
 use super::{ReadExt, WriteExt};
