@@ -10,6 +10,7 @@ ghost use Rattle.picky_der_core.specs.Refusal.{length_of};
 
 use super::{ReadExt, WriteExt};
 use crate::{Asn1DerError, Result};
+use arrayvec::ArrayVec;
 
 /// The length of a content in canonical DER: one byte below 128, else a byte `80+k` and the `k` bytes of the number,
 /// as few as can be.
@@ -56,14 +57,23 @@ impl Length {
         ensures no_fault { OnOk result (W.faults writer.new ≡ W.faults writer.old) }
         ensures goes_on { W.later writer.old writer.new }
     {
+        Ok(writer.write_exact(&Length::bytes(len))?)
+    }
+
+    /// The bytes of a length.
+    pub fn bytes(len: usize) -> ArrayVec<u8, 9>
+        ensures { result.items ≡ bytes_of len }
+    {
+        let mut bytes = ArrayVec::new();
         if len < 0x80 {
-            return Ok(writer.write_one(len as u8)?);
+            bytes.push(len as u8);
+            return bytes;
         }
-        let bytes = len.to_be_bytes();
-        let skipped = bytes.len() + 1 - Length::encoded_len(len);
-        let digits = &bytes[skipped..];
-        let first = writer.write_one(0x80 | digits.len() as u8)?;
-        Ok(first + writer.write_exact(digits)?)
+        let number = len.to_be_bytes();
+        let digits = &number[9 - Length::encoded_len(len)..];
+        bytes.push(0x80 | digits.len() as u8);
+        let _ = bytes.try_extend_from_slice(digits);
+        bytes
     }
 
     /// How many bytes the length takes.
