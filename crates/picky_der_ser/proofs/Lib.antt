@@ -1,3 +1,5 @@
 pub mod Alike
 pub mod PlainWrites
 pub mod Memory
+pub mod HeaderBytes
+pub mod HeaderLoop

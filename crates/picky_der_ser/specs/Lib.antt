@@ -1,4 +1,5 @@
 pub mod Heading
+pub mod Headers
 pub mod State
 pub mod Calls
 pub mod Integer

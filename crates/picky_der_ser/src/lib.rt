@@ -4,6 +4,7 @@
 mod boolean;
 mod entry;
 mod header;
+mod headers;
 mod impls;
 mod integer;
 mod plain;

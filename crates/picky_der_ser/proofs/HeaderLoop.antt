@@ -1,0 +1,104 @@
+-- Headers that are added from the innermost outwards, the last byte first.
+use Rattle.std.proofs.Common.{◌≡◌, ℕ, zero, suc, ◌+◌, ◌-◌, ◌≤◌, List, [], ◌∷◌, ◌++◌, length, take, drop, reverse, Option, None, Some, refl, sym, ◌∙◌, ap, subst, append_assoc, append-nil, length-append, arith}
+use Rattle.std.proofs.Math.Seq.{take-append_seam, drop-append_seam}
+use mir.Val.{bool_byte}
+use Rattle.std.specs.Option.{is_some}
+use Rattle.std.proofs.lemmas.List.{take_all, reverse-append, reverse-reverse, length-reverse}
+use Rattle.picky_der_core.specs.declared.asn1.wrapper.Wrapper.{Wrapper}
+use Rattle.picky_der_core.specs.declared.asn1.wrapper.Wrapper.TheVariants.{OctetContainer, BitContainer, Explicit, Implicit}
+use Rattle.picky_der_core.specs.Tag.{number_of, IsTagNumber}
+use Rattle.picky_der_core.specs.Wrapper.{HasTagNumber}
+use Rattle.picky_der_ser.specs.declared.header.Header.{Header}
+use Rattle.picky_der_ser.specs.declared.header.Header.TheVariants.{Tagged, Application, Raw}
+use Rattle.std.specs.Option.{unwrap_or}
+use Rattle.picky_der_ser.specs.Headers.{opening, openings, joined, joined_last, kept, HasNumber, HaveTagNumbers}
+
+-- ---- tag numbers
+
+pub last_number : (ws : List Wrapper) (w : Wrapper) → HaveTagNumbers (ws ++ (w ∷ [])) → HasTagNumber w
+last_number [] w h = h.0
+last_number (v ∷ ws) w h = last_number ws w h.1
+
+pub outer_numbers : (ws : List Wrapper) (w : Wrapper) → HaveTagNumbers (ws ++ (w ∷ [])) → HaveTagNumbers ws
+outer_numbers [] w h = tt
+outer_numbers (v ∷ ws) w h = (h.0, outer_numbers ws w h.1)
+
+pub first_numbers : (n : ℕ) (ws : List Wrapper) → HaveTagNumbers ws → HaveTagNumbers (take n ws)
+first_numbers zero ws h = tt
+first_numbers (suc n) [] h = tt
+first_numbers (suc n) (w ∷ ws) h = (h.0, first_numbers n ws h.1)
+
+pub joined_last-append : (ws : List Wrapper) (w : Wrapper) (h : Header) → joined_last (ws ++ (w ∷ [])) h ≡ joined w h
+joined_last-append [] w h = refl
+joined_last-append (v ∷ []) w h = refl
+joined_last-append (v ∷ u ∷ ws) w h = joined_last-append (u ∷ ws) w h
+
+-- the header that is written innermost has a tag number too
+pub joined_number : (w : Wrapper) (h j : Header) → HasTagNumber w → joined w h ≡ Some j → HasNumber j
+joined_number (Implicit k) (Tagged tag) j n e =
+    let q : Tagged (0x80 + k) ≡ j = cc in
+    let small : IsTagNumber (number_of (0x80 + k)) = omega arith in
+    subst HasNumber q small
+joined_number (Implicit k) (Application m) j n e = cc
+joined_number (Implicit k) Raw j n e = cc
+joined_number OctetContainer h j n e = cc
+joined_number BitContainer h j n e = cc
+joined_number (Explicit k) h j n e = cc
+
+pub innermost_number : (ws : List Wrapper) (h : Header) → HaveTagNumbers ws → HasNumber h → HasNumber (unwrap_or (joined_last ws h) h)
+innermost_number [] h n m = m
+innermost_number (w ∷ []) h n m = one (joined w h) refl
+  where
+    one : (j : Option Header) → joined w h ≡ j → HasNumber (unwrap_or j h)
+    one None e = m
+    one (Some j) e = joined_number w h j n.0 e
+innermost_number (w ∷ v ∷ ws) h n m = innermost_number (v ∷ ws) h n.1 m
+
+pub kept_numbers : (ws : List Wrapper) (j : Option Header) → HaveTagNumbers ws → HaveTagNumbers (kept j ws)
+kept_numbers ws None h = h
+kept_numbers ws (Some j) h = first_numbers (length ws - 1) ws h
+
+pub kept_first : (ws : List Wrapper) (j : Option Header) (n : ℕ) → n ≡ bool_byte (is_some j) → take (length ws - n) ws ≡ kept j ws
+kept_first ws None n e = let all : length ws ≤ length ws - n = omega arith in take_all (length ws - n) ws all
+kept_first ws (Some j) n e = ap (λ m. take (length ws - m) ws) e
+
+pub nil_of : (ws : List Wrapper) → length ws ≡ 0 → ws ≡ []
+nil_of [] e = refl
+nil_of (w ∷ ws) e = absurd (omega arith)
+
+-- ---- the loop
+
+-- behind what was there stand the openings of all but `rest`, the last byte first
+pub record Pushed (old now : List ℕ) (all rest : List Wrapper) (inner : List ℕ) (n : ℕ) : Type 0 where
+  pub done : List Wrapper
+  pub parts : all ≡ rest ++ done
+  pub items : now ≡ old ++ reverse (openings done inner n)
+
+pub pushed_first : (old now : List ℕ) (all : List Wrapper) (inner : List ℕ) (n : ℕ) → now ≡ old ++ reverse inner → Pushed old now all all inner n
+pushed_first old now all inner n e = record { done = []; parts = sym (append-nil all); items = e }
+
+-- how many bytes were added
+pub pushed_count : {old now : List ℕ} {all rest : List Wrapper} {inner : List ℕ} {n : ℕ} → (p : Pushed old now all rest inner n) → length now ≡ length old + length (openings p.done inner n)
+pushed_count {old} {inner = inner} {n = n} p =
+    ap length p.items ∙ length-append old (reverse (openings p.done inner n)) ∙ ap (λ m. length old + m) (length-reverse (openings p.done inner n))
+
+pub pushed_more : {old mid now : List ℕ} {all rest outer : List Wrapper} {inner : List ℕ} {n m : ℕ} (w : Wrapper) → Pushed old mid all rest inner n → rest ≡ outer ++ (w ∷ []) → m ≡ n + (length mid - length old)
+    → now ≡ mid ++ reverse (opening w m) → Pushed old now all outer inner n
+pushed_more {old} {mid} {now} {all} {rest} {outer} {inner} {n} {m} w p e k a =
+    let others = openings p.done inner n in
+    let count : m ≡ length others + n = omega (arith, pushed_count p) in
+    record {
+      done = w ∷ p.done;
+      parts = p.parts ∙ ap (λ ws. ws ++ p.done) e ∙ append_assoc outer (w ∷ []) p.done;
+      items =
+          a ∙ ap (λ bs. bs ++ reverse (opening w m)) p.items ∙ append_assoc old (reverse others) (reverse (opening w m)) ∙ ap (λ bs. old ++ bs) (sym (reverse-append (opening w m) others))
+          ∙ ap (λ x. old ++ reverse (opening w x ++ others)) count;
+    }
+
+pub pushed_all : {old now : List ℕ} {all whole rest : List Wrapper} {inner : List ℕ} {n : ℕ} → Pushed old now all rest inner n → rest ≡ [] → all ≡ whole → take (length old) now ++ reverse (drop (length old) now) ≡ old ++ openings whole inner n
+pushed_all {old} {now} {all} {whole} {rest} {inner} {n} p none e =
+    let bs = openings p.done inner n in
+    let front : take (length old) now ≡ old = ap (take (length old)) p.items ∙ take-append_seam old (reverse bs) in
+    let back : drop (length old) now ≡ reverse bs = ap (drop (length old)) p.items ∙ drop-append_seam old (reverse bs) in
+    let done : p.done ≡ whole = sym (p.parts ∙ ap (λ ws. ws ++ p.done) none) ∙ e in
+    rw (front, back, reverse-reverse bs) (ap (λ ws. old ++ openings ws inner n) done)

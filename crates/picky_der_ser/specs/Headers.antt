@@ -1,0 +1,58 @@
+-- The bytes in front of a content: the headers of the wrappers around it, and its own.
+use Rattle.std.specs.Prelude.{ℕ, suc, ◌+◌, ⊤, List, [], ◌∷◌, ◌++◌, length, take, ◌-◌, Option, None, Some}
+use Rattle.std.specs.Option.{unwrap_or}
+use Rattle.picky_der_core.specs.declared.asn1.wrapper.Wrapper.{Wrapper}
+use Rattle.picky_der_core.specs.declared.asn1.wrapper.Wrapper.TheVariants.{OctetContainer, BitContainer, Explicit, Implicit}
+use Rattle.picky_der_core.specs.Element.{len}
+use Rattle.picky_der_core.specs.Tag.{IsTagNumber, number_of}
+use Rattle.picky_der_core.specs.Wrapper.{HasTagNumber}
+use Rattle.picky_der_ser.specs.declared.header.Header.{Header}
+use Rattle.picky_der_ser.specs.declared.header.Header.TheVariants.{Tagged, Application, Raw}
+
+-- what a wrapper puts in front of n bytes; that of a bit string is followed by the count of its unused bits
+abbrev pub opening : Wrapper → ℕ → List ℕ
+opening OctetContainer n = 0x04 ∷ len n
+opening BitContainer n = 0x03 ∷ (len (suc n) ++ (0x00 ∷ []))
+opening (Explicit k) n = (0xA0 + k) ∷ len n
+opening (Implicit k) n = (0x80 + k) ∷ len n
+
+-- the header of n bytes
+abbrev pub own_header : Header → ℕ → List ℕ
+own_header (Tagged tag) n = tag ∷ len n
+own_header (Application k) n = (0x60 + k) ∷ len n
+own_header Raw n = []
+
+-- the wrappers, the outermost first, in front of these bytes and n more
+abbrev pub openings : List Wrapper → List ℕ → ℕ → List ℕ
+openings [] inner n = inner
+openings (w ∷ ws) inner n = let rest = openings ws inner n in opening w (length rest + n) ++ rest
+
+-- the header of an implicit tag directly around a tagged content, which stands in place of that content's own
+abbrev pub joined : Wrapper → Header → Option Header
+joined (Implicit k) (Tagged tag) = Some (Tagged (0x80 + k))
+joined w h = None
+
+-- the same of the innermost wrapper
+abbrev pub joined_last : List Wrapper → Header → Option Header
+joined_last [] h = None
+joined_last (w ∷ []) h = joined w h
+joined_last (w ∷ v ∷ ws) h = joined_last (v ∷ ws) h
+
+-- the wrappers whose own header is written
+abbrev pub kept : Option Header → List Wrapper → List Wrapper
+kept None ws = ws
+kept (Some j) ws = take (length ws - 1) ws
+
+-- all that stands in front of a content of n bytes
+abbrev pub headers : List Wrapper → Header → ℕ → List ℕ
+headers ws h n = openings (kept (joined_last ws h) ws) (own_header (unwrap_or (joined_last ws h) h) n) n
+
+-- each tag number is at most 30
+abbrev pub HasNumber : Header → Type 0
+HasNumber (Tagged tag) = IsTagNumber (number_of tag)
+HasNumber (Application k) = IsTagNumber k
+HasNumber Raw = ⊤
+
+abbrev pub HaveTagNumbers : List Wrapper → Type 0
+HaveTagNumbers [] = ⊤
+HaveTagNumbers (w ∷ ws) = HasTagNumber w × HaveTagNumbers ws
