@@ -3,3 +3,4 @@ pub mod Headers
 pub mod State
 pub mod Calls
 pub mod Integer
+pub mod Meaning
