@@ -38,7 +38,7 @@ pub big_endian-bytes : (n : ℕ) → AreBytes (big_endian n)
 big_endian-bytes n = subst AreBytes (sym (big_endian-digits n)) (all_below_base_digits_of 256 n (omega arith))
 
 -- a number is below the power of 256 that has as many bytes
-below-big_endian : (n : ℕ) → n < 256 ^ length (big_endian n)
+pub below-big_endian : (n : ℕ) → n < 256 ^ length (big_endian n)
 below-big_endian n = subst (λ m. m < 256 ^ length (big_endian n)) (number-big_endian n) (number_lt 256 (big_endian n) (big_endian-bytes n))
 
 -- more bytes hold more numbers

@@ -4,3 +4,6 @@ pub mod AbsentWrites
 pub mod Memory
 pub mod HeaderBytes
 pub mod HeaderLoop
+pub mod LevelMarks
+pub mod Brought
+pub mod HeaderSizes

@@ -1,5 +1,5 @@
 -- What the calls of a serializer do.
-use Rattle.std.specs.Prelude.{◌≡◌, ℕ, List, [], ◌∷◌, ◌++◌, length, None, Some, IfSome, IfNone, Result, Err, IfOk, IfErr, ◌≤◌}
+use Rattle.std.specs.Prelude.{◌≡◌, ℕ, List, [], ◌∷◌, length, None, Some, IfSome, IfNone, Result, Err, IfOk, IfErr, ◌≤◌}
 use Rattle.std.specs.Io.KnownBytes.{Appends}
 use Rattle.picky_der_core.specs.Writer.{AppendsBeginning}
 use Rattle.picky_der_core.specs.WriterFaults.{Faulted}
@@ -10,7 +10,7 @@ use Rattle.picky_der_core.specs.Tree.{Tree}
 use Rattle.picky_der_core.specs.Encoding.{der}
 use Rattle.picky_der_core.specs.Readable.{IsWritable}
 use Rattle.picky_der_core.specs.Wrapper.{under}
-use Rattle.picky_der_ser.specs.State.{State, Level}
+use Rattle.picky_der_ser.specs.State.{State, Level, with_bytes}
 
 -- why a tree isn't written into memory
 pub data MemoryExcuse (t : Tree) (e : Asn1DerError) : Type 0 where
@@ -21,7 +21,7 @@ module _ {W : Type 0} (g : Ghosts W) where
   -- these bytes were added to what was written, or inside a level to what the innermost one holds
   abbrev pub AddsIn : List Level → List Level → W → W → List ℕ → Type 0
   AddsIn [] levels old new bs = (levels ≡ []) × Appends (g.told old) (g.told new) bs
-  AddsIn (l ∷ ls) levels old new bs = (levels ≡ record l { content = l.content ++ bs } ∷ ls) × (new ≡ old)
+  AddsIn (l ∷ ls) levels old new bs = (levels ≡ with_bytes l bs ∷ ls) × (new ≡ old)
 
   abbrev pub Adds : State W → State W → List ℕ → Type 0
   Adds old new bs = AddsIn old.inside new.inside old.sink new.sink bs

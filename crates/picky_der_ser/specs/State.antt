@@ -1,5 +1,5 @@
 -- What a serializer is to its callers.
-use Rattle.std.specs.Prelude.{ℕ, List, Option, refl}
+use Rattle.std.specs.Prelude.{ℕ, List, ◌++◌, Option, refl}
 use Rattle.std.specs.Coded.{Coded, code_by, coded×, coded_list, coded_option, coded_ℕ}
 use Rattle.picky_der_core.specs.declared.error.Asn1DerError.{Asn1DerError}
 use Rattle.picky_der_core.specs.contracts.error.Asn1DerError as error
@@ -23,6 +23,19 @@ level_code =
     (λ l. (l.header, (l.around, l.content)))
     (λ p. record { header = p.0; around = p.1.0; content = p.1.1 })
     (λ _. refl)
+
+-- a level whose innermost member grew by these bytes
+abbrev pub with_bytes : Level → List ℕ → Level
+with_bytes l bs = record l { content = l.content ++ bs }
+
+-- the levels of a serializer: those of which a member is being written, innermost first, and the one that was opened last, until
+-- it ends or another call is made
+pub record Stack : Type 0 where
+  pub inside : List Level
+  pub pending : Option Level
+
+abbrev pub stack_code : Coded Stack
+stack_code = code_by (List Level × Option Level) (coded× (coded_list level_code) (coded_option level_code)) (λ s. (s.inside, s.pending)) (λ p. record { inside = p.0; pending = p.1 }) (λ _. refl)
 
 pub record State (W : Type 0) : Type 0 where
   pub sink : W

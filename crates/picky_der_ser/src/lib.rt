@@ -2,11 +2,13 @@
 #![tactic(auto)]
 
 mod boolean;
+mod enclose;
 mod entry;
 mod header;
 mod headers;
 mod impls;
 mod integer;
+mod levels;
 mod null;
 mod plain;
 mod serializer;

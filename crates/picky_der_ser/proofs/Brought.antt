@@ -1,0 +1,50 @@
+-- Headers that are brought in front of a content.
+use Rattle.std.proofs.Common.{◌≡◌, ℕ, ◌+◌, ◌-◌, ◌≤◌, List, ◌++◌, length, take, drop, refl, sym, ◌∙◌, ap, arith, append_assoc, length-append, take-append-drop, length-take-le}
+use Rattle.std.proofs.Math.Seq.{take-append_seam, drop-append_seam, take-append-add, drop-append-add}
+use Rattle.std.proofs.lemmas.List.{drop-append-le, take-append-le, take-take}
+use Rattle.std.specs.List.{slice_rotate_right}
+use Rattle.picky_der_ser.specs.Overwrite.{overwritten}
+
+-- the last bytes of a list, in front of the others
+rotated : (c h : List ℕ) (room more : ℕ) → length h ≡ room + more → slice_rotate_right (c ++ h) more ≡ drop room h ++ (c ++ take room h)
+rotated c h room more count =
+    let n : length (c ++ h) - more ≡ length c + room = omega (arith, length-append c h) in
+    ap (λ k. drop k (c ++ h) ++ take k (c ++ h)) n ∙ ap (λ x. x ++ take (length c + room) (c ++ h)) (drop-append-add c h room) ∙ ap (λ x. drop room h ++ x) (take-append-add c h room)
+
+-- the last `count` of these bytes in the place of those behind `a`
+filled : (a r x f : List ℕ) (at count n : ℕ) → length a ≡ at → length r ≡ count → length f ≡ count → n ≡ at + count + length x
+    → overwritten at count n (((a ++ r) ++ x) ++ f) ≡ a ++ (f ++ x)
+filled a r x f at count n i j k l =
+    let all = ((a ++ r) ++ x) ++ f in
+    let before : ((a ++ r) ++ x) ++ f ≡ a ++ (r ++ (x ++ f)) = append_assoc (a ++ r) x f ∙ append_assoc a r (x ++ f) in
+    let front : take at all ≡ a = ap (λ m. take m all) (sym i) ∙ ap (take (length a)) before ∙ take-append_seam a (r ++ (x ++ f)) in
+    let size : n ≡ length ((a ++ r) ++ x) = omega (arith, length-append (a ++ r) x, length-append a r) in
+    let last : drop n all ≡ f = ap (λ m. drop m all) size ∙ drop-append_seam ((a ++ r) ++ x) f in
+    let kept : take n all ≡ (a ++ r) ++ x = ap (λ m. take m all) size ∙ take-append_seam ((a ++ r) ++ x) f in
+    let behind : at + count ≡ length (a ++ r) = omega (arith, length-append a r) in
+    let others : drop (at + count) (take n all) ≡ x = ap (λ m. drop m (take n all)) behind ∙ ap (drop (length (a ++ r))) kept ∙ drop-append_seam (a ++ r) x in
+    rw (front, last, others) refl
+
+-- bytes behind a list, brought in front of its content: the first of them in the place of the room
+pub brought : (s h : List ℕ) (at start more : ℕ) → at ≤ start → start ≤ length s → length h ≡ (start - at) + more
+    → overwritten at (start - at) (length (take start (s ++ h) ++ slice_rotate_right (drop start (s ++ h)) more) - (start - at)) (take start (s ++ h) ++ slice_rotate_right (drop start (s ++ h)) more) ≡ take at s ++ (h ++ drop start s)
+brought s h at start more room within count =
+    let c = drop start s in
+    let width = start - at in
+    let a = take at s in
+    let r = drop at (take start s) in
+    let first = take width h in
+    let rest = drop width h in
+    let whole = take start (s ++ h) ++ slice_rotate_right (drop start (s ++ h)) more in
+    let outer : take start s ≡ a ++ r = sym (take-append-drop at (take start s)) ∙ ap (λ x. x ++ r) (take-take at start s room) in
+    let front : take start (s ++ h) ≡ a ++ r = take-append-le start s h within ∙ outer in
+    let tail : slice_rotate_right (drop start (s ++ h)) more ≡ rest ++ (c ++ first) = ap (λ x. slice_rotate_right x more) (drop-append-le start s h within) ∙ rotated c h width more count in
+    let is : whole ≡ ((a ++ r) ++ (rest ++ c)) ++ first =
+    ap (λ x. x ++ slice_rotate_right (drop start (s ++ h)) more) front ∙ ap (λ x. (a ++ r) ++ x) tail ∙ ap (λ x. (a ++ r) ++ x) (sym (append_assoc rest c first)) ∙ sym (append_assoc (a ++ r) (rest ++ c) first) in
+    let i : length a ≡ at = length-take-le at s (omega arith) in
+    let size : length (take start s) ≡ start = length-take-le start s within in
+    let j : length r ≡ width = omega (arith, ap length outer, length-append a r, size, i) in
+    let k : length first ≡ width = length-take-le width h (omega (arith, count)) in
+    let l : length (((a ++ r) ++ (rest ++ c)) ++ first) - width ≡ at + width + length (rest ++ c) = omega (arith, length-append ((a ++ r) ++ (rest ++ c)) first, length-append (a ++ r) (rest ++ c), length-append a r, i, j, k) in
+    ap (λ w. overwritten at width (length w - width) w) is ∙ filled a r (rest ++ c) first at width _ i j k l
+    ∙ ap (λ x. a ++ x) (sym (append_assoc first rest c) ∙ ap (λ x. x ++ c) (take-append-drop width h))

@@ -1,0 +1,50 @@
+-- The headers of a longer content are no shorter.
+use Rattle.std.proofs.Common.{ℕ, suc, ◌+◌, ◌<◌, ◌≤◌, List, [], ◌∷◌, length, inl, inr, arith, length-append}
+use Rattle.std.proofs.lemmas.Bool.{cases_lt}
+use Rattle.std.specs.Option.{unwrap_or}
+use Rattle.picky_der_core.specs.declared.asn1.wrapper.Wrapper.{Wrapper}
+use Rattle.picky_der_core.specs.declared.asn1.wrapper.Wrapper.TheVariants.{OctetContainer, BitContainer, Explicit, Implicit}
+use Rattle.picky_der_core.specs.Element.{big_endian, len}
+use Rattle.picky_der_core.specs.ElementLaws.{len-short, len-long, length-big_endian}
+use Rattle.picky_der_core.specs.LengthLaws.{below-big_endian}
+use Rattle.picky_der_ser.specs.declared.header.Header.{Header}
+use Rattle.picky_der_ser.specs.declared.header.Header.TheVariants.{Tagged, Application, Raw}
+use Rattle.picky_der_ser.specs.Headers.{opening, own_header, openings, joined_last, kept, headers}
+
+len_size : (n : ℕ) → 0 < length (len n)
+len_size n = elim (cases_lt n 0x80) [
+  | inl short ↦ rw (len-short n short) (omega arith)
+  | inr long ↦ rw (len-long n long) (omega arith)
+]
+
+len_more : (m n : ℕ) → m ≤ n → length (len m) ≤ length (len n)
+len_more m n h = elim (cases_lt m 0x80) [
+  | inl short ↦ rw (len-short m short) (omega (arith, len_size n))
+  | inr long ↦
+      let below = below-big_endian n in
+      let few = length-big_endian (length (big_endian n)) m (omega (arith, below)) in
+      rw (len-long m long, len-long n (omega arith)) (omega (arith, few))
+]
+
+opening_more : (w : Wrapper) (m n : ℕ) → m ≤ n → length (opening w m) ≤ length (opening w n)
+opening_more OctetContainer m n h = let s = len_more m n h in omega (arith, s)
+opening_more BitContainer m n h = let s = len_more (suc m) (suc n) (omega arith) in omega (arith, s, length-append (len (suc m)) (0x00 ∷ []), length-append (len (suc n)) (0x00 ∷ []))
+opening_more (Explicit k) m n h = let s = len_more m n h in omega (arith, s)
+opening_more (Implicit k) m n h = let s = len_more m n h in omega (arith, s)
+
+own_more : (h : Header) (m n : ℕ) → m ≤ n → length (own_header h m) ≤ length (own_header h n)
+own_more (Tagged tag) m n h = let s = len_more m n h in omega (arith, s)
+own_more (Application k) m n h = let s = len_more m n h in omega (arith, s)
+own_more Raw m n h = omega arith
+
+openings_more : (ws : List Wrapper) (inner others : List ℕ) (m n : ℕ) → length inner ≤ length others → m ≤ n → length (openings ws inner m) ≤ length (openings ws others n)
+openings_more [] inner others m n h k = h
+openings_more (w ∷ ws) inner others m n h k =
+    let rest = openings_more ws inner others m n h k in
+    let first = opening_more w (length (openings ws inner m) + m) (length (openings ws others n) + n) (omega (arith, rest)) in
+    omega (arith, first, rest, length-append (opening w (length (openings ws inner m) + m)) (openings ws inner m), length-append (opening w (length (openings ws others n) + n)) (openings ws others n))
+
+pub headers_more : (ws : List Wrapper) (h : Header) (n : ℕ) → length (headers ws h 0) ≤ length (headers ws h n)
+headers_more ws h n =
+    let j = joined_last ws h in
+    openings_more (kept j ws) (own_header (unwrap_or j h) 0) (own_header (unwrap_or j h) n) 0 n (own_more (unwrap_or j h) 0 n (omega arith)) (omega arith)

@@ -1,0 +1,74 @@
+//! Contents with their headers in front.
+ghost use Rattle.std.specs.Prelude.{◌≡◌, ◌≤◌, ◌<◌, ◌^◌, ◌+◌, ◌-◌, ◌++◌, length, take, drop, vec_len, OnOk};
+ghost use Rattle.std.specs.List.{slice_rotate_right};
+ghost use Rattle.picky_der_core.specs.Encoding.{der};
+ghost use Rattle.picky_der_core.specs.Wrapper.{under};
+ghost use Rattle.picky_der_ser.specs.Heading.{tree_of};
+ghost use Rattle.picky_der_ser.specs.Headers.{headers, HasNumber, HaveTagNumbers};
+ghost use Rattle.picky_der_ser.specs.Overwrite.{overwritten};
+
+use crate::Header;
+use crate::headers::push_headers;
+use picky_der_core::asn1::Wrapper;
+use std::alloc::AllocError;
+
+// Brings the last `count` bytes in front of those from `start` on.
+fn rotate_from(out: &mut Vec<u8>, start: usize, count: usize)
+    requires { start + count ≤ vec_len out.old }
+    ensures items { out.new.items ≡ take start out.old.items ++ slice_rotate_right (drop start out.old.items) count }
+    ensures len { vec_len out.new ≡ vec_len out.old }
+{
+    out[start..].rotate_right(count);
+}
+
+// The last `count` bytes take the place of those from `at` on.
+fn fill_from_last(out: &mut Vec<u8>, at: usize, count: usize)
+    requires { at + count + count ≤ vec_len out.old }
+    ensures { out.new.items ≡ overwritten at count (length out.old.items - count) out.old.items }
+{
+    let kept = out.len() - count;
+    let (front, last) = out.split_at_mut(kept);
+    front[at..at + count].copy_from_slice(last);
+    out.truncate(kept);
+}
+
+// Adds a content with its headers in front.
+pub(crate) fn push_enclosed(
+    out: &mut Vec<u8>,
+    around: &[Wrapper],
+    header: Header,
+    content: &[u8],
+) -> Result<(), AllocError>
+    requires numbers { HaveTagNumbers around.now × HasNumber header }
+    ensures ok { OnOk result (out.new.items ≡ out.old.items ++ der (under around.now (tree_of header content.now))) }
+    ensures grows { vec_len out.old ≤ vec_len out.new }
+{
+    push_headers(out, around, header, content.len())?;
+    out.extend_from_slice(content)?;
+    Ok(())
+}
+
+// Puts the headers of the content from `start` on in front of it. The room from `at` to `start` takes the first of them, so
+// the content moves only where they are longer.
+pub(crate) fn enclose(
+    out: &mut Vec<u8>,
+    at: usize,
+    start: usize,
+    around: &[Wrapper],
+    header: Header,
+) -> Result<(), AllocError>
+    requires numbers { HaveTagNumbers around.now × HasNumber header }
+    requires room { at ≤ start }
+    requires within { start ≤ vec_len out.old }
+    requires least { start ≤ at + length (headers around.now header 0) }
+    ensures ok { OnOk result (out.new.items ≡ take at out.old.items ++ der (under around.now (tree_of header (drop start out.old.items)))) }
+    ensures grows { at ≤ vec_len out.new }
+{
+    let end = out.len();
+    push_headers(out, around, header, end - start)?;
+    let room = start - at;
+    let more = out.len() - end - room;
+    rotate_from(out, start, more);
+    fill_from_last(out, at, room);
+    Ok(())
+}

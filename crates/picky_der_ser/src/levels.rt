@@ -1,0 +1,184 @@
+//! The levels of a serializer, in one vector.
+ghost use Rattle.std.specs.Prelude.{◌≡◌, ◌≢◌, ◌≤◌, ◌<◌, ◌^◌, ℕ, ◌++◌, List, [], ◌∷◌, true, false, length, take, drop, vec_len, None, Some, IfSome, IfOk, OnOk};
+ghost use Rattle.picky_der_core.specs.Encoding.{der};
+ghost use Rattle.picky_der_core.specs.Wrapper.{under};
+ghost use Rattle.picky_der_ser.specs.Heading.{tree_of};
+ghost use Rattle.picky_der_ser.specs.Headers.{headers, HasNumber, HaveTagNumbers};
+ghost use Rattle.picky_der_ser.specs.State.{Level, with_bytes};
+
+use crate::Header;
+use crate::enclose::{enclose, push_enclosed};
+use crate::headers::push_headers;
+use picky_der_core::asn1::Wrapper;
+use std::alloc::{AllocError, Global};
+use std::marker::Model;
+
+// Where a level begins: the room for its headers, and behind it its content.
+#[derive(Drop)]
+struct Mark {
+    header: Header,
+    around: Vec<Wrapper>,
+    at: usize,
+    start: usize,
+}
+
+// The contents of the levels stand one behind the other, the innermost last.
+#[derive(Drop)]
+pub(crate) struct Levels {
+    scratch: Vec<u8>,
+    marks: Vec<Mark>,
+    pending: Option<Mark>,
+}
+
+impl Model for Levels {
+    ghost use Rattle.std.specs.Prelude.{reverse, length};
+    ghost use Rattle.picky_der_ser.specs.State.{Stack, stack_code};
+    ghost use Rattle.picky_der_ser.specs.Marks.{levels_of, below, level_of, with_pending, AreMarks};
+
+    ghost Value = { Stack };
+
+    ghost coded = { stack_code };
+
+    ghost view = { λ s. record {
+      inside = levels_of (reverse s.marks.items) (below s.pending s.scratch.items);
+      pending = level_of s.pending s.scratch.items;
+    } };
+
+    ghost invariant = { λ s. AreMarks (with_pending s.pending (reverse s.marks.items)) (length s.scratch.items) };
+}
+
+impl Levels {
+    pub(crate) fn new(alloc: Global) -> Levels
+        ensures { result ≡ record { inside = []; pending = None } }
+    {
+        Levels {
+            scratch: Vec::new(alloc),
+            marks: Vec::new(alloc),
+            pending: None,
+        }
+    }
+
+    // Whether a member of some level is being written.
+    pub(crate) fn is_inside(&self) -> bool
+        ensures no { result ≡ false → self.now.inside ≡ [] }
+        ensures yes { result ≡ true → self.now.inside ≢ [] }
+    {
+        !self.marks.is_empty()
+    }
+
+    // Drops the level that was opened last and hasn't ended.
+    pub(crate) fn give_up(&mut self)
+        ensures { self.new ≡ record self.old { pending = None } }
+    {
+        if let Some(mark) = self.pending.take() {
+            self.scratch.truncate(mark.at);
+        }
+    }
+
+    // Opens a level, in place of one that was opened and hasn't ended.
+    pub(crate) fn open(&mut self, header: Header, around: Vec<Wrapper>)
+        requires numbers { HaveTagNumbers around.items × HasNumber header }
+        ensures { self.new ≡ record self.old { pending = Some (record { header = header; around = around.items; content = [] }) } }
+    {
+        self.give_up();
+        let at = self.scratch.len();
+        self.pending = Some(Mark {
+            header,
+            around,
+            at,
+            start: at,
+        });
+    }
+
+    // Makes room for the headers of a level without members, as much as those of an empty content take.
+    fn make_room(&mut self) -> Result<(), AllocError>
+        ensures { OnOk result (self.new ≡ self.old) }
+    {
+        if let Some(mark) = &mut self.pending {
+            if self.scratch.len() == mark.at {
+                push_headers(&mut self.scratch, &mark.around, mark.header, 0)?;
+                mark.start = self.scratch.len();
+            }
+        }
+        Ok(())
+    }
+
+    // A member of the level that was opened last is written from here on.
+    pub(crate) fn enter(&mut self) -> Result<(), AllocError>
+        ensures { OnOk result (IfSome self.old.pending (λ l. self.new ≡ record { inside = l ∷ self.old.inside; pending = None })) }
+    {
+        self.make_room()?;
+        if let Some(mark) = self.pending.take() {
+            self.marks.push(mark)?;
+        }
+        Ok(())
+    }
+
+    // The member has been written.
+    pub(crate) fn leave(&mut self)
+        ensures { (l : Level) (ls : List Level) → self.old.inside ≡ l ∷ ls → self.new ≡ record { inside = ls; pending = Some l } }
+    {
+        self.give_up();
+        self.pending = self.marks.pop();
+    }
+
+    // Adds the encoding of a content under this header in these wrappers to the level of which a member is being written,
+    // and answers how long it is.
+    pub(crate) fn append(
+        &mut self,
+        around: &[Wrapper],
+        header: Header,
+        content: &[u8],
+    ) -> Result<usize, AllocError>
+        requires numbers { HaveTagNumbers around.now × HasNumber header }
+        ensures count { IfOk result (λ n. n ≡ length (der (under around.now (tree_of header content.now)))) }
+        ensures ok { OnOk result ((l : Level) (ls : List Level) → self.old.inside ≡ l ∷ ls
+            → self.new ≡ record { inside = with_bytes l (der (under around.now (tree_of header content.now))) ∷ ls; pending = None }) }
+    {
+        self.give_up();
+        let start = self.scratch.len();
+        push_enclosed(&mut self.scratch, around, header, content)?;
+        Ok(self.scratch.len() - start)
+    }
+
+    // Puts the headers of the level that was opened last in front of its content, and adds all this to the level around it.
+    // Answers how many bytes these are.
+    pub(crate) fn merge(&mut self) -> Result<usize, AllocError>
+        ensures count { IfOk result (λ n. IfSome self.old.pending (λ p. n ≡ length (der (under p.around (tree_of p.header p.content))))) }
+        ensures ok { OnOk result ((p l : Level) (ls : List Level) → self.old.pending ≡ Some p → self.old.inside ≡ l ∷ ls
+            → self.new ≡ record { inside = with_bytes l (der (under p.around (tree_of p.header p.content))) ∷ ls; pending = None }) }
+    {
+        let Some(mark) = self.pending.take() else {
+            return Ok(0);
+        };
+        enclose(
+            &mut self.scratch,
+            mark.at,
+            mark.start,
+            &mark.around,
+            mark.header,
+        )?;
+        Ok(self.scratch.len() - mark.at)
+    }
+
+    // Adds the headers of a content of so many bytes to the level that was opened last.
+    pub(crate) fn add_headers(&mut self, len: usize) -> Result<(), AllocError>
+        requires fits { len < 2 ^ 63 }
+        ensures { OnOk result (IfSome self.old.pending (λ p. self.new ≡ record self.old { pending = Some (with_bytes p (headers p.around p.header len)) })) }
+    {
+        if let Some(mark) = &self.pending {
+            push_headers(&mut self.scratch, &mark.around, mark.header, len)?;
+        }
+        Ok(())
+    }
+
+    // What the level that was opened last holds.
+    pub(crate) fn content(&self) -> &[u8]
+        ensures { IfSome self.now.pending (λ p. result.now ≡ p.content) }
+    {
+        match &self.pending {
+            Some(mark) => &self.scratch[mark.start..],
+            None => &[],
+        }
+    }
+}
