@@ -18,6 +18,7 @@ pub mod Faults
 pub mod Reader
 pub mod Writer
 pub mod Watching
+pub mod Peeking
 pub mod Sink
 pub mod SliceSink
 pub mod SliceSinkLaws
