@@ -49,7 +49,8 @@ impl<R: ReadExt> PeekableReader<R> {
         ensures again { IfSome self.old.peeked (λ b. (result ≡ Ok b) × (self.new ≡ self.old)) }
         ensures ok { IfOk result (λ b. self.new.peeked ≡ Some b) }
         ensures bounded { IfOk result (λ b. b < 256) }
-        ensures err { OnErr result (self.new.peeked ≡ self.old.peeked) }
+        ensures asked { OnErr result (self.old.peeked ≡ None) }
+        ensures kept { OnErr result (self.new.peeked ≡ self.old.peeked) }
         ensures input { Keeps (left_in R.remaining self.old) (left_in R.remaining self.new) }
         ensures pos { self.new.pos ≡ self.old.pos }
         ensures fault { CountsFault (left_in R.remaining self.old) (R.faults self.old.reader) (R.faults self.new.reader) result }
