@@ -8,6 +8,7 @@ pub mod Shape
 pub mod Wrapper
 pub mod Reading
 pub mod Refusal
+pub mod BigEndianLaws
 pub mod ElementLaws
 pub mod EncodingLaws
 pub mod WrapperLaws
