@@ -5,8 +5,8 @@ use Rattle.std.specs.Option.{unwrap_or}
 use Rattle.picky_der_core.specs.declared.asn1.wrapper.Wrapper.{Wrapper}
 use Rattle.picky_der_core.specs.declared.asn1.wrapper.Wrapper.TheVariants.{OctetContainer, BitContainer, Explicit, Implicit}
 use Rattle.picky_der_core.specs.Element.{big_endian, len}
-use Rattle.picky_der_core.specs.ElementLaws.{len-short, len-long, length-big_endian}
-use Rattle.picky_der_core.specs.LengthLaws.{below-big_endian}
+use Rattle.picky_der_core.specs.ElementLaws.{len-short, len-long}
+use Rattle.picky_der_core.specs.BigEndianLaws.{length-big_endian, below-big_endian}
 use Rattle.picky_der_ser.specs.declared.header.Header.{Header}
 use Rattle.picky_der_ser.specs.declared.header.Header.TheVariants.{Tagged, Application, Raw}
 use Rattle.picky_der_ser.specs.Headers.{opening, own_header, openings, joined_last, kept, headers}

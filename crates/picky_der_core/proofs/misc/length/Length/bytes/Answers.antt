@@ -3,8 +3,9 @@ use Rattle.std.specs.Int.{w64, to_be_bytes}
 use Rattle.std.proofs.lemmas.Grind.{numeral_or}
 use Rattle.std.proofs.lemmas.List.{take_all, length-drop}
 use Rattle.picky_der_core.specs.Element.{big_endian, len}
-use Rattle.picky_der_core.specs.ElementLaws.{len-short, len-long, length-big_endian, length-len}
-use Rattle.picky_der_core.specs.LengthLaws.{length-len-long, big_endian-last}
+use Rattle.picky_der_core.specs.BigEndianLaws.{length-big_endian, big_endian-last}
+use Rattle.picky_der_core.specs.ElementLaws.{len-short, len-long, length-len}
+use Rattle.picky_der_core.specs.LengthLaws.{length-len-long}
 use Rattle.picky_der_core.proofs.misc.length.Length.bytes.Goals as goal
 
 -- the slice of a number's eight bytes that is copied, where the length takes so many
