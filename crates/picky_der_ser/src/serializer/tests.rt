@@ -43,7 +43,7 @@ fn over_refusing(
         after,
         refusal,
     };
-    Serializer::over(alloc, Watched::new(writer))
+    Serializer::new_to_writer(alloc, Watched::new(writer))
 }
 
 #[test]
@@ -93,7 +93,7 @@ fn a_writer_may_take_a_byte_a_call(rt: HostRuntime) {
     let mut ser = over_refusing(rt.alloc(), None, None);
     assert_eq!(rt; ser.serialize_u16(0x0102), Ok(4));
     assert_eq!(rt; ser.serialize_bool(true), Ok(3));
-    let taken = ser.into_sink().into_inner().taken;
+    let taken = ser.into_writer().into_inner().taken;
     assert_eq!(rt;
         taken.as_slice(),
         [0x02, 0x02, 0x01, 0x02, 0x01, 0x01, 0xFF].as_slice()
@@ -115,7 +115,7 @@ fn stays_failed_after_a_fault(rt: HostRuntime) {
             let mut ser = over_refusing(rt.alloc(), Some(place), refusal);
             assert_eq!(rt; ser.serialize_u16(0x0102), Err(error), "at {place}");
             assert_eq!(rt; ser.serialize_bytes(&[]), Err(error), "at {place}");
-            let taken = ser.into_sink().into_inner().taken;
+            let taken = ser.into_writer().into_inner().taken;
             assert_eq!(rt; taken.as_slice(), &encoding[..place], "at {place}");
         }
     }
