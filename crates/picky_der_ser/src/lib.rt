@@ -8,6 +8,8 @@ mod impls;
 mod integer;
 mod null;
 mod plain;
+#[cfg(test)]
+mod refuses_once;
 mod serializer;
 mod utf8_string;
 
