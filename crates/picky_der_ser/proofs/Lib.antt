@@ -7,3 +7,4 @@ pub mod HeaderLoop
 pub mod LevelMarks
 pub mod Brought
 pub mod HeaderSizes
+pub mod EntryWrites

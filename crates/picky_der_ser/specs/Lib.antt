@@ -4,5 +4,6 @@ pub mod Marks
 pub mod Overwrite
 pub mod State
 pub mod Calls
+pub mod Entry
 pub mod Integer
 pub mod Meaning
