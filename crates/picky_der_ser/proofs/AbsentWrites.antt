@@ -1,35 +1,36 @@
--- A value that isn't there, outside levels and wrappers.
-use Rattle.std.proofs.Common.{◌≡◌, Option, None, Some, Ok, Err, refl, sym, ap, subst, length, arith}
-use Rattle.std.specs.Io.KnownBytes.{Appends}
+-- A value that isn't there: nothing is written, and no wrapper stays open.
+use Rattle.std.proofs.Common.{◌≡◌, List, [], ◌∷◌, None, Ok, refl, sym, ap, length, arith, append-nil}
 use Rattle.std.proofs.KnownBytes.{Appends-nil}
 use Rattle.picky_der_core.specs.declared.misc.writer.WriteExt.{Ghosts}
-use Rattle.picky_der_core.specs.declared.error.Asn1DerError.{Asn1DerError}
 use Rattle.picky_der_core.specs.Tree.{Tree}
-use Rattle.picky_der_core.specs.Readable.{IsWritable}
-use Rattle.picky_der_core.specs.EncodingLaws.{der-absent}
-use Rattle.picky_der_ser.specs.State.{State}
-use Rattle.picky_der_ser.specs.Calls.{WritesAbsent}
-use Rattle.picky_der_ser.proofs.PlainWrites.{outside}
+use Rattle.picky_der_core.specs.WrapperLaws.{der-under_absent}
+use Rattle.picky_der_ser.specs.Headers.{HaveTagNumbers}
+use Rattle.picky_der_ser.specs.State.{State, Level, with_bytes}
+use Rattle.picky_der_ser.specs.Calls.{AddsIn, WritesAbsent}
+use Rattle.picky_der_ser.proofs.LevelWrites.{numbers_writable}
 
-writable-absent : IsWritable Tree.absent
-writable-absent = let d = der-absent Tree.absent refl in record { numbers = refl; fits = rw d (omega arith) }
+nothing_more : (l : Level) → l ≡ with_bytes l []
+nothing_more l = ap (λ c. record l { content = c }) (sym (append-nil l.content))
 
 module _ {W : Type 0} (g : Ghosts W) where
-  pub absent-ok : (sink : W) (failed : Option Asn1DerError) → failed ≡ None → WritesAbsent g (outside sink failed) (Ok 0) (outside sink failed)
-  absent-ok sink failed f = let d = der-absent Tree.absent refl in record {
-    wrote = record {
-      had_not_failed = f;
-      writable = writable-absent;
-      count = ap length (sym d);
-      adds = (refl, subst (Appends (g.told sink) (g.told sink)) (sym d) (Appends-nil (g.told sink)));
-      closed = refl;
-      not_failed = f;
-      no_fault = refl;
-    };
-    count = refl;
-    again = tt;
-    same = refl;
-  }
+  adds_none : (inside : List Level) (sink : W) → AddsIn g inside inside sink sink []
+  adds_none [] sink = (refl, Appends-nil (g.told sink))
+  adds_none (l ∷ ls) sink = (ap (λ m. m ∷ ls) (nothing_more l), refl)
 
-  pub absent-err : (old : State W) (e : Asn1DerError) → old.failed ≡ Some e → WritesAbsent g old (Err e) old
-  absent-err old e f = record { wrote = tt; count = tt; again = (f, refl); same = refl }
+  pub absent-ok : (old : State W) → old.failed ≡ None → HaveTagNumbers old.around → WritesAbsent g old (Ok 0) (record old { around = []; pending = None })
+  absent-ok old f n =
+      let none = der-under_absent old.around Tree.absent refl in
+      record {
+        wrote = record {
+          had_not_failed = f;
+          writable = record { numbers = numbers_writable old.around Tree.absent n refl; fits = rw none (omega arith) };
+          count = ap length (sym none);
+          adds = rw none (adds_none old.inside old.sink);
+          closed = refl;
+          not_failed = f;
+          no_fault = refl;
+        };
+        count = refl;
+        again = tt;
+        same = refl;
+      }

@@ -4,6 +4,8 @@ pub mod AbsentWrites
 pub mod HeaderBytes
 pub mod HeaderLoop
 pub mod LevelMarks
+pub mod LevelWrites
+pub mod StateWrites
 pub mod Brought
 pub mod HeaderSizes
 pub mod EntryWrites

@@ -10,7 +10,9 @@ use Rattle.picky_der_core.specs.Tree.{Tree}
 use Rattle.picky_der_core.specs.Encoding.{der}
 use Rattle.picky_der_core.specs.Readable.{IsWritable}
 use Rattle.picky_der_core.specs.Wrapper.{under}
-use Rattle.picky_der_ser.specs.State.{State, Level, with_bytes}
+use Rattle.picky_der_ser.specs.declared.header.Header.{Header}
+use Rattle.picky_der_ser.specs.Heading.{tree_of}
+use Rattle.picky_der_ser.specs.State.{State, Level, with_bytes, with_member}
 
 -- why a tree isn't written into memory
 pub data MemoryExcuse (t : Tree) (e : Asn1DerError) : Type 0 where
@@ -87,3 +89,47 @@ module _ {W : Type 0} (g : Ghosts W) where
     pub count : IfOk r (λ n. n ≡ 0)
     pub again : IfErr r (λ e. (old.failed ≡ Some e) × (new ≡ old))
     pub same : new.sink ≡ old.sink
+
+  -- ---- levels
+
+  -- it stopped with this error: it had failed so, or memory was refused; nothing was written
+  pub record Stops (old : State W) (e : Asn1DerError) (new : State W) : Type 0 where
+    pub failed : new.failed ≡ Some e
+    pub same : new.sink ≡ old.sink
+    pub again : IfSome old.failed (λ f. e ≡ f)
+    pub first : IfNone old.failed (e ≡ OutOfMemory)
+
+  -- a level was opened under this header, and took the open wrappers with it
+  pub record Opens (header : Header) (old new : State W) : Type 0 where
+    pub opened : new ≡ record { sink = old.sink; around = []; failed = old.failed; inside = old.inside; pending = Some (record { header = header; around = old.around; content = [] }) }
+
+  -- the tree was added as a member to the level that was opened last
+  pub record Gains (t : Tree) (old new : State W) : Type 0 where
+    pub had_not_failed : old.failed ≡ None
+    pub writable : IsWritable t
+    pub added : IfSome old.pending (λ l. new ≡ record { sink = old.sink; around = []; failed = None; inside = old.inside; pending = Some (with_member l (der t)) })
+
+  -- it stopped with this error before the tree was added
+  pub record Rejects (t : Tree) (old : State W) (e : Asn1DerError) (new : State W) : Type 0 where
+    pub failed : new.failed ≡ Some e
+    pub same : new.sink ≡ old.sink
+    pub again : IfSome old.failed (λ f. e ≡ f)
+    pub first : IfNone old.failed (MemoryExcuse t e)
+
+  -- one that had failed answered that error again, and wrote nothing
+  pub record AnswersAgain (old : W) (f : Asn1DerError) (r : Result ℕ Asn1DerError) (new : State W) : Type 0 where
+    pub is : r ≡ Err f
+    pub same : new.sink ≡ old
+    pub failed : new.failed ≡ Some f
+
+  -- the call wrote this content under the header in the wrappers of the state before, or stopped
+  pub record Ends (header : Header) (content : List ℕ) (old : State W) (r : Result ℕ Asn1DerError) (new : State W) : Type 0 where
+    pub wrote : IfOk r (λ n. Writes (tree_of header content) old n new)
+    pub failed : IfErr r (λ e. Fails (tree_of header content) old e new)
+    pub counted : g.faults old.sink ≤ g.faults new.sink
+    pub goes_on : g.later old.sink new.sink
+
+  -- the level that was opened last has ended
+  pub record Finishes (old : State W) (r : Result ℕ Asn1DerError) (new : State W) : Type 0 where
+    pub ended : IfSome old.pending (λ l. Ends l.header l.content (record old { around = l.around }) r new)
+    pub again : IfSome old.failed (λ f. AnswersAgain old.sink f r new)

@@ -28,6 +28,10 @@ level_code =
 abbrev pub with_bytes : Level → List ℕ → Level
 with_bytes l bs = record l { content = l.content ++ bs }
 
+-- a level with one member more, by its encoding
+abbrev pub with_member : Level → List ℕ → Level
+with_member l bs = with_bytes l bs
+
 -- the levels of a serializer: those of which a member is being written, innermost first, and the one that was opened last, until
 -- it ends or another call is made
 pub record Stack : Type 0 where

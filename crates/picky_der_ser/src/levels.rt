@@ -144,6 +144,7 @@ impl Levels {
     // Puts the headers of the level that was opened last in front of its content, and adds all this to the level around it.
     // Answers how many bytes these are.
     pub(crate) fn merge(&mut self) -> Result<usize, AllocError>
+        ensures numbers { IfSome self.old.pending (λ p. HaveTagNumbers p.around × HasNumber p.header) }
         ensures count { IfOk result (λ n. IfSome self.old.pending (λ p. n ≡ length (der (under p.around (tree_of p.header p.content))))) }
         ensures ok { OnOk result ((p l : Level) (ls : List Level) → self.old.pending ≡ Some p → self.old.inside ≡ l ∷ ls
             → self.new ≡ record { inside = with_bytes l (der (under p.around (tree_of p.header p.content))) ∷ ls; pending = None }) }
@@ -164,7 +165,8 @@ impl Levels {
     // Adds the headers of a content of so many bytes to the level that was opened last.
     pub(crate) fn add_headers(&mut self, len: usize) -> Result<(), AllocError>
         requires fits { len < 2 ^ 63 }
-        ensures { OnOk result (IfSome self.old.pending (λ p. self.new ≡ record self.old { pending = Some (with_bytes p (headers p.around p.header len)) })) }
+        ensures numbers { IfSome self.old.pending (λ p. HaveTagNumbers p.around × HasNumber p.header) }
+        ensures ok { OnOk result (IfSome self.old.pending (λ p. self.new ≡ record self.old { pending = Some (with_bytes p (headers p.around p.header len)) })) }
     {
         if let Some(mark) = &self.pending {
             push_headers(&mut self.scratch, &mark.around, mark.header, len)?;

@@ -1,5 +1,5 @@
-//! One plain element, to a sink.
-ghost use Rattle.std.specs.Prelude.{◌≡◌, ◌≤◌, length, IfOk, IfErr, OnOk, OnErr};
+//! Elements, to a sink.
+ghost use Rattle.std.specs.Prelude.{◌≡◌, ◌≤◌, ◌++◌, length, IfOk, IfErr, OnOk, OnErr};
 ghost use Rattle.std.specs.Io.KnownBytes.{Appends};
 ghost use Rattle.picky_der_core.specs.Element.{tlv};
 ghost use Rattle.picky_der_core.specs.Writer.{AppendsBeginning};
@@ -23,4 +23,19 @@ pub(crate) fn put_element<W: WriteExt>(sink: &mut W, tag: Tag, content: &[u8]) -
     let length = Length::serialize(content.len(), sink)?;
     let rest = sink.write_exact(content)?;
     Ok(identifier + length + rest)
+}
+
+// Writes the headers of a content, and the content.
+pub(crate) fn put_headed<W: WriteExt>(sink: &mut W, headers: &[u8], content: &[u8]) -> Result<usize>
+    ensures count { IfOk result (λ n. n ≡ length (headers.now ++ content.now)) }
+    ensures appends { OnOk result (Appends (W.told sink.old) (W.told sink.new) (headers.now ++ content.now)) }
+    ensures beginning { OnErr result (AppendsBeginning (W.told sink.old) (W.told sink.new) (headers.now ++ content.now)) }
+    ensures fault { IfErr result (λ e. Faulted W.WriteExt.own sink.old e sink.new) }
+    ensures counted { W.faults sink.old ≤ W.faults sink.new }
+    ensures no_fault { OnOk result (W.faults sink.new ≡ W.faults sink.old) }
+    ensures goes_on { W.later sink.old sink.new }
+{
+    let first = sink.write_exact(headers)?;
+    let rest = sink.write_exact(content)?;
+    Ok(first + rest)
 }

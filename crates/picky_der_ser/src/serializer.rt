@@ -8,9 +8,11 @@ ghost use Rattle.picky_der_core.specs.Writer.{AppendsBeginning};
 ghost use Rattle.picky_der_core.specs.WriterFaults.{Faulted};
 ghost use Rattle.picky_der_ser.specs.Calls.{Writes, Fails, WritesPlain, WritesAbsent};
 
-use crate::plain::put_element;
-use crate::{Boolean, Null, UnsignedInteger, Utf8String};
-use picky_der_core::asn1::Tag;
+mod level;
+mod plain;
+
+use crate::levels::Levels;
+use picky_der_core::asn1::Wrapper;
 use picky_der_core::misc::{BufSink, SliceSink, WriteExt};
 use picky_der_core::{Asn1DerError, Result};
 use std::alloc::Global;
@@ -37,19 +39,30 @@ pub trait Serialize {
 #[derive(Drop)]
 pub struct Serializer<W: WriteExt> {
     sink: W,
+    // The open wrappers, the outermost first.
+    around: Vec<Wrapper>,
     failed: Option<Asn1DerError>,
+    levels: Levels,
     alloc: Global,
 }
 
 impl<W: WriteExt> Model for Serializer<W> {
-    ghost use Rattle.std.specs.Prelude.{[], None};
     ghost use Rattle.picky_der_ser.specs.State.{State, state_code};
+    ghost use Rattle.picky_der_ser.specs.Headers.{HaveTagNumbers};
 
     ghost Value = { State W };
 
     ghost coded = { state_code W.code };
 
-    ghost view = { λ s. record { sink = s.sink; around = []; failed = s.failed; inside = []; pending = None } };
+    ghost view = { λ s. record {
+      sink = s.sink;
+      around = s.around.items;
+      failed = s.failed;
+      inside = s.levels.inside;
+      pending = s.levels.pending;
+    } };
+
+    ghost invariant = { λ s. HaveTagNumbers s.around.items };
 }
 
 impl<'a> Serializer<SliceSink<'a>> {
@@ -98,7 +111,9 @@ impl<W: WriteExt> Serializer<W> {
     {
         Serializer {
             sink: writer,
+            around: Vec::new(alloc),
             failed: None,
+            levels: Levels::new(alloc),
             alloc,
         }
     }
@@ -109,133 +124,24 @@ impl<W: WriteExt> Serializer<W> {
     {
         let Serializer {
             sink,
+            around: _,
             failed: _,
+            levels: _,
             alloc: _,
         } = self;
         sink
-    }
-
-    // Writes a plain element in the open wrappers.
-    pub(crate) fn write_plain(&mut self, tag: Tag, content: &[u8]) -> Result<usize>
-        requires { IsTagNumber (number_of tag) }
-        ensures { WritesPlain W.WriteExt.own (Tree.bytes tag content.now) self.old result self.new }
-    {
-        if let Some(error) = self.failed {
-            return Err(error);
-        }
-        match put_element(&mut self.sink, tag, content) {
-            Ok(count) => Ok(count),
-            Err(error) => {
-                self.failed = Some(error);
-                Err(error)
-            }
-        }
-    }
-
-    /// Writes a truth value. Outside wrappers, sequences and application tags no memory is taken, and only the sink
-    /// can refuse; the same holds for the other calls of plain values.
-    pub fn serialize_bool(&mut self, value: bool) -> Result<usize>
-        ensures { WritesPlain W.WriteExt.own (Tree.boolean value) self.old result self.new }
-    {
-        Boolean::serialize(value, self)
-    }
-
-    /// Writes a number of 8 bits.
-    pub fn serialize_u8(&mut self, value: u8) -> Result<usize>
-        ensures { WritesPlain W.WriteExt.own (Tree.unsigned value) self.old result self.new }
-    {
-        UnsignedInteger::serialize(value, self)
-    }
-
-    /// Writes a number of 16 bits.
-    pub fn serialize_u16(&mut self, value: u16) -> Result<usize>
-        ensures { WritesPlain W.WriteExt.own (Tree.unsigned value) self.old result self.new }
-    {
-        UnsignedInteger::serialize(value, self)
-    }
-
-    /// Writes a number of 32 bits.
-    pub fn serialize_u32(&mut self, value: u32) -> Result<usize>
-        ensures { WritesPlain W.WriteExt.own (Tree.unsigned value) self.old result self.new }
-    {
-        UnsignedInteger::serialize(value, self)
-    }
-
-    /// Writes a number of 64 bits.
-    pub fn serialize_u64(&mut self, value: u64) -> Result<usize>
-        ensures { WritesPlain W.WriteExt.own (Tree.unsigned value) self.old result self.new }
-    {
-        UnsignedInteger::serialize(value, self)
-    }
-
-    /// Writes a number of 128 bits.
-    pub fn serialize_u128(&mut self, value: u128) -> Result<usize>
-        ensures { WritesPlain W.WriteExt.own (Tree.unsigned value) self.old result self.new }
-    {
-        UnsignedInteger::serialize(value, self)
-    }
-
-    /// Writes an octet string.
-    pub fn serialize_bytes(&mut self, bytes: &[u8]) -> Result<usize>
-        ensures { WritesPlain W.WriteExt.own (Tree.bytes 0x04 bytes.now) self.old result self.new }
-    {
-        self.write_plain(Tag::OCTET_STRING, bytes)
-    }
-
-    /// Writes a null.
-    pub fn serialize_unit(&mut self) -> Result<usize>
-        ensures { WritesPlain W.WriteExt.own Tree.null self.old result self.new }
-    {
-        Null::serialize(self)
-    }
-
-    /// Writes a null for a struct without fields. The name isn't written.
-    pub fn serialize_unit_struct(&mut self, name: &'static str) -> Result<usize>
-        ensures { WritesPlain W.WriteExt.own Tree.null self.old result self.new }
-    {
-        let _ = name;
-        Null::serialize(self)
-    }
-
-    /// Writes a character, as the text that is just it.
-    pub fn serialize_char(&mut self, value: char) -> Result<usize>
-        ensures { WritesPlain W.WriteExt.own (Tree.text (encode_utf8 value)) self.old result self.new }
-    {
-        let mut room = [0; 4];
-        Utf8String::serialize(value.encode_utf8(&mut room), self)
-    }
-
-    /// Writes a text.
-    pub fn serialize_str(&mut self, value: &str) -> Result<usize>
-        ensures { WritesPlain W.WriteExt.own (Tree.text value.now) self.old result self.new }
-    {
-        Utf8String::serialize(value, self)
-    }
-
-    /// Writes a content under this tag, unchecked. `UnsupportedValue` where the tag has the number 31, which would
-    /// announce the long form (X.690, 8.1.2.4): this is tested before all but an earlier error, no memory is taken,
-    /// and nothing is written.
-    pub fn serialize_tagged_bytes(&mut self, tag: Tag, content: &[u8]) -> Result<usize>
-        ensures { WritesPlain W.WriteExt.own (Tree.bytes tag content.now) self.old result self.new }
-    {
-        if let Some(error) = self.failed {
-            return Err(error);
-        }
-        if tag.number() > 30 {
-            self.failed = Some(Asn1DerError::UnsupportedValue);
-            return Err(Asn1DerError::UnsupportedValue);
-        }
-        self.write_plain(tag, content)
     }
 
     /// Drops the open wrappers, writes nothing and answers 0. No memory is taken: only an earlier error is answered.
     pub fn serialize_none(&mut self) -> Result<usize>
         ensures { WritesAbsent W.WriteExt.own self.old result self.new }
     {
-        match self.failed {
-            Some(error) => Err(error),
-            None => Ok(0),
+        if let Some(error) = self.failed {
+            return Err(error);
         }
+        self.levels.give_up();
+        self.around.clear();
+        Ok(0)
     }
 
     /// Writes the value as it is.
@@ -253,6 +159,34 @@ impl<W: WriteExt> Serializer<W> {
         ensures { result ≡ false }
     {
         false
+    }
+
+    // Has failed from here on.
+    pub(crate) fn fail(&mut self, error: Asn1DerError) -> Asn1DerError
+        ensures error { result ≡ error }
+        ensures same { self.new ≡ record self.old { failed = Some error } }
+    {
+        self.failed = Some(error);
+        error
+    }
+
+    // Closes the wrappers at `Ok`, and has failed at `Err`.
+    pub(crate) fn settle(&mut self, outcome: Result<usize>) -> Result<usize>
+        ensures same { result ≡ outcome }
+        ensures sink { (self.new.sink ≡ self.old.sink) × (self.new.inside ≡ self.old.inside) }
+        ensures ok { OnOk outcome ((self.new.around ≡ []) × (self.new.failed ≡ self.old.failed)) }
+        ensures err { IfErr outcome (λ e. self.new.failed ≡ Some e) }
+    {
+        match outcome {
+            Ok(count) => {
+                self.around.clear();
+                Ok(count)
+            }
+            Err(error) => {
+                self.failed = Some(error);
+                Err(error)
+            }
+        }
     }
 }
 

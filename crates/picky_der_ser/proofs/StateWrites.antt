@@ -1,0 +1,101 @@
+-- What was written, seen from the state of a serializer.
+use Rattle.std.proofs.Common.{◌≡◌, ◌≢◌, ℕ, ◌≤◌, List, [], ◌∷◌, length, None, Some, refl, sym, ap, ◌∙◌, subst, Result, Ok, Err, IfOk, OnOk, IfErr, OnErr}
+use Rattle.std.specs.Io.KnownBytes.{Appends}
+use Rattle.picky_der_core.specs.declared.asn1.wrapper.Wrapper.{Wrapper}
+use Rattle.picky_der_core.specs.Writer.{AppendsBeginning, beginning_none}
+use Rattle.picky_der_core.specs.WriterFaults.{Faulted}
+use Rattle.picky_der_core.specs.declared.misc.writer.WriteExt.{Ghosts}
+use Rattle.picky_der_core.specs.declared.error.Asn1DerError.{Asn1DerError}
+use Rattle.picky_der_core.specs.declared.error.Asn1DerError.TheVariants.{OutOfMemory}
+use Rattle.picky_der_core.specs.Tree.{Tree}
+use Rattle.picky_der_core.specs.Encoding.{der}
+use Rattle.picky_der_core.specs.Readable.{IsWritable}
+use Rattle.picky_der_core.specs.Wrapper.{under}
+use Rattle.picky_der_ser.specs.State.{State, Level, with_bytes}
+use Rattle.picky_der_ser.specs.Calls.{AddsIn, Wrote, Refused, RefusedIn, no_memory, no_room, Writes, Fails, WritesPlain}
+use Rattle.picky_der_ser.proofs.LevelWrites.{wrote_by, refused_by}
+
+module _ {W : Type 0} (g : Ghosts W) where
+  adds_outside : (inside levels : List Level) (old new : W) (bs : List ℕ) → inside ≡ [] → levels ≡ [] → Appends (g.told old) (g.told new) bs → AddsIn g inside levels old new bs
+  adds_outside inside levels old new bs e f h = subst (λ l. AddsIn g l levels old new bs) (sym e) (f, h)
+
+  -- outside levels
+  pub writes_outside : (t : Tree) (old new : State W) (n : ℕ) → old.failed ≡ None → old.inside ≡ [] → new.inside ≡ [] → new.around ≡ [] → new.failed ≡ None → Wrote g (under old.around t) old.sink n new.sink
+      → g.faults new.sink ≡ g.faults old.sink → Writes g t old n new
+  writes_outside t old new n f i j a b h q =
+      record { had_not_failed = f; writable = h.writable; count = h.count; adds = adds_outside old.inside new.inside old.sink new.sink _ i j h.appends; closed = a; not_failed = b; no_fault = q }
+
+  pub fails_outside : (t : Tree) (old new : State W) (e : Asn1DerError) → old.failed ≡ None → old.inside ≡ [] → new.failed ≡ Some e → Refused g (under old.around t) old.sink e new.sink → Fails g t old e new
+  fails_outside t old new e f i b h =
+      let u = under old.around t in
+      let first : RefusedIn g old.inside u old.sink e new.sink = subst (λ ls. RefusedIn g ls u old.sink e new.sink) (sym i) h in
+      record { failed = b; again = rw f tt; first = rw f first }
+
+  -- inside one
+  adds_inside : (inside levels : List Level) (old new : W) (bs : List ℕ) → inside ≢ [] → ((l : Level) (ls : List Level) → inside ≡ l ∷ ls → levels ≡ with_bytes l bs ∷ ls) → new ≡ old → AddsIn g inside levels old new bs
+  adds_inside [] levels old new bs some h s = absurd (some refl)
+  adds_inside (l ∷ ls) levels old new bs some h s = (h l ls refl, s)
+
+  pub writes_inside : (t : Tree) (old new : State W) (n : ℕ) → old.failed ≡ None → old.inside ≢ [] → ((l : Level) (ls : List Level) → old.inside ≡ l ∷ ls → new.inside ≡ with_bytes l (der (under old.around t)) ∷ ls) → new.sink ≡ old.sink
+      → new.around ≡ [] → new.failed ≡ None → IsWritable (under old.around t) → n ≡ length (der (under old.around t)) → Writes g t old n new
+  writes_inside t old new n f some h s a b w count =
+      record { had_not_failed = f; writable = w; count = count; adds = adds_inside old.inside new.inside old.sink new.sink _ some h s; closed = a; not_failed = b; no_fault = ap g.faults s }
+
+  -- anywhere, for want of memory
+  refused_memory : (inside : List Level) (t : Tree) (sink : W) → RefusedIn g inside t sink OutOfMemory sink
+  refused_memory [] t sink = record { begins = beginning_none (g.told sink) (der t); excuse = no_memory refl }
+  refused_memory (l ∷ ls) t sink = (no_room refl, refl)
+
+  pub fails_memory : (t : Tree) (old new : State W) (e : Asn1DerError) → old.failed ≡ None → e ≡ OutOfMemory → new.failed ≡ Some e → new.sink ≡ old.sink → Fails g t old e new
+  fails_memory t old new e f m b s =
+      let first : RefusedIn g old.inside (under old.around t) old.sink e new.sink = rw (m, s) (refused_memory old.inside (under old.around t) old.sink) in
+      record { failed = b; again = rw f tt; first = rw f first }
+
+  -- ---- plain values
+
+  -- the sink took what it took, and then the outcome was settled
+  pub plain_outside : (t : Tree) (old new : State W) (mid : W) (levels : List Level) (r s : Result ℕ Asn1DerError) → s ≡ r → new.sink ≡ mid → new.inside ≡ levels → IsWritable t → old.failed ≡ None → old.inside ≡ []
+      → OnOk r (levels ≡ []) → OnOk r ((new.around ≡ []) × (new.failed ≡ old.failed)) → IfErr r (λ e. new.failed ≡ Some e)
+      → IfOk r (λ n. Wrote g (under old.around t) old.sink n mid) → IfErr r (λ e. Refused g (under old.around t) old.sink e mid) → IfErr r (λ e. old.around ≡ [] → Faulted g old.sink e mid)
+      → OnOk r (g.faults mid ≡ g.faults old.sink) → g.faults old.sink ≤ g.faults mid → g.later old.sink mid → WritesPlain g t old s new
+  plain_outside t old new mid levels (Ok n) s is same x w f i j a b h k m q c l = rw is (record {
+    wrote = writes_outside t old new n f i (x ∙ j) a.0 (a.1 ∙ f) (subst (λ v. Wrote g (under old.around t) old.sink n v) (sym same) h) (ap g.faults same ∙ q);
+    failed = tt;
+    outside = tt;
+    past = λ no. absurd (no w);
+    counted = subst (λ v. g.faults old.sink ≤ g.faults v) (sym same) c;
+    goes_on = subst (g.later old.sink) (sym same) l;
+  })
+  plain_outside t old new mid levels (Err e) s is same x w f i j a b h k m q c l = rw is (record {
+    wrote = tt;
+    failed = fails_outside t old new e f i b (subst (λ v. Refused g (under old.around t) old.sink e v) (sym same) k);
+    outside = λ p y z bare. subst (λ v. Faulted g old.sink e v) (sym same) (m bare);
+    past = λ no. absurd (no w);
+    counted = subst (λ v. g.faults old.sink ≤ g.faults v) (sym same) c;
+    goes_on = subst (g.later old.sink) (sym same) l;
+  })
+
+  pub plain_inside : (t : Tree) (old new : State W) (n : ℕ) → IsWritable t → Writes g t old n new → g.faults old.sink ≤ g.faults new.sink → g.later old.sink new.sink → WritesPlain g t old (Ok n) new
+  plain_inside t old new n w h c l = record { wrote = h; failed = tt; outside = tt; past = λ no. absurd (no w); counted = c; goes_on = l }
+
+  pub plain_refused : (t : Tree) (old new : State W) (e : Asn1DerError) → IsWritable t → old.inside ≢ [] → Fails g t old e new → g.faults old.sink ≤ g.faults new.sink → g.later old.sink new.sink → WritesPlain g t old (Err e) new
+  plain_refused t old new e w some h c l = record { wrote = tt; failed = h; outside = λ x y inside around. absurd (some inside); past = λ no. absurd (no w); counted = c; goes_on = l }
+
+  -- without wrappers, the sink took an element
+  pub bare_wrote : (t : Tree) (ws : List Wrapper) (bs : List ℕ) (old new : W) (r : Result ℕ Asn1DerError) → ws ≡ [] → IsWritable t → bs ≡ der t → IfOk r (λ n. n ≡ length bs) → OnOk r (Appends (g.told old) (g.told new) bs) → IfOk r (λ n. Wrote g (under ws t) old n new)
+  bare_wrote t ws bs old new r e w is count appends = subst (λ vs. IfOk r (λ n. Wrote g (under vs t) old n new)) (sym e) (wrote_by g t bs old new r w is count appends)
+
+  pub bare_refused : (t : Tree) (ws : List Wrapper) (bs : List ℕ) (old new : W) (r : Result ℕ Asn1DerError) → ws ≡ [] → IsWritable t → bs ≡ der t → OnErr r (AppendsBeginning (g.told old) (g.told new) bs) → IfErr r (λ e. Faulted g old e new) → IfErr r (λ e. Refused g (under ws t) old e new)
+  bare_refused t ws bs old new r e w is begins fault = subst (λ vs. IfErr r (λ k. Refused g (under vs t) old k new)) (sym e) (refused_by g t bs old new r w is begins fault)
+
+  pub bare_fault : (ws : List Wrapper) (old new : W) (r : Result ℕ Asn1DerError) → IfErr r (λ e. Faulted g old e new) → IfErr r (λ e. ws ≡ [] → Faulted g old e new)
+  bare_fault ws old new (Ok n) h = tt
+  bare_fault ws old new (Err e) h = λ bare. h
+
+  pub wrapped_fault : (ws : List Wrapper) (old new : W) (r : Result ℕ Asn1DerError) → ws ≢ [] → IfErr r (λ e. ws ≡ [] → Faulted g old e new)
+  wrapped_fault ws old new (Ok n) h = tt
+  wrapped_fault ws old new (Err e) h = λ bare. absurd (h bare)
+
+pub on_ok : {A E : Type 0} {P : Type 0} (r : Result A E) → P → OnOk r P
+on_ok (Ok v) h = h
+on_ok (Err e) h = tt

@@ -1,0 +1,172 @@
+//! Plain values, written.
+ghost use Rattle.std.specs.Prelude.{◌≡◌, ◌≢◌, [], length, encode_utf8};
+ghost use Rattle.picky_der_core.specs.Tag.{number_of, IsTagNumber};
+ghost use Rattle.picky_der_core.specs.Tree.{Tree};
+ghost use Rattle.picky_der_ser.specs.Calls.{WritesPlain};
+
+use super::Serializer;
+use crate::plain::put_element;
+use crate::{Boolean, Header, Null, UnsignedInteger, Utf8String};
+use picky_der_core::asn1::Tag;
+use picky_der_core::misc::WriteExt;
+use picky_der_core::{Asn1DerError, Result};
+
+impl<W: WriteExt> Serializer<W> {
+    // Writes a plain element in the open wrappers.
+    pub(crate) fn write_plain(&mut self, tag: Tag, content: &[u8]) -> Result<usize>
+        requires { IsTagNumber (number_of tag) }
+        ensures { WritesPlain W.WriteExt.own (Tree.bytes tag content.now) self.old result self.new }
+    {
+        if let Some(error) = self.failed {
+            return Err(error);
+        }
+        if self.levels.is_inside() {
+            return self.append_plain(tag, content);
+        }
+        if self.around.is_empty() {
+            return self.put_plain(tag, content);
+        }
+        self.put_wrapped(tag, content)
+    }
+
+    // Adds a plain element to the level of which a member is being written.
+    fn append_plain(&mut self, tag: Tag, content: &[u8]) -> Result<usize>
+        requires number { IsTagNumber (number_of tag) }
+        requires had_not_failed { self.old.failed ≡ None }
+        requires inside { self.old.inside ≢ [] }
+        ensures { WritesPlain W.WriteExt.own (Tree.bytes tag content.now) self.old result self.new }
+    {
+        match self
+            .levels
+            .append(&self.around, Header::Tagged(tag), content)
+        {
+            Ok(count) => {
+                self.around.clear();
+                Ok(count)
+            }
+            Err(_) => Err(self.fail(Asn1DerError::OutOfMemory)),
+        }
+    }
+
+    // Writes a plain element to the sink.
+    fn put_plain(&mut self, tag: Tag, content: &[u8]) -> Result<usize>
+        requires number { IsTagNumber (number_of tag) }
+        requires had_not_failed { self.old.failed ≡ None }
+        requires outside { self.old.inside ≡ [] }
+        requires bare { self.old.around ≡ [] }
+        ensures { WritesPlain W.WriteExt.own (Tree.bytes tag content.now) self.old result self.new }
+    {
+        self.levels.give_up();
+        let outcome = put_element(&mut self.sink, tag, content);
+        self.settle(outcome)
+    }
+
+    // Writes a plain element in the open wrappers to the sink.
+    fn put_wrapped(&mut self, tag: Tag, content: &[u8]) -> Result<usize>
+        requires number { IsTagNumber (number_of tag) }
+        requires had_not_failed { self.old.failed ≡ None }
+        requires outside { self.old.inside ≡ [] }
+        requires wrapped { self.old.around ≢ [] }
+        ensures { WritesPlain W.WriteExt.own (Tree.bytes tag content.now) self.old result self.new }
+    {
+        self.open(Header::Tagged(tag));
+        let outcome = self.put_behind_headers(content);
+        self.settle(outcome)
+    }
+
+    /// Writes a truth value. Outside wrappers, sequences and application tags no memory is taken, and only the sink
+    /// can refuse; the same holds for the other calls of plain values.
+    pub fn serialize_bool(&mut self, value: bool) -> Result<usize>
+        ensures { WritesPlain W.WriteExt.own (Tree.boolean value) self.old result self.new }
+    {
+        Boolean::serialize(value, self)
+    }
+
+    /// Writes a number of 8 bits.
+    pub fn serialize_u8(&mut self, value: u8) -> Result<usize>
+        ensures { WritesPlain W.WriteExt.own (Tree.unsigned value) self.old result self.new }
+    {
+        UnsignedInteger::serialize(value, self)
+    }
+
+    /// Writes a number of 16 bits.
+    pub fn serialize_u16(&mut self, value: u16) -> Result<usize>
+        ensures { WritesPlain W.WriteExt.own (Tree.unsigned value) self.old result self.new }
+    {
+        UnsignedInteger::serialize(value, self)
+    }
+
+    /// Writes a number of 32 bits.
+    pub fn serialize_u32(&mut self, value: u32) -> Result<usize>
+        ensures { WritesPlain W.WriteExt.own (Tree.unsigned value) self.old result self.new }
+    {
+        UnsignedInteger::serialize(value, self)
+    }
+
+    /// Writes a number of 64 bits.
+    pub fn serialize_u64(&mut self, value: u64) -> Result<usize>
+        ensures { WritesPlain W.WriteExt.own (Tree.unsigned value) self.old result self.new }
+    {
+        UnsignedInteger::serialize(value, self)
+    }
+
+    /// Writes a number of 128 bits.
+    pub fn serialize_u128(&mut self, value: u128) -> Result<usize>
+        ensures { WritesPlain W.WriteExt.own (Tree.unsigned value) self.old result self.new }
+    {
+        UnsignedInteger::serialize(value, self)
+    }
+
+    /// Writes an octet string.
+    pub fn serialize_bytes(&mut self, bytes: &[u8]) -> Result<usize>
+        ensures { WritesPlain W.WriteExt.own (Tree.bytes 0x04 bytes.now) self.old result self.new }
+    {
+        self.write_plain(Tag::OCTET_STRING, bytes)
+    }
+
+    /// Writes a null.
+    pub fn serialize_unit(&mut self) -> Result<usize>
+        ensures { WritesPlain W.WriteExt.own Tree.null self.old result self.new }
+    {
+        Null::serialize(self)
+    }
+
+    /// Writes a null for a struct without fields. The name isn't written.
+    pub fn serialize_unit_struct(&mut self, name: &'static str) -> Result<usize>
+        ensures { WritesPlain W.WriteExt.own Tree.null self.old result self.new }
+    {
+        let _ = name;
+        Null::serialize(self)
+    }
+
+    /// Writes a character, as the text that is just it.
+    pub fn serialize_char(&mut self, value: char) -> Result<usize>
+        ensures { WritesPlain W.WriteExt.own (Tree.text (encode_utf8 value)) self.old result self.new }
+    {
+        let mut room = [0; 4];
+        Utf8String::serialize(value.encode_utf8(&mut room), self)
+    }
+
+    /// Writes a text.
+    pub fn serialize_str(&mut self, value: &str) -> Result<usize>
+        ensures { WritesPlain W.WriteExt.own (Tree.text value.now) self.old result self.new }
+    {
+        Utf8String::serialize(value, self)
+    }
+
+    /// Writes a content under this tag, unchecked. `UnsupportedValue` where the tag has the number 31, which would
+    /// announce the long form (X.690, 8.1.2.4): this is tested before all but an earlier error, no memory is taken,
+    /// and nothing is written.
+    pub fn serialize_tagged_bytes(&mut self, tag: Tag, content: &[u8]) -> Result<usize>
+        ensures { WritesPlain W.WriteExt.own (Tree.bytes tag content.now) self.old result self.new }
+    {
+        if let Some(error) = self.failed {
+            return Err(error);
+        }
+        if tag.number() > 30 {
+            self.failed = Some(Asn1DerError::UnsupportedValue);
+            return Err(Asn1DerError::UnsupportedValue);
+        }
+        self.write_plain(tag, content)
+    }
+}
