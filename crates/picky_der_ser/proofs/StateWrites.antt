@@ -1,5 +1,5 @@
 -- What was written, seen from the state of a serializer.
-use Rattle.std.proofs.Common.{◌≡◌, ◌≢◌, ℕ, ◌≤◌, List, [], ◌∷◌, length, None, Some, refl, sym, ap, ◌∙◌, subst, Result, Ok, Err, IfOk, OnOk, IfErr, OnErr}
+use Rattle.std.proofs.Common.{arith, ◌≡◌, ◌≢◌, ◌<◌, ◌^◌, IfSome, Option, ℕ, ◌≤◌, List, [], ◌∷◌, length, None, Some, refl, sym, ap, ◌∙◌, subst, Result, Ok, Err, IfOk, OnOk, IfErr, OnErr}
 use Rattle.std.specs.Io.KnownBytes.{Appends}
 use Rattle.picky_der_core.specs.declared.asn1.wrapper.Wrapper.{Wrapper}
 use Rattle.picky_der_core.specs.Writer.{AppendsBeginning, beginning_none}
@@ -11,9 +11,11 @@ use Rattle.picky_der_core.specs.Tree.{Tree}
 use Rattle.picky_der_core.specs.Encoding.{der}
 use Rattle.picky_der_core.specs.Readable.{IsWritable}
 use Rattle.picky_der_core.specs.Wrapper.{under}
+use Rattle.picky_der_ser.specs.Heading.{tree_of}
+use Rattle.picky_der_ser.specs.Headers.{HasNumber, HaveTagNumbers}
 use Rattle.picky_der_ser.specs.State.{State, Level, with_bytes}
-use Rattle.picky_der_ser.specs.Calls.{AddsIn, Wrote, Refused, RefusedIn, no_memory, no_room, Writes, Fails, WritesPlain}
-use Rattle.picky_der_ser.proofs.LevelWrites.{wrote_by, refused_by}
+use Rattle.picky_der_ser.specs.Calls.{AddsIn, Wrote, Refused, RefusedIn, no_memory, no_room, Writes, Fails, WritesPlain, Ends}
+use Rattle.picky_der_ser.proofs.LevelWrites.{wrote_by, refused_by, as_it_is, writable_counted}
 
 module _ {W : Type 0} (g : Ghosts W) where
   adds_outside : (inside levels : List Level) (old new : W) (bs : List ℕ) → inside ≡ [] → levels ≡ [] → Appends (g.told old) (g.told new) bs → AddsIn g inside levels old new bs
@@ -95,6 +97,27 @@ module _ {W : Type 0} (g : Ghosts W) where
   pub wrapped_fault : (ws : List Wrapper) (old new : W) (r : Result ℕ Asn1DerError) → ws ≢ [] → IfErr r (λ e. ws ≡ [] → Faulted g old e new)
   wrapped_fault ws old new (Ok n) h = tt
   wrapped_fault ws old new (Err e) h = λ bare. absurd (h bare)
+
+  -- ---- levels
+
+  -- the level that was opened last was added to the one around it
+  pub ends_inside : (old new : State W) (n : ℕ) → n < 2 ^ 64 → old.failed ≡ None → old.inside ≢ [] → IfSome old.pending (λ l. HaveTagNumbers l.around × HasNumber l.header) → IfSome old.pending (λ l. n ≡ length (der (as_it_is l)))
+      → ((p l : Level) (ls : List Level) → old.pending ≡ Some p → old.inside ≡ l ∷ ls → new.inside ≡ with_bytes l (der (as_it_is p)) ∷ ls) → new.sink ≡ old.sink → new.around ≡ [] → new.failed ≡ None → g.later old.sink old.sink
+      → IfSome old.pending (λ l. Ends g l.header l.content (record old { around = l.around }) (Ok n) new)
+  ends_inside old new n small f some numbers count added s a b later = by_level old.pending numbers count (λ l k ks. added l k ks)
+    where
+      by_level : (p : Option Level) → IfSome p (λ l. HaveTagNumbers l.around × HasNumber l.header) → IfSome p (λ l. n ≡ length (der (as_it_is l)))
+          → ((l k : Level) (ks : List Level) → p ≡ Some l → old.inside ≡ k ∷ ks → new.inside ≡ with_bytes k (der (as_it_is l)) ∷ ks) → IfSome p (λ l. Ends g l.header l.content (record old { around = l.around }) (Ok n) new)
+      by_level None x y z = tt
+      by_level (Some l) x y z =
+          let fits : length (der (as_it_is l)) < 2 ^ 64 = omega (arith, y) in
+          let writable = writable_counted l.around l.header l.content x fits in
+          record {
+            wrote = writes_inside (tree_of l.header l.content) (record old { around = l.around }) new n f some (λ k ks e. z l k ks refl e) s a b writable y;
+            failed = tt;
+            counted = omega (arith, ap g.faults s);
+            goes_on = subst (g.later old.sink) (sym s) later;
+          }
 
 pub on_ok : {A E : Type 0} {P : Type 0} (r : Result A E) → P → OnOk r P
 on_ok (Ok v) h = h

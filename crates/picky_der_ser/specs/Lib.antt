@@ -7,3 +7,4 @@ pub mod Calls
 pub mod Entry
 pub mod Integer
 pub mod Meaning
+pub mod Sequences

@@ -13,6 +13,7 @@ mod null;
 mod plain;
 #[cfg(test)]
 mod refuses_once;
+mod sequence;
 mod serializer;
 mod utf8_string;
 
@@ -21,5 +22,6 @@ pub use entry::{to_byte_buf, to_bytes, to_vec, to_writer};
 pub use header::Header;
 pub use integer::{UInt, UnsignedInteger};
 pub use null::Null;
+pub use sequence::Sequence;
 pub use serializer::{Serialize, Serializer};
 pub use utf8_string::Utf8String;

@@ -1,10 +1,10 @@
 //! Levels, as a serializer opens and ends them.
-ghost use Rattle.std.specs.Prelude.{◌≡◌, ◌≤◌, [], ◌∷◌, ◌++◌, None, Some, IfSome, IfNone, IsSome, IfOk, IfErr, OnOk};
+ghost use Rattle.std.specs.Prelude.{◌≡◌, ◌≢◌, ◌≤◌, List, [], ◌∷◌, ◌++◌, None, Some, IfSome, IfNone, IsSome, IfOk, IfErr, OnOk};
 ghost use Rattle.picky_der_core.specs.Wrapper.{under};
 ghost use Rattle.picky_der_ser.specs.Heading.{tree_of};
 ghost use Rattle.picky_der_ser.specs.Headers.{HasNumber};
 ghost use Rattle.picky_der_ser.specs.State.{Level, with_bytes};
-ghost use Rattle.picky_der_ser.specs.Calls.{Wrote, Refused, MemoryExcuse, Stops, Opens, Finishes};
+ghost use Rattle.picky_der_ser.specs.Calls.{Wrote, Refused, Stops, Opens, Ends, Finishes};
 
 use super::Serializer;
 use crate::Header;
@@ -64,5 +64,77 @@ impl<W: WriteExt> Serializer<W> {
         let outcome = put_headed(&mut self.sink, headers, content);
         self.levels.give_up();
         outcome
+    }
+
+    // Ends the level that was opened last, where a member of another is being written.
+    fn close_inside(&mut self) -> Result<usize>
+        requires had_not_failed { self.old.failed ≡ None }
+        requires opened { IsSome self.old.pending }
+        requires inside { self.old.inside ≢ [] }
+        ensures { IfSome self.old.pending (λ l. Ends W.WriteExt.own l.header l.content (record self.old { around = l.around }) result self.new) }
+    {
+        match self.levels.merge() {
+            Ok(count) => {
+                self.around.clear();
+                Ok(count)
+            }
+            Err(_) => Err(self.fail(Asn1DerError::OutOfMemory)),
+        }
+    }
+
+    // Ends the level that was opened last, outside others.
+    fn close_outside(&mut self) -> Result<usize>
+        requires had_not_failed { self.old.failed ≡ None }
+        requires opened { IsSome self.old.pending }
+        requires outside { self.old.inside ≡ [] }
+        ensures { IfSome self.old.pending (λ l. Ends W.WriteExt.own l.header l.content (record self.old { around = l.around }) result self.new) }
+    {
+        let outcome = self.end_outside();
+        self.settle(outcome)
+    }
+
+    // Writes the level that was opened last, in its wrappers.
+    pub(crate) fn close(&mut self) -> Result<usize>
+        requires { IfNone self.old.failed (IsSome self.old.pending) }
+        ensures { Finishes W.WriteExt.own self.old result self.new }
+    {
+        if let Some(error) = self.failed {
+            return Err(error);
+        }
+        if self.levels.is_inside() {
+            return self.close_inside();
+        }
+        self.close_outside()
+    }
+
+    // A member of the level that was opened last is written from here on.
+    pub(crate) fn enter(&mut self) -> Result<()>
+        requires { IfNone self.old.failed (IsSome self.old.pending) }
+        ensures ok { OnOk result (IfSome self.old.pending (λ l. self.new ≡ record self.old { around = []; inside = l ∷ self.old.inside; pending = None })) }
+        ensures had_not_failed { OnOk result (self.old.failed ≡ None) }
+        ensures err { IfErr result (λ e. Stops W.WriteExt.own self.old e self.new) }
+    {
+        if let Some(error) = self.failed {
+            return Err(error);
+        }
+        let Ok(()) = self.levels.enter() else {
+            return Err(self.fail(Asn1DerError::OutOfMemory));
+        };
+        self.around.clear();
+        Ok(())
+    }
+
+    // The member has been written.
+    pub(crate) fn leave(&mut self)
+        ensures { (l : Level) (ls : List Level) → self.old.inside ≡ l ∷ ls → self.new ≡ record self.old { inside = ls; pending = Some l } }
+    {
+        self.levels.leave();
+    }
+
+    // The error that it has failed with.
+    pub(crate) fn failure(&self) -> Option<Asn1DerError>
+        ensures { result ≡ self.now.failed }
+    {
+        self.failed
     }
 }

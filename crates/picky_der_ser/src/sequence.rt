@@ -1,0 +1,53 @@
+//! Sequences and sets that are being written (X.690, 8.9 to 8.12).
+ghost use Rattle.std.specs.Prelude.{◌≡◌, ◌≤◌, ℕ, [], None, Some, IfNone, IsSome, IfOk, IfErr, OnOk};
+ghost use Rattle.std.specs.Borrow.{sem, RestsIfErr};
+ghost use Rattle.picky_der_ser.specs.contracts.serializer.Serializer.{the_row};
+ghost use Rattle.picky_der_ser.specs.Calls.{Opens, Gains, Rejects, Stops, Finishes};
+ghost use Rattle.picky_der_ser.specs.Sequences.{IsListTag};
+
+use crate::{Header, Serialize, Serializer};
+use picky_der_core::Result;
+use picky_der_core::asn1::Tag;
+use picky_der_core::misc::WriteExt;
+
+/// A sequence or a set that is being written. Dropped without `end` it writes nothing, and the wrappers that were open
+/// when it began are dropped.
+#[derive(Drop)]
+pub struct Sequence<'a, W: WriteExt> {
+    ser: &'a mut Serializer<W>,
+}
+
+impl<'a, W: WriteExt> Sequence<'a, W> {
+    /// Begins a sequence or set in the open wrappers, and takes these with it.
+    pub fn serialize_lazy(ser: &'a mut Serializer<W>, tag: Tag) -> Sequence<'a, W>
+        requires { IsListTag tag }
+        ensures same_reference { result.ser.ghost_name ≡ ser.entry.ghost_name }
+        ensures opened { Opens W.WriteExt.own (Header.Tagged tag) ser.old result.ser.now }
+    {
+        ser.open(Header::Tagged(tag));
+        Sequence { ser }
+    }
+
+    /// Adds a member, in no wrapper but its own.
+    pub fn serialize_element<T: Serialize>(&mut self, value: &T) -> Result<()>
+        requires { IfNone self.old.ser.now.failed (IsSome self.old.ser.now.pending) }
+        ensures same_reference { self.new.ser.ghost_name ≡ self.old.ser.ghost_name }
+        ensures added { OnOk result (Gains W.WriteExt.own (T.meaning value.now) self.old.ser.now self.new.ser.now) }
+        ensures still_open { IfNone self.new.ser.now.failed (IsSome self.new.ser.now.pending) }
+        ensures err { IfErr result (λ e. Rejects W.WriteExt.own (T.meaning value.now) self.old.ser.now e self.new.ser.now) }
+    {
+        self.ser.enter()?;
+        value.serialize(self.ser)?;
+        self.ser.leave();
+        Ok(())
+    }
+
+    /// Writes the members in the wrappers that were open when the sequence began.
+    pub fn end(self) -> Result<usize>
+        requires { IfNone self.ser.now.failed (IsSome self.ser.now.pending) }
+        ensures { Finishes W.WriteExt.own self.entry.ser.now result self.exit.0.now }
+    {
+        let Sequence { ser } = self;
+        ser.close()
+    }
+}
