@@ -232,10 +232,10 @@ impl<W: WriteExt> Serializer<W> {
     pub fn serialize_none(&mut self) -> Result<usize>
         ensures { WritesAbsent W.WriteExt.own self.old result self.new }
     {
-        match self.failed {
-            Some(error) => Err(error),
-            None => Ok(0),
+        if let Some(error) = self.failed {
+            return Err(error);
         }
+        Ok(0)
     }
 
     /// Writes the value as it is.
