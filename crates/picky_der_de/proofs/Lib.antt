@@ -2,6 +2,7 @@ pub mod Steps
 pub mod ReaderFaults
 pub mod Numbers
 pub mod Contents
+pub mod Texts
 pub mod Lengths
 pub mod Refusals
 pub mod Known

@@ -45,7 +45,7 @@ fn over_failing<'a>(
         before,
         kind,
     };
-    Deserializer::over(alloc, Watched::new(reader), limit)
+    Deserializer::new_from_reader(alloc, Watched::new(reader), limit)
 }
 
 #[test]
