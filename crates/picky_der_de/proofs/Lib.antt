@@ -9,4 +9,5 @@ pub mod Known
 pub mod Headers
 pub mod PlainReads
 pub mod PlainKinds
+pub mod Options
 pub mod EntryReads

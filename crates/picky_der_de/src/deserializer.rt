@@ -6,6 +6,7 @@ ghost use Rattle.picky_der_de.specs.Steps.{Takes, TakesKept, StopsShort, Fails, 
 
 mod header;
 mod octets;
+mod options;
 mod plain;
 mod texts;
 
