@@ -32,6 +32,9 @@ pub struct Deserializer<R: ReadExt> {
     end: End,
     direct: Option<u8>,
     failed: Option<Asn1DerError>,
+    // What was lent last.
+    content: Vec<u8>,
+    text: String,
 }
 
 impl<R: ReadExt> Model for Deserializer<R> {
@@ -81,6 +84,8 @@ impl<R: ReadExt> Deserializer<R> {
             end: End::Limit,
             direct: None,
             failed: None,
+            content: Vec::new(alloc),
+            text: String::new(alloc),
         }
     }
 
@@ -100,6 +105,8 @@ impl<R: ReadExt> Deserializer<R> {
             end: _,
             direct: _,
             failed: _,
+            content: _,
+            text: _,
         } = self;
         reader
     }

@@ -9,6 +9,8 @@ mod entry;
 mod impls;
 mod integer;
 mod null;
+#[cfg(test)]
+mod test_reader;
 mod utf8_string;
 
 pub use boolean::Boolean;

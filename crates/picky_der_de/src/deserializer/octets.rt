@@ -1,5 +1,9 @@
 //! Contents that aren't looked at.
 ghost use Rattle.std.specs.Prelude.{◌≡◌, ◌<◌, None, Err, IfOk, IfErr};
+ghost use Rattle.std.specs.Borrow.{sem};
+ghost use Rattle.std.specs.Io.BufRead.{Rests};
+ghost use Rattle.picky_der_de.specs.contracts.deserializer.Deserializer.{the_row};
+ghost use Rattle.picky_der_de.specs.Lending.{LendsBytes};
 ghost use Rattle.picky_der_core.specs.Tag.{number_of};
 ghost use Rattle.picky_der_de.specs.Steps.{failed_with};
 ghost use Rattle.picky_der_de.specs.Reading.{ReadsBytes, RefusesBytes};
@@ -37,5 +41,13 @@ impl<R: ReadExt> Deserializer<R> {
         ensures err { IfErr result (RefusesBytes 0x04 self.old self.new) }
     {
         self.deserialize_tagged_bytes(Tag::OCTET_STRING)
+    }
+
+    /// Reads an octet string, and lends it. It is refused as one in a vector of its own is.
+    pub fn deserialize_bytes(&mut self) -> Result<&[u8]>
+        ensures* after_borrow { sem 𝓛 (Rests (the_row R.row R.ReadExt.own R.Read) self.entry (λ new. LendsBytes self.old new result)) }
+    {
+        self.content = self.deserialize_byte_buf()?;
+        Ok(&self.content)
     }
 }

@@ -1,0 +1,12 @@
+-- What a deserializer has done once the borrow of what it lent is over.
+use Rattle.std.specs.Prelude.{ℕ, List, Result, MatchResult}
+use Rattle.std.specs.Borrow.{Bor}
+use Rattle.picky_der_core.specs.declared.error.Asn1DerError.{Asn1DerError}
+use Rattle.picky_der_de.specs.State.{State}
+use Rattle.picky_der_de.specs.Reading.{ReadsBytes, RefusesBytes, ReadsText, RefusesText}
+
+abbrev pub LendsBytes : State → State → Result (Bor (List ℕ)) Asn1DerError → Type 0
+LendsBytes old new r = MatchResult r (λ content. ReadsBytes 0x04 old new content.now) (RefusesBytes 0x04 old new)
+
+abbrev pub LendsText : State → State → Result (Bor (List ℕ)) Asn1DerError → Type 0
+LendsText old new r = MatchResult r (λ text. ReadsText old new text.now) (RefusesText old new)
