@@ -1,6 +1,6 @@
 //! Whole values.
 ghost use Rattle.std.specs.Prelude.{◌≡◌, length, IfOk, IfErr};
-ghost use Rattle.picky_der_de.specs.Entry.{IsFront, HasNoFront, ReadsFront, RefusesFront};
+ghost use Rattle.picky_der_de.specs.Entry.{IsFront, HasNoFront, ReadsFront, RefusesFront, told};
 
 use crate::{Deserialize, Deserializer};
 use picky_der_core::Result;
@@ -12,8 +12,8 @@ pub const DEFAULT_MAX_LEN: usize = 10240;
 
 // The value at the front of what a reader has left, and the reader.
 fn read_from<T: Deserialize, R: ReadExt>(alloc: Global, reader: R, max_len: usize) -> (Result<T>, R)
-    ensures ok { IfOk result.0 (ReadsFront T.meaning T.shape T.eq max_len (record { input = R.remaining reader; faults = R.faults reader }) (record { input = R.remaining result.1; faults = R.faults result.1 })) }
-    ensures err { IfErr result.0 (RefusesFront T.meaning T.shape max_len (record { input = R.remaining reader; faults = R.faults reader }) (record { input = R.remaining result.1; faults = R.faults result.1 })) }
+    ensures ok { IfOk result.0 (ReadsFront T.meaning T.shape T.eq max_len (told R.remaining R.faults reader) (told R.remaining R.faults result.1)) }
+    ensures err { IfErr result.0 (RefusesFront T.meaning T.shape max_len (told R.remaining R.faults reader) (told R.remaining R.faults result.1)) }
     ensures same_references { R.through result.1 ≡ R.through reader }
 {
     let mut de = Deserializer::new_from_reader(alloc, reader, max_len);
@@ -31,27 +31,28 @@ pub fn from_bytes<T: Deserialize>(alloc: Global, bytes: &[u8]) -> Result<T>
     read_from::<T, &[u8]>(alloc, bytes, bytes.len()).0
 }
 
-/// The value at the front of what a reader has left, from at most `DEFAULT_MAX_LEN` bytes. Bytes behind it are left in
-/// the reader.
+/// The value at the front of what a reader has left, in at most `DEFAULT_MAX_LEN` bytes. Bytes behind it are left in the
+/// reader.
 ///
-/// An error means that the reader failed, and is then what its fault becomes; that memory was refused; or that no value
-/// of the type stands there within the limit. What was drawn isn't given back.
+/// An error is what a fault of the reader becomes, where the reader failed; `OutOfMemory` where memory was refused; and
+/// else it means that no value of the type stands there within the limit. It is `Other` only where the reader failed.
+/// What was drawn by then isn't given back.
 pub fn from_reader<T: Deserialize, R: ReadExt>(alloc: Global, reader: &mut R) -> Result<T>
-    ensures ok { IfOk result (ReadsFront T.meaning T.shape T.eq 10240 (record { input = R.remaining reader.old; faults = R.faults reader.old }) (record { input = R.remaining reader.new; faults = R.faults reader.new })) }
-    ensures err { IfErr result (RefusesFront T.meaning T.shape 10240 (record { input = R.remaining reader.old; faults = R.faults reader.old }) (record { input = R.remaining reader.new; faults = R.faults reader.new })) }
+    ensures ok { IfOk result (ReadsFront T.meaning T.shape T.eq 10240 (told R.remaining R.faults reader.old) (told R.remaining R.faults reader.new)) }
+    ensures err { IfErr result (RefusesFront T.meaning T.shape 10240 (told R.remaining R.faults reader.old) (told R.remaining R.faults reader.new)) }
     ensures same_references { R.through reader.new ≡ R.through reader.old }
 {
     from_reader_with_max_len(alloc, reader, DEFAULT_MAX_LEN)
 }
 
-/// The same from at most `max_len` bytes.
+/// The same in at most `max_len` bytes.
 pub fn from_reader_with_max_len<T: Deserialize, R: ReadExt>(
     alloc: Global,
     reader: &mut R,
     max_len: usize,
 ) -> Result<T>
-    ensures ok { IfOk result (ReadsFront T.meaning T.shape T.eq max_len (record { input = R.remaining reader.old; faults = R.faults reader.old }) (record { input = R.remaining reader.new; faults = R.faults reader.new })) }
-    ensures err { IfErr result (RefusesFront T.meaning T.shape max_len (record { input = R.remaining reader.old; faults = R.faults reader.old }) (record { input = R.remaining reader.new; faults = R.faults reader.new })) }
+    ensures ok { IfOk result (ReadsFront T.meaning T.shape T.eq max_len (told R.remaining R.faults reader.old) (told R.remaining R.faults reader.new)) }
+    ensures err { IfErr result (RefusesFront T.meaning T.shape max_len (told R.remaining R.faults reader.old) (told R.remaining R.faults reader.new)) }
     ensures same_references { R.through reader.new ≡ R.through reader.old }
 {
     let (result, _reader) = read_from::<T, &mut R>(alloc, reader, max_len);

@@ -207,6 +207,17 @@ fn leaves_the_bytes_behind_in_the_reader(rt: HostRuntime) {
 }
 
 #[test]
+fn asks_for_no_byte_of_an_empty_content(rt: HostRuntime) -> std::result::Result<(), Fail> {
+    let alloc = rt.alloc();
+    let mut reader = fails_once(&[0x05, 0x00], Some(2), ErrorKind::TimedOut);
+    assert_eq!(rt; from_reader(alloc, &mut reader), Ok(()));
+    let mut reader = fails_once(&[0x0C, 0x00], Some(2), ErrorKind::TimedOut);
+    let text: String = from_reader(alloc, &mut reader)?;
+    assert_eq!(rt; text.as_str(), "");
+    Ok(())
+}
+
+#[test]
 fn answers_a_fault_of_the_reader(rt: HostRuntime) {
     for (kind, error) in [
         (
