@@ -1,4 +1,5 @@
--- What a deserializer has done once the borrow of what it lent is over.
+-- What a deserializer lends. While it is lent there is some state in which the call left the deserializer; once the borrow is
+-- over, the deserializer's own state is one.
 use Rattle.std.specs.Prelude.{ℕ, List, Result, MatchResult}
 use Rattle.std.specs.Borrow.{Bor}
 use Rattle.picky_der_core.specs.declared.error.Asn1DerError.{Asn1DerError}

@@ -3,6 +3,7 @@ ghost use Rattle.std.specs.Prelude.{◌≡◌, ◌<◌, None, Err, IfOk, IfErr};
 ghost use Rattle.std.specs.Borrow.{sem};
 ghost use Rattle.std.specs.Io.BufRead.{Rests};
 ghost use Rattle.picky_der_de.specs.contracts.deserializer.Deserializer.{the_row};
+ghost use Rattle.picky_der_de.specs.State.{State};
 ghost use Rattle.picky_der_de.specs.Lending.{LendsBytes};
 ghost use Rattle.picky_der_core.specs.Tag.{number_of};
 ghost use Rattle.picky_der_de.specs.Steps.{failed_with};
@@ -45,6 +46,7 @@ impl<R: ReadExt> Deserializer<R> {
 
     /// Reads an octet string, and lends it. It is refused as one in a vector of its own is.
     pub fn deserialize_bytes(&mut self) -> Result<&[u8]>
+        ensures answer { (new : State) × LendsBytes self.old new result }
         ensures* after_borrow { sem 𝓛 (Rests (the_row R.row R.ReadExt.own R.Read) self.entry (λ new. LendsBytes self.old new result)) }
     {
         self.content = self.deserialize_byte_buf()?;

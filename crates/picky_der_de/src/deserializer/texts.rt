@@ -3,6 +3,7 @@ ghost use Rattle.std.specs.Prelude.{IfOk, IfErr, string_bytes};
 ghost use Rattle.std.specs.Borrow.{sem};
 ghost use Rattle.std.specs.Io.BufRead.{Rests};
 ghost use Rattle.picky_der_de.specs.contracts.deserializer.Deserializer.{the_row};
+ghost use Rattle.picky_der_de.specs.State.{State};
 ghost use Rattle.picky_der_de.specs.Lending.{LendsText};
 ghost use Rattle.picky_der_de.specs.Steps.{TakesNoMemory};
 ghost use Rattle.picky_der_de.specs.Reading.{ReadsText, RefusesText, ReadsCharacter, RefusesCharacter};
@@ -49,6 +50,7 @@ impl<R: ReadExt> Deserializer<R> {
 
     /// Reads a text, and lends it. It is refused as one in a string of its own is.
     pub fn deserialize_str(&mut self) -> Result<&str>
+        ensures answer { (new : State) × LendsText self.old new result }
         ensures* after_borrow { sem 𝓛 (Rests (the_row R.row R.ReadExt.own R.Read) self.entry (λ new. LendsText self.old new result)) }
     {
         self.text = self.deserialize_string()?;
