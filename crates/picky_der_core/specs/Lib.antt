@@ -19,6 +19,8 @@ pub mod Reader
 pub mod Writer
 pub mod Watching
 pub mod Sink
+pub mod SliceSink
+pub mod SliceSinkLaws
 pub mod WriterFaults
 pub mod UnsignedLaws
 pub mod BooleanLaws

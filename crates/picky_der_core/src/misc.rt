@@ -4,6 +4,7 @@ mod buf_sink;
 mod faults;
 mod length;
 mod reader;
+mod slice_sink;
 mod watched;
 mod writer;
 
@@ -11,5 +12,6 @@ pub use buf_sink::BufSink;
 pub use faults::Faults;
 pub use length::Length;
 pub use reader::ReadExt;
+pub use slice_sink::SliceSink;
 pub use watched::Watched;
 pub use writer::WriteExt;

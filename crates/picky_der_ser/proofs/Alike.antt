@@ -9,7 +9,7 @@ use Rattle.picky_der_core.specs.Encoding.{content, plain_tag}
 use Rattle.picky_der_core.specs.Readable.{IsWritable}
 use Rattle.picky_der_core.specs.WrapperLaws.{AreAlike, alike-under, der-alike, alike-sym, is_simple, alike-bytes}
 use Rattle.picky_der_ser.specs.State.{State, Level}
-use Rattle.picky_der_ser.specs.Calls.{Adds, Excuse, no_memory, unwritable, no_sink, MemoryExcuse, no_room, no_way, Refused, RefusedIn, Writes, Fails, WritesPlain}
+use Rattle.picky_der_ser.specs.Calls.{Adds, Excuse, no_memory, unwritable, no_sink, MemoryExcuse, no_room, no_way, Refused, RefusedIn, Writes, Fails, OnlySinkFails, RefusesUnwritable, WritesPlain}
 
 pub writable-alike : (t u : Tree) → AreAlike t u → IsWritable t → IsWritable u
 writable-alike t u a h = record { numbers = subst IsTrue a.numbers_same h.numbers; fits = subst (λ l. length l < 2 ^ 64) (der-alike t u a) h.fits }
@@ -48,6 +48,13 @@ module _ {W : Type 0} (g : Ghosts W) where
   fails-alike t u old new (Err e) a h =
       record { failed = h.failed; again = h.again; first = refused_first-alike old.failed _ _ _ _ _ e (alike-under old.around t u a) h.first }
 
+  outside-alike : (t u : Tree) (old new : State W) (r : Result ℕ Asn1DerError) → AreAlike t u → IfErr r (λ e. OnlySinkFails g t old e new) → IfErr r (λ e. OnlySinkFails g u old e new)
+  outside-alike t u old new (Ok n) a h = tt
+  outside-alike t u old new (Err e) a h = λ w. h (writable-alike u t (alike-sym t u a) w)
+
+  past-alike : (t u : Tree) (old new : State W) (r : Result ℕ Asn1DerError) → AreAlike t u → RefusesUnwritable g t old r new → RefusesUnwritable g u old r new
+  past-alike t u old new r a h = λ n. h (λ w. n (writable-alike t u a w))
+
   -- a plain value is written as its tag and content
   pub writes_plain-as : (t : Tree) (c : List ℕ) → is_simple t ≡ true → c ≡ content t → (old new : State W) (r : Result ℕ Asn1DerError) → WritesPlain g (Tree.bytes (plain_tag t) c) old r new → WritesPlain g t old r new
   writes_plain-as t c p e old new r h =
@@ -56,7 +63,8 @@ module _ {W : Type 0} (g : Ghosts W) where
       record {
         wrote = writes-alike (Tree.bytes (plain_tag t) (content t)) t old new r a k.wrote;
         failed = fails-alike (Tree.bytes (plain_tag t) (content t)) t old new r a k.failed;
-        outside = k.outside;
+        outside = outside-alike (Tree.bytes (plain_tag t) (content t)) t old new r a k.outside;
+        past = past-alike (Tree.bytes (plain_tag t) (content t)) t old new r a k.past;
         counted = k.counted;
         goes_on = k.goes_on;
       }

@@ -1,3 +1,4 @@
 pub mod Alike
 pub mod PlainWrites
+pub mod AbsentWrites
 pub mod Memory

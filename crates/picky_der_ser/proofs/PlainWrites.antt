@@ -48,9 +48,9 @@ module _ {W : Type 0} (g : Ghosts W) where
   pub put-ok : (tag : ℕ) (c : List ℕ) (old new : W) (failed : Option Asn1DerError) (n : ℕ) → failed ≡ None → IsTagNumber (number_of tag) → length c + 10 < 2 ^ 64
       → n ≡ length (tlv tag c) → Appends (g.told old) (g.told new) (tlv tag c) → g.faults old ≤ g.faults new → g.faults new ≡ g.faults old → g.later old new → WritesPlain g (Tree.bytes tag c) (outside old failed) (Ok n) (outside new failed)
   put-ok tag c old new failed n f h l count appends k q m =
-      record { wrote = plain-writes tag c old new failed n f h l count appends q; failed = tt; outside = tt; counted = k; goes_on = m }
+      record { wrote = plain-writes tag c old new failed n f h l count appends q; failed = tt; outside = tt; past = λ n p. absurd (n (writable-bytes tag c h l)); counted = k; goes_on = m }
 
   pub put-err : (tag : ℕ) (c : List ℕ) (old new : W) (failed : Option Asn1DerError) (e : Asn1DerError) → failed ≡ None → IsTagNumber (number_of tag) → length c + 10 < 2 ^ 64
       → AppendsBeginning (g.told old) (g.told new) (tlv tag c) → Faulted g old e new → g.faults old ≤ g.faults new → g.later old new → WritesPlain g (Tree.bytes tag c) (outside old failed) (Err e) (outside new (Some e))
   put-err tag c old new failed e f h l begins fault k m =
-      record { wrote = tt; failed = plain-fails tag c old new failed e f h l begins fault; outside = λ p q r. fault; counted = k; goes_on = m }
+      record { wrote = tt; failed = plain-fails tag c old new failed e f h l begins fault; outside = λ w p q r. fault; past = λ n p. absurd (n (writable-bytes tag c h l)); counted = k; goes_on = m }

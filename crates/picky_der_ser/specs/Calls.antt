@@ -1,5 +1,5 @@
 -- What the calls of a serializer do.
-use Rattle.std.specs.Prelude.{◌≡◌, ℕ, List, [], ◌∷◌, ◌++◌, length, None, Some, IfSome, IfNone, Result, IfOk, IfErr, ◌≤◌}
+use Rattle.std.specs.Prelude.{◌≡◌, ℕ, List, [], ◌∷◌, ◌++◌, length, None, Some, IfSome, IfNone, Result, Err, IfOk, IfErr, ◌≤◌}
 use Rattle.std.specs.Io.KnownBytes.{Appends}
 use Rattle.picky_der_core.specs.Writer.{AppendsBeginning}
 use Rattle.picky_der_core.specs.WriterFaults.{Faulted}
@@ -64,14 +64,26 @@ module _ {W : Type 0} (g : Ghosts W) where
     pub again : IfSome old.failed (λ f. (e ≡ f) × (new.sink ≡ old.sink))
     pub first : IfNone old.failed (RefusedIn old.inside (under old.around t) old.sink e new.sink)
 
-  -- outside wrappers and levels only the sink can refuse a plain value, since no memory is taken
-  abbrev pub OnlySinkFails : State W → Asn1DerError → State W → Type 0
-  OnlySinkFails old e new = old.failed ≡ None → old.inside ≡ [] → old.around ≡ [] → Faulted g old.sink e new.sink
+  -- outside wrappers and levels only the sink can refuse a plain value that can be written, since no memory is taken
+  abbrev pub OnlySinkFails : Tree → State W → Asn1DerError → State W → Type 0
+  OnlySinkFails t old e new = IsWritable t → old.failed ≡ None → old.inside ≡ [] → old.around ≡ [] → Faulted g old.sink e new.sink
+
+  -- a plain value that can't be written is refused before anything else is done, whatever is open
+  abbrev pub RefusesUnwritable : Tree → State W → Result ℕ Asn1DerError → State W → Type 0
+  RefusesUnwritable t old r new = ¬ IsWritable t → old.failed ≡ None → (r ≡ Err UnsupportedValue) × (new.sink ≡ old.sink)
 
   -- the call writes a plain value
   pub record WritesPlain (t : Tree) (old : State W) (r : Result ℕ Asn1DerError) (new : State W) : Type 0 where
     pub wrote : IfOk r (λ n. Writes t old n new)
     pub failed : IfErr r (λ e. Fails t old e new)
-    pub outside : IfErr r (λ e. OnlySinkFails old e new)
+    pub outside : IfErr r (λ e. OnlySinkFails t old e new)
+    pub past : RefusesUnwritable t old r new
     pub counted : g.faults old.sink ≤ g.faults new.sink
     pub goes_on : g.later old.sink new.sink
+
+  -- the call writes what isn't there: the open wrappers are dropped, nothing is written, and only an earlier error is answered
+  pub record WritesAbsent (old : State W) (r : Result ℕ Asn1DerError) (new : State W) : Type 0 where
+    pub wrote : IfOk r (λ n. Writes Tree.absent old n new)
+    pub count : IfOk r (λ n. n ≡ 0)
+    pub again : IfErr r (λ e. (old.failed ≡ Some e) × (new ≡ old))
+    pub same : new.sink ≡ old.sink

@@ -2,3 +2,4 @@ pub mod Heading
 pub mod State
 pub mod Calls
 pub mod Integer
+pub mod Meaning

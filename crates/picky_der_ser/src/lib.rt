@@ -6,11 +6,15 @@ mod entry;
 mod header;
 mod impls;
 mod integer;
+mod null;
 mod plain;
 mod serializer;
+mod utf8_string;
 
 pub use boolean::Boolean;
 pub use entry::to_vec;
 pub use header::Header;
 pub use integer::{UInt, UnsignedInteger};
+pub use null::Null;
 pub use serializer::{Serialize, Serializer};
+pub use utf8_string::Utf8String;

@@ -1,15 +1,15 @@
 //! The serializer.
-ghost use Rattle.std.specs.Prelude.{◌≡◌, ◌+◌, ◌<◌, ◌≤◌, ◌^◌, ℕ, [], ◌∷◌, ◌++◌, None, Some, length, IfOk, IfErr, OnOk, OnErr};
+ghost use Rattle.std.specs.Prelude.{◌≡◌, ◌+◌, ◌<◌, ◌≤◌, ◌^◌, ℕ, [], ◌∷◌, ◌++◌, None, Some, false, length, encode_utf8, IfOk, IfErr, OnOk, OnErr};
 ghost use Rattle.std.specs.Io.KnownBytes.{Appends};
 ghost use Rattle.picky_der_core.specs.Tag.{number_of, IsTagNumber};
 ghost use Rattle.picky_der_core.specs.Element.{tlv, len as bytes_of};
 ghost use Rattle.picky_der_core.specs.Tree.{Tree};
 ghost use Rattle.picky_der_core.specs.Writer.{AppendsBeginning};
 ghost use Rattle.picky_der_core.specs.WriterFaults.{Faulted};
-ghost use Rattle.picky_der_ser.specs.Calls.{Writes, Fails, WritesPlain};
+ghost use Rattle.picky_der_ser.specs.Calls.{Writes, Fails, WritesPlain, WritesAbsent};
 
 use crate::plain::put_element;
-use crate::{Boolean, UnsignedInteger};
+use crate::{Boolean, Null, UnsignedInteger, Utf8String};
 use picky_der_core::asn1::Tag;
 use picky_der_core::misc::{BufSink, WriteExt};
 use picky_der_core::{Asn1DerError, Result};
@@ -158,6 +158,79 @@ impl<W: WriteExt> Serializer<W> {
         ensures { WritesPlain W.WriteExt.own (Tree.bytes 0x04 bytes.now) self.old result self.new }
     {
         self.write_plain(Tag::OCTET_STRING, bytes)
+    }
+
+    /// Writes a null.
+    pub fn serialize_unit(&mut self) -> Result<usize>
+        ensures { WritesPlain W.WriteExt.own Tree.null self.old result self.new }
+    {
+        Null::serialize(self)
+    }
+
+    /// Writes a null for a struct without fields. The name isn't written.
+    pub fn serialize_unit_struct(&mut self, name: &'static str) -> Result<usize>
+        ensures { WritesPlain W.WriteExt.own Tree.null self.old result self.new }
+    {
+        let _ = name;
+        Null::serialize(self)
+    }
+
+    /// Writes a character, as the text that is just it.
+    pub fn serialize_char(&mut self, value: char) -> Result<usize>
+        ensures { WritesPlain W.WriteExt.own (Tree.text (encode_utf8 value)) self.old result self.new }
+    {
+        let mut room = [0; 4];
+        Utf8String::serialize(value.encode_utf8(&mut room), self)
+    }
+
+    /// Writes a text.
+    pub fn serialize_str(&mut self, value: &str) -> Result<usize>
+        ensures { WritesPlain W.WriteExt.own (Tree.text value.now) self.old result self.new }
+    {
+        Utf8String::serialize(value, self)
+    }
+
+    /// Writes a content under this tag, unchecked. `UnsupportedValue` where the tag has the number 31, which would
+    /// announce the long form (X.690, 8.1.2.4): this is tested before all but an earlier error, no memory is taken,
+    /// and nothing is written.
+    pub fn serialize_tagged_bytes(&mut self, tag: Tag, content: &[u8]) -> Result<usize>
+        ensures { WritesPlain W.WriteExt.own (Tree.bytes tag content.now) self.old result self.new }
+    {
+        if let Some(error) = self.failed {
+            return Err(error);
+        }
+        if tag.number() > 30 {
+            self.failed = Some(Asn1DerError::UnsupportedValue);
+            return Err(Asn1DerError::UnsupportedValue);
+        }
+        self.write_plain(tag, content)
+    }
+
+    /// Drops the open wrappers, writes nothing and answers 0. No memory is taken: only an earlier error is answered.
+    pub fn serialize_none(&mut self) -> Result<usize>
+        ensures { WritesAbsent W.WriteExt.own self.old result self.new }
+    {
+        match self.failed {
+            Some(error) => Err(error),
+            None => Ok(0),
+        }
+    }
+
+    /// Writes the value as it is.
+    pub fn serialize_some<T: Serialize>(&mut self, value: &T) -> Result<usize>
+        ensures wrote { IfOk result (λ n. Writes W.WriteExt.own (T.meaning value.now) self.old n self.new) }
+        ensures failed { IfErr result (λ e. Fails W.WriteExt.own (T.meaning value.now) self.old e self.new) }
+        ensures counted { W.faults self.old.sink ≤ W.faults self.new.sink }
+        ensures goes_on { W.later self.old.sink self.new.sink }
+    {
+        value.serialize(self)
+    }
+
+    /// False: DER is no form for people to read.
+    pub fn is_human_readable(&self) -> bool
+        ensures { result ≡ false }
+    {
+        false
     }
 }
 

@@ -1,0 +1,31 @@
+//! What octet strings and bytes under tags of their own mean.
+ghost use Rattle.picky_der_core.specs.Tree.{Tree};
+
+use crate::{Serialize, Serializer};
+use picky_der_core::Result;
+use picky_der_core::asn1::{ByteBuf, Bytes, Tag, TaggedBytes};
+use picky_der_core::misc::WriteExt;
+
+impl Serialize for ByteBuf {
+    ghost meaning = { λ b. Tree.bytes 0x04 b.0.items };
+
+    fn serialize<W: WriteExt>(&self, ser: &mut Serializer<W>) -> Result<usize> {
+        ser.serialize_bytes(&self.0)
+    }
+}
+
+impl Serialize for Bytes<'_> {
+    ghost meaning = { λ b. Tree.bytes 0x04 b.0.now };
+
+    fn serialize<W: WriteExt>(&self, ser: &mut Serializer<W>) -> Result<usize> {
+        ser.serialize_bytes(self.0)
+    }
+}
+
+impl<const TAG: u8> Serialize for TaggedBytes<TAG> {
+    ghost meaning = { λ b. Tree.bytes TAG b.0.items };
+
+    fn serialize<W: WriteExt>(&self, ser: &mut Serializer<W>) -> Result<usize> {
+        ser.serialize_tagged_bytes(Tag::from(TAG), &self.0)
+    }
+}

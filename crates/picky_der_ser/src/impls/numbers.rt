@@ -1,0 +1,62 @@
+//! What truth values and numbers mean.
+ghost use Rattle.picky_der_core.specs.Tree.{Tree};
+
+use crate::{Serialize, Serializer};
+use picky_der_core::Result;
+use picky_der_core::misc::WriteExt;
+
+impl Serialize for bool {
+    ghost meaning = { λ b. Tree.boolean b };
+
+    fn serialize<W: WriteExt>(&self, ser: &mut Serializer<W>) -> Result<usize> {
+        ser.serialize_bool(*self)
+    }
+}
+
+impl Serialize for u8 {
+    ghost meaning = { λ n. Tree.unsigned n };
+
+    fn serialize<W: WriteExt>(&self, ser: &mut Serializer<W>) -> Result<usize> {
+        ser.serialize_u8(*self)
+    }
+}
+
+impl Serialize for u16 {
+    ghost meaning = { λ n. Tree.unsigned n };
+
+    fn serialize<W: WriteExt>(&self, ser: &mut Serializer<W>) -> Result<usize> {
+        ser.serialize_u16(*self)
+    }
+}
+
+impl Serialize for u32 {
+    ghost meaning = { λ n. Tree.unsigned n };
+
+    fn serialize<W: WriteExt>(&self, ser: &mut Serializer<W>) -> Result<usize> {
+        ser.serialize_u32(*self)
+    }
+}
+
+impl Serialize for u64 {
+    ghost meaning = { λ n. Tree.unsigned n };
+
+    fn serialize<W: WriteExt>(&self, ser: &mut Serializer<W>) -> Result<usize> {
+        ser.serialize_u64(*self)
+    }
+}
+
+impl Serialize for u128 {
+    ghost meaning = { λ n. Tree.unsigned n };
+
+    fn serialize<W: WriteExt>(&self, ser: &mut Serializer<W>) -> Result<usize> {
+        ser.serialize_u128(*self)
+    }
+}
+
+impl Serialize for usize {
+    ghost meaning = { λ n. Tree.unsigned n };
+
+    fn serialize<W: WriteExt>(&self, ser: &mut Serializer<W>) -> Result<usize> {
+        ser.serialize_u128(*self as u128)
+    }
+}

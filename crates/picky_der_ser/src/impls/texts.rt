@@ -1,0 +1,31 @@
+//! What characters and texts mean.
+ghost use Rattle.std.specs.Prelude.{encode_utf8, string_bytes};
+ghost use Rattle.picky_der_core.specs.Tree.{Tree};
+
+use crate::{Serialize, Serializer};
+use picky_der_core::Result;
+use picky_der_core::misc::WriteExt;
+
+impl Serialize for char {
+    ghost meaning = { λ c. Tree.text (encode_utf8 c) };
+
+    fn serialize<W: WriteExt>(&self, ser: &mut Serializer<W>) -> Result<usize> {
+        ser.serialize_char(*self)
+    }
+}
+
+impl Serialize for &str {
+    ghost meaning = { λ s. Tree.text s.now };
+
+    fn serialize<W: WriteExt>(&self, ser: &mut Serializer<W>) -> Result<usize> {
+        ser.serialize_str(self)
+    }
+}
+
+impl Serialize for String {
+    ghost meaning = { λ s. Tree.text (string_bytes s) };
+
+    fn serialize<W: WriteExt>(&self, ser: &mut Serializer<W>) -> Result<usize> {
+        ser.serialize_str(self.as_str())
+    }
+}

@@ -1,0 +1,20 @@
+//! Texts (X.690, 8.23).
+ghost use Rattle.picky_der_core.specs.Tree.{Tree};
+ghost use Rattle.picky_der_ser.specs.Calls.{WritesPlain};
+
+use crate::Serializer;
+use picky_der_core::Result;
+use picky_der_core::asn1::Tag;
+use picky_der_core::misc::WriteExt;
+
+/// Writes texts in UTF-8.
+pub struct Utf8String;
+
+impl Utf8String {
+    /// Writes a text, as `Serializer::serialize_str` does.
+    pub fn serialize<W: WriteExt>(value: &str, ser: &mut Serializer<W>) -> Result<usize>
+        ensures { WritesPlain W.WriteExt.own (Tree.text value.now) ser.old result ser.new }
+    {
+        ser.write_plain(Tag::UTF8_STRING, value.as_bytes())
+    }
+}
