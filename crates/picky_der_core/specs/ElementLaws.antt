@@ -1,9 +1,8 @@
 -- A length and an element say where they end, and what they hold.
-use Rattle.std.proofs.Common.{◌≡◌, ℕ, zero, suc, ◌+◌, ◌/◌, ◌%◌, ◌^◌, ◌<◌, ◌≤◌, Bool, true, false, cond, List, [], ◌∷◌, ◌++◌, length, nat_lt, ◌==◌, refl, sym, ap, ◌∙◌, arith, append_assoc, length-append, lt-ltb, ltb-true}
+use Rattle.std.proofs.Common.{◌≡◌, ℕ, ◌+◌, ◌^◌, ◌<◌, ◌≤◌, Bool, true, false, cond, List, [], ◌∷◌, ◌++◌, length, nat_lt, refl, ap, arith, append_assoc, length-append, lt-ltb, ltb-true}
 use Rattle.std.proofs.lemmas.Bool.{ltb-false}
-use Rattle.std.specs.Int.Digits.{digits_with_fuel, number_from_digits}
-use Rattle.std.proofs.lemmas.Int.Digits.{digits_of_step, length-digits_of-le, number_digits_of}
-use Rattle.picky_der_core.specs.Element.{big_endian_within, big_endian, len, tlv}
+use Rattle.picky_der_core.specs.Element.{big_endian, len, tlv}
+use Rattle.picky_der_core.specs.BigEndianLaws.{big_endian-same, length-big_endian}
 
 -- lists that are as long and begin one list are the same
 pub same_front : (xs ys a b : List ℕ) → length xs ≡ length ys → xs ++ a ≡ ys ++ b → (xs ≡ ys) × (a ≡ b)
@@ -13,34 +12,6 @@ same_front (x ∷ xs) (y ∷ ys) a b l e =
     (cc, others.1)
 same_front [] (y ∷ ys) a b l e = absurd (omega arith)
 same_front (x ∷ xs) [] a b l e = absurd (omega arith)
-
--- ---- numbers as bytes
-
-one_digit_more : (b : Bool) (n : ℕ) {xs ys : List ℕ} → xs ≡ ys → elim b as (λ x. List ℕ) [ true ↦ [] | false ↦ xs ++ (n ∷ []) ] ≡ cond b [] (ys ++ (n ∷ []))
-one_digit_more true n e = refl
-one_digit_more false n e = ap (λ ds. ds ++ (n ∷ [])) e
-
--- the bytes of a number are its digits at the base 256
-big_endian_within-digits : (most n : ℕ) → big_endian_within most n ≡ digits_with_fuel 256 most n
-big_endian_within-digits zero n = refl
-big_endian_within-digits (suc most) n = one_digit_more (n == 0) (n % 256) (big_endian_within-digits most (n / 256))
-
-pub big_endian-digits : (n : ℕ) → big_endian n ≡ digits_with_fuel 256 n n
-unfolding big_endian
-big_endian-digits n = big_endian_within-digits n n
-
-pub number-big_endian : (n : ℕ) → number_from_digits 256 (big_endian n) ≡ n
-number-big_endian n = ap (number_from_digits 256) (big_endian-digits n) ∙ number_digits_of 256 n (omega arith)
-
-pub big_endian-same : (m n : ℕ) → big_endian m ≡ big_endian n → m ≡ n
-big_endian-same m n e = sym (number-big_endian m) ∙ ap (number_from_digits 256) e ∙ number-big_endian n
-
--- the last byte apart
-pub big_endian-step : (n : ℕ) → 0 < n → big_endian n ≡ big_endian (n / 256) ++ (n % 256 ∷ [])
-big_endian-step n h = big_endian-digits n ∙ digits_of_step 256 n (omega arith) h ∙ ap (λ ds. ds ++ (n % 256 ∷ [])) (sym (big_endian-digits (n / 256)))
-
-pub length-big_endian : (k n : ℕ) → n < 256 ^ k → length (big_endian n) ≤ k
-length-big_endian k n h = rw (big_endian-digits n) (length-digits_of-le 256 k n (omega arith) h)
 
 -- ---- lengths
 

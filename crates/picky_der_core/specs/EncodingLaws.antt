@@ -6,7 +6,8 @@ use Rattle.picky_der_core.specs.Element.{big_endian, tlv, IsElement}
 use Rattle.picky_der_core.specs.Tree.{ListKind, Tree, trees, is_plain, is_absent}
 use Rattle.picky_der_core.specs.Encoding.{boolean_content, positive, unsigned_content, list_content, list_tag, headed, around, written, encodings, der, inside, content, plain_tag}
 use Rattle.picky_der_core.specs.Readable.{IsReadable, IsNoChoice}
-use Rattle.picky_der_core.specs.ElementLaws.{tlv_prefix, number-big_endian}
+use Rattle.picky_der_core.specs.BigEndianLaws.{number-big_endian}
+use Rattle.picky_der_core.specs.ElementLaws.{tlv_prefix}
 
 -- ---- the encoding by its kinds
 

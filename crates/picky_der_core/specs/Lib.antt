@@ -8,6 +8,7 @@ pub mod Shape
 pub mod Wrapper
 pub mod Reading
 pub mod Refusal
+pub mod BigEndianLaws
 pub mod ElementLaws
 pub mod EncodingLaws
 pub mod WrapperLaws
@@ -18,6 +19,7 @@ pub mod Faults
 pub mod Reader
 pub mod Writer
 pub mod Watching
+pub mod Peeking
 pub mod Sink
 pub mod SliceSink
 pub mod SliceSinkLaws

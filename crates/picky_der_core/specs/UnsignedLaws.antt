@@ -1,84 +1,18 @@
--- The bytes of a number, and the contents that are numbers.
-use Rattle.std.proofs.Common.{◌≡◌, ℕ, zero, suc, ◌+◌, ◌-◌, ◌*◌, ◌/◌, ◌%◌, ◌^◌, ◌<◌, ◌≤◌, Bool, true, false, ◌||◌, cond, List, [], ◌∷◌, ◌++◌, length, drop, replicate, nat_lt, ◌==◌, refl, sym, ap, ap₂, subst, ◌∙◌, arith, append_assoc, append-nil, length-append, lt-ltb, le-ltb, ltb-true, ltb-false, pow-suc, Some, None, pow_mono, inl, inr, ne_eqb, eqb-true, mul-le-mul_right}
-use Rattle.std.specs.Int.{byte_at, bytes_high_first, to_be_bytes, leading_zeros, w128}
+-- The contents that are numbers.
+use Rattle.std.proofs.Common.{◌≡◌, ℕ, zero, suc, ◌+◌, ◌-◌, ◌*◌, ◌/◌, ◌^◌, ◌<◌, ◌≤◌, Bool, true, false, ◌||◌, cond, List, [], ◌∷◌, ◌++◌, length, drop, replicate, nat_lt, ◌==◌, refl, sym, ap, subst, ◌∙◌, arith, lt-ltb, le-ltb, ltb-true, ltb-false, pow-suc, Some, None, pow_mono, inl, inr, ne_eqb, eqb-true, mul-le-mul_right}
+use Rattle.std.specs.Int.{bytes_high_first, to_be_bytes, leading_zeros, w128}
 use Rattle.std.specs.Int.Count.{count_leading_zeros, leading_of_zero}
-use Rattle.std.specs.Int.Digits.{digits_of, number_from_digits, number_from_digits_after}
-use Rattle.std.proofs.Math.Nat.{pow-le-pow_right, pow-zero, pow-succ', div-div-eq-div-mul, zero-div, sub-zero}
-use Rattle.std.proofs.lemmas.Nat.{pow_pos, pow-add, leading_top, div_below, div-mul-add, mod-mul-add}
+use Rattle.std.specs.Int.Digits.{number_from_digits, number_from_digits_after}
+use Rattle.std.proofs.Math.Nat.{pow-le-pow_right, pow-zero}
+use Rattle.std.proofs.lemmas.Nat.{pow_pos, pow-add, leading_top}
 use Rattle.std.proofs.lemmas.Bool.{cases_lt, cond_both, eqb-false}
-use Rattle.std.proofs.lemmas.Int.Digits.{all_below_base_digits_of, first_digits_of, number_after_lt, number_lt}
+use Rattle.std.proofs.lemmas.Int.Digits.{number_after_lt, number_lt}
 use Rattle.picky_der_core.specs.Element.{big_endian}
 use Rattle.picky_der_core.specs.Encoding.{positive, unsigned_content}
 use Rattle.picky_der_core.specs.Refusal.{number_fault, unsigned_fault}
 use Rattle.picky_der_core.specs.Shape.{AreBytes}
-use Rattle.picky_der_core.specs.ElementLaws.{big_endian-digits, number-big_endian, big_endian-step, length-big_endian}
+use Rattle.picky_der_core.specs.BigEndianLaws.{number-big_endian, AreBytes-big_endian, first-big_endian, big_endian-number, length-big_endian, power_of_2, bytes_high_first-big_endian}
 use Rattle.picky_der_core.specs.declared.error.Asn1DerError.TheVariants.{InvalidData, UnsupportedValue}
-
--- ---- the bytes of a number
-
--- 0 has none
-big_endian-zero : big_endian 0 ≡ []
-unfolding big_endian
-big_endian-zero = refl
-
--- each of them is a byte
-pub AreBytes-big_endian : (n : ℕ) → AreBytes (big_endian n)
-AreBytes-big_endian n = rw (big_endian-digits n) (all_below_base_digits_of 256 n (omega arith))
-
--- the first of them isn't 0
-pub first-big_endian : (n b : ℕ) (bs : List ℕ) → big_endian n ≡ b ∷ bs → 0 < b
-first-big_endian zero b bs e = absurd (cc (big_endian-zero))
-first-big_endian (suc n) b bs e =
-    let first = first_digits_of 256 (suc n) (omega arith) (omega arith) in
-    let same : digits_of 256 (suc n) ≡ b ∷ bs = sym (big_endian-digits (suc n)) ∙ e in
-    rw same at first
-
--- one more byte behind them
-big_endian-more : (n b : ℕ) → 0 < n * 256 + b → b < 256 → big_endian (n * 256 + b) ≡ big_endian n ++ (b ∷ [])
-big_endian-more n b h byte = big_endian-step (n * 256 + b) h ∙ rw (div-mul-add n 256 b byte, mod-mul-add n 256 b byte) refl
-
--- any bytes behind them
-big_endian-after : (n : ℕ) (bs : List ℕ) → 0 < n → AreBytes bs → big_endian (number_from_digits_after 256 n bs) ≡ big_endian n ++ bs
-big_endian-after n [] h p = rw append-nil refl
-big_endian-after n (b ∷ bs) h p = big_endian-after (n * 256 + b) bs (omega arith) p.1 ∙ rw (big_endian-more n b (omega arith) p.0, append_assoc) refl
-
--- bytes that don't begin with 0 are those of the number that they make
-pub big_endian-number : (b : ℕ) (bs : List ℕ) → 0 < b → AreBytes (b ∷ bs) → big_endian (number_from_digits 256 (b ∷ bs)) ≡ b ∷ bs
-big_endian-number b bs h p =
-    let front : big_endian (0 * 256 + b) ≡ big_endian 0 ++ (b ∷ []) = big_endian-more 0 b (omega arith) p.0 in
-    big_endian-after (0 * 256 + b) bs (omega arith) p.1 ∙ rw (front, big_endian-zero) refl
-
--- ---- the bytes of an integer
-
--- a byte of a number is one of the number without its last byte
-byte_at-next : (i n : ℕ) → byte_at (suc i) n ≡ byte_at i (n / 256)
-byte_at-next zero n = refl
-byte_at-next (suc i) n = ap (λ m. m % 256) (rw (pow-succ' 256 (suc i)) (sym (div-div-eq-div-mul n 256 (256 ^ suc i))))
-
--- the last byte apart
-bytes_high_first-step : (k n : ℕ) → bytes_high_first (suc k) n ≡ bytes_high_first k (n / 256) ++ (n % 256 ∷ [])
-bytes_high_first-step zero n = refl
-bytes_high_first-step (suc k) n = ap₂ (λ b bs. b ∷ bs) (byte_at-next k n) (bytes_high_first-step k n)
-
--- each byte of 0 is 0
-byte_at-zero : (i : ℕ) → byte_at i 0 ≡ 0
-byte_at-zero zero = refl
-byte_at-zero (suc i) = rw (zero-div (256 ^ suc i)) refl
-
--- 0 is written as zeros
-bytes_high_first-zero : (k : ℕ) → bytes_high_first k 0 ≡ replicate k 0
-bytes_high_first-zero zero = refl
-bytes_high_first-zero (suc k) = ap₂ (λ b bs. b ∷ bs) (byte_at-zero k) (bytes_high_first-zero k)
-
--- an integer of k bytes is written as zeros and the bytes of its number
-pub bytes_high_first-big_endian : (k n : ℕ) → n < 256 ^ k → bytes_high_first k n ≡ replicate (k - length (big_endian n)) 0 ++ big_endian n
-bytes_high_first-big_endian k zero h = rw (big_endian-zero, append-nil, sub-zero) (bytes_high_first-zero k)
-bytes_high_first-big_endian zero (suc n) h = absurd (omega (arith, pow-zero 256))
-bytes_high_first-big_endian (suc k) (suc n) h =
-    let step = big_endian-step (suc n) (omega arith) in
-    let front = bytes_high_first-big_endian k (suc n / 256) (div_below (suc n) 256 (256 ^ k) (omega arith) (omega (arith, pow-suc 256 k))) in
-    let as_many : k - length (big_endian (suc n / 256)) ≡ suc k - length (big_endian (suc n)) = omega (arith, ap length step, length-append {A = ℕ}) in
-    bytes_high_first-step k (suc n) ∙ ap (λ bs. bs ++ (suc n % 256 ∷ [])) front ∙ rw (as_many, step, append_assoc) refl
 
 -- ---- how many bits a number takes
 
@@ -106,13 +40,6 @@ big_endian-begins n b bs e =
     let bytes : AreBytes (b ∷ bs) = subst AreBytes e (AreBytes-big_endian n) in
     (omega (arith, number_after-least b bs), omega (arith, number_after_lt 256 b bs bytes.1))
 
--- a byte is eight bits
-power_of_256 : (k : ℕ) → 256 ^ k ≡ 2 ^ (8 * k)
-power_of_256 zero = refl
-power_of_256 (suc k) =
-    let more : 8 * suc k ≡ 8 * k + 8 = omega arith in
-    rw (more, pow-suc 256 k, power_of_256 k, pow-add 2 (8 * k) 8) refl
-
 -- n lies between these powers of two
 abbrev IsBetweenPowers : ℕ → ℕ → ℕ → Type 0
 IsBetweenPowers i j n = (2 ^ i ≤ n) × (n < 2 ^ j)
@@ -120,7 +47,7 @@ IsBetweenPowers i j n = (2 ^ i ≤ n) × (n < 2 ^ j)
 -- a first byte below 80 takes one to seven bits
 few_bits : (b l n : ℕ) → 0 < b → b < 0x80 → BeginsWith b l n → IsBetweenPowers (8 * l) (8 * l + 7) n
 few_bits b l n h low begins =
-    let unit = power_of_256 l in
+    let unit = power_of_2 l in
     let least = mul-le-mul_right (256 ^ l) h in
     let most : (b + 1) * 256 ^ l ≤ 0x80 * 256 ^ l = mul-le-mul_right (256 ^ l) (omega arith) in
     (omega arith, omega (arith, pow-add 2 (8 * l) 7))
@@ -128,7 +55,7 @@ few_bits b l n h low begins =
 -- any other takes eight
 eight_bits : (b l n : ℕ) → 0x80 ≤ b → b < 256 → BeginsWith b l n → IsBetweenPowers (8 * l + 7) (8 * l + 8) n
 eight_bits b l n high byte begins =
-    let unit = power_of_256 l in
+    let unit = power_of_2 l in
     let least = mul-le-mul_right (256 ^ l) high in
     let most : (b + 1) * 256 ^ l ≤ 256 * 256 ^ l = mul-le-mul_right (256 ^ l) (omega arith) in
     (omega (arith, pow-add 2 (8 * l) 7), omega (arith, pow-add 2 (8 * l) 8))
@@ -143,7 +70,7 @@ powers_in_order i j n under over = elim (cases_lt i j) [
 -- the zero bits in front of a number between two powers
 leading_between : (k i j n : ℕ) → n < 256 ^ k → IsBetweenPowers i j n → (count_leading_zeros (8 * k) n + i < 8 * k) × (8 * k ≤ count_leading_zeros (8 * k) n + j)
 leading_between k i j n h between =
-    let top = leading_top (8 * k) n (omega (arith, pow_pos i)) (omega (arith, power_of_256 k)) in
+    let top = leading_top (8 * k) n (omega (arith, pow_pos i)) (omega (arith, power_of_2 k)) in
     let under = powers_in_order i (suc top.0) n between.0 top.3 in
     let over = powers_in_order top.0 j n top.2 between.1 in
     (omega (arith, top.1), omega (arith, top.1))

@@ -1,8 +1,11 @@
 //! Readers and writers, and lengths.
 
 mod buf_sink;
+#[cfg(test)]
+mod devices;
 mod faults;
 mod length;
+mod peekable;
 mod reader;
 mod slice_sink;
 mod watched;
@@ -11,6 +14,7 @@ mod writer;
 pub use buf_sink::BufSink;
 pub use faults::Faults;
 pub use length::Length;
+pub use peekable::PeekableReader;
 pub use reader::ReadExt;
 pub use slice_sink::SliceSink;
 pub use watched::Watched;

@@ -1,6 +1,8 @@
 //! A vector as a sink.
-ghost use Rattle.std.specs.Prelude.{◌≡◌, ℕ, ◌+◌, ◌<◌, ◌≤◌, ◌++◌, length, take, drop, Some, IfOk, OnOk, IfErr, OnErr, vec_len};
+ghost use Rattle.std.specs.Prelude.{◌≡◌, ℕ, ◌+◌, ◌<◌, ◌≤◌, ◌++◌, length, take, drop, Some, IsOk, IfOk, OnOk, IfErr, OnErr, vec_len};
 ghost use Rattle.std.specs.IoError.{error_kind};
+ghost use Rattle.std.specs.Io.KnownBytes.{Keeps, WriteAppends};
+ghost use Rattle.std.specs.Io.{WritesAtMost};
 ghost use Rattle.std.specs.declared.io.ErrorKind.{ErrorKind};
 ghost use Rattle.std.specs.declared.io.ErrorKind.TheVariants.{OutOfMemory};
 ghost use Rattle.std.proofs.Common.{◌∙◌, refl};
@@ -41,13 +43,14 @@ pub struct BufSink<'a> {
 }
 
 impl<'a> BufSink<'a> {
-    ghost use Rattle.picky_der_core.specs.Sink.{vector_of, place_of};
+    ghost use Rattle.picky_der_core.specs.Sink.{vector_of, place_of, faults_of};
 
     /// Writes over the vector from its first place on.
     pub fn new(buf: &'a mut Vec<u8>) -> BufSink<'a>
         ensures same_reference { (vector_of result).ghost_name ≡ buf.entry.ghost_name }
         ensures same { (vector_of result).now ≡ buf.old }
         ensures start { place_of result ≡ 0 }
+        ensures no_fault { faults_of result ≡ 0 }
     {
         BufSink {
             buf,
@@ -97,25 +100,40 @@ impl<'a> BufSink<'a> {
 }
 
 impl Write for BufSink<'_> {
-    ghost contents = { λ s. Some (take s.at s.buf.now.items) };
+    ghost use Rattle.picky_der_core.specs.Sink.{written_of, faults_of, IsLater};
 
-    fn write(&mut self, bytes: &[u8]) -> io::Result<usize> {
+    ghost contents = { λ s. Some (written_of s) };
+
+    fn write(&mut self, bytes: &[u8]) -> io::Result<usize>
+        ensures bound { WritesAtMost result bytes.now }
+        ensures bytes { WriteAppends (Some (written_of self.old)) (Some (written_of self.new)) result bytes.now }
+        ensures count { IfOk result (λ n. n ≡ length bytes.now) }
+        ensures fault { IfErr result (λ e. (faults_of self.old < faults_of self.new) × (error_kind e ≡ OutOfMemory)) }
+        ensures no_fault { OnOk result (faults_of self.new ≡ faults_of self.old) }
+        ensures goes_on { IsLater self.old self.new }
+    {
         self.push(bytes)
     }
 
-    fn flush(&mut self) -> io::Result<()> {
+    fn flush(&mut self) -> io::Result<()>
+        ensures ok { IsOk result }
+        ensures same { self.new ≡ self.old }
+        ensures bytes { Keeps (Some (written_of self.old)) (Some (written_of self.new)) }
+    {
         Ok(())
     }
 }
 
 impl WriteExt for BufSink<'_> {
-    ghost told = { λ s. Some (take s.at s.buf.now.items) };
+    ghost use Rattle.picky_der_core.specs.Sink.{place_of, written_of, faults_of, IsLater};
 
-    ghost faults = { λ s. count_of s.faults };
+    ghost told = { λ s. Some (written_of s) };
+
+    ghost faults = { λ s. faults_of s };
 
     ghost answers = { λ k. k ≡ OutOfMemory };
 
-    ghost later = { λ s t. (t.buf.ghost_name ≡ s.buf.ghost_name) × (s.at ≤ t.at) × (drop t.at t.buf.now.items ≡ drop t.at s.buf.now.items) };
+    ghost later = { IsLater };
 
     fn write_exact(&mut self, bytes: &[u8]) -> io::Result<usize> {
         self.push(bytes)
@@ -123,7 +141,7 @@ impl WriteExt for BufSink<'_> {
 
     ghost tells = { λ _. refl };
 
-    ghost later_refl = { λ s. (refl, at_least s.at, refl) };
+    ghost later_refl = { λ s. (refl, at_least (place_of s), refl) };
 
-    ghost later_trans = { λ s t u a b. (b.0 ∙ a.0, at_least_trans s.at t.at u.at a.1 b.1, later_drop t.at u.at _ _ _ b.1 a.2 b.2) };
+    ghost later_trans = { λ s t u a b. (b.0 ∙ a.0, at_least_trans (place_of s) (place_of t) (place_of u) a.1 b.1, later_drop (place_of t) (place_of u) _ _ _ b.1 a.2 b.2) };
 }

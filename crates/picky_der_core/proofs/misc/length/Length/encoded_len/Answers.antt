@@ -1,5 +1,6 @@
 use Rattle.std.proofs.Common.{sym, arith}
-use Rattle.picky_der_core.specs.LengthLaws.{length-len-short, length-len-long, big_endian-zeros}
+use Rattle.picky_der_core.specs.BigEndianLaws.{big_endian-zeros}
+use Rattle.picky_der_core.specs.LengthLaws.{length-len-short, length-len-long}
 use Rattle.picky_der_core.proofs.misc.length.Length.encoded_len.Goals as goal
 
 pub returns-then-len-lt128 : goal.returns-then-len-lt128

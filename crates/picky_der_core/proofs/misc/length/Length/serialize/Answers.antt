@@ -5,8 +5,9 @@ use Rattle.std.proofs.lemmas.Grind.{numeral_or}
 use Rattle.std.proofs.lemmas.List.{take_all, length-drop}
 use Rattle.std.proofs.lemmas.Result.{err_from_is_err_and}
 use Rattle.picky_der_core.specs.Element.{big_endian, len}
-use Rattle.picky_der_core.specs.ElementLaws.{len-short, len-long, length-big_endian}
-use Rattle.picky_der_core.specs.LengthLaws.{length-len-short, length-len-long, length-len-most, big_endian-last}
+use Rattle.picky_der_core.specs.BigEndianLaws.{length-big_endian, big_endian-last}
+use Rattle.picky_der_core.specs.ElementLaws.{len-short, len-long, length-len}
+use Rattle.picky_der_core.specs.LengthLaws.{length-len-short, length-len-long}
 use Rattle.picky_der_core.specs.Writer.{beginning_front, beginning_after}
 use Rattle.picky_der_core.proofs.misc.length.Length.serialize.Goals as goal
 
@@ -39,7 +40,7 @@ pub returns-then-len-lt128-clause-appends : goal.returns-then-len-lt128-clause-a
 returns-then-len-lt128-clause-appends g c = rw (len-short c.args.len (omega arith)) c.in_ok-write_one.ensures.appends
 
 pub overflow_sub-skipped : goal.overflow_sub-skipped
-overflow_sub-skipped g c = omega (arith, length-len-most c.args.len (omega arith))
+overflow_sub-skipped g c = omega (arith, length-len c.args.len (omega arith))
 
 pub slice_bounds-digits-count : goal.slice_bounds-digits-count
 slice_bounds-digits-count g c = omega (arith, length-len-long c.args.len (omega arith))

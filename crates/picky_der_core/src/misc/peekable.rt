@@ -1,0 +1,176 @@
+//! A reader whose next byte can be looked at.
+ghost use Rattle.std.specs.Prelude.{◌≡◌, ◌<◌, ℕ, ◌∷◌, length, drop, Ok, None, Some, IfSome, IfOk, OnOk, OnErr};
+ghost use Rattle.std.specs.Io.KnownBytes.{Keeps, ReadConsumes};
+ghost use Rattle.std.specs.Io.{ReadsAtMost};
+ghost use Rattle.picky_der_core.specs.Reader.{GivesByte, GivesNext, CountsFault};
+ghost use Rattle.picky_der_core.specs.Peeking.{left_in, IsByteIfAny, count_of_any, moved};
+
+use super::ReadExt;
+use std::io;
+use std::io::{Error, ErrorKind, Read};
+use std::marker::Model;
+
+/// A reader whose next byte can be looked at before it is handed out.
+#[derive(Drop)]
+pub struct PeekableReader<R: ReadExt> {
+    reader: R,
+    peeked: Option<u8>,
+    pos: usize,
+}
+
+impl<R: ReadExt> Model for PeekableReader<R> {
+    ghost use Rattle.std.specs.Prelude.{◌<◌, ◌^◌};
+    ghost use Rattle.picky_der_core.specs.Peeking.{Peeking, peeking_code, IsByteIfAny};
+
+    ghost Value = { Peeking R };
+
+    ghost coded = { peeking_code R.code };
+
+    ghost view = { λ p. record { reader = p.reader; peeked = p.peeked; pos = p.pos } };
+
+    ghost invariant = { λ p. IsByteIfAny p.peeked × (p.pos < 2 ^ 64) };
+}
+
+impl<R: ReadExt> PeekableReader<R> {
+    /// Reads from the reader.
+    pub fn new(reader: R) -> PeekableReader<R>
+        ensures { result ≡ record { reader = reader; peeked = None; pos = 0 } }
+    {
+        PeekableReader {
+            reader,
+            peeked: None,
+            pos: 0,
+        }
+    }
+
+    /// The next byte, which the next read hands out. At the end of the input it is an error of kind `UnexpectedEof`;
+    /// any other error is the device's. Where a byte was peeked already, the inner reader isn't asked.
+    pub fn peek_one(&mut self) -> io::Result<u8>
+        ensures again { IfSome self.old.peeked (λ b. (result ≡ Ok b) × (self.new ≡ self.old)) }
+        ensures ok { IfOk result (λ b. self.new.peeked ≡ Some b) }
+        ensures bounded { IfOk result (λ b. b < 256) }
+        ensures asked { OnErr result (self.old.peeked ≡ None) }
+        ensures kept { OnErr result (self.new.peeked ≡ self.old.peeked) }
+        ensures input { Keeps (left_in R.remaining self.old) (left_in R.remaining self.new) }
+        ensures pos { self.new.pos ≡ self.old.pos }
+        ensures fault { CountsFault (left_in R.remaining self.old) (R.faults self.old.reader) (R.faults self.new.reader) result }
+        ensures same_references { R.through self.new.reader ≡ R.through self.old.reader }
+    {
+        if let Some(byte) = self.peeked {
+            return Ok(byte);
+        }
+        let byte = self.reader.read_one()?;
+        self.peeked = Some(byte);
+        Ok(byte)
+    }
+
+    /// How many bytes were handed out, a peeked one not counted. It stays at `usize::MAX`.
+    pub fn pos(&self) -> usize
+        ensures { result ≡ self.now.pos }
+    {
+        self.pos
+    }
+
+    /// The inner reader, behind a byte that was peeked.
+    pub fn into_inner(self) -> R
+        ensures { result ≡ self.reader }
+    {
+        let PeekableReader {
+            reader,
+            peeked: _,
+            pos: _,
+        } = self;
+        reader
+    }
+
+    // Hands out the peeked byte, if there is one.
+    fn take_peeked(&mut self) -> Option<u8>
+        ensures byte { result ≡ self.old.peeked }
+        ensures bounded { IsByteIfAny result }
+        ensures same { self.new.reader ≡ self.old.reader }
+        ensures unpeeked { self.new.peeked ≡ None }
+        ensures pos { self.new.pos ≡ moved self.old.pos (count_of_any result) }
+    {
+        let byte = self.peeked?;
+        self.peeked = None;
+        self.pos = self.pos.saturating_add(1);
+        Some(byte)
+    }
+}
+
+/// A read while a byte is peeked hands out that byte alone, and doesn't ask the inner reader. No room takes nothing.
+impl<R: ReadExt> Read for PeekableReader<R> {
+    ghost remaining = { λ p. left_in R.remaining p };
+
+    fn read(&mut self, buf: &mut [u8]) -> io::Result<usize>
+        ensures bound { ReadsAtMost result buf.new }
+        ensures bytes { ReadConsumes (left_in R.remaining self.old) (left_in R.remaining self.new) result buf.new }
+        ensures empty { length buf.old ≡ 0 → (result ≡ Ok 0) × (self.new ≡ self.old) }
+        ensures peeked { 0 < length buf.old → IfSome self.old.peeked (λ b.
+            (result ≡ Ok 1) × (buf.new ≡ b ∷ drop 1 buf.old) × (self.new.reader ≡ self.old.reader)) }
+        ensures unpeeked { 0 < length buf.old → OnOk result (self.new.peeked ≡ None) }
+        ensures kept { OnErr result (self.new.peeked ≡ self.old.peeked) }
+        ensures pos { IfOk result (λ n. self.new.pos ≡ moved self.old.pos n) }
+        ensures same_pos { OnErr result (self.new.pos ≡ self.old.pos) }
+    {
+        if buf.is_empty() {
+            return Ok(0);
+        }
+        if let Some(byte) = self.take_peeked() {
+            buf[0] = byte;
+            return Ok(1);
+        }
+        let count = self.reader.read(buf)?;
+        self.pos = self.pos.saturating_add(count);
+        Ok(count)
+    }
+}
+
+impl<R: ReadExt> ReadExt for PeekableReader<R> {
+    ghost faults = { λ p. R.faults p.reader };
+
+    ghost through = { λ p. R.through p.reader };
+
+    fn read_next(&mut self) -> io::Result<Option<u8>>
+        ensures byte { GivesNext (left_in R.remaining self.old) (left_in R.remaining self.new) result }
+        ensures bounded { IfOk result IsByteIfAny }
+        ensures peeked { IfSome self.old.peeked (λ b. (result ≡ Ok (Some b)) × (self.new.reader ≡ self.old.reader)) }
+        ensures unpeeked { OnOk result (self.new.peeked ≡ None) }
+        ensures kept { OnErr result (self.new.peeked ≡ self.old.peeked) }
+        ensures pos { IfOk result (λ next. self.new.pos ≡ moved self.old.pos (count_of_any next)) }
+        ensures same_pos { OnErr result (self.new.pos ≡ self.old.pos) }
+        ensures fault { OnErr result (R.faults self.old.reader < R.faults self.new.reader) }
+        ensures no_fault { OnOk result (R.faults self.new.reader ≡ R.faults self.old.reader) }
+        ensures same_references { R.through self.new.reader ≡ R.through self.old.reader }
+    {
+        if let Some(byte) = self.take_peeked() {
+            return Ok(Some(byte));
+        }
+        let next = self.reader.read_next()?;
+        if next.is_some() {
+            self.pos = self.pos.saturating_add(1);
+        }
+        Ok(next)
+    }
+
+    fn read_one(&mut self) -> io::Result<u8>
+        ensures byte { GivesByte (left_in R.remaining self.old) (left_in R.remaining self.new) result }
+        ensures bounded { IfOk result (λ b. b < 256) }
+        ensures peeked { IfSome self.old.peeked (λ b. (result ≡ Ok b) × (self.new.reader ≡ self.old.reader)) }
+        ensures unpeeked { OnOk result (self.new.peeked ≡ None) }
+        ensures kept { OnErr result (self.new.peeked ≡ self.old.peeked) }
+        ensures pos { OnOk result (self.new.pos ≡ moved self.old.pos 1) }
+        ensures same_pos { OnErr result (self.new.pos ≡ self.old.pos) }
+        ensures fault { CountsFault (left_in R.remaining self.old) (R.faults self.old.reader) (R.faults self.new.reader) result }
+        ensures same_references { R.through self.new.reader ≡ R.through self.old.reader }
+    {
+        match self.read_next() {
+            Ok(Some(byte)) => Ok(byte),
+            Ok(None) => Err(Error::from(ErrorKind::UnexpectedEof)),
+            Err(error) => Err(error),
+        }
+    }
+}
+
+#[cfg(test)]
+mod tests;
