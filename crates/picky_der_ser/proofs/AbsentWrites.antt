@@ -1,5 +1,5 @@
 -- A value that isn't there, outside levels and wrappers.
-use Rattle.std.proofs.Common.{◌≡◌, Option, None, Some, Ok, Err, refl, sym, ap, subst, length, arith}
+use Rattle.std.proofs.Common.{◌≡◌, Option, None, Ok, refl, sym, ap, subst, length, arith}
 use Rattle.std.specs.Io.KnownBytes.{Appends}
 use Rattle.std.proofs.KnownBytes.{Appends-nil}
 use Rattle.picky_der_core.specs.declared.misc.writer.WriteExt.{Ghosts}
@@ -7,7 +7,6 @@ use Rattle.picky_der_core.specs.declared.error.Asn1DerError.{Asn1DerError}
 use Rattle.picky_der_core.specs.Tree.{Tree}
 use Rattle.picky_der_core.specs.Readable.{IsWritable}
 use Rattle.picky_der_core.specs.EncodingLaws.{der-absent}
-use Rattle.picky_der_ser.specs.State.{State}
 use Rattle.picky_der_ser.specs.Calls.{WritesAbsent}
 use Rattle.picky_der_ser.proofs.PlainWrites.{outside}
 
@@ -30,6 +29,3 @@ module _ {W : Type 0} (g : Ghosts W) where
     again = tt;
     same = refl;
   }
-
-  pub absent-err : (old : State W) (e : Asn1DerError) → old.failed ≡ Some e → WritesAbsent g old (Err e) old
-  absent-err old e f = record { wrote = tt; count = tt; again = (f, refl); same = refl }

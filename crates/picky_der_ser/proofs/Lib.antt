@@ -1,4 +1,4 @@
 pub mod Alike
 pub mod PlainWrites
 pub mod AbsentWrites
-pub mod Memory
+pub mod EntryWrites

@@ -1,5 +1,6 @@
 pub mod Heading
 pub mod State
 pub mod Calls
+pub mod Entry
 pub mod Integer
 pub mod Meaning

@@ -1,12 +1,48 @@
 //! Whole values.
-ghost use Rattle.std.specs.Prelude.{◌≡◌, IfOk, OnOk, IfErr};
+ghost use Rattle.std.specs.Prelude.{◌≡◌, ◌≤◌, length, IfOk, OnOk, IfErr};
 ghost use Rattle.picky_der_core.specs.Encoding.{der};
 ghost use Rattle.picky_der_core.specs.Readable.{IsWritable};
-ghost use Rattle.picky_der_ser.specs.Calls.{MemoryExcuse};
+ghost use Rattle.picky_der_core.specs.SliceSink.{slice_of};
+ghost use Rattle.picky_der_ser.specs.Calls.{MemoryExcuse, Wrote, Refused};
+ghost use Rattle.picky_der_ser.specs.Entry.{Overwrites, RefusedVec, RefusedSlice};
 
 use crate::{Serialize, Serializer};
 use picky_der_core::Result;
+use picky_der_core::misc::{BufSink, SliceSink, WriteExt};
 use std::alloc::Global;
+
+/// Fills the slice with the value's canonical encoding, and answers its length. Bytes past the encoding stay.
+///
+/// A slice that is too short is filled with the encoding's first bytes, and the answer is `InvalidSink`.
+/// `UnsupportedValue` where the value can't be written, and then the slice stays as it was. `OutOfMemory` where a growth
+/// was refused; what was written by then is a beginning of the encoding.
+pub fn to_bytes<T: Serialize>(alloc: Global, value: &T, buf: &mut [u8]) -> Result<usize>
+    ensures ok { IfOk result (λ n. Overwrites (T.meaning value.now) buf.old n buf.new) }
+    ensures fits { OnOk result (length (der (T.meaning value.now)) ≤ length buf.old) }
+    ensures err { IfErr result (λ e. RefusedSlice (T.meaning value.now) buf.old e buf.new) }
+{
+    let mut sink = SliceSink::new(buf);
+    let outcome = to_writer(alloc, value, &mut sink);
+    end_loan(sink);
+    outcome
+}
+
+/// Writes the value's canonical encoding over the vector's first bytes, and answers its length. Where the vector is
+/// shorter it grows, and bytes past the encoding stay.
+///
+/// `OutOfMemory` where a growth was refused, and `UnsupportedValue` where the value can't be written. Then a beginning
+/// of the encoding stands over the vector's first bytes; at `UnsupportedValue` the vector is as it was.
+pub fn to_byte_buf<T: Serialize>(alloc: Global, value: &T, buf: &mut Vec<u8>) -> Result<usize>
+    ensures ok { IfOk result (λ n. Overwrites (T.meaning value.now) buf.old.items n buf.new.items) }
+    ensures err { IfErr result (λ e. RefusedVec (T.meaning value.now) buf.old.items e buf.new.items) }
+{
+    let mut sink = BufSink::new(buf);
+    let outcome = to_writer(alloc, value, &mut sink);
+    let written = sink.into_inner();
+    // No effect at run time. The proof reads what `buf` holds from this use.
+    let _ = &*written;
+    outcome
+}
 
 /// The canonical encoding of a value. `OutOfMemory` where a growth was refused, and `UnsupportedValue` where the value
 /// can't be written: a tag number in it is past 30, or the encoding is longer than `usize::MAX`.
@@ -16,16 +52,38 @@ pub fn to_vec<T: Serialize>(alloc: Global, value: &T) -> Result<Vec<u8>>
     ensures err { IfErr result (MemoryExcuse (T.meaning value.now)) }
 {
     let mut out = Vec::new(alloc);
-    let mut ser = Serializer::new_to_byte_buf(alloc, &mut out);
-    let outcome = value.serialize(&mut ser);
-    let written = ser.into_sink().into_inner();
-    // No effect at run time. The proof reads what `out` holds from this use.
-    let _ = &*written;
-    match outcome {
+    match to_byte_buf(alloc, value, &mut out) {
         Ok(_) => Ok(out),
         Err(error) => Err(error),
     }
 }
+
+/// Appends the value's canonical encoding to what the writer has taken, and answers its length. At an error a beginning
+/// of the encoding was appended: `OutOfMemory` where memory was refused, `UnsupportedValue` where the value can't be
+/// written, and then nothing is; else the error of the writer.
+pub fn to_writer<T: Serialize, W: WriteExt>(
+    alloc: Global,
+    value: &T,
+    writer: &mut W,
+) -> Result<usize>
+    ensures ok { IfOk result (λ n. Wrote W.WriteExt.own (T.meaning value.now) writer.old n writer.new) }
+    ensures no_fault { OnOk result (W.faults writer.new ≡ W.faults writer.old) }
+    ensures err { IfErr result (λ e. Refused W.WriteExt.own (T.meaning value.now) writer.old e writer.new) }
+    ensures counted { W.faults writer.old ≤ W.faults writer.new }
+    ensures goes_on { W.later writer.old writer.new }
+{
+    let mut ser = Serializer::new_to_writer(alloc, writer);
+    let outcome = value.serialize(&mut ser);
+    let written = ser.into_writer();
+    // No effect at run time. The proof reads what `writer` holds from this use.
+    let _ = &*written;
+    outcome
+}
+
+// Lets the sink go. By this clause the proof of `to_bytes` reads what the slice then holds.
+fn end_loan(_sink: SliceSink<'_>)
+    ensures { _sink.exit.0.now ≡ (slice_of _sink.entry).now }
+{}
 
 #[cfg(test)]
 mod tests;

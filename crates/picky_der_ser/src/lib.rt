@@ -8,11 +8,13 @@ mod impls;
 mod integer;
 mod null;
 mod plain;
+#[cfg(test)]
+mod refuses_once;
 mod serializer;
 mod utf8_string;
 
 pub use boolean::Boolean;
-pub use entry::to_vec;
+pub use entry::{to_byte_buf, to_bytes, to_vec, to_writer};
 pub use header::Header;
 pub use integer::{UInt, UnsignedInteger};
 pub use null::Null;

@@ -1,4 +1,4 @@
-//! Nothing (X.690, 8.8).
+//! Null (X.690, 8.8).
 ghost use Rattle.picky_der_core.specs.Tree.{Tree};
 ghost use Rattle.picky_der_ser.specs.Calls.{WritesPlain};
 
@@ -7,7 +7,7 @@ use picky_der_core::Result;
 use picky_der_core::asn1::Tag;
 use picky_der_core::misc::WriteExt;
 
-/// Writes the value that there is only one of.
+/// Writes nulls.
 pub struct Null;
 
 impl Null {

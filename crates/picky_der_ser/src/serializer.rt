@@ -11,7 +11,7 @@ ghost use Rattle.picky_der_ser.specs.Calls.{Writes, Fails, WritesPlain, WritesAb
 use crate::plain::put_element;
 use crate::{Boolean, Null, UnsignedInteger, Utf8String};
 use picky_der_core::asn1::Tag;
-use picky_der_core::misc::{BufSink, WriteExt};
+use picky_der_core::misc::{BufSink, SliceSink, WriteExt};
 use picky_der_core::{Asn1DerError, Result};
 use std::alloc::Global;
 use std::marker::Model;
@@ -52,6 +52,24 @@ impl<W: WriteExt> Model for Serializer<W> {
     ghost view = { λ s. record { sink = s.sink; around = []; failed = s.failed; inside = []; pending = None } };
 }
 
+impl<'a> Serializer<SliceSink<'a>> {
+    ghost use Rattle.picky_der_core.specs.SliceSink.{slice_of, filled_of, faults_of};
+
+    /// Fills a slice from its first place on, and then takes nothing.
+    pub fn new_to_bytes(alloc: Global, buf: &'a mut [u8]) -> Serializer<SliceSink<'a>>
+        ensures same_reference { (slice_of result.sink).ghost_name ≡ buf.entry.ghost_name }
+        ensures same { (slice_of result.sink).now ≡ buf.old }
+        ensures start { filled_of result.sink ≡ 0 }
+        ensures no_fault { faults_of result.sink ≡ 0 }
+        ensures around { result.around ≡ [] }
+        ensures failed { result.failed ≡ None }
+        ensures outside { result.inside ≡ [] }
+        ensures pending { result.pending ≡ None }
+    {
+        Serializer::new_to_writer(alloc, SliceSink::new(buf))
+    }
+}
+
 impl<'a> Serializer<BufSink<'a>> {
     ghost use Rattle.picky_der_core.specs.Sink.{vector_of, place_of};
 
@@ -65,24 +83,28 @@ impl<'a> Serializer<BufSink<'a>> {
         ensures outside { result.inside ≡ [] }
         ensures pending { result.pending ≡ None }
     {
-        Serializer::over(alloc, BufSink::new(buf))
+        Serializer::new_to_writer(alloc, BufSink::new(buf))
     }
 }
 
 impl<W: WriteExt> Serializer<W> {
-    // A serializer that writes to the sink.
-    fn over(alloc: Global, sink: W) -> Serializer<W>
-        ensures { result ≡ record { sink = sink; around = []; failed = None; inside = []; pending = None } }
+    /// Appends to a writer, which may be a `&mut` of one.
+    pub fn new_to_writer(alloc: Global, writer: W) -> Serializer<W>
+        ensures same { result.sink ≡ writer }
+        ensures around { result.around ≡ [] }
+        ensures failed { result.failed ≡ None }
+        ensures outside { result.inside ≡ [] }
+        ensures pending { result.pending ≡ None }
     {
         Serializer {
-            sink,
+            sink: writer,
             failed: None,
             alloc,
         }
     }
 
-    // The sink.
-    pub(crate) fn into_sink(self) -> W
+    /// Gives the writer back.
+    pub fn into_writer(self) -> W
         ensures { result ≡ self.sink }
     {
         let Serializer {
@@ -210,10 +232,10 @@ impl<W: WriteExt> Serializer<W> {
     pub fn serialize_none(&mut self) -> Result<usize>
         ensures { WritesAbsent W.WriteExt.own self.old result self.new }
     {
-        match self.failed {
-            Some(error) => Err(error),
-            None => Ok(0),
+        if let Some(error) = self.failed {
+            return Err(error);
         }
+        Ok(0)
     }
 
     /// Writes the value as it is.

@@ -1,49 +1,15 @@
 use super::*;
+use crate::refuses_once::{RefusesOnce, refuses_once};
 use picky_der_core::misc::Watched;
-use std::io;
-use std::io::{ErrorKind, Write};
+use std::io::ErrorKind;
 use std::test::Fail;
 
-// Takes a byte a call, and once, after so many bytes, refuses: with the error `refusal`, or by taking nothing.
-#[derive(Drop)]
-struct RefusesOnce {
-    taken: Vec<u8>,
-    after: Option<usize>,
-    refusal: Option<ErrorKind>,
-}
-
-impl Write for RefusesOnce {
-    fn write(&mut self, bytes: &[u8]) -> io::Result<usize> {
-        if self.after == Some(self.taken.len()) {
-            self.after = None;
-            return match self.refusal {
-                Some(kind) => Err(kind.into()),
-                None => Ok(0),
-            };
-        }
-        let count = bytes.len().min(1);
-        self.taken.extend_from_slice(&bytes[..count])?;
-        Ok(count)
-    }
-
-    fn flush(&mut self) -> io::Result<()> {
-        Ok(())
-    }
-}
-
-// A serializer over such a writer, which has taken nothing yet.
 fn over_refusing(
     alloc: Global,
     after: Option<usize>,
     refusal: Option<ErrorKind>,
 ) -> Serializer<Watched<RefusesOnce>> {
-    let taken = Vec::new(alloc);
-    let writer = RefusesOnce {
-        taken,
-        after,
-        refusal,
-    };
-    Serializer::over(alloc, Watched::new(writer))
+    Serializer::new_to_writer(alloc, refuses_once(alloc, after, refusal))
 }
 
 #[test]
@@ -79,6 +45,71 @@ fn appends_each_plain_value(rt: HostRuntime) -> std::result::Result<(), Fail> {
 }
 
 #[test]
+fn appends_nulls_texts_and_tagged_bytes(rt: HostRuntime) -> std::result::Result<(), Fail> {
+    let mut out = Vec::new(rt.alloc());
+    let mut ser = Serializer::new_to_byte_buf(rt.alloc(), &mut out);
+    assert!(rt; !ser.is_human_readable());
+    let counts = [
+        ser.serialize_unit()?,
+        ser.serialize_unit_struct("Empty")?,
+        ser.serialize_char('é')?,
+        ser.serialize_char('A')?,
+        ser.serialize_str("")?,
+        ser.serialize_none()?,
+        ser.serialize_str("née")?,
+        ser.serialize_some(&7u8)?,
+        ser.serialize_tagged_bytes(Tag::from(0x9E), &[0xAA])?,
+        Null::serialize(&mut ser)?,
+        Utf8String::serialize("z", &mut ser)?,
+    ];
+    drop(ser);
+    assert_eq!(rt; counts, [2, 2, 4, 3, 2, 0, 6, 3, 3, 2, 3]);
+    let encodings = [
+        [0x05, 0x00].as_slice(),
+        &[0x05, 0x00],
+        &[0x0C, 0x02, 0xC3, 0xA9],
+        &[0x0C, 0x01, 0x41],
+        &[0x0C, 0x00],
+        &[0x0C, 0x04, 0x6E, 0xC3, 0xA9, 0x65],
+        &[0x02, 0x01, 0x07],
+        &[0x9E, 0x01, 0xAA],
+        &[0x05, 0x00],
+        &[0x0C, 0x01, 0x7A],
+    ];
+    assert_eq!(rt; out.as_slice(), encodings.concat(rt.alloc())?.as_slice());
+    Ok(())
+}
+
+#[test]
+fn a_tag_number_of_31_is_refused(rt: HostRuntime) {
+    for byte in [0x1F, 0x3F, 0x7F, 0x9F, 0xFF] {
+        let mut ser = over_refusing(rt.alloc(), None, None);
+        assert_eq!(rt; ser.serialize_unit(), Ok(2), "{byte}");
+        let refusal = Err(Asn1DerError::UnsupportedValue);
+        assert_eq!(rt;
+            ser.serialize_tagged_bytes(Tag::from(byte), &[0xAA]),
+            refusal,
+            "{byte}"
+        );
+        assert_eq!(rt; ser.serialize_unit(), refusal, "{byte}");
+        assert_eq!(rt; ser.serialize_none(), refusal, "{byte}");
+        let taken = ser.into_writer().into_inner().taken;
+        assert_eq!(rt; taken.as_slice(), [0x05, 0x00].as_slice(), "{byte}");
+    }
+}
+
+#[test]
+fn fills_a_slice(rt: HostRuntime) {
+    let mut room = [9; 6];
+    let mut ser = Serializer::new_to_bytes(rt.alloc(), &mut room);
+    assert_eq!(rt; ser.serialize_u8(7), Ok(3));
+    assert_eq!(rt; ser.serialize_unit(), Ok(2));
+    assert_eq!(rt; ser.serialize_unit(), Err(Asn1DerError::InvalidSink));
+    drop(ser);
+    assert_eq!(rt; room, [0x02, 0x01, 0x07, 0x05, 0x00, 0x05]);
+}
+
+#[test]
 fn overwrites_a_vector_from_its_first_place(rt: HostRuntime) -> std::result::Result<(), Fail> {
     let mut out = vec![in rt.alloc(); 9; 5]?;
     let mut ser = Serializer::new_to_byte_buf(rt.alloc(), &mut out);
@@ -93,7 +124,7 @@ fn a_writer_may_take_a_byte_a_call(rt: HostRuntime) {
     let mut ser = over_refusing(rt.alloc(), None, None);
     assert_eq!(rt; ser.serialize_u16(0x0102), Ok(4));
     assert_eq!(rt; ser.serialize_bool(true), Ok(3));
-    let taken = ser.into_sink().into_inner().taken;
+    let taken = ser.into_writer().into_inner().taken;
     assert_eq!(rt;
         taken.as_slice(),
         [0x02, 0x02, 0x01, 0x02, 0x01, 0x01, 0xFF].as_slice()
@@ -115,7 +146,7 @@ fn stays_failed_after_a_fault(rt: HostRuntime) {
             let mut ser = over_refusing(rt.alloc(), Some(place), refusal);
             assert_eq!(rt; ser.serialize_u16(0x0102), Err(error), "at {place}");
             assert_eq!(rt; ser.serialize_bytes(&[]), Err(error), "at {place}");
-            let taken = ser.into_sink().into_inner().taken;
+            let taken = ser.into_writer().into_inner().taken;
             assert_eq!(rt; taken.as_slice(), &encoding[..place], "at {place}");
         }
     }

@@ -1,0 +1,97 @@
+-- What a vector and a slice hold that a tree was written to.
+use Rattle.std.proofs.Common.{◌≡◌, ◌<◌, ◌≤◌, ℕ, List, [], ◌++◌, length, take, drop, Some, refl, sym, ap, ◌∙◌, subst, arith, take-append-drop}
+use Rattle.std.proofs.lemmas.Grind.{common_steps}
+use Rattle.std.specs.Io.KnownBytes.{Appends}
+use Rattle.std.specs.declared.io.ErrorKind.{ErrorKind}
+use Rattle.std.specs.declared.io.ErrorKind.TheVariants as kind
+use Rattle.picky_der_core.specs.Error.{kind_of}
+use Rattle.picky_der_core.specs.declared.misc.writer.WriteExt.{Ghosts}
+use Rattle.picky_der_core.specs.declared.misc.buf_sink.BufSink.{BufSink}
+use Rattle.picky_der_core.specs.declared.misc.slice_sink.SliceSink.{SliceSink}
+use Rattle.picky_der_core.specs.declared.error.Asn1DerError.{Asn1DerError}
+use Rattle.picky_der_core.specs.declared.error.Asn1DerError.TheVariants.{UnsupportedValue, InvalidSink, OutOfMemory}
+use Rattle.picky_der_core.specs.Writer.{AppendsBeginning}
+use Rattle.picky_der_core.specs.Tree.{Tree}
+use Rattle.picky_der_core.specs.Encoding.{der}
+use Rattle.picky_der_core.specs.Sink.{vector_of, place_of}
+use Rattle.picky_der_core.specs.SliceSink.{slice_of, filled_of, written_of, faults_of, IsLater}
+use Rattle.picky_der_core.specs.SliceSinkLaws.{holds_all, holds_beginning, holds_first}
+use Rattle.picky_der_ser.specs.Calls.{Excuse, no_memory, unwritable, no_sink, MemoryExcuse, no_room, no_way, Wrote, Refused}
+use Rattle.picky_der_ser.specs.Entry.{Overwrites, RefusedVec, SliceExcuse, without_memory, without_form, without_room, RefusedSlice}
+
+memory_kind : kind_of kind.OutOfMemory ≡ OutOfMemory
+unfolding kind_of
+memory_kind = refl
+
+full_kind : kind_of kind.WriteZero ≡ InvalidSink
+unfolding kind_of
+full_kind = refl
+
+-- ---- a vector
+
+over : (j : ℕ) (front old new : List ℕ) → take j new ≡ front → j ≤ length new → drop j new ≡ drop j old → new ≡ front ++ drop (length front) old
+over j front old new e h f =
+    let n : length front ≡ j = sym (ap length e) ∙ grind (arith, common_steps) in
+    sym (take-append-drop j new) ∙ ap (λ l. l ++ drop j new) e ∙ ap (λ l. front ++ l) f ∙ ap (λ k. front ++ drop k old) (sym n)
+
+module _ (g : Ghosts BufSink) (told : (s : BufSink) → g.told s ≡ Some (take (place_of s) (vector_of s).now.items)) (only : (k : ErrorKind) → g.answers k → k ≡ kind.OutOfMemory) where
+  vec_excuse : (t : Tree) (old new : BufSink) (e : Asn1DerError) → Excuse g t old e new → MemoryExcuse t e
+  vec_excuse t old new e (no_memory m) = no_room m
+  vec_excuse t old new e (unwritable m n s) = no_way m n
+  vec_excuse t old new e (no_sink h f) = no_room (f.is ∙ ap kind_of (only f.kind f.answered) ∙ memory_kind)
+
+  vec_nothing : (t : Tree) (old new : BufSink) (e : Asn1DerError) (front : List ℕ) → place_of old ≡ 0 → take (place_of new) (vector_of new).now.items ≡ front → Excuse g t old e new → e ≡ UnsupportedValue → front ≡ []
+  vec_nothing t old new e front start is (no_memory m) u = cc
+  vec_nothing t old new e front start is (unwritable m n s) u = sym is ∙ ap (λ k. take k (vector_of new).now.items) (ap place_of s ∙ start)
+  vec_nothing t old new e front start is (no_sink h f) u =
+      let m : e ≡ OutOfMemory = f.is ∙ ap kind_of (only f.kind f.answered) ∙ memory_kind in
+      cc
+
+  -- a vector holds a beginning of the encoding, and behind it what stood there before
+  pub refused-vec : (t : Tree) (old new : BufSink) (e : Asn1DerError) → place_of old ≡ 0 → drop (place_of new) (vector_of new).now.items ≡ drop (place_of new) (vector_of old).now.items
+      → Refused g t old e new → RefusedVec t (vector_of old).now.items e (vector_of new).now.items
+  refused-vec t old new e start past h =
+      let front = h.begins.front in
+      let first : Appends (Some (take (place_of old) (vector_of old).now.items)) (g.told new) front = subst (λ a. Appends a (g.told new) front) (told old) h.begins.appends in
+      let both : take (place_of new) (vector_of new).now.items ≡ take (place_of old) (vector_of old).now.items ++ front =
+      subst (λ b. Appends (Some (take (place_of old) (vector_of old).now.items)) b front) (told new) first in
+      let is : take (place_of new) (vector_of new).now.items ≡ front = both ∙ ap (λ k. take k (vector_of old).now.items ++ front) start in
+      let within : place_of new ≤ length (vector_of new).now.items = omega (arith, new.within, new.buf.now.ok.0) in
+      record {
+        front = front;
+        begins = record { rest = h.begins.rest; is = h.begins.is };
+        holds = over (place_of new) front (vector_of old).now.items (vector_of new).now.items is within past;
+        nothing = vec_nothing t old new e front start is h.excuse;
+        excuse = vec_excuse t old new e h.excuse;
+      }
+
+-- ---- a slice
+
+module _ (g : Ghosts SliceSink) (told : (s : SliceSink) → g.told s ≡ Some (written_of s)) (faults : (s : SliceSink) → g.faults s ≡ faults_of s) (only : (k : ErrorKind) → g.answers k → k ≡ kind.WriteZero) where
+  told-appends : (old new : SliceSink) (bs : List ℕ) → Appends (g.told old) (g.told new) bs → Appends (Some (written_of old)) (Some (written_of new)) bs
+  told-appends old new bs h =
+      let first : Appends (Some (written_of old)) (g.told new) bs = subst (λ a. Appends a (g.told new) bs) (told old) h in
+      subst (λ b. Appends (Some (written_of old)) b bs) (told new) first
+
+  -- a slice holds the encoding, and behind it what stood there before
+  pub wrote-slice : (t : Tree) (old new : SliceSink) (n : ℕ) → filled_of old ≡ 0 → IsLater old new → Wrote g t old n new
+      → Overwrites t (slice_of old).now n (slice_of new).now × (length (der t) ≤ length (slice_of old).now)
+  wrote-slice t old new n start later h =
+      let all = holds_all old new (der t) start later (told-appends old new (der t) h.appends) in
+      (record { writable = h.writable; count = h.count; holds = all.1 }, all.0)
+
+  slice_excuse : (t : Tree) (old new : SliceSink) (e : Asn1DerError) → filled_of old ≡ 0 → IsLater old new → AppendsBeginning (Some (written_of old)) (Some (written_of new)) (der t)
+      → Excuse g t old e new → SliceExcuse t (slice_of old).now e (slice_of new).now
+  slice_excuse t old new e start later b (no_memory m) = without_memory m
+  slice_excuse t old new e start later b (unwritable m n s) = without_form m n (ap (λ (s : SliceSink). (slice_of s).now) s)
+  slice_excuse t old new e start later b (no_sink h f) =
+      let rose : faults_of old < faults_of new = omega (arith, f.rose, faults old, faults new) in
+      let first = holds_first old new (der t) start later b rose in
+      without_room (f.is ∙ ap kind_of (only f.kind f.answered) ∙ full_kind) h first.0 first.1
+
+  -- it holds a beginning of the encoding, and behind it what stood there before
+  pub refused-slice : (t : Tree) (old new : SliceSink) (e : Asn1DerError) → filled_of old ≡ 0 → IsLater old new → Refused g t old e new → RefusedSlice t (slice_of old).now e (slice_of new).now
+  refused-slice t old new e start later h =
+      let b : AppendsBeginning (Some (written_of old)) (Some (written_of new)) (der t) =
+      record { front = h.begins.front; rest = h.begins.rest; is = h.begins.is; appends = told-appends old new h.begins.front h.begins.appends } in
+      record { begins = holds_beginning old new (der t) start later b; excuse = slice_excuse t old new e start later b h.excuse }
