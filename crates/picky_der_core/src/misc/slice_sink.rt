@@ -73,6 +73,7 @@ impl<'a> SliceSink<'a> {
     }
 }
 
+/// A write takes as many of the bytes as there is room for: none where the slice is full.
 impl Write for SliceSink<'_> {
     ghost use Rattle.picky_der_core.specs.SliceSink.{written_of, room_of, faults_of, IsLater};
 
@@ -103,6 +104,8 @@ impl Write for SliceSink<'_> {
     }
 }
 
+/// An exact write takes as many of the bytes as there is room for too, and where that isn't all of them the error is of
+/// kind `WriteZero`.
 impl WriteExt for SliceSink<'_> {
     ghost use Rattle.picky_der_core.specs.SliceSink.{slice_of, filled_of, room_of, written_of, faults_of, IsLater};
 
