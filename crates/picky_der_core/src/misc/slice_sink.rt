@@ -85,6 +85,7 @@ impl Write for SliceSink<'_> {
         ensures count { result ≡ Ok (min (length bytes.now) (room_of self.old)) }
         ensures fault { room_of self.old ≡ 0 → 0 < length bytes.now → faults_of self.old < faults_of self.new }
         ensures no_fault { 0 < room_of self.old → faults_of self.new ≡ faults_of self.old }
+        ensures no_bytes { length bytes.now ≡ 0 → faults_of self.new ≡ faults_of self.old }
         ensures counted { faults_of self.old ≤ faults_of self.new }
         ensures goes_on { IsLater self.old self.new }
     {
