@@ -1,5 +1,5 @@
 -- Contents, drawn byte by byte.
-use Rattle.std.proofs.Common.{◌≡◌, ℕ, ◌+◌, ◌<◌, ◌≤◌, List, [], ◌∷◌, ◌++◌, length, take, Option, Some, None, Result, Ok, Err, IsOk, OnOk, OnErr, refl, sym, ◌∙◌, ap, arith, length-append}
+use Rattle.std.proofs.Common.{◌≡◌, ℕ, ◌+◌, ◌<◌, ◌≤◌, List, [], ◌∷◌, ◌++◌, length, take, Option, Some, None, Result, Ok, Err, IsOk, IfOk, OnOk, OnErr, refl, sym, ◌∙◌, ap, arith, length-append}
 use Rattle.std.proofs.lemmas.Grind.{common_steps}
 use Rattle.picky_der_core.specs.declared.error.Asn1DerError.{Asn1DerError}
 use Rattle.picky_der_core.specs.declared.error.Asn1DerError.TheVariants.{OutOfMemory}
@@ -74,3 +74,8 @@ kept_push items (Err u) old new c b e pushed room same full = ap items same ∙ 
 -- memory was wanted
 pub stops_for_memory : {a b c : State} {n : ℕ} {e : Asn1DerError} {content : List ℕ} → Takes a b content → Fails b c e → e ≡ OutOfMemory → StopsShort a c n e
 stops_for_memory t f m = record { fails = fails_after t f; short = λ j. absurd (j.memory m) }
+
+-- two facts of an answer
+pub IfOk-both : {A E : Type 0} {P R : A → Type 0} {Q : Type 0} (r : Result A E) → IfOk r P → OnOk r Q → ((v : A) → P v → Q → R v) → IfOk r R
+IfOk-both (Ok v) p q f = f v p q
+IfOk-both (Err e) p q f = tt

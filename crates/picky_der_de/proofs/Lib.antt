@@ -2,10 +2,12 @@ pub mod Steps
 pub mod ReaderFaults
 pub mod Numbers
 pub mod Contents
+pub mod Texts
 pub mod Lengths
 pub mod Refusals
 pub mod Known
 pub mod Headers
 pub mod PlainReads
 pub mod PlainKinds
+pub mod Options
 pub mod EntryReads

@@ -1,14 +1,16 @@
 -- The kinds of plain values.
-use Rattle.std.proofs.Common.{◌≡◌, ℕ, ◌^◌, ◌<◌, ◌≤◌, inl, inr, List, [], ◌∷◌, length, take, Some, None, refl, sym, ◌∙◌, ap, subst, arith, lt-ltb}
+use Rattle.std.proofs.Common.{◌≡◌, ℕ, ◌^◌, ◌<◌, ◌≤◌, inl, inr, List, [], ◌∷◌, length, take, Some, None, true, ◌==◌, encode_utf8, refl, sym, ◌∙◌, ap, subst, arith, lt-ltb}
 use Rattle.std.proofs.lemmas.Bool.{cases_lt}
+use Rattle.std.proofs.lemmas.Bool.Decides.{nat_tests}
 use Rattle.std.proofs.lemmas.Grind.{common_steps}
 use Rattle.picky_der_core.specs.declared.error.Asn1DerError.{Asn1DerError}
 use Rattle.picky_der_core.specs.declared.error.Asn1DerError.TheVariants.{UnsupportedValue}
 use Rattle.picky_der_core.specs.Tree.{Tree}
-use Rattle.picky_der_core.specs.Shape.{Shape, IsOf}
+use Rattle.picky_der_core.specs.Shape.{Shape, IsOf, IsFirst}
+use Rattle.picky_der_core.specs.Tag.{number_of, is_tag_number, IsTagNumber}
 use Rattle.picky_der_core.specs.Encoding.{content, unsigned_content}
 use Rattle.picky_der_core.specs.EncodingLaws.{number-unsigned_content}
-use Rattle.picky_der_core.specs.Refusal.{Judge, boolean_fault, number_fault, unsigned_fault, bytes_fault}
+use Rattle.picky_der_core.specs.Refusal.{Judge, boolean_fault, number_fault, unsigned_fault, null_fault, text_fault, character_fault, bytes_fault}
 use Rattle.picky_der_core.specs.BooleanLaws.{boolean_fault-content}
 use Rattle.picky_der_core.specs.UnsignedLaws.{unsigned_fault-content, content-unsigned_fault, AreBytes-unsigned_content}
 use Rattle.picky_der_core.specs.Readable.{IsReadable}
@@ -16,6 +18,7 @@ use Rattle.picky_der_de.specs.State.{State}
 use Rattle.picky_der_de.specs.Steps.{Takes, TakesKept, Fails, failed_with}
 use Rattle.picky_der_de.specs.Reading.{ReadsPlain, RefusesPlain}
 use Rattle.picky_der_de.specs.Headers.{Begins}
+use Rattle.picky_der_de.proofs.Texts.{text_good, character_good}
 use Rattle.picky_der_de.proofs.PlainReads.{IsPlainKind, reads_plain, refuses_content}
 
 pub boolean_kind : IsPlainKind Tree.boolean Shape.boolean 0x01 boolean_fault
@@ -38,10 +41,46 @@ unsigned_kind most = record {
   judged = λ n o. unsigned_fault-content most n o.0 o.1;
 }
 
-pub bytes_kind : IsPlainKind (Tree.bytes 0x04) (Shape.bytes 0x04) 0x04 bytes_fault
-bytes_kind = record {
+pub null_kind : IsPlainKind (λ (_ : Unit {0}). Tree.null) Shape.null 0x05 null_fault
+null_kind = record {
   number = omega arith;
   first = refl;
+  plain = λ _. refl;
+  tagged = λ _. refl;
+  no_choice = λ _. tt;
+  judged = λ _ o. refl;
+}
+
+pub text_kind : IsPlainKind Tree.text Shape.text 0x0C text_fault
+text_kind = record {
+  number = omega arith;
+  first = refl;
+  plain = λ s. refl;
+  tagged = λ s. refl;
+  no_choice = λ s. tt;
+  judged = λ s o. text_good s o;
+}
+
+pub character_kind : IsPlainKind (λ c. Tree.text (encode_utf8 c)) Shape.character 0x0C character_fault
+character_kind = record {
+  number = omega arith;
+  first = refl;
+  plain = λ c. refl;
+  tagged = λ c. refl;
+  no_choice = λ c. tt;
+  judged = λ c o. character_good (encode_utf8 c) o.0 o.1;
+}
+
+first_of_bytes : (tag : ℕ) → IsTagNumber (number_of tag) → IsFirst (Shape.bytes tag) tag
+first_of_bytes tag n =
+    let in_range : is_tag_number (number_of tag) ≡ true = grind (arith, nat_tests) in
+    let same : (tag == tag) ≡ true = grind (arith, nat_tests) in
+    rw (in_range, same) refl
+
+pub bytes_kind : (tag : ℕ) → IsTagNumber (number_of tag) → IsPlainKind (Tree.bytes tag) (Shape.bytes tag) tag bytes_fault
+bytes_kind tag n = record {
+  number = n;
+  first = first_of_bytes tag n;
   plain = λ s. refl;
   tagged = λ s. refl;
   no_choice = λ s. tt;
@@ -61,6 +100,10 @@ pub boolean_told : (c : List ℕ) → boolean_fault (take 18 c) ≡ boolean_faul
 boolean_told [] = refl
 boolean_told (b ∷ []) = refl
 boolean_told (b ∷ d ∷ bs) = refl
+
+pub null_told : (c : List ℕ) → null_fault (take 18 c) ≡ null_fault c
+null_told [] = refl
+null_told (b ∷ bs) = refl
 
 number_too_long : (most : ℕ) (bs : List ℕ) → 16 < length bs → number_fault most bs ≡ Some UnsupportedValue
 number_too_long most bs h = rw (lt-ltb 16 (length bs) h) refl

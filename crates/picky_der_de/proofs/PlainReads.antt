@@ -1,10 +1,11 @@
 -- Plain values, read and refused.
-use Rattle.std.proofs.Common.{◌≡◌, ℕ, ◌+◌, ◌<◌, ◌≤◌, ◌^◌, inl, inr, true, List, [], ◌∷◌, ◌++◌, length, take, Option, Some, None, IfSome, Ok, Err, refl, sym, ◌∙◌, ap, subst, arith, length-append, append_assoc, lt-ltb, le-ltb}
+use Rattle.std.proofs.Common.{◌≡◌, ℕ, ◌+◌, ◌<◌, ◌≤◌, ◌^◌, inl, inr, true, false, List, [], ◌∷◌, ◌++◌, length, take, Option, Some, None, IfSome, Ok, Err, refl, sym, ◌∙◌, ap, subst, arith, length-append, append_assoc, lt-ltb, le-ltb}
 use Rattle.std.specs.Io.KnownBytes.{Consumes}
 use Rattle.std.proofs.Math.Seq.{take-append_seam, drop-append_seam}
 use Rattle.std.proofs.lemmas.Bool.Decides.{nat_tests}
+use Rattle.std.proofs.lemmas.List.{take-append-drop}
 use Rattle.picky_der_core.specs.declared.error.Asn1DerError.{Asn1DerError}
-use Rattle.picky_der_core.specs.declared.error.Asn1DerError.TheVariants.{TruncatedData}
+use Rattle.picky_der_core.specs.declared.error.Asn1DerError.TheVariants.{TruncatedData, UnsupportedValue}
 use Rattle.picky_der_core.specs.Element.{len, tlv}
 use Rattle.picky_der_core.specs.ElementLaws.{same_front}
 use Rattle.picky_der_core.specs.Tag.{number_of, is_tag_number, IsTagNumber}
@@ -19,7 +20,7 @@ use Rattle.picky_der_de.specs.State.{State}
 use Rattle.picky_der_de.specs.Steps.{Takes, Fails, IsCut, StopsShort, IsJudged, failed_with, is_hard, place_in, place_of, drawn}
 use Rattle.picky_der_de.specs.Reading.{Concerns, Refuses, refusal_in, refusal_at, IsJustRefused, ReadsPlain, RefusesPlain}
 use Rattle.picky_der_de.specs.Headers.{header_bytes, Begins, RefusesBegin, NoElement}
-use Rattle.picky_der_de.proofs.Steps.{takes_then, fails_after, judged_after}
+use Rattle.picky_der_de.proofs.Steps.{takes_then, fails_after, fails_again, judged_after}
 use Rattle.picky_der_de.proofs.Refusals.{behind, failed_grows, cut_grows, missing_here, end_below, taken_first}
 use Rattle.picky_der_de.proofs.Lengths.{cut_after}
 use Rattle.picky_der_de.proofs.Known.{front_of, just_cut, just_taken, missing_before}
@@ -110,6 +111,39 @@ refuses_header {s = s} {tag = tag} {judge = judge} {a = a} kind h = record {
   };
   just = λ j bs k. let r = h.header j in just_map (λ rest x. refused_in a.direct tag judge a rest x r.0) (r.1.just j bs k);
 }
+
+-- ---- tags that aren't read
+
+unsupported_in : (d : Option ℕ) (tag : ℕ) (judge : Judge) (s : State) (rest : List ℕ) → 30 < number_of tag → refusal_in d tag judge s rest ≡ Some (UnsupportedValue, rest)
+unsupported_in None tag judge s rest n = let past : is_tag_number (number_of tag) ≡ false = grind (arith, nat_tests) in rw past refl
+unsupported_in (Some number) tag judge s rest n = let past : is_tag_number (number_of tag) ≡ false = grind (arith, nat_tests) in rw past refl
+
+-- a tag of the long form was asked for, and nothing was taken
+pub refuses_number : {V : Type 0} {meaning : V → Tree} {s : Shape} {tag : ℕ} {judge : Judge} {a c : State} {e : Asn1DerError} → 30 < number_of tag → ((v : V) → IsOf s (meaning v) → IsReadable (meaning v) → ⊥) → Fails a c e → e ≡ UnsupportedValue → c ≡ failed_with a e
+    → RefusesPlain meaning tag judge s a c e
+refuses_number {tag = tag} {judge = judge} {a = a} n none f is same = record {
+  refuses = record {
+    fails = f;
+    none = λ j end bs w v st. none v st.of_shape st.readable;
+    first = λ j k l b left q. absurd (let r : UnsupportedValue ≡ TruncatedData = sym is ∙ k in cc);
+  };
+  just = λ j bs k. record {
+    left = take a.room bs;
+    refused = unsupported_in a.direct tag judge a (take a.room bs) n ∙ ap (λ x. Some (x, take a.room bs)) (sym is);
+    input = ap (λ (s : State). s.input) same ∙ k ∙ ap (λ x. Some x) (sym (take-append-drop a.room bs));
+    kept = λ q. ap (λ (s : State). s.peeked) same;
+    used = λ more. absurd (omega (arith, ap (λ (s : State). s.taken) same));
+  };
+}
+
+-- it had failed before
+pub refuses_again : {V : Type 0} {meaning : V → Tree} {s : Shape} {tag : ℕ} {judge : Judge} {a : State} {e : Asn1DerError} → a.failed ≡ Some e → RefusesPlain meaning tag judge s a a e
+refuses_again {a = a} {e = e} h =
+    let no : (j : IsJudged a a e) → ⊥ = λ j. let q : None ≡ Some e = sym j.had_not_failed ∙ h in cc in
+    record {
+      refuses = record { fails = fails_again a h; none = λ j. absurd (no j); first = λ j. absurd (no j) };
+      just = λ j. absurd (no j);
+    }
 
 -- ---- refused contents
 

@@ -1,9 +1,13 @@
 -- What a whole read answers.
-use Rattle.std.specs.Prelude.{◌≡◌, ◌≢◌, ℕ, List, Bool, true}
+use Rattle.std.specs.Prelude.{◌≡◌, ◌≢◌, ℕ, ◌<◌, ◌≤◌, List, length, Bool, true, Option, Some}
+use Rattle.std.specs.Io.KnownBytes.{Consumes}
 use Rattle.picky_der_core.specs.declared.error.Asn1DerError.{Asn1DerError}
 use Rattle.picky_der_core.specs.declared.error.Asn1DerError.TheVariants.{OutOfMemory}
+use Rattle.picky_der_core.specs.Error.{IsKindOfFault}
 use Rattle.picky_der_core.specs.Tree.{Tree}
-use Rattle.picky_der_core.specs.Shape.{Shape}
+use Rattle.picky_der_core.specs.Encoding.{der}
+use Rattle.picky_der_core.specs.Readable.{IsReadable}
+use Rattle.picky_der_core.specs.Shape.{Shape, IsOf}
 use Rattle.picky_der_core.specs.Reading.{Reads}
 use Rattle.picky_der_de.specs.Steps.{IsOther}
 
@@ -16,3 +20,36 @@ pub record IsFront {V : Type 0} (meaning : V → Tree) (s : Shape) (eq : V → V
 pub record HasNoFront {V : Type 0} (meaning : V → Tree) (s : Shape) (input : List ℕ) (limit : ℕ) (e : Asn1DerError) : Type 0 where
   pub none : e ≢ OutOfMemory → (v : V) → Reads meaning s input limit v → ⊥
   pub no_fault : IsOther e → ⊥
+
+-- What a reader tells of the bytes that are left, and how often it failed: before a call, and behind it.
+pub record Reader : Type 0 where
+  pub input : Option (List ℕ)
+  pub faults : ℕ
+
+abbrev pub told : {R : Type 0} → (R → Option (List ℕ)) → (R → ℕ) → R → Reader
+told remaining faults r = record { input = remaining r; faults = faults r }
+
+-- just the value's encoding was drawn, and of a known input it is the value at the front
+pub record ReadsFront {V : Type 0} (meaning : V → Tree) (s : Shape) (eq : V → V → Bool) (limit : ℕ) (old new : Reader) (v : V) : Type 0 where
+  pub of_shape : IsOf s (meaning v)
+  pub readable : IsReadable (meaning v)
+  pub within : length (der (meaning v)) ≤ limit
+  pub drawn : Consumes old.input new.input (der (meaning v))
+  pub front : (input : List ℕ) → old.input ≡ Some input → IsFront meaning s eq input limit v
+  pub faults : new.faults ≡ old.faults
+
+-- the bytes that were drawn
+pub record Draws (limit : ℕ) (old new : Option (List ℕ)) : Type 0 where
+  pub bytes : List ℕ
+  pub are : Consumes old new bytes
+  pub within : length bytes ≤ limit
+
+-- the reader failed, memory was refused, or no value stands at the front of the input
+pub record RefusesFront {V : Type 0} (meaning : V → Tree) (s : Shape) (limit : ℕ) (old new : Reader) (e : Asn1DerError) : Type 0 where
+  pub none : new.faults ≡ old.faults → e ≢ OutOfMemory → (input : List ℕ) → old.input ≡ Some input → (v : V) → Reads meaning s input limit v → ⊥
+  pub drawn : Draws limit old.input new.input
+  pub faults : old.faults ≤ new.faults
+  -- `Other` comes from a fault of the reader alone
+  pub other : IsOther e → old.faults < new.faults
+  -- what a fault becomes is answered as that
+  pub fault : old.faults < new.faults → IsKindOfFault e

@@ -4,3 +4,4 @@ pub mod Reading
 pub mod Headers
 pub mod KnownLaws
 pub mod Entry
+pub mod Lending

@@ -1,12 +1,12 @@
 -- What reading a value of a type does.
-use Rattle.std.specs.Prelude.{◌≡◌, ◌≢◌, ℕ, Bool, ◌+◌, ◌<◌, List, ◌∷◌, ◌++◌, length, take, drop, Option, Some, None}
+use Rattle.std.specs.Prelude.{◌≡◌, ◌≢◌, ℕ, Bool, ◌+◌, ◌<◌, List, ◌∷◌, ◌++◌, length, take, drop, Option, Some, None, encode_utf8}
 use Rattle.picky_der_core.specs.declared.error.Asn1DerError.{Asn1DerError}
 use Rattle.picky_der_core.specs.declared.error.Asn1DerError.TheVariants.{TruncatedData}
 use Rattle.picky_der_core.specs.Tree.{Tree}
 use Rattle.picky_der_core.specs.Readable.{IsReadable}
 use Rattle.picky_der_core.specs.Shape.{Shape, IsOf, IsFirst}
 use Rattle.picky_der_core.specs.Reading.{written_at, MayStand, StandsAt}
-use Rattle.picky_der_core.specs.Refusal.{Judge, Refusal, plain_refusal, inside_refusal, boolean_fault, unsigned_fault, bytes_fault}
+use Rattle.picky_der_core.specs.Refusal.{Judge, Refusal, plain_refusal, inside_refusal, boolean_fault, unsigned_fault, null_fault, text_fault, character_fault, bytes_fault}
 use Rattle.picky_der_de.specs.State.{State}
 use Rattle.picky_der_de.specs.Steps.{Takes, Fails, IsJudged, drawn, reach, place_of, is_hard}
 
@@ -99,3 +99,23 @@ ReadsBytes tag old new bs = ReadsPlain tag bytes_fault (Shape.bytes tag) old new
 
 abbrev pub RefusesBytes : ℕ → State → State → Asn1DerError → Type 0
 RefusesBytes tag old new e = RefusesPlain (Tree.bytes tag) tag bytes_fault (Shape.bytes tag) old new e
+
+abbrev pub ReadsNull : State → State → Type 0
+ReadsNull old new = ReadsPlain 0x05 null_fault Shape.null old new Tree.null
+
+abbrev pub RefusesNull : State → State → Asn1DerError → Type 0
+RefusesNull old new e = RefusesPlain (λ (_ : Unit {0}). Tree.null) 0x05 null_fault Shape.null old new e
+
+-- a text, by its bytes
+abbrev pub ReadsText : State → State → List ℕ → Type 0
+ReadsText old new s = ReadsPlain 0x0C text_fault Shape.text old new (Tree.text s)
+
+abbrev pub RefusesText : State → State → Asn1DerError → Type 0
+RefusesText old new e = RefusesPlain Tree.text 0x0C text_fault Shape.text old new e
+
+-- a text of one character
+abbrev pub ReadsCharacter : State → State → ℕ → Type 0
+ReadsCharacter old new c = ReadsPlain 0x0C character_fault Shape.character old new (Tree.text (encode_utf8 c))
+
+abbrev pub RefusesCharacter : State → State → Asn1DerError → Type 0
+RefusesCharacter old new e = RefusesPlain (λ c. Tree.text (encode_utf8 c)) 0x0C character_fault Shape.character old new e

@@ -1,11 +1,14 @@
 //! The deserializer.
-ghost use Rattle.std.specs.Prelude.{◌≡◌, ◌<◌, ◌∷◌, [], length, None, Some, IfOk, IfErr, OnOk, OnErr};
+ghost use Rattle.std.specs.Prelude.{◌≡◌, ◌<◌, ◌∷◌, [], length, false, None, Some, IfOk, IfErr, OnOk, OnErr};
 ghost use Rattle.picky_der_core.specs.Shape.{AreBytes};
 ghost use Rattle.picky_der_de.specs.State.{fresh};
 ghost use Rattle.picky_der_de.specs.Steps.{Takes, TakesKept, StopsShort, Fails, IsMissing, IsOther, TakesNoMemory, in_front};
 
 mod header;
+mod octets;
+mod options;
 mod plain;
+mod texts;
 
 use crate::End;
 use arrayvec::ArrayVec;
@@ -29,6 +32,9 @@ pub struct Deserializer<R: ReadExt> {
     end: End,
     direct: Option<u8>,
     failed: Option<Asn1DerError>,
+    // What was lent last.
+    content: Vec<u8>,
+    text: String,
 }
 
 impl<R: ReadExt> Model for Deserializer<R> {
@@ -59,25 +65,27 @@ impl<'a> Deserializer<&'a [u8]> {
     pub fn new_from_bytes(alloc: Global, bytes: &'a [u8]) -> Deserializer<&'a [u8]>
         ensures { result ≡ fresh (Some bytes.now) (length bytes.now) 0 [] }
     {
-        Deserializer::over(alloc, bytes, bytes.len())
+        Deserializer::new_from_reader(alloc, bytes, bytes.len())
     }
 }
 
 impl<R: ReadExt> Deserializer<R> {
-    // Reads from the reader, so many bytes at most.
-    fn over(alloc: Global, reader: R, limit: usize) -> Deserializer<R>
-        ensures { result ≡ fresh (R.remaining reader) limit (R.faults reader) (R.through reader) }
+    /// Reads from a reader. At most so many bytes are drawn in all.
+    pub fn new_from_reader(alloc: Global, reader: R, max_len: usize) -> Deserializer<R>
+        ensures { result ≡ fresh (R.remaining reader) max_len (R.faults reader) (R.through reader) }
     {
         Deserializer {
             alloc,
             reader,
             peeked: None,
             taken: 0,
-            limit,
-            room: limit,
+            limit: max_len,
+            room: max_len,
             end: End::Limit,
             direct: None,
             failed: None,
+            content: Vec::new(alloc),
+            text: String::new(alloc),
         }
     }
 
@@ -97,6 +105,8 @@ impl<R: ReadExt> Deserializer<R> {
             end: _,
             direct: _,
             failed: _,
+            content: _,
+            text: _,
         } = self;
         reader
     }
@@ -106,6 +116,13 @@ impl<R: ReadExt> Deserializer<R> {
         ensures { result ≡ self.now.taken }
     {
         self.taken
+    }
+
+    /// False: this encoding is for machines.
+    pub fn is_human_readable(&self) -> bool
+        ensures { result ≡ false }
+    {
+        false
     }
 
     // Has failed from here on with an error that is no fault of the reader.

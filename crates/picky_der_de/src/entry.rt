@@ -1,10 +1,25 @@
 //! Whole values.
-ghost use Rattle.std.specs.Prelude.{length, IfOk, IfErr};
-ghost use Rattle.picky_der_de.specs.Entry.{IsFront, HasNoFront};
+ghost use Rattle.std.specs.Prelude.{◌≡◌, length, IfOk, IfErr};
+ghost use Rattle.picky_der_de.specs.Entry.{IsFront, HasNoFront, ReadsFront, RefusesFront, told};
 
 use crate::{Deserialize, Deserializer};
 use picky_der_core::Result;
+use picky_der_core::misc::ReadExt;
 use std::alloc::Global;
+
+/// How many bytes `from_reader` draws at most.
+pub const DEFAULT_MAX_LEN: usize = 10240;
+
+// The value at the front of what a reader has left, and the reader.
+fn read_from<T: Deserialize, R: ReadExt>(alloc: Global, reader: R, max_len: usize) -> (Result<T>, R)
+    ensures ok { IfOk result.0 (ReadsFront T.meaning T.shape T.eq max_len (told R.remaining R.faults reader) (told R.remaining R.faults result.1)) }
+    ensures err { IfErr result.0 (RefusesFront T.meaning T.shape max_len (told R.remaining R.faults reader) (told R.remaining R.faults result.1)) }
+    ensures same_references { R.through result.1 ≡ R.through reader }
+{
+    let mut de = Deserializer::new_from_reader(alloc, reader, max_len);
+    let result = T::deserialize(&mut de);
+    (result, de.into_reader())
+}
 
 /// The value at the front of a slice. Bytes behind it are left alone.
 ///
@@ -13,10 +28,34 @@ pub fn from_bytes<T: Deserialize>(alloc: Global, bytes: &[u8]) -> Result<T>
     ensures ok { IfOk result (IsFront T.meaning T.shape T.eq bytes.now (length bytes.now)) }
     ensures err { IfErr result (HasNoFront T.meaning T.shape bytes.now (length bytes.now)) }
 {
-    let mut de = Deserializer::new_from_bytes(alloc, bytes);
-    let result = T::deserialize(&mut de);
-    // No effect at run time. The proof reads from it that a slice has no faults.
-    let _ = de.into_reader();
+    read_from::<T, &[u8]>(alloc, bytes, bytes.len()).0
+}
+
+/// The value at the front of what a reader has left, in at most `DEFAULT_MAX_LEN` bytes. Bytes behind it are left in the
+/// reader.
+///
+/// An error is what a fault of the reader becomes, where the reader failed; `OutOfMemory` where memory was refused; and
+/// else it means that no value of the type stands there within the limit. It is `Other` only where the reader failed.
+/// What was drawn by then isn't given back.
+pub fn from_reader<T: Deserialize, R: ReadExt>(alloc: Global, reader: &mut R) -> Result<T>
+    ensures ok { IfOk result (ReadsFront T.meaning T.shape T.eq 10240 (told R.remaining R.faults reader.old) (told R.remaining R.faults reader.new)) }
+    ensures err { IfErr result (RefusesFront T.meaning T.shape 10240 (told R.remaining R.faults reader.old) (told R.remaining R.faults reader.new)) }
+    ensures same_references { R.through reader.new ≡ R.through reader.old }
+{
+    from_reader_with_max_len(alloc, reader, DEFAULT_MAX_LEN)
+}
+
+/// The same in at most `max_len` bytes.
+pub fn from_reader_with_max_len<T: Deserialize, R: ReadExt>(
+    alloc: Global,
+    reader: &mut R,
+    max_len: usize,
+) -> Result<T>
+    ensures ok { IfOk result (ReadsFront T.meaning T.shape T.eq max_len (told R.remaining R.faults reader.old) (told R.remaining R.faults reader.new)) }
+    ensures err { IfErr result (RefusesFront T.meaning T.shape max_len (told R.remaining R.faults reader.old) (told R.remaining R.faults reader.new)) }
+    ensures same_references { R.through reader.new ≡ R.through reader.old }
+{
+    let (result, _reader) = read_from::<T, &mut R>(alloc, reader, max_len);
     result
 }
 

@@ -73,6 +73,7 @@ impl<'a> SliceSink<'a> {
     }
 }
 
+/// A write takes as many of the bytes as there is room for: none where the slice is full.
 impl Write for SliceSink<'_> {
     ghost use Rattle.picky_der_core.specs.SliceSink.{written_of, room_of, faults_of, IsLater};
 
@@ -84,6 +85,7 @@ impl Write for SliceSink<'_> {
         ensures count { result ≡ Ok (min (length bytes.now) (room_of self.old)) }
         ensures fault { room_of self.old ≡ 0 → 0 < length bytes.now → faults_of self.old < faults_of self.new }
         ensures no_fault { 0 < room_of self.old → faults_of self.new ≡ faults_of self.old }
+        ensures no_bytes { length bytes.now ≡ 0 → faults_of self.new ≡ faults_of self.old }
         ensures counted { faults_of self.old ≤ faults_of self.new }
         ensures goes_on { IsLater self.old self.new }
     {
@@ -103,6 +105,8 @@ impl Write for SliceSink<'_> {
     }
 }
 
+/// An exact write takes as many of the bytes as there is room for too, and where that isn't all of them the error is of
+/// kind `WriteZero`.
 impl WriteExt for SliceSink<'_> {
     ghost use Rattle.picky_der_core.specs.SliceSink.{slice_of, filled_of, room_of, written_of, faults_of, IsLater};
 

@@ -1,10 +1,10 @@
-//! Plain values: a header, a content, and its judge.
-ghost use Rattle.std.specs.Prelude.{◌^◌, ◌-◌, IfOk, IfErr};
+//! Truth values, numbers and nulls: a header, a content, and its judge.
+ghost use Rattle.std.specs.Prelude.{◌^◌, ◌-◌, IfOk, IfErr, OnOk};
 ghost use Rattle.picky_der_de.specs.Steps.{TakesNoMemory};
-ghost use Rattle.picky_der_de.specs.Reading.{ReadsBoolean, RefusesBoolean, ReadsUnsigned, RefusesUnsigned, ReadsBytes, RefusesBytes};
+ghost use Rattle.picky_der_de.specs.Reading.{ReadsBoolean, RefusesBoolean, ReadsUnsigned, RefusesUnsigned, ReadsNull, RefusesNull};
 
 use super::Deserializer;
-use crate::{Boolean, UInt, UnsignedInteger};
+use crate::{Boolean, Null, UInt, UnsignedInteger};
 use picky_der_core::Result;
 use picky_der_core::asn1::Tag;
 use picky_der_core::misc::ReadExt;
@@ -90,15 +90,29 @@ impl<R: ReadExt> Deserializer<R> {
         self.read_unsigned()
     }
 
-    /// Reads an octet string (X.690, 8.7) into one vector, of which nothing is grown before a byte came for it.
+    /// Reads a null (X.690, 8.8).
     ///
-    /// `InvalidData` for another tag; the refusals of a header and of an end; `OutOfMemory` where memory is refused;
-    /// else the reader's fault.
-    pub fn deserialize_byte_buf(&mut self) -> Result<Vec<u8>>
-        ensures ok { IfOk result (λ content. ReadsBytes 0x04 self.old self.new content.items) }
-        ensures err { IfErr result (RefusesBytes 0x04 self.old self.new) }
+    /// `InvalidData` for another tag and for a content that isn't empty; the refusals of a header and of an end; else
+    /// the reader's fault.
+    pub fn deserialize_unit(&mut self) -> Result<()>
+        ensures ok { OnOk result (ReadsNull self.old self.new) }
+        ensures err { IfErr result (RefusesNull self.old self.new) }
+        ensures memory { IfErr result (TakesNoMemory self.old self.new) }
     {
-        let len = self.begin(Tag::OCTET_STRING)?;
-        self.draw_vec(len)
+        let len = self.begin(Tag::NULL)?;
+        let content = self.draw_kept(len)?;
+        match Null::deserialize(&content) {
+            Ok(()) => Ok(()),
+            Err(error) => Err(self.fail(error)),
+        }
+    }
+
+    /// Reads a struct without fields as a null. The name isn't used.
+    pub fn deserialize_unit_struct(&mut self, _name: &'static str) -> Result<()>
+        ensures ok { OnOk result (ReadsNull self.old self.new) }
+        ensures err { IfErr result (RefusesNull self.old self.new) }
+        ensures memory { IfErr result (TakesNoMemory self.old self.new) }
+    {
+        self.deserialize_unit()
     }
 }

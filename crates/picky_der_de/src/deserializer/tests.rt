@@ -1,52 +1,9 @@
 use super::*;
 use crate::Deserialize;
-use picky_der_core::misc::Watched;
-use std::io;
-use std::io::{ErrorKind, Read};
+use crate::test_reader::{fails_once, gives};
+use picky_der_core::asn1::Tag;
+use std::io::ErrorKind;
 use std::test::Fail;
-
-// Gives a byte a call, and once, before the byte at this place, fails.
-#[derive(Drop)]
-struct FailsOnce<'a> {
-    bytes: &'a [u8],
-    given: usize,
-    before: Option<usize>,
-    kind: ErrorKind,
-}
-
-impl Read for FailsOnce<'_> {
-    fn read(&mut self, buf: &mut [u8]) -> io::Result<usize> {
-        if self.before == Some(self.given) {
-            self.before = None;
-            return Err(self.kind.into());
-        }
-        match (self.bytes.get(self.given), buf) {
-            (Some(byte), [first, ..]) => {
-                *first = *byte;
-                self.given += 1;
-                Ok(1)
-            }
-            _ => Ok(0),
-        }
-    }
-}
-
-// A deserializer over such a reader.
-fn over_failing<'a>(
-    alloc: Global,
-    bytes: &'a [u8],
-    before: Option<usize>,
-    kind: ErrorKind,
-    limit: usize,
-) -> Deserializer<Watched<FailsOnce<'a>>> {
-    let reader = FailsOnce {
-        bytes,
-        given: 0,
-        before,
-        kind,
-    };
-    Deserializer::over(alloc, Watched::new(reader), limit)
-}
 
 #[test]
 fn takes_one_value_after_another(rt: HostRuntime) -> std::result::Result<(), Fail> {
@@ -118,7 +75,7 @@ fn draws_no_byte_past_the_limit(rt: HostRuntime) {
         (2, Err(Asn1DerError::TruncatedData), 2),
         (0, Err(Asn1DerError::TruncatedData), 0),
     ] {
-        let mut de = over_failing(rt.alloc(), &bytes, None, ErrorKind::Other, limit);
+        let mut de = Deserializer::new_from_reader(rt.alloc(), gives(&bytes), limit);
         assert_eq!(rt; de.deserialize_u8(), answer, "limit {limit}");
         if answer.is_err() {
             assert_eq!(rt; de.deserialize_u8(), answer, "again at limit {limit}");
@@ -140,7 +97,8 @@ fn stays_failed_after_a_fault(rt: HostRuntime) {
         (ErrorKind::UnexpectedEof, Asn1DerError::TruncatedData),
     ] {
         for place in 0..bytes.len() {
-            let mut de = over_failing(rt.alloc(), &bytes, Some(place), kind, 9);
+            let reader = fails_once(&bytes, Some(place), kind);
+            let mut de = Deserializer::new_from_reader(rt.alloc(), reader, 9);
             assert_eq!(rt; de.deserialize_byte_buf(), Err(error), "at {place}");
             assert_eq!(rt; de.taken(), place);
             assert_eq!(rt; de.deserialize_byte_buf(), Err(error), "again at {place}");
@@ -150,4 +108,71 @@ fn stays_failed_after_a_fault(rt: HostRuntime) {
             assert_eq!(rt; reader.given, place);
         }
     }
+}
+
+#[test]
+fn stays_failed_after_a_fault_behind_a_header(rt: HostRuntime) {
+    let reader = fails_once(&[0x02, 0x01], Some(2), ErrorKind::TimedOut);
+    let mut de = Deserializer::new_from_reader(rt.alloc(), reader, 3);
+    let error = Asn1DerError::Other(ErrorKind::TimedOut);
+    assert_eq!(rt; de.deserialize_u8(), Err(error));
+    assert_eq!(rt; de.deserialize_u8(), Err(error));
+}
+
+#[test]
+fn takes_nulls_texts_and_bytes(rt: HostRuntime) -> std::result::Result<(), Fail> {
+    let bytes = [
+        [0x05, 0x00, 0x05, 0x00].as_slice(),
+        &[0x0C, 0x02, 0xC3, 0xA9],
+        &[0x0C, 0x03, 0x41, 0xC3, 0xA9],
+        &[0x9E, 0x01, 0xAA],
+        &[0x02, 0x01, 0x07],
+    ]
+    .concat(rt.alloc())?;
+    let mut de = Deserializer::new_from_bytes(rt.alloc(), &bytes);
+    assert_eq!(rt; de.is_human_readable(), false);
+    assert_eq!(rt; de.deserialize_unit(), Ok(()));
+    assert_eq!(rt; de.deserialize_unit_struct("Nothing"), Ok(()));
+    assert_eq!(rt; de.taken(), 4);
+    assert_eq!(rt; de.deserialize_char(), Ok('é'));
+    assert_eq!(rt; de.taken(), 8);
+    assert_eq!(rt; de.deserialize_string()?.as_str(), "Aé");
+    let content = de.deserialize_tagged_bytes(Tag::from(0x9E))?;
+    assert_eq!(rt; content.as_slice(), [0xAA].as_slice());
+    assert_eq!(rt; de.deserialize_option::<u8>(), Ok(Some(7)));
+    assert_eq!(rt; de.taken(), 19);
+    assert_eq!(rt;
+        de.deserialize_option::<u8>(),
+        Err(Asn1DerError::TruncatedData)
+    );
+    Ok(())
+}
+
+#[test]
+fn lends_texts_and_bytes(rt: HostRuntime) -> std::result::Result<(), Fail> {
+    let bytes = [0x0C, 0x02, 0x41, 0x62, 0x04, 0x01, 0xAA];
+    let mut de = Deserializer::new_from_bytes(rt.alloc(), &bytes);
+    let text = de.deserialize_str()?;
+    assert_eq!(rt; text, "Ab");
+    assert_eq!(rt; de.taken(), 4);
+    let content = de.deserialize_bytes()?;
+    assert_eq!(rt; content, [0xAA].as_slice());
+    assert_eq!(rt; de.taken(), 7);
+    let error = Some(Asn1DerError::TruncatedData);
+    assert_eq!(rt; de.deserialize_bytes().err(), error);
+    assert_eq!(rt; de.deserialize_str().err(), error);
+    Ok(())
+}
+
+#[test]
+fn draws_nothing_for_a_tag_of_the_long_form(rt: HostRuntime) {
+    let bytes = [0x1F, 0x01, 0xAA];
+    let mut de = Deserializer::new_from_reader(rt.alloc(), gives(&bytes), 3);
+    for _again in 0..2 {
+        assert_eq!(rt;
+            de.deserialize_tagged_bytes(Tag::from(0x1F)),
+            Err(Asn1DerError::UnsupportedValue)
+        );
+    }
+    assert_eq!(rt; de.into_reader().into_inner().given, 0);
 }

@@ -1,0 +1,90 @@
+-- Texts, and their characters.
+use Rattle.std.proofs.Common.{◌≡◌, ℕ, ◌*◌, ◌<◌, ◌≤◌, inl, inr, Bool, true, false, List, [], ◌∷◌, ◌++◌, length, take, Some, None, ◌==◌, refl, sym, ◌∙◌, ap, arith, length-append, append-nil, IsUtf8, chars, encode_utf8, encode_utf8_all}
+use Rattle.std.specs.Char.{IsScalar}
+use Rattle.std.specs.Str.{is_utf8, all_scalars}
+use Rattle.std.proofs.lemmas.Bool.{cases_lt}
+use Rattle.std.proofs.lemmas.Bool.Decides.{nat_tests}
+use Rattle.std.proofs.lemmas.Grind.{common_steps}
+use Rattle.std.proofs.lemmas.Str.{IsUtf8-from_is_utf8, is_utf8-from_IsUtf8, chars-nil, chars_past_char, IsUtf8-past_char, scalars-chars, encodes-chars, length-encode, len_utf8_bounds, IsUtf8-encode}
+use Rattle.picky_der_core.specs.declared.error.Asn1DerError.{Asn1DerError}
+use Rattle.picky_der_core.specs.declared.error.Asn1DerError.TheVariants.{InvalidData, UnsupportedValue}
+use Rattle.picky_der_core.specs.Refusal.{text_fault, character_fault, character_count_fault}
+
+-- ---- texts
+
+pub text_good : (s : List ℕ) → IsUtf8 s → text_fault s ≡ None
+text_good s u = rw (is_utf8-from_IsUtf8 s u) refl
+
+by_test : (s : List ℕ) {P : Type 0} → (IsUtf8 s → P) → (is_utf8 s ≡ false → P) → P
+by_test s {P} good bad = by_case (is_utf8 s) refl
+  where
+    by_case : (b : Bool) → is_utf8 s ≡ b → P
+    by_case true e = good (IsUtf8-from_is_utf8 s e)
+    by_case false e = bad e
+
+pub text_bad : (s : List ℕ) → ¬ (IsUtf8 s) → text_fault s ≡ Some InvalidData
+text_bad s n = by_test s (λ u. absurd (n u)) (λ e. rw e refl)
+
+-- what is no text is no character
+pub character_bad : (s : List ℕ) (e : Asn1DerError) → text_fault s ≡ Some e → character_fault s ≡ Some e
+character_bad s e h = by_test s (λ u. let q : None ≡ Some e = sym (text_good s u) ∙ h in cc) (λ b. let q : text_fault s ≡ Some InvalidData = rw b refl in let r : character_fault s ≡ Some InvalidData = rw b refl in r ∙ sym q ∙ h)
+
+-- ---- characters
+
+pub character_good : (s : List ℕ) → IsUtf8 s → length (chars s) ≡ 1 → character_fault s ≡ None
+character_good s u l = rw (is_utf8-from_IsUtf8 s u, l) refl
+
+pub character_none : (s : List ℕ) → IsUtf8 s → length s ≡ 0 → character_fault s ≡ Some UnsupportedValue
+character_none [] u l = rw (is_utf8-from_IsUtf8 [] u, ap length chars-nil) refl
+character_none (b ∷ bs) u l = absurd (omega arith)
+
+two_or_more : (n : ℕ) → 1 < n → character_count_fault n ≡ Some InvalidData
+two_or_more n h =
+    let a : (n == 0) ≡ false = grind (arith, nat_tests) in
+    let b : (n == 1) ≡ false = grind (arith, nat_tests) in
+    rw (a, b) refl
+
+pub character_more : (s : List ℕ) → IsUtf8 s → 1 < length (chars s) → character_fault s ≡ Some InvalidData
+character_more s u l = rw (is_utf8-from_IsUtf8 s u) (two_or_more (length (chars s)) l)
+
+-- the first character of a text
+pub first_scalar : (s rest : List ℕ) (c : ℕ) → IsUtf8 s → s ≡ encode_utf8 c ++ rest → IsScalar c
+first_scalar s rest c u e =
+    let is : all_scalars (c ∷ chars rest) ≡ true = ap all_scalars (sym (chars_past_char s rest c u e)) ∙ scalars-chars s u in
+    grind arith
+
+pub one_character : (s rest : List ℕ) (c : ℕ) → IsUtf8 s → s ≡ encode_utf8 c ++ rest → length rest ≡ 0 → (s ≡ encode_utf8 c) × (length (chars s) ≡ 1)
+one_character s [] c u e l = (e ∙ append-nil (encode_utf8 c), ap length (chars_past_char s [] c u e) ∙ ap (λ (cs : List ℕ). length (c ∷ cs)) chars-nil)
+one_character s (b ∷ bs) c u e l = absurd (omega arith)
+
+pub two_characters : (s rest last : List ℕ) (c d : ℕ) → IsUtf8 s → s ≡ encode_utf8 c ++ rest → rest ≡ encode_utf8 d ++ last → 1 < length (chars s)
+two_characters s rest last c d u e f =
+    let a : length (chars s) ≡ length (c ∷ chars rest) = ap length (chars_past_char s rest c u e) in
+    let b : length (chars rest) ≡ length (d ∷ chars last) = ap length (chars_past_char rest last d (IsUtf8-past_char s rest c u e) f) in
+    omega (arith, a, b)
+
+-- ---- the first bytes tell
+
+length_encodes : (cs : List ℕ) → length (encode_utf8_all cs) ≤ 4 * length cs
+length_encodes [] = omega arith
+length_encodes (c ∷ cs) = omega (arith, length-append (encode_utf8 c) (encode_utf8_all cs), length-encode c, len_utf8_bounds c, length_encodes cs)
+
+-- more than four bytes aren't one character
+pub character_long : (s : List ℕ) → 4 < length s → character_fault s ≡ Some InvalidData
+character_long s l = by_test s (λ u. character_more s u (omega (arith, length_encodes (chars s), ap length (encodes-chars s u)))) (λ e. rw e refl)
+
+pub character_told : (c : List ℕ) → character_fault (take 18 c) ≡ character_fault c
+character_told c = elim (cases_lt (length c) 18) [
+  | inl few ↦ let all : take 18 c ≡ c = grind (arith, common_steps) in ap character_fault all
+  | inr many ↦ let long : length (take 18 c) ≡ 18 = grind (arith, common_steps) in character_long (take 18 c) (omega arith) ∙ sym (character_long c (omega arith))
+]
+
+-- the bytes of one character
+pub length_character : (c : ℕ) → length (encode_utf8 c) < 18
+length_character c = omega (arith, length-encode c, len_utf8_bounds c)
+
+-- a character is a text of one
+pub of_character : (c : ℕ) → IsScalar c → IsUtf8 (encode_utf8 c) × (length (chars (encode_utf8 c)) ≡ 1)
+of_character c h =
+    let u = IsUtf8-encode c h in
+    (u, (one_character (encode_utf8 c) [] c u (sym (append-nil (encode_utf8 c))) refl).1)

@@ -1,0 +1,59 @@
+//! Texts and characters.
+ghost use Rattle.std.specs.Prelude.{IfOk, IfErr, string_bytes};
+ghost use Rattle.std.specs.Borrow.{sem};
+ghost use Rattle.std.specs.Io.BufRead.{Rests};
+ghost use Rattle.picky_der_de.specs.contracts.deserializer.Deserializer.{the_row};
+ghost use Rattle.picky_der_de.specs.State.{State};
+ghost use Rattle.picky_der_de.specs.Lending.{LendsText};
+ghost use Rattle.picky_der_de.specs.Steps.{TakesNoMemory};
+ghost use Rattle.picky_der_de.specs.Reading.{ReadsText, RefusesText, ReadsCharacter, RefusesCharacter};
+
+use super::Deserializer;
+use crate::Utf8String;
+use picky_der_core::asn1::Tag;
+use picky_der_core::misc::ReadExt;
+use picky_der_core::{Asn1DerError, Result};
+
+impl<R: ReadExt> Deserializer<R> {
+    /// Reads a text of one character (X.690, 8.23).
+    ///
+    /// `InvalidData` for another tag, for a content that isn't UTF-8, and for more than one character;
+    /// `UnsupportedValue` for an empty content; the refusals of a header and of an end; else the reader's fault.
+    pub fn deserialize_char(&mut self) -> Result<char>
+        ensures ok { IfOk result (ReadsCharacter self.old self.new) }
+        ensures err { IfErr result (RefusesCharacter self.old self.new) }
+        ensures memory { IfErr result (TakesNoMemory self.old self.new) }
+    {
+        let len = self.begin(Tag::UTF8_STRING)?;
+        let content = self.draw_kept(len)?;
+        match Utf8String::character(&content) {
+            Ok(character) => Ok(character),
+            Err(error) => Err(self.fail(error)),
+        }
+    }
+
+    /// Reads a text (X.690, 8.23) into one string, of which nothing is grown before a byte came for it.
+    ///
+    /// `InvalidData` for another tag and for a content that isn't UTF-8; the refusals of a header and of an end;
+    /// `OutOfMemory` where memory is refused; else the reader's fault.
+    pub fn deserialize_string(&mut self) -> Result<String>
+        ensures ok { IfOk result (λ text. ReadsText self.old self.new (string_bytes text)) }
+        ensures err { IfErr result (RefusesText self.old self.new) }
+    {
+        let len = self.begin(Tag::UTF8_STRING)?;
+        let content = self.draw_vec(len)?;
+        match String::from_utf8(content) {
+            Ok(text) => Ok(text),
+            Err(_) => Err(self.fail(Asn1DerError::InvalidData)),
+        }
+    }
+
+    /// Reads a text, and lends it. It is refused as one in a string of its own is.
+    pub fn deserialize_str(&mut self) -> Result<&str>
+        ensures answer { (new : State) × LendsText self.old new result }
+        ensures* after_borrow { sem 𝓛 (Rests (the_row R.row R.ReadExt.own R.Read) self.entry (λ new. LendsText self.old new result)) }
+    {
+        self.text = self.deserialize_string()?;
+        Ok(self.text.as_str())
+    }
+}

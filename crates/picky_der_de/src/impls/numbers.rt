@@ -1,0 +1,92 @@
+//! Truth values and numbers, as they are read.
+ghost use Rattle.std.specs.Prelude.{◌^◌, ◌-◌};
+ghost use Rattle.picky_der_core.specs.Shape.{Shape};
+ghost use Rattle.picky_der_de.specs.KnownLaws.{boolean_known, unsigned_known};
+
+use crate::{Deserialize, Deserializer};
+use picky_der_core::Result;
+use picky_der_core::misc::ReadExt;
+
+impl Deserialize for bool {
+    ghost shape = { Shape.boolean };
+
+    ghost known_by_tree = { λ x y s t r e. boolean_known x y e };
+
+    ghost sound = { tt };
+
+    fn deserialize<R: ReadExt>(de: &mut Deserializer<R>) -> Result<bool> {
+        de.deserialize_bool()
+    }
+}
+
+impl Deserialize for u8 {
+    ghost shape = { Shape.unsigned (2 ^ 8 - 1) };
+
+    ghost known_by_tree = { λ x y s t r e. unsigned_known x y e };
+
+    ghost sound = { tt };
+
+    fn deserialize<R: ReadExt>(de: &mut Deserializer<R>) -> Result<u8> {
+        de.deserialize_u8()
+    }
+}
+
+impl Deserialize for u16 {
+    ghost shape = { Shape.unsigned (2 ^ 16 - 1) };
+
+    ghost known_by_tree = { λ x y s t r e. unsigned_known x y e };
+
+    ghost sound = { tt };
+
+    fn deserialize<R: ReadExt>(de: &mut Deserializer<R>) -> Result<u16> {
+        de.deserialize_u16()
+    }
+}
+
+impl Deserialize for u32 {
+    ghost shape = { Shape.unsigned (2 ^ 32 - 1) };
+
+    ghost known_by_tree = { λ x y s t r e. unsigned_known x y e };
+
+    ghost sound = { tt };
+
+    fn deserialize<R: ReadExt>(de: &mut Deserializer<R>) -> Result<u32> {
+        de.deserialize_u32()
+    }
+}
+
+impl Deserialize for u64 {
+    ghost shape = { Shape.unsigned (2 ^ 64 - 1) };
+
+    ghost known_by_tree = { λ x y s t r e. unsigned_known x y e };
+
+    ghost sound = { tt };
+
+    fn deserialize<R: ReadExt>(de: &mut Deserializer<R>) -> Result<u64> {
+        de.deserialize_u64()
+    }
+}
+
+impl Deserialize for u128 {
+    ghost shape = { Shape.unsigned (2 ^ 128 - 1) };
+
+    ghost known_by_tree = { λ x y s t r e. unsigned_known x y e };
+
+    ghost sound = { tt };
+
+    fn deserialize<R: ReadExt>(de: &mut Deserializer<R>) -> Result<u128> {
+        de.deserialize_u128()
+    }
+}
+
+impl Deserialize for usize {
+    ghost shape = { Shape.unsigned (2 ^ 64 - 1) };
+
+    ghost known_by_tree = { λ x y s t r e. unsigned_known x y e };
+
+    ghost sound = { tt };
+
+    fn deserialize<R: ReadExt>(de: &mut Deserializer<R>) -> Result<usize> {
+        de.read_unsigned()
+    }
+}

@@ -1,0 +1,32 @@
+//! Null, as it is read, and values that may be missing.
+ghost use Rattle.std.specs.Prelude.{refl};
+ghost use Rattle.picky_der_core.specs.Shape.{Shape};
+ghost use Rattle.picky_der_de.specs.KnownLaws.{option_known};
+
+use crate::{Deserialize, Deserializer};
+use picky_der_core::Result;
+use picky_der_core::misc::ReadExt;
+
+impl Deserialize for () {
+    ghost shape = { Shape.null };
+
+    ghost known_by_tree = { λ x y s t r e. refl };
+
+    ghost sound = { tt };
+
+    fn deserialize<R: ReadExt>(de: &mut Deserializer<R>) -> Result<()> {
+        de.deserialize_unit()
+    }
+}
+
+impl<T: Deserialize> Deserialize for Option<T> {
+    ghost shape = { Shape.optional T.shape };
+
+    ghost known_by_tree = { option_known T.meaning T.shape T.eq T.known_by_tree };
+
+    ghost sound = { T.sound };
+
+    fn deserialize<R: ReadExt>(de: &mut Deserializer<R>) -> Result<Option<T>> {
+        de.deserialize_option()
+    }
+}
