@@ -80,7 +80,7 @@ impl<W: WriteExt> Serializer<W> {
         Ok(Sequence::serialize_lazy(self, tag))
     }
 
-    /// Begins a sequence. The length isn't looked at.
+    /// Begins a sequence in the open wrappers. The length isn't looked at: what is added is written.
     pub fn serialize_seq(&mut self, len: Option<usize>) -> Result<Sequence<'_, W>>
         ensures* rests { sem 𝓛 (RestsIfErr (the_row W.row W.WriteExt.own W.Write) self.entry (λ q. (serializer_of q).ghost_name) result
             (λ new. IfErr result (λ e. Stops W.WriteExt.own self.old e new))) }
@@ -90,5 +90,56 @@ impl<W: WriteExt> Serializer<W> {
     {
         let _ = len;
         self.begin(Tag::SEQUENCE)
+    }
+
+    /// Begins a sequence, as `serialize_seq` does.
+    pub fn serialize_tuple(&mut self, len: usize) -> Result<Sequence<'_, W>>
+        ensures* rests { sem 𝓛 (RestsIfErr (the_row W.row W.WriteExt.own W.Write) self.entry (λ q. (serializer_of q).ghost_name) result
+            (λ new. IfErr result (λ e. Stops W.WriteExt.own self.old e new))) }
+        ensures same_reference { IfOk result (λ q. (serializer_of q).ghost_name ≡ self.entry.ghost_name) }
+        ensures had_not_failed { OnOk result (self.old.failed ≡ None) }
+        ensures opened { IfOk result (λ q. Opens W.WriteExt.own (Header.Tagged 0x30) self.old (serializer_of q).now) }
+    {
+        let _ = len;
+        self.begin(Tag::SEQUENCE)
+    }
+
+    /// Begins a sequence, as `serialize_seq` does. The name isn't written.
+    pub fn serialize_tuple_struct(
+        &mut self,
+        name: &'static str,
+        len: usize,
+    ) -> Result<Sequence<'_, W>>
+        ensures* rests { sem 𝓛 (RestsIfErr (the_row W.row W.WriteExt.own W.Write) self.entry (λ q. (serializer_of q).ghost_name) result
+            (λ new. IfErr result (λ e. Stops W.WriteExt.own self.old e new))) }
+        ensures same_reference { IfOk result (λ q. (serializer_of q).ghost_name ≡ self.entry.ghost_name) }
+        ensures had_not_failed { OnOk result (self.old.failed ≡ None) }
+        ensures opened { IfOk result (λ q. Opens W.WriteExt.own (Header.Tagged 0x30) self.old (serializer_of q).now) }
+    {
+        let _ = (name, len);
+        self.begin(Tag::SEQUENCE)
+    }
+
+    /// Begins a sequence, as `serialize_seq` does. The name isn't written.
+    pub fn serialize_struct(&mut self, name: &'static str, len: usize) -> Result<Sequence<'_, W>>
+        ensures* rests { sem 𝓛 (RestsIfErr (the_row W.row W.WriteExt.own W.Write) self.entry (λ q. (serializer_of q).ghost_name) result
+            (λ new. IfErr result (λ e. Stops W.WriteExt.own self.old e new))) }
+        ensures same_reference { IfOk result (λ q. (serializer_of q).ghost_name ≡ self.entry.ghost_name) }
+        ensures had_not_failed { OnOk result (self.old.failed ≡ None) }
+        ensures opened { IfOk result (λ q. Opens W.WriteExt.own (Header.Tagged 0x30) self.old (serializer_of q).now) }
+    {
+        let _ = (name, len);
+        self.begin(Tag::SEQUENCE)
+    }
+
+    /// Begins a set in the open wrappers (X.690, 8.11 and 8.12).
+    pub fn serialize_set(&mut self) -> Result<Sequence<'_, W>>
+        ensures* rests { sem 𝓛 (RestsIfErr (the_row W.row W.WriteExt.own W.Write) self.entry (λ q. (serializer_of q).ghost_name) result
+            (λ new. IfErr result (λ e. Stops W.WriteExt.own self.old e new))) }
+        ensures same_reference { IfOk result (λ q. (serializer_of q).ghost_name ≡ self.entry.ghost_name) }
+        ensures had_not_failed { OnOk result (self.old.failed ≡ None) }
+        ensures opened { IfOk result (λ q. Opens W.WriteExt.own (Header.Tagged 0x31) self.old (serializer_of q).now) }
+    {
+        self.begin(Tag::SET)
     }
 }
