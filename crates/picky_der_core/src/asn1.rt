@@ -2,12 +2,14 @@
 
 mod byte_buf;
 mod bytes;
+mod newtype;
 mod tag;
 mod tagged_bytes;
 mod wrapper;
 
 pub use byte_buf::ByteBuf;
 pub use bytes::Bytes;
+pub use newtype::Newtype;
 pub use tag::{Tag, TagClass};
 pub use tagged_bytes::{
     BitStringAsn1, BmpStringAsn1, GeneralStringAsn1, GeneralizedTimeAsn1, Ia5StringAsn1,
