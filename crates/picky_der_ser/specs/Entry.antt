@@ -23,7 +23,8 @@ pub record RefusedVec (t : Tree) (old : List ℕ) (e : Asn1DerError) (new : List
   pub nothing : e ≡ UnsupportedValue → front ≡ []
   pub excuse : MemoryExcuse t e
 
--- why a tree isn't written into a slice
+-- Why a tree isn't written into a slice. That a byte of the encoding is missing after a fault isn't a part of what `serialize` promises:
+-- it may have written all, and then asked for more. So the slice isn't longer than the encoding, and may be as long.
 pub data SliceExcuse (t : Tree) (old : List ℕ) (e : Asn1DerError) (new : List ℕ) : Type 0 where
   without_memory : e ≡ OutOfMemory → SliceExcuse t old e new
   without_form : e ≡ UnsupportedValue → ¬ IsWritable t → new ≡ old → SliceExcuse t old e new
