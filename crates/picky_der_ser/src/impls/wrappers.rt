@@ -4,7 +4,8 @@ ghost use Rattle.picky_der_core.specs.Tree.{Tree};
 use crate::{Serialize, Serializer};
 use picky_der_core::Result;
 use picky_der_core::asn1::{
-    BitStringAsn1Container, ExplicitContextTag, ImplicitContextTag, Newtype, OctetStringAsn1Container,
+    BitStringAsn1Container, ExplicitContextTag, ImplicitContextTag, Newtype,
+    OctetStringAsn1Container,
 };
 use picky_der_core::misc::WriteExt;
 
@@ -39,3 +40,6 @@ impl<T: Serialize, const N: u8> Serialize for ImplicitContextTag<T, N> {
         ser.serialize_newtype_struct(Newtype::Implicit(N), &self.0)
     }
 }
+
+#[cfg(test)]
+mod tests;
