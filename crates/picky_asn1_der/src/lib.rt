@@ -23,3 +23,6 @@ pub use picky_der_de::{
     Deserialize, Deserializer, from_bytes, from_reader, from_reader_with_max_len,
 };
 pub use picky_der_ser::{Serialize, Serializer, to_byte_buf, to_bytes, to_vec, to_writer};
+
+#[cfg(test)]
+mod tests;
