@@ -5,6 +5,7 @@ ghost use Rattle.picky_der_de.specs.State.{fresh};
 ghost use Rattle.picky_der_core.specs.Peeking.{in_front};
 ghost use Rattle.picky_der_de.specs.Steps.{Takes, TakesKept, StopsShort, Fails, IsMissing, IsOther, TakesNoMemory};
 
+mod ends;
 mod header;
 mod octets;
 mod options;
@@ -13,6 +14,7 @@ mod texts;
 
 use crate::End;
 use arrayvec::ArrayVec;
+pub(crate) use ends::Outer;
 use picky_der_core::misc::{PeekableReader, ReadExt};
 use picky_der_core::{Asn1DerError, Result};
 use std::alloc::Global;
