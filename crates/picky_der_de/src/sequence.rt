@@ -158,3 +158,6 @@ impl<R: ReadExt> Deserializer<R> {
         self.deserialize_seq()
     }
 }
+
+#[cfg(test)]
+mod tests;
