@@ -4,15 +4,15 @@
 /// Reading.
 pub mod de {
     pub use picky_der_de::{
-        Boolean, DEFAULT_MAX_LEN, Deserialize, Deserializer, End, Null, UInt, UnsignedInteger,
-        Utf8String, from_bytes, from_reader, from_reader_with_max_len,
+        Boolean, DEFAULT_MAX_LEN, Deserialize, Deserializer, End, Null, Sequence, UInt,
+        UnsignedInteger, Utf8String, from_bytes, from_reader, from_reader_with_max_len,
     };
 }
 
 /// Writing.
 pub mod ser {
     pub use picky_der_ser::{
-        Boolean, Header, Null, Serialize, Serializer, UInt, UnsignedInteger, Utf8String,
+        Boolean, Header, Null, Sequence, Serialize, Serializer, UInt, UnsignedInteger, Utf8String,
         to_byte_buf, to_bytes, to_vec, to_writer,
     };
 }
