@@ -3,6 +3,7 @@
 mod byte_buf;
 mod bytes;
 mod collections;
+mod newtype;
 mod tag;
 mod tagged_bytes;
 mod wrapper;
@@ -10,6 +11,7 @@ mod wrapper;
 pub use byte_buf::ByteBuf;
 pub use bytes::Bytes;
 pub use collections::{Asn1SequenceOf, Asn1SetOf};
+pub use newtype::Newtype;
 pub use tag::{Tag, TagClass};
 pub use tagged_bytes::{
     BitStringAsn1, BmpStringAsn1, GeneralStringAsn1, GeneralizedTimeAsn1, Ia5StringAsn1,

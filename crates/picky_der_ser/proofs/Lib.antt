@@ -6,6 +6,7 @@ pub mod HeaderLoop
 pub mod LevelMarks
 pub mod LevelWrites
 pub mod StateWrites
+pub mod WrapWrites
 pub mod Brought
 pub mod HeaderSizes
 pub mod EntryWrites

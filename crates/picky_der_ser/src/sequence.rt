@@ -116,7 +116,8 @@ impl<W: WriteExt> Serializer<W> {
         ensures had_not_failed { OnOk result (self.old.failed ≡ None) }
         ensures opened { IfOk result (λ q. Opens W.WriteExt.own (Header.Tagged 0x30) self.old (serializer_of q).now) }
     {
-        let _ = (name, len);
+        let _ = name;
+        let _ = len;
         self.begin(Tag::SEQUENCE)
     }
 
@@ -128,7 +129,8 @@ impl<W: WriteExt> Serializer<W> {
         ensures had_not_failed { OnOk result (self.old.failed ≡ None) }
         ensures opened { IfOk result (λ q. Opens W.WriteExt.own (Header.Tagged 0x30) self.old (serializer_of q).now) }
     {
-        let _ = (name, len);
+        let _ = name;
+        let _ = len;
         self.begin(Tag::SEQUENCE)
     }
 
