@@ -1,6 +1,8 @@
 //! What the built-in types mean.
 
 mod bytes;
+mod lists;
 mod numbers;
 mod options;
 mod texts;
+mod tuples;
