@@ -8,7 +8,7 @@ use Rattle.picky_der_core.specs.Shape.{Shape, IsSound}
 use Rattle.picky_der_core.specs.Reading.{Place, StandsAt}
 use Rattle.picky_der_core.proofs.Unique.{same_tree}
 use Rattle.picky_der_de.specs.State.{State, fresh}
-use Rattle.picky_der_de.specs.Steps.{in_front, peeked_count}
+use Rattle.picky_der_core.specs.Peeking.{in_front, count_of_any}
 use Rattle.picky_der_de.specs.Reading.{Reads, Refuses, now}
 use Rattle.picky_der_de.specs.KnownLaws.{IsKnownByTree}
 use Rattle.picky_der_de.specs.Entry.{HasNoFront, Reader, ReadsFront, Draws, RefusesFront}
@@ -17,7 +17,7 @@ use Rattle.picky_der_de.proofs.Refusals.{consumed}
 -- ---- what is left in the reader
 
 -- a peeked byte was drawn too
-drawn_in_front : (i r : Option (List ℕ)) (p : Option ℕ) (x : List ℕ) → Consumes i (in_front p r) x → (d : List ℕ) × (length d ≡ length x + peeked_count p) × Consumes i r d
+drawn_in_front : (i r : Option (List ℕ)) (p : Option ℕ) (x : List ℕ) → Consumes i (in_front p r) x → (d : List ℕ) × (length d ≡ length x + count_of_any p) × Consumes i r d
 drawn_in_front i r None x c = (x, omega arith, c)
 drawn_in_front None r (Some b) x c = (x ++ (b ∷ []), length-append x (b ∷ []), tt)
 drawn_in_front (Some bs) None (Some b) x c = absurd c

@@ -11,8 +11,9 @@ use Rattle.picky_der_core.specs.declared.error.Asn1DerError.TheVariants.{Truncat
 use Rattle.picky_der_core.specs.Refusal.{missing, Refusal}
 use Rattle.picky_der_de.specs.declared.end.End.{End}
 use Rattle.picky_der_de.specs.declared.end.End.TheVariants.{Limit, Soft, Hard}
+use Rattle.picky_der_core.specs.Peeking.{count_of_any}
 use Rattle.picky_der_de.specs.State.{State}
-use Rattle.picky_der_de.specs.Steps.{Takes, IsMissing, end_is_here, input_ended, IsCut, failed_with, is_hard, at_end, peeked_count}
+use Rattle.picky_der_de.specs.Steps.{Takes, IsMissing, end_is_here, input_ended, IsCut, failed_with, is_hard, at_end}
 use Rattle.picky_der_de.specs.Reading.{IsJustRefused}
 use Rattle.picky_der_de.proofs.Refusals.{consumed, at_end_of}
 
@@ -89,7 +90,7 @@ kept_known (Some xs) (Some ys) bs k e = cc
 
 -- ---- just so
 
-none_peeked : (p : Option ℕ) → peeked_count p ≡ 0 → p ≡ None
+none_peeked : (p : Option ℕ) → count_of_any p ≡ 0 → p ≡ None
 none_peeked None e = refl
 none_peeked (Some b) e = absurd (omega arith)
 

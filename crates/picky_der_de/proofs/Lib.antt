@@ -11,3 +11,7 @@ pub mod PlainReads
 pub mod PlainKinds
 pub mod Options
 pub mod EntryReads
+pub mod Ends
+pub mod Members
+pub mod Rows
+pub mod Asked

@@ -74,7 +74,7 @@ pub record Content (mid new : State) (e : Asn1DerError) (n : ℕ) (t : Tree) : T
   pub begins : seen ≡ content t ++ rest
   pub size : length (content t) ≡ n
 
-begun : {a b c : State} {s : Shape} {e : Asn1DerError} {tag n end : ℕ} {bs : List ℕ} {t : Tree} → Begins tag a b n → b.taken ≤ drawn c → is_plain t ≡ true → plain_tag t ≡ tag
+pub begun : {a b c : State} {s : Shape} {e : Asn1DerError} {tag n end : ℕ} {bs : List ℕ} {t : Tree} → Begins tag a b n → b.taken ≤ drawn c → is_plain t ≡ true → plain_tag t ≡ tag
     → Concerns a c e end bs → StandsAt (place_of a) s bs end t → Content b c e n t
 begun {a} {b} {c} {s} {e} {tag} {n} {end} {bs} {t} h g p k w st =
     let v = behind h.takes g w in
@@ -84,7 +84,7 @@ begun {a} {b} {c} {s} {e} {tag} {n} {end} {bs} {t} h g p k w st =
 
 -- ---- refused headers
 
-no_plain : (d : Option ℕ) (tag room end : ℕ) (s : Shape) (bs : List ℕ) (t : Tree) → d ≡ None → end < 2 ^ 64 → is_plain t ≡ true → plain_tag t ≡ tag → NoElement tag end bs → StandsAt (place_in d room) s bs end t → ⊥
+pub no_plain : (d : Option ℕ) (tag room end : ℕ) (s : Shape) (bs : List ℕ) (t : Tree) → d ≡ None → end < 2 ^ 64 → is_plain t ≡ true → plain_tag t ≡ tag → NoElement tag end bs → StandsAt (place_in d room) s bs end t → ⊥
 no_plain None tag room end s bs t e small p k h st =
     let size : length (der t) ≡ length (tlv tag (content t)) = ap length (der_of t tag p k) in
     h (content t) st.front.rest (omega (arith, st.within, size, length_tlv tag (content t), small)) (st.front.is ∙ ap (λ z. z ++ st.front.rest) (der_of t tag p k)) (omega (arith, st.within, size))
@@ -147,7 +147,7 @@ refuses_again {a = a} {e = e} h =
 
 -- ---- refused contents
 
-first_of_header : (s : Shape) (d : Option ℕ) (i j : Option (List ℕ)) (tag n : ℕ) → IsFirst s tag → Consumes i j (header_bytes d tag n) → d ≡ None → (b : ℕ) (left : List ℕ) → i ≡ Some (b ∷ left) → IsFirst s b
+pub first_of_header : (s : Shape) (d : Option ℕ) (i j : Option (List ℕ)) (tag n : ℕ) → IsFirst s tag → Consumes i j (header_bytes d tag n) → d ≡ None → (b : ℕ) (left : List ℕ) → i ≡ Some (b ∷ left) → IsFirst s b
 first_of_header s None i j tag n f t e b left k = subst (IsFirst s) (sym (taken_first i j tag b (len n) left t k)) f
 first_of_header s (Some number) i j tag n f t e b left k = absurd (let q : Some number ≡ None = e in cc)
 
@@ -166,7 +166,7 @@ content_cut judge n y l = rw (lt-ltb (length y) n l) refl
 content_judged : (judge : Judge) (x y : List ℕ) → content_refusal judge (Ok (length x, x ++ y)) ≡ judged (judge x) y
 content_judged judge x y = rw (le-ltb (length (x ++ y)) (length x) (omega (arith, length-append x y)), take-append_seam x y, drop-append_seam x y) refl
 
-fits_below : {a b : State} {tag n : ℕ} → Begins tag a b n → n < 2 ^ 64
+pub fits_below : {a b : State} {tag n : ℕ} → Begins tag a b n → n < 2 ^ 64
 fits_below h = omega (arith, h.fits, h.takes.room, h.bounded)
 
 -- a plain value whose header was taken
@@ -231,14 +231,14 @@ refuses_content {meaning = meaning} {tag = tag} {n = n} {judge = judge} kind h t
 
 -- ---- what was read
 
-takes_plain : (d : Option ℕ) (room : ℕ) {a b c : State} {tag n : ℕ} (t : Tree) → is_plain t ≡ true → plain_tag t ≡ tag → Takes a b (header_bytes d tag n) → Takes b c (content t) → length (content t) ≡ n → Takes a c (written_at (place_in d room) t)
+pub takes_plain : (d : Option ℕ) (room : ℕ) {a b c : State} {tag n : ℕ} (t : Tree) → is_plain t ≡ true → plain_tag t ≡ tag → Takes a b (header_bytes d tag n) → Takes b c (content t) → length (content t) ≡ n → Takes a c (written_at (place_in d room) t)
 unfolding tlv
 takes_plain None room {a} {b} {c} {tag} {n} t p k h x l =
     let is : (tag ∷ len n) ++ content t ≡ der t = rw (der_of t tag p k, l) refl in
     subst (Takes a c) is (takes_then h x)
 takes_plain (Some number) room {a} {b} {c} t p k h x l = subst (Takes a c) (sym (inside-plain t p)) (takes_then h x)
 
-may_stand : (d : Option ℕ) (tag n room left : ℕ) (t : Tree) → is_plain t ≡ true → room ≡ length (header_bytes d tag n) + left → IfSome d (λ number. n ≡ left) → length (content t) ≡ n → IsNoChoice t → MayStand (place_in d room) t
+pub may_stand : (d : Option ℕ) (tag n room left : ℕ) (t : Tree) → is_plain t ≡ true → room ≡ length (header_bytes d tag n) + left → IfSome d (λ number. n ≡ left) → length (content t) ≡ n → IsNoChoice t → MayStand (place_in d room) t
 may_stand None tag n room left t p r a l c = tt
 may_stand (Some number) tag n room left t p r a l c = record { no_choice = c; filled = λ q. omega (arith, ap length (inside-plain t p)) }
 

@@ -1,5 +1,5 @@
 -- A read of the reader that failed.
-use Rattle.std.proofs.Common.{◌≡◌, ℕ, ◌<◌, ◌≤◌, List, [], Option, Some, None, refl, sym, ◌∙◌, ap, arith, subst}
+use Rattle.std.proofs.Common.{◌≡◌, ℕ, ◌<◌, ◌≤◌, List, [], Option, Some, None, IfSome, Result, Ok, Err, refl, sym, ◌∙◌, ap, arith, subst}
 use Rattle.std.specs.Io.KnownBytes.{Keeps, Consumes}
 use Rattle.std.specs.IoError.{error_kind}
 use Rattle.std.specs.declared.io.Error.{Error}
@@ -8,8 +8,9 @@ use Rattle.picky_der_core.specs.declared.error.Asn1DerError.{Asn1DerError}
 use Rattle.picky_der_core.specs.declared.error.Asn1DerError.TheVariants.{TruncatedData}
 use Rattle.picky_der_core.specs.Error.{kind_of}
 use Rattle.picky_der_core.specs.Reader.{IsFaultOrEnd, fault, end}
+use Rattle.picky_der_core.specs.Peeking.{count_of_any}
 use Rattle.picky_der_de.specs.State.{State}
-use Rattle.picky_der_de.specs.Steps.{Fails, IsOther, IsMissing, input_ended, HasDrawn, peeked_count, in_front}
+use Rattle.picky_der_de.specs.Steps.{Fails, IsOther, IsMissing, input_ended, HasDrawn}
 
 end_of_input : kind_of UnexpectedEof ≡ TruncatedData
 unfolding kind_of
@@ -35,12 +36,13 @@ pub record StopsAt (old new : State) (e : Asn1DerError) : Type 0 where
   pub room : new.room ≡ old.room
   pub end : new.end ≡ old.end
   pub direct : new.direct ≡ old.direct
+  pub last : new.last ≡ old.last
   pub limit : new.limit ≡ old.limit
   pub through : new.through ≡ old.through
 
 module _ {old new : State} {e : Asn1DerError} (s : StopsAt old new e) (error : Error) (is : e ≡ kind_of (error_kind error)) (f : IsFaultOrEnd old.input old.faults new.faults error) where
-  same_drawn : (p q : Option ℕ) → p ≡ q → peeked_count p ≡ peeked_count q
-  same_drawn p q h = ap peeked_count h
+  same_drawn : (p q : Option ℕ) → p ≡ q → count_of_any p ≡ count_of_any q
+  same_drawn p q h = ap count_of_any h
 
   other_rose : IsFaultOrEnd old.input old.faults new.faults error → IsOther e → old.faults < new.faults
   other_rose (fault r) o = r
@@ -76,12 +78,7 @@ module _ {old new : State} {e : Asn1DerError} (s : StopsAt old new e) (error : E
       by_case (fault rose) = absurd (omega arith)
       by_case (end q kind left) = input_ended r left (is ∙ ap kind_of kind ∙ end_of_input)
 
--- where nothing is peeked, what the reader tells is what is left
-
-pub keeps-in_front : (p : Option ℕ) (i j : Option (List ℕ)) → p ≡ None → Keeps i j → Keeps (in_front p i) (in_front p j)
-keeps-in_front None i j e k = k
-keeps-in_front (Some b) i j e k = cc
-
-pub fault-in_front : (p : Option ℕ) (i : Option (List ℕ)) (m n : ℕ) (error : Error) → p ≡ None → IsFaultOrEnd i m n error → IsFaultOrEnd (in_front p i) m n error
-fault-in_front None i m n error e f = f
-fault-in_front (Some b) i m n error e f = cc
+-- a peeked byte would have been the answer
+pub unpeeked_at_error : (p : Option ℕ) (error : Error) (P : ℕ → Type 0) → IfSome p (λ b. (◌≡◌ {A = Result ℕ Error} (Err error) (Ok b)) × P b) → p ≡ None
+unpeeked_at_error None error P h = refl
+unpeeked_at_error (Some b) error P h = let q = h.0 in cc

@@ -3,8 +3,9 @@ use Rattle.std.proofs.Common.{◌≡◌, ℕ, ◌+◌, List, [], ◌++◌, lengt
 use Rattle.std.specs.Io.KnownBytes.{Consumes}
 use Rattle.std.proofs.KnownBytes.{Consumes-nil, Consumes-trans, Keeps-refl}
 use Rattle.picky_der_core.specs.declared.error.Asn1DerError.{Asn1DerError}
+use Rattle.picky_der_core.specs.Peeking.{count_of_any}
 use Rattle.picky_der_de.specs.State.{State}
-use Rattle.picky_der_de.specs.Steps.{Takes, Took, Fails, IsWithin, IsUnmoved, HasDrawn, IsJudged, drawn, peeked_count}
+use Rattle.picky_der_de.specs.Steps.{Takes, Took, Fails, IsWithin, IsUnmoved, HasDrawn, IsJudged, drawn}
 
 pub takes_then : {a b c : State} {x y : List ℕ} → Takes a b x → Takes b c y → Takes a c (x ++ y)
 takes_then {a} {b} {c} {x} {y} h k = record {
@@ -13,6 +14,7 @@ takes_then {a} {b} {c} {x} {y} h k = record {
   room = omega (arith, length-append x y);
   end = k.end ∙ h.end;
   limit = k.limit ∙ h.limit;
+  last = k.last ∙ h.last;
   unpeeked = k.unpeeked;
   drawn = omega (arith, h.drawn, k.drawn);
   had_not_failed = h.had_not_failed;
@@ -29,8 +31,9 @@ takes_none a h p = record {
   room = omega arith;
   end = refl;
   limit = refl;
+  last = refl;
   unpeeked = p;
-  drawn = let e : peeked_count a.peeked ≡ 0 = ap peeked_count p in omega (arith, e);
+  drawn = let e : count_of_any a.peeked ≡ 0 = ap count_of_any p in omega (arith, e);
   had_not_failed = h;
   not_failed = h;
   faults = refl;
@@ -44,7 +47,7 @@ there_after (Some xs) (Some ys) h s t n c e f = omega (arith, ap length c, lengt
 
 pub takes_within : {a b : State} {x : List ℕ} → Takes a b x → IsWithin a → IsWithin b
 takes_within {a} {b} {x} h w =
-    let e : peeked_count b.peeked ≡ 0 = ap peeked_count h.unpeeked in
+    let e : count_of_any b.peeked ≡ 0 = ap count_of_any h.unpeeked in
     record { end = omega (arith, w.end, h.taken, h.room, h.limit); drawn = omega (arith, w.end, h.taken, h.room, h.limit, e) }
 
 took_after : {a b c : State} {x : List ℕ} → Takes a b x → Took b c → Took a c
@@ -57,7 +60,7 @@ took_after {a} {b} {c} {x} h t = record {
 -- a call failed behind bytes that were taken
 pub fails_after : {a b c : State} {x : List ℕ} {e : Asn1DerError} → Takes a b x → Fails b c e → Fails a c e
 fails_after {a} {b} {c} {x} {e} h f =
-    let p : peeked_count b.peeked ≡ 0 = ap peeked_count h.unpeeked in
+    let p : count_of_any b.peeked ≡ 0 = ap count_of_any h.unpeeked in
     record {
       failed = f.failed;
       again = λ k w. absurd (let q : None ≡ Some k = sym h.had_not_failed ∙ w in cc);

@@ -2,6 +2,9 @@ pub mod State
 pub mod Steps
 pub mod Reading
 pub mod Headers
+pub mod Ends
+pub mod Members
+pub mod Sequences
 pub mod KnownLaws
 pub mod Entry
 pub mod Lending

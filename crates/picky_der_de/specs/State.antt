@@ -16,6 +16,8 @@ pub record State : Type 0 where
   -- how far ahead the innermost end is, and what it is
   pub room : ℕ
   pub end : End
+  -- the encoding of the last member that was read of a set whose end is the innermost one; no call keeps one yet
+  pub last : Option (List ℕ)
   -- the number of the implicit tag directly under which it stands
   pub direct : Option ℕ
   -- the error that it has failed with
@@ -34,6 +36,7 @@ fresh input limit faults through = record {
   limit = limit;
   room = limit;
   end = Limit;
+  last = None;
   direct = None;
   failed = None;
   faults = faults;

@@ -1,28 +1,19 @@
 -- What the calls of a deserializer do to it.
-use Rattle.std.specs.Prelude.{◌≡◌, ◌≢◌, ℕ, ◌+◌, ◌-◌, ◌^◌, ◌<◌, ◌≤◌, Bool, true, false, List, ◌∷◌, length, take, Option, Some, None, IfSome, ⊤}
+use Rattle.std.specs.Prelude.{◌≡◌, ◌≢◌, ℕ, ◌+◌, ◌-◌, ◌^◌, ◌<◌, ◌≤◌, Bool, true, false, List, length, take, Option, Some, None, IfSome, ⊤}
 use Rattle.std.specs.Io.KnownBytes.{Consumes, Keeps, IsAtEnd}
 use Rattle.picky_der_core.specs.declared.error.Asn1DerError.{Asn1DerError}
 use Rattle.picky_der_core.specs.declared.error.Asn1DerError.TheVariants.{TruncatedData, Other, OutOfMemory}
 use Rattle.picky_der_core.specs.Error.{IsKindOfFault}
+use Rattle.picky_der_core.specs.Peeking.{count_of_any}
 use Rattle.picky_der_core.specs.Refusal.{past}
 use Rattle.picky_der_core.specs.Reading.{Place}
 use Rattle.picky_der_de.specs.declared.end.End.{End}
 use Rattle.picky_der_de.specs.declared.end.End.TheVariants.{Limit, Soft, Hard}
 use Rattle.picky_der_de.specs.State.{State}
 
--- the bytes left, a peeked byte in front
-abbrev pub in_front : Option ℕ → Option (List ℕ) → Option (List ℕ)
-in_front None left = left
-in_front (Some b) None = None
-in_front (Some b) (Some bs) = Some (b ∷ bs)
-
-abbrev pub peeked_count : Option ℕ → ℕ
-peeked_count None = 0
-peeked_count (Some b) = 1
-
 -- how many bytes were drawn from the reader
 abbrev pub drawn : State → ℕ
-drawn s = s.taken + peeked_count s.peeked
+drawn s = s.taken + count_of_any s.peeked
 
 -- ---- ends
 
@@ -62,11 +53,6 @@ abbrev pub IsUnpeekedIfDirect : Option ℕ → Option ℕ → Type 0
 IsUnpeekedIfDirect None peeked = ⊤
 IsUnpeekedIfDirect (Some tag) peeked = peeked ≡ None
 
--- a peeked byte is a byte
-abbrev pub IsByteIfPeeked : Option ℕ → Type 0
-IsByteIfPeeked None = ⊤
-IsByteIfPeeked (Some b) = b < 256
-
 -- ---- steps
 
 -- these bytes were taken, and nothing else changed
@@ -76,6 +62,7 @@ pub record Takes (old new : State) (bytes : List ℕ) : Type 0 where
   pub room : old.room ≡ length bytes + new.room
   pub end : new.end ≡ old.end
   pub limit : new.limit ≡ old.limit
+  pub last : new.last ≡ old.last
   pub unpeeked : new.peeked ≡ None
   -- a peeked byte was the first of them
   pub drawn : drawn old ≤ new.taken

@@ -2,8 +2,10 @@
 ghost use Rattle.std.specs.Prelude.{◌≡◌, ◌<◌, ◌∷◌, [], length, false, None, Some, IfOk, IfErr, OnOk, OnErr};
 ghost use Rattle.picky_der_core.specs.Shape.{AreBytes};
 ghost use Rattle.picky_der_de.specs.State.{fresh};
-ghost use Rattle.picky_der_de.specs.Steps.{Takes, TakesKept, StopsShort, Fails, IsMissing, IsOther, TakesNoMemory, in_front};
+ghost use Rattle.picky_der_core.specs.Peeking.{in_front};
+ghost use Rattle.picky_der_de.specs.Steps.{Takes, TakesKept, StopsShort, Fails, IsMissing, IsOther, TakesNoMemory};
 
+mod ends;
 mod header;
 mod octets;
 mod options;
@@ -12,7 +14,8 @@ mod texts;
 
 use crate::End;
 use arrayvec::ArrayVec;
-use picky_der_core::misc::ReadExt;
+pub(crate) use ends::Outer;
+use picky_der_core::misc::{PeekableReader, ReadExt};
 use picky_der_core::{Asn1DerError, Result};
 use std::alloc::Global;
 use std::marker::Model;
@@ -24,9 +27,7 @@ const KEPT: usize = 18;
 #[derive(Drop)]
 pub struct Deserializer<R: ReadExt> {
     alloc: Global,
-    reader: R,
-    peeked: Option<u8>,
-    taken: usize,
+    reader: PeekableReader<R>,
     limit: usize,
     room: usize,
     end: End,
@@ -38,26 +39,28 @@ pub struct Deserializer<R: ReadExt> {
 }
 
 impl<R: ReadExt> Model for Deserializer<R> {
-    ghost use Rattle.std.specs.Prelude.{◌+◌, ◌<◌, ◌^◌};
+    ghost use Rattle.std.specs.Prelude.{◌+◌, ◌<◌, ◌^◌, None};
     ghost use Rattle.picky_der_de.specs.State.{State};
-    ghost use Rattle.picky_der_de.specs.Steps.{in_front, IsUnpeekedIfDirect, IsByteIfPeeked};
+    ghost use Rattle.picky_der_core.specs.Peeking.{left_in};
+    ghost use Rattle.picky_der_de.specs.Steps.{IsUnpeekedIfDirect};
 
     ghost Value = { State };
 
     ghost view = { λ d. record {
-      input = in_front d.peeked (R.remaining d.reader);
-      peeked = d.peeked;
-      taken = d.taken;
+      input = left_in R.remaining d.reader;
+      peeked = d.reader.peeked;
+      taken = d.reader.pos;
       limit = d.limit;
       room = d.room;
       end = d.end;
+      last = None;
       direct = d.direct;
       failed = d.failed;
-      faults = R.faults d.reader;
-      through = R.through d.reader;
+      faults = R.faults d.reader.reader;
+      through = R.through d.reader.reader;
     } };
 
-    ghost invariant = { λ d. (d.taken + d.room < 2 ^ 64) × IsUnpeekedIfDirect d.direct d.peeked × IsByteIfPeeked d.peeked };
+    ghost invariant = { λ d. (d.reader.pos + d.room < 2 ^ 64) × IsUnpeekedIfDirect d.direct d.reader.peeked };
 }
 
 impl<'a> Deserializer<&'a [u8]> {
@@ -76,9 +79,7 @@ impl<R: ReadExt> Deserializer<R> {
     {
         Deserializer {
             alloc,
-            reader,
-            peeked: None,
-            taken: 0,
+            reader: PeekableReader::new(reader),
             limit: max_len,
             room: max_len,
             end: End::Limit,
@@ -98,8 +99,6 @@ impl<R: ReadExt> Deserializer<R> {
         let Deserializer {
             alloc: _,
             reader,
-            peeked: _,
-            taken: _,
             limit: _,
             room: _,
             end: _,
@@ -108,14 +107,14 @@ impl<R: ReadExt> Deserializer<R> {
             content: _,
             text: _,
         } = self;
-        reader
+        reader.into_inner()
     }
 
     /// How many bytes were taken so far, a peeked one not counted.
     pub fn taken(&self) -> usize
         ensures { result ≡ self.now.taken }
     {
-        self.taken
+        self.reader.pos()
     }
 
     /// False: this encoding is for machines.
@@ -153,15 +152,8 @@ impl<R: ReadExt> Deserializer<R> {
             let error = self.end.missing();
             return Err(self.fail(error));
         }
-        if let Some(byte) = self.peeked {
-            self.peeked = None;
-            self.taken += 1;
-            self.room -= 1;
-            return Ok(byte);
-        }
         match self.reader.read_one() {
             Ok(byte) => {
-                self.taken += 1;
                 self.room -= 1;
                 Ok(byte)
             }

@@ -6,3 +6,4 @@ mod numbers;
 mod options;
 mod texts;
 mod tuples;
+mod wrappers;

@@ -1,0 +1,70 @@
+-- What reading the members of a sequence or set does.
+use Rattle.std.specs.Prelude.{◌≡◌, ℕ, List, ◌++◌, length, map, None}
+use Rattle.std.specs.List.{concat}
+use Rattle.picky_der_core.specs.declared.error.Asn1DerError.{Asn1DerError}
+use Rattle.picky_der_core.specs.Tree.{Tree, Trees, trees}
+use Rattle.picky_der_core.specs.Encoding.{encodings}
+use Rattle.picky_der_core.specs.Readable.{AreReadable}
+use Rattle.picky_der_core.specs.Shape.{Shape, Shapes, IsOf, AreOf, EachIs}
+use Rattle.picky_der_de.specs.declared.end.End.TheVariants.{Soft}
+use Rattle.picky_der_de.specs.State.{State}
+use Rattle.picky_der_de.specs.Steps.{Takes, Fails, IsJudged}
+use Rattle.picky_der_de.specs.Reading.{Reads, Refuses, Concerns}
+
+-- ---- one member
+
+-- A member was read, and it may come next.
+pub record ReadsMember (s : Shape) (old new : State) (t : Tree) : Type 0 where
+  pub reads : Reads s old new t
+  pub direct : old.direct ≡ None
+
+-- No member was read, and none stands there that may come next.
+pub record RefusesMember {V : Type 0} (meaning : V → Tree) (s : Shape) (old new : State) (e : Asn1DerError) : Type 0 where
+  pub refuses : Refuses meaning s old new e
+  pub direct : old.failed ≡ None → old.direct ≡ None
+
+-- the end is here, and nothing was done
+pub record HasNoMore (old new : State) : Type 0 where
+  pub reached : old.room ≡ 0
+  pub had_not_failed : old.failed ≡ None
+  pub same : new ≡ old
+
+-- ---- members up to the end
+
+-- the encodings of members, one after another
+abbrev pub bytes_of : Trees → List ℕ
+bytes_of ts = concat (encodings ts)
+
+-- bytes of which a refusal speaks begin with these, which fill what is left before the end
+pub record StandBefore (old new : State) (e : Asn1DerError) (bytes : List ℕ) : Type 0 where
+  pub soft : old.end ≡ Soft
+  pub seen : List ℕ
+  pub concerns : Concerns old new e old.room seen
+  pub rest : List ℕ
+  pub begins : seen ≡ bytes ++ rest
+  pub fills : length bytes ≡ old.room
+
+-- these members were read, one for each shape
+pub record ReadsRow (ss : Shapes) (old new : State) (ts : Trees) : Type 0 where
+  pub of_shape : AreOf ss ts
+  pub readable : AreReadable ts
+  pub takes : Takes old new (bytes_of ts)
+  pub direct : new.direct ≡ None
+
+-- no values stand there as members that fill what is left
+pub record RefusesRow {V : Type 0} (members : V → Trees) (ss : Shapes) (old new : State) (e : Asn1DerError) : Type 0 where
+  pub fails : Fails old new e
+  pub none : IsJudged old new e → (v : V) → AreOf ss (members v) → AreReadable (members v) → StandBefore old new e (bytes_of (members v)) → ⊥
+
+-- all members up to the end were read
+pub record ReadsAll {V : Type 0} (meaning : V → Tree) (s : Shape) (old new : State) (vs : List V) : Type 0 where
+  pub of_shape : EachIs (IsOf s) (trees (map meaning vs))
+  pub readable : AreReadable (trees (map meaning vs))
+  pub takes : Takes old new (bytes_of (trees (map meaning vs)))
+  pub direct : new.direct ≡ None
+  pub reached : new.room ≡ 0
+
+-- no values stand there as members, as many as there may be, that fill what is left
+pub record RefusesAll {V : Type 0} (meaning : V → Tree) (s : Shape) (old new : State) (e : Asn1DerError) : Type 0 where
+  pub fails : Fails old new e
+  pub none : IsJudged old new e → (vs : List V) → EachIs (IsOf s) (trees (map meaning vs)) → AreReadable (trees (map meaning vs)) → StandBefore old new e (bytes_of (trees (map meaning vs))) → ⊥
