@@ -2,6 +2,7 @@
 
 mod byte_buf;
 mod bytes;
+mod collections;
 mod containers;
 mod context_tags;
 mod newtype;
@@ -11,6 +12,7 @@ mod wrapper;
 
 pub use byte_buf::ByteBuf;
 pub use bytes::Bytes;
+pub use collections::{Asn1SequenceOf, Asn1SetOf};
 pub use containers::{BitStringAsn1Container, OctetStringAsn1Container};
 pub use context_tags::{
     ExplicitContextTag, ExplicitContextTag0, ExplicitContextTag1, ExplicitContextTag2,

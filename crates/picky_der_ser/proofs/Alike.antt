@@ -39,14 +39,14 @@ module _ {W : Type 0} (g : Ghosts W) where
   refused_first-alike None ls t u old new e a h = refused_in-alike ls t u old new e a h
   refused_first-alike (Some j) ls t u old new e a h = tt
 
-  writes-alike : (t u : Tree) (old new : State W) (r : Result ℕ Asn1DerError) → AreAlike t u → IfOk r (λ n. Writes g t old n new) → IfOk r (λ n. Writes g u old n new)
+  pub writes-alike : (t u : Tree) (old new : State W) (r : Result ℕ Asn1DerError) → AreAlike t u → IfOk r (λ n. Writes g t old n new) → IfOk r (λ n. Writes g u old n new)
   writes-alike t u old new (Ok n) a h =
       let b = alike-under old.around t u a in
       let d = der-alike _ _ b in
       record { had_not_failed = h.had_not_failed; writable = writable-alike _ _ b h.writable; count = h.count ∙ ap length d; adds = subst (Adds g old new) d h.adds; closed = h.closed; not_failed = h.not_failed; no_fault = h.no_fault }
   writes-alike t u old new (Err e) a h = tt
 
-  fails-alike : (t u : Tree) (old new : State W) (r : Result ℕ Asn1DerError) → AreAlike t u → IfErr r (λ e. Fails g t old e new) → IfErr r (λ e. Fails g u old e new)
+  pub fails-alike : (t u : Tree) (old new : State W) (r : Result ℕ Asn1DerError) → AreAlike t u → IfErr r (λ e. Fails g t old e new) → IfErr r (λ e. Fails g u old e new)
   fails-alike t u old new (Ok n) a h = tt
   fails-alike t u old new (Err e) a h =
       record { failed = h.failed; again = h.again; first = refused_first-alike old.failed _ _ _ _ _ e (alike-under old.around t u a) h.first }

@@ -10,3 +10,7 @@ pub mod WrapWrites
 pub mod Brought
 pub mod HeaderSizes
 pub mod EntryWrites
+pub mod ListBytes
+pub mod Members
+pub mod Items
+pub mod Rows
