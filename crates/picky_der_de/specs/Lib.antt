@@ -3,8 +3,10 @@ pub mod Steps
 pub mod Reading
 pub mod Headers
 pub mod Ends
+pub mod Wrappers
 pub mod Members
 pub mod Sequences
 pub mod KnownLaws
+pub mod WrapperLaws
 pub mod Entry
 pub mod Lending

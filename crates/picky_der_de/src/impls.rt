@@ -4,3 +4,4 @@ mod bytes;
 mod numbers;
 mod options;
 mod texts;
+mod wrappers;

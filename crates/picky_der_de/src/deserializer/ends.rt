@@ -30,7 +30,7 @@ impl Model for Outer {
 
 impl<R: ReadExt> Deserializer<R> {
     // Opens an end so many bytes from here, and answers the one that was the innermost.
-    fn open_end(&mut self, len: usize, kind: End) -> Outer
+    pub(crate) fn open_end(&mut self, len: usize, kind: End) -> Outer
         requires { len ≤ self.old.room }
         ensures opened { self.new ≡ narrowed self.old len kind }
         ensures around { result ≡ innermost self.old }
