@@ -128,16 +128,16 @@ module _ {W : Type 0} (g : Ghosts W) (kind : ListKind) where
 -- all that a list of so many members asks for
 pub ruleset row0 = (row0_wrote, row0_failed)
 
-pub ruleset row1 = (row0_refused, row1_wrote, row1_failed)
+pub ruleset row1 = (row1_wrote, row1_failed, row0_refused)
 
-pub ruleset row2 = (row0_refused, row1_refused, row2_wrote, row2_failed)
+pub ruleset row2 = (row2_wrote, row2_failed, row1_refused, row0_refused)
 
-pub ruleset row3 = (row0_refused, row1_refused, row2_refused, row3_wrote, row3_failed)
+pub ruleset row3 = (row3_wrote, row3_failed, row2_refused, row1_refused, row0_refused)
 
-pub ruleset row4 = (row0_refused, row1_refused, row2_refused, row3_refused, row4_wrote, row4_failed)
+pub ruleset row4 = (row4_wrote, row4_failed, row3_refused, row2_refused, row1_refused, row0_refused)
 
-pub ruleset row5 = (row0_refused, row1_refused, row2_refused, row3_refused, row4_refused, row5_wrote, row5_failed)
+pub ruleset row5 = (row5_wrote, row5_failed, row4_refused, row3_refused, row2_refused, row1_refused, row0_refused)
 
-pub ruleset row6 = (row0_refused, row1_refused, row2_refused, row3_refused, row4_refused, row5_refused, row6_wrote, row6_failed)
+pub ruleset row6 = (row6_wrote, row6_failed, row5_refused, row4_refused, row3_refused, row2_refused, row1_refused, row0_refused)
 
-pub ruleset row7 = (row0_refused, row1_refused, row2_refused, row3_refused, row4_refused, row5_refused, row6_refused, row7_wrote, row7_failed)
+pub ruleset row7 = (row7_wrote, row7_failed, row6_refused, row5_refused, row4_refused, row3_refused, row2_refused, row1_refused, row0_refused)
