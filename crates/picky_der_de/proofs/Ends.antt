@@ -9,7 +9,7 @@ use Rattle.picky_der_de.specs.State.{State}
 use Rattle.picky_der_de.specs.Steps.{Takes, Fails, IsJudged, far, is_hard}
 use Rattle.picky_der_de.specs.Reading.{Concerns, now, ever}
 use Rattle.picky_der_de.specs.Headers.{header_bytes, Begins}
-use Rattle.picky_der_de.specs.Ends.{Outer, innermost, narrowed, Closes, OpensList, list_refusal_in, list_refusal}
+use Rattle.picky_der_de.specs.Ends.{Around, innermost, narrowed, Closes, OpensList, list_refusal_in, list_refusal}
 use Rattle.picky_der_de.proofs.Known.{front_of}
 use Rattle.picky_der_de.proofs.Headers.{header-read}
 use Rattle.picky_der_de.proofs.PlainReads.{fits_below}
@@ -27,13 +27,13 @@ not_refused {tag} {n} {a} {b} i h k =
     ap (list_refusal tag a) f.before ∙ header_not_refused a.direct tag n b.room a (take b.room f.rest) i (fits_below h) h.takes.room h.fits
 
 -- the end of a list was opened behind its header
-pub opens_list : {tag n : ℕ} {a b c : State} {outer : Outer} → IsTagNumber (number_of tag) → Begins tag a b n → c ≡ narrowed b n Soft → outer ≡ innermost b → OpensList tag a c outer
+pub opens_list : {tag n : ℕ} {a b c : State} {outer : Around} → IsTagNumber (number_of tag) → Begins tag a b n → c ≡ narrowed b n Soft → outer ≡ innermost b → OpensList tag a c outer
 opens_list {n = n} {b = b} i h opened around = record {
   mid = b;
   len = n;
   begins = h;
   opened = opened;
-  around = around;
+  put_back = around;
   no_refusal = λ bs k. not_refused i h k;
 }
 
@@ -69,18 +69,18 @@ widened_fails {b} {c} {e} {n} {kind} l f = record {
 }
 
 -- what was taken up to an end that is closed was taken before the one around it
-pub closes_behind : {b c d : State} {n : ℕ} {kind : End} {outer : Outer} {bytes : List ℕ} → n ≤ b.room → outer ≡ innermost b → Takes (narrowed b n kind) c bytes → Closes outer c d → Takes b d bytes × (length bytes ≡ n)
+pub closes_behind : {b c d : State} {n : ℕ} {kind : End} {outer : Around} {bytes : List ℕ} → n ≤ b.room → outer ≡ innermost b → Takes (narrowed b n kind) c bytes → Closes outer c d → Takes b d bytes × (length bytes ≡ n)
 closes_behind {b} {c} {d} {n} {kind} {outer} {bytes} l around t k =
     let size : length bytes ≡ n = omega (arith, t.room, k.reached) in
-    let place : outer.place ≡ b.taken + b.room = ap (λ (o : Outer). o.place) around in
+    let place : outer.place ≡ b.taken + b.room = ap (λ (o : Around). o.place) around in
     let new : State = record c { room = outer.place - c.taken; end = outer.kind; last = outer.last } in
     let takes : Takes b new bytes = record {
       input = t.input;
       taken = t.taken;
       room = omega (arith, t.taken, place, size);
-      end = ap (λ (o : Outer). o.kind) around;
+      end = ap (λ (o : Around). o.kind) around;
       limit = t.limit;
-      last = ap (λ (o : Outer). o.last) around;
+      last = ap (λ (o : Around). o.last) around;
       unpeeked = t.unpeeked;
       drawn = t.drawn;
       had_not_failed = t.had_not_failed;

@@ -15,3 +15,4 @@ pub mod Ends
 pub mod Members
 pub mod Rows
 pub mod Asked
+pub mod ListReads

@@ -4,7 +4,6 @@ pub mod Reading
 pub mod Headers
 pub mod Ends
 pub mod Members
-pub mod Sequences
 pub mod KnownLaws
 pub mod Entry
 pub mod Lending

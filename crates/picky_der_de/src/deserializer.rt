@@ -124,6 +124,11 @@ impl<R: ReadExt> Deserializer<R> {
         false
     }
 
+    // What vectors are grown on.
+    pub(crate) fn alloc(&self) -> Global {
+        self.alloc
+    }
+
     // Has failed from here on with an error that is no fault of the reader.
     pub(crate) fn fail(&mut self, error: Asn1DerError) -> Asn1DerError
         requires had_not_failed { self.old.failed ≡ None }
