@@ -27,6 +27,9 @@ word_for named.U16 = codes "u16"
 word_for named.U32 = codes "u32"
 word_for named.U64 = codes "u64"
 word_for named.U128 = codes "u128"
+word_for named.Null = codes "null"
+word_for named.Char = codes "char"
+word_for named.Text = codes "text"
 word_for named.Octets = codes "octets"
 
 -- what can be asked for: the bytes of a length, a value of a type from the bytes that these digits may be, or nothing

@@ -66,6 +66,15 @@ fn typed(words: &[u8]) -> Request<'_>
     if let Some(digits) = behind(words, b"u128 ") {
         return Request::Read(ValueType::U128, digits);
     }
+    if let Some(digits) = behind(words, b"null ") {
+        return Request::Read(ValueType::Null, digits);
+    }
+    if let Some(digits) = behind(words, b"char ") {
+        return Request::Read(ValueType::Char, digits);
+    }
+    if let Some(digits) = behind(words, b"text ") {
+        return Request::Read(ValueType::Text, digits);
+    }
     if let Some(digits) = behind(words, b"octets ") {
         return Request::Read(ValueType::Octets, digits);
     }

@@ -70,6 +70,12 @@ fn reads_values(rt: HostRuntime) {
             "read u128 021100ffffffffffffffffffffffffffffffff",
             "ok 19 021100ffffffffffffffffffffffffffffffff\n",
         ),
+        ("read null 0500ff", "ok 2 0500\n"),
+        ("read char 0c02c3a9", "ok 4 0c02c3a9\n"),
+        ("read char 0c00", "refused UnsupportedValue\n"),
+        ("read char 0c024142", "refused InvalidData\n"),
+        ("read text 0c00", "ok 2 0c00\n"),
+        ("read text 0c01ff", "refused InvalidData\n"),
         ("read octets 0403AABBCC", "ok 5 0403aabbcc\n"),
         (
             "read octets 0488FFFFFFFFFFFFFFFF",
@@ -90,7 +96,8 @@ fn refuses_lines_that_name_no_value(rt: HostRuntime) {
         "read u7 020107",
         "read  020107",
         "READ u8 020107",
-        "read null 0500",
+        "read Null 0500",
+        "read string 0c00",
     ] {
         expect(&rt, rt.alloc(), line.as_bytes(), "refused Line\n");
     }

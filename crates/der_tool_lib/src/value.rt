@@ -4,7 +4,7 @@ ghost use Rattle.hex.specs.Hex.{encode_lower};
 ghost use Rattle.picky_der_core.specs.Encoding.{der};
 ghost use Rattle.picky_der_core.specs.Readable.{IsWritable};
 ghost use Rattle.der_tool_lib.specs.Words.{word_of};
-ghost use Rattle.der_tool_lib.specs.Value.{is_memory, ReadsTree, RefusesTree, AnswersRead};
+ghost use Rattle.der_tool_lib.specs.Value.{is_memory, ReadsTree, RefusesValue, AnswersRead};
 
 use crate::kind_word;
 use picky_asn1_der::asn1::ByteBuf;
@@ -21,6 +21,9 @@ pub enum ValueType {
     U32,
     U64,
     U128,
+    Null,
+    Char,
+    Text,
     Octets,
 }
 
@@ -32,7 +35,7 @@ trait Plain: Deserialize {
 
     fn read<R: ReadExt>(de: &mut Deserializer<R>) -> Result<Self>
         ensures ok { IfOk result (λ value. ReadsTree named de.old de.new (Self.meaning value)) }
-        ensures err { IfErr result (RefusesTree named de.old de.new) };
+        ensures err { IfErr result (RefusesValue named de.old de.new) };
 }
 
 impl Plain for bool {
@@ -95,6 +98,36 @@ impl Plain for u128 {
     }
 }
 
+impl Plain for () {
+    ghost use Rattle.der_tool_lib.specs.declared.value.ValueType.TheVariants.{Null};
+
+    ghost named = { Null };
+
+    fn read<R: ReadExt>(de: &mut Deserializer<R>) -> Result<()> {
+        de.deserialize_unit()
+    }
+}
+
+impl Plain for char {
+    ghost use Rattle.der_tool_lib.specs.declared.value.ValueType.TheVariants.{Char};
+
+    ghost named = { Char };
+
+    fn read<R: ReadExt>(de: &mut Deserializer<R>) -> Result<char> {
+        de.deserialize_char()
+    }
+}
+
+impl Plain for String {
+    ghost use Rattle.der_tool_lib.specs.declared.value.ValueType.TheVariants.{Text};
+
+    ghost named = { Text };
+
+    fn read<R: ReadExt>(de: &mut Deserializer<R>) -> Result<String> {
+        de.deserialize_string()
+    }
+}
+
 impl Plain for ByteBuf {
     ghost use Rattle.der_tool_lib.specs.declared.value.ValueType.TheVariants.{Octets};
 
@@ -118,6 +151,9 @@ pub fn answer_read(alloc: Global, named: ValueType, bytes: &[u8]) -> Result<Stri
         ValueType::U32 => answer_as::<u32>(alloc, bytes),
         ValueType::U64 => answer_as::<u64>(alloc, bytes),
         ValueType::U128 => answer_as::<u128>(alloc, bytes),
+        ValueType::Null => answer_as::<()>(alloc, bytes),
+        ValueType::Char => answer_as::<char>(alloc, bytes),
+        ValueType::Text => answer_as::<String>(alloc, bytes),
         ValueType::Octets => answer_as::<ByteBuf>(alloc, bytes),
     }
 }

@@ -4,17 +4,25 @@
 /// Reading.
 pub mod de {
     pub use picky_der_de::{
-        Boolean, Deserialize, Deserializer, End, UInt, UnsignedInteger, from_bytes,
+        Boolean, DEFAULT_MAX_LEN, Deserialize, Deserializer, End, Null, Sequence, UInt,
+        UnsignedInteger, Utf8String, from_bytes, from_reader, from_reader_with_max_len,
     };
 }
 
 /// Writing.
 pub mod ser {
     pub use picky_der_ser::{
-        Boolean, Header, Serialize, Serializer, UInt, UnsignedInteger, to_vec,
+        Boolean, Header, Null, Sequence, Serialize, Serializer, UInt, UnsignedInteger, Utf8String,
+        to_byte_buf, to_bytes, to_vec, to_writer,
     };
 }
 
+pub use picky_der_core::misc::Length;
 pub use picky_der_core::{Asn1DerError, Result, asn1, laws, misc};
-pub use picky_der_de::{Deserialize, Deserializer, from_bytes};
-pub use picky_der_ser::{Serialize, Serializer, to_vec};
+pub use picky_der_de::{
+    Deserialize, Deserializer, from_bytes, from_reader, from_reader_with_max_len,
+};
+pub use picky_der_ser::{Serialize, Serializer, to_byte_buf, to_bytes, to_vec, to_writer};
+
+#[cfg(test)]
+mod tests;

@@ -5,7 +5,7 @@ use Rattle.std.proofs.lemmas.List.{length-append}
 use Rattle.std.specs.Prelude.{Some}
 use Rattle.std.specs.Io.KnownBytes.{Appends}
 use Rattle.std.proofs.lemmas.Grind.{common_steps}
-use Rattle.picky_der_core.specs.Writer.{AppendsBeginning}
+use Rattle.picky_der_core.specs.Writer.{AppendsBeginning, AppendsTooFew}
 use Rattle.picky_der_core.specs.SliceSink.{slice_of, filled_of, written_of, faults_of, IsLater, is_within, is_full, HoldsBeginning}
 use Rattle.picky_der_core.specs.declared.misc.slice_sink.SliceSink.{SliceSink}
 
@@ -32,15 +32,16 @@ module _ (s t : SliceSink) (bs : List ℕ) (start : filled_of s ≡ 0) (later : 
       let p = parts (filled_of s) (filled_of t) b.front (slice_of s).now (slice_of s).now (slice_of t).now start b.appends within later.3 in
       record { front = b.front; rest = b.rest; is = b.is; fits = omega (arith, p.1, later.1); holds = p.2 }
 
-  -- after a fault the first of them, as many as there is room for
-  pub holds_first : AppendsBeginning (Some (written_of s)) (Some (written_of t)) bs → faults_of s < faults_of t
-      → (length (slice_of s).now ≤ length bs) × ((slice_of t).now ≡ take (length (slice_of s).now) bs)
-  holds_first b h =
+  -- after a fault the first of them, as many as there is room for, and there isn't room for all
+  pub holds_first : AppendsTooFew (Some (written_of s)) (Some (written_of t)) bs → faults_of s < faults_of t
+      → (length (slice_of s).now < length bs) × ((slice_of t).now ≡ take (length (slice_of s).now) bs)
+  holds_first few h =
+      let b = few.begins in
       let within : filled_of t ≤ length (slice_of t).now = is_within t in
       let full : filled_of t ≡ length (slice_of t).now = is_full t (omega (arith, h)) in
       let p = parts (filled_of s) (filled_of t) b.front (slice_of s).now (slice_of s).now (slice_of t).now start b.appends within later.3 in
       let count : length b.front ≡ length (slice_of s).now = p.1 ∙ full ∙ later.1 in
       let is : (slice_of t).now ≡ b.front = sym (ap (λ k. take k (slice_of t).now) full ∙ take-length (slice_of t).now) ∙ sym p.0 in (
-        omega (arith, count, ap length b.is, length-append b.front b.rest),
+        omega (arith, count, few.missing, ap length b.is, length-append b.front b.rest),
         is ∙ sym (take-append_seam b.front b.rest) ∙ ap (λ k. take k (b.front ++ b.rest)) count ∙ ap (take (length (slice_of s).now)) (sym b.is),
       )

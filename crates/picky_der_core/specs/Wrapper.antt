@@ -1,5 +1,7 @@
 -- Open wrappers around a tree.
-use Rattle.std.specs.Prelude.{ℕ, ◌+◌, ⊤, List, [], ◌∷◌}
+use Rattle.std.specs.Prelude.{ℕ, ◌+◌, ⊤, List, [], ◌∷◌, Option, None, Some}
+use Rattle.picky_der_core.specs.declared.asn1.newtype.Newtype.{Newtype}
+use Rattle.picky_der_core.specs.declared.asn1.newtype.Newtype.TheVariants as newtype
 use Rattle.picky_der_core.specs.declared.asn1.wrapper.Wrapper.{Wrapper}
 use Rattle.picky_der_core.specs.declared.asn1.wrapper.Wrapper.TheVariants.{OctetContainer, BitContainer, Explicit, Implicit}
 use Rattle.picky_der_core.specs.Tag.{IsTagNumber}
@@ -36,3 +38,21 @@ HasTagNumber OctetContainer = ⊤
 HasTagNumber BitContainer = ⊤
 HasTagNumber (Explicit n) = IsTagNumber n
 HasTagNumber (Implicit n) = IsTagNumber n
+
+-- the wrapper of a newtype, if it has one
+abbrev pub wrapper_of : Newtype → Option Wrapper
+wrapper_of newtype.Plain = None
+wrapper_of newtype.OctetContainer = Some OctetContainer
+wrapper_of newtype.BitContainer = Some BitContainer
+wrapper_of (newtype.Explicit n) = Some (Explicit n)
+wrapper_of (newtype.Implicit n) = Some (Implicit n)
+
+-- the tree, in a wrapper or as it is
+abbrev pub wrap_if : Option Wrapper → Tree → Tree
+wrap_if None t = t
+wrap_if (Some w) t = wrap w t
+
+-- its tag number, if it has one, is at most 30
+abbrev pub HasTagNumberIfAny : Option Wrapper → Type 0
+HasTagNumberIfAny None = ⊤
+HasTagNumberIfAny (Some w) = HasTagNumber w

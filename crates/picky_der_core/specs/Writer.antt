@@ -1,5 +1,5 @@
 -- What a write of whole bytes does to the bytes that a writer tells.
-use Rattle.std.proofs.Common.{◌≡◌, ℕ, ◌+◌, ◌-◌, ◌≤◌, List, [], ◌++◌, length, Option, Some, None, take, drop, drop-drop, refl, sym, ap, ◌∙◌, arith, append_assoc, append-nil, take-append-drop}
+use Rattle.std.proofs.Common.{◌≡◌, ℕ, ◌+◌, ◌-◌, ◌<◌, ◌≤◌, List, [], ◌++◌, length, Option, Some, None, take, drop, drop-drop, refl, sym, ap, subst, ◌∙◌, arith, append_assoc, append-nil, length-append, take-append-drop}
 use Rattle.std.specs.Io.KnownBytes.{Appends, Keeps}
 use Rattle.std.proofs.lemmas.List.{take_rest}
 use Rattle.std.proofs.KnownBytes.{Appends-trans, Appends-nil}
@@ -10,6 +10,11 @@ pub record AppendsBeginning (old new : Option (List ℕ)) (bs : List ℕ) : Type
   pub rest : List ℕ
   pub is : bs ≡ front ++ rest
   pub appends : Appends old new front
+
+-- a beginning of these bytes was appended, and a byte is missing
+pub record AppendsTooFew (old new : Option (List ℕ)) (bs : List ℕ) : Type 0 where
+  pub begins : AppendsBeginning old new bs
+  pub missing : 0 < length begins.rest
 
 -- of all these bytes the rest is still to be appended
 pub record AppendsSoFar (old new : Option (List ℕ)) (all rest : List ℕ) : Type 0 where
@@ -37,6 +42,23 @@ beginning_after a b c xs ys h r =
 pub beginning_front : (a b : Option (List ℕ)) (xs ys : List ℕ) → AppendsBeginning a b xs → AppendsBeginning a b (xs ++ ys)
 beginning_front a b xs ys r =
     record { front = r.front; rest = r.rest ++ ys; is = ap (λ l. l ++ ys) r.is ∙ append_assoc r.front r.rest ys; appends = r.appends }
+
+-- where a byte is missing in what came after, or in the first part, one is missing in the whole
+pub too_few_after : (a b c : Option (List ℕ)) (xs ys : List ℕ) → Appends a b xs → AppendsTooFew b c ys → AppendsTooFew a c (xs ++ ys)
+unfolding beginning_after
+too_few_after a b c xs ys h r = record { begins = beginning_after a b c xs ys h r.begins; missing = r.missing }
+
+pub too_few_front : (a b : Option (List ℕ)) (xs ys : List ℕ) → AppendsTooFew a b xs → AppendsTooFew a b (xs ++ ys)
+unfolding beginning_front
+too_few_front a b xs ys r = record { begins = beginning_front a b xs ys r.begins; missing = omega (arith, r.missing, length-append r.begins.rest ys) }
+
+-- of some bytes none was appended
+pub too_few_none : (a b : Option (List ℕ)) (all : List ℕ) → 0 < length all → Appends a b [] → AppendsTooFew a b all
+too_few_none a b all some h = record { begins = record { front = []; rest = all; is = refl; appends = h }; missing = some }
+
+-- of a rest that isn't empty none was appended
+pub too_few_so_far : (a b c : Option (List ℕ)) (all rest : List ℕ) → AppendsSoFar a b all rest → 0 < length rest → Appends b c [] → AppendsTooFew a c all
+too_few_so_far a b c all rest h some k = subst (AppendsTooFew a c) (sym h.is) (too_few_after a b c h.done rest h.appends (too_few_none b c rest some k))
 
 -- the writer took n bytes of the rest
 pub so_far-more : (n : ℕ) {a b c : Option (List ℕ)} {all rest : List ℕ} → AppendsSoFar a b all rest → Appends b c (take n rest) → AppendsSoFar a c all (take (length rest - n) (drop n rest))

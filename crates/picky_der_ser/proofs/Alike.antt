@@ -1,7 +1,6 @@
 -- What is written of trees that are written alike.
-use Rattle.std.proofs.Common.{◌≡◌, ◌<◌, ◌^◌, List, [], ◌∷◌, length, true, Option, None, Some, ap, ◌∙◌, subst, Result, Ok, Err, IfOk, IfErr, ℕ}
+use Rattle.std.proofs.Common.{◌≡◌, ◌<◌, ◌^◌, List, [], ◌∷◌, length, true, Option, None, Some, sym, ap, ◌∙◌, subst, Result, Ok, Err, IfOk, IfErr, ℕ}
 use Rattle.std.specs.Prelude.{IfNone, IsTrue}
-use Rattle.picky_der_core.specs.Writer.{AppendsBeginning}
 use Rattle.picky_der_core.specs.declared.misc.writer.WriteExt.{Ghosts}
 use Rattle.picky_der_core.specs.declared.error.Asn1DerError.{Asn1DerError}
 use Rattle.picky_der_core.specs.Tree.{Tree}
@@ -19,14 +18,18 @@ memory_excuse-alike t u e a (no_room m) = no_room m
 memory_excuse-alike t u e a (no_way m n) = no_way m (λ h. n (writable-alike u t (alike-sym t u a) h))
 
 module _ {W : Type 0} (g : Ghosts W) where
-  excuse-alike : (t u : Tree) (old new : W) (e : Asn1DerError) → AreAlike t u → Excuse g t old e new → Excuse g u old e new
-  excuse-alike t u old new e a (no_memory m) = no_memory m
-  excuse-alike t u old new e a (unwritable m n s) = unwritable m (λ h. n (writable-alike u t (alike-sym t u a) h)) s
-  excuse-alike t u old new e a (no_sink h f) = no_sink (writable-alike t u a h) f
+  excuse-alike : (t u : Tree) (rest : List ℕ) (old new : W) (e : Asn1DerError) → AreAlike t u → Excuse g t rest old e new → Excuse g u rest old e new
+  excuse-alike t u rest old new e a (no_memory m) = no_memory m
+  excuse-alike t u rest old new e a (unwritable m n s) = unwritable m (λ h. n (writable-alike u t (alike-sym t u a) h)) s
+  excuse-alike t u rest old new e a (no_sink h k f) = no_sink (writable-alike t u a h) k f
 
   refused-alike : (t u : Tree) (old new : W) (e : Asn1DerError) → AreAlike t u → Refused g t old e new → Refused g u old e new
   refused-alike t u old new e a h =
-      record { begins = subst (AppendsBeginning (g.told old) (g.told new)) (der-alike t u a) h.begins; excuse = excuse-alike t u old new e a h.excuse }
+      let b = h.begins in
+      record {
+        begins = record { front = b.front; rest = b.rest; is = sym (der-alike t u a) ∙ b.is; appends = b.appends };
+        excuse = excuse-alike t u b.rest old new e a h.excuse;
+      }
 
   refused_in-alike : (ls : List Level) (t u : Tree) (old new : W) (e : Asn1DerError) → AreAlike t u → RefusedIn g ls t old e new → RefusedIn g ls u old e new
   refused_in-alike [] t u old new e a h = refused-alike t u old new e a h
@@ -36,14 +39,14 @@ module _ {W : Type 0} (g : Ghosts W) where
   refused_first-alike None ls t u old new e a h = refused_in-alike ls t u old new e a h
   refused_first-alike (Some j) ls t u old new e a h = tt
 
-  writes-alike : (t u : Tree) (old new : State W) (r : Result ℕ Asn1DerError) → AreAlike t u → IfOk r (λ n. Writes g t old n new) → IfOk r (λ n. Writes g u old n new)
+  pub writes-alike : (t u : Tree) (old new : State W) (r : Result ℕ Asn1DerError) → AreAlike t u → IfOk r (λ n. Writes g t old n new) → IfOk r (λ n. Writes g u old n new)
   writes-alike t u old new (Ok n) a h =
       let b = alike-under old.around t u a in
       let d = der-alike _ _ b in
       record { had_not_failed = h.had_not_failed; writable = writable-alike _ _ b h.writable; count = h.count ∙ ap length d; adds = subst (Adds g old new) d h.adds; closed = h.closed; not_failed = h.not_failed; no_fault = h.no_fault }
   writes-alike t u old new (Err e) a h = tt
 
-  fails-alike : (t u : Tree) (old new : State W) (r : Result ℕ Asn1DerError) → AreAlike t u → IfErr r (λ e. Fails g t old e new) → IfErr r (λ e. Fails g u old e new)
+  pub fails-alike : (t u : Tree) (old new : State W) (r : Result ℕ Asn1DerError) → AreAlike t u → IfErr r (λ e. Fails g t old e new) → IfErr r (λ e. Fails g u old e new)
   fails-alike t u old new (Ok n) a h = tt
   fails-alike t u old new (Err e) a h =
       record { failed = h.failed; again = h.again; first = refused_first-alike old.failed _ _ _ _ _ e (alike-under old.around t u a) h.first }

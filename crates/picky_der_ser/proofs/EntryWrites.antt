@@ -1,6 +1,7 @@
--- What a vector and a slice hold that a tree was written to.
-use Rattle.std.proofs.Common.{◌≡◌, ◌<◌, ◌≤◌, ℕ, List, [], ◌++◌, length, take, drop, Some, refl, sym, ap, ◌∙◌, subst, arith, take-append-drop}
+-- What a writer, a vector and a slice hold that a tree was written to.
+use Rattle.std.proofs.Common.{◌≡◌, ◌<◌, ◌≤◌, ℕ, List, [], ◌++◌, length, take, drop, None, Some, refl, sym, ap, ◌∙◌, subst, arith, take-append-drop}
 use Rattle.std.proofs.lemmas.Grind.{common_steps}
+use Rattle.std.specs.Prelude.{IfNone}
 use Rattle.std.specs.Io.KnownBytes.{Appends}
 use Rattle.std.specs.declared.io.ErrorKind.{ErrorKind}
 use Rattle.std.specs.declared.io.ErrorKind.TheVariants as kind
@@ -13,10 +14,12 @@ use Rattle.picky_der_core.specs.declared.error.Asn1DerError.TheVariants.{Unsuppo
 use Rattle.picky_der_core.specs.Writer.{AppendsBeginning}
 use Rattle.picky_der_core.specs.Tree.{Tree}
 use Rattle.picky_der_core.specs.Encoding.{der}
+use Rattle.picky_der_core.specs.Wrapper.{under}
 use Rattle.picky_der_core.specs.Sink.{vector_of, place_of}
 use Rattle.picky_der_core.specs.SliceSink.{slice_of, filled_of, written_of, faults_of, IsLater}
 use Rattle.picky_der_core.specs.SliceSinkLaws.{holds_all, holds_beginning, holds_first}
-use Rattle.picky_der_ser.specs.Calls.{Excuse, no_memory, unwritable, no_sink, MemoryExcuse, no_room, no_way, Wrote, Refused}
+use Rattle.picky_der_ser.specs.State.{State}
+use Rattle.picky_der_ser.specs.Calls.{Excuse, no_memory, unwritable, no_sink, MemoryExcuse, no_room, no_way, Wrote, Refused, RefusedIn, Fails}
 use Rattle.picky_der_ser.specs.Entry.{Overwrites, RefusedVec, SliceExcuse, without_memory, without_form, without_room, RefusedSlice}
 
 memory_kind : kind_of kind.OutOfMemory ≡ OutOfMemory
@@ -27,6 +30,29 @@ full_kind : kind_of kind.WriteZero ≡ InvalidSink
 unfolding kind_of
 full_kind = refl
 
+-- ---- a writer, through a reference
+
+module _ {V W : Type 0} (h : Ghosts V) (g : Ghosts W) (now : V → W) (told : (v : V) → h.told v ≡ g.told (now v)) (faults : (v : V) → h.faults v ≡ g.faults (now v)) (answers : (k : ErrorKind) → h.answers k → g.answers k) where
+  excuse-through : (t : Tree) (rest : List ℕ) (old new : V) (e : Asn1DerError) → Excuse h t rest old e new → Excuse g t rest (now old) e (now new)
+  excuse-through t rest old new e (no_memory m) = no_memory m
+  excuse-through t rest old new e (unwritable m n s) = unwritable m n (ap now s)
+  excuse-through t rest old new e (no_sink w some f) =
+      no_sink w some (record { rose = omega (arith, f.rose, faults old, faults new); kind = f.kind; answered = answers f.kind f.answered; is = f.is })
+
+  refused-through : (t : Tree) (old new : V) (e : Asn1DerError) → Refused h t old e new → Refused g t (now old) e (now new)
+  refused-through t old new e r =
+      let b = r.begins in
+      let first : Appends (g.told (now old)) (h.told new) b.front = subst (λ a. Appends a (h.told new) b.front) (told old) b.appends in
+      let both : Appends (g.told (now old)) (g.told (now new)) b.front = subst (λ c. Appends (g.told (now old)) c b.front) (told new) first in
+      record { begins = record { front = b.front; rest = b.rest; is = b.is; appends = both }; excuse = excuse-through t b.rest old new e r.excuse }
+
+  -- a serializer that began with nothing open, and hadn't failed
+  pub refused-fresh : (t : Tree) (old new : State V) (e : Asn1DerError) → old.failed ≡ None → old.inside ≡ [] → old.around ≡ [] → Fails h t old e new → Refused g t (now old.sink) e (now new.sink)
+  refused-fresh t old new e f i a k =
+      let first : RefusedIn h old.inside (under old.around t) old.sink e new.sink = subst (λ o. IfNone o (RefusedIn h old.inside (under old.around t) old.sink e new.sink)) f k.first in
+      let outside : Refused h (under old.around t) old.sink e new.sink = subst (λ ls. RefusedIn h ls (under old.around t) old.sink e new.sink) i first in
+      refused-through t old.sink new.sink e (subst (λ ws. Refused h (under ws t) old.sink e new.sink) a outside)
+
 -- ---- a vector
 
 over : (j : ℕ) (front old new : List ℕ) → take j new ≡ front → j ≤ length new → drop j new ≡ drop j old → new ≡ front ++ drop (length front) old
@@ -35,15 +61,15 @@ over j front old new e h f =
     sym (take-append-drop j new) ∙ ap (λ l. l ++ drop j new) e ∙ ap (λ l. front ++ l) f ∙ ap (λ k. front ++ drop k old) (sym n)
 
 module _ (g : Ghosts BufSink) (told : (s : BufSink) → g.told s ≡ Some (take (place_of s) (vector_of s).now.items)) (only : (k : ErrorKind) → g.answers k → k ≡ kind.OutOfMemory) where
-  vec_excuse : (t : Tree) (old new : BufSink) (e : Asn1DerError) → Excuse g t old e new → MemoryExcuse t e
-  vec_excuse t old new e (no_memory m) = no_room m
-  vec_excuse t old new e (unwritable m n s) = no_way m n
-  vec_excuse t old new e (no_sink h f) = no_room (f.is ∙ ap kind_of (only f.kind f.answered) ∙ memory_kind)
+  vec_excuse : (t : Tree) (old new : BufSink) (e : Asn1DerError) (rest : List ℕ) → Excuse g t rest old e new → MemoryExcuse t e
+  vec_excuse t old new e rest (no_memory m) = no_room m
+  vec_excuse t old new e rest (unwritable m n s) = no_way m n
+  vec_excuse t old new e rest (no_sink h some f) = no_room (f.is ∙ ap kind_of (only f.kind f.answered) ∙ memory_kind)
 
-  vec_nothing : (t : Tree) (old new : BufSink) (e : Asn1DerError) (front : List ℕ) → place_of old ≡ 0 → take (place_of new) (vector_of new).now.items ≡ front → Excuse g t old e new → e ≡ UnsupportedValue → front ≡ []
-  vec_nothing t old new e front start is (no_memory m) u = cc
-  vec_nothing t old new e front start is (unwritable m n s) u = sym is ∙ ap (λ k. take k (vector_of new).now.items) (ap place_of s ∙ start)
-  vec_nothing t old new e front start is (no_sink h f) u =
+  vec_nothing : (t : Tree) (old new : BufSink) (e : Asn1DerError) (front rest : List ℕ) → place_of old ≡ 0 → take (place_of new) (vector_of new).now.items ≡ front → Excuse g t rest old e new → e ≡ UnsupportedValue → front ≡ []
+  vec_nothing t old new e front rest start is (no_memory m) u = cc
+  vec_nothing t old new e front rest start is (unwritable m n s) u = sym is ∙ ap (λ k. take k (vector_of new).now.items) (ap place_of s ∙ start)
+  vec_nothing t old new e front rest start is (no_sink h some f) u =
       let m : e ≡ OutOfMemory = f.is ∙ ap kind_of (only f.kind f.answered) ∙ memory_kind in
       cc
 
@@ -61,8 +87,8 @@ module _ (g : Ghosts BufSink) (told : (s : BufSink) → g.told s ≡ Some (take 
         front = front;
         begins = record { rest = h.begins.rest; is = h.begins.is };
         holds = over (place_of new) front (vector_of old).now.items (vector_of new).now.items is within past;
-        nothing = vec_nothing t old new e front start is h.excuse;
-        excuse = vec_excuse t old new e h.excuse;
+        nothing = vec_nothing t old new e front h.begins.rest start is h.excuse;
+        excuse = vec_excuse t old new e h.begins.rest h.excuse;
       }
 
 -- ---- a slice
@@ -80,13 +106,13 @@ module _ (g : Ghosts SliceSink) (told : (s : SliceSink) → g.told s ≡ Some (w
       let all = holds_all old new (der t) start later (told-appends old new (der t) h.appends) in
       (record { writable = h.writable; count = h.count; holds = all.1 }, all.0)
 
-  slice_excuse : (t : Tree) (old new : SliceSink) (e : Asn1DerError) → filled_of old ≡ 0 → IsLater old new → AppendsBeginning (Some (written_of old)) (Some (written_of new)) (der t)
-      → Excuse g t old e new → SliceExcuse t (slice_of old).now e (slice_of new).now
+  slice_excuse : (t : Tree) (old new : SliceSink) (e : Asn1DerError) → filled_of old ≡ 0 → IsLater old new → (b : AppendsBeginning (Some (written_of old)) (Some (written_of new)) (der t))
+      → Excuse g t b.rest old e new → SliceExcuse t (slice_of old).now e (slice_of new).now
   slice_excuse t old new e start later b (no_memory m) = without_memory m
   slice_excuse t old new e start later b (unwritable m n s) = without_form m n (ap (λ (s : SliceSink). (slice_of s).now) s)
-  slice_excuse t old new e start later b (no_sink h f) =
+  slice_excuse t old new e start later b (no_sink h some f) =
       let rose : faults_of old < faults_of new = omega (arith, f.rose, faults old, faults new) in
-      let first = holds_first old new (der t) start later b rose in
+      let first = holds_first old new (der t) start later (record { begins = b; missing = some }) rose in
       without_room (f.is ∙ ap kind_of (only f.kind f.answered) ∙ full_kind) h first.0 first.1
 
   -- it holds a beginning of the encoding, and behind it what stood there before

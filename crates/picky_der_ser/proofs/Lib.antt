@@ -6,6 +6,11 @@ pub mod HeaderLoop
 pub mod LevelMarks
 pub mod LevelWrites
 pub mod StateWrites
+pub mod WrapWrites
 pub mod Brought
 pub mod HeaderSizes
 pub mod EntryWrites
+pub mod ListBytes
+pub mod Members
+pub mod Items
+pub mod Rows

@@ -27,18 +27,18 @@ and_false : (b c : Bool) → c ≡ false → (b && c) ≡ false
 and_false true c e = e
 and_false false c e = refl
 
-past_under : (ws : List Wrapper) (t : Tree) → has_tag_numbers t ≡ false → has_tag_numbers (under ws t) ≡ false
+pub past_under : (ws : List Wrapper) (t : Tree) → has_tag_numbers t ≡ false → has_tag_numbers (under ws t) ≡ false
 past_under [] t e = e
 past_under (OctetContainer ∷ ws) t e = past_under ws t e
 past_under (BitContainer ∷ ws) t e = past_under ws t e
 past_under (Explicit n ∷ ws) t e = and_false (is_tag_number n) _ (past_under ws t e)
 past_under (Implicit n ∷ ws) t e = and_false (is_tag_number n) _ (past_under ws t e)
 
-unwritable-by : (t : Tree) → has_tag_numbers t ≡ false → ¬ IsWritable t
+pub unwritable-by : (t : Tree) → has_tag_numbers t ≡ false → ¬ IsWritable t
 unwritable-by t e h = let q : false ≡ true = sym e ∙ h.numbers in cc
 
 module _ {W : Type 0} (g : Ghosts W) where
-  refused_unwritable : (inside : List Level) (t : Tree) (sink : W) → ¬ IsWritable t → RefusedIn g inside t sink UnsupportedValue sink
+  pub refused_unwritable : (inside : List Level) (t : Tree) (sink : W) → ¬ IsWritable t → RefusedIn g inside t sink UnsupportedValue sink
   refused_unwritable [] t sink n = record { begins = beginning_none (g.told sink) (der t); excuse = unwritable refl n refl }
   refused_unwritable (l ∷ ls) t sink n = (no_way refl n, refl)
 

@@ -2,7 +2,7 @@
 use Rattle.std.proofs.Common.{arith, ◌≡◌, ◌≢◌, ◌<◌, ◌^◌, IfSome, Option, ℕ, ◌≤◌, List, [], ◌∷◌, length, None, Some, refl, sym, ap, ◌∙◌, subst, Result, Ok, Err, IfOk, OnOk, IfErr, OnErr}
 use Rattle.std.specs.Io.KnownBytes.{Appends}
 use Rattle.picky_der_core.specs.declared.asn1.wrapper.Wrapper.{Wrapper}
-use Rattle.picky_der_core.specs.Writer.{AppendsBeginning, beginning_none}
+use Rattle.picky_der_core.specs.Writer.{AppendsTooFew, beginning_none}
 use Rattle.picky_der_core.specs.WriterFaults.{Faulted}
 use Rattle.picky_der_core.specs.declared.misc.writer.WriteExt.{Ghosts}
 use Rattle.picky_der_core.specs.declared.error.Asn1DerError.{Asn1DerError}
@@ -44,7 +44,7 @@ module _ {W : Type 0} (g : Ghosts W) where
       record { had_not_failed = f; writable = w; count = count; adds = adds_inside old.inside new.inside old.sink new.sink _ some h s; closed = a; not_failed = b; no_fault = ap g.faults s }
 
   -- anywhere, for want of memory
-  refused_memory : (inside : List Level) (t : Tree) (sink : W) → RefusedIn g inside t sink OutOfMemory sink
+  pub refused_memory : (inside : List Level) (t : Tree) (sink : W) → RefusedIn g inside t sink OutOfMemory sink
   refused_memory [] t sink = record { begins = beginning_none (g.told sink) (der t); excuse = no_memory refl }
   refused_memory (l ∷ ls) t sink = (no_room refl, refl)
 
@@ -87,7 +87,7 @@ module _ {W : Type 0} (g : Ghosts W) where
   pub bare_wrote : (t : Tree) (ws : List Wrapper) (bs : List ℕ) (old new : W) (r : Result ℕ Asn1DerError) → ws ≡ [] → IsWritable t → bs ≡ der t → IfOk r (λ n. n ≡ length bs) → OnOk r (Appends (g.told old) (g.told new) bs) → IfOk r (λ n. Wrote g (under ws t) old n new)
   bare_wrote t ws bs old new r e w is count appends = subst (λ vs. IfOk r (λ n. Wrote g (under vs t) old n new)) (sym e) (wrote_by g t bs old new r w is count appends)
 
-  pub bare_refused : (t : Tree) (ws : List Wrapper) (bs : List ℕ) (old new : W) (r : Result ℕ Asn1DerError) → ws ≡ [] → IsWritable t → bs ≡ der t → OnErr r (AppendsBeginning (g.told old) (g.told new) bs) → IfErr r (λ e. Faulted g old e new) → IfErr r (λ e. Refused g (under ws t) old e new)
+  pub bare_refused : (t : Tree) (ws : List Wrapper) (bs : List ℕ) (old new : W) (r : Result ℕ Asn1DerError) → ws ≡ [] → IsWritable t → bs ≡ der t → OnErr r (AppendsTooFew (g.told old) (g.told new) bs) → IfErr r (λ e. Faulted g old e new) → IfErr r (λ e. Refused g (under ws t) old e new)
   bare_refused t ws bs old new r e w is begins fault = subst (λ vs. IfErr r (λ k. Refused g (under vs t) old k new)) (sym e) (refused_by g t bs old new r w is begins fault)
 
   pub bare_fault : (ws : List Wrapper) (old new : W) (r : Result ℕ Asn1DerError) → IfErr r (λ e. Faulted g old e new) → IfErr r (λ e. ws ≡ [] → Faulted g old e new)

@@ -1,5 +1,6 @@
 -- What the calls of a serializer do.
-use Rattle.std.specs.Prelude.{◌≡◌, ℕ, List, [], ◌∷◌, length, None, Some, IfSome, IfNone, Result, Err, IfOk, IfErr, ◌≤◌}
+use Rattle.std.specs.Prelude.{◌≡◌, ℕ, List, [], ◌∷◌, length, None, Some, IfSome, IfNone, Result, Err, IfOk, IfErr, ◌<◌, ◌≤◌}
+use Rattle.picky_der_core.specs.declared.asn1.wrapper.Wrapper.{Wrapper}
 use Rattle.std.specs.Io.KnownBytes.{Appends}
 use Rattle.picky_der_core.specs.Writer.{AppendsBeginning}
 use Rattle.picky_der_core.specs.WriterFaults.{Faulted}
@@ -9,7 +10,7 @@ use Rattle.picky_der_core.specs.declared.error.Asn1DerError.TheVariants.{Unsuppo
 use Rattle.picky_der_core.specs.Tree.{Tree}
 use Rattle.picky_der_core.specs.Encoding.{der}
 use Rattle.picky_der_core.specs.Readable.{IsWritable}
-use Rattle.picky_der_core.specs.Wrapper.{under}
+use Rattle.picky_der_core.specs.Wrapper.{under, HasTagNumber}
 use Rattle.picky_der_ser.specs.declared.header.Header.{Header}
 use Rattle.picky_der_ser.specs.Heading.{tree_of}
 use Rattle.picky_der_ser.specs.State.{State, Level, with_bytes, with_member}
@@ -28,11 +29,11 @@ module _ {W : Type 0} (g : Ghosts W) where
   abbrev pub Adds : State W → State W → List ℕ → Type 0
   Adds old new bs = AddsIn old.inside new.inside old.sink new.sink bs
 
-  -- why a serializer that hadn't failed may refuse to write a tree to its sink
-  pub data Excuse (t : Tree) (old : W) (e : Asn1DerError) (new : W) : Type 0 where
-    no_memory : e ≡ OutOfMemory → Excuse t old e new
-    unwritable : e ≡ UnsupportedValue → ¬ IsWritable t → new ≡ old → Excuse t old e new
-    no_sink : IsWritable t → Faulted g old e new → Excuse t old e new
+  -- Why a serializer that hadn't failed may refuse to write a tree to its sink. `rest` is what of the encoding wasn't written: at least a byte after a fault of the sink.
+  pub data Excuse (t : Tree) (rest : List ℕ) (old : W) (e : Asn1DerError) (new : W) : Type 0 where
+    no_memory : e ≡ OutOfMemory → Excuse t rest old e new
+    unwritable : e ≡ UnsupportedValue → ¬ IsWritable t → new ≡ old → Excuse t rest old e new
+    no_sink : IsWritable t → 0 < length rest → Faulted g old e new → Excuse t rest old e new
 
   -- the tree was written to the sink, and n is its length
   pub record Wrote (t : Tree) (old : W) (n : ℕ) (new : W) : Type 0 where
@@ -43,7 +44,7 @@ module _ {W : Type 0} (g : Ghosts W) where
   -- a beginning of the tree's encoding was written to the sink, and why no more
   pub record Refused (t : Tree) (old : W) (e : Asn1DerError) (new : W) : Type 0 where
     pub begins : AppendsBeginning (g.told old) (g.told new) (der t)
-    pub excuse : Excuse t old e new
+    pub excuse : Excuse t begins.rest old e new
 
   -- the tree wasn't written, and why: inside a level nothing reaches the sink
   abbrev pub RefusedIn : List Level → Tree → W → Asn1DerError → W → Type 0
@@ -133,3 +134,13 @@ module _ {W : Type 0} (g : Ghosts W) where
   pub record Finishes (old : State W) (r : Result ℕ Asn1DerError) (new : State W) : Type 0 where
     pub ended : IfSome old.pending (λ l. Ends l.header l.content (record old { around = l.around }) r new)
     pub again : IfSome old.failed (λ f. AnswersAgain old.sink f r new)
+
+  -- ---- wrappers
+
+  -- It stopped with this error before a wrapper was opened, and nothing was written. A tag number past 30 is told before all else.
+  pub record Declines (w : Wrapper) (old : State W) (e : Asn1DerError) (new : State W) : Type 0 where
+    pub failed : new.failed ≡ Some e
+    pub same : new.sink ≡ old.sink
+    pub again : IfSome old.failed (λ f. e ≡ f)
+    pub past : old.failed ≡ None → ¬ HasTagNumber w → e ≡ UnsupportedValue
+    pub memory : old.failed ≡ None → HasTagNumber w → e ≡ OutOfMemory

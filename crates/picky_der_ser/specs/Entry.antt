@@ -1,5 +1,5 @@
 -- What the entry calls leave.
-use Rattle.std.specs.Prelude.{◌≡◌, ℕ, ◌≤◌, List, [], ◌++◌, length, take, drop}
+use Rattle.std.specs.Prelude.{◌≡◌, ℕ, ◌<◌, List, [], ◌++◌, length, take, drop}
 use Rattle.picky_der_core.specs.declared.error.Asn1DerError.{Asn1DerError}
 use Rattle.picky_der_core.specs.declared.error.Asn1DerError.TheVariants.{UnsupportedValue, InvalidSink, OutOfMemory}
 use Rattle.picky_der_core.specs.Element.{Begins}
@@ -27,7 +27,7 @@ pub record RefusedVec (t : Tree) (old : List ℕ) (e : Asn1DerError) (new : List
 pub data SliceExcuse (t : Tree) (old : List ℕ) (e : Asn1DerError) (new : List ℕ) : Type 0 where
   without_memory : e ≡ OutOfMemory → SliceExcuse t old e new
   without_form : e ≡ UnsupportedValue → ¬ IsWritable t → new ≡ old → SliceExcuse t old e new
-  without_room : e ≡ InvalidSink → IsWritable t → length old ≤ length (der t) → new ≡ take (length old) (der t) → SliceExcuse t old e new
+  without_room : e ≡ InvalidSink → IsWritable t → length old < length (der t) → new ≡ take (length old) (der t) → SliceExcuse t old e new
 
 -- a beginning of the encoding was written over a slice, and why no more
 pub record RefusedSlice (t : Tree) (old : List ℕ) (e : Asn1DerError) (new : List ℕ) : Type 0 where

@@ -1,8 +1,12 @@
 -- What values mean that are made of others.
-use Rattle.std.specs.Prelude.{Option, None, Some}
-use Rattle.picky_der_core.specs.Tree.{Tree}
+use Rattle.std.specs.Prelude.{List, map, Option, None, Some}
+use Rattle.picky_der_core.specs.Tree.{ListKind, Tree, trees}
 
 -- a value that may be missing: nothing stands for one that is missing
 abbrev pub option_meaning : {A : Type 0} → (A → Tree) → Option A → Tree
 option_meaning meaning (Some x) = meaning x
 option_meaning meaning None = Tree.absent
+
+-- values of one type, in their order
+abbrev pub list_meaning : {A : Type 0} → ListKind → (A → Tree) → List A → Tree
+list_meaning kind meaning items = Tree.list kind (trees (map meaning items))

@@ -60,7 +60,7 @@ pub fn to_vec<T: Serialize>(alloc: Global, value: &T) -> Result<Vec<u8>>
 
 /// Appends the value's canonical encoding to what the writer has taken, and answers its length. At an error a beginning
 /// of the encoding was appended: `OutOfMemory` where memory was refused, `UnsupportedValue` where the value can't be
-/// written, and then nothing is; else the error of the writer.
+/// written, and then nothing is; else the error of the writer, and then at least one byte is missing.
 pub fn to_writer<T: Serialize, W: WriteExt>(
     alloc: Global,
     value: &T,

@@ -1,6 +1,9 @@
 //! What the built-in types mean.
 
 mod bytes;
+mod lists;
 mod numbers;
 mod options;
 mod texts;
+mod tuples;
+mod wrappers;

@@ -2,7 +2,7 @@
 ghost use Rattle.std.specs.Prelude.{◌≡◌, ◌≤◌, ◌++◌, length, IfOk, IfErr, OnOk, OnErr};
 ghost use Rattle.std.specs.Io.KnownBytes.{Appends};
 ghost use Rattle.picky_der_core.specs.Element.{tlv};
-ghost use Rattle.picky_der_core.specs.Writer.{AppendsBeginning};
+ghost use Rattle.picky_der_core.specs.Writer.{AppendsTooFew};
 ghost use Rattle.picky_der_core.specs.WriterFaults.{Faulted};
 
 use picky_der_core::asn1::Tag;
@@ -13,7 +13,7 @@ use picky_der_core::{Asn1DerError, Result};
 pub(crate) fn put_element<W: WriteExt>(sink: &mut W, tag: Tag, content: &[u8]) -> Result<usize>
     ensures count { IfOk result (λ n. n ≡ length (tlv tag content.now)) }
     ensures appends { OnOk result (Appends (W.told sink.old) (W.told sink.new) (tlv tag content.now)) }
-    ensures beginning { OnErr result (AppendsBeginning (W.told sink.old) (W.told sink.new) (tlv tag content.now)) }
+    ensures beginning { OnErr result (AppendsTooFew (W.told sink.old) (W.told sink.new) (tlv tag content.now)) }
     ensures fault { IfErr result (λ e. Faulted W.WriteExt.own sink.old e sink.new) }
     ensures counted { W.faults sink.old ≤ W.faults sink.new }
     ensures no_fault { OnOk result (W.faults sink.new ≡ W.faults sink.old) }
@@ -29,7 +29,7 @@ pub(crate) fn put_element<W: WriteExt>(sink: &mut W, tag: Tag, content: &[u8]) -
 pub(crate) fn put_headed<W: WriteExt>(sink: &mut W, headers: &[u8], content: &[u8]) -> Result<usize>
     ensures count { IfOk result (λ n. n ≡ length (headers.now ++ content.now)) }
     ensures appends { OnOk result (Appends (W.told sink.old) (W.told sink.new) (headers.now ++ content.now)) }
-    ensures beginning { OnErr result (AppendsBeginning (W.told sink.old) (W.told sink.new) (headers.now ++ content.now)) }
+    ensures beginning { OnErr result (AppendsTooFew (W.told sink.old) (W.told sink.new) (headers.now ++ content.now)) }
     ensures fault { IfErr result (λ e. Faulted W.WriteExt.own sink.old e sink.new) }
     ensures counted { W.faults sink.old ≤ W.faults sink.new }
     ensures no_fault { OnOk result (W.faults sink.new ≡ W.faults sink.old) }

@@ -3,7 +3,7 @@ ghost use Rattle.std.specs.Prelude.{◌≡◌, ◌≤◌, ℕ, [], None, Some, I
 ghost use Rattle.std.specs.Borrow.{sem, RestsIfErr};
 ghost use Rattle.picky_der_ser.specs.contracts.serializer.Serializer.{the_row};
 ghost use Rattle.picky_der_ser.specs.Calls.{Opens, Gains, Rejects, Stops, Finishes};
-ghost use Rattle.picky_der_ser.specs.Sequences.{IsListTag, serializer_of};
+ghost use Rattle.picky_der_ser.specs.Sequences.{IsListTag};
 
 use crate::{Header, Serialize, Serializer};
 use picky_der_core::Result;
@@ -14,15 +14,16 @@ use picky_der_core::misc::WriteExt;
 /// when it began are dropped.
 #[derive(Drop)]
 pub struct Sequence<'a, W: WriteExt> {
-    ser: &'a mut Serializer<W>,
+    /// The serializer that it writes through. Calls of it in place of those below give the sequence up.
+    pub ser: &'a mut Serializer<W>,
 }
 
 impl<'a, W: WriteExt> Sequence<'a, W> {
     /// Begins a sequence or set in the open wrappers, and takes these with it.
     pub fn serialize_lazy(ser: &'a mut Serializer<W>, tag: Tag) -> Sequence<'a, W>
         requires { IsListTag tag }
-        ensures same_reference { (serializer_of result).ghost_name ≡ ser.entry.ghost_name }
-        ensures opened { Opens W.WriteExt.own (Header.Tagged tag) ser.old (serializer_of result).now }
+        ensures same_reference { result.ser.ghost_name ≡ ser.entry.ghost_name }
+        ensures opened { Opens W.WriteExt.own (Header.Tagged tag) ser.old result.ser.now }
     {
         ser.open(Header::Tagged(tag));
         Sequence { ser }
@@ -30,11 +31,11 @@ impl<'a, W: WriteExt> Sequence<'a, W> {
 
     /// Adds a member, in no wrapper but its own.
     pub fn serialize_element<T: Serialize>(&mut self, value: &T) -> Result<()>
-        requires { IfNone (serializer_of self.old).now.failed (IsSome (serializer_of self.old).now.pending) }
-        ensures same_reference { (serializer_of self.new).ghost_name ≡ (serializer_of self.old).ghost_name }
-        ensures added { OnOk result (Gains W.WriteExt.own (T.meaning value.now) (serializer_of self.old).now (serializer_of self.new).now) }
-        ensures still_open { IfNone (serializer_of self.new).now.failed (IsSome (serializer_of self.new).now.pending) }
-        ensures err { IfErr result (λ e. Rejects W.WriteExt.own (T.meaning value.now) (serializer_of self.old).now e (serializer_of self.new).now) }
+        requires { IfNone self.old.ser.now.failed (IsSome self.old.ser.now.pending) }
+        ensures same_reference { self.new.ser.ghost_name ≡ self.old.ser.ghost_name }
+        ensures added { OnOk result (Gains W.WriteExt.own (T.meaning value.now) self.old.ser.now self.new.ser.now) }
+        ensures still_open { IfNone self.new.ser.now.failed (IsSome self.new.ser.now.pending) }
+        ensures err { IfErr result (λ e. Rejects W.WriteExt.own (T.meaning value.now) self.old.ser.now e self.new.ser.now) }
     {
         self.ser.enter()?;
         value.serialize(self.ser)?;
@@ -44,11 +45,11 @@ impl<'a, W: WriteExt> Sequence<'a, W> {
 
     /// Adds a member, as `serialize_element` does. The key isn't written.
     pub fn serialize_field<T: Serialize>(&mut self, key: &'static str, value: &T) -> Result<()>
-        requires { IfNone (serializer_of self.old).now.failed (IsSome (serializer_of self.old).now.pending) }
-        ensures same_reference { (serializer_of self.new).ghost_name ≡ (serializer_of self.old).ghost_name }
-        ensures added { OnOk result (Gains W.WriteExt.own (T.meaning value.now) (serializer_of self.old).now (serializer_of self.new).now) }
-        ensures still_open { IfNone (serializer_of self.new).now.failed (IsSome (serializer_of self.new).now.pending) }
-        ensures err { IfErr result (λ e. Rejects W.WriteExt.own (T.meaning value.now) (serializer_of self.old).now e (serializer_of self.new).now) }
+        requires { IfNone self.old.ser.now.failed (IsSome self.old.ser.now.pending) }
+        ensures same_reference { self.new.ser.ghost_name ≡ self.old.ser.ghost_name }
+        ensures added { OnOk result (Gains W.WriteExt.own (T.meaning value.now) self.old.ser.now self.new.ser.now) }
+        ensures still_open { IfNone self.new.ser.now.failed (IsSome self.new.ser.now.pending) }
+        ensures err { IfErr result (λ e. Rejects W.WriteExt.own (T.meaning value.now) self.old.ser.now e self.new.ser.now) }
     {
         let _ = key;
         self.serialize_element(value)
@@ -56,8 +57,8 @@ impl<'a, W: WriteExt> Sequence<'a, W> {
 
     /// Writes the members in the wrappers that were open when the sequence began.
     pub fn end(self) -> Result<usize>
-        requires { IfNone (serializer_of self).now.failed (IsSome (serializer_of self).now.pending) }
-        ensures { Finishes W.WriteExt.own (serializer_of self.entry).now result self.exit.0.now }
+        requires { IfNone self.ser.now.failed (IsSome self.ser.now.pending) }
+        ensures { Finishes W.WriteExt.own self.entry.ser.now result self.exit.0.now }
     {
         let Sequence { ser } = self;
         ser.close()
@@ -68,11 +69,10 @@ impl<W: WriteExt> Serializer<W> {
     // Begins a sequence or set in the open wrappers, unless it has failed.
     fn begin(&mut self, tag: Tag) -> Result<Sequence<'_, W>>
         requires { IsListTag tag }
-        ensures* rests { sem 𝓛 (RestsIfErr (the_row W.row W.WriteExt.own W.Write) self.entry (λ q. (serializer_of q).ghost_name) result
-            (λ new. IfErr result (λ e. Stops W.WriteExt.own self.old e new))) }
-        ensures same_reference { IfOk result (λ q. (serializer_of q).ghost_name ≡ self.entry.ghost_name) }
+        ensures* rests { sem 𝓛 (RestsIfErr (the_row W.row W.WriteExt.own W.Write) self.entry (λ q. q.ser.ghost_name) result (λ new. IfErr result (λ e. Stops W.WriteExt.own self.old e new))) }
+        ensures same_reference { IfOk result (λ q. q.ser.ghost_name ≡ self.entry.ghost_name) }
         ensures had_not_failed { OnOk result (self.old.failed ≡ None) }
-        ensures opened { IfOk result (λ q. Opens W.WriteExt.own (Header.Tagged tag) self.old (serializer_of q).now) }
+        ensures opened { IfOk result (λ q. Opens W.WriteExt.own (Header.Tagged tag) self.old q.ser.now) }
     {
         if let Some(error) = self.failure() {
             return Err(error);
@@ -80,15 +80,63 @@ impl<W: WriteExt> Serializer<W> {
         Ok(Sequence::serialize_lazy(self, tag))
     }
 
-    /// Begins a sequence. The length isn't looked at.
+    /// Begins a sequence in the open wrappers. The length isn't looked at: what is added is written.
     pub fn serialize_seq(&mut self, len: Option<usize>) -> Result<Sequence<'_, W>>
-        ensures* rests { sem 𝓛 (RestsIfErr (the_row W.row W.WriteExt.own W.Write) self.entry (λ q. (serializer_of q).ghost_name) result
-            (λ new. IfErr result (λ e. Stops W.WriteExt.own self.old e new))) }
-        ensures same_reference { IfOk result (λ q. (serializer_of q).ghost_name ≡ self.entry.ghost_name) }
+        ensures* rests { sem 𝓛 (RestsIfErr (the_row W.row W.WriteExt.own W.Write) self.entry (λ q. q.ser.ghost_name) result (λ new. IfErr result (λ e. Stops W.WriteExt.own self.old e new))) }
+        ensures same_reference { IfOk result (λ q. q.ser.ghost_name ≡ self.entry.ghost_name) }
         ensures had_not_failed { OnOk result (self.old.failed ≡ None) }
-        ensures opened { IfOk result (λ q. Opens W.WriteExt.own (Header.Tagged 0x30) self.old (serializer_of q).now) }
+        ensures opened { IfOk result (λ q. Opens W.WriteExt.own (Header.Tagged 0x30) self.old q.ser.now) }
     {
         let _ = len;
         self.begin(Tag::SEQUENCE)
+    }
+
+    /// Begins a sequence, as `serialize_seq` does.
+    pub fn serialize_tuple(&mut self, len: usize) -> Result<Sequence<'_, W>>
+        ensures* rests { sem 𝓛 (RestsIfErr (the_row W.row W.WriteExt.own W.Write) self.entry (λ q. q.ser.ghost_name) result (λ new. IfErr result (λ e. Stops W.WriteExt.own self.old e new))) }
+        ensures same_reference { IfOk result (λ q. q.ser.ghost_name ≡ self.entry.ghost_name) }
+        ensures had_not_failed { OnOk result (self.old.failed ≡ None) }
+        ensures opened { IfOk result (λ q. Opens W.WriteExt.own (Header.Tagged 0x30) self.old q.ser.now) }
+    {
+        let _ = len;
+        self.begin(Tag::SEQUENCE)
+    }
+
+    /// Begins a sequence, as `serialize_seq` does. The name isn't written.
+    pub fn serialize_tuple_struct(
+        &mut self,
+        name: &'static str,
+        len: usize,
+    ) -> Result<Sequence<'_, W>>
+        ensures* rests { sem 𝓛 (RestsIfErr (the_row W.row W.WriteExt.own W.Write) self.entry (λ q. q.ser.ghost_name) result (λ new. IfErr result (λ e. Stops W.WriteExt.own self.old e new))) }
+        ensures same_reference { IfOk result (λ q. q.ser.ghost_name ≡ self.entry.ghost_name) }
+        ensures had_not_failed { OnOk result (self.old.failed ≡ None) }
+        ensures opened { IfOk result (λ q. Opens W.WriteExt.own (Header.Tagged 0x30) self.old q.ser.now) }
+    {
+        let _ = name;
+        let _ = len;
+        self.begin(Tag::SEQUENCE)
+    }
+
+    /// Begins a sequence, as `serialize_seq` does. The name isn't written.
+    pub fn serialize_struct(&mut self, name: &'static str, len: usize) -> Result<Sequence<'_, W>>
+        ensures* rests { sem 𝓛 (RestsIfErr (the_row W.row W.WriteExt.own W.Write) self.entry (λ q. q.ser.ghost_name) result (λ new. IfErr result (λ e. Stops W.WriteExt.own self.old e new))) }
+        ensures same_reference { IfOk result (λ q. q.ser.ghost_name ≡ self.entry.ghost_name) }
+        ensures had_not_failed { OnOk result (self.old.failed ≡ None) }
+        ensures opened { IfOk result (λ q. Opens W.WriteExt.own (Header.Tagged 0x30) self.old q.ser.now) }
+    {
+        let _ = name;
+        let _ = len;
+        self.begin(Tag::SEQUENCE)
+    }
+
+    /// Begins a set in the open wrappers (X.690, 8.11 and 8.12).
+    pub fn serialize_set(&mut self) -> Result<Sequence<'_, W>>
+        ensures* rests { sem 𝓛 (RestsIfErr (the_row W.row W.WriteExt.own W.Write) self.entry (λ q. q.ser.ghost_name) result (λ new. IfErr result (λ e. Stops W.WriteExt.own self.old e new))) }
+        ensures same_reference { IfOk result (λ q. q.ser.ghost_name ≡ self.entry.ghost_name) }
+        ensures had_not_failed { OnOk result (self.old.failed ≡ None) }
+        ensures opened { IfOk result (λ q. Opens W.WriteExt.own (Header.Tagged 0x31) self.old q.ser.now) }
+    {
+        self.begin(Tag::SET)
     }
 }

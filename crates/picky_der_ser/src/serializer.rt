@@ -10,6 +10,7 @@ ghost use Rattle.picky_der_ser.specs.Calls.{Writes, Fails, WritesPlain, WritesAb
 
 mod level;
 mod plain;
+mod wrapper;
 
 use crate::levels::Levels;
 use picky_der_core::asn1::Wrapper;

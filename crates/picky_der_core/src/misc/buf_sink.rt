@@ -20,6 +20,7 @@ fn overwrite(buf: &mut Vec<u8>, at: usize, bytes: &[u8]) -> Result<(), AllocErro
     ensures ok { OnOk result (buf.new.items
         ≡ take at buf.old.items ++ bytes.now ++ drop (at + length bytes.now) buf.old.items) }
     ensures err { OnErr result (buf.new.items ≡ buf.old.items) }
+    ensures some { OnErr result (0 < length bytes.now) }
 {
     let room = buf.len() - at;
     if bytes.len() <= room {
@@ -81,6 +82,7 @@ impl<'a> BufSink<'a> {
             ≡ take self.old.at self.old.buf.now.items ++ bytes.now
             ++ drop (self.old.at + length bytes.now) self.old.buf.now.items) }
         ensures nothing { OnErr result (self.new.buf.now.items ≡ self.old.buf.now.items) }
+        ensures some { OnErr result (0 < length bytes.now) }
         ensures kind { IfErr result (λ e. error_kind e ≡ ErrorKind.OutOfMemory) }
         ensures fault { OnErr result (count_of self.old.faults < count_of self.new.faults) }
         ensures no_fault { OnOk result (count_of self.new.faults ≡ count_of self.old.faults) }

@@ -2,7 +2,7 @@
 ghost use Rattle.std.specs.Prelude.{◌≡◌, ◌≢◌, ◌+◌, ◌^◌, ◌<◌, ◌≤◌, ℕ, length, IfOk, OnOk, OnErr, IfErr, IfSome};
 ghost use Rattle.std.specs.Io.KnownBytes.{Appends, Consumes};
 ghost use Rattle.picky_der_core.specs.Element.{len as bytes_of, Begins};
-ghost use Rattle.picky_der_core.specs.Writer.{AppendsBeginning};
+ghost use Rattle.picky_der_core.specs.Writer.{AppendsTooFew};
 ghost use Rattle.picky_der_core.specs.WriterFaults.{Faulted};
 ghost use Rattle.picky_der_core.specs.Lengths.{IsReadAs, IsRefusedAs, IsOfDevice, IsLongCount, IsNoLongCount};
 ghost use Rattle.picky_der_core.specs.Error.{IsKindOfFault};
@@ -47,11 +47,12 @@ impl Length {
         Length::shortest(count, len)
     }
 
-    /// Writes a length, and answers how many bytes it took. At an error of the writer a beginning was written.
+    /// Writes a length, and answers how many bytes it took. At an error of the writer a beginning was written,
+    /// and at least one byte is missing.
     pub fn serialize<W: WriteExt>(len: usize, writer: &mut W) -> Result<usize>
         ensures count { IfOk result (λ n. n ≡ length (bytes_of len)) }
         ensures appends { OnOk result (Appends (W.told writer.old) (W.told writer.new) (bytes_of len)) }
-        ensures beginning { OnErr result (AppendsBeginning (W.told writer.old) (W.told writer.new) (bytes_of len)) }
+        ensures beginning { OnErr result (AppendsTooFew (W.told writer.old) (W.told writer.new) (bytes_of len)) }
         ensures fault { IfErr result (λ e. Faulted W.WriteExt.own writer.old e writer.new) }
         ensures counted { W.faults writer.old ≤ W.faults writer.new }
         ensures no_fault { OnOk result (W.faults writer.new ≡ W.faults writer.old) }

@@ -7,7 +7,7 @@ ghost use Rattle.std.specs.Io.KnownBytes.{Appends, Keeps, WriteAppends};
 ghost use Rattle.std.specs.Io.{WritesAtMost};
 ghost use Rattle.std.proofs.Common.{◌∙◌, refl};
 ghost use Rattle.picky_der_core.specs.Faults.{count_of};
-ghost use Rattle.picky_der_core.specs.Writer.{AppendsBeginning, at_least, at_least_trans, later_drop};
+ghost use Rattle.picky_der_core.specs.Writer.{AppendsTooFew, at_least, at_least_trans, later_drop};
 
 use super::{Faults, WriteExt};
 use std::io;
@@ -121,7 +121,7 @@ impl WriteExt for SliceSink<'_> {
     fn write_exact(&mut self, bytes: &[u8]) -> io::Result<usize>
         ensures count { IfOk result (λ n. n ≡ length bytes.now) }
         ensures appends { OnOk result (Appends (Some (written_of self.old)) (Some (written_of self.new)) bytes.now) }
-        ensures beginning { OnErr result (AppendsBeginning (Some (written_of self.old)) (Some (written_of self.new)) bytes.now) }
+        ensures beginning { OnErr result (AppendsTooFew (Some (written_of self.old)) (Some (written_of self.new)) bytes.now) }
         ensures fits { IsOk result ↔ length bytes.now ≤ room_of self.old }
         ensures fault { IfErr result (λ e. (faults_of self.old < faults_of self.new) × (error_kind e ≡ WriteZero)) }
         ensures counted { faults_of self.old ≤ faults_of self.new }

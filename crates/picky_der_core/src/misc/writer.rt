@@ -4,7 +4,7 @@ ghost use Rattle.std.specs.IoError.{error_kind};
 ghost use Rattle.std.specs.declared.io.ErrorKind.{ErrorKind};
 ghost use Rattle.std.specs.Io.KnownBytes.{Appends};
 ghost use Rattle.std.proofs.Common.{◌∙◌, refl};
-ghost use Rattle.picky_der_core.specs.Writer.{AppendsBeginning};
+ghost use Rattle.picky_der_core.specs.Writer.{AppendsTooFew};
 
 use std::io;
 use std::io::Write;
@@ -23,12 +23,13 @@ pub trait WriteExt: Write {
     // The second is the first at a later time: what it borrows and what lies past its bytes is the same.
     ghost later: { Self → Self → Type 0 };
 
-    /// Writes all of the bytes, and answers how many they are. At an error a beginning of them was written; a device
-    /// that takes nothing gives the kind `WriteZero`. No bytes make no write.
+    /// Writes all of the bytes, and answers how many they are. At an error a beginning of them was written, and at
+    /// least one is missing; a device that takes nothing gives the kind `WriteZero`. No bytes make no write, and no
+    /// error.
     fn write_exact(&mut self, bytes: &[u8]) -> io::Result<usize>
         ensures count { IfOk result (λ n. n ≡ length bytes.now) }
         ensures appends { OnOk result (Appends (told self.old) (told self.new) bytes.now) }
-        ensures beginning { OnErr result (AppendsBeginning (told self.old) (told self.new) bytes.now) }
+        ensures beginning { OnErr result (AppendsTooFew (told self.old) (told self.new) bytes.now) }
         ensures fault { IfErr result (λ e. (faults self.old < faults self.new) × answers (error_kind e)) }
         ensures counted { faults self.old ≤ faults self.new }
         ensures no_fault { OnOk result (faults self.new ≡ faults self.old) }
@@ -38,7 +39,7 @@ pub trait WriteExt: Write {
     fn write_one(&mut self, byte: u8) -> io::Result<usize>
         ensures count { IfOk result (λ n. n ≡ 1) }
         ensures appends { OnOk result (Appends (told self.old) (told self.new) (byte ∷ [])) }
-        ensures beginning { OnErr result (AppendsBeginning (told self.old) (told self.new) (byte ∷ [])) }
+        ensures beginning { OnErr result (AppendsTooFew (told self.old) (told self.new) (byte ∷ [])) }
         ensures fault { IfErr result (λ e. (faults self.old < faults self.new) × answers (error_kind e)) }
         ensures counted { faults self.old ≤ faults self.new }
         ensures no_fault { OnOk result (faults self.new ≡ faults self.old) }

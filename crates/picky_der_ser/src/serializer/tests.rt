@@ -1,5 +1,7 @@
 use super::*;
 use crate::refuses_once::{RefusesOnce, refuses_once};
+use crate::{Boolean, Null, UnsignedInteger, Utf8String};
+use picky_der_core::asn1::Tag;
 use picky_der_core::misc::Watched;
 use std::io::ErrorKind;
 use std::test::Fail;

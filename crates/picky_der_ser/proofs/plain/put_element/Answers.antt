@@ -2,7 +2,7 @@ use Rattle.std.proofs.Common.{[], ◌∷◌, ◌++◌, length, Result, Ok, Err, 
 use Rattle.std.proofs.KnownBytes.{Appends-trans}
 use Rattle.picky_der_core.specs.Element.{len, tlv}
 use Rattle.picky_der_core.specs.ElementLaws.{length-len}
-use Rattle.picky_der_core.specs.Writer.{beginning_after, beginning_front}
+use Rattle.picky_der_core.specs.Writer.{too_few_after, too_few_front}
 use Rattle.picky_der_ser.proofs.plain.put_element.Goals as goal
 
 on_err : {T E P : Type 0} (r : Result T E) → P → OnErr r P
@@ -13,19 +13,19 @@ pub returns-in_err-identifier-clause-beginning : goal.returns-in_err-identifier-
 unfolding tlv
 returns-in_err-identifier-clause-beginning g c =
     let content = c.args.content.now in
-    rw (← c.inner.ensures) (on_err _ (beginning_front _ _ (c.inner.result ∷ []) (len (length content) ++ content) c.in_err-identifier.ensures.beginning))
+    rw (← c.inner.ensures) (on_err _ (too_few_front _ _ (c.inner.result ∷ []) (len (length content) ++ content) c.in_err-identifier.ensures.beginning))
 
 pub returns-in_err-length-clause-beginning : goal.returns-in_err-length-clause-beginning
 unfolding tlv
 returns-in_err-length-clause-beginning g c =
     let content = c.args.content.now in
-    rw (← c.inner.ensures) (on_err _ (beginning_after _ _ _ (c.inner.result ∷ []) (len (length content) ++ content) c.in_ok-identifier.ensures.appends (beginning_front _ _ (len (length content)) content c.in_err-length.ensures.beginning)))
+    rw (← c.inner.ensures) (on_err _ (too_few_after _ _ _ (c.inner.result ∷ []) (len (length content) ++ content) c.in_ok-identifier.ensures.appends (too_few_front _ _ (len (length content)) content c.in_err-length.ensures.beginning)))
 
 pub returns-in_err-rest-clause-beginning : goal.returns-in_err-rest-clause-beginning
 unfolding tlv
 returns-in_err-rest-clause-beginning g c =
     let content = c.args.content.now in
-    rw (← c.inner.ensures) (on_err _ (beginning_after _ _ _ (c.inner.result ∷ []) (len (length content) ++ content) c.in_ok-identifier.ensures.appends (beginning_after _ _ _ (len (length content)) content c.in_ok-length.ensures.appends c.in_err-rest.ensures.beginning)))
+    rw (← c.inner.ensures) (on_err _ (too_few_after _ _ _ (c.inner.result ∷ []) (len (length content) ++ content) c.in_ok-identifier.ensures.appends (too_few_after _ _ _ (len (length content)) content c.in_ok-length.ensures.appends c.in_err-rest.ensures.beginning)))
 
 pub overflow_add-result : goal.overflow_add-result
 overflow_add-result g c =

@@ -5,4 +5,7 @@ use Rattle.picky_der_core.proofs.misc.slice_sink.SliceSinkWriteExt.write_exact.G
 pub returns-then-count-bytes-clause-beginning : goal.returns-then-count-bytes-clause-beginning
 returns-then-count-bytes-clause-beginning c =
     let n = c.fill-count.result in
-    record { front = take n c.args.bytes.now; rest = drop n c.args.bytes.now; is = sym (take-append-drop n c.args.bytes.now); appends = grind (arith, common_steps) }
+    record {
+      begins = record { front = take n c.args.bytes.now; rest = drop n c.args.bytes.now; is = sym (take-append-drop n c.args.bytes.now); appends = grind (arith, common_steps) };
+      missing = grind (arith, common_steps);
+    }

@@ -1,9 +1,0 @@
-use Rattle.std.proofs.lemmas.Result.{err_from_is_err_and}
-use Rattle.der_tool_lib.proofs.ValueReads.{bytes_trees}
-use Rattle.der_tool_lib.proofs.value.ByteBufPlain.read.Goals as goal
-
-pub returns-in_err-deserialize_byte_buf-clause-err :
-    goal.returns-in_err-deserialize_byte_buf-clause-err
-returns-in_err-deserialize_byte_buf-clause-err g c =
-    let p = err_from_is_err_and c.from_residual.result c.from_residual.ensures.1 in
-    rw (p.1, p.2) (bytes_trees _ c.in_err-deserialize_byte_buf.ensures.err)

@@ -1,0 +1,54 @@
+//! Strings that hold an encoding (X.690, 8.6 and 8.7).
+ghost use Rattle.std.specs.Prelude.{◌≡◌, IfOk, IfErr};
+
+use crate::{Asn1DerError, Result};
+
+/// An octet string that holds the encoding of a value.
+#[derive(Debug, Drop, PartialEq, Eq)]
+pub struct OctetStringAsn1Container<T>(pub T);
+
+impl<T: Clone> OctetStringAsn1Container<T> {
+    /// A copy. `OutOfMemory` where memory is refused.
+    pub fn clone(&self) -> Result<OctetStringAsn1Container<T>>
+        ensures same { IfOk result (λ copy. T.is_clone self.now.0 copy.0) }
+        ensures memory { IfErr result (λ e. e ≡ Asn1DerError.OutOfMemory) }
+    {
+        match self.0.clone() {
+            Ok(value) => Ok(OctetStringAsn1Container(value)),
+            Err(_) => Err(Asn1DerError::OutOfMemory),
+        }
+    }
+}
+
+impl<T> From<T> for OctetStringAsn1Container<T> {
+    ghost from_gives = { λ value wrapped. wrapped.0 ≡ value };
+
+    fn from(value: T) -> OctetStringAsn1Container<T> {
+        OctetStringAsn1Container(value)
+    }
+}
+
+/// A bit string that holds the encoding of a value, behind a byte 00: no bits are unused (8.6.2).
+#[derive(Debug, Drop, PartialEq, Eq)]
+pub struct BitStringAsn1Container<T>(pub T);
+
+impl<T: Clone> BitStringAsn1Container<T> {
+    /// A copy. `OutOfMemory` where memory is refused.
+    pub fn clone(&self) -> Result<BitStringAsn1Container<T>>
+        ensures same { IfOk result (λ copy. T.is_clone self.now.0 copy.0) }
+        ensures memory { IfErr result (λ e. e ≡ Asn1DerError.OutOfMemory) }
+    {
+        match self.0.clone() {
+            Ok(value) => Ok(BitStringAsn1Container(value)),
+            Err(_) => Err(Asn1DerError::OutOfMemory),
+        }
+    }
+}
+
+impl<T> From<T> for BitStringAsn1Container<T> {
+    ghost from_gives = { λ value wrapped. wrapped.0 ≡ value };
+
+    fn from(value: T) -> BitStringAsn1Container<T> {
+        BitStringAsn1Container(value)
+    }
+}

@@ -1,0 +1,39 @@
+//! How a value is wrapped that is another in a wrapper.
+ghost use Rattle.std.specs.Prelude.{◌≡◌};
+ghost use Rattle.picky_der_core.specs.Wrapper.{wrapper_of};
+
+use super::Wrapper;
+
+/// What stands around the one value of a newtype.
+#[derive(Debug, Clone, Copy, PartialEq, Eq)]
+pub enum Newtype {
+    /// Nothing.
+    Plain,
+
+    /// An octet string that holds the encoding.
+    OctetContainer,
+
+    /// A bit string that holds the encoding.
+    BitContainer,
+
+    /// The explicit context tag with this number.
+    Explicit(u8),
+
+    /// The implicit context tag with this number.
+    Implicit(u8),
+}
+
+impl Newtype {
+    /// The wrapper, and `None` for `Plain`.
+    pub fn wrapper(self) -> Option<Wrapper>
+        ensures { result ≡ wrapper_of self }
+    {
+        match self {
+            Newtype::Plain => None,
+            Newtype::OctetContainer => Some(Wrapper::OctetContainer),
+            Newtype::BitContainer => Some(Wrapper::BitContainer),
+            Newtype::Explicit(number) => Some(Wrapper::Explicit(number)),
+            Newtype::Implicit(number) => Some(Wrapper::Implicit(number)),
+        }
+    }
+}

@@ -1,0 +1,120 @@
+-- A list that is being written: the members that it has, and those that it still awaits.
+use Rattle.std.proofs.Common.{◌≡◌, ℕ, List, [], ◌∷◌, ◌++◌, map, Option, None, Some, refl, sym, ap, ◌∙◌, subst, inl, inr, Result, Ok, Err, IfOk, IfErr}
+use Rattle.std.specs.Prelude.{IfSome, IfNone, IsTrue}
+use Rattle.picky_der_core.specs.declared.misc.writer.WriteExt.{Ghosts}
+use Rattle.picky_der_core.specs.declared.error.Asn1DerError.{Asn1DerError}
+use Rattle.picky_der_core.specs.declared.error.Asn1DerError.TheVariants.{OutOfMemory}
+use Rattle.picky_der_core.specs.Tree.{ListKind, Tree, Trees, trees}
+use Rattle.picky_der_core.specs.Encoding.{list_content, list_tag, der}
+use Rattle.picky_der_core.specs.Readable.{have_tag_numbers, IsWritable}
+use Rattle.picky_der_core.specs.Wrapper.{under}
+use Rattle.picky_der_core.specs.WrapperLaws.{AreAlike}
+use Rattle.picky_der_ser.specs.declared.header.Header.TheVariants.{Tagged}
+use Rattle.picky_der_ser.specs.State.{State, Level, with_member}
+use Rattle.picky_der_ser.specs.Sequences.{IsListTag, kind_of}
+use Rattle.picky_der_ser.specs.Calls.{MemoryExcuse, no_room, no_way, RefusedIn, Writes, Fails, Stops, Opens, Gains, Rejects, Ends, Finishes}
+use Rattle.picky_der_ser.proofs.Alike.{writes-alike, fails-alike}
+use Rattle.picky_der_ser.proofs.PlainWrites.{refused_unwritable}
+use Rattle.picky_der_ser.proofs.StateWrites.{refused_memory}
+use Rattle.picky_der_ser.proofs.ListBytes.{before, before_none, before_next, numbers_next, content_next, alike_list, member_writable}
+
+module _ {W : Type 0} where
+  -- the list, opened on this serializer, with these members
+  abbrev pub level_with : ListKind → List Tree → State W → Level
+  level_with kind ts old = record { header = Tagged (list_tag kind); around = old.around; content = list_content kind (map der ts) }
+
+  abbrev pub with_members : ListKind → List Tree → State W → State W
+  with_members kind ts old = record { sink = old.sink; around = []; failed = old.failed; inside = old.inside; pending = Some (level_with kind ts old) }
+
+  -- it was opened on `old`, will have all these members, and has all but the rest
+  pub record Awaits (kind : ListKind) (rest all : Trees) (old now : State W) : Type 0 where
+    pub done : List Tree
+    pub split : all ≡ before done rest
+    pub numbers : IsTrue (have_tag_numbers (trees done))
+    pub is : now ≡ with_members kind done old
+
+module _ {W : Type 0} (g : Ghosts W) where
+  pub list_opened : (kind : ListKind) (all : Trees) (old now : State W) → Opens g (Tagged (list_tag kind)) old now → Awaits kind all all old now
+  list_opened ListKind.sequence all old now h = record { done = []; split = refl; numbers = refl; is = h.opened }
+  list_opened ListKind.set all old now h = record { done = []; split = refl; numbers = refl; is = h.opened }
+
+  pub list_opened_by : (tag : ℕ) (all : Trees) (old now : State W) → IsListTag tag → Opens g (Tagged tag) old now → Awaits (kind_of tag) all all old now
+  list_opened_by tag all old now (inl e) h = rw e (list_opened ListKind.sequence all old now (subst (λ t. Opens g (Tagged t) old now) e h))
+  list_opened_by tag all old now (inr e) h = rw e (list_opened ListKind.set all old now (subst (λ t. Opens g (Tagged t) old now) e h))
+
+  pub list_gained : (kind : ListKind) (rest all : Trees) (t : Tree) (old now new : State W) → Gains g t now new → Awaits kind (Trees.more t rest) all old now → Awaits kind rest all old new
+  list_gained kind rest all t old now new h a =
+      let l = level_with kind a.done old in
+      let pending : now.pending ≡ Some l = ap (λ (s : State W). s.pending) a.is in
+      let step : new ≡ record { sink = now.sink; around = []; failed = None; inside = now.inside; pending = Some (with_member l (der t)) } =
+      subst (λ o. IfSome o (λ m. new ≡ record { sink = now.sink; around = []; failed = None; inside = now.inside; pending = Some (with_member m (der t)) })) pending h.added in
+      let sink : now.sink ≡ old.sink = ap (λ (s : State W). s.sink) a.is in
+      let failed : None ≡ old.failed = sym h.had_not_failed ∙ ap (λ (s : State W). s.failed) a.is in
+      let inside : now.inside ≡ old.inside = ap (λ (s : State W). s.inside) a.is in
+      let next = content_next kind a.done t in
+      record { done = a.done ++ (t ∷ []); split = a.split ∙ before_next a.done t rest; numbers = numbers_next a.done t a.numbers h.writable.numbers; is = cc }
+
+  -- ---- errors
+
+  excused : (ls : List Level) (t u : Tree) (sink : W) (e : Asn1DerError) → MemoryExcuse t e → (IsWritable u → IsWritable t) → RefusedIn g ls u sink e sink
+  excused ls t u sink e (no_room m) part = rw m (refused_memory g ls u sink)
+  excused ls t u sink e (no_way m n) part = rw m (refused_unwritable g ls u sink (λ w. n (part w)))
+
+  -- nothing was written, for want of memory or a part that can't be written
+  refused_part : (t u : Tree) (old new : State W) (e : Asn1DerError) → (IsWritable (under old.around u) → IsWritable t) → new.failed ≡ Some e → new.sink ≡ old.sink
+      → IfSome old.failed (λ f. e ≡ f) → IfNone old.failed (MemoryExcuse t e) → Fails g u old e new
+  refused_part t u old new e part failed same again first = record { failed = failed; again = earlier old.failed again; first = own old.failed first }
+    where
+      earlier : (o : Option Asn1DerError) → IfSome o (λ f. e ≡ f) → IfSome o (λ f. (e ≡ f) × (new.sink ≡ old.sink))
+      earlier None h = tt
+      earlier (Some f) h = (h, same)
+
+      own : (o : Option Asn1DerError) → IfNone o (MemoryExcuse t e) → IfNone o (RefusedIn g old.inside (under old.around u) old.sink e new.sink)
+      own None h = rw same (excused old.inside t (under old.around u) old.sink e h part)
+      own (Some f) h = tt
+
+  only_memory : (o : Option Asn1DerError) (t : Tree) (e : Asn1DerError) → IfNone o (e ≡ OutOfMemory) → IfNone o (MemoryExcuse t e)
+  only_memory None t e h = no_room h
+  only_memory (Some f) t e h = tt
+
+  -- it stopped before the list was opened
+  pub list_stopped : (t : Tree) (old new : State W) (d e : Asn1DerError) → Stops g old e new → d ≡ e → Fails g t old d new
+  list_stopped t old new d e h i = rw i (refused_part (under old.around t) t old new e (λ w. w) h.failed h.same h.again (only_memory old.failed (under old.around t) e h.first))
+
+  -- a member was refused, so the list is
+  pub list_refused : (kind : ListKind) (rest all : Trees) (t : Tree) (old now new : State W) (d e : Asn1DerError) → Rejects g t now e new → d ≡ e → Awaits kind (Trees.more t rest) all old now → Fails g (Tree.list kind all) old d new
+  list_refused kind rest all t old now new d e h i a =
+      let sink : new.sink ≡ old.sink = h.same ∙ ap (λ (s : State W). s.sink) a.is in
+      let failed : now.failed ≡ old.failed = ap (λ (s : State W). s.failed) a.is in
+      let part : IsWritable (under old.around (Tree.list kind all)) → IsWritable t = λ w. member_writable old.around kind a.done t rest (subst (λ us. IsWritable (under old.around (Tree.list kind us))) a.split w) in
+      rw i (refused_part t (Tree.list kind all) old new e part h.failed sink (subst (λ o. IfSome o (λ f. e ≡ f)) failed h.again) (subst (λ o. IfNone o (MemoryExcuse t e)) failed h.first))
+
+  -- ---- the end
+
+  -- what the call answers doesn't depend on the level that was opened last
+  writes_whatever : (t : Tree) (old new : State W) (p : Option Level) (r : Result ℕ Asn1DerError) → IfOk r (λ n. Writes g t (record old { pending = p }) n new) → IfOk r (λ n. Writes g t old n new)
+  writes_whatever t old new p (Ok n) h = record { had_not_failed = h.had_not_failed; writable = h.writable; count = h.count; adds = h.adds; closed = h.closed; not_failed = h.not_failed; no_fault = h.no_fault }
+  writes_whatever t old new p (Err e) h = tt
+
+  fails_whatever : (t : Tree) (old new : State W) (p : Option Level) (r : Result ℕ Asn1DerError) → IfErr r (λ e. Fails g t (record old { pending = p }) e new) → IfErr r (λ e. Fails g t old e new)
+  fails_whatever t old new p (Ok n) h = tt
+  fails_whatever t old new p (Err e) h = record { failed = h.failed; again = h.again; first = h.first }
+
+  ended : (kind : ListKind) (all : Trees) (old now new : State W) (r : Result ℕ Asn1DerError) → Finishes g now r new → (a : Awaits kind Trees.none all old now)
+      → Ends g (Tagged (list_tag kind)) (list_content kind (map der a.done)) (record old { pending = Some (level_with kind a.done old) }) r new
+  ended kind all old now new r h a =
+      subst (λ s. IfSome s.pending (λ l. Ends g l.header l.content (record s { around = l.around }) r new)) a.is h.ended
+
+  same_list : (kind : ListKind) (all : Trees) (old now : State W) (a : Awaits kind Trees.none all old now) → AreAlike (Tree.bytes (list_tag kind) (list_content kind (map der a.done))) (Tree.list kind all)
+  same_list kind all old now a =
+      subst (λ us. AreAlike (Tree.bytes (list_tag kind) (list_content kind (map der a.done))) (Tree.list kind us)) (sym (a.split ∙ before_none a.done)) (alike_list kind a.done a.numbers)
+
+  pub list_wrote : (kind : ListKind) (all : Trees) (old now new : State W) (r : Result ℕ Asn1DerError) (n : ℕ) → Finishes g now r new → r ≡ Ok n → Awaits kind Trees.none all old now → Writes g (Tree.list kind all) old n new
+  list_wrote kind all old now new r n h e a =
+      let whole = writes-alike g _ _ old new r (same_list kind all old now a) (writes_whatever _ old new _ r (ended kind all old now new r h a).wrote) in
+      subst (λ v. IfOk v (λ m. Writes g (Tree.list kind all) old m new)) e whole
+
+  pub list_failed : (kind : ListKind) (all : Trees) (old now new : State W) (r : Result ℕ Asn1DerError) (e : Asn1DerError) → Finishes g now r new → r ≡ Err e → Awaits kind Trees.none all old now → Fails g (Tree.list kind all) old e new
+  list_failed kind all old now new r e h i a =
+      let whole = fails-alike g _ _ old new r (same_list kind all old now a) (fails_whatever _ old new _ r (ended kind all old now new r h a).failed) in
+      subst (λ v. IfErr v (λ m. Fails g (Tree.list kind all) old m new)) i whole

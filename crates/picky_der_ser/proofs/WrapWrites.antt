@@ -1,0 +1,88 @@
+-- What is written in one wrapper more.
+use Rattle.std.proofs.Common.{◌≡◌, ℕ, false, List, [], ◌∷◌, ◌++◌, length, Option, None, Some, refl, sym, ap, ◌∙◌, subst, Result, Ok, Err, IfOk, IfErr, arith}
+use Rattle.std.specs.Prelude.{IfSome, IfNone, ◌⊎◌}
+use Rattle.std.proofs.Common.{inl, inr}
+use Rattle.std.proofs.lemmas.Bool.Decides.{leb_tells}
+use Rattle.picky_der_core.specs.declared.asn1.wrapper.Wrapper.{Wrapper}
+use Rattle.picky_der_core.specs.declared.asn1.wrapper.Wrapper.TheVariants.{OctetContainer, BitContainer, Explicit, Implicit}
+use Rattle.picky_der_core.specs.Tag.{IsTagNumber}
+use Rattle.picky_der_core.specs.declared.misc.writer.WriteExt.{Ghosts}
+use Rattle.picky_der_core.specs.declared.error.Asn1DerError.{Asn1DerError}
+use Rattle.picky_der_core.specs.Tree.{Tree}
+use Rattle.picky_der_core.specs.Encoding.{der}
+use Rattle.picky_der_core.specs.Readable.{has_tag_numbers, IsWritable}
+use Rattle.picky_der_core.specs.Wrapper.{wrap, under, HasTagNumber}
+use Rattle.picky_der_core.specs.WrapperLaws.{under-push}
+use Rattle.picky_der_ser.specs.Headers.{HaveTagNumbers}
+use Rattle.picky_der_ser.specs.State.{State}
+use Rattle.picky_der_ser.specs.Calls.{AddsIn, RefusedIn, Writes, Fails, Declines}
+use Rattle.picky_der_ser.proofs.PlainWrites.{past_under, unwritable-by, refused_unwritable}
+use Rattle.picky_der_ser.proofs.StateWrites.{refused_memory}
+
+pub numbers-push : (ws : List Wrapper) (w : Wrapper) → HaveTagNumbers ws → HasTagNumber w → HaveTagNumbers (ws ++ (w ∷ []))
+numbers-push [] w h k = (k, tt)
+numbers-push (v ∷ ws) w h k = (h.0, numbers-push ws w h.1 k)
+
+-- whether its tag number is at most 30
+told : (w : Wrapper) (t : Tree) → (HasTagNumber w → ⊥) → has_tag_numbers (wrap w t) ≡ false
+told OctetContainer t h = absurd (h tt)
+told BitContainer t h = absurd (h tt)
+told (Explicit n) t h = elim (leb_tells n 30) [
+  | inl few ↦ absurd (h few.1)
+  | inr past ↦ rw past.0 refl
+]
+told (Implicit n) t h = elim (leb_tells n 30) [
+  | inl few ↦ absurd (h few.1)
+  | inr past ↦ rw past.0 refl
+]
+
+either_way : (n : ℕ) → IsTagNumber n ⊎ (IsTagNumber n → ⊥)
+either_way n = elim (leb_tells n 30) [
+  | inl few ↦ inl few.1
+  | inr past ↦ inr (λ h. absurd (omega (arith, past.1)))
+]
+
+has_or_not : (w : Wrapper) → HasTagNumber w ⊎ (HasTagNumber w → ⊥)
+has_or_not OctetContainer = inl tt
+has_or_not BitContainer = inl tt
+has_or_not (Explicit n) = either_way n
+has_or_not (Implicit n) = either_way n
+
+module _ {W : Type 0} (g : Ghosts W) where
+  pub writes-wrapped : (w : Wrapper) (t : Tree) (old new : State W) (r : Result ℕ Asn1DerError) → IfOk r (λ n. Writes g t (record old { around = old.around ++ (w ∷ []) }) n new) → IfOk r (λ n. Writes g (wrap w t) old n new)
+  writes-wrapped w t old new (Ok n) h =
+      let u = under-push old.around w t in
+      record {
+        had_not_failed = h.had_not_failed;
+        writable = subst IsWritable u h.writable;
+        count = h.count ∙ ap (λ v. length (der v)) u;
+        adds = subst (λ v. AddsIn g old.inside new.inside old.sink new.sink (der v)) u h.adds;
+        closed = h.closed;
+        not_failed = h.not_failed;
+        no_fault = h.no_fault;
+      }
+  writes-wrapped w t old new (Err e) h = tt
+
+  pub fails-wrapped : (w : Wrapper) (t : Tree) (old new : State W) (r : Result ℕ Asn1DerError) → IfErr r (λ e. Fails g t (record old { around = old.around ++ (w ∷ []) }) e new) → IfErr r (λ e. Fails g (wrap w t) old e new)
+  fails-wrapped w t old new (Ok n) h = tt
+  fails-wrapped w t old new (Err e) h =
+      let u = under-push old.around w t in
+      record { failed = h.failed; again = h.again; first = subst (λ v. IfNone old.failed (RefusedIn g old.inside v old.sink e new.sink)) u h.first }
+
+  -- no wrapper was opened
+  pub fails-declined : (w : Wrapper) (t : Tree) (old new : State W) (e : Asn1DerError) → Declines g w old e new → Fails g (wrap w t) old e new
+  fails-declined w t old new e h = record { failed = h.failed; again = again old.failed h.again; first = first old.failed refl }
+    where
+      u : Tree
+      u = under old.around (wrap w t)
+
+      again : (f : Option Asn1DerError) → IfSome f (λ k. e ≡ k) → IfSome f (λ k. (e ≡ k) × (new.sink ≡ old.sink))
+      again None k = tt
+      again (Some x) k = (k, h.same)
+
+      first : (f : Option Asn1DerError) → f ≡ old.failed → IfNone f (RefusedIn g old.inside u old.sink e new.sink)
+      first (Some x) q = tt
+      first None q = elim (has_or_not w) [
+        | inl few ↦ rw (h.memory (sym q) few, h.same) (refused_memory g old.inside u old.sink)
+        | inr past ↦ rw (h.past (sym q) past, h.same) (refused_unwritable g old.inside u old.sink (unwritable-by u (past_under old.around (wrap w t) (told w t past))))
+      ]

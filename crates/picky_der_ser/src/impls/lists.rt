@@ -1,0 +1,70 @@
+//! What lists of values of one type mean.
+ghost use Rattle.std.specs.Prelude.{◌≤◌, IfOk, IfErr};
+ghost use Rattle.picky_der_core.specs.Tree.{ListKind};
+ghost use Rattle.picky_der_ser.specs.Calls.{Writes, Fails};
+ghost use Rattle.picky_der_ser.specs.Meaning.{list_meaning};
+ghost use Rattle.picky_der_ser.specs.Sequences.{IsListTag, kind_of};
+
+use crate::{Sequence, Serialize, Serializer};
+use picky_der_core::Result;
+use picky_der_core::asn1::{Asn1SequenceOf, Asn1SetOf, Tag};
+use picky_der_core::misc::WriteExt;
+
+// Writes the items as members of a list with this tag.
+fn serialize_items<T: Serialize, W: WriteExt>(
+    items: &[T],
+    tag: Tag,
+    ser: &mut Serializer<W>,
+) -> Result<usize>
+    requires { IsListTag tag }
+    ensures wrote { IfOk result (λ n. Writes W.WriteExt.own (list_meaning (kind_of tag) T.meaning items.now) ser.old n ser.new) }
+    ensures failed { IfErr result (λ e. Fails W.WriteExt.own (list_meaning (kind_of tag) T.meaning items.now) ser.old e ser.new) }
+    ensures counted { W.faults ser.old.sink ≤ W.faults ser.new.sink }
+    ensures goes_on { W.later ser.old.sink ser.new.sink }
+{
+    let mut seq = Sequence::serialize_lazy(ser, tag);
+    for item in items {
+        seq.serialize_element(item)?;
+    }
+    seq.end()
+}
+
+impl<T: Serialize> Serialize for &[T] {
+    ghost meaning = { λ list. list_meaning ListKind.sequence T.meaning list.now };
+
+    fn serialize<W: WriteExt>(&self, ser: &mut Serializer<W>) -> Result<usize> {
+        serialize_items(self, Tag::SEQUENCE, ser)
+    }
+}
+
+impl<T: Serialize> Serialize for Vec<T> {
+    ghost meaning = { λ list. list_meaning ListKind.sequence T.meaning list.items };
+
+    fn serialize<W: WriteExt>(&self, ser: &mut Serializer<W>) -> Result<usize> {
+        serialize_items(self, Tag::SEQUENCE, ser)
+    }
+}
+
+impl<T: Serialize, const N: usize> Serialize for [T; N] {
+    ghost meaning = { λ list. list_meaning ListKind.sequence T.meaning list };
+
+    fn serialize<W: WriteExt>(&self, ser: &mut Serializer<W>) -> Result<usize> {
+        serialize_items(self.as_slice(), Tag::SEQUENCE, ser)
+    }
+}
+
+impl<T: Serialize> Serialize for Asn1SequenceOf<T> {
+    ghost meaning = { λ list. list_meaning ListKind.sequence T.meaning list.0.items };
+
+    fn serialize<W: WriteExt>(&self, ser: &mut Serializer<W>) -> Result<usize> {
+        serialize_items(&self.0, Tag::SEQUENCE, ser)
+    }
+}
+
+impl<T: Serialize> Serialize for Asn1SetOf<T> {
+    ghost meaning = { λ list. list_meaning ListKind.set T.meaning list.0.items };
+
+    fn serialize<W: WriteExt>(&self, ser: &mut Serializer<W>) -> Result<usize> {
+        serialize_items(&self.0, Tag::SET, ser)
+    }
+}

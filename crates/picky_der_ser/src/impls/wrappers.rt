@@ -1,0 +1,45 @@
+//! Containers and context tags, as they are written.
+ghost use Rattle.picky_der_core.specs.Tree.{Tree};
+
+use crate::{Serialize, Serializer};
+use picky_der_core::Result;
+use picky_der_core::asn1::{
+    BitStringAsn1Container, ExplicitContextTag, ImplicitContextTag, Newtype,
+    OctetStringAsn1Container,
+};
+use picky_der_core::misc::WriteExt;
+
+impl<T: Serialize> Serialize for OctetStringAsn1Container<T> {
+    ghost meaning = { λ x. Tree.octet_container (T.meaning x.0) };
+
+    fn serialize<W: WriteExt>(&self, ser: &mut Serializer<W>) -> Result<usize> {
+        ser.serialize_newtype_struct(Newtype::OctetContainer, &self.0)
+    }
+}
+
+impl<T: Serialize> Serialize for BitStringAsn1Container<T> {
+    ghost meaning = { λ x. Tree.bit_container (T.meaning x.0) };
+
+    fn serialize<W: WriteExt>(&self, ser: &mut Serializer<W>) -> Result<usize> {
+        ser.serialize_newtype_struct(Newtype::BitContainer, &self.0)
+    }
+}
+
+impl<T: Serialize, const N: u8> Serialize for ExplicitContextTag<T, N> {
+    ghost meaning = { λ x. Tree.explicit N (T.meaning x.0) };
+
+    fn serialize<W: WriteExt>(&self, ser: &mut Serializer<W>) -> Result<usize> {
+        ser.serialize_newtype_struct(Newtype::Explicit(N), &self.0)
+    }
+}
+
+impl<T: Serialize, const N: u8> Serialize for ImplicitContextTag<T, N> {
+    ghost meaning = { λ x. Tree.implicit N (T.meaning x.0) };
+
+    fn serialize<W: WriteExt>(&self, ser: &mut Serializer<W>) -> Result<usize> {
+        ser.serialize_newtype_struct(Newtype::Implicit(N), &self.0)
+    }
+}
+
+#[cfg(test)]
+mod tests;

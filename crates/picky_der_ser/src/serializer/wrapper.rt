@@ -1,0 +1,75 @@
+//! Wrappers, as a serializer opens them.
+ghost use Rattle.std.specs.Prelude.{◌≡◌, ◌≤◌, true, false, [], ◌∷◌, ◌++◌, None, Err, IfOk, IfErr, OnOk};
+ghost use Rattle.picky_der_core.specs.Wrapper.{wrap, wrapper_of, wrap_if, HasTagNumber, HasTagNumberIfAny};
+ghost use Rattle.picky_der_ser.specs.Calls.{Writes, Fails, Declines};
+
+use super::Serializer;
+use crate::Serialize;
+use picky_der_core::asn1::{Newtype, Wrapper};
+use picky_der_core::misc::WriteExt;
+use picky_der_core::{Asn1DerError, Result};
+
+// Whether the wrapper's tag number, if it has one, is at most 30.
+fn has_tag_number(wrapper: Wrapper) -> bool
+    ensures yes { result ≡ true → HasTagNumber wrapper }
+    ensures no { result ≡ false → HasTagNumber wrapper → ⊥ }
+{
+    match wrapper {
+        Wrapper::OctetContainer | Wrapper::BitContainer => true,
+        Wrapper::Explicit(number) | Wrapper::Implicit(number) => number <= 30,
+    }
+}
+
+impl<W: WriteExt> Serializer<W> {
+    // Opens a wrapper inside the open ones.
+    fn wrap(&mut self, wrapper: Wrapper) -> Result<()>
+        ensures ok { OnOk result (self.new ≡ record self.old { around = self.old.around ++ (wrapper ∷ []) }) }
+        ensures had_not_failed { OnOk result (self.old.failed ≡ None) }
+        ensures number { OnOk result (HasTagNumber wrapper) }
+        ensures err { IfErr result (λ e. Declines W.WriteExt.own wrapper self.old e self.new) }
+    {
+        if let Some(error) = self.failed {
+            return Err(error);
+        }
+        if !has_tag_number(wrapper) {
+            return Err(self.fail(Asn1DerError::UnsupportedValue));
+        }
+        let Ok(()) = self.around.push(wrapper) else {
+            return Err(self.fail(Asn1DerError::OutOfMemory));
+        };
+        Ok(())
+    }
+
+    // Writes the value in this wrapper, inside the open ones.
+    fn serialize_wrapped<T: Serialize>(&mut self, wrapper: Wrapper, value: &T) -> Result<usize>
+        ensures wrote { IfOk result (λ n. Writes W.WriteExt.own (wrap wrapper (T.meaning value.now)) self.old n self.new) }
+        ensures failed { IfErr result (λ e. Fails W.WriteExt.own (wrap wrapper (T.meaning value.now)) self.old e self.new) }
+        ensures past { (HasTagNumber wrapper → ⊥) → self.old.failed ≡ None → (result ≡ Err Asn1DerError.UnsupportedValue) × (self.new.sink ≡ self.old.sink) }
+        ensures counted { W.faults self.old.sink ≤ W.faults self.new.sink }
+        ensures goes_on { W.later self.old.sink self.new.sink }
+    {
+        self.wrap(wrapper)?;
+        value.serialize(self)
+    }
+
+    /// Writes the value in a wrapper, which is opened inside the open ones.
+    ///
+    /// `UnsupportedValue` for a tag number past 30, which is tested before the value is looked at: nothing is written,
+    /// and no memory is taken.
+    pub fn serialize_newtype_struct<T: Serialize>(
+        &mut self,
+        kind: Newtype,
+        value: &T,
+    ) -> Result<usize>
+        ensures wrote { IfOk result (λ n. Writes W.WriteExt.own (wrap_if (wrapper_of kind) (T.meaning value.now)) self.old n self.new) }
+        ensures failed { IfErr result (λ e. Fails W.WriteExt.own (wrap_if (wrapper_of kind) (T.meaning value.now)) self.old e self.new) }
+        ensures past { (HasTagNumberIfAny (wrapper_of kind) → ⊥) → self.old.failed ≡ None → (result ≡ Err Asn1DerError.UnsupportedValue) × (self.new.sink ≡ self.old.sink) }
+        ensures counted { W.faults self.old.sink ≤ W.faults self.new.sink }
+        ensures goes_on { W.later self.old.sink self.new.sink }
+    {
+        match kind.wrapper() {
+            Some(wrapper) => self.serialize_wrapped(wrapper, value),
+            None => value.serialize(self),
+        }
+    }
+}
