@@ -20,7 +20,7 @@ pub struct Sequence<'a, R: ReadExt> {
 }
 
 impl<'a, R: ReadExt> Sequence<'a, R> {
-    ghost use Rattle.std.specs.Prelude.{◌≡◌, ◌<◌, None, Err, IfNone, IfSome, IfOk, IfErr, OnOk};
+    ghost use Rattle.std.specs.Prelude.{◌≡◌, ◌+◌, ◌<◌, ◌≤◌, None, Err, IfNone, IfSome, IfOk, IfErr, OnOk};
     ghost use Rattle.picky_der_de.specs.Steps.{failed_with};
     ghost use Rattle.picky_der_de.specs.Ends.{around, OpensLazily, Closes, RefusesClose};
     ghost use Rattle.picky_der_de.specs.Members.{ReadsMember, RefusesMember, HasNoMore, ReadsAll, RefusesAll};
@@ -35,6 +35,19 @@ impl<'a, R: ReadExt> Sequence<'a, R> {
         ensures opened { OpensLazily len de.old result.de.now (around result.outer) }
     {
         let outer = de.open_lazily(len);
+        Sequence { de, outer }
+    }
+
+    // The members before the innermost end, which was opened inside this one. Where a call answers a `Result` with a
+    // sequence in it, the checker doesn't see where the loan ends, since the deserializer may hold a `'static` text; of
+    // what this answers it does.
+    pub(crate) fn inside(de: &'a mut Deserializer<R>, outer: Outer) -> Sequence<'a, R>
+        requires within { de.old.taken + de.old.room ≤ outer.place }
+        requires whole { de.old.failed ≡ None → de.old.direct ≡ None }
+        ensures same_reference { result.de.ghost_name ≡ de.entry.ghost_name }
+        ensures same { result.de.now ≡ de.old }
+        ensures outer { result.outer ≡ outer }
+    {
         Sequence { de, outer }
     }
 
@@ -98,8 +111,11 @@ impl<'a, R: ReadExt> Sequence<'a, R> {
 }
 
 impl<R: ReadExt> Deserializer<R> {
-    ghost use Rattle.std.specs.Prelude.{◌≡◌, IfOk, IfErr};
+    ghost use Rattle.std.specs.Prelude.{◌≡◌, map, IfOk, IfErr};
     ghost use Rattle.std.specs.Borrow.{sem, RestsIfErr};
+    ghost use Rattle.picky_der_core.specs.Tree.{ListKind, Tree, trees};
+    ghost use Rattle.picky_der_core.specs.Shape.{Shape};
+    ghost use Rattle.picky_der_de.specs.Reading.{Reads, Refuses};
     ghost use Rattle.picky_der_core.specs.Tag.{number_of, IsTagNumber};
     ghost use Rattle.picky_der_de.specs.contracts.deserializer.Deserializer.{the_row};
     ghost use Rattle.picky_der_de.specs.Ends.{around, OpensList, RefusesList};
@@ -113,6 +129,30 @@ impl<R: ReadExt> Deserializer<R> {
     {
         let outer = self.open_list(tag)?;
         Ok(Sequence { de: self, outer })
+    }
+
+    // A sequence of values of one type.
+    pub(crate) fn read_sequence<T: Deserialize>(&mut self) -> Result<Vec<T>>
+        ensures ok { IfOk result (λ values. Reads (Shape.list_of ListKind.sequence T.shape) self.old self.new (Tree.list ListKind.sequence (trees (map T.meaning values.items)))) }
+        ensures err { IfErr result (Refuses (λ values. Tree.list ListKind.sequence (trees (map T.meaning values))) (Shape.list_of ListKind.sequence T.shape) self.old self.new) }
+    {
+        let outer = self.open_list(Tag::SEQUENCE)?;
+        let mut members = Sequence::inside(self, outer);
+        let values = members.collect::<T>()?;
+        members.end()?;
+        Ok(values)
+    }
+
+    // A set of values of one type.
+    pub(crate) fn read_set<T: Deserialize>(&mut self) -> Result<Vec<T>>
+        ensures ok { IfOk result (λ values. Reads (Shape.list_of ListKind.set T.shape) self.old self.new (Tree.list ListKind.set (trees (map T.meaning values.items)))) }
+        ensures err { IfErr result (Refuses (λ values. Tree.list ListKind.set (trees (map T.meaning values))) (Shape.list_of ListKind.set T.shape) self.old self.new) }
+    {
+        let outer = self.open_list(Tag::SET)?;
+        let mut members = Sequence::inside(self, outer);
+        let values = members.collect::<T>()?;
+        members.end()?;
+        Ok(values)
     }
 
     /// Begins to read a sequence. Directly under an implicit tag the header was that tag's, and its end is a soft one
