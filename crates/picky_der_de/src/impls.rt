@@ -1,6 +1,10 @@
 //! The built-in types, as they are read.
 
 mod bytes;
+mod lists;
 mod numbers;
 mod options;
+#[cfg(test)]
+mod tests;
 mod texts;
+mod tuples;
