@@ -14,7 +14,7 @@ mod texts;
 
 use crate::End;
 use arrayvec::ArrayVec;
-pub(crate) use ends::Outer;
+pub use ends::Outer;
 use picky_der_core::misc::{PeekableReader, ReadExt};
 use picky_der_core::{Asn1DerError, Result};
 use std::alloc::Global;

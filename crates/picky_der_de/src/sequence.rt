@@ -38,11 +38,12 @@ impl<'a, R: ReadExt> Sequence<'a, R> {
         Sequence { de, outer }
     }
 
-    // The members before the innermost end, which was opened inside this one. Where a call answers a `Result` with a
-    // sequence in it, the checker doesn't see where the loan ends, since the deserializer may hold a `'static` text; of
-    // what this answers it does.
-    pub(crate) fn inside(de: &'a mut Deserializer<R>, outer: Outer) -> Sequence<'a, R>
-        requires within { de.old.taken + de.old.room ≤ outer.place }
+    /// The members before the end that `open_list` has opened inside this one.
+    ///
+    /// `deserialize_seq` and its kin do both at once. A proof about their caller doesn't learn what the deserializer is
+    /// once the sequence is dropped, since a deserializer may hold a `'static` text; of this one's it does.
+    pub fn inside(de: &'a mut Deserializer<R>, outer: Outer) -> Sequence<'a, R>
+        requires within { de.old.taken + de.old.room ≤ (around outer).place }
         requires whole { de.old.failed ≡ None → de.old.direct ≡ None }
         ensures same_reference { result.de.ghost_name ≡ de.entry.ghost_name }
         ensures same { result.de.now ≡ de.old }

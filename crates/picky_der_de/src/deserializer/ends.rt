@@ -34,8 +34,11 @@ impl<R: ReadExt> Deserializer<R> {
         outer
     }
 
-    // Takes the header of a sequence or set, and opens its end. Directly under an implicit tag the header was that tag's.
-    pub(crate) fn open_list(&mut self, tag: Tag) -> Result<Outer>
+    /// Takes the header of a sequence or set under this tag, and opens its end. `Sequence::inside` then reads its members.
+    /// Directly under an implicit tag the header was that tag's.
+    ///
+    /// `InvalidData` for another tag; else the refusals of a header and of an end, and the reader's fault.
+    pub fn open_list(&mut self, tag: Tag) -> Result<Outer>
         requires number { IsTagNumber (number_of tag) }
         ensures ok { IfOk result (λ outer. OpensList tag self.old self.new (around outer)) }
         ensures err { IfErr result (RefusesList tag self.old self.new) }
