@@ -4,9 +4,12 @@ use Rattle.picky_der_core.specs.declared.error.Asn1DerError.{Asn1DerError}
 use Rattle.picky_der_core.specs.Tree.{Tree}
 use Rattle.picky_der_core.specs.Shape.{Shape}
 use Rattle.picky_der_de.specs.State.{State}
-use Rattle.picky_der_de.specs.Reading.{Refuses}
+use Rattle.picky_der_de.specs.Reading.{Reads, Refuses}
 
 -- the error that was passed on, and the state in which the last call left the deserializer
 pub asked : {T V : Type 0} {meaning : V → Tree} {s : Shape} {a x y : State} {e : Asn1DerError} (r : Result T Asn1DerError) → IsErrAnd r (λ error. error ≡ e) → x ≡ y → Refuses meaning s a y e → IfErr r (Refuses meaning s a x)
 asked (Ok v) h same f = absurd h
 asked (Err error) h same f = rw (h, same) f
+
+pub reads_at : {s : Shape} {a x y : State} {t : Tree} → Reads s a y t → x ≡ y → Reads s a x t
+reads_at h same = rw same h

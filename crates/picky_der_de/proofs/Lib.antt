@@ -18,3 +18,4 @@ pub mod WrapperReads
 pub mod Members
 pub mod Rows
 pub mod Asked
+pub mod ListReads

@@ -1,14 +1,14 @@
 -- A tree tells its value.
-use Rattle.std.specs.Prelude.{◌≡◌, ℕ, List, [], ◌∷◌, Bool, true, false, nat_eq, Some, None, encode_utf8, refl}
+use Rattle.std.specs.Prelude.{◌≡◌, ℕ, List, [], ◌∷◌, Bool, true, false, ◌&&◌, map, nat_eq, Some, None, encode_utf8, refl}
 use Rattle.std.specs.Option.{option_eq}
 use mathlib.Core.Bool.{beq}
 use lib.Pointwise.{pointwise}
 use lib.Dec.{eqb}
 use Rattle.std.proofs.Common.{eq-eqb, ap, subst, ◌++◌}
 use Rattle.std.proofs.lemmas.Str.{encode_same}
-use Rattle.picky_der_core.specs.Tree.{Tree}
-use Rattle.picky_der_core.specs.Readable.{IsReadable}
-use Rattle.picky_der_core.specs.Shape.{Shape, IsOf}
+use Rattle.picky_der_core.specs.Tree.{ListKind, Tree, Trees, trees}
+use Rattle.picky_der_core.specs.Readable.{IsReadable, AreReadable}
+use Rattle.picky_der_core.specs.Shape.{Shape, IsOf, EachIs}
 use Rattle.picky_der_core.specs.FirstLaws.{is_of-optional}
 use Rattle.picky_der_ser.specs.Meaning.{option_meaning}
 
@@ -51,3 +51,47 @@ option_known meaning s eq known None y p q r e = absurd r
 option_known meaning s eq known (Some x) None p q r e = absurd (subst IsReadable e r)
 option_known meaning s eq known (Some x) (Some y) p q r e =
     known x y (is_of-optional (IsOf s) (meaning x) p r) (is_of-optional (IsOf s) (meaning y) q (subst IsReadable e r)) r e
+
+-- lists of values that are known by their trees
+pub list_known : {V : Type 0} (meaning : V → Tree) (s : Shape) (eq : V → V → Bool) → IsKnownByTree meaning s eq → {k l : ListKind} (xs ys : List V) → EachIs (IsOf s) (trees (map meaning xs)) → EachIs (IsOf s) (trees (map meaning ys)) → AreReadable (trees (map meaning xs))
+    → Tree.list k (trees (map meaning xs)) ≡ Tree.list l (trees (map meaning ys)) → pointwise eq xs ys ≡ true
+list_known {V} meaning s eq known xs ys p q r e = let f : trees (map meaning xs) ≡ trees (map meaning ys) = cc in same xs ys p q r f
+  where
+    same : (xs ys : List V) → EachIs (IsOf s) (trees (map meaning xs)) → EachIs (IsOf s) (trees (map meaning ys)) → AreReadable (trees (map meaning xs)) → trees (map meaning xs) ≡ trees (map meaning ys) → pointwise eq xs ys ≡ true
+    same [] [] p q r e = refl
+    same [] (y ∷ ys) p q r e = cc
+    same (x ∷ xs) [] p q r e = cc
+    same (x ∷ xs) (y ∷ ys) p q r e =
+        let f : meaning x ≡ meaning y = cc in
+        let g : trees (map meaning xs) ≡ trees (map meaning ys) = cc in
+        rw (known x y p.0 q.0 r.0 f, same xs ys p.1 q.1 r.1 g) refl
+
+-- ---- rows, whose members are each known
+
+row_members : {k l : ListKind} {ts us : Trees} → Tree.list k ts ≡ Tree.list l us → ts ≡ us
+row_members e = cc
+
+-- the first member and the others
+first_member : {t u : Tree} {ts us : Trees} → Trees.more t ts ≡ Trees.more u us → t ≡ u
+first_member e = cc
+
+other_members : {t u : Tree} {ts us : Trees} → Trees.more t ts ≡ Trees.more u us → ts ≡ us
+other_members e = cc
+
+both : {p q : Bool} → p ≡ true → q ≡ true → (p && q) ≡ true
+both h k = rw (h, k) refl
+
+module _ {k l : ListKind} {a b : Tree} {p : Bool} (f : a ≡ b → p ≡ true) where
+  pub row_known1 : Tree.list k (Trees.more a Trees.none) ≡ Tree.list l (Trees.more b Trees.none) → p ≡ true
+  row_known1 e = f (first_member (row_members e))
+
+  pub row_known2 : {c d : Tree} {q : Bool} → (c ≡ d → q ≡ true) → Tree.list k (Trees.more a (Trees.more c Trees.none)) ≡ Tree.list l (Trees.more b (Trees.more d Trees.none)) → (p && q) ≡ true
+  row_known2 g e = let ts = row_members e in let us = other_members ts in both (f (first_member ts)) (g (first_member us))
+
+  pub row_known3 : {c d x y : Tree} {q r : Bool} → (c ≡ d → q ≡ true) → (x ≡ y → r ≡ true)
+      → Tree.list k (Trees.more a (Trees.more c (Trees.more x Trees.none))) ≡ Tree.list l (Trees.more b (Trees.more d (Trees.more y Trees.none))) → (p && q && r) ≡ true
+  row_known3 g h e = let ts = row_members e in let us = other_members ts in let vs = other_members us in rw (f (first_member ts), g (first_member us), h (first_member vs)) refl
+
+  pub row_known4 : {c d x y u v : Tree} {q r s : Bool} → (c ≡ d → q ≡ true) → (x ≡ y → r ≡ true) → (u ≡ v → s ≡ true)
+      → Tree.list k (Trees.more a (Trees.more c (Trees.more x (Trees.more u Trees.none)))) ≡ Tree.list l (Trees.more b (Trees.more d (Trees.more y (Trees.more v Trees.none)))) → (p && q && r && s) ≡ true
+  row_known4 g h i e = let ts = row_members e in let us = other_members ts in let vs = other_members us in let ws = other_members vs in rw (f (first_member ts), g (first_member us), h (first_member vs), i (first_member ws)) refl

@@ -5,7 +5,6 @@ pub mod Headers
 pub mod Ends
 pub mod Wrappers
 pub mod Members
-pub mod Sequences
 pub mod KnownLaws
 pub mod WrapperLaws
 pub mod Entry

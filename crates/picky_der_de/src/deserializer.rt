@@ -15,7 +15,7 @@ mod wrapper;
 
 use crate::End;
 use arrayvec::ArrayVec;
-pub(crate) use ends::Outer;
+pub use ends::Outer;
 use picky_der_core::misc::{PeekableReader, ReadExt};
 use picky_der_core::{Asn1DerError, Result};
 use std::alloc::Global;
@@ -123,6 +123,11 @@ impl<R: ReadExt> Deserializer<R> {
         ensures { result ≡ false }
     {
         false
+    }
+
+    // What vectors are grown on.
+    pub(crate) fn alloc(&self) -> Global {
+        self.alloc
     }
 
     // Has failed from here on with an error that is no fault of the reader.

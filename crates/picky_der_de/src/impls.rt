@@ -1,7 +1,11 @@
 //! The built-in types, as they are read.
 
 mod bytes;
+mod lists;
 mod numbers;
 mod options;
+#[cfg(test)]
+mod tests;
 mod texts;
 mod wrappers;
+mod tuples;

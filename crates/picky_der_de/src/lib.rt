@@ -16,7 +16,7 @@ mod utf8_string;
 
 pub use boolean::Boolean;
 pub use deserialize::Deserialize;
-pub use deserializer::Deserializer;
+pub use deserializer::{Deserializer, Outer};
 pub use end::End;
 pub use entry::{DEFAULT_MAX_LEN, from_bytes, from_reader, from_reader_with_max_len};
 pub use integer::{UInt, UnsignedInteger};

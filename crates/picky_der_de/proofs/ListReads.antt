@@ -1,0 +1,115 @@
+-- Lists of values of one type, read and refused.
+use Rattle.std.proofs.Common.{◌≡◌, ◌<◌, List, [], ◌∷◌, ◌++◌, map, None, refl, sym, ◌∙◌, ap, subst, arith, append_assoc, append-nil}
+use Rattle.picky_der_core.specs.declared.error.Asn1DerError.{Asn1DerError}
+use Rattle.picky_der_core.specs.declared.error.Asn1DerError.TheVariants.{OutOfMemory}
+use Rattle.picky_der_core.specs.Tree.{ListKind, Tree, Trees, trees}
+use Rattle.picky_der_core.specs.Encoding.{der, list_tag}
+use Rattle.picky_der_core.specs.Readable.{IsReadable, AreReadable}
+use Rattle.picky_der_core.specs.Shape.{Shape, IsOf, IsFirst, EachIs}
+use Rattle.picky_der_de.specs.State.{State}
+use Rattle.picky_der_de.specs.Steps.{Takes, Fails, IsJudged}
+use Rattle.picky_der_de.specs.Reading.{Reads, Refuses}
+use Rattle.picky_der_de.specs.Ends.{Around, Closes, RefusesClose, OpensList, RefusesList}
+use Rattle.picky_der_de.specs.Members.{ReadsMember, RefusesMember, HasNoMore, bytes_of, StandBefore, ReadsAll, RefusesAll}
+use Rattle.picky_der_de.proofs.Steps.{takes_none, takes_then, fails_after, judged_after}
+use Rattle.picky_der_de.proofs.Members.{bytes_of-more, bytes_of-none, takes_member, member_ahead, next_member, no_member, none_left, list_refused, list_unopened, list_reads}
+
+-- ---- one member more behind others
+
+bytes_of-push : {V : Type 0} (meaning : V → Tree) (vs : List V) (v : V) → bytes_of (trees (map meaning (vs ++ v ∷ []))) ≡ bytes_of (trees (map meaning vs)) ++ der (meaning v)
+bytes_of-push meaning [] v = bytes_of-more (meaning v) Trees.none ∙ ap (λ x. der (meaning v) ++ x) bytes_of-none ∙ append-nil (der (meaning v)) ∙ ap (λ x. x ++ der (meaning v)) (sym bytes_of-none)
+bytes_of-push meaning (w ∷ vs) v =
+    bytes_of-more (meaning w) (trees (map meaning (vs ++ v ∷ [])))
+    ∙ ap (λ x. der (meaning w) ++ x) (bytes_of-push meaning vs v)
+    ∙ sym (append_assoc (der (meaning w)) (bytes_of (trees (map meaning vs))) (der (meaning v)))
+    ∙ ap (λ x. x ++ der (meaning v)) (sym (bytes_of-more (meaning w) (trees (map meaning vs))))
+
+each-push : {V : Type 0} (meaning : V → Tree) (P : Tree → Type 0) (vs : List V) (v : V) → EachIs P (trees (map meaning vs)) → P (meaning v) → EachIs P (trees (map meaning (vs ++ v ∷ [])))
+each-push meaning P [] v h p = (p, tt)
+each-push meaning P (w ∷ vs) v h p = (h.0, each-push meaning P vs v h.1 p)
+
+readable-push : {V : Type 0} (meaning : V → Tree) (vs : List V) (v : V) → AreReadable (trees (map meaning vs)) → IsReadable (meaning v) → AreReadable (trees (map meaning (vs ++ v ∷ [])))
+readable-push meaning [] v h p = (p, tt)
+readable-push meaning (w ∷ vs) v h p = (h.0, readable-push meaning vs v h.1 p)
+
+-- ---- refused
+
+-- the next member was refused
+pub all_refused : {V : Type 0} {meaning : V → Tree} {s : Shape} {c d : State} {e : Asn1DerError} → RefusesMember meaning s c d e → (c.failed ≡ None → 0 < c.room) → RefusesAll meaning s c d e
+all_refused {V} {meaning} {s} {c} {d} {e} r ahead = record { fails = r.refuses.fails; none = none }
+  where
+    none : IsJudged c d e → (vs : List V) → EachIs (IsOf s) (trees (map meaning vs)) → AreReadable (trees (map meaning vs)) → StandBefore c d e (bytes_of (trees (map meaning vs))) → ⊥
+    none j [] of_shape readable w = none_left (ahead j.had_not_failed) w
+    none j (v ∷ vs) of_shape readable w = no_member v (trees (map meaning vs)) r j of_shape.0 readable.0 w
+
+-- a member was read, and those behind it were refused
+pub all_next : {V : Type 0} {meaning : V → Tree} {s : Shape} {b c d : State} {t : Tree} {e : Asn1DerError} → ReadsMember s b c t → RefusesAll meaning s c d e → RefusesAll meaning s b d e
+all_next {V} {meaning} {s} {b} {c} {d} {t} {e} r h = record { fails = fails_after r.reads.takes h.fails; none = none }
+  where
+    none : IsJudged b d e → (vs : List V) → EachIs (IsOf s) (trees (map meaning vs)) → AreReadable (trees (map meaning vs)) → StandBefore b d e (bytes_of (trees (map meaning vs))) → ⊥
+    none j [] of_shape readable w = none_left (member_ahead r) w
+    none j (v ∷ vs) of_shape readable w = h.none (judged_after r.reads.takes j) vs of_shape.1 readable.1 (next_member (meaning v) (trees (map meaning vs)) readable.0 r h.fails w)
+
+-- memory was wanted
+pub all_for_memory : {V : Type 0} {meaning : V → Tree} {s : Shape} {c d : State} {e : Asn1DerError} → Fails c d e → e ≡ OutOfMemory → RefusesAll meaning s c d e
+all_for_memory f is = record { fails = f; none = λ j. absurd (j.memory is) }
+
+-- ---- members so far
+
+pub record ReadsSome {V : Type 0} (meaning : V → Tree) (s : Shape) (old new : State) (vs : List V) : Type 0 where
+  pub of_shape : EachIs (IsOf s) (trees (map meaning vs))
+  pub readable : AreReadable (trees (map meaning vs))
+  pub takes : Takes old new (bytes_of (trees (map meaning vs)))
+  pub direct : new.direct ≡ None
+  pub refuses : (d : State) (e : Asn1DerError) → RefusesAll meaning s new d e → RefusesAll meaning s old d e
+
+pub some_none : {V : Type 0} (meaning : V → Tree) (s : Shape) (a : State) → a.failed ≡ None → a.peeked ≡ None → a.direct ≡ None → ReadsSome meaning s a a []
+some_none meaning s a h p d = record {
+  of_shape = tt;
+  readable = tt;
+  takes = subst (Takes a a) (sym bytes_of-none) (takes_none a h p);
+  direct = d;
+  refuses = λ d e r. r;
+}
+
+pub some_more : {V : Type 0} (meaning : V → Tree) (s : Shape) {a b c : State} (vs : List V) (v : V) → ReadsSome meaning s a b vs → ReadsMember s b c (meaning v) → ReadsSome meaning s a c (vs ++ v ∷ [])
+some_more meaning s {a} {b} {c} vs v h r = record {
+  of_shape = each-push meaning (IsOf s) vs v h.of_shape r.reads.of_shape;
+  readable = readable-push meaning vs v h.readable r.reads.readable;
+  takes = subst (Takes a c) (sym (bytes_of-push meaning vs v)) (takes_then h.takes (takes_member r));
+  direct = r.reads.direct;
+  refuses = λ d e w. h.refuses d e (all_next r w);
+}
+
+pub some_all : {V : Type 0} {meaning : V → Tree} {s : Shape} {a b c : State} {vs : List V} → ReadsSome meaning s a b vs → HasNoMore b c → ReadsAll meaning s a c vs
+some_all {meaning = meaning} {a = a} {vs = vs} h n = record {
+  of_shape = h.of_shape;
+  readable = h.readable;
+  takes = subst (λ z. Takes a z (bytes_of (trees (map meaning vs)))) (sym n.same) h.takes;
+  direct = ap (λ (z : State). z.direct) n.same ∙ h.direct;
+  reached = ap (λ (z : State). z.room) n.same ∙ n.reached;
+}
+
+-- ---- whole lists
+
+list_first : (kind : ListKind) (s : Shape) → IsFirst (Shape.list_of kind s) (list_tag kind)
+list_first ListKind.sequence s = refl
+list_first ListKind.set s = refl
+
+module _ {V W : Type 0} (meaning : W → Tree) (s : Shape) (kind : ListKind) (items : V → List W) {a : State} where
+  -- there is no header
+  pub list_of_unopened : {c : State} {e : Asn1DerError} → RefusesList (list_tag kind) a c e → Refuses (λ v. Tree.list kind (trees (map meaning (items v)))) (Shape.list_of kind s) a c e
+  list_of_unopened h = list_unopened kind (λ v. trees (map meaning (items v))) (Shape.list_of kind s) (list_first kind s) h
+
+  -- a member was refused
+  pub list_of_refused : {b c : State} {outer : Around} {e : Asn1DerError} → OpensList (list_tag kind) a b outer → RefusesAll meaning s b c e → Refuses (λ v. Tree.list kind (trees (map meaning (items v)))) (Shape.list_of kind s) a c e
+  list_of_refused h r = list_refused kind (λ v. trees (map meaning (items v))) (Shape.list_of kind s) (list_first kind s) h r.fails (λ j v of_shape readable w. r.none j (items v) of_shape.1 readable w)
+
+-- nothing is left behind the last member
+pub all_closed : {V : Type 0} {meaning : V → Tree} {s : Shape} {b c d : State} {vs : List V} {e : Asn1DerError} → ReadsAll meaning s b c vs → RefusesClose c d e → ⊥
+all_closed r k = omega (arith, r.reached, (k.left r.takes.not_failed).0)
+
+-- all were read
+pub list_of_reads : {V : Type 0} (meaning : V → Tree) (s : Shape) (kind : ListKind) {a b c d : State} {outer closed : Around} (vs : List V) → OpensList (list_tag kind) a b outer → ReadsAll meaning s b c vs → Closes closed c d → closed ≡ outer
+    → Reads (Shape.list_of kind s) a d (Tree.list kind (trees (map meaning vs)))
+list_of_reads meaning s kind vs h r k same = list_reads (trees (map meaning vs)) h r.takes r.direct k same (refl, r.of_shape) r.readable

@@ -1,0 +1,13 @@
+use Rattle.std.proofs.Common.{◌≡◌}
+use Rattle.picky_der_de.proofs.ListReads.{ReadsSome}
+use Rattle.picky_der_de.proofs.sequence.Sequence.collect.Given as goal
+
+abbrev pub invariant-loop-values : goal.invariant-loop-values
+invariant-loop-values g l = record {
+  some : ReadsSome g.T.Serialize.meaning g.T.Deserialize.shape l.initial.self.de.now l.self.de.now l.values.items;
+  same_reference : l.self.de.ghost_name ≡ l.initial.self.de.ghost_name;
+  outer : l.self.outer ≡ l.initial.self.outer;
+}
+
+abbrev pub decreases-loop-values : goal.decreases-loop-values
+decreases-loop-values g l = l.self.de.now.room

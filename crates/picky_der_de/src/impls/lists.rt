@@ -1,0 +1,45 @@
+//! Lists of values of one type, as they are read.
+ghost use Rattle.picky_der_core.specs.Tree.{ListKind};
+ghost use Rattle.picky_der_core.specs.Shape.{Shape};
+ghost use Rattle.picky_der_de.specs.KnownLaws.{list_known};
+
+use crate::{Deserialize, Deserializer};
+use picky_der_core::Result;
+use picky_der_core::asn1::{Asn1SequenceOf, Asn1SetOf};
+use picky_der_core::misc::ReadExt;
+
+impl<T: Deserialize> Deserialize for Vec<T> {
+    ghost shape = { Shape.list_of ListKind.sequence T.shape };
+
+    ghost known_by_tree = { λ x y p q r e. list_known T.meaning T.shape T.eq T.known_by_tree x.items y.items p.1 q.1 r e };
+
+    ghost sound = { T.sound };
+
+    fn deserialize<R: ReadExt>(de: &mut Deserializer<R>) -> Result<Vec<T>> {
+        de.read_sequence()
+    }
+}
+
+impl<T: Deserialize> Deserialize for Asn1SequenceOf<T> {
+    ghost shape = { Shape.list_of ListKind.sequence T.shape };
+
+    ghost known_by_tree = { λ x y p q r e. list_known T.meaning T.shape T.eq T.known_by_tree x.0.items y.0.items p.1 q.1 r e };
+
+    ghost sound = { T.sound };
+
+    fn deserialize<R: ReadExt>(de: &mut Deserializer<R>) -> Result<Asn1SequenceOf<T>> {
+        Ok(Asn1SequenceOf(de.read_sequence()?))
+    }
+}
+
+impl<T: Deserialize> Deserialize for Asn1SetOf<T> {
+    ghost shape = { Shape.list_of ListKind.set T.shape };
+
+    ghost known_by_tree = { λ x y p q r e. list_known T.meaning T.shape T.eq T.known_by_tree x.0.items y.0.items p.1 q.1 r e };
+
+    ghost sound = { T.sound };
+
+    fn deserialize<R: ReadExt>(de: &mut Deserializer<R>) -> Result<Asn1SetOf<T>> {
+        Ok(Asn1SetOf(de.read_set()?))
+    }
+}
