@@ -129,3 +129,6 @@ impl<R: ReadExt> Deserializer<R> {
         }
     }
 }
+
+#[cfg(test)]
+mod tests;
