@@ -20,10 +20,10 @@ use Rattle.picky_der_de.proofs.Known.{just_cut, just_taken, just_missing}
 
 -- ---- the header of known bytes
 
-is_number : {n : ℕ} → IsTagNumber n → is_tag_number n ≡ true
+pub is_number : {n : ℕ} → IsTagNumber n → is_tag_number n ≡ true
 is_number h = grind (arith, nat_tests)
 
-same_byte : (b : ℕ) → (b == b) ≡ true
+pub same_byte : (b : ℕ) → (b == b) ≡ true
 same_byte b = grind (arith, nat_tests)
 
 header-none : (tag : ℕ) (hard : Bool) (ahead : ℕ) → IsTagNumber (number_of tag) → header tag hard ahead [] ≡ Err (missing hard ahead [], [])

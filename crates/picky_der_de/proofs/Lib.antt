@@ -12,6 +12,9 @@ pub mod PlainKinds
 pub mod Options
 pub mod EntryReads
 pub mod Ends
+pub mod Wrappers
+pub mod Openings
+pub mod WrapperReads
 pub mod Members
 pub mod Rows
 pub mod Asked

@@ -98,7 +98,7 @@ refused_in None tag judge s rest r e h = refused (header tag (is_hard s.end) s.r
     refused (Err e) h = h
 refused_in (Some number) tag judge s rest r e h = absurd (let q : Some number ≡ None = e in cc)
 
-just_map : {p q : List ℕ → Option Refusal} {a c : State} {e : Asn1DerError} {bs : List ℕ} → ((rest : List ℕ) (r : Refusal) → p rest ≡ Some r → q rest ≡ Some r) → IsJustRefused p a c e bs → IsJustRefused q a c e bs
+pub just_map : {p q : List ℕ → Option Refusal} {a c : State} {e : Asn1DerError} {bs : List ℕ} → ((rest : List ℕ) (r : Refusal) → p rest ≡ Some r → q rest ≡ Some r) → IsJustRefused p a c e bs → IsJustRefused q a c e bs
 just_map {a = a} {e = e} {bs = bs} f h = record { left = h.left; refused = f (take a.room bs) (e, h.left) h.refused; input = h.input; kept = h.kept; used = h.used }
 
 -- a plain value whose header was refused

@@ -3,7 +3,9 @@ pub mod Steps
 pub mod Reading
 pub mod Headers
 pub mod Ends
+pub mod Wrappers
 pub mod Members
 pub mod KnownLaws
+pub mod WrapperLaws
 pub mod Entry
 pub mod Lending

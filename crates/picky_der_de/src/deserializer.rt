@@ -11,6 +11,7 @@ mod octets;
 mod options;
 mod plain;
 mod texts;
+mod wrapper;
 
 use crate::End;
 use arrayvec::ArrayVec;

@@ -8,3 +8,4 @@ mod options;
 mod tests;
 mod texts;
 mod tuples;
+mod wrappers;

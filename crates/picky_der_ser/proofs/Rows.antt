@@ -1,5 +1,5 @@
 -- Lists of none to seven members, from the calls that wrote them.
-use Rattle.std.proofs.Common.{◌≡◌, ℕ, ◌≤◌, Result, Ok, Err}
+use Rattle.std.proofs.Common.{◌≡◌, ℕ, Result, Ok, Err}
 use Rattle.picky_der_core.specs.declared.misc.writer.WriteExt.{Ghosts}
 use Rattle.picky_der_core.specs.declared.error.Asn1DerError.{Asn1DerError}
 use Rattle.picky_der_core.specs.Tree.{ListKind, Tree, Trees, none, more}
@@ -7,7 +7,7 @@ use Rattle.picky_der_core.specs.Encoding.{list_tag}
 use Rattle.picky_der_ser.specs.declared.header.Header.TheVariants.{Tagged}
 use Rattle.picky_der_ser.specs.State.{State}
 use Rattle.picky_der_ser.specs.Calls.{Writes, Fails, Opens, Gains, Rejects, Finishes}
-use Rattle.picky_der_ser.proofs.Members.{Awaits, list_opened, list_gained, list_refused, list_wrote, list_failed}
+use Rattle.picky_der_ser.proofs.Members.{list_opened, list_gained, list_refused, list_wrote, list_failed}
 
 module _ {W : Type 0} (g : Ghosts W) (kind : ListKind) where
   pub row0_wrote : (old a0 new : State W) (r : Result ℕ Asn1DerError) (n : ℕ)
@@ -127,10 +127,17 @@ module _ {W : Type 0} (g : Ghosts W) (kind : ListKind) where
 
 -- all that a list of so many members asks for
 pub ruleset row0 = (row0_wrote, row0_failed)
+
 pub ruleset row1 = (row1_wrote, row1_failed, row0_refused)
+
 pub ruleset row2 = (row2_wrote, row2_failed, row1_refused, row0_refused)
+
 pub ruleset row3 = (row3_wrote, row3_failed, row2_refused, row1_refused, row0_refused)
+
 pub ruleset row4 = (row4_wrote, row4_failed, row3_refused, row2_refused, row1_refused, row0_refused)
+
 pub ruleset row5 = (row5_wrote, row5_failed, row4_refused, row3_refused, row2_refused, row1_refused, row0_refused)
+
 pub ruleset row6 = (row6_wrote, row6_failed, row5_refused, row4_refused, row3_refused, row2_refused, row1_refused, row0_refused)
+
 pub ruleset row7 = (row7_wrote, row7_failed, row6_refused, row5_refused, row4_refused, row3_refused, row2_refused, row1_refused, row0_refused)

@@ -140,3 +140,6 @@ impl<W: WriteExt> Serializer<W> {
         self.begin(Tag::SET)
     }
 }
+
+#[cfg(test)]
+mod tests;

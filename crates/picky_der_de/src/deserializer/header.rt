@@ -56,7 +56,7 @@ impl<R: ReadExt> Deserializer<R> {
     }
 
     // The length of the content of an element with this tag, which doesn't reach past the innermost end.
-    fn read_header(&mut self, tag: Tag) -> Result<usize>
+    pub(crate) fn read_header(&mut self, tag: Tag) -> Result<usize>
         requires number { IsTagNumber (number_of tag) }
         requires had_not_failed { self.old.failed ≡ None }
         ensures ok { IfOk result (λ n. Takes self.old self.new (tag ∷ bytes_of n) × (n ≤ self.new.room)) }

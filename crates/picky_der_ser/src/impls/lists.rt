@@ -68,3 +68,6 @@ impl<T: Serialize> Serialize for Asn1SetOf<T> {
         serialize_items(&self.0, Tag::SET, ser)
     }
 }
+
+#[cfg(test)]
+mod tests;

@@ -11,4 +11,4 @@ returns-in_err-write_exact-clause-err g c =
     let text = c.as_bytes.ensures.value ∙ rw (pushed, c.push.ensures.ascii (omega arith)) at c.push.ensures.bytes in
     let failed = c.in_err-write_exact.ensures in
     let fault : Faulted g.W.WriteExt c.args.output.now p.0 c.write_exact.new.self = record { rose = failed.fault.0; kind = _; answered = failed.fault.1; is = p.2 } in
-    rw p.1 (no_sink fault _ c.in_ok-answer.ensures.ok (rw text at failed.beginning))
+    rw p.1 (no_sink fault _ c.in_ok-answer.ensures.ok (rw text at failed.beginning.begins))

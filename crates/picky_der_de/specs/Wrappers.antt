@@ -1,0 +1,144 @@
+-- What reading a value in a wrapper does.
+use Rattle.std.specs.Prelude.{◌≡◌, ◌≢◌, ℕ, zero, suc, ◌+◌, ◌-◌, ◌^◌, ◌<◌, ◌≤◌, Bool, true, false, List, [], ◌∷◌, ◌++◌, length, ◌==◌, Option, None, Some, Ok, Err, if◌then◌else◌}
+use Rattle.std.specs.Io.KnownBytes.{Keeps}
+use Rattle.picky_der_core.specs.declared.error.Asn1DerError.{Asn1DerError}
+use Rattle.picky_der_core.specs.declared.error.Asn1DerError.TheVariants.{TruncatedData, InvalidData}
+use Rattle.picky_der_core.specs.declared.asn1.wrapper.Wrapper.{Wrapper}
+use Rattle.picky_der_core.specs.declared.asn1.wrapper.Wrapper.TheVariants.{OctetContainer, BitContainer, Explicit, Implicit}
+use Rattle.picky_der_core.specs.Element.{len, tlv}
+use Rattle.picky_der_core.specs.Tree.{Tree}
+use Rattle.picky_der_core.specs.Shape.{Shape}
+use Rattle.picky_der_core.specs.Wrapper.{wrap, wrapper_tag, HasTagNumber}
+use Rattle.picky_der_core.specs.Refusal.{Refusal, Outcome, header, numbered_header, past}
+use Rattle.picky_der_de.specs.declared.end.End.TheVariants.{Hard}
+use Rattle.picky_der_de.specs.State.{State}
+use Rattle.picky_der_de.specs.Steps.{Takes, Fails, IsJudged, IsMissing, TakesNoMemory, failed_with, is_hard}
+use Rattle.picky_der_de.specs.Reading.{Reads, Refuses, Tells, AreNotRefused, AreJustRefused}
+use Rattle.picky_der_de.specs.Ends.{Outer, innermost, narrowed, RefusesClose}
+
+-- ---- wrappers
+
+abbrev pub wrap_shape : Wrapper → Shape → Shape
+wrap_shape OctetContainer s = Shape.octet_container s
+wrap_shape BitContainer s = Shape.bit_container s
+wrap_shape (Explicit n) s = Shape.explicit n s
+wrap_shape (Implicit n) s = Shape.implicit n s
+
+-- the shape, in a wrapper or as it is
+abbrev pub wrap_shape_if : Option Wrapper → Shape → Shape
+wrap_shape_if None s = s
+wrap_shape_if (Some w) s = wrap_shape w s
+
+-- only a bit string container counts unused bits
+abbrev pub counts_unused_bits : Wrapper → Bool
+counts_unused_bits OctetContainer = false
+counts_unused_bits BitContainer = true
+counts_unused_bits (Explicit n) = false
+counts_unused_bits (Implicit n) = false
+
+-- what stands behind the header and before the value: the count of unused bits, of which there are none (8.6.2)
+abbrev pub unused_bits : Wrapper → List ℕ
+unused_bits OctetContainer = []
+unused_bits BitContainer = 0x00 ∷ []
+unused_bits (Explicit n) = []
+unused_bits (Implicit n) = []
+
+-- the number of the implicit tag directly under which the value stands
+abbrev pub implicit_number : Wrapper → Option ℕ
+implicit_number OctetContainer = None
+implicit_number BitContainer = None
+implicit_number (Explicit n) = None
+implicit_number (Implicit n) = Some n
+
+-- ---- how the opening is refused
+
+-- n bytes before the end of a bit string container
+abbrev pub unused_bits_refusal : ℕ → List ℕ → Option Refusal
+unused_bits_refusal zero rest = Some (past true, rest)
+unused_bits_refusal (suc n) [] = Some (TruncatedData, [])
+unused_bits_refusal (suc n) (b ∷ bs) = if b == 0x00 then None else Some (InvalidData, bs)
+
+abbrev pub wrapper_header : Wrapper → Bool → ℕ → List ℕ → Outcome ℕ
+wrapper_header OctetContainer hard ahead rest = header 0x04 hard ahead rest
+wrapper_header BitContainer hard ahead rest = header 0x03 hard ahead rest
+wrapper_header (Explicit n) hard ahead rest = numbered_header 0xA0 n hard ahead rest
+wrapper_header (Implicit n) hard ahead rest = numbered_header 0x80 n hard ahead rest
+
+abbrev pub refusal_behind : Bool → Outcome ℕ → Option Refusal
+refusal_behind counts (Err r) = Some r
+refusal_behind true (Ok (n, rest)) = unused_bits_refusal n rest
+refusal_behind false (Ok (n, rest)) = None
+
+-- how what stands before the value is refused, if it is
+abbrev pub opening_refusal : Wrapper → State → List ℕ → Option Refusal
+opening_refusal w s rest = refusal_behind (counts_unused_bits w) (wrapper_header w (is_hard s.end) s.room rest)
+
+-- ---- openings
+
+-- the end around the innermost one was put back
+abbrev pub restored : Outer → State → State
+restored outer s = record s { room = outer.place - s.taken; end = outer.kind; last = outer.last }
+
+-- the header, and the count of unused bits
+abbrev pub opening : Wrapper → ℕ → List ℕ
+opening w n = (wrapper_tag w ∷ len n) ++ unused_bits w
+
+-- What stands before the value was taken, and nothing else changed but for a hard end that was opened where the length says.
+pub record OpensWrapper (w : Wrapper) (old new : State) (outer : Outer) : Type 0 where
+  pub size : ℕ
+  pub number : HasTagNumber w
+  pub around : outer ≡ innermost old
+  pub takes : Takes old (restored outer new) (opening w size)
+  pub room : size ≡ length (unused_bits w) + new.room
+  pub within : new.taken + new.room ≤ outer.place
+  pub end : new.end ≡ Hard
+  pub direct : new.direct ≡ implicit_number w
+  pub bounded : old.room < 2 ^ 64
+  pub no_refusal : AreNotRefused (opening_refusal w old) old
+
+-- no such wrapper stands there
+abbrev pub NoWrapper : Wrapper → ℕ → List ℕ → Type 0
+NoWrapper w end bs = (content rest : List ℕ) → HasTagNumber w → length (unused_bits w ++ content) < 2 ^ 64 → bs ≡ tlv (wrapper_tag w) (unused_bits w ++ content) ++ rest → length (tlv (wrapper_tag w) (unused_bits w ++ content)) ≤ end → ⊥
+
+-- what stands before the value was refused, and just so; no memory was wanted
+pub record RefusesOpening (w : Wrapper) (old new : State) (e : Asn1DerError) : Type 0 where
+  pub fails : Fails old new e
+  pub none : Tells old new e (NoWrapper w)
+  pub first : IsJudged old new e → e ≡ TruncatedData → 0 < old.room → (b : ℕ) (left : List ℕ) → old.input ≡ Some (b ∷ left) → (b ≡ wrapper_tag w) × HasTagNumber w
+  pub just : AreJustRefused (opening_refusal w old) old new e
+  pub memory : TakesNoMemory old new e
+  pub bounded : old.failed ≡ None → old.room < 2 ^ 64
+
+-- the header was taken, and the end was opened
+pub record BeginsWrapper (w : Wrapper) (old new : State) (outer : Outer) : Type 0 where
+  pub mid : State
+  pub size : ℕ
+  pub number : HasTagNumber w
+  pub takes : Takes old mid (wrapper_tag w ∷ len size)
+  pub fits : size ≤ mid.room
+  pub opened : new ≡ narrowed mid size Hard
+  pub around : outer ≡ innermost mid
+  pub bounded : old.room < 2 ^ 64
+
+-- why the count of unused bits isn't 00: it is missing, or another byte was taken
+pub data StopsUnusedBits (old new : State) (e : Asn1DerError) : Type 0 where
+  missing : IsMissing old e → Keeps old.input new.input → new.taken ≡ old.taken → new.peeked ≡ old.peeked → StopsUnusedBits old new e
+  other : (mid : State) (b : ℕ) → Takes old mid (b ∷ []) → b ≢ 0x00 → e ≡ InvalidData → new ≡ failed_with mid e → StopsUnusedBits old new e
+
+pub record RefusesUnusedBits (old new : State) (e : Asn1DerError) : Type 0 where
+  pub fails : Fails old new e
+  pub stops : IsJudged old new e → StopsUnusedBits old new e
+  pub memory : TakesNoMemory old new e
+
+-- ---- values in wrappers
+
+-- a value was read in this wrapper, before which nothing was refused
+pub record ReadsWrapped (w : Wrapper) (s : Shape) (old new : State) (t : Tree) : Type 0 where
+  pub reads : Reads (wrap_shape w s) old new (wrap w t)
+  pub no_refusal : AreNotRefused (opening_refusal w old) old
+
+-- Where a value in this wrapper was refused: before it, in it, which keeps the error, or behind it.
+pub data RefusesWrapped {V : Type 0} (meaning : V → Tree) (s : Shape) (w : Wrapper) (old new : State) (e : Asn1DerError) : Type 0 where
+  before : RefusesOpening w old new e → RefusesWrapped meaning s w old new e
+  inside : (mid : State) (outer : Outer) → OpensWrapper w old mid outer → Refuses meaning s mid new e → RefusesWrapped meaning s w old new e
+  behind : (mid last : State) (outer : Outer) (t : Tree) → OpensWrapper w old mid outer → Reads s mid last t → RefusesClose last new e → RefusesWrapped meaning s w old new e

@@ -1,0 +1,64 @@
+//! Containers and context tags, as they are read.
+ghost use Rattle.picky_der_core.specs.Shape.{Shape};
+ghost use Rattle.picky_der_core.specs.declared.asn1.wrapper.Wrapper.TheVariants as wrapper;
+ghost use Rattle.picky_der_de.specs.WrapperLaws.{wrapped_known};
+
+use crate::{Deserialize, Deserializer};
+use picky_der_core::Result;
+use picky_der_core::asn1::{
+    BitStringAsn1Container, ExplicitContextTag, ImplicitContextTag, Newtype,
+    OctetStringAsn1Container,
+};
+use picky_der_core::misc::ReadExt;
+
+impl<T: Deserialize> Deserialize for OctetStringAsn1Container<T> {
+    ghost shape = { Shape.octet_container T.shape };
+
+    ghost known_by_tree = { λ x y. wrapped_known wrapper.OctetContainer T.meaning T.shape T.eq T.known_by_tree x.0 y.0 };
+
+    ghost sound = { T.sound };
+
+    fn deserialize<R: ReadExt>(de: &mut Deserializer<R>) -> Result<OctetStringAsn1Container<T>> {
+        let value = de.deserialize_newtype_struct(Newtype::OctetContainer)?;
+        Ok(OctetStringAsn1Container(value))
+    }
+}
+
+impl<T: Deserialize> Deserialize for BitStringAsn1Container<T> {
+    ghost shape = { Shape.bit_container T.shape };
+
+    ghost known_by_tree = { λ x y. wrapped_known wrapper.BitContainer T.meaning T.shape T.eq T.known_by_tree x.0 y.0 };
+
+    ghost sound = { T.sound };
+
+    fn deserialize<R: ReadExt>(de: &mut Deserializer<R>) -> Result<BitStringAsn1Container<T>> {
+        let value = de.deserialize_newtype_struct(Newtype::BitContainer)?;
+        Ok(BitStringAsn1Container(value))
+    }
+}
+
+impl<T: Deserialize, const N: u8> Deserialize for ExplicitContextTag<T, N> {
+    ghost shape = { Shape.explicit N T.shape };
+
+    ghost known_by_tree = { λ x y. wrapped_known (wrapper.Explicit N) T.meaning T.shape T.eq T.known_by_tree x.0 y.0 };
+
+    ghost sound = { T.sound };
+
+    fn deserialize<R: ReadExt>(de: &mut Deserializer<R>) -> Result<ExplicitContextTag<T, N>> {
+        let value = de.deserialize_newtype_struct(Newtype::Explicit(N))?;
+        Ok(ExplicitContextTag(value))
+    }
+}
+
+impl<T: Deserialize, const N: u8> Deserialize for ImplicitContextTag<T, N> {
+    ghost shape = { Shape.implicit N T.shape };
+
+    ghost known_by_tree = { λ x y. wrapped_known (wrapper.Implicit N) T.meaning T.shape T.eq T.known_by_tree x.0 y.0 };
+
+    ghost sound = { T.sound };
+
+    fn deserialize<R: ReadExt>(de: &mut Deserializer<R>) -> Result<ImplicitContextTag<T, N>> {
+        let value = de.deserialize_newtype_struct(Newtype::Implicit(N))?;
+        Ok(ImplicitContextTag(value))
+    }
+}
