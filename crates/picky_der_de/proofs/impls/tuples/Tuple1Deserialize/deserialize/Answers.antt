@@ -1,4 +1,4 @@
-use Rattle.std.proofs.Common.{ap, refl, rules}
+use Rattle.std.proofs.Common.{refl, rules}
 use Rattle.picky_der_de.proofs.Ends.{opens_inside}
 use Rattle.picky_der_de.proofs.Asked.{asked, reads_at}
 use Rattle.picky_der_de.proofs.Rows.{row_unopened, row_refused, row_head, row_next, row_end, row_last, row_reads}
