@@ -5,12 +5,11 @@ use Rattle.picky_der_core.specs.Tag.{number_of, IsTagNumber}
 use Rattle.picky_der_core.specs.Refusal.{refusal_of}
 use Rattle.picky_der_de.specs.declared.end.End.{End}
 use Rattle.picky_der_de.specs.declared.end.End.TheVariants.{Soft}
-use Rattle.picky_der_de.specs.declared.deserializer.ends.Outer.{Outer}
 use Rattle.picky_der_de.specs.State.{State}
 use Rattle.picky_der_de.specs.Steps.{Takes, Fails, IsJudged, far, is_hard}
 use Rattle.picky_der_de.specs.Reading.{Concerns, now, ever}
 use Rattle.picky_der_de.specs.Headers.{header_bytes, Begins}
-use Rattle.picky_der_de.specs.Ends.{Around, around, innermost, narrowed, Closes, OpensList, list_refusal_in, list_refusal}
+use Rattle.picky_der_de.specs.Ends.{Outer, innermost, narrowed, Closes, OpensList, list_refusal_in, list_refusal}
 use Rattle.picky_der_de.proofs.Known.{front_of}
 use Rattle.picky_der_de.proofs.Headers.{header-read}
 use Rattle.picky_der_de.proofs.PlainReads.{fits_below}
@@ -28,13 +27,13 @@ not_refused {tag} {n} {a} {b} i h k =
     ap (list_refusal tag a) f.before ∙ header_not_refused a.direct tag n b.room a (take b.room f.rest) i (fits_below h) h.takes.room h.fits
 
 -- the end of a list was opened behind its header
-pub opens_list : {tag n : ℕ} {a b c : State} {outer : Around} → IsTagNumber (number_of tag) → Begins tag a b n → c ≡ narrowed b n Soft → outer ≡ innermost b → OpensList tag a c outer
+pub opens_list : {tag n : ℕ} {a b c : State} {outer : Outer} → IsTagNumber (number_of tag) → Begins tag a b n → c ≡ narrowed b n Soft → outer ≡ innermost b → OpensList tag a c outer
 opens_list {n = n} {b = b} i h opened back = record {
   mid = b;
   len = n;
   begins = h;
   opened = opened;
-  put_back = back;
+  around = back;
   no_refusal = λ bs k. not_refused i h k;
 }
 
@@ -70,18 +69,18 @@ widened_fails {b} {c} {e} {n} {kind} l f = record {
 }
 
 -- what was taken up to an end that is closed was taken before the one around it
-pub closes_behind : {b c d : State} {n : ℕ} {kind : End} {outer : Around} {bytes : List ℕ} → n ≤ b.room → outer ≡ innermost b → Takes (narrowed b n kind) c bytes → Closes outer c d → Takes b d bytes × (length bytes ≡ n)
+pub closes_behind : {b c d : State} {n : ℕ} {kind : End} {outer : Outer} {bytes : List ℕ} → n ≤ b.room → outer ≡ innermost b → Takes (narrowed b n kind) c bytes → Closes outer c d → Takes b d bytes × (length bytes ≡ n)
 closes_behind {b} {c} {d} {n} {kind} {outer} {bytes} l back t k =
     let size : length bytes ≡ n = omega (arith, t.room, k.reached) in
-    let place : outer.place ≡ b.taken + b.room = ap (λ (o : Around). o.place) back in
+    let place : outer.place ≡ b.taken + b.room = ap (λ (o : Outer). o.place) back in
     let new : State = record c { room = outer.place - c.taken; end = outer.kind; last = outer.last } in
     let takes : Takes b new bytes = record {
       input = t.input;
       taken = t.taken;
       room = omega (arith, t.taken, place, size);
-      end = ap (λ (o : Around). o.kind) back;
+      end = ap (λ (o : Outer). o.kind) back;
       limit = t.limit;
-      last = ap (λ (o : Around). o.last) back;
+      last = ap (λ (o : Outer). o.last) back;
       unpeeked = t.unpeeked;
       drawn = t.drawn;
       had_not_failed = t.had_not_failed;
@@ -91,5 +90,5 @@ closes_behind {b} {c} {d} {n} {kind} {outer} {bytes} l back t k =
     } in (subst (λ z. Takes b z bytes) (sym k.same) takes, size)
 
 -- a sequence that was made of what was opened
-pub opens_inside : {tag : ℕ} {a b c : State} {o p : Outer} → OpensList tag a b (around o) → c ≡ b → p ≡ o → OpensList tag a c (around p)
-opens_inside {tag} {a} {b} {c} {o} {p} h e f = subst (λ x. OpensList tag a c (around x)) (sym f) (subst (λ z. OpensList tag a z (around o)) (sym e) h)
+pub opens_inside : {tag : ℕ} {a b c : State} {o p : Outer} → OpensList tag a b o → c ≡ b → p ≡ o → OpensList tag a c p
+opens_inside {tag} {a} {b} {c} {o} {p} h e f = subst (λ x. OpensList tag a c x) (sym f) (subst (λ z. OpensList tag a z o) (sym e) h)

@@ -9,7 +9,7 @@ use Rattle.picky_der_core.specs.Shape.{Shape, IsOf, IsFirst, EachIs}
 use Rattle.picky_der_de.specs.State.{State}
 use Rattle.picky_der_de.specs.Steps.{Takes, Fails, IsJudged}
 use Rattle.picky_der_de.specs.Reading.{Reads, Refuses}
-use Rattle.picky_der_de.specs.Ends.{Around, Closes, RefusesClose, OpensList, RefusesList}
+use Rattle.picky_der_de.specs.Ends.{Outer, Closes, RefusesClose, OpensList, RefusesList}
 use Rattle.picky_der_de.specs.Members.{ReadsMember, RefusesMember, HasNoMore, bytes_of, StandBefore, ReadsAll, RefusesAll}
 use Rattle.picky_der_de.proofs.Steps.{takes_none, takes_then, fails_after, judged_after}
 use Rattle.picky_der_de.proofs.Members.{bytes_of-more, bytes_of-none, takes_member, member_ahead, next_member, no_member, none_left, list_refused, list_unopened, list_reads}
@@ -102,7 +102,7 @@ module _ {V W : Type 0} (meaning : W → Tree) (s : Shape) (kind : ListKind) (it
   list_of_unopened h = list_unopened kind (λ v. trees (map meaning (items v))) (Shape.list_of kind s) (list_first kind s) h
 
   -- a member was refused
-  pub list_of_refused : {b c : State} {outer : Around} {e : Asn1DerError} → OpensList (list_tag kind) a b outer → RefusesAll meaning s b c e → Refuses (λ v. Tree.list kind (trees (map meaning (items v)))) (Shape.list_of kind s) a c e
+  pub list_of_refused : {b c : State} {outer : Outer} {e : Asn1DerError} → OpensList (list_tag kind) a b outer → RefusesAll meaning s b c e → Refuses (λ v. Tree.list kind (trees (map meaning (items v)))) (Shape.list_of kind s) a c e
   list_of_refused h r = list_refused kind (λ v. trees (map meaning (items v))) (Shape.list_of kind s) (list_first kind s) h r.fails (λ j v of_shape readable w. r.none j (items v) of_shape.1 readable w)
 
 -- nothing is left behind the last member
@@ -110,6 +110,6 @@ pub all_closed : {V : Type 0} {meaning : V → Tree} {s : Shape} {b c d : State}
 all_closed r k = omega (arith, r.reached, (k.left r.takes.not_failed).0)
 
 -- all were read
-pub list_of_reads : {V : Type 0} (meaning : V → Tree) (s : Shape) (kind : ListKind) {a b c d : State} {outer closed : Around} (vs : List V) → OpensList (list_tag kind) a b outer → ReadsAll meaning s b c vs → Closes closed c d → closed ≡ outer
+pub list_of_reads : {V : Type 0} (meaning : V → Tree) (s : Shape) (kind : ListKind) {a b c d : State} {outer closed : Outer} (vs : List V) → OpensList (list_tag kind) a b outer → ReadsAll meaning s b c vs → Closes closed c d → closed ≡ outer
     → Reads (Shape.list_of kind s) a d (Tree.list kind (trees (map meaning vs)))
 list_of_reads meaning s kind vs h r k same = list_reads (trees (map meaning vs)) h r.takes r.direct k same (refl, r.of_shape) r.readable

@@ -12,7 +12,7 @@ use Rattle.picky_der_de.specs.declared.end.End.TheVariants.{Soft}
 use Rattle.picky_der_de.specs.State.{State}
 use Rattle.picky_der_de.specs.Steps.{Takes, Fails, IsJudged, place_in, place_of, drawn}
 use Rattle.picky_der_de.specs.Reading.{Concerns, now, ever, Reads, Refuses}
-use Rattle.picky_der_de.specs.Ends.{Around, narrowed, Closes, OpensList, RefusesList}
+use Rattle.picky_der_de.specs.Ends.{Outer, narrowed, Closes, OpensList, RefusesList}
 use Rattle.picky_der_de.specs.Members.{ReadsMember, RefusesMember, HasNoMore, bytes_of, StandBefore}
 use Rattle.picky_der_de.proofs.Steps.{fails_after, fails_again, judged_after}
 use Rattle.picky_der_de.proofs.Refusals.{behind, failed_grows, end_below}
@@ -113,7 +113,7 @@ some_left u us readable r w = omega (arith, w.fills, ap length (bytes_of-more u 
 -- ---- whole lists
 
 -- the members of a list that stands, before the list's end
-members_stand : (kind : ListKind) (s : Shape) {a b c : State} {outer : Around} {e : Asn1DerError} {end : ℕ} {bs : List ℕ} (ts : Trees) → OpensList (list_tag kind) a b outer → Fails b c e → Concerns a c e end bs → StandsAt (place_of a) s bs end (Tree.list kind ts) → StandBefore b c e (bytes_of ts)
+members_stand : (kind : ListKind) (s : Shape) {a b c : State} {outer : Outer} {e : Asn1DerError} {end : ℕ} {bs : List ℕ} (ts : Trees) → OpensList (list_tag kind) a b outer → Fails b c e → Concerns a c e end bs → StandsAt (place_of a) s bs end (Tree.list kind ts) → StandBefore b c e (bytes_of ts)
 members_stand kind s {b = b} {c = c} {e = e} ts h f w st =
     let grows : h.mid.taken ≤ drawn c = omega (arith, failed_grows f, ap (λ (z : State). z.taken) h.opened) in
     let o = begun h.begins grows refl refl w st in
@@ -127,7 +127,7 @@ members_stand kind s {b = b} {c = c} {e = e} ts h f w st =
     })
 
 -- a list whose header was taken, and whose members can't stand there
-pub list_refused : {V : Type 0} (kind : ListKind) (members : V → Trees) (s : Shape) → IsFirst s (list_tag kind) → {a b c : State} {outer : Around} {e : Asn1DerError} → OpensList (list_tag kind) a b outer → Fails b c e
+pub list_refused : {V : Type 0} (kind : ListKind) (members : V → Trees) (s : Shape) → IsFirst s (list_tag kind) → {a b c : State} {outer : Outer} {e : Asn1DerError} → OpensList (list_tag kind) a b outer → Fails b c e
     → (IsJudged b c e → (v : V) → IsOf s (Tree.list kind (members v)) → AreReadable (members v) → StandBefore b c e (bytes_of (members v)) → ⊥) → Refuses (λ v. Tree.list kind (members v)) s a c e
 list_refused kind members s first {a} {b} {c} {outer} {e} h f none =
     let before : Fails (narrowed h.mid h.len Soft) c e = subst (λ z. Fails z c e) h.opened f in
@@ -150,11 +150,11 @@ list_unopened kind members s first {a} h =
     }
 
 -- the members of a list that was opened and closed were read
-pub list_reads : {s : Shape} {a b c d : State} {kind : ListKind} {outer closed : Around} (ts : Trees) → OpensList (list_tag kind) a b outer → Takes b c (bytes_of ts) → c.direct ≡ None → Closes closed c d → closed ≡ outer
+pub list_reads : {s : Shape} {a b c d : State} {kind : ListKind} {outer closed : Outer} (ts : Trees) → OpensList (list_tag kind) a b outer → Takes b c (bytes_of ts) → c.direct ≡ None → Closes closed c d → closed ≡ outer
     → IsOf s (Tree.list kind ts) → AreReadable ts → Reads s a d (Tree.list kind ts)
 list_reads {s} {a} {b} {c} {d} {kind} {outer} {closed} ts h t none k same of_shape readable =
     let within : Takes (narrowed h.mid h.len Soft) c (content (Tree.list kind ts)) = subst (λ z. Takes z c (content (Tree.list kind ts))) h.opened (subst (Takes b c) (sym (bytes_of-content kind ts)) t) in
-    let p = closes_behind h.begins.fits (same ∙ h.put_back) within k in
+    let p = closes_behind h.begins.fits (same ∙ h.around) within k in
     record {
       of_shape = of_shape;
       readable = readable;

@@ -7,7 +7,7 @@ use Rattle.picky_der_core.specs.Shape.{Shape, Shapes, IsFirst}
 use Rattle.picky_der_de.specs.State.{State}
 use Rattle.picky_der_de.specs.Steps.{Takes}
 use Rattle.picky_der_de.specs.Reading.{Reads, Refuses}
-use Rattle.picky_der_de.specs.Ends.{Around, Closes, RefusesClose, OpensList, RefusesList}
+use Rattle.picky_der_de.specs.Ends.{Outer, Closes, RefusesClose, OpensList, RefusesList}
 use Rattle.picky_der_de.specs.Members.{ReadsMember, RefusesMember, bytes_of, ReadsRow, RefusesRow}
 use Rattle.picky_der_de.proofs.Steps.{takes_then, fails_after, judged_after}
 use Rattle.picky_der_de.proofs.Members.{bytes_of-more, bytes_of-none, takes_member, next_member, no_member, none_left, list_refused, list_unopened, list_reads}
@@ -23,7 +23,7 @@ pub row_unopened : {V : Type 0} {members : V → Trees} {ss : Shapes} {kind : Li
 row_unopened {members = members} {ss = ss} {kind = kind} h = list_unopened kind members (Shape.fields kind ss) (row_first kind ss) h
 
 -- the members were refused
-pub row_refused : {V : Type 0} {members : V → Trees} {ss : Shapes} {kind : ListKind} {a b c : State} {outer : Around} {e : Asn1DerError} → OpensList (list_tag kind) a b outer → RefusesRow members ss b c e → Refuses (λ v. Tree.list kind (members v)) (Shape.fields kind ss) a c e
+pub row_refused : {V : Type 0} {members : V → Trees} {ss : Shapes} {kind : ListKind} {a b c : State} {outer : Outer} {e : Asn1DerError} → OpensList (list_tag kind) a b outer → RefusesRow members ss b c e → Refuses (λ v. Tree.list kind (members v)) (Shape.fields kind ss) a c e
 row_refused {members = members} {ss = ss} {kind = kind} h r = list_refused kind members (Shape.fields kind ss) (row_first kind ss) h r.fails (λ j v of_shape readable w. r.none j v of_shape.1 readable w)
 
 -- the next member was refused
@@ -70,7 +70,7 @@ row_read {b = b} {d = d} {t = t} {ts = ts} r h = record {
 }
 
 -- the members were read, and the sequence was closed
-pub row_reads : {ss : Shapes} {kind : ListKind} {a b c d : State} {outer closed : Around} {ts : Trees} → OpensList (list_tag kind) a b outer → ReadsRow ss b c ts → Closes closed c d → closed ≡ outer → Reads (Shape.fields kind ss) a d (Tree.list kind ts)
+pub row_reads : {ss : Shapes} {kind : ListKind} {a b c d : State} {outer closed : Outer} {ts : Trees} → OpensList (list_tag kind) a b outer → ReadsRow ss b c ts → Closes closed c d → closed ≡ outer → Reads (Shape.fields kind ss) a d (Tree.list kind ts)
 row_reads {ts = ts} h r k same = list_reads ts h r.takes r.direct k same (refl, r.of_shape) r.readable
 
 pub ruleset rows = (row_unopened, row_refused, row_head, row_next, row_end, row_last, row_read, row_reads)

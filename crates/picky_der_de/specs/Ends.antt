@@ -5,7 +5,6 @@ use Rattle.picky_der_core.specs.declared.error.Asn1DerError.TheVariants.{Invalid
 use Rattle.picky_der_core.specs.Refusal.{Refusal, header_refusal}
 use Rattle.picky_der_de.specs.declared.end.End.{End}
 use Rattle.picky_der_de.specs.declared.end.End.TheVariants.{Soft}
-use Rattle.picky_der_de.specs.declared.deserializer.ends.Outer.{Outer}
 use Rattle.picky_der_de.specs.State.{State}
 use Rattle.picky_der_de.specs.Steps.{Fails, TakesNoMemory, failed_with, at_end, is_hard}
 use Rattle.picky_der_de.specs.Reading.{AreNotRefused}
@@ -13,17 +12,13 @@ use Rattle.picky_der_de.specs.Headers.{Begins, RefusesBegin}
 
 -- What is put back where an end is closed: how many bytes are before the end around it, what this is, and what is kept of the
 -- members before it.
-pub record Around : Type 0 where
+pub record Outer : Type 0 where
   pub place : ℕ
   pub kind : End
   pub last : Option (List ℕ)
 
--- what is put back of the members is None until sets are ordered
-abbrev pub around : Outer → Around
-around o = record { place = o.place; kind = o.kind; last = None }
-
 -- the innermost end, to be put back
-abbrev pub innermost : State → Around
+abbrev pub innermost : State → Outer
 innermost s = record { place = s.taken + s.room; kind = s.end; last = s.last }
 
 -- an end of this kind was opened so many bytes from here
@@ -31,7 +26,7 @@ abbrev pub narrowed : State → ℕ → End → State
 narrowed s n kind = record s { room = n; end = kind; last = None }
 
 -- the end was reached, and the one around it is the innermost again
-pub record Closes (outer : Around) (old new : State) : Type 0 where
+pub record Closes (outer : Outer) (old new : State) : Type 0 where
   pub reached : old.room ≡ 0
   pub had_not_failed : old.failed ≡ None
   pub same : new ≡ record old { room = outer.place - old.taken; end = outer.kind; last = outer.last }
@@ -52,12 +47,12 @@ abbrev pub list_refusal : ℕ → State → List ℕ → Option Refusal
 list_refusal tag s rest = list_refusal_in s.direct tag s rest
 
 -- the header under this tag was taken, if one stands there, and a soft end was opened where the content ends
-pub record OpensList (tag : ℕ) (old new : State) (outer : Around) : Type 0 where
+pub record OpensList (tag : ℕ) (old new : State) (outer : Outer) : Type 0 where
   pub mid : State
   pub len : ℕ
   pub begins : Begins tag old mid len
   pub opened : new ≡ narrowed mid len Soft
-  pub put_back : outer ≡ innermost mid
+  pub around : outer ≡ innermost mid
   pub no_refusal : AreNotRefused (list_refusal tag old) old
 
 -- the header was refused, and just so; no memory was wanted
@@ -67,8 +62,8 @@ pub record RefusesList (tag : ℕ) (old new : State) (e : Asn1DerError) : Type 0
 
 -- A soft end was opened so many bytes from here, or it would have been past the innermost end, and then the deserializer has
 -- failed. One that had failed is as it was.
-pub record OpensLazily (len : ℕ) (old new : State) (outer : Around) : Type 0 where
+pub record OpensLazily (len : ℕ) (old new : State) (outer : Outer) : Type 0 where
   pub again : (f : Asn1DerError) → old.failed ≡ Some f → new ≡ old
   pub past : old.failed ≡ None → old.room < len → new ≡ failed_with old (at_end old.end)
   pub opened : old.failed ≡ None → len ≤ old.room → new ≡ record (narrowed old len Soft) { direct = None }
-  pub put_back : outer ≡ innermost old
+  pub around : outer ≡ innermost old

@@ -7,5 +7,5 @@ mod options;
 #[cfg(test)]
 mod tests;
 mod texts;
-mod wrappers;
 mod tuples;
+mod wrappers;

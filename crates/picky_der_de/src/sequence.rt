@@ -22,7 +22,7 @@ pub struct Sequence<'a, R: ReadExt> {
 impl<'a, R: ReadExt> Sequence<'a, R> {
     ghost use Rattle.std.specs.Prelude.{◌≡◌, ◌+◌, ◌<◌, ◌≤◌, None, Err, IfNone, IfSome, IfOk, IfErr, OnOk};
     ghost use Rattle.picky_der_de.specs.Steps.{failed_with};
-    ghost use Rattle.picky_der_de.specs.Ends.{around, OpensLazily, Closes, RefusesClose};
+    ghost use Rattle.picky_der_de.specs.Ends.{OpensLazily, Closes, RefusesClose};
     ghost use Rattle.picky_der_de.specs.Members.{ReadsMember, RefusesMember, HasNoMore, ReadsAll, RefusesAll};
 
     /// Reads so many bytes from here as members, without a header. Directly under an implicit tag that tag's special
@@ -32,7 +32,7 @@ impl<'a, R: ReadExt> Sequence<'a, R> {
     /// and `TruncatedData` at a soft one.
     pub fn deserialize_lazy(de: &'a mut Deserializer<R>, len: usize) -> Sequence<'a, R>
         ensures same_reference { result.de.ghost_name ≡ de.entry.ghost_name }
-        ensures opened { OpensLazily len de.old result.de.now (around result.outer) }
+        ensures opened { OpensLazily len de.old result.de.now result.outer }
     {
         let outer = de.open_lazily(len);
         Sequence { de, outer }
@@ -43,7 +43,7 @@ impl<'a, R: ReadExt> Sequence<'a, R> {
     /// `deserialize_seq` and its kin do both at once. A proof about their caller doesn't learn what the deserializer is
     /// once the sequence is dropped, since a deserializer may hold a `'static` text; of this one's it does.
     pub fn inside(de: &'a mut Deserializer<R>, outer: Outer) -> Sequence<'a, R>
-        requires within { de.old.taken + de.old.room ≤ (around outer).place }
+        requires within { de.old.taken + de.old.room ≤ outer.place }
         requires whole { de.old.failed ≡ None → de.old.direct ≡ None }
         ensures same_reference { result.de.ghost_name ≡ de.entry.ghost_name }
         ensures same { result.de.now ≡ de.old }
@@ -103,7 +103,7 @@ impl<'a, R: ReadExt> Sequence<'a, R> {
 
     /// Closes the sequence. Bytes left over before its end are `InvalidData`, and none of them is drawn.
     pub fn end(self) -> Result<()>
-        ensures ok { OnOk result (Closes (around self.entry.outer) self.entry.de.now self.exit.0.now) }
+        ensures ok { OnOk result (Closes self.entry.outer self.entry.de.now self.exit.0.now) }
         ensures err { IfErr result (RefusesClose self.entry.de.now self.exit.0.now) }
     {
         let Sequence { de, outer } = self;
@@ -119,14 +119,14 @@ impl<R: ReadExt> Deserializer<R> {
     ghost use Rattle.picky_der_de.specs.Reading.{Reads, Refuses};
     ghost use Rattle.picky_der_core.specs.Tag.{number_of, IsTagNumber};
     ghost use Rattle.picky_der_de.specs.contracts.deserializer.Deserializer.{the_row};
-    ghost use Rattle.picky_der_de.specs.Ends.{around, OpensList, RefusesList};
+    ghost use Rattle.picky_der_de.specs.Ends.{OpensList, RefusesList};
 
     // Begins a sequence or set under this tag.
     fn open(&mut self, tag: Tag) -> Result<Sequence<'_, R>>
         requires { IsTagNumber (number_of tag) }
         ensures* rests { sem 𝓛 (RestsIfErr (the_row R.row R.ReadExt.own R.Read) self.entry (λ q. q.de.ghost_name) result (λ new. IfErr result (RefusesList tag self.old new))) }
         ensures same_reference { IfOk result (λ q. q.de.ghost_name ≡ self.entry.ghost_name) }
-        ensures ok { IfOk result (λ q. OpensList tag self.old q.de.now (around q.outer)) }
+        ensures ok { IfOk result (λ q. OpensList tag self.old q.de.now q.outer) }
     {
         let outer = self.open_list(tag)?;
         Ok(Sequence { de: self, outer })
@@ -163,7 +163,7 @@ impl<R: ReadExt> Deserializer<R> {
     pub fn deserialize_seq(&mut self) -> Result<Sequence<'_, R>>
         ensures* rests { sem 𝓛 (RestsIfErr (the_row R.row R.ReadExt.own R.Read) self.entry (λ q. q.de.ghost_name) result (λ new. IfErr result (RefusesList 0x30 self.old new))) }
         ensures same_reference { IfOk result (λ q. q.de.ghost_name ≡ self.entry.ghost_name) }
-        ensures ok { IfOk result (λ q. OpensList 0x30 self.old q.de.now (around q.outer)) }
+        ensures ok { IfOk result (λ q. OpensList 0x30 self.old q.de.now q.outer) }
     {
         self.open(Tag::SEQUENCE)
     }
@@ -172,7 +172,7 @@ impl<R: ReadExt> Deserializer<R> {
     pub fn deserialize_set(&mut self) -> Result<Sequence<'_, R>>
         ensures* rests { sem 𝓛 (RestsIfErr (the_row R.row R.ReadExt.own R.Read) self.entry (λ q. q.de.ghost_name) result (λ new. IfErr result (RefusesList 0x31 self.old new))) }
         ensures same_reference { IfOk result (λ q. q.de.ghost_name ≡ self.entry.ghost_name) }
-        ensures ok { IfOk result (λ q. OpensList 0x31 self.old q.de.now (around q.outer)) }
+        ensures ok { IfOk result (λ q. OpensList 0x31 self.old q.de.now q.outer) }
     {
         self.open(Tag::SET)
     }
@@ -181,7 +181,7 @@ impl<R: ReadExt> Deserializer<R> {
     pub fn deserialize_tuple(&mut self, _len: usize) -> Result<Sequence<'_, R>>
         ensures* rests { sem 𝓛 (RestsIfErr (the_row R.row R.ReadExt.own R.Read) self.entry (λ q. q.de.ghost_name) result (λ new. IfErr result (RefusesList 0x30 self.old new))) }
         ensures same_reference { IfOk result (λ q. q.de.ghost_name ≡ self.entry.ghost_name) }
-        ensures ok { IfOk result (λ q. OpensList 0x30 self.old q.de.now (around q.outer)) }
+        ensures ok { IfOk result (λ q. OpensList 0x30 self.old q.de.now q.outer) }
     {
         self.deserialize_seq()
     }
@@ -194,7 +194,7 @@ impl<R: ReadExt> Deserializer<R> {
     ) -> Result<Sequence<'_, R>>
         ensures* rests { sem 𝓛 (RestsIfErr (the_row R.row R.ReadExt.own R.Read) self.entry (λ q. q.de.ghost_name) result (λ new. IfErr result (RefusesList 0x30 self.old new))) }
         ensures same_reference { IfOk result (λ q. q.de.ghost_name ≡ self.entry.ghost_name) }
-        ensures ok { IfOk result (λ q. OpensList 0x30 self.old q.de.now (around q.outer)) }
+        ensures ok { IfOk result (λ q. OpensList 0x30 self.old q.de.now q.outer) }
     {
         self.deserialize_seq()
     }
@@ -207,7 +207,7 @@ impl<R: ReadExt> Deserializer<R> {
     ) -> Result<Sequence<'_, R>>
         ensures* rests { sem 𝓛 (RestsIfErr (the_row R.row R.ReadExt.own R.Read) self.entry (λ q. q.de.ghost_name) result (λ new. IfErr result (RefusesList 0x30 self.old new))) }
         ensures same_reference { IfOk result (λ q. q.de.ghost_name ≡ self.entry.ghost_name) }
-        ensures ok { IfOk result (λ q. OpensList 0x30 self.old q.de.now (around q.outer)) }
+        ensures ok { IfOk result (λ q. OpensList 0x30 self.old q.de.now q.outer) }
     {
         self.deserialize_seq()
     }

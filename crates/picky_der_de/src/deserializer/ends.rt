@@ -2,20 +2,30 @@
 ghost use Rattle.std.specs.Prelude.{◌≡◌, ◌+◌, ◌≤◌, ◌<◌, ◌↔◌, None, Some, IsTrue, IfOk, IfErr, OnOk};
 ghost use Rattle.picky_der_core.specs.Tag.{number_of, IsTagNumber};
 ghost use Rattle.picky_der_de.specs.Steps.{TakesNoMemory};
-ghost use Rattle.picky_der_de.specs.Ends.{around, innermost, narrowed, Closes, RefusesClose, OpensList, RefusesList, OpensLazily};
+ghost use Rattle.picky_der_de.specs.Ends.{innermost, narrowed, Closes, RefusesClose, OpensList, RefusesList, OpensLazily};
 
 use super::Deserializer;
 use crate::End;
 use picky_der_core::asn1::Tag;
 use picky_der_core::misc::ReadExt;
 use picky_der_core::{Asn1DerError, Result};
+use std::marker::Model;
 
 /// The end around an open one, which is put back where that is closed.
-#[derive(Clone, Copy)]
+#[derive(Drop)]
 pub struct Outer {
     // How many bytes are taken before it.
-    pub(crate) place: usize,
-    pub(crate) kind: End,
+    place: usize,
+    kind: End,
+}
+
+impl Model for Outer {
+    ghost use Rattle.std.specs.Prelude.{None};
+    ghost use Rattle.picky_der_de.specs.Ends.{Outer as OuterEnd};
+
+    ghost Value = { OuterEnd };
+
+    ghost view = { λ o. record { place = o.place; kind = o.kind; last = None } };
 }
 
 impl<R: ReadExt> Deserializer<R> {
@@ -23,7 +33,7 @@ impl<R: ReadExt> Deserializer<R> {
     pub(crate) fn open_end(&mut self, len: usize, kind: End) -> Outer
         requires { len ≤ self.old.room }
         ensures opened { self.new ≡ narrowed self.old len kind }
-        ensures around { around result ≡ innermost self.old }
+        ensures around { result ≡ innermost self.old }
     {
         let outer = Outer {
             place: self.reader.pos() + self.room,
@@ -40,7 +50,7 @@ impl<R: ReadExt> Deserializer<R> {
     /// `InvalidData` for another tag; else the refusals of a header and of an end, and the reader's fault.
     pub fn open_list(&mut self, tag: Tag) -> Result<Outer>
         requires number { IsTagNumber (number_of tag) }
-        ensures ok { IfOk result (λ outer. OpensList tag self.old self.new (around outer)) }
+        ensures ok { IfOk result (λ outer. OpensList tag self.old self.new outer) }
         ensures err { IfErr result (RefusesList tag self.old self.new) }
     {
         let len = self.begin(tag)?;
@@ -49,7 +59,7 @@ impl<R: ReadExt> Deserializer<R> {
 
     // Opens a soft end so many bytes from here. Where that is past the innermost end, it has failed.
     pub(crate) fn open_lazily(&mut self, len: usize) -> Outer
-        ensures { OpensLazily len self.old self.new (around result) }
+        ensures { OpensLazily len self.old self.new result }
     {
         if self.failed.is_none() && len <= self.room {
             self.direct = None;
@@ -67,7 +77,7 @@ impl<R: ReadExt> Deserializer<R> {
     // Closes the innermost end, if it was reached, and puts the one around it back.
     pub(crate) fn close_end(&mut self, outer: Outer) -> Result<()>
         requires { self.old.taken + self.old.room ≤ outer.place }
-        ensures ok { OnOk result (Closes (around outer) self.old self.new) }
+        ensures ok { OnOk result (Closes outer self.old self.new) }
         ensures err { IfErr result (RefusesClose self.old self.new) }
     {
         if let Some(error) = self.failed {

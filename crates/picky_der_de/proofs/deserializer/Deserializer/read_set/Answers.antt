@@ -1,7 +1,6 @@
-use Rattle.std.proofs.Common.{ap, rules}
+use Rattle.std.proofs.Common.{rules}
 use Rattle.std.proofs.lemmas.Result.{err_from_is_err_and}
 use Rattle.picky_der_core.specs.Tree.{ListKind}
-use Rattle.picky_der_de.specs.Ends.{around}
 use Rattle.picky_der_de.proofs.Asked.{asked, reads_at}
 use Rattle.picky_der_de.proofs.Ends.{opens_inside}
 use Rattle.picky_der_de.proofs.ListReads.{list_of_unopened, list_of_refused, list_of_reads, all_closed}
@@ -21,4 +20,4 @@ returns-in_err-end-clause-err g c = absurd (all_closed c.in_ok-values.ensures.ok
 
 pub returns-clause-ok : goal.returns-clause-ok
 returns-clause-ok g c =
-    reads_at (list_of_reads g.T.Serialize.meaning g.T.Deserialize.shape ListKind.set c.in_ok-values.values.items (opens_inside c.in_ok-outer.ensures.ok c.inside-members.ensures.same c.inside-members.ensures.outer) c.in_ok-values.ensures.ok c.in_ok-end.ensures.ok (ap around c.in_ok-values.ensures.outer)) (search rules)
+    reads_at (list_of_reads g.T.Serialize.meaning g.T.Deserialize.shape ListKind.set c.in_ok-values.values.items (opens_inside c.in_ok-outer.ensures.ok c.inside-members.ensures.same c.inside-members.ensures.outer) c.in_ok-values.ensures.ok c.in_ok-end.ensures.ok c.in_ok-values.ensures.outer) (search rules)

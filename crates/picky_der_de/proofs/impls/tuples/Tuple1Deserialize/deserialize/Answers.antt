@@ -1,5 +1,4 @@
-use Rattle.std.proofs.Common.{ap, refl, rules}
-use Rattle.picky_der_de.specs.Ends.{around}
+use Rattle.std.proofs.Common.{refl, rules}
 use Rattle.picky_der_de.proofs.Ends.{opens_inside}
 use Rattle.picky_der_de.proofs.Asked.{asked, reads_at}
 use Rattle.picky_der_de.proofs.Rows.{row_unopened, row_refused, row_head, row_next, row_end, row_last, row_reads}
@@ -15,4 +14,4 @@ pub returns-in_err-end-clause-err : goal.returns-in_err-end-clause-err
 returns-in_err-end-clause-err g c = asked _ c.from_residual-in_err-end.ensures.1 (search rules) (row_refused (opens_inside c.in_ok-outer.ensures.ok c.inside-members.ensures.same c.inside-members.ensures.outer) (row_next c.in_ok-first.ensures.ok (row_end (λ v. refl) c.in_err-end.ensures.err)))
 
 pub returns-clause-ok : goal.returns-clause-ok
-returns-clause-ok g c = reads_at (row_reads (opens_inside c.in_ok-outer.ensures.ok c.inside-members.ensures.same c.inside-members.ensures.outer) (row_last c.in_ok-first.ensures.ok) c.in_ok-end.ensures.ok (ap around (c.in_ok-first.ensures.outer))) (search rules)
+returns-clause-ok g c = reads_at (row_reads (opens_inside c.in_ok-outer.ensures.ok c.inside-members.ensures.same c.inside-members.ensures.outer) (row_last c.in_ok-first.ensures.ok) c.in_ok-end.ensures.ok (c.in_ok-first.ensures.outer)) (search rules)
