@@ -5,11 +5,13 @@ mod answer;
 pub mod laws;
 mod line;
 mod lines;
+mod test_struct;
 mod value;
 
 pub use answer::{answer_to, kind_word};
 pub use line::Request;
 pub use lines::run;
+pub use test_struct::TestStruct;
 pub use value::{ValueType, answer_read};
 
 #[cfg(test)]

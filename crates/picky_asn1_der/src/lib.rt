@@ -4,7 +4,7 @@
 /// Reading.
 pub mod de {
     pub use picky_der_de::{
-        Boolean, DEFAULT_MAX_LEN, Deserialize, Deserializer, End, Null, Sequence, UInt,
+        Boolean, DEFAULT_MAX_LEN, Deserialize, Deserializer, End, Null, Outer, Sequence, UInt,
         UnsignedInteger, Utf8String, from_bytes, from_reader, from_reader_with_max_len,
     };
 }
