@@ -1,6 +1,18 @@
 //! Types written by hand over the public calls alone, as a user of the crates writes them.
 #![tactic(auto)]
 
+mod marker;
+mod moment;
 mod named;
+mod number_or_flag;
+mod point;
+mod tagged;
+mod version;
 
+pub use marker::Marker;
+pub use moment::Moment;
 pub use named::Named;
+pub use number_or_flag::NumberOrFlag;
+pub use point::Point;
+pub use tagged::Tagged;
+pub use version::Version;

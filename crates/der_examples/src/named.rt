@@ -1,12 +1,10 @@
-//! A structure with a field of any type.
-ghost use Rattle.std.specs.Prelude.{[], ◌∷◌};
-ghost use Rattle.picky_der_core.specs.Tree.{ListKind, Tree, trees};
-ghost use Rattle.picky_der_core.specs.Shape.{Shape, Shapes};
-ghost use Rattle.picky_der_de.specs.KnownLaws.{bytes_known, row_known2};
+//! A struct with a field of any type.
+ghost use Rattle.std.proofs.Common.{rules};
+ghost use Rattle.picky_der_de.specs.TwinLaws.{knowns};
 
 use picky_asn1_der::asn1::{ByteBuf, Tag};
 use picky_asn1_der::misc::{ReadExt, WriteExt};
-use picky_asn1_der::{Deserialize, Deserializer, Result, Serialize, Serializer, de, ser};
+use picky_asn1_der::{Alike, Deserialize, Deserializer, Result, Serialize, Serializer, de, ser};
 
 /// A value under a name, as a SEQUENCE of an OCTET STRING and the value.
 #[derive(Debug, Drop, PartialEq, Eq)]
@@ -16,7 +14,7 @@ pub struct Named<T> {
 }
 
 impl<T: Serialize> Serialize for Named<T> {
-    ghost meaning = { λ s. Tree.list ListKind.sequence (trees (Tree.bytes 0x04 s.name.0.items ∷ T.meaning s.value ∷ [])) };
+    ghost meaning = { λ n. ⟦<(ByteBuf, T) as Serialize>⟧.meaning (n.name, n.value) };
 
     #[tactic(auto, using(picky_der_ser::proofs::Rows::row2))]
     fn serialize<W: WriteExt>(&self, serializer: &mut Serializer<W>) -> Result<usize> {
@@ -27,20 +25,25 @@ impl<T: Serialize> Serialize for Named<T> {
     }
 }
 
+impl<T: Deserialize> Alike for Named<T> {
+    type As = (ByteBuf, T);
+
+    ghost parts = { λ n. (n.name, n.value) };
+
+    fn from_parts((name, value): Self::As) -> Named<T> {
+        Named { name, value }
+    }
+}
+
 impl<T: Deserialize> Deserialize for Named<T> {
-    ghost shape = { Shape.fields ListKind.sequence (Shapes.more (Shape.bytes 0x04) (Shapes.more T.shape Shapes.none)) };
+    ghost shape = { ⟦<(ByteBuf, T) as Deserialize>⟧.shape };
 
-    ghost known_by_tree = { λ x y p q r e. row_known2 (bytes_known x.name.0.items y.name.0.items) (T.known_by_tree x.value y.value p.1.1.0 q.1.1.0 r.1.0) e };
+    ghost known_by_tree = { Prim.search (rules, knowns, T.known_by_tree) };
 
-    ghost sound = { (tt, (T.sound, tt)) };
+    ghost sound = { Prim.search (rules, T.sound) };
 
     fn deserialize<R: ReadExt>(deserializer: &mut Deserializer<R>) -> Result<Named<T>> {
-        let outer = deserializer.open_list(Tag::SEQUENCE)?;
-        let mut members = de::Sequence::inside(deserializer, outer);
-        let name = members.next_field::<ByteBuf>()?;
-        let value = members.next_field::<T>()?;
-        members.end()?;
-        Ok(Named { name, value })
+        de::deserialize_as(deserializer)
     }
 }
 

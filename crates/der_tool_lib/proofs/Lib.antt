@@ -1,3 +1,3 @@
+pub mod NamedAnswers
 pub mod RunSteps
 pub mod RunStops
-pub mod ValueReads

@@ -5,4 +5,4 @@ pub mod Text
 pub mod Run
 pub mod Laws
 pub mod Value
-pub mod TestStruct
+pub mod Reads

@@ -2,51 +2,77 @@
 use Rattle.std.specs.Prelude.{◌≡◌, ℕ, ◌-◌, ◌^◌, Bool, true, false, List, ◌++◌, length, codes, decimal, encode_utf8, Some}
 use Rattle.hex.specs.Hex.{encode_lower}
 use Rattle.picky_der_core.specs.declared.error.Asn1DerError.{Asn1DerError}
-use Rattle.picky_der_core.specs.declared.error.Asn1DerError.TheVariants.{OutOfMemory}
+use Rattle.picky_der_core.specs.declared.error.Asn1DerError.TheVariants.{TruncatedData, OutOfMemory}
+use Rattle.picky_der_core.specs.Element.{Begins}
 use Rattle.picky_der_core.specs.Tree.{Tree}
 use Rattle.picky_der_core.specs.Encoding.{der}
-use Rattle.picky_der_core.specs.Shape.{Shape}
-use Rattle.picky_der_core.specs.Laws.{Stands}
-use Rattle.picky_der_core.specs.Refusal.{Judge, boolean_fault, unsigned_fault, null_fault, character_fault, text_fault, bytes_fault, plain_refusal, fault}
-use Rattle.picky_der_de.specs.State.{State}
-use Rattle.picky_der_de.specs.Reading.{ReadsPlain, RefusesPlain}
+use Rattle.picky_der_core.specs.Readable.{IsReadable, IsWritable}
+use Rattle.picky_der_core.specs.Shape.{Shape, IsOf}
+use Rattle.picky_der_core.specs.Reading.{Reads}
+use Rattle.picky_der_core.specs.Refusal.{Judge, boolean_fault, unsigned_fault, null_fault, character_fault, text_fault, bytes_fault, plain_refusal, element_refusal, fault}
+use Rattle.picky_der_de.specs.Steps.{IsOfContent}
+use Rattle.der_tool_lib.specs.declared.test_struct.TestStruct.{TestStruct}
 use Rattle.der_tool_lib.specs.declared.value.ValueType.{ValueType}
 use Rattle.der_tool_lib.specs.declared.value.ValueType.TheVariants as named
+use Rattle.der_tool_lib.specs.contracts.test_struct.TestStructSerialize.TheImpl as test_written
+use Rattle.der_tool_lib.specs.contracts.test_struct.TestStructDeserialize.TheImpl as test_read
 use Rattle.der_tool_lib.specs.Words.{word_of}
 
 -- ---- the types
 
--- A plain type: what its values mean, of which shape, under which tag, and which contents are refused. Each tree of the
--- shape is what a value means.
-pub record Plain : Type 1 where
+-- how it is known with which error bytes are refused
+pub data Kinds : Type 0 where
+  -- just as a plain read is with this tag, whose contents are judged so
+  plain : ℕ → Judge → Kinds
+  -- just as an element that is taken whole is
+  element : Kinds
+  -- with `TruncatedData` where more bytes could complete a value
+  mendable : Kinds
+
+-- what the values of a type mean, of which shape, and how its refusals are known
+pub record Description : Type 1 where
   pub Value : Type 0
   pub meaning : Value → Tree
   pub shape : Shape
-  pub tag : ℕ
-  pub judge : Judge
+  pub kinds : Kinds
 
-abbrev pub unsigned_of : ℕ → Plain
-unsigned_of bits = record { Value = ℕ; meaning = Tree.unsigned; shape = Shape.unsigned (2 ^ bits - 1); tag = 0x02; judge = unsigned_fault (2 ^ bits - 1) }
+abbrev pub unsigned_of : ℕ → Description
+unsigned_of bits = record { Value = ℕ; meaning = Tree.unsigned; shape = Shape.unsigned (2 ^ bits - 1); kinds = plain 0x02 (unsigned_fault (2 ^ bits - 1)) }
 
-abbrev pub plain_of : ValueType → Plain
-plain_of named.Bool = record { Value = Bool; meaning = Tree.boolean; shape = Shape.boolean; tag = 0x01; judge = boolean_fault }
-plain_of named.U8 = unsigned_of 8
-plain_of named.U16 = unsigned_of 16
-plain_of named.U32 = unsigned_of 32
-plain_of named.U64 = unsigned_of 64
-plain_of named.U128 = unsigned_of 128
-plain_of named.Null = record { Value = Unit {0}; meaning = λ _. Tree.null; shape = Shape.null; tag = 0x05; judge = null_fault }
-plain_of named.Char = record { Value = ℕ; meaning = λ c. Tree.text (encode_utf8 c); shape = Shape.character; tag = 0x0C; judge = character_fault }
-plain_of named.Text = record { Value = List ℕ; meaning = Tree.text; shape = Shape.text; tag = 0x0C; judge = text_fault }
-plain_of named.Octets = record { Value = List ℕ; meaning = Tree.bytes 0x04; shape = Shape.bytes 0x04; tag = 0x04; judge = bytes_fault }
-
-abbrev pub ReadsTree : ValueType → State → State → Tree → Type 0
-ReadsTree type old new t = ReadsPlain (plain_of type).tag (plain_of type).judge (plain_of type).shape old new t
-
-abbrev pub RefusesValue : ValueType → State → State → Asn1DerError → Type 0
-RefusesValue type old new e = RefusesPlain (plain_of type).meaning (plain_of type).tag (plain_of type).judge (plain_of type).shape old new e
+abbrev pub described : ValueType → Description
+described named.Bool = record { Value = Bool; meaning = Tree.boolean; shape = Shape.boolean; kinds = plain 0x01 boolean_fault }
+described named.U8 = unsigned_of 8
+described named.U16 = unsigned_of 16
+described named.U32 = unsigned_of 32
+described named.U64 = unsigned_of 64
+described named.U128 = unsigned_of 128
+described named.Null = record { Value = Unit {0}; meaning = λ _. Tree.null; shape = Shape.null; kinds = plain 0x05 null_fault }
+described named.Char = record { Value = ℕ; meaning = λ c. Tree.text (encode_utf8 c); shape = Shape.character; kinds = plain 0x0C character_fault }
+described named.Text = record { Value = List ℕ; meaning = Tree.text; shape = Shape.text; kinds = plain 0x0C text_fault }
+described named.Octets = record { Value = List ℕ; meaning = Tree.bytes 0x04; shape = Shape.bytes 0x04; kinds = plain 0x04 bytes_fault }
+described named.Raw = record { Value = List ℕ; meaning = Tree.raw; shape = Shape.raw; kinds = element }
+described named.Test = record { Value = TestStruct; meaning = test_written.ghosts.meaning; shape = test_read.ghosts.shape; kinds = mendable }
 
 -- ---- the answers
+
+module _ (d : Description) (bytes : List ℕ) where
+  -- a value of the type stands at the front of the bytes
+  abbrev pub StandsFirst : d.Value → Type 0
+  StandsFirst v = Reads d.meaning d.shape bytes (length bytes) v
+
+  -- with more bytes behind them the bytes would be the encoding of a value that is read and written
+  pub record BeginsValue : Type 0 where
+    pub value : d.Value
+    pub of_shape : IsOf d.shape (d.meaning value)
+    pub readable : IsReadable (d.meaning value)
+    pub writable : IsWritable (d.meaning value)
+    pub begins : Begins bytes (der (d.meaning value))
+
+  -- the error with which the bytes are refused
+  abbrev pub IsKind : Kinds → Asn1DerError → Type 0
+  IsKind (plain tag judge) e = fault (plain_refusal tag judge false (length bytes) bytes) ≡ Some e
+  IsKind element e = fault (element_refusal false (length bytes) bytes) ≡ Some e
+  IsKind mendable e = IsOfContent e × (BeginsValue → e ≡ TruncatedData)
 
 abbrev pub is_memory : Asn1DerError → Bool
 is_memory OutOfMemory = true
@@ -54,7 +80,7 @@ is_memory _ = false
 
 -- the answer to bytes to be read as a value of the type
 pub data AnswersRead (type : ValueType) (bytes answer : List ℕ) : Type 0 where
-  read : (t : Tree) → Stands (plain_of type).shape bytes (length bytes) t → answer ≡ codes "ok " ++ (decimal (length (der t)) ++ (codes " " ++ encode_lower (der t))) → AnswersRead type bytes answer
-  refused : (e : Asn1DerError) → ((t : Tree) → Stands (plain_of type).shape bytes (length bytes) t → ⊥)
-      → fault (plain_refusal (plain_of type).tag (plain_of type).judge false (length bytes) bytes) ≡ Some e
-      → answer ≡ codes "refused " ++ word_of e → AnswersRead type bytes answer
+  read : (v : (described type).Value) → StandsFirst (described type) bytes v
+      → answer ≡ codes "ok " ++ (decimal (length (der ((described type).meaning v))) ++ (codes " " ++ encode_lower (der ((described type).meaning v)))) → AnswersRead type bytes answer
+  refused : (e : Asn1DerError) → ((v : (described type).Value) → StandsFirst (described type) bytes v → ⊥)
+      → IsKind (described type) bytes (described type).kinds e → answer ≡ codes "refused " ++ word_of e → AnswersRead type bytes answer

@@ -78,6 +78,12 @@ fn typed(words: &[u8]) -> Request<'_>
     if let Some(digits) = behind(words, b"octets ") {
         return Request::Read(ValueType::Octets, digits);
     }
+    if let Some(digits) = behind(words, b"raw ") {
+        return Request::Read(ValueType::Raw, digits);
+    }
+    if let Some(digits) = behind(words, b"test ") {
+        return Request::Read(ValueType::Test, digits);
+    }
     Request::Refused
 }
 

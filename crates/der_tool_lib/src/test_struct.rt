@@ -1,12 +1,10 @@
 //! A structure of three fields.
-ghost use Rattle.std.specs.Prelude.{◌^◌, ◌-◌};
-ghost use Rattle.picky_der_core.specs.Tree.{ListKind};
-ghost use Rattle.picky_der_core.specs.Shape.{Shape, Shapes};
-ghost use Rattle.der_tool_lib.specs.TestStruct.{struct_tree, struct_known};
+ghost use Rattle.std.proofs.Common.{rules};
+ghost use Rattle.picky_der_de.specs.TwinLaws.{knowns};
 
 use picky_asn1_der::asn1::{ByteBuf, Tag};
 use picky_asn1_der::misc::{ReadExt, WriteExt};
-use picky_asn1_der::{Deserialize, Deserializer, Result, Serialize, Serializer, de, ser};
+use picky_asn1_der::{Alike, Deserialize, Deserializer, Result, Serialize, Serializer, de, ser};
 
 /// A number, an octet string, and a pair.
 #[derive(Debug, Drop, PartialEq, Eq)]
@@ -17,7 +15,7 @@ pub struct TestStruct {
 }
 
 impl Serialize for TestStruct {
-    ghost meaning = { λ s. struct_tree s.number s.vec.0.items s.tuple.0 };
+    ghost meaning = { λ s. ⟦<(u8, ByteBuf, (usize, ())) as Serialize>⟧.meaning (s.number, s.vec, s.tuple) };
 
     #[tactic(auto, using(picky_der_ser::proofs::Rows::row3))]
     fn serialize<W: WriteExt>(&self, serializer: &mut Serializer<W>) -> Result<usize> {
@@ -29,21 +27,25 @@ impl Serialize for TestStruct {
     }
 }
 
+impl Alike for TestStruct {
+    type As = (u8, ByteBuf, (usize, ()));
+
+    ghost parts = { λ s. (s.number, s.vec, s.tuple) };
+
+    fn from_parts((number, vec, tuple): Self::As) -> TestStruct {
+        TestStruct { number, vec, tuple }
+    }
+}
+
 impl Deserialize for TestStruct {
-    ghost shape = { Shape.fields ListKind.sequence (Shapes.more (Shape.unsigned (2 ^ 8 - 1)) (Shapes.more (Shape.bytes 0x04) (Shapes.more (Shape.fields ListKind.sequence (Shapes.more (Shape.unsigned (2 ^ 64 - 1)) (Shapes.more Shape.null Shapes.none))) Shapes.none))) };
+    ghost shape = { ⟦<(u8, ByteBuf, (usize, ())) as Deserialize>⟧.shape };
 
-    ghost known_by_tree = { λ x y p q r e. struct_known x.number y.number x.vec.0.items y.vec.0.items x.tuple.0 y.tuple.0 e };
+    ghost known_by_tree = { Prim.search (rules, knowns) };
 
-    ghost sound = { (tt, (tt, ((tt, (tt, tt)), tt))) };
+    ghost sound = { Prim.search rules };
 
     fn deserialize<R: ReadExt>(deserializer: &mut Deserializer<R>) -> Result<TestStruct> {
-        let outer = deserializer.open_list(Tag::SEQUENCE)?;
-        let mut members = de::Sequence::inside(deserializer, outer);
-        let number = members.next_field::<u8>()?;
-        let vec = members.next_field::<ByteBuf>()?;
-        let tuple = members.next_field::<(usize, ())>()?;
-        members.end()?;
-        Ok(TestStruct { number, vec, tuple })
+        de::deserialize_as(deserializer)
     }
 }
 

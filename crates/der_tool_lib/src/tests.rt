@@ -81,6 +81,17 @@ fn reads_values(rt: HostRuntime) {
             "read octets 0488FFFFFFFFFFFFFFFF",
             "refused TruncatedData\n",
         ),
+        (
+            "read test 30150201070409546573746F6C6F706530050201040500",
+            "ok 23 30150201070409546573746f6c6f706530050201040500\n",
+        ),
+        ("read raw 300302010705", "ok 5 3003020107\n"),
+        ("read raw 1F810000", "refused UnsupportedValue\n"),
+        ("read test 3000", "refused TruncatedData\n"),
+        (
+            "read test 30170201070409546573746F6C6F7065300502010405000500",
+            "refused InvalidData\n",
+        ),
     ] {
         expect(&rt, rt.alloc(), line.as_bytes(), wanted);
     }
@@ -98,6 +109,7 @@ fn refuses_lines_that_name_no_value(rt: HostRuntime) {
         "READ u8 020107",
         "read Null 0500",
         "read string 0c00",
+        "read Test 3000",
     ] {
         expect(&rt, rt.alloc(), line.as_bytes(), "refused Line\n");
     }

@@ -1,11 +1,14 @@
 //! Typed values to canonical ASN.1 DER and back: the items of the crates beneath, under the paths of the Rust crate.
 #![tactic(auto)]
 
+pub mod application_tag;
+
 /// Reading.
 pub mod de {
     pub use picky_der_de::{
-        Boolean, DEFAULT_MAX_LEN, Deserialize, Deserializer, End, Null, Outer, Sequence, UInt,
-        UnsignedInteger, Utf8String, from_bytes, from_reader, from_reader_with_max_len,
+        Alike, Boolean, Choice, DEFAULT_MAX_LEN, Deserialize, Deserializer, Enclosure, End, Null,
+        Outer, Sequence, UInt, UnsignedInteger, Utf8String, deserialize_as, deserialize_choice,
+        from_bytes, from_reader, from_reader_with_max_len,
     };
 }
 
@@ -17,12 +20,16 @@ pub mod ser {
     };
 }
 
+pub mod raw_der;
+
 pub use picky_der_core::misc::Length;
 pub use picky_der_core::{Asn1DerError, Result, asn1, laws, misc};
 pub use picky_der_de::{
-    Deserialize, Deserializer, from_bytes, from_reader, from_reader_with_max_len,
+    Alike, Deserialize, Deserializer, deserialize_as, from_bytes, from_reader,
+    from_reader_with_max_len,
 };
 pub use picky_der_ser::{Serialize, Serializer, to_byte_buf, to_bytes, to_vec, to_writer};
+pub use raw_der::Asn1RawDer;
 
 #[cfg(test)]
 mod tests;

@@ -3,7 +3,7 @@ ghost use Rattle.std.specs.Prelude.{◌≡◌};
 ghost use Rattle.std.specs.IoError.{error_kind};
 ghost use Rattle.picky_der_core.specs.Error.{kind_of};
 
-use std::io;
+use std::io::{self, ErrorKind};
 use thiserror::Error;
 
 /// Why a value could not be written or read.
@@ -38,7 +38,7 @@ pub enum Asn1DerError {
 
     /// A fault of the device that was read from or written to.
     #[error("Other({0:?})")]
-    Other(io::ErrorKind),
+    Other(ErrorKind),
 
     /// Memory was refused.
     #[error("OutOfMemory")]
@@ -60,18 +60,18 @@ impl From<io::Error> for Asn1DerError {
     ghost from_gives = { λ e k. k ≡ kind_of (error_kind e) };
 
     #[tactic(auto, unfolding(crate::specs::Error::kind_of))]
-    fn from(error: io::Error) -> Asn1DerError {
+    fn from(error: io::Error) -> Self {
         match error.kind() {
-            io::ErrorKind::UnexpectedEof => Asn1DerError::TruncatedData,
-            io::ErrorKind::WriteZero => Asn1DerError::InvalidSink,
-            io::ErrorKind::OutOfMemory => Asn1DerError::OutOfMemory,
-            kind => Asn1DerError::Other(kind),
+            ErrorKind::UnexpectedEof => Self::TruncatedData,
+            ErrorKind::WriteZero => Self::InvalidSink,
+            ErrorKind::OutOfMemory => Self::OutOfMemory,
+            other => Self::Other(other),
         }
     }
 }
 
 /// What the calls of the workspace answer.
-pub type Result<T> = std::result::Result<T, Asn1DerError>;
+pub type Result<Answer> = std::result::Result<Answer, Asn1DerError>;
 
 #[cfg(test)]
 mod tests;

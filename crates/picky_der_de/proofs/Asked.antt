@@ -13,3 +13,6 @@ asked (Err error) h same f = rw (h, same) f
 
 pub reads_at : {s : Shape} {a x y : State} {t : Tree} → Reads s a y t → x ≡ y → Reads s a x t
 reads_at h same = rw same h
+
+pub refuses_at : {V : Type 0} {meaning : V → Tree} {s : Shape} {a x y : State} {e : Asn1DerError} → Refuses meaning s a y e → x ≡ y → Refuses meaning s a x e
+refuses_at h same = rw same h

@@ -12,7 +12,7 @@ use Rattle.picky_der_core.specs.Refusal.{past, missing, length_of, within_end, h
 use Rattle.picky_der_de.specs.State.{State}
 use Rattle.picky_der_de.specs.Steps.{Takes, Fails, IsMissing, IsJudged, failed_with, is_hard, at_end, drawn}
 use Rattle.picky_der_de.specs.Reading.{Concerns, IsJustRefused}
-use Rattle.picky_der_de.specs.Headers.{StopsLength, cut, bad, RefusesLength, NoElement, RefusesHeader}
+use Rattle.picky_der_de.specs.Headers.{StopsLength, cut, bad, RefusesLength, StopsContentLength, no_length, too_long, RefusesContentLength, NoElement, RefusesHeader}
 use Rattle.picky_der_de.proofs.Steps.{takes_then, fails_after, judged_after}
 use Rattle.picky_der_de.proofs.Refusals.{parted, behind, failed_grows, cut_grows, tells_after, missing_here, past_end, missing_first, taken_first}
 use Rattle.picky_der_de.proofs.Lengths.{cut_after}
@@ -138,29 +138,48 @@ just_no_length tag {a} {e = e} i t (bad mid bytes d same h) k =
     just_taken (header_refusal tag (is_hard a.end) a.room) (takes_then t d) same k
     (λ y. ap refusal_of (header-behind tag (is_hard a.end) a.room (bytes ++ y) i ∙ ap (within_end (is_hard a.end) a.room (tag ∷ (bytes ++ y))) (h (missing (is_hard a.end) a.room (tag ∷ (bytes ++ y))) y)))
 
-pub header_no_length : (tag : ℕ) {a b c : State} {e : Asn1DerError} → IsTagNumber (number_of tag) → Takes a b (tag ∷ []) → RefusesLength b c e → RefusesHeader tag a c e
-header_no_length tag {a} {b} {c} {e} n t r = record {
-  fails = fails_after t r.fails;
-  none = λ j end bs w. no_length_there tag t (r.stops (judged_after t j)) w;
-  first = λ j k l x left q. taken_first a.input b.input tag x [] left t.input q;
-  just = λ j bs k. just_no_length tag n t (r.stops (judged_after t j)) k;
-}
-
 pub length_tlv : (tag : ℕ) (content : List ℕ) → length (tlv tag content) ≡ length (tag ∷ len (length content)) + length content
 unfolding tlv
 length_tlv tag content = omega (arith, length-append (len (length content)) content)
 
--- the length reaches past the end
-pub header_too_long : (tag : ℕ) {a b c : State} {e : Asn1DerError} {n : ℕ} → IsTagNumber (number_of tag) → Takes a b (tag ∷ len n) → Fails b c e → n < 2 ^ 64 → b.room < n → e ≡ at_end b.end → c ≡ failed_with b e → RefusesHeader tag a c e
-header_too_long tag {a} {b} {c} {e} {n} i t f small more is same = record {
-  fails = fails_after t f;
-  none = λ j end bs w content z s q l.
-      let v = behind t (failed_grows f) w in
-      let r = header_length tag n content v.rest z (sym v.begins ∙ q) in
-      let same_size : length (len (length content)) ≡ length (len n) = ap (λ m. length (len m)) (sym r.0) in
-      omega (arith, past_end is more v.concerns, v.ends, length_tlv tag content, same_size, r.0);
-  first = λ j k l x left q. taken_first a.input b.input tag x (len n) left t.input q;
-  just = λ j bs k. just_taken (header_refusal tag (is_hard a.end) a.room) t same k (λ y.
-      ap refusal_of (header-past_end tag (is_hard a.end) a.room n b.room y i small t.room more)
-      ∙ ap (λ x. Some (x, y)) (ap at_end (sym t.end) ∙ sym is));
+-- the length behind the tag reaches past the end
+too_long_there : (tag : ℕ) {a b c : State} {e : Asn1DerError} {n end : ℕ} {bs : List ℕ} → Takes a b (tag ∷ len n) → b.taken ≤ drawn c → b.room < n → e ≡ at_end b.end → Concerns a c e end bs → NoElement tag end bs
+too_long_there tag {n = n} t f more is w content z small q l =
+    let v = behind t f w in
+    let r = header_length tag n content v.rest z (sym v.begins ∙ q) in
+    let same_size : length (len (length content)) ≡ length (len n) = ap (λ m. length (len m)) (sym r.0) in
+    omega (arith, past_end is more v.concerns, v.ends, length_tlv tag content, same_size, r.0)
+
+just_too_long : (tag : ℕ) {a b c : State} {e : Asn1DerError} {n : ℕ} {bs : List ℕ} → IsTagNumber (number_of tag) → Takes a b (tag ∷ len n) → n < 2 ^ 64 → b.room < n → e ≡ at_end b.end → c ≡ failed_with b e → a.input ≡ Some bs
+    → IsJustRefused (header_refusal tag (is_hard a.end) a.room) a c e bs
+just_too_long tag {a} {b} {n = n} i t small more is same k = just_taken (header_refusal tag (is_hard a.end) a.room) t same k (λ y.
+    ap refusal_of (header-past_end tag (is_hard a.end) a.room n b.room y i small t.room more)
+    ∙ ap (λ x. Some (x, y)) (ap at_end (sym t.end) ∙ sym is))
+
+-- no element with this tag stands where its length was refused
+no_element_there : (tag : ℕ) {a b c : State} {e : Asn1DerError} {end : ℕ} {bs : List ℕ} → Takes a b (tag ∷ []) → StopsContentLength b c e → Concerns a c e end bs → NoElement tag end bs
+no_element_there tag t (no_length s) w = no_length_there tag t s w
+no_element_there tag {c = c} t (too_long mid n d small more is same) w =
+    too_long_there tag (takes_then t d) (omega (arith, ap (λ (s : State). s.taken) same)) more is w
+
+just_no_element : (tag : ℕ) {a b c : State} {e : Asn1DerError} {bs : List ℕ} → IsTagNumber (number_of tag) → Takes a b (tag ∷ []) → StopsContentLength b c e → a.input ≡ Some bs
+    → IsJustRefused (header_refusal tag (is_hard a.end) a.room) a c e bs
+just_no_element tag i t (no_length s) k = just_no_length tag i t s k
+just_no_element tag i t (too_long mid n d small more is same) k = just_too_long tag i (takes_then t d) small more is same k
+
+-- the length behind the tag was refused
+pub header_unread : (tag : ℕ) {a b c : State} {e : Asn1DerError} → IsTagNumber (number_of tag) → Takes a b (tag ∷ []) → RefusesContentLength b c e → RefusesHeader tag a c e
+header_unread tag {a} {b} n t r = record {
+  fails = fails_after t r.fails;
+  none = λ j end bs w. no_element_there tag t (r.stops (judged_after t j)) w;
+  first = λ j k l x left q. taken_first a.input b.input tag x [] left t.input q;
+  just = λ j bs k. just_no_element tag n t (r.stops (judged_after t j)) k;
 }
+
+-- no length was read
+pub content_no_length : {b c : State} {e : Asn1DerError} → RefusesLength b c e → RefusesContentLength b c e
+content_no_length r = record { fails = r.fails; stops = λ j. no_length (r.stops j) }
+
+-- the length that was read reaches past the end
+pub content_too_long : {b m c : State} {e : Asn1DerError} {n : ℕ} → Takes b m (len n) → Fails m c e → n < 2 ^ 64 → m.room < n → e ≡ at_end m.end → c ≡ failed_with m e → RefusesContentLength b c e
+content_too_long {m = m} {n = n} t f small more is same = record { fails = fails_after t f; stops = λ j. too_long m n t small more is same }

@@ -6,7 +6,6 @@ use Rattle.picky_der_core.specs.declared.error.Asn1DerError.{Asn1DerError}
 use Rattle.picky_der_core.specs.declared.error.Asn1DerError.TheVariants.{InvalidData}
 use Rattle.picky_der_core.specs.Element.{len}
 use Rattle.picky_der_core.specs.ElementLaws.{len-short}
-use Rattle.picky_der_core.specs.Shape.{AreBytes}
 use Rattle.picky_der_core.specs.Refusal.{length_of}
 use Rattle.picky_der_core.specs.Lengths.{IsLongCount, IsNoLongCount, none, too_many}
 use Rattle.picky_der_core.specs.LengthLaws.{length_of-none, length_of-too_many, length_of-cut, length_of-longer, len-number}
@@ -14,10 +13,7 @@ use Rattle.picky_der_de.specs.State.{State}
 use Rattle.picky_der_de.specs.Steps.{Takes, Fails, IsCut, StopsShort, failed_with}
 use Rattle.picky_der_de.specs.Headers.{ReadsDigits, cut, bad, RefusesLength}
 use Rattle.picky_der_de.proofs.Steps.{takes_then, takes_none, fails_after, judged_after}
-
-pub bytes_push : (bs : List ℕ) (b : ℕ) → AreBytes bs → b < 256 → AreBytes (bs ++ (b ∷ []))
-bytes_push [] b h l = (l, tt)
-bytes_push (x ∷ bs) b h l = (h.0, bytes_push bs b h.1 l)
+use Rattle.picky_der_de.proofs.Contents.{takes_bytes-more}
 
 -- no byte was taken yet
 pub digits_none : (a : State) → a.failed ≡ None → a.peeked ≡ None → ReadsDigits a a 0 0
@@ -27,11 +23,7 @@ digits_none a h p = record { digits = []; takes = record { takes = takes_none a 
 pub digits_more : {a b c : State} {count n d : ℕ} → ReadsDigits a b count n → Takes b c (d ∷ []) → d < 256 → ReadsDigits a c (count + 1) (n * 256 + d)
 digits_more {d = d} h t l = record {
   digits = h.digits ++ (d ∷ []);
-  takes = record {
-    takes = takes_then h.takes.takes t;
-    count = omega (arith, length-append h.digits (d ∷ []), h.takes.count);
-    bytes = bytes_push h.digits d h.takes.bytes l;
-  };
+  takes = takes_bytes-more h.takes t l;
   number = omega (arith, number_push 256 h.digits d, h.number);
 }
 

@@ -16,7 +16,7 @@ use Rattle.picky_der_de.proofs.Members.{bytes_of-more, bytes_of-none, takes_memb
 
 -- ---- one member more behind others
 
-bytes_of-push : {V : Type 0} (meaning : V → Tree) (vs : List V) (v : V) → bytes_of (trees (map meaning (vs ++ v ∷ []))) ≡ bytes_of (trees (map meaning vs)) ++ der (meaning v)
+pub bytes_of-push : {V : Type 0} (meaning : V → Tree) (vs : List V) (v : V) → bytes_of (trees (map meaning (vs ++ v ∷ []))) ≡ bytes_of (trees (map meaning vs)) ++ der (meaning v)
 bytes_of-push meaning [] v = bytes_of-more (meaning v) Trees.none ∙ ap (λ x. der (meaning v) ++ x) bytes_of-none ∙ append-nil (der (meaning v)) ∙ ap (λ x. x ++ der (meaning v)) (sym bytes_of-none)
 bytes_of-push meaning (w ∷ vs) v =
     bytes_of-more (meaning w) (trees (map meaning (vs ++ v ∷ [])))
@@ -24,11 +24,11 @@ bytes_of-push meaning (w ∷ vs) v =
     ∙ sym (append_assoc (der (meaning w)) (bytes_of (trees (map meaning vs))) (der (meaning v)))
     ∙ ap (λ x. x ++ der (meaning v)) (sym (bytes_of-more (meaning w) (trees (map meaning vs))))
 
-each-push : {V : Type 0} (meaning : V → Tree) (P : Tree → Type 0) (vs : List V) (v : V) → EachIs P (trees (map meaning vs)) → P (meaning v) → EachIs P (trees (map meaning (vs ++ v ∷ [])))
+pub each-push : {V : Type 0} (meaning : V → Tree) (P : Tree → Type 0) (vs : List V) (v : V) → EachIs P (trees (map meaning vs)) → P (meaning v) → EachIs P (trees (map meaning (vs ++ v ∷ [])))
 each-push meaning P [] v h p = (p, tt)
 each-push meaning P (w ∷ vs) v h p = (h.0, each-push meaning P vs v h.1 p)
 
-readable-push : {V : Type 0} (meaning : V → Tree) (vs : List V) (v : V) → AreReadable (trees (map meaning vs)) → IsReadable (meaning v) → AreReadable (trees (map meaning (vs ++ v ∷ [])))
+pub readable-push : {V : Type 0} (meaning : V → Tree) (vs : List V) (v : V) → AreReadable (trees (map meaning vs)) → IsReadable (meaning v) → AreReadable (trees (map meaning (vs ++ v ∷ [])))
 readable-push meaning [] v h p = (p, tt)
 readable-push meaning (w ∷ vs) v h p = (h.0, readable-push meaning vs v h.1 p)
 

@@ -16,7 +16,7 @@ end_of_input : kind_of UnexpectedEof ≡ TruncatedData
 unfolding kind_of
 end_of_input = refl
 
-keeps_consumes : (i j : Option (List ℕ)) → Keeps i j → Consumes i j []
+pub keeps_consumes : (i j : Option (List ℕ)) → Keeps i j → Consumes i j []
 keeps_consumes None j k = tt
 keeps_consumes (Some xs) None k = k
 keeps_consumes (Some xs) (Some ys) k = sym k

@@ -40,7 +40,7 @@ takes_none a h p = record {
   through = refl;
 }
 
-there_after : (i j : Option (List ℕ)) (h : List ℕ) (s t n : ℕ) → Consumes i j h → t ≡ s + length h → HasDrawn j t n → HasDrawn i s n
+pub there_after : (i j : Option (List ℕ)) (h : List ℕ) (s t n : ℕ) → Consumes i j h → t ≡ s + length h → HasDrawn j t n → HasDrawn i s n
 there_after None j h s t n c e f = tt
 there_after (Some xs) None h s t n c e f = absurd c
 there_after (Some xs) (Some ys) h s t n c e f = omega (arith, ap length c, length-append h ys)

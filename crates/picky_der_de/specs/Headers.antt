@@ -4,17 +4,10 @@ use Rattle.std.specs.Int.Digits.{number_from_digits}
 use Rattle.picky_der_core.specs.declared.error.Asn1DerError.{Asn1DerError}
 use Rattle.picky_der_core.specs.declared.error.Asn1DerError.TheVariants.{TruncatedData}
 use Rattle.picky_der_core.specs.Element.{len, tlv}
-use Rattle.picky_der_core.specs.Shape.{AreBytes}
 use Rattle.picky_der_core.specs.Refusal.{length_of, header_refusal}
 use Rattle.picky_der_de.specs.State.{State}
-use Rattle.picky_der_de.specs.Steps.{Takes, Fails, IsCut, IsJudged, failed_with, is_hard}
+use Rattle.picky_der_de.specs.Steps.{Takes, TakesBytes, Fails, IsCut, IsJudged, failed_with, is_hard, at_end}
 use Rattle.picky_der_de.specs.Reading.{Tells, AreJustRefused}
-
--- these bytes of a length were taken
-pub record TakesDigits (old new : State) (n : ℕ) (digits : List ℕ) : Type 0 where
-  pub takes : Takes old new digits
-  pub count : length digits ≡ n
-  pub bytes : AreBytes digits
 
 -- why no length was read: a byte was missing, or what was taken begins none
 pub data StopsLength (old new : State) (e : Asn1DerError) : Type 0 where
@@ -25,6 +18,16 @@ pub data StopsLength (old new : State) (e : Asn1DerError) : Type 0 where
 pub record RefusesLength (old new : State) (e : Asn1DerError) : Type 0 where
   pub fails : Fails old new e
   pub stops : IsJudged old new e → StopsLength old new e
+
+-- why no length of a content was read: there is no length, or it reaches past the innermost end
+pub data StopsContentLength (old new : State) (e : Asn1DerError) : Type 0 where
+  no_length : StopsLength old new e → StopsContentLength old new e
+  too_long : (mid : State) (n : ℕ) → Takes old mid (len n) → n < 2 ^ 64 → mid.room < n → e ≡ at_end mid.end → new ≡ failed_with mid e → StopsContentLength old new e
+
+-- no length of a content that ends before the innermost end was read
+pub record RefusesContentLength (old new : State) (e : Asn1DerError) : Type 0 where
+  pub fails : Fails old new e
+  pub stops : IsJudged old new e → StopsContentLength old new e
 
 -- no element with this tag stands there
 abbrev pub NoElement : ℕ → ℕ → List ℕ → Type 0
@@ -59,5 +62,5 @@ pub record RefusesBegin (tag : ℕ) (old new : State) (e : Asn1DerError) : Type 
 -- a number was read from so many bytes
 pub record ReadsDigits (old new : State) (count n : ℕ) : Type 0 where
   pub digits : List ℕ
-  pub takes : TakesDigits old new count digits
+  pub takes : TakesBytes old new count digits
   pub number : n ≡ number_from_digits 256 digits

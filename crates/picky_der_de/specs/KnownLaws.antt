@@ -37,6 +37,9 @@ same_bytes (a ∷ x) (b ∷ y) e =
 pub bytes_known : {tag other : ℕ} (x y : List ℕ) → Tree.bytes tag x ≡ Tree.bytes other y → pointwise eqb x y ≡ true
 bytes_known x y e = let q : x ≡ y = cc in same_bytes x y q
 
+pub raw_known : (x y : List ℕ) → Tree.raw x ≡ Tree.raw y → pointwise eqb x y ≡ true
+raw_known x y e = let q : x ≡ y = cc in same_bytes x y q
+
 pub text_known : (x y : List ℕ) → Tree.text x ≡ Tree.text y → pointwise eqb x y ≡ true
 text_known x y e = let q : x ≡ y = cc in same_bytes x y q
 
@@ -78,7 +81,7 @@ first_member e = cc
 other_members : {t u : Tree} {ts us : Trees} → Trees.more t ts ≡ Trees.more u us → ts ≡ us
 other_members e = cc
 
-both : {p q : Bool} → p ≡ true → q ≡ true → (p && q) ≡ true
+pub both : {p q : Bool} → p ≡ true → q ≡ true → (p && q) ≡ true
 both h k = rw (h, k) refl
 
 module _ {k l : ListKind} {a b : Tree} {p : Bool} (f : a ≡ b → p ≡ true) where

@@ -1,11 +1,13 @@
 -- What the calls of a deserializer do to it.
-use Rattle.std.specs.Prelude.{◌≡◌, ◌≢◌, ℕ, ◌+◌, ◌-◌, ◌^◌, ◌<◌, ◌≤◌, Bool, true, false, List, length, take, Option, Some, None, IfSome, ⊤}
+use Rattle.std.specs.Prelude.{◌≡◌, ◌≢◌, ℕ, ◌+◌, ◌-◌, ◌^◌, ◌<◌, ◌≤◌, Bool, true, false, List, ◌++◌, length, take, Option, Some, None, IfSome, ⊤}
 use Rattle.std.specs.Io.KnownBytes.{Consumes, Keeps, IsAtEnd}
 use Rattle.picky_der_core.specs.declared.error.Asn1DerError.{Asn1DerError}
 use Rattle.picky_der_core.specs.declared.error.Asn1DerError.TheVariants.{TruncatedData, Other, OutOfMemory}
 use Rattle.picky_der_core.specs.Error.{IsKindOfFault}
 use Rattle.picky_der_core.specs.Peeking.{count_of_any}
 use Rattle.picky_der_core.specs.Refusal.{past}
+use Rattle.picky_der_core.specs.Shape.{AreBytes}
+use Rattle.picky_der_core.specs.Tag.{IsTagNumber}
 use Rattle.picky_der_core.specs.Reading.{Place}
 use Rattle.picky_der_de.specs.declared.end.End.{End}
 use Rattle.picky_der_de.specs.declared.end.End.TheVariants.{Limit, Soft, Hard}
@@ -52,6 +54,10 @@ pub record IsWithin (s : State) : Type 0 where
 abbrev pub IsUnpeekedIfDirect : Option ℕ → Option ℕ → Type 0
 IsUnpeekedIfDirect None peeked = ⊤
 IsUnpeekedIfDirect (Some tag) peeked = peeked ≡ None
+
+-- an implicit tag has a tag number
+abbrev pub IsTagNumberIfAny : Option ℕ → Type 0
+IsTagNumberIfAny number = IfSome number IsTagNumber
 
 -- ---- steps
 
@@ -151,6 +157,24 @@ pub record IsCut (old new : State) (n : ℕ) (e : Asn1DerError) : Type 0 where
 pub record StopsShort (old new : State) (n : ℕ) (e : Asn1DerError) : Type 0 where
   pub fails : Fails old new e
   pub short : IsJudged old new e → IsCut old new n e
+
+-- these bytes were taken, n of them
+pub record TakesBytes (old new : State) (n : ℕ) (content : List ℕ) : Type 0 where
+  pub takes : Takes old new content
+  pub count : length content ≡ n
+  pub bytes : AreBytes content
+
+-- a piece of a content was taken, where so many of its bytes were left: n bytes, which stand at the front of the buffer
+pub record TakesPiece (old new : State) (left n : ℕ) (buffer : List ℕ) : Type 0 where
+  pub takes : TakesBytes old new n (take n buffer)
+  pub some : 0 < n
+  pub fits : n ≤ left
+
+-- a content of n bytes was taken, and put behind others
+pub record TakesBehind (front : List ℕ) (old new : State) (n : ℕ) (all : List ℕ) : Type 0 where
+  pub content : List ℕ
+  pub takes : TakesBytes old new n content
+  pub is : all ≡ front ++ content
 
 -- a content of n bytes was taken, and its first bytes are kept
 pub record TakesKept (old new : State) (n : ℕ) (kept : List ℕ) : Type 0 where

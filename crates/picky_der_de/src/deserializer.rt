@@ -1,16 +1,21 @@
 //! The deserializer.
-ghost use Rattle.std.specs.Prelude.{◌≡◌, ◌<◌, ◌∷◌, [], length, false, None, Some, IfOk, IfErr, OnOk, OnErr};
-ghost use Rattle.picky_der_core.specs.Shape.{AreBytes};
+ghost use Rattle.std.specs.Prelude.{◌≡◌, ◌<◌, ◌∷◌, ℕ, [], length, false, None, Some, IfOk, IfErr, OnOk, OnErr};
 ghost use Rattle.picky_der_de.specs.State.{fresh};
 ghost use Rattle.picky_der_core.specs.Peeking.{in_front};
 ghost use Rattle.picky_der_de.specs.Steps.{Takes, TakesKept, StopsShort, Fails, IsMissing, IsOther, TakesNoMemory};
 
+mod application;
+mod contents;
+mod enclosure;
 mod ends;
 mod header;
 mod octets;
 mod options;
+mod peek;
 mod plain;
+mod raw;
 mod texts;
+mod unsupported;
 mod wrapper;
 
 use crate::End;
@@ -43,7 +48,7 @@ impl<R: ReadExt> Model for Deserializer<R> {
     ghost use Rattle.std.specs.Prelude.{◌+◌, ◌<◌, ◌^◌, None};
     ghost use Rattle.picky_der_de.specs.State.{State};
     ghost use Rattle.picky_der_core.specs.Peeking.{left_in};
-    ghost use Rattle.picky_der_de.specs.Steps.{IsUnpeekedIfDirect};
+    ghost use Rattle.picky_der_de.specs.Steps.{IsUnpeekedIfDirect, IsTagNumberIfAny};
 
     ghost Value = { State };
 
@@ -61,7 +66,7 @@ impl<R: ReadExt> Model for Deserializer<R> {
       through = R.through d.reader.reader;
     } };
 
-    ghost invariant = { λ d. (d.reader.pos + d.room < 2 ^ 64) × IsUnpeekedIfDirect d.direct d.reader.peeked };
+    ghost invariant = { λ d. (d.reader.pos + d.room < 2 ^ 64) × IsUnpeekedIfDirect d.direct d.reader.peeked × IsTagNumberIfAny d.direct };
 }
 
 impl<'a> Deserializer<&'a [u8]> {
@@ -186,24 +191,6 @@ impl<R: ReadExt> Deserializer<R> {
             let _ = kept.try_push(byte);
         }
         Ok(kept)
-    }
-
-    // Takes the content into a vector.
-    pub(crate) fn draw_vec(&mut self, len: usize) -> Result<Vec<u8>>
-        requires had_not_failed { self.old.failed ≡ None }
-        requires unpeeked { self.old.peeked ≡ None }
-        ensures ok { IfOk result (λ bytes. Takes self.old self.new bytes.items × (length bytes.items ≡ len) × AreBytes bytes.items) }
-        ensures direct { OnOk result (self.new.direct ≡ self.old.direct) }
-        ensures err { IfErr result (StopsShort self.old self.new len) }
-    {
-        let mut bytes = Vec::new(self.alloc);
-        for _i in 0..len {
-            let byte = self.next_byte()?;
-            if bytes.push(byte).is_err() {
-                return Err(self.fail(Asn1DerError::OutOfMemory));
-            }
-        }
-        Ok(bytes)
     }
 }
 

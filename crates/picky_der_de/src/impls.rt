@@ -1,5 +1,6 @@
 //! The built-in types, as they are read.
 
+mod arrays;
 mod bytes;
 mod lists;
 mod numbers;

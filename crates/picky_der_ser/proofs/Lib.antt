@@ -13,4 +13,6 @@ pub mod EntryWrites
 pub mod ListBytes
 pub mod Members
 pub mod Items
+pub mod ApplicationWrites
 pub mod Rows
+pub mod Choices

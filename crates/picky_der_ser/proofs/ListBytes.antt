@@ -39,7 +39,7 @@ first_of : (b c : Bool) → (b && c) ≡ true → b ≡ true
 first_of true c e = refl
 first_of false c e = e
 
-second_of : (b c : Bool) → (b && c) ≡ true → c ≡ true
+pub second_of : (b c : Bool) → (b && c) ≡ true → c ≡ true
 second_of true c e = e
 second_of false c e = cc
 
@@ -52,7 +52,7 @@ numbers_at [] t us h = first_of (has_tag_numbers t) _ h
 numbers_at (s ∷ ts) t us h = numbers_at ts t us (second_of (has_tag_numbers s) _ h)
 
 -- of what stands in wrappers
-numbers_inside : (ws : List Wrapper) (t : Tree) → IsTrue (has_tag_numbers (under ws t)) → IsTrue (has_tag_numbers t)
+pub numbers_inside : (ws : List Wrapper) (t : Tree) → IsTrue (has_tag_numbers (under ws t)) → IsTrue (has_tag_numbers t)
 numbers_inside ws t h = by_cases (has_tag_numbers t) refl
   where
     by_cases : (b : Bool) → has_tag_numbers t ≡ b → IsTrue (has_tag_numbers t)

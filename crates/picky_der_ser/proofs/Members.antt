@@ -61,7 +61,7 @@ module _ {W : Type 0} (g : Ghosts W) where
   excused ls t u sink e (no_way m n) part = rw m (refused_unwritable g ls u sink (λ w. n (part w)))
 
   -- nothing was written, for want of memory or a part that can't be written
-  refused_part : (t u : Tree) (old new : State W) (e : Asn1DerError) → (IsWritable (under old.around u) → IsWritable t) → new.failed ≡ Some e → new.sink ≡ old.sink
+  pub refused_part : (t u : Tree) (old new : State W) (e : Asn1DerError) → (IsWritable (under old.around u) → IsWritable t) → new.failed ≡ Some e → new.sink ≡ old.sink
       → IfSome old.failed (λ f. e ≡ f) → IfNone old.failed (MemoryExcuse t e) → Fails g u old e new
   refused_part t u old new e part failed same again first = record { failed = failed; again = earlier old.failed again; first = own old.failed first }
     where
@@ -92,11 +92,11 @@ module _ {W : Type 0} (g : Ghosts W) where
   -- ---- the end
 
   -- what the call answers doesn't depend on the level that was opened last
-  writes_whatever : (t : Tree) (old new : State W) (p : Option Level) (r : Result ℕ Asn1DerError) → IfOk r (λ n. Writes g t (record old { pending = p }) n new) → IfOk r (λ n. Writes g t old n new)
+  pub writes_whatever : (t : Tree) (old new : State W) (p : Option Level) (r : Result ℕ Asn1DerError) → IfOk r (λ n. Writes g t (record old { pending = p }) n new) → IfOk r (λ n. Writes g t old n new)
   writes_whatever t old new p (Ok n) h = record { had_not_failed = h.had_not_failed; writable = h.writable; count = h.count; adds = h.adds; closed = h.closed; not_failed = h.not_failed; no_fault = h.no_fault }
   writes_whatever t old new p (Err e) h = tt
 
-  fails_whatever : (t : Tree) (old new : State W) (p : Option Level) (r : Result ℕ Asn1DerError) → IfErr r (λ e. Fails g t (record old { pending = p }) e new) → IfErr r (λ e. Fails g t old e new)
+  pub fails_whatever : (t : Tree) (old new : State W) (p : Option Level) (r : Result ℕ Asn1DerError) → IfErr r (λ e. Fails g t (record old { pending = p }) e new) → IfErr r (λ e. Fails g t old e new)
   fails_whatever t old new p (Ok n) h = tt
   fails_whatever t old new p (Err e) h = record { failed = h.failed; again = h.again; first = h.first }
 

@@ -12,7 +12,11 @@ use Rattle.picky_der_core.specs.Tree.{Tree}
 use Rattle.picky_der_core.specs.Encoding.{der}
 use Rattle.picky_der_core.specs.Readable.{has_tag_numbers, IsWritable}
 use Rattle.picky_der_core.specs.Wrapper.{under}
-use Rattle.picky_der_core.specs.EncodingLaws.{der-bytes}
+use Rattle.picky_der_core.specs.EncodingLaws.{der-bytes, der-application, der-raw}
+use Rattle.picky_der_ser.specs.declared.header.Header.{Header}
+use Rattle.picky_der_ser.specs.declared.header.Header.TheVariants.{Tagged, Application, Raw}
+use Rattle.picky_der_ser.specs.Heading.{tree_of}
+use Rattle.picky_der_ser.specs.Headers.{HasNumber}
 use Rattle.picky_der_ser.specs.State.{State, Level}
 use Rattle.picky_der_ser.specs.Calls.{RefusedIn, unwritable, no_way, WritesPlain}
 
@@ -21,6 +25,15 @@ writable-bytes tag c h l = record {
   numbers = le-leb (number_of tag) 30 h;
   fits = let d = der-bytes tag c in let m = length-tlv tag c (omega arith) in rw d (omega (arith, m));
 }
+
+-- a content that stands in memory, under its header
+pub writable-content : (h : Header) (c : List ℕ) → HasNumber h → length c + 10 < 2 ^ 64 → IsWritable (tree_of h c)
+writable-content (Tagged tag) c n l = writable-bytes tag c n l
+writable-content (Application k) c n l = record {
+  numbers = let e : is_tag_number k ≡ true = le-leb k 30 n in rw e refl;
+  fits = let d = der-application k (Tree.raw c) in let m = length-tlv (0x60 + k) c (omega arith) in rw (d, der-raw c) (omega (arith, m));
+}
+writable-content Raw c n l = record { numbers = refl; fits = rw (der-raw c) (omega arith) }
 
 -- a tag number past 30 stays in wrappers
 and_false : (b c : Bool) → c ≡ false → (b && c) ≡ false

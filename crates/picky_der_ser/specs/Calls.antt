@@ -2,11 +2,12 @@
 use Rattle.std.specs.Prelude.{◌≡◌, ℕ, List, [], ◌∷◌, length, None, Some, IfSome, IfNone, Result, Err, IfOk, IfErr, ◌<◌, ◌≤◌}
 use Rattle.picky_der_core.specs.declared.asn1.wrapper.Wrapper.{Wrapper}
 use Rattle.std.specs.Io.KnownBytes.{Appends}
+use Rattle.std.specs.Option.{unwrap_or}
 use Rattle.picky_der_core.specs.Writer.{AppendsBeginning}
 use Rattle.picky_der_core.specs.WriterFaults.{Faulted}
 use Rattle.picky_der_core.specs.declared.misc.writer.WriteExt.{Ghosts}
 use Rattle.picky_der_core.specs.declared.error.Asn1DerError.{Asn1DerError}
-use Rattle.picky_der_core.specs.declared.error.Asn1DerError.TheVariants.{UnsupportedValue, OutOfMemory}
+use Rattle.picky_der_core.specs.declared.error.Asn1DerError.TheVariants.{UnsupportedValue, UnsupportedType, OutOfMemory}
 use Rattle.picky_der_core.specs.Tree.{Tree}
 use Rattle.picky_der_core.specs.Encoding.{der}
 use Rattle.picky_der_core.specs.Readable.{IsWritable}
@@ -19,6 +20,10 @@ use Rattle.picky_der_ser.specs.State.{State, Level, with_bytes, with_member}
 pub data MemoryExcuse (t : Tree) (e : Asn1DerError) : Type 0 where
   no_room : e ≡ OutOfMemory → MemoryExcuse t e
   no_way : e ≡ UnsupportedValue → ¬ IsWritable t → MemoryExcuse t e
+
+-- the call refuses what isn't supported, whatever the value, and nothing but that becomes of the serializer
+abbrev pub IsUnsupported : {W : Type 0} → State W → Result ℕ Asn1DerError → State W → Type 0
+IsUnsupported old r new = let e = unwrap_or old.failed UnsupportedType in (r ≡ Err e) × (new ≡ record old { failed = Some e })
 
 module _ {W : Type 0} (g : Ghosts W) where
   -- these bytes were added to what was written, or inside a level to what the innermost one holds

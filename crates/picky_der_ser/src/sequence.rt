@@ -37,10 +37,7 @@ impl<'a, W: WriteExt> Sequence<'a, W> {
         ensures still_open { IfNone self.new.ser.now.failed (IsSome self.new.ser.now.pending) }
         ensures err { IfErr result (λ e. Rejects W.WriteExt.own (T.meaning value.now) self.old.ser.now e self.new.ser.now) }
     {
-        self.ser.enter()?;
-        value.serialize(self.ser)?;
-        self.ser.leave();
-        Ok(())
+        self.ser.write_member(value)
     }
 
     /// Adds a member, as `serialize_element` does. The key isn't written.

@@ -8,8 +8,11 @@ ghost use Rattle.picky_der_core.specs.Writer.{AppendsBeginning};
 ghost use Rattle.picky_der_core.specs.WriterFaults.{Faulted};
 ghost use Rattle.picky_der_ser.specs.Calls.{Writes, Fails, WritesPlain, WritesAbsent};
 
+mod application;
 mod level;
 mod plain;
+mod raw;
+mod unsupported;
 mod wrapper;
 
 use crate::levels::Levels;

@@ -153,6 +153,33 @@ impl<R: ReadExt> ReadExt for PeekableReader<R> {
         Ok(next)
     }
 
+    /// The bytes of one read. While a byte is peeked it is that byte alone, and the inner reader isn't asked.
+    fn read_some(&mut self, buf: &mut [u8]) -> io::Result<usize>
+        ensures bound { ReadsAtMost result buf.new }
+        ensures bytes { ReadConsumes (left_in R.remaining self.old) (left_in R.remaining self.new) result buf.new }
+        ensures empty { length buf.old ≡ 0 → (result ≡ Ok 0) × (self.new ≡ self.old) }
+        ensures peeked { 0 < length buf.old → IfSome self.old.peeked (λ b.
+            (result ≡ Ok 1) × (buf.new ≡ b ∷ drop 1 buf.old) × (self.new.reader ≡ self.old.reader)) }
+        ensures unpeeked { 0 < length buf.old → OnOk result (self.new.peeked ≡ None) }
+        ensures kept { OnErr result (self.new.peeked ≡ self.old.peeked) }
+        ensures pos { IfOk result (λ n. self.new.pos ≡ moved self.old.pos n) }
+        ensures same_pos { OnErr result (self.new.pos ≡ self.old.pos) }
+        ensures fault { OnErr result (R.faults self.old.reader < R.faults self.new.reader) }
+        ensures no_fault { OnOk result (R.faults self.new.reader ≡ R.faults self.old.reader) }
+        ensures same_references { R.through self.new.reader ≡ R.through self.old.reader }
+    {
+        if buf.is_empty() {
+            Ok(0)
+        } else if let Some(peeked) = self.take_peeked() {
+            buf[0] = peeked;
+            Ok(1)
+        } else {
+            let given = self.reader.read_some(buf)?;
+            self.pos = self.pos.saturating_add(given);
+            Ok(given)
+        }
+    }
+
     fn read_one(&mut self) -> io::Result<u8>
         ensures byte { GivesByte (left_in R.remaining self.old) (left_in R.remaining self.new) result }
         ensures bounded { IfOk result (λ b. b < 256) }

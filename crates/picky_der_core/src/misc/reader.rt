@@ -1,11 +1,13 @@
-//! Readers of one byte at a time.
+//! Readers of one byte or of a piece at a time.
 ghost use Rattle.std.specs.Prelude.{◌≡◌, ◌<◌, ℕ, List, [], ◌∷◌, OnOk, OnErr};
+ghost use Rattle.std.specs.Io.KnownBytes.{ReadConsumes};
+ghost use Rattle.std.specs.Io.{ReadsAtMost};
 ghost use Rattle.picky_der_core.specs.Reader.{GivesByte, GivesNext, CountsFault};
 
 use std::io;
 use std::io::{Error, ErrorKind, Read};
 
-/// A reader that gives one byte at a time, and whose faults are counted in contracts.
+/// A reader that gives one byte or a piece at a time, and whose faults are counted in contracts.
 pub trait ReadExt: Read {
     // Reads that answered an error so far. The end of the input is none.
     ghost faults: { Self → ℕ };
@@ -16,6 +18,15 @@ pub trait ReadExt: Read {
     /// The next byte, and `None` at the end of the input. Each error is the device's, and takes no byte.
     fn read_next(&mut self) -> io::Result<Option<u8>>
         ensures byte { GivesNext (Self.remaining self.old) (Self.remaining self.new) result }
+        ensures fault { OnErr result (faults self.old < faults self.new) }
+        ensures no_fault { OnOk result (faults self.new ≡ faults self.old) }
+        ensures same_references { through self.new ≡ through self.old };
+
+    /// Puts the next bytes into the front of the buffer, and answers how many: as many as one read gives, and none only
+    /// where the buffer has no room or at the end of the input. Each error is the device's, and takes no byte.
+    fn read_some(&mut self, buf: &mut [u8]) -> io::Result<usize>
+        ensures bound { ReadsAtMost result buf.new }
+        ensures bytes { ReadConsumes (Self.remaining self.old) (Self.remaining self.new) result buf.new }
         ensures fault { OnErr result (faults self.old < faults self.new) }
         ensures no_fault { OnOk result (faults self.new ≡ faults self.old) }
         ensures same_references { through self.new ≡ through self.old };
@@ -49,6 +60,10 @@ impl ReadExt for &[u8] {
             [] => Ok(None),
         }
     }
+
+    fn read_some(&mut self, buf: &mut [u8]) -> io::Result<usize> {
+        Read::read(self, buf)
+    }
 }
 
 impl<R: ReadExt> ReadExt for &mut R {
@@ -59,4 +74,11 @@ impl<R: ReadExt> ReadExt for &mut R {
     fn read_next(&mut self) -> io::Result<Option<u8>> {
         ReadExt::read_next(&mut **self)
     }
+
+    fn read_some(&mut self, buf: &mut [u8]) -> io::Result<usize> {
+        ReadExt::read_some(&mut **self, buf)
+    }
 }
+
+#[cfg(test)]
+mod tests;

@@ -88,6 +88,10 @@ impl<T: Read> ReadExt for Watched<T> {
             Err(e) => Err(e),
         }
     }
+
+    fn read_some(&mut self, buf: &mut [u8]) -> io::Result<usize> {
+        Read::read(self, buf)
+    }
 }
 
 impl<T: Write> Write for Watched<T> {

@@ -4,7 +4,7 @@ ghost use Rattle.std.specs.Int.Digits.{number_from_digits};
 ghost use Rattle.picky_der_core.specs.Element.{len as bytes_of};
 ghost use Rattle.picky_der_core.specs.Tag.{number_of, IsTagNumber};
 ghost use Rattle.picky_der_de.specs.Steps.{Takes, StopsShort, TakesNoMemory};
-ghost use Rattle.picky_der_de.specs.Headers.{ReadsDigits, RefusesLength, RefusesHeader, Begins, RefusesBegin};
+ghost use Rattle.picky_der_de.specs.Headers.{ReadsDigits, RefusesLength, RefusesContentLength, RefusesHeader, Begins, RefusesBegin};
 
 use super::Deserializer;
 use picky_der_core::asn1::Tag;
@@ -55,7 +55,24 @@ impl<R: ReadExt> Deserializer<R> {
         }
     }
 
-    // The length of the content of an element with this tag, which doesn't reach past the innermost end.
+    // The length of a content, which doesn't reach past the innermost end. It stands behind the first byte of any header.
+    pub(crate) fn read_content_length(&mut self) -> Result<usize>
+        requires had_not_failed { self.old.failed ≡ None }
+        requires unpeeked { self.old.peeked ≡ None }
+        ensures ok { IfOk result (λ n. Takes self.old self.new (bytes_of n) × (n ≤ self.new.room)) }
+        ensures direct { OnOk result (self.new.direct ≡ self.old.direct) }
+        ensures err { IfErr result (RefusesContentLength self.old self.new) }
+        ensures memory { IfErr result (TakesNoMemory self.old self.new) }
+    {
+        let len = self.read_length()?;
+        if len > self.room {
+            let error = self.end.missing();
+            return Err(self.fail(error));
+        }
+        Ok(len)
+    }
+
+    // The length of the content of an element with this tag.
     pub(crate) fn read_header(&mut self, tag: Tag) -> Result<usize>
         requires number { IsTagNumber (number_of tag) }
         requires had_not_failed { self.old.failed ≡ None }
@@ -68,12 +85,7 @@ impl<R: ReadExt> Deserializer<R> {
         if first != tag.inner() {
             return Err(self.fail(Asn1DerError::InvalidData));
         }
-        let len = self.read_length()?;
-        if len > self.room {
-            let error = self.end.missing();
-            return Err(self.fail(error));
-        }
-        Ok(len)
+        self.read_content_length()
     }
 
     // The length of the content of a plain value with this tag. Directly under an implicit tag the header is that tag's,

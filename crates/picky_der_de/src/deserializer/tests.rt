@@ -111,15 +111,6 @@ fn stays_failed_after_a_fault(rt: HostRuntime) {
 }
 
 #[test]
-fn stays_failed_after_a_fault_behind_a_header(rt: HostRuntime) {
-    let reader = fails_once(&[0x02, 0x01], Some(2), ErrorKind::TimedOut);
-    let mut de = Deserializer::new_from_reader(rt.alloc(), reader, 3);
-    let error = Asn1DerError::Other(ErrorKind::TimedOut);
-    assert_eq!(rt; de.deserialize_u8(), Err(error));
-    assert_eq!(rt; de.deserialize_u8(), Err(error));
-}
-
-#[test]
 fn takes_nulls_texts_and_bytes(rt: HostRuntime) -> std::result::Result<(), Fail> {
     let bytes = [
         [0x05, 0x00, 0x05, 0x00].as_slice(),

@@ -7,60 +7,6 @@ use std::io::ErrorKind;
 use std::test::Fail;
 
 #[test]
-fn reads_truth_values(rt: HostRuntime) {
-    let alloc = rt.alloc();
-    assert_eq!(rt; from_bytes(alloc, &[0x01, 0x01, 0xFF]), Ok(true));
-    assert_eq!(rt; from_bytes(alloc, &[0x01, 0x01, 0x00]), Ok(false));
-    for (bytes, error) in [
-        ([0x01, 0x01, 0x01].as_slice(), Asn1DerError::InvalidData),
-        (&[0x01, 0x02, 0xFF, 0xFF], Asn1DerError::InvalidData),
-        (&[0x01, 0x00], Asn1DerError::TruncatedData),
-    ] {
-        assert_eq!(rt; from_bytes::<bool>(alloc, bytes), Err(error), "{bytes:?}");
-    }
-}
-
-#[test]
-fn reads_numbers_of_8_bits(rt: HostRuntime) {
-    let alloc = rt.alloc();
-    for bytes in [
-        [0x02, 0x01, 0x07].as_slice(),
-        &[0x02, 0x01, 0x07, 0x05, 0x00],
-    ] {
-        assert_eq!(rt; from_bytes(alloc, bytes), Ok(7u8), "{bytes:?}");
-    }
-    for (bytes, error) in [
-        (
-            [0x02, 0x02, 0x00, 0x7F].as_slice(),
-            Asn1DerError::InvalidData,
-        ),
-        (&[0x02, 0x01, 0x80], Asn1DerError::UnsupportedValue),
-        (&[0x02, 0x02, 0x01, 0x00], Asn1DerError::UnsupportedValue),
-        (&[0x02, 0x00], Asn1DerError::TruncatedData),
-        (&[0x02], Asn1DerError::TruncatedData),
-        (&[], Asn1DerError::TruncatedData),
-        (&[0x02, 0x81, 0x01, 0x07], Asn1DerError::InvalidData),
-        (&[0x01, 0x01, 0xFF], Asn1DerError::InvalidData),
-    ] {
-        assert_eq!(rt; from_bytes::<u8>(alloc, bytes), Err(error), "{bytes:?}");
-    }
-}
-
-#[test]
-fn reads_numbers_of_128_bits(rt: HostRuntime) {
-    let alloc = rt.alloc();
-    let mut most = [0xFF; 19];
-    most[..3].copy_from_slice(&[0x02, 0x11, 0x00]);
-    assert_eq!(rt; from_bytes(alloc, &most), Ok(u128::MAX));
-    let mut past = [0xFF; 20];
-    past[..3].copy_from_slice(&[0x02, 0x12, 0x00]);
-    assert_eq!(rt;
-        from_bytes::<u128>(alloc, &past),
-        Err(Asn1DerError::UnsupportedValue)
-    );
-}
-
-#[test]
 fn reads_octet_strings(rt: HostRuntime) -> std::result::Result<(), Fail> {
     let alloc = rt.alloc();
     let octets: ByteBuf = from_bytes(alloc, &[0x04, 0x03, 0xAA, 0xBB, 0xCC])?;
@@ -141,46 +87,6 @@ fn reads_bytes_under_tags_of_their_own(rt: HostRuntime) -> std::result::Result<(
         Err(Asn1DerError::UnsupportedValue)
     );
     assert_eq!(rt; reader.get_ref().given, 0);
-    Ok(())
-}
-
-#[test]
-fn reads_options(rt: HostRuntime) {
-    let alloc = rt.alloc();
-    assert_eq!(rt; from_bytes(alloc, &[0x02, 0x01, 0x07]), Ok(Some(7u8)));
-    for (bytes, error) in [
-        ([0x05, 0x00].as_slice(), Asn1DerError::InvalidData),
-        (&[], Asn1DerError::TruncatedData),
-    ] {
-        assert_eq!(rt;
-            from_bytes::<Option<u8>>(alloc, bytes),
-            Err(error),
-            "{bytes:?}"
-        );
-    }
-}
-
-#[test]
-fn reads_from_a_reader_up_to_the_default_limit(rt: HostRuntime) -> std::result::Result<(), Fail> {
-    let alloc = rt.alloc();
-    let mut whole = vec![in alloc; 0; 10240]?;
-    whole[..4].copy_from_slice(&[0x04, 0x82, 0x27, 0xFC]);
-    let mut reader = gives(&whole);
-    let octets: ByteBuf = from_reader(alloc, &mut reader)?;
-    assert_eq!(rt; octets.0.len(), 10236);
-    assert_eq!(rt; octets.0.iter().all(|byte| *byte == 0), true);
-    assert_eq!(rt; reader.get_ref().given, 10240);
-
-    let mut past = vec![in alloc; 0; 10241]?;
-    past[..4].copy_from_slice(&[0x04, 0x82, 0x27, 0xFD]);
-    let mut reader = gives(&past);
-    assert_eq!(rt;
-        from_reader::<ByteBuf, _>(alloc, &mut reader),
-        Err(Asn1DerError::TruncatedData)
-    );
-    assert_eq!(rt; reader.get_ref().given, 4);
-    let octets: ByteBuf = from_bytes(alloc, &past)?;
-    assert_eq!(rt; octets.0.len(), 10237);
     Ok(())
 }
 

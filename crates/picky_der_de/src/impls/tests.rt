@@ -1,6 +1,7 @@
 use crate::from_bytes;
 use picky_der_core::Asn1DerError;
 use picky_der_core::asn1::{Asn1SequenceOf, Asn1SetOf, TaggedBytes};
+use picky_der_ser::to_vec;
 use std::test::Fail;
 
 #[test]
@@ -17,32 +18,6 @@ fn reads_lists(rt: HostRuntime) -> std::result::Result<(), Fail> {
     let list: Asn1SetOf<u8> = from_bytes(alloc, &set)?;
     assert_eq!(rt; list.0.as_slice(), [5, 3].as_slice());
     Ok(())
-}
-
-#[test]
-fn refuses_lists(rt: HostRuntime) {
-    let alloc = rt.alloc();
-    for (bytes, error) in [
-        (
-            [0x30, 0x03, 0x02, 0x02, 0x07].as_slice(),
-            Asn1DerError::TruncatedData,
-        ),
-        (
-            &[0x30, 0x04, 0x02, 0x01, 0x07, 0x05],
-            Asn1DerError::InvalidData,
-        ),
-        (&[0x31, 0x00], Asn1DerError::InvalidData),
-    ] {
-        assert_eq!(rt;
-            from_bytes::<Vec<u8>>(alloc, bytes).err(),
-            Some(error),
-            "{bytes:?}"
-        );
-    }
-    assert_eq!(rt;
-        from_bytes::<Asn1SetOf<u8>>(alloc, &[0x30, 0x00]).err(),
-        Some(Asn1DerError::InvalidData)
-    );
 }
 
 #[test]
@@ -67,15 +42,32 @@ fn reads_tuples(rt: HostRuntime) -> std::result::Result<(), Fail> {
 }
 
 #[test]
-fn refuses_tuples(rt: HostRuntime) {
+fn reads_arrays(rt: HostRuntime) -> std::result::Result<(), Fail> {
     let alloc = rt.alloc();
-    for (bytes, error) in [
-        (
-            [0x30, 0x06, 0x02, 0x01, 0x07, 0x02, 0x01, 0x08].as_slice(),
-            Asn1DerError::InvalidData,
-        ),
-        (&[0x30, 0x00], Asn1DerError::TruncatedData),
-    ] {
-        assert_eq!(rt; from_bytes::<(u8,)>(alloc, bytes), Err(error), "{bytes:?}");
-    }
+    let two = [0x30, 0x06, 0x02, 0x01, 0x05, 0x02, 0x01, 0x06];
+    assert_eq!(rt; from_bytes(alloc, &two), Ok([5u8, 6]));
+    assert_eq!(rt; to_vec(alloc, &[5u8, 6])?.as_slice(), two.as_slice());
+    let none: [u8; 0] = [];
+    assert_eq!(rt; from_bytes(alloc, &[0x30, 0x00]), Ok(none));
+    assert_eq!(rt; to_vec(alloc, &none)?.as_slice(), [0x30, 0x00].as_slice());
+    let nested = [
+        0x30, 0x0A, 0x30, 0x03, 0x02, 0x01, 0x05, 0x30, 0x03, 0x02, 0x01, 0x06,
+    ];
+    assert_eq!(rt; from_bytes(alloc, &nested), Ok([[5u8], [6]]));
+    assert_eq!(rt; to_vec(alloc, &[[5u8], [6]])?.as_slice(), nested.as_slice());
+    Ok(())
+}
+
+#[test]
+fn refuses_arrays_of_another_length(rt: HostRuntime) {
+    let alloc = rt.alloc();
+    let two = [0x30, 0x06, 0x02, 0x01, 0x05, 0x02, 0x01, 0x06];
+    assert_eq!(rt;
+        from_bytes::<[u8; 3]>(alloc, &two),
+        Err(Asn1DerError::TruncatedData)
+    );
+    assert_eq!(rt;
+        from_bytes::<[u8; 1]>(alloc, &two),
+        Err(Asn1DerError::InvalidData)
+    );
 }

@@ -1,7 +1,8 @@
 //! Containers and context tags, as they are read.
 ghost use Rattle.picky_der_core.specs.Shape.{Shape};
 ghost use Rattle.picky_der_core.specs.declared.asn1.wrapper.Wrapper.TheVariants as wrapper;
-ghost use Rattle.picky_der_de.specs.WrapperLaws.{wrapped_known};
+ghost use Rattle.picky_der_de.specs.declared.enclosure.Enclosure.TheVariants as enclosure;
+ghost use Rattle.picky_der_de.specs.EnclosureLaws.{enclosed_known};
 
 use crate::{Deserialize, Deserializer};
 use picky_der_core::Result;
@@ -14,7 +15,7 @@ use picky_der_core::misc::ReadExt;
 impl<T: Deserialize> Deserialize for OctetStringAsn1Container<T> {
     ghost shape = { Shape.octet_container T.shape };
 
-    ghost known_by_tree = { λ x y. wrapped_known wrapper.OctetContainer T.meaning T.shape T.eq T.known_by_tree x.0 y.0 };
+    ghost known_by_tree = { λ x y. enclosed_known (enclosure.Wrapper wrapper.OctetContainer) T.meaning T.shape T.eq T.known_by_tree x.0 y.0 };
 
     ghost sound = { T.sound };
 
@@ -27,7 +28,7 @@ impl<T: Deserialize> Deserialize for OctetStringAsn1Container<T> {
 impl<T: Deserialize> Deserialize for BitStringAsn1Container<T> {
     ghost shape = { Shape.bit_container T.shape };
 
-    ghost known_by_tree = { λ x y. wrapped_known wrapper.BitContainer T.meaning T.shape T.eq T.known_by_tree x.0 y.0 };
+    ghost known_by_tree = { λ x y. enclosed_known (enclosure.Wrapper wrapper.BitContainer) T.meaning T.shape T.eq T.known_by_tree x.0 y.0 };
 
     ghost sound = { T.sound };
 
@@ -40,7 +41,7 @@ impl<T: Deserialize> Deserialize for BitStringAsn1Container<T> {
 impl<T: Deserialize, const N: u8> Deserialize for ExplicitContextTag<T, N> {
     ghost shape = { Shape.explicit N T.shape };
 
-    ghost known_by_tree = { λ x y. wrapped_known (wrapper.Explicit N) T.meaning T.shape T.eq T.known_by_tree x.0 y.0 };
+    ghost known_by_tree = { λ x y. enclosed_known (enclosure.Wrapper (wrapper.Explicit N)) T.meaning T.shape T.eq T.known_by_tree x.0 y.0 };
 
     ghost sound = { T.sound };
 
@@ -53,7 +54,7 @@ impl<T: Deserialize, const N: u8> Deserialize for ExplicitContextTag<T, N> {
 impl<T: Deserialize, const N: u8> Deserialize for ImplicitContextTag<T, N> {
     ghost shape = { Shape.implicit N T.shape };
 
-    ghost known_by_tree = { λ x y. wrapped_known (wrapper.Implicit N) T.meaning T.shape T.eq T.known_by_tree x.0 y.0 };
+    ghost known_by_tree = { λ x y. enclosed_known (enclosure.Wrapper (wrapper.Implicit N)) T.meaning T.shape T.eq T.known_by_tree x.0 y.0 };
 
     ghost sound = { T.sound };
 

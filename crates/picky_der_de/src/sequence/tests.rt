@@ -123,17 +123,6 @@ fn a_member_is_refused_at_the_end_of_the_list(rt: HostRuntime) -> std::result::R
 }
 
 #[test]
-fn the_end_of_a_dropped_sequence_stays(rt: HostRuntime) -> std::result::Result<(), Fail> {
-    let bytes = [0x30, 0x03, 0x02, 0x01, 0x07, 0x05, 0x00];
-    let mut de = Deserializer::new_from_bytes(rt.alloc(), &bytes);
-    drop(de.deserialize_seq()?);
-    assert_eq!(rt; de.deserialize_u8(), Ok(7));
-    assert_eq!(rt; de.deserialize_unit(), Err(Asn1DerError::TruncatedData));
-    assert_eq!(rt; de.taken(), 5);
-    Ok(())
-}
-
-#[test]
 fn lazy_sequences_have_no_header(rt: HostRuntime) {
     let bytes = [0x02, 0x01, 0x07, 0x05, 0x00];
     let mut de = Deserializer::new_from_bytes(rt.alloc(), &bytes);

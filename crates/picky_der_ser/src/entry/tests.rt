@@ -6,37 +6,6 @@ use std::io::ErrorKind;
 use std::test::Fail;
 
 #[test]
-fn writes_truth_values(rt: HostRuntime) -> std::result::Result<(), Fail> {
-    let alloc = rt.alloc();
-    assert_eq!(rt;
-        to_vec(alloc, &true)?.as_slice(),
-        [0x01, 0x01, 0xFF].as_slice()
-    );
-    assert_eq!(rt;
-        to_vec(alloc, &false)?.as_slice(),
-        [0x01, 0x01, 0x00].as_slice()
-    );
-    Ok(())
-}
-
-#[test]
-fn writes_the_fewest_bytes_of_a_number(rt: HostRuntime) -> std::result::Result<(), Fail> {
-    for (number, encoding) in [
-        (0u8, [0x02, 0x01, 0x00].as_slice()),
-        (127, [0x02, 0x01, 0x7F].as_slice()),
-        (128, [0x02, 0x02, 0x00, 0x80].as_slice()),
-        (255, [0x02, 0x02, 0x00, 0xFF].as_slice()),
-    ] {
-        assert_eq!(rt;
-            to_vec(rt.alloc(), &number)?.as_slice(),
-            encoding,
-            "{number}"
-        );
-    }
-    Ok(())
-}
-
-#[test]
 fn writes_numbers_of_each_type(rt: HostRuntime) -> std::result::Result<(), Fail> {
     let alloc = rt.alloc();
     let seven = [0x02, 0x01, 0x07].as_slice();
@@ -55,17 +24,6 @@ fn writes_numbers_of_each_type(rt: HostRuntime) -> std::result::Result<(), Fail>
     ];
     assert_eq!(rt; to_vec(alloc, &u64::MAX)?.as_slice(), most.as_slice());
     assert_eq!(rt; to_vec(alloc, &usize::MAX)?.as_slice(), most.as_slice());
-    Ok(())
-}
-
-#[test]
-fn writes_the_greatest_number(rt: HostRuntime) -> std::result::Result<(), Fail> {
-    let mut encoding = [0xFF; 19];
-    encoding[..3].copy_from_slice(&[0x02, 0x11, 0x00]);
-    assert_eq!(rt;
-        to_vec(rt.alloc(), &u128::MAX)?.as_slice(),
-        encoding.as_slice()
-    );
     Ok(())
 }
 

@@ -4,11 +4,11 @@ ghost use Rattle.picky_der_core.specs.Wrapper.{under};
 ghost use Rattle.picky_der_ser.specs.Heading.{tree_of};
 ghost use Rattle.picky_der_ser.specs.Headers.{HasNumber};
 ghost use Rattle.picky_der_ser.specs.State.{Level, with_bytes};
-ghost use Rattle.picky_der_ser.specs.Calls.{Wrote, Refused, Stops, Opens, Ends, Finishes};
+ghost use Rattle.picky_der_ser.specs.Calls.{Wrote, Refused, Stops, Opens, Gains, Rejects, Ends, Finishes};
 
 use super::Serializer;
-use crate::Header;
 use crate::plain::put_headed;
+use crate::{Header, Serialize};
 use picky_der_core::misc::WriteExt;
 use picky_der_core::{Asn1DerError, Result};
 use std::mem;
@@ -108,7 +108,7 @@ impl<W: WriteExt> Serializer<W> {
     }
 
     // A member of the level that was opened last is written from here on.
-    pub(crate) fn enter(&mut self) -> Result<()>
+    fn enter(&mut self) -> Result<()>
         requires { IfNone self.old.failed (IsSome self.old.pending) }
         ensures ok { OnOk result (IfSome self.old.pending (λ l. self.new ≡ record self.old { around = []; inside = l ∷ self.old.inside; pending = None })) }
         ensures had_not_failed { OnOk result (self.old.failed ≡ None) }
@@ -125,10 +125,23 @@ impl<W: WriteExt> Serializer<W> {
     }
 
     // The member has been written.
-    pub(crate) fn leave(&mut self)
+    fn leave(&mut self)
         ensures { (l : Level) (ls : List Level) → self.old.inside ≡ l ∷ ls → self.new ≡ record self.old { inside = ls; pending = Some l } }
     {
         self.levels.leave();
+    }
+
+    // Writes the value as a member of the level that was opened last.
+    pub(crate) fn write_member<T: Serialize>(&mut self, value: &T) -> Result<()>
+        requires { IfNone self.old.failed (IsSome self.old.pending) }
+        ensures added { OnOk result (Gains W.WriteExt.own (T.meaning value.now) self.old self.new) }
+        ensures still_open { IfNone self.new.failed (IsSome self.new.pending) }
+        ensures err { IfErr result (λ e. Rejects W.WriteExt.own (T.meaning value.now) self.old e self.new) }
+    {
+        self.enter()?;
+        value.serialize(self)?;
+        self.leave();
+        Ok(())
     }
 
     // The error that it has failed with.

@@ -2,6 +2,8 @@
 ghost use Rattle.std.specs.Prelude.{◌≡◌, ◌≢◌, [], length, encode_utf8};
 ghost use Rattle.picky_der_core.specs.Tag.{number_of, IsTagNumber};
 ghost use Rattle.picky_der_core.specs.Tree.{Tree};
+ghost use Rattle.picky_der_ser.specs.Heading.{tree_of};
+ghost use Rattle.picky_der_ser.specs.Headers.{HasNumber};
 ghost use Rattle.picky_der_ser.specs.Calls.{WritesPlain};
 
 use super::Serializer;
@@ -21,25 +23,22 @@ impl<W: WriteExt> Serializer<W> {
             return Err(error);
         }
         if self.levels.is_inside() {
-            return self.append_plain(tag, content);
+            return self.append_content(Header::Tagged(tag), content);
         }
         if self.around.is_empty() {
             return self.put_plain(tag, content);
         }
-        self.put_wrapped(tag, content)
+        self.put_wrapped(Header::Tagged(tag), content)
     }
 
-    // Adds a plain element to the level of which a member is being written.
-    fn append_plain(&mut self, tag: Tag, content: &[u8]) -> Result<usize>
-        requires number { IsTagNumber (number_of tag) }
+    // Adds a content under this header to the level of which a member is being written.
+    pub(crate) fn append_content(&mut self, header: Header, content: &[u8]) -> Result<usize>
+        requires number { HasNumber header }
         requires had_not_failed { self.old.failed ≡ None }
         requires inside { self.old.inside ≢ [] }
-        ensures { WritesPlain W.WriteExt.own (Tree.bytes tag content.now) self.old result self.new }
+        ensures { WritesPlain W.WriteExt.own (tree_of header content.now) self.old result self.new }
     {
-        match self
-            .levels
-            .append(&self.around, Header::Tagged(tag), content)
-        {
+        match self.levels.append(&self.around, header, content) {
             Ok(count) => {
                 self.around.clear();
                 Ok(count)
@@ -61,15 +60,15 @@ impl<W: WriteExt> Serializer<W> {
         self.settle(outcome)
     }
 
-    // Writes a plain element in the open wrappers to the sink.
-    fn put_wrapped(&mut self, tag: Tag, content: &[u8]) -> Result<usize>
-        requires number { IsTagNumber (number_of tag) }
+    // Writes a content under this header in the open wrappers to the sink.
+    pub(crate) fn put_wrapped(&mut self, header: Header, content: &[u8]) -> Result<usize>
+        requires number { HasNumber header }
         requires had_not_failed { self.old.failed ≡ None }
         requires outside { self.old.inside ≡ [] }
         requires wrapped { self.old.around ≢ [] }
-        ensures { WritesPlain W.WriteExt.own (Tree.bytes tag content.now) self.old result self.new }
+        ensures { WritesPlain W.WriteExt.own (tree_of header content.now) self.old result self.new }
     {
-        self.open(Header::Tagged(tag));
+        self.open(header);
         let outcome = self.put_behind_headers(content);
         self.settle(outcome)
     }

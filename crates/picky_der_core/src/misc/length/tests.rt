@@ -39,21 +39,3 @@ fn reads_what_it_writes(rt: HostRuntime) -> std::result::Result<(), Fail> {
     }
     Ok(())
 }
-
-#[test]
-fn refuses_every_other_form(rt: HostRuntime) -> std::result::Result<(), Fail> {
-    for (bytes, error) in [
-        ([0x80].as_slice(), Asn1DerError::InvalidData),
-        ([0x81, 0x05].as_slice(), Asn1DerError::InvalidData),
-        ([0x82, 0x00, 0x80].as_slice(), Asn1DerError::InvalidData),
-        ([0x89].as_slice(), Asn1DerError::UnsupportedValue),
-        ([0xFF].as_slice(), Asn1DerError::UnsupportedValue),
-        ([0x82, 0x01].as_slice(), Asn1DerError::TruncatedData),
-        ([0x82, 0x00].as_slice(), Asn1DerError::TruncatedData),
-        ([].as_slice(), Asn1DerError::TruncatedData),
-    ] {
-        let mut rest = bytes;
-        assert_eq!(rt; Length::deserialized(&mut rest), Err(error), "{bytes:?}");
-    }
-    Ok(())
-}

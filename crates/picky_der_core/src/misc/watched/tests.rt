@@ -32,6 +32,27 @@ fn a_failed_read_takes_no_byte(rt: HostRuntime) {
 }
 
 #[test]
+fn gives_a_piece_at_a_time(rt: HostRuntime) {
+    let mut reader = Watched::new(GivesOne::new(&[0x41, 0x42], Some(1)));
+    let mut buf = [0; 3];
+    assert_eq!(rt; kind_of(reader.read_some(&mut [])), Ok(0));
+    assert_eq!(rt; kind_of(reader.read_some(&mut buf)), Ok(1));
+    assert_eq!(rt; (buf[0], reader.get_ref().given), (0x41, 1));
+    assert_eq!(rt;
+        kind_of(reader.read_some(&mut buf)),
+        Err(ErrorKind::TimedOut)
+    );
+    assert_eq!(rt; reader.get_ref().given, 1);
+    assert_eq!(rt; kind_of(reader.read_some(&mut buf)), Ok(1));
+    assert_eq!(rt; buf[0], 0x42);
+    assert_eq!(rt; kind_of(reader.read_some(&mut buf)), Ok(0));
+    let mut memory = Watched::new([0x41, 0x42, 0x43, 0x44].as_slice());
+    assert_eq!(rt; kind_of(memory.read_some(&mut buf)), Ok(3));
+    assert_eq!(rt; buf, [0x41, 0x42, 0x43]);
+    assert_eq!(rt; memory.get_ref().len(), 1);
+}
+
+#[test]
 fn writes_all_of_the_bytes_or_a_beginning(rt: HostRuntime) -> std::result::Result<(), Fail> {
     let bytes = [0x02, 0x01, 0x07];
     for (refusal, kind) in [

@@ -135,21 +135,6 @@ fn reads_a_long_container_in_a_tag(rt: HostRuntime) -> std::result::Result<(), F
 }
 
 #[test]
-fn a_length_past_an_end_is_refused_by_that_end(rt: HostRuntime) {
-    let alloc = rt.alloc();
-    let mut long = [0xFF; 12];
-    long[..4].copy_from_slice(&[0xA0, 0x0A, 0x04, 0x88]);
-    assert_eq!(rt;
-        from_bytes::<ByteBuf>(alloc, &long[2..]),
-        Err(Asn1DerError::TruncatedData)
-    );
-    assert_eq!(rt;
-        from_bytes::<ExplicitContextTag0<ByteBuf>>(alloc, &long),
-        Err(Asn1DerError::InvalidData)
-    );
-}
-
-#[test]
 fn draws_no_byte_past_the_limit(rt: HostRuntime) {
     let bytes = [0xA0, 0x06, 0x03, 0x04, 0x00, 0x02, 0x01, 0x07];
     for (limit, drawn) in [(0, 0), (1, 1), (2, 2), (5, 2), (7, 2), (8, 8)] {

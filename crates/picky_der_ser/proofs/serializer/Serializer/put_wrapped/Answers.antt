@@ -1,6 +1,6 @@
 use Rattle.std.proofs.Common.{◌≡◌, [], ap, ◌∙◌, arith, subst, OnOk}
-use Rattle.picky_der_core.specs.Tree.{Tree}
-use Rattle.picky_der_ser.proofs.PlainWrites.{writable-bytes}
+use Rattle.picky_der_ser.specs.Heading.{tree_of}
+use Rattle.picky_der_ser.proofs.PlainWrites.{writable-content}
 use Rattle.picky_der_ser.proofs.StateWrites.{plain_outside, wrapped_fault}
 use Rattle.picky_der_ser.proofs.serializer.Serializer.put_wrapped.Goals as goal
 
@@ -9,11 +9,11 @@ returns g c =
     let w = g.W.WriteExt in
     let old = c.args.self.now in
     let new = c.settle.new.self in
-    let t = Tree.bytes c.args.tag c.args.content.now in
+    let t = tree_of c.args.header c.args.content.now in
     let r = c.put_behind_headers-outcome.result in
     let e = c.put_behind_headers-outcome.ensures in
     let is = c.open.ensures.opened in
-    let fits = writable-bytes c.args.tag c.args.content.now c.requires.number (omega arith) in
+    let fits = writable-content c.args.header c.args.content.now c.requires.number (omega arith) in
     let wrote = rw is at e.wrote in
     let refused = rw is at e.refused in
     let no_fault = rw is at e.no_fault in

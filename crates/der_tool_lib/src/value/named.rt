@@ -1,0 +1,194 @@
+//! The types that lines name, as they are read.
+ghost use Rattle.std.specs.Prelude.{◌≡◌, IfOk, IfErr, string_bytes, refl};
+ghost use Rattle.der_tool_lib.specs.Value.{described};
+ghost use Rattle.der_tool_lib.specs.Reads.{ReadsNamed, RefusesNamed};
+
+use crate::TestStruct;
+use picky_asn1_der::asn1::ByteBuf;
+use picky_asn1_der::misc::ReadExt;
+use picky_asn1_der::{Asn1RawDer, Deserialize, Deserializer, Result};
+
+// A type that lines name. Of a refusal its description says which error it is.
+pub(super) trait Named: Deserialize {
+    ghost use Rattle.der_tool_lib.specs.declared.value.ValueType.{ValueType};
+
+    ghost named: { ValueType };
+
+    // What the value is in the description.
+    ghost described_as: { Self → (described named).Value };
+
+    fn read<R: ReadExt>(de: &mut Deserializer<R>) -> Result<Self>
+        ensures ok { IfOk result (λ value. ReadsNamed named de.old de.new (described_as value)) }
+        ensures err { IfErr result (RefusesNamed named de.old de.new) };
+
+    // It means the same there.
+    ghost same_meaning: { (v : Self) → (described named).meaning (described_as v) ≡ Self.meaning v };
+}
+
+impl Named for bool {
+    ghost use Rattle.der_tool_lib.specs.declared.value.ValueType.TheVariants.{Bool};
+
+    ghost named = { Bool };
+
+    ghost described_as = { λ v. v };
+
+    ghost same_meaning = { λ v. refl };
+
+    fn read<R: ReadExt>(de: &mut Deserializer<R>) -> Result<bool> {
+        de.deserialize_bool()
+    }
+}
+
+impl Named for u8 {
+    ghost use Rattle.der_tool_lib.specs.declared.value.ValueType.TheVariants.{U8};
+
+    ghost named = { U8 };
+
+    ghost described_as = { λ v. v };
+
+    ghost same_meaning = { λ v. refl };
+
+    fn read<R: ReadExt>(de: &mut Deserializer<R>) -> Result<u8> {
+        de.deserialize_u8()
+    }
+}
+
+impl Named for u16 {
+    ghost use Rattle.der_tool_lib.specs.declared.value.ValueType.TheVariants.{U16};
+
+    ghost named = { U16 };
+
+    ghost described_as = { λ v. v };
+
+    ghost same_meaning = { λ v. refl };
+
+    fn read<R: ReadExt>(de: &mut Deserializer<R>) -> Result<u16> {
+        de.deserialize_u16()
+    }
+}
+
+impl Named for u32 {
+    ghost use Rattle.der_tool_lib.specs.declared.value.ValueType.TheVariants.{U32};
+
+    ghost named = { U32 };
+
+    ghost described_as = { λ v. v };
+
+    ghost same_meaning = { λ v. refl };
+
+    fn read<R: ReadExt>(de: &mut Deserializer<R>) -> Result<u32> {
+        de.deserialize_u32()
+    }
+}
+
+impl Named for u64 {
+    ghost use Rattle.der_tool_lib.specs.declared.value.ValueType.TheVariants.{U64};
+
+    ghost named = { U64 };
+
+    ghost described_as = { λ v. v };
+
+    ghost same_meaning = { λ v. refl };
+
+    fn read<R: ReadExt>(de: &mut Deserializer<R>) -> Result<u64> {
+        de.deserialize_u64()
+    }
+}
+
+impl Named for u128 {
+    ghost use Rattle.der_tool_lib.specs.declared.value.ValueType.TheVariants.{U128};
+
+    ghost named = { U128 };
+
+    ghost described_as = { λ v. v };
+
+    ghost same_meaning = { λ v. refl };
+
+    fn read<R: ReadExt>(de: &mut Deserializer<R>) -> Result<u128> {
+        de.deserialize_u128()
+    }
+}
+
+impl Named for () {
+    ghost use Rattle.der_tool_lib.specs.declared.value.ValueType.TheVariants.{Null};
+
+    ghost named = { Null };
+
+    ghost described_as = { λ v. v };
+
+    ghost same_meaning = { λ v. refl };
+
+    fn read<R: ReadExt>(de: &mut Deserializer<R>) -> Result<()> {
+        de.deserialize_unit()
+    }
+}
+
+impl Named for char {
+    ghost use Rattle.der_tool_lib.specs.declared.value.ValueType.TheVariants.{Char};
+
+    ghost named = { Char };
+
+    ghost described_as = { λ v. v };
+
+    ghost same_meaning = { λ v. refl };
+
+    fn read<R: ReadExt>(de: &mut Deserializer<R>) -> Result<char> {
+        de.deserialize_char()
+    }
+}
+
+impl Named for String {
+    ghost use Rattle.der_tool_lib.specs.declared.value.ValueType.TheVariants.{Text};
+
+    ghost named = { Text };
+
+    ghost described_as = { λ v. string_bytes v };
+
+    ghost same_meaning = { λ v. refl };
+
+    fn read<R: ReadExt>(de: &mut Deserializer<R>) -> Result<String> {
+        de.deserialize_string()
+    }
+}
+
+impl Named for ByteBuf {
+    ghost use Rattle.der_tool_lib.specs.declared.value.ValueType.TheVariants.{Octets};
+
+    ghost named = { Octets };
+
+    ghost described_as = { λ v. v.0.items };
+
+    ghost same_meaning = { λ v. refl };
+
+    fn read<R: ReadExt>(de: &mut Deserializer<R>) -> Result<ByteBuf> {
+        Ok(ByteBuf(de.deserialize_byte_buf()?))
+    }
+}
+
+impl Named for Asn1RawDer {
+    ghost use Rattle.der_tool_lib.specs.declared.value.ValueType.TheVariants.{Raw};
+
+    ghost named = { Raw };
+
+    ghost described_as = { λ v. v.0.items };
+
+    ghost same_meaning = { λ v. refl };
+
+    fn read<R: ReadExt>(de: &mut Deserializer<R>) -> Result<Asn1RawDer> {
+        Ok(Asn1RawDer(de.deserialize_raw()?))
+    }
+}
+
+impl Named for TestStruct {
+    ghost use Rattle.der_tool_lib.specs.declared.value.ValueType.TheVariants.{Test};
+
+    ghost named = { Test };
+
+    ghost described_as = { λ v. v };
+
+    ghost same_meaning = { λ v. refl };
+
+    fn read<R: ReadExt>(de: &mut Deserializer<R>) -> Result<TestStruct> {
+        TestStruct::deserialize(de)
+    }
+}

@@ -1,0 +1,13 @@
+mod context_tags;
+mod devices;
+mod entry_calls;
+mod lengths;
+mod limits;
+mod plain_values;
+mod raw_elements;
+mod rows;
+mod sequences;
+mod sets;
+mod structs;
+mod texts;
+mod wrappers;

@@ -1,0 +1,56 @@
+//! Lengths alone.
+
+use crate::hexadecimal::{bytes_of, text_of};
+use picky_asn1_der::Asn1DerError::{InvalidData, TruncatedData, UnsupportedValue};
+use picky_asn1_der::Length;
+use picky_asn1_der::misc::BufSink;
+use std::process::Abort;
+use std::test::Fail;
+
+// The length is written as these bytes, and read from them.
+fn is_written_as(
+    rt: &(impl Abort + AllocGlobal),
+    len: usize,
+    row: &str,
+    count: usize,
+) -> Result<(), Fail> {
+    let mut out = Vec::new(rt.alloc());
+    let mut sink = BufSink::new(&mut out);
+    assert_eq!(rt; Length::serialize(len, &mut sink), Ok(count), "{len}");
+    drop(sink);
+    assert_eq!(rt; text_of(rt.alloc(), &out)?.as_str(), row);
+    assert_eq!(rt; Length::encoded_len(len), count, "{len}");
+    let mut rest = out.as_slice();
+    assert_eq!(rt; Length::deserialized(&mut rest), Ok(len), "{row}");
+    assert!(rt; rest.is_empty(), "{row}");
+    Ok(())
+}
+
+#[test]
+fn lengths_take_the_fewest_bytes(rt: HostRuntime) -> Result<(), Fail> {
+    is_written_as(&rt, 10, "0A", 1)?;
+    is_written_as(&rt, 127, "7F", 1)?;
+    is_written_as(&rt, 128, "81 80", 2)?;
+    is_written_as(&rt, 129, "81 81", 2)?;
+    is_written_as(&rt, 290, "82 01 22", 3)?;
+    is_written_as(&rt, usize::MAX, "88 FF FF FF FF FF FF FF FF", 9)
+}
+
+#[test]
+fn every_other_form_is_refused(rt: HostRuntime) -> Result<(), Fail> {
+    for (row, error) in [
+        ("80", InvalidData),
+        ("81 05", InvalidData),
+        ("82 00 80", InvalidData),
+        ("89", UnsupportedValue),
+        ("FF", UnsupportedValue),
+        ("82 01", TruncatedData),
+        ("82 00", TruncatedData),
+        ("", TruncatedData),
+    ] {
+        let bytes = bytes_of(rt.alloc(), row)?;
+        let mut rest = bytes.as_slice();
+        assert_eq!(rt; Length::deserialized(&mut rest), Err(error), "{row}");
+    }
+    Ok(())
+}

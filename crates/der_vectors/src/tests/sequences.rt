@@ -1,0 +1,179 @@
+//! Sequences: lists, arrays, tuples, and the calls that write and read their members.
+
+use crate::hexadecimal::{bytes_of, text_of};
+use crate::tests::rows::{both_ways, reads, refuses, writes};
+use picky_asn1_der::Asn1DerError::{InvalidData, TruncatedData};
+use picky_asn1_der::asn1::{Asn1SequenceOf, ByteBuf, ObjectIdentifierAsn1, Tag};
+use picky_asn1_der::misc::WriteExt;
+use picky_asn1_der::{Deserializer, Serialize, Serializer, de, ser, to_vec};
+use std::alloc::Global;
+use std::test::Fail;
+
+#[test]
+fn lists_are_sequences(rt: HostRuntime) -> Result<(), Fail> {
+    let alloc = rt.alloc();
+    let row = "30 06 02 01 05 02 01 06";
+    both_ways(&rt, vec![in alloc; 5u8, 6]?, row)?;
+    both_ways(&rt, Asn1SequenceOf::from(vec![in alloc; 5u8, 6]?), row)?;
+    writes(&rt, &[5u8, 6], row)?;
+    writes(&rt, &[5u8, 6].as_slice(), row)?;
+    writes::<[u8; 0]>(&rt, &[], "30 00")?;
+    both_ways(&rt, Vec::<u8>::new(alloc), "30 00")?;
+    for (row, error) in [
+        ("31 00", InvalidData),
+        ("30 03 02 02 07", TruncatedData),
+        ("30 04 02 01 07 05", InvalidData),
+    ] {
+        refuses::<Vec<u8>>(&rt, row, error)?;
+    }
+    Ok(())
+}
+
+#[test]
+fn nothing_in_a_list_is_nothing(rt: HostRuntime) -> Result<(), Fail> {
+    let alloc = rt.alloc();
+    writes(&rt, &vec![in alloc; None::<u8>]?, "30 00")?;
+    reads(&rt, "30 00", Vec::<Option<u8>>::new(alloc))
+}
+
+#[test]
+fn tuples_are_sequences(rt: HostRuntime) -> Result<(), Fail> {
+    both_ways(&rt, (1u8, 2u8, 3u8), "30 09 02 01 01 02 01 02 02 01 03")?;
+    let four = "30 0C 02 01 01 02 01 02 02 01 03 02 01 04";
+    both_ways(&rt, (1u8, 2u8, 3u8, 4u8), four)?;
+    let oid = ObjectIdentifierAsn1::from(bytes_of(rt.alloc(), "2A 86 48 86 F7 0D 01 01 01")?);
+    let row = "30 0D 06 09 2A 86 48 86 F7 0D 01 01 01 05 00";
+    both_ways(&rt, (oid, ()), row)?;
+    refuses::<(u8,)>(&rt, "30 06 02 01 07 02 01 08", InvalidData)?;
+    refuses::<(u8,)>(&rt, "30 00", TruncatedData)
+}
+
+// A sequence that holds the number 7, four times.
+const FOUR_SEQUENCES: &str = "30 03 02 01 07 30 03 02 01 07 30 03 02 01 07 30 03 02 01 07";
+
+#[test]
+fn each_call_writes_a_sequence(rt: HostRuntime) -> Result<(), Fail> {
+    let mut out = Vec::new(rt.alloc());
+    let mut ser = Serializer::new_to_byte_buf(rt.alloc(), &mut out);
+    let mut members = ser.serialize_seq(None)?;
+    members.serialize_element(&7u8)?;
+    assert_eq!(rt; members.end(), Ok(5));
+    let mut members = ser.serialize_tuple(1)?;
+    members.serialize_element(&7u8)?;
+    assert_eq!(rt; members.end(), Ok(5));
+    let mut members = ser.serialize_tuple_struct("Seven", 1)?;
+    members.serialize_element(&7u8)?;
+    assert_eq!(rt; members.end(), Ok(5));
+    let mut members = ser.serialize_struct("Seven", 1)?;
+    members.serialize_field("number", &7u8)?;
+    assert_eq!(rt; members.end(), Ok(5));
+    drop(ser);
+    assert_eq!(rt; text_of(rt.alloc(), &out)?.as_str(), FOUR_SEQUENCES);
+    Ok(())
+}
+
+#[test]
+fn each_call_reads_a_sequence(rt: HostRuntime) -> Result<(), Fail> {
+    let bytes = bytes_of(rt.alloc(), FOUR_SEQUENCES)?;
+    let mut de = Deserializer::new_from_bytes(rt.alloc(), &bytes);
+    let mut members = de.deserialize_seq()?;
+    assert_eq!(rt; members.next_element::<u8>(), Ok(Some(7)));
+    members.end()?;
+    let mut members = de.deserialize_tuple(1)?;
+    assert_eq!(rt; members.next_element::<u8>(), Ok(Some(7)));
+    members.end()?;
+    let mut members = de.deserialize_tuple_struct("Seven", 1)?;
+    assert_eq!(rt; members.next_element::<u8>(), Ok(Some(7)));
+    members.end()?;
+    let mut members = de.deserialize_struct("Seven", &["number"])?;
+    assert_eq!(rt; members.next_field::<u8>(), Ok(7));
+    members.end()?;
+    assert_eq!(rt; de.taken(), 20);
+    Ok(())
+}
+
+#[test]
+fn the_end_of_a_dropped_sequence_stays(rt: HostRuntime) -> Result<(), Fail> {
+    let bytes = bytes_of(rt.alloc(), "30 03 02 01 07 05 00")?;
+    let mut de = Deserializer::new_from_bytes(rt.alloc(), &bytes);
+    drop(de.deserialize_seq()?);
+    assert_eq!(rt; de.deserialize_u8(), Ok(7));
+    assert_eq!(rt; de.deserialize_unit(), Err(TruncatedData));
+    assert_eq!(rt; de.taken(), 5);
+    Ok(())
+}
+
+#[test]
+fn a_lazy_sequence_has_no_header(rt: HostRuntime) -> Result<(), Fail> {
+    let bytes = bytes_of(rt.alloc(), "02 01 07 05 00")?;
+    let mut de = Deserializer::new_from_bytes(rt.alloc(), &bytes);
+    let mut members = de::Sequence::deserialize_lazy(&mut de, 3);
+    assert_eq!(rt; members.next_element::<u8>(), Ok(Some(7)));
+    assert_eq!(rt; members.next_element::<u8>(), Ok(None));
+    assert_eq!(rt; members.end(), Ok(()));
+    assert_eq!(rt; de.deserialize_unit(), Ok(()));
+    let mut de = Deserializer::new_from_bytes(rt.alloc(), &bytes);
+    drop(de::Sequence::deserialize_lazy(&mut de, 6));
+    assert_eq!(rt; de.deserialize_u8(), Err(TruncatedData));
+    Ok(())
+}
+
+// So many zero bytes as an octet string.
+fn zeros(alloc: Global, len: usize) -> Result<ByteBuf, Fail> {
+    Ok(ByteBuf(vec![in alloc; 0; len]?))
+}
+
+#[test]
+fn a_member_makes_the_lengths_around_it_long(rt: HostRuntime) -> Result<(), Fail> {
+    let alloc = rt.alloc();
+    for (len, once, twice) in [
+        (125, "30 7F 04 7D", "30 81 81 30 7F 04 7D"),
+        (126, "30 81 80 04 7E", "30 81 83 30 81 80 04 7E"),
+    ] {
+        let list = vec![in alloc; zeros(alloc, len)?]?;
+        let front = bytes_of(alloc, once)?;
+        assert!(rt; to_vec(alloc, &list)?.starts_with(&front), "{once}");
+        let lists = vec![in alloc; list]?;
+        let front = bytes_of(alloc, twice)?;
+        assert!(rt; to_vec(alloc, &lists)?.starts_with(&front), "{twice}");
+    }
+    Ok(())
+}
+
+#[test]
+fn a_dropped_sequence_writes_nothing(rt: HostRuntime) -> Result<(), Fail> {
+    let mut out = Vec::new(rt.alloc());
+    let mut ser = Serializer::new_to_byte_buf(rt.alloc(), &mut out);
+    let mut members = ser.serialize_seq(None)?;
+    members.serialize_element(&1u8)?;
+    drop(members);
+    assert_eq!(rt; ser.serialize_u8(7), Ok(3));
+    drop(ser);
+    assert_eq!(rt; text_of(rt.alloc(), &out)?.as_str(), "02 01 07");
+    Ok(())
+}
+
+// Writes 7, then begins a sequence with 1 in it and drops it.
+#[derive(Drop)]
+struct Littering;
+
+impl Serialize for Littering {
+    ghost use Rattle.picky_der_core.specs.Tree.{Tree};
+
+    ghost meaning = { λ _. Tree.unsigned 7 };
+
+    fn serialize<W: WriteExt>(
+        &self,
+        serializer: &mut Serializer<W>,
+    ) -> picky_asn1_der::Result<usize> {
+        let count = serializer.serialize_u8(7)?;
+        let mut members = ser::Sequence::serialize_lazy(serializer, Tag::SEQUENCE);
+        members.serialize_element(&1u8)?;
+        Ok(count)
+    }
+}
+
+#[test]
+fn a_sequence_is_dropped_in_a_member(rt: HostRuntime) -> Result<(), Fail> {
+    writes(&rt, &vec![in rt.alloc(); Littering]?, "30 03 02 01 07")
+}

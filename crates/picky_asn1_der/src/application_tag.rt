@@ -1,0 +1,61 @@
+//! Application tags around values (X.690, 8.14).
+ghost use Rattle.std.specs.Prelude.{◌≡◌, IfOk, IfErr};
+ghost use Rattle.picky_der_core.specs.Tree.{Tree};
+ghost use Rattle.picky_der_core.specs.Shape.{Shape};
+ghost use Rattle.picky_der_de.specs.declared.enclosure.Enclosure.TheVariants as enclosure;
+ghost use Rattle.picky_der_de.specs.EnclosureLaws.{enclosed_known};
+
+use crate::misc::{ReadExt, WriteExt};
+use crate::{Asn1DerError, Deserialize, Deserializer, Result, Serialize, Serializer};
+use std::fmt::Debug;
+
+/// A value under the application tag with the number `T`, at most 30: `60+T`, around its encoding.
+#[derive(Debug, Drop, PartialEq, Eq)]
+pub struct ApplicationTag<V, const T: u8>(pub V)
+where
+    V: Debug + PartialEq;
+
+impl<V: Debug + PartialEq + Clone, const T: u8> ApplicationTag<V, T> {
+    /// A copy. `OutOfMemory` where memory is refused.
+    pub fn clone(&self) -> Result<ApplicationTag<V, T>>
+        ensures same { IfOk result (λ copy. V.is_clone self.now.0 copy.0) }
+        ensures memory { IfErr result (λ e. e ≡ Asn1DerError.OutOfMemory) }
+    {
+        match self.0.clone() {
+            Ok(value) => Ok(ApplicationTag(value)),
+            Err(_) => Err(Asn1DerError::OutOfMemory),
+        }
+    }
+}
+
+impl<V: Debug + PartialEq, const T: u8> From<V> for ApplicationTag<V, T> {
+    ghost from_gives = { λ value tagged. tagged.0 ≡ value };
+
+    fn from(value: V) -> ApplicationTag<V, T> {
+        ApplicationTag(value)
+    }
+}
+
+impl<V: Serialize + Debug + PartialEq, const T: u8> Serialize for ApplicationTag<V, T> {
+    ghost meaning = { λ x. Tree.application T (V.meaning x.0) };
+
+    fn serialize<W: WriteExt>(&self, ser: &mut Serializer<W>) -> Result<usize> {
+        ser.serialize_application(T, &self.0)
+    }
+}
+
+impl<V: Deserialize + Debug, const T: u8> Deserialize for ApplicationTag<V, T> {
+    ghost shape = { Shape.application T V.shape };
+
+    ghost known_by_tree = { λ x y. enclosed_known (enclosure.Application T) V.meaning V.shape V.eq V.known_by_tree x.0 y.0 };
+
+    ghost sound = { V.sound };
+
+    fn deserialize<R: ReadExt>(de: &mut Deserializer<R>) -> Result<ApplicationTag<V, T>> {
+        let value = de.deserialize_application(T)?;
+        Ok(ApplicationTag(value))
+    }
+}
+
+#[cfg(test)]
+mod tests;

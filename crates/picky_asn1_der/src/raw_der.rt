@@ -1,0 +1,74 @@
+//! Elements that are kept as they are.
+ghost use Rattle.std.specs.Prelude.{◌≡◌, IfOk, IfErr};
+ghost use Rattle.picky_der_core.specs.Tree.{Tree};
+ghost use Rattle.picky_der_core.specs.Shape.{Shape};
+ghost use Rattle.picky_der_de.specs.KnownLaws.{raw_known};
+
+use picky_der_core::misc::{ReadExt, WriteExt};
+use picky_der_core::{Asn1DerError, Result};
+use picky_der_de::{Deserialize, Deserializer};
+use picky_der_ser::{Serialize, Serializer};
+use std::fmt;
+
+/// One element, whatever its tag, by its bytes with the header (X.690, 8.1.1). They are written as they stand: what
+/// isn't just one element isn't read back as this.
+#[derive(Drop, PartialEq, Eq, PartialOrd, Hash)]
+pub struct Asn1RawDer(pub Vec<u8>);
+
+impl Asn1RawDer {
+    /// The name of the type.
+    pub const NAME: &'static str = "Asn1RawDer";
+
+    /// A copy, on the same allocator. `OutOfMemory` where memory is refused.
+    pub fn clone(&self) -> Result<Asn1RawDer>
+        ensures same { IfOk result (λ copy. copy.0.items ≡ self.now.0.items) }
+        ensures memory { IfErr result (λ e. e ≡ Asn1DerError.OutOfMemory) }
+    {
+        match self.0.clone() {
+            Ok(bytes) => Ok(Asn1RawDer(bytes)),
+            Err(_) => Err(Asn1DerError::OutOfMemory),
+        }
+    }
+}
+
+impl From<Vec<u8>> for Asn1RawDer {
+    ghost from_gives = { λ bytes raw. raw.0 ≡ bytes };
+
+    fn from(bytes: Vec<u8>) -> Asn1RawDer {
+        Asn1RawDer(bytes)
+    }
+}
+
+/// The bytes in hexadecimal: `RawDer(0x020107)`.
+impl fmt::Debug for Asn1RawDer {
+    fn fmt<W: fmt::Write>(&self, f: &mut fmt::Formatter<W>) -> fmt::Result {
+        f.write_str("RawDer(0x")?;
+        for byte in &self.0 {
+            write!(f, "{byte:02X}")?;
+        }
+        f.write_str(")")
+    }
+}
+
+impl Serialize for Asn1RawDer {
+    ghost meaning = { λ raw. Tree.raw raw.0.items };
+
+    fn serialize<W: WriteExt>(&self, ser: &mut Serializer<W>) -> Result<usize> {
+        ser.serialize_raw(&self.0)
+    }
+}
+
+impl Deserialize for Asn1RawDer {
+    ghost shape = { Shape.raw };
+
+    ghost known_by_tree = { λ x y s t r e. raw_known x.0.items y.0.items e };
+
+    ghost sound = { tt };
+
+    fn deserialize<R: ReadExt>(de: &mut Deserializer<R>) -> Result<Asn1RawDer> {
+        Ok(Asn1RawDer(de.deserialize_raw()?))
+    }
+}
+
+#[cfg(test)]
+mod tests;

@@ -1,0 +1,91 @@
+-- Arrays, read and refused: as many members of one shape as there are places.
+use Rattle.std.proofs.Common.{◌≡◌, ℕ, suc, ◌+◌, ◌-◌, ◌<◌, List, [], ◌∷◌, ◌++◌, length, map, None, sym, subst, arith, length-append}
+use Rattle.picky_der_core.specs.declared.error.Asn1DerError.{Asn1DerError}
+use Rattle.picky_der_core.specs.Tree.{Tree, trees}
+use Rattle.picky_der_core.specs.Readable.{AreReadable}
+use Rattle.picky_der_core.specs.Shape.{Shape, IsOf, AreOf, EachIs}
+use Rattle.picky_der_de.specs.State.{State}
+use Rattle.picky_der_de.specs.Steps.{Takes, IsJudged}
+use Rattle.picky_der_de.specs.Ends.{RefusesClose}
+use Rattle.picky_der_de.specs.Members.{ReadsMember, RefusesMember, bytes_of, StandBefore, ReadsRow, RefusesRow}
+use Rattle.picky_der_de.specs.ArrayLaws.{times}
+use Rattle.picky_der_de.proofs.Steps.{takes_none, takes_then, fails_after, judged_after}
+use Rattle.picky_der_de.proofs.Members.{bytes_of-none, takes_member, next_member, no_member, none_left}
+use Rattle.picky_der_de.proofs.ListReads.{bytes_of-push, each-push, readable-push}
+
+-- ---- refused
+
+-- the values of a list, as members
+abbrev pub RefusesTimes : {V : Type 0} → (V → Tree) → ℕ → Shape → State → State → Asn1DerError → Type 0
+RefusesTimes meaning n s old new e = RefusesRow (λ vs. trees (map meaning vs)) (times n s) old new e
+
+-- the next member was refused
+pub times_refused : {V : Type 0} {meaning : V → Tree} {s : Shape} {c d : State} {e : Asn1DerError} (n : ℕ) → RefusesMember meaning s c d e → RefusesTimes meaning (suc n) s c d e
+times_refused {V} {meaning} {s} {c} {d} {e} n r = record { fails = r.refuses.fails; none = none }
+  where
+    none : IsJudged c d e → (vs : List V) → AreOf (times (suc n) s) (trees (map meaning vs)) → AreReadable (trees (map meaning vs)) → StandBefore c d e (bytes_of (trees (map meaning vs))) → ⊥
+    none j [] of_shape readable w = of_shape
+    none j (v ∷ vs) of_shape readable w = no_member v (trees (map meaning vs)) r j of_shape.0 readable.0 w
+
+-- a member was read, and those behind it were refused
+pub times_next : {V : Type 0} {meaning : V → Tree} {s : Shape} {b c d : State} {t : Tree} {e : Asn1DerError} (n : ℕ) → ReadsMember s b c t → RefusesTimes meaning n s c d e → RefusesTimes meaning (suc n) s b d e
+times_next {V} {meaning} {s} {b} {c} {d} {t} {e} n r h = record { fails = fails_after r.reads.takes h.fails; none = none }
+  where
+    none : IsJudged b d e → (vs : List V) → AreOf (times (suc n) s) (trees (map meaning vs)) → AreReadable (trees (map meaning vs)) → StandBefore b d e (bytes_of (trees (map meaning vs))) → ⊥
+    none j [] of_shape readable w = of_shape
+    none j (v ∷ vs) of_shape readable w = h.none (judged_after r.reads.takes j) vs of_shape.1 readable.1 (next_member (meaning v) (trees (map meaning vs)) readable.0 r h.fails w)
+
+-- something is left behind the last member
+pub times_end : {V : Type 0} {meaning : V → Tree} (s : Shape) {c d : State} {e : Asn1DerError} → RefusesClose c d e → RefusesTimes meaning 0 s c d e
+times_end {V} {meaning} s {c} {d} {e} r = record { fails = r.fails; none = none }
+  where
+    none : IsJudged c d e → (vs : List V) → AreOf (times 0 s) (trees (map meaning vs)) → AreReadable (trees (map meaning vs)) → StandBefore c d e (bytes_of (trees (map meaning vs))) → ⊥
+    none j [] of_shape readable w = none_left (r.left j.had_not_failed).0 w
+    none j (v ∷ vs) of_shape readable w = of_shape
+
+-- ---- members so far
+
+pub record ReadsFirst {V : Type 0} (meaning : V → Tree) (s : Shape) (old new : State) (vs : List V) : Type 0 where
+  pub of_shape : EachIs (IsOf s) (trees (map meaning vs))
+  pub readable : AreReadable (trees (map meaning vs))
+  pub takes : Takes old new (bytes_of (trees (map meaning vs)))
+  pub direct : new.direct ≡ None
+  pub refuses : (n : ℕ) (d : State) (e : Asn1DerError) → RefusesTimes meaning n s new d e → RefusesTimes meaning (length vs + n) s old d e
+
+pub first_none : {V : Type 0} (meaning : V → Tree) (s : Shape) (a : State) → a.failed ≡ None → a.peeked ≡ None → a.direct ≡ None → ReadsFirst meaning s a a []
+first_none meaning s a h p d = record {
+  of_shape = tt;
+  readable = tt;
+  takes = subst (Takes a a) (sym bytes_of-none) (takes_none a h p);
+  direct = d;
+  refuses = λ n d e r. subst (λ m. RefusesTimes meaning m s a d e) (omega arith) r;
+}
+
+pub first_more : {V : Type 0} (meaning : V → Tree) (s : Shape) {a b c : State} (vs : List V) (v : V) → ReadsFirst meaning s a b vs → ReadsMember s b c (meaning v) → ReadsFirst meaning s a c (vs ++ v ∷ [])
+first_more meaning s {a} {b} {c} vs v h r = record {
+  of_shape = each-push meaning (IsOf s) vs v h.of_shape r.reads.of_shape;
+  readable = readable-push meaning vs v h.readable r.reads.readable;
+  takes = subst (Takes a c) (sym (bytes_of-push meaning vs v)) (takes_then h.takes (takes_member r));
+  direct = r.reads.direct;
+  refuses = λ n d e w. subst (λ m. RefusesTimes meaning m s a d e) (omega (arith, length-append vs (v ∷ []))) (h.refuses (suc n) d e (times_next n r w));
+}
+
+each_times : {V : Type 0} (meaning : V → Tree) (s : Shape) (vs : List V) → EachIs (IsOf s) (trees (map meaning vs)) → AreOf (times (length vs) s) (trees (map meaning vs))
+each_times meaning s [] h = tt
+each_times meaning s (v ∷ vs) h = (h.0, each_times meaning s vs h.1)
+
+pub first_all : {V : Type 0} (meaning : V → Tree) (s : Shape) {a b : State} (n : ℕ) (vs : List V) → length vs ≡ n → ReadsFirst meaning s a b vs → ReadsRow (times n s) a b (trees (map meaning vs))
+first_all meaning s n vs same h = record {
+  of_shape = subst (λ m. AreOf (times m s) (trees (map meaning vs))) same (each_times meaning s vs h.of_shape);
+  readable = h.readable;
+  takes = h.takes;
+  direct = h.direct;
+}
+
+-- the next member was refused
+pub first_refused : {V : Type 0} {meaning : V → Tree} {s : Shape} {a b d : State} {e : Asn1DerError} (n : ℕ) (vs : List V) → ReadsFirst meaning s a b vs → length vs < n → RefusesMember meaning s b d e → RefusesTimes meaning n s a d e
+first_refused {V} {meaning} {s} {a} {b} {d} {e} n vs h l r = subst (λ m. RefusesTimes meaning m s a d e) (omega arith) (h.refuses (suc (n - suc (length vs))) d e (times_refused (n - suc (length vs)) r))
+
+-- something is left behind the last member
+pub first_left : {V : Type 0} {meaning : V → Tree} {s : Shape} {a b d : State} {e : Asn1DerError} (n : ℕ) (vs : List V) → ReadsFirst meaning s a b vs → length vs ≡ n → RefusesClose b d e → RefusesTimes meaning n s a d e
+first_left {V} {meaning} {s} {a} {b} {d} {e} n vs h same r = subst (λ m. RefusesTimes meaning m s a d e) (omega (arith, same)) (h.refuses 0 d e (times_end s r))

@@ -1,0 +1,164 @@
+-- Calls behind a look at the next byte: what they do is done from before it.
+use Rattle.std.proofs.Common.{◌≡◌, ℕ, ◌+◌, ◌<◌, ◌≤◌, inl, inr, List, [], ◌∷◌, ◌++◌, length, Option, Some, None, IfSome, refl, sym, ◌∙◌, ap, subst, arith, length-append}
+use Rattle.std.specs.Io.KnownBytes.{Consumes, Keeps}
+use Rattle.std.proofs.KnownBytes.{Consumes-trans}
+use Rattle.picky_der_core.specs.declared.error.Asn1DerError.{Asn1DerError}
+use Rattle.picky_der_core.specs.Element.{Begins}
+use Rattle.picky_der_core.specs.Peeking.{count_of_any}
+use Rattle.picky_der_core.specs.Tree.{Tree}
+use Rattle.picky_der_core.specs.Encoding.{der}
+use Rattle.picky_der_core.specs.EncodingLaws.{length-der}
+use Rattle.picky_der_core.specs.Shape.{Shape}
+use Rattle.picky_der_core.specs.Reading.{Place, written_at, MayStand, StandsAt}
+use Rattle.picky_der_de.specs.State.{State}
+use Rattle.picky_der_de.specs.Steps.{Takes, Fails, IsJudged, IsMissing, drawn, reach, place_in, place_of}
+use Rattle.picky_der_de.specs.Reading.{Concerns, now, ever, Reads, Refuses}
+use Rattle.picky_der_de.specs.LookAhead.{Peeks, IdentifiesIn, Identifies, RefusesIdentifier}
+use Rattle.picky_der_de.proofs.Steps.{there_after}
+use Rattle.picky_der_de.proofs.ReaderFaults.{keeps_consumes}
+use Rattle.picky_der_de.proofs.Refusals.{parted, missing_here, missing_first}
+use Rattle.picky_der_de.proofs.Known.{kept_known}
+
+at_most_one : (p : Option ℕ) → count_of_any p ≤ 1
+at_most_one None = omega arith
+at_most_one (Some b) = omega arith
+
+-- a look draws no byte that isn't there
+module _ {a b : State} {x : ℕ} (p : Peeks a b x) where
+  still_taken : b.taken ≡ a.taken
+  still_taken = ap (λ (s : State). s.taken) p.same
+
+  still_room : b.room ≡ a.room
+  still_room = ap (λ (s : State). s.room) p.same
+
+  still_faults : b.faults ≡ a.faults
+  still_faults = ap (λ (s : State). s.faults) p.same
+
+  still_limit : b.limit ≡ a.limit
+  still_limit = ap (λ (s : State). s.limit) p.same
+
+  not_failed : b.failed ≡ None
+  not_failed = ap (λ (s : State). s.failed) p.same ∙ p.had_not_failed
+
+  pub not_direct : b.direct ≡ None
+  not_direct = ap (λ (s : State). s.direct) p.same ∙ p.direct
+
+  one_peeked : count_of_any b.peeked ≡ 1
+  one_peeked = ap (λ (s : State). count_of_any s.peeked) p.same
+
+  draws_more : drawn a ≤ drawn b
+  draws_more = omega (arith, at_most_one a.peeked, one_peeked, still_taken)
+
+  consumes_behind : (i : Option (List ℕ)) (bytes : List ℕ) → Consumes b.input i bytes → Consumes a.input i bytes
+  consumes_behind i bytes h = Consumes-trans a.input b.input i [] bytes (keeps_consumes a.input b.input p.input) h
+
+  pub peeks_takes : {c : State} {bytes : List ℕ} → Takes b c bytes → Takes a c bytes
+  peeks_takes {c} {bytes} t = record {
+    input = consumes_behind c.input bytes t.input;
+    taken = omega (arith, t.taken, still_taken);
+    room = omega (arith, t.room, still_room);
+    end = t.end ∙ ap (λ (s : State). s.end) p.same;
+    limit = t.limit ∙ still_limit;
+    last = t.last ∙ ap (λ (s : State). s.last) p.same;
+    unpeeked = t.unpeeked;
+    drawn = omega (arith, t.drawn, draws_more);
+    had_not_failed = p.had_not_failed;
+    not_failed = t.not_failed;
+    faults = t.faults ∙ still_faults;
+    through = t.through ∙ ap (λ (s : State). s.through) p.same;
+  }
+
+  pub peeks_fails : {c : State} {e : Asn1DerError} → Fails b c e → Fails a c e
+  peeks_fails {c} {e} f = record {
+    failed = f.failed;
+    again = λ k w. absurd (let q : None ≡ Some k = sym p.had_not_failed ∙ w in cc);
+    faults = omega (arith, f.faults, still_faults);
+    other = λ w o. let q = f.other not_failed o in omega (arith, q, still_faults);
+    fault = λ w rose. f.fault not_failed (omega (arith, rose, still_faults));
+    took = record { bytes = f.took.bytes; input = consumes_behind c.input f.took.bytes f.took.input; count = omega (arith, f.took.count, still_taken) };
+    grows = omega (arith, f.grows, draws_more);
+    end = omega (arith, f.end, still_taken, still_room);
+    limit = f.limit ∙ still_limit;
+    within = λ w. f.within (record { end = omega (arith, w.end, still_taken, still_room, still_limit); drawn = omega (arith, w.end, p.ahead, one_peeked, still_taken, still_limit) });
+    there = λ w. there_after a.input b.input [] a.taken b.taken (drawn c) (keeps_consumes a.input b.input p.input) (omega (arith, still_taken)) (f.there not_failed);
+    through = f.through ∙ ap (λ (s : State). s.through) p.same;
+  }
+
+  pub peeks_judged : {c : State} {e : Asn1DerError} → IsJudged a c e → IsJudged b c e
+  peeks_judged j = record { had_not_failed = not_failed; faults = j.faults ∙ sym still_faults; memory = j.memory }
+
+  pub peeks_concerns : {c : State} {e : Asn1DerError} {end : ℕ} {bs : List ℕ} → Concerns a c e end bs → Concerns b c e end bs
+  peeks_concerns {c} {e} {end} {bs} (now i r) = now (kept_known a.input b.input bs p.input i) (r ∙ sym still_room)
+  peeks_concerns {c} {e} {end} {bs} (ever w r d y left i l f) =
+      ever w (r ∙ sym (ap reach p.same)) d y left (kept_known a.input b.input (d ++ left) p.input i) (omega (arith, l, still_taken)) f
+
+  known_next : (i : Option (List ℕ)) (bs : List ℕ) → IfSome i (Begins (x ∷ [])) → i ≡ Some bs → (left : List ℕ) × (bs ≡ x ∷ left)
+  known_next None bs h e = absurd (let q : None ≡ Some bs = e in cc)
+  known_next (Some xs) bs h e = let same : xs ≡ bs = cc in (h.rest, sym same ∙ h.is)
+
+  -- what a refusal speaks of begins with that byte
+  pub peeks_front : {c : State} {e : Asn1DerError} {end : ℕ} {bs : List ℕ} → Fails b c e → Concerns a c e end bs → (left : List ℕ) × (bs ≡ x ∷ left)
+  peeks_front {c} {e} {end} {bs} f (now i r) = known_next a.input bs p.next i
+  peeks_front {c} {e} {end} {bs} f (ever w r d y left i l g) =
+      let h = known_next a.input (d ++ left) p.next i in
+      let u = parted d (x ∷ []) h.0 left h.1 (omega (arith, f.grows, one_peeked, still_taken, l)) in
+      (u.0 ++ y, g ∙ ap (λ z. z ++ y) u.1)
+
+  pub peeked_first : (y : ℕ) (left : List ℕ) → a.input ≡ Some (y ∷ left) → y ≡ x
+  peeked_first y left i = let h = known_next a.input (y ∷ left) p.next i in let q : y ∷ left ≡ x ∷ h.0 = h.1 in cc
+
+  same_place : place_of b ≡ place_of a
+  same_place = ap place_of p.same
+
+  -- a value was read
+  pub peeks_reads : {s : Shape} {c : State} {t : Tree} → Reads s b c t → Reads s a c t
+  peeks_reads {s} {c} {t} h = record {
+    of_shape = h.of_shape;
+    readable = h.readable;
+    may_stand = subst (λ z. MayStand z t) same_place h.may_stand;
+    takes = subst (λ z. Takes a c (written_at z t)) same_place (peeks_takes h.takes);
+    direct = h.direct;
+  }
+
+  -- a value was refused
+  pub peeks_refuses : {V : Type 0} {meaning : V → Tree} {s : Shape} {c : State} {e : Asn1DerError} → Refuses meaning s b c e → Refuses meaning s a c e
+  peeks_refuses {meaning = meaning} {s = s} h = record {
+    fails = peeks_fails h.fails;
+    none = λ j end bs w v st. h.none (peeks_judged j) end bs (peeks_concerns w) v (subst (λ z. StandsAt z s bs end (meaning v)) (sym same_place) st);
+    first = λ j k d l y left i. h.first (peeks_judged j) k not_direct (omega (arith, l, still_room)) y left (kept_known a.input b.input (y ∷ left) p.input i);
+  }
+
+-- ---- where a value stands
+
+pub is_whole : (s : State) → s.direct ≡ None → place_of s ≡ Place.whole
+is_whole s d = ap (λ z. place_in z s.room) d
+
+-- none stands where a byte is missing
+pub nothing_whole : {a c : State} {e : Asn1DerError} {s : Shape} {end : ℕ} {bs : List ℕ} {t : Tree} → a.direct ≡ None → IsMissing a e → Concerns a c e end bs → StandsAt (place_of a) s bs end t → ⊥
+nothing_whole {a} {s = s} {end = end} {bs = bs} {t = t} d m w st =
+    let st' = subst (λ z. StandsAt z s bs end t) (is_whole a d) st in
+    let some = length-der t st'.readable in
+    elim (missing_here m w) [
+      | inl here ↦ omega (arith, some, st'.within, here)
+      | inr ended ↦ omega (arith, some, ap length (sym st'.front.is ∙ ended), length-append (der t) st'.front.rest)
+    ]
+
+-- ---- behind a look at the tag
+
+identified : (P : State → Type 0) {a b : State} {tag : ℕ} → (d : Option ℕ) → IdentifiesIn d a b tag → (Peeks a b tag → P b → P a) → P b → P a
+identified P None h f k = f h k
+identified P (Some number) h f k = subst P h.2 k
+
+pub identified_reads : {s : Shape} {a b c : State} {tag : ℕ} {t : Tree} → Identifies a b tag → Reads s b c t → Reads s a c t
+identified_reads {s} {a} {b} {c} {tag} {t} h r = identified (λ x. Reads s x c t) a.direct h.is (λ p k. peeks_reads p k) r
+
+pub identified_refuses : {V : Type 0} {meaning : V → Tree} {s : Shape} {a b c : State} {tag : ℕ} {e : Asn1DerError} → Identifies a b tag → Refuses meaning s b c e → Refuses meaning s a c e
+identified_refuses {meaning = meaning} {s = s} {a = a} {c = c} {e = e} h r = identified (λ x. Refuses meaning s x c e) a.direct h.is (λ p k. peeks_refuses p k) r
+
+-- no value stands where no tag does
+pub refuses_identifier : {V : Type 0} {meaning : V → Tree} {s : Shape} {a c : State} {e : Asn1DerError} → RefusesIdentifier a c e → Refuses meaning s a c e
+refuses_identifier {a = a} h = record {
+  fails = h.refuses.fails;
+  none = λ j end bs w v st. let m = h.missing j in nothing_whole m.0 m.1 w st;
+  first = λ j k d l b left q. absurd (missing_first a (h.missing j).1 l q);
+}

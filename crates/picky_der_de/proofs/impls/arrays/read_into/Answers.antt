@@ -1,0 +1,57 @@
+use Rattle.std.proofs.Common.{rules, ◌∙◌, ◌<◌, length, take, map, refl, subst, arith}
+use Rattle.std.proofs.lemmas.List.{take_more_set, take_all, length-set, length-take-le}
+use Rattle.std.proofs.lemmas.Result.{IfErr-weaker, on_ok_weaker}
+use Rattle.picky_der_core.specs.Tree.{trees}
+use Rattle.picky_der_de.proofs.Asked.{asked, reads_at, refuses_at}
+use Rattle.picky_der_de.proofs.Ends.{opens_inside}
+use Rattle.picky_der_de.proofs.Rows.{row_unopened, row_refused, row_reads}
+use Rattle.picky_der_de.proofs.ArrayReads.{ReadsFirst, first_none, first_more, first_all, first_refused, first_left}
+use Rattle.picky_der_de.proofs.impls.arrays.read_into.Goals as goal
+
+pub returns-in_err-outer-clause-err : goal.returns-in_err-outer-clause-err
+returns-in_err-outer-clause-err g c = asked _ c.from_residual.ensures.1 refl (row_unopened {members = λ vs. trees (map g.T.Serialize.meaning vs)} c.in_err-outer.ensures.err)
+
+pub loop-at-init : goal.loop-at-init
+loop-at-init g c = record {
+  first = first_none g.T.Serialize.meaning g.T.Deserialize.shape _ (search rules) (search rules) (search rules);
+  within = search rules;
+  same_length = refl;
+  same_reference = refl;
+  outer = refl;
+}
+
+pub returns-in_err-places-clause-err : goal.returns-in_err-places-clause-err
+returns-in_err-places-clause-err g c =
+    let i = c.loop-at.invariant in
+    let l = length-take-le c.loop-at.at c.loop-at.places i.within in
+    let h = first_refused (length c.args.places.now) _ i.first (omega (arith, l, i.same_length, c.loop-at-test.true)) c.in_err-places.ensures.err in
+    asked _ c.from_residual-in_err-places.ensures.1 (search rules) (row_refused {members = λ vs. trees (map g.T.Serialize.meaning vs)} (opens_inside c.in_ok-outer.ensures.ok c.inside-members.ensures.same c.inside-members.ensures.outer) h)
+
+pub loop-at-preserved : goal.loop-at-preserved
+loop-at-preserved g c =
+    let i = c.loop-at.invariant in
+    let less : c.loop-at.at < length c.loop-at.places = omega (arith, i.same_length, c.loop-at-test.true) in
+    let h = first_more g.T.Serialize.meaning g.T.Deserialize.shape (take c.loop-at.at c.loop-at.places) c.in_ok-places.field-0 i.first c.in_ok-places.ensures.ok in
+    let long = length-set c.loop-at.places c.loop-at.at c.in_ok-places.field-0 in
+    record {
+      first = rw (take_more_set c.loop-at.places c.loop-at.at c.in_ok-places.field-0 less) h;
+      within = omega (arith, long, less);
+      same_length = long ∙ i.same_length;
+      same_reference = c.in_ok-places.ensures.same_reference ∙ i.same_reference;
+      outer = c.in_ok-places.ensures.outer ∙ i.outer;
+    }
+
+pub returns-clause-ok : goal.returns-clause-ok
+returns-clause-ok g c =
+    let i = c.loop-at.invariant in
+    let all = take_all c.loop-at.at c.loop-at.places (omega (arith, i.same_length, c.loop-at-test.false)) in
+    let first = subst (ReadsFirst g.T.Serialize.meaning g.T.Deserialize.shape c.inside-members.result.de.now c.loop-at.members.de.now) all i.first in
+    let row = first_all g.T.Serialize.meaning g.T.Deserialize.shape (length c.args.places.now) c.loop-at.places i.same_length first in
+    on_ok_weaker c.end.result (λ k. reads_at (row_reads (opens_inside c.in_ok-outer.ensures.ok c.inside-members.ensures.same c.inside-members.ensures.outer) row k i.outer) (search rules)) c.end.ensures.ok
+
+pub returns-clause-err : goal.returns-clause-err
+returns-clause-err g c =
+    let i = c.loop-at.invariant in
+    let all = take_all c.loop-at.at c.loop-at.places (omega (arith, i.same_length, c.loop-at-test.false)) in
+    let first = subst (ReadsFirst g.T.Serialize.meaning g.T.Deserialize.shape c.inside-members.result.de.now c.loop-at.members.de.now) all i.first in
+    IfErr-weaker c.end.result _ _ (λ e k. refuses_at (row_refused {members = λ vs. trees (map g.T.Serialize.meaning vs)} (opens_inside c.in_ok-outer.ensures.ok c.inside-members.ensures.same c.inside-members.ensures.outer) (first_left (length c.args.places.now) _ first i.same_length k)) (search rules)) c.end.ensures.err

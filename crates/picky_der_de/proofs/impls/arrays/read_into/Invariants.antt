@@ -1,0 +1,12 @@
+use Rattle.std.proofs.Common.{◌≡◌, ◌≤◌, length, take}
+use Rattle.picky_der_de.proofs.ArrayReads.{ReadsFirst}
+use Rattle.picky_der_de.proofs.impls.arrays.read_into.Given as goal
+
+abbrev pub invariant-loop-at : goal.invariant-loop-at
+invariant-loop-at g l = record {
+  first : ReadsFirst g.T.Serialize.meaning g.T.Deserialize.shape l.initial.members.de.now l.members.de.now (take l.at l.places);
+  within : l.at ≤ length l.places;
+  same_length : length l.places ≡ length l.fn.places;
+  same_reference : l.members.de.ghost_name ≡ l.initial.members.de.ghost_name;
+  outer : l.members.outer ≡ l.initial.members.outer;
+}

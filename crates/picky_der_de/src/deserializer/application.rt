@@ -1,0 +1,34 @@
+//! Application tags, as a deserializer reads them (X.690, 8.14).
+ghost use Rattle.std.specs.Prelude.{◌≡◌, ◌<◌, None, Err, IfOk, IfErr};
+ghost use Rattle.picky_der_core.specs.Tree.{Tree};
+ghost use Rattle.picky_der_core.specs.Shape.{Shape};
+ghost use Rattle.picky_der_de.specs.declared.enclosure.Enclosure.TheVariants as enclosure;
+ghost use Rattle.picky_der_de.specs.Steps.{failed_with};
+ghost use Rattle.picky_der_de.specs.Reading.{Reads, Refuses, AreNotRefused};
+ghost use Rattle.picky_der_de.specs.Enclosures.{opening_refusal, RefusesEnclosed};
+
+use super::Deserializer;
+use crate::{Deserialize, Enclosure};
+use picky_der_core::misc::ReadExt;
+use picky_der_core::{Asn1DerError, Result};
+
+impl<R: ReadExt> Deserializer<R> {
+    /// Reads the value under the application tag with this number. Directly under an implicit tag the application tag has
+    /// its header too.
+    ///
+    /// `UnsupportedValue` for a number past 30: nothing is drawn then, and no memory is taken. `InvalidData` for a tag of
+    /// another class or number, and for bytes left over before the tag's end, none of which is drawn; the refusals of a
+    /// header and of an end; else as the value is refused.
+    pub fn deserialize_application<T: Deserialize>(&mut self, number: u8) -> Result<T>
+        ensures ok { IfOk result (λ value. Reads (Shape.application number T.shape) self.old self.new (Tree.application number (T.meaning value))) }
+        ensures err { IfErr result (Refuses (λ (value : T). Tree.application number (T.meaning value)) (Shape.application number T.shape) self.old self.new) }
+        ensures no_refusal { IfOk result (λ value. AreNotRefused (opening_refusal (enclosure.Application number) self.old) self.old) }
+        ensures refused { IfErr result (RefusesEnclosed T.meaning T.shape (enclosure.Application number) self.old self.new) }
+        ensures unsupported { 30 < number → self.old.failed ≡ None → (result ≡ Err Asn1DerError.UnsupportedValue) × (self.new ≡ failed_with self.old Asn1DerError.UnsupportedValue) }
+    {
+        self.read_enclosed(Enclosure::Application(number))
+    }
+}
+
+#[cfg(test)]
+mod tests;

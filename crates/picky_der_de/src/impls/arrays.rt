@@ -1,0 +1,80 @@
+//! Arrays, as they are read.
+ghost use Rattle.std.specs.Prelude.{length, IfOk, IfErr, OnOk};
+ghost use Rattle.picky_der_core.specs.Tree.{ListKind, Tree};
+ghost use Rattle.picky_der_core.specs.Shape.{Shape};
+ghost use Rattle.picky_der_ser.specs.Meaning.{list_meaning};
+ghost use Rattle.picky_der_de.specs.Reading.{Reads, Refuses};
+ghost use Rattle.picky_der_de.specs.ArrayLaws.{times, times_sound, array_known};
+
+use crate::{Deserialize, Deserializer, Sequence};
+use picky_der_core::Result;
+use picky_der_core::asn1::Tag;
+use picky_der_core::misc::ReadExt;
+
+// Reads a sequence of as many members as there are places, into these.
+fn read_into<T: Deserialize + Copy, R: ReadExt>(
+    places: &mut [T],
+    de: &mut Deserializer<R>,
+) -> Result<()>
+    ensures ok { OnOk result (Reads (Shape.fields ListKind.sequence (times (length places.old) T.shape)) de.old de.new (list_meaning ListKind.sequence T.meaning places.new)) }
+    ensures err { IfErr result (Refuses (list_meaning ListKind.sequence T.meaning) (Shape.fields ListKind.sequence (times (length places.old) T.shape)) de.old de.new) }
+{
+    let outer = de.open_list(Tag::SEQUENCE)?;
+    let mut members = Sequence::inside(de, outer);
+    for at in 0..places.len() {
+        places[at] = members.next_field::<T>()?;
+    }
+    members.end()
+}
+
+// A value that stands there before it is read, as an array with a default in each place.
+trait Fill: Drop + Sized {
+    ghost meaning: { Self → Tree };
+
+    ghost shape: { Shape };
+
+    // One that is yet to be read.
+    fn unread() -> Self;
+
+    // Reads the value into this one.
+    fn fill<R: ReadExt>(&mut self, de: &mut Deserializer<R>) -> Result<()>
+        ensures ok { OnOk result (Reads shape de.old de.new (meaning self.new)) }
+        ensures err { IfErr result (Refuses meaning shape de.old de.new) };
+}
+
+// Reads a value that stands there first. This is all the work of `deserialize` of an array: that function answers the
+// array in a `Result`, which the borrow checker doesn't cover, so it makes this one call and is proved by hand.
+fn read_filled<V: Fill, R: ReadExt>(de: &mut Deserializer<R>) -> Result<V>
+    ensures ok { IfOk result (λ value. Reads V.shape de.old de.new (V.meaning value)) }
+    ensures err { IfErr result (Refuses V.meaning V.shape de.old de.new) }
+{
+    let mut value = V::unread();
+    value.fill(de)?;
+    Ok(value)
+}
+
+impl<T: Deserialize + Copy + Default, const N: usize> Fill for [T; N] {
+    ghost meaning = { list_meaning ListKind.sequence T.meaning };
+
+    ghost shape = { Shape.fields ListKind.sequence (times N T.shape) };
+
+    fn unread() -> [T; N] {
+        [T::default(); N]
+    }
+
+    fn fill<R: ReadExt>(&mut self, de: &mut Deserializer<R>) -> Result<()> {
+        read_into(self, de)
+    }
+}
+
+impl<T: Deserialize + Copy + Default, const N: usize> Deserialize for [T; N] {
+    ghost shape = { Shape.fields ListKind.sequence (times N T.shape) };
+
+    ghost known_by_tree = { λ x y p q r e. array_known T.meaning T.shape T.eq T.known_by_tree N x y p.1 q.1 r e };
+
+    ghost sound = { times_sound N T.shape T.sound };
+
+    fn deserialize<R: ReadExt>(de: &mut Deserializer<R>) -> Result<[T; N]> {
+        read_filled(de)
+    }
+}

@@ -1,0 +1,95 @@
+-- An application tag that is written: its level was opened, gained one member, and ended.
+use Rattle.std.proofs.Common.{◌≡◌, ℕ, ◌+◌, ◌<◌, ◌≤◌, ◌^◌, true, false, ◌&&◌, List, [], length, Option, None, Some, refl, sym, ap, ◌∙◌, subst, arith, length-append, Result, Ok, Err, IfOk, IfErr}
+use Rattle.std.proofs.lemmas.Bool.{lt-leb}
+use Rattle.std.specs.Prelude.{IfSome, IfNone, IsTrue}
+use Rattle.picky_der_core.specs.declared.asn1.wrapper.Wrapper.{Wrapper}
+use Rattle.picky_der_core.specs.declared.misc.writer.WriteExt.{Ghosts}
+use Rattle.picky_der_core.specs.declared.error.Asn1DerError.{Asn1DerError}
+use Rattle.picky_der_core.specs.declared.error.Asn1DerError.TheVariants.{UnsupportedValue}
+use Rattle.picky_der_core.specs.Tag.{is_tag_number}
+use Rattle.picky_der_core.specs.Tree.{Tree}
+use Rattle.picky_der_core.specs.Encoding.{written, der}
+use Rattle.picky_der_core.specs.Readable.{has_tag_numbers, IsWritable}
+use Rattle.picky_der_core.specs.Wrapper.{under}
+use Rattle.picky_der_core.specs.WrapperLaws.{AreAlike, alike-under, alike-sym, der-alike}
+use Rattle.picky_der_ser.specs.declared.header.Header.TheVariants.{Application}
+use Rattle.picky_der_ser.specs.Headers.{headers}
+use Rattle.picky_der_ser.specs.State.{State, Level, with_member}
+use Rattle.picky_der_ser.specs.Calls.{MemoryExcuse, RefusedIn, Writes, Fails, Opens, Gains, Rejects, Ends, Finishes}
+use Rattle.picky_der_ser.proofs.Alike.{writes-alike, fails-alike}
+use Rattle.picky_der_ser.proofs.HeaderBytes.{der-headers}
+use Rattle.picky_der_ser.proofs.ListBytes.{numbers_inside, second_of}
+use Rattle.picky_der_ser.proofs.Members.{refused_part, writes_whatever, fails_whatever}
+use Rattle.picky_der_ser.proofs.PlainWrites.{past_under, unwritable-by, refused_unwritable}
+
+-- around the bytes of a tree it is written as around the tree
+written_alike : (n : ℕ) (t : Tree) (header : _) → written header (Tree.application n (Tree.raw (der t))) ≡ written header (Tree.application n t)
+unfolding written der
+written_alike n t header = refl
+
+alike_application : (n : ℕ) (t : Tree) → IsTrue (has_tag_numbers t) → AreAlike (Tree.application n (Tree.raw (der t))) (Tree.application n t)
+alike_application n t h = record { written_same = written_alike n t; absent_same = refl; numbers_same = sym (ap (λ b. is_tag_number n && b) h) }
+
+-- what it holds can be written, if it can
+part_writable : (ws : List Wrapper) (n : ℕ) (t : Tree) → IsWritable (under ws (Tree.application n t)) → IsWritable t
+part_writable ws n t w =
+    let numbers = second_of (is_tag_number n) (has_tag_numbers t) (numbers_inside ws (Tree.application n t) w.numbers) in
+    let same = der-alike _ _ (alike-under ws _ _ (alike_application n t numbers)) in
+    let whole = der-headers ws (Application n) (der t) in
+    record { numbers = numbers; fits = omega (arith, w.fits, ap length same, ap length whole, length-append (headers ws (Application n) (length (der t))) (der t)) }
+
+module _ {W : Type 0} (g : Ghosts W) (n : ℕ) (t : Tree) (old now : State W) (o : Opens g (Application n) old now) where
+  -- the level without its member, and with it
+  abbrev empty : Level
+  empty = record { header = Application n; around = old.around; content = [] }
+
+  abbrev full : Level
+  full = record { header = Application n; around = old.around; content = der t }
+
+  pending_at : now.pending ≡ Some empty
+  pending_at = ap (λ (s : State W). s.pending) o.opened
+
+  failed_at : now.failed ≡ old.failed
+  failed_at = ap (λ (s : State W). s.failed) o.opened
+
+  gained : (d : State W) → Gains g t now d → d ≡ record { sink = old.sink; around = []; failed = None; inside = old.inside; pending = Some full }
+  gained d h =
+      let step : d ≡ record { sink = now.sink; around = []; failed = None; inside = now.inside; pending = Some (with_member empty (der t)) } =
+      subst (λ p. IfSome p (λ l. d ≡ record { sink = now.sink; around = []; failed = None; inside = now.inside; pending = Some (with_member l (der t)) })) pending_at h.added in
+      let sink : now.sink ≡ old.sink = ap (λ (s : State W). s.sink) o.opened in
+      let inside : now.inside ≡ old.inside = ap (λ (s : State W). s.inside) o.opened in
+      cc
+
+  ended : (d new : State W) (r : Result ℕ Asn1DerError) → Gains g t now d → Finishes g d r new → Ends g (Application n) (der t) (record old { pending = Some full }) r new
+  ended d new r h f =
+      let none : old.failed ≡ None = sym failed_at ∙ h.had_not_failed in
+      let at : Ends g (Application n) (der t) (record { sink = old.sink; around = old.around; failed = None; inside = old.inside; pending = Some full }) r new =
+      subst (λ s. IfSome s.pending (λ l. Ends g l.header l.content (record s { around = l.around }) r new)) (gained d h) f.ended in
+      subst (λ e. Ends g (Application n) (der t) (record { sink = old.sink; around = old.around; failed = e; inside = old.inside; pending = Some full }) r new) (sym none) at
+
+  pub application_wrote : (d new : State W) (r : Result ℕ Asn1DerError) (k : ℕ) → Gains g t now d → Finishes g d r new → r ≡ Ok k → Writes g (Tree.application n t) old k new
+  application_wrote d new r k h f e =
+      let whole = writes-alike g _ _ old new r (alike_application n t h.writable.numbers) (writes_whatever g _ old new _ r (ended d new r h f).wrote) in
+      subst (λ v. IfOk v (λ m. Writes g (Tree.application n t) old m new)) e whole
+
+  pub application_failed : (d new : State W) (r : Result ℕ Asn1DerError) (e : Asn1DerError) → Gains g t now d → Finishes g d r new → r ≡ Err e → Fails g (Tree.application n t) old e new
+  application_failed d new r e h f i =
+      let whole = fails-alike g _ _ old new r (alike_application n t h.writable.numbers) (fails_whatever g _ old new _ r (ended d new r h f).failed) in
+      subst (λ v. IfErr v (λ m. Fails g (Tree.application n t) old m new)) i whole
+
+  pub application_refused : (new : State W) (d e : Asn1DerError) → Rejects g t now e new → d ≡ e → Fails g (Tree.application n t) old d new
+  application_refused new d e h i =
+      let sink : new.sink ≡ old.sink = h.same ∙ ap (λ (s : State W). s.sink) o.opened in
+      rw i (refused_part g t (Tree.application n t) old new e (part_writable old.around n t) h.failed sink (subst (λ f. IfSome f (λ k. e ≡ k)) failed_at h.again) (subst (λ f. IfNone f (MemoryExcuse t e)) failed_at h.first))
+
+module _ {W : Type 0} (g : Ghosts W) where
+  -- a tag number past 30
+  pub application_past : (n : ℕ) (t : Tree) (old : State W) → 30 < n → old.failed ≡ None → Fails g (Tree.application n t) old UnsupportedValue (record old { failed = Some UnsupportedValue })
+  application_past n t old h f =
+      let number : is_tag_number n ≡ false = lt-leb n 30 h in
+      let past : has_tag_numbers (Tree.application n t) ≡ false = ap (λ b. b && has_tag_numbers t) number in
+      let u = under old.around (Tree.application n t) in
+      let refused = refused_unwritable g old.inside u old.sink (unwritable-by u (past_under old.around (Tree.application n t) past)) in
+      record { failed = refl; again = rw f tt; first = rw f refused }
+
+pub ruleset application = (application_wrote, application_failed, application_refused, application_past)

@@ -1,0 +1,38 @@
+//! Application tags, written (X.690, 8.14).
+ghost use Rattle.std.specs.Prelude.{◌≡◌, ◌≤◌, ◌<◌, None, Err, IfOk, IfErr};
+ghost use Rattle.picky_der_core.specs.Tree.{Tree};
+ghost use Rattle.picky_der_ser.specs.Calls.{Writes, Fails};
+
+use super::Serializer;
+use crate::{Header, Serialize};
+use picky_der_core::misc::WriteExt;
+use picky_der_core::{Asn1DerError, Result};
+
+impl<W: WriteExt> Serializer<W> {
+    /// Writes the value under the application tag with this number, in the open wrappers. Around a value of which
+    /// nothing is written stands the tag with the length 0.
+    ///
+    /// `UnsupportedValue` for a number past 30, which is tested before the value is looked at: nothing is written, and
+    /// no memory is taken.
+    #[tactic(auto, using(crate::proofs::ApplicationWrites::application))]
+    pub fn serialize_application<T: Serialize>(&mut self, number: u8, value: &T) -> Result<usize>
+        ensures wrote { IfOk result (λ n. Writes W.WriteExt.own (Tree.application number (T.meaning value.now)) self.old n self.new) }
+        ensures failed { IfErr result (λ e. Fails W.WriteExt.own (Tree.application number (T.meaning value.now)) self.old e self.new) }
+        ensures past { 30 < number → self.old.failed ≡ None → (result ≡ Err Asn1DerError.UnsupportedValue) × (self.new.sink ≡ self.old.sink) }
+        ensures counted { W.faults self.old.sink ≤ W.faults self.new.sink }
+        ensures goes_on { W.later self.old.sink self.new.sink }
+    {
+        if let Some(error) = self.failed {
+            return Err(error);
+        }
+        if number > 30 {
+            return Err(self.fail(Asn1DerError::UnsupportedValue));
+        }
+        self.open(Header::Application(number));
+        self.write_member(value)?;
+        self.close()
+    }
+}
+
+#[cfg(test)]
+mod tests;
