@@ -47,6 +47,3 @@ impl Deserialize for Marker {
         de::deserialize_as(deserializer)
     }
 }
-
-#[cfg(test)]
-mod tests;

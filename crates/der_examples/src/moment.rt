@@ -59,6 +59,3 @@ impl Deserialize for Moment {
         })
     }
 }
-
-#[cfg(test)]
-mod tests;

@@ -46,6 +46,3 @@ impl<T: Deserialize> Deserialize for Named<T> {
         de::deserialize_as(deserializer)
     }
 }
-
-#[cfg(test)]
-mod tests;

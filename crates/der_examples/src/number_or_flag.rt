@@ -64,6 +64,3 @@ impl Deserialize for NumberOrFlag {
         deserialize_choice(deserializer)
     }
 }
-
-#[cfg(test)]
-mod tests;

@@ -48,6 +48,3 @@ impl Deserialize for Point {
         de::deserialize_as(deserializer)
     }
 }
-
-#[cfg(test)]
-mod tests;

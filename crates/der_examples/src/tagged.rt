@@ -50,6 +50,3 @@ impl Deserialize for Tagged {
         de::deserialize_as(deserializer)
     }
 }
-
-#[cfg(test)]
-mod tests;

@@ -56,6 +56,3 @@ impl Deserialize for Version {
         }
     }
 }
-
-#[cfg(test)]
-mod tests;

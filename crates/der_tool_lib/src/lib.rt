@@ -13,6 +13,3 @@ pub use line::Request;
 pub use lines::run;
 pub use test_struct::TestStruct;
 pub use value::{ValueType, answer_read};
-
-#[cfg(test)]
-mod tests;

@@ -48,6 +48,3 @@ impl Deserialize for TestStruct {
         de::deserialize_as(deserializer)
     }
 }
-
-#[cfg(test)]
-mod tests;

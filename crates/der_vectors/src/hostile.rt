@@ -3,5 +3,5 @@
 mod reader;
 mod writer;
 
-pub use reader::{FailingReader, SlowReader};
-pub use writer::{FailingWriter, Refusal, SlowWriter};
+pub(crate) use reader::{FailingReader, SlowReader};
+pub(crate) use writer::{FailingWriter, Refusal, SlowWriter};

@@ -56,6 +56,3 @@ impl<V: Deserialize + Debug, const T: u8> Deserialize for ApplicationTag<V, T> {
         Ok(ApplicationTag(value))
     }
 }
-
-#[cfg(test)]
-mod tests;

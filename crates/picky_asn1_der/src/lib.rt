@@ -30,6 +30,3 @@ pub use picky_der_de::{
 };
 pub use picky_der_ser::{Serialize, Serializer, to_byte_buf, to_bytes, to_vec, to_writer};
 pub use raw_der::Asn1RawDer;
-
-#[cfg(test)]
-mod tests;

@@ -69,6 +69,3 @@ impl Deserialize for Asn1RawDer {
         Ok(Asn1RawDer(de.deserialize_raw()?))
     }
 }
-
-#[cfg(test)]
-mod tests;

@@ -72,6 +72,3 @@ impl From<io::Error> for Asn1DerError {
 
 /// What the calls of the workspace answer.
 pub type Result<Answer> = std::result::Result<Answer, Asn1DerError>;
-
-#[cfg(test)]
-mod tests;

@@ -1,8 +1,6 @@
 //! Readers and writers, and lengths.
 
 mod buf_sink;
-#[cfg(test)]
-mod devices;
 mod faults;
 mod length;
 mod peekable;

@@ -26,6 +26,3 @@ impl Boolean {
         }
     }
 }
-
-#[cfg(test)]
-mod tests;

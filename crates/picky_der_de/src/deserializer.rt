@@ -193,6 +193,3 @@ impl<R: ReadExt> Deserializer<R> {
         Ok(kept)
     }
 }
-
-#[cfg(test)]
-mod tests;

@@ -58,6 +58,3 @@ pub fn from_reader_with_max_len<T: Deserialize, R: ReadExt>(
     let (result, _reader) = read_from::<T, &mut R>(alloc, reader, max_len);
     result
 }
-
-#[cfg(test)]
-mod tests;

@@ -5,8 +5,6 @@ mod bytes;
 mod lists;
 mod numbers;
 mod options;
-#[cfg(test)]
-mod tests;
 mod texts;
 mod tuples;
 mod wrappers;

@@ -144,6 +144,3 @@ impl UnsignedInteger {
         T::from_u128(number_of(digits))
     }
 }
-
-#[cfg(test)]
-mod tests;

@@ -13,8 +13,6 @@ mod impls;
 mod integer;
 mod null;
 mod sequence;
-#[cfg(test)]
-mod test_reader;
 mod utf8_string;
 
 pub use alike::{Alike, deserialize_as};

@@ -22,6 +22,3 @@ impl Null {
         }
     }
 }
-
-#[cfg(test)]
-mod tests;

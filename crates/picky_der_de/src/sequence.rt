@@ -212,6 +212,3 @@ impl<R: ReadExt> Deserializer<R> {
         self.deserialize_seq()
     }
 }
-
-#[cfg(test)]
-mod tests;

@@ -40,6 +40,3 @@ impl Utf8String {
         }
     }
 }
-
-#[cfg(test)]
-mod tests;

@@ -84,6 +84,3 @@ pub fn to_writer<T: Serialize, W: WriteExt>(
 fn end_loan(_sink: SliceSink<'_>)
     ensures { _sink.exit.0.now ≡ (slice_of _sink.entry).now }
 {}
-
-#[cfg(test)]
-mod tests;

@@ -103,6 +103,3 @@ impl UnsignedInteger {
         ser.write_plain(Tag::INTEGER, &content.bytes[content.start..])
     }
 }
-
-#[cfg(test)]
-mod tests;

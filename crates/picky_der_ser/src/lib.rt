@@ -11,8 +11,6 @@ mod integer;
 mod levels;
 mod null;
 mod plain;
-#[cfg(test)]
-mod refuses_once;
 mod sequence;
 mod serializer;
 mod utf8_string;

@@ -137,6 +137,3 @@ impl<W: WriteExt> Serializer<W> {
         self.begin(Tag::SET)
     }
 }
-
-#[cfg(test)]
-mod tests;

@@ -193,6 +193,3 @@ impl<W: WriteExt> Serializer<W> {
         }
     }
 }
-
-#[cfg(test)]
-mod tests;

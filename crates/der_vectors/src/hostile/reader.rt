@@ -4,17 +4,17 @@ ghost use Rattle.std.specs.Prelude.{◌≡◌, ◌+◌, ◌≤◌, length, Some}
 use std::io;
 use std::io::{ErrorKind, Read};
 
-/// Gives its bytes one a call, whatever room there is.
+// Gives its bytes one a call, whatever room there is.
 #[derive(Drop)]
-pub struct SlowReader<'a> {
+pub(crate) struct SlowReader<'a> {
     rest: &'a [u8],
     total: usize,
     ghost within: { length rest.now ≤ total },
 }
 
 impl<'a> SlowReader<'a> {
-    /// A reader of these bytes.
-    pub fn new(bytes: &'a [u8]) -> SlowReader<'a>
+    // A reader of these bytes.
+    pub(crate) fn new(bytes: &'a [u8]) -> SlowReader<'a>
         ensures left { result.rest.now ≡ bytes.now }
         ensures total { result.total ≡ length bytes.now }
     {
@@ -24,8 +24,8 @@ impl<'a> SlowReader<'a> {
         }
     }
 
-    /// How many bytes it has given.
-    pub fn given(&self) -> usize
+    // How many bytes it has given.
+    pub(crate) fn given(&self) -> usize
         ensures { result + length self.now.rest.now ≡ self.now.total }
     {
         self.total - self.rest.len()
@@ -48,10 +48,10 @@ impl Read for SlowReader<'_> {
     }
 }
 
-/// Gives its bytes one a call, but that one of its calls fails. The call behind that one gives the byte that would have
-/// come.
+// Gives its bytes one a call, but that one of its calls fails. The call behind that one gives the byte that would have
+// come.
 #[derive(Drop)]
-pub struct FailingReader<'a> {
+pub(crate) struct FailingReader<'a> {
     reader: SlowReader<'a>,
     // How many calls come before the one that fails, if that one is still to come.
     before: Option<usize>,
@@ -59,9 +59,9 @@ pub struct FailingReader<'a> {
 }
 
 impl<'a> FailingReader<'a> {
-    /// A reader of these bytes whose call number `call` fails with an error of this kind. Calls are counted from 1, and at
-    /// 0 none fails.
-    pub fn new(bytes: &'a [u8], call: usize, kind: ErrorKind) -> FailingReader<'a>
+    // A reader of these bytes whose call number `call` fails with an error of this kind. Calls are counted from 1, and at
+    // 0 none fails.
+    pub(crate) fn new(bytes: &'a [u8], call: usize, kind: ErrorKind) -> FailingReader<'a>
         ensures left { result.reader.rest.now ≡ bytes.now }
         ensures total { result.reader.total ≡ length bytes.now }
     {
@@ -72,8 +72,8 @@ impl<'a> FailingReader<'a> {
         }
     }
 
-    /// How many bytes it has given.
-    pub fn given(&self) -> usize
+    // How many bytes it has given.
+    pub(crate) fn given(&self) -> usize
         ensures { result + length self.now.reader.rest.now ≡ self.now.reader.total }
     {
         self.reader.given()

@@ -5,15 +5,15 @@ use std::alloc::Global;
 use std::io;
 use std::io::{ErrorKind, Write};
 
-/// Takes one byte a call, whatever is there.
+// Takes one byte a call, whatever is there.
 #[derive(Drop)]
-pub struct SlowWriter {
+pub(crate) struct SlowWriter {
     taken: Vec<u8>,
 }
 
 impl SlowWriter {
-    /// A writer that has taken nothing yet.
-    pub fn new(alloc: Global) -> SlowWriter
+    // A writer that has taken nothing yet.
+    pub(crate) fn new(alloc: Global) -> SlowWriter
         ensures { result.taken.items ≡ [] }
     {
         SlowWriter {
@@ -21,8 +21,8 @@ impl SlowWriter {
         }
     }
 
-    /// The bytes that it has taken.
-    pub fn taken(&self) -> &[u8]
+    // The bytes that it has taken.
+    pub(crate) fn taken(&self) -> &[u8]
         ensures { result.now ≡ self.now.taken.items }
     {
         &self.taken
@@ -47,18 +47,18 @@ impl Write for SlowWriter {
     }
 }
 
-/// How a call of a writer is refused.
+// How a call of a writer is refused.
 #[derive(Clone, Copy, Debug)]
-pub enum Refusal {
-    /// By an error of this kind.
+pub(crate) enum Refusal {
+    // By an error of this kind.
     Error(ErrorKind),
-    /// By taking nothing.
+    // By taking nothing.
     TakesNothing,
 }
 
-/// Takes one byte a call, but that one of its calls is refused. The call behind that one takes a byte again.
+// Takes one byte a call, but that one of its calls is refused. The call behind that one takes a byte again.
 #[derive(Drop)]
-pub struct FailingWriter {
+pub(crate) struct FailingWriter {
     writer: SlowWriter,
     // How many calls come before the one that is refused, if that one is still to come.
     before: Option<usize>,
@@ -66,8 +66,8 @@ pub struct FailingWriter {
 }
 
 impl FailingWriter {
-    /// A writer whose call number `call` is refused so. Calls are counted from 1, and at 0 none is refused.
-    pub fn new(alloc: Global, call: usize, refusal: Refusal) -> FailingWriter
+    // A writer whose call number `call` is refused so. Calls are counted from 1, and at 0 none is refused.
+    pub(crate) fn new(alloc: Global, call: usize, refusal: Refusal) -> FailingWriter
         ensures { result.writer.taken.items ≡ [] }
     {
         FailingWriter {
@@ -77,8 +77,8 @@ impl FailingWriter {
         }
     }
 
-    /// The bytes that it has taken.
-    pub fn taken(&self) -> &[u8]
+    // The bytes that it has taken.
+    pub(crate) fn taken(&self) -> &[u8]
         ensures { result.now ≡ self.now.writer.taken.items }
     {
         self.writer.taken()

@@ -2,7 +2,7 @@
 
 use crate::hexadecimal::bytes_of;
 use crate::hostile::{SlowReader, SlowWriter};
-use crate::tests::rows::{both_ways, reads, refuses, writes};
+use crate::tests::rows::{both_ways, reads, refuses, refuses_after, writes};
 use picky_asn1_der::Asn1DerError::{InvalidData, TruncatedData, UnsupportedValue};
 use picky_asn1_der::asn1::{ByteBuf, TaggedBytes};
 use picky_asn1_der::misc::Watched;
@@ -51,6 +51,37 @@ fn numbers_have_at_most_128_bits(rt: HostRuntime) -> Result<(), Fail> {
     both_ways(&rt, u128::MAX, most)?;
     let past = "02 12 00 FF FF FF FF FF FF FF FF FF FF FF FF FF FF FF FF FF";
     refuses::<u128>(&rt, past, UnsupportedValue)
+}
+
+#[test]
+fn numbers_have_the_same_encoding_in_each_type(rt: HostRuntime) -> Result<(), Fail> {
+    both_ways(&rt, 0x1234u16, "02 02 12 34")?;
+    both_ways(&rt, 0x1234u32, "02 02 12 34")?;
+    both_ways(&rt, 0x1234u64, "02 02 12 34")?;
+    both_ways(&rt, 0x1234u128, "02 02 12 34")?;
+    both_ways(&rt, 0x1234usize, "02 02 12 34")?;
+    both_ways(&rt, u16::MAX, "02 03 00 FF FF")?;
+    both_ways(&rt, u32::MAX, "02 05 00 FF FF FF FF")?;
+    let most = "02 09 00 FF FF FF FF FF FF FF FF";
+    both_ways(&rt, u64::MAX, most)?;
+    both_ways(&rt, usize::MAX, most)?;
+    refuses::<u32>(&rt, "02 05 01 00 00 00 00", UnsupportedValue)
+}
+
+#[test]
+fn a_refused_number_is_the_last_that_is_drawn(rt: HostRuntime) -> Result<(), Fail> {
+    for (row, error, drawn) in [
+        ("05 00", InvalidData, 1),
+        ("02 80 07", InvalidData, 2),
+        ("02 89 07", UnsupportedValue, 2),
+        ("02 81 01 07", InvalidData, 3),
+        ("02 7F 07", TruncatedData, 2),
+        ("02 03 80 00 00 07", UnsupportedValue, 5),
+        ("02 00 02 01 07", TruncatedData, 2),
+    ] {
+        refuses_after::<u8>(&rt, row, error, drawn)?;
+    }
+    Ok(())
 }
 
 #[test]

@@ -1,7 +1,11 @@
 //! What rows say: of a value how it is written and read, and of bytes how they are refused.
 
 use crate::hexadecimal::{bytes_of, text_of};
-use picky_asn1_der::{Asn1DerError, Deserialize, Serialize, from_bytes, to_vec};
+use crate::hostile::SlowReader;
+use picky_asn1_der::misc::Watched;
+use picky_asn1_der::{
+    Asn1DerError, Deserialize, Serialize, from_bytes, from_reader_with_max_len, to_vec,
+};
 use std::fmt::Debug;
 use std::process::Abort;
 use std::test::Fail;
@@ -50,5 +54,20 @@ pub(crate) fn refuses<T: Deserialize>(
         Some(error),
         "{row}"
     );
+    Ok(())
+}
+
+// Read from a reader that gives one byte a call, these bytes are refused so, once so many of them are drawn.
+pub(crate) fn refuses_after<T: Deserialize>(
+    rt: &(impl Abort + AllocGlobal),
+    row: &str,
+    error: Asn1DerError,
+    drawn: usize,
+) -> Result<(), Fail> {
+    let bytes = bytes_of(rt.alloc(), row)?;
+    let mut reader = Watched::new(SlowReader::new(&bytes));
+    let answer = from_reader_with_max_len::<T, _>(rt.alloc(), &mut reader, 64);
+    assert_eq!(rt; answer.err(), Some(error), "{row}");
+    assert_eq!(rt; reader.get_ref().given(), drawn, "{row}");
     Ok(())
 }

@@ -1,7 +1,7 @@
 //! Sequences: lists, arrays, tuples, and the calls that write and read their members.
 
 use crate::hexadecimal::{bytes_of, text_of};
-use crate::tests::rows::{both_ways, reads, refuses, writes};
+use crate::tests::rows::{both_ways, reads, refuses, refuses_after, writes};
 use picky_asn1_der::Asn1DerError::{InvalidData, TruncatedData};
 use picky_asn1_der::asn1::{Asn1SequenceOf, ByteBuf, ObjectIdentifierAsn1, Tag};
 use picky_asn1_der::misc::WriteExt;
@@ -89,6 +89,61 @@ fn each_call_reads_a_sequence(rt: HostRuntime) -> Result<(), Fail> {
     assert_eq!(rt; members.next_field::<u8>(), Ok(7));
     members.end()?;
     assert_eq!(rt; de.taken(), 20);
+    Ok(())
+}
+
+#[test]
+fn a_set_has_a_call_of_its_own(rt: HostRuntime) -> Result<(), Fail> {
+    let mut out = Vec::new(rt.alloc());
+    let mut ser = Serializer::new_to_byte_buf(rt.alloc(), &mut out);
+    let mut members = ser.serialize_set()?;
+    members.serialize_element(&7u8)?;
+    assert_eq!(rt; members.end(), Ok(5));
+    drop(ser);
+    assert_eq!(rt; text_of(rt.alloc(), &out)?.as_str(), "31 03 02 01 07");
+    let mut de = Deserializer::new_from_bytes(rt.alloc(), &out);
+    let mut members = de.deserialize_set()?;
+    assert_eq!(rt; members.next_field::<u8>(), Ok(7));
+    members.end()?;
+    Ok(())
+}
+
+#[test]
+fn a_missing_member_is_truncated(rt: HostRuntime) -> Result<(), Fail> {
+    let bytes = bytes_of(rt.alloc(), "30 00 02 01 07")?;
+    let mut de = Deserializer::new_from_bytes(rt.alloc(), &bytes);
+    let mut members = de.deserialize_seq()?;
+    assert_eq!(rt; members.next_field::<u8>(), Err(TruncatedData));
+    assert_eq!(rt; members.next_element::<u8>(), Err(TruncatedData));
+    assert_eq!(rt; members.end(), Err(TruncatedData));
+    assert_eq!(rt; de.taken(), 2);
+    Ok(())
+}
+
+#[test]
+fn a_member_too_many_is_invalid(rt: HostRuntime) -> Result<(), Fail> {
+    let bytes = bytes_of(rt.alloc(), "30 06 02 01 07 02 01 08")?;
+    let mut de = Deserializer::new_from_bytes(rt.alloc(), &bytes);
+    let mut members = de.deserialize_seq()?;
+    assert_eq!(rt; members.next_field::<u8>(), Ok(7));
+    assert_eq!(rt; members.end(), Err(InvalidData));
+    assert_eq!(rt; de.deserialize_u8(), Err(InvalidData));
+    assert_eq!(rt; de.taken(), 5);
+    Ok(())
+}
+
+#[test]
+fn a_refused_header_is_the_last_that_is_drawn(rt: HostRuntime) -> Result<(), Fail> {
+    for (row, error, drawn) in [
+        ("31 00", InvalidData, 1),
+        ("30 80 00", InvalidData, 2),
+        ("30 7F 02", TruncatedData, 2),
+        ("30 88 FF FF FF FF FF FF FF FF", TruncatedData, 10),
+        ("30 01 02 02", TruncatedData, 3),
+        ("", TruncatedData, 0),
+    ] {
+        refuses_after::<Vec<u8>>(&rt, row, error, drawn)?;
+    }
     Ok(())
 }
 

@@ -2,7 +2,7 @@
 
 use crate::hexadecimal::{bytes_of, text_of};
 use crate::hostile::{SlowReader, SlowWriter};
-use crate::tests::rows::{both_ways, reads, refuses, writes};
+use crate::tests::rows::{both_ways, reads, refuses, refuses_after, writes};
 use picky_asn1_der::Asn1DerError::{InvalidData, TruncatedData, UnsupportedValue};
 use picky_asn1_der::asn1::{
     Asn1SetOf, BitStringAsn1Container, ByteBuf, ExplicitContextTag, ExplicitContextTag0,
@@ -148,4 +148,30 @@ fn a_plain_newtype_is_its_value(rt: HostRuntime) -> Result<(), Fail> {
     let mut de = Deserializer::new_from_bytes(alloc, &out);
     assert_eq!(rt; de.deserialize_newtype_struct::<u8>(Newtype::Plain), Ok(7));
     Ok(())
+}
+
+#[test]
+fn a_refused_wrapper_is_the_last_that_is_drawn(rt: HostRuntime) -> Result<(), Fail> {
+    for (row, error, drawn) in [
+        ("03 00 00", InvalidData, 2),
+        ("03 02 00 02", InvalidData, 4),
+        ("03 04 01 02 01 07", InvalidData, 3),
+        ("03 05 00 02 01 07 00", InvalidData, 6),
+        ("03 7F", TruncatedData, 2),
+        ("04 03 02 01 07", InvalidData, 1),
+    ] {
+        refuses_after::<BitStringAsn1Container<u8>>(&rt, row, error, drawn)?;
+    }
+    for (row, error, drawn) in [
+        ("A1 03 02 01 07", InvalidData, 1),
+        ("A0 04 02 01 07 00", InvalidData, 5),
+        ("A0 02 02 89", UnsupportedValue, 4),
+        ("A0 02 02 82", InvalidData, 4),
+        ("A0 02 02 80", InvalidData, 4),
+    ] {
+        refuses_after::<ExplicitContextTag0<u8>>(&rt, row, error, drawn)?;
+    }
+    refuses_after::<ImplicitContextTag1<u8>>(&rt, "81 7F 07", TruncatedData, 2)?;
+    type Twice = ImplicitContextTag0<ImplicitContextTag1<u8>>;
+    refuses_after::<Twice>(&rt, "80 02 81 05", InvalidData, 4)
 }

@@ -115,6 +115,3 @@ impl Length {
         }
     }
 }
-
-#[cfg(test)]
-mod tests;

@@ -198,6 +198,3 @@ impl<R: ReadExt> ReadExt for PeekableReader<R> {
         }
     }
 }
-
-#[cfg(test)]
-mod tests;

@@ -79,6 +79,3 @@ impl<R: ReadExt> ReadExt for &mut R {
         ReadExt::read_some(&mut **self, buf)
     }
 }
-
-#[cfg(test)]
-mod tests;

@@ -142,6 +142,3 @@ impl WriteExt for SliceSink<'_> {
 
     ghost later_trans = { λ s t u a b. (b.0 ∙ a.0, b.1 ∙ a.1, at_least_trans (filled_of s) (filled_of t) (filled_of u) a.2 b.2, later_drop (filled_of t) (filled_of u) _ _ _ b.2 a.3 b.3) };
 }
-
-#[cfg(test)]
-mod tests;

@@ -151,6 +151,3 @@ impl<T: Write> WriteExt for Watched<T> {
 
     ghost later_trans = { λ _ _ _ _ _. tt };
 }
-
-#[cfg(test)]
-mod tests;

@@ -29,6 +29,3 @@ impl<R: ReadExt> Deserializer<R> {
         self.read_enclosed(Enclosure::Application(number))
     }
 }
-
-#[cfg(test)]
-mod tests;

@@ -92,6 +92,3 @@ impl<R: ReadExt> Deserializer<R> {
         }
     }
 }
-
-#[cfg(test)]
-mod tests;

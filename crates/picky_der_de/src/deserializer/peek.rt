@@ -69,6 +69,3 @@ impl<R: ReadExt> Deserializer<R> {
         }
     }
 }
-
-#[cfg(test)]
-mod tests;

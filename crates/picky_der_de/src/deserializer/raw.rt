@@ -74,6 +74,3 @@ impl<R: ReadExt> Deserializer<R> {
         self.skip(len)
     }
 }
-
-#[cfg(test)]
-mod tests;

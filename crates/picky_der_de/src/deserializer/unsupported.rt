@@ -74,6 +74,3 @@ impl<R: ReadExt> Deserializer<R> {
         self.refuse_type()
     }
 }
-
-#[cfg(test)]
-mod tests;

@@ -32,6 +32,3 @@ impl<R: ReadExt> Deserializer<R> {
         }
     }
 }
-
-#[cfg(test)]
-mod tests;

@@ -63,6 +63,3 @@ impl<T: Deserialize, const N: u8> Deserialize for ImplicitContextTag<T, N> {
         Ok(ImplicitContextTag(value))
     }
 }
-
-#[cfg(test)]
-mod tests;

@@ -68,6 +68,3 @@ impl<T: Serialize> Serialize for Asn1SetOf<T> {
         serialize_items(&self.0, Tag::SET, ser)
     }
 }
-
-#[cfg(test)]
-mod tests;

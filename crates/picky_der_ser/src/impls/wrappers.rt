@@ -40,6 +40,3 @@ impl<T: Serialize, const N: u8> Serialize for ImplicitContextTag<T, N> {
         ser.serialize_newtype_struct(Newtype::Implicit(N), &self.0)
     }
 }
-
-#[cfg(test)]
-mod tests;

@@ -33,6 +33,3 @@ impl<W: WriteExt> Serializer<W> {
         self.close()
     }
 }
-
-#[cfg(test)]
-mod tests;

@@ -39,6 +39,3 @@ impl<W: WriteExt> Serializer<W> {
         self.put_wrapped(Header::Raw, bytes)
     }
 }
-
-#[cfg(test)]
-mod tests;

@@ -110,6 +110,3 @@ impl<W: WriteExt> Serializer<W> {
         self.refuse_type()
     }
 }
-
-#[cfg(test)]
-mod tests;

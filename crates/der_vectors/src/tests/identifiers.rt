@@ -1,0 +1,66 @@
+//! Looks at the next tag.
+
+use crate::hexadecimal::bytes_of;
+use crate::hostile::{FailingReader, SlowReader};
+use picky_asn1_der::Asn1DerError::{Other, TruncatedData};
+use picky_asn1_der::asn1::{ImplicitContextTag1, Tag};
+use picky_asn1_der::misc::Watched;
+use picky_asn1_der::{Deserialize, Deserializer, de};
+use std::io::ErrorKind::TimedOut;
+use std::test::Fail;
+
+#[test]
+fn the_next_tag_is_left_unread(rt: HostRuntime) -> Result<(), Fail> {
+    let bytes = bytes_of(rt.alloc(), "81 01 07 30 03 02 01 07 05 00")?;
+    let mut de = Deserializer::new_from_bytes(rt.alloc(), &bytes);
+    assert_eq!(rt; de.deserialize_identifier(), Ok(Tag::from(0x81)));
+    assert_eq!(rt; de.taken(), 0);
+    let seven: ImplicitContextTag1<u8> = Deserialize::deserialize(&mut de)?;
+    assert_eq!(rt; seven.0, 7);
+    assert_eq!(rt; de.taken(), 3);
+    assert_eq!(rt; de.deserialize_enum("Any", &["list"]), Ok(Tag::SEQUENCE));
+    assert_eq!(rt; de.deserialize_ignored_any(), Ok(()));
+    assert_eq!(rt; de.taken(), 8);
+    assert_eq!(rt; de.deserialize_unit(), Ok(()));
+    assert_eq!(rt; de.taken(), 10);
+    assert_eq!(rt; de.deserialize_bool(), Err(TruncatedData));
+    Ok(())
+}
+
+#[test]
+fn a_look_draws_one_byte(rt: HostRuntime) -> Result<(), Fail> {
+    let bytes = bytes_of(rt.alloc(), "02 01 07")?;
+    for (limit, tag, drawn) in [(3, Ok(Tag::INTEGER), 1), (0, Err(TruncatedData), 0)] {
+        let reader = Watched::new(SlowReader::new(&bytes));
+        let mut de = Deserializer::new_from_reader(rt.alloc(), reader, limit);
+        for _ in 0..2 {
+            assert_eq!(rt; de.deserialize_identifier(), tag, "{limit}");
+            assert_eq!(rt; de.deserialize_enum("Any", &[]), tag, "{limit}");
+        }
+        assert_eq!(rt; de.taken(), 0);
+        assert_eq!(rt; de.into_reader().into_inner().given(), drawn, "{limit}");
+    }
+    Ok(())
+}
+
+#[test]
+fn a_look_passes_on_a_fault(rt: HostRuntime) -> Result<(), Fail> {
+    let bytes = bytes_of(rt.alloc(), "02 01 07")?;
+    let reader = Watched::new(FailingReader::new(&bytes, 1, TimedOut));
+    let mut de = Deserializer::new_from_reader(rt.alloc(), reader, 3);
+    assert_eq!(rt; de.deserialize_identifier(), Err(Other(TimedOut)));
+    assert_eq!(rt; de.deserialize_enum("Any", &[]), Err(Other(TimedOut)));
+    assert_eq!(rt; de.deserialize_u8(), Err(Other(TimedOut)));
+    assert_eq!(rt; de.taken(), 0);
+    Ok(())
+}
+
+#[test]
+fn no_tag_is_looked_at_past_an_end(rt: HostRuntime) -> Result<(), Fail> {
+    let bytes = bytes_of(rt.alloc(), "02 01 07")?;
+    let mut de = Deserializer::new_from_bytes(rt.alloc(), &bytes);
+    drop(de::Sequence::deserialize_lazy(&mut de, 0));
+    assert_eq!(rt; de.deserialize_identifier(), Err(TruncatedData));
+    assert_eq!(rt; de.taken(), 0);
+    Ok(())
+}

@@ -1,0 +1,70 @@
+//! The constants of tags, and the types of bytes under them.
+
+use picky_asn1_der::asn1::{
+    BitStringAsn1, BmpStringAsn1, ByteBuf, GeneralStringAsn1, GeneralizedTimeAsn1, Ia5StringAsn1,
+    IntegerAsn1, NumericStringAsn1, ObjectIdentifierAsn1, PrintableStringAsn1, Tag, TaggedBytes,
+    UtcTimeAsn1, Utf8StringAsn1,
+};
+use picky_asn1_der::to_bytes;
+use std::process::Abort;
+use std::test::Fail;
+
+#[test]
+fn tags_have_their_bytes(rt: HostRuntime) {
+    for (tag, byte) in [
+        (Tag::BOOLEAN, 0x01),
+        (Tag::INTEGER, 0x02),
+        (Tag::BIT_STRING, 0x03),
+        (Tag::OCTET_STRING, 0x04),
+        (Tag::NULL, 0x05),
+        (Tag::OID, 0x06),
+        (Tag::UTF8_STRING, 0x0C),
+        (Tag::NUMERIC_STRING, 0x12),
+        (Tag::PRINTABLE_STRING, 0x13),
+        (Tag::IA5_STRING, 0x16),
+        (Tag::UTC_TIME, 0x17),
+        (Tag::GENERALIZED_TIME, 0x18),
+        (Tag::GENERAL_STRING, 0x1B),
+        (Tag::BMP_STRING, 0x1E),
+        (Tag::SEQUENCE, 0x30),
+        (Tag::SET, 0x31),
+    ] {
+        assert_eq!(rt; tag.inner(), byte);
+    }
+}
+
+// Bytes of this type are written under this tag.
+fn has_tag<const TAG: u8>(
+    rt: &(impl Abort + AllocGlobal),
+    make: fn(Vec<u8>) -> TaggedBytes<TAG>,
+    byte: u8,
+) {
+    let mut encoding = [0; 2];
+    let none = make(Vec::new(rt.alloc()));
+    assert_eq!(rt; to_bytes(rt.alloc(), &none, &mut encoding), Ok(2));
+    assert_eq!(rt; encoding, [byte, 0]);
+}
+
+#[test]
+fn aliases_have_their_tags(rt: HostRuntime) {
+    has_tag(&rt, IntegerAsn1::from, 0x02);
+    has_tag(&rt, BitStringAsn1::from, 0x03);
+    has_tag(&rt, ObjectIdentifierAsn1::from, 0x06);
+    has_tag(&rt, Utf8StringAsn1::from, 0x0C);
+    has_tag(&rt, NumericStringAsn1::from, 0x12);
+    has_tag(&rt, PrintableStringAsn1::from, 0x13);
+    has_tag(&rt, Ia5StringAsn1::from, 0x16);
+    has_tag(&rt, UtcTimeAsn1::from, 0x17);
+    has_tag(&rt, GeneralizedTimeAsn1::from, 0x18);
+    has_tag(&rt, GeneralStringAsn1::from, 0x1B);
+    has_tag(&rt, BmpStringAsn1::from, 0x1E);
+}
+
+#[test]
+fn bytes_are_copied(rt: HostRuntime) -> Result<(), Fail> {
+    let octets = ByteBuf::from(vec![in rt.alloc(); 0xAA; 3]?);
+    assert_eq!(rt; octets.clone()?, octets);
+    let tagged = BmpStringAsn1::from(vec![in rt.alloc(); 0xAA; 3]?);
+    assert_eq!(rt; tagged.clone()?, tagged);
+    Ok(())
+}

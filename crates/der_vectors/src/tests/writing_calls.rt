@@ -1,0 +1,120 @@
+//! Each call of a serializer that writes one value.
+
+use crate::hexadecimal::text_of;
+use crate::tests::rows::writes;
+use picky_asn1_der::asn1::{Newtype, Tag};
+use picky_asn1_der::misc::WriteExt;
+use picky_asn1_der::{Serialize, Serializer, ser};
+use std::test::Fail;
+
+#[test]
+fn truth_values_numbers_and_octet_strings_follow(rt: HostRuntime) -> Result<(), Fail> {
+    let mut out = Vec::new(rt.alloc());
+    let mut ser = Serializer::new_to_byte_buf(rt.alloc(), &mut out);
+    let counts = [
+        ser.serialize_bool(true)?,
+        ser.serialize_u8(0x01)?,
+        ser.serialize_u16(0x0203)?,
+        ser.serialize_u32(0x0405_0607)?,
+        ser.serialize_u64(0x80)?,
+        ser.serialize_u128(0)?,
+        ser.serialize_bytes(&[0x08, 0x09])?,
+    ];
+    drop(ser);
+    assert_eq!(rt; counts, [3, 3, 4, 6, 4, 3, 4]);
+    let row = "01 01 FF 02 01 01 02 02 02 03 02 04 04 05 06 07 02 02 00 80 02 01 00 04 02 08 09";
+    assert_eq!(rt; text_of(rt.alloc(), &out)?.as_str(), row);
+    Ok(())
+}
+
+#[test]
+fn nulls_texts_and_options_follow(rt: HostRuntime) -> Result<(), Fail> {
+    let mut out = Vec::new(rt.alloc());
+    let mut ser = Serializer::new_to_byte_buf(rt.alloc(), &mut out);
+    assert!(rt; !ser.is_human_readable());
+    let counts = [
+        ser.serialize_unit()?,
+        ser.serialize_unit_struct("Nothing")?,
+        ser.serialize_char('é')?,
+        ser.serialize_str("Aé")?,
+        ser.serialize_tagged_bytes(Tag::from(0x9E), &[0xAA])?,
+        ser.serialize_none()?,
+        ser.serialize_some(&7u8)?,
+    ];
+    drop(ser);
+    assert_eq!(rt; counts, [2, 2, 4, 5, 3, 0, 3]);
+    let row = "05 00 05 00 0C 02 C3 A9 0C 03 41 C3 A9 9E 01 AA 02 01 07";
+    assert_eq!(rt; text_of(rt.alloc(), &out)?.as_str(), row);
+    Ok(())
+}
+
+#[test]
+fn each_newtype_has_its_wrapper(rt: HostRuntime) -> Result<(), Fail> {
+    for (kind, row) in [
+        (Newtype::Plain, "02 01 07"),
+        (Newtype::OctetContainer, "04 03 02 01 07"),
+        (Newtype::BitContainer, "03 04 00 02 01 07"),
+        (Newtype::Explicit(1), "A1 03 02 01 07"),
+        (Newtype::Implicit(1), "81 01 07"),
+    ] {
+        let mut out = Vec::new(rt.alloc());
+        let mut ser = Serializer::new_to_byte_buf(rt.alloc(), &mut out);
+        ser.serialize_newtype_struct(kind, &7u8)?;
+        drop(ser);
+        assert_eq!(rt; text_of(rt.alloc(), &out)?.as_str(), row);
+    }
+    Ok(())
+}
+
+// Writes its bytes as they are.
+#[derive(Drop)]
+struct Untouched;
+
+impl Serialize for Untouched {
+    ghost use Rattle.std.specs.Prelude.{◌∷◌, []};
+    ghost use Rattle.picky_der_core.specs.Tree.{Tree};
+
+    ghost meaning = { λ s. Tree.raw (0x02 ∷ 0x01 ∷ 0x07 ∷ []) };
+
+    fn serialize<W: WriteExt>(
+        &self,
+        serializer: &mut Serializer<W>,
+    ) -> picky_asn1_der::Result<usize> {
+        serializer.serialize_raw(&[0x02, 0x01, 0x07])
+    }
+}
+
+#[test]
+fn application_tags_and_raw_bytes_follow(rt: HostRuntime) -> Result<(), Fail> {
+    let mut out = Vec::new(rt.alloc());
+    let mut ser = Serializer::new_to_byte_buf(rt.alloc(), &mut out);
+    let counts = [
+        ser.serialize_application(30, &7u8)?,
+        ser.serialize_application(10, &None::<u8>)?,
+        ser.serialize_raw(&[0x1F, 0x81])?,
+        ser.serialize_raw(&[])?,
+        ser.serialize_newtype_struct(Newtype::Implicit(1), &Untouched)?,
+    ];
+    drop(ser);
+    assert_eq!(rt; counts, [5, 2, 2, 0, 5]);
+    let row = "7E 03 02 01 07 6A 00 1F 81 81 03 02 01 07";
+    assert_eq!(rt; text_of(rt.alloc(), &out)?.as_str(), row);
+    writes(&rt, &[Untouched], "30 03 02 01 07")
+}
+
+#[test]
+fn contents_are_written_as_their_values(rt: HostRuntime) -> Result<(), Fail> {
+    let mut out = Vec::new(rt.alloc());
+    let mut ser = Serializer::new_to_byte_buf(rt.alloc(), &mut out);
+    let counts = [
+        ser::Boolean::serialize(false, &mut ser)?,
+        ser::UnsignedInteger::serialize(0x0Ausize, &mut ser)?,
+        ser::Null::serialize(&mut ser)?,
+        ser::Utf8String::serialize("z", &mut ser)?,
+    ];
+    drop(ser);
+    assert_eq!(rt; counts, [3, 3, 2, 3]);
+    let row = "01 01 00 02 01 0A 05 00 0C 01 7A";
+    assert_eq!(rt; text_of(rt.alloc(), &out)?.as_str(), row);
+    Ok(())
+}
