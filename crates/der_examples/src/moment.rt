@@ -9,7 +9,7 @@ use picky_asn1_der::asn1::Tag;
 use picky_asn1_der::misc::{ReadExt, WriteExt};
 use picky_asn1_der::{Deserialize, Deserializer, Result, Serialize, Serializer, de, ser};
 
-/// A minute of a day, as a SEQUENCE of five INTEGERs.
+/// A moment of a day, as a SEQUENCE of seven INTEGERs.
 #[derive(Debug, Drop, PartialEq, Eq)]
 pub struct Moment {
     pub year: u16,
@@ -17,12 +17,14 @@ pub struct Moment {
     pub day: u8,
     pub hour: u8,
     pub minute: u8,
+    pub second: u8,
+    pub millisecond: u16,
 }
 
 impl Serialize for Moment {
-    ghost meaning = { λ m. Tree.list ListKind.sequence (trees (Tree.unsigned m.year ∷ Tree.unsigned m.month ∷ Tree.unsigned m.day ∷ Tree.unsigned m.hour ∷ Tree.unsigned m.minute ∷ [])) };
+    ghost meaning = { λ m. Tree.list ListKind.sequence (trees (Tree.unsigned m.year ∷ Tree.unsigned m.month ∷ Tree.unsigned m.day ∷ Tree.unsigned m.hour ∷ Tree.unsigned m.minute ∷ Tree.unsigned m.second ∷ Tree.unsigned m.millisecond ∷ [])) };
 
-    #[tactic(auto, using(picky_der_ser::proofs::Rows::row5))]
+    #[tactic(auto, using(picky_der_ser::proofs::Rows::row7))]
     fn serialize<W: WriteExt>(&self, serializer: &mut Serializer<W>) -> Result<usize> {
         let mut members = ser::Sequence::serialize_lazy(serializer, Tag::SEQUENCE);
         members.serialize_field("year", &self.year)?;
@@ -30,12 +32,14 @@ impl Serialize for Moment {
         members.serialize_field("day", &self.day)?;
         members.serialize_field("hour", &self.hour)?;
         members.serialize_field("minute", &self.minute)?;
+        members.serialize_field("second", &self.second)?;
+        members.serialize_field("millisecond", &self.millisecond)?;
         members.end()
     }
 }
 
 impl Deserialize for Moment {
-    ghost shape = { Shape.fields ListKind.sequence (shapes (⟦<u16 as Deserialize>⟧.shape ∷ ⟦<u8 as Deserialize>⟧.shape ∷ ⟦<u8 as Deserialize>⟧.shape ∷ ⟦<u8 as Deserialize>⟧.shape ∷ ⟦<u8 as Deserialize>⟧.shape ∷ [])) };
+    ghost shape = { Shape.fields ListKind.sequence (shapes (⟦<u16 as Deserialize>⟧.shape ∷ ⟦<u8 as Deserialize>⟧.shape ∷ ⟦<u8 as Deserialize>⟧.shape ∷ ⟦<u8 as Deserialize>⟧.shape ∷ ⟦<u8 as Deserialize>⟧.shape ∷ ⟦<u8 as Deserialize>⟧.shape ∷ ⟦<u16 as Deserialize>⟧.shape ∷ [])) };
 
     ghost known_by_tree = { Prim.search (rules, knowns) };
 
@@ -49,6 +53,8 @@ impl Deserialize for Moment {
         let day = members.next_field::<u8>()?;
         let hour = members.next_field::<u8>()?;
         let minute = members.next_field::<u8>()?;
+        let second = members.next_field::<u8>()?;
+        let millisecond = members.next_field::<u16>()?;
         members.end()?;
         Ok(Moment {
             year,
@@ -56,6 +62,8 @@ impl Deserialize for Moment {
             day,
             hour,
             minute,
+            second,
+            millisecond,
         })
     }
 }

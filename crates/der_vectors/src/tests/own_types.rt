@@ -30,18 +30,20 @@ fn a_point_has_three_fields(rt: HostRuntime) -> Result<(), Fail> {
 }
 
 #[test]
-fn a_moment_has_five_fields(rt: HostRuntime) -> Result<(), Fail> {
+fn a_moment_has_seven_fields(rt: HostRuntime) -> Result<(), Fail> {
     let moment = Moment {
         year: 2026,
         month: 11,
         day: 22,
         hour: 16,
         minute: 48,
+        second: 59,
+        millisecond: 999,
     };
-    let row = "30 10 02 02 07 EA 02 01 0B 02 01 16 02 01 10 02 01 30";
+    let row = "30 17 02 02 07 EA 02 01 0B 02 01 16 02 01 10 02 01 30 02 01 3B 02 02 03 E7";
     both_ways(&rt, moment, row)?;
-    let six = "30 12 02 01 01 02 01 02 02 01 03 02 01 04 02 01 05 02 01 06";
-    refuses::<Moment>(&rt, six, InvalidData)
+    let eight = "30 18 02 01 01 02 01 02 02 01 03 02 01 04 02 01 05 02 01 06 02 01 07 02 01 08";
+    refuses::<Moment>(&rt, eight, InvalidData)
 }
 
 #[test]

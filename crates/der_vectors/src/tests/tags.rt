@@ -33,31 +33,28 @@ fn tags_have_their_bytes(rt: HostRuntime) {
     }
 }
 
-// Bytes of this type are written under this tag.
-fn has_tag<const TAG: u8>(
-    rt: &(impl Abort + AllocGlobal),
-    make: fn(Vec<u8>) -> TaggedBytes<TAG>,
-    byte: u8,
-) {
+// These bytes, of which there are none, are written under this tag.
+fn has_tag<const TAG: u8>(rt: &(impl Abort + AllocGlobal), none: TaggedBytes<TAG>, byte: u8) {
     let mut encoding = [0; 2];
-    let none = make(Vec::new(rt.alloc()));
     assert_eq!(rt; to_bytes(rt.alloc(), &none, &mut encoding), Ok(2));
     assert_eq!(rt; encoding, [byte, 0]);
 }
 
 #[test]
-fn aliases_have_their_tags(rt: HostRuntime) {
-    has_tag(&rt, IntegerAsn1::from, 0x02);
-    has_tag(&rt, BitStringAsn1::from, 0x03);
-    has_tag(&rt, ObjectIdentifierAsn1::from, 0x06);
-    has_tag(&rt, Utf8StringAsn1::from, 0x0C);
-    has_tag(&rt, NumericStringAsn1::from, 0x12);
-    has_tag(&rt, PrintableStringAsn1::from, 0x13);
-    has_tag(&rt, Ia5StringAsn1::from, 0x16);
-    has_tag(&rt, UtcTimeAsn1::from, 0x17);
-    has_tag(&rt, GeneralizedTimeAsn1::from, 0x18);
-    has_tag(&rt, GeneralStringAsn1::from, 0x1B);
-    has_tag(&rt, BmpStringAsn1::from, 0x1E);
+fn aliases_have_their_tags(rt: HostRuntime) -> Result<(), Fail> {
+    let none = Vec::new(rt.alloc());
+    has_tag(&rt, IntegerAsn1::from(none.clone()?), 0x02);
+    has_tag(&rt, BitStringAsn1::from(none.clone()?), 0x03);
+    has_tag(&rt, ObjectIdentifierAsn1::from(none.clone()?), 0x06);
+    has_tag(&rt, Utf8StringAsn1::from(none.clone()?), 0x0C);
+    has_tag(&rt, NumericStringAsn1::from(none.clone()?), 0x12);
+    has_tag(&rt, PrintableStringAsn1::from(none.clone()?), 0x13);
+    has_tag(&rt, Ia5StringAsn1::from(none.clone()?), 0x16);
+    has_tag(&rt, UtcTimeAsn1::from(none.clone()?), 0x17);
+    has_tag(&rt, GeneralizedTimeAsn1::from(none.clone()?), 0x18);
+    has_tag(&rt, GeneralStringAsn1::from(none.clone()?), 0x1B);
+    has_tag(&rt, BmpStringAsn1::from(none.clone()?), 0x1E);
+    Ok(())
 }
 
 #[test]
