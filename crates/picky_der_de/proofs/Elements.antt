@@ -1,11 +1,11 @@
 -- Elements that are taken whole: each is refused and read as bytes under its own tag are.
-use Rattle.std.proofs.Common.{◌≡◌, ℕ, ◌+◌, ◌<◌, ◌≤◌, ◌^◌, inl, inr, Bool, true, false, List, [], ◌∷◌, ◌++◌, length, take, Option, Some, None, refl, sym, ◌∙◌, ap, subst, arith, length-append}
+use Rattle.std.proofs.Common.{◌≡◌, ℕ, ◌<◌, ◌≤◌, ◌^◌, inl, inr, Bool, true, false, List, [], ◌∷◌, ◌++◌, length, take, Option, Some, None, refl, sym, ◌∙◌, ap, subst, arith, length-append}
 use Rattle.std.proofs.lemmas.Bool.Decides.{nat_tests}
 use Rattle.std.proofs.lemmas.Bool.{cases_lt}
 use Rattle.std.specs.Io.KnownBytes.{Keeps}
 use Rattle.picky_der_core.specs.declared.error.Asn1DerError.{Asn1DerError}
 use Rattle.picky_der_core.specs.declared.error.Asn1DerError.TheVariants.{TruncatedData, UnsupportedValue, OutOfMemory}
-use Rattle.picky_der_core.specs.Element.{big_endian, len, tlv, IsElement}
+use Rattle.picky_der_core.specs.Element.{len, tlv, IsElement}
 use Rattle.picky_der_core.specs.BigEndianLaws.{AreBytes-big_endian, length-big_endian}
 use Rattle.picky_der_core.specs.ElementLaws.{len-short, len-long}
 use Rattle.picky_der_core.specs.Tag.{number_of, is_tag_number, IsTagNumber}
@@ -18,10 +18,10 @@ use Rattle.picky_der_core.specs.Reading.{Place, written_at, MayStand, StandsAt}
 use Rattle.picky_der_core.specs.Refusal.{Refusal, bytes_fault, plain_refusal, element_refusal}
 use Rattle.picky_der_de.specs.State.{State}
 use Rattle.picky_der_de.specs.Steps.{Takes, TakesBytes, Fails, StopsShort, IsMissing, IsJudged, failed_with, is_hard, place_in, place_of, drawn}
-use Rattle.picky_der_de.specs.Reading.{Concerns, now, ever, IsJustRefused, ReadsPlain, RefusesPlain, refusal_at}
+use Rattle.picky_der_de.specs.Reading.{Concerns, now, ever, IsJustRefused, RefusesPlain, refusal_at}
 use Rattle.picky_der_de.specs.Headers.{Begins, RefusesContentLength}
 use Rattle.picky_der_de.specs.Elements.{raw_refusal, given_up, BeginsElement, ReadsRaw, RefusesRaw}
-use Rattle.picky_der_de.proofs.Steps.{fails_after, judged_after}
+use Rattle.picky_der_de.proofs.Steps.{fails_after}
 use Rattle.picky_der_de.proofs.Pieces.{bytes_then}
 use Rattle.picky_der_de.proofs.Refusals.{behind, failed_grows, missing_here, missing_first, taken_first}
 use Rattle.picky_der_de.proofs.Known.{front_of, just_taken, just_missing}

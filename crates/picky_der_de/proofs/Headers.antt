@@ -14,7 +14,7 @@ use Rattle.picky_der_de.specs.Steps.{Takes, Fails, IsMissing, IsJudged, failed_w
 use Rattle.picky_der_de.specs.Reading.{Concerns, IsJustRefused}
 use Rattle.picky_der_de.specs.Headers.{StopsLength, cut, bad, RefusesLength, StopsContentLength, no_length, too_long, RefusesContentLength, NoElement, RefusesHeader}
 use Rattle.picky_der_de.proofs.Steps.{takes_then, fails_after, judged_after}
-use Rattle.picky_der_de.proofs.Refusals.{parted, behind, failed_grows, cut_grows, tells_after, missing_here, past_end, missing_first, taken_first}
+use Rattle.picky_der_de.proofs.Refusals.{parted, behind, cut_grows, tells_after, missing_here, past_end, missing_first, taken_first}
 use Rattle.picky_der_de.proofs.Lengths.{cut_after}
 use Rattle.picky_der_de.proofs.Known.{just_cut, just_taken, just_missing}
 

@@ -5,7 +5,6 @@ use Rattle.picky_der_core.specs.declared.error.Asn1DerError.{Asn1DerError}
 use Rattle.picky_der_core.specs.declared.error.Asn1DerError.TheVariants.{TruncatedData}
 use Rattle.picky_der_core.specs.Tree.{Tree}
 use Rattle.picky_der_core.specs.Shape.{Shape, IsOf, IsSound}
-use Rattle.picky_der_core.specs.Reading.{StandsAt}
 use Rattle.picky_der_core.proofs.UniqueAt.{same_tree_at}
 use Rattle.picky_der_de.specs.State.{State}
 use Rattle.picky_der_de.specs.Steps.{Fails, place_of}

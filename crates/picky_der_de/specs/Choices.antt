@@ -1,8 +1,8 @@
 -- Choices of two alternatives.
-use Rattle.std.specs.Prelude.{ℕ, ◌⊎◌, IsTrue}
+use Rattle.std.specs.Prelude.{◌⊎◌, IsTrue}
 use Rattle.std.proofs.Common.{inl, inr}
 use Rattle.picky_der_core.specs.Tree.{Tree}
-use Rattle.picky_der_core.specs.Shape.{Shape, Shapes, IsOf, IsFirst, firsts, are_apart}
+use Rattle.picky_der_core.specs.Shape.{Shape, Shapes, IsOf, firsts, are_apart}
 
 abbrev pub two_shapes : Shape → Shape → Shape
 two_shapes s t = Shape.choice (Shapes.more s (Shapes.more t Shapes.none))

@@ -1,5 +1,5 @@
 -- An application tag that is written: its level was opened, gained one member, and ended.
-use Rattle.std.proofs.Common.{◌≡◌, ℕ, ◌+◌, ◌<◌, ◌≤◌, ◌^◌, true, false, ◌&&◌, List, [], length, Option, None, Some, refl, sym, ap, ◌∙◌, subst, arith, length-append, Result, Ok, Err, IfOk, IfErr}
+use Rattle.std.proofs.Common.{◌≡◌, ℕ, ◌<◌, false, ◌&&◌, List, [], length, None, Some, refl, sym, ap, ◌∙◌, subst, arith, length-append, Result, Ok, Err, IfOk, IfErr}
 use Rattle.std.proofs.lemmas.Bool.{lt-leb}
 use Rattle.std.specs.Prelude.{IfSome, IfNone, IsTrue}
 use Rattle.picky_der_core.specs.declared.asn1.wrapper.Wrapper.{Wrapper}
@@ -11,11 +11,11 @@ use Rattle.picky_der_core.specs.Tree.{Tree}
 use Rattle.picky_der_core.specs.Encoding.{written, der}
 use Rattle.picky_der_core.specs.Readable.{has_tag_numbers, IsWritable}
 use Rattle.picky_der_core.specs.Wrapper.{under}
-use Rattle.picky_der_core.specs.WrapperLaws.{AreAlike, alike-under, alike-sym, der-alike}
+use Rattle.picky_der_core.specs.WrapperLaws.{AreAlike, alike-under, der-alike}
 use Rattle.picky_der_ser.specs.declared.header.Header.TheVariants.{Application}
 use Rattle.picky_der_ser.specs.Headers.{headers}
 use Rattle.picky_der_ser.specs.State.{State, Level, with_member}
-use Rattle.picky_der_ser.specs.Calls.{MemoryExcuse, RefusedIn, Writes, Fails, Opens, Gains, Rejects, Ends, Finishes}
+use Rattle.picky_der_ser.specs.Calls.{MemoryExcuse, Writes, Fails, Opens, Gains, Rejects, Ends, Finishes}
 use Rattle.picky_der_ser.proofs.Alike.{writes-alike, fails-alike}
 use Rattle.picky_der_ser.proofs.HeaderBytes.{der-headers}
 use Rattle.picky_der_ser.proofs.ListBytes.{numbers_inside, second_of}

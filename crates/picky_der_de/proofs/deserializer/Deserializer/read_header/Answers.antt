@@ -1,8 +1,6 @@
-use Rattle.std.proofs.Common.{◌≡◌, ◌≢◌, ◌<◌, ◌∷◌, [], arith, sym, subst, ◌∙◌, ap}
-use Rattle.picky_der_core.specs.Element.{len}
-use Rattle.picky_der_de.specs.Steps.{Takes, at_end}
+use Rattle.std.proofs.Common.{◌≡◌, ◌≢◌, ◌∷◌, [], sym, subst, ◌∙◌}
+use Rattle.picky_der_de.specs.Steps.{Takes}
 use Rattle.std.proofs.lemmas.Result.{err_from_is_err_and, MatchResult-weaker}
-use Rattle.picky_der_de.specs.State.{State}
 use Rattle.picky_der_de.proofs.Steps.{takes_then}
 use Rattle.picky_der_de.proofs.Contents.{kept_input, failed_same, unmoved_taken, unmoved_peeked}
 use Rattle.picky_der_de.proofs.Headers.{header_missing, header_foreign, header_unread}

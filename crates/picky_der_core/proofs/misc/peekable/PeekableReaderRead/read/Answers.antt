@@ -1,4 +1,4 @@
-use Rattle.std.proofs.Common.{◌≡◌, ◌<◌, length, sym, ◌∙◌, ap, arith}
+use Rattle.std.proofs.Common.{◌<◌, length, sym, ◌∙◌, ap, arith}
 use Rattle.std.proofs.lemmas.Grind.{common_steps}
 use Rattle.picky_der_core.proofs.PeekedBytes.{first_of, handed_out}
 use Rattle.picky_der_core.proofs.misc.peekable.PeekableReaderRead.read.Goals as goal
