@@ -24,7 +24,8 @@ fn an_application_tag_encloses_a_text(rt: HostRuntime) -> Result<(), Fail> {
 fn an_application_tag_keeps_its_header_in_an_implicit_tag(rt: HostRuntime) -> Result<(), Fail> {
     let tagged = ApplicationTag::<u8, 10>::from(7);
     let row = "81 05 6A 03 02 01 07";
-    both_ways(&rt, ImplicitContextTag1::from(tagged), row)
+    both_ways(&rt, ImplicitContextTag1::from(tagged.clone()?), row)?;
+    both_ways(&rt, tagged, "6A 03 02 01 07")
 }
 
 #[test]

@@ -3,7 +3,7 @@
 use crate::hexadecimal::bytes_of;
 use crate::hostile::SlowReader;
 use picky_asn1_der::Asn1DerError::TruncatedData;
-use picky_asn1_der::asn1::ByteBuf;
+use picky_asn1_der::asn1::{BitStringAsn1Container, ByteBuf, ExplicitContextTag0};
 use picky_asn1_der::misc::Watched;
 use picky_asn1_der::{Deserializer, from_bytes, from_reader, from_reader_with_max_len};
 use std::alloc::Global;
@@ -23,6 +23,19 @@ fn no_byte_is_drawn_past_the_limit(rt: HostRuntime) -> Result<(), Fail> {
             answer,
             "limit {limit}"
         );
+        assert_eq!(rt; reader.get_ref().given(), drawn, "limit {limit}");
+    }
+    Ok(())
+}
+
+#[test]
+fn a_header_past_the_limit_is_the_last_that_is_drawn(rt: HostRuntime) -> Result<(), Fail> {
+    type Bits = ExplicitContextTag0<BitStringAsn1Container<u8>>;
+    let bytes = bytes_of(rt.alloc(), "A0 06 03 04 00 02 01 07")?;
+    for (limit, drawn) in [(0, 0), (1, 1), (2, 2), (5, 2), (7, 2), (8, 8)] {
+        let mut reader = Watched::new(SlowReader::new(&bytes));
+        let answer = from_reader_with_max_len::<Bits, _>(rt.alloc(), &mut reader, limit);
+        assert_eq!(rt; answer.is_ok(), limit == 8, "limit {limit}");
         assert_eq!(rt; reader.get_ref().given(), drawn, "limit {limit}");
     }
     Ok(())

@@ -86,7 +86,27 @@ fn a_refused_number_is_the_last_that_is_drawn(rt: HostRuntime) -> Result<(), Fai
 
 #[test]
 fn null_has_no_content(rt: HostRuntime) -> Result<(), Fail> {
-    both_ways(&rt, (), "05 00")
+    both_ways(&rt, (), "05 00")?;
+    refuses::<()>(&rt, "05 01 00", InvalidData)?;
+    refuses::<()>(&rt, "04 00", InvalidData)?;
+    refuses::<()>(&rt, "05", TruncatedData)
+}
+
+#[test]
+fn octet_strings_hold_any_bytes(rt: HostRuntime) -> Result<(), Fail> {
+    let alloc = rt.alloc();
+    let three = ByteBuf(bytes_of(alloc, "AA BB CC")?);
+    both_ways(&rt, three, "04 03 AA BB CC")?;
+    both_ways(&rt, ByteBuf(Vec::new(alloc)), "04 00")?;
+    for (row, error) in [
+        ("04 02 AA", TruncatedData),
+        ("04 80 AA 00 00", InvalidData),
+        ("04 89 AA", UnsupportedValue),
+        ("05 01 AA", InvalidData),
+    ] {
+        refuses::<ByteBuf>(&rt, row, error)?;
+    }
+    Ok(())
 }
 
 #[test]

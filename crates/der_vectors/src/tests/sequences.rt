@@ -15,9 +15,7 @@ fn lists_are_sequences(rt: HostRuntime) -> Result<(), Fail> {
     let row = "30 06 02 01 05 02 01 06";
     both_ways(&rt, vec![in alloc; 5u8, 6]?, row)?;
     both_ways(&rt, Asn1SequenceOf::from(vec![in alloc; 5u8, 6]?), row)?;
-    writes(&rt, &[5u8, 6], row)?;
     writes(&rt, &[5u8, 6].as_slice(), row)?;
-    writes::<[u8; 0]>(&rt, &[], "30 00")?;
     both_ways(&rt, Vec::<u8>::new(alloc), "30 00")?;
     for (row, error) in [
         ("31 00", InvalidData),
@@ -27,6 +25,28 @@ fn lists_are_sequences(rt: HostRuntime) -> Result<(), Fail> {
         refuses::<Vec<u8>>(&rt, row, error)?;
     }
     Ok(())
+}
+
+#[test]
+fn arrays_are_sequences_of_their_length(rt: HostRuntime) -> Result<(), Fail> {
+    let row = "30 06 02 01 05 02 01 06";
+    both_ways(&rt, [5u8, 6], row)?;
+    both_ways::<[u8; 0]>(&rt, [], "30 00")?;
+    both_ways(&rt, [[5u8], [6]], "30 0A 30 03 02 01 05 30 03 02 01 06")?;
+    refuses::<[u8; 3]>(&rt, row, TruncatedData)?;
+    refuses::<[u8; 1]>(&rt, row, InvalidData)
+}
+
+#[test]
+fn a_list_of_lists_has_a_length_for_each(rt: HostRuntime) -> Result<(), Fail> {
+    let alloc = rt.alloc();
+    let lists = vec![in alloc;
+        vec![in alloc; 1u8, 2]?,
+        Vec::new(alloc),
+        vec![in alloc; 3]?,
+    ]?;
+    let row = "30 0F 30 06 02 01 01 02 01 02 30 00 30 03 02 01 03";
+    both_ways(&rt, lists, row)
 }
 
 #[test]
@@ -154,6 +174,17 @@ fn the_end_of_a_dropped_sequence_stays(rt: HostRuntime) -> Result<(), Fail> {
     drop(de.deserialize_seq()?);
     assert_eq!(rt; de.deserialize_u8(), Ok(7));
     assert_eq!(rt; de.deserialize_unit(), Err(TruncatedData));
+    assert_eq!(rt; de.taken(), 5);
+    Ok(())
+}
+
+#[test]
+fn a_sequence_in_a_dropped_one_has_its_own_end(rt: HostRuntime) -> Result<(), Fail> {
+    let bytes = bytes_of(rt.alloc(), "30 06 30 01 02 02 01 07")?;
+    let mut de = Deserializer::new_from_bytes(rt.alloc(), &bytes);
+    drop(de.deserialize_seq()?);
+    let mut members = de.deserialize_seq()?;
+    assert_eq!(rt; members.next_element::<u8>(), Err(TruncatedData));
     assert_eq!(rt; de.taken(), 5);
     Ok(())
 }

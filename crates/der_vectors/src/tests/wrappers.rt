@@ -11,7 +11,7 @@ use picky_asn1_der::asn1::{
 };
 use picky_asn1_der::misc::Watched;
 use picky_asn1_der::{
-    Deserialize, Deserializer, Serialize, Serializer, from_reader, to_vec, to_writer,
+    Deserialize, Deserializer, Serialize, Serializer, from_bytes, from_reader, to_vec, to_writer,
 };
 use std::fmt::Debug;
 use std::process::Abort;
@@ -54,7 +54,9 @@ fn the_byte_of_unused_bits_makes_a_length_long(rt: HostRuntime) -> Result<(), Fa
     let front = bytes_of(alloc, "03 81 80 00 04 7D")?;
     assert!(rt; to_vec(alloc, &long.0)?.starts_with(&front));
     let front = bytes_of(alloc, "A0 81 83 03 81 80 00 04 7D")?;
-    assert!(rt; to_vec(alloc, &long)?.starts_with(&front));
+    let bytes = to_vec(alloc, &long)?;
+    assert!(rt; bytes.starts_with(&front), "{bytes:?}");
+    assert_eq!(rt; from_bytes(alloc, &bytes), Ok(long));
     Ok(())
 }
 
