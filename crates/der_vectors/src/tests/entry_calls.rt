@@ -1,7 +1,7 @@
 //! What the entry calls leave in a slice, in a vector, and in a device.
 
 use crate::hexadecimal::{bytes_of, text_of};
-use crate::hostile::{FailingReader, FailingWriter, Refusal, SlowWriter};
+use crate::hostile::{FailingReader, SlowWriter};
 use picky_asn1_der::Asn1DerError::{InvalidSink, Other, OutOfMemory, TruncatedData};
 use picky_asn1_der::asn1::{Bytes, PrintableStringAsn1};
 use picky_asn1_der::misc::{PeekableReader, ReadExt, Watched};
@@ -52,27 +52,6 @@ fn a_writer_takes_one_value_after_another(rt: HostRuntime) -> Result<(), Fail> {
     assert_eq!(rt; to_writer(rt.alloc(), &(), &mut writer), Ok(2));
     let taken = text_of(rt.alloc(), writer.get_ref().taken())?;
     assert_eq!(rt; taken.as_str(), "04 01 AA 05 00");
-    Ok(())
-}
-
-#[test]
-fn a_failing_writer_holds_a_beginning(rt: HostRuntime) -> Result<(), Fail> {
-    let alloc = rt.alloc();
-    for (refusal, error) in [
-        (
-            Refusal::Error(ErrorKind::BrokenPipe),
-            Other(ErrorKind::BrokenPipe),
-        ),
-        (Refusal::Error(ErrorKind::OutOfMemory), OutOfMemory),
-        (Refusal::TakesNothing, InvalidSink),
-    ] {
-        for (call, row) in [(1, ""), (2, "0C"), (3, "0C 02"), (4, "0C 02 C3")] {
-            let mut writer = Watched::new(FailingWriter::new(alloc, call, refusal));
-            assert_eq!(rt; to_writer(alloc, &'é', &mut writer), Err(error), "{row}");
-            let taken = text_of(alloc, writer.get_ref().taken())?;
-            assert_eq!(rt; taken.as_str(), row);
-        }
-    }
     Ok(())
 }
 

@@ -49,23 +49,6 @@ fn nulls_texts_and_options_follow(rt: HostRuntime) -> Result<(), Fail> {
 }
 
 #[test]
-fn each_newtype_has_its_wrapper(rt: HostRuntime) -> Result<(), Fail> {
-    for (kind, row) in [
-        (Newtype::Plain, "02 01 07"),
-        (Newtype::OctetContainer, "04 03 02 01 07"),
-        (Newtype::BitContainer, "03 04 00 02 01 07"),
-        (Newtype::Explicit(1), "A1 03 02 01 07"),
-        (Newtype::Implicit(1), "81 01 07"),
-    ] {
-        let bytes = bytes_of(rt.alloc(), row)?;
-        let mut de = Deserializer::new_from_bytes(rt.alloc(), &bytes);
-        assert_eq!(rt; de.deserialize_newtype_struct::<u8>(kind), Ok(7), "{row}");
-        assert_eq!(rt; de.taken(), bytes.len(), "{row}");
-    }
-    Ok(())
-}
-
-#[test]
 fn a_closed_wrapper_leaves_the_end_around_it(rt: HostRuntime) -> Result<(), Fail> {
     let bytes = bytes_of(rt.alloc(), "81 01 07 A0 03 02 01 08 7E 03 02 01 09 02")?;
     let mut de = Deserializer::new_from_bytes(rt.alloc(), &bytes);

@@ -139,16 +139,35 @@ fn a_tag_number_of_31_is_refused(rt: HostRuntime) -> Result<(), Fail> {
     refuses_unseen(&rt, none, "9F 01 07")
 }
 
+// The number 7 as each newtype.
+const NEWTYPES: [(Newtype, &str); 5] = [
+    (Newtype::Plain, "02 01 07"),
+    (Newtype::OctetContainer, "04 03 02 01 07"),
+    (Newtype::BitContainer, "03 04 00 02 01 07"),
+    (Newtype::Explicit(1), "A1 03 02 01 07"),
+    (Newtype::Implicit(1), "81 01 07"),
+];
+
 #[test]
-fn a_plain_newtype_is_its_value(rt: HostRuntime) -> Result<(), Fail> {
-    let alloc = rt.alloc();
-    let mut out = Vec::new(alloc);
-    let mut ser = Serializer::new_to_byte_buf(alloc, &mut out);
-    assert_eq!(rt; ser.serialize_newtype_struct(Newtype::Plain, &7u8), Ok(3));
-    drop(ser);
-    assert_eq!(rt; text_of(alloc, &out)?.as_str(), "02 01 07");
-    let mut de = Deserializer::new_from_bytes(alloc, &out);
-    assert_eq!(rt; de.deserialize_newtype_struct::<u8>(Newtype::Plain), Ok(7));
+fn each_newtype_writes_its_wrapper(rt: HostRuntime) -> Result<(), Fail> {
+    for (kind, row) in NEWTYPES {
+        let mut out = Vec::new(rt.alloc());
+        let mut ser = Serializer::new_to_byte_buf(rt.alloc(), &mut out);
+        ser.serialize_newtype_struct(kind, &7u8)?;
+        drop(ser);
+        assert_eq!(rt; text_of(rt.alloc(), &out)?.as_str(), row);
+    }
+    Ok(())
+}
+
+#[test]
+fn each_newtype_reads_its_wrapper(rt: HostRuntime) -> Result<(), Fail> {
+    for (kind, row) in NEWTYPES {
+        let bytes = bytes_of(rt.alloc(), row)?;
+        let mut de = Deserializer::new_from_bytes(rt.alloc(), &bytes);
+        assert_eq!(rt; de.deserialize_newtype_struct::<u8>(kind), Ok(7), "{row}");
+        assert_eq!(rt; de.taken(), bytes.len(), "{row}");
+    }
     Ok(())
 }
 

@@ -48,24 +48,6 @@ fn nulls_texts_and_options_follow(rt: HostRuntime) -> Result<(), Fail> {
     Ok(())
 }
 
-#[test]
-fn each_newtype_has_its_wrapper(rt: HostRuntime) -> Result<(), Fail> {
-    for (kind, row) in [
-        (Newtype::Plain, "02 01 07"),
-        (Newtype::OctetContainer, "04 03 02 01 07"),
-        (Newtype::BitContainer, "03 04 00 02 01 07"),
-        (Newtype::Explicit(1), "A1 03 02 01 07"),
-        (Newtype::Implicit(1), "81 01 07"),
-    ] {
-        let mut out = Vec::new(rt.alloc());
-        let mut ser = Serializer::new_to_byte_buf(rt.alloc(), &mut out);
-        ser.serialize_newtype_struct(kind, &7u8)?;
-        drop(ser);
-        assert_eq!(rt; text_of(rt.alloc(), &out)?.as_str(), row);
-    }
-    Ok(())
-}
-
 // Writes its bytes as they are.
 #[derive(Drop)]
 struct Untouched;
