@@ -54,3 +54,12 @@ fn every_other_form_is_refused(rt: HostRuntime) -> Result<(), Fail> {
     }
     Ok(())
 }
+
+#[test]
+fn the_bytes_behind_the_first_are_counted(rt: HostRuntime) {
+    assert_eq!(rt; Length::long_count(0x80), Err(InvalidData));
+    assert_eq!(rt; Length::long_count(0x82), Ok(2));
+    assert_eq!(rt; Length::long_count(0x89), Err(UnsupportedValue));
+    assert_eq!(rt; Length::shortest(2, 290), Ok(290));
+    assert_eq!(rt; Length::shortest(2, 128), Err(InvalidData));
+}

@@ -1,7 +1,7 @@
 //! Each call of a deserializer that answers one value.
 
 use crate::hexadecimal::bytes_of;
-use picky_asn1_der::Asn1DerError::TruncatedData;
+use picky_asn1_der::Asn1DerError::{TruncatedData, UnsupportedValue};
 use picky_asn1_der::asn1::{Newtype, Tag};
 use picky_asn1_der::{Deserialize, Deserializer, de};
 use std::test::Fail;
@@ -72,4 +72,11 @@ fn contents_are_read_alone(rt: HostRuntime) {
     assert_eq!(rt; de::Boolean::deserialize(&[0xFF]), Ok(true));
     assert_eq!(rt; de::UnsignedInteger::deserialize(&[0x01, 0x00]), Ok(256u16));
     assert_eq!(rt; de::Utf8String::deserialize(&[0xC3, 0xA9]), Ok("é"));
+}
+
+#[test]
+fn numbers_are_narrowed(rt: HostRuntime) {
+    assert_eq!(rt; <u8 as de::UInt>::from_u128(255), Ok(255));
+    assert_eq!(rt; <u8 as de::UInt>::from_u128(256), Err(UnsupportedValue));
+    assert_eq!(rt; <u128 as de::UInt>::from_u128(u128::MAX), Ok(u128::MAX));
 }

@@ -2,8 +2,8 @@
 
 use picky_asn1_der::asn1::{
     BitStringAsn1, BmpStringAsn1, ByteBuf, GeneralStringAsn1, GeneralizedTimeAsn1, Ia5StringAsn1,
-    IntegerAsn1, NumericStringAsn1, ObjectIdentifierAsn1, PrintableStringAsn1, Tag, TaggedBytes,
-    UtcTimeAsn1, Utf8StringAsn1,
+    IntegerAsn1, NumericStringAsn1, ObjectIdentifierAsn1, PrintableStringAsn1, Tag, TagClass,
+    TaggedBytes, UtcTimeAsn1, Utf8StringAsn1,
 };
 use picky_asn1_der::to_bytes;
 use std::process::Abort;
@@ -30,6 +30,24 @@ fn tags_have_their_bytes(rt: HostRuntime) {
         (Tag::SET, 0x31),
     ] {
         assert_eq!(rt; tag.inner(), byte);
+    }
+}
+
+#[test]
+fn a_tag_tells_its_class(rt: HostRuntime) {
+    for (byte, class, number) in [
+        (0x02, TagClass::Universal, 2),
+        (0x6A, TagClass::Application, 10),
+        (0x81, TagClass::ContextSpecific, 1),
+        (0xFE, TagClass::Private, 30),
+    ] {
+        let tag = Tag::from(byte);
+        assert_eq!(rt; tag.class(), class);
+        assert_eq!(rt; tag.number(), number);
+        assert_eq!(rt; tag.is_universal(), byte == 0x02);
+        assert_eq!(rt; tag.is_application(), byte == 0x6A);
+        assert_eq!(rt; tag.is_context_specific(), byte == 0x81);
+        assert_eq!(rt; tag.is_primitive(), !tag.is_constructed());
     }
 }
 

@@ -2,6 +2,7 @@
 
 use crate::hexadecimal::text_of;
 use crate::tests::rows::writes;
+use picky_asn1_der::Asn1DerError::InvalidSink;
 use picky_asn1_der::asn1::{Newtype, Tag};
 use picky_asn1_der::misc::WriteExt;
 use picky_asn1_der::{Serialize, Serializer, ser};
@@ -99,4 +100,21 @@ fn contents_are_written_as_their_values(rt: HostRuntime) -> Result<(), Fail> {
     let row = "01 01 00 02 01 0A 05 00 0C 01 7A";
     assert_eq!(rt; text_of(rt.alloc(), &out)?.as_str(), row);
     Ok(())
+}
+
+#[test]
+fn a_slice_is_filled_by_each_call(rt: HostRuntime) {
+    let mut room = [9; 6];
+    let mut ser = Serializer::new_to_bytes(rt.alloc(), &mut room);
+    assert_eq!(rt; ser.serialize_u8(7), Ok(3));
+    assert_eq!(rt; ser.serialize_unit(), Ok(2));
+    assert_eq!(rt; ser.serialize_unit(), Err(InvalidSink));
+    drop(ser);
+    assert_eq!(rt; room, [0x02, 0x01, 0x07, 0x05, 0x00, 0x05]);
+}
+
+#[test]
+fn numbers_are_widened(rt: HostRuntime) {
+    assert_eq!(rt; ser::UInt::into_u128(u8::MAX), 255);
+    assert_eq!(rt; ser::UInt::into_u128(u128::MAX), u128::MAX);
 }
