@@ -25,8 +25,8 @@ pub mod raw_der;
 pub use picky_der_core::misc::Length;
 pub use picky_der_core::{Asn1DerError, Result, asn1, laws, misc};
 pub use picky_der_de::{
-    Alike, Deserialize, Deserializer, deserialize_as, from_bytes, from_reader,
-    from_reader_with_max_len,
+    Alike, Choice, Deserialize, Deserializer, deserialize_as, deserialize_choice, from_bytes,
+    from_reader, from_reader_with_max_len,
 };
 pub use picky_der_ser::{Serialize, Serializer, to_byte_buf, to_bytes, to_vec, to_writer};
 pub use raw_der::Asn1RawDer;

@@ -12,7 +12,7 @@ use std::fmt;
 
 /// One element, whatever its tag, by its bytes with the header (X.690, 8.1.1). They are written as they stand: what
 /// isn't just one element isn't read back as this.
-#[derive(Drop, PartialEq, Eq, PartialOrd, Hash)]
+#[derive(Clone, Drop, PartialEq, Eq, PartialOrd, Hash)]
 pub struct Asn1RawDer(pub Vec<u8>);
 
 impl Asn1RawDer {

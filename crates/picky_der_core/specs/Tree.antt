@@ -10,7 +10,7 @@ pub data ListKind : Type 0 where
 mutual
   pub data Tree : Type 0 where
     boolean : Bool → Tree
-    -- a number below 2^128
+    -- a number that isn't negative; a shape bounds it
     unsigned : ℕ → Tree
     null : Tree
     -- the UTF-8 bytes of a text

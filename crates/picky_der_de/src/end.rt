@@ -13,7 +13,7 @@ pub enum End {
     /// The end of a sequence or set.
     Soft,
 
-    /// The end of a container or tag, but of an implicit tag around a sequence or set.
+    /// The end of a container or tag, except that of an implicit tag around a sequence or set, which is soft.
     Hard,
 }
 

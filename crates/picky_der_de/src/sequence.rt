@@ -11,7 +11,8 @@ use picky_der_core::{Asn1DerError, Result};
 /// read then.
 #[derive(Drop)]
 pub struct Sequence<'a, R: ReadExt> {
-    /// The deserializer that it reads from. Calls of it take the members' bytes.
+    /// The deserializer that it reads from. Calls of it take the members' bytes. An end that they open and don't close
+    /// stays the innermost one, and is then the end of the calls below.
     pub de: &'a mut Deserializer<R>,
     /// The end around its own.
     pub outer: Outer,
@@ -38,10 +39,11 @@ impl<'a, R: ReadExt> Sequence<'a, R> {
         Sequence { de, outer }
     }
 
-    /// The members before the end that `open_list` has opened inside this one.
+    /// The members before the end that `open_list` has opened inside this one. That end isn't past this one, and no value
+    /// is awaited directly under an implicit tag.
     ///
-    /// `deserialize_seq` and its kin do both at once. A proof about their caller doesn't learn what the deserializer is
-    /// once the sequence is dropped, since a deserializer may hold a `'static` text; of this one's it does.
+    /// `deserialize_seq` and its kin do both at once. A proof about their caller can't tell what the deserializer is behind
+    /// the sequence, since a deserializer may hold a `'static` text; with this call it can.
     pub fn inside(de: &'a mut Deserializer<R>, outer: Outer) -> Sequence<'a, R>
         requires within { de.old.taken + de.old.room ≤ outer.place }
         requires whole { de.old.failed ≡ None → de.old.direct ≡ None }

@@ -12,7 +12,7 @@ use Rattle.picky_der_core.specs.WrapperLaws.{AreAlike}
 use Rattle.picky_der_ser.specs.declared.header.Header.TheVariants.{Tagged}
 use Rattle.picky_der_ser.specs.State.{State, Level, with_member}
 use Rattle.picky_der_ser.specs.Sequences.{IsListTag, kind_of}
-use Rattle.picky_der_ser.specs.Calls.{MemoryExcuse, no_room, no_way, RefusedIn, Writes, Fails, Stops, Opens, Gains, Rejects, Ends, Finishes}
+use Rattle.picky_der_ser.specs.Calls.{MemoryExcuse, no_room, no_way, RefusedIn, Writes, Fails, Opens, Gains, Rejects, Ends, Finishes}
 use Rattle.picky_der_ser.proofs.Alike.{writes-alike, fails-alike}
 use Rattle.picky_der_ser.proofs.PlainWrites.{refused_unwritable}
 use Rattle.picky_der_ser.proofs.StateWrites.{refused_memory}
@@ -72,14 +72,6 @@ module _ {W : Type 0} (g : Ghosts W) where
       own : (o : Option Asn1DerError) → IfNone o (MemoryExcuse t e) → IfNone o (RefusedIn g old.inside (under old.around u) old.sink e new.sink)
       own None h = rw same (excused old.inside t (under old.around u) old.sink e h part)
       own (Some f) h = tt
-
-  only_memory : (o : Option Asn1DerError) (t : Tree) (e : Asn1DerError) → IfNone o (e ≡ OutOfMemory) → IfNone o (MemoryExcuse t e)
-  only_memory None t e h = no_room h
-  only_memory (Some f) t e h = tt
-
-  -- it stopped before the list was opened
-  pub list_stopped : (t : Tree) (old new : State W) (d e : Asn1DerError) → Stops g old e new → d ≡ e → Fails g t old d new
-  list_stopped t old new d e h i = rw i (refused_part (under old.around t) t old new e (λ w. w) h.failed h.same h.again (only_memory old.failed (under old.around t) e h.first))
 
   -- a member was refused, so the list is
   pub list_refused : (kind : ListKind) (rest all : Trees) (t : Tree) (old now new : State W) (d e : Asn1DerError) → Rejects g t now e new → d ≡ e → Awaits kind (Trees.more t rest) all old now → Fails g (Tree.list kind all) old d new

@@ -25,6 +25,11 @@ pub data MemoryExcuse (t : Tree) (e : Asn1DerError) : Type 0 where
 abbrev pub IsUnsupported : {W : Type 0} → State W → Result ℕ Asn1DerError → State W → Type 0
 IsUnsupported old r new = let e = unwrap_or old.failed UnsupportedType in (r ≡ Err e) × (new ≡ record old { failed = Some e })
 
+-- it had failed with this error, and nothing was done
+pub record HadFailed {W : Type 0} (old : State W) (e : Asn1DerError) (new : State W) : Type 0 where
+  pub again : old.failed ≡ Some e
+  pub same : new ≡ old
+
 module _ {W : Type 0} (g : Ghosts W) where
   -- these bytes were added to what was written, or inside a level to what the innermost one holds
   abbrev pub AddsIn : List Level → List Level → W → W → List ℕ → Type 0
@@ -93,7 +98,7 @@ module _ {W : Type 0} (g : Ghosts W) where
   pub record WritesAbsent (old : State W) (r : Result ℕ Asn1DerError) (new : State W) : Type 0 where
     pub wrote : IfOk r (λ n. Writes Tree.absent old n new)
     pub count : IfOk r (λ n. n ≡ 0)
-    pub again : IfErr r (λ e. (old.failed ≡ Some e) × (new ≡ old))
+    pub again : IfErr r (λ e. HadFailed old e new)
     pub same : new.sink ≡ old.sink
 
   -- ---- levels

@@ -40,6 +40,10 @@ pub trait Serialize {
 }
 
 /// Writes values to a sink. After an error it has failed: each later call answers that error and writes nothing.
+///
+/// A call that writes a value answers `UnsupportedValue` for one that can't be written; `OutOfMemory` where memory is
+/// refused, which only wrappers, sequences and application tags take; and else the sink's fault: `InvalidSink` where it
+/// took too few bytes, or the kind that it told. Before a fault a beginning of the encoding may have been written.
 #[derive(Drop)]
 pub struct Serializer<W: WriteExt> {
     sink: W,
@@ -88,13 +92,14 @@ impl<'a> Serializer<SliceSink<'a>> {
 }
 
 impl<'a> Serializer<BufSink<'a>> {
-    ghost use Rattle.picky_der_core.specs.Sink.{vector_of, place_of};
+    ghost use Rattle.picky_der_core.specs.Sink.{vector_of, place_of, faults_of};
 
     /// Writes over a vector from its first place on, and then appends to it.
     pub fn new_to_byte_buf(alloc: Global, buf: &'a mut Vec<u8>) -> Serializer<BufSink<'a>>
         ensures same_reference { (vector_of result.sink).ghost_name ≡ buf.entry.ghost_name }
         ensures same { (vector_of result.sink).now ≡ buf.old }
         ensures start { place_of result.sink ≡ 0 }
+        ensures no_fault { faults_of result.sink ≡ 0 }
         ensures around { result.around ≡ [] }
         ensures failed { result.failed ≡ None }
         ensures outside { result.inside ≡ [] }

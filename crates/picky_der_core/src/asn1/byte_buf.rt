@@ -4,7 +4,7 @@ ghost use Rattle.std.specs.Prelude.{◌≡◌, IfOk, IfErr};
 use crate::{Asn1DerError, Result};
 
 /// An octet string (X.690, 8.7).
-#[derive(Debug, Drop, PartialEq, Eq)]
+#[derive(Debug, Clone, Drop, PartialEq, Eq)]
 pub struct ByteBuf(pub Vec<u8>);
 
 impl ByteBuf {

@@ -5,7 +5,7 @@ ghost use Rattle.std.specs.List.{AllZip};
 use crate::{Asn1DerError, Result};
 
 /// A SEQUENCE OF (X.690, 8.10): values of one type, in their order.
-#[derive(Debug, Drop, PartialEq, Eq)]
+#[derive(Debug, Clone, Drop, PartialEq, Eq)]
 pub struct Asn1SequenceOf<T>(pub Vec<T>);
 
 impl<T: Clone> Asn1SequenceOf<T> {
@@ -30,7 +30,7 @@ impl<T> From<Vec<T>> for Asn1SequenceOf<T> {
 }
 
 /// A SET OF (X.690, 8.12): values of one type. They keep the order in which they are given.
-#[derive(Debug, Drop, PartialEq, Eq)]
+#[derive(Debug, Clone, Drop, PartialEq, Eq)]
 pub struct Asn1SetOf<T>(pub Vec<T>);
 
 impl<T: Clone> Asn1SetOf<T> {

@@ -4,7 +4,7 @@ ghost use Rattle.std.specs.Prelude.{◌≡◌, IfOk, IfErr};
 use crate::{Asn1DerError, Result};
 
 /// An octet string that holds the encoding of a value.
-#[derive(Debug, Drop, PartialEq, Eq)]
+#[derive(Debug, Clone, Drop, PartialEq, Eq)]
 pub struct OctetStringAsn1Container<T>(pub T);
 
 impl<T: Clone> OctetStringAsn1Container<T> {
@@ -29,7 +29,7 @@ impl<T> From<T> for OctetStringAsn1Container<T> {
 }
 
 /// A bit string that holds the encoding of a value, behind a byte 00: no bits are unused (8.6.2).
-#[derive(Debug, Drop, PartialEq, Eq)]
+#[derive(Debug, Clone, Drop, PartialEq, Eq)]
 pub struct BitStringAsn1Container<T>(pub T);
 
 impl<T: Clone> BitStringAsn1Container<T> {

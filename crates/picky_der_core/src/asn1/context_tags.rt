@@ -4,7 +4,7 @@ ghost use Rattle.std.specs.Prelude.{◌≡◌, IfOk, IfErr};
 use crate::{Asn1DerError, Result};
 
 /// A value under the explicit context tag with the number `N`, at most 30: `A0+N`, around its encoding.
-#[derive(Debug, Drop, PartialEq, Eq)]
+#[derive(Debug, Clone, Drop, PartialEq, Eq)]
 pub struct ExplicitContextTag<T, const N: u8>(pub T);
 
 impl<T: Clone, const N: u8> ExplicitContextTag<T, N> {
@@ -30,7 +30,7 @@ impl<T, const N: u8> From<T> for ExplicitContextTag<T, N> {
 
 /// A value under the implicit context tag with the number `N`, at most 30: `80+N`, in place of the header of a plain value, and
 /// around the encoding of any other.
-#[derive(Debug, Drop, PartialEq, Eq)]
+#[derive(Debug, Clone, Drop, PartialEq, Eq)]
 pub struct ImplicitContextTag<T, const N: u8>(pub T);
 
 impl<T: Clone, const N: u8> ImplicitContextTag<T, N> {

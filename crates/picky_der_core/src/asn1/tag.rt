@@ -7,15 +7,20 @@ use std::marker::Model;
 /// The class of an identifier byte: its bits 8 and 7.
 #[derive(Debug, Clone, Copy, PartialEq, Eq)]
 pub enum TagClass {
+    /// Types of the standard itself.
     Universal = 0,
+    /// Types of one application.
     Application = 1,
+    /// Members and alternatives of one type.
     ContextSpecific = 2,
+    /// Types of one enterprise.
     Private = 3,
 }
 
-/// An identifier byte: the class, whether it is constructed, and a number up to 30 (X.690, 8.1.2).
+/// An identifier byte: the class, whether it is constructed, and a number (X.690, 8.1.2).
 ///
-/// A number of 31, five bits set, would announce the long form, which isn't supported.
+/// The numbers go up to 30. 31, all five bits set, announces the long form, which isn't supported: a tag with that number
+/// is refused with `UnsupportedValue` where it is written or read.
 #[derive(Debug, Clone, Copy, PartialEq, Eq)]
 pub struct Tag(u8);
 
@@ -76,7 +81,7 @@ impl Tag {
     /// A set (8.11), which is constructed.
     pub const SET: Tag = Tag(0x31);
 
-    /// The constructed tag of the application class with this number.
+    /// The constructed tag of the application class with this number, at most 30.
     pub const fn application_constructed(number: u8) -> Tag
         requires { number ≤ 30 }
         ensures { result ≡ 0x60 + number }
@@ -84,7 +89,7 @@ impl Tag {
         Tag(0x60 | number)
     }
 
-    /// The constructed context-specific tag with this number, as of an explicit tag.
+    /// The constructed context-specific tag with this number, at most 30, as of an explicit tag.
     pub const fn context_specific_constructed(number: u8) -> Tag
         requires { number ≤ 30 }
         ensures { result ≡ 0xA0 + number }
@@ -92,7 +97,7 @@ impl Tag {
         Tag(0xA0 | number)
     }
 
-    /// The primitive context-specific tag with this number, as of an implicit tag.
+    /// The primitive context-specific tag with this number, at most 30, as of an implicit tag.
     pub const fn context_specific_primitive(number: u8) -> Tag
         requires { number ≤ 30 }
         ensures { result ≡ 0x80 + number }

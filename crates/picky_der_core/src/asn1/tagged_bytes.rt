@@ -3,9 +3,9 @@ ghost use Rattle.std.specs.Prelude.{◌≡◌, IfOk, IfErr};
 
 use crate::{Asn1DerError, Result};
 
-/// A content under the tag byte `TAG`, which isn't checked: as a type of the strings, times and identifiers below it
-/// is up to its user to give it bytes that are one.
-#[derive(Debug, Drop, PartialEq, Eq)]
+/// A content under the tag byte `TAG`. It isn't checked: whoever makes a value of a type below gives it bytes that are a
+/// content of that type.
+#[derive(Debug, Clone, Drop, PartialEq, Eq)]
 pub struct TaggedBytes<const TAG: u8>(pub Vec<u8>);
 
 /// A number in two's complement, most significant byte first (X.690, 8.3).
@@ -29,7 +29,7 @@ pub type PrintableStringAsn1 = TaggedBytes<0x13>;
 /// A text in ASCII (8.23).
 pub type Ia5StringAsn1 = TaggedBytes<0x16>;
 
-/// A time with a year of two digits (8.26).
+/// A time with a year of two digits (8.25).
 pub type UtcTimeAsn1 = TaggedBytes<0x17>;
 
 /// A time with a year of four digits (8.25).

@@ -7,7 +7,10 @@ use std::snapshot::Snapshot;
 /// How often a device failed: a count without a greatest value, which takes no memory.
 #[derive(Drop)]
 pub enum Faults {
+    /// None yet.
     Fresh,
+
+    /// One more than before.
     More(Snapshot<Faults>),
 }
 

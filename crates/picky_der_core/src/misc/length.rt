@@ -88,8 +88,8 @@ impl Length {
         1 + size_of::<usize>() - zeros
     }
 
-    /// How many length bytes stand behind a first byte of the long form. `InvalidData` for `80`, `UnsupportedValue`
-    /// past `88`.
+    /// How many length bytes stand behind a first byte of the long form, which is `80` or more. `InvalidData` for `80`,
+    /// `UnsupportedValue` past `88`.
     pub fn long_count(first: u8) -> Result<usize>
         requires { 0x80 ≤ first }
         ensures ok { IfOk result (IsLongCount first) }
@@ -102,9 +102,9 @@ impl Length {
         }
     }
 
-    /// The number of so many length bytes, if no shorter length gives it, and else `InvalidData`.
+    /// The number that stands in so many length bytes, if no shorter length gives it, and else `InvalidData`.
     pub fn shortest(count: usize, len: usize) -> Result<usize>
-        requires { count < 2 ^ 32 }
+        requires { 1 + count < 2 ^ 64 }
         ensures ok { IfOk result (λ n. (n ≡ len) × (length (bytes_of len) ≡ 1 + count)) }
         ensures err { IfErr result (λ e. (e ≡ Asn1DerError.InvalidData) × (length (bytes_of len) ≢ 1 + count)) }
     {

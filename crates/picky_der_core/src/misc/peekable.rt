@@ -112,17 +112,11 @@ impl<R: ReadExt> Read for PeekableReader<R> {
         ensures kept { OnErr result (self.new.peeked ≡ self.old.peeked) }
         ensures pos { IfOk result (λ n. self.new.pos ≡ moved self.old.pos n) }
         ensures same_pos { OnErr result (self.new.pos ≡ self.old.pos) }
+        ensures fault { OnErr result (R.faults self.old.reader < R.faults self.new.reader) }
+        ensures no_fault { OnOk result (R.faults self.new.reader ≡ R.faults self.old.reader) }
+        ensures same_references { R.through self.new.reader ≡ R.through self.old.reader }
     {
-        if buf.is_empty() {
-            return Ok(0);
-        }
-        if let Some(byte) = self.take_peeked() {
-            buf[0] = byte;
-            return Ok(1);
-        }
-        let count = self.reader.read(buf)?;
-        self.pos = self.pos.saturating_add(count);
-        Ok(count)
+        self.read_some(buf)
     }
 }
 

@@ -103,6 +103,7 @@ impl<T: Write> Write for Watched<T> {
         ensures fault { OnErr result (self.old.faults < self.new.faults) }
         ensures nothing { IfOk result (λ n. n ≡ 0 → 0 < length buf.now → self.old.faults < self.new.faults) }
         ensures no_fault { IfOk result (λ n. 0 < n → self.new.faults ≡ self.old.faults) }
+        ensures no_bytes { length buf.now ≡ 0 → OnOk result (self.new.faults ≡ self.old.faults) }
         ensures counted { self.old.faults ≤ self.new.faults }
     {
         match self.inner.write(buf) {

@@ -44,8 +44,8 @@ impl<R: ReadExt> Deserializer<R> {
         outer
     }
 
-    /// Takes the header of a sequence or set under this tag, and opens its end. `Sequence::inside` then reads its members.
-    /// Directly under an implicit tag the header was that tag's.
+    /// Takes the header of a sequence or set under this tag, whose number is at most 30, and opens its end.
+    /// `Sequence::inside` then reads its members. Directly under an implicit tag the header was that tag's.
     ///
     /// `InvalidData` for another tag; else the refusals of a header and of an end, and the reader's fault.
     pub fn open_list(&mut self, tag: Tag) -> Result<Outer>
