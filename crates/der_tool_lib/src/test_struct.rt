@@ -6,11 +6,16 @@ use picky_asn1_der::asn1::{ByteBuf, Tag};
 use picky_asn1_der::misc::{ReadExt, WriteExt};
 use picky_asn1_der::{Alike, Deserialize, Deserializer, Result, Serialize, Serializer, de, ser};
 
-/// A number, an octet string, and a pair.
+/// A number, an octet string, and a pair, as a SEQUENCE.
 #[derive(Debug, Drop, PartialEq, Eq)]
 pub struct TestStruct {
+    /// An INTEGER.
     pub number: u8,
+
+    /// An OCTET STRING.
     pub vec: ByteBuf,
+
+    /// A SEQUENCE of an INTEGER and a NULL.
     pub tuple: (usize, ()),
 }
 

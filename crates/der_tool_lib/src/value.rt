@@ -12,7 +12,8 @@ use picky_asn1_der::{Asn1DerError, Asn1RawDer, Deserializer, Result};
 use std::alloc::Global;
 use texts::{hexadecimal, read_text, refused_text, wants_memory};
 
-/// A type that lines name.
+/// A type that lines name, by the word that the variant has in lower case: `null` is `()`, `text` a `String`, `octets` a
+/// `ByteBuf`, `raw` an `Asn1RawDer` and `test` a `TestStruct`.
 #[derive(Debug, Clone, Copy, PartialEq, Eq)]
 pub enum ValueType {
     Bool,

@@ -1,6 +1,7 @@
 mod application_tags;
 mod choices;
 mod context_tags;
+mod copies;
 mod devices;
 mod entry_calls;
 mod errors;

@@ -1,5 +1,5 @@
 //! Truth values (X.690, 8.2 and 11.1).
-ghost use Rattle.std.specs.Prelude.{◌≡◌, ◌≤◌, IfOk, IfErr};
+ghost use Rattle.std.specs.Prelude.{◌≡◌};
 ghost use Rattle.picky_der_core.specs.Tree.{Tree};
 ghost use Rattle.picky_der_core.specs.Encoding.{boolean_content};
 ghost use Rattle.picky_der_ser.specs.Calls.{WritesPlain};

@@ -1,7 +1,6 @@
 //! Unsigned integers (X.690, 8.3).
-ghost use Rattle.std.specs.Prelude.{◌≡◌, ◌≤◌, ◌^◌, ◌<◌, ℕ, IfOk, IfErr};
+ghost use Rattle.std.specs.Prelude.{◌≡◌, ◌≤◌, ◌<◌, ℕ};
 ghost use Rattle.picky_der_core.specs.Tree.{Tree};
-ghost use Rattle.picky_der_core.specs.Encoding.{unsigned_content};
 ghost use Rattle.picky_der_ser.specs.Calls.{WritesPlain};
 ghost use Rattle.picky_der_ser.specs.Integer.{IsUnsignedContent};
 

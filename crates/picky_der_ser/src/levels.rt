@@ -1,5 +1,5 @@
 //! The levels of a serializer, in one vector.
-ghost use Rattle.std.specs.Prelude.{◌≡◌, ◌≢◌, ◌≤◌, ◌<◌, ◌^◌, ℕ, ◌++◌, List, [], ◌∷◌, true, false, length, take, drop, vec_len, None, Some, IfSome, IfOk, OnOk};
+ghost use Rattle.std.specs.Prelude.{◌≡◌, ◌≢◌, ◌<◌, ◌^◌, List, [], ◌∷◌, true, false, length, take, None, Some, IfSome, IfOk, OnOk};
 ghost use Rattle.picky_der_core.specs.Encoding.{der};
 ghost use Rattle.picky_der_core.specs.Wrapper.{under};
 ghost use Rattle.picky_der_ser.specs.Heading.{tree_of};

@@ -1,5 +1,5 @@
 //! Sequences and sets that are being written (X.690, 8.9 to 8.12).
-ghost use Rattle.std.specs.Prelude.{◌≡◌, ◌≤◌, ℕ, [], None, Some, IfNone, IsSome, IfOk, IfErr, OnOk};
+ghost use Rattle.std.specs.Prelude.{◌≡◌, None, Some, IfNone, IsSome, IfOk, IfErr, OnOk};
 ghost use Rattle.std.specs.Borrow.{sem, RestsIfErr};
 ghost use Rattle.picky_der_ser.specs.contracts.serializer.Serializer.{the_row};
 ghost use Rattle.picky_der_ser.specs.Calls.{HadFailed, Opens, Gains, Rejects, Finishes};

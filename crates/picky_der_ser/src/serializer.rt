@@ -1,12 +1,8 @@
 //! The serializer.
-ghost use Rattle.std.specs.Prelude.{◌≡◌, ◌+◌, ◌<◌, ◌≤◌, ◌^◌, ℕ, [], ◌∷◌, ◌++◌, None, Some, false, length, encode_utf8, IfOk, IfErr, OnOk, OnErr};
+ghost use Rattle.std.specs.Prelude.{◌≡◌, ◌<◌, ◌≤◌, [], None, Some, false, IfOk, IfErr, OnOk};
 ghost use Rattle.std.specs.Io.KnownBytes.{Appends};
-ghost use Rattle.picky_der_core.specs.Tag.{number_of, IsTagNumber};
-ghost use Rattle.picky_der_core.specs.Element.{tlv, len as bytes_of};
 ghost use Rattle.picky_der_core.specs.Tree.{Tree};
-ghost use Rattle.picky_der_core.specs.Writer.{AppendsBeginning};
-ghost use Rattle.picky_der_core.specs.WriterFaults.{Faulted};
-ghost use Rattle.picky_der_ser.specs.Calls.{Writes, Fails, WritesPlain, WritesAbsent};
+ghost use Rattle.picky_der_ser.specs.Calls.{Writes, Fails, WritesAbsent};
 
 mod application;
 mod level;

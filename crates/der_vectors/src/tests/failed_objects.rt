@@ -8,7 +8,7 @@ use picky_asn1_der::Asn1DerError::{
 };
 use picky_asn1_der::asn1::Tag;
 use picky_asn1_der::misc::Watched;
-use picky_asn1_der::{Deserializer, Serializer, de};
+use picky_asn1_der::{Deserializer, Serializer, de, ser};
 use std::alloc::Global;
 use std::io::ErrorKind;
 use std::test::Fail;
@@ -51,6 +51,9 @@ fn a_failed_serializer_writes_nothing(rt: HostRuntime) {
     let mut ser = over_a_writer(rt.alloc());
     assert_eq!(rt; ser.serialize_i8(-1), Err(UnsupportedType));
     assert_eq!(rt; ser.serialize_bool(true), Err(UnsupportedType));
+    let mut members = ser::Sequence::serialize_lazy(&mut ser, Tag::SEQUENCE);
+    assert_eq!(rt; members.serialize_element(&7u8), Err(UnsupportedType));
+    assert_eq!(rt; members.end(), Err(UnsupportedType));
     assert!(rt; ser.into_writer().into_inner().taken().is_empty());
 }
 

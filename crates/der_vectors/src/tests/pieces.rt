@@ -21,7 +21,7 @@ fn octet_strings_of_about_a_piece(rt: HostRuntime) -> Result<(), Fail> {
         (513, "04 82 02 01"),
         (1025, "04 82 04 01"),
     ] {
-        let octets = ByteBuf(vec![in alloc; 0xA5; len]?);
+        let octets = ByteBuf(vec![in alloc; 0; len]?);
         let mut bytes = to_vec(alloc, &octets)?;
         assert!(rt; bytes.starts_with(&bytes_of(alloc, header)?), "{header}");
         bytes.push(0xFF)?;

@@ -2,7 +2,7 @@
 ghost use Rattle.std.specs.Prelude.{nat_eq};
 ghost use Rattle.std.proofs.Common.{rules};
 ghost use Rattle.picky_der_core.specs.Tree.{Tree};
-ghost use Rattle.picky_der_de.specs.KnownLaws.{raw_known, unsigned_known};
+ghost use Rattle.picky_der_de.specs.KnownLaws.{unsigned_known};
 ghost use Rattle.picky_der_de.specs.TwinLaws.{knowns};
 
 use crate::hexadecimal::bytes_of;
@@ -53,7 +53,7 @@ impl Alike for Kept {
 impl Deserialize for Kept {
     ghost shape = { ⟦<(u8, Asn1RawDer) as Deserialize>⟧.shape };
 
-    ghost known_by_tree = { Prim.search (rules, knowns, raw_known) };
+    ghost known_by_tree = { Prim.search (rules, knowns) };
 
     ghost sound = { Prim.search rules };
 

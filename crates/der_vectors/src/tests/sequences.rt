@@ -71,20 +71,21 @@ fn tuples_are_sequences(rt: HostRuntime) -> Result<(), Fail> {
 // A sequence that holds the number 7, four times.
 const FOUR_SEQUENCES: &str = "30 03 02 01 07 30 03 02 01 07 30 03 02 01 07 30 03 02 01 07";
 
+// The names and lengths that are given don't matter, here and where sequences are read.
 #[test]
 fn each_call_writes_a_sequence(rt: HostRuntime) -> Result<(), Fail> {
     let mut out = Vec::new(rt.alloc());
     let mut ser = Serializer::new_to_byte_buf(rt.alloc(), &mut out);
-    let mut members = ser.serialize_seq(None)?;
+    let mut members = ser.serialize_seq(Some(2))?;
     members.serialize_element(&7u8)?;
     assert_eq!(rt; members.end(), Ok(5));
-    let mut members = ser.serialize_tuple(1)?;
+    let mut members = ser.serialize_tuple(0)?;
     members.serialize_element(&7u8)?;
     assert_eq!(rt; members.end(), Ok(5));
-    let mut members = ser.serialize_tuple_struct("Seven", 1)?;
+    let mut members = ser.serialize_tuple_struct("Seven", 3)?;
     members.serialize_element(&7u8)?;
     assert_eq!(rt; members.end(), Ok(5));
-    let mut members = ser.serialize_struct("Seven", 1)?;
+    let mut members = ser.serialize_struct("Seven", usize::MAX)?;
     members.serialize_field("number", &7u8)?;
     assert_eq!(rt; members.end(), Ok(5));
     drop(ser);
@@ -99,13 +100,13 @@ fn each_call_reads_a_sequence(rt: HostRuntime) -> Result<(), Fail> {
     let mut members = de.deserialize_seq()?;
     assert_eq!(rt; members.next_element::<u8>(), Ok(Some(7)));
     members.end()?;
-    let mut members = de.deserialize_tuple(1)?;
+    let mut members = de.deserialize_tuple(0)?;
     assert_eq!(rt; members.next_element::<u8>(), Ok(Some(7)));
     members.end()?;
-    let mut members = de.deserialize_tuple_struct("Seven", 1)?;
+    let mut members = de.deserialize_tuple_struct("Eight", 3)?;
     assert_eq!(rt; members.next_element::<u8>(), Ok(Some(7)));
     members.end()?;
-    let mut members = de.deserialize_struct("Seven", &["number"])?;
+    let mut members = de.deserialize_struct("Eight", &["number", "name"])?;
     assert_eq!(rt; members.next_field::<u8>(), Ok(7));
     members.end()?;
     assert_eq!(rt; de.taken(), 20);

@@ -1,7 +1,7 @@
 //! The constants of tags, and the types of bytes under them.
 
 use picky_asn1_der::asn1::{
-    BitStringAsn1, BmpStringAsn1, ByteBuf, GeneralStringAsn1, GeneralizedTimeAsn1, Ia5StringAsn1,
+    BitStringAsn1, BmpStringAsn1, GeneralStringAsn1, GeneralizedTimeAsn1, Ia5StringAsn1,
     IntegerAsn1, NumericStringAsn1, ObjectIdentifierAsn1, PrintableStringAsn1, Tag, TagClass,
     TaggedBytes, UtcTimeAsn1, Utf8StringAsn1,
 };
@@ -72,14 +72,5 @@ fn aliases_have_their_tags(rt: HostRuntime) -> Result<(), Fail> {
     has_tag(&rt, GeneralizedTimeAsn1::from(none.clone()?), 0x18);
     has_tag(&rt, GeneralStringAsn1::from(none.clone()?), 0x1B);
     has_tag(&rt, BmpStringAsn1::from(none.clone()?), 0x1E);
-    Ok(())
-}
-
-#[test]
-fn bytes_are_copied(rt: HostRuntime) -> Result<(), Fail> {
-    let octets = ByteBuf::from(vec![in rt.alloc(); 0xAA; 3]?);
-    assert_eq!(rt; octets.clone()?, octets);
-    let tagged = BmpStringAsn1::from(vec![in rt.alloc(); 0xAA; 3]?);
-    assert_eq!(rt; tagged.clone()?, tagged);
     Ok(())
 }

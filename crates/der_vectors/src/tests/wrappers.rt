@@ -28,6 +28,9 @@ fn containers_hold_encodings(rt: HostRuntime) -> Result<(), Fail> {
     for row in ["03 00", "03 01 00", "03 04 01 02 01 07"] {
         refuses::<BitStringAsn1Container<u8>>(&rt, row, InvalidData)?;
     }
+    for row in ["04 00", "04 03 02 02 07", "04 04 02 01 07 05"] {
+        refuses::<OctetStringAsn1Container<u8>>(&rt, row, InvalidData)?;
+    }
     Ok(())
 }
 

@@ -1,5 +1,5 @@
 //! Readers and writers whose faults are counted.
-ghost use Rattle.std.specs.Prelude.{◌≡◌, ◌<◌, ◌≤◌, [], length, IfOk, OnErr, IfErr, OnOk};
+ghost use Rattle.std.specs.Prelude.{◌≡◌, ◌<◌, ◌≤◌, [], length, IfOk, OnErr, OnOk};
 ghost use Rattle.std.specs.Io.KnownBytes.{WriteAppends, ReadConsumes};
 ghost use Rattle.std.specs.Io.{WritesAtMost, ReadsAtMost};
 ghost use Rattle.std.proofs.Common.{refl};

@@ -1,7 +1,6 @@
 //! Ends, opened and closed. No other file changes what the innermost end is.
 ghost use Rattle.std.specs.Prelude.{◌≡◌, ◌+◌, ◌≤◌, ◌<◌, ◌↔◌, None, Some, IsTrue, IfOk, IfErr, OnOk};
 ghost use Rattle.picky_der_core.specs.Tag.{number_of, IsTagNumber};
-ghost use Rattle.picky_der_de.specs.Steps.{TakesNoMemory};
 ghost use Rattle.picky_der_de.specs.Ends.{innermost, narrowed, Closes, RefusesClose, OpensList, RefusesList, OpensLazily};
 
 use super::Deserializer;

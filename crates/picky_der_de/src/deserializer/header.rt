@@ -1,6 +1,5 @@
 //! Lengths and headers, as a deserializer reads them.
 ghost use Rattle.std.specs.Prelude.{◌≡◌, ◌≤◌, ◌∷◌, ◌<◌, ◌^◌, None, IfOk, IfErr, OnOk};
-ghost use Rattle.std.specs.Int.Digits.{number_from_digits};
 ghost use Rattle.picky_der_core.specs.Element.{len as bytes_of};
 ghost use Rattle.picky_der_core.specs.Tag.{number_of, IsTagNumber};
 ghost use Rattle.picky_der_de.specs.Steps.{Takes, StopsShort, TakesNoMemory};

@@ -1,9 +1,9 @@
 //! Levels, as a serializer opens and ends them.
-ghost use Rattle.std.specs.Prelude.{◌≡◌, ◌≢◌, ◌≤◌, List, [], ◌∷◌, ◌++◌, None, Some, IfSome, IfNone, IsSome, IfOk, IfErr, OnOk};
+ghost use Rattle.std.specs.Prelude.{◌≡◌, ◌≢◌, ◌≤◌, List, [], ◌∷◌, None, Some, IfSome, IfNone, IsSome, IfOk, IfErr, OnOk};
 ghost use Rattle.picky_der_core.specs.Wrapper.{under};
 ghost use Rattle.picky_der_ser.specs.Heading.{tree_of};
 ghost use Rattle.picky_der_ser.specs.Headers.{HasNumber};
-ghost use Rattle.picky_der_ser.specs.State.{Level, with_bytes};
+ghost use Rattle.picky_der_ser.specs.State.{Level};
 ghost use Rattle.picky_der_ser.specs.Calls.{Wrote, Refused, Stops, Opens, Gains, Rejects, Ends, Finishes};
 
 use super::Serializer;

@@ -1,5 +1,5 @@
 //! Plain values, written.
-ghost use Rattle.std.specs.Prelude.{◌≡◌, ◌≢◌, [], length, encode_utf8};
+ghost use Rattle.std.specs.Prelude.{◌≡◌, ◌≢◌, [], encode_utf8};
 ghost use Rattle.picky_der_core.specs.Tag.{number_of, IsTagNumber};
 ghost use Rattle.picky_der_core.specs.Tree.{Tree};
 ghost use Rattle.picky_der_ser.specs.Heading.{tree_of};
