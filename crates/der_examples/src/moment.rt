@@ -1,13 +1,12 @@
-//! A struct of more fields than a tuple has, which is read member by member.
-ghost use Rattle.std.specs.Prelude.{[], ◌∷◌};
+//! A struct of more fields than a tuple has.
 ghost use Rattle.std.proofs.Common.{rules};
-ghost use Rattle.picky_der_core.specs.Tree.{ListKind, Tree, trees};
-ghost use Rattle.picky_der_core.specs.Shape.{Shape, shapes};
 ghost use Rattle.picky_der_de.specs.TwinLaws.{knowns};
 
 use picky_asn1_der::asn1::Tag;
 use picky_asn1_der::misc::{ReadExt, WriteExt};
-use picky_asn1_der::{Deserialize, Deserializer, Result, Serialize, Serializer, de, ser};
+use picky_asn1_der::{
+    Alike, Deserialize, Deserializer, Result, Row, Serialize, Serializer, de, ser,
+};
 
 /// A moment of a day, as a SEQUENCE of seven INTEGERs.
 #[derive(Debug, Drop, PartialEq, Eq)]
@@ -21,8 +20,10 @@ pub struct Moment {
     pub millisecond: u16,
 }
 
+type Numbers = Row<(u16, (u8, (u8, (u8, (u8, (u8, (u16, ())))))))>;
+
 impl Serialize for Moment {
-    ghost meaning = { λ m. Tree.list ListKind.sequence (trees (Tree.unsigned m.year ∷ Tree.unsigned m.month ∷ Tree.unsigned m.day ∷ Tree.unsigned m.hour ∷ Tree.unsigned m.minute ∷ Tree.unsigned m.second ∷ Tree.unsigned m.millisecond ∷ [])) };
+    ghost meaning = { λ m. ⟦<Numbers as Serialize>⟧.meaning (⟦<Moment as Alike>⟧.parts m) };
 
     #[tactic(auto, using(picky_der_ser::proofs::Rows::row7))]
     fn serialize<W: WriteExt>(&self, serializer: &mut Serializer<W>) -> Result<usize> {
@@ -38,25 +39,15 @@ impl Serialize for Moment {
     }
 }
 
-impl Deserialize for Moment {
-    ghost shape = { Shape.fields ListKind.sequence (shapes (⟦<u16 as Deserialize>⟧.shape ∷ ⟦<u8 as Deserialize>⟧.shape ∷ ⟦<u8 as Deserialize>⟧.shape ∷ ⟦<u8 as Deserialize>⟧.shape ∷ ⟦<u8 as Deserialize>⟧.shape ∷ ⟦<u8 as Deserialize>⟧.shape ∷ ⟦<u16 as Deserialize>⟧.shape ∷ [])) };
+impl Alike for Moment {
+    type As = Numbers;
 
-    ghost known_by_tree = { Prim.search (rules, knowns) };
+    ghost parts = { λ m. record { 0 = (m.year, (m.month, (m.day, (m.hour, (m.minute, (m.second, (m.millisecond, tt))))))) } };
 
-    ghost sound = { Prim.search rules };
-
-    fn deserialize<R: ReadExt>(deserializer: &mut Deserializer<R>) -> Result<Moment> {
-        let outer = deserializer.open_list(Tag::SEQUENCE)?;
-        let mut members = de::Sequence::inside(deserializer, outer);
-        let year = members.next_field::<u16>()?;
-        let month = members.next_field::<u8>()?;
-        let day = members.next_field::<u8>()?;
-        let hour = members.next_field::<u8>()?;
-        let minute = members.next_field::<u8>()?;
-        let second = members.next_field::<u8>()?;
-        let millisecond = members.next_field::<u16>()?;
-        members.end()?;
-        Ok(Moment {
+    fn from_parts(
+        Row((year, (month, (day, (hour, (minute, (second, (millisecond, ())))))))): Numbers,
+    ) -> Moment {
+        Moment {
             year,
             month,
             day,
@@ -64,6 +55,18 @@ impl Deserialize for Moment {
             minute,
             second,
             millisecond,
-        })
+        }
+    }
+}
+
+impl Deserialize for Moment {
+    ghost shape = { ⟦<Numbers as Deserialize>⟧.shape };
+
+    ghost known_by_tree = { Prim.search (rules, knowns) };
+
+    ghost sound = { Prim.search rules };
+
+    fn deserialize<R: ReadExt>(deserializer: &mut Deserializer<R>) -> Result<Moment> {
+        de::deserialize_as(deserializer)
     }
 }

@@ -6,8 +6,8 @@ pub mod application_tag;
 /// Reading.
 pub mod de {
     pub use picky_der_de::{
-        Alike, Boolean, Choice, DEFAULT_MAX_LEN, Deserialize, Deserializer, Enclosure, End, Null,
-        Outer, Sequence, UInt, UnsignedInteger, Utf8String, deserialize_as, deserialize_choice,
+        Alike, Boolean, Choice, DEFAULT_MAX_LEN, Deserialize, DeserializeMembers, Deserializer, Enclosure,
+        End, Null, Outer, Sequence, UInt, UnsignedInteger, Utf8String, deserialize_as, deserialize_choice,
         from_bytes, from_reader, from_reader_with_max_len,
     };
 }
@@ -15,7 +15,7 @@ pub mod de {
 /// Writing.
 pub mod ser {
     pub use picky_der_ser::{
-        Boolean, Header, Null, Sequence, Serialize, Serializer, UInt, UnsignedInteger, Utf8String,
+        Boolean, Header, Null, Row, Sequence, Serialize, SerializeMembers, Serializer, UInt, UnsignedInteger, Utf8String,
         to_byte_buf, to_bytes, to_vec, to_writer,
     };
 }
@@ -28,5 +28,5 @@ pub use picky_der_de::{
     Alike, Choice, Deserialize, Deserializer, deserialize_as, deserialize_choice, from_bytes,
     from_reader, from_reader_with_max_len,
 };
-pub use picky_der_ser::{Serialize, Serializer, to_byte_buf, to_bytes, to_vec, to_writer};
+pub use picky_der_ser::{Row, Serialize, Serializer, to_byte_buf, to_bytes, to_vec, to_writer};
 pub use raw_der::Asn1RawDer;

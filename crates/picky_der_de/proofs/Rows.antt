@@ -1,16 +1,19 @@
--- Rows of members, read and refused: what a struct or a tuple is proved from. Each call gives one record, and one lemma takes it.
-use Rattle.std.proofs.Common.{◌≡◌, ◌++◌, refl, sym, ap, subst, append-nil, ◌∙◌}
+-- Rows of members, read and refused. Each call gives one record, and one lemma takes it.
+use Rattle.std.proofs.Common.{◌≡◌, ℕ, List, ◌++◌, length, None, refl, sym, ap, subst, append_assoc, ◌∙◌, arith}
 use Rattle.picky_der_core.specs.declared.error.Asn1DerError.{Asn1DerError}
 use Rattle.picky_der_core.specs.Tree.{ListKind, Tree, Trees}
 use Rattle.picky_der_core.specs.Encoding.{der, list_tag}
-use Rattle.picky_der_core.specs.Shape.{Shape, Shapes, IsFirst}
+use Rattle.picky_der_core.specs.EncodingLaws.{same_encoding}
+use Rattle.picky_der_core.specs.Readable.{AreReadable}
+use Rattle.picky_der_core.specs.Shape.{Shape, Shapes, IsFirst, AreOf}
 use Rattle.picky_der_de.specs.State.{State}
 use Rattle.picky_der_de.specs.Steps.{Takes}
 use Rattle.picky_der_de.specs.Reading.{Reads, Refuses}
 use Rattle.picky_der_de.specs.Ends.{Outer, Closes, RefusesClose, OpensList, RefusesList}
 use Rattle.picky_der_de.specs.Members.{ReadsMember, RefusesMember, bytes_of, ReadsRow, RefusesRow}
-use Rattle.picky_der_de.proofs.Steps.{takes_then, fails_after, judged_after}
-use Rattle.picky_der_de.proofs.Members.{bytes_of-more, bytes_of-none, takes_member, next_member, no_member, none_left, list_refused, list_unopened, list_reads}
+use Rattle.picky_der_de.proofs.Steps.{takes_none, takes_then, fails_after, judged_after}
+use Rattle.picky_der_de.proofs.Refusals.{behind, failed_grows}
+use Rattle.picky_der_de.proofs.Members.{bytes_of-more, bytes_of-none, takes_member, next_member, no_member, list_refused, list_unopened, list_reads}
 
 row_first : (kind : ListKind) (ss : Shapes) → IsFirst (Shape.fields kind ss) (list_tag kind)
 row_first ListKind.sequence ss = refl
@@ -40,25 +43,39 @@ row_next {meaning = meaning} {others = others} r h = record {
   none = λ j v of_shape readable w. h.none (judged_after r.reads.takes j) v of_shape.1 readable.1 (next_member (meaning v) (others v) readable.0 r h.fails w);
 }
 
--- something is left behind the last member
-pub row_end : {V : Type 0} {members : V → Trees} {ss : Shapes} {c d : State} {e : Asn1DerError} → ((v : V) → members v ≡ Trees.none) → RefusesClose c d e → RefusesRow members ss c d e
-row_end {c = c} {d = d} {e = e} none r = record {
-  fails = r.fails;
-  none = λ j v of_shape readable w. none_left (r.left j.had_not_failed).0 (rw (none v) at w);
+-- two rows of readable members of the same shapes, at the front of the same bytes
+same_rows : (ss : Shapes) (us ts : Trees) (x y : List ℕ) → AreOf ss us → AreOf ss ts → AreReadable us → AreReadable ts → bytes_of us ++ x ≡ bytes_of ts ++ y → bytes_of us ≡ bytes_of ts
+same_rows Shapes.none Trees.none Trees.none x y p q r z e = refl
+same_rows Shapes.none Trees.none (Trees.more t ts) x y p q r z e = absurd q
+same_rows Shapes.none (Trees.more u us) ts x y p q r z e = absurd p
+same_rows (Shapes.more s ss) Trees.none ts x y p q r z e = absurd p
+same_rows (Shapes.more s ss) (Trees.more u us) Trees.none x y p q r z e = absurd q
+same_rows (Shapes.more s ss) (Trees.more u us) (Trees.more t ts) x y p q r z e =
+    let whole : der u ++ (bytes_of us ++ x) ≡ der t ++ (bytes_of ts ++ y) =
+    sym (append_assoc (der u) (bytes_of us) x) ∙ ap (λ bs. bs ++ x) (sym (bytes_of-more u us)) ∙ e ∙ ap (λ bs. bs ++ y) (bytes_of-more t ts) ∙ append_assoc (der t) (bytes_of ts) y in
+    let first = same_encoding u t (bytes_of us ++ x) (bytes_of ts ++ y) r.0 z.0 whole in
+    let others = same_rows ss us ts x y p.1 q.1 r.1 z.1 first.1 in
+    bytes_of-more u us ∙ ap (λ bs. bs ++ bytes_of us) first.0 ∙ ap (λ bs. der t ++ bs) others ∙ sym (bytes_of-more t ts)
+
+-- something is left behind a row that was read
+pub row_over : {V : Type 0} {members : V → Trees} {ss : Shapes} {b c d : State} {ts : Trees} {e : Asn1DerError} → ReadsRow ss b c ts → RefusesClose c d e → RefusesRow members ss b d e
+row_over {members = members} {ss = ss} {ts = ts} r h = record {
+  fails = fails_after r.takes h.fails;
+  none = λ j v of_shape readable w.
+      let u = behind r.takes (failed_grows h.fails) w.concerns in
+      let same = same_rows ss (members v) ts w.rest u.rest of_shape r.of_shape readable r.readable (sym w.begins ∙ u.begins) in
+      omega (arith, w.fills, r.takes.room, (h.left r.takes.not_failed).0, ap length same);
 }
+
+-- the row is a part of the value
+pub row_through : {V W : Type 0} {members : W → Trees} {ss : Shapes} {c d : State} {e : Asn1DerError} (part : V → W) → RefusesRow members ss c d e → RefusesRow (λ v. members (part v)) ss c d e
+row_through part h = record { fails = h.fails; none = λ j v. h.none j (part v) }
 
 -- ---- read
 
--- the last member was read
-pub row_last : {s : Shape} {b c : State} {t : Tree} → ReadsMember s b c t → ReadsRow (Shapes.more s Shapes.none) b c (Trees.more t Trees.none)
-row_last {b = b} {c = c} {t = t} r =
-    let is : der t ≡ bytes_of (Trees.more t Trees.none) = sym (append-nil (der t)) ∙ ap (λ x. der t ++ x) (sym bytes_of-none) ∙ sym (bytes_of-more t Trees.none) in
-    record {
-      of_shape = (r.reads.of_shape, tt);
-      readable = (r.reads.readable, tt);
-      takes = subst (Takes b c) is (takes_member r);
-      direct = r.reads.direct;
-    }
+-- no member was read
+pub row_none : {c : State} → c.failed ≡ None → c.peeked ≡ None → c.direct ≡ None → ReadsRow Shapes.none c c Trees.none
+row_none {c = c} f p d = record { of_shape = tt; readable = tt; takes = subst (Takes c c) (sym bytes_of-none) (takes_none c f p); direct = d }
 
 -- a member was read, and those behind it
 pub row_read : {s : Shape} {ss : Shapes} {b c d : State} {t : Tree} {ts : Trees} → ReadsMember s b c t → ReadsRow ss c d ts → ReadsRow (Shapes.more s ss) b d (Trees.more t ts)
@@ -72,5 +89,3 @@ row_read {b = b} {d = d} {t = t} {ts = ts} r h = record {
 -- the members were read, and the sequence was closed
 pub row_reads : {ss : Shapes} {kind : ListKind} {a b c d : State} {outer closed : Outer} {ts : Trees} → OpensList (list_tag kind) a b outer → ReadsRow ss b c ts → Closes closed c d → closed ≡ outer → Reads (Shape.fields kind ss) a d (Tree.list kind ts)
 row_reads {ts = ts} h r k same = list_reads ts h r.takes r.direct k same (refl, r.of_shape) r.readable
-
-pub ruleset rows = (row_unopened, row_refused, row_head, row_next, row_end, row_last, row_read, row_reads)

@@ -8,13 +8,17 @@ use Rattle.std.proofs.Common.{eq-eqb, ap, subst, ◌++◌}
 use Rattle.std.proofs.lemmas.Str.{encode_same}
 use Rattle.picky_der_core.specs.Tree.{ListKind, Tree, Trees, trees}
 use Rattle.picky_der_core.specs.Readable.{IsReadable, AreReadable}
-use Rattle.picky_der_core.specs.Shape.{Shape, IsOf, EachIs}
+use Rattle.picky_der_core.specs.Shape.{Shape, Shapes, IsOf, AreOf, EachIs}
 use Rattle.picky_der_core.specs.FirstLaws.{is_of-optional}
 use Rattle.picky_der_ser.specs.Meaning.{option_meaning}
 
 -- two readable values of the type with one tree are equal
 abbrev pub IsKnownByTree : {V : Type 0} → (V → Tree) → Shape → (V → V → Bool) → Type 0
 IsKnownByTree {V} meaning s eq = (x y : V) → IsOf s (meaning x) → IsOf s (meaning y) → IsReadable (meaning x) → meaning x ≡ meaning y → eq x y ≡ true
+
+-- two rows of readable members with the same trees are equal
+abbrev pub AreKnownByTrees : {V : Type 0} → (V → Trees) → Shapes → (V → V → Bool) → Type 0
+AreKnownByTrees {V} members ss eq = (x y : V) → AreOf ss (members x) → AreOf ss (members y) → AreReadable (members x) → members x ≡ members y → eq x y ≡ true
 
 pub boolean_known : (x y : Bool) → Tree.boolean x ≡ Tree.boolean y → beq x y ≡ true
 boolean_known true true e = refl
@@ -71,14 +75,14 @@ list_known {V} meaning s eq known xs ys p q r e = let f : trees (map meaning xs)
 
 -- ---- rows, whose members are each known
 
-row_members : {k l : ListKind} {ts us : Trees} → Tree.list k ts ≡ Tree.list l us → ts ≡ us
+pub row_members : {k l : ListKind} {ts us : Trees} → Tree.list k ts ≡ Tree.list l us → ts ≡ us
 row_members e = cc
 
 -- the first member and the others
-first_member : {t u : Tree} {ts us : Trees} → Trees.more t ts ≡ Trees.more u us → t ≡ u
+pub first_member : {t u : Tree} {ts us : Trees} → Trees.more t ts ≡ Trees.more u us → t ≡ u
 first_member e = cc
 
-other_members : {t u : Tree} {ts us : Trees} → Trees.more t ts ≡ Trees.more u us → ts ≡ us
+pub other_members : {t u : Tree} {ts us : Trees} → Trees.more t ts ≡ Trees.more u us → ts ≡ us
 other_members e = cc
 
 pub both : {p q : Bool} → p ≡ true → q ≡ true → (p && q) ≡ true

@@ -6,7 +6,7 @@ use crate::{Deserialize, Deserializer};
 use picky_der_core::Result;
 use picky_der_core::misc::ReadExt;
 
-/// A type whose values are told by those of another, its twin, as a struct's by the tuple of its fields.
+/// A type whose values are told by those of another, its twin, as a struct's by the tuple or row of its fields.
 ///
 /// Each value of the twin has to be one of the type. A type that leaves some out is read by the calls of the
 /// deserializer.

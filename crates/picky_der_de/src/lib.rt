@@ -12,6 +12,7 @@ mod entry;
 mod impls;
 mod integer;
 mod null;
+mod row;
 mod sequence;
 mod utf8_string;
 
@@ -25,5 +26,6 @@ pub use end::End;
 pub use entry::{DEFAULT_MAX_LEN, from_bytes, from_reader, from_reader_with_max_len};
 pub use integer::{UInt, UnsignedInteger};
 pub use null::Null;
+pub use row::DeserializeMembers;
 pub use sequence::Sequence;
 pub use utf8_string::Utf8String;

@@ -1,9 +1,8 @@
 -- A list that is being written: the members that it has, and those that it still awaits.
 use Rattle.std.proofs.Common.{◌≡◌, ℕ, List, [], ◌∷◌, ◌++◌, map, Option, None, Some, refl, sym, ap, ◌∙◌, subst, inl, inr, Result, Ok, Err, IfOk, IfErr}
-use Rattle.std.specs.Prelude.{IfSome, IfNone, IsTrue}
+use Rattle.std.specs.Prelude.{IfSome, IfNone, OnOk, IsTrue}
 use Rattle.picky_der_core.specs.declared.misc.writer.WriteExt.{Ghosts}
 use Rattle.picky_der_core.specs.declared.error.Asn1DerError.{Asn1DerError}
-use Rattle.picky_der_core.specs.declared.error.Asn1DerError.TheVariants.{OutOfMemory}
 use Rattle.picky_der_core.specs.Tree.{ListKind, Tree, Trees, trees}
 use Rattle.picky_der_core.specs.Encoding.{list_content, list_tag, der}
 use Rattle.picky_der_core.specs.Readable.{have_tag_numbers, IsWritable}
@@ -12,7 +11,7 @@ use Rattle.picky_der_core.specs.WrapperLaws.{AreAlike}
 use Rattle.picky_der_ser.specs.declared.header.Header.TheVariants.{Tagged}
 use Rattle.picky_der_ser.specs.State.{State, Level, with_member}
 use Rattle.picky_der_ser.specs.Sequences.{IsListTag, kind_of}
-use Rattle.picky_der_ser.specs.Calls.{MemoryExcuse, no_room, no_way, RefusedIn, Writes, Fails, Opens, Gains, Rejects, Ends, Finishes}
+use Rattle.picky_der_ser.specs.Calls.{MemoryExcuse, no_room, no_way, RefusedIn, Writes, Fails, Opens, Gains, Rejects, GainsRow, RejectsRow, Ends, Finishes}
 use Rattle.picky_der_ser.proofs.Alike.{writes-alike, fails-alike}
 use Rattle.picky_der_ser.proofs.PlainWrites.{refused_unwritable}
 use Rattle.picky_der_ser.proofs.StateWrites.{refused_memory}
@@ -80,6 +79,34 @@ module _ {W : Type 0} (g : Ghosts W) where
       let failed : now.failed ≡ old.failed = ap (λ (s : State W). s.failed) a.is in
       let part : IsWritable (under old.around (Tree.list kind all)) → IsWritable t = λ w. member_writable old.around kind a.done t rest (subst (λ us. IsWritable (under old.around (Tree.list kind us))) a.split w) in
       rw i (refused_part t (Tree.list kind all) old new e part h.failed sink (subst (λ o. IfSome o (λ f. e ≡ f)) failed h.again) (subst (λ o. IfNone o (MemoryExcuse t e)) failed h.first))
+
+  -- ---- rows
+
+  -- the members of a row were added
+  pub row_gained : (kind : ListKind) (ts all : Trees) (old now new : State W) → GainsRow g ts now new → Awaits kind ts all old now → Awaits kind Trees.none all old new
+  row_gained kind Trees.none all old now new h a = subst (λ s. Awaits kind Trees.none all old s) (sym h) a
+  row_gained kind (Trees.more t ts) all old now new h a = row_gained kind ts all old h.0 new h.2 (list_gained kind ts all t old now h.0 h.1 a)
+
+  -- one of them was refused, so the list is
+  pub row_rejected : (kind : ListKind) (ts all : Trees) (old now new : State W) (d e : Asn1DerError) → RejectsRow g ts now e new → d ≡ e → Awaits kind ts all old now → Fails g (Tree.list kind all) old d new
+  row_rejected kind Trees.none all old now new d e h i a = absurd h
+  row_rejected kind (Trees.more t ts) all old now new d e (inl h) i a = list_refused kind ts all t old now new d e h i a
+  row_rejected kind (Trees.more t ts) all old now new d e (inr h) i a = row_rejected kind ts all old h.0 new d e h.2 i (list_gained kind ts all t old now h.0 h.1 a)
+
+  -- up to there nothing reached the sink
+  pub row_untouched : (kind : ListKind) (ts all : Trees) (old now new : State W) (e : Asn1DerError) → RejectsRow g ts now e new → Awaits kind ts all old now → new.sink ≡ old.sink
+  row_untouched kind Trees.none all old now new e h a = absurd h
+  row_untouched kind (Trees.more t ts) all old now new e (inl h) a = h.same ∙ ap (λ (s : State W). s.sink) a.is
+  row_untouched kind (Trees.more t ts) all old now new e (inr h) a = row_untouched kind ts all old h.0 new e h.2 (list_gained kind ts all t old now h.0 h.1 a)
+
+  -- those behind a member were added, or one of them was refused
+  pub row_goes_on : {T : Type 0} (r : Result T Asn1DerError) (ts : Trees) (new : State W) {t : Tree} {old between : State W} → Gains g t old between → OnOk r (GainsRow g ts between new) → OnOk r (GainsRow g (Trees.more t ts) old new)
+  row_goes_on (Ok v) ts new {between = between} a h = (between, a, h)
+  row_goes_on (Err e) ts new a h = tt
+
+  pub row_stops : {T : Type 0} (r : Result T Asn1DerError) (ts : Trees) (new : State W) {t : Tree} {old between : State W} → Gains g t old between → IfErr r (λ e. RejectsRow g ts between e new) → IfErr r (λ e. RejectsRow g (Trees.more t ts) old e new)
+  row_stops (Ok v) ts new a h = tt
+  row_stops (Err e) ts new {between = between} a h = inr (between, a, h)
 
   -- ---- the end
 

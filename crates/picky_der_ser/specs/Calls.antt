@@ -1,5 +1,5 @@
 -- What the calls of a serializer do.
-use Rattle.std.specs.Prelude.{◌≡◌, ℕ, List, [], ◌∷◌, length, None, Some, IfSome, IfNone, Result, Err, IfOk, IfErr, ◌<◌, ◌≤◌}
+use Rattle.std.specs.Prelude.{◌≡◌, ◌⊎◌, ℕ, List, [], ◌∷◌, length, None, Some, IfSome, IfNone, Result, Err, IfOk, IfErr, ◌<◌, ◌≤◌}
 use Rattle.picky_der_core.specs.declared.asn1.wrapper.Wrapper.{Wrapper}
 use Rattle.std.specs.Io.KnownBytes.{Appends}
 use Rattle.std.specs.Option.{unwrap_or}
@@ -8,7 +8,7 @@ use Rattle.picky_der_core.specs.WriterFaults.{Faulted}
 use Rattle.picky_der_core.specs.declared.misc.writer.WriteExt.{Ghosts}
 use Rattle.picky_der_core.specs.declared.error.Asn1DerError.{Asn1DerError}
 use Rattle.picky_der_core.specs.declared.error.Asn1DerError.TheVariants.{UnsupportedValue, UnsupportedType, OutOfMemory}
-use Rattle.picky_der_core.specs.Tree.{Tree}
+use Rattle.picky_der_core.specs.Tree.{Tree, Trees}
 use Rattle.picky_der_core.specs.Encoding.{der}
 use Rattle.picky_der_core.specs.Readable.{IsWritable}
 use Rattle.picky_der_core.specs.Wrapper.{under, HasTagNumber}
@@ -126,6 +126,16 @@ module _ {W : Type 0} (g : Ghosts W) where
     pub same : new.sink ≡ old.sink
     pub again : IfSome old.failed (λ f. e ≡ f)
     pub first : IfNone old.failed (MemoryExcuse t e)
+
+  -- the trees were added as members, one after another
+  abbrev pub GainsRow : Trees → State W → State W → Type 0
+  GainsRow Trees.none old new = new ≡ old
+  GainsRow (Trees.more t ts) old new = (between : State W) × Gains t old between × GainsRow ts between new
+
+  -- it stopped with this error at one of the trees, and those before it were added
+  abbrev pub RejectsRow : Trees → State W → Asn1DerError → State W → Type 0
+  RejectsRow Trees.none old e new = ⊥
+  RejectsRow (Trees.more t ts) old e new = Rejects t old e new ⊎ ((between : State W) × Gains t old between × RejectsRow ts between e new)
 
   -- one that had failed answered that error again, and wrote nothing
   pub record AnswersAgain (old : W) (f : Asn1DerError) (r : Result ℕ Asn1DerError) (new : State W) : Type 0 where

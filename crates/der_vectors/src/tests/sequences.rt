@@ -5,7 +5,7 @@ use crate::tests::rows::{both_ways, reads, refuses, refuses_after, writes};
 use picky_asn1_der::Asn1DerError::{InvalidData, TruncatedData};
 use picky_asn1_der::asn1::{Asn1SequenceOf, ByteBuf, ObjectIdentifierAsn1, Tag};
 use picky_asn1_der::misc::WriteExt;
-use picky_asn1_der::{Deserializer, Serialize, Serializer, de, ser, to_vec};
+use picky_asn1_der::{Deserializer, Row, Serialize, Serializer, de, ser, to_vec};
 use std::alloc::Global;
 use std::test::Fail;
 
@@ -66,6 +66,16 @@ fn tuples_are_sequences(rt: HostRuntime) -> Result<(), Fail> {
     both_ways(&rt, (oid, ()), row)?;
     refuses::<(u8,)>(&rt, "30 06 02 01 07 02 01 08", InvalidData)?;
     refuses::<(u8,)>(&rt, "30 00", TruncatedData)
+}
+
+#[test]
+fn rows_are_sequences(rt: HostRuntime) -> Result<(), Fail> {
+    let row = "30 0D 02 01 05 01 01 FF 05 00 30 03 02 01 07";
+    both_ways(&rt, Row((5u8, (true, ((), ((7u8,), ()))))), row)?;
+    both_ways(&rt, Row(()), "30 00")?;
+    refuses::<Row<(u8, (u8, ()))>>(&rt, "30 03 02 01 07", TruncatedData)?;
+    refuses::<Row<(u8, ())>>(&rt, "30 06 02 01 07 02 01 08", InvalidData)?;
+    refuses::<Row<(u8, (bool, ()))>>(&rt, "30 06 02 01 07 02 01 08", InvalidData)
 }
 
 // A sequence that holds the number 7, four times.

@@ -1,12 +1,22 @@
-//! Tuples, as they are read.
+//! Tuples, as they are read: each as the row of its members.
 ghost use Rattle.picky_der_core.specs.Tree.{ListKind};
 ghost use Rattle.picky_der_core.specs.Shape.{Shape, Shapes};
 ghost use Rattle.picky_der_de.specs.KnownLaws.{row_known1, row_known2, row_known3, row_known4};
 
-use crate::{Deserialize, Deserializer, Sequence};
+use crate::{Alike, Deserialize, Deserializer, deserialize_as};
 use picky_der_core::Result;
-use picky_der_core::asn1::Tag;
 use picky_der_core::misc::ReadExt;
+use picky_der_ser::Row;
+
+impl<A: Deserialize> Alike for (A,) {
+    type As = Row<(A, ())>;
+
+    ghost parts = { λ t. record { 0 = (t.0, tt) } };
+
+    fn from_parts(Row((first, ())): Self::As) -> (A,) {
+        (first,)
+    }
+}
 
 impl<A: Deserialize> Deserialize for (A,) {
     ghost shape = { Shape.fields ListKind.sequence (Shapes.more A.shape Shapes.none) };
@@ -16,11 +26,17 @@ impl<A: Deserialize> Deserialize for (A,) {
     ghost sound = { (A.sound, tt) };
 
     fn deserialize<R: ReadExt>(de: &mut Deserializer<R>) -> Result<(A,)> {
-        let outer = de.open_list(Tag::SEQUENCE)?;
-        let mut members = Sequence::inside(de, outer);
-        let first = members.next_field::<A>()?;
-        members.end()?;
-        Ok((first,))
+        deserialize_as(de)
+    }
+}
+
+impl<A: Deserialize, B: Deserialize> Alike for (A, B) {
+    type As = Row<(A, (B, ()))>;
+
+    ghost parts = { λ t. record { 0 = (t.0, (t.1, tt)) } };
+
+    fn from_parts(Row((first, (second, ()))): Self::As) -> (A, B) {
+        (first, second)
     }
 }
 
@@ -32,12 +48,17 @@ impl<A: Deserialize, B: Deserialize> Deserialize for (A, B) {
     ghost sound = { (A.sound, (B.sound, tt)) };
 
     fn deserialize<R: ReadExt>(de: &mut Deserializer<R>) -> Result<(A, B)> {
-        let outer = de.open_list(Tag::SEQUENCE)?;
-        let mut members = Sequence::inside(de, outer);
-        let first = members.next_field::<A>()?;
-        let second = members.next_field::<B>()?;
-        members.end()?;
-        Ok((first, second))
+        deserialize_as(de)
+    }
+}
+
+impl<A: Deserialize, B: Deserialize, C: Deserialize> Alike for (A, B, C) {
+    type As = Row<(A, (B, (C, ())))>;
+
+    ghost parts = { λ t. record { 0 = (t.0, (t.1, (t.2, tt))) } };
+
+    fn from_parts(Row((first, (second, (third, ())))): Self::As) -> (A, B, C) {
+        (first, second, third)
     }
 }
 
@@ -49,13 +70,17 @@ impl<A: Deserialize, B: Deserialize, C: Deserialize> Deserialize for (A, B, C) {
     ghost sound = { (A.sound, (B.sound, (C.sound, tt))) };
 
     fn deserialize<R: ReadExt>(de: &mut Deserializer<R>) -> Result<(A, B, C)> {
-        let outer = de.open_list(Tag::SEQUENCE)?;
-        let mut members = Sequence::inside(de, outer);
-        let first = members.next_field::<A>()?;
-        let second = members.next_field::<B>()?;
-        let third = members.next_field::<C>()?;
-        members.end()?;
-        Ok((first, second, third))
+        deserialize_as(de)
+    }
+}
+
+impl<A: Deserialize, B: Deserialize, C: Deserialize, D: Deserialize> Alike for (A, B, C, D) {
+    type As = Row<(A, (B, (C, (D, ()))))>;
+
+    ghost parts = { λ t. record { 0 = (t.0, (t.1, (t.2, (t.3, tt)))) } };
+
+    fn from_parts(Row((first, (second, (third, (fourth, ()))))): Self::As) -> (A, B, C, D) {
+        (first, second, third, fourth)
     }
 }
 
@@ -67,13 +92,6 @@ impl<A: Deserialize, B: Deserialize, C: Deserialize, D: Deserialize> Deserialize
     ghost sound = { (A.sound, (B.sound, (C.sound, (D.sound, tt)))) };
 
     fn deserialize<R: ReadExt>(de: &mut Deserializer<R>) -> Result<(A, B, C, D)> {
-        let outer = de.open_list(Tag::SEQUENCE)?;
-        let mut members = Sequence::inside(de, outer);
-        let first = members.next_field::<A>()?;
-        let second = members.next_field::<B>()?;
-        let third = members.next_field::<C>()?;
-        let fourth = members.next_field::<D>()?;
-        members.end()?;
-        Ok((first, second, third, fourth))
+        deserialize_as(de)
     }
 }

@@ -1,0 +1,78 @@
+//! Sequences of members of any types, as they are read.
+ghost use Rattle.std.specs.Prelude.{◌≡◌, None, IfOk, IfErr};
+ghost use Rattle.std.proofs.Common.{refl};
+ghost use Rattle.picky_der_core.specs.Tree.{ListKind};
+ghost use Rattle.picky_der_core.specs.Shape.{Shape, Shapes, AreSound};
+ghost use Rattle.picky_der_de.specs.Members.{ReadsRow, RefusesRow};
+ghost use Rattle.picky_der_de.specs.KnownLaws.{AreKnownByTrees, both, row_members, first_member, other_members};
+
+use crate::{Deserialize, Deserializer, Sequence};
+use picky_der_core::Result;
+use picky_der_core::asn1::Tag;
+use picky_der_core::misc::ReadExt;
+use picky_der_ser::{Row, SerializeMembers};
+
+/// Members of a sequence that are read back: none, as `()`, or one and those behind it, as `(A, B)`.
+pub trait DeserializeMembers: SerializeMembers + PartialEq + Drop + Sized {
+    // A shape for each member.
+    ghost shapes: { Shapes };
+
+    /// Reads the members, from a sequence that hasn't failed and in which none is awaited directly under an implicit tag.
+    /// A missing one is refused as `next_field` refuses it, and what is left behind the last one isn't looked at.
+    fn deserialize_members<R: ReadExt>(sequence: &mut Sequence<'_, R>) -> Result<Self>
+        requires had_not_failed { sequence.old.de.now.failed ≡ None }
+        requires unpeeked { sequence.old.de.now.peeked ≡ None }
+        requires direct { sequence.old.de.now.direct ≡ None }
+        ensures same_reference { sequence.new.de.ghost_name ≡ sequence.old.de.ghost_name }
+        ensures outer { sequence.new.outer ≡ sequence.old.outer }
+        ensures ok { IfOk result (λ row. ReadsRow shapes sequence.old.de.now sequence.new.de.now (Self.members row)) }
+        ensures err { IfErr result (RefusesRow Self.members shapes sequence.old.de.now sequence.new.de.now) };
+
+    // Two rows of readable members with the same trees are equal.
+    ghost known_by_trees: { AreKnownByTrees Self.members shapes Self.eq };
+
+    // The choices in the shapes are told by their first byte.
+    ghost sound: { AreSound shapes };
+}
+
+impl DeserializeMembers for () {
+    ghost shapes = { Shapes.none };
+
+    fn deserialize_members<R: ReadExt>(_sequence: &mut Sequence<'_, R>) -> Result<()> {
+        Ok(())
+    }
+
+    ghost known_by_trees = { λ _ _ _ _ _ _. refl };
+
+    ghost sound = { tt };
+}
+
+impl<A: Deserialize, B: DeserializeMembers> DeserializeMembers for (A, B) {
+    ghost shapes = { Shapes.more A.shape B.shapes };
+
+    fn deserialize_members<R: ReadExt>(sequence: &mut Sequence<'_, R>) -> Result<(A, B)> {
+        let first = sequence.next_field::<A>()?;
+        let others = B::deserialize_members(sequence)?;
+        Ok((first, others))
+    }
+
+    ghost known_by_trees = { λ x y p q r e. both (A.known_by_tree x.0 y.0 p.0 q.0 r.0 (first_member e)) (B.known_by_trees x.1 y.1 p.1 q.1 r.1 (other_members e)) };
+
+    ghost sound = { (A.sound, B.sound) };
+}
+
+impl<M: DeserializeMembers> Deserialize for Row<M> {
+    ghost shape = { Shape.fields ListKind.sequence M.shapes };
+
+    ghost known_by_tree = { λ x y p q r e. M.known_by_trees x.0 y.0 p.1 q.1 r (row_members e) };
+
+    ghost sound = { M.sound };
+
+    fn deserialize<R: ReadExt>(de: &mut Deserializer<R>) -> Result<Row<M>> {
+        let outer = de.open_list(Tag::SEQUENCE)?;
+        let mut sequence = Sequence::inside(de, outer);
+        let members = M::deserialize_members(&mut sequence)?;
+        sequence.end()?;
+        Ok(Row(members))
+    }
+}

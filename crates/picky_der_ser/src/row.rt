@@ -1,0 +1,56 @@
+//! Sequences of members of any types.
+ghost use Rattle.std.specs.Prelude.{◌≡◌, IfNone, IsSome, IfErr, OnOk};
+ghost use Rattle.picky_der_core.specs.Tree.{ListKind, Tree, Trees};
+ghost use Rattle.picky_der_ser.specs.Calls.{GainsRow, RejectsRow};
+
+use crate::{Sequence, Serialize, Serializer};
+use picky_der_core::Result;
+use picky_der_core::asn1::Tag;
+use picky_der_core::misc::WriteExt;
+
+/// Members of a sequence: none, as `()`, or one and those behind it, as `(A, B)`.
+pub trait SerializeMembers {
+    // What the members mean, in their order.
+    ghost members: { Self → Trees };
+
+    /// Adds the members to the sequence, which is open unless the serializer has failed. They are refused as
+    /// `serialize_element` refuses one.
+    fn serialize_members<W: WriteExt>(&self, sequence: &mut Sequence<'_, W>) -> Result<()>
+        requires { IfNone sequence.old.ser.now.failed (IsSome sequence.old.ser.now.pending) }
+        ensures same_reference { sequence.new.ser.ghost_name ≡ sequence.old.ser.ghost_name }
+        ensures added { OnOk result (GainsRow W.WriteExt.own (members self.now) sequence.old.ser.now sequence.new.ser.now) }
+        ensures still_open { IfNone sequence.new.ser.now.failed (IsSome sequence.new.ser.now.pending) }
+        ensures err { IfErr result (λ e. RejectsRow W.WriteExt.own (members self.now) sequence.old.ser.now e sequence.new.ser.now) };
+}
+
+impl SerializeMembers for () {
+    ghost members = { λ _. Trees.none };
+
+    fn serialize_members<W: WriteExt>(&self, _sequence: &mut Sequence<'_, W>) -> Result<()> {
+        Ok(())
+    }
+}
+
+impl<A: Serialize, B: SerializeMembers> SerializeMembers for (A, B) {
+    ghost members = { λ row. Trees.more (A.meaning row.0) (B.members row.1) };
+
+    fn serialize_members<W: WriteExt>(&self, sequence: &mut Sequence<'_, W>) -> Result<()> {
+        sequence.serialize_element(&self.0)?;
+        self.1.serialize_members(sequence)
+    }
+}
+
+/// A sequence of members of any types: that of `a`, `b` and `c` is `Row((a, (b, (c, ()))))`. A struct of any length can
+/// be read as one.
+#[derive(Debug, Clone, Drop, PartialEq, Eq)]
+pub struct Row<M>(pub M);
+
+impl<M: SerializeMembers> Serialize for Row<M> {
+    ghost meaning = { λ row. Tree.list ListKind.sequence (M.members row.0) };
+
+    fn serialize<W: WriteExt>(&self, ser: &mut Serializer<W>) -> Result<usize> {
+        let mut sequence = Sequence::serialize_lazy(ser, Tag::SEQUENCE);
+        self.0.serialize_members(&mut sequence)?;
+        sequence.end()
+    }
+}
