@@ -6,17 +6,17 @@ pub mod application_tag;
 /// Reading.
 pub mod de {
     pub use picky_der_de::{
-        Alike, Boolean, Choice, DEFAULT_MAX_LEN, Deserialize, DeserializeMembers, Deserializer, Enclosure,
-        End, Null, Outer, Sequence, UInt, UnsignedInteger, Utf8String, deserialize_as, deserialize_choice,
-        from_bytes, from_reader, from_reader_with_max_len,
+        Alike, Boolean, Choice, DEFAULT_MAX_LEN, Deserialize, DeserializeMembers, Deserializer,
+        Enclosure, End, Null, Outer, Sequence, UInt, UnsignedInteger, Utf8String, deserialize_as,
+        deserialize_choice, from_bytes, from_reader, from_reader_with_max_len,
     };
 }
 
 /// Writing.
 pub mod ser {
     pub use picky_der_ser::{
-        Boolean, Header, Null, Row, Sequence, Serialize, SerializeMembers, Serializer, UInt, UnsignedInteger, Utf8String,
-        to_byte_buf, to_bytes, to_vec, to_writer,
+        Boolean, Header, Null, Row, Sequence, Serialize, SerializeMembers, Serializer, UInt,
+        UnsignedInteger, Utf8String, to_byte_buf, to_bytes, to_vec, to_writer,
     };
 }
 
