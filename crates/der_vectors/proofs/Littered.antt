@@ -21,7 +21,7 @@ one_is_writable : IsWritable (Tree.unsigned 1)
 one_is_writable = record { numbers = refl; fits = subst (λ bs. length bs < 2 ^ 64) (sym one) (omega arith) }
 
 -- the number 1 is refused for want of memory alone
-only_memory : (e : Asn1DerError) → MemoryExcuse (Tree.unsigned 1) e → e ≡ OutOfMemory
+only_memory : (e : Asn1DerError) → MemoryExcuse (IsWritable (Tree.unsigned 1)) e → e ≡ OutOfMemory
 only_memory e (no_room m) = m
 only_memory e (no_way m n) = absurd (n one_is_writable)
 
@@ -36,6 +36,6 @@ module _ {W : Type 0} (g : Ghosts W) where
   littered header t old mid lazy new n e h o r =
       let failed : lazy.failed ≡ None = ap (λ (s : State W). s.failed) o.opened ∙ h.not_failed in
       let sink : lazy.sink ≡ mid.sink = ap (λ (s : State W). s.sink) o.opened in
-      let excuse : MemoryExcuse (Tree.unsigned 1) e = subst (λ f. IfNone f (MemoryExcuse (Tree.unsigned 1) e)) failed r.first in
+      let excuse : MemoryExcuse (IsWritable (Tree.unsigned 1)) e = subst (λ f. IfNone f (MemoryExcuse (IsWritable (Tree.unsigned 1)) e)) failed r.first in
       let first : RefusedIn g old.inside (under old.around t) old.sink e new.sink = stopped old.inside mid.inside (under old.around t) old.sink mid.sink new.sink e h.adds (r.same ∙ sink) (only_memory e excuse) in
       record { failed = r.failed; again = rw h.had_not_failed tt; first = rw h.had_not_failed first }

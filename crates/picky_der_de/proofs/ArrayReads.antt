@@ -6,11 +6,10 @@ use Rattle.picky_der_core.specs.Readable.{AreReadable}
 use Rattle.picky_der_core.specs.Shape.{Shape, IsOf, AreOf, EachIs}
 use Rattle.picky_der_de.specs.State.{State}
 use Rattle.picky_der_de.specs.Steps.{Takes, IsJudged}
-use Rattle.picky_der_de.specs.Ends.{RefusesClose}
 use Rattle.picky_der_de.specs.Members.{ReadsMember, RefusesMember, bytes_of, StandBefore, ReadsRow, RefusesRow}
 use Rattle.picky_der_de.specs.ArrayLaws.{times}
 use Rattle.picky_der_de.proofs.Steps.{takes_none, takes_then, fails_after, judged_after}
-use Rattle.picky_der_de.proofs.Members.{bytes_of-none, takes_member, next_member, no_member, none_left}
+use Rattle.picky_der_de.proofs.Members.{bytes_of-none, takes_member, next_member, no_member}
 use Rattle.picky_der_de.proofs.ListReads.{bytes_of-push, each-push, readable-push}
 
 -- ---- refused
@@ -34,14 +33,6 @@ times_next {V} {meaning} {s} {b} {c} {d} {t} {e} n r h = record { fails = fails_
     none : IsJudged b d e → (vs : List V) → AreOf (times (suc n) s) (trees (map meaning vs)) → AreReadable (trees (map meaning vs)) → StandBefore b d e (bytes_of (trees (map meaning vs))) → ⊥
     none j [] of_shape readable w = of_shape
     none j (v ∷ vs) of_shape readable w = h.none (judged_after r.reads.takes j) vs of_shape.1 readable.1 (next_member (meaning v) (trees (map meaning vs)) readable.0 r h.fails w)
-
--- something is left behind the last member
-pub times_end : {V : Type 0} {meaning : V → Tree} (s : Shape) {c d : State} {e : Asn1DerError} → RefusesClose c d e → RefusesTimes meaning 0 s c d e
-times_end {V} {meaning} s {c} {d} {e} r = record { fails = r.fails; none = none }
-  where
-    none : IsJudged c d e → (vs : List V) → AreOf (times 0 s) (trees (map meaning vs)) → AreReadable (trees (map meaning vs)) → StandBefore c d e (bytes_of (trees (map meaning vs))) → ⊥
-    none j [] of_shape readable w = none_left (r.left j.had_not_failed).0 w
-    none j (v ∷ vs) of_shape readable w = of_shape
 
 -- ---- members so far
 
@@ -85,7 +76,3 @@ first_all meaning s n vs same h = record {
 -- the next member was refused
 pub first_refused : {V : Type 0} {meaning : V → Tree} {s : Shape} {a b d : State} {e : Asn1DerError} (n : ℕ) (vs : List V) → ReadsFirst meaning s a b vs → length vs < n → RefusesMember meaning s b d e → RefusesTimes meaning n s a d e
 first_refused {V} {meaning} {s} {a} {b} {d} {e} n vs h l r = subst (λ m. RefusesTimes meaning m s a d e) (omega arith) (h.refuses (suc (n - suc (length vs))) d e (times_refused (n - suc (length vs)) r))
-
--- something is left behind the last member
-pub first_left : {V : Type 0} {meaning : V → Tree} {s : Shape} {a b d : State} {e : Asn1DerError} (n : ℕ) (vs : List V) → ReadsFirst meaning s a b vs → length vs ≡ n → RefusesClose b d e → RefusesTimes meaning n s a d e
-first_left {V} {meaning} {s} {a} {b} {d} {e} n vs h same r = subst (λ m. RefusesTimes meaning m s a d e) (omega (arith, same)) (h.refuses 0 d e (times_end s r))

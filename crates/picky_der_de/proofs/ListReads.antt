@@ -10,9 +10,9 @@ use Rattle.picky_der_de.specs.State.{State}
 use Rattle.picky_der_de.specs.Steps.{Takes, Fails, IsJudged}
 use Rattle.picky_der_de.specs.Reading.{Reads, Refuses}
 use Rattle.picky_der_de.specs.Ends.{Outer, Closes, RefusesClose, OpensList, RefusesList}
-use Rattle.picky_der_de.specs.Members.{ReadsMember, RefusesMember, HasNoMore, bytes_of, StandBefore, ReadsAll, RefusesAll}
+use Rattle.picky_der_de.specs.Members.{ReadsMember, RefusesMember, HasNoMore, bytes_of, StandUpToEnd, ReadsAll, RefusesAll}
 use Rattle.picky_der_de.proofs.Steps.{takes_none, takes_then, fails_after, judged_after}
-use Rattle.picky_der_de.proofs.Members.{bytes_of-more, bytes_of-none, takes_member, member_ahead, next_member, no_member, none_left, list_refused, list_unopened, list_reads}
+use Rattle.picky_der_de.proofs.Members.{bytes_of-more, bytes_of-none, takes_member, member_ahead, next_up_to_end, no_member, none_left, list_refused, list_unopened, list_reads}
 
 -- ---- one member more behind others
 
@@ -38,17 +38,17 @@ readable-push meaning (w ∷ vs) v h p = (h.0, readable-push meaning vs v h.1 p)
 pub all_refused : {V : Type 0} {meaning : V → Tree} {s : Shape} {c d : State} {e : Asn1DerError} → RefusesMember meaning s c d e → (c.failed ≡ None → 0 < c.room) → RefusesAll meaning s c d e
 all_refused {V} {meaning} {s} {c} {d} {e} r ahead = record { fails = r.refuses.fails; none = none }
   where
-    none : IsJudged c d e → (vs : List V) → EachIs (IsOf s) (trees (map meaning vs)) → AreReadable (trees (map meaning vs)) → StandBefore c d e (bytes_of (trees (map meaning vs))) → ⊥
+    none : IsJudged c d e → (vs : List V) → EachIs (IsOf s) (trees (map meaning vs)) → AreReadable (trees (map meaning vs)) → StandUpToEnd c d e (bytes_of (trees (map meaning vs))) → ⊥
     none j [] of_shape readable w = none_left (ahead j.had_not_failed) w
-    none j (v ∷ vs) of_shape readable w = no_member v (trees (map meaning vs)) r j of_shape.0 readable.0 w
+    none j (v ∷ vs) of_shape readable w = no_member v (trees (map meaning vs)) r j of_shape.0 readable.0 w.stand
 
 -- a member was read, and those behind it were refused
 pub all_next : {V : Type 0} {meaning : V → Tree} {s : Shape} {b c d : State} {t : Tree} {e : Asn1DerError} → ReadsMember s b c t → RefusesAll meaning s c d e → RefusesAll meaning s b d e
 all_next {V} {meaning} {s} {b} {c} {d} {t} {e} r h = record { fails = fails_after r.reads.takes h.fails; none = none }
   where
-    none : IsJudged b d e → (vs : List V) → EachIs (IsOf s) (trees (map meaning vs)) → AreReadable (trees (map meaning vs)) → StandBefore b d e (bytes_of (trees (map meaning vs))) → ⊥
+    none : IsJudged b d e → (vs : List V) → EachIs (IsOf s) (trees (map meaning vs)) → AreReadable (trees (map meaning vs)) → StandUpToEnd b d e (bytes_of (trees (map meaning vs))) → ⊥
     none j [] of_shape readable w = none_left (member_ahead r) w
-    none j (v ∷ vs) of_shape readable w = h.none (judged_after r.reads.takes j) vs of_shape.1 readable.1 (next_member (meaning v) (trees (map meaning vs)) readable.0 r h.fails w)
+    none j (v ∷ vs) of_shape readable w = h.none (judged_after r.reads.takes j) vs of_shape.1 readable.1 (next_up_to_end (meaning v) (trees (map meaning vs)) readable.0 r h.fails w)
 
 -- memory was wanted
 pub all_for_memory : {V : Type 0} {meaning : V → Tree} {s : Shape} {c d : State} {e : Asn1DerError} → Fails c d e → e ≡ OutOfMemory → RefusesAll meaning s c d e

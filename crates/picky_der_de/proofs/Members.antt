@@ -13,7 +13,7 @@ use Rattle.picky_der_de.specs.State.{State}
 use Rattle.picky_der_de.specs.Steps.{Takes, Fails, IsJudged, place_in, place_of, drawn}
 use Rattle.picky_der_de.specs.Reading.{Concerns, now, ever, Reads, Refuses}
 use Rattle.picky_der_de.specs.Ends.{Outer, narrowed, Closes, OpensList, RefusesList}
-use Rattle.picky_der_de.specs.Members.{ReadsMember, RefusesMember, HasNoMore, bytes_of, StandBefore}
+use Rattle.picky_der_de.specs.Members.{ReadsMember, RefusesMember, HasNoMore, bytes_of, StandBefore, StandUpToEnd}
 use Rattle.picky_der_de.proofs.Steps.{fails_after, fails_again, judged_after}
 use Rattle.picky_der_de.proofs.Refusals.{behind, failed_grows, end_below}
 use Rattle.picky_der_de.proofs.PlainReads.{no_plain, begun, takes_plain, may_stand, first_of_header}
@@ -69,15 +69,21 @@ member_missing {meaning = meaning} {s = s} {a = a} {b = b} {c = c} {e = e} h d f
 
 -- ---- members one after another
 
--- a member was read: its bytes are those of the first that stands, and the others stand behind it
+-- a member was read: its bytes are those of the first that stands, and the bytes of the others are those behind it
+same_member : {s : Shape} {b c d : State} {e : Asn1DerError} {t : Tree} (u : Tree) (us : Trees) → IsReadable u → (r : ReadsMember s b c t) → (f : Fails c d e) → (w : StandBefore b d e (bytes_of (Trees.more u us)))
+    → (der u ≡ der t) × (bytes_of us ++ w.rest ≡ (behind (takes_member r) (failed_grows f) w.concerns).rest)
+same_member {t = t} u us readable r f w =
+    let v = behind (takes_member r) (failed_grows f) w.concerns in
+    let same : der u ++ (bytes_of us ++ w.rest) ≡ der t ++ v.rest =
+    sym (append_assoc (der u) (bytes_of us) w.rest) ∙ ap (λ x. x ++ w.rest) (sym (bytes_of-more u us)) ∙ sym w.begins ∙ v.begins in
+    same_encoding u t (bytes_of us ++ w.rest) v.rest readable r.reads.readable same
+
+-- the others stand behind it
 pub next_member : {s : Shape} {b c d : State} {e : Asn1DerError} {t : Tree} (u : Tree) (us : Trees) → IsReadable u → ReadsMember s b c t → Fails c d e → StandBefore b d e (bytes_of (Trees.more u us)) → StandBefore c d e (bytes_of us)
 next_member {b = b} {c = c} {d = d} {e = e} {t = t} u us readable r f w =
     let m = takes_member r in
     let v = behind m (failed_grows f) w.concerns in
-    let parts : bytes_of (Trees.more u us) ≡ der u ++ bytes_of us = bytes_of-more u us in
-    let same : der u ++ (bytes_of us ++ w.rest) ≡ der t ++ v.rest =
-    sym (append_assoc (der u) (bytes_of us) w.rest) ∙ ap (λ x. x ++ w.rest) (sym parts) ∙ sym w.begins ∙ v.begins in
-    let p = same_encoding u t (bytes_of us ++ w.rest) v.rest readable r.reads.readable same in
+    let p = same_member u us readable r f w in
     let soft : c.end ≡ Soft = m.end ∙ w.soft in
     let left : v.left ≡ c.room = concerns_room soft v.concerns in
     record {
@@ -86,7 +92,15 @@ next_member {b = b} {c = c} {d = d} {e = e} {t = t} u us readable r f w =
       concerns = subst (λ n. Concerns c d e n v.rest) left v.concerns;
       rest = w.rest;
       begins = sym p.1;
-      fills = omega (arith, w.fills, ap length parts, length-append (der u) (bytes_of us), ap length p.0, m.room);
+      within = omega (arith, w.within, ap length (bytes_of-more u us), length-append (der u) (bytes_of us), ap length p.0, m.room);
+    }
+
+pub next_up_to_end : {s : Shape} {b c d : State} {e : Asn1DerError} {t : Tree} (u : Tree) (us : Trees) → IsReadable u → ReadsMember s b c t → Fails c d e → StandUpToEnd b d e (bytes_of (Trees.more u us)) → StandUpToEnd c d e (bytes_of us)
+next_up_to_end u us readable r f w =
+    let p = same_member u us readable r f w.stand in
+    record {
+      stand = next_member u us readable r f w.stand;
+      fills = omega (arith, w.fills, ap length (bytes_of-more u us), length-append (der u) (bytes_of us), ap length p.0, (takes_member r).room);
     }
 
 -- the next member was refused, so no value of its type stands there
@@ -97,38 +111,36 @@ no_member {meaning = meaning} {s = s} {c = c} v us r j of_shape readable w =
       of_shape = of_shape;
       readable = readable;
       may_stand = tt;
-      within = omega (arith, w.fills, ap length parts, length-append (der (meaning v)) (bytes_of us));
+      within = omega (arith, w.within, ap length parts, length-append (der (meaning v)) (bytes_of us));
       front = record { rest = bytes_of us ++ w.rest; is = w.begins ∙ ap (λ x. x ++ w.rest) parts ∙ append_assoc (der (meaning v)) (bytes_of us) w.rest };
     } in
     r.refuses.none j c.room w.seen w.concerns v (subst (λ x. StandsAt (place_in x c.room) s w.seen c.room (meaning v)) (sym (r.direct j.had_not_failed)) stands)
 
 -- something is left, so no member is missing
-pub none_left : {c d : State} {e : Asn1DerError} → 0 < c.room → StandBefore c d e (bytes_of Trees.none) → ⊥
+pub none_left : {c d : State} {e : Asn1DerError} → 0 < c.room → StandUpToEnd c d e (bytes_of Trees.none) → ⊥
 none_left l w = omega (arith, w.fills, ap length bytes_of-none)
-
--- nothing is left for a member
-pub some_left : {c d : State} {e : Asn1DerError} (u : Tree) (us : Trees) → IsReadable u → c.room ≡ 0 → StandBefore c d e (bytes_of (Trees.more u us)) → ⊥
-some_left u us readable r w = omega (arith, w.fills, ap length (bytes_of-more u us), length-append (der u) (bytes_of us), length-der u readable)
 
 -- ---- whole lists
 
 -- the members of a list that stands, before the list's end
-members_stand : (kind : ListKind) (s : Shape) {a b c : State} {outer : Outer} {e : Asn1DerError} {end : ℕ} {bs : List ℕ} (ts : Trees) → OpensList (list_tag kind) a b outer → Fails b c e → Concerns a c e end bs → StandsAt (place_of a) s bs end (Tree.list kind ts) → StandBefore b c e (bytes_of ts)
+members_stand : (kind : ListKind) (s : Shape) {a b c : State} {outer : Outer} {e : Asn1DerError} {end : ℕ} {bs : List ℕ} (ts : Trees) → OpensList (list_tag kind) a b outer → Fails b c e → Concerns a c e end bs → StandsAt (place_of a) s bs end (Tree.list kind ts) → StandUpToEnd b c e (bytes_of ts)
 members_stand kind s {b = b} {c = c} {e = e} ts h f w st =
     let grows : h.mid.taken ≤ drawn c = omega (arith, failed_grows f, ap (λ (z : State). z.taken) h.opened) in
     let o = begun h.begins grows refl refl w st in
-    subst (λ z. StandBefore z c e (bytes_of ts)) (sym h.opened) (record {
+    let size : length (bytes_of ts) ≡ (narrowed h.mid h.len Soft).room = sym (ap length (bytes_of-content kind ts)) ∙ o.size in
+    let stand : StandBefore (narrowed h.mid h.len Soft) c e (bytes_of ts) = record {
       soft = refl;
       seen = o.seen;
       concerns = narrowed_concerns o.concerns;
       rest = o.rest;
       begins = o.begins ∙ ap (λ x. x ++ o.rest) (bytes_of-content kind ts);
-      fills = sym (ap length (bytes_of-content kind ts)) ∙ o.size;
-    })
+      within = omega (arith, size);
+    } in
+    subst (λ z. StandUpToEnd z c e (bytes_of ts)) (sym h.opened) (record { stand = stand; fills = size })
 
 -- a list whose header was taken, and whose members can't stand there
 pub list_refused : {V : Type 0} (kind : ListKind) (members : V → Trees) (s : Shape) → IsFirst s (list_tag kind) → {a b c : State} {outer : Outer} {e : Asn1DerError} → OpensList (list_tag kind) a b outer → Fails b c e
-    → (IsJudged b c e → (v : V) → IsOf s (Tree.list kind (members v)) → AreReadable (members v) → StandBefore b c e (bytes_of (members v)) → ⊥) → Refuses (λ v. Tree.list kind (members v)) s a c e
+    → (IsJudged b c e → (v : V) → IsOf s (Tree.list kind (members v)) → AreReadable (members v) → StandUpToEnd b c e (bytes_of (members v)) → ⊥) → Refuses (λ v. Tree.list kind (members v)) s a c e
 list_refused kind members s first {a} {b} {c} {outer} {e} h f none =
     let before : Fails (narrowed h.mid h.len Soft) c e = subst (λ z. Fails z c e) h.opened f in
     let fails : Fails h.mid c e = widened_fails h.begins.fits before in

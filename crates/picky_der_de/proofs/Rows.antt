@@ -27,7 +27,7 @@ row_unopened {members = members} {ss = ss} {kind = kind} h = list_unopened kind 
 
 -- the members were refused
 pub row_refused : {V : Type 0} {members : V → Trees} {ss : Shapes} {kind : ListKind} {a b c : State} {outer : Outer} {e : Asn1DerError} → OpensList (list_tag kind) a b outer → RefusesRow members ss b c e → Refuses (λ v. Tree.list kind (members v)) (Shape.fields kind ss) a c e
-row_refused {members = members} {ss = ss} {kind = kind} h r = list_refused kind members (Shape.fields kind ss) (row_first kind ss) h r.fails (λ j v of_shape readable w. r.none j v of_shape.1 readable w)
+row_refused {members = members} {ss = ss} {kind = kind} h r = list_refused kind members (Shape.fields kind ss) (row_first kind ss) h r.fails (λ j v of_shape readable w. r.none j v of_shape.1 readable w.stand)
 
 -- the next member was refused
 pub row_head : {V W : Type 0} {meaning : W → Tree} {others : V → Trees} {s : Shape} {ss : Shapes} {c d : State} {e : Asn1DerError} (part : V → W) → RefusesMember meaning s c d e → RefusesRow (λ v. Trees.more (meaning (part v)) (others v)) (Shapes.more s ss) c d e
@@ -58,14 +58,12 @@ same_rows (Shapes.more s ss) (Trees.more u us) (Trees.more t ts) x y p q r z e =
     bytes_of-more u us ∙ ap (λ bs. bs ++ bytes_of us) first.0 ∙ ap (λ bs. der t ++ bs) others ∙ sym (bytes_of-more t ts)
 
 -- something is left behind a row that was read
-pub row_over : {V : Type 0} {members : V → Trees} {ss : Shapes} {b c d : State} {ts : Trees} {e : Asn1DerError} → ReadsRow ss b c ts → RefusesClose c d e → RefusesRow members ss b d e
-row_over {members = members} {ss = ss} {ts = ts} r h = record {
-  fails = fails_after r.takes h.fails;
-  none = λ j v of_shape readable w.
-      let u = behind r.takes (failed_grows h.fails) w.concerns in
-      let same = same_rows ss (members v) ts w.rest u.rest of_shape r.of_shape readable r.readable (sym w.begins ∙ u.begins) in
-      omega (arith, w.fills, r.takes.room, (h.left r.takes.not_failed).0, ap length same);
-}
+pub row_left : {V : Type 0} {members : V → Trees} {ss : Shapes} {kind : ListKind} {a b c d : State} {outer : Outer} {ts : Trees} {e : Asn1DerError} → OpensList (list_tag kind) a b outer → ReadsRow ss b c ts → RefusesClose c d e
+    → Refuses (λ v. Tree.list kind (members v)) (Shape.fields kind ss) a d e
+row_left {members = members} {ss = ss} {kind = kind} {ts = ts} o r h = list_refused kind members (Shape.fields kind ss) (row_first kind ss) o (fails_after r.takes h.fails) (λ j v of_shape readable w.
+    let u = behind r.takes (failed_grows h.fails) w.stand.concerns in
+    let same = same_rows ss (members v) ts w.stand.rest u.rest of_shape.1 r.of_shape readable r.readable (sym w.stand.begins ∙ u.begins) in
+    omega (arith, w.fills, r.takes.room, (h.left r.takes.not_failed).0, ap length same))
 
 -- the row is a part of the value
 pub row_through : {V W : Type 0} {members : W → Trees} {ss : Shapes} {c d : State} {e : Asn1DerError} (part : V → W) → RefusesRow members ss c d e → RefusesRow (λ v. members (part v)) ss c d e

@@ -1,5 +1,5 @@
 -- What reading the members of a sequence or set does.
-use Rattle.std.specs.Prelude.{◌≡◌, ℕ, List, ◌++◌, length, map, None}
+use Rattle.std.specs.Prelude.{◌≡◌, ◌≤◌, ℕ, List, ◌++◌, length, map, None}
 use Rattle.std.specs.List.{concat}
 use Rattle.picky_der_core.specs.declared.error.Asn1DerError.{Asn1DerError}
 use Rattle.picky_der_core.specs.Tree.{Tree, Trees, trees}
@@ -35,13 +35,18 @@ pub record HasNoMore (old new : State) : Type 0 where
 abbrev pub bytes_of : Trees → List ℕ
 bytes_of ts = concat (encodings ts)
 
--- bytes of which a refusal speaks begin with these, which fill what is left before the end
+-- bytes of which a refusal speaks begin with these, which don't reach past the end
 pub record StandBefore (old new : State) (e : Asn1DerError) (bytes : List ℕ) : Type 0 where
   pub soft : old.end ≡ Soft
   pub seen : List ℕ
   pub concerns : Concerns old new e old.room seen
   pub rest : List ℕ
   pub begins : seen ≡ bytes ++ rest
+  pub within : length bytes ≤ old.room
+
+-- they reach up to the end
+pub record StandUpToEnd (old new : State) (e : Asn1DerError) (bytes : List ℕ) : Type 0 where
+  pub stand : StandBefore old new e bytes
   pub fills : length bytes ≡ old.room
 
 -- these members were read, one for each shape
@@ -51,7 +56,7 @@ pub record ReadsRow (ss : Shapes) (old new : State) (ts : Trees) : Type 0 where
   pub takes : Takes old new (bytes_of ts)
   pub direct : new.direct ≡ None
 
--- no values stand there as members that fill what is left
+-- no values stand there as members, whatever is behind them
 pub record RefusesRow {V : Type 0} (members : V → Trees) (ss : Shapes) (old new : State) (e : Asn1DerError) : Type 0 where
   pub fails : Fails old new e
   pub none : IsJudged old new e → (v : V) → AreOf ss (members v) → AreReadable (members v) → StandBefore old new e (bytes_of (members v)) → ⊥
@@ -64,7 +69,7 @@ pub record ReadsAll {V : Type 0} (meaning : V → Tree) (s : Shape) (old new : S
   pub direct : new.direct ≡ None
   pub reached : new.room ≡ 0
 
--- no values stand there as members, as many as there may be, that fill what is left
+-- no values stand there as members up to the end, as many as there may be
 pub record RefusesAll {V : Type 0} (meaning : V → Tree) (s : Shape) (old new : State) (e : Asn1DerError) : Type 0 where
   pub fails : Fails old new e
-  pub none : IsJudged old new e → (vs : List V) → EachIs (IsOf s) (trees (map meaning vs)) → AreReadable (trees (map meaning vs)) → StandBefore old new e (bytes_of (trees (map meaning vs))) → ⊥
+  pub none : IsJudged old new e → (vs : List V) → EachIs (IsOf s) (trees (map meaning vs)) → AreReadable (trees (map meaning vs)) → StandUpToEnd old new e (bytes_of (trees (map meaning vs))) → ⊥

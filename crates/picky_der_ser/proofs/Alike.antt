@@ -13,9 +13,10 @@ use Rattle.picky_der_ser.specs.Calls.{Adds, Excuse, no_memory, unwritable, no_si
 pub writable-alike : (t u : Tree) → AreAlike t u → IsWritable t → IsWritable u
 writable-alike t u a h = record { numbers = subst IsTrue a.numbers_same h.numbers; fits = subst (λ l. length l < 2 ^ 64) (der-alike t u a) h.fits }
 
-memory_excuse-alike : (t u : Tree) (e : Asn1DerError) → AreAlike t u → MemoryExcuse t e → MemoryExcuse u e
-memory_excuse-alike t u e a (no_room m) = no_room m
-memory_excuse-alike t u e a (no_way m n) = no_way m (λ h. n (writable-alike u t (alike-sym t u a) h))
+-- what stops a part stops the whole
+pub excuse_of_part : {Part Whole : Type 0} {e : Asn1DerError} → (Whole → Part) → MemoryExcuse Part e → MemoryExcuse Whole e
+excuse_of_part part (no_room m) = no_room m
+excuse_of_part part (no_way m n) = no_way m (λ h. n (part h))
 
 module _ {W : Type 0} (g : Ghosts W) where
   excuse-alike : (t u : Tree) (rest : List ℕ) (old new : W) (e : Asn1DerError) → AreAlike t u → Excuse g t rest old e new → Excuse g u rest old e new
@@ -33,7 +34,7 @@ module _ {W : Type 0} (g : Ghosts W) where
 
   refused_in-alike : (ls : List Level) (t u : Tree) (old new : W) (e : Asn1DerError) → AreAlike t u → RefusedIn g ls t old e new → RefusedIn g ls u old e new
   refused_in-alike [] t u old new e a h = refused-alike t u old new e a h
-  refused_in-alike (l ∷ ls) t u old new e a h = (memory_excuse-alike t u e a h.0, h.1)
+  refused_in-alike (l ∷ ls) t u old new e a h = (excuse_of_part (writable-alike u t (alike-sym t u a)) h.0, h.1)
 
   refused_first-alike : (f : Option Asn1DerError) (ls : List Level) (t u : Tree) (old new : W) (e : Asn1DerError) → AreAlike t u → IfNone f (RefusedIn g ls t old e new) → IfNone f (RefusedIn g ls u old e new)
   refused_first-alike None ls t u old new e a h = refused_in-alike ls t u old new e a h

@@ -80,7 +80,7 @@ module _ {W : Type 0} (g : Ghosts W) (n : ℕ) (t : Tree) (old now : State W) (o
   pub application_refused : (new : State W) (d e : Asn1DerError) → Rejects g t now e new → d ≡ e → Fails g (Tree.application n t) old d new
   application_refused new d e h i =
       let sink : new.sink ≡ old.sink = h.same ∙ ap (λ (s : State W). s.sink) o.opened in
-      rw i (refused_part g t (Tree.application n t) old new e (part_writable old.around n t) h.failed sink (subst (λ f. IfSome f (λ k. e ≡ k)) failed_at h.again) (subst (λ f. IfNone f (MemoryExcuse t e)) failed_at h.first))
+      rw i (refused_part g (Tree.application n t) old new e (part_writable old.around n t) h.failed sink (subst (λ f. IfSome f (λ k. e ≡ k)) failed_at h.again) (subst (λ f. IfNone f (MemoryExcuse (IsWritable t) e)) failed_at h.first))
 
 module _ {W : Type 0} (g : Ghosts W) where
   -- a tag number past 30

@@ -14,6 +14,7 @@ use Rattle.picky_der_core.specs.declared.error.Asn1DerError.TheVariants.{Unsuppo
 use Rattle.picky_der_core.specs.Writer.{AppendsBeginning}
 use Rattle.picky_der_core.specs.Tree.{Tree}
 use Rattle.picky_der_core.specs.Encoding.{der}
+use Rattle.picky_der_core.specs.Readable.{IsWritable}
 use Rattle.picky_der_core.specs.Wrapper.{under}
 use Rattle.picky_der_core.specs.Sink.{vector_of, place_of}
 use Rattle.picky_der_core.specs.SliceSink.{slice_of, filled_of, written_of, faults_of, IsLater}
@@ -61,7 +62,7 @@ over j front old new e h f =
     sym (take-append-drop j new) ∙ ap (λ l. l ++ drop j new) e ∙ ap (λ l. front ++ l) f ∙ ap (λ k. front ++ drop k old) (sym n)
 
 module _ (g : Ghosts BufSink) (told : (s : BufSink) → g.told s ≡ Some (take (place_of s) (vector_of s).now.items)) (only : (k : ErrorKind) → g.answers k → k ≡ kind.OutOfMemory) where
-  vec_excuse : (t : Tree) (old new : BufSink) (e : Asn1DerError) (rest : List ℕ) → Excuse g t rest old e new → MemoryExcuse t e
+  vec_excuse : (t : Tree) (old new : BufSink) (e : Asn1DerError) (rest : List ℕ) → Excuse g t rest old e new → MemoryExcuse (IsWritable t) e
   vec_excuse t old new e rest (no_memory m) = no_room m
   vec_excuse t old new e rest (unwritable m n s) = no_way m n
   vec_excuse t old new e rest (no_sink h some f) = no_room (f.is ∙ ap kind_of (only f.kind f.answered) ∙ memory_kind)

@@ -15,4 +15,5 @@ pub mod Members
 pub mod Items
 pub mod ApplicationWrites
 pub mod Rows
+mod RowWrites
 pub mod Choices

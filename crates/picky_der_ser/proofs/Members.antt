@@ -1,6 +1,6 @@
 -- A list that is being written: the members that it has, and those that it still awaits.
 use Rattle.std.proofs.Common.{◌≡◌, ℕ, List, [], ◌∷◌, ◌++◌, map, Option, None, Some, refl, sym, ap, ◌∙◌, subst, inl, inr, Result, Ok, Err, IfOk, IfErr}
-use Rattle.std.specs.Prelude.{IfSome, IfNone, OnOk, IsTrue}
+use Rattle.std.specs.Prelude.{IfSome, IfNone, IsTrue}
 use Rattle.picky_der_core.specs.declared.misc.writer.WriteExt.{Ghosts}
 use Rattle.picky_der_core.specs.declared.error.Asn1DerError.{Asn1DerError}
 use Rattle.picky_der_core.specs.Tree.{ListKind, Tree, Trees, trees}
@@ -11,7 +11,7 @@ use Rattle.picky_der_core.specs.WrapperLaws.{AreAlike}
 use Rattle.picky_der_ser.specs.declared.header.Header.TheVariants.{Tagged}
 use Rattle.picky_der_ser.specs.State.{State, Level, with_member}
 use Rattle.picky_der_ser.specs.Sequences.{IsListTag, kind_of}
-use Rattle.picky_der_ser.specs.Calls.{MemoryExcuse, no_room, no_way, RefusedIn, Writes, Fails, Opens, Gains, Rejects, GainsRow, RejectsRow, Ends, Finishes}
+use Rattle.picky_der_ser.specs.Calls.{MemoryExcuse, no_room, no_way, RefusedIn, Writes, Fails, Opens, StopsBefore, Gains, Rejects, Ends, Finishes}
 use Rattle.picky_der_ser.proofs.Alike.{writes-alike, fails-alike}
 use Rattle.picky_der_ser.proofs.PlainWrites.{refused_unwritable}
 use Rattle.picky_der_ser.proofs.StateWrites.{refused_memory}
@@ -22,15 +22,15 @@ module _ {W : Type 0} where
   abbrev pub level_with : ListKind → List Tree → State W → Level
   level_with kind ts old = record { header = Tagged (list_tag kind); around = old.around; content = list_content kind (map der ts) }
 
-  abbrev pub with_members : ListKind → List Tree → State W → State W
-  with_members kind ts old = record { sink = old.sink; around = []; failed = old.failed; inside = old.inside; pending = Some (level_with kind ts old) }
+  abbrev pub opened_with : ListKind → List Tree → State W → State W
+  opened_with kind ts old = record { sink = old.sink; around = []; failed = old.failed; inside = old.inside; pending = Some (level_with kind ts old) }
 
   -- it was opened on `old`, will have all these members, and has all but the rest
   pub record Awaits (kind : ListKind) (rest all : Trees) (old now : State W) : Type 0 where
     pub done : List Tree
     pub split : all ≡ before done rest
     pub numbers : IsTrue (have_tag_numbers (trees done))
-    pub is : now ≡ with_members kind done old
+    pub is : now ≡ opened_with kind done old
 
 module _ {W : Type 0} (g : Ghosts W) where
   pub list_opened : (kind : ListKind) (all : Trees) (old now : State W) → Opens g (Tagged (list_tag kind)) old now → Awaits kind all all old now
@@ -55,58 +55,35 @@ module _ {W : Type 0} (g : Ghosts W) where
 
   -- ---- errors
 
-  excused : (ls : List Level) (t u : Tree) (sink : W) (e : Asn1DerError) → MemoryExcuse t e → (IsWritable u → IsWritable t) → RefusedIn g ls u sink e sink
-  excused ls t u sink e (no_room m) part = rw m (refused_memory g ls u sink)
-  excused ls t u sink e (no_way m n) part = rw m (refused_unwritable g ls u sink (λ w. n (part w)))
+  excused : {Part : Type 0} (ls : List Level) (u : Tree) (sink : W) (e : Asn1DerError) → MemoryExcuse Part e → (IsWritable u → Part) → RefusedIn g ls u sink e sink
+  excused ls u sink e (no_room m) part = rw m (refused_memory g ls u sink)
+  excused ls u sink e (no_way m n) part = rw m (refused_unwritable g ls u sink (λ w. n (part w)))
 
   -- nothing was written, for want of memory or a part that can't be written
-  pub refused_part : (t u : Tree) (old new : State W) (e : Asn1DerError) → (IsWritable (under old.around u) → IsWritable t) → new.failed ≡ Some e → new.sink ≡ old.sink
-      → IfSome old.failed (λ f. e ≡ f) → IfNone old.failed (MemoryExcuse t e) → Fails g u old e new
-  refused_part t u old new e part failed same again first = record { failed = failed; again = earlier old.failed again; first = own old.failed first }
+  pub refused_part : {Part : Type 0} (u : Tree) (old new : State W) (e : Asn1DerError) → (IsWritable (under old.around u) → Part) → new.failed ≡ Some e → new.sink ≡ old.sink
+      → IfSome old.failed (λ f. e ≡ f) → IfNone old.failed (MemoryExcuse Part e) → Fails g u old e new
+  refused_part {Part} u old new e part failed same again first = record { failed = failed; again = earlier old.failed again; first = own old.failed first }
     where
       earlier : (o : Option Asn1DerError) → IfSome o (λ f. e ≡ f) → IfSome o (λ f. (e ≡ f) × (new.sink ≡ old.sink))
       earlier None h = tt
       earlier (Some f) h = (h, same)
 
-      own : (o : Option Asn1DerError) → IfNone o (MemoryExcuse t e) → IfNone o (RefusedIn g old.inside (under old.around u) old.sink e new.sink)
-      own None h = rw same (excused old.inside t (under old.around u) old.sink e h part)
+      own : (o : Option Asn1DerError) → IfNone o (MemoryExcuse Part e) → IfNone o (RefusedIn g old.inside (under old.around u) old.sink e new.sink)
+      own None h = rw same (excused old.inside (under old.around u) old.sink e h part)
       own (Some f) h = tt
 
-  -- a member was refused, so the list is
-  pub list_refused : (kind : ListKind) (rest all : Trees) (t : Tree) (old now new : State W) (d e : Asn1DerError) → Rejects g t now e new → d ≡ e → Awaits kind (Trees.more t rest) all old now → Fails g (Tree.list kind all) old d new
-  list_refused kind rest all t old now new d e h i a =
+  -- a part was refused that can be written if the list can, so the list is
+  pub list_stopped : {Part : Type 0} (kind : ListKind) (rest all : Trees) (old now new : State W) (d e : Asn1DerError) → ((a : Awaits kind rest all old now) → IsWritable (under old.around (Tree.list kind (before a.done rest))) → Part)
+      → StopsBefore g Part now e new → d ≡ e → Awaits kind rest all old now → Fails g (Tree.list kind all) old d new
+  list_stopped {Part} kind rest all old now new d e of_all h i a =
       let sink : new.sink ≡ old.sink = h.same ∙ ap (λ (s : State W). s.sink) a.is in
       let failed : now.failed ≡ old.failed = ap (λ (s : State W). s.failed) a.is in
-      let part : IsWritable (under old.around (Tree.list kind all)) → IsWritable t = λ w. member_writable old.around kind a.done t rest (subst (λ us. IsWritable (under old.around (Tree.list kind us))) a.split w) in
-      rw i (refused_part t (Tree.list kind all) old new e part h.failed sink (subst (λ o. IfSome o (λ f. e ≡ f)) failed h.again) (subst (λ o. IfNone o (MemoryExcuse t e)) failed h.first))
+      let part : IsWritable (under old.around (Tree.list kind all)) → Part = λ w. of_all a (subst (λ us. IsWritable (under old.around (Tree.list kind us))) a.split w) in
+      rw i (refused_part (Tree.list kind all) old new e part h.failed sink (subst (λ o. IfSome o (λ f. e ≡ f)) failed h.again) (subst (λ o. IfNone o (MemoryExcuse Part e)) failed h.first))
 
-  -- ---- rows
-
-  -- the members of a row were added
-  pub row_gained : (kind : ListKind) (ts all : Trees) (old now new : State W) → GainsRow g ts now new → Awaits kind ts all old now → Awaits kind Trees.none all old new
-  row_gained kind Trees.none all old now new h a = subst (λ s. Awaits kind Trees.none all old s) (sym h) a
-  row_gained kind (Trees.more t ts) all old now new h a = row_gained kind ts all old h.0 new h.2 (list_gained kind ts all t old now h.0 h.1 a)
-
-  -- one of them was refused, so the list is
-  pub row_rejected : (kind : ListKind) (ts all : Trees) (old now new : State W) (d e : Asn1DerError) → RejectsRow g ts now e new → d ≡ e → Awaits kind ts all old now → Fails g (Tree.list kind all) old d new
-  row_rejected kind Trees.none all old now new d e h i a = absurd h
-  row_rejected kind (Trees.more t ts) all old now new d e (inl h) i a = list_refused kind ts all t old now new d e h i a
-  row_rejected kind (Trees.more t ts) all old now new d e (inr h) i a = row_rejected kind ts all old h.0 new d e h.2 i (list_gained kind ts all t old now h.0 h.1 a)
-
-  -- up to there nothing reached the sink
-  pub row_untouched : (kind : ListKind) (ts all : Trees) (old now new : State W) (e : Asn1DerError) → RejectsRow g ts now e new → Awaits kind ts all old now → new.sink ≡ old.sink
-  row_untouched kind Trees.none all old now new e h a = absurd h
-  row_untouched kind (Trees.more t ts) all old now new e (inl h) a = h.same ∙ ap (λ (s : State W). s.sink) a.is
-  row_untouched kind (Trees.more t ts) all old now new e (inr h) a = row_untouched kind ts all old h.0 new e h.2 (list_gained kind ts all t old now h.0 h.1 a)
-
-  -- those behind a member were added, or one of them was refused
-  pub row_goes_on : {T : Type 0} (r : Result T Asn1DerError) (ts : Trees) (new : State W) {t : Tree} {old between : State W} → Gains g t old between → OnOk r (GainsRow g ts between new) → OnOk r (GainsRow g (Trees.more t ts) old new)
-  row_goes_on (Ok v) ts new {between = between} a h = (between, a, h)
-  row_goes_on (Err e) ts new a h = tt
-
-  pub row_stops : {T : Type 0} (r : Result T Asn1DerError) (ts : Trees) (new : State W) {t : Tree} {old between : State W} → Gains g t old between → IfErr r (λ e. RejectsRow g ts between e new) → IfErr r (λ e. RejectsRow g (Trees.more t ts) old e new)
-  row_stops (Ok v) ts new a h = tt
-  row_stops (Err e) ts new {between = between} a h = inr (between, a, h)
+  -- a member was refused
+  pub list_refused : (kind : ListKind) (rest all : Trees) (t : Tree) (old now new : State W) (d e : Asn1DerError) → Rejects g t now e new → d ≡ e → Awaits kind (Trees.more t rest) all old now → Fails g (Tree.list kind all) old d new
+  list_refused kind rest all t old now new d e = list_stopped kind (Trees.more t rest) all old now new d e (λ a. member_writable old.around kind a.done t rest)
 
   -- ---- the end
 

@@ -1,5 +1,5 @@
 -- What the calls of a serializer do.
-use Rattle.std.specs.Prelude.{◌≡◌, ◌⊎◌, ℕ, List, [], ◌∷◌, length, None, Some, IfSome, IfNone, Result, Err, IfOk, IfErr, ◌<◌, ◌≤◌}
+use Rattle.std.specs.Prelude.{◌≡◌, ℕ, List, [], ◌∷◌, length, None, Some, IfSome, IfNone, Result, Err, IfOk, IfErr, ⊤, ◌<◌, ◌≤◌}
 use Rattle.picky_der_core.specs.declared.asn1.wrapper.Wrapper.{Wrapper}
 use Rattle.std.specs.Io.KnownBytes.{Appends}
 use Rattle.std.specs.Option.{unwrap_or}
@@ -9,17 +9,22 @@ use Rattle.picky_der_core.specs.declared.misc.writer.WriteExt.{Ghosts}
 use Rattle.picky_der_core.specs.declared.error.Asn1DerError.{Asn1DerError}
 use Rattle.picky_der_core.specs.declared.error.Asn1DerError.TheVariants.{UnsupportedValue, UnsupportedType, OutOfMemory}
 use Rattle.picky_der_core.specs.Tree.{Tree, Trees}
-use Rattle.picky_der_core.specs.Encoding.{der}
+use Rattle.picky_der_core.specs.Encoding.{encodings, der}
 use Rattle.picky_der_core.specs.Readable.{IsWritable}
 use Rattle.picky_der_core.specs.Wrapper.{under, HasTagNumber}
 use Rattle.picky_der_ser.specs.declared.header.Header.{Header}
 use Rattle.picky_der_ser.specs.Heading.{tree_of}
-use Rattle.picky_der_ser.specs.State.{State, Level, with_bytes, with_member}
+use Rattle.picky_der_ser.specs.State.{State, Level, with_bytes, with_member, with_members}
 
--- why a tree isn't written into memory
-pub data MemoryExcuse (t : Tree) (e : Asn1DerError) : Type 0 where
-  no_room : e ≡ OutOfMemory → MemoryExcuse t e
-  no_way : e ≡ UnsupportedValue → ¬ IsWritable t → MemoryExcuse t e
+-- each of the trees can be written
+abbrev pub AreWritable : Trees → Type 0
+AreWritable Trees.none = ⊤
+AreWritable (Trees.more t ts) = IsWritable t × AreWritable ts
+
+-- why what can be written if `Possible` isn't written into memory
+pub data MemoryExcuse (Possible : Type 0) (e : Asn1DerError) : Type 0 where
+  no_room : e ≡ OutOfMemory → MemoryExcuse Possible e
+  no_way : e ≡ UnsupportedValue → ¬ Possible → MemoryExcuse Possible e
 
 -- the call refuses what isn't supported, whatever the value, and nothing but that becomes of the serializer
 abbrev pub IsUnsupported : {W : Type 0} → State W → Result ℕ Asn1DerError → State W → Type 0
@@ -59,7 +64,7 @@ module _ {W : Type 0} (g : Ghosts W) where
   -- the tree wasn't written, and why: inside a level nothing reaches the sink
   abbrev pub RefusedIn : List Level → Tree → W → Asn1DerError → W → Type 0
   RefusedIn [] t old e new = Refused t old e new
-  RefusedIn (l ∷ ls) t old e new = MemoryExcuse t e × (new ≡ old)
+  RefusedIn (l ∷ ls) t old e new = MemoryExcuse (IsWritable t) e × (new ≡ old)
 
   -- the call wrote the tree in the open wrappers, and closed them; no fault of the sink was passed over
   pub record Writes (t : Tree) (old : State W) (n : ℕ) (new : State W) : Type 0 where
@@ -120,22 +125,32 @@ module _ {W : Type 0} (g : Ghosts W) where
     pub writable : IsWritable t
     pub added : IfSome old.pending (λ l. new ≡ record { sink = old.sink; around = []; failed = None; inside = old.inside; pending = Some (with_member l (der t)) })
 
-  -- it stopped with this error before the tree was added
-  pub record Rejects (t : Tree) (old : State W) (e : Asn1DerError) (new : State W) : Type 0 where
+  -- it stopped with this error before all was added that can be written if `Possible`; nothing was written
+  pub record StopsBefore (Possible : Type 0) (old : State W) (e : Asn1DerError) (new : State W) : Type 0 where
     pub failed : new.failed ≡ Some e
     pub same : new.sink ≡ old.sink
     pub again : IfSome old.failed (λ f. e ≡ f)
-    pub first : IfNone old.failed (MemoryExcuse t e)
+    pub first : IfNone old.failed (MemoryExcuse Possible e)
 
-  -- the trees were added as members, one after another
+  -- the tree wasn't added
+  abbrev pub Rejects : Tree → State W → Asn1DerError → State W → Type 0
+  Rejects t = StopsBefore (IsWritable t)
+
+  -- all the trees were added as members to the level that was opened last, in their order
+  pub record GainsAll (ts : Trees) (old new : State W) : Type 0 where
+    pub had_not_failed : old.failed ≡ None
+    pub writable : AreWritable ts
+    pub added : IfSome old.pending (λ l. new ≡ record { sink = old.sink; around = []; failed = None; inside = old.inside; pending = Some (with_members l (encodings ts)) })
+
+  -- the members of a row were added; without any, nothing was done
   abbrev pub GainsRow : Trees → State W → State W → Type 0
   GainsRow Trees.none old new = new ≡ old
-  GainsRow (Trees.more t ts) old new = (between : State W) × Gains t old between × GainsRow ts between new
+  GainsRow (Trees.more t ts) old new = GainsAll (Trees.more t ts) old new
 
-  -- it stopped with this error at one of the trees, and those before it were added
+  -- one of them wasn't added
   abbrev pub RejectsRow : Trees → State W → Asn1DerError → State W → Type 0
   RejectsRow Trees.none old e new = ⊥
-  RejectsRow (Trees.more t ts) old e new = Rejects t old e new ⊎ ((between : State W) × Gains t old between × RejectsRow ts between e new)
+  RejectsRow (Trees.more t ts) old e new = StopsBefore (AreWritable (Trees.more t ts)) old e new
 
   -- one that had failed answered that error again, and wrote nothing
   pub record AnswersAgain (old : W) (f : Asn1DerError) (r : Result ℕ Asn1DerError) (new : State W) : Type 0 where

@@ -21,7 +21,7 @@ pub record RefusedVec (t : Tree) (old : List ℕ) (e : Asn1DerError) (new : List
   pub begins : Begins front (der t)
   pub holds : new ≡ front ++ drop (length front) old
   pub nothing : e ≡ UnsupportedValue → front ≡ []
-  pub excuse : MemoryExcuse t e
+  pub excuse : MemoryExcuse (IsWritable t) e
 
 -- why a tree isn't written into a slice
 pub data SliceExcuse (t : Tree) (old : List ℕ) (e : Asn1DerError) (new : List ℕ) : Type 0 where

@@ -1,5 +1,6 @@
 -- What a serializer is to its callers.
 use Rattle.std.specs.Prelude.{ℕ, List, ◌++◌, Option, refl}
+use Rattle.std.specs.List.{concat}
 use Rattle.std.specs.Coded.{Coded, code_by, coded×, coded_list, coded_option, coded_ℕ}
 use Rattle.picky_der_core.specs.declared.error.Asn1DerError.{Asn1DerError}
 use Rattle.picky_der_core.specs.contracts.error.Asn1DerError as error
@@ -31,6 +32,10 @@ with_bytes l bs = record l { content = l.content ++ bs }
 -- a level with one member more, by its encoding
 abbrev pub with_member : Level → List ℕ → Level
 with_member l bs = with_bytes l bs
+
+-- a level with more members, by their encodings
+abbrev pub with_members : Level → List (List ℕ) → Level
+with_members l members = with_bytes l (concat members)
 
 -- the levels of a serializer: those of which a member is being written, innermost first, and the one that was opened last, until
 -- it ends or another call is made

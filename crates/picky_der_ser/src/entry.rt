@@ -49,7 +49,7 @@ pub fn to_byte_buf<T: Serialize>(alloc: Global, value: &T, buf: &mut Vec<u8>) ->
 pub fn to_vec<T: Serialize>(alloc: Global, value: &T) -> Result<Vec<u8>>
     ensures ok { IfOk result (λ bytes. bytes.items ≡ der (T.meaning value.now)) }
     ensures writable { OnOk result (IsWritable (T.meaning value.now)) }
-    ensures err { IfErr result (MemoryExcuse (T.meaning value.now)) }
+    ensures err { IfErr result (MemoryExcuse (IsWritable (T.meaning value.now))) }
 {
     let mut out = Vec::new(alloc);
     match to_byte_buf(alloc, value, &mut out) {

@@ -4,8 +4,8 @@ use Rattle.std.proofs.lemmas.Result.{IfErr-weaker, on_ok_weaker}
 use Rattle.picky_der_core.specs.Tree.{trees}
 use Rattle.picky_der_de.proofs.Asked.{asked, reads_at, refuses_at}
 use Rattle.picky_der_de.proofs.Ends.{opens_inside}
-use Rattle.picky_der_de.proofs.Rows.{row_unopened, row_refused, row_reads}
-use Rattle.picky_der_de.proofs.ArrayReads.{ReadsFirst, first_none, first_more, first_all, first_refused, first_left}
+use Rattle.picky_der_de.proofs.Rows.{row_unopened, row_refused, row_left, row_reads}
+use Rattle.picky_der_de.proofs.ArrayReads.{ReadsFirst, first_none, first_more, first_all, first_refused}
 use Rattle.picky_der_de.proofs.impls.arrays.read_into.Goals as goal
 
 pub returns-in_err-outer-clause-err : goal.returns-in_err-outer-clause-err
@@ -54,4 +54,5 @@ returns-clause-err g c =
     let i = c.loop-at.invariant in
     let all = take_all c.loop-at.at c.loop-at.places (omega (arith, i.same_length, c.loop-at-test.false)) in
     let first = subst (ReadsFirst g.T.Serialize.meaning g.T.Deserialize.shape c.inside-members.result.de.now c.loop-at.members.de.now) all i.first in
-    IfErr-weaker c.end.result _ _ (λ e k. refuses_at (row_refused {members = λ vs. trees (map g.T.Serialize.meaning vs)} (opens_inside c.in_ok-outer.ensures.ok c.inside-members.ensures.same c.inside-members.ensures.outer) (first_left (length c.args.places.now) _ first i.same_length k)) (search rules)) c.end.ensures.err
+    let row = first_all g.T.Serialize.meaning g.T.Deserialize.shape (length c.args.places.now) c.loop-at.places i.same_length first in
+    IfErr-weaker c.end.result _ _ (λ e k. refuses_at (row_left {members = λ vs. trees (map g.T.Serialize.meaning vs)} (opens_inside c.in_ok-outer.ensures.ok c.inside-members.ensures.same c.inside-members.ensures.outer) row k) (search rules)) c.end.ensures.err

@@ -1,7 +1,8 @@
 use Rattle.std.proofs.Common.{rules, refl, arith}
 use Rattle.std.proofs.lemmas.Result.{err_from_is_err_and}
 use Rattle.picky_der_core.specs.Tree.{ListKind}
-use Rattle.picky_der_ser.proofs.Members.{list_opened, list_wrote, list_failed, row_gained, row_rejected, row_untouched}
+use Rattle.picky_der_ser.proofs.Members.{list_opened, list_wrote, list_failed}
+use Rattle.picky_der_ser.proofs.RowWrites.{row_gained, row_rejected, row_untouched}
 use Rattle.picky_der_ser.proofs.row.RowSerialize.serialize.Goals as goal
 
 pub returns-in_err-serialize_members-clause-failed :

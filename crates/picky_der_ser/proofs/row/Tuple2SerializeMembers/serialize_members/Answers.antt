@@ -1,8 +1,15 @@
-use Rattle.picky_der_ser.proofs.Members.{row_goes_on, row_stops}
+use Rattle.std.proofs.lemmas.Result.{err_from_is_err_and}
+use Rattle.picky_der_ser.proofs.RowWrites.{row_goes_on, row_starts, row_stops}
 use Rattle.picky_der_ser.proofs.row.Tuple2SerializeMembers.serialize_members.Goals as goal
+
+pub returns-in_err-serialize_element-clause-err :
+    goal.returns-in_err-serialize_element-clause-err
+returns-in_err-serialize_element-clause-err g c =
+    let p = err_from_is_err_and c.from_residual.result c.from_residual.ensures.1 in
+    rw (p.1, p.2) (row_starts g.W.WriteExt _ c.in_err-serialize_element.ensures.err)
 
 pub returns-clause-added : goal.returns-clause-added
 returns-clause-added g c = row_goes_on g.W.WriteExt c.serialize_members.result _ _ c.in_ok-serialize_element.ensures.added c.serialize_members.ensures.added
 
 pub returns-clause-err : goal.returns-clause-err
-returns-clause-err g c = row_stops g.W.WriteExt c.serialize_members.result _ _ c.in_ok-serialize_element.ensures.added c.serialize_members.ensures.err
+returns-clause-err g c = row_stops g.W.WriteExt c.serialize_members.result _ _ c.requires c.in_ok-serialize_element.ensures.added c.serialize_members.ensures.err
