@@ -11,8 +11,8 @@ use thiserror::Error;
 /// It prints as the name of its variant; `Message` and `Other` show what they hold.
 #[derive(Debug, Clone, Copy, PartialEq, Eq, Error)]
 pub enum Asn1DerError {
-    /// The data ended too early, or a content or a sequence that can't be empty is. A message that is only cut short
-    /// gets no other error.
+    /// The data ended too early: the input, a content that can't be empty, or a sequence that lacks a member. A message
+    /// that is only cut short gets no other error.
     #[error("TruncatedData")]
     TruncatedData,
 

@@ -31,6 +31,7 @@ fn tags_have_their_bytes(rt: HostRuntime) {
     ] {
         assert_eq!(rt; tag.inner(), byte);
     }
+    assert_eq!(rt; Tag::MAX_NUMBER, 30);
 }
 
 #[test]

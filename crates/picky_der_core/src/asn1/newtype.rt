@@ -1,4 +1,4 @@
-//! How a value is wrapped that is another in a wrapper.
+//! What a newtype has around its value.
 ghost use Rattle.std.specs.Prelude.{◌≡◌};
 ghost use Rattle.picky_der_core.specs.Wrapper.{wrapper_of};
 

@@ -19,19 +19,19 @@ fn tag_of(enclosure: Enclosure) -> Option<Tag>
         Enclosure::Wrapper(Wrapper::OctetContainer) => Some(Tag::OCTET_STRING),
         Enclosure::Wrapper(Wrapper::BitContainer) => Some(Tag::BIT_STRING),
         Enclosure::Wrapper(Wrapper::Explicit(number)) => {
-            if number > 30 {
+            if number > Tag::MAX_NUMBER {
                 return None;
             }
             Some(Tag::context_specific_constructed(number))
         }
         Enclosure::Wrapper(Wrapper::Implicit(number)) => {
-            if number > 30 {
+            if number > Tag::MAX_NUMBER {
                 return None;
             }
             Some(Tag::context_specific_primitive(number))
         }
         Enclosure::Application(number) => {
-            if number > 30 {
+            if number > Tag::MAX_NUMBER {
                 return None;
             }
             Some(Tag::application_constructed(number))

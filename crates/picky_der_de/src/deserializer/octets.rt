@@ -29,7 +29,7 @@ impl<R: ReadExt> Deserializer<R> {
         if let Some(error) = self.failed {
             return Err(error);
         }
-        if tag.number() > 30 {
+        if tag.number() > Tag::MAX_NUMBER {
             return Err(self.fail(Asn1DerError::UnsupportedValue));
         }
         let len = self.begin(tag)?;

@@ -34,7 +34,7 @@ impl<R: ReadExt> Deserializer<R> {
         }
         self.direct = None;
         let tag = Tag::from(self.next_byte()?);
-        if tag.number() > 30 {
+        if tag.number() > Tag::MAX_NUMBER {
             return Err(self.fail(Asn1DerError::UnsupportedValue));
         }
         let len = self.read_content_length()?;

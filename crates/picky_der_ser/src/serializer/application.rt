@@ -5,6 +5,7 @@ ghost use Rattle.picky_der_ser.specs.Calls.{Writes, Fails};
 
 use super::Serializer;
 use crate::{Header, Serialize};
+use picky_der_core::asn1::Tag;
 use picky_der_core::misc::WriteExt;
 use picky_der_core::{Asn1DerError, Result};
 
@@ -25,7 +26,7 @@ impl<W: WriteExt> Serializer<W> {
         if let Some(error) = self.failed {
             return Err(error);
         }
-        if number > 30 {
+        if number > Tag::MAX_NUMBER {
             return Err(self.fail(Asn1DerError::UnsupportedValue));
         }
         self.open(Header::Application(number));

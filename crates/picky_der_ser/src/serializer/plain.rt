@@ -162,7 +162,7 @@ impl<W: WriteExt> Serializer<W> {
         if let Some(error) = self.failed {
             return Err(error);
         }
-        if tag.number() > 30 {
+        if tag.number() > Tag::MAX_NUMBER {
             self.failed = Some(Asn1DerError::UnsupportedValue);
             return Err(Asn1DerError::UnsupportedValue);
         }

@@ -5,7 +5,7 @@ ghost use Rattle.picky_der_ser.specs.Calls.{Writes, Fails, Declines};
 
 use super::Serializer;
 use crate::Serialize;
-use picky_der_core::asn1::{Newtype, Wrapper};
+use picky_der_core::asn1::{Newtype, Tag, Wrapper};
 use picky_der_core::misc::WriteExt;
 use picky_der_core::{Asn1DerError, Result};
 
@@ -16,7 +16,7 @@ fn has_tag_number(wrapper: Wrapper) -> bool
 {
     match wrapper {
         Wrapper::OctetContainer | Wrapper::BitContainer => true,
-        Wrapper::Explicit(number) | Wrapper::Implicit(number) => number <= 30,
+        Wrapper::Explicit(number) | Wrapper::Implicit(number) => number <= Tag::MAX_NUMBER,
     }
 }
 

@@ -19,8 +19,8 @@ returns-clause-ok g c =
 pub returns-clause-err : goal.returns-clause-err
 returns-clause-err g c = MatchResult-weaker c.draw_vec.result c.draw_vec.ensures.err (λ v k. tt) (λ e k. refuses_cut (bytes_kind c.args.tag (omega arith)) c.in_ok-len.ensures.ok k)
 
-pub returns-then-number-gt30-clause-err : goal.returns-then-number-gt30-clause-err
-returns-then-number-gt30-clause-err g c =
+pub returns-then-number-gt-MAX_NUMBER-clause-err : goal.returns-then-number-gt-MAX_NUMBER-clause-err
+returns-then-number-gt-MAX_NUMBER-clause-err g c =
     let f = c.fail.ensures in
-    let past : 30 < number_of c.args.tag = omega (arith, c.if-number-gt30.true, c.number.ensures) in
+    let past : 30 < number_of c.args.tag = omega (arith, c.if-number-gt-MAX_NUMBER.true, c.number.ensures) in
     refuses_number past (λ v o r. omega (arith, past, r)) f.fails f.error (failed_same c.args.self.now f.error f.same)

@@ -3,7 +3,7 @@ use Rattle.picky_der_core.specs.Tag.{number_of}
 use Rattle.picky_der_ser.proofs.PlainWrites.{plain_past}
 use Rattle.picky_der_ser.proofs.serializer.Serializer.serialize_tagged_bytes.Goals as goal
 
-pub returns-then-number-gt30 : goal.returns-then-number-gt30
-returns-then-number-gt30 g c =
+pub returns-then-number-gt-MAX_NUMBER : goal.returns-then-number-gt-MAX_NUMBER
+returns-then-number-gt-MAX_NUMBER g c =
     let past : 30 < number_of c.args.tag = omega (arith, c.number.ensures) in
     rw (← c.self.view_is) (plain_past g.W.WriteExt c.args.tag c.args.content.now _ past c.in_default.is (g.met.W.WriteExt.later_refl _))
