@@ -7,6 +7,7 @@ mod named;
 mod number_or_flag;
 mod point;
 mod tagged;
+mod track;
 mod version;
 
 pub use marker::Marker;
@@ -15,4 +16,5 @@ pub use named::Named;
 pub use number_or_flag::NumberOrFlag;
 pub use point::Point;
 pub use tagged::Tagged;
+pub use track::Track;
 pub use version::Version;

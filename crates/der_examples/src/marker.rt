@@ -10,7 +10,9 @@ use picky_asn1_der::{Alike, Deserialize, Deserializer, Result, Serialize, Serial
 /// A point with a label, as a SEQUENCE of the two.
 #[derive(Debug, Drop, PartialEq, Eq)]
 pub struct Marker {
+    /// A name and a number.
     pub label: Named<u8>,
+    /// Where it stands.
     pub at: Point,
 }
 

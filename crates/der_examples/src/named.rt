@@ -9,7 +9,9 @@ use picky_asn1_der::{Alike, Deserialize, Deserializer, Result, Serialize, Serial
 /// A value under a name, as a SEQUENCE of an OCTET STRING and the value.
 #[derive(Debug, Drop, PartialEq, Eq)]
 pub struct Named<T> {
+    /// The bytes of the name.
     pub name: ByteBuf,
+    /// What bears it.
     pub value: T,
 }
 

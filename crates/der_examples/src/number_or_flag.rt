@@ -11,7 +11,9 @@ use picky_asn1_der::{Deserialize, Deserializer, Result, Serialize, Serializer};
 /// A number or a truth value.
 #[derive(Debug, Drop, PartialEq, Eq)]
 pub enum NumberOrFlag {
+    /// An INTEGER.
     Number(u8),
+    /// A BOOLEAN.
     Flag(bool),
 }
 

@@ -6,7 +6,7 @@ use picky_asn1_der::asn1::Tag;
 use picky_asn1_der::misc::{ReadExt, WriteExt};
 use picky_asn1_der::{Alike, Deserialize, Deserializer, Result, Serialize, Serializer, de, ser};
 
-/// A point that may be hidden, as a SEQUENCE of two INTEGERs and a BOOLEAN.
+/// A point so far east and north, which may be hidden: a SEQUENCE of two INTEGERs and a BOOLEAN.
 #[derive(Debug, Drop, PartialEq, Eq)]
 pub struct Point {
     pub x: u32,

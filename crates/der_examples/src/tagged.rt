@@ -10,7 +10,9 @@ use picky_asn1_der::{Alike, Deserialize, Deserializer, Result, Serialize, Serial
 /// A label and a point that may be told apart by their tags: `[0] EXPLICIT` and `[1] IMPLICIT`.
 #[derive(Debug, Drop, PartialEq, Eq)]
 pub struct Tagged {
+    /// A name and a number.
     pub label: ExplicitContextTag<Named<u8>, 0>,
+    /// Where it stands.
     pub at: ImplicitContextTag<Point, 1>,
 }
 

@@ -10,8 +10,11 @@ use picky_asn1_der::{Asn1DerError, Deserialize, Deserializer, Result, Serialize,
 /// The version of a certificate, as an INTEGER from 0 to 2.
 #[derive(Debug, Clone, Copy, PartialEq, Eq)]
 pub enum Version {
+    /// Without extensions, the number 0.
     V1,
+    /// With identifiers, the number 1.
     V2,
+    /// With extensions, the number 2.
     V3,
 }
 

@@ -1,5 +1,5 @@
 -- A tree tells its value.
-use Rattle.std.specs.Prelude.{◌≡◌, ℕ, List, [], ◌∷◌, Bool, true, false, ◌&&◌, map, nat_eq, Some, None, encode_utf8, refl}
+use Rattle.std.specs.Prelude.{◌≡◌, ℕ, List, [], ◌∷◌, Bool, true, false, ◌&&◌, map, nat_eq, Some, None, ⊤, encode_utf8, refl}
 use Rattle.std.specs.Option.{option_eq}
 use mathlib.Core.Bool.{beq}
 use lib.Pointwise.{pointwise}
@@ -59,19 +59,34 @@ option_known meaning s eq known (Some x) None p q r e = absurd (subst IsReadable
 option_known meaning s eq known (Some x) (Some y) p q r e =
     known x y (is_of-optional (IsOf s) (meaning x) p r) (is_of-optional (IsOf s) (meaning y) q (subst IsReadable e r)) r e
 
+-- ---- lists
+
+-- values of which P holds are known by their trees, so lists of such values are
+module _ {V : Type 0} (meaning : V → Tree) (eq : V → V → Bool) (P : V → Type 0) (All : List V → Type 0) (parted : (v : V) (vs : List V) → All (v ∷ vs) → P v × All vs) (known : (x y : V) → P x → P y → meaning x ≡ meaning y → eq x y ≡ true) where
+  same_items : (xs ys : List V) → All xs → All ys → trees (map meaning xs) ≡ trees (map meaning ys) → pointwise eq xs ys ≡ true
+  same_items [] [] p q e = refl
+  same_items [] (y ∷ ys) p q e = cc
+  same_items (x ∷ xs) [] p q e = cc
+  same_items (x ∷ xs) (y ∷ ys) p q e =
+      let f : meaning x ≡ meaning y = cc in
+      let g : trees (map meaning xs) ≡ trees (map meaning ys) = cc in
+      let h = parted x xs p in
+      let k = parted y ys q in
+      rw (known x y h.0 k.0 f, same_items xs ys h.1 k.1 g) refl
+
 -- lists of values that are known by their trees
 pub list_known : {V : Type 0} (meaning : V → Tree) (s : Shape) (eq : V → V → Bool) → IsKnownByTree meaning s eq → {k l : ListKind} (xs ys : List V) → EachIs (IsOf s) (trees (map meaning xs)) → EachIs (IsOf s) (trees (map meaning ys)) → AreReadable (trees (map meaning xs))
     → Tree.list k (trees (map meaning xs)) ≡ Tree.list l (trees (map meaning ys)) → pointwise eq xs ys ≡ true
-list_known {V} meaning s eq known xs ys p q r e = let f : trees (map meaning xs) ≡ trees (map meaning ys) = cc in same xs ys p q r f
-  where
-    same : (xs ys : List V) → EachIs (IsOf s) (trees (map meaning xs)) → EachIs (IsOf s) (trees (map meaning ys)) → AreReadable (trees (map meaning xs)) → trees (map meaning xs) ≡ trees (map meaning ys) → pointwise eq xs ys ≡ true
-    same [] [] p q r e = refl
-    same [] (y ∷ ys) p q r e = cc
-    same (x ∷ xs) [] p q r e = cc
-    same (x ∷ xs) (y ∷ ys) p q r e =
-        let f : meaning x ≡ meaning y = cc in
-        let g : trees (map meaning xs) ≡ trees (map meaning ys) = cc in
-        rw (known x y p.0 q.0 r.0 f, same xs ys p.1 q.1 r.1 g) refl
+list_known {V} meaning s eq known xs ys p q r e =
+    let f : trees (map meaning xs) ≡ trees (map meaning ys) = cc in
+    same_items meaning eq (λ v. IsOf s (meaning v) × IsReadable (meaning v)) (λ vs. EachIs (IsOf s) (trees (map meaning vs)) × AreReadable (trees (map meaning vs))) (λ v vs h. ((h.0.0, h.1.0), (h.0.1, h.1.1)))
+    (λ x y h k g. known x y h.0 k.0 h.1 g) xs ys (p, r) (q, subst AreReadable f r) f
+
+-- lists of values that are known by their trees whether they are readable or not
+pub items_known : {V : Type 0} {meaning : V → Tree} {eq : V → V → Bool} → ((x y : V) → meaning x ≡ meaning y → eq x y ≡ true) → {k l : ListKind} (xs ys : List V) → Tree.list k (trees (map meaning xs)) ≡ Tree.list l (trees (map meaning ys)) → pointwise eq xs ys ≡ true
+items_known {V} {meaning} {eq} known xs ys e =
+    let f : trees (map meaning xs) ≡ trees (map meaning ys) = cc in
+    same_items meaning eq (λ _. ⊤) (λ _. ⊤) (λ _ _ _. (tt, tt)) (λ x y _ _ g. known x y g) xs ys tt tt f
 
 -- ---- rows, whose members are each known
 

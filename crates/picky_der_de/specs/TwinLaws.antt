@@ -1,7 +1,7 @@
 -- What a struct of two to seven fields needs to prove that its tree tells it.
 use Rattle.std.specs.Prelude.{◌≡◌, ℕ, Bool, true, ◌&&◌, refl}
 use Rattle.picky_der_core.specs.Tree.{ListKind, Tree, Trees}
-use Rattle.picky_der_de.specs.KnownLaws.{both, boolean_known, unsigned_known, bytes_known, text_known, character_known, option_known, list_known, raw_known}
+use Rattle.picky_der_de.specs.KnownLaws.{both, boolean_known, unsigned_known, bytes_known, text_known, character_known, option_known, items_known, raw_known}
 
 -- ---- a derived equality, which is grouped from the right
 
@@ -62,4 +62,4 @@ module _ {a b : Tree} where
   pub in_application : {n m : ℕ} → Tree.application n a ≡ Tree.application m b → a ≡ b
   in_application e = cc
 
-pub ruleset knowns = (all7, all6, all5, all4, all3, both, member1, member2, member3, member4, member5, member6, member7, in_octets, in_bits, in_explicit, in_implicit, in_application, boolean_known, unsigned_known, bytes_known, text_known, character_known, option_known, list_known, raw_known)
+pub ruleset knowns = (all7, all6, all5, all4, all3, both, member1, member2, member3, member4, member5, member6, member7, in_octets, in_bits, in_explicit, in_implicit, in_application, boolean_known, unsigned_known, bytes_known, text_known, character_known, option_known, items_known, raw_known)

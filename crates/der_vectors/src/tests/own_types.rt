@@ -2,7 +2,7 @@
 
 use crate::hexadecimal::bytes_of;
 use crate::tests::rows::{both_ways, refuses};
-use der_examples::{Marker, Moment, Named, Point, Tagged, Version};
+use der_examples::{Marker, Moment, Named, Point, Tagged, Track, Version};
 use picky_asn1_der::Asn1DerError::{InvalidData, TruncatedData};
 use picky_asn1_der::asn1::{ByteBuf, ExplicitContextTag0, ImplicitContextTag1};
 use std::alloc::Global;
@@ -64,6 +64,18 @@ fn a_struct_stands_in_another(rt: HostRuntime) -> Result<(), Fail> {
     };
     let row = "30 14 30 06 04 01 AA 02 01 07 30 0A 02 01 03 02 02 01 F4 01 01 FF";
     both_ways(&rt, marker, row)
+}
+
+#[test]
+fn a_struct_has_a_list(rt: HostRuntime) -> Result<(), Fail> {
+    let track = Track {
+        closed: true,
+        points: vec![in rt.alloc(); point()]?,
+    };
+    let row = "30 11 01 01 FF 30 0C 30 0A 02 01 03 02 02 01 F4 01 01 FF";
+    both_ways(&rt, track, row)?;
+    refuses::<Track>(&rt, "30 03 01 01 FF", TruncatedData)?;
+    refuses::<Track>(&rt, "30 07 01 01 FF 30 02 05 00", InvalidData)
 }
 
 #[test]
