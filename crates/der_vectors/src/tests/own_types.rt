@@ -4,7 +4,7 @@ use crate::hexadecimal::bytes_of;
 use crate::tests::rows::{both_ways, refuses};
 use der_examples::{Marker, Moment, Named, Point, Tagged, Track, Version};
 use picky_asn1_der::Asn1DerError::{InvalidData, TruncatedData};
-use picky_asn1_der::asn1::{ByteBuf, ExplicitContextTag0, ImplicitContextTag1};
+use picky_asn1_der::asn1::{Asn1SetOf, ByteBuf, ExplicitContextTag0, ImplicitContextTag1};
 use std::alloc::Global;
 use std::test::Fail;
 
@@ -67,12 +67,17 @@ fn a_struct_stands_in_another(rt: HostRuntime) -> Result<(), Fail> {
 }
 
 #[test]
-fn a_struct_has_a_list(rt: HostRuntime) -> Result<(), Fail> {
+fn a_struct_has_lists(rt: HostRuntime) -> Result<(), Fail> {
+    let alloc = rt.alloc();
+    let name = ByteBuf(bytes_of(alloc, "AA")?);
     let track = Track {
         closed: true,
-        points: vec![in rt.alloc(); point()]?,
+        points: vec![in alloc; point()]?,
+        days: [90, 300],
+        names: Asn1SetOf::from(vec![in alloc; name]?).into(),
     };
-    let row = "30 11 01 01 FF 30 0C 30 0A 02 01 03 02 02 01 F4 01 01 FF";
+    let row = "30 21 01 01 FF 30 0C 30 0A 02 01 03 02 02 01 F4 01 01 FF \
+               30 07 02 01 5A 02 02 01 2C A0 05 31 03 04 01 AA";
     both_ways(&rt, track, row)?;
     refuses::<Track>(&rt, "30 03 01 01 FF", TruncatedData)?;
     refuses::<Track>(&rt, "30 07 01 01 FF 30 02 05 00", InvalidData)
