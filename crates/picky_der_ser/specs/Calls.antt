@@ -21,7 +21,7 @@ abbrev pub AreWritable : Trees → Type 0
 AreWritable Trees.none = ⊤
 AreWritable (Trees.more t ts) = IsWritable t × AreWritable ts
 
--- why what can be written if `Possible` isn't written into memory
+-- why something isn't written into memory: this was refused, or it can't be written, as `Possible` would say
 pub data MemoryExcuse (Possible : Type 0) (e : Asn1DerError) : Type 0 where
   no_room : e ≡ OutOfMemory → MemoryExcuse Possible e
   no_way : e ≡ UnsupportedValue → ¬ Possible → MemoryExcuse Possible e
@@ -125,7 +125,7 @@ module _ {W : Type 0} (g : Ghosts W) where
     pub writable : IsWritable t
     pub added : IfSome old.pending (λ l. new ≡ record { sink = old.sink; around = []; failed = None; inside = old.inside; pending = Some (with_member l (der t)) })
 
-  -- it stopped with this error before all was added that can be written if `Possible`; nothing was written
+  -- It stopped with this error, and nothing was written: it had failed so, memory was refused, or what was to be added can't be written.
   pub record StopsBefore (Possible : Type 0) (old : State W) (e : Asn1DerError) (new : State W) : Type 0 where
     pub failed : new.failed ≡ Some e
     pub same : new.sink ≡ old.sink
