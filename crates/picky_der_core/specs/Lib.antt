@@ -1,4 +1,5 @@
 pub mod Error
+pub mod Failure
 pub mod Tag
 pub mod Element
 pub mod Tree

@@ -3,7 +3,9 @@
 
 pub mod asn1;
 mod error;
+mod failure;
 pub mod laws;
 pub mod misc;
 
 pub use error::{Asn1DerError, Result};
+pub use failure::Failure;

@@ -1,6 +1,7 @@
 -- Choices, read and refused behind a look at the first byte.
 use Rattle.std.proofs.Common.{◌≡◌, ◌≢◌, ℕ, ◌<◌, ◌⊎◌, inl, inr, true, List, [], ◌∷◌, ◌++◌, length, Option, Some, None, sym, ◌∙◌, ap, subst, arith}
-use Rattle.std.specs.Option.{unwrap_or}
+use Rattle.picky_der_core.specs.declared.failure.Failure.{Failure}
+use Rattle.picky_der_de.specs.Refusing.{IsAnswer}
 use Rattle.picky_der_core.specs.declared.error.Asn1DerError.{Asn1DerError}
 use Rattle.picky_der_core.specs.declared.error.Asn1DerError.TheVariants.{TruncatedData, InvalidData}
 use Rattle.picky_der_core.specs.Tree.{Tree}
@@ -126,5 +127,5 @@ pub reads_second : {A B : Type 0} (m : A → Tree) (n : B → Tree) {s t : Shape
 reads_second m n {t = t} p h e = rw e (reads_choice p (inr (inl h.of_shape)) t h)
 
 -- what was refused as invalid isn't cut short
-pub not_short : {failed : Option Asn1DerError} {e : Asn1DerError} → e ≡ unwrap_or failed InvalidData → failed ≡ None → e ≢ TruncatedData
-not_short is none h = let q : InvalidData ≡ TruncatedData = sym (is ∙ ap (λ f. unwrap_or f InvalidData) none) ∙ h in cc
+pub not_short : {failed : Option Failure} {e : Asn1DerError} → IsAnswer failed InvalidData e → failed ≡ None → e ≢ TruncatedData
+not_short {e = e} is none h = let q : InvalidData ≡ TruncatedData = sym (subst (λ f. IsAnswer f InvalidData e) none is) ∙ h in cc

@@ -2,6 +2,7 @@
 use Rattle.std.proofs.Common.{◌≡◌, ℕ, ◌+◌, ◌<◌, ◌≤◌, List, [], ◌∷◌, ◌++◌, length, take, Option, Some, None, Result, Ok, Err, IsOk, IfOk, OnOk, OnErr, refl, sym, ◌∙◌, ap, arith, length-append}
 use Rattle.std.proofs.lemmas.Grind.{common_steps}
 use Rattle.picky_der_core.specs.declared.error.Asn1DerError.{Asn1DerError}
+use Rattle.picky_der_core.specs.Failure.{failure_of}
 use Rattle.picky_der_core.specs.declared.error.Asn1DerError.TheVariants.{OutOfMemory}
 use Rattle.picky_der_core.specs.Shape.{AreBytes}
 use Rattle.picky_der_de.specs.State.{State}
@@ -52,18 +53,18 @@ takes_bytes-more {x = x} {content = content} h t l = record {
 }
 
 -- what is unmoved behind an error
-pub unmoved_taken : (b c : State) {e : Asn1DerError} → c ≡ record b { failed = Some e; faults = c.faults; input = c.input } → c.taken ≡ b.taken
-unmoved_taken b c u = ap (λ (s : State). s.taken) u
+pub unmoved_taken : (b c : State) (e : Asn1DerError) → c ≡ record b { failed = Some (failure_of e); faults = c.faults; input = c.input } → c.taken ≡ b.taken
+unmoved_taken b c _ u = ap (λ (s : State). s.taken) u
 
-pub unmoved_peeked : (b c : State) {e : Asn1DerError} → c ≡ record b { failed = Some e; faults = c.faults; input = c.input } → c.peeked ≡ b.peeked
-unmoved_peeked b c u = ap (λ (s : State). s.peeked) u
+pub unmoved_peeked : (b c : State) (e : Asn1DerError) → c ≡ record b { failed = Some (failure_of e); faults = c.faults; input = c.input } → c.peeked ≡ b.peeked
+unmoved_peeked b c _ u = ap (λ (s : State). s.peeked) u
 
 -- it has failed with what it answers
 pub failed_same : (b : State) {c : State} {e r : Asn1DerError} → r ≡ e → c ≡ failed_with b e → c ≡ failed_with b r
 failed_same b {e = e} {r = r} h u = u ∙ ap (failed_with b) (sym h)
 
 -- no byte came
-pub stops_short : {a b c : State} {n k : ℕ} {e : Asn1DerError} {content : List ℕ} → Takes a b content → length content ≡ k → k < n → Fails b c e → (b.failed ≡ None → c.faults ≡ b.faults → IsMissing b e) → c ≡ record b { failed = Some e; faults = c.faults; input = c.input } → StopsShort a c n e
+pub stops_short : {a b c : State} {n k : ℕ} {e : Asn1DerError} {content : List ℕ} → Takes a b content → length content ≡ k → k < n → Fails b c e → (b.failed ≡ None → c.faults ≡ b.faults → IsMissing b e) → c ≡ record b { failed = Some (failure_of e); faults = c.faults; input = c.input } → StopsShort a c n e
 stops_short {a} {b} {c} {n} {k} {e} {content} t l s f m u = record {
   fails = fails_after t f;
   short = λ j. let i = judged_after t j in record {
@@ -72,9 +73,9 @@ stops_short {a} {b} {c} {n} {k} {e} {content} t l s f m u = record {
     takes = t;
     short = omega arith;
     missing = m i.had_not_failed i.faults;
-    input = kept_input (f.took) (unmoved_taken b c u);
-    taken = unmoved_taken b c u;
-    peeked = unmoved_peeked b c u;
+    input = kept_input (f.took) (unmoved_taken b c _ u);
+    taken = unmoved_taken b c _ u;
+    peeked = unmoved_peeked b c _ u;
   };
 }
 

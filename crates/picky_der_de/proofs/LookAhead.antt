@@ -4,6 +4,7 @@ use Rattle.std.proofs.lemmas.List.{take-append-drop}
 use Rattle.std.specs.declared.io.Error.{Error}
 use Rattle.std.specs.IoError.{error_kind}
 use Rattle.picky_der_core.specs.declared.error.Asn1DerError.{Asn1DerError}
+use Rattle.picky_der_core.specs.Failure.{failure_of}
 use Rattle.picky_der_core.specs.declared.error.Asn1DerError.TheVariants.{TruncatedData, InvalidData, OutOfMemory}
 use Rattle.picky_der_core.specs.Error.{kind_of}
 use Rattle.picky_der_core.specs.Reader.{IsFaultOrEnd}
@@ -27,7 +28,7 @@ pub missing_no_want : {s : State} {e : Asn1DerError} → IsMissing s e → e ≢
 missing_no_want {s} (end_is_here z is) h = no_want_at_end s.end (sym is ∙ h)
 missing_no_want (input_ended l z is) h = let q : TruncatedData ≡ OutOfMemory = sym is ∙ h in cc
 
-stopped_same : (old new : State) {e : Asn1DerError} → StopsAt old new e → new ≡ record old { input = new.input; failed = Some e; faults = new.faults }
+stopped_same : (old new : State) {e : Asn1DerError} → StopsAt old new e → new ≡ record old { input = new.input; failed = Some (failure_of e); faults = new.faults }
 stopped_same old new {e} s = rw (← s.failed, ← s.peeked, ← s.taken, ← s.room, ← s.end, ← s.direct, ← s.last, ← s.limit, ← s.through) refl
 
 nothing_there : (d : Option ℕ) (s : State) → d ≡ None → choice_refusal_in d s [] ≡ Some (missing (is_hard s.end) s.room [], [])

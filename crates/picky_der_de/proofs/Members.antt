@@ -1,6 +1,7 @@
 -- Members of sequences and sets, read and refused.
 use Rattle.std.proofs.Common.{◌≡◌, ℕ, ◌<◌, ◌≤◌, List, [], ◌++◌, length, Some, None, refl, sym, ◌∙◌, ap, subst, arith, append_assoc, length-append}
 use Rattle.picky_der_core.specs.declared.error.Asn1DerError.{Asn1DerError}
+use Rattle.picky_der_core.specs.Failure.{failure_of}
 use Rattle.picky_der_core.specs.declared.error.Asn1DerError.TheVariants.{TruncatedData}
 use Rattle.picky_der_core.specs.Tree.{ListKind, Tree, Trees}
 use Rattle.picky_der_core.specs.Encoding.{written, der, list_tag, content}
@@ -43,9 +44,9 @@ pub member_ahead : {s : Shape} {b c : State} {t : Tree} → ReadsMember s b c t 
 member_ahead {t = t} r = omega (arith, (takes_member r).room, length-der t r.reads.readable)
 
 -- it had failed before
-pub member_again : {V : Type 0} {meaning : V → Tree} {s : Shape} {a : State} {e : Asn1DerError} → a.failed ≡ Some e → RefusesMember meaning s a a e
+pub member_again : {V : Type 0} {meaning : V → Tree} {s : Shape} {a : State} {e : Asn1DerError} → a.failed ≡ Some (failure_of e) → RefusesMember meaning s a a e
 member_again {a = a} {e = e} h =
-    let no : a.failed ≡ None → ⊥ = λ w. let q : None ≡ Some e = sym w ∙ h in cc in
+    let no : a.failed ≡ None → ⊥ = λ w. let q : None ≡ Some (failure_of e) = sym w ∙ h in cc in
     record {
       refuses = record { fails = fails_again a h; none = λ j. absurd (no j.had_not_failed); first = λ j. absurd (no j.had_not_failed) };
       direct = λ w. absurd (no w);

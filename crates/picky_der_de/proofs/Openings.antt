@@ -3,6 +3,7 @@ use Rattle.std.proofs.Common.{◌≡◌, ℕ, ◌+◌, ◌-◌, ◌<◌, ◌≤�
 use Rattle.std.proofs.lemmas.Grind.{common_steps}
 use Rattle.std.proofs.lemmas.List.{take-append-drop}
 use Rattle.picky_der_core.specs.declared.error.Asn1DerError.{Asn1DerError}
+use Rattle.picky_der_core.specs.Failure.{failure_of}
 use Rattle.picky_der_core.specs.declared.error.Asn1DerError.TheVariants.{TruncatedData, UnsupportedValue, OutOfMemory}
 use Rattle.picky_der_core.specs.Element.{len}
 use Rattle.picky_der_core.specs.Refusal.{Refusal}
@@ -25,9 +26,9 @@ use Rattle.picky_der_de.proofs.Enclosures.{some_unused, no_unused, unused_cut, u
 -- ---- refused headers
 
 -- it had failed before
-pub opening_again : {w : Enclosure} {a : State} {e : Asn1DerError} → a.failed ≡ Some e → RefusesOpening w a a e
+pub opening_again : {w : Enclosure} {a : State} {e : Asn1DerError} → a.failed ≡ Some (failure_of e) → RefusesOpening w a a e
 opening_again {a = a} {e = e} h =
-    let no : a.failed ≡ None → ⊥ = λ w. let q : None ≡ Some e = sym w ∙ h in cc in
+    let no : a.failed ≡ None → ⊥ = λ w. let q : None ≡ Some (failure_of e) = sym w ∙ h in cc in
     record {
       fails = fails_again a h;
       none = λ j. absurd (no j.had_not_failed);

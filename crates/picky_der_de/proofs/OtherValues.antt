@@ -1,6 +1,5 @@
 -- A value of the shape that was read, and is none of the type's.
-use Rattle.std.proofs.Common.{◌≡◌, ◌≢◌, sym, ap, ◌∙◌}
-use Rattle.std.specs.Option.{unwrap_or}
+use Rattle.std.proofs.Common.{◌≡◌, ◌≢◌, sym, ◌∙◌, subst}
 use Rattle.picky_der_core.specs.declared.error.Asn1DerError.{Asn1DerError}
 use Rattle.picky_der_core.specs.declared.error.Asn1DerError.TheVariants.{TruncatedData}
 use Rattle.picky_der_core.specs.Tree.{Tree}
@@ -8,7 +7,7 @@ use Rattle.picky_der_core.specs.Shape.{Shape, IsOf, IsSound}
 use Rattle.picky_der_core.proofs.UniqueAt.{same_tree_at}
 use Rattle.picky_der_de.specs.State.{State}
 use Rattle.picky_der_de.specs.Steps.{Fails, place_of}
-use Rattle.picky_der_de.specs.Refusing.{FailsAs}
+use Rattle.picky_der_de.specs.Refusing.{FailsAs, IsAnswer}
 use Rattle.picky_der_de.specs.Reading.{Reads, Refuses, NoValue}
 use Rattle.picky_der_de.proofs.Steps.{fails_after}
 use Rattle.picky_der_de.proofs.Refusals.{tells_after}
@@ -17,7 +16,7 @@ use Rattle.picky_der_de.proofs.Refusals.{tells_after}
 pub other_value : {V : Type 0} {meaning : V → Tree} {s : Shape} {a b c : State} {t : Tree} {kind e : Asn1DerError} → IsSound s → Reads s a b t → FailsAs kind b e c → Fails b c e → kind ≢ TruncatedData
     → ((v : V) → IsOf s (meaning v) → meaning v ≢ t) → Refuses meaning s a c e
 other_value {meaning = meaning} {s = s} {a = a} {b = b} {t = t} {kind = kind} {e = e} sound r is f final others =
-    let same : e ≡ kind = is.0 ∙ ap (λ o. unwrap_or o kind) r.takes.not_failed in
+    let same : e ≡ kind = subst (λ o. IsAnswer o kind e) r.takes.not_failed is.0 in
     record {
       fails = fails_after r.takes f;
       none = tells_after (NoValue meaning s a) r.takes f (λ j end left rest nearer concerns v stands.

@@ -5,6 +5,7 @@ use Rattle.std.proofs.Math.Seq.{take-append_seam, drop-append_seam}
 use Rattle.std.proofs.lemmas.Bool.Decides.{nat_tests}
 use Rattle.std.proofs.lemmas.List.{take-append-drop}
 use Rattle.picky_der_core.specs.declared.error.Asn1DerError.{Asn1DerError}
+use Rattle.picky_der_core.specs.Failure.{failure_of}
 use Rattle.picky_der_core.specs.declared.error.Asn1DerError.TheVariants.{TruncatedData, UnsupportedValue}
 use Rattle.picky_der_core.specs.Element.{len, tlv}
 use Rattle.picky_der_core.specs.ElementLaws.{same_front}
@@ -137,9 +138,9 @@ refuses_number {tag = tag} {judge = judge} {a = a} n none f is same = record {
 }
 
 -- it had failed before
-pub refuses_again : {V : Type 0} {meaning : V → Tree} {s : Shape} {tag : ℕ} {judge : Judge} {a : State} {e : Asn1DerError} → a.failed ≡ Some e → RefusesPlain meaning tag judge s a a e
+pub refuses_again : {V : Type 0} {meaning : V → Tree} {s : Shape} {tag : ℕ} {judge : Judge} {a : State} {e : Asn1DerError} → a.failed ≡ Some (failure_of e) → RefusesPlain meaning tag judge s a a e
 refuses_again {a = a} {e = e} h =
-    let no : (j : IsJudged a a e) → ⊥ = λ j. let q : None ≡ Some e = sym j.had_not_failed ∙ h in cc in
+    let no : (j : IsJudged a a e) → ⊥ = λ j. let q : None ≡ Some (failure_of e) = sym j.had_not_failed ∙ h in cc in
     record {
       refuses = record { fails = fails_again a h; none = λ j. absurd (no j); first = λ j. absurd (no j) };
       just = λ j. absurd (no j);

@@ -5,6 +5,7 @@ use Rattle.std.specs.IoError.{error_kind}
 use Rattle.std.specs.declared.io.Error.{Error}
 use Rattle.std.specs.declared.io.ErrorKind.TheVariants.{UnexpectedEof}
 use Rattle.picky_der_core.specs.declared.error.Asn1DerError.{Asn1DerError}
+use Rattle.picky_der_core.specs.Failure.{failure_of}
 use Rattle.picky_der_core.specs.declared.error.Asn1DerError.TheVariants.{TruncatedData}
 use Rattle.picky_der_core.specs.Error.{kind_of}
 use Rattle.picky_der_core.specs.Reader.{IsFaultOrEnd, fault, end}
@@ -27,7 +28,7 @@ drawn_none (Some bs) n m e = omega arith
 
 -- the state behind it
 pub record StopsAt (old new : State) (e : Asn1DerError) : Type 0 where
-  pub failed : new.failed ≡ Some e
+  pub failed : new.failed ≡ Some (failure_of e)
   pub had_not_failed : old.failed ≡ None
   pub input : Keeps old.input new.input
   pub unpeeked : old.peeked ≡ None

@@ -3,6 +3,7 @@ use Rattle.std.proofs.Common.{◌≡◌, ℕ, ◌+◌, List, [], ◌++◌, lengt
 use Rattle.std.specs.Io.KnownBytes.{Consumes}
 use Rattle.std.proofs.KnownBytes.{Consumes-nil, Consumes-trans, Keeps-refl}
 use Rattle.picky_der_core.specs.declared.error.Asn1DerError.{Asn1DerError}
+use Rattle.picky_der_core.specs.Failure.{failure_of}
 use Rattle.picky_der_core.specs.Peeking.{count_of_any}
 use Rattle.picky_der_de.specs.State.{State}
 use Rattle.picky_der_de.specs.Steps.{Takes, Took, Fails, IsWithin, IsUnmoved, HasDrawn, IsJudged, drawn}
@@ -90,18 +91,18 @@ took_none : (a : State) → Took a a
 took_none a = record { bytes = []; input = Consumes-nil a.input; count = omega arith }
 
 -- it had failed before
-pub fails_again : (a : State) {e : Asn1DerError} → a.failed ≡ Some e → Fails a a e
+pub fails_again : (a : State) {e : Asn1DerError} → a.failed ≡ Some (failure_of e) → Fails a a e
 fails_again a {e} h = record {
   failed = h;
-  again = λ f w. (let q : Some e ≡ Some f = sym h ∙ w in cc, unmoved a);
+  again = λ f w. (let q : Some (failure_of e) ≡ Some f = sym h ∙ w in cc, unmoved a);
   faults = omega arith;
-  other = λ w. absurd (let q : None ≡ Some e = sym w ∙ h in cc);
-  fault = λ w. absurd (let q : None ≡ Some e = sym w ∙ h in cc);
+  other = λ w. absurd (let q : None ≡ Some (failure_of e) = sym w ∙ h in cc);
+  fault = λ w. absurd (let q : None ≡ Some (failure_of e) = sym w ∙ h in cc);
   took = took_none a;
   grows = omega arith;
   end = omega arith;
   limit = refl;
   within = λ w. w;
-  there = λ w. absurd (let q : None ≡ Some e = sym w ∙ h in cc);
+  there = λ w. absurd (let q : None ≡ Some (failure_of e) = sym w ∙ h in cc);
   through = refl;
 }

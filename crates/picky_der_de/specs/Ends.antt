@@ -1,6 +1,7 @@
 -- Ends, as they are opened and closed.
 use Rattle.std.specs.Prelude.{◌≡◌, ℕ, ◌+◌, ◌-◌, ◌<◌, ◌≤◌, List, Option, None, Some}
 use Rattle.picky_der_core.specs.declared.error.Asn1DerError.{Asn1DerError}
+use Rattle.picky_der_core.specs.declared.failure.Failure.{Failure}
 use Rattle.picky_der_core.specs.declared.error.Asn1DerError.TheVariants.{InvalidData}
 use Rattle.picky_der_core.specs.Refusal.{Refusal, header_refusal}
 use Rattle.picky_der_de.specs.declared.end.End.{End}
@@ -63,7 +64,7 @@ pub record RefusesList (tag : ℕ) (old new : State) (e : Asn1DerError) : Type 0
 -- A soft end was opened so many bytes from here, or it would have been past the innermost end, and then the deserializer has
 -- failed. One that had failed is as it was.
 pub record OpensLazily (len : ℕ) (old new : State) (outer : Outer) : Type 0 where
-  pub again : (f : Asn1DerError) → old.failed ≡ Some f → new ≡ old
+  pub again : (f : Failure) → old.failed ≡ Some f → new ≡ old
   pub past : old.failed ≡ None → old.room < len → new ≡ failed_with old (at_end old.end)
   pub opened : old.failed ≡ None → len ≤ old.room → new ≡ record (narrowed old len Soft) { direct = None }
   pub around : outer ≡ innermost old

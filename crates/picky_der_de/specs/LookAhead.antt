@@ -2,6 +2,7 @@
 use Rattle.std.specs.Prelude.{◌≡◌, ℕ, ◌+◌, ◌<◌, List, [], ◌∷◌, Option, None, Some, IfSome}
 use Rattle.std.specs.Io.KnownBytes.{Keeps}
 use Rattle.picky_der_core.specs.declared.error.Asn1DerError.{Asn1DerError}
+use Rattle.picky_der_core.specs.Failure.{failure_of}
 use Rattle.picky_der_core.specs.declared.error.Asn1DerError.TheVariants.{InvalidData}
 use Rattle.picky_der_core.specs.Element.{Begins}
 use Rattle.picky_der_core.specs.Refusal.{Refusal, missing}
@@ -50,7 +51,7 @@ pub record RefusesPeek (refusal : State → List ℕ → Option Refusal) (old ne
   pub fails : Fails old new e
   pub just : AreJustRefused (refusal old) old new e
   pub memory : TakesNoMemory old new e
-  pub same : new ≡ record old { input = new.input; failed = Some e; faults = new.faults }
+  pub same : new ≡ record old { input = new.input; failed = Some (failure_of e); faults = new.faults }
 
 -- ---- identifiers
 

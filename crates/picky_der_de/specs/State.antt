@@ -1,6 +1,6 @@
 -- What contracts see of a deserializer.
 use Rattle.std.specs.Prelude.{ℕ, List, Option, None}
-use Rattle.picky_der_core.specs.declared.error.Asn1DerError.{Asn1DerError}
+use Rattle.picky_der_core.specs.declared.failure.Failure.{Failure}
 use Rattle.picky_der_de.specs.declared.end.End.{End}
 use Rattle.picky_der_de.specs.declared.end.End.TheVariants.{Limit}
 
@@ -20,8 +20,8 @@ pub record State : Type 0 where
   pub last : Option (List ℕ)
   -- the number of the implicit tag directly under which it stands
   pub direct : Option ℕ
-  -- the error that it has failed with
-  pub failed : Option Asn1DerError
+  -- the kind of the error that it has failed with
+  pub failed : Option Failure
   -- how often the reader failed
   pub faults : ℕ
   -- the references that it reads through, outermost first

@@ -2,6 +2,8 @@
 use Rattle.std.specs.Prelude.{◌≡◌, ◌≢◌, ℕ, ◌+◌, ◌-◌, ◌^◌, ◌<◌, ◌≤◌, Bool, true, false, List, ◌++◌, length, take, Option, Some, None, IfSome, ⊤}
 use Rattle.std.specs.Io.KnownBytes.{Consumes, Keeps, IsAtEnd}
 use Rattle.picky_der_core.specs.declared.error.Asn1DerError.{Asn1DerError}
+use Rattle.picky_der_core.specs.declared.failure.Failure.{Failure}
+use Rattle.picky_der_core.specs.Failure.{failure_of}
 use Rattle.picky_der_core.specs.declared.error.Asn1DerError.TheVariants.{TruncatedData, Other, OutOfMemory}
 use Rattle.picky_der_core.specs.Error.{IsKindOfFault}
 use Rattle.picky_der_core.specs.Peeking.{count_of_any}
@@ -102,10 +104,10 @@ IsOfContent e = (IsOther e → ⊥) × (e ≢ OutOfMemory)
 abbrev pub HasDrawn : Option (List ℕ) → ℕ → ℕ → Type 0
 HasDrawn input taken n = IfSome input (λ bs. n ≤ taken + length bs)
 
--- it has failed with this error, or had failed with it
+-- it has failed with this error, or had failed with one of its kind
 pub record Fails (old new : State) (e : Asn1DerError) : Type 0 where
-  pub failed : new.failed ≡ Some e
-  pub again : (f : Asn1DerError) → old.failed ≡ Some f → (e ≡ f) × IsUnmoved old new
+  pub failed : new.failed ≡ Some (failure_of e)
+  pub again : (f : Failure) → old.failed ≡ Some f → (failure_of e ≡ f) × IsUnmoved old new
   pub faults : old.faults ≤ new.faults
   -- `Other` comes from a fault of the reader alone
   pub other : old.failed ≡ None → IsOther e → old.faults < new.faults
@@ -140,7 +142,7 @@ pub data IsMissing (s : State) (e : Asn1DerError) : Type 0 where
 
 -- it has failed with this error, and nothing else changed
 abbrev pub failed_with : State → Asn1DerError → State
-failed_with s e = record s { failed = Some e }
+failed_with s e = record s { failed = Some (failure_of e) }
 
 -- no byte came, and what was to be read is as it was
 pub record IsCut (old new : State) (n : ℕ) (e : Asn1DerError) : Type 0 where

@@ -1,6 +1,7 @@
 //! The deserializer.
-ghost use Rattle.std.specs.Prelude.{◌≡◌, ◌<◌, ◌∷◌, [], length, false, None, Some, IfOk, IfErr, OnOk};
+ghost use Rattle.std.specs.Prelude.{◌≡◌, ◌<◌, ◌^◌, ◌∷◌, [], length, false, None, Some, IfNone, IfSome, IfOk, IfErr, OnOk};
 ghost use Rattle.picky_der_de.specs.State.{fresh};
+ghost use Rattle.picky_der_core.specs.Failure.{failure_of};
 ghost use Rattle.picky_der_core.specs.Peeking.{in_front};
 ghost use Rattle.picky_der_de.specs.Steps.{Takes, TakesKept, StopsShort, Fails, IsMissing, IsOther, TakesNoMemory};
 
@@ -22,14 +23,14 @@ use crate::End;
 use arrayvec::ArrayVec;
 pub use ends::Outer;
 use picky_der_core::misc::{PeekableReader, ReadExt};
-use picky_der_core::{Asn1DerError, Result};
+use picky_der_core::{Asn1DerError, Failure, Result};
 use std::alloc::Global;
 use std::marker::Model;
 
 // How many bytes of a number or truth value are kept: one more than the longest content of a number has.
 const KEPT: usize = 18;
 
-/// Reads values from a reader. After an error it has failed: each later call answers that error and takes nothing.
+/// Reads values from a reader. After an error it has failed: each later call answers an error of its kind and takes nothing.
 #[derive(Drop)]
 pub struct Deserializer<R: ReadExt> {
     alloc: Global,
@@ -38,7 +39,7 @@ pub struct Deserializer<R: ReadExt> {
     room: usize,
     end: End,
     direct: Option<u8>,
-    failed: Option<Asn1DerError>,
+    failed: Option<Failure>,
     // What was lent last.
     content: Vec<u8>,
     text: String,
@@ -135,15 +136,27 @@ impl<R: ReadExt> Deserializer<R> {
         self.alloc
     }
 
+    // What it answers again where it has failed.
+    pub(crate) fn earlier(&self) -> Option<Asn1DerError>
+        ensures again { IfSome result (λ e. self.now.failed ≡ Some (failure_of e)) }
+        ensures not_failed { IfNone result (self.now.failed ≡ None) }
+        ensures bounded { self.now.room < 2 ^ 64 }
+    {
+        match self.failed {
+            Some(failure) => Some(failure.error()),
+            None => None,
+        }
+    }
+
     // Has failed from here on with an error that is no fault of the reader.
     pub(crate) fn fail(&mut self, error: Asn1DerError) -> Asn1DerError
         requires had_not_failed { self.old.failed ≡ None }
         requires no_fault { IsOther error → ⊥ }
         ensures error { result ≡ error }
-        ensures same { self.new ≡ record self.old { failed = Some error } }
+        ensures same { self.new ≡ record self.old { failed = Some (failure_of error) } }
         ensures fails { Fails self.old self.new result }
     {
-        self.failed = Some(error);
+        self.failed = Some(Failure::of(error));
         error
     }
 
@@ -154,9 +167,9 @@ impl<R: ReadExt> Deserializer<R> {
         ensures direct { OnOk result (self.new.direct ≡ self.old.direct) }
         ensures err { IfErr result (Fails self.old self.new) }
         ensures missing { IfErr result (λ e. self.old.failed ≡ None → self.new.faults ≡ self.old.faults → IsMissing self.old e) }
-        ensures unmoved { IfErr result (λ e. self.new ≡ record self.old { failed = Some e; faults = self.new.faults; input = self.new.input }) }
+        ensures unmoved { IfErr result (λ e. self.new ≡ record self.old { failed = Some (failure_of e); faults = self.new.faults; input = self.new.input }) }
     {
-        if let Some(error) = self.failed {
+        if let Some(error) = self.earlier() {
             return Err(error);
         }
         if self.room == 0 {
@@ -170,7 +183,7 @@ impl<R: ReadExt> Deserializer<R> {
             }
             Err(e) => {
                 let error = Asn1DerError::from(e);
-                self.failed = Some(error);
+                self.failed = Some(Failure::of(error));
                 Err(error)
             }
         }

@@ -1,6 +1,7 @@
 -- What is written of trees that are written alike.
 use Rattle.std.proofs.Common.{◌≡◌, ◌<◌, ◌^◌, List, [], ◌∷◌, length, true, Option, None, Some, sym, ap, ◌∙◌, subst, Result, Ok, Err, IfOk, IfErr, ℕ}
 use Rattle.std.specs.Prelude.{IfNone, IsTrue}
+use Rattle.picky_der_core.specs.declared.failure.Failure.{Failure}
 use Rattle.picky_der_core.specs.declared.misc.writer.WriteExt.{Ghosts}
 use Rattle.picky_der_core.specs.declared.error.Asn1DerError.{Asn1DerError}
 use Rattle.picky_der_core.specs.Tree.{Tree}
@@ -36,7 +37,7 @@ module _ {W : Type 0} (g : Ghosts W) where
   refused_in-alike [] t u old new e a h = refused-alike t u old new e a h
   refused_in-alike (l ∷ ls) t u old new e a h = (excuse_of_part (writable-alike u t (alike-sym t u a)) h.0, h.1)
 
-  refused_first-alike : (f : Option Asn1DerError) (ls : List Level) (t u : Tree) (old new : W) (e : Asn1DerError) → AreAlike t u → IfNone f (RefusedIn g ls t old e new) → IfNone f (RefusedIn g ls u old e new)
+  refused_first-alike : (f : Option Failure) (ls : List Level) (t u : Tree) (old new : W) (e : Asn1DerError) → AreAlike t u → IfNone f (RefusedIn g ls t old e new) → IfNone f (RefusedIn g ls u old e new)
   refused_first-alike None ls t u old new e a h = refused_in-alike ls t u old new e a h
   refused_first-alike (Some j) ls t u old new e a h = tt
 

@@ -2,6 +2,7 @@
 use Rattle.std.proofs.Common.{◌≡◌, ℕ, ◌<◌, false, ◌&&◌, List, [], length, None, Some, refl, sym, ap, ◌∙◌, subst, arith, length-append, Result, Ok, Err, IfOk, IfErr}
 use Rattle.std.proofs.lemmas.Bool.{lt-leb}
 use Rattle.std.specs.Prelude.{IfSome, IfNone, IsTrue}
+use Rattle.picky_der_core.specs.Failure.{failure_of}
 use Rattle.picky_der_core.specs.declared.asn1.wrapper.Wrapper.{Wrapper}
 use Rattle.picky_der_core.specs.declared.misc.writer.WriteExt.{Ghosts}
 use Rattle.picky_der_core.specs.declared.error.Asn1DerError.{Asn1DerError}
@@ -80,11 +81,11 @@ module _ {W : Type 0} (g : Ghosts W) (n : ℕ) (t : Tree) (old now : State W) (o
   pub application_refused : (new : State W) (d e : Asn1DerError) → Rejects g t now e new → d ≡ e → Fails g (Tree.application n t) old d new
   application_refused new d e h i =
       let sink : new.sink ≡ old.sink = h.same ∙ ap (λ (s : State W). s.sink) o.opened in
-      rw i (refused_part g (Tree.application n t) old new e (part_writable old.around n t) h.failed sink (subst (λ f. IfSome f (λ k. e ≡ k)) failed_at h.again) (subst (λ f. IfNone f (MemoryExcuse (IsWritable t) e)) failed_at h.first))
+      rw i (refused_part g (Tree.application n t) old new e (part_writable old.around n t) h.failed sink (subst (λ f. IfSome f (λ k. failure_of e ≡ k)) failed_at h.again) (subst (λ f. IfNone f (MemoryExcuse (IsWritable t) e)) failed_at h.first))
 
 module _ {W : Type 0} (g : Ghosts W) where
   -- a tag number past 30
-  pub application_past : (n : ℕ) (t : Tree) (old : State W) → 30 < n → old.failed ≡ None → Fails g (Tree.application n t) old UnsupportedValue (record old { failed = Some UnsupportedValue })
+  pub application_past : (n : ℕ) (t : Tree) (old : State W) → 30 < n → old.failed ≡ None → Fails g (Tree.application n t) old UnsupportedValue (record old { failed = Some (failure_of UnsupportedValue) })
   application_past n t old h f =
       let number : is_tag_number n ≡ false = lt-leb n 30 h in
       let past : has_tag_numbers (Tree.application n t) ≡ false = ap (λ b. b && has_tag_numbers t) number in

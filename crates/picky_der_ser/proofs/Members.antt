@@ -1,6 +1,8 @@
 -- A list that is being written: the members that it has, and those that it still awaits.
 use Rattle.std.proofs.Common.{◌≡◌, ℕ, List, [], ◌∷◌, ◌++◌, map, Option, None, Some, refl, sym, ap, ◌∙◌, subst, inl, inr, Result, Ok, Err, IfOk, IfErr}
 use Rattle.std.specs.Prelude.{IfSome, IfNone, IsTrue}
+use Rattle.picky_der_core.specs.Failure.{failure_of}
+use Rattle.picky_der_core.specs.declared.failure.Failure.{Failure}
 use Rattle.picky_der_core.specs.declared.misc.writer.WriteExt.{Ghosts}
 use Rattle.picky_der_core.specs.declared.error.Asn1DerError.{Asn1DerError}
 use Rattle.picky_der_core.specs.Tree.{ListKind, Tree, Trees, trees}
@@ -60,15 +62,15 @@ module _ {W : Type 0} (g : Ghosts W) where
   excused ls u sink e (no_way m n) part = rw m (refused_unwritable g ls u sink (λ w. n (part w)))
 
   -- nothing was written, for want of memory or a part that can't be written
-  pub refused_part : {Part : Type 0} (u : Tree) (old new : State W) (e : Asn1DerError) → (IsWritable (under old.around u) → Part) → new.failed ≡ Some e → new.sink ≡ old.sink
-      → IfSome old.failed (λ f. e ≡ f) → IfNone old.failed (MemoryExcuse Part e) → Fails g u old e new
+  pub refused_part : {Part : Type 0} (u : Tree) (old new : State W) (e : Asn1DerError) → (IsWritable (under old.around u) → Part) → new.failed ≡ Some (failure_of e) → new.sink ≡ old.sink
+      → IfSome old.failed (λ f. failure_of e ≡ f) → IfNone old.failed (MemoryExcuse Part e) → Fails g u old e new
   refused_part {Part} u old new e part failed same again first = record { failed = failed; again = earlier old.failed again; first = own old.failed first }
     where
-      earlier : (o : Option Asn1DerError) → IfSome o (λ f. e ≡ f) → IfSome o (λ f. (e ≡ f) × (new.sink ≡ old.sink))
+      earlier : (o : Option Failure) → IfSome o (λ f. failure_of e ≡ f) → IfSome o (λ f. (failure_of e ≡ f) × (new.sink ≡ old.sink))
       earlier None h = tt
       earlier (Some f) h = (h, same)
 
-      own : (o : Option Asn1DerError) → IfNone o (MemoryExcuse Part e) → IfNone o (RefusedIn g old.inside (under old.around u) old.sink e new.sink)
+      own : (o : Option Failure) → IfNone o (MemoryExcuse Part e) → IfNone o (RefusedIn g old.inside (under old.around u) old.sink e new.sink)
       own None h = rw same (excused old.inside (under old.around u) old.sink e h part)
       own (Some f) h = tt
 
@@ -79,7 +81,7 @@ module _ {W : Type 0} (g : Ghosts W) where
       let sink : new.sink ≡ old.sink = h.same ∙ ap (λ (s : State W). s.sink) a.is in
       let failed : now.failed ≡ old.failed = ap (λ (s : State W). s.failed) a.is in
       let part : IsWritable (under old.around (Tree.list kind all)) → Part = λ w. of_all a (subst (λ us. IsWritable (under old.around (Tree.list kind us))) a.split w) in
-      rw i (refused_part (Tree.list kind all) old new e part h.failed sink (subst (λ o. IfSome o (λ f. e ≡ f)) failed h.again) (subst (λ o. IfNone o (MemoryExcuse Part e)) failed h.first))
+      rw i (refused_part (Tree.list kind all) old new e part h.failed sink (subst (λ o. IfSome o (λ f. failure_of e ≡ f)) failed h.again) (subst (λ o. IfNone o (MemoryExcuse Part e)) failed h.first))
 
   -- a member was refused
   pub list_refused : (kind : ListKind) (rest all : Trees) (t : Tree) (old now new : State W) (d e : Asn1DerError) → Rejects g t now e new → d ≡ e → Awaits kind (Trees.more t rest) all old now → Fails g (Tree.list kind all) old d new

@@ -1,6 +1,7 @@
 -- Which plain values can be written.
 use Rattle.std.proofs.Common.{◌≡◌, ℕ, ◌+◌, ◌<◌, ◌^◌, Bool, true, false, ◌&&◌, List, [], ◌∷◌, length, None, Some, Err, refl, sym, ◌∙◌, arith, le-leb}
 use Rattle.std.proofs.lemmas.Bool.{lt-leb}
+use Rattle.picky_der_core.specs.Failure.{failure_of}
 use Rattle.picky_der_core.specs.declared.asn1.wrapper.Wrapper.{Wrapper}
 use Rattle.picky_der_core.specs.declared.asn1.wrapper.Wrapper.TheVariants.{OctetContainer, BitContainer, Explicit, Implicit}
 use Rattle.picky_der_core.specs.Tag.{number_of, is_tag_number, IsTagNumber}
@@ -56,7 +57,7 @@ module _ {W : Type 0} (g : Ghosts W) where
   refused_unwritable (l ∷ ls) t sink n = (no_way refl n, refl)
 
   -- a tag number past 30
-  pub plain_past : (tag : ℕ) (c : List ℕ) (old : State W) → 30 < number_of tag → old.failed ≡ None → g.later old.sink old.sink → WritesPlain g (Tree.bytes tag c) old (Err UnsupportedValue) (record old { failed = Some UnsupportedValue })
+  pub plain_past : (tag : ℕ) (c : List ℕ) (old : State W) → 30 < number_of tag → old.failed ≡ None → g.later old.sink old.sink → WritesPlain g (Tree.bytes tag c) old (Err UnsupportedValue) (record old { failed = Some (failure_of UnsupportedValue) })
   plain_past tag c old h f later =
       let t = Tree.bytes tag c in
       let past : has_tag_numbers t ≡ false = lt-leb (number_of tag) 30 h in

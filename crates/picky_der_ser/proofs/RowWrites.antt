@@ -2,6 +2,7 @@
 use Rattle.std.proofs.Common.{◌≡◌, List, [], ◌∷◌, ◌++◌, Option, None, Some, refl, sym, ap, ◌∙◌, subst, Result, Ok, Err, IfErr, append-nil, append_assoc}
 use Rattle.std.specs.Prelude.{IfSome, IfNone, IsSome, OnOk}
 use Rattle.std.specs.List.{concat}
+use Rattle.picky_der_core.specs.declared.failure.Failure.{Failure}
 use Rattle.picky_der_core.specs.declared.misc.writer.WriteExt.{Ghosts}
 use Rattle.picky_der_core.specs.declared.error.Asn1DerError.{Asn1DerError}
 use Rattle.picky_der_core.specs.declared.asn1.wrapper.Wrapper.{Wrapper}
@@ -65,7 +66,7 @@ module _ {W : Type 0} (g : Ghosts W) where
   pub row_starts : (ts : Trees) {t : Tree} {old new : State W} {e : Asn1DerError} → Rejects g t old e new → RejectsRow g (Trees.more t ts) old e new
   row_starts ts {t} {old} {new} {e} h = record { failed = h.failed; same = h.same; again = h.again; first = first old.failed h.first }
     where
-      first : (o : Option Asn1DerError) → IfNone o (MemoryExcuse (IsWritable t) e) → IfNone o (MemoryExcuse (AreWritable (Trees.more t ts)) e)
+      first : (o : Option Failure) → IfNone o (MemoryExcuse (IsWritable t) e) → IfNone o (MemoryExcuse (AreWritable (Trees.more t ts)) e)
       first None k = excuse_of_part (λ w. w.0) k
       first (Some f) k = tt
 

@@ -1,6 +1,7 @@
 -- What was written, seen from the state of a serializer.
 use Rattle.std.proofs.Common.{arith, ◌≡◌, ◌≢◌, ◌<◌, ◌^◌, IfSome, Option, ℕ, ◌≤◌, List, [], ◌∷◌, length, None, Some, refl, sym, ap, ◌∙◌, subst, Result, Ok, Err, IfOk, OnOk, IfErr, OnErr}
 use Rattle.std.specs.Io.KnownBytes.{Appends}
+use Rattle.picky_der_core.specs.Failure.{failure_of}
 use Rattle.picky_der_core.specs.declared.asn1.wrapper.Wrapper.{Wrapper}
 use Rattle.picky_der_core.specs.Writer.{AppendsTooFew, beginning_none}
 use Rattle.picky_der_core.specs.WriterFaults.{Faulted}
@@ -27,7 +28,7 @@ module _ {W : Type 0} (g : Ghosts W) where
   writes_outside t old new n f i j a b h q =
       record { had_not_failed = f; writable = h.writable; count = h.count; adds = adds_outside old.inside new.inside old.sink new.sink _ i j h.appends; closed = a; not_failed = b; no_fault = q }
 
-  pub fails_outside : (t : Tree) (old new : State W) (e : Asn1DerError) → old.failed ≡ None → old.inside ≡ [] → new.failed ≡ Some e → Refused g (under old.around t) old.sink e new.sink → Fails g t old e new
+  pub fails_outside : (t : Tree) (old new : State W) (e : Asn1DerError) → old.failed ≡ None → old.inside ≡ [] → new.failed ≡ Some (failure_of e) → Refused g (under old.around t) old.sink e new.sink → Fails g t old e new
   fails_outside t old new e f i b h =
       let u = under old.around t in
       let first : RefusedIn g old.inside u old.sink e new.sink = subst (λ ls. RefusedIn g ls u old.sink e new.sink) (sym i) h in
@@ -48,7 +49,7 @@ module _ {W : Type 0} (g : Ghosts W) where
   refused_memory [] t sink = record { begins = beginning_none (g.told sink) (der t); excuse = no_memory refl }
   refused_memory (l ∷ ls) t sink = (no_room refl, refl)
 
-  pub fails_memory : (t : Tree) (old new : State W) (e : Asn1DerError) → old.failed ≡ None → e ≡ OutOfMemory → new.failed ≡ Some e → new.sink ≡ old.sink → Fails g t old e new
+  pub fails_memory : (t : Tree) (old new : State W) (e : Asn1DerError) → old.failed ≡ None → e ≡ OutOfMemory → new.failed ≡ Some (failure_of e) → new.sink ≡ old.sink → Fails g t old e new
   fails_memory t old new e f m b s =
       let first : RefusedIn g old.inside (under old.around t) old.sink e new.sink = rw (m, s) (refused_memory old.inside (under old.around t) old.sink) in
       record { failed = b; again = rw f tt; first = rw f first }
@@ -57,7 +58,7 @@ module _ {W : Type 0} (g : Ghosts W) where
 
   -- the sink took what it took, and then the outcome was settled
   pub plain_outside : (t : Tree) (old new : State W) (mid : W) (levels : List Level) (r s : Result ℕ Asn1DerError) → s ≡ r → new.sink ≡ mid → new.inside ≡ levels → IsWritable t → old.failed ≡ None → old.inside ≡ []
-      → OnOk r (levels ≡ []) → OnOk r ((new.around ≡ []) × (new.failed ≡ old.failed)) → IfErr r (λ e. new.failed ≡ Some e)
+      → OnOk r (levels ≡ []) → OnOk r ((new.around ≡ []) × (new.failed ≡ old.failed)) → IfErr r (λ e. new.failed ≡ Some (failure_of e))
       → IfOk r (λ n. Wrote g (under old.around t) old.sink n mid) → IfErr r (λ e. Refused g (under old.around t) old.sink e mid) → IfErr r (λ e. old.around ≡ [] → Faulted g old.sink e mid)
       → OnOk r (g.faults mid ≡ g.faults old.sink) → g.faults old.sink ≤ g.faults mid → g.later old.sink mid → WritesPlain g t old s new
   plain_outside t old new mid levels (Ok n) s is same x w f i j a b h k m q c l = rw is (record {

@@ -3,6 +3,8 @@ use Rattle.std.proofs.Common.{◌≡◌, ℕ, false, List, [], ◌∷◌, ◌++�
 use Rattle.std.specs.Prelude.{IfSome, IfNone, ◌⊎◌}
 use Rattle.std.proofs.Common.{inl, inr}
 use Rattle.std.proofs.lemmas.Bool.Decides.{leb_tells}
+use Rattle.picky_der_core.specs.Failure.{failure_of}
+use Rattle.picky_der_core.specs.declared.failure.Failure.{Failure}
 use Rattle.picky_der_core.specs.declared.asn1.wrapper.Wrapper.{Wrapper}
 use Rattle.picky_der_core.specs.declared.asn1.wrapper.Wrapper.TheVariants.{OctetContainer, BitContainer, Explicit, Implicit}
 use Rattle.picky_der_core.specs.Tag.{IsTagNumber}
@@ -76,11 +78,11 @@ module _ {W : Type 0} (g : Ghosts W) where
       u : Tree
       u = under old.around (wrap w t)
 
-      again : (f : Option Asn1DerError) → IfSome f (λ k. e ≡ k) → IfSome f (λ k. (e ≡ k) × (new.sink ≡ old.sink))
+      again : (f : Option Failure) → IfSome f (λ k. failure_of e ≡ k) → IfSome f (λ k. (failure_of e ≡ k) × (new.sink ≡ old.sink))
       again None k = tt
       again (Some x) k = (k, h.same)
 
-      first : (f : Option Asn1DerError) → f ≡ old.failed → IfNone f (RefusedIn g old.inside u old.sink e new.sink)
+      first : (f : Option Failure) → f ≡ old.failed → IfNone f (RefusedIn g old.inside u old.sink e new.sink)
       first (Some x) q = tt
       first None q = elim (has_or_not w) [
         | inl few ↦ rw (h.memory (sym q) few, h.same) (refused_memory g old.inside u old.sink)

@@ -1,12 +1,13 @@
 -- What the calls of a serializer do.
-use Rattle.std.specs.Prelude.{◌≡◌, ℕ, List, [], ◌∷◌, length, None, Some, IfSome, IfNone, Result, Err, IfOk, IfErr, ⊤, ◌<◌, ◌≤◌}
+use Rattle.std.specs.Prelude.{◌≡◌, ℕ, List, [], ◌∷◌, length, None, Some, IfSome, IfNone, Option, Result, Err, IfOk, IfErr, ⊤, ◌<◌, ◌≤◌}
 use Rattle.picky_der_core.specs.declared.asn1.wrapper.Wrapper.{Wrapper}
 use Rattle.std.specs.Io.KnownBytes.{Appends}
-use Rattle.std.specs.Option.{unwrap_or}
 use Rattle.picky_der_core.specs.Writer.{AppendsBeginning}
 use Rattle.picky_der_core.specs.WriterFaults.{Faulted}
 use Rattle.picky_der_core.specs.declared.misc.writer.WriteExt.{Ghosts}
 use Rattle.picky_der_core.specs.declared.error.Asn1DerError.{Asn1DerError}
+use Rattle.picky_der_core.specs.declared.failure.Failure.{Failure}
+use Rattle.picky_der_core.specs.Failure.{failure_of}
 use Rattle.picky_der_core.specs.declared.error.Asn1DerError.TheVariants.{UnsupportedValue, UnsupportedType, OutOfMemory}
 use Rattle.picky_der_core.specs.Tree.{Tree, Trees}
 use Rattle.picky_der_core.specs.Encoding.{encodings, der}
@@ -26,13 +27,18 @@ pub data MemoryExcuse (Possible : Type 0) (e : Asn1DerError) : Type 0 where
   no_room : e ≡ OutOfMemory → MemoryExcuse Possible e
   no_way : e ≡ UnsupportedValue → ¬ Possible → MemoryExcuse Possible e
 
+-- this error, unless it had failed before, and then one of the kind that it has failed with
+abbrev pub IsAnswer : Option Failure → Asn1DerError → Asn1DerError → Type 0
+IsAnswer None kind e = e ≡ kind
+IsAnswer (Some f) kind e = failure_of e ≡ f
+
 -- the call refuses what isn't supported, whatever the value, and nothing but that becomes of the serializer
 abbrev pub IsUnsupported : {W : Type 0} → State W → Result ℕ Asn1DerError → State W → Type 0
-IsUnsupported old r new = let e = unwrap_or old.failed UnsupportedType in (r ≡ Err e) × (new ≡ record old { failed = Some e })
+IsUnsupported old r new = (e : Asn1DerError) × (r ≡ Err e) × IsAnswer old.failed UnsupportedType e × (new ≡ record old { failed = Some (failure_of e) })
 
 -- it had failed with this error, and nothing was done
 pub record HadFailed {W : Type 0} (old : State W) (e : Asn1DerError) (new : State W) : Type 0 where
-  pub again : old.failed ≡ Some e
+  pub again : old.failed ≡ Some (failure_of e)
   pub same : new ≡ old
 
 module _ {W : Type 0} (g : Ghosts W) where
@@ -78,8 +84,8 @@ module _ {W : Type 0} (g : Ghosts W) where
 
   -- the call answered an error in place of writing the tree
   pub record Fails (t : Tree) (old : State W) (e : Asn1DerError) (new : State W) : Type 0 where
-    pub failed : new.failed ≡ Some e
-    pub again : IfSome old.failed (λ f. (e ≡ f) × (new.sink ≡ old.sink))
+    pub failed : new.failed ≡ Some (failure_of e)
+    pub again : IfSome old.failed (λ f. (failure_of e ≡ f) × (new.sink ≡ old.sink))
     pub first : IfNone old.failed (RefusedIn old.inside (under old.around t) old.sink e new.sink)
 
   -- outside wrappers and levels only the sink can refuse a plain value that can be written, since no memory is taken
@@ -110,9 +116,9 @@ module _ {W : Type 0} (g : Ghosts W) where
 
   -- it stopped with this error: it had failed so, or memory was refused; nothing was written
   pub record Stops (old : State W) (e : Asn1DerError) (new : State W) : Type 0 where
-    pub failed : new.failed ≡ Some e
+    pub failed : new.failed ≡ Some (failure_of e)
     pub same : new.sink ≡ old.sink
-    pub again : IfSome old.failed (λ f. e ≡ f)
+    pub again : IfSome old.failed (λ f. failure_of e ≡ f)
     pub first : IfNone old.failed (e ≡ OutOfMemory)
 
   -- a level was opened under this header, and took the open wrappers with it
@@ -127,9 +133,9 @@ module _ {W : Type 0} (g : Ghosts W) where
 
   -- It stopped with this error, and nothing was written: it had failed so, memory was refused, or what was to be added can't be written.
   pub record StopsBefore (Possible : Type 0) (old : State W) (e : Asn1DerError) (new : State W) : Type 0 where
-    pub failed : new.failed ≡ Some e
+    pub failed : new.failed ≡ Some (failure_of e)
     pub same : new.sink ≡ old.sink
-    pub again : IfSome old.failed (λ f. e ≡ f)
+    pub again : IfSome old.failed (λ f. failure_of e ≡ f)
     pub first : IfNone old.failed (MemoryExcuse Possible e)
 
   -- the tree wasn't added
@@ -152,9 +158,11 @@ module _ {W : Type 0} (g : Ghosts W) where
   RejectsRow Trees.none old e new = ⊥
   RejectsRow (Trees.more t ts) old e new = StopsBefore (AreWritable (Trees.more t ts)) old e new
 
-  -- one that had failed answered that error again, and wrote nothing
-  pub record AnswersAgain (old : W) (f : Asn1DerError) (r : Result ℕ Asn1DerError) (new : State W) : Type 0 where
-    pub is : r ≡ Err f
+  -- one that had failed answered one of that kind again, and wrote nothing
+  pub record AnswersAgain (old : W) (f : Failure) (r : Result ℕ Asn1DerError) (new : State W) : Type 0 where
+    pub error : Asn1DerError
+    pub is : r ≡ Err error
+    pub kind : failure_of error ≡ f
     pub same : new.sink ≡ old
     pub failed : new.failed ≡ Some f
 
@@ -174,8 +182,8 @@ module _ {W : Type 0} (g : Ghosts W) where
 
   -- It stopped with this error before a wrapper was opened, and nothing was written. A tag number past 30 is told before all else.
   pub record Declines (w : Wrapper) (old : State W) (e : Asn1DerError) (new : State W) : Type 0 where
-    pub failed : new.failed ≡ Some e
+    pub failed : new.failed ≡ Some (failure_of e)
     pub same : new.sink ≡ old.sink
-    pub again : IfSome old.failed (λ f. e ≡ f)
+    pub again : IfSome old.failed (λ f. failure_of e ≡ f)
     pub past : old.failed ≡ None → ¬ HasTagNumber w → e ≡ UnsupportedValue
     pub memory : old.failed ≡ None → HasTagNumber w → e ≡ OutOfMemory

@@ -2,8 +2,8 @@
 use Rattle.std.specs.Prelude.{ℕ, List, ◌++◌, Option, refl}
 use Rattle.std.specs.List.{concat}
 use Rattle.std.specs.Coded.{Coded, code_by, coded×, coded_list, coded_option, coded_ℕ}
-use Rattle.picky_der_core.specs.declared.error.Asn1DerError.{Asn1DerError}
-use Rattle.picky_der_core.specs.contracts.error.Asn1DerError as error
+use Rattle.picky_der_core.specs.declared.failure.Failure.{Failure}
+use Rattle.picky_der_core.specs.contracts.failure.Failure as failure
 use Rattle.picky_der_core.specs.declared.asn1.wrapper.Wrapper.{Wrapper}
 use Rattle.picky_der_core.specs.contracts.asn1.wrapper.Wrapper as wrapper
 use Rattle.picky_der_ser.specs.declared.header.Header.{Header}
@@ -50,8 +50,8 @@ pub record State (W : Type 0) : Type 0 where
   pub sink : W
   -- the open wrappers, outermost first
   pub around : List Wrapper
-  -- the error that it has failed with
-  pub failed : Option Asn1DerError
+  -- the kind of the error that it has failed with
+  pub failed : Option Failure
   -- the levels of which a member is being written, innermost first
   pub inside : List Level
   -- the level that was opened last, until it ends or another call is made
@@ -59,8 +59,8 @@ pub record State (W : Type 0) : Type 0 where
 
 abbrev pub state_code : {W : Type 0} → Coded W → Coded (State W)
 state_code {W} sink =
-    code_by (W × (List Wrapper × (Option Asn1DerError × (List Level × Option Level))))
-    (coded× sink (coded× (coded_list wrapper.the_row.coded) (coded× (coded_option error.the_row.coded) (coded× (coded_list level_code) (coded_option level_code)))))
+    code_by (W × (List Wrapper × (Option Failure × (List Level × Option Level))))
+    (coded× sink (coded× (coded_list wrapper.the_row.coded) (coded× (coded_option failure.the_row.coded) (coded× (coded_list level_code) (coded_option level_code)))))
     (λ s. (s.sink, (s.around, (s.failed, (s.inside, s.pending)))))
     (λ p. record { sink = p.0; around = p.1.0; failed = p.1.1.0; inside = p.1.1.1.0; pending = p.1.1.1.1 })
     (λ _. refl)

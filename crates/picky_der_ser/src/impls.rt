@@ -4,6 +4,7 @@ mod bytes;
 mod lists;
 mod numbers;
 mod options;
+mod references;
 mod texts;
 mod tuples;
 mod wrappers;

@@ -80,7 +80,7 @@ impl<W: WriteExt> Serializer<W> {
         ensures had_not_failed { OnOk result (self.old.failed ≡ None) }
         ensures opened { IfOk result (λ q. Opens W.WriteExt.own (Header.Tagged tag) self.old q.ser.now) }
     {
-        if let Some(error) = self.failure() {
+        if let Some(error) = self.earlier() {
             return Err(error);
         }
         Ok(Sequence::serialize_lazy(self, tag))

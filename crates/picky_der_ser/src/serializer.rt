@@ -1,6 +1,7 @@
 //! The serializer.
 ghost use Rattle.std.specs.Prelude.{◌≡◌, ◌<◌, ◌≤◌, [], None, Some, false, IfOk, IfErr, OnOk};
 ghost use Rattle.std.specs.Io.KnownBytes.{Appends};
+ghost use Rattle.picky_der_core.specs.Failure.{failure_of};
 ghost use Rattle.picky_der_core.specs.Tree.{Tree};
 ghost use Rattle.picky_der_ser.specs.Calls.{Writes, Fails, WritesAbsent};
 
@@ -14,7 +15,7 @@ mod wrapper;
 use crate::levels::Levels;
 use picky_der_core::asn1::Wrapper;
 use picky_der_core::misc::{BufSink, SliceSink, WriteExt};
-use picky_der_core::{Asn1DerError, Result};
+use picky_der_core::{Asn1DerError, Failure, Result};
 use std::alloc::Global;
 use std::marker::Model;
 
@@ -35,7 +36,7 @@ pub trait Serialize {
         ensures goes_on { W.later ser.old.sink ser.new.sink };
 }
 
-/// Writes values to a sink. After an error it has failed: each later call answers that error and writes nothing.
+/// Writes values to a sink. After an error it has failed: each later call answers an error of its kind and writes nothing.
 ///
 /// A call that writes a value answers `UnsupportedValue` for one that can't be written; `OutOfMemory` where memory is
 /// refused, which only wrappers, sequences and application tags take; and else the sink's fault: `InvalidSink` where it
@@ -45,7 +46,7 @@ pub struct Serializer<W: WriteExt> {
     sink: W,
     // The open wrappers, the outermost first.
     around: Vec<Wrapper>,
-    failed: Option<Asn1DerError>,
+    failed: Option<Failure>,
     levels: Levels,
     alloc: Global,
 }
@@ -141,7 +142,7 @@ impl<W: WriteExt> Serializer<W> {
     pub fn serialize_none(&mut self) -> Result<usize>
         ensures { WritesAbsent W.WriteExt.own self.old result self.new }
     {
-        if let Some(error) = self.failed {
+        if let Some(error) = self.earlier() {
             return Err(error);
         }
         self.levels.give_up();
@@ -169,9 +170,9 @@ impl<W: WriteExt> Serializer<W> {
     // Has failed from here on.
     pub(crate) fn fail(&mut self, error: Asn1DerError) -> Asn1DerError
         ensures error { result ≡ error }
-        ensures same { self.new ≡ record self.old { failed = Some error } }
+        ensures same { self.new ≡ record self.old { failed = Some (failure_of error) } }
     {
-        self.failed = Some(error);
+        self.failed = Some(Failure::of(error));
         error
     }
 
@@ -180,7 +181,7 @@ impl<W: WriteExt> Serializer<W> {
         ensures same { result ≡ outcome }
         ensures sink { (self.new.sink ≡ self.old.sink) × (self.new.inside ≡ self.old.inside) }
         ensures ok { OnOk outcome ((self.new.around ≡ []) × (self.new.failed ≡ self.old.failed)) }
-        ensures err { IfErr outcome (λ e. self.new.failed ≡ Some e) }
+        ensures err { IfErr outcome (λ e. self.new.failed ≡ Some (failure_of e)) }
     {
         match outcome {
             Ok(count) => {
@@ -188,7 +189,7 @@ impl<W: WriteExt> Serializer<W> {
                 Ok(count)
             }
             Err(error) => {
-                self.failed = Some(error);
+                self.failed = Some(Failure::of(error));
                 Err(error)
             }
         }

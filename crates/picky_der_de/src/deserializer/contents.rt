@@ -1,11 +1,12 @@
 //! Contents, which are drawn in pieces.
+ghost use Rattle.picky_der_core.specs.Failure.{failure_of};
 ghost use Rattle.std.specs.Prelude.{◌≡◌, ◌<◌, ℕ, List, length, None, Some, IfOk, IfErr, OnOk};
 ghost use Rattle.picky_der_core.specs.Shape.{AreBytes};
 ghost use Rattle.picky_der_de.specs.Steps.{Takes, TakesBytes, TakesBehind, TakesPiece, StopsShort, Fails, IsMissing, TakesNoMemory};
 
 use super::Deserializer;
 use picky_der_core::misc::ReadExt;
-use picky_der_core::{Asn1DerError, Result};
+use picky_der_core::{Asn1DerError, Failure, Result};
 
 // At most so many bytes are drawn at a time, whatever length a content is said to have.
 const PIECE: usize = 512;
@@ -71,7 +72,7 @@ impl<R: ReadExt> Deserializer<R> {
         ensures direct { OnOk result (self.new.direct ≡ self.old.direct) }
         ensures err { IfErr result (Fails self.old self.new) }
         ensures missing { IfErr result (λ e. self.old.failed ≡ None → self.new.faults ≡ self.old.faults → IsMissing self.old e) }
-        ensures unmoved { IfErr result (λ e. self.new ≡ record self.old { failed = Some e; faults = self.new.faults; input = self.new.input }) }
+        ensures unmoved { IfErr result (λ e. self.new ≡ record self.old { failed = Some (failure_of e); faults = self.new.faults; input = self.new.input }) }
     {
         if self.room == 0 {
             let error = self.end.missing();
@@ -86,7 +87,7 @@ impl<R: ReadExt> Deserializer<R> {
             }
             Err(e) => {
                 let error = Asn1DerError::from(e);
-                self.failed = Some(error);
+                self.failed = Some(Failure::of(error));
                 Err(error)
             }
         }

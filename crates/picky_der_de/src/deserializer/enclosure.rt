@@ -68,7 +68,7 @@ impl<R: ReadExt> Deserializer<R> {
         ensures err { IfErr result (RefusesOpening enclosure self.old self.new) }
         ensures unsupported { (HasNumber enclosure → ⊥) → self.old.failed ≡ None → (result ≡ Err Asn1DerError.UnsupportedValue) × (self.new ≡ failed_with self.old Asn1DerError.UnsupportedValue) }
     {
-        if let Some(error) = self.failed {
+        if let Some(error) = self.earlier() {
             return Err(error);
         }
         let Some(tag) = tag_of(enclosure) else {

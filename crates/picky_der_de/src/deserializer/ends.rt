@@ -1,4 +1,5 @@
 //! Ends, opened and closed. No other file changes what the innermost end is.
+ghost use Rattle.picky_der_core.specs.Failure.{failure_of};
 ghost use Rattle.std.specs.Prelude.{◌≡◌, ◌+◌, ◌≤◌, ◌<◌, ◌↔◌, None, Some, IsTrue, IfOk, IfErr, OnOk};
 ghost use Rattle.picky_der_core.specs.Tag.{number_of, IsTagNumber};
 ghost use Rattle.picky_der_de.specs.Ends.{innermost, narrowed, Closes, RefusesClose, OpensList, RefusesList, OpensLazily};
@@ -7,7 +8,7 @@ use super::Deserializer;
 use crate::End;
 use picky_der_core::asn1::Tag;
 use picky_der_core::misc::ReadExt;
-use picky_der_core::{Asn1DerError, Result};
+use picky_der_core::{Asn1DerError, Failure, Result};
 use std::marker::Model;
 
 /// The end around an open one, which is put back where that is closed.
@@ -65,7 +66,7 @@ impl<R: ReadExt> Deserializer<R> {
             return self.open_end(len, End::Soft);
         }
         if self.failed.is_none() {
-            self.failed = Some(self.end.missing());
+            self.failed = Some(Failure::of(self.end.missing()));
         }
         Outer {
             place: self.reader.pos() + self.room,
@@ -79,7 +80,7 @@ impl<R: ReadExt> Deserializer<R> {
         ensures ok { OnOk result (Closes outer self.old self.new) }
         ensures err { IfErr result (RefusesClose self.old self.new) }
     {
-        if let Some(error) = self.failed {
+        if let Some(error) = self.earlier() {
             return Err(error);
         }
         if self.room > 0 {
@@ -93,9 +94,9 @@ impl<R: ReadExt> Deserializer<R> {
     // Whether the innermost end is here.
     pub(crate) fn is_at_end(&self) -> Result<bool>
         ensures ok { IfOk result (λ here. (self.now.failed ≡ None) × (IsTrue here ↔ (self.now.room ≡ 0))) }
-        ensures err { IfErr result (λ e. self.now.failed ≡ Some e) }
+        ensures err { IfErr result (λ e. self.now.failed ≡ Some (failure_of e)) }
     {
-        match self.failed {
+        match self.earlier() {
             Some(error) => Err(error),
             None => Ok(self.room == 0),
         }

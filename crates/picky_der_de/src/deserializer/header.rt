@@ -95,7 +95,7 @@ impl<R: ReadExt> Deserializer<R> {
         ensures err { IfErr result (RefusesBegin tag self.old self.new) }
         ensures memory { IfErr result (TakesNoMemory self.old self.new) }
     {
-        if let Some(error) = self.failed {
+        if let Some(error) = self.earlier() {
             return Err(error);
         }
         if self.direct.is_some() {

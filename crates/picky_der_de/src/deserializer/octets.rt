@@ -26,7 +26,7 @@ impl<R: ReadExt> Deserializer<R> {
         ensures err { IfErr result (RefusesBytes tag self.old self.new) }
         ensures unsupported { 30 < number_of tag → self.old.failed ≡ None → (result ≡ Err Asn1DerError.UnsupportedValue) × (self.new ≡ failed_with self.old Asn1DerError.UnsupportedValue) }
     {
-        if let Some(error) = self.failed {
+        if let Some(error) = self.earlier() {
             return Err(error);
         }
         if tag.number() > Tag::MAX_NUMBER {

@@ -5,7 +5,7 @@ ghost use Rattle.picky_der_de.specs.LookAhead.{TellsChoice, RefusesChoice, Ident
 use super::Deserializer;
 use picky_der_core::asn1::Tag;
 use picky_der_core::misc::ReadExt;
-use picky_der_core::{Asn1DerError, Result};
+use picky_der_core::{Asn1DerError, Failure, Result};
 
 impl<R: ReadExt> Deserializer<R> {
     // The next byte before the innermost end, which is left.
@@ -23,7 +23,7 @@ impl<R: ReadExt> Deserializer<R> {
             Ok(byte) => Ok(Tag::from(byte)),
             Err(e) => {
                 let error = Asn1DerError::from(e);
-                self.failed = Some(error);
+                self.failed = Some(Failure::of(error));
                 Err(error)
             }
         }
@@ -38,7 +38,7 @@ impl<R: ReadExt> Deserializer<R> {
         ensures ok { IfOk result (Identifies self.old self.new) }
         ensures err { IfErr result (RefusesIdentifier self.old self.new) }
     {
-        if let Some(error) = self.failed {
+        if let Some(error) = self.earlier() {
             return Err(error);
         }
         match self.direct {
@@ -60,7 +60,7 @@ impl<R: ReadExt> Deserializer<R> {
         ensures ok { IfOk result (TellsChoice self.old self.new) }
         ensures err { IfErr result (RefusesChoice self.old self.new) }
     {
-        if let Some(error) = self.failed {
+        if let Some(error) = self.earlier() {
             return Err(error);
         }
         match self.direct {

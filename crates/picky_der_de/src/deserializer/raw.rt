@@ -29,7 +29,7 @@ impl<R: ReadExt> Deserializer<R> {
         ensures err { IfErr result (RefusesRaw self.old self.new) }
         ensures memory { IfErr result (TakesNoMemory self.old self.new) }
     {
-        if let Some(error) = self.failed {
+        if let Some(error) = self.earlier() {
             return Err(error);
         }
         self.direct = None;

@@ -19,7 +19,7 @@ impl<R: ReadExt> Deserializer<R> {
         ensures is { FailsAs kind self.old result self.new }
         ensures fails { Fails self.old self.new result }
     {
-        match self.failed {
+        match self.earlier() {
             Some(error) => error,
             None => self.fail(kind),
         }

@@ -23,7 +23,7 @@ impl<W: WriteExt> Serializer<W> {
         ensures counted { W.faults self.old.sink ≤ W.faults self.new.sink }
         ensures goes_on { W.later self.old.sink self.new.sink }
     {
-        if let Some(error) = self.failed {
+        if let Some(error) = self.earlier() {
             return Err(error);
         }
         if number > Tag::MAX_NUMBER {

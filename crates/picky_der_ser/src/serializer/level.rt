@@ -1,5 +1,6 @@
 //! Levels, as a serializer opens and ends them.
 ghost use Rattle.std.specs.Prelude.{◌≡◌, ◌≢◌, ◌≤◌, List, [], ◌∷◌, None, Some, IfSome, IfNone, IsSome, IfOk, IfErr, OnOk};
+ghost use Rattle.picky_der_core.specs.Failure.{failure_of};
 ghost use Rattle.picky_der_core.specs.Wrapper.{under};
 ghost use Rattle.picky_der_ser.specs.Heading.{tree_of};
 ghost use Rattle.picky_der_ser.specs.Headers.{HasNumber};
@@ -98,7 +99,7 @@ impl<W: WriteExt> Serializer<W> {
         requires { IfNone self.old.failed (IsSome self.old.pending) }
         ensures { Finishes W.WriteExt.own self.old result self.new }
     {
-        if let Some(error) = self.failed {
+        if let Some(error) = self.earlier() {
             return Err(error);
         }
         if self.levels.is_inside() {
@@ -114,7 +115,7 @@ impl<W: WriteExt> Serializer<W> {
         ensures had_not_failed { OnOk result (self.old.failed ≡ None) }
         ensures err { IfErr result (λ e. Stops W.WriteExt.own self.old e self.new) }
     {
-        if let Some(error) = self.failed {
+        if let Some(error) = self.earlier() {
             return Err(error);
         }
         let Ok(()) = self.levels.enter() else {
@@ -144,10 +145,14 @@ impl<W: WriteExt> Serializer<W> {
         Ok(())
     }
 
-    // The error that it has failed with.
-    pub(crate) fn failure(&self) -> Option<Asn1DerError>
-        ensures { result ≡ self.now.failed }
+    // What it answers again where it has failed.
+    pub(crate) fn earlier(&self) -> Option<Asn1DerError>
+        ensures again { IfSome result (λ e. self.now.failed ≡ Some (failure_of e)) }
+        ensures not_failed { IfNone result (self.now.failed ≡ None) }
     {
-        self.failed
+        match self.failed {
+            Some(failure) => Some(failure.error()),
+            None => None,
+        }
     }
 }

@@ -19,7 +19,7 @@ impl<W: WriteExt> Serializer<W> {
         requires { IsTagNumber (number_of tag) }
         ensures { WritesPlain W.WriteExt.own (Tree.bytes tag content.now) self.old result self.new }
     {
-        if let Some(error) = self.failed {
+        if let Some(error) = self.earlier() {
             return Err(error);
         }
         if self.levels.is_inside() {
@@ -159,12 +159,11 @@ impl<W: WriteExt> Serializer<W> {
     pub fn serialize_tagged_bytes(&mut self, tag: Tag, content: &[u8]) -> Result<usize>
         ensures { WritesPlain W.WriteExt.own (Tree.bytes tag content.now) self.old result self.new }
     {
-        if let Some(error) = self.failed {
+        if let Some(error) = self.earlier() {
             return Err(error);
         }
         if tag.number() > Tag::MAX_NUMBER {
-            self.failed = Some(Asn1DerError::UnsupportedValue);
-            return Err(Asn1DerError::UnsupportedValue);
+            return Err(self.fail(Asn1DerError::UnsupportedValue));
         }
         self.write_plain(tag, content)
     }

@@ -27,7 +27,7 @@ impl<W: WriteExt> Serializer<W> {
     pub fn serialize_raw(&mut self, bytes: &[u8]) -> Result<usize>
         ensures { WritesPlain W.WriteExt.own (Tree.raw bytes.now) self.old result self.new }
     {
-        if let Some(error) = self.failed {
+        if let Some(error) = self.earlier() {
             return Err(error);
         }
         if self.levels.is_inside() {

@@ -11,7 +11,7 @@ impl<W: WriteExt> Serializer<W> {
     fn refuse_type(&mut self) -> Result<usize>
         ensures { IsUnsupported self.old result self.new }
     {
-        match self.failed {
+        match self.earlier() {
             Some(error) => Err(error),
             None => Err(self.fail(Asn1DerError::UnsupportedType)),
         }

@@ -28,7 +28,7 @@ impl<W: WriteExt> Serializer<W> {
         ensures number { OnOk result (HasTagNumber wrapper) }
         ensures err { IfErr result (λ e. Declines W.WriteExt.own wrapper self.old e self.new) }
     {
-        if let Some(error) = self.failed {
+        if let Some(error) = self.earlier() {
             return Err(error);
         }
         if !has_tag_number(wrapper) {

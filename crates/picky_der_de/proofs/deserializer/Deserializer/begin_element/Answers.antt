@@ -1,5 +1,6 @@
 use Rattle.std.proofs.Common.{◌≡◌, ◌<◌, ◌≤◌, Some, arith}
 use Rattle.std.proofs.lemmas.Result.{err_from_is_err_and}
+use Rattle.picky_der_core.specs.Failure.{failure_of}
 use Rattle.picky_der_core.specs.Tag.{number_of}
 use Rattle.picky_der_de.specs.Steps.{Fails, IsJudged, IsMissing}
 use Rattle.picky_der_de.specs.Elements.{given_up}
@@ -14,11 +15,11 @@ returns-in_err-next_byte-clause-err g c =
     let old = given_up c.args.self.now in
     let new = c.next_byte.new.self in
     let error = c.in_err-next_byte.field-0.0 in
-    let unmoved : new ≡ record old { failed = Some error; faults = new.faults; input = new.input } = rw (← c.self.view_is) e.unmoved in
+    let unmoved : new ≡ record old { failed = Some (failure_of error); faults = new.faults; input = new.input } = rw (← c.self.view_is) e.unmoved in
     let fails : Fails old new error = rw (← c.self.view_is) e.err in
     let missing : IsJudged c.args.self.now new error → IsMissing old error = rw (← c.self.view_is) (λ j. e.missing j.had_not_failed j.faults) in
-    let taken = unmoved_taken old new unmoved in
-    rw (p.1, p.2) (raw_missing fails missing (kept_input fails.took taken) taken (unmoved_peeked old new unmoved))
+    let taken = unmoved_taken old new _ unmoved in
+    rw (p.1, p.2) (raw_missing fails missing (kept_input fails.took taken) taken (unmoved_peeked old new _ unmoved))
 
 pub returns-then-number-gt-MAX_NUMBER-clause-err : goal.returns-then-number-gt-MAX_NUMBER-clause-err
 returns-then-number-gt-MAX_NUMBER-clause-err g c =

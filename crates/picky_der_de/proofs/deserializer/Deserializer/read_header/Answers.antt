@@ -10,8 +10,8 @@ pub returns-in_err-first-clause-err : goal.returns-in_err-first-clause-err
 returns-in_err-first-clause-err g c =
     let p = err_from_is_err_and c.from_residual.result c.from_residual.ensures.1 in
     let e = c.in_err-first.ensures in
-    let taken = unmoved_taken c.args.self.now c.next_byte.new.self e.unmoved in
-    let peeked = unmoved_peeked c.args.self.now c.next_byte.new.self e.unmoved in
+    let taken = unmoved_taken c.args.self.now c.next_byte.new.self _ e.unmoved in
+    let peeked = unmoved_peeked c.args.self.now c.next_byte.new.self _ e.unmoved in
     rw (p.1, p.2) (header_missing c.args.tag c.requires.number e.err (λ j. e.missing j.had_not_failed j.faults) (kept_input e.err.took taken) taken peeked)
 
 pub returns-then-first-inner-clause-err : goal.returns-then-first-inner-clause-err

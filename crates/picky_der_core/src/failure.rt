@@ -1,0 +1,56 @@
+//! What is kept of an error by what has failed with it.
+ghost use Rattle.std.specs.Prelude.{◌≡◌};
+ghost use Rattle.picky_der_core.specs.Failure.{failure_of};
+
+use crate::Asn1DerError;
+use std::io::ErrorKind;
+
+/// The kind of an error, by which a serializer or a deserializer that has failed remembers it: the error without the text
+/// of its message.
+#[derive(Debug, Clone, Copy, PartialEq, Eq)]
+pub enum Failure {
+    TruncatedData,
+    InvalidData,
+    UnsupportedValue,
+    UnsupportedType,
+    InvalidSink,
+    Message,
+    Other(ErrorKind),
+    OutOfMemory,
+}
+
+impl Failure {
+    /// The kind of this error.
+    #[tactic(auto, unfolding(crate::specs::Failure::failure_of))]
+    pub fn of(error: Asn1DerError) -> Failure
+        ensures { result ≡ failure_of error }
+    {
+        match error {
+            Asn1DerError::TruncatedData => Failure::TruncatedData,
+            Asn1DerError::InvalidData => Failure::InvalidData,
+            Asn1DerError::UnsupportedValue => Failure::UnsupportedValue,
+            Asn1DerError::UnsupportedType => Failure::UnsupportedType,
+            Asn1DerError::InvalidSink => Failure::InvalidSink,
+            Asn1DerError::Message(_) => Failure::Message,
+            Asn1DerError::Other(kind) => Failure::Other(kind),
+            Asn1DerError::OutOfMemory => Failure::OutOfMemory,
+        }
+    }
+
+    /// An error of this kind. A message says that the call before it was refused.
+    #[tactic(auto, unfolding(crate::specs::Failure::failure_of))]
+    pub fn error(self) -> Asn1DerError
+        ensures { failure_of result ≡ self }
+    {
+        match self {
+            Failure::TruncatedData => Asn1DerError::TruncatedData,
+            Failure::InvalidData => Asn1DerError::InvalidData,
+            Failure::UnsupportedValue => Asn1DerError::UnsupportedValue,
+            Failure::UnsupportedType => Asn1DerError::UnsupportedType,
+            Failure::InvalidSink => Asn1DerError::InvalidSink,
+            Failure::Message => Asn1DerError::Message("failed before"),
+            Failure::Other(kind) => Asn1DerError::Other(kind),
+            Failure::OutOfMemory => Asn1DerError::OutOfMemory,
+        }
+    }
+}

@@ -1,0 +1,13 @@
+//! What references mean.
+
+use crate::{Serialize, Serializer};
+use picky_der_core::Result;
+use picky_der_core::misc::WriteExt;
+
+impl<T: Serialize> Serialize for &T {
+    ghost meaning = { λ value. T.meaning value.now };
+
+    fn serialize<W: WriteExt>(&self, ser: &mut Serializer<W>) -> Result<usize> {
+        T::serialize(self, ser)
+    }
+}
