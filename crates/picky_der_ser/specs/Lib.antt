@@ -8,3 +8,4 @@ pub mod Entry
 pub mod Integer
 pub mod Meaning
 pub mod Sequences
+pub mod SequenceState

@@ -1,6 +1,10 @@
--- The tags of lists.
-use Rattle.std.specs.Prelude.{◌≡◌, ℕ, ◌⊎◌, nat_eq, if◌then◌else◌}
+-- Sequences and sets that are being written, and their tags.
+use Rattle.std.specs.Prelude.{◌≡◌, ℕ, ◌⊎◌, nat_eq, if◌then◌else◌, Option, None, Some, IfNone, IsSome}
+use Rattle.std.specs.Coded.{Unit-prop}
+use mathlib.Core.Bool.{Bool-set}
+use Rattle.picky_der_core.specs.declared.failure.Failure.{Failure}
 use Rattle.picky_der_core.specs.Tree.{ListKind}
+use Rattle.picky_der_ser.specs.State.{Level, State}
 
 -- the tags that a sequence and a set have
 abbrev pub IsListTag : ℕ → Type 0
@@ -9,3 +13,11 @@ IsListTag tag = (tag ≡ 0x30) ⊎ (tag ≡ 0x31)
 -- the list that has this tag
 abbrev pub kind_of : ℕ → ListKind
 kind_of tag = if nat_eq tag 0x31 then ListKind.set else ListKind.sequence
+
+-- unless the serializer has failed, a level is open
+abbrev pub IsOpen : Option Failure → Option Level → Type 0
+IsOpen failed pending = IfNone failed (IsSome pending)
+
+pub IsOpen-prop : (failed : Option Failure) (pending : Option Level) → IsProp (IsOpen failed pending)
+IsOpen-prop None pending = Bool-set _ _
+IsOpen-prop (Some failure) pending = Unit-prop

@@ -1,5 +1,5 @@
 //! Sequences of members of any types.
-ghost use Rattle.std.specs.Prelude.{◌≡◌, IfNone, IsSome, IfErr, OnOk};
+ghost use Rattle.std.specs.Prelude.{◌≡◌, IfErr, OnOk};
 ghost use Rattle.picky_der_core.specs.Tree.{ListKind, Tree, Trees};
 ghost use Rattle.picky_der_ser.specs.Calls.{GainsRow, RejectsRow};
 
@@ -10,17 +10,16 @@ use picky_der_core::misc::WriteExt;
 
 /// Members of a sequence: none, as `()`, or one and those behind it, as `(A, B)`.
 pub trait SerializeMembers {
+    ghost use Rattle.picky_der_ser.specs.SequenceState.{borrowed_by, state_of};
+
     // What the members mean, in their order.
     ghost members: { Self → Trees };
 
-    /// Adds the members to the sequence, which is open unless the serializer has failed. They are refused as
-    /// `serialize_element` refuses one.
+    /// Adds the members to the sequence. They are refused as `serialize_element` refuses one.
     fn serialize_members<W: WriteExt>(&self, sequence: &mut Sequence<'_, W>) -> Result<()>
-        requires { IfNone sequence.old.ser.now.failed (IsSome sequence.old.ser.now.pending) }
-        ensures same_reference { sequence.new.ser.ghost_name ≡ sequence.old.ser.ghost_name }
-        ensures added { OnOk result (GainsRow W.WriteExt.own (members self.now) sequence.old.ser.now sequence.new.ser.now) }
-        ensures still_open { IfNone sequence.new.ser.now.failed (IsSome sequence.new.ser.now.pending) }
-        ensures err { IfErr result (λ e. RejectsRow W.WriteExt.own (members self.now) sequence.old.ser.now e sequence.new.ser.now) };
+        ensures same_reference { borrowed_by sequence.new ≡ borrowed_by sequence.old }
+        ensures added { OnOk result (GainsRow W.WriteExt.own (members self.now) (state_of sequence.old) (state_of sequence.new)) }
+        ensures err { IfErr result (λ e. RejectsRow W.WriteExt.own (members self.now) (state_of sequence.old) e (state_of sequence.new)) };
 }
 
 impl SerializeMembers for () {

@@ -12,4 +12,4 @@ pub returns-clause-added : goal.returns-clause-added
 returns-clause-added g c = row_goes_on g.W.WriteExt c.serialize_members.result _ _ c.in_ok-serialize_element.ensures.added c.serialize_members.ensures.added
 
 pub returns-clause-err : goal.returns-clause-err
-returns-clause-err g c = row_stops g.W.WriteExt c.serialize_members.result _ _ c.requires c.in_ok-serialize_element.ensures.added c.serialize_members.ensures.err
+returns-clause-err g c = row_stops g.W.WriteExt c.serialize_members.result _ _ c.args.sequence.now.open c.in_ok-serialize_element.ensures.added c.serialize_members.ensures.err
