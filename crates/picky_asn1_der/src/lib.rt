@@ -7,7 +7,7 @@ pub mod application_tag;
 pub mod de {
     pub use picky_der_de::{
         Alike, Boolean, Choice, DEFAULT_MAX_LEN, Deserialize, DeserializeMembers, Deserializer,
-        Enclosure, End, Null, Outer, Sequence, UInt, UnsignedInteger, Utf8String, deserialize_as,
+        Enclosure, End, Null, Sequence, UInt, UnsignedInteger, Utf8String, deserialize_as,
         deserialize_choice, from_bytes, from_reader, from_reader_with_max_len,
     };
 }

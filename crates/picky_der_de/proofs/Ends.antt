@@ -88,7 +88,3 @@ closes_behind {b} {c} {d} {n} {kind} {outer} {bytes} l back t k =
       faults = t.faults;
       through = t.through;
     } in (subst (λ z. Takes b z bytes) (sym k.same) takes, size)
-
--- a sequence that was made of what was opened
-pub opens_inside : {tag : ℕ} {a b c : State} {o p : Outer} → OpensList tag a b o → c ≡ b → p ≡ o → OpensList tag a c p
-opens_inside {tag} {a} {b} {c} {o} {p} h e f = subst (λ x. OpensList tag a c x) (sym f) (subst (λ z. OpensList tag a z o) (sym e) h)

@@ -17,6 +17,7 @@ use Rattle.picky_der_de.specs.LookAhead.{choice_refusal_in, choice_refusal, iden
 use Rattle.picky_der_de.proofs.ReaderFaults.{StopsAt, read_fails, read_missing}
 use Rattle.picky_der_de.proofs.Known.{just_missing}
 use Rattle.picky_der_de.proofs.PlainReads.{just_map}
+use Rattle.picky_der_de.proofs.Steps.{fails_again}
 
 no_want_at_end : (end : End) → at_end end ≢ OutOfMemory
 no_want_at_end Limit h = cc
@@ -88,3 +89,12 @@ identifier_unread {a} whole h = record {
   };
   missing = λ j. (whole, hidden_whole whole (h.hidden j));
 }
+
+-- it had failed before
+pub identifier_again : {a : State} {e : Asn1DerError} → a.failed ≡ Some (failure_of e) → RefusesIdentifier a a e
+identifier_again {a} {e} h =
+    let no : a.failed ≡ None → ⊥ = λ w. let q : None ≡ Some (failure_of e) = sym w ∙ h in cc in
+    record {
+      refuses = record { fails = fails_again a h; just = λ j. absurd (no j.had_not_failed); memory = λ w. absurd (no w); same = rw (← h) refl };
+      missing = λ j. absurd (no j.had_not_failed);
+    }

@@ -15,3 +15,4 @@ pub mod Choices
 pub mod Entry
 pub mod Lending
 pub mod ArrayLaws
+pub mod SequenceState

@@ -21,7 +21,7 @@ mod wrapper;
 
 use crate::End;
 use arrayvec::ArrayVec;
-pub use ends::Outer;
+pub(crate) use ends::Outer;
 use picky_der_core::misc::{PeekableReader, ReadExt};
 use picky_der_core::{Asn1DerError, Failure, Result};
 use std::alloc::Global;

@@ -20,7 +20,7 @@ pub use alike::{Alike, deserialize_as};
 pub use boolean::Boolean;
 pub use choice::{Choice, deserialize_choice};
 pub use deserialize::Deserialize;
-pub use deserializer::{Deserializer, Outer};
+pub use deserializer::Deserializer;
 pub use enclosure::Enclosure;
 pub use end::End;
 pub use entry::{DEFAULT_MAX_LEN, from_bytes, from_reader, from_reader_with_max_len};

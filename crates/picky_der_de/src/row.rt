@@ -8,25 +8,26 @@ ghost use Rattle.picky_der_de.specs.KnownLaws.{AreKnownByTrees, both, row_member
 
 use crate::{Deserialize, Deserializer, Sequence};
 use picky_der_core::Result;
-use picky_der_core::asn1::Tag;
 use picky_der_core::misc::ReadExt;
 use picky_der_ser::{Row, SerializeMembers};
 
 /// Members of a sequence that are read back: none, as `()`, or one and those behind it, as `(A, B)`.
 pub trait DeserializeMembers: SerializeMembers + PartialEq + Drop + Sized {
+    ghost use Rattle.picky_der_de.specs.SequenceState.{borrowed_by, outer_of, state_of};
+
     // A shape for each member.
     ghost shapes: { Shapes };
 
     /// Reads the members, from a sequence that hasn't failed and in which none is awaited directly under an implicit tag.
     /// A missing one is refused as `next_field` refuses it, and what is left behind the last one isn't looked at.
     fn deserialize_members<R: ReadExt>(sequence: &mut Sequence<'_, R>) -> Result<Self>
-        requires had_not_failed { sequence.old.de.now.failed ≡ None }
-        requires unpeeked { sequence.old.de.now.peeked ≡ None }
-        requires direct { sequence.old.de.now.direct ≡ None }
-        ensures same_reference { sequence.new.de.ghost_name ≡ sequence.old.de.ghost_name }
-        ensures outer { sequence.new.outer ≡ sequence.old.outer }
-        ensures ok { IfOk result (λ row. ReadsRow shapes sequence.old.de.now sequence.new.de.now (Self.members row)) }
-        ensures err { IfErr result (RefusesRow Self.members shapes sequence.old.de.now sequence.new.de.now) };
+        requires had_not_failed { (state_of sequence.old).failed ≡ None }
+        requires unpeeked { (state_of sequence.old).peeked ≡ None }
+        requires direct { (state_of sequence.old).direct ≡ None }
+        ensures same_reference { borrowed_by sequence.new ≡ borrowed_by sequence.old }
+        ensures outer { outer_of sequence.new ≡ outer_of sequence.old }
+        ensures ok { IfOk result (λ row. ReadsRow shapes (state_of sequence.old) (state_of sequence.new) (Self.members row)) }
+        ensures err { IfErr result (RefusesRow Self.members shapes (state_of sequence.old) (state_of sequence.new)) };
 
     // Two rows of readable members with the same trees are equal.
     ghost known_by_trees: { AreKnownByTrees Self.members shapes Self.eq };
@@ -69,8 +70,7 @@ impl<M: DeserializeMembers> Deserialize for Row<M> {
     ghost sound = { M.sound };
 
     fn deserialize<R: ReadExt>(de: &mut Deserializer<R>) -> Result<Row<M>> {
-        let outer = de.open_list(Tag::SEQUENCE)?;
-        let mut sequence = Sequence::inside(de, outer);
+        let mut sequence = de.deserialize_seq()?;
         let members = M::deserialize_members(&mut sequence)?;
         sequence.end()?;
         Ok(Row(members))

@@ -11,19 +11,19 @@ use picky_der_core::{Asn1DerError, Result};
 /// read then.
 #[derive(Drop)]
 pub struct Sequence<'a, R: ReadExt> {
-    /// The deserializer that it reads from. Calls of it take the members' bytes. An end that they open and don't close
-    /// stays the innermost one, and is then the end of the calls below.
-    pub de: &'a mut Deserializer<R>,
-    /// The end around its own.
-    pub outer: Outer,
+    de: &'a mut Deserializer<R>,
+    // The end around its own.
+    outer: Outer,
     ghost within: { de.now.taken + de.now.room ≤ outer.place },
     ghost whole: { de.now.failed ≡ None → de.now.direct ≡ None },
 }
 
 impl<'a, R: ReadExt> Sequence<'a, R> {
+    ghost use Rattle.picky_der_de.specs.SequenceState.{borrowed_by, outer_of, state_of};
     ghost use Rattle.std.specs.Prelude.{◌≡◌, ◌+◌, ◌<◌, ◌≤◌, None, Err, IfNone, IfSome, IfOk, IfErr, OnOk};
     ghost use Rattle.picky_der_de.specs.Steps.{failed_with};
     ghost use Rattle.picky_der_de.specs.Ends.{OpensLazily, Closes, RefusesClose};
+    ghost use Rattle.picky_der_de.specs.LookAhead.{Identifies, RefusesIdentifier};
     ghost use Rattle.picky_der_de.specs.Members.{ReadsMember, RefusesMember, HasNoMore, ReadsAll, RefusesAll};
 
     /// Reads so many bytes from here as members, without a header. Directly under an implicit tag that tag's special
@@ -32,36 +32,21 @@ impl<'a, R: ReadExt> Sequence<'a, R> {
     /// Where these bytes reach past the innermost end, the deserializer has failed: with `InvalidData` at a hard end,
     /// and `TruncatedData` at a soft one.
     pub fn deserialize_lazy(de: &'a mut Deserializer<R>, len: usize) -> Sequence<'a, R>
-        ensures same_reference { result.de.ghost_name ≡ de.entry.ghost_name }
-        ensures opened { OpensLazily len de.old result.de.now result.outer }
+        ensures same_reference { borrowed_by result ≡ de.entry.ghost_name }
+        ensures opened { OpensLazily len de.old (state_of result) (outer_of result) }
     {
         let outer = de.open_lazily(len);
         Sequence { de, outer }
     }
 
-    /// The members before the end that `open_list` has opened inside this one. That end isn't past this one, and no value
-    /// is awaited directly under an implicit tag.
-    ///
-    /// `deserialize_seq` and its kin do both at once. A proof about their caller can't tell what the deserializer is behind
-    /// the sequence, since a deserializer may hold a `'static` text; with this call it can.
-    pub fn inside(de: &'a mut Deserializer<R>, outer: Outer) -> Sequence<'a, R>
-        requires within { de.old.taken + de.old.room ≤ outer.place }
-        requires whole { de.old.failed ≡ None → de.old.direct ≡ None }
-        ensures same_reference { result.de.ghost_name ≡ de.entry.ghost_name }
-        ensures same { result.de.now ≡ de.old }
-        ensures outer { result.outer ≡ outer }
-    {
-        Sequence { de, outer }
-    }
-
     /// The next member, and `None` exactly at the end. A member is refused as its type is.
     pub fn next_element<T: Deserialize>(&mut self) -> Result<Option<T>>
-        ensures same_reference { self.new.de.ghost_name ≡ self.old.de.ghost_name }
-        ensures outer { self.new.outer ≡ self.old.outer }
-        ensures member { IfOk result (λ next. IfSome next (λ value. ReadsMember T.shape self.old.de.now self.new.de.now (T.meaning value))) }
-        ensures none { IfOk result (λ next. IfNone next (HasNoMore self.old.de.now self.new.de.now)) }
-        ensures err { IfErr result (RefusesMember T.meaning T.shape self.old.de.now self.new.de.now) }
-        ensures ahead { IfErr result (λ e. self.old.de.now.failed ≡ None → 0 < self.old.de.now.room) }
+        ensures same_reference { borrowed_by self.new ≡ borrowed_by self.old }
+        ensures outer { outer_of self.new ≡ outer_of self.old }
+        ensures member { IfOk result (λ next. IfSome next (λ value. ReadsMember T.shape (state_of self.old) (state_of self.new) (T.meaning value))) }
+        ensures none { IfOk result (λ next. IfNone next (HasNoMore (state_of self.old) (state_of self.new))) }
+        ensures err { IfErr result (RefusesMember T.meaning T.shape (state_of self.old) (state_of self.new)) }
+        ensures ahead { IfErr result (λ e. (state_of self.old).failed ≡ None → 0 < (state_of self.old).room) }
     {
         if self.de.is_at_end()? {
             return Ok(None);
@@ -71,12 +56,12 @@ impl<'a, R: ReadExt> Sequence<'a, R> {
 
     /// The next member. At the end it is refused with `TruncatedData`, and nothing is drawn; else as its type is.
     pub fn next_field<T: Deserialize>(&mut self) -> Result<T>
-        ensures same_reference { self.new.de.ghost_name ≡ self.old.de.ghost_name }
-        ensures outer { self.new.outer ≡ self.old.outer }
-        ensures ok { IfOk result (λ value. ReadsMember T.shape self.old.de.now self.new.de.now (T.meaning value)) }
-        ensures err { IfErr result (RefusesMember T.meaning T.shape self.old.de.now self.new.de.now) }
-        ensures at_end { self.old.de.now.failed ≡ None → self.old.de.now.room ≡ 0
-            → (result ≡ Err Asn1DerError.TruncatedData) × (self.new.de.now ≡ failed_with self.old.de.now Asn1DerError.TruncatedData) }
+        ensures same_reference { borrowed_by self.new ≡ borrowed_by self.old }
+        ensures outer { outer_of self.new ≡ outer_of self.old }
+        ensures ok { IfOk result (λ value. ReadsMember T.shape (state_of self.old) (state_of self.new) (T.meaning value)) }
+        ensures err { IfErr result (RefusesMember T.meaning T.shape (state_of self.old) (state_of self.new)) }
+        ensures at_end { (state_of self.old).failed ≡ None → (state_of self.old).room ≡ 0
+            → (result ≡ Err Asn1DerError.TruncatedData) × ((state_of self.new) ≡ failed_with (state_of self.old) Asn1DerError.TruncatedData) }
     {
         match self.next_element::<T>()? {
             Some(value) => Ok(value),
@@ -84,15 +69,34 @@ impl<'a, R: ReadExt> Sequence<'a, R> {
         }
     }
 
+    /// The tag of the next member, which is left unread, and `None` exactly at the end. No memory is taken.
+    ///
+    /// A byte that isn't there before the end is `TruncatedData`; else the reader's fault.
+    pub fn next_tag(&mut self) -> Result<Option<Tag>>
+        ensures same_reference { borrowed_by self.new ≡ borrowed_by self.old }
+        ensures outer { outer_of self.new ≡ outer_of self.old }
+        ensures tag { IfOk result (λ next. IfSome next (Identifies (state_of self.old) (state_of self.new))) }
+        ensures none { IfOk result (λ next. IfNone next (HasNoMore (state_of self.old) (state_of self.new))) }
+        ensures err { IfErr result (RefusesIdentifier (state_of self.old) (state_of self.new)) }
+    {
+        if self.de.is_at_end()? {
+            return Ok(None);
+        }
+        match self.de.deserialize_identifier() {
+            Ok(tag) => Ok(Some(tag)),
+            Err(error) => Err(error),
+        }
+    }
+
     // All members up to the end.
     pub(crate) fn collect<T: Deserialize>(&mut self) -> Result<Vec<T>>
-        requires had_not_failed { self.old.de.now.failed ≡ None }
-        requires unpeeked { self.old.de.now.peeked ≡ None }
-        requires direct { self.old.de.now.direct ≡ None }
-        ensures same_reference { self.new.de.ghost_name ≡ self.old.de.ghost_name }
-        ensures outer { self.new.outer ≡ self.old.outer }
-        ensures ok { IfOk result (λ values. ReadsAll T.meaning T.shape self.old.de.now self.new.de.now values.items) }
-        ensures err { IfErr result (RefusesAll T.meaning T.shape self.old.de.now self.new.de.now) }
+        requires had_not_failed { (state_of self.old).failed ≡ None }
+        requires unpeeked { (state_of self.old).peeked ≡ None }
+        requires direct { (state_of self.old).direct ≡ None }
+        ensures same_reference { borrowed_by self.new ≡ borrowed_by self.old }
+        ensures outer { outer_of self.new ≡ outer_of self.old }
+        ensures ok { IfOk result (λ values. ReadsAll T.meaning T.shape (state_of self.old) (state_of self.new) values.items) }
+        ensures err { IfErr result (RefusesAll T.meaning T.shape (state_of self.old) (state_of self.new)) }
     {
         let mut values = Vec::new(self.de.alloc());
         while let Some(value) = self.next_element::<T>()? {
@@ -105,8 +109,8 @@ impl<'a, R: ReadExt> Sequence<'a, R> {
 
     /// Closes the sequence. Bytes left over before its end are `InvalidData`, and none of them is drawn.
     pub fn end(self) -> Result<()>
-        ensures ok { OnOk result (Closes self.entry.outer self.entry.de.now self.exit.0.now) }
-        ensures err { IfErr result (RefusesClose self.entry.de.now self.exit.0.now) }
+        ensures ok { OnOk result (Closes (outer_of self.entry) (state_of self.entry) self.exit.0.now) }
+        ensures err { IfErr result (RefusesClose (state_of self.entry) self.exit.0.now) }
     {
         let Sequence { de, outer } = self;
         de.close_end(outer)
@@ -114,6 +118,7 @@ impl<'a, R: ReadExt> Sequence<'a, R> {
 }
 
 impl<R: ReadExt> Deserializer<R> {
+    ghost use Rattle.picky_der_de.specs.SequenceState.{borrowed_by, outer_of, state_of};
     ghost use Rattle.std.specs.Prelude.{◌≡◌, map, IfOk, IfErr};
     ghost use Rattle.std.specs.Borrow.{sem, RestsIfErr};
     ghost use Rattle.picky_der_core.specs.Tree.{ListKind, Tree, trees};
@@ -126,9 +131,9 @@ impl<R: ReadExt> Deserializer<R> {
     // Begins a sequence or set under this tag.
     fn open(&mut self, tag: Tag) -> Result<Sequence<'_, R>>
         requires { IsTagNumber (number_of tag) }
-        ensures* rests { sem 𝓛 (RestsIfErr (the_row R.row R.ReadExt.own R.Read) self.entry (λ q. q.de.ghost_name) result (λ new. IfErr result (RefusesList tag self.old new))) }
-        ensures same_reference { IfOk result (λ q. q.de.ghost_name ≡ self.entry.ghost_name) }
-        ensures ok { IfOk result (λ q. OpensList tag self.old q.de.now q.outer) }
+        ensures* rests { sem 𝓛 (RestsIfErr (the_row R.row R.ReadExt.own R.Read) self.entry borrowed_by result (λ new. IfErr result (RefusesList tag self.old new))) }
+        ensures same_reference { IfOk result (λ q. borrowed_by q ≡ self.entry.ghost_name) }
+        ensures ok { IfOk result (λ q. OpensList tag self.old (state_of q) (outer_of q)) }
     {
         let outer = self.open_list(tag)?;
         Ok(Sequence { de: self, outer })
@@ -139,8 +144,7 @@ impl<R: ReadExt> Deserializer<R> {
         ensures ok { IfOk result (λ values. Reads (Shape.list_of ListKind.sequence T.shape) self.old self.new (Tree.list ListKind.sequence (trees (map T.meaning values.items)))) }
         ensures err { IfErr result (Refuses (λ values. Tree.list ListKind.sequence (trees (map T.meaning values))) (Shape.list_of ListKind.sequence T.shape) self.old self.new) }
     {
-        let outer = self.open_list(Tag::SEQUENCE)?;
-        let mut members = Sequence::inside(self, outer);
+        let mut members = self.deserialize_seq()?;
         let values = members.collect::<T>()?;
         members.end()?;
         Ok(values)
@@ -151,8 +155,7 @@ impl<R: ReadExt> Deserializer<R> {
         ensures ok { IfOk result (λ values. Reads (Shape.list_of ListKind.set T.shape) self.old self.new (Tree.list ListKind.set (trees (map T.meaning values.items)))) }
         ensures err { IfErr result (Refuses (λ values. Tree.list ListKind.set (trees (map T.meaning values))) (Shape.list_of ListKind.set T.shape) self.old self.new) }
     {
-        let outer = self.open_list(Tag::SET)?;
-        let mut members = Sequence::inside(self, outer);
+        let mut members = self.deserialize_set()?;
         let values = members.collect::<T>()?;
         members.end()?;
         Ok(values)
@@ -163,27 +166,27 @@ impl<R: ReadExt> Deserializer<R> {
     ///
     /// `InvalidData` for another tag; else the refusals of a header and of an end, and the reader's fault.
     pub fn deserialize_seq(&mut self) -> Result<Sequence<'_, R>>
-        ensures* rests { sem 𝓛 (RestsIfErr (the_row R.row R.ReadExt.own R.Read) self.entry (λ q. q.de.ghost_name) result (λ new. IfErr result (RefusesList 0x30 self.old new))) }
-        ensures same_reference { IfOk result (λ q. q.de.ghost_name ≡ self.entry.ghost_name) }
-        ensures ok { IfOk result (λ q. OpensList 0x30 self.old q.de.now q.outer) }
+        ensures* rests { sem 𝓛 (RestsIfErr (the_row R.row R.ReadExt.own R.Read) self.entry borrowed_by result (λ new. IfErr result (RefusesList 0x30 self.old new))) }
+        ensures same_reference { IfOk result (λ q. borrowed_by q ≡ self.entry.ghost_name) }
+        ensures ok { IfOk result (λ q. OpensList 0x30 self.old (state_of q) (outer_of q)) }
     {
         self.open(Tag::SEQUENCE)
     }
 
     /// Begins to read a set, as a sequence is begun.
     pub fn deserialize_set(&mut self) -> Result<Sequence<'_, R>>
-        ensures* rests { sem 𝓛 (RestsIfErr (the_row R.row R.ReadExt.own R.Read) self.entry (λ q. q.de.ghost_name) result (λ new. IfErr result (RefusesList 0x31 self.old new))) }
-        ensures same_reference { IfOk result (λ q. q.de.ghost_name ≡ self.entry.ghost_name) }
-        ensures ok { IfOk result (λ q. OpensList 0x31 self.old q.de.now q.outer) }
+        ensures* rests { sem 𝓛 (RestsIfErr (the_row R.row R.ReadExt.own R.Read) self.entry borrowed_by result (λ new. IfErr result (RefusesList 0x31 self.old new))) }
+        ensures same_reference { IfOk result (λ q. borrowed_by q ≡ self.entry.ghost_name) }
+        ensures ok { IfOk result (λ q. OpensList 0x31 self.old (state_of q) (outer_of q)) }
     {
         self.open(Tag::SET)
     }
 
     /// Begins to read a tuple as a sequence. The length isn't looked at.
     pub fn deserialize_tuple(&mut self, _len: usize) -> Result<Sequence<'_, R>>
-        ensures* rests { sem 𝓛 (RestsIfErr (the_row R.row R.ReadExt.own R.Read) self.entry (λ q. q.de.ghost_name) result (λ new. IfErr result (RefusesList 0x30 self.old new))) }
-        ensures same_reference { IfOk result (λ q. q.de.ghost_name ≡ self.entry.ghost_name) }
-        ensures ok { IfOk result (λ q. OpensList 0x30 self.old q.de.now q.outer) }
+        ensures* rests { sem 𝓛 (RestsIfErr (the_row R.row R.ReadExt.own R.Read) self.entry borrowed_by result (λ new. IfErr result (RefusesList 0x30 self.old new))) }
+        ensures same_reference { IfOk result (λ q. borrowed_by q ≡ self.entry.ghost_name) }
+        ensures ok { IfOk result (λ q. OpensList 0x30 self.old (state_of q) (outer_of q)) }
     {
         self.deserialize_seq()
     }
@@ -194,9 +197,9 @@ impl<R: ReadExt> Deserializer<R> {
         _name: &'static str,
         _len: usize,
     ) -> Result<Sequence<'_, R>>
-        ensures* rests { sem 𝓛 (RestsIfErr (the_row R.row R.ReadExt.own R.Read) self.entry (λ q. q.de.ghost_name) result (λ new. IfErr result (RefusesList 0x30 self.old new))) }
-        ensures same_reference { IfOk result (λ q. q.de.ghost_name ≡ self.entry.ghost_name) }
-        ensures ok { IfOk result (λ q. OpensList 0x30 self.old q.de.now q.outer) }
+        ensures* rests { sem 𝓛 (RestsIfErr (the_row R.row R.ReadExt.own R.Read) self.entry borrowed_by result (λ new. IfErr result (RefusesList 0x30 self.old new))) }
+        ensures same_reference { IfOk result (λ q. borrowed_by q ≡ self.entry.ghost_name) }
+        ensures ok { IfOk result (λ q. OpensList 0x30 self.old (state_of q) (outer_of q)) }
     {
         self.deserialize_seq()
     }
@@ -207,9 +210,9 @@ impl<R: ReadExt> Deserializer<R> {
         _name: &'static str,
         _fields: &'static [&'static str],
     ) -> Result<Sequence<'_, R>>
-        ensures* rests { sem 𝓛 (RestsIfErr (the_row R.row R.ReadExt.own R.Read) self.entry (λ q. q.de.ghost_name) result (λ new. IfErr result (RefusesList 0x30 self.old new))) }
-        ensures same_reference { IfOk result (λ q. q.de.ghost_name ≡ self.entry.ghost_name) }
-        ensures ok { IfOk result (λ q. OpensList 0x30 self.old q.de.now q.outer) }
+        ensures* rests { sem 𝓛 (RestsIfErr (the_row R.row R.ReadExt.own R.Read) self.entry borrowed_by result (λ new. IfErr result (RefusesList 0x30 self.old new))) }
+        ensures same_reference { IfOk result (λ q. borrowed_by q ≡ self.entry.ghost_name) }
+        ensures ok { IfOk result (λ q. OpensList 0x30 self.old (state_of q) (outer_of q)) }
     {
         self.deserialize_seq()
     }

@@ -11,9 +11,9 @@ use picky_der_core::misc::ReadExt;
 use picky_der_core::{Asn1DerError, Failure, Result};
 use std::marker::Model;
 
-/// The end around an open one, which is put back where that is closed.
+// The end around an open one, which is put back where that is closed.
 #[derive(Drop)]
-pub struct Outer {
+pub(crate) struct Outer {
     // How many bytes are taken before it.
     place: usize,
     kind: End,
@@ -44,11 +44,9 @@ impl<R: ReadExt> Deserializer<R> {
         outer
     }
 
-    /// Takes the header of a sequence or set under this tag, whose number is at most 30, and opens its end.
-    /// `Sequence::inside` then reads its members. Directly under an implicit tag the header was that tag's.
-    ///
-    /// `InvalidData` for another tag; else the refusals of a header and of an end, and the reader's fault.
-    pub fn open_list(&mut self, tag: Tag) -> Result<Outer>
+    // Takes the header of a sequence or set under this tag, and opens its end. Directly under an implicit tag the header
+    // was that tag's.
+    pub(crate) fn open_list(&mut self, tag: Tag) -> Result<Outer>
         requires number { IsTagNumber (number_of tag) }
         ensures ok { IfOk result (λ outer. OpensList tag self.old self.new outer) }
         ensures err { IfErr result (RefusesList tag self.old self.new) }

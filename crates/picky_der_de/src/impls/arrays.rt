@@ -6,9 +6,8 @@ ghost use Rattle.picky_der_ser.specs.Meaning.{list_meaning};
 ghost use Rattle.picky_der_de.specs.Reading.{Reads, Refuses};
 ghost use Rattle.picky_der_de.specs.ArrayLaws.{times, times_sound, array_known};
 
-use crate::{Deserialize, Deserializer, Sequence};
+use crate::{Deserialize, Deserializer};
 use picky_der_core::Result;
-use picky_der_core::asn1::Tag;
 use picky_der_core::misc::ReadExt;
 
 // Reads a sequence of as many members as there are places, into these.
@@ -19,8 +18,7 @@ fn read_into<T: Deserialize + Copy, R: ReadExt>(
     ensures ok { OnOk result (Reads (Shape.fields ListKind.sequence (times (length places.old) T.shape)) de.old de.new (list_meaning ListKind.sequence T.meaning places.new)) }
     ensures err { IfErr result (Refuses (list_meaning ListKind.sequence T.meaning) (Shape.fields ListKind.sequence (times (length places.old) T.shape)) de.old de.new) }
 {
-    let outer = de.open_list(Tag::SEQUENCE)?;
-    let mut members = Sequence::inside(de, outer);
+    let mut members = de.deserialize_seq()?;
     for at in 0..places.len() {
         places[at] = members.next_field::<T>()?;
     }

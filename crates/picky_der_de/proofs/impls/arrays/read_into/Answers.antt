@@ -3,13 +3,12 @@ use Rattle.std.proofs.lemmas.List.{take_more_set, take_all, length-set, length-t
 use Rattle.std.proofs.lemmas.Result.{IfErr-weaker, on_ok_weaker}
 use Rattle.picky_der_core.specs.Tree.{trees}
 use Rattle.picky_der_de.proofs.Asked.{asked, reads_at, refuses_at}
-use Rattle.picky_der_de.proofs.Ends.{opens_inside}
 use Rattle.picky_der_de.proofs.Rows.{row_unopened, row_refused, row_left, row_reads}
 use Rattle.picky_der_de.proofs.ArrayReads.{ReadsFirst, first_none, first_more, first_all, first_refused}
 use Rattle.picky_der_de.proofs.impls.arrays.read_into.Goals as goal
 
-pub returns-in_err-outer-clause-err : goal.returns-in_err-outer-clause-err
-returns-in_err-outer-clause-err g c = asked _ c.from_residual.ensures.1 refl (row_unopened {members = λ vs. trees (map g.T.Serialize.meaning vs)} c.in_err-outer.ensures.err)
+pub returns-in_err-members-clause-err : goal.returns-in_err-members-clause-err
+returns-in_err-members-clause-err g c = asked _ c.from_residual.ensures.1 refl (row_unopened {members = λ vs. trees (map g.T.Serialize.meaning vs)} (rw c.in_err-members.was at c.deserialize_seq.follows.holds-at-none))
 
 pub loop-at-init : goal.loop-at-init
 loop-at-init g c = record {
@@ -25,7 +24,7 @@ returns-in_err-places-clause-err g c =
     let i = c.loop-at.invariant in
     let l = length-take-le c.loop-at.at c.loop-at.places i.within in
     let h = first_refused (length c.args.places.now) _ i.first (omega (arith, l, i.same_length, c.loop-at-test.true)) c.in_err-places.ensures.err in
-    asked _ c.from_residual-in_err-places.ensures.1 (search rules) (row_refused {members = λ vs. trees (map g.T.Serialize.meaning vs)} (opens_inside c.in_ok-outer.ensures.ok c.inside-members.ensures.same c.inside-members.ensures.outer) h)
+    asked _ c.from_residual-in_err-places.ensures.1 (search rules) (row_refused {members = λ vs. trees (map g.T.Serialize.meaning vs)} c.in_ok-members.ensures.ok h)
 
 pub loop-at-preserved : goal.loop-at-preserved
 loop-at-preserved g c =
@@ -45,14 +44,14 @@ pub returns-clause-ok : goal.returns-clause-ok
 returns-clause-ok g c =
     let i = c.loop-at.invariant in
     let all = take_all c.loop-at.at c.loop-at.places (omega (arith, i.same_length, c.loop-at-test.false)) in
-    let first = subst (ReadsFirst g.T.Serialize.meaning g.T.Deserialize.shape c.inside-members.result.de.now c.loop-at.members.de.now) all i.first in
+    let first = subst (ReadsFirst g.T.Serialize.meaning g.T.Deserialize.shape c.in_ok-members.members.de.now c.loop-at.members.de.now) all i.first in
     let row = first_all g.T.Serialize.meaning g.T.Deserialize.shape (length c.args.places.now) c.loop-at.places i.same_length first in
-    on_ok_weaker c.end.result (λ k. reads_at (row_reads (opens_inside c.in_ok-outer.ensures.ok c.inside-members.ensures.same c.inside-members.ensures.outer) row k i.outer) (search rules)) c.end.ensures.ok
+    on_ok_weaker c.end.result (λ k. reads_at (row_reads c.in_ok-members.ensures.ok row k i.outer) (search rules)) c.end.ensures.ok
 
 pub returns-clause-err : goal.returns-clause-err
 returns-clause-err g c =
     let i = c.loop-at.invariant in
     let all = take_all c.loop-at.at c.loop-at.places (omega (arith, i.same_length, c.loop-at-test.false)) in
-    let first = subst (ReadsFirst g.T.Serialize.meaning g.T.Deserialize.shape c.inside-members.result.de.now c.loop-at.members.de.now) all i.first in
+    let first = subst (ReadsFirst g.T.Serialize.meaning g.T.Deserialize.shape c.in_ok-members.members.de.now c.loop-at.members.de.now) all i.first in
     let row = first_all g.T.Serialize.meaning g.T.Deserialize.shape (length c.args.places.now) c.loop-at.places i.same_length first in
-    IfErr-weaker c.end.result _ _ (λ e k. refuses_at (row_left {members = λ vs. trees (map g.T.Serialize.meaning vs)} (opens_inside c.in_ok-outer.ensures.ok c.inside-members.ensures.same c.inside-members.ensures.outer) row k) (search rules)) c.end.ensures.err
+    IfErr-weaker c.end.result _ _ (λ e k. refuses_at (row_left {members = λ vs. trees (map g.T.Serialize.meaning vs)} c.in_ok-members.ensures.ok row k) (search rules)) c.end.ensures.err

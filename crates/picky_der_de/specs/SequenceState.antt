@@ -1,0 +1,20 @@
+-- What contracts see of a sequence that is being read: the deserializer that it borrows, and the end around its own.
+use Rattle.std.specs.Borrow.{MutBor, GName}
+use Rattle.std.specs.declared.io.Read as read
+use Rattle.picky_der_core.specs.declared.misc.reader.ReadExt as reader
+use Rattle.picky_der_de.specs.declared.sequence.Sequence.{Sequence}
+use Rattle.picky_der_de.specs.State.{State}
+use Rattle.picky_der_de.specs.Ends.{Outer}
+
+module _ {R : Type 0} {g : reader.Ghosts R} {h : read.Ghosts R} where
+  -- the state of the deserializer
+  abbrev pub state_of : Sequence R g h → State
+  state_of sequence = sequence.de.now
+
+  -- which deserializer it is
+  abbrev pub borrowed_by : Sequence R g h → GName
+  borrowed_by sequence = sequence.de.ghost_name
+
+  -- the end that is the innermost again once the sequence is closed
+  abbrev pub outer_of : Sequence R g h → Outer
+  outer_of sequence = sequence.outer
