@@ -2,7 +2,7 @@
 ghost use Rattle.std.specs.Prelude.{◌≡◌, IfOk, IfErr};
 ghost use Rattle.picky_der_core.specs.Tree.{Tree};
 ghost use Rattle.picky_der_core.specs.Shape.{Shape};
-ghost use Rattle.picky_der_de.specs.declared.enclosure.Enclosure.TheVariants as enclosure;
+ghost use Rattle.picky_der_input.specs.declared.enclosure.Enclosure.TheVariants as enclosure;
 ghost use Rattle.picky_der_de.specs.EnclosureLaws.{enclosed_known};
 
 use crate::misc::{ReadExt, WriteExt};

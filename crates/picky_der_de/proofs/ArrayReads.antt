@@ -4,11 +4,11 @@ use Rattle.picky_der_core.specs.declared.error.Asn1DerError.{Asn1DerError}
 use Rattle.picky_der_core.specs.Tree.{Tree, trees}
 use Rattle.picky_der_core.specs.Readable.{AreReadable}
 use Rattle.picky_der_core.specs.Shape.{Shape, IsOf, AreOf, EachIs}
-use Rattle.picky_der_de.specs.State.{State}
-use Rattle.picky_der_de.specs.Steps.{Takes, IsJudged}
+use Rattle.picky_der_input.specs.State.{State}
+use Rattle.picky_der_input.specs.Steps.{Takes, IsJudged}
 use Rattle.picky_der_de.specs.Members.{ReadsMember, RefusesMember, bytes_of, StandBefore, ReadsRow, RefusesRow}
 use Rattle.picky_der_de.specs.ArrayLaws.{times}
-use Rattle.picky_der_de.proofs.Steps.{takes_none, takes_then, fails_after, judged_after}
+use Rattle.picky_der_input.proofs.Steps.{takes_none, takes_then, fails_after, judged_after}
 use Rattle.picky_der_de.proofs.Members.{bytes_of-none, takes_member, next_member, no_member}
 use Rattle.picky_der_de.proofs.ListReads.{bytes_of-push, each-push, readable-push}
 

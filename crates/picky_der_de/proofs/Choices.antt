@@ -1,7 +1,7 @@
 -- Choices, read and refused behind a look at the first byte.
 use Rattle.std.proofs.Common.{◌≡◌, ◌≢◌, ℕ, ◌<◌, ◌⊎◌, inl, inr, true, List, [], ◌∷◌, ◌++◌, length, Option, Some, None, sym, ◌∙◌, ap, subst, arith}
 use Rattle.picky_der_core.specs.declared.failure.Failure.{Failure}
-use Rattle.picky_der_de.specs.Refusing.{IsAnswer}
+use Rattle.picky_der_input.specs.Refusing.{IsAnswer}
 use Rattle.picky_der_core.specs.declared.error.Asn1DerError.{Asn1DerError}
 use Rattle.picky_der_core.specs.declared.error.Asn1DerError.TheVariants.{TruncatedData, InvalidData}
 use Rattle.picky_der_core.specs.Tree.{Tree}
@@ -9,12 +9,12 @@ use Rattle.picky_der_core.specs.EncodingLaws.{der-choice}
 use Rattle.picky_der_core.specs.Shape.{Shape, IsOf, IsFirst, firsts, has}
 use Rattle.picky_der_core.specs.FirstLaws.{begins_in, apart_has, has-append_left, has-append_right}
 use Rattle.picky_der_core.specs.Reading.{Place, written_at, MayStand, StandsAt}
-use Rattle.picky_der_de.specs.State.{State}
-use Rattle.picky_der_de.specs.Steps.{Takes, Fails, IsJudged, place_in, place_of}
-use Rattle.picky_der_de.specs.Reading.{Concerns, Reads, Refuses}
-use Rattle.picky_der_de.specs.LookAhead.{Peeks, HidesChoice, no_byte, implicit, RefusesChoice}
+use Rattle.picky_der_input.specs.State.{State}
+use Rattle.picky_der_input.specs.Steps.{Takes, Fails, IsJudged, place_in, place_of}
+use Rattle.picky_der_input.specs.Reading.{Concerns, Reads, Refuses}
+use Rattle.picky_der_input.specs.LookAhead.{Peeks, HidesChoice, no_byte, implicit, RefusesChoice}
 use Rattle.picky_der_de.specs.Choices.{two_shapes, choice_tree, AreApart}
-use Rattle.picky_der_de.proofs.Refusals.{missing_first}
+use Rattle.picky_der_input.proofs.Refusals.{missing_first}
 use Rattle.picky_der_de.proofs.Peeked.{not_direct, peeks_takes, peeks_fails, peeks_judged, peeks_concerns, peeks_front, peeked_first, is_whole, nothing_whole}
 
 -- ---- where a choice stands

@@ -11,17 +11,17 @@ use Rattle.picky_der_core.specs.Readable.{IsReadable}
 use Rattle.picky_der_core.specs.Reading.{Place, written_at, MayStand, StandsAt}
 use Rattle.picky_der_core.specs.Shape.{Shape, IsOf, IsFirst}
 use Rattle.picky_der_core.specs.ShapeLaws.{is_plain_shape, plain_by_shape}
-use Rattle.picky_der_de.specs.declared.enclosure.Enclosure.{Enclosure}
-use Rattle.picky_der_de.specs.State.{State}
-use Rattle.picky_der_de.specs.Steps.{Takes, Fails, IsJudged, place_in, place_of}
-use Rattle.picky_der_de.specs.Reading.{Concerns, Reads, Refuses}
-use Rattle.picky_der_de.specs.Ends.{Outer, Closes}
-use Rattle.picky_der_de.specs.Enclosures.{enclose, enclosure_tag, enclose_shape, unused_bits, implicit_number, restored, opening, OpensEnclosure, RefusesOpening, ReadsEnclosed, RefusesEnclosed, before_value, in_value, behind_value}
-use Rattle.picky_der_de.proofs.Steps.{takes_then, fails_after, judged_after}
-use Rattle.picky_der_de.proofs.Refusals.{behind, failed_grows, end_below, taken_first}
-use Rattle.picky_der_de.proofs.Headers.{header_length, length_tlv}
-use Rattle.picky_der_de.proofs.Enclosures.{is_of_held, is_of_enclosed, readable_held, readable_number, readable_enclosed, may_stand_held, may_stand_enclosed, written_enclosed, first_enclosed}
-use Rattle.picky_der_de.proofs.Openings.{own_concerns}
+use Rattle.picky_der_input.specs.declared.enclosure.Enclosure.{Enclosure}
+use Rattle.picky_der_input.specs.State.{State}
+use Rattle.picky_der_input.specs.Steps.{Takes, Fails, IsJudged, place_in, place_of}
+use Rattle.picky_der_input.specs.Reading.{Concerns, Reads, Refuses}
+use Rattle.picky_der_input.specs.Ends.{Outer, Closes}
+use Rattle.picky_der_input.specs.Enclosures.{enclose, enclosure_tag, enclose_shape, unused_bits, implicit_number, restored, opening, OpensEnclosure, RefusesOpening, ReadsEnclosed, RefusesEnclosed, before_value, in_value, behind_value}
+use Rattle.picky_der_input.proofs.Steps.{takes_then, fails_after, judged_after}
+use Rattle.picky_der_input.proofs.Refusals.{behind, failed_grows, end_below, taken_first}
+use Rattle.picky_der_input.proofs.Headers.{header_length, length_tlv}
+use Rattle.picky_der_input.proofs.Enclosures.{is_of_held, is_of_enclosed, readable_held, readable_number, readable_enclosed, may_stand_held, may_stand_enclosed, written_enclosed, first_enclosed}
+use Rattle.picky_der_input.proofs.Openings.{own_concerns}
 
 -- ---- the end around
 

@@ -7,12 +7,12 @@ use Rattle.picky_der_core.specs.Encoding.{der}
 use Rattle.picky_der_core.specs.Shape.{Shape, IsSound}
 use Rattle.picky_der_core.specs.Reading.{Place, StandsAt}
 use Rattle.picky_der_core.proofs.Unique.{same_tree}
-use Rattle.picky_der_de.specs.State.{State, fresh}
+use Rattle.picky_der_input.specs.State.{State, fresh}
 use Rattle.picky_der_core.specs.Peeking.{in_front, count_of_any}
-use Rattle.picky_der_de.specs.Reading.{Reads, Refuses, now}
+use Rattle.picky_der_input.specs.Reading.{Reads, Refuses, now}
 use Rattle.picky_der_de.specs.KnownLaws.{IsKnownByTree}
 use Rattle.picky_der_de.specs.Entry.{HasNoFront, Reader, ReadsFront, Draws, RefusesFront}
-use Rattle.picky_der_de.proofs.Refusals.{consumed}
+use Rattle.picky_der_input.proofs.Refusals.{consumed}
 
 -- ---- what is left in the reader
 

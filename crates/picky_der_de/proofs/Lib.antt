@@ -1,21 +1,5 @@
-pub mod Steps
-pub mod ReaderFaults
-pub mod Numbers
-pub mod Contents
-pub mod Texts
-pub mod Lengths
-pub mod Refusals
-pub mod Known
-pub mod Headers
-pub mod PlainReads
-pub mod PlainKinds
 pub mod Options
 pub mod EntryReads
-pub mod LookAhead
-pub mod Elements
-pub mod Ends
-pub mod Enclosures
-pub mod Openings
 pub mod EnclosureReads
 pub mod Peeked
 pub mod Choices
@@ -25,4 +9,3 @@ pub mod Rows
 pub mod Asked
 pub mod ListReads
 pub mod ArrayReads
-pub mod Pieces

@@ -6,12 +6,12 @@ use Rattle.picky_der_core.specs.Tree.{ListKind, Tree, Trees, trees}
 use Rattle.picky_der_core.specs.Encoding.{der, list_tag}
 use Rattle.picky_der_core.specs.Readable.{IsReadable, AreReadable}
 use Rattle.picky_der_core.specs.Shape.{Shape, IsOf, IsFirst, EachIs}
-use Rattle.picky_der_de.specs.State.{State}
-use Rattle.picky_der_de.specs.Steps.{Takes, Fails, IsJudged}
-use Rattle.picky_der_de.specs.Reading.{Reads, Refuses}
-use Rattle.picky_der_de.specs.Ends.{Outer, Closes, RefusesClose, OpensList, RefusesList}
+use Rattle.picky_der_input.specs.State.{State}
+use Rattle.picky_der_input.specs.Steps.{Takes, Fails, IsJudged}
+use Rattle.picky_der_input.specs.Reading.{Reads, Refuses}
+use Rattle.picky_der_input.specs.Ends.{Outer, Closes, RefusesClose, OpensList, RefusesList}
 use Rattle.picky_der_de.specs.Members.{ReadsMember, RefusesMember, HasNoMore, bytes_of, StandUpToEnd, ReadsAll, RefusesAll}
-use Rattle.picky_der_de.proofs.Steps.{takes_none, takes_then, fails_after, judged_after}
+use Rattle.picky_der_input.proofs.Steps.{takes_none, takes_then, fails_after, judged_after}
 use Rattle.picky_der_de.proofs.Members.{bytes_of-more, bytes_of-none, takes_member, member_ahead, next_up_to_end, no_member, none_left, list_refused, list_unopened, list_reads}
 
 -- ---- one member more behind others

@@ -9,16 +9,16 @@ use Rattle.picky_der_core.specs.EncodingLaws.{same_encoding, length-der}
 use Rattle.picky_der_core.specs.Readable.{IsReadable, AreReadable}
 use Rattle.picky_der_core.specs.Shape.{Shape, IsOf, IsFirst}
 use Rattle.picky_der_core.specs.Reading.{Place, written_at, StandsAt}
-use Rattle.picky_der_de.specs.declared.end.End.TheVariants.{Soft}
-use Rattle.picky_der_de.specs.State.{State}
-use Rattle.picky_der_de.specs.Steps.{Takes, Fails, IsJudged, place_in, place_of, drawn}
-use Rattle.picky_der_de.specs.Reading.{Concerns, now, ever, Reads, Refuses}
-use Rattle.picky_der_de.specs.Ends.{Outer, narrowed, Closes, OpensList, RefusesList}
+use Rattle.picky_der_input.specs.declared.end.End.TheVariants.{Soft}
+use Rattle.picky_der_input.specs.State.{State}
+use Rattle.picky_der_input.specs.Steps.{Takes, Fails, IsJudged, place_in, place_of, drawn}
+use Rattle.picky_der_input.specs.Reading.{Concerns, now, ever, Reads, Refuses}
+use Rattle.picky_der_input.specs.Ends.{Outer, narrowed, Closes, OpensList, RefusesList}
 use Rattle.picky_der_de.specs.Members.{ReadsMember, RefusesMember, HasNoMore, bytes_of, StandBefore, StandUpToEnd}
-use Rattle.picky_der_de.proofs.Steps.{fails_after, fails_again, judged_after}
-use Rattle.picky_der_de.proofs.Refusals.{behind, failed_grows, end_below}
-use Rattle.picky_der_de.proofs.PlainReads.{no_plain, begun, takes_plain, may_stand, first_of_header}
-use Rattle.picky_der_de.proofs.Ends.{narrowed_concerns, concerns_room, narrowed_judged, widened_fails, closes_behind}
+use Rattle.picky_der_input.proofs.Steps.{fails_after, fails_again, judged_after}
+use Rattle.picky_der_input.proofs.Refusals.{behind, failed_grows, end_below}
+use Rattle.picky_der_input.proofs.PlainReads.{no_plain, begun, takes_plain, may_stand, first_of_header}
+use Rattle.picky_der_input.proofs.Ends.{narrowed_concerns, concerns_room, narrowed_judged, widened_fails, closes_behind}
 
 -- ---- the content of a list
 

@@ -6,13 +6,13 @@ use Rattle.picky_der_core.specs.Encoding.{der, list_tag}
 use Rattle.picky_der_core.specs.EncodingLaws.{same_encoding}
 use Rattle.picky_der_core.specs.Readable.{AreReadable}
 use Rattle.picky_der_core.specs.Shape.{Shape, Shapes, IsFirst, AreOf}
-use Rattle.picky_der_de.specs.State.{State}
-use Rattle.picky_der_de.specs.Steps.{Takes}
-use Rattle.picky_der_de.specs.Reading.{Reads, Refuses}
-use Rattle.picky_der_de.specs.Ends.{Outer, Closes, RefusesClose, OpensList, RefusesList}
+use Rattle.picky_der_input.specs.State.{State}
+use Rattle.picky_der_input.specs.Steps.{Takes}
+use Rattle.picky_der_input.specs.Reading.{Reads, Refuses}
+use Rattle.picky_der_input.specs.Ends.{Outer, Closes, RefusesClose, OpensList, RefusesList}
 use Rattle.picky_der_de.specs.Members.{ReadsMember, RefusesMember, bytes_of, ReadsRow, RefusesRow}
-use Rattle.picky_der_de.proofs.Steps.{takes_none, takes_then, fails_after, judged_after}
-use Rattle.picky_der_de.proofs.Refusals.{behind, failed_grows}
+use Rattle.picky_der_input.proofs.Steps.{takes_none, takes_then, fails_after, judged_after}
+use Rattle.picky_der_input.proofs.Refusals.{behind, failed_grows}
 use Rattle.picky_der_de.proofs.Members.{bytes_of-more, bytes_of-none, takes_member, next_member, no_member, list_refused, list_unopened, list_reads}
 
 row_first : (kind : ListKind) (ss : Shapes) → IsFirst (Shape.fields kind ss) (list_tag kind)

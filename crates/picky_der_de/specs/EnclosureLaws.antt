@@ -3,10 +3,10 @@ use Rattle.std.specs.Prelude.{◌≡◌, Bool}
 use Rattle.picky_der_core.specs.declared.asn1.wrapper.Wrapper.TheVariants.{OctetContainer, BitContainer, Explicit, Implicit}
 use Rattle.picky_der_core.specs.Tree.{Tree}
 use Rattle.picky_der_core.specs.Shape.{Shape}
-use Rattle.picky_der_de.specs.declared.enclosure.Enclosure.{Enclosure}
-use Rattle.picky_der_de.specs.declared.enclosure.Enclosure.TheVariants as enclosure
+use Rattle.picky_der_input.specs.declared.enclosure.Enclosure.{Enclosure}
+use Rattle.picky_der_input.specs.declared.enclosure.Enclosure.TheVariants as enclosure
 use Rattle.picky_der_de.specs.KnownLaws.{IsKnownByTree}
-use Rattle.picky_der_de.specs.Enclosures.{enclose, enclose_shape}
+use Rattle.picky_der_input.specs.Enclosures.{enclose, enclose_shape}
 
 enclose_same : (w : Enclosure) (t u : Tree) → enclose w t ≡ enclose w u → t ≡ u
 enclose_same (enclosure.Wrapper OctetContainer) t u e = cc

@@ -9,7 +9,7 @@ use Rattle.picky_der_core.specs.Encoding.{der}
 use Rattle.picky_der_core.specs.Readable.{IsReadable}
 use Rattle.picky_der_core.specs.Shape.{Shape, IsOf}
 use Rattle.picky_der_core.specs.Reading.{Reads}
-use Rattle.picky_der_de.specs.Steps.{IsOther}
+use Rattle.picky_der_input.specs.Steps.{IsOther}
 
 -- the value at the front of the input, and the only one up to `==`
 pub record IsFront {V : Type 0} (meaning : V → Tree) (s : Shape) (eq : V → V → Bool) (input : List ℕ) (limit : ℕ) (v : V) : Type 0 where

@@ -6,10 +6,10 @@ use Rattle.picky_der_core.specs.Tree.{Tree, Trees, trees}
 use Rattle.picky_der_core.specs.Encoding.{encodings}
 use Rattle.picky_der_core.specs.Readable.{AreReadable}
 use Rattle.picky_der_core.specs.Shape.{Shape, Shapes, IsOf, AreOf, EachIs}
-use Rattle.picky_der_de.specs.declared.end.End.TheVariants.{Soft}
-use Rattle.picky_der_de.specs.State.{State}
-use Rattle.picky_der_de.specs.Steps.{Takes, Fails, IsJudged}
-use Rattle.picky_der_de.specs.Reading.{Reads, Refuses, Concerns}
+use Rattle.picky_der_input.specs.declared.end.End.TheVariants.{Soft}
+use Rattle.picky_der_input.specs.State.{State}
+use Rattle.picky_der_input.specs.Steps.{Takes, Fails, IsJudged}
+use Rattle.picky_der_input.specs.Reading.{Reads, Refuses, Concerns}
 
 -- ---- one member
 

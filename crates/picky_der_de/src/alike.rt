@@ -1,6 +1,6 @@
 //! Values that are read as those of another type.
 ghost use Rattle.std.specs.Prelude.{◌≡◌, IfOk, IfErr};
-ghost use Rattle.picky_der_de.specs.Reading.{Reads, Refuses};
+ghost use Rattle.picky_der_input.specs.Reading.{Reads, Refuses};
 
 use crate::{Deserialize, Deserializer};
 use picky_der_core::Result;

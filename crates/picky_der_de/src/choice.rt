@@ -2,7 +2,7 @@
 ghost use Rattle.std.specs.Prelude.{◌≡◌, ◌⊎◌, ◌↔◌, IsTrue, IfOk, IfErr};
 ghost use Rattle.std.proofs.Common.{inl, inr};
 ghost use Rattle.picky_der_core.specs.Shape.{IsFirst};
-ghost use Rattle.picky_der_de.specs.Reading.{Reads, Refuses};
+ghost use Rattle.picky_der_input.specs.Reading.{Reads, Refuses};
 ghost use Rattle.picky_der_de.specs.Choices.{two_shapes, choice_tree, AreApart};
 
 use crate::{Deserialize, Deserializer};

@@ -1,11 +1,11 @@
 //! Sequences and sets that are being read (X.690, 8.9 to 8.12).
 ghost use Rattle.std.specs.Prelude.{◌≡◌, ◌≤◌, ◌+◌, None};
 
-use crate::deserializer::Outer;
 use crate::{Deserialize, Deserializer};
 use picky_der_core::asn1::Tag;
 use picky_der_core::misc::ReadExt;
 use picky_der_core::{Asn1DerError, Result};
+use picky_der_input::Outer;
 
 /// A sequence or a set that is being read. Dropped without `end`, its end stays the innermost one: nothing behind it is
 /// read then.
@@ -21,9 +21,9 @@ pub struct Sequence<'a, R: ReadExt> {
 impl<'a, R: ReadExt> Sequence<'a, R> {
     ghost use Rattle.picky_der_de.specs.SequenceState.{borrowed_by, outer_of, state_of};
     ghost use Rattle.std.specs.Prelude.{◌≡◌, ◌+◌, ◌<◌, ◌≤◌, None, Err, IfNone, IfSome, IfOk, IfErr, OnOk};
-    ghost use Rattle.picky_der_de.specs.Steps.{failed_with};
-    ghost use Rattle.picky_der_de.specs.Ends.{OpensLazily, Closes, RefusesClose};
-    ghost use Rattle.picky_der_de.specs.LookAhead.{Identifies, RefusesIdentifier};
+    ghost use Rattle.picky_der_input.specs.Steps.{failed_with};
+    ghost use Rattle.picky_der_input.specs.Ends.{OpensLazily, Closes, RefusesClose};
+    ghost use Rattle.picky_der_input.specs.LookAhead.{Identifies, RefusesIdentifier};
     ghost use Rattle.picky_der_de.specs.Members.{ReadsMember, RefusesMember, HasNoMore, ReadsAll, RefusesAll};
 
     /// Reads so many bytes from here as members, without a header. Directly under an implicit tag that tag's special
@@ -123,10 +123,10 @@ impl<R: ReadExt> Deserializer<R> {
     ghost use Rattle.std.specs.Borrow.{sem, RestsIfErr};
     ghost use Rattle.picky_der_core.specs.Tree.{ListKind, Tree, trees};
     ghost use Rattle.picky_der_core.specs.Shape.{Shape};
-    ghost use Rattle.picky_der_de.specs.Reading.{Reads, Refuses};
+    ghost use Rattle.picky_der_input.specs.Reading.{Reads, Refuses};
     ghost use Rattle.picky_der_core.specs.Tag.{number_of, IsTagNumber};
     ghost use Rattle.picky_der_de.specs.contracts.deserializer.Deserializer.{the_row};
-    ghost use Rattle.picky_der_de.specs.Ends.{OpensList, RefusesList};
+    ghost use Rattle.picky_der_input.specs.Ends.{OpensList, RefusesList};
 
     // Begins a sequence or set under this tag.
     fn open(&mut self, tag: Tag) -> Result<Sequence<'_, R>>

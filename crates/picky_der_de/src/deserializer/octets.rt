@@ -3,11 +3,11 @@ ghost use Rattle.std.specs.Prelude.{◌≡◌, ◌<◌, None, Err, IfOk, IfErr};
 ghost use Rattle.std.specs.Borrow.{sem};
 ghost use Rattle.std.specs.Io.BufRead.{Rests};
 ghost use Rattle.picky_der_de.specs.contracts.deserializer.Deserializer.{the_row};
-ghost use Rattle.picky_der_de.specs.State.{State};
+ghost use Rattle.picky_der_input.specs.State.{State};
 ghost use Rattle.picky_der_de.specs.Lending.{LendsBytes};
 ghost use Rattle.picky_der_core.specs.Tag.{number_of};
-ghost use Rattle.picky_der_de.specs.Steps.{failed_with};
-ghost use Rattle.picky_der_de.specs.Reading.{ReadsBytes, RefusesBytes};
+ghost use Rattle.picky_der_input.specs.Steps.{failed_with};
+ghost use Rattle.picky_der_input.specs.Reading.{ReadsBytes, RefusesBytes};
 
 use super::Deserializer;
 use picky_der_core::asn1::Tag;
@@ -26,14 +26,7 @@ impl<R: ReadExt> Deserializer<R> {
         ensures err { IfErr result (RefusesBytes tag self.old self.new) }
         ensures unsupported { 30 < number_of tag → self.old.failed ≡ None → (result ≡ Err Asn1DerError.UnsupportedValue) × (self.new ≡ failed_with self.old Asn1DerError.UnsupportedValue) }
     {
-        if let Some(error) = self.earlier() {
-            return Err(error);
-        }
-        if tag.number() > Tag::MAX_NUMBER {
-            return Err(self.fail(Asn1DerError::UnsupportedValue));
-        }
-        let len = self.begin(tag)?;
-        self.draw_vec(len)
+        self.input.read_tagged_bytes(tag)
     }
 
     /// Reads an octet string (X.690, 8.7) into one vector. It is refused as any tagged bytes are.

@@ -1,12 +1,10 @@
-//! Truth values, numbers and nulls: a header, a content, and its judge.
+//! Truth values, numbers and nulls.
 ghost use Rattle.std.specs.Prelude.{◌^◌, ◌-◌, IfOk, IfErr, OnOk};
-ghost use Rattle.picky_der_de.specs.Steps.{TakesNoMemory};
-ghost use Rattle.picky_der_de.specs.Reading.{ReadsBoolean, RefusesBoolean, ReadsUnsigned, RefusesUnsigned, ReadsNull, RefusesNull};
+ghost use Rattle.picky_der_input.specs.Steps.{TakesNoMemory};
+ghost use Rattle.picky_der_input.specs.Reading.{ReadsBoolean, RefusesBoolean, ReadsUnsigned, RefusesUnsigned, ReadsNull, RefusesNull};
 
 use super::Deserializer;
-use crate::{Boolean, Null, UInt, UnsignedInteger};
 use picky_der_core::Result;
-use picky_der_core::asn1::Tag;
 use picky_der_core::misc::ReadExt;
 
 impl<R: ReadExt> Deserializer<R> {
@@ -19,26 +17,7 @@ impl<R: ReadExt> Deserializer<R> {
         ensures err { IfErr result (RefusesBoolean self.old self.new) }
         ensures memory { IfErr result (TakesNoMemory self.old self.new) }
     {
-        let len = self.begin(Tag::BOOLEAN)?;
-        let content = self.draw_kept(len)?;
-        match Boolean::deserialize(&content) {
-            Ok(value) => Ok(value),
-            Err(error) => Err(self.fail(error)),
-        }
-    }
-
-    // Reads a number (X.690, 8.3).
-    pub(crate) fn read_unsigned<T: UInt>(&mut self) -> Result<T>
-        ensures ok { IfOk result (λ value. ReadsUnsigned T.greatest self.old self.new (T.number value)) }
-        ensures err { IfErr result (RefusesUnsigned T.greatest self.old self.new) }
-        ensures memory { IfErr result (TakesNoMemory self.old self.new) }
-    {
-        let len = self.begin(Tag::INTEGER)?;
-        let content = self.draw_kept(len)?;
-        match UnsignedInteger::deserialize(&content) {
-            Ok(value) => Ok(value),
-            Err(error) => Err(self.fail(error)),
-        }
+        self.input.read_bool()
     }
 
     /// Reads a number of 8 bits (X.690, 8.3).
@@ -51,7 +30,7 @@ impl<R: ReadExt> Deserializer<R> {
         ensures err { IfErr result (RefusesUnsigned (2 ^ 8 - 1) self.old self.new) }
         ensures memory { IfErr result (TakesNoMemory self.old self.new) }
     {
-        self.read_unsigned()
+        self.input.read_unsigned()
     }
 
     /// Reads a number of 16 bits. It is refused as one of 8 bits is.
@@ -60,7 +39,7 @@ impl<R: ReadExt> Deserializer<R> {
         ensures err { IfErr result (RefusesUnsigned (2 ^ 16 - 1) self.old self.new) }
         ensures memory { IfErr result (TakesNoMemory self.old self.new) }
     {
-        self.read_unsigned()
+        self.input.read_unsigned()
     }
 
     /// Reads a number of 32 bits. It is refused as one of 8 bits is.
@@ -69,7 +48,7 @@ impl<R: ReadExt> Deserializer<R> {
         ensures err { IfErr result (RefusesUnsigned (2 ^ 32 - 1) self.old self.new) }
         ensures memory { IfErr result (TakesNoMemory self.old self.new) }
     {
-        self.read_unsigned()
+        self.input.read_unsigned()
     }
 
     /// Reads a number of 64 bits. It is refused as one of 8 bits is.
@@ -78,7 +57,7 @@ impl<R: ReadExt> Deserializer<R> {
         ensures err { IfErr result (RefusesUnsigned (2 ^ 64 - 1) self.old self.new) }
         ensures memory { IfErr result (TakesNoMemory self.old self.new) }
     {
-        self.read_unsigned()
+        self.input.read_unsigned()
     }
 
     /// Reads a number of 128 bits. It is refused as one of 8 bits is.
@@ -87,7 +66,7 @@ impl<R: ReadExt> Deserializer<R> {
         ensures err { IfErr result (RefusesUnsigned (2 ^ 128 - 1) self.old self.new) }
         ensures memory { IfErr result (TakesNoMemory self.old self.new) }
     {
-        self.read_unsigned()
+        self.input.read_unsigned()
     }
 
     /// Reads a null (X.690, 8.8).
@@ -99,12 +78,7 @@ impl<R: ReadExt> Deserializer<R> {
         ensures err { IfErr result (RefusesNull self.old self.new) }
         ensures memory { IfErr result (TakesNoMemory self.old self.new) }
     {
-        let len = self.begin(Tag::NULL)?;
-        let content = self.draw_kept(len)?;
-        match Null::deserialize(&content) {
-            Ok(()) => Ok(()),
-            Err(error) => Err(self.fail(error)),
-        }
+        self.input.read_unit()
     }
 
     /// Reads a struct without fields as a null. The name isn't used.

@@ -1,46 +1,13 @@
 //! Elements that are taken whole, whatever their tag (X.690, 8.1.1).
-ghost use Rattle.std.specs.Prelude.{◌≡◌, ◌∷◌, ℕ, List, IfOk, IfErr, OnOk};
-ghost use Rattle.picky_der_core.specs.Element.{len as bytes_of};
-ghost use Rattle.picky_der_de.specs.Steps.{TakesNoMemory};
-ghost use Rattle.picky_der_de.specs.Elements.{BeginsElement, ReadsRaw, RefusesRaw};
+ghost use Rattle.std.specs.Prelude.{ℕ, List, IfOk, IfErr, OnOk};
+ghost use Rattle.picky_der_input.specs.Steps.{TakesNoMemory};
+ghost use Rattle.picky_der_input.specs.Elements.{ReadsRaw, RefusesRaw};
 
 use super::Deserializer;
-use picky_der_core::asn1::Tag;
-use picky_der_core::misc::{Length, ReadExt};
-use picky_der_core::{Asn1DerError, Result};
-use std::alloc::Global;
-
-// A header, in a vector that what is behind it can be put into.
-fn header(alloc: Global, tag: Tag, len: usize) -> Result<Vec<u8>>
-    ensures ok { IfOk result (λ bytes. bytes.items ≡ tag ∷ bytes_of len) }
-    ensures err { IfErr result (λ e. e ≡ Asn1DerError.OutOfMemory) }
-{
-    let mut bytes = Vec::new(alloc);
-    if bytes.push(tag.inner()).is_err() || bytes.extend_from_slice(&Length::bytes(len)).is_err() {
-        return Err(Asn1DerError::OutOfMemory);
-    }
-    Ok(bytes)
-}
+use picky_der_core::Result;
+use picky_der_core::misc::ReadExt;
 
 impl<R: ReadExt> Deserializer<R> {
-    // The tag and the length of the content of the next element. Directly under an implicit tag it has a header too.
-    fn begin_element(&mut self) -> Result<(Tag, usize)>
-        ensures ok { IfOk result (λ h. BeginsElement self.old self.new h.0 h.1) }
-        ensures err { IfErr result (RefusesRaw self.old self.new) }
-        ensures memory { IfErr result (TakesNoMemory self.old self.new) }
-    {
-        if let Some(error) = self.earlier() {
-            return Err(error);
-        }
-        self.direct = None;
-        let tag = Tag::from(self.next_byte()?);
-        if tag.number() > Tag::MAX_NUMBER {
-            return Err(self.fail(Asn1DerError::UnsupportedValue));
-        }
-        let len = self.read_content_length()?;
-        Ok((tag, len))
-    }
-
     /// Takes the next element whole, and answers its bytes, the header's too. They aren't looked at, but for where they
     /// end. Directly under an implicit tag the element stands with its header, and that tag's special reading is given
     /// up.
@@ -51,14 +18,7 @@ impl<R: ReadExt> Deserializer<R> {
         ensures ok { IfOk result (λ bytes. ReadsRaw self.old self.new bytes.items) }
         ensures err { IfErr result (RefusesRaw self.old self.new) }
     {
-        let (tag, len) = match self.begin_element() {
-            Ok(header) => header,
-            Err(error) => return Err(error),
-        };
-        match header(self.alloc, tag, len) {
-            Ok(bytes) => self.draw_behind(bytes, len),
-            Err(error) => Err(self.fail(error)),
-        }
+        self.input.read_raw()
     }
 
     /// Takes the next element whole, and drops it. It is refused as by `deserialize_raw`, and no memory is taken.
@@ -67,10 +27,6 @@ impl<R: ReadExt> Deserializer<R> {
         ensures err { IfErr result (RefusesRaw self.old self.new) }
         ensures memory { IfErr result (TakesNoMemory self.old self.new) }
     {
-        let (_tag, len) = match self.begin_element() {
-            Ok(header) => header,
-            Err(error) => return Err(error),
-        };
-        self.skip(len)
+        self.input.skip_raw()
     }
 }

@@ -3,16 +3,14 @@ ghost use Rattle.std.specs.Prelude.{IfOk, IfErr, string_bytes};
 ghost use Rattle.std.specs.Borrow.{sem};
 ghost use Rattle.std.specs.Io.BufRead.{Rests};
 ghost use Rattle.picky_der_de.specs.contracts.deserializer.Deserializer.{the_row};
-ghost use Rattle.picky_der_de.specs.State.{State};
+ghost use Rattle.picky_der_input.specs.State.{State};
 ghost use Rattle.picky_der_de.specs.Lending.{LendsText};
-ghost use Rattle.picky_der_de.specs.Steps.{TakesNoMemory};
-ghost use Rattle.picky_der_de.specs.Reading.{ReadsText, RefusesText, ReadsCharacter, RefusesCharacter};
+ghost use Rattle.picky_der_input.specs.Steps.{TakesNoMemory};
+ghost use Rattle.picky_der_input.specs.Reading.{ReadsText, RefusesText, ReadsCharacter, RefusesCharacter};
 
 use super::Deserializer;
-use crate::Utf8String;
-use picky_der_core::asn1::Tag;
+use picky_der_core::Result;
 use picky_der_core::misc::ReadExt;
-use picky_der_core::{Asn1DerError, Result};
 
 impl<R: ReadExt> Deserializer<R> {
     /// Reads a text of one character (X.690, 8.23).
@@ -24,12 +22,7 @@ impl<R: ReadExt> Deserializer<R> {
         ensures err { IfErr result (RefusesCharacter self.old self.new) }
         ensures memory { IfErr result (TakesNoMemory self.old self.new) }
     {
-        let len = self.begin(Tag::UTF8_STRING)?;
-        let content = self.draw_kept(len)?;
-        match Utf8String::character(&content) {
-            Ok(character) => Ok(character),
-            Err(error) => Err(self.fail(error)),
-        }
+        self.input.read_char()
     }
 
     /// Reads a text (X.690, 8.23) into one string, of which nothing is grown before a byte came for it.
@@ -40,12 +33,7 @@ impl<R: ReadExt> Deserializer<R> {
         ensures ok { IfOk result (λ text. ReadsText self.old self.new (string_bytes text)) }
         ensures err { IfErr result (RefusesText self.old self.new) }
     {
-        let len = self.begin(Tag::UTF8_STRING)?;
-        let content = self.draw_vec(len)?;
-        match String::from_utf8(content) {
-            Ok(text) => Ok(text),
-            Err(_) => Err(self.fail(Asn1DerError::InvalidData)),
-        }
+        self.input.read_string()
     }
 
     /// Reads a text, and lends it. It is refused as one in a string of its own is.

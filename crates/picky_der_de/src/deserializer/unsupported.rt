@@ -1,7 +1,7 @@
 //! What serde can read and DER as it is here can't, and refusals by a caller's own choice.
 ghost use Rattle.std.specs.Prelude.{◌≢◌};
-ghost use Rattle.picky_der_de.specs.Steps.{Fails, IsOther};
-ghost use Rattle.picky_der_de.specs.Refusing.{IsUnsupported, FailsAs};
+ghost use Rattle.picky_der_input.specs.Steps.{Fails, IsOther};
+ghost use Rattle.picky_der_input.specs.Refusing.{IsUnsupported, FailsAs};
 
 use super::Deserializer;
 use picky_der_core::misc::ReadExt;
@@ -19,10 +19,7 @@ impl<R: ReadExt> Deserializer<R> {
         ensures is { FailsAs kind self.old result self.new }
         ensures fails { Fails self.old self.new result }
     {
-        match self.earlier() {
-            Some(error) => error,
-            None => self.fail(kind),
-        }
+        self.input.refuse(kind)
     }
 
     // Fails with `UnsupportedType`, unless it has failed before.

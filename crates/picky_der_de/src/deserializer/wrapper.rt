@@ -2,10 +2,10 @@
 ghost use Rattle.std.specs.Prelude.{◌≡◌, None, Some, Err, IfOk, IfErr};
 ghost use Rattle.picky_der_core.specs.Wrapper.{wrapper_of, wrap_if, HasTagNumberIfAny};
 ghost use Rattle.picky_der_core.specs.declared.asn1.wrapper.Wrapper.{Wrapper as WrapperOf};
-ghost use Rattle.picky_der_de.specs.declared.enclosure.Enclosure.TheVariants as enclosure;
-ghost use Rattle.picky_der_de.specs.Steps.{failed_with};
-ghost use Rattle.picky_der_de.specs.Reading.{Reads, Refuses, AreNotRefused};
-ghost use Rattle.picky_der_de.specs.Enclosures.{wrap_shape_if, opening_refusal, RefusesEnclosed};
+ghost use Rattle.picky_der_input.specs.declared.enclosure.Enclosure.TheVariants as enclosure;
+ghost use Rattle.picky_der_input.specs.Steps.{failed_with};
+ghost use Rattle.picky_der_input.specs.Reading.{Reads, Refuses, AreNotRefused};
+ghost use Rattle.picky_der_input.specs.Enclosures.{wrap_shape_if, opening_refusal, RefusesEnclosed};
 
 use super::Deserializer;
 use crate::{Deserialize, Enclosure};

@@ -1,6 +1,9 @@
 //! Truth values and numbers, as they are read.
-ghost use Rattle.std.specs.Prelude.{◌^◌, ◌-◌};
+ghost use Rattle.std.specs.Prelude.{◌^◌, ◌-◌, IfOk, IfErr};
+ghost use Rattle.picky_der_core.specs.Tree.{Tree};
 ghost use Rattle.picky_der_core.specs.Shape.{Shape};
+ghost use Rattle.picky_der_input.specs.Steps.{TakesNoMemory};
+ghost use Rattle.picky_der_input.specs.Reading.{Reads, Refuses, ReadsUnsigned, RefusesUnsigned};
 ghost use Rattle.picky_der_de.specs.KnownLaws.{boolean_known, unsigned_known};
 
 use crate::{Deserialize, Deserializer};
@@ -86,7 +89,13 @@ impl Deserialize for usize {
 
     ghost sound = { tt };
 
-    fn deserialize<R: ReadExt>(de: &mut Deserializer<R>) -> Result<usize> {
-        de.read_unsigned()
+    fn deserialize<R: ReadExt>(de: &mut Deserializer<R>) -> Result<usize>
+        ensures ok { IfOk result (λ value. Reads (Shape.unsigned (2 ^ 64 - 1)) de.old de.new (Tree.unsigned value)) }
+        ensures err { IfErr result (Refuses (λ value. Tree.unsigned value) (Shape.unsigned (2 ^ 64 - 1)) de.old de.new) }
+        ensures number { IfOk result (ReadsUnsigned (2 ^ 64 - 1) de.old de.new) }
+        ensures refused { IfErr result (RefusesUnsigned (2 ^ 64 - 1) de.old de.new) }
+        ensures memory { IfErr result (TakesNoMemory de.old de.new) }
+    {
+        Ok(de.deserialize_u64()? as usize)
     }
 }

@@ -1,7 +1,7 @@
 //! Containers and context tags, as they are read.
 ghost use Rattle.picky_der_core.specs.Shape.{Shape};
 ghost use Rattle.picky_der_core.specs.declared.asn1.wrapper.Wrapper.TheVariants as wrapper;
-ghost use Rattle.picky_der_de.specs.declared.enclosure.Enclosure.TheVariants as enclosure;
+ghost use Rattle.picky_der_input.specs.declared.enclosure.Enclosure.TheVariants as enclosure;
 ghost use Rattle.picky_der_de.specs.EnclosureLaws.{enclosed_known};
 
 use crate::{Deserialize, Deserializer};

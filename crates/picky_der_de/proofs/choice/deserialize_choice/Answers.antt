@@ -1,6 +1,6 @@
 use Rattle.std.proofs.Common.{rules}
 use Rattle.std.proofs.lemmas.Result.{err_from_is_err_and}
-use Rattle.picky_der_de.proofs.PlainReads.{refuses_of}
+use Rattle.picky_der_input.proofs.PlainReads.{refuses_of}
 use Rattle.picky_der_de.proofs.Choices.{refuses_hidden, refuses_first, refuses_second, refuses_neither, reads_first, reads_second, not_short}
 use Rattle.picky_der_de.proofs.choice.deserialize_choice.Goals as goal
 

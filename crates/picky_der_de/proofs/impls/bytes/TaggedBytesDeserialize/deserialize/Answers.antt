@@ -1,7 +1,7 @@
 use Rattle.std.proofs.Common.{subst}
 use Rattle.std.proofs.lemmas.Result.{err_from_is_err_and}
-use Rattle.picky_der_de.specs.Reading.{RefusesBytes}
-use Rattle.picky_der_de.proofs.PlainReads.{refuses_of}
+use Rattle.picky_der_input.specs.Reading.{RefusesBytes}
+use Rattle.picky_der_input.proofs.PlainReads.{refuses_of}
 use Rattle.picky_der_de.proofs.impls.bytes.TaggedBytesDeserialize.deserialize.Goals as goal
 
 pub returns-in_err-deserialize_tagged_bytes-clause-err :

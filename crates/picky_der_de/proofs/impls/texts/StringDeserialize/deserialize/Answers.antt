@@ -1,6 +1,6 @@
 use Rattle.std.proofs.Common.{String, Global, string_bytes}
 use Rattle.std.proofs.lemmas.Result.{MatchResult-weaker}
-use Rattle.picky_der_de.proofs.PlainReads.{refuses_of}
+use Rattle.picky_der_input.proofs.PlainReads.{refuses_of}
 use Rattle.picky_der_de.proofs.impls.texts.StringDeserialize.deserialize.Goals as goal
 
 pub returns-clause-err : goal.returns-clause-err

@@ -1,0 +1,95 @@
+-- Contents, drawn byte by byte or in pieces.
+use Rattle.std.proofs.Common.{◌≡◌, ℕ, ◌+◌, ◌<◌, ◌≤◌, List, [], ◌∷◌, ◌++◌, length, take, Option, Some, None, Result, Ok, Err, IsOk, IfOk, OnOk, OnErr, refl, sym, ◌∙◌, ap, arith, length-append}
+use Rattle.std.proofs.lemmas.Grind.{common_steps}
+use Rattle.picky_der_core.specs.declared.error.Asn1DerError.{Asn1DerError}
+use Rattle.picky_der_core.specs.Failure.{failure_of}
+use Rattle.picky_der_core.specs.declared.error.Asn1DerError.TheVariants.{OutOfMemory}
+use Rattle.picky_der_core.specs.Shape.{AreBytes}
+use Rattle.picky_der_input.specs.State.{State}
+use Rattle.std.specs.Io.KnownBytes.{Consumes, Keeps}
+use Rattle.picky_der_input.specs.Steps.{failed_with, Takes, TakesBytes, Took, TakesKept, StopsShort, Fails, IsMissing}
+use Rattle.picky_der_input.proofs.Steps.{takes_then, takes_none, fails_after, judged_after}
+
+-- the first bytes of one byte more
+pub kept_more : (kept c : List ℕ) (b : ℕ) → kept ≡ take 18 c → length kept < 18 → kept ++ (b ∷ []) ≡ take 18 (c ++ (b ∷ []))
+kept_more kept c b e l = grind (arith, common_steps)
+
+pub kept_full : (kept c : List ℕ) (b : ℕ) → kept ≡ take 18 c → 18 ≤ length kept → kept ≡ take 18 (c ++ (b ∷ []))
+kept_full kept c b e l = grind (arith, common_steps)
+
+-- one byte more was taken, and kept if there was room
+pub takes_kept-more : {a b c : State} {n : ℕ} {kept more : List ℕ} {x : ℕ} → (h : TakesKept a b n kept) → Takes b c (x ∷ []) → more ≡ take 18 (h.content ++ (x ∷ [])) → TakesKept a c (n + 1) more
+takes_kept-more {x = x} h t e = record {
+  content = h.content ++ (x ∷ []);
+  takes = takes_then h.takes t;
+  count = omega (arith, length-append h.content (x ∷ []), h.count);
+  first = e;
+}
+
+-- nothing was taken yet
+pub takes_kept-none : (a : State) → a.failed ≡ None → a.peeked ≡ None → TakesKept a a 0 []
+takes_kept-none a h p = record { content = []; takes = takes_none a h p; count = refl; first = grind (arith, common_steps) }
+
+-- no byte was taken, and what is known is kept
+consumes-keeps : (i j : Option (List ℕ)) (bs : List ℕ) → length bs ≡ 0 → Consumes i j bs → Keeps i j
+consumes-keeps None j bs l c = tt
+consumes-keeps (Some xs) None bs l c = c
+consumes-keeps (Some xs) (Some ys) [] l c = sym c
+consumes-keeps (Some xs) (Some ys) (b ∷ bs) l c = absurd (omega arith)
+
+pub kept_input : {a b : State} → Took a b → b.taken ≡ a.taken → Keeps a.input b.input
+kept_input {a} {b} t e = consumes-keeps a.input b.input t.bytes (omega (arith, t.count)) t.input
+
+bytes_push : (bs : List ℕ) (b : ℕ) → AreBytes bs → b < 256 → AreBytes (bs ++ (b ∷ []))
+bytes_push [] b h l = (l, tt)
+bytes_push (x ∷ bs) b h l = (h.0, bytes_push bs b h.1 l)
+
+-- one byte more was taken
+pub takes_bytes-more : {a b c : State} {n x : ℕ} {content : List ℕ} → TakesBytes a b n content → Takes b c (x ∷ []) → x < 256 → TakesBytes a c (n + 1) (content ++ (x ∷ []))
+takes_bytes-more {x = x} {content = content} h t l = record {
+  takes = takes_then h.takes t;
+  count = omega (arith, length-append content (x ∷ []), h.count);
+  bytes = bytes_push content x h.bytes l;
+}
+
+-- what is unmoved behind an error
+pub unmoved_taken : (b c : State) (e : Asn1DerError) → c ≡ record b { failed = Some (failure_of e); faults = c.faults; input = c.input } → c.taken ≡ b.taken
+unmoved_taken b c _ u = ap (λ (s : State). s.taken) u
+
+pub unmoved_peeked : (b c : State) (e : Asn1DerError) → c ≡ record b { failed = Some (failure_of e); faults = c.faults; input = c.input } → c.peeked ≡ b.peeked
+unmoved_peeked b c _ u = ap (λ (s : State). s.peeked) u
+
+-- it has failed with what it answers
+pub failed_same : (b : State) {c : State} {e r : Asn1DerError} → r ≡ e → c ≡ failed_with b e → c ≡ failed_with b r
+failed_same b {e = e} {r = r} h u = u ∙ ap (failed_with b) (sym h)
+
+-- no byte came
+pub stops_short : {a b c : State} {n k : ℕ} {e : Asn1DerError} {content : List ℕ} → Takes a b content → length content ≡ k → k < n → Fails b c e → (b.failed ≡ None → c.faults ≡ b.faults → IsMissing b e) → c ≡ record b { failed = Some (failure_of e); faults = c.faults; input = c.input } → StopsShort a c n e
+stops_short {a} {b} {c} {n} {k} {e} {content} t l s f m u = record {
+  fails = fails_after t f;
+  short = λ j. let i = judged_after t j in record {
+    mid = b;
+    bytes = content;
+    takes = t;
+    short = omega arith;
+    missing = m i.had_not_failed i.faults;
+    input = kept_input (f.took) (unmoved_taken b c _ u);
+    taken = unmoved_taken b c _ u;
+    peeked = unmoved_peeked b c _ u;
+  };
+}
+
+-- a push that may find no room
+pub kept_push : {U E A : Type 0} (items : A → List ℕ) (r : Result U E) (old new : A) (c : List ℕ) (b : ℕ) → items old ≡ take 18 c → OnOk r (items new ≡ items old ++ (b ∷ [])) → (IsOk r → length (items old) < 18) → OnErr r (new ≡ old) → OnErr r (length (items old) ≡ 18)
+    → items new ≡ take 18 (c ++ (b ∷ []))
+kept_push items (Ok u) old new c b e pushed room same full = pushed ∙ kept_more (items old) c b e (room refl)
+kept_push items (Err u) old new c b e pushed room same full = ap items same ∙ kept_full (items old) c b e (omega arith)
+
+-- memory was wanted
+pub stops_for_memory : {a b c : State} {n : ℕ} {e : Asn1DerError} {content : List ℕ} → Takes a b content → Fails b c e → e ≡ OutOfMemory → StopsShort a c n e
+stops_for_memory t f m = record { fails = fails_after t f; short = λ j. absurd (j.memory m) }
+
+-- two facts of an answer
+pub IfOk-both : {A E : Type 0} {P R : A → Type 0} {Q : Type 0} (r : Result A E) → IfOk r P → OnOk r Q → ((v : A) → P v → Q → R v) → IfOk r R
+IfOk-both (Ok v) p q f = f v p q
+IfOk-both (Err e) p q f = tt

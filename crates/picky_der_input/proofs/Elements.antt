@@ -1,0 +1,238 @@
+-- Elements that are taken whole: each is refused and read as bytes under its own tag are.
+use Rattle.std.proofs.Common.{◌≡◌, ℕ, ◌<◌, ◌≤◌, ◌^◌, inl, inr, Bool, true, false, List, [], ◌∷◌, ◌++◌, length, take, Option, Some, None, refl, sym, ◌∙◌, ap, subst, arith, length-append}
+use Rattle.std.proofs.lemmas.Bool.Decides.{nat_tests}
+use Rattle.std.proofs.lemmas.Bool.{cases_lt}
+use Rattle.std.specs.Io.KnownBytes.{Keeps}
+use Rattle.picky_der_core.specs.declared.error.Asn1DerError.{Asn1DerError}
+use Rattle.picky_der_core.specs.declared.error.Asn1DerError.TheVariants.{TruncatedData, UnsupportedValue, OutOfMemory}
+use Rattle.picky_der_core.specs.Element.{len, tlv, IsElement}
+use Rattle.picky_der_core.specs.BigEndianLaws.{AreBytes-big_endian, length-big_endian}
+use Rattle.picky_der_core.specs.ElementLaws.{len-short, len-long}
+use Rattle.picky_der_core.specs.Tag.{number_of, is_tag_number, IsTagNumber}
+use Rattle.picky_der_core.specs.Tree.{Tree}
+use Rattle.picky_der_core.specs.Encoding.{der}
+use Rattle.picky_der_core.specs.EncodingLaws.{der-raw, der-bytes, inside-other}
+use Rattle.picky_der_core.specs.Shape.{Shape, AreBytes, IsFirst}
+use Rattle.picky_der_core.specs.FirstLaws.{has-tags_below}
+use Rattle.picky_der_core.specs.Reading.{Place, written_at, MayStand, StandsAt}
+use Rattle.picky_der_core.specs.Refusal.{Refusal, bytes_fault, plain_refusal, element_refusal}
+use Rattle.picky_der_input.specs.State.{State}
+use Rattle.picky_der_input.specs.Steps.{Takes, TakesBytes, Fails, StopsShort, IsMissing, IsJudged, failed_with, is_hard, place_in, place_of, drawn}
+use Rattle.picky_der_input.specs.Reading.{Concerns, now, ever, IsJustRefused, RefusesPlain, refusal_at}
+use Rattle.picky_der_input.specs.Headers.{Begins, RefusesContentLength}
+use Rattle.picky_der_input.specs.Elements.{raw_refusal, given_up, BeginsElement, ReadsRaw, RefusesRaw}
+use Rattle.picky_der_input.proofs.Steps.{fails_after}
+use Rattle.picky_der_input.proofs.Pieces.{bytes_then}
+use Rattle.picky_der_input.proofs.Refusals.{behind, failed_grows, missing_here, missing_first, taken_first}
+use Rattle.picky_der_input.proofs.Known.{front_of, just_taken, just_missing}
+use Rattle.picky_der_input.proofs.Headers.{is_number, same_byte, length_tlv, header_unread}
+use Rattle.picky_der_input.proofs.PlainReads.{refuses_header, refuses_cut, reads_plain}
+use Rattle.picky_der_input.proofs.PlainKinds.{bytes_kind}
+
+-- ---- the special reading is given up
+
+given_up_takes : {a c : State} {bs : List ℕ} → Takes (given_up a) c bs → Takes a c bs
+given_up_takes t = record {
+  input = t.input;
+  taken = t.taken;
+  room = t.room;
+  end = t.end;
+  limit = t.limit;
+  last = t.last;
+  unpeeked = t.unpeeked;
+  drawn = t.drawn;
+  had_not_failed = t.had_not_failed;
+  not_failed = t.not_failed;
+  faults = t.faults;
+  through = t.through;
+}
+
+given_up_fails : {a c : State} {e : Asn1DerError} → Fails (given_up a) c e → Fails a c e
+given_up_fails f = record {
+  failed = f.failed;
+  again = λ k w. let q = f.again k w in (q.0, record { input = q.1.input; taken = q.1.taken; peeked = q.1.peeked; faults = q.1.faults });
+  faults = f.faults;
+  other = f.other;
+  fault = f.fault;
+  took = record { bytes = f.took.bytes; input = f.took.input; count = f.took.count };
+  grows = f.grows;
+  end = f.end;
+  limit = f.limit;
+  within = λ w. f.within (record { end = w.end; drawn = w.drawn });
+  there = f.there;
+  through = f.through;
+}
+
+given_up_judged : {a c : State} {e : Asn1DerError} → IsJudged a c e → IsJudged (given_up a) c e
+given_up_judged j = record { had_not_failed = j.had_not_failed; faults = j.faults; memory = j.memory }
+
+given_up_concerns : {a c : State} {e : Asn1DerError} {end : ℕ} {bs : List ℕ} → Concerns a c e end bs → Concerns (given_up a) c e end bs
+given_up_concerns (now i r) = now i r
+given_up_concerns (ever w r d y left i q f) = ever w r d y left i q f
+
+given_up_just : {refusal : List ℕ → Option Refusal} {a c : State} {e : Asn1DerError} {bs : List ℕ} → IsJustRefused refusal (given_up a) c e bs → IsJustRefused refusal a c e bs
+given_up_just h = record { left = h.left; refused = h.refused; input = h.input; kept = h.kept; used = h.used }
+
+-- ---- elements and their tags
+
+-- the element stands whole wherever it stands
+written_raw : (place : Place) (s : List ℕ) → written_at place (Tree.raw s) ≡ s
+written_raw Place.whole s = der-raw s
+written_raw (Place.under_implicit ahead) s = inside-other (Tree.raw s) refl tt ∙ der-raw s
+
+second_bytes : (xs ys : List ℕ) → AreBytes (xs ++ ys) → AreBytes ys
+second_bytes [] ys h = h
+second_bytes (x ∷ xs) ys h = second_bytes xs ys h.1
+
+content_bytes : (tag : ℕ) (c : List ℕ) → AreBytes (tlv tag c) → AreBytes c
+unfolding tlv
+content_bytes tag c h = second_bytes (len (length c)) c h.1
+
+length_bytes : (n : ℕ) → n < 2 ^ 64 → AreBytes (len n)
+length_bytes n small = elim (cases_lt n 0x80) [
+  | inl short ↦ rw (len-short n short) (omega arith, tt)
+  | inr long ↦ rw (len-long n long) (omega (arith, length-big_endian 8 n (omega arith)), AreBytes-big_endian n)
+]
+
+first_tag : (x tag : ℕ) (c rest left : List ℕ) → tag ∷ left ≡ tlv x c ++ rest → x ≡ tag
+unfolding tlv
+first_tag x tag c rest left e = let q : tag ∷ left ≡ x ∷ ((len (length c) ++ c) ++ rest) = e in cc
+
+-- an element that stands where this tag stands is bytes under it
+stands_tagged : {place : Place} {bs left : List ℕ} {end tag : ℕ} (s : List ℕ) → bs ≡ tag ∷ left → StandsAt place Shape.raw bs end (Tree.raw s)
+    → IsTagNumber (number_of tag) × ((content : List ℕ) × StandsAt Place.whole (Shape.bytes tag) bs end (Tree.bytes tag content))
+stands_tagged {place} {bs} {left} {end} {tag} s e st =
+    let r : IsElement s = st.readable in
+    let same : der (Tree.bytes r.tag r.content) ≡ written_at place (Tree.raw s) = der-bytes r.tag r.content ∙ sym r.is ∙ sym (written_raw place s) in
+    let is : bs ≡ der (Tree.bytes r.tag r.content) ++ st.front.rest = st.front.is ∙ ap (λ z. z ++ st.front.rest) (sym same) in
+    let first : r.tag ≡ tag = first_tag r.tag tag r.content st.front.rest left (sym e ∙ is ∙ ap (λ z. z ++ st.front.rest) (der-bytes r.tag r.content)) in
+    subst (λ z. IsTagNumber (number_of z) × ((content : List ℕ) × StandsAt Place.whole (Shape.bytes z) bs end (Tree.bytes z content))) first (
+      r.number,
+      (
+        r.content,
+        record {
+          of_shape = (refl, content_bytes r.tag r.content (subst AreBytes r.is st.of_shape));
+          readable = r.number;
+          may_stand = tt;
+          within = omega (arith, st.within, ap length same);
+          front = record { rest = st.front.rest; is = is };
+        },
+      ),
+    )
+
+-- ---- known bytes
+
+-- an element is refused as bytes under its tag are
+element_plain : (tag : ℕ) (hard : Bool) (ahead : ℕ) (y : List ℕ) → IsTagNumber (number_of tag) → element_refusal hard ahead (tag ∷ y) ≡ plain_refusal tag bytes_fault hard ahead (tag ∷ y)
+element_plain tag hard ahead y n = rw (is_number n, same_byte tag) refl
+
+element_long_form : (first : ℕ) (hard : Bool) (ahead : ℕ) (y : List ℕ) → 30 < number_of first → element_refusal hard ahead (first ∷ y) ≡ Some (UnsupportedValue, y)
+element_long_form first hard ahead y past = let none : is_tag_number (number_of first) ≡ false = grind (arith, nat_tests) in rw none refl
+
+first_of_raw : (tag : ℕ) → IsTagNumber (number_of tag) → tag < 256 → IsFirst Shape.raw tag
+first_of_raw tag n l = has-tags_below tag 256 l n
+
+-- ---- refused
+
+-- bytes under the tag that was taken were refused
+refuses_tagged : {a b c : State} {e : Asn1DerError} {tag : ℕ} {x : List ℕ} → Takes (given_up a) b (tag ∷ x) → b.taken ≤ drawn c → IsTagNumber (number_of tag) → tag < 256
+    → RefusesPlain (Tree.bytes tag) tag bytes_fault (Shape.bytes tag) (given_up a) c e → RefusesRaw a c e
+refuses_tagged {a} {b} {c} {e} {tag} {x} t g n byte h = record {
+  refuses = record {
+    fails = given_up_fails h.refuses.fails;
+    none = λ j end bs w s st.
+        let v = behind t g (given_up_concerns w) in
+        let q = stands_tagged s v.begins st in
+        h.refuses.none (given_up_judged j) end bs (given_up_concerns w) q.1.0 q.1.1;
+    first = λ j k d l y left i. subst (IsFirst Shape.raw) (sym (taken_first a.input b.input tag y x left t.input i)) (first_of_raw tag n byte);
+  };
+  just = λ j bs k.
+      let q = h.just (given_up_judged j) bs k in
+      let f = front_of t k in
+      record {
+        left = q.left;
+        refused = ap (raw_refusal a) f.before ∙ element_plain tag (is_hard a.end) a.room (x ++ take b.room f.rest) n ∙ ap (refusal_at tag bytes_fault (given_up a)) (sym f.before) ∙ q.refused;
+        input = q.input;
+        kept = q.kept;
+        used = q.used;
+      };
+}
+
+-- no byte came
+pub raw_missing : {a c : State} {e : Asn1DerError} → Fails (given_up a) c e → (IsJudged a c e → IsMissing (given_up a) e) → Keeps a.input c.input → c.taken ≡ a.taken → c.peeked ≡ a.peeked → RefusesRaw a c e
+raw_missing {a} {c} {e} f m i t p = record {
+  refuses = record {
+    fails = given_up_fails f;
+    none = λ j end bs w s st. none j w s st;
+    first = λ j k d l b left q. absurd (missing_first (given_up a) (m j) l q);
+  };
+  just = λ j bs k. given_up_just (just_missing (raw_refusal a) (m j) i t p k (λ is. ap (λ x. Some (x, [])) is));
+} where
+  none : IsJudged a c e → {end : ℕ} {bs : List ℕ} → Concerns a c e end bs → (s : List ℕ) → StandsAt (place_of a) Shape.raw bs end (Tree.raw s) → ⊥
+  none j {end} {bs} w s st =
+      let r : IsElement s = st.readable in
+      let size = ap length (written_raw (place_of a) s ∙ r.is) in
+      let whole = length_tlv r.tag r.content in
+      elim (missing_here (m j) (given_up_concerns w)) [
+        | inl here ↦ omega (arith, st.within, size, whole, here)
+        | inr ended ↦ omega (arith, size, whole, ap length (sym st.front.is ∙ ended), length-append (written_at (place_of a) (Tree.raw s)) st.front.rest)
+      ]
+
+-- a tag of the long form was taken
+pub raw_long_form : {a b c : State} {e : Asn1DerError} {first : ℕ} → Takes (given_up a) b (first ∷ []) → 30 < number_of first → Fails b c e → e ≡ UnsupportedValue → c ≡ failed_with b e → RefusesRaw a c e
+raw_long_form {a} {first = first} t past f is same = record {
+  refuses = record {
+    fails = given_up_fails (fails_after t f);
+    none = λ j end bs w s st.
+        let v = behind t (failed_grows f) (given_up_concerns w) in
+        let q = stands_tagged s v.begins st in
+        omega (arith, q.0, past);
+    first = λ j k d l b left q. absurd (let r : UnsupportedValue ≡ TruncatedData = sym is ∙ k in cc);
+  };
+  just = λ j bs k. given_up_just (just_taken (raw_refusal a) t same k (λ y. element_long_form first (is_hard a.end) a.room y past ∙ ap (λ x. Some (x, y)) (sym is)));
+}
+
+-- the length behind the tag was refused
+pub raw_no_length : {a b c : State} {e : Asn1DerError} {tag : ℕ} → Takes (given_up a) b (tag ∷ []) → IsTagNumber (number_of tag) → tag < 256 → a.room < 2 ^ 64 → RefusesContentLength b c e → RefusesRaw a c e
+raw_no_length {tag = tag} t n byte bounded r =
+    let h = header_unread tag n t r in
+    refuses_tagged t (failed_grows r.fails) n byte (refuses_header (bytes_kind tag n) (record { fails = h.fails; header = λ j. (refl, h); bounded = λ w. bounded }))
+
+begins_tagged : {a b : State} {tag n : ℕ} → BeginsElement a b tag n → Begins tag (given_up a) b n
+begins_tagged h = record { takes = h.takes; direct = h.direct; fits = h.fits; all = tt; bounded = h.bounded }
+
+-- the content ended before it was whole
+pub raw_cut : {a b c : State} {e : Asn1DerError} {tag n : ℕ} → BeginsElement a b tag n → StopsShort b c n e → RefusesRaw a c e
+raw_cut {tag = tag} h s = refuses_tagged h.takes (failed_grows s.fails) h.number h.byte (refuses_cut (bytes_kind tag h.number) (begins_tagged h) s)
+
+-- memory was wanted
+pub raw_no_memory : {a b c : State} {e : Asn1DerError} {tag n : ℕ} → BeginsElement a b tag n → Fails b c e → e ≡ OutOfMemory → RefusesRaw a c e
+raw_no_memory h f is = raw_cut h (record { fails = f; short = λ j. absurd (j.memory is) })
+
+-- ---- read
+
+raw_may_stand : (d : Option ℕ) (room : ℕ) (s : List ℕ) → MayStand (place_in d room) (Tree.raw s)
+raw_may_stand None room s = tt
+raw_may_stand (Some number) room s = record { no_choice = tt; filled = λ plain. absurd (let q : false ≡ true = plain in cc) }
+
+is_tlv : (tag n : ℕ) (content : List ℕ) → length content ≡ n → tlv tag content ≡ (tag ∷ len n) ++ content
+unfolding tlv
+is_tlv tag n content size = rw size refl
+
+pub reads_raw : {a b c : State} {tag n : ℕ} {content all : List ℕ} → BeginsElement a b tag n → TakesBytes b c n content → c.direct ≡ None → all ≡ (tag ∷ len n) ++ content → ReadsRaw a c all
+reads_raw {a} {b} {c} {tag} {n} {content} {all} h t d is =
+    let plain = reads_plain (bytes_kind tag h.number) content (refl, t.bytes) h.number (begins_tagged h) t.takes t.count d in
+    let whole : tlv tag content ≡ all = is_tlv tag n content t.count ∙ sym is in
+    let small : n < 2 ^ 64 = omega (arith, h.fits, h.takes.room, h.bounded) in
+    record {
+      reads = record {
+        of_shape = subst AreBytes (sym is) (h.byte, bytes_then (len n) content (length_bytes n small) t.bytes);
+        readable = record { tag = tag; content = content; number = h.number; is = sym whole };
+        may_stand = raw_may_stand a.direct a.room all;
+        takes = subst (Takes a c) (der-bytes tag content ∙ whole ∙ sym (written_raw (place_of a) all)) (given_up_takes plain.reads.takes);
+        direct = d;
+      };
+      no_refusal = λ bs k.
+          let f = front_of h.takes k in
+          ap (raw_refusal a) f.before ∙ element_plain tag (is_hard a.end) a.room (len n ++ take b.room f.rest) h.number ∙ ap (refusal_at tag bytes_fault (given_up a)) (sym f.before) ∙ plain.no_refusal bs k;
+    }

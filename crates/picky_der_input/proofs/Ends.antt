@@ -1,0 +1,90 @@
+-- Ends, opened and closed.
+use Rattle.std.proofs.Common.{◌≡◌, ℕ, ◌+◌, ◌-◌, ◌<◌, ◌≤◌, ◌^◌, List, ◌++◌, length, take, Option, Some, None, refl, sym, ◌∙◌, ap, subst, arith}
+use Rattle.picky_der_core.specs.declared.error.Asn1DerError.{Asn1DerError}
+use Rattle.picky_der_core.specs.Tag.{number_of, IsTagNumber}
+use Rattle.picky_der_core.specs.Refusal.{refusal_of}
+use Rattle.picky_der_input.specs.declared.end.End.{End}
+use Rattle.picky_der_input.specs.declared.end.End.TheVariants.{Soft}
+use Rattle.picky_der_input.specs.State.{State}
+use Rattle.picky_der_input.specs.Steps.{Takes, Fails, IsJudged, far, is_hard}
+use Rattle.picky_der_input.specs.Reading.{Concerns, now, ever}
+use Rattle.picky_der_input.specs.Headers.{header_bytes, Begins}
+use Rattle.picky_der_input.specs.Ends.{Outer, innermost, narrowed, Closes, OpensList, list_refusal_in, list_refusal}
+use Rattle.picky_der_input.proofs.Known.{front_of}
+use Rattle.picky_der_input.proofs.Headers.{header-read}
+use Rattle.picky_der_input.proofs.PlainReads.{fits_below}
+
+-- ---- an end that was opened
+
+-- known bytes with a header in front aren't refused
+header_not_refused : (d : Option ℕ) (tag n q : ℕ) (s : State) (y : List ℕ) → IsTagNumber (number_of tag) → n < 2 ^ 64 → s.room ≡ length (header_bytes d tag n) + q → n ≤ q → list_refusal_in d tag s (header_bytes d tag n ++ y) ≡ None
+header_not_refused None tag n q s y i small r l = ap refusal_of (header-read tag (is_hard s.end) s.room n q y i small r l)
+header_not_refused (Some number) tag n q s y i small r l = refl
+
+not_refused : {tag n : ℕ} {a b : State} {bs : List ℕ} → IsTagNumber (number_of tag) → Begins tag a b n → a.input ≡ Some bs → list_refusal tag a (take a.room bs) ≡ None
+not_refused {tag} {n} {a} {b} i h k =
+    let f = front_of h.takes k in
+    ap (list_refusal tag a) f.before ∙ header_not_refused a.direct tag n b.room a (take b.room f.rest) i (fits_below h) h.takes.room h.fits
+
+-- the end of a list was opened behind its header
+pub opens_list : {tag n : ℕ} {a b c : State} {outer : Outer} → IsTagNumber (number_of tag) → Begins tag a b n → c ≡ narrowed b n Soft → outer ≡ innermost b → OpensList tag a c outer
+opens_list {n = n} {b = b} i h opened back = record {
+  mid = b;
+  len = n;
+  begins = h;
+  opened = opened;
+  around = back;
+  no_refusal = λ bs k. not_refused i h k;
+}
+
+-- ---- before an end that was opened
+
+-- bytes of which a refusal speaks, where the end is nearer
+pub narrowed_concerns : {b c : State} {e : Asn1DerError} {n left : ℕ} {seen : List ℕ} → Concerns b c e left seen → Concerns (narrowed b n Soft) c e n seen
+narrowed_concerns (now i r) = now i refl
+narrowed_concerns (ever w r d y left i q f) = ever w refl d y left i q f
+
+pub concerns_room : {b c : State} {e : Asn1DerError} {left : ℕ} {seen : List ℕ} → b.end ≡ Soft → Concerns b c e left seen → left ≡ b.room
+concerns_room soft (now i r) = r
+concerns_room {b} soft (ever w r d y left i q f) = r ∙ ap (λ (z : End). far z b.room) soft
+
+pub narrowed_judged : {b c : State} {e : Asn1DerError} (n : ℕ) (kind : End) → IsJudged b c e → IsJudged (narrowed b n kind) c e
+narrowed_judged n kind j = record { had_not_failed = j.had_not_failed; faults = j.faults; memory = j.memory }
+
+-- a call that failed before a nearer end failed before the one around it
+pub widened_fails : {b c : State} {e : Asn1DerError} {n : ℕ} {kind : End} → n ≤ b.room → Fails (narrowed b n kind) c e → Fails b c e
+widened_fails {b} {c} {e} {n} {kind} l f = record {
+  failed = f.failed;
+  again = λ k w. let q = f.again k w in (q.0, record { input = q.1.input; taken = q.1.taken; peeked = q.1.peeked; faults = q.1.faults });
+  faults = f.faults;
+  other = f.other;
+  fault = f.fault;
+  took = record { bytes = f.took.bytes; input = f.took.input; count = f.took.count };
+  grows = f.grows;
+  end = omega (arith, f.end);
+  limit = f.limit;
+  within = λ w. f.within (record { end = omega (arith, w.end); drawn = w.drawn });
+  there = f.there;
+  through = f.through;
+}
+
+-- what was taken up to an end that is closed was taken before the one around it
+pub closes_behind : {b c d : State} {n : ℕ} {kind : End} {outer : Outer} {bytes : List ℕ} → n ≤ b.room → outer ≡ innermost b → Takes (narrowed b n kind) c bytes → Closes outer c d → Takes b d bytes × (length bytes ≡ n)
+closes_behind {b} {c} {d} {n} {kind} {outer} {bytes} l back t k =
+    let size : length bytes ≡ n = omega (arith, t.room, k.reached) in
+    let place : outer.place ≡ b.taken + b.room = ap (λ (o : Outer). o.place) back in
+    let new : State = record c { room = outer.place - c.taken; end = outer.kind; last = outer.last } in
+    let takes : Takes b new bytes = record {
+      input = t.input;
+      taken = t.taken;
+      room = omega (arith, t.taken, place, size);
+      end = ap (λ (o : Outer). o.kind) back;
+      limit = t.limit;
+      last = ap (λ (o : Outer). o.last) back;
+      unpeeked = t.unpeeked;
+      drawn = t.drawn;
+      had_not_failed = t.had_not_failed;
+      not_failed = t.not_failed;
+      faults = t.faults;
+      through = t.through;
+    } in (subst (λ z. Takes b z bytes) (sym k.same) takes, size)

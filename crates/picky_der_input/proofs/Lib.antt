@@ -1,0 +1,17 @@
+pub mod Steps
+pub mod ReaderFaults
+pub mod Numbers
+pub mod Contents
+pub mod Texts
+pub mod Lengths
+pub mod Refusals
+pub mod Known
+pub mod Headers
+pub mod PlainReads
+pub mod PlainKinds
+pub mod LookAhead
+pub mod Elements
+pub mod Ends
+pub mod Enclosures
+pub mod Openings
+pub mod Pieces

@@ -1,0 +1,100 @@
+-- A look at the next byte.
+use Rattle.std.proofs.Common.{◌≡◌, ◌≢◌, ℕ, ◌<◌, List, [], take, Option, Some, None, refl, sym, ◌∙◌, ap, arith}
+use Rattle.std.proofs.lemmas.List.{take-append-drop}
+use Rattle.std.specs.declared.io.Error.{Error}
+use Rattle.std.specs.IoError.{error_kind}
+use Rattle.picky_der_core.specs.declared.error.Asn1DerError.{Asn1DerError}
+use Rattle.picky_der_core.specs.Failure.{failure_of}
+use Rattle.picky_der_core.specs.declared.error.Asn1DerError.TheVariants.{TruncatedData, InvalidData, OutOfMemory}
+use Rattle.picky_der_core.specs.Error.{kind_of}
+use Rattle.picky_der_core.specs.Reader.{IsFaultOrEnd}
+use Rattle.picky_der_core.specs.Refusal.{Refusal, missing}
+use Rattle.picky_der_input.specs.declared.end.End.{End}
+use Rattle.picky_der_input.specs.declared.end.End.TheVariants.{Limit, Soft, Hard}
+use Rattle.picky_der_input.specs.State.{State}
+use Rattle.picky_der_input.specs.Steps.{Fails, IsMissing, end_is_here, input_ended, failed_with, is_hard, at_end}
+use Rattle.picky_der_input.specs.LookAhead.{choice_refusal_in, choice_refusal, identifier_refusal_in, RefusesChoice, RefusesIdentifier, HidesChoice, no_byte, implicit}
+use Rattle.picky_der_input.proofs.ReaderFaults.{StopsAt, read_fails, read_missing}
+use Rattle.picky_der_input.proofs.Known.{just_missing}
+use Rattle.picky_der_input.proofs.PlainReads.{just_map}
+use Rattle.picky_der_input.proofs.Steps.{fails_again}
+
+no_want_at_end : (end : End) → at_end end ≢ OutOfMemory
+no_want_at_end Limit h = cc
+no_want_at_end Soft h = cc
+no_want_at_end Hard h = cc
+
+-- a byte that is missing is no want of memory
+pub missing_no_want : {s : State} {e : Asn1DerError} → IsMissing s e → e ≢ OutOfMemory
+missing_no_want {s} (end_is_here z is) h = no_want_at_end s.end (sym is ∙ h)
+missing_no_want (input_ended l z is) h = let q : TruncatedData ≡ OutOfMemory = sym is ∙ h in cc
+
+stopped_same : (old new : State) {e : Asn1DerError} → StopsAt old new e → new ≡ record old { input = new.input; failed = Some (failure_of e); faults = new.faults }
+stopped_same old new {e} s = rw (← s.failed, ← s.peeked, ← s.taken, ← s.room, ← s.end, ← s.direct, ← s.last, ← s.limit, ← s.through) refl
+
+nothing_there : (d : Option ℕ) (s : State) → d ≡ None → choice_refusal_in d s [] ≡ Some (missing (is_hard s.end) s.room [], [])
+nothing_there None s h = refl
+nothing_there (Some number) s h = absurd (let q : Some number ≡ None = h in cc)
+
+-- the reader gave no byte
+pub choice_unread : {old new : State} {e : Asn1DerError} → StopsAt old new e → (error : Error) → e ≡ kind_of (error_kind error) → IsFaultOrEnd old.input old.faults new.faults error → 0 < old.room → old.direct ≡ None → RefusesChoice old new e
+choice_unread {old} {new} {e} s error is f ahead whole = record {
+  refuses = record {
+    fails = read_fails s error is f;
+    just = λ j bs k. just_missing (choice_refusal old) (read_missing s error is f ahead j.faults) s.input s.taken s.peeked k (λ h. nothing_there old.direct old whole ∙ ap (λ x. Some (x, [])) h);
+    memory = λ n same. missing_no_want (read_missing s error is f ahead same);
+    same = stopped_same old new s;
+  };
+  hidden = λ j. no_byte whole (read_missing s error is f ahead j.faults);
+}
+
+stands_implicit : (d : Option ℕ) (number : ℕ) (s : State) (rest : List ℕ) → d ≡ Some number → choice_refusal_in d s rest ≡ Some (InvalidData, rest)
+stands_implicit None number s rest h = absurd (let q : None ≡ Some number = h in cc)
+stands_implicit (Some n) number s rest h = refl
+
+-- the implicit tag stands in its place
+pub choice_under_implicit : {a c : State} {e : Asn1DerError} {number : ℕ} → a.direct ≡ Some number → Fails a c e → e ≡ InvalidData → c ≡ failed_with a e → RefusesChoice a c e
+choice_under_implicit {a} {c} {e} {number} d f is same = record {
+  refuses = record {
+    fails = f;
+    just = λ j bs k. record {
+      left = take a.room bs;
+      refused = stands_implicit a.direct number a (take a.room bs) d ∙ ap (λ x. Some (x, take a.room bs)) (sym is);
+      input = ap (λ (s : State). s.input) same ∙ k ∙ ap (λ x. Some x) (sym (take-append-drop a.room bs));
+      kept = λ q. ap (λ (s : State). s.peeked) same;
+      used = λ more. absurd (omega (arith, ap (λ (s : State). s.taken) same));
+    };
+    memory = λ n h w. let q : InvalidData ≡ OutOfMemory = sym is ∙ w in cc;
+    same = rw same refl;
+  };
+  hidden = λ j. implicit number d is;
+}
+
+next_of_either : (d : Option ℕ) (s : State) (rest : List ℕ) (r : Refusal) → d ≡ None → choice_refusal_in d s rest ≡ Some r → identifier_refusal_in d s rest ≡ Some r
+next_of_either None s rest r d h = h
+next_of_either (Some number) s rest r d h = absurd (let q : Some number ≡ None = d in cc)
+
+hidden_whole : {s : State} {e : Asn1DerError} → s.direct ≡ None → HidesChoice s e → IsMissing s e
+hidden_whole d (no_byte whole m) = m
+hidden_whole d (implicit number h is) = absurd (let q : Some number ≡ None = sym h ∙ d in cc)
+
+-- outside implicit tags an identifier is refused as the byte is that tells a choice
+pub identifier_unread : {a c : State} {e : Asn1DerError} → a.direct ≡ None → RefusesChoice a c e → RefusesIdentifier a c e
+identifier_unread {a} whole h = record {
+  refuses = record {
+    fails = h.refuses.fails;
+    just = λ j bs k. just_map (λ rest r. next_of_either a.direct a rest r whole) (h.refuses.just j bs k);
+    memory = h.refuses.memory;
+    same = h.refuses.same;
+  };
+  missing = λ j. (whole, hidden_whole whole (h.hidden j));
+}
+
+-- it had failed before
+pub identifier_again : {a : State} {e : Asn1DerError} → a.failed ≡ Some (failure_of e) → RefusesIdentifier a a e
+identifier_again {a} {e} h =
+    let no : a.failed ≡ None → ⊥ = λ w. let q : None ≡ Some (failure_of e) = sym w ∙ h in cc in
+    record {
+      refuses = record { fails = fails_again a h; just = λ j. absurd (no j.had_not_failed); memory = λ w. absurd (no w); same = rw (← h) refl };
+      missing = λ j. absurd (no j.had_not_failed);
+    }

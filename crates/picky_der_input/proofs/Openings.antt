@@ -1,0 +1,227 @@
+-- What stands before the value in an enclosure, taken and refused.
+use Rattle.std.proofs.Common.{◌≡◌, ℕ, ◌+◌, ◌-◌, ◌<◌, ◌≤◌, ◌^◌, inl, inr, true, false, List, [], ◌∷◌, ◌++◌, length, take, drop, Option, Some, None, Ok, refl, sym, ◌∙◌, ap, subst, arith, append_assoc}
+use Rattle.std.proofs.lemmas.Grind.{common_steps}
+use Rattle.std.proofs.lemmas.List.{take-append-drop}
+use Rattle.picky_der_core.specs.declared.error.Asn1DerError.{Asn1DerError}
+use Rattle.picky_der_core.specs.Failure.{failure_of}
+use Rattle.picky_der_core.specs.declared.error.Asn1DerError.TheVariants.{TruncatedData, UnsupportedValue, OutOfMemory}
+use Rattle.picky_der_core.specs.Element.{len}
+use Rattle.picky_der_core.specs.Refusal.{Refusal}
+use Rattle.picky_der_input.specs.declared.enclosure.Enclosure.{Enclosure}
+use Rattle.picky_der_input.specs.declared.end.End.TheVariants.{Hard}
+use Rattle.picky_der_input.specs.State.{State}
+use Rattle.picky_der_input.specs.Steps.{Takes, Fails, IsJudged, IsMissing, end_is_here, input_ended, TakesNoMemory, failed_with, far, drawn}
+use Rattle.picky_der_input.specs.Reading.{Concerns, now, ever, IsJustRefused}
+use Rattle.picky_der_input.specs.Headers.{RefusesHeader}
+use Rattle.picky_der_input.specs.Ends.{Outer, innermost, narrowed}
+use Rattle.picky_der_input.specs.Enclosures.{enclosure_tag, HasNumber, unused_bits, counts_unused_bits, implicit_number, unused_bits_refusal, refusal_behind, opening_refusal, restored, OpensEnclosure, RefusesOpening, BeginsEnclosure, StopsUnusedBits, count_missing, count_other, RefusesUnusedBits}
+use Rattle.picky_der_input.proofs.Steps.{takes_then, takes_none, fails_after, fails_again, judged_after}
+use Rattle.picky_der_input.proofs.Refusals.{consumed, behind, failed_grows, missing_here, taken_first, at_end_of}
+use Rattle.picky_der_input.proofs.Known.{front_of, just_taken, kept_known, peeked_kept}
+use Rattle.picky_der_input.proofs.Headers.{header_length}
+use Rattle.picky_der_input.proofs.PlainReads.{just_map}
+use Rattle.picky_der_input.proofs.Ends.{narrowed_judged, widened_fails}
+use Rattle.picky_der_input.proofs.Enclosures.{some_unused, no_unused, unused_cut, unused_other, behind_read, opening_read, opening_refused, opening_unsupported}
+
+-- ---- refused headers
+
+-- it had failed before
+pub opening_again : {w : Enclosure} {a : State} {e : Asn1DerError} → a.failed ≡ Some (failure_of e) → RefusesOpening w a a e
+opening_again {a = a} {e = e} h =
+    let no : a.failed ≡ None → ⊥ = λ w. let q : None ≡ Some (failure_of e) = sym w ∙ h in cc in
+    record {
+      fails = fails_again a h;
+      none = λ j. absurd (no j.had_not_failed);
+      first = λ j. absurd (no j.had_not_failed);
+      just = λ j. absurd (no j.had_not_failed);
+      memory = λ w. absurd (no w);
+      bounded = λ w. absurd (no w);
+    }
+
+-- a tag of the long form was asked for, and nothing was taken
+pub opening_past : {w : Enclosure} {a c : State} {e : Asn1DerError} → (HasNumber w → ⊥) → Fails a c e → e ≡ UnsupportedValue → c ≡ failed_with a e → a.room < 2 ^ 64 → RefusesOpening w a c e
+opening_past {w} {a} {c} {e} n f is same small = record {
+  fails = f;
+  none = λ j end bs k content rest number. absurd (n number);
+  first = λ j k. absurd (let r : UnsupportedValue ≡ TruncatedData = sym is ∙ k in cc);
+  just = λ j bs k. record {
+    left = take a.room bs;
+    refused = opening_unsupported w a (take a.room bs) n ∙ ap (λ x. Some (x, take a.room bs)) (sym is);
+    input = ap (λ (s : State). s.input) same ∙ k ∙ ap (λ x. Some x) (sym (take-append-drop a.room bs));
+    kept = λ q. ap (λ (s : State). s.peeked) same;
+    used = λ more. absurd (omega (arith, ap (λ (s : State). s.taken) same));
+  };
+  memory = λ k l m. let r : UnsupportedValue ≡ OutOfMemory = sym is ∙ m in cc;
+  bounded = λ k. small;
+}
+
+-- the header was refused
+pub opening_header : {w : Enclosure} {a c : State} {e : Asn1DerError} → HasNumber w → RefusesHeader (enclosure_tag w) a c e → TakesNoMemory a c e → a.room < 2 ^ 64 → RefusesOpening w a c e
+opening_header {w} {a} {c} {e} number h m small = record {
+  fails = h.fails;
+  none = λ j end bs k content rest n below is fits. h.none j end bs k (unused_bits w ++ content) rest below is fits;
+  first = λ j k l b left q. (h.first j k l b left q, number);
+  just = λ j bs k. just_map (λ rest r x. opening_refused w a rest r number x) (h.just j bs k);
+  memory = m;
+  bounded = λ k. small;
+}
+
+-- ---- the count of unused bits
+
+-- bytes of which a refusal speaks, where a hard end is nearer
+hard_concerns : {b c : State} {e : Asn1DerError} {n left : ℕ} {seen : List ℕ} → Concerns b c e left seen → Concerns (narrowed b n Hard) c e n seen
+hard_concerns (now i r) = now i refl
+hard_concerns (ever w r d y left i q f) = ever w refl d y left i q f
+
+-- the same of the end that is open
+pub own_concerns : {b c : State} (outer : Outer) {e : Asn1DerError} {left : ℕ} {seen : List ℕ} → b.end ≡ Hard → Concerns (restored outer b) c e left seen → Concerns b c e b.room seen
+own_concerns outer hard (now i r) = now i refl
+own_concerns {b} outer hard (ever w r d y left i q f) = ever w (sym (ap (λ z. far z b.room) hard)) d y left i q f
+
+first_byte : (x y : ℕ) (a b : List ℕ) → x ∷ a ≡ y ∷ b → x ≡ y
+first_byte x y a b e = cc
+
+-- where the count isn't 00, no container stands
+no_container : {b c : State} {e : Asn1DerError} {n left : ℕ} {seen : List ℕ} (content : List ℕ) → StopsUnusedBits (narrowed b n Hard) c e → Concerns b c e left seen → n ≡ length (0x00 ∷ content) → (rest : List ℕ) → seen ≡ (0x00 ∷ content) ++ rest → ⊥
+no_container content (count_missing m i t p) w size rest is = elim (missing_here m (hard_concerns w)) [
+  | inl here ↦ omega (arith, here, size)
+  | inr ended ↦ omega (arith, ap length (sym ended ∙ is))
+]
+no_container {c = c} content (count_other mid x t d is same) w size rest q =
+    let grows : mid.taken ≤ drawn c = omega (arith, ap (λ (s : State). s.taken) same) in
+    let v = behind t grows (hard_concerns w) in
+    d (first_byte x 0x00 v.rest (content ++ rest) (sym v.begins ∙ q))
+
+-- what is refused is known by the input, and by what was taken and peeked
+just_alike : {refusal : List ℕ → Option Refusal} {a c d : State} {e : Asn1DerError} {bs : List ℕ} → d.input ≡ c.input → d.taken ≡ c.taken → d.peeked ≡ c.peeked → IsJustRefused refusal a c e bs → IsJustRefused refusal a d e bs
+just_alike i t p h = record { left = h.left; refused = h.refused; input = i ∙ h.input; kept = λ q. p ∙ h.kept (sym t ∙ q); used = λ more. p ∙ h.used (omega (arith, more, t)) }
+
+-- what was taken before an opened end was taken before the one around it
+widened_takes : {b c : State} {n : ℕ} {x : List ℕ} → n ≤ b.room → Takes (narrowed b n Hard) c x → Takes b (record c { room = b.room - length x; end = b.end; last = b.last }) x
+widened_takes l t = record {
+  input = t.input;
+  taken = t.taken;
+  room = omega (arith, t.room, l);
+  end = refl;
+  limit = t.limit;
+  last = refl;
+  unpeeked = t.unpeeked;
+  drawn = t.drawn;
+  had_not_failed = t.had_not_failed;
+  not_failed = t.not_failed;
+  faults = t.faults;
+  through = t.through;
+}
+
+unused_missing : (n room : ℕ) (rest : List ℕ) (b : State) {e : Asn1DerError} → IsMissing (narrowed b n Hard) e → b.input ≡ Some rest → unused_bits_refusal n (take room rest) ≡ Some (e, take room rest)
+unused_missing n room rest b (end_is_here z is) k = ap (λ m. unused_bits_refusal m (take room rest)) z ∙ ap (λ x. Some (x, take room rest)) (sym is)
+unused_missing n room rest b (input_ended some ended is) k =
+    let nothing : take room rest ≡ [] = ap (take room) (at_end_of b.input rest ended k) ∙ take_nothing room in
+    unused_cut n (take room rest) some nothing ∙ ap (λ x. Some (x, take room rest)) (sym is)
+  where
+    take_nothing : (m : ℕ) → take {A = ℕ} m [] ≡ []
+    take_nothing m = grind (arith, common_steps)
+
+below : {w : Enclosure} {a b : State} {outer : Outer} → (h : BeginsEnclosure w a b outer) → h.size < 2 ^ 64
+below h = omega (arith, h.fits, h.takes.room, h.bounded)
+
+-- known bytes behind the header
+counted : {w : Enclosure} {a b : State} {outer : Outer} (h : BeginsEnclosure w a b outer) (y : List ℕ) → counts_unused_bits w ≡ true → opening_refusal w a ((enclosure_tag w ∷ len h.size) ++ y) ≡ unused_bits_refusal h.size y
+counted {w} {a} h y e = opening_read w a h.size h.mid.room y h.number (below h) h.takes.room h.fits ∙ ap (λ counts. refusal_behind counts (Ok (h.size, y))) e
+
+just_unused : {w : Enclosure} {a b c : State} {outer : Outer} {e : Asn1DerError} {bs : List ℕ} (h : BeginsEnclosure w a b outer) → counts_unused_bits w ≡ true → StopsUnusedBits (narrowed h.mid h.size Hard) c e → a.input ≡ Some bs → IsJustRefused (opening_refusal w a) a c e bs
+just_unused {w} {a} {c = c} {bs = bs} h counts (count_missing m i t p) k =
+    let f = front_of h.takes k in
+    let room = h.mid.room in
+    let parts : f.rest ≡ take room f.rest ++ drop a.room bs = sym (take-append-drop room f.rest) ∙ ap (λ x. take room f.rest ++ x) (sym f.past) in
+    record {
+      left = take room f.rest;
+      refused = ap (opening_refusal w a) f.before ∙ counted h (take room f.rest) counts ∙ unused_missing h.size room f.rest h.mid m f.known;
+      input = kept_known h.mid.input c.input f.rest i f.known ∙ ap (λ x. Some x) parts;
+      kept = peeked_kept c h.takes t p;
+      used = λ more. p ∙ h.takes.unpeeked;
+    }
+just_unused {w} {a} {c = c} {e = e} h counts (count_other mid x t d is same) k =
+    let header = enclosure_tag w ∷ len h.size in
+    let end = record mid { room = h.mid.room - 1; end = h.mid.end; last = h.mid.last } in
+    let some : 0 < h.size = omega (arith, t.room) in
+    just_alike (ap (λ (s : State). s.input) same) (ap (λ (s : State). s.taken) same) (ap (λ (s : State). s.peeked) same)
+    (just_taken (opening_refusal w a) {c = failed_with end e} (takes_then h.takes (widened_takes h.fits t)) refl k (λ y.
+    ap (opening_refusal w a) (append_assoc header (x ∷ []) y) ∙ counted h (x ∷ y) counts ∙ unused_other h.size x y e some d is))
+
+-- the count of unused bits behind a header was refused
+pub opening_unused : {w : Enclosure} {a b c : State} {outer : Outer} {e : Asn1DerError} → BeginsEnclosure w a b outer → counts_unused_bits w ≡ true → RefusesUnusedBits b c e → RefusesOpening w a c e
+opening_unused {w} {a} {b} {c} {outer} {e} h counts r =
+    let r' : RefusesUnusedBits (narrowed h.mid h.size Hard) c e = subst (λ z. RefusesUnusedBits z c e) h.opened r in
+    let fails : Fails h.mid c e = widened_fails h.fits r'.fails in
+    let judged : IsJudged a c e → IsJudged (narrowed h.mid h.size Hard) c e = λ j. narrowed_judged h.size Hard (judged_after h.takes j) in
+    let zero : unused_bits w ≡ 0x00 ∷ [] = some_unused w counts in
+    record {
+      fails = fails_after h.takes fails;
+      none = λ j end bs k content rest n small is fits.
+          let v = behind h.takes (failed_grows fails) k in
+          let q = header_length (enclosure_tag w) h.size (unused_bits w ++ content) v.rest rest (sym v.begins ∙ is) in
+          let with : unused_bits w ++ content ≡ 0x00 ∷ content = ap (λ u. u ++ content) zero in
+          no_container content (r'.stops (judged j)) v.concerns (q.0 ∙ ap length with) rest (q.1 ∙ ap (λ u. u ++ rest) with);
+      first = λ j k l x left q. (taken_first a.input h.mid.input (enclosure_tag w) x (len h.size) left h.takes.input q, h.number);
+      just = λ j bs k. just_unused h counts (r'.stops (judged j)) k;
+      memory = λ k same. r'.memory h.takes.not_failed (same ∙ sym h.takes.faults);
+      bounded = λ k. h.bounded;
+    }
+
+-- ---- what was taken
+
+same_innermost : {a b : State} {x : List ℕ} → Takes a b x → innermost b ≡ innermost a
+same_innermost {a} {b} t =
+    let place : b.taken + b.room ≡ a.taken + a.room = omega (arith, t.taken, t.room) in
+    rw (place, t.end, t.last) refl
+
+not_refused : {w : Enclosure} {a b c : State} {outer : Outer} {bs : List ℕ} (h : BeginsEnclosure w a b outer) → Takes (narrowed h.mid h.size Hard) c (unused_bits w) → a.input ≡ Some bs → opening_refusal w a (take a.room bs) ≡ None
+not_refused {w} {a} {c = c} h t k =
+    let f = front_of h.takes k in
+    let p = consumed h.mid.input c.input (unused_bits w) f.rest t.input f.known in
+    ap (opening_refusal w a) f.before ∙ opening_read w a h.size h.mid.room (take h.mid.room f.rest) h.number (below h) h.takes.room h.fits
+    ∙ behind_read w h.size h.mid.room f.rest p.0 p.2 (omega (arith, t.room)) h.fits
+
+-- what stands before the value was taken
+pub opens_enclosure : {w : Enclosure} {a b c d : State} {outer : Outer} → BeginsEnclosure w a b outer → Takes b c (unused_bits w) → d ≡ record c { direct = implicit_number w } → OpensEnclosure w a d outer
+opens_enclosure {w} {a} {b} {c} {d} {outer} h taken is =
+    let t : Takes (narrowed h.mid h.size Hard) c (unused_bits w) = subst (λ z. Takes z c (unused_bits w)) h.opened taken in
+    let place : outer.place ≡ h.mid.taken + h.mid.room = ap (λ (o : Outer). o.place) h.around in
+    let new : State = record c { direct = implicit_number w } in
+    let behind : Takes h.mid (restored outer new) (unused_bits w) = record {
+      input = t.input;
+      taken = t.taken;
+      room = omega (arith, t.taken, t.room, place, h.fits);
+      end = ap (λ (o : Outer). o.kind) h.around;
+      limit = t.limit;
+      last = ap (λ (o : Outer). o.last) h.around;
+      unpeeked = t.unpeeked;
+      drawn = t.drawn;
+      had_not_failed = t.had_not_failed;
+      not_failed = t.not_failed;
+      faults = t.faults;
+      through = t.through;
+    } in
+    subst (λ z. OpensEnclosure w a z outer) (sym is) (record {
+      size = h.size;
+      number = h.number;
+      around = h.around ∙ same_innermost h.takes;
+      takes = takes_then h.takes behind;
+      room = t.room;
+      within = omega (arith, t.taken, t.room, place, h.fits);
+      end = t.end;
+      direct = refl;
+      bounded = h.bounded;
+      no_refusal = λ bs k. not_refused h t k;
+    })
+
+-- an enclosure that has no count of unused bits
+pub opens_at_once : {w : Enclosure} {a b d : State} {outer : Outer} → BeginsEnclosure w a b outer → counts_unused_bits w ≡ false → d ≡ record b { direct = implicit_number w } → OpensEnclosure w a d outer
+opens_at_once {w} {a} {b} {d} h none is =
+    let nothing : Takes b b [] = takes_none b (ap (λ (s : State). s.failed) h.opened ∙ h.takes.not_failed) (ap (λ (s : State). s.peeked) h.opened ∙ h.takes.unpeeked) in
+    opens_enclosure h (subst (Takes b b) (sym (no_unused w none)) nothing) is
+
+-- one that has
+pub opens_behind_count : {w : Enclosure} {a b c d : State} {outer : Outer} → BeginsEnclosure w a b outer → counts_unused_bits w ≡ true → Takes b c (0x00 ∷ []) → d ≡ record c { direct = implicit_number w } → OpensEnclosure w a d outer
+opens_behind_count {w} {a} {b} {c} h some t is = opens_enclosure h (subst (Takes b c) (sym (some_unused w some)) t) is

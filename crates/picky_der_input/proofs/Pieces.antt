@@ -1,0 +1,88 @@
+-- Contents, drawn in pieces.
+use Rattle.std.proofs.Common.{◌≡◌, ℕ, zero, suc, ◌+◌, ◌-◌, ◌^◌, ◌<◌, ◌≤◌, List, [], ◌∷◌, ◌++◌, length, take, get_or, None, ◌∙◌, ap, arith, length-append}
+use Rattle.std.specs.Io.KnownBytes.{Consumes}
+use Rattle.std.proofs.lemmas.List.{take-append-le}
+use Rattle.picky_der_core.specs.Peeking.{moved, count_of_any}
+use Rattle.picky_der_core.specs.Shape.{AreBytes}
+use Rattle.picky_der_input.specs.State.{State}
+use Rattle.picky_der_input.specs.Steps.{Takes, TakesBytes, TakesPiece}
+use Rattle.picky_der_input.proofs.Steps.{takes_then}
+
+-- bytes behind bytes
+pub bytes_then : (xs ys : List ℕ) → AreBytes xs → AreBytes ys → AreBytes (xs ++ ys)
+bytes_then [] ys h k = k
+bytes_then (x ∷ xs) ys h k = (h.0, bytes_then xs ys h.1 k)
+
+-- one piece more was taken
+pub takes_bytes-piece : {a b c : State} {k n m left : ℕ} {content buffer : List ℕ} → TakesBytes a b k content → TakesPiece b c left n buffer → m ≡ k + n → TakesBytes a c m (content ++ take n buffer)
+takes_bytes-piece {n = n} {content = content} {buffer = buffer} h p e = record {
+  takes = takes_then h.takes p.takes.takes;
+  count = omega (arith, length-append content (take n buffer), h.count, p.takes.count);
+  bytes = bytes_then content (take n buffer) h.bytes p.takes.bytes;
+}
+
+-- ---- one read
+
+-- the bytes at the front of a buffer of bytes
+bytes_in_front : (n : ℕ) (bs : List ℕ) → ((i : ℕ) → get_or bs i 0 < 256) → AreBytes (take n bs)
+bytes_in_front zero bs h = tt
+bytes_in_front (suc n) [] h = tt
+bytes_in_front (suc n) (b ∷ bs) h = (h 0, bytes_in_front n bs (λ i. h (suc i)))
+
+-- the position behind them isn't the greatest
+moved_few : (pos n : ℕ) → pos + n < 2 ^ 64 → moved pos n ≡ pos + n
+moved_few pos zero h = omega arith
+moved_few pos (suc n) h = omega arith
+
+-- a read gave these bytes, and nothing else changed
+pub record Gives (old new : State) (n : ℕ) (bytes : List ℕ) : Type 0 where
+  pub input : Consumes old.input new.input bytes
+  pub count : length bytes ≡ n
+  pub fits : n ≤ old.room
+  pub small : old.taken + old.room < 2 ^ 64
+  pub taken : new.taken ≡ moved old.taken n
+  pub room : new.room ≡ old.room - n
+  pub end : new.end ≡ old.end
+  pub limit : new.limit ≡ old.limit
+  pub last : new.last ≡ old.last
+  pub was_unpeeked : old.peeked ≡ None
+  pub unpeeked : new.peeked ≡ None
+  pub had_not_failed : old.failed ≡ None
+  pub not_failed : new.failed ≡ None
+  pub faults : new.faults ≡ old.faults
+  pub through : new.through ≡ old.through
+
+-- so they were taken
+pub given_taken : {old new : State} {n : ℕ} {bytes : List ℕ} → Gives old new n bytes → Takes old new bytes
+given_taken {old} {new} {n} {bytes} h =
+    let place : new.taken ≡ old.taken + n = h.taken ∙ moved_few old.taken n (omega (arith, h.fits, h.small)) in
+    let none : count_of_any old.peeked ≡ 0 = ap count_of_any h.was_unpeeked in
+    record {
+      input = h.input;
+      taken = omega (arith, place, h.count);
+      room = omega (arith, h.room, h.count, h.fits);
+      end = h.end;
+      limit = h.limit;
+      last = h.last;
+      unpeeked = h.unpeeked;
+      drawn = omega (arith, place, none);
+      had_not_failed = h.had_not_failed;
+      not_failed = h.not_failed;
+      faults = h.faults;
+      through = h.through;
+    }
+
+-- the bytes that were given stand at the front of the piece
+pub given_piece : {old new : State} {n left : ℕ} → (buffer rest : List ℕ) → Gives old new n (take n buffer) → n ≤ length buffer → ((i : ℕ) → get_or (buffer ++ rest) i 0 < 256) → 0 < n → n ≤ left
+    → TakesPiece old new left n (buffer ++ rest)
+given_piece {old} {new} {n} {left} buffer rest h within bytes some fits =
+    let front : take n (buffer ++ rest) ≡ take n buffer = take-append-le n buffer rest within in
+    record {
+      takes = record {
+        takes = rw front (given_taken h);
+        count = rw front h.count;
+        bytes = bytes_in_front n (buffer ++ rest) bytes;
+      };
+      some = some;
+      fits = fits;
+    }

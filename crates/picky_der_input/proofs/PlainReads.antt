@@ -1,0 +1,272 @@
+-- Plain values, read and refused.
+use Rattle.std.proofs.Common.{◌≡◌, ℕ, ◌+◌, ◌<◌, ◌≤◌, ◌^◌, inl, inr, true, false, List, [], ◌∷◌, ◌++◌, length, take, Option, Some, None, IfSome, Ok, Err, refl, sym, ◌∙◌, ap, subst, arith, length-append, append_assoc, lt-ltb, le-ltb}
+use Rattle.std.specs.Io.KnownBytes.{Consumes}
+use Rattle.std.proofs.Math.Seq.{take-append_seam, drop-append_seam}
+use Rattle.std.proofs.lemmas.Bool.Decides.{nat_tests}
+use Rattle.std.proofs.lemmas.List.{take-append-drop}
+use Rattle.picky_der_core.specs.declared.error.Asn1DerError.{Asn1DerError}
+use Rattle.picky_der_core.specs.Failure.{failure_of}
+use Rattle.picky_der_core.specs.declared.error.Asn1DerError.TheVariants.{TruncatedData, UnsupportedValue}
+use Rattle.picky_der_core.specs.Element.{len, tlv}
+use Rattle.picky_der_core.specs.ElementLaws.{same_front}
+use Rattle.picky_der_core.specs.Tag.{number_of, is_tag_number, IsTagNumber}
+use Rattle.picky_der_core.specs.Tree.{Tree, is_plain}
+use Rattle.picky_der_core.specs.Encoding.{der, inside, content, plain_tag}
+use Rattle.picky_der_core.specs.EncodingLaws.{der-plain, inside-plain}
+use Rattle.picky_der_core.specs.Readable.{IsReadable, IsNoChoice}
+use Rattle.picky_der_core.specs.Shape.{Shape, IsOf, IsFirst}
+use Rattle.picky_der_core.specs.Reading.{written_at, MayStand, StandsAt}
+use Rattle.picky_der_core.specs.Refusal.{Judge, Refusal, judged, header, header_refusal, refusal_of, content_refusal, Outcome}
+use Rattle.picky_der_input.specs.State.{State}
+use Rattle.picky_der_input.specs.Steps.{Takes, Fails, IsCut, StopsShort, IsJudged, failed_with, is_hard, place_in, place_of, drawn}
+use Rattle.picky_der_input.specs.Reading.{Concerns, Refuses, refusal_in, refusal_at, IsJustRefused, ReadsPlain, RefusesPlain}
+use Rattle.picky_der_input.specs.Headers.{header_bytes, Begins, RefusesBegin, NoElement}
+use Rattle.picky_der_input.proofs.Steps.{takes_then, fails_after, fails_again, judged_after}
+use Rattle.picky_der_input.proofs.Refusals.{behind, failed_grows, cut_grows, missing_here, end_below, taken_first}
+use Rattle.picky_der_input.proofs.Lengths.{cut_after}
+use Rattle.picky_der_input.proofs.Known.{front_of, just_cut, just_taken, missing_before}
+use Rattle.picky_der_input.proofs.Headers.{header_length, length_tlv, header-read}
+
+-- a kind of plain values: with one tag, and told by their contents
+pub record IsPlainKind {V : Type 0} (meaning : V → Tree) (s : Shape) (tag : ℕ) (judge : Judge) : Type 0 where
+  pub number : IsTagNumber (number_of tag)
+  pub first : IsFirst s tag
+  pub plain : (v : V) → is_plain (meaning v) ≡ true
+  pub tagged : (v : V) → plain_tag (meaning v) ≡ tag
+  pub no_choice : (v : V) → IsNoChoice (meaning v)
+  pub judged : (v : V) → IsOf s (meaning v) → judge (content (meaning v)) ≡ None
+
+-- ---- what stands behind the header
+
+-- the encoding of a plain tree with this tag
+der_of : (t : Tree) (tag : ℕ) → is_plain t ≡ true → plain_tag t ≡ tag → der t ≡ tlv tag (content t)
+der_of t tag p e = der-plain t p ∙ ap (λ x. tlv x (content t)) e
+
+pub record Standing (d : Option ℕ) (tag n end : ℕ) (rest : List ℕ) (t : Tree) : Type 0 where
+  pub size : length (content t) ≡ n
+  pub behind : List ℕ
+  pub is : rest ≡ content t ++ behind
+  pub within : length (header_bytes d tag n) + n ≤ end
+
+standing : (d : Option ℕ) (tag n room end : ℕ) (s : Shape) (rest : List ℕ) (t : Tree) → is_plain t ≡ true → plain_tag t ≡ tag → IfSome d (λ number. n ≡ room)
+    → StandsAt (place_in d room) s (header_bytes d tag n ++ rest) end t → Standing d tag n end rest t
+standing None tag n room end s rest t p e a st =
+    let is : (tag ∷ len n) ++ rest ≡ tlv tag (content t) ++ st.front.rest = st.front.is ∙ ap (λ z. z ++ st.front.rest) (der_of t tag p e) in
+    let q = header_length tag n (content t) rest st.front.rest is in
+    let size : length (der t) ≡ length (tlv tag (content t)) = ap length (der_of t tag p e) in
+    let same : length (len n) ≡ length (len (length (content t))) = ap (λ m. length (len m)) q.0 in
+    record { size = sym q.0; behind = st.front.rest; is = q.1; within = omega (arith, st.within, size, length_tlv tag (content t), same, q.0) }
+standing (Some number) tag n room end s rest t p e a st =
+    let is : inside t ≡ content t = inside-plain t p in
+    let size : length (content t) ≡ room = ap length (sym is) ∙ st.may_stand.filled p in
+    record { size = size ∙ sym a; behind = st.front.rest; is = st.front.is ∙ ap (λ z. z ++ st.front.rest) is; within = omega (arith, st.within, size, ap length is) }
+
+all_of : (d : Option ℕ) (tag n room left : ℕ) → room ≡ length (header_bytes d tag n) + left → IfSome d (λ number. n ≡ left) → IfSome d (λ number. n ≡ room)
+all_of None tag n room left r a = tt
+all_of (Some number) tag n room left r a = omega arith
+
+-- the content of a value that stands, behind its header
+pub record Content (mid new : State) (e : Asn1DerError) (n : ℕ) (t : Tree) : Type 0 where
+  pub left : ℕ
+  pub seen : List ℕ
+  pub concerns : Concerns mid new e left seen
+  pub fits : n ≤ left
+  pub rest : List ℕ
+  pub begins : seen ≡ content t ++ rest
+  pub size : length (content t) ≡ n
+
+pub begun : {a b c : State} {s : Shape} {e : Asn1DerError} {tag n end : ℕ} {bs : List ℕ} {t : Tree} → Begins tag a b n → b.taken ≤ drawn c → is_plain t ≡ true → plain_tag t ≡ tag
+    → Concerns a c e end bs → StandsAt (place_of a) s bs end t → Content b c e n t
+begun {a} {b} {c} {s} {e} {tag} {n} {end} {bs} {t} h g p k w st =
+    let v = behind h.takes g w in
+    let st' : StandsAt (place_of a) s (header_bytes a.direct tag n ++ v.rest) end t = subst (λ x. StandsAt (place_of a) s x end t) v.begins st in
+    let q = standing a.direct tag n a.room end s v.rest t p k (all_of a.direct tag n a.room b.room h.takes.room h.all) st' in
+    record { left = v.left; seen = v.rest; concerns = v.concerns; fits = omega (arith, v.ends, q.within); rest = q.behind; begins = q.is; size = q.size }
+
+-- ---- refused headers
+
+pub no_plain : (d : Option ℕ) (tag room end : ℕ) (s : Shape) (bs : List ℕ) (t : Tree) → d ≡ None → end < 2 ^ 64 → is_plain t ≡ true → plain_tag t ≡ tag → NoElement tag end bs → StandsAt (place_in d room) s bs end t → ⊥
+no_plain None tag room end s bs t e small p k h st =
+    let size : length (der t) ≡ length (tlv tag (content t)) = ap length (der_of t tag p k) in
+    h (content t) st.front.rest (omega (arith, st.within, size, length_tlv tag (content t), small)) (st.front.is ∙ ap (λ z. z ++ st.front.rest) (der_of t tag p k)) (omega (arith, st.within, size))
+no_plain (Some number) tag room end s bs t e small p k h st = absurd (let q : Some number ≡ None = e in cc)
+
+refused_in : (d : Option ℕ) (tag : ℕ) (judge : Judge) (s : State) (rest : List ℕ) (r : Refusal) → d ≡ None → header_refusal tag (is_hard s.end) s.room rest ≡ Some r → refusal_in d tag judge s rest ≡ Some r
+refused_in None tag judge s rest r e h = refused (header tag (is_hard s.end) s.room rest) h
+  where
+    refused : (o : Outcome ℕ) → refusal_of o ≡ Some r → content_refusal judge o ≡ Some r
+    refused (Ok read) h = absurd (let q : None ≡ Some r = h in cc)
+    refused (Err e) h = h
+refused_in (Some number) tag judge s rest r e h = absurd (let q : Some number ≡ None = e in cc)
+
+pub just_map : {p q : List ℕ → Option Refusal} {a c : State} {e : Asn1DerError} {bs : List ℕ} → ((rest : List ℕ) (r : Refusal) → p rest ≡ Some r → q rest ≡ Some r) → IsJustRefused p a c e bs → IsJustRefused q a c e bs
+just_map {a = a} {e = e} {bs = bs} f h = record { left = h.left; refused = f (take a.room bs) (e, h.left) h.refused; input = h.input; kept = h.kept; used = h.used }
+
+-- a plain value whose header was refused
+pub refuses_header : {V : Type 0} {meaning : V → Tree} {s : Shape} {tag : ℕ} {judge : Judge} {a c : State} {e : Asn1DerError} → IsPlainKind meaning s tag judge → RefusesBegin tag a c e → RefusesPlain meaning tag judge s a c e
+refuses_header {s = s} {tag = tag} {judge = judge} {a = a} kind h = record {
+  refuses = record {
+    fails = h.fails;
+    none = λ j end bs w v st. let r = h.header j in no_plain a.direct tag a.room end s bs _ r.0 (end_below (h.bounded j.had_not_failed) w) (kind.plain v) (kind.tagged v) (r.1.none j end bs w) st;
+    first = λ j k d l b left q. subst (IsFirst s) (sym ((h.header j).1.first j k l b left q)) kind.first;
+  };
+  just = λ j bs k. let r = h.header j in just_map (λ rest x. refused_in a.direct tag judge a rest x r.0) (r.1.just j bs k);
+}
+
+-- ---- tags that aren't read
+
+unsupported_in : (d : Option ℕ) (tag : ℕ) (judge : Judge) (s : State) (rest : List ℕ) → 30 < number_of tag → refusal_in d tag judge s rest ≡ Some (UnsupportedValue, rest)
+unsupported_in None tag judge s rest n = let past : is_tag_number (number_of tag) ≡ false = grind (arith, nat_tests) in rw past refl
+unsupported_in (Some number) tag judge s rest n = let past : is_tag_number (number_of tag) ≡ false = grind (arith, nat_tests) in rw past refl
+
+-- a tag of the long form was asked for, and nothing was taken
+pub refuses_number : {V : Type 0} {meaning : V → Tree} {s : Shape} {tag : ℕ} {judge : Judge} {a c : State} {e : Asn1DerError} → 30 < number_of tag → ((v : V) → IsOf s (meaning v) → IsReadable (meaning v) → ⊥) → Fails a c e → e ≡ UnsupportedValue → c ≡ failed_with a e
+    → RefusesPlain meaning tag judge s a c e
+refuses_number {tag = tag} {judge = judge} {a = a} n none f is same = record {
+  refuses = record {
+    fails = f;
+    none = λ j end bs w v st. none v st.of_shape st.readable;
+    first = λ j k l b left q. absurd (let r : UnsupportedValue ≡ TruncatedData = sym is ∙ k in cc);
+  };
+  just = λ j bs k. record {
+    left = take a.room bs;
+    refused = unsupported_in a.direct tag judge a (take a.room bs) n ∙ ap (λ x. Some (x, take a.room bs)) (sym is);
+    input = ap (λ (s : State). s.input) same ∙ k ∙ ap (λ x. Some x) (sym (take-append-drop a.room bs));
+    kept = λ q. ap (λ (s : State). s.peeked) same;
+    used = λ more. absurd (omega (arith, ap (λ (s : State). s.taken) same));
+  };
+}
+
+-- it had failed before
+pub refuses_again : {V : Type 0} {meaning : V → Tree} {s : Shape} {tag : ℕ} {judge : Judge} {a : State} {e : Asn1DerError} → a.failed ≡ Some (failure_of e) → RefusesPlain meaning tag judge s a a e
+refuses_again {a = a} {e = e} h =
+    let no : (j : IsJudged a a e) → ⊥ = λ j. let q : None ≡ Some (failure_of e) = sym j.had_not_failed ∙ h in cc in
+    record {
+      refuses = record { fails = fails_again a h; none = λ j. absurd (no j); first = λ j. absurd (no j) };
+      just = λ j. absurd (no j);
+    }
+
+-- ---- refused contents
+
+pub first_of_header : (s : Shape) (d : Option ℕ) (i j : Option (List ℕ)) (tag n : ℕ) → IsFirst s tag → Consumes i j (header_bytes d tag n) → d ≡ None → (b : ℕ) (left : List ℕ) → i ≡ Some (b ∷ left) → IsFirst s b
+first_of_header s None i j tag n f t e b left k = subst (IsFirst s) (sym (taken_first i j tag b (len n) left t k)) f
+first_of_header s (Some number) i j tag n f t e b left k = absurd (let q : Some number ≡ None = e in cc)
+
+-- known bytes behind the header are judged
+content_at : (d : Option ℕ) (tag n q : ℕ) (judge : Judge) (s : State) (y : List ℕ) → IsTagNumber (number_of tag) → n < 2 ^ 64 → s.room ≡ length (header_bytes d tag n) + q → n ≤ q → IfSome d (λ number. n ≡ q)
+    → refusal_in d tag judge s (header_bytes d tag n ++ y) ≡ content_refusal judge (Ok (n, y))
+content_at None tag n q judge s y i small r l a = ap (content_refusal judge) (header-read tag (is_hard s.end) s.room n q y i small r l)
+content_at (Some number) tag n q judge s y i small r l a =
+    let in_range : is_tag_number (number_of tag) ≡ true = grind (arith, nat_tests) in
+    let all : s.room ≡ n = omega arith in
+    rw (in_range, all) refl
+
+content_cut : (judge : Judge) (n : ℕ) (y : List ℕ) → length y < n → content_refusal judge (Ok (n, y)) ≡ Some (TruncatedData, [])
+content_cut judge n y l = rw (lt-ltb (length y) n l) refl
+
+content_judged : (judge : Judge) (x y : List ℕ) → content_refusal judge (Ok (length x, x ++ y)) ≡ judged (judge x) y
+content_judged judge x y = rw (le-ltb (length (x ++ y)) (length x) (omega (arith, length-append x y)), take-append_seam x y, drop-append_seam x y) refl
+
+pub fits_below : {a b : State} {tag n : ℕ} → Begins tag a b n → n < 2 ^ 64
+fits_below h = omega (arith, h.fits, h.takes.room, h.bounded)
+
+-- a plain value whose header was taken
+behind_header : {V : Type 0} {meaning : V → Tree} {s : Shape} {tag n : ℕ} {judge : Judge} {a b c : State} {e : Asn1DerError} → IsPlainKind meaning s tag judge → Begins tag a b n → Fails b c e
+    → (IsJudged b c e → (v : V) → IsOf s (meaning v) → Content b c e n (meaning v) → ⊥) → (IsJudged b c e → (bs : List ℕ) → a.input ≡ Some bs → IsJustRefused (refusal_at tag judge a) a c e bs)
+    → RefusesPlain meaning tag judge s a c e
+behind_header {s = s} {tag = tag} {n = n} {a = a} {b = b} kind h f none just = record {
+  refuses = record {
+    fails = fails_after h.takes f;
+    none = λ j end bs w v st. none (judged_after h.takes j) v st.of_shape (begun h (failed_grows f) (kind.plain v) (kind.tagged v) w st);
+    first = λ j k d x left l q. first_of_header s a.direct a.input b.input tag n kind.first h.takes.input d left l q;
+  };
+  just = λ j. just (judged_after h.takes j);
+}
+
+content_missing : {b c : State} {e : Asn1DerError} {n : ℕ} {t : Tree} → IsCut b c n e → Content b c e n t → ⊥
+content_missing {t = t} m w =
+    let v = behind m.takes (cut_grows m) w.concerns in
+    let sizes : length m.bytes + length v.rest ≡ length (content t) + length w.rest =
+    sym (length-append m.bytes v.rest) ∙ ap length (sym v.begins ∙ w.begins) ∙ length-append (content t) w.rest in
+    elim (missing_here m.missing v.concerns) [
+      | inl here ↦ omega (arith, w.fits, v.ends, m.short)
+      | inr ended ↦ omega (arith, w.size, m.short, sizes, ap length ended)
+    ]
+
+just_content_cut : (tag n : ℕ) (judge : Judge) {a b c : State} {e : Asn1DerError} {bs : List ℕ} → IsTagNumber (number_of tag) → Begins tag a b n → IsCut b c n e → a.input ≡ Some bs → IsJustRefused (refusal_at tag judge a) a c e bs
+unfolding cut_after
+just_content_cut tag n judge {a} {b} {c} {e} i h m k =
+    let header = header_bytes a.direct tag n in
+    let few : length (header ++ m.bytes) < a.room = omega (arith, length-append header m.bytes, h.takes.room, h.fits, m.short) in
+    just_cut (refusal_at tag judge a) (cut_after h.takes refl m) k (λ is.
+    let error : e ≡ TruncatedData = sym is ∙ missing_before a.end a.room (header ++ m.bytes) few in
+    content_at a.direct tag n b.room judge a m.bytes i (fits_below h) h.takes.room h.fits h.all ∙ content_cut judge n m.bytes m.short ∙ ap (λ x. Some (x, [])) (sym error))
+
+-- the content ended before it was whole
+pub refuses_cut : {V : Type 0} {meaning : V → Tree} {s : Shape} {tag n : ℕ} {judge : Judge} {a b c : State} {e : Asn1DerError} → IsPlainKind meaning s tag judge → Begins tag a b n → StopsShort b c n e → RefusesPlain meaning tag judge s a c e
+refuses_cut {tag = tag} {n = n} {judge = judge} kind h f =
+    behind_header kind h f.fails (λ j v o. content_missing (f.short j)) (λ j bs k. just_content_cut tag n judge kind.number h (f.short j) k)
+
+judged_none : (judge : Judge) {b c d : State} {e : Asn1DerError} {n : ℕ} {t : Tree} {x : List ℕ} → Takes b c x → length x ≡ n → c.taken ≤ drawn d → judge x ≡ Some e → judge (content t) ≡ None → Content b d e n t → ⊥
+judged_none judge {e = e} {t = t} {x = x} h l g bad good w =
+    let v = behind h g w.concerns in
+    let same : x ≡ content t = (same_front x (content t) v.rest w.rest (l ∙ sym w.size) (sym v.begins ∙ w.begins)).0 in
+    let q : Some e ≡ None = sym bad ∙ ap judge same ∙ good in
+    cc
+
+just_judged : (tag n : ℕ) (judge : Judge) {a b c d : State} {e : Asn1DerError} {x bs : List ℕ} → IsTagNumber (number_of tag) → Begins tag a b n → Takes b c x → length x ≡ n → judge x ≡ Some e → d ≡ failed_with c e → a.input ≡ Some bs
+    → IsJustRefused (refusal_at tag judge a) a d e bs
+just_judged tag n judge {a} {b} {c} {d} {e} {x} i h t l bad same k =
+    let header = header_bytes a.direct tag n in
+    just_taken (refusal_at tag judge a) (takes_then h.takes t) same k (λ y.
+    ap (refusal_at tag judge a) (append_assoc header x y)
+    ∙ content_at a.direct tag n b.room judge a (x ++ y) i (fits_below h) h.takes.room h.fits h.all
+    ∙ ap (λ m. content_refusal judge (Ok (m, x ++ y))) (sym l)
+    ∙ content_judged judge x y ∙ ap (λ r. judged r y) bad)
+
+-- the content isn't one of the kind
+pub refuses_content : {V : Type 0} {meaning : V → Tree} {s : Shape} {tag n : ℕ} {judge : Judge} {a b c d : State} {e : Asn1DerError} {x : List ℕ} → IsPlainKind meaning s tag judge → Begins tag a b n → Takes b c x → length x ≡ n
+    → Fails c d e → judge x ≡ Some e → d ≡ failed_with c e → RefusesPlain meaning tag judge s a d e
+refuses_content {meaning = meaning} {tag = tag} {n = n} {judge = judge} kind h t l f bad same =
+    behind_header kind h (fails_after t f) (λ j v o. judged_none judge t l (failed_grows f) bad (kind.judged v o)) (λ j bs k. just_judged tag n judge kind.number h t l bad same k)
+
+-- ---- what was read
+
+pub takes_plain : (d : Option ℕ) (room : ℕ) {a b c : State} {tag n : ℕ} (t : Tree) → is_plain t ≡ true → plain_tag t ≡ tag → Takes a b (header_bytes d tag n) → Takes b c (content t) → length (content t) ≡ n → Takes a c (written_at (place_in d room) t)
+unfolding tlv
+takes_plain None room {a} {b} {c} {tag} {n} t p k h x l =
+    let is : (tag ∷ len n) ++ content t ≡ der t = rw (der_of t tag p k, l) refl in
+    subst (Takes a c) is (takes_then h x)
+takes_plain (Some number) room {a} {b} {c} t p k h x l = subst (Takes a c) (sym (inside-plain t p)) (takes_then h x)
+
+pub may_stand : (d : Option ℕ) (tag n room left : ℕ) (t : Tree) → is_plain t ≡ true → room ≡ length (header_bytes d tag n) + left → IfSome d (λ number. n ≡ left) → length (content t) ≡ n → IsNoChoice t → MayStand (place_in d room) t
+may_stand None tag n room left t p r a l c = tt
+may_stand (Some number) tag n room left t p r a l c = record { no_choice = c; filled = λ q. omega (arith, ap length (inside-plain t p)) }
+
+not_refused : (tag n : ℕ) (judge : Judge) {a b c : State} {x bs : List ℕ} → IsTagNumber (number_of tag) → Begins tag a b n → Takes b c x → length x ≡ n → judge x ≡ None → a.input ≡ Some bs → refusal_at tag judge a (take a.room bs) ≡ None
+not_refused tag n judge {a} {b} {c} {x} {bs} i h t l good k =
+    let header = header_bytes a.direct tag n in
+    let f = front_of (takes_then h.takes t) k in
+    let y = take c.room f.rest in
+    ap (refusal_at tag judge a) (f.before ∙ append_assoc header x y)
+    ∙ content_at a.direct tag n b.room judge a (x ++ y) i (fits_below h) h.takes.room h.fits h.all
+    ∙ ap (λ m. content_refusal judge (Ok (m, x ++ y))) (sym l)
+    ∙ content_judged judge x y ∙ ap (λ r. judged r y) good
+
+-- a plain value was read
+pub reads_plain : {V : Type 0} {meaning : V → Tree} {s : Shape} {tag n : ℕ} {judge : Judge} {a b c : State} → IsPlainKind meaning s tag judge → (v : V) → IsOf s (meaning v) → IsReadable (meaning v)
+    → Begins tag a b n → Takes b c (content (meaning v)) → length (content (meaning v)) ≡ n → c.direct ≡ None → ReadsPlain tag judge s a c (meaning v)
+reads_plain {meaning = meaning} {tag = tag} {n = n} {judge = judge} {a = a} {b = b} kind v o r h t l d = record {
+  reads = record {
+    of_shape = o;
+    readable = r;
+    may_stand = may_stand a.direct tag n a.room b.room (meaning v) (kind.plain v) h.takes.room h.all l (kind.no_choice v);
+    takes = takes_plain a.direct a.room (meaning v) (kind.plain v) (kind.tagged v) h.takes t l;
+    direct = d;
+  };
+  no_refusal = λ bs k. not_refused tag n judge kind.number h t l (kind.judged v o) k;
+}
+
+-- the same of values that hold such a value
+pub refuses_of : {V W : Type 0} {meaning : V → Tree} {s : Shape} {a c : State} {e : Asn1DerError} (part : W → V) → Refuses meaning s a c e → Refuses (λ w. meaning (part w)) s a c e
+refuses_of part h = record { fails = h.fails; none = λ j end bs k w. h.none j end bs k (part w); first = h.first }

@@ -1,0 +1,117 @@
+-- Bytes of which a refusal speaks, behind those that were taken.
+use Rattle.std.proofs.Common.{◌≡◌, ◌≢◌, ℕ, ◌+◌, ◌<◌, ◌≤◌, ◌^◌, ◌⊎◌, inl, inr, List, [], ◌∷◌, ◌++◌, length, Option, Some, None, refl, sym, ◌∙◌, ap, arith, append_assoc, length-append}
+use Rattle.std.specs.Io.KnownBytes.{Consumes, IsAtEnd}
+use Rattle.picky_der_core.specs.declared.error.Asn1DerError.{Asn1DerError}
+use Rattle.picky_der_core.specs.declared.error.Asn1DerError.TheVariants.{TruncatedData}
+use Rattle.picky_der_input.specs.declared.end.End.{End}
+use Rattle.picky_der_input.specs.declared.end.End.TheVariants.{Limit, Soft, Hard}
+use Rattle.picky_der_input.specs.State.{State}
+use Rattle.picky_der_input.specs.Steps.{Takes, Fails, IsMissing, end_is_here, input_ended, IsJudged, IsCut, at_end, far, reach, drawn}
+use Rattle.picky_der_input.specs.Reading.{Concerns, now, ever, Tells}
+use Rattle.picky_der_input.proofs.Steps.{judged_after}
+
+-- ---- lists with a front
+
+-- parted behind that front
+pub parted : (d h cs left : List ℕ) → d ++ left ≡ h ++ cs → length h ≤ length d → (e : List ℕ) × (d ≡ h ++ e) × (cs ≡ e ++ left)
+parted d [] cs left e l = (d, refl, sym e)
+parted [] (x ∷ h) cs left e l = absurd (omega arith)
+parted (y ∷ d) (x ∷ h) cs left e l =
+    let q = parted d h cs left (cc) (omega arith) in
+    let p : y ≡ x = cc in
+    let r : d ≡ h ++ q.0 = q.1 in
+    (q.0, cc, q.2)
+
+-- known bytes begin with those that were taken
+pub consumed : (i j : Option (List ℕ)) (h bs : List ℕ) → Consumes i j h → i ≡ Some bs → (cs : List ℕ) × (j ≡ Some cs) × (bs ≡ h ++ cs)
+consumed None j h bs c e = absurd (let q : None ≡ Some bs = e in cc)
+consumed (Some xs) None h bs c e = absurd c
+consumed (Some xs) (Some ys) h bs c e = (ys, refl, cc)
+
+-- ---- behind what was taken
+
+pub record Behind (old mid new : State) (e : Asn1DerError) (h : List ℕ) (end : ℕ) (bs : List ℕ) : Type 0 where
+  pub left : ℕ
+  pub rest : List ℕ
+  pub begins : bs ≡ h ++ rest
+  pub concerns : Concerns mid new e left rest
+  -- the end is as much nearer, or as far as the limit lets it be
+  pub ends : end ≤ length h + left
+
+far_takes : (e : End) (r s n : ℕ) → r ≡ n + s → far e r ≤ n + far e s
+far_takes Limit r s n h = omega arith
+far_takes Soft r s n h = omega arith
+far_takes Hard r s n h = omega arith
+
+reach_takes : {a b : State} {h : List ℕ} → Takes a b h → reach a ≤ length h + reach b
+reach_takes {a} {b} {h} t =
+    let same : reach b ≡ far a.end b.room = ap (λ (z : End). far z b.room) t.end in
+    omega (arith, far_takes a.end a.room b.room (length h) t.room, same)
+
+-- what was taken was drawn
+pub failed_grows : {b c : State} {k : Asn1DerError} → Fails b c k → b.taken ≤ drawn c
+failed_grows f = omega (arith, f.grows)
+
+pub cut_grows : {a c : State} {n : ℕ} {k : Asn1DerError} → (m : IsCut a c n k) → m.mid.taken ≤ drawn c
+cut_grows m = omega (arith, m.taken)
+
+pub behind : {a b c : State} {k : Asn1DerError} {h : List ℕ} {end : ℕ} {bs : List ℕ} → Takes a b h → b.taken ≤ drawn c → Concerns a c k end bs → Behind a b c k h end bs
+behind {a} {b} {c} {k} {h} {end} {bs} t f (now e r) =
+    let q = consumed a.input b.input h bs t.input e in
+    record { left = b.room; rest = q.0; begins = q.2; concerns = now q.1 refl; ends = omega (arith, t.room) }
+behind {a} {b} {c} {k} {h} {end} {bs} t f (ever n r d y left e m g) =
+    let q = consumed a.input b.input h (d ++ left) t.input e in
+    let p = parted d h q.0 left q.2 (omega (arith, f, t.taken)) in
+    let i : b.input ≡ Some (p.0 ++ left) = q.1 ∙ ap (λ (z : List ℕ). Some z) p.2 in
+    let u : bs ≡ h ++ (p.0 ++ y) = g ∙ ap (λ (z : List ℕ). z ++ y) p.1 ∙ append_assoc h p.0 y in
+    let v : length d ≡ length h + length p.0 = ap (λ (z : List ℕ). length z) p.1 ∙ length-append h p.0 in
+    record { left = reach b; rest = p.0 ++ y; begins = u; concerns = ever n refl p.0 y left i (omega (arith, t.taken)) refl; ends = omega (arith, reach_takes t) }
+
+-- what is told of the bytes behind is told of all
+pub tells_after : {a b c : State} {k : Asn1DerError} {h : List ℕ} (P : ℕ → List ℕ → Type 0) → Takes a b h → Fails b c k
+    → (IsJudged b c k → (end left : ℕ) (rest : List ℕ) → end ≤ length h + left → Concerns b c k left rest → P end (h ++ rest)) → Tells a c k P
+tells_after P t f p = λ j end bs k. let w = behind t (failed_grows f) k in rw w.begins (p (judged_after t j) end w.left w.rest w.ends w.concerns)
+
+-- ---- ends
+
+at_end_final : (e : End) (room : ℕ) (k : Asn1DerError) → k ≡ at_end e → k ≢ TruncatedData → far e room ≡ room
+at_end_final Limit room k e n = absurd (n e)
+at_end_final Soft room k e n = absurd (n e)
+at_end_final Hard room k e n = refl
+
+pub at_end_of : (i : Option (List ℕ)) (bs : List ℕ) → IsAtEnd i → i ≡ Some bs → bs ≡ []
+at_end_of None bs h e = absurd (let q : None ≡ Some bs = e in cc)
+at_end_of (Some xs) bs h e = let p : xs ≡ bs = cc in sym p ∙ h
+
+-- no byte came: the end is here, or nothing is left
+pub missing_here : {b c : State} {k : Asn1DerError} {end : ℕ} {bs : List ℕ} → IsMissing b k → Concerns b c k end bs → (end ≡ 0) ⊎ (bs ≡ [])
+missing_here {b} {c} {k} {end} {bs} (end_is_here z m) (now e r) = inl (r ∙ z)
+missing_here {b} {c} {k} {end} {bs} (input_ended l z m) (now e r) = inr (at_end_of b.input bs z e)
+missing_here {b} {c} {k} {end} {bs} (end_is_here z m) (ever n r d y left e q f) = inl (r ∙ at_end_final b.end b.room k m n ∙ z)
+missing_here {b} {c} {k} {end} {bs} (input_ended l z m) (ever n r d y left e q f) = absurd (n m)
+
+-- a length that reaches past the end
+pub past_end : {b c : State} {k : Asn1DerError} {end : ℕ} {bs : List ℕ} {n : ℕ} → k ≡ at_end b.end → b.room < n → Concerns b c k end bs → end < n
+past_end {b} {c} {k} {end} {bs} {n} h l (now e r) = omega arith
+past_end {b} {c} {k} {end} {bs} {n} h l (ever w r d y left e q f) =
+    let g : end ≡ b.room = r ∙ at_end_final b.end b.room k h w in
+    omega arith
+
+far_below : (e : End) (room : ℕ) → room < 2 ^ 64 → far e room < 2 ^ 64
+far_below Limit room h = omega arith
+far_below Soft room h = h
+far_below Hard room h = h
+
+-- ends are 64-bit numbers
+pub end_below : {a c : State} {k : Asn1DerError} {end : ℕ} {bs : List ℕ} → a.room < 2 ^ 64 → Concerns a c k end bs → end < 2 ^ 64
+end_below {a} h (now e r) = omega arith
+end_below {a} h (ever n r d y left e q f) = omega (arith, far_below a.end a.room h)
+
+-- ---- first bytes
+
+pub missing_first : (s : State) {k : Asn1DerError} {b : ℕ} {left : List ℕ} → IsMissing s k → 0 < s.room → s.input ≡ Some (b ∷ left) → ⊥
+missing_first s {k} {b} {left} (end_is_here z m) l e = omega arith
+missing_first s {k} {b} {left} (input_ended r z m) l e = let q : b ∷ left ≡ [] = at_end_of s.input (b ∷ left) z e in cc
+
+pub taken_first : (i j : Option (List ℕ)) (x y : ℕ) (h left : List ℕ) → Consumes i j (x ∷ h) → i ≡ Some (y ∷ left) → y ≡ x
+taken_first i j x y h left t e = let q = consumed i j (x ∷ h) (y ∷ left) t e in let p : y ∷ left ≡ x ∷ (h ++ q.0) = q.2 in cc

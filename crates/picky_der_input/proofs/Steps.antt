@@ -1,0 +1,108 @@
+-- Steps of a deserializer, one after another.
+use Rattle.std.proofs.Common.{◌≡◌, ℕ, ◌+◌, List, [], ◌++◌, length, Option, Some, None, refl, sym, ◌∙◌, ap, arith, length-append}
+use Rattle.std.specs.Io.KnownBytes.{Consumes}
+use Rattle.std.proofs.KnownBytes.{Consumes-nil, Consumes-trans, Keeps-refl}
+use Rattle.picky_der_core.specs.declared.error.Asn1DerError.{Asn1DerError}
+use Rattle.picky_der_core.specs.Failure.{failure_of}
+use Rattle.picky_der_core.specs.Peeking.{count_of_any}
+use Rattle.picky_der_input.specs.State.{State}
+use Rattle.picky_der_input.specs.Steps.{Takes, Took, Fails, IsWithin, IsUnmoved, HasDrawn, IsJudged, drawn}
+
+pub takes_then : {a b c : State} {x y : List ℕ} → Takes a b x → Takes b c y → Takes a c (x ++ y)
+takes_then {a} {b} {c} {x} {y} h k = record {
+  input = Consumes-trans a.input b.input c.input x y h.input k.input;
+  taken = omega (arith, length-append x y);
+  room = omega (arith, length-append x y);
+  end = k.end ∙ h.end;
+  limit = k.limit ∙ h.limit;
+  last = k.last ∙ h.last;
+  unpeeked = k.unpeeked;
+  drawn = omega (arith, h.drawn, k.drawn);
+  had_not_failed = h.had_not_failed;
+  not_failed = k.not_failed;
+  faults = k.faults ∙ h.faults;
+  through = k.through ∙ h.through;
+}
+
+-- nothing is taken
+pub takes_none : (a : State) → a.failed ≡ None → a.peeked ≡ None → Takes a a []
+takes_none a h p = record {
+  input = Consumes-nil a.input;
+  taken = omega arith;
+  room = omega arith;
+  end = refl;
+  limit = refl;
+  last = refl;
+  unpeeked = p;
+  drawn = let e : count_of_any a.peeked ≡ 0 = ap count_of_any p in omega (arith, e);
+  had_not_failed = h;
+  not_failed = h;
+  faults = refl;
+  through = refl;
+}
+
+pub there_after : (i j : Option (List ℕ)) (h : List ℕ) (s t n : ℕ) → Consumes i j h → t ≡ s + length h → HasDrawn j t n → HasDrawn i s n
+there_after None j h s t n c e f = tt
+there_after (Some xs) None h s t n c e f = absurd c
+there_after (Some xs) (Some ys) h s t n c e f = omega (arith, ap length c, length-append h ys)
+
+pub takes_within : {a b : State} {x : List ℕ} → Takes a b x → IsWithin a → IsWithin b
+takes_within {a} {b} {x} h w =
+    let e : count_of_any b.peeked ≡ 0 = ap count_of_any h.unpeeked in
+    record { end = omega (arith, w.end, h.taken, h.room, h.limit); drawn = omega (arith, w.end, h.taken, h.room, h.limit, e) }
+
+took_after : {a b c : State} {x : List ℕ} → Takes a b x → Took b c → Took a c
+took_after {a} {b} {c} {x} h t = record {
+  bytes = x ++ t.bytes;
+  input = Consumes-trans a.input b.input c.input x t.bytes h.input t.input;
+  count = omega (arith, length-append x t.bytes, h.taken, t.count);
+}
+
+-- a call failed behind bytes that were taken
+pub fails_after : {a b c : State} {x : List ℕ} {e : Asn1DerError} → Takes a b x → Fails b c e → Fails a c e
+fails_after {a} {b} {c} {x} {e} h f =
+    let p : count_of_any b.peeked ≡ 0 = ap count_of_any h.unpeeked in
+    record {
+      failed = f.failed;
+      again = λ k w. absurd (let q : None ≡ Some k = sym h.had_not_failed ∙ w in cc);
+      faults = omega (arith, f.faults, h.faults);
+      other = λ w o. let q = f.other h.not_failed o in omega (arith, q, h.faults);
+      fault = λ w rose. f.fault h.not_failed (omega (arith, h.faults, rose));
+      took = took_after h f.took;
+      grows = omega (arith, f.grows, h.drawn, p);
+      end = omega (arith, f.end, h.taken, h.room);
+      limit = f.limit ∙ h.limit;
+      within = λ w. f.within (takes_within h w);
+      there = λ w. there_after a.input b.input x a.taken b.taken (drawn c) h.input h.taken (f.there h.not_failed);
+      through = f.through ∙ h.through;
+    }
+
+pub judged_after : {a b c : State} {x : List ℕ} {e : Asn1DerError} → Takes a b x → IsJudged a c e → IsJudged b c e
+judged_after h j = record {
+  had_not_failed = h.not_failed;
+  faults = j.faults ∙ sym h.faults;
+  memory = j.memory;
+}
+
+pub unmoved : (a : State) → IsUnmoved a a
+unmoved a = record { input = Keeps-refl a.input; taken = refl; peeked = refl; faults = refl }
+
+took_none : (a : State) → Took a a
+took_none a = record { bytes = []; input = Consumes-nil a.input; count = omega arith }
+
+-- it had failed before
+pub fails_again : (a : State) {e : Asn1DerError} → a.failed ≡ Some (failure_of e) → Fails a a e
+fails_again a {e} h = record {
+  failed = h;
+  again = λ f w. (let q : Some (failure_of e) ≡ Some f = sym h ∙ w in cc, unmoved a);
+  faults = omega arith;
+  other = λ w. absurd (let q : None ≡ Some (failure_of e) = sym w ∙ h in cc);
+  fault = λ w. absurd (let q : None ≡ Some (failure_of e) = sym w ∙ h in cc);
+  took = took_none a;
+  grows = omega arith;
+  end = omega arith;
+  limit = refl;
+  within = λ w. w;
+  there = λ w. absurd (let q : None ≡ Some (failure_of e) = sym w ∙ h in cc);
+  through = refl;
+}

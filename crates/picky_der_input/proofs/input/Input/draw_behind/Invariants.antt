@@ -1,0 +1,10 @@
+use Rattle.std.proofs.Common.{◌≡◌, ◌≤◌, ◌-◌}
+use Rattle.picky_der_input.specs.Steps.{TakesBehind}
+use Rattle.picky_der_input.proofs.input.Input.draw_behind.Given as goal
+
+abbrev pub invariant-loop-left : goal.invariant-loop-left
+invariant-loop-left g l =
+    TakesBehind l.initial.all.items l.initial.self l.self (l.len - l.left) l.all.items × (l.self.direct ≡ l.initial.self.direct) × (l.left ≤ l.len)
+
+abbrev pub decreases-loop-left : goal.decreases-loop-left
+decreases-loop-left g l = l.left

@@ -1,0 +1,23 @@
+use Rattle.std.proofs.Common.{◌≡◌, sym, ◌∙◌, ap}
+use Rattle.std.proofs.lemmas.Result.{err_from_is_err_and}
+use Rattle.picky_der_input.specs.State.{State}
+use Rattle.picky_der_input.proofs.Openings.{opening_unused, opens_at_once, opens_behind_count}
+use Rattle.picky_der_input.proofs.input.Input.open_enclosure.Goals as goal
+use Rattle.picky_der_input.proofs.input.Input.open_enclosure.Goals.{then-has_unused_bits+in_ok-take_unused_bits, else-has_unused_bits}
+
+pub returns-in_err-take_unused_bits-clause-err : goal.returns-in_err-take_unused_bits-clause-err
+returns-in_err-take_unused_bits-clause-err g c =
+    let p = err_from_is_err_and c.from_residual-in_err-take_unused_bits.result c.from_residual-in_err-take_unused_bits.ensures.1 in
+    rw (p.1, p.2) (opening_unused c.in_ok-outer.ensures.ok (sym c.has_unused_bits.ensures ∙ c.if-has_unused_bits.true) c.in_err-take_unused_bits.ensures.err)
+
+pub returns-clause-ok : goal.returns-clause-ok
+returns-clause-ok g c =
+    let h = c.in_ok-outer.ensures.ok in
+    let n = c.number_within-self-inside in
+    let counts = sym c.has_unused_bits.ensures in
+    let marked = λ (before : State) (same : c.if-has_unused_bits.self ≡ before).
+    ap (λ (s : State). record s { direct = n.result }) (c.self.view_is ∙ same) ∙ ap (λ number. record before { direct = number }) n.ensures in
+    elim c.if-has_unused_bits.branch [
+      | then-has_unused_bits+in_ok-take_unused_bits w ↦ opens_behind_count h (counts ∙ w.if-has_unused_bits.true) w.in_ok-take_unused_bits.ensures.ok (marked w.take_unused_bits.new.self w.self-is)
+      | else-has_unused_bits w ↦ opens_at_once h (counts ∙ w.if-has_unused_bits.false) (marked c.begin_enclosure.new.self w.self-is)
+    ]

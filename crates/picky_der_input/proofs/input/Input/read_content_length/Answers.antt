@@ -1,0 +1,22 @@
+use Rattle.std.proofs.Common.{◌≡◌, ◌<◌, ◌∙◌, ap, arith}
+use Rattle.std.proofs.lemmas.Result.{err_from_is_err_and}
+use Rattle.picky_der_input.specs.State.{State}
+use Rattle.picky_der_input.specs.Steps.{at_end}
+use Rattle.picky_der_input.proofs.Contents.{failed_same}
+use Rattle.picky_der_input.proofs.Headers.{content_no_length, content_too_long}
+use Rattle.picky_der_input.proofs.input.Input.read_content_length.Goals as goal
+
+pub returns-in_err-len-clause-err : goal.returns-in_err-len-clause-err
+returns-in_err-len-clause-err g c =
+    let p = err_from_is_err_and c.from_residual.result c.from_residual.ensures.1 in
+    rw (p.1, p.2) (content_no_length c.in_err-len.ensures.err)
+
+pub returns-then-len-self-clause-err : goal.returns-then-len-self-clause-err
+returns-then-len-self-clause-err g c =
+    let f = c.fail.ensures in
+    let e = c.in_ok-len.ensures in
+    let room : c.self.inside.room ≡ c.read_length.new.self.room = ap (λ (s : State). s.room) c.self.view_is in
+    let end : c.self.inside.end ≡ c.read_length.new.self.end = ap (λ (s : State). s.end) c.self.view_is in
+    let more : c.read_length.new.self.room < c.in_ok-len.len = omega (arith, c.if-len-self.true, room) in
+    let error = f.error ∙ c.missing-error.ensures ∙ ap at_end end in
+    content_too_long e.ok f.fails e.fits more error (failed_same c.read_length.new.self f.error f.same)

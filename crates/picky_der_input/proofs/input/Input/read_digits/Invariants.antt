@@ -1,0 +1,7 @@
+use Rattle.std.proofs.Common.{◌≡◌, ◌<◌, ◌^◌}
+use Rattle.picky_der_input.specs.Headers.{ReadsDigits}
+use Rattle.picky_der_input.proofs.input.Input.read_digits.Given as goal
+
+abbrev pub invariant-loop-i : goal.invariant-loop-i
+invariant-loop-i g l =
+    ReadsDigits l.initial.self l.self l._i l.len × (l.len < 256 ^ l._i) × (l.self.direct ≡ l.initial.self.direct)

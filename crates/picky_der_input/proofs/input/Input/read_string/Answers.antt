@@ -1,0 +1,31 @@
+use Rattle.std.proofs.Common.{◌≡◌, ℕ, Some, true, false, Vec, Global, IsUtf8, string_bytes, sym, ◌∙◌, ap, subst}
+use Rattle.std.proofs.lemmas.Result.{err_from_is_err_and}
+use Rattle.std.proofs.lemmas.Str.{IsUtf8-string_bytes}
+use Rattle.picky_der_input.proofs.Contents.{failed_same}
+use Rattle.picky_der_input.proofs.Texts.{text_bad}
+use Rattle.picky_der_input.proofs.PlainReads.{refuses_header, refuses_cut, refuses_content, reads_plain}
+use Rattle.picky_der_input.proofs.PlainKinds.{text_kind}
+use Rattle.picky_der_input.proofs.input.Input.read_string.Goals as goal
+
+pub returns-in_err-len-clause-err : goal.returns-in_err-len-clause-err
+returns-in_err-len-clause-err g c =
+    let p = err_from_is_err_and c.from_residual.result c.from_residual.ensures.1 in
+    rw (p.1, p.2) (refuses_header text_kind c.in_err-len.ensures.err)
+
+pub returns-in_err-content-clause-err : goal.returns-in_err-content-clause-err
+returns-in_err-content-clause-err g c =
+    let p = err_from_is_err_and c.from_residual-in_err-content.result c.from_residual-in_err-content.ensures.1 in
+    rw (p.1, p.2) (refuses_cut text_kind c.in_ok-len.ensures.ok c.in_err-content.ensures.err)
+
+pub returns-in-Ok-clause-ok : goal.returns-in-Ok-clause-ok
+returns-in-Ok-clause-ok g c =
+    let h = c.in_ok-len.ensures.ok in
+    let k = c.in_ok-content.ensures in
+    let same : string_bytes c.in-Ok.text ≡ c.in_ok-content.content.items = ap (λ (v : Vec ℕ Global). v.items) c.in-Ok.ensures.ok in
+    rw same (reads_plain text_kind c.in_ok-content.content.items (subst IsUtf8 same (IsUtf8-string_bytes c.in-Ok.text)) tt h k.ok.0 k.ok.1 (k.direct ∙ h.direct))
+
+pub returns-clause-err : goal.returns-clause-err
+returns-clause-err g c =
+    let f = c.fail.ensures in
+    let k = c.in_ok-content.ensures in
+    refuses_content text_kind c.in_ok-len.ensures.ok k.ok.0 k.ok.1 f.fails (text_bad c.in_ok-content.content.items (λ u. let q : false ≡ true = c.in-Err.ensures.succeeds u in cc) ∙ ap (λ e. Some e) (sym f.error)) (failed_same c.draw_vec.new.self f.error f.same)

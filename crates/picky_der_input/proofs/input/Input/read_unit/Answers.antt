@@ -1,0 +1,28 @@
+use Rattle.std.proofs.Common.{Some, arith, sym, ◌∙◌, ap}
+use Rattle.std.proofs.lemmas.Result.{err_from_is_err_and}
+use Rattle.picky_der_core.specs.Refusal.{null_fault}
+use Rattle.picky_der_input.proofs.Contents.{failed_same}
+use Rattle.picky_der_input.proofs.PlainReads.{refuses_header, refuses_cut}
+use Rattle.picky_der_input.proofs.PlainKinds.{null_kind, null_told, reads_kept, refuses_kept}
+use Rattle.picky_der_input.proofs.input.Input.read_unit.Goals as goal
+
+pub returns-in_err-len-clause-err : goal.returns-in_err-len-clause-err
+returns-in_err-len-clause-err g c =
+    let p = err_from_is_err_and c.from_residual.result c.from_residual.ensures.1 in
+    rw (p.1, p.2) (refuses_header null_kind c.in_err-len.ensures.err)
+
+pub returns-in_err-content-clause-err : goal.returns-in_err-content-clause-err
+returns-in_err-content-clause-err g c =
+    let p = err_from_is_err_and c.from_residual-in_err-content.result c.from_residual-in_err-content.ensures.1 in
+    rw (p.1, p.2) (refuses_cut null_kind c.in_ok-len.ensures.ok c.in_err-content.ensures.err)
+
+pub returns-in-Ok-clause-ok : goal.returns-in-Ok-clause-ok
+returns-in-Ok-clause-ok g c =
+    let h = c.in_ok-len.ensures.ok in
+    let k = c.in_ok-content.ensures in
+    reads_kept null_kind tt tt tt h k.ok (sym c.deref.ensures.0 ∙ c.in-Ok.ensures.ok) (omega arith) (k.direct ∙ h.direct)
+
+pub returns-in-Err-clause-err : goal.returns-in-Err-clause-err
+returns-in-Err-clause-err g c =
+    let f = c.fail.ensures in
+    refuses_kept null_kind null_told c.in_ok-len.ensures.ok c.in_ok-content.ensures.ok f.fails (ap null_fault (sym c.deref.ensures.0) ∙ c.in-Err.ensures.fault ∙ ap (λ e. Some e) (sym f.error)) (failed_same c.draw_kept.new.self f.error f.same)

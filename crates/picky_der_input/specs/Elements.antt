@@ -1,0 +1,38 @@
+-- Elements that are taken whole, whatever their tag.
+use Rattle.std.specs.Prelude.{◌≡◌, ℕ, ◌^◌, ◌<◌, ◌≤◌, List, ◌∷◌, Option, None}
+use Rattle.picky_der_core.specs.declared.error.Asn1DerError.{Asn1DerError}
+use Rattle.picky_der_core.specs.Tag.{number_of, IsTagNumber}
+use Rattle.picky_der_core.specs.Element.{len}
+use Rattle.picky_der_core.specs.Tree.{Tree}
+use Rattle.picky_der_core.specs.Shape.{Shape}
+use Rattle.picky_der_core.specs.Refusal.{Refusal, element_refusal}
+use Rattle.picky_der_input.specs.State.{State}
+use Rattle.picky_der_input.specs.Steps.{Takes, is_hard}
+use Rattle.picky_der_input.specs.Reading.{Reads, Refuses, AreNotRefused, AreJustRefused}
+
+-- how an element is refused there, if it is; it keeps its header directly under an implicit tag
+abbrev pub raw_refusal : State → List ℕ → Option Refusal
+raw_refusal s rest = element_refusal (is_hard s.end) s.room rest
+
+-- directly under an implicit tag that tag's special reading was given up
+abbrev pub given_up : State → State
+given_up s = record s { direct = None }
+
+-- the header of an element was taken, and its content is next, n bytes of it
+pub record BeginsElement (old new : State) (tag n : ℕ) : Type 0 where
+  pub takes : Takes (given_up old) new (tag ∷ len n)
+  pub number : IsTagNumber (number_of tag)
+  pub byte : tag < 256
+  pub direct : new.direct ≡ None
+  pub fits : n ≤ new.room
+  pub bounded : old.room < 2 ^ 64
+
+-- these bytes were taken, which are one element, and nothing speaks against it
+pub record ReadsRaw (old new : State) (bytes : List ℕ) : Type 0 where
+  pub reads : Reads Shape.raw old new (Tree.raw bytes)
+  pub no_refusal : AreNotRefused (raw_refusal old) old
+
+-- no element was taken, and it was refused just so
+pub record RefusesRaw (old new : State) (e : Asn1DerError) : Type 0 where
+  pub refuses : Refuses Tree.raw Shape.raw old new e
+  pub just : AreJustRefused (raw_refusal old) old new e

@@ -1,0 +1,70 @@
+-- Ends, as they are opened and closed.
+use Rattle.std.specs.Prelude.{◌≡◌, ℕ, ◌+◌, ◌-◌, ◌<◌, ◌≤◌, List, Option, None, Some}
+use Rattle.picky_der_core.specs.declared.error.Asn1DerError.{Asn1DerError}
+use Rattle.picky_der_core.specs.declared.failure.Failure.{Failure}
+use Rattle.picky_der_core.specs.declared.error.Asn1DerError.TheVariants.{InvalidData}
+use Rattle.picky_der_core.specs.Refusal.{Refusal, header_refusal}
+use Rattle.picky_der_input.specs.declared.end.End.{End}
+use Rattle.picky_der_input.specs.declared.end.End.TheVariants.{Soft}
+use Rattle.picky_der_input.specs.State.{State}
+use Rattle.picky_der_input.specs.Steps.{Fails, TakesNoMemory, failed_with, at_end, is_hard}
+use Rattle.picky_der_input.specs.Reading.{AreNotRefused}
+use Rattle.picky_der_input.specs.Headers.{Begins, RefusesBegin}
+
+-- What is put back where an end is closed: how many bytes are before the end around it, what this is, and what is kept of the
+-- members before it.
+pub record Outer : Type 0 where
+  pub place : ℕ
+  pub kind : End
+  pub last : Option (List ℕ)
+
+-- the innermost end, to be put back
+abbrev pub innermost : State → Outer
+innermost s = record { place = s.taken + s.room; kind = s.end; last = s.last }
+
+-- an end of this kind was opened so many bytes from here
+abbrev pub narrowed : State → ℕ → End → State
+narrowed s n kind = record s { room = n; end = kind; last = None }
+
+-- the end was reached, and the one around it is the innermost again
+pub record Closes (outer : Outer) (old new : State) : Type 0 where
+  pub reached : old.room ≡ 0
+  pub had_not_failed : old.failed ≡ None
+  pub same : new ≡ record old { room = outer.place - old.taken; end = outer.kind; last = outer.last }
+
+-- bytes are left before the end, and none of them was drawn
+pub record RefusesClose (old new : State) (e : Asn1DerError) : Type 0 where
+  pub fails : Fails old new e
+  pub left : old.failed ≡ None → (0 < old.room) × (e ≡ InvalidData) × (new ≡ failed_with old e)
+
+-- ---- sequences and sets
+
+-- how the header of a sequence or set is refused there, if it is; directly under an implicit tag there is none
+abbrev pub list_refusal_in : Option ℕ → ℕ → State → List ℕ → Option Refusal
+list_refusal_in None tag s rest = header_refusal tag (is_hard s.end) s.room rest
+list_refusal_in (Some number) tag s rest = None
+
+abbrev pub list_refusal : ℕ → State → List ℕ → Option Refusal
+list_refusal tag s rest = list_refusal_in s.direct tag s rest
+
+-- the header under this tag was taken, if one stands there, and a soft end was opened where the content ends
+pub record OpensList (tag : ℕ) (old new : State) (outer : Outer) : Type 0 where
+  pub mid : State
+  pub len : ℕ
+  pub begins : Begins tag old mid len
+  pub opened : new ≡ narrowed mid len Soft
+  pub around : outer ≡ innermost mid
+  pub no_refusal : AreNotRefused (list_refusal tag old) old
+
+-- the header was refused, and just so; no memory was wanted
+pub record RefusesList (tag : ℕ) (old new : State) (e : Asn1DerError) : Type 0 where
+  pub begin : RefusesBegin tag old new e
+  pub memory : TakesNoMemory old new e
+
+-- A soft end was opened so many bytes from here, or it would have been past the innermost end, and then the deserializer has
+-- failed. One that had failed is as it was.
+pub record OpensLazily (len : ℕ) (old new : State) (outer : Outer) : Type 0 where
+  pub again : (f : Failure) → old.failed ≡ Some f → new ≡ old
+  pub past : old.failed ≡ None → old.room < len → new ≡ failed_with old (at_end old.end)
+  pub opened : old.failed ≡ None → len ≤ old.room → new ≡ record (narrowed old len Soft) { direct = None }
+  pub around : outer ≡ innermost old

@@ -1,0 +1,9 @@
+pub mod State
+pub mod Steps
+pub mod Reading
+pub mod Headers
+pub mod Refusing
+pub mod LookAhead
+pub mod Elements
+pub mod Ends
+pub mod Enclosures

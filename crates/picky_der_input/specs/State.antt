@@ -1,0 +1,44 @@
+-- What contracts see of a deserializer.
+use Rattle.std.specs.Prelude.{ℕ, List, Option, None}
+use Rattle.picky_der_core.specs.declared.failure.Failure.{Failure}
+use Rattle.picky_der_input.specs.declared.end.End.{End}
+use Rattle.picky_der_input.specs.declared.end.End.TheVariants.{Limit}
+
+pub record State : Type 0 where
+  -- what the reader tells of what is left, a peeked byte in front
+  pub input : Option (List ℕ)
+  -- the byte that was peeked
+  pub peeked : Option ℕ
+  -- how many bytes were taken, a peeked one not counted
+  pub taken : ℕ
+  -- so many bytes may be drawn in all
+  pub limit : ℕ
+  -- how far ahead the innermost end is, and what it is
+  pub room : ℕ
+  pub end : End
+  -- the encoding of the last member that was read of a set whose end is the innermost one; no call keeps one yet
+  pub last : Option (List ℕ)
+  -- the number of the implicit tag directly under which it stands
+  pub direct : Option ℕ
+  -- the kind of the error that it has failed with
+  pub failed : Option Failure
+  -- how often the reader failed
+  pub faults : ℕ
+  -- the references that it reads through, outermost first
+  pub through : List ℕ
+
+-- a deserializer that has taken nothing
+abbrev pub fresh : Option (List ℕ) → ℕ → ℕ → List ℕ → State
+fresh input limit faults through = record {
+  input = input;
+  peeked = None;
+  taken = 0;
+  limit = limit;
+  room = limit;
+  end = Limit;
+  last = None;
+  direct = None;
+  failed = None;
+  faults = faults;
+  through = through;
+}

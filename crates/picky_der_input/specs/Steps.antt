@@ -1,0 +1,186 @@
+-- What the calls of a deserializer do to it.
+use Rattle.std.specs.Prelude.{◌≡◌, ◌≢◌, ℕ, ◌+◌, ◌-◌, ◌^◌, ◌<◌, ◌≤◌, Bool, true, false, List, ◌++◌, length, take, Option, Some, None, IfSome, ⊤}
+use Rattle.std.specs.Io.KnownBytes.{Consumes, Keeps, IsAtEnd}
+use Rattle.picky_der_core.specs.declared.error.Asn1DerError.{Asn1DerError}
+use Rattle.picky_der_core.specs.declared.failure.Failure.{Failure}
+use Rattle.picky_der_core.specs.Failure.{failure_of}
+use Rattle.picky_der_core.specs.declared.error.Asn1DerError.TheVariants.{TruncatedData, Other, OutOfMemory}
+use Rattle.picky_der_core.specs.Error.{IsKindOfFault}
+use Rattle.picky_der_core.specs.Peeking.{count_of_any}
+use Rattle.picky_der_core.specs.Refusal.{past}
+use Rattle.picky_der_core.specs.Shape.{AreBytes}
+use Rattle.picky_der_core.specs.Tag.{IsTagNumber}
+use Rattle.picky_der_core.specs.Reading.{Place}
+use Rattle.picky_der_input.specs.declared.end.End.{End}
+use Rattle.picky_der_input.specs.declared.end.End.TheVariants.{Limit, Soft, Hard}
+use Rattle.picky_der_input.specs.State.{State}
+
+-- how many bytes were drawn from the reader
+abbrev pub drawn : State → ℕ
+drawn s = s.taken + count_of_any s.peeked
+
+-- ---- ends
+
+abbrev pub is_hard : End → Bool
+is_hard Limit = false
+is_hard Soft = false
+is_hard Hard = true
+
+-- a byte that is missing at the innermost end, or a length that reaches past it
+abbrev pub at_end : End → Asn1DerError
+at_end end = past (is_hard end)
+
+-- how far ahead the innermost end is that is neither the limit nor that of the input
+abbrev pub far : End → ℕ → ℕ
+far Limit room = 2 ^ 64 - 1
+far Soft room = room
+far Hard room = room
+
+abbrev pub reach : State → ℕ
+reach s = far s.end s.room
+
+-- where the next value stands
+abbrev pub place_in : Option ℕ → ℕ → Place
+place_in None room = Place.whole
+place_in (Some tag) room = Place.under_implicit room
+
+abbrev pub place_of : State → Place
+place_of s = place_in s.direct s.room
+
+-- no more was drawn than the limit allows, and the innermost end isn't past the limit
+pub record IsWithin (s : State) : Type 0 where
+  pub end : s.taken + s.room ≤ s.limit
+  pub drawn : drawn s ≤ s.limit
+
+-- no byte stands peeked directly under an implicit tag
+abbrev pub IsUnpeekedIfDirect : Option ℕ → Option ℕ → Type 0
+IsUnpeekedIfDirect None peeked = ⊤
+IsUnpeekedIfDirect (Some tag) peeked = peeked ≡ None
+
+-- an implicit tag has a tag number
+abbrev pub IsTagNumberIfAny : Option ℕ → Type 0
+IsTagNumberIfAny number = IfSome number IsTagNumber
+
+-- ---- steps
+
+-- these bytes were taken, and nothing else changed
+pub record Takes (old new : State) (bytes : List ℕ) : Type 0 where
+  pub input : Consumes old.input new.input bytes
+  pub taken : new.taken ≡ old.taken + length bytes
+  pub room : old.room ≡ length bytes + new.room
+  pub end : new.end ≡ old.end
+  pub limit : new.limit ≡ old.limit
+  pub last : new.last ≡ old.last
+  pub unpeeked : new.peeked ≡ None
+  -- a peeked byte was the first of them
+  pub drawn : drawn old ≤ new.taken
+  pub had_not_failed : old.failed ≡ None
+  pub not_failed : new.failed ≡ None
+  pub faults : new.faults ≡ old.faults
+  pub through : new.through ≡ old.through
+
+-- the bytes that a failed call took
+pub record Took (old new : State) : Type 0 where
+  pub bytes : List ℕ
+  pub input : Consumes old.input new.input bytes
+  pub count : new.taken ≡ old.taken + length bytes
+
+-- it had failed, and nothing was taken
+pub record IsUnmoved (old new : State) : Type 0 where
+  pub input : Keeps old.input new.input
+  pub taken : new.taken ≡ old.taken
+  pub peeked : new.peeked ≡ old.peeked
+  pub faults : new.faults ≡ old.faults
+
+abbrev pub IsOther : Asn1DerError → Type 0
+IsOther (Other kind) = ⊤
+IsOther _ = ⊥
+
+-- an error that neither a device gives nor memory
+abbrev pub IsOfContent : Asn1DerError → Type 0
+IsOfContent e = (IsOther e → ⊥) × (e ≢ OutOfMemory)
+
+-- no more was drawn than the reader had
+abbrev pub HasDrawn : Option (List ℕ) → ℕ → ℕ → Type 0
+HasDrawn input taken n = IfSome input (λ bs. n ≤ taken + length bs)
+
+-- it has failed with this error, or had failed with one of its kind
+pub record Fails (old new : State) (e : Asn1DerError) : Type 0 where
+  pub failed : new.failed ≡ Some (failure_of e)
+  pub again : (f : Failure) → old.failed ≡ Some f → (failure_of e ≡ f) × IsUnmoved old new
+  pub faults : old.faults ≤ new.faults
+  -- `Other` comes from a fault of the reader alone
+  pub other : old.failed ≡ None → IsOther e → old.faults < new.faults
+  -- what a fault becomes is answered as that
+  pub fault : old.failed ≡ None → old.faults < new.faults → IsKindOfFault e
+  pub took : Took old new
+  -- a peeked byte stays, or was taken
+  pub grows : drawn old ≤ drawn new
+  -- the innermost end doesn't move away
+  pub end : new.taken + new.room ≤ old.taken + old.room
+  pub limit : new.limit ≡ old.limit
+  pub within : IsWithin old → IsWithin new
+  pub there : old.failed ≡ None → HasDrawn old.input old.taken (drawn new)
+  pub through : new.through ≡ old.through
+
+-- neither a fault nor want of memory
+pub record IsJudged (old new : State) (e : Asn1DerError) : Type 0 where
+  pub had_not_failed : old.failed ≡ None
+  pub faults : new.faults ≡ old.faults
+  pub memory : e ≢ OutOfMemory
+
+-- memory isn't wanted, but where the reader told so
+abbrev pub TakesNoMemory : State → State → Asn1DerError → Type 0
+TakesNoMemory old new e = old.failed ≡ None → new.faults ≡ old.faults → e ≢ OutOfMemory
+
+-- why no byte came: the end is here, or the input ended before it
+pub data IsMissing (s : State) (e : Asn1DerError) : Type 0 where
+  end_is_here : s.room ≡ 0 → e ≡ at_end s.end → IsMissing s e
+  input_ended : 0 < s.room → IsAtEnd s.input → e ≡ TruncatedData → IsMissing s e
+
+-- ---- contents
+
+-- it has failed with this error, and nothing else changed
+abbrev pub failed_with : State → Asn1DerError → State
+failed_with s e = record s { failed = Some (failure_of e) }
+
+-- no byte came, and what was to be read is as it was
+pub record IsCut (old new : State) (n : ℕ) (e : Asn1DerError) : Type 0 where
+  pub mid : State
+  pub bytes : List ℕ
+  pub takes : Takes old mid bytes
+  pub short : length bytes < n
+  pub missing : IsMissing mid e
+  pub input : Keeps mid.input new.input
+  pub taken : new.taken ≡ mid.taken
+  pub peeked : new.peeked ≡ mid.peeked
+
+-- no byte came where fewer than n were taken; or, behind any number of them, memory was wanted
+pub record StopsShort (old new : State) (n : ℕ) (e : Asn1DerError) : Type 0 where
+  pub fails : Fails old new e
+  pub short : IsJudged old new e → IsCut old new n e
+
+-- these bytes were taken, n of them
+pub record TakesBytes (old new : State) (n : ℕ) (content : List ℕ) : Type 0 where
+  pub takes : Takes old new content
+  pub count : length content ≡ n
+  pub bytes : AreBytes content
+
+-- a piece of a content was taken, where so many of its bytes were left: n bytes, which stand at the front of the buffer
+pub record TakesPiece (old new : State) (left n : ℕ) (buffer : List ℕ) : Type 0 where
+  pub takes : TakesBytes old new n (take n buffer)
+  pub some : 0 < n
+  pub fits : n ≤ left
+
+-- a content of n bytes was taken, and put behind others
+pub record TakesBehind (front : List ℕ) (old new : State) (n : ℕ) (all : List ℕ) : Type 0 where
+  pub content : List ℕ
+  pub takes : TakesBytes old new n content
+  pub is : all ≡ front ++ content
+
+-- a content of n bytes was taken, and its first bytes are kept
+pub record TakesKept (old new : State) (n : ℕ) (kept : List ℕ) : Type 0 where
+  pub content : List ℕ
+  pub takes : Takes old new content
+  pub count : length content ≡ n
+  pub first : kept ≡ take 18 content

@@ -1,0 +1,28 @@
+//! Truth values (X.690, 8.2 and 11.1).
+ghost use Rattle.std.specs.Prelude.{◌≡◌, None, Some, IfOk, OnOk, IfErr};
+ghost use Rattle.picky_der_core.specs.Encoding.{boolean_content};
+ghost use Rattle.picky_der_core.specs.Refusal.{boolean_fault};
+ghost use Rattle.picky_der_input.specs.Steps.{IsOfContent};
+
+use picky_der_core::{Asn1DerError, Result};
+
+/// Reads contents of truth values.
+pub struct Boolean;
+
+impl Boolean {
+    /// The truth value with this content: `00` is false, `FF` true. `TruncatedData` where it is empty, and
+    /// `InvalidData` for more than one byte and for any other byte.
+    pub fn deserialize(content: &[u8]) -> Result<bool>
+        ensures ok { IfOk result (λ value. content.now ≡ boolean_content value) }
+        ensures no_fault { OnOk result (boolean_fault content.now ≡ None) }
+        ensures fault { IfErr result (λ e. boolean_fault content.now ≡ Some e) }
+        ensures no_device { IfErr result IsOfContent }
+    {
+        match content {
+            [] => Err(Asn1DerError::TruncatedData),
+            [0x00] => Ok(false),
+            [0xFF] => Ok(true),
+            _ => Err(Asn1DerError::InvalidData),
+        }
+    }
+}

@@ -1,0 +1,30 @@
+//! Ends.
+ghost use Rattle.std.specs.Prelude.{◌≡◌};
+ghost use Rattle.picky_der_input.specs.Steps.{at_end};
+
+use picky_der_core::Asn1DerError;
+
+/// What the innermost end is. Past a hard end no byte can come; past the others more input may bring some.
+#[derive(Debug, Clone, Copy, PartialEq, Eq)]
+pub enum End {
+    /// The limit on the bytes that may be drawn.
+    Limit,
+
+    /// The end of a sequence or set.
+    Soft,
+
+    /// The end of a container or tag, except that of an implicit tag around a sequence or set, which is soft.
+    Hard,
+}
+
+impl End {
+    // What a byte that is missing there is, and a length that reaches past it.
+    pub(crate) fn missing(self) -> Asn1DerError
+        ensures { result ≡ at_end self }
+    {
+        match self {
+            End::Limit | End::Soft => Asn1DerError::TruncatedData,
+            End::Hard => Asn1DerError::InvalidData,
+        }
+    }
+}

@@ -1,0 +1,183 @@
+//! The input, and how far it may be read.
+ghost use Rattle.std.specs.Prelude.{◌≡◌, ◌<◌, ◌^◌, ◌∷◌, [], length, false, None, Some, IfNone, IfSome, IfOk, IfErr, OnOk};
+ghost use Rattle.picky_der_input.specs.State.{fresh};
+ghost use Rattle.picky_der_core.specs.Failure.{failure_of};
+ghost use Rattle.picky_der_core.specs.Peeking.{in_front};
+ghost use Rattle.picky_der_input.specs.Steps.{Takes, TakesKept, StopsShort, Fails, IsMissing, IsOther, TakesNoMemory};
+
+mod contents;
+mod enclosure;
+mod ends;
+mod header;
+mod octets;
+mod peek;
+mod plain;
+mod raw;
+mod refusals;
+mod texts;
+
+use crate::End;
+use arrayvec::ArrayVec;
+pub use ends::Outer;
+use picky_der_core::misc::{PeekableReader, ReadExt};
+use picky_der_core::{Asn1DerError, Failure, Result};
+use std::alloc::Global;
+use std::marker::Model;
+
+// How many bytes of a number or truth value are kept: one more than the longest content of a number has.
+const KEPT: usize = 18;
+
+/// What a reader has left, up to the innermost end. After an error it has failed: each later call answers an error of its kind
+/// and takes nothing.
+#[derive(Drop)]
+pub struct Input<R: ReadExt> {
+    alloc: Global,
+    reader: PeekableReader<R>,
+    limit: usize,
+    room: usize,
+    end: End,
+    direct: Option<u8>,
+    failed: Option<Failure>,
+}
+
+impl<R: ReadExt> Model for Input<R> {
+    ghost use Rattle.std.specs.Prelude.{◌+◌, ◌<◌, ◌^◌, None};
+    ghost use Rattle.picky_der_input.specs.State.{State};
+    ghost use Rattle.picky_der_core.specs.Peeking.{left_in};
+    ghost use Rattle.picky_der_input.specs.Steps.{IsUnpeekedIfDirect, IsTagNumberIfAny};
+
+    ghost Value = { State };
+
+    ghost view = { λ d. record {
+      input = left_in R.remaining d.reader;
+      peeked = d.reader.peeked;
+      taken = d.reader.pos;
+      limit = d.limit;
+      room = d.room;
+      end = d.end;
+      last = None;
+      direct = d.direct;
+      failed = d.failed;
+      faults = R.faults d.reader.reader;
+      through = R.through d.reader.reader;
+    } };
+
+    ghost invariant = { λ d. (d.reader.pos + d.room < 2 ^ 64) × IsUnpeekedIfDirect d.direct d.reader.peeked × IsTagNumberIfAny d.direct };
+}
+
+impl<R: ReadExt> Input<R> {
+    /// Reads from a reader. At most so many bytes are drawn in all.
+    pub fn new(alloc: Global, reader: R, max_len: usize) -> Input<R>
+        ensures { result ≡ fresh (R.remaining reader) max_len (R.faults reader) (R.through reader) }
+    {
+        Input {
+            alloc,
+            reader: PeekableReader::new(reader),
+            limit: max_len,
+            room: max_len,
+            end: End::Limit,
+            direct: None,
+            failed: None,
+        }
+    }
+
+    /// The reader, behind a byte that was peeked.
+    pub fn into_reader(self) -> R
+        ensures input { self.input ≡ in_front self.peeked (R.remaining result) }
+        ensures faults { R.faults result ≡ self.faults }
+        ensures same_references { R.through result ≡ self.through }
+    {
+        let Input {
+            alloc: _,
+            reader,
+            limit: _,
+            room: _,
+            end: _,
+            direct: _,
+            failed: _,
+        } = self;
+        reader.into_inner()
+    }
+
+    /// How many bytes were taken so far, a peeked one not counted.
+    pub fn taken(&self) -> usize
+        ensures { result ≡ self.now.taken }
+    {
+        self.reader.pos()
+    }
+
+    /// What vectors are grown on.
+    pub fn alloc(&self) -> Global {
+        self.alloc
+    }
+
+    // What it answers again where it has failed.
+    pub(crate) fn earlier(&self) -> Option<Asn1DerError>
+        ensures again { IfSome result (λ e. self.now.failed ≡ Some (failure_of e)) }
+        ensures not_failed { IfNone result (self.now.failed ≡ None) }
+        ensures bounded { self.now.room < 2 ^ 64 }
+    {
+        match self.failed {
+            Some(failure) => Some(failure.error()),
+            None => None,
+        }
+    }
+
+    /// Has failed from here on with an error that is no fault of the reader.
+    pub fn fail(&mut self, error: Asn1DerError) -> Asn1DerError
+        requires had_not_failed { self.old.failed ≡ None }
+        requires no_fault { IsOther error → ⊥ }
+        ensures error { result ≡ error }
+        ensures same { self.new ≡ record self.old { failed = Some (failure_of error) } }
+        ensures fails { Fails self.old self.new result }
+    {
+        self.failed = Some(Failure::of(error));
+        error
+    }
+
+    // The next byte before the innermost end.
+    pub(crate) fn next_byte(&mut self) -> Result<u8>
+        ensures ok { IfOk result (λ b. Takes self.old self.new (b ∷ [])) }
+        ensures byte { IfOk result (λ b. b < 256) }
+        ensures direct { OnOk result (self.new.direct ≡ self.old.direct) }
+        ensures err { IfErr result (Fails self.old self.new) }
+        ensures missing { IfErr result (λ e. self.old.failed ≡ None → self.new.faults ≡ self.old.faults → IsMissing self.old e) }
+        ensures unmoved { IfErr result (λ e. self.new ≡ record self.old { failed = Some (failure_of e); faults = self.new.faults; input = self.new.input }) }
+    {
+        if let Some(error) = self.earlier() {
+            return Err(error);
+        }
+        if self.room == 0 {
+            let error = self.end.missing();
+            return Err(self.fail(error));
+        }
+        match self.reader.read_one() {
+            Ok(byte) => {
+                self.room -= 1;
+                Ok(byte)
+            }
+            Err(e) => {
+                let error = Asn1DerError::from(e);
+                self.failed = Some(Failure::of(error));
+                Err(error)
+            }
+        }
+    }
+
+    // Takes the content, and keeps its first bytes: one more than the longest content of a number has.
+    pub(crate) fn draw_kept(&mut self, len: usize) -> Result<ArrayVec<u8, KEPT>>
+        requires had_not_failed { self.old.failed ≡ None }
+        requires unpeeked { self.old.peeked ≡ None }
+        ensures ok { IfOk result (λ kept. TakesKept self.old self.new len kept.items) }
+        ensures direct { OnOk result (self.new.direct ≡ self.old.direct) }
+        ensures err { IfErr result (StopsShort self.old self.new len) }
+        ensures memory { IfErr result (TakesNoMemory self.old self.new) }
+    {
+        let mut kept = ArrayVec::new();
+        for _i in 0..len {
+            let byte = self.next_byte()?;
+            let _ = kept.try_push(byte);
+        }
+        Ok(kept)
+    }
+}

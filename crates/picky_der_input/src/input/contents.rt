@@ -1,0 +1,95 @@
+//! Contents, which are drawn in pieces.
+ghost use Rattle.picky_der_core.specs.Failure.{failure_of};
+ghost use Rattle.std.specs.Prelude.{◌≡◌, ◌<◌, ℕ, List, length, None, Some, IfOk, IfErr, OnOk};
+ghost use Rattle.picky_der_core.specs.Shape.{AreBytes};
+ghost use Rattle.picky_der_input.specs.Steps.{Takes, TakesBytes, TakesBehind, TakesPiece, StopsShort, Fails, IsMissing, TakesNoMemory};
+
+use super::Input;
+use picky_der_core::misc::ReadExt;
+use picky_der_core::{Asn1DerError, Failure, Result};
+
+// At most so many bytes are drawn at a time, whatever length a content is said to have.
+const PIECE: usize = 512;
+
+impl<R: ReadExt> Input<R> {
+    // Takes the content into a vector.
+    pub(crate) fn draw_vec(&mut self, len: usize) -> Result<Vec<u8>>
+        requires had_not_failed { self.old.failed ≡ None }
+        requires unpeeked { self.old.peeked ≡ None }
+        ensures ok { IfOk result (λ bytes. Takes self.old self.new bytes.items × (length bytes.items ≡ len) × AreBytes bytes.items) }
+        ensures direct { OnOk result (self.new.direct ≡ self.old.direct) }
+        ensures err { IfErr result (StopsShort self.old self.new len) }
+    {
+        self.draw_behind(Vec::new(self.alloc), len)
+    }
+
+    // Takes the content, and puts it behind what the vector holds.
+    pub(crate) fn draw_behind(&mut self, bytes: Vec<u8>, len: usize) -> Result<Vec<u8>>
+        requires had_not_failed { self.old.failed ≡ None }
+        requires unpeeked { self.old.peeked ≡ None }
+        ensures ok { IfOk result (λ all. TakesBehind bytes.items self.old self.new len all.items) }
+        ensures direct { OnOk result (self.new.direct ≡ self.old.direct) }
+        ensures err { IfErr result (StopsShort self.old self.new len) }
+    {
+        let mut all = bytes;
+        let mut piece = [0; PIECE];
+        let mut left = len;
+        while left > 0 {
+            let count = self.draw_piece(&mut piece, left)?;
+            if all.extend_from_slice(&piece[..count]).is_err() {
+                return Err(self.fail(Asn1DerError::OutOfMemory));
+            }
+            left -= count;
+        }
+        Ok(all)
+    }
+
+    // Takes the content, and drops it.
+    pub(crate) fn skip(&mut self, len: usize) -> Result<()>
+        requires had_not_failed { self.old.failed ≡ None }
+        requires unpeeked { self.old.peeked ≡ None }
+        ensures ok { OnOk result ((content : List ℕ) × TakesBytes self.old self.new len content) }
+        ensures direct { OnOk result (self.new.direct ≡ self.old.direct) }
+        ensures err { IfErr result (StopsShort self.old self.new len) }
+        ensures memory { IfErr result (TakesNoMemory self.old self.new) }
+    {
+        let mut piece = [0; PIECE];
+        let mut left = len;
+        while left > 0 {
+            left -= self.draw_piece(&mut piece, left)?;
+        }
+        Ok(())
+    }
+
+    // Takes as many bytes of the content as one read gives, where so many are left of it, and puts them into the front
+    // of the piece. At least one comes.
+    fn draw_piece(&mut self, piece: &mut [u8], left: usize) -> Result<usize>
+        requires had_not_failed { self.old.failed ≡ None }
+        requires unpeeked { self.old.peeked ≡ None }
+        requires some_left { 0 < left }
+        requires place { 0 < length piece.old }
+        ensures ok { IfOk result (λ n. TakesPiece self.old self.new left n piece.new) }
+        ensures direct { OnOk result (self.new.direct ≡ self.old.direct) }
+        ensures err { IfErr result (Fails self.old self.new) }
+        ensures missing { IfErr result (λ e. self.old.failed ≡ None → self.new.faults ≡ self.old.faults → IsMissing self.old e) }
+        ensures unmoved { IfErr result (λ e. self.new ≡ record self.old { failed = Some (failure_of e); faults = self.new.faults; input = self.new.input }) }
+    {
+        if self.room == 0 {
+            let error = self.end.missing();
+            return Err(self.fail(error));
+        }
+        let most = left.min(self.room).min(piece.len());
+        match self.reader.read_some(&mut piece[..most]) {
+            Ok(0) => Err(self.fail(Asn1DerError::TruncatedData)),
+            Ok(count) => {
+                self.room -= count;
+                Ok(count)
+            }
+            Err(e) => {
+                let error = Asn1DerError::from(e);
+                self.failed = Some(Failure::of(error));
+                Err(error)
+            }
+        }
+    }
+}

@@ -1,0 +1,102 @@
+//! Ends, opened and closed. No other file changes what the innermost end is.
+ghost use Rattle.picky_der_core.specs.Failure.{failure_of};
+ghost use Rattle.std.specs.Prelude.{◌≡◌, ◌+◌, ◌≤◌, ◌<◌, ◌↔◌, None, Some, IsTrue, IfOk, IfErr, OnOk};
+ghost use Rattle.picky_der_core.specs.Tag.{number_of, IsTagNumber};
+ghost use Rattle.picky_der_input.specs.Ends.{innermost, narrowed, Closes, RefusesClose, OpensList, RefusesList, OpensLazily};
+
+use super::Input;
+use crate::End;
+use picky_der_core::asn1::Tag;
+use picky_der_core::misc::ReadExt;
+use picky_der_core::{Asn1DerError, Failure, Result};
+use std::marker::Model;
+
+/// The end around an open one, which is put back where that is closed.
+#[derive(Drop)]
+pub struct Outer {
+    // How many bytes are taken before it.
+    place: usize,
+    kind: End,
+}
+
+impl Model for Outer {
+    ghost use Rattle.std.specs.Prelude.{None};
+    ghost use Rattle.picky_der_input.specs.Ends.{Outer as OuterEnd};
+
+    ghost Value = { OuterEnd };
+
+    ghost view = { λ o. record { place = o.place; kind = o.kind; last = None } };
+}
+
+impl<R: ReadExt> Input<R> {
+    // Opens an end so many bytes from here, and answers the one that was the innermost.
+    pub(crate) fn open_end(&mut self, len: usize, kind: End) -> Outer
+        requires { len ≤ self.old.room }
+        ensures opened { self.new ≡ narrowed self.old len kind }
+        ensures around { result ≡ innermost self.old }
+    {
+        let outer = Outer {
+            place: self.reader.pos() + self.room,
+            kind: self.end,
+        };
+        self.room = len;
+        self.end = kind;
+        outer
+    }
+
+    /// Takes the header of a sequence or set under this tag, and opens its end. Directly under an implicit tag the header
+    /// was that tag's.
+    pub fn open_list(&mut self, tag: Tag) -> Result<Outer>
+        requires number { IsTagNumber (number_of tag) }
+        ensures ok { IfOk result (λ outer. OpensList tag self.old self.new outer) }
+        ensures err { IfErr result (RefusesList tag self.old self.new) }
+    {
+        let len = self.begin(tag)?;
+        Ok(self.open_end(len, End::Soft))
+    }
+
+    /// Opens a soft end so many bytes from here. Where that is past the innermost end, it has failed.
+    pub fn open_lazily(&mut self, len: usize) -> Outer
+        ensures { OpensLazily len self.old self.new result }
+    {
+        if self.failed.is_none() && len <= self.room {
+            self.direct = None;
+            return self.open_end(len, End::Soft);
+        }
+        if self.failed.is_none() {
+            self.failed = Some(Failure::of(self.end.missing()));
+        }
+        Outer {
+            place: self.reader.pos() + self.room,
+            kind: self.end,
+        }
+    }
+
+    /// Closes the innermost end, if it was reached, and puts the one around it back.
+    pub fn close_end(&mut self, outer: Outer) -> Result<()>
+        requires { self.old.taken + self.old.room ≤ outer.place }
+        ensures ok { OnOk result (Closes outer self.old self.new) }
+        ensures err { IfErr result (RefusesClose self.old self.new) }
+    {
+        if let Some(error) = self.earlier() {
+            return Err(error);
+        }
+        if self.room > 0 {
+            return Err(self.fail(Asn1DerError::InvalidData));
+        }
+        self.room = outer.place - self.reader.pos();
+        self.end = outer.kind;
+        Ok(())
+    }
+
+    /// Whether the innermost end is here.
+    pub fn is_at_end(&self) -> Result<bool>
+        ensures ok { IfOk result (λ here. (self.now.failed ≡ None) × (IsTrue here ↔ (self.now.room ≡ 0))) }
+        ensures err { IfErr result (λ e. self.now.failed ≡ Some (failure_of e)) }
+    {
+        match self.earlier() {
+            Some(error) => Err(error),
+            None => Ok(self.room == 0),
+        }
+    }
+}

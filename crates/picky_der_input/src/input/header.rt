@@ -1,0 +1,107 @@
+//! Lengths and headers, as a deserializer reads them.
+ghost use Rattle.std.specs.Prelude.{◌≡◌, ◌≤◌, ◌∷◌, ◌<◌, ◌^◌, None, IfOk, IfErr, OnOk};
+ghost use Rattle.picky_der_core.specs.Element.{len as bytes_of};
+ghost use Rattle.picky_der_core.specs.Tag.{number_of, IsTagNumber};
+ghost use Rattle.picky_der_input.specs.Steps.{Takes, StopsShort, TakesNoMemory};
+ghost use Rattle.picky_der_input.specs.Headers.{ReadsDigits, RefusesLength, RefusesContentLength, RefusesHeader, Begins, RefusesBegin};
+
+use super::Input;
+use picky_der_core::asn1::Tag;
+use picky_der_core::misc::{Length, ReadExt};
+use picky_der_core::{Asn1DerError, Result};
+
+impl<R: ReadExt> Input<R> {
+    // The number of so many length bytes.
+    fn read_digits(&mut self, count: usize) -> Result<usize>
+        requires few { count ≤ 8 }
+        requires had_not_failed { self.old.failed ≡ None }
+        requires unpeeked { self.old.peeked ≡ None }
+        ensures ok { IfOk result (ReadsDigits self.old self.new count) }
+        ensures fits { IfOk result (λ n. n < 2 ^ 64) }
+        ensures direct { OnOk result (self.new.direct ≡ self.old.direct) }
+        ensures err { IfErr result (StopsShort self.old self.new count) }
+        ensures memory { IfErr result (TakesNoMemory self.old self.new) }
+    {
+        let mut len = 0;
+        for _i in 0..count {
+            len = len * 256 + usize::from(self.next_byte()?);
+        }
+        Ok(len)
+    }
+
+    // A length, whose missing bytes are refused by the innermost end.
+    fn read_length(&mut self) -> Result<usize>
+        requires had_not_failed { self.old.failed ≡ None }
+        requires unpeeked { self.old.peeked ≡ None }
+        ensures ok { IfOk result (λ n. Takes self.old self.new (bytes_of n)) }
+        ensures fits { IfOk result (λ n. n < 2 ^ 64) }
+        ensures direct { OnOk result (self.new.direct ≡ self.old.direct) }
+        ensures err { IfErr result (RefusesLength self.old self.new) }
+        ensures memory { IfErr result (TakesNoMemory self.old self.new) }
+    {
+        let first = self.next_byte()?;
+        if first < 0x80 {
+            return Ok(usize::from(first));
+        }
+        let count = match Length::long_count(first) {
+            Ok(count) => count,
+            Err(error) => return Err(self.fail(error)),
+        };
+        let len = self.read_digits(count)?;
+        match Length::shortest(count, len) {
+            Ok(len) => Ok(len),
+            Err(error) => Err(self.fail(error)),
+        }
+    }
+
+    // The length of a content, which doesn't reach past the innermost end. It stands behind the first byte of any header.
+    pub(crate) fn read_content_length(&mut self) -> Result<usize>
+        requires had_not_failed { self.old.failed ≡ None }
+        requires unpeeked { self.old.peeked ≡ None }
+        ensures ok { IfOk result (λ n. Takes self.old self.new (bytes_of n) × (n ≤ self.new.room)) }
+        ensures direct { OnOk result (self.new.direct ≡ self.old.direct) }
+        ensures err { IfErr result (RefusesContentLength self.old self.new) }
+        ensures memory { IfErr result (TakesNoMemory self.old self.new) }
+    {
+        let len = self.read_length()?;
+        if len > self.room {
+            let error = self.end.missing();
+            return Err(self.fail(error));
+        }
+        Ok(len)
+    }
+
+    // The length of the content of an element with this tag.
+    pub(crate) fn read_header(&mut self, tag: Tag) -> Result<usize>
+        requires number { IsTagNumber (number_of tag) }
+        requires had_not_failed { self.old.failed ≡ None }
+        ensures ok { IfOk result (λ n. Takes self.old self.new (tag ∷ bytes_of n) × (n ≤ self.new.room)) }
+        ensures direct { OnOk result (self.new.direct ≡ self.old.direct) }
+        ensures err { IfErr result (RefusesHeader tag self.old self.new) }
+        ensures memory { IfErr result (TakesNoMemory self.old self.new) }
+    {
+        let first = self.next_byte()?;
+        if first != tag.inner() {
+            return Err(self.fail(Asn1DerError::InvalidData));
+        }
+        self.read_content_length()
+    }
+
+    // The length of the content of a plain value with this tag. Directly under an implicit tag the header is that tag's,
+    // and all before its end is the content.
+    pub(crate) fn begin(&mut self, tag: Tag) -> Result<usize>
+        requires number { IsTagNumber (number_of tag) }
+        ensures ok { IfOk result (Begins tag self.old self.new) }
+        ensures err { IfErr result (RefusesBegin tag self.old self.new) }
+        ensures memory { IfErr result (TakesNoMemory self.old self.new) }
+    {
+        if let Some(error) = self.earlier() {
+            return Err(error);
+        }
+        if self.direct.is_some() {
+            self.direct = None;
+            return Ok(self.room);
+        }
+        self.read_header(tag)
+    }
+}

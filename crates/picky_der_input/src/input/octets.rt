@@ -1,0 +1,33 @@
+//! Contents that aren't looked at.
+ghost use Rattle.std.specs.Prelude.{◌≡◌, ◌<◌, None, Err, IfOk, IfErr};
+ghost use Rattle.picky_der_core.specs.Tag.{number_of};
+ghost use Rattle.picky_der_input.specs.Steps.{failed_with};
+ghost use Rattle.picky_der_input.specs.Reading.{ReadsBytes, RefusesBytes};
+
+use super::Input;
+use picky_der_core::asn1::Tag;
+use picky_der_core::misc::ReadExt;
+use picky_der_core::{Asn1DerError, Result};
+
+impl<R: ReadExt> Input<R> {
+    /// Reads the content under this tag into one vector, of which nothing is grown before a byte came for it. The
+    /// content isn't looked at.
+    ///
+    /// `UnsupportedValue` for a tag whose number is 31, which announces the long form: nothing is drawn then, and no
+    /// memory is taken. `InvalidData` for another tag; the refusals of a header and of an end; `OutOfMemory` where
+    /// memory is refused; else the reader's fault.
+    pub fn read_tagged_bytes(&mut self, tag: Tag) -> Result<Vec<u8>>
+        ensures ok { IfOk result (λ content. ReadsBytes tag self.old self.new content.items) }
+        ensures err { IfErr result (RefusesBytes tag self.old self.new) }
+        ensures unsupported { 30 < number_of tag → self.old.failed ≡ None → (result ≡ Err Asn1DerError.UnsupportedValue) × (self.new ≡ failed_with self.old Asn1DerError.UnsupportedValue) }
+    {
+        if let Some(error) = self.earlier() {
+            return Err(error);
+        }
+        if tag.number() > Tag::MAX_NUMBER {
+            return Err(self.fail(Asn1DerError::UnsupportedValue));
+        }
+        let len = self.begin(tag)?;
+        self.draw_vec(len)
+    }
+}

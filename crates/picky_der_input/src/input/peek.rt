@@ -1,0 +1,67 @@
+//! The next tag, looked at and left.
+ghost use Rattle.std.specs.Prelude.{◌≡◌, None, IfOk, IfErr};
+ghost use Rattle.picky_der_input.specs.LookAhead.{TellsChoice, RefusesChoice, Identifies, RefusesIdentifier};
+
+use super::Input;
+use picky_der_core::asn1::Tag;
+use picky_der_core::misc::ReadExt;
+use picky_der_core::{Asn1DerError, Failure, Result};
+
+impl<R: ReadExt> Input<R> {
+    // The next byte before the innermost end, which is left.
+    fn peek_tag(&mut self) -> Result<Tag>
+        requires had_not_failed { self.old.failed ≡ None }
+        requires whole { self.old.direct ≡ None }
+        ensures ok { IfOk result (TellsChoice self.old self.new) }
+        ensures err { IfErr result (RefusesChoice self.old self.new) }
+    {
+        if self.room == 0 {
+            let error = self.end.missing();
+            return Err(self.fail(error));
+        }
+        match self.reader.peek_one() {
+            Ok(byte) => Ok(Tag::from(byte)),
+            Err(e) => {
+                let error = Asn1DerError::from(e);
+                self.failed = Some(Failure::of(error));
+                Err(error)
+            }
+        }
+    }
+
+    /// The tag that is next, which is left unread. Directly under an implicit tag that one was taken already, and is
+    /// answered.
+    ///
+    /// A byte that isn't there is `InvalidData` at a hard end, and else `TruncatedData`; else the reader's fault. No
+    /// memory is taken.
+    pub fn identify(&mut self) -> Result<Tag>
+        ensures ok { IfOk result (Identifies self.old self.new) }
+        ensures err { IfErr result (RefusesIdentifier self.old self.new) }
+    {
+        if let Some(error) = self.earlier() {
+            return Err(error);
+        }
+        match self.direct {
+            Some(number) => Ok(Tag::context_specific_primitive(number)),
+            None => self.peek_tag(),
+        }
+    }
+
+    /// The tag that tells which alternative of a choice is next. It is left unread. The names aren't looked at.
+    ///
+    /// `InvalidData` directly under an implicit tag, where no byte tells a choice, and nothing is drawn. A byte that
+    /// isn't there is `InvalidData` at a hard end, and else `TruncatedData`; else the reader's fault. No memory is
+    /// taken.
+    pub fn tell_choice(&mut self) -> Result<Tag>
+        ensures ok { IfOk result (TellsChoice self.old self.new) }
+        ensures err { IfErr result (RefusesChoice self.old self.new) }
+    {
+        if let Some(error) = self.earlier() {
+            return Err(error);
+        }
+        match self.direct {
+            Some(_) => Err(self.fail(Asn1DerError::InvalidData)),
+            None => self.peek_tag(),
+        }
+    }
+}

@@ -1,0 +1,45 @@
+//! Texts and characters.
+ghost use Rattle.std.specs.Prelude.{IfOk, IfErr, string_bytes};
+ghost use Rattle.picky_der_input.specs.Steps.{TakesNoMemory};
+ghost use Rattle.picky_der_input.specs.Reading.{ReadsText, RefusesText, ReadsCharacter, RefusesCharacter};
+
+use super::Input;
+use crate::Utf8String;
+use picky_der_core::asn1::Tag;
+use picky_der_core::misc::ReadExt;
+use picky_der_core::{Asn1DerError, Result};
+
+impl<R: ReadExt> Input<R> {
+    /// Reads a text of one character (X.690, 8.23).
+    ///
+    /// `InvalidData` for another tag, for a content that isn't UTF-8, and for more than one character;
+    /// `UnsupportedValue` for an empty content; the refusals of a header and of an end; else the reader's fault.
+    pub fn read_char(&mut self) -> Result<char>
+        ensures ok { IfOk result (ReadsCharacter self.old self.new) }
+        ensures err { IfErr result (RefusesCharacter self.old self.new) }
+        ensures memory { IfErr result (TakesNoMemory self.old self.new) }
+    {
+        let len = self.begin(Tag::UTF8_STRING)?;
+        let content = self.draw_kept(len)?;
+        match Utf8String::character(&content) {
+            Ok(character) => Ok(character),
+            Err(error) => Err(self.fail(error)),
+        }
+    }
+
+    /// Reads a text (X.690, 8.23) into one string, of which nothing is grown before a byte came for it.
+    ///
+    /// `InvalidData` for another tag and for a content that isn't UTF-8; the refusals of a header and of an end;
+    /// `OutOfMemory` where memory is refused; else the reader's fault.
+    pub fn read_string(&mut self) -> Result<String>
+        ensures ok { IfOk result (λ text. ReadsText self.old self.new (string_bytes text)) }
+        ensures err { IfErr result (RefusesText self.old self.new) }
+    {
+        let len = self.begin(Tag::UTF8_STRING)?;
+        let content = self.draw_vec(len)?;
+        match String::from_utf8(content) {
+            Ok(text) => Ok(text),
+            Err(_) => Err(self.fail(Asn1DerError::InvalidData)),
+        }
+    }
+}

@@ -1,0 +1,146 @@
+//! Unsigned integers (X.690, 8.3).
+ghost use Rattle.std.specs.Prelude.{◌≡◌, ◌<◌, ◌≤◌, ◌^◌, ◌-◌, ℕ, length, None, Some, IfOk, OnOk, IfErr};
+ghost use Rattle.std.specs.Int.Digits.{number_from_digits};
+ghost use Rattle.picky_der_core.specs.Encoding.{unsigned_content};
+ghost use Rattle.picky_der_core.specs.Refusal.{unsigned_fault, number_fault};
+ghost use Rattle.picky_der_input.specs.Steps.{IsOfContent};
+
+use picky_der_core::{Asn1DerError, Result};
+
+/// An unsigned integer type.
+pub trait UInt: Sized + Copy {
+    // The number, and the greatest one.
+    ghost number: { Self → ℕ };
+
+    ghost greatest: { ℕ };
+
+    /// The same number, or `UnsupportedValue` past the type's greatest.
+    fn from_u128(num: u128) -> Result<Self>
+        ensures ok { IfOk result (λ value. (number value ≡ num) × (num ≤ greatest)) }
+        ensures err { IfErr result (λ e. (e ≡ Asn1DerError.UnsupportedValue) × (greatest < num)) };
+}
+
+impl UInt for u8 {
+    ghost number = { λ n. n };
+
+    ghost greatest = { 2 ^ 8 - 1 };
+
+    fn from_u128(num: u128) -> Result<u8> {
+        match u8::try_from(num) {
+            Ok(value) => Ok(value),
+            Err(_) => Err(Asn1DerError::UnsupportedValue),
+        }
+    }
+}
+
+impl UInt for u16 {
+    ghost number = { λ n. n };
+
+    ghost greatest = { 2 ^ 16 - 1 };
+
+    fn from_u128(num: u128) -> Result<u16> {
+        match u16::try_from(num) {
+            Ok(value) => Ok(value),
+            Err(_) => Err(Asn1DerError::UnsupportedValue),
+        }
+    }
+}
+
+impl UInt for u32 {
+    ghost number = { λ n. n };
+
+    ghost greatest = { 2 ^ 32 - 1 };
+
+    fn from_u128(num: u128) -> Result<u32> {
+        match u32::try_from(num) {
+            Ok(value) => Ok(value),
+            Err(_) => Err(Asn1DerError::UnsupportedValue),
+        }
+    }
+}
+
+impl UInt for u64 {
+    ghost number = { λ n. n };
+
+    ghost greatest = { 2 ^ 64 - 1 };
+
+    fn from_u128(num: u128) -> Result<u64> {
+        match u64::try_from(num) {
+            Ok(value) => Ok(value),
+            Err(_) => Err(Asn1DerError::UnsupportedValue),
+        }
+    }
+}
+
+impl UInt for usize {
+    ghost number = { λ n. n };
+
+    ghost greatest = { 2 ^ 64 - 1 };
+
+    fn from_u128(num: u128) -> Result<usize> {
+        match usize::try_from(num) {
+            Ok(value) => Ok(value),
+            Err(_) => Err(Asn1DerError::UnsupportedValue),
+        }
+    }
+}
+
+impl UInt for u128 {
+    ghost number = { λ n. n };
+
+    ghost greatest = { 2 ^ 128 - 1 };
+
+    fn from_u128(num: u128) -> Result<u128> {
+        Ok(num)
+    }
+}
+
+// The bytes of a number behind a 00 that keeps it from being negative.
+fn digits_of(content: &[u8]) -> Result<&[u8]>
+    ensures ok { IfOk result (λ digits. (most : ℕ) → unsigned_fault most content.now ≡ number_fault most digits.now) }
+    ensures same { IfOk result (λ digits. number_from_digits 256 digits.now ≡ number_from_digits 256 content.now) }
+    ensures err { IfErr result (λ e. (most : ℕ) → unsigned_fault most content.now ≡ Some e) }
+    ensures no_device { IfErr result IsOfContent }
+{
+    match content {
+        [] => Err(Asn1DerError::TruncatedData),
+        [0x80..=0xFF, ..] => Err(Asn1DerError::UnsupportedValue),
+        [0x00, 0x00..=0x7F, ..] => Err(Asn1DerError::InvalidData),
+        [0x00, digits @ ..] if !digits.is_empty() => Ok(digits),
+        _ => Ok(content),
+    }
+}
+
+// The number of at most sixteen bytes.
+fn number_of(digits: &[u8]) -> u128
+    requires { length digits.now ≤ 16 }
+    ensures { result ≡ number_from_digits 256 digits.now }
+{
+    let mut number = 0;
+    for digit in digits {
+        number = number * 256 + u128::from(*digit);
+    }
+    number
+}
+
+/// Reads contents of unsigned integers.
+pub struct UnsignedInteger;
+
+impl UnsignedInteger {
+    /// The number with this content.
+    ///
+    /// `TruncatedData` where it is empty; `UnsupportedValue` for a negative number, for one of more than 16 bytes and
+    /// past the type's greatest; `InvalidData` for a needless 00 in front.
+    pub fn deserialize<T: UInt>(content: &[u8]) -> Result<T>
+        ensures ok { IfOk result (λ value. content.now ≡ unsigned_content (T.number value)) }
+        ensures no_fault { OnOk result (unsigned_fault T.greatest content.now ≡ None) }
+        ensures fault { IfErr result (λ e. unsigned_fault T.greatest content.now ≡ Some e) }
+        ensures no_device { IfErr result IsOfContent }
+    {
+        let digits = digits_of(content)?;
+        if digits.len() > 16 {
+            return Err(Asn1DerError::UnsupportedValue);
+        }
+        T::from_u128(number_of(digits))
+    }
+}

@@ -1,0 +1,19 @@
+//! The bytes that are read: headers, contents, ends, and the plain values that stand there. What composes values of
+//! types is the crate above.
+#![tactic(auto)]
+
+mod boolean;
+mod enclosure;
+mod end;
+mod input;
+mod integer;
+mod null;
+mod utf8_string;
+
+pub use boolean::Boolean;
+pub use enclosure::Enclosure;
+pub use end::End;
+pub use input::{Input, Outer};
+pub use integer::{UInt, UnsignedInteger};
+pub use null::Null;
+pub use utf8_string::Utf8String;

@@ -1,0 +1,42 @@
+//! Texts in UTF-8 (X.690, 8.23).
+ghost use Rattle.std.specs.Prelude.{◌≡◌, None, Some, IfOk, OnOk, IfErr, IsUtf8, encode_utf8};
+ghost use Rattle.std.specs.Char.{IsScalar};
+ghost use Rattle.picky_der_core.specs.Refusal.{text_fault, character_fault};
+ghost use Rattle.picky_der_input.specs.Steps.{IsOfContent};
+
+use picky_der_core::{Asn1DerError, Result};
+
+/// Reads contents of texts.
+pub struct Utf8String;
+
+impl Utf8String {
+    /// The text with this content, which stays where it is. `InvalidData` where it isn't UTF-8.
+    pub fn deserialize(content: &[u8]) -> Result<&str>
+        ensures ok { IfOk result (λ text. (text.now ≡ content.now) × IsUtf8 content.now) }
+        ensures no_fault { OnOk result (text_fault content.now ≡ None) }
+        ensures fault { IfErr result (λ e. text_fault content.now ≡ Some e) }
+        ensures no_device { IfErr result IsOfContent }
+    {
+        match str::from_utf8(content) {
+            Ok(text) => Ok(text),
+            Err(_) => Err(Asn1DerError::InvalidData),
+        }
+    }
+
+    // The character that is the whole text.
+    pub(crate) fn character(content: &[u8]) -> Result<char>
+        ensures ok { IfOk result (λ c. (content.now ≡ encode_utf8 c) × IsScalar c) }
+        ensures no_fault { OnOk result (character_fault content.now ≡ None) }
+        ensures fault { IfErr result (λ e. character_fault content.now ≡ Some e) }
+        ensures no_device { IfErr result IsOfContent }
+    {
+        let mut characters = Utf8String::deserialize(content)?.chars();
+        let Some(first) = characters.next() else {
+            return Err(Asn1DerError::UnsupportedValue);
+        };
+        match characters.next() {
+            None => Ok(first),
+            Some(_) => Err(Asn1DerError::InvalidData),
+        }
+    }
+}
