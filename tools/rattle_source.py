@@ -1,0 +1,178 @@
+"""Edits of a crate's files, and the functions that they change.
+
+An edit is a file of lines `file: PATH`, `old: TEXT` and `new: TEXT`, as the files of must-fail/ are: each TEXT is one line, and
+an old one stands exactly once in its file. Other lines, as a comment at the top, say nothing.
+"""
+import os
+import re
+
+
+class BadEdit(Exception):
+    """An edit that can't be applied, and why."""
+
+
+def blanked(text):
+    """The text with its comments, strings and characters as spaces, so that each brace left is one of the code."""
+    kinds = r'/\*.*?\*/|//[^\n]*|b?"(?:\\.|[^"\\])*"|b?\'(?:\\[^\']+|[^\\\'\n])\''
+    return re.sub(kinds, lambda it: re.sub(r"[^\n]", " ", it[0]), text, flags=re.S)
+
+
+def behind(text, at, opening="{", closing="}"):
+    """The place behind the bracket that closes the one at this place."""
+    depth = 0
+    for place in range(at, len(text)):
+        depth += (text[place] == opening) - (text[place] == closing)
+        if depth == 0:
+            return place + 1
+    return len(text)
+
+
+def end_of_function(text, at):
+    """The place behind a function whose name ends here: behind its body, or behind the `;` of one without a body."""
+    begin = at
+    while at < len(text):
+        if text[at] in "([":
+            at = behind(text, at, text[at], ")" if text[at] == "(" else "]")
+        elif text[at] == ";":
+            return at + 1
+        elif text[at] == "{":
+            is_clause = re.search(r"(requires|ensures)\*?(\s+\w+)?\s*$|\bghost\s+\w+\s*:\s*$", text[begin:at])
+            at = begin = behind(text, at)
+            if not is_clause:
+                return at
+        else:
+            at += 1
+    return at
+
+
+def words_of(type_name):
+    """How the checker writes a type in the names of an `impl`, without what stands in `<>`."""
+    name = re.sub(r"'\w+\s*", "", type_name).strip()
+    for sign, word in (("&mut ", "RefMut"), ("&", "Ref")):
+        if name.startswith(sign):
+            rest = words_of(name[len(sign) :])
+            return word + (rest if rest not in ("T", "R", "W") else "")
+    if name == "()":
+        return "Unit"
+    if name.startswith("("):
+        return f"Tuple{len([it for it in split(name[1:-1]) if it])}"
+    if name.startswith("["):
+        return "Array" if ";" in name else "Slice" + words_of(name[1:-1]).removesuffix("T")
+    name = name.split("<")[0].split("::")[-1].strip()
+    return name[:1].upper() + name[1:]
+
+
+def split(text):
+    """The parts of a text between the commas that stand in no brackets."""
+    parts, depth = [""], 0
+    for sign in text:
+        depth += (sign in "(<[") - (sign in ")>]")
+        if sign == "," and depth == 0:
+            parts.append("")
+        else:
+            parts[-1] += sign
+    return [it.strip() for it in parts]
+
+
+def block_of(header):
+    """The name of an `impl` or `trait` in the checker's names: that of the type, and of the trait that it has there."""
+    header = re.sub(r"\bwhere\b.*", "", header, flags=re.S).strip()
+    if header.startswith("impl"):
+        header = header[len("impl") :].strip()
+        if header.startswith("<"):
+            header = header[behind(header.replace("->", "  "), 0, "<", ">") :].strip()
+        trait, found, own = header.partition(" for ")
+        return words_of(own) + words_of(trait) if found else words_of(header)
+    return re.match(r"trait\s+(\w+)", header)[1]
+
+
+def functions(text):
+    """The functions of a file: the block of each (or an empty text), its name, and the places of its beginning and end."""
+    code, found, blocks, at = blanked(text), [], [], 0
+    pattern = re.compile(r"\bfn\s+(\w+)|\b((?:impl|trait)\b(?:[^;{\[]|\[[^\]]*\])*)\{")
+    for it in iter(lambda: pattern.search(code, at), None):
+        if it[1]:
+            begin = max(code.rfind(sign, 0, it.start()) for sign in "{};") + 1
+            at = end_of_function(code, it.end())
+            own = [name for name, start, end in blocks if start < begin < end]
+            found.append((own[-1] if own else "", it[1], begin, at))
+        else:
+            blocks.append((block_of(it[2].strip()), it.start(), behind(code, it.end() - 1)))
+            at = it.end()
+    return found
+
+
+def module_of(path):
+    """The names of the modules to a file below src/."""
+    parts = path.removeprefix("src/").removesuffix(".rt").split("/")
+    return [] if parts in (["lib"], ["main"]) else parts
+
+
+class Edit:
+    """An edit, by its file."""
+
+    def __init__(self, file):
+        self.file, self.name = file, os.path.basename(file).removesuffix(".edit")
+        self.pairs, self.note, path, old = [], "", "", ""
+        with open(file, encoding="utf-8") as it:
+            for line in it.read().split("\n"):
+                if line.startswith("file: "):
+                    path = line[len("file: ") :].strip()
+                elif line.startswith("old: "):
+                    old = line[len("old: ") :]
+                elif line.startswith("new:"):
+                    self.pairs.append((path, old, line[len("new:") :].removeprefix(" ")))
+                elif line.startswith("# "):
+                    self.note = self.note or line[len("# ") :]
+
+    def applied(self, texts):
+        """The texts of a crate's files with this edit."""
+        texts = dict(texts)
+        if not self.pairs:
+            raise BadEdit("it has no 'old:' and 'new:' pair")
+        for path, old, new in self.pairs:
+            count = texts.get(path, "").count(old)
+            if count != 1 or not old:
+                raise BadEdit(f"an 'old:' text stands in {path} {count} times, and not once")
+            texts[path] = texts[path].replace(old, new)
+        return texts
+
+    def changes(self, texts):
+        """What the edit makes of the functions of these texts: the new text of each one that it changes or adds."""
+        before, after = all_functions(texts), all_functions(self.applied(texts))
+        return {name: after.get(name) for name in {*before, *after} if before.get(name) != after.get(name)}
+
+    def own_functions(self, texts):
+        """The functions that the edit is about: those whose text it changes, or else those that it adds."""
+        before, changed = all_functions(texts), self.changes(texts)
+        return sorted([it for it in changed if it in before] or changed)
+
+
+def all_functions(texts):
+    """The text of each function of a crate by its file, block and name, without comments and with each space as one."""
+    found = {}
+    for path, text in texts.items():
+        if path.startswith("src/"):
+            for block, name, start, end in functions(text):
+                bare = re.sub(r"/\*.*?\*/|//[^\n]*", " ", text[start:end], flags=re.S)
+                found[path, block, name] = " ".join(bare.split())
+    return found
+
+
+def texts_of(folder):
+    """The texts of a crate's files that an edit may change, by their paths in it."""
+    texts = {}
+    for part in ("src", "specs", "proofs"):
+        for at, _, files in os.walk(f"{folder}/{part}"):
+            for name in files:
+                path = f"{at}/{name}"
+                with open(path, encoding="utf-8") as it:
+                    texts[os.path.relpath(path, folder)] = it.read()
+    return texts
+
+
+def edits_of(folder, kind):
+    """The edits of a crate in must-fail/ or wrong-bodies/, in the order of their names."""
+    where = f"{folder}/{kind}"
+    names = sorted(os.listdir(where)) if os.path.isdir(where) else []
+    return [Edit(f"{where}/{it}") for it in names if it.endswith(".edit")]
