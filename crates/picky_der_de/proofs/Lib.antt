@@ -9,3 +9,4 @@ pub mod Rows
 pub mod Asked
 pub mod ListReads
 pub mod ArrayReads
+pub use Rattle.picky_der_input.proofs.PlainReads
