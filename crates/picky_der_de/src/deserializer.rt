@@ -3,7 +3,7 @@ ghost use Rattle.std.specs.Prelude.{◌≡◌, [], length, false, None, Some};
 ghost use Rattle.picky_der_core.specs.Failure.{failure_of};
 ghost use Rattle.picky_der_core.specs.Peeking.{in_front};
 ghost use Rattle.picky_der_input.specs.State.{fresh};
-ghost use Rattle.picky_der_input.specs.Steps.{Fails, IsOther};
+ghost use Rattle.picky_der_input.specs.Steps.{Fails, IsOther, IsWithin};
 
 mod application;
 mod enclosure;
@@ -75,9 +75,10 @@ impl<R: ReadExt> Deserializer<R> {
         input.into_reader()
     }
 
-    /// How many bytes were taken so far, a peeked one not counted.
+    /// How many bytes were taken so far, a peeked one not counted. With it they are never more than the limit.
     pub fn taken(&self) -> usize
-        ensures { result ≡ self.now.taken }
+        ensures taken { result ≡ self.now.taken }
+        ensures within { IsWithin self.now }
     {
         self.input.taken()
     }

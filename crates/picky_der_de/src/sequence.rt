@@ -15,6 +15,7 @@ pub struct Sequence<'a, R: ReadExt> {
     // The end around its own.
     outer: Outer,
     ghost within: { de.now.taken + de.now.room ≤ outer.place },
+    ghost bounded: { outer.place ≤ de.now.limit },
     ghost whole: { de.now.failed ≡ None → de.now.direct ≡ None },
 }
 

@@ -3,7 +3,7 @@ ghost use Rattle.std.specs.Prelude.{◌≡◌, ◌<◌, ◌^◌, ◌∷◌, [], 
 ghost use Rattle.picky_der_input.specs.State.{fresh};
 ghost use Rattle.picky_der_core.specs.Failure.{failure_of};
 ghost use Rattle.picky_der_core.specs.Peeking.{in_front};
-ghost use Rattle.picky_der_input.specs.Steps.{Takes, TakesKept, StopsShort, Fails, IsMissing, IsOther, TakesNoMemory};
+ghost use Rattle.picky_der_input.specs.Steps.{IsWithin, Takes, TakesKept, StopsShort, Fails, IsMissing, IsOther, TakesNoMemory};
 
 mod contents;
 mod enclosure;
@@ -41,9 +41,9 @@ pub struct Input<R: ReadExt> {
 }
 
 impl<R: ReadExt> Model for Input<R> {
-    ghost use Rattle.std.specs.Prelude.{◌+◌, ◌<◌, ◌^◌, None};
+    ghost use Rattle.std.specs.Prelude.{◌+◌, ◌<◌, ◌≤◌, ◌^◌, None};
     ghost use Rattle.picky_der_input.specs.State.{State};
-    ghost use Rattle.picky_der_core.specs.Peeking.{left_in};
+    ghost use Rattle.picky_der_core.specs.Peeking.{count_of_any, left_in};
     ghost use Rattle.picky_der_input.specs.Steps.{IsUnpeekedIfDirect, IsTagNumberIfAny};
 
     ghost Value = { State };
@@ -62,7 +62,9 @@ impl<R: ReadExt> Model for Input<R> {
       through = R.through d.reader.reader;
     } };
 
-    ghost invariant = { λ d. (d.reader.pos + d.room < 2 ^ 64) × IsUnpeekedIfDirect d.direct d.reader.peeked × IsTagNumberIfAny d.direct };
+    // No more is drawn than the limit allows, and no end is past it.
+    ghost invariant = { λ d. (d.reader.pos + d.room < 2 ^ 64) × IsUnpeekedIfDirect d.direct d.reader.peeked × IsTagNumberIfAny d.direct
+        × (d.reader.pos + d.room ≤ d.limit) × (d.reader.pos + count_of_any d.reader.peeked ≤ d.limit) };
 }
 
 impl<R: ReadExt> Input<R> {
@@ -99,9 +101,10 @@ impl<R: ReadExt> Input<R> {
         reader.into_inner()
     }
 
-    /// How many bytes were taken so far, a peeked one not counted.
+    /// How many bytes were taken so far, a peeked one not counted. With it they are never more than the limit.
     pub fn taken(&self) -> usize
-        ensures { result ≡ self.now.taken }
+        ensures taken { result ≡ self.now.taken }
+        ensures within { IsWithin self.now }
     {
         self.reader.pos()
     }

@@ -1,5 +1,5 @@
 //! Wrappers and application tags, opened.
-ghost use Rattle.std.specs.Prelude.{◌≡◌, ◌∷◌, [], None, Err, IfNone, IfSome, IfOk, IfErr, OnOk};
+ghost use Rattle.std.specs.Prelude.{◌≡◌, ◌≤◌, ◌∷◌, [], None, Err, IfNone, IfSome, IfOk, IfErr, OnOk};
 ghost use Rattle.picky_der_input.specs.Steps.{Takes, failed_with};
 ghost use Rattle.picky_der_input.specs.Enclosures.{enclosure_tag, HasNumber, counts_unused_bits, implicit_number, BeginsEnclosure, OpensEnclosure, RefusesOpening, RefusesUnusedBits};
 
@@ -65,6 +65,7 @@ impl<R: ReadExt> Input<R> {
     // Takes the header of an enclosure, and opens its end. Directly under an implicit tag it has its own header too.
     fn begin_enclosure(&mut self, enclosure: Enclosure) -> Result<Outer>
         ensures ok { IfOk result (BeginsEnclosure enclosure self.old self.new) }
+        ensures bounded { IfOk result (λ outer. outer.place ≤ self.new.limit) }
         ensures err { IfErr result (RefusesOpening enclosure self.old self.new) }
         ensures unsupported { (HasNumber enclosure → ⊥) → self.old.failed ≡ None → (result ≡ Err Asn1DerError.UnsupportedValue) × (self.new ≡ failed_with self.old Asn1DerError.UnsupportedValue) }
     {
@@ -93,6 +94,7 @@ impl<R: ReadExt> Input<R> {
     /// Takes what stands before the value, and opens the enclosure's end.
     pub fn open_enclosure(&mut self, enclosure: Enclosure) -> Result<Outer>
         ensures ok { IfOk result (OpensEnclosure enclosure self.old self.new) }
+        ensures bounded { IfOk result (λ outer. outer.place ≤ self.new.limit) }
         ensures err { IfErr result (RefusesOpening enclosure self.old self.new) }
         ensures unsupported { (HasNumber enclosure → ⊥) → self.old.failed ≡ None → (result ≡ Err Asn1DerError.UnsupportedValue) × (self.new ≡ failed_with self.old Asn1DerError.UnsupportedValue) }
     {

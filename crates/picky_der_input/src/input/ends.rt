@@ -34,6 +34,7 @@ impl<R: ReadExt> Input<R> {
         requires { len ≤ self.old.room }
         ensures opened { self.new ≡ narrowed self.old len kind }
         ensures around { result ≡ innermost self.old }
+        ensures bounded { result.place ≤ self.new.limit }
     {
         let outer = Outer {
             place: self.reader.pos() + self.room,
@@ -49,6 +50,7 @@ impl<R: ReadExt> Input<R> {
     pub fn open_list(&mut self, tag: Tag) -> Result<Outer>
         requires number { IsTagNumber (number_of tag) }
         ensures ok { IfOk result (λ outer. OpensList tag self.old self.new outer) }
+        ensures bounded { IfOk result (λ outer. outer.place ≤ self.new.limit) }
         ensures err { IfErr result (RefusesList tag self.old self.new) }
     {
         let len = self.begin(tag)?;
@@ -57,7 +59,8 @@ impl<R: ReadExt> Input<R> {
 
     /// Opens a soft end so many bytes from here. Where that is past the innermost end, it has failed.
     pub fn open_lazily(&mut self, len: usize) -> Outer
-        ensures { OpensLazily len self.old self.new result }
+        ensures opened { OpensLazily len self.old self.new result }
+        ensures bounded { result.place ≤ self.new.limit }
     {
         if self.failed.is_none() && len <= self.room {
             self.direct = None;
@@ -74,7 +77,8 @@ impl<R: ReadExt> Input<R> {
 
     /// Closes the innermost end, if it was reached, and puts the one around it back.
     pub fn close_end(&mut self, outer: Outer) -> Result<()>
-        requires { self.old.taken + self.old.room ≤ outer.place }
+        requires within { self.old.taken + self.old.room ≤ outer.place }
+        requires bounded { outer.place ≤ self.old.limit }
         ensures ok { OnOk result (Closes outer self.old self.new) }
         ensures err { IfErr result (RefusesClose self.old self.new) }
     {
