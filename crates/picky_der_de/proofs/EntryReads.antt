@@ -1,17 +1,20 @@
 -- What an entry call tells from what reading tells.
-use Rattle.std.proofs.Common.{◌≡◌, ℕ, ◌+◌, Bool, List, [], ◌∷◌, ◌++◌, length, Option, Some, None, refl, sym, ◌∙◌, subst, arith, length-append, append_assoc}
+use Rattle.std.proofs.Common.{◌≡◌, ◌≢◌, ◌⊎◌, ℕ, ◌+◌, Bool, List, [], ◌∷◌, ◌++◌, length, Option, Some, None, refl, sym, ◌∙◌, subst, ap, inl, inr, arith, length-append, append_assoc, append-nil}
 use Rattle.std.specs.Io.KnownBytes.{Consumes}
 use Rattle.picky_der_core.specs.declared.error.Asn1DerError.{Asn1DerError}
+use Rattle.picky_der_core.specs.declared.error.Asn1DerError.TheVariants.{TruncatedData, InvalidData, UnsupportedValue, UnsupportedType, InvalidSink, Message, Other, OutOfMemory}
+use Rattle.picky_der_core.specs.Element.{Begins}
 use Rattle.picky_der_core.specs.Tree.{Tree}
 use Rattle.picky_der_core.specs.Encoding.{der}
 use Rattle.picky_der_core.specs.Shape.{Shape, IsSound}
-use Rattle.picky_der_core.specs.Reading.{Place, StandsAt}
+use Rattle.picky_der_core.specs.Reading.{Place, StandsAt, IsMendable}
 use Rattle.picky_der_core.proofs.Unique.{same_tree}
 use Rattle.picky_der_input.specs.State.{State, fresh}
 use Rattle.picky_der_core.specs.Peeking.{in_front, count_of_any}
-use Rattle.picky_der_input.specs.Reading.{Reads, Refuses, now}
+use Rattle.picky_der_input.specs.Steps.{IsJudged}
+use Rattle.picky_der_input.specs.Reading.{Reads, Refuses, now, ever}
 use Rattle.picky_der_de.specs.KnownLaws.{IsKnownByTree}
-use Rattle.picky_der_de.specs.Entry.{HasNoFront, Reader, ReadsFront, Draws, RefusesFront}
+use Rattle.picky_der_de.specs.Entry.{any_length, HasNoFront, Reader, ReadsFront, Draws, RefusesFront}
 use Rattle.picky_der_input.proofs.Refusals.{consumed}
 
 -- ---- what is left in the reader
@@ -27,7 +30,46 @@ left_of : (p : Option ℕ) (r : Option (List ℕ)) → p ≡ None → in_front p
 left_of None r e = refl
 left_of (Some b) r e = absurd (let q : Some b ≡ None = e in cc)
 
+-- ---- what more bytes could mend
+
+unless_truncated : (e : Asn1DerError) → (e ≢ TruncatedData → ⊥) → e ≡ TruncatedData
+unless_truncated TruncatedData h = refl
+unless_truncated InvalidData h = absurd (h (λ (q : InvalidData ≡ TruncatedData). cc))
+unless_truncated UnsupportedValue h = absurd (h (λ (q : UnsupportedValue ≡ TruncatedData). cc))
+unless_truncated UnsupportedType h = absurd (h (λ (q : UnsupportedType ≡ TruncatedData). cc))
+unless_truncated InvalidSink h = absurd (h (λ (q : InvalidSink ≡ TruncatedData). cc))
+unless_truncated (Message text) h = absurd (h (λ (q : Message text ≡ TruncatedData). cc))
+unless_truncated (Other kind) h = absurd (h (λ (q : Other kind ≡ TruncatedData). cc))
+unless_truncated OutOfMemory h = absurd (h (λ (q : OutOfMemory ≡ TruncatedData). cc))
+
+-- of two beginnings of one list, one begins the other
+comparable : (a b x y : List ℕ) → a ++ x ≡ b ++ y → Begins a b ⊎ Begins b a
+comparable [] b x y e = inl (record { rest = b; is = refl })
+comparable (c ∷ a) [] x y e = inr (record { rest = c ∷ a; is = refl })
+comparable (c ∷ a) (d ∷ b) x y e =
+    let head : c ≡ d = cc in
+    let tail : a ++ x ≡ b ++ y = cc in
+    elim (comparable a b x y tail) [ inl h ↦ inl (record { rest = h.rest; is = rw head (ap (λ z. d ∷ z) h.is) }) | inr h ↦ inr (record { rest = h.rest; is = rw head (ap (λ z. d ∷ z) h.is) }) ]
+
+-- what more bytes behind some could mend, more bytes behind their beginning could
+mends_beginning : {V : Type 0} {meaning : V → Tree} {s : Shape} {room : ℕ} (d left : List ℕ) → IsMendable meaning s Place.whole (d ++ left) room → IsMendable meaning s Place.whole d room
+mends_beginning {meaning = meaning} d left m = record {
+  value = m.value;
+  of_shape = m.of_shape;
+  readable = m.readable;
+  may_stand = m.may_stand;
+  within = m.within;
+  agrees = elim m.agrees [
+    | inl h ↦ comparable (der (meaning m.value)) d h.rest left (sym h.is)
+    | inr h ↦ inr (record { rest = left ++ h.rest; is = h.is ∙ append_assoc d left h.rest })
+  ];
+}
+
 -- ---- read and refused
+
+-- two trees at the front are one
+one_tree : (s : Shape) → IsSound s → {bytes : List ℕ} {limit : ℕ} (t u : Tree) → StandsAt Place.whole s bytes limit t → StandsAt Place.whole s bytes limit u → t ≡ u
+one_tree s sound t u a b = (same_tree s sound t u a.of_shape b.of_shape a.readable b.readable a.front.rest b.front.rest (sym a.front.is ∙ b.front.is)).0
 
 abbrev begun : Reader → ℕ → List ℕ → State
 begun r limit through = fresh r.input limit r.faults through
@@ -49,7 +91,8 @@ module _ {V : Type 0} (meaning : V → Tree) (s : Shape) {old new : State} {thro
         drawn = subst (λ i. Consumes before.input i (der (meaning v))) (left ∙ left_of new.peeked after.input r.takes.unpeeked) r.takes.input;
         front = λ bytes k. let stands = stands_of bytes (meaning v) k r in record {
           reads = stands;
-          only = λ w other. known v w stands.of_shape other.of_shape stands.readable (same_tree s sound (meaning v) (meaning w) stands.of_shape other.of_shape stands.readable other.readable stands.front.rest other.front.rest (sym stands.front.is ∙ other.front.is)).0;
+          only = λ w other. known v w stands.of_shape other.of_shape stands.readable (one_tree s sound (meaning v) (meaning w) stands other);
+          same = λ w other. one_tree s sound (meaning v) (meaning w) stands other;
         };
         faults = faults ∙ r.takes.faults;
       }
@@ -61,12 +104,33 @@ module _ {V : Type 0} (meaning : V → Tree) (s : Shape) {old new : State} {thro
       let all = h.fails.within (record { end = omega arith; drawn = omega arith }) in
       record { bytes = d.0; are = d.2; within = omega (arith, d.1, took.count, all.drawn, h.fails.limit) }
 
+  -- as many bytes were drawn as are gone from the reader
+  gone : {e : Asn1DerError} → Refuses meaning s (begun before limit through) new e → (d rest : List ℕ) → before.input ≡ Some (d ++ rest) → after.input ≡ Some rest → length d + 0 ≡ new.taken + count_of_any new.peeked
+  gone h d rest k still =
+      let took = h.fails.took in
+      let x = drawn_in_front before.input after.input new.peeked took.bytes (subst (λ i. Consumes before.input i took.bytes) left took.input) in
+      let same : d ++ rest ≡ x.0 ++ rest = subst (λ i. Consumes (Some (d ++ rest)) i x.0) still (subst (λ i. Consumes i after.input x.0) k x.2) in
+      omega (arith, x.1, took.count, length-append d rest, length-append x.0 rest, ap length same)
+
+  -- no bytes behind those that were drawn make a value, unless more bytes are asked for
+  final : {e : Asn1DerError} → Refuses meaning s (begun before limit through) new e → new.faults ≡ before.faults → e ≢ OutOfMemory → (d rest : List ℕ) → before.input ≡ Some (d ++ rest) → after.input ≡ Some rest → IsMendable meaning s Place.whole d any_length → e ≡ TruncatedData
+  final {e} h same memory d rest k still m =
+      let t = meaning m.value in
+      let drawn = gone h d rest k still in
+      let judged : IsJudged (begun before limit through) new e = record { had_not_failed = refl; faults = same; memory = memory } in
+      unless_truncated e (λ other. elim m.agrees [
+        | inl p ↦ h.none judged any_length d (ever other refl d [] rest k drawn (sym (append-nil d))) m.value (record { of_shape = m.of_shape; readable = m.readable; may_stand = tt; within = m.within; front = p })
+        | inr p ↦ h.none judged any_length (der t) (ever other refl d p.rest rest k drawn p.is) m.value (record { of_shape = m.of_shape; readable = m.readable; may_stand = tt; within = m.within; front = record { rest = []; is = sym (append-nil (der t)) } })
+      ])
+
   -- where none was read, none stands
   pub refuses_front : {e : Asn1DerError} → Refuses meaning s old new e → RefusesFront meaning s limit before after e
   refuses_front {e} refused =
       let h : Refuses meaning s (begun before limit through) new e = subst (λ o. Refuses meaning s o new e) is refused in
       record {
         none = λ same memory bytes k v stands. h.none (record { had_not_failed = refl; faults = sym faults ∙ same; memory = memory }) limit bytes (now k refl) v stands;
+        final = λ same memory d rest k still m. final h (sym faults ∙ same) memory d rest k still m;
+        first = λ same cut ahead b rest k. h.first (record { had_not_failed = refl; faults = sym faults ∙ same; memory = λ (o : e ≡ OutOfMemory). let q : TruncatedData ≡ OutOfMemory = sym cut ∙ o in cc }) cut refl ahead b rest k;
         drawn = draws h;
         faults = omega (arith, faults, h.fails.faults);
         other = λ o. omega (arith, faults, h.fails.other refl o);
@@ -75,8 +139,16 @@ module _ {V : Type 0} (meaning : V → Tree) (s : Shape) {old new : State} {thro
 
 -- ---- of a slice
 
+slice_final : {V : Type 0} (meaning : V → Tree) (s : Shape) {limit : ℕ} {before after : Reader} {e : Asn1DerError} (bytes : List ℕ) (r : Option (List ℕ)) → before.input ≡ Some bytes → after.faults ≡ before.faults → r ≡ after.input
+    → (d : Draws limit (Some bytes) r) → RefusesFront meaning s limit before after e → e ≢ OutOfMemory → IsMendable meaning s Place.whole bytes any_length → e ≡ TruncatedData
+slice_final meaning s bytes None k same is d h memory m = absurd d.are
+slice_final meaning s bytes (Some left) k same is d h memory m =
+    h.final same memory d.bytes left (k ∙ ap Some d.are) (sym is) (mends_beginning d.bytes left (subst (λ z. IsMendable meaning s Place.whole z any_length) d.are m))
+
 pub slice_refused : {V : Type 0} (meaning : V → Tree) (s : Shape) {limit : ℕ} {before after : Reader} {e : Asn1DerError} {bytes : List ℕ} → before.input ≡ Some bytes → before.faults ≡ 0 → after.faults ≡ 0 → RefusesFront meaning s limit before after e → HasNoFront meaning s bytes limit e
-slice_refused meaning s {bytes = bytes} k none still h = record {
+slice_refused meaning s {limit = limit} {after = after} {bytes = bytes} k none still h = record {
   none = λ memory v stands. h.none (still ∙ sym none) memory bytes k v stands;
+  final = slice_final meaning s bytes after.input k (still ∙ sym none) refl (subst (λ i. Draws limit i after.input) k h.drawn) h;
+  first = λ cut ahead b left is. h.first (still ∙ sym none) cut ahead b left (k ∙ ap Some is);
   no_fault = λ o. omega (arith, h.other o, none, still);
 }

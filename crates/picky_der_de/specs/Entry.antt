@@ -1,24 +1,33 @@
 -- What a whole read answers.
-use Rattle.std.specs.Prelude.{◌≡◌, ◌≢◌, ℕ, ◌<◌, ◌≤◌, List, length, Bool, true, Option, Some}
+use Rattle.std.specs.Prelude.{◌≡◌, ◌≢◌, ℕ, ◌-◌, ◌^◌, ◌<◌, ◌≤◌, List, ◌∷◌, ◌++◌, length, Bool, true, Option, Some}
 use Rattle.std.specs.Io.KnownBytes.{Consumes}
 use Rattle.picky_der_core.specs.declared.error.Asn1DerError.{Asn1DerError}
-use Rattle.picky_der_core.specs.declared.error.Asn1DerError.TheVariants.{OutOfMemory}
+use Rattle.picky_der_core.specs.declared.error.Asn1DerError.TheVariants.{TruncatedData, OutOfMemory}
 use Rattle.picky_der_core.specs.Error.{IsKindOfFault}
 use Rattle.picky_der_core.specs.Tree.{Tree}
 use Rattle.picky_der_core.specs.Encoding.{der}
 use Rattle.picky_der_core.specs.Readable.{IsReadable}
-use Rattle.picky_der_core.specs.Shape.{Shape, IsOf}
-use Rattle.picky_der_core.specs.Reading.{Reads}
+use Rattle.picky_der_core.specs.Shape.{Shape, IsOf, IsFirst}
+use Rattle.picky_der_core.specs.Reading.{Place, Reads, IsMendable}
 use Rattle.picky_der_input.specs.Steps.{IsOther}
 
--- the value at the front of the input, and the only one up to `==`
+-- the value at the front of the input, and the only one: any other there means the same tree, and is equal by `==`
 pub record IsFront {V : Type 0} (meaning : V → Tree) (s : Shape) (eq : V → V → Bool) (input : List ℕ) (limit : ℕ) (v : V) : Type 0 where
   pub reads : Reads meaning s input limit v
   pub only : (w : V) → Reads meaning s input limit w → eq v w ≡ true
+  pub same : (w : V) → Reads meaning s input limit w → meaning v ≡ meaning w
+
+-- how many bytes of input there may be
+abbrev pub any_length : ℕ
+any_length = 2 ^ 64 - 1
 
 -- memory was refused, or no value stands at the front of the input
 pub record HasNoFront {V : Type 0} (meaning : V → Tree) (s : Shape) (input : List ℕ) (limit : ℕ) (e : Asn1DerError) : Type 0 where
   pub none : e ≢ OutOfMemory → (v : V) → Reads meaning s input limit v → ⊥
+  -- more bytes behind the input could make a value only where it was cut short
+  pub final : e ≢ OutOfMemory → IsMendable meaning s Place.whole input any_length → e ≡ TruncatedData
+  -- it isn't said to be cut short at a byte with which no value begins
+  pub first : e ≡ TruncatedData → 0 < limit → (b : ℕ) (left : List ℕ) → input ≡ b ∷ left → IsFirst s b
   pub no_fault : IsOther e → ⊥
 
 -- What a reader tells of the bytes that are left, and how often it failed: before a call, and behind it.
@@ -47,6 +56,10 @@ pub record Draws (limit : ℕ) (old new : Option (List ℕ)) : Type 0 where
 -- the reader failed, memory was refused, or no value stands at the front of the input
 pub record RefusesFront {V : Type 0} (meaning : V → Tree) (s : Shape) (limit : ℕ) (old new : Reader) (e : Asn1DerError) : Type 0 where
   pub none : new.faults ≡ old.faults → e ≢ OutOfMemory → (input : List ℕ) → old.input ≡ Some input → (v : V) → Reads meaning s input limit v → ⊥
+  -- more bytes behind those that were drawn could make a value only where the input was cut short
+  pub final : new.faults ≡ old.faults → e ≢ OutOfMemory → (d left : List ℕ) → old.input ≡ Some (d ++ left) → new.input ≡ Some left → IsMendable meaning s Place.whole d any_length → e ≡ TruncatedData
+  -- it isn't said to be cut short at a byte with which no value begins
+  pub first : new.faults ≡ old.faults → e ≡ TruncatedData → 0 < limit → (b : ℕ) (left : List ℕ) → old.input ≡ Some (b ∷ left) → IsFirst s b
   pub drawn : Draws limit old.input new.input
   pub faults : old.faults ≤ new.faults
   -- `Other` comes from a fault of the reader alone
