@@ -1,5 +1,5 @@
 -- What contracts see of a sequence that is being written: the serializer that it borrows.
-use Rattle.std.specs.Borrow.{MutBor, GName}
+use Rattle.std.specs.Borrow.{GName}
 use Rattle.std.specs.declared.io.Write as write
 use Rattle.picky_der_core.specs.declared.misc.writer.WriteExt as writer
 use Rattle.picky_der_ser.specs.declared.sequence.Sequence.{Sequence}

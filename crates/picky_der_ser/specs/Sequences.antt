@@ -4,7 +4,7 @@ use Rattle.std.specs.Coded.{Unit-prop}
 use mathlib.Core.Bool.{Bool-set}
 use Rattle.picky_der_core.specs.declared.failure.Failure.{Failure}
 use Rattle.picky_der_core.specs.Tree.{ListKind}
-use Rattle.picky_der_ser.specs.State.{Level, State}
+use Rattle.picky_der_ser.specs.State.{Level}
 
 -- the tags that a sequence and a set have
 abbrev pub IsListTag : ℕ → Type 0

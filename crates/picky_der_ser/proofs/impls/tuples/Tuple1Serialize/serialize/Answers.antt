@@ -1,6 +1,0 @@
-use Rattle.std.proofs.Common.{arith}
-use Rattle.picky_der_ser.proofs.Rows.{row1}
-use Rattle.picky_der_ser.proofs.impls.tuples.Tuple1Serialize.serialize.Goals as goal
-
-pub returns-clause-wrote : goal.returns-clause-wrote
-returns-clause-wrote g c = grind (arith, row1)
