@@ -79,6 +79,7 @@ impl<'a, R: ReadExt> Sequence<'a, R> {
         ensures tag { IfOk result (λ next. IfSome next (Identifies (state_of self.old) (state_of self.new))) }
         ensures none { IfOk result (λ next. IfNone next (HasNoMore (state_of self.old) (state_of self.new))) }
         ensures err { IfErr result (RefusesIdentifier (state_of self.old) (state_of self.new)) }
+        ensures ahead { IfErr result (λ e. (state_of self.old).failed ≡ None → 0 < (state_of self.old).room) }
     {
         if self.de.is_at_end()? {
             return Ok(None);

@@ -162,7 +162,7 @@ pub record ReadsEnclosed (w : Enclosure) (s : Shape) (old new : State) (t : Tree
   pub reads : Reads (enclose_shape w s) old new (enclose w t)
   pub no_refusal : AreNotRefused (opening_refusal w old) old
 
--- Where a value in this enclosure was refused: before it, in it, which keeps the error, or behind it.
+-- Where a value in this enclosure was refused: before it, in it, where some read of the value is refused so, or behind it.
 pub data RefusesEnclosed {V : Type 0} (meaning : V → Tree) (s : Shape) (w : Enclosure) (old new : State) (e : Asn1DerError) : Type 0 where
   before_value : RefusesOpening w old new e → RefusesEnclosed meaning s w old new e
   in_value : (mid : State) (outer : Outer) → OpensEnclosure w old mid outer → Refuses meaning s mid new e → RefusesEnclosed meaning s w old new e

@@ -47,7 +47,7 @@ impl<R: ReadExt> Input<R> {
         }
     }
 
-    /// The tag that tells which alternative of a choice is next. It is left unread. The names aren't looked at.
+    /// The tag that tells which alternative of a choice is next. It is left unread.
     ///
     /// `InvalidData` directly under an implicit tag, where no byte tells a choice, and nothing is drawn. A byte that
     /// isn't there is `InvalidData` at a hard end, and else `TruncatedData`; else the reader's fault. No memory is

@@ -61,7 +61,7 @@ impl<R: ReadExt> Input<R> {
         }
     }
 
-    /// Takes the next element whole, and drops it. It is refused as by `deserialize_raw`, and no memory is taken.
+    /// Takes the next element whole, and drops it. It is refused as by `read_raw`, and no memory is taken.
     pub fn skip_raw(&mut self) -> Result<()>
         ensures ok { OnOk result ((bytes : List ℕ) × ReadsRaw self.old self.new bytes) }
         ensures err { IfErr result (RefusesRaw self.old self.new) }
