@@ -3,9 +3,8 @@ ghost use Rattle.std.proofs.Common.{rules};
 ghost use Rattle.picky_der_de.specs.TwinLaws.{knowns};
 
 use crate::{Named, Point};
-use picky_asn1_der::asn1::Tag;
 use picky_asn1_der::misc::{ReadExt, WriteExt};
-use picky_asn1_der::{Alike, Deserialize, Deserializer, Result, Serialize, Serializer, de, ser};
+use picky_asn1_der::{Alike, Deserialize, Deserializer, Result, Serialize, Serializer, de};
 
 /// A point with a label, as a SEQUENCE of the two.
 #[derive(Debug, Drop, PartialEq, Eq)]
@@ -19,12 +18,8 @@ pub struct Marker {
 impl Serialize for Marker {
     ghost meaning = { λ m. ⟦<(Named<u8>, Point) as Serialize>⟧.meaning (m.label, m.at) };
 
-    #[tactic(auto, using(picky_der_ser::proofs::Rows::row2))]
     fn serialize<W: WriteExt>(&self, serializer: &mut Serializer<W>) -> Result<usize> {
-        let mut members = ser::Sequence::serialize_lazy(serializer, Tag::SEQUENCE);
-        members.serialize_field("label", &self.label)?;
-        members.serialize_field("at", &self.at)?;
-        members.end()
+        (&self.label, &self.at).serialize(serializer)
     }
 }
 

@@ -2,11 +2,8 @@
 ghost use Rattle.std.proofs.Common.{rules};
 ghost use Rattle.picky_der_de.specs.TwinLaws.{knowns};
 
-use picky_asn1_der::asn1::Tag;
 use picky_asn1_der::misc::{ReadExt, WriteExt};
-use picky_asn1_der::{
-    Alike, Deserialize, Deserializer, Result, Row, Serialize, Serializer, de, ser,
-};
+use picky_asn1_der::{Alike, Deserialize, Deserializer, Result, Row, Serialize, Serializer, de};
 
 /// A moment of a day, as a SEQUENCE of seven INTEGERs.
 #[derive(Debug, Drop, PartialEq, Eq)]
@@ -32,17 +29,10 @@ type Numbers = Row<(u16, (u8, (u8, (u8, (u8, (u8, (u16, ())))))))>;
 impl Serialize for Moment {
     ghost meaning = { λ m. ⟦<Numbers as Serialize>⟧.meaning (⟦<Moment as Alike>⟧.parts m) };
 
-    #[tactic(auto, using(picky_der_ser::proofs::Rows::row7))]
     fn serialize<W: WriteExt>(&self, serializer: &mut Serializer<W>) -> Result<usize> {
-        let mut members = ser::Sequence::serialize_lazy(serializer, Tag::SEQUENCE);
-        members.serialize_field("year", &self.year)?;
-        members.serialize_field("month", &self.month)?;
-        members.serialize_field("day", &self.day)?;
-        members.serialize_field("hour", &self.hour)?;
-        members.serialize_field("minute", &self.minute)?;
-        members.serialize_field("second", &self.second)?;
-        members.serialize_field("millisecond", &self.millisecond)?;
-        members.end()
+        let seconds = (self.second, (self.millisecond, ()));
+        let time = (self.hour, (self.minute, seconds));
+        Row((self.year, (self.month, (self.day, time)))).serialize(serializer)
     }
 }
 

@@ -2,9 +2,9 @@
 ghost use Rattle.std.proofs.Common.{rules};
 ghost use Rattle.picky_der_de.specs.TwinLaws.{knowns};
 
-use picky_asn1_der::asn1::{ByteBuf, Tag};
+use picky_asn1_der::asn1::ByteBuf;
 use picky_asn1_der::misc::{ReadExt, WriteExt};
-use picky_asn1_der::{Alike, Deserialize, Deserializer, Result, Serialize, Serializer, de, ser};
+use picky_asn1_der::{Alike, Deserialize, Deserializer, Result, Serialize, Serializer, de};
 
 /// A value under a name, as a SEQUENCE of an OCTET STRING and the value.
 #[derive(Debug, Drop, PartialEq, Eq)]
@@ -18,12 +18,8 @@ pub struct Named<T> {
 impl<T: Serialize> Serialize for Named<T> {
     ghost meaning = { λ n. ⟦<(ByteBuf, T) as Serialize>⟧.meaning (n.name, n.value) };
 
-    #[tactic(auto, using(picky_der_ser::proofs::Rows::row2))]
     fn serialize<W: WriteExt>(&self, serializer: &mut Serializer<W>) -> Result<usize> {
-        let mut members = ser::Sequence::serialize_lazy(serializer, Tag::SEQUENCE);
-        members.serialize_field("name", &self.name)?;
-        members.serialize_field("value", &self.value)?;
-        members.end()
+        (&self.name, &self.value).serialize(serializer)
     }
 }
 

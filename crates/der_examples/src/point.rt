@@ -2,9 +2,8 @@
 ghost use Rattle.std.proofs.Common.{rules};
 ghost use Rattle.picky_der_de.specs.TwinLaws.{knowns};
 
-use picky_asn1_der::asn1::Tag;
 use picky_asn1_der::misc::{ReadExt, WriteExt};
-use picky_asn1_der::{Alike, Deserialize, Deserializer, Result, Serialize, Serializer, de, ser};
+use picky_asn1_der::{Alike, Deserialize, Deserializer, Result, Serialize, Serializer, de};
 
 /// A point so far east and north, which may be hidden: a SEQUENCE of two INTEGERs and a BOOLEAN.
 #[derive(Debug, Drop, PartialEq, Eq)]
@@ -17,13 +16,8 @@ pub struct Point {
 impl Serialize for Point {
     ghost meaning = { λ p. ⟦<(u32, u32, bool) as Serialize>⟧.meaning (p.x, p.y, p.hidden) };
 
-    #[tactic(auto, using(picky_der_ser::proofs::Rows::row3))]
     fn serialize<W: WriteExt>(&self, serializer: &mut Serializer<W>) -> Result<usize> {
-        let mut members = ser::Sequence::serialize_lazy(serializer, Tag::SEQUENCE);
-        members.serialize_field("x", &self.x)?;
-        members.serialize_field("y", &self.y)?;
-        members.serialize_field("hidden", &self.hidden)?;
-        members.end()
+        (&self.x, &self.y, &self.hidden).serialize(serializer)
     }
 }
 

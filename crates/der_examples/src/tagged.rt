@@ -3,9 +3,9 @@ ghost use Rattle.std.proofs.Common.{rules};
 ghost use Rattle.picky_der_de.specs.TwinLaws.{knowns};
 
 use crate::{Named, Point};
-use picky_asn1_der::asn1::{ExplicitContextTag, ImplicitContextTag, Tag};
+use picky_asn1_der::asn1::{ExplicitContextTag, ImplicitContextTag};
 use picky_asn1_der::misc::{ReadExt, WriteExt};
-use picky_asn1_der::{Alike, Deserialize, Deserializer, Result, Serialize, Serializer, de, ser};
+use picky_asn1_der::{Alike, Deserialize, Deserializer, Result, Serialize, Serializer, de};
 
 /// A label and a point that may be told apart by their tags: `[0] EXPLICIT` and `[1] IMPLICIT`.
 #[derive(Debug, Drop, PartialEq, Eq)]
@@ -19,12 +19,8 @@ pub struct Tagged {
 impl Serialize for Tagged {
     ghost meaning = { λ t. ⟦<(ExplicitContextTag<Named<u8>, 0>, ImplicitContextTag<Point, 1>) as Serialize>⟧.meaning (t.label, t.at) };
 
-    #[tactic(auto, using(picky_der_ser::proofs::Rows::row2))]
     fn serialize<W: WriteExt>(&self, serializer: &mut Serializer<W>) -> Result<usize> {
-        let mut members = ser::Sequence::serialize_lazy(serializer, Tag::SEQUENCE);
-        members.serialize_field("label", &self.label)?;
-        members.serialize_field("at", &self.at)?;
-        members.end()
+        (&self.label, &self.at).serialize(serializer)
     }
 }
 

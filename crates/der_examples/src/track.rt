@@ -3,9 +3,9 @@ ghost use Rattle.std.proofs.Common.{rules};
 ghost use Rattle.picky_der_de.specs.TwinLaws.{knowns};
 
 use crate::Point;
-use picky_asn1_der::asn1::{Asn1SetOf, ByteBuf, ExplicitContextTag, Tag};
+use picky_asn1_der::asn1::{Asn1SetOf, ByteBuf, ExplicitContextTag};
 use picky_asn1_der::misc::{ReadExt, WriteExt};
-use picky_asn1_der::{Alike, Deserialize, Deserializer, Result, Serialize, Serializer, de, ser};
+use picky_asn1_der::{Alike, Deserialize, Deserializer, Result, Serialize, Serializer, de};
 
 /// A track through points, as a SEQUENCE of its members.
 #[derive(Debug, Drop, PartialEq, Eq)]
@@ -23,14 +23,8 @@ pub struct Track {
 impl Serialize for Track {
     ghost meaning = { λ t. ⟦<(bool, Vec<Point>, [u16; 2], ExplicitContextTag<Asn1SetOf<ByteBuf>, 0>) as Serialize>⟧.meaning (⟦<Track as Alike>⟧.parts t) };
 
-    #[tactic(auto, using(picky_der_ser::proofs::Rows::row4))]
     fn serialize<W: WriteExt>(&self, serializer: &mut Serializer<W>) -> Result<usize> {
-        let mut members = ser::Sequence::serialize_lazy(serializer, Tag::SEQUENCE);
-        members.serialize_field("closed", &self.closed)?;
-        members.serialize_field("points", &self.points)?;
-        members.serialize_field("days", &self.days)?;
-        members.serialize_field("names", &self.names)?;
-        members.end()
+        (&self.closed, &self.points, &self.days, &self.names).serialize(serializer)
     }
 }
 
