@@ -1,11 +1,7 @@
-//! Tests of the public calls of all the crates, over rows of bytes that were worked out by hand, with the readers and
-//! writers that they need: such of a byte a call, and such that fail.
+//! Tests of what no row of bytes says: of the calls on readers, writers, serializers and deserializers one by one, of
+//! devices that give and take little and that fail, and of texts. Rows of bytes stand beside the program `der_rows`.
 #![tactic(auto)]
 
-#[cfg(test)]
-mod hexadecimal;
-#[cfg(test)]
-mod hostile;
 #[cfg(test)]
 mod tests;
 

@@ -1,26 +1,22 @@
 //! Readers and writers that fail.
 
-use crate::hexadecimal::{bytes_of, text_of};
-use crate::hostile::{FailingReader, FailingWriter, Refusal, SlowReader, SlowWriter};
-use crate::tests::structs::{TESTOLOPE, testolope};
+use der_fixtures::{FailingReader, FailingWriter, Refusal, bytes_of, text_of};
+use der_tool_lib::TestStruct;
 use picky_asn1_der::Asn1DerError::Other;
+use picky_asn1_der::asn1::ByteBuf;
 use picky_asn1_der::misc::Watched;
-use picky_asn1_der::{Deserializer, from_reader, to_writer};
+use picky_asn1_der::{Deserializer, to_writer};
+use std::alloc::{AllocError, Global};
 use std::io::ErrorKind::{BrokenPipe, TimedOut};
 use std::test::Fail;
 
-#[test]
-fn a_byte_a_call_is_enough(rt: HostRuntime) -> Result<(), Fail> {
-    let alloc = rt.alloc();
-    let value = testolope(alloc)?;
-    let mut writer = Watched::new(SlowWriter::new(alloc));
-    assert_eq!(rt; to_writer(alloc, &value, &mut writer), Ok(23));
-    let bytes = writer.get_ref().taken();
-    assert_eq!(rt; text_of(alloc, bytes)?.as_str(), TESTOLOPE);
-    let mut reader = Watched::new(SlowReader::new(bytes));
-    assert_eq!(rt; from_reader(alloc, &mut reader), Ok(value));
-    assert_eq!(rt; reader.get_ref().given(), 23);
-    Ok(())
+// A struct whose encoding has 23 bytes, of which the first four are a header and that of its first field.
+fn testolope(alloc: Global) -> Result<TestStruct, AllocError> {
+    Ok(TestStruct {
+        number: 7,
+        vec: ByteBuf(Vec::from_slice(alloc, b"Testolope")?),
+        tuple: (4, ()),
+    })
 }
 
 #[test]

@@ -1,7 +1,6 @@
 //! What the entry calls leave in a slice, in a vector, and in a device.
 
-use crate::hexadecimal::{bytes_of, text_of};
-use crate::hostile::{FailingReader, SlowWriter};
+use der_fixtures::{FailingReader, SlowWriter, bytes_of, text_of};
 use picky_asn1_der::Asn1DerError::{InvalidSink, Other, OutOfMemory, TruncatedData};
 use picky_asn1_der::asn1::{Bytes, PrintableStringAsn1};
 use picky_asn1_der::misc::{PeekableReader, ReadExt, Watched};

@@ -1,7 +1,6 @@
 //! Looks at the next tag.
 
-use crate::hexadecimal::bytes_of;
-use crate::hostile::{FailingReader, SlowReader};
+use der_fixtures::{FailingReader, SlowReader, bytes_of};
 use picky_asn1_der::Asn1DerError::{Other, TruncatedData};
 use picky_asn1_der::asn1::{ImplicitContextTag1, Tag};
 use picky_asn1_der::misc::Watched;

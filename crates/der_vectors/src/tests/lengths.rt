@@ -1,6 +1,6 @@
 //! Lengths alone.
 
-use crate::hexadecimal::{bytes_of, text_of};
+use der_fixtures::{bytes_of, text_of};
 use picky_asn1_der::Asn1DerError::{InvalidData, TruncatedData, UnsupportedValue};
 use picky_asn1_der::Length;
 use picky_asn1_der::misc::BufSink;

@@ -1,45 +1,12 @@
 //! How many bytes a read draws at most.
 
-use crate::hexadecimal::bytes_of;
-use crate::hostile::SlowReader;
+use der_fixtures::{SlowReader, bytes_of};
 use picky_asn1_der::Asn1DerError::TruncatedData;
-use picky_asn1_der::asn1::{BitStringAsn1Container, ByteBuf, ExplicitContextTag0};
+use picky_asn1_der::asn1::ByteBuf;
 use picky_asn1_der::misc::Watched;
-use picky_asn1_der::{Deserializer, from_bytes, from_reader, from_reader_with_max_len};
+use picky_asn1_der::{Deserializer, from_bytes, from_reader};
 use std::alloc::Global;
 use std::test::Fail;
-
-#[test]
-fn no_byte_is_drawn_past_the_limit(rt: HostRuntime) -> Result<(), Fail> {
-    let bytes = bytes_of(rt.alloc(), "02 01 07 05 00")?;
-    for (limit, answer, drawn) in [
-        (3, Ok(7u8), 3),
-        (2, Err(TruncatedData), 2),
-        (0, Err(TruncatedData), 0),
-    ] {
-        let mut reader = Watched::new(SlowReader::new(&bytes));
-        assert_eq!(rt;
-            from_reader_with_max_len(rt.alloc(), &mut reader, limit),
-            answer,
-            "limit {limit}"
-        );
-        assert_eq!(rt; reader.get_ref().given(), drawn, "limit {limit}");
-    }
-    Ok(())
-}
-
-#[test]
-fn a_header_past_the_limit_is_the_last_that_is_drawn(rt: HostRuntime) -> Result<(), Fail> {
-    type Bits = ExplicitContextTag0<BitStringAsn1Container<u8>>;
-    let bytes = bytes_of(rt.alloc(), "A0 06 03 04 00 02 01 07")?;
-    for (limit, drawn) in [(0, 0), (1, 1), (2, 2), (5, 2), (7, 2), (8, 8)] {
-        let mut reader = Watched::new(SlowReader::new(&bytes));
-        let answer = from_reader_with_max_len::<Bits, _>(rt.alloc(), &mut reader, limit);
-        assert_eq!(rt; answer.is_ok(), limit == 8, "limit {limit}");
-        assert_eq!(rt; reader.get_ref().given(), drawn, "limit {limit}");
-    }
-    Ok(())
-}
 
 #[test]
 fn a_limit_of_0_refuses_each_call(rt: HostRuntime) -> Result<(), Fail> {

@@ -1,7 +1,6 @@
 //! Contents that are drawn in pieces of 512 bytes.
 
-use crate::hexadecimal::bytes_of;
-use crate::hostile::{FailingReader, SlowReader};
+use der_fixtures::{FailingReader, SlowReader, bytes_of};
 use picky_asn1_der::Asn1DerError::{InvalidData, Other, TruncatedData};
 use picky_asn1_der::asn1::ByteBuf;
 use picky_asn1_der::misc::{ReadExt, Watched};

@@ -1,6 +1,6 @@
 //! Each call of a deserializer that answers one value.
 
-use crate::hexadecimal::bytes_of;
+use der_fixtures::bytes_of;
 use picky_asn1_der::Asn1DerError::{TruncatedData, UnsupportedValue};
 use picky_asn1_der::asn1::{Newtype, Tag};
 use picky_asn1_der::{Deserialize, Deserializer, de};
@@ -79,4 +79,16 @@ fn numbers_are_narrowed(rt: HostRuntime) {
     assert_eq!(rt; <u8 as de::UInt>::from_u128(255), Ok(255));
     assert_eq!(rt; <u8 as de::UInt>::from_u128(256), Err(UnsupportedValue));
     assert_eq!(rt; <u128 as de::UInt>::from_u128(u128::MAX), Ok(u128::MAX));
+}
+
+#[test]
+fn texts_and_bytes_are_lent(rt: HostRuntime) -> Result<(), Fail> {
+    let bytes = bytes_of(rt.alloc(), "0C 02 41 62 04 01 AA")?;
+    let mut de = Deserializer::new_from_bytes(rt.alloc(), &bytes);
+    let text = de.deserialize_str()?;
+    assert_eq!(rt; text, "Ab");
+    let content = de.deserialize_bytes()?;
+    assert_eq!(rt; content, [0xAA].as_slice());
+    assert_eq!(rt; de.taken(), 7);
+    Ok(())
 }

@@ -1,82 +1,11 @@
 //! Sequences: lists, arrays, tuples, and the calls that write and read their members.
 
-use crate::hexadecimal::{bytes_of, text_of};
-use crate::tests::rows::{both_ways, reads, refuses, refuses_after, writes};
+use der_fixtures::{bytes_of, text_of};
 use picky_asn1_der::Asn1DerError::{InvalidData, TruncatedData};
-use picky_asn1_der::asn1::{Asn1SequenceOf, ByteBuf, ObjectIdentifierAsn1, Tag};
-use picky_asn1_der::misc::WriteExt;
-use picky_asn1_der::{Deserializer, Row, Serialize, Serializer, de, ser, to_vec};
+use picky_asn1_der::asn1::ByteBuf;
+use picky_asn1_der::{Deserializer, Serializer, de, ser, to_vec};
 use std::alloc::Global;
 use std::test::Fail;
-
-#[test]
-fn lists_are_sequences(rt: HostRuntime) -> Result<(), Fail> {
-    let alloc = rt.alloc();
-    let row = "30 06 02 01 05 02 01 06";
-    both_ways(&rt, vec![in alloc; 5u8, 6]?, row)?;
-    both_ways(&rt, Asn1SequenceOf::from(vec![in alloc; 5u8, 6]?), row)?;
-    writes(&rt, &[5u8, 6].as_slice(), row)?;
-    both_ways(&rt, Vec::<u8>::new(alloc), "30 00")?;
-    for (row, error) in [
-        ("31 00", InvalidData),
-        ("30 03 02 02 07", TruncatedData),
-        ("30 04 02 01 07 05", InvalidData),
-    ] {
-        refuses::<Vec<u8>>(&rt, row, error)?;
-    }
-    Ok(())
-}
-
-#[test]
-fn arrays_are_sequences_of_their_length(rt: HostRuntime) -> Result<(), Fail> {
-    let row = "30 06 02 01 05 02 01 06";
-    both_ways(&rt, [5u8, 6], row)?;
-    both_ways::<[u8; 0]>(&rt, [], "30 00")?;
-    both_ways(&rt, [[5u8], [6]], "30 0A 30 03 02 01 05 30 03 02 01 06")?;
-    refuses::<[u8; 3]>(&rt, row, TruncatedData)?;
-    refuses::<[u8; 1]>(&rt, row, InvalidData)
-}
-
-#[test]
-fn a_list_of_lists_has_a_length_for_each(rt: HostRuntime) -> Result<(), Fail> {
-    let alloc = rt.alloc();
-    let lists = vec![in alloc;
-        vec![in alloc; 1u8, 2]?,
-        Vec::new(alloc),
-        vec![in alloc; 3]?,
-    ]?;
-    let row = "30 0F 30 06 02 01 01 02 01 02 30 00 30 03 02 01 03";
-    both_ways(&rt, lists, row)
-}
-
-#[test]
-fn nothing_in_a_list_is_nothing(rt: HostRuntime) -> Result<(), Fail> {
-    let alloc = rt.alloc();
-    writes(&rt, &vec![in alloc; None::<u8>]?, "30 00")?;
-    reads(&rt, "30 00", Vec::<Option<u8>>::new(alloc))
-}
-
-#[test]
-fn tuples_are_sequences(rt: HostRuntime) -> Result<(), Fail> {
-    both_ways(&rt, (1u8, 2u8, 3u8), "30 09 02 01 01 02 01 02 02 01 03")?;
-    let four = "30 0C 02 01 01 02 01 02 02 01 03 02 01 04";
-    both_ways(&rt, (1u8, 2u8, 3u8, 4u8), four)?;
-    let oid = ObjectIdentifierAsn1::from(bytes_of(rt.alloc(), "2A 86 48 86 F7 0D 01 01 01")?);
-    let row = "30 0D 06 09 2A 86 48 86 F7 0D 01 01 01 05 00";
-    both_ways(&rt, (oid, ()), row)?;
-    refuses::<(u8,)>(&rt, "30 06 02 01 07 02 01 08", InvalidData)?;
-    refuses::<(u8,)>(&rt, "30 00", TruncatedData)
-}
-
-#[test]
-fn rows_are_sequences(rt: HostRuntime) -> Result<(), Fail> {
-    let row = "30 0D 02 01 05 01 01 FF 05 00 30 03 02 01 07";
-    both_ways(&rt, Row((5u8, (true, ((), ((7u8,), ()))))), row)?;
-    both_ways(&rt, Row(()), "30 00")?;
-    refuses::<Row<(u8, (u8, ()))>>(&rt, "30 03 02 01 07", TruncatedData)?;
-    refuses::<Row<(u8, ())>>(&rt, "30 06 02 01 07 02 01 08", InvalidData)?;
-    refuses::<Row<(u8, (bool, ()))>>(&rt, "30 06 02 01 07 02 01 08", InvalidData)
-}
 
 // A sequence that holds the number 7, four times.
 const FOUR_SEQUENCES: &str = "30 03 02 01 07 30 03 02 01 07 30 03 02 01 07 30 03 02 01 07";
@@ -164,21 +93,6 @@ fn a_member_too_many_is_invalid(rt: HostRuntime) -> Result<(), Fail> {
 }
 
 #[test]
-fn a_refused_header_is_the_last_that_is_drawn(rt: HostRuntime) -> Result<(), Fail> {
-    for (row, error, drawn) in [
-        ("31 00", InvalidData, 1),
-        ("30 80 00", InvalidData, 2),
-        ("30 7F 02", TruncatedData, 2),
-        ("30 88 FF FF FF FF FF FF FF FF", TruncatedData, 10),
-        ("30 01 02 02", TruncatedData, 3),
-        ("", TruncatedData, 0),
-    ] {
-        refuses_after::<Vec<u8>>(&rt, row, error, drawn)?;
-    }
-    Ok(())
-}
-
-#[test]
 fn the_end_of_a_dropped_sequence_stays(rt: HostRuntime) -> Result<(), Fail> {
     let bytes = bytes_of(rt.alloc(), "30 03 02 01 07 05 00")?;
     let mut de = Deserializer::new_from_bytes(rt.alloc(), &bytes);
@@ -248,29 +162,4 @@ fn a_dropped_sequence_writes_nothing(rt: HostRuntime) -> Result<(), Fail> {
     drop(ser);
     assert_eq!(rt; text_of(rt.alloc(), &out)?.as_str(), "02 01 07");
     Ok(())
-}
-
-// Writes 7, then begins a sequence with 1 in it and drops it.
-#[derive(Drop)]
-struct Littering;
-
-impl Serialize for Littering {
-    ghost use Rattle.picky_der_core.specs.Tree.{Tree};
-
-    ghost meaning = { λ _. Tree.unsigned 7 };
-
-    fn serialize<W: WriteExt>(
-        &self,
-        serializer: &mut Serializer<W>,
-    ) -> picky_asn1_der::Result<usize> {
-        let count = serializer.serialize_u8(7)?;
-        let mut members = ser::Sequence::serialize_lazy(serializer, Tag::SEQUENCE);
-        members.serialize_element(&1u8)?;
-        Ok(count)
-    }
-}
-
-#[test]
-fn a_sequence_is_dropped_in_a_member(rt: HostRuntime) -> Result<(), Fail> {
-    writes(&rt, &vec![in rt.alloc(); Littering]?, "30 03 02 01 07")
 }

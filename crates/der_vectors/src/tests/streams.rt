@@ -1,6 +1,6 @@
 //! Readers and writers: memory, slices that fill up, a byte of look-ahead, and devices that fail.
 
-use crate::hostile::{FailingReader, FailingWriter, Refusal, SlowReader};
+use der_fixtures::{FailingReader, FailingWriter, Refusal, SlowReader};
 use picky_asn1_der::misc::{PeekableReader, ReadExt, SliceSink, Watched, WriteExt};
 use std::io;
 use std::io::{ErrorKind, Read, Write};

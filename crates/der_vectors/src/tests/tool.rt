@@ -1,6 +1,6 @@
 //! The lines of the tool.
 
-use crate::hostile::{FailingReader, FailingWriter, Refusal};
+use der_fixtures::{FailingReader, FailingWriter, Refusal};
 use der_tool_lib::{kind_word, run};
 use picky_asn1_der::Asn1DerError;
 use picky_asn1_der::Asn1DerError::{Other, TruncatedData};

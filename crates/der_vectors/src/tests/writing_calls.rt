@@ -1,11 +1,9 @@
 //! Each call of a serializer that writes one value.
 
-use crate::hexadecimal::text_of;
-use crate::tests::rows::writes;
+use der_fixtures::text_of;
 use picky_asn1_der::Asn1DerError::InvalidSink;
-use picky_asn1_der::asn1::{Newtype, Tag};
-use picky_asn1_der::misc::WriteExt;
-use picky_asn1_der::{Serialize, Serializer, ser};
+use picky_asn1_der::asn1::Tag;
+use picky_asn1_der::{Serializer, ser};
 use std::test::Fail;
 
 #[test]
@@ -49,24 +47,6 @@ fn nulls_texts_and_options_follow(rt: HostRuntime) -> Result<(), Fail> {
     Ok(())
 }
 
-// Writes its bytes as they are.
-#[derive(Drop)]
-struct Untouched;
-
-impl Serialize for Untouched {
-    ghost use Rattle.std.specs.Prelude.{◌∷◌, []};
-    ghost use Rattle.picky_der_core.specs.Tree.{Tree};
-
-    ghost meaning = { λ s. Tree.raw (0x02 ∷ 0x01 ∷ 0x07 ∷ []) };
-
-    fn serialize<W: WriteExt>(
-        &self,
-        serializer: &mut Serializer<W>,
-    ) -> picky_asn1_der::Result<usize> {
-        serializer.serialize_raw(&[0x02, 0x01, 0x07])
-    }
-}
-
 #[test]
 fn application_tags_and_raw_bytes_follow(rt: HostRuntime) -> Result<(), Fail> {
     let mut out = Vec::new(rt.alloc());
@@ -76,13 +56,12 @@ fn application_tags_and_raw_bytes_follow(rt: HostRuntime) -> Result<(), Fail> {
         ser.serialize_application(10, &None::<u8>)?,
         ser.serialize_raw(&[0x1F, 0x81])?,
         ser.serialize_raw(&[])?,
-        ser.serialize_newtype_struct(Newtype::Implicit(1), &Untouched)?,
     ];
     drop(ser);
-    assert_eq!(rt; counts, [5, 2, 2, 0, 5]);
-    let row = "7E 03 02 01 07 6A 00 1F 81 81 03 02 01 07";
+    assert_eq!(rt; counts, [5, 2, 2, 0]);
+    let row = "7E 03 02 01 07 6A 00 1F 81";
     assert_eq!(rt; text_of(rt.alloc(), &out)?.as_str(), row);
-    writes(&rt, &[Untouched], "30 03 02 01 07")
+    Ok(())
 }
 
 #[test]
