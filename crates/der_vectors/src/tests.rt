@@ -1,3 +1,14 @@
+// Compares what came with what was wanted, and may name the place of a table where it stands.
+macro_rules! same {
+    ($rt:expr; $came:expr, $wanted:expr) => {
+        $crate::tests::checks::same(&$rt, stringify!($came), &$came, &$wanted)
+    };
+    ($rt:expr; $came:expr, $wanted:expr, $place:expr) => {
+        $crate::tests::checks::same_at(&$rt, stringify!($came), &$place, &$came, &$wanted)
+    };
+}
+
+mod checks;
 mod copies;
 mod devices;
 mod entry_calls;

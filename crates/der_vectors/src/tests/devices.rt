@@ -25,9 +25,9 @@ fn a_writer_fails_at_its_fifth_call(rt: HostRuntime) -> Result<(), Fail> {
     let refusal = Refusal::Error(BrokenPipe);
     let mut writer = Watched::new(FailingWriter::new(alloc, 5, refusal));
     let answer = to_writer(alloc, &testolope(alloc)?, &mut writer);
-    assert_eq!(rt; answer, Err(Other(BrokenPipe)));
+    same!(rt; answer, Err(Other(BrokenPipe)));
     let taken = text_of(alloc, writer.get_ref().taken())?;
-    assert_eq!(rt; taken.as_str(), "30 15 02 01");
+    same!(rt; taken.as_str(), "30 15 02 01");
     Ok(())
 }
 
@@ -36,7 +36,7 @@ fn a_reader_fails_behind_a_header(rt: HostRuntime) -> Result<(), Fail> {
     let bytes = bytes_of(rt.alloc(), "02 01")?;
     let reader = Watched::new(FailingReader::new(&bytes, 3, TimedOut));
     let mut de = Deserializer::new_from_reader(rt.alloc(), reader, 3);
-    assert_eq!(rt; de.deserialize_u8(), Err(Other(TimedOut)));
-    assert_eq!(rt; de.deserialize_u8(), Err(Other(TimedOut)));
+    same!(rt; de.deserialize_u8(), Err(Other(TimedOut)));
+    same!(rt; de.deserialize_u8(), Err(Other(TimedOut)));
     Ok(())
 }

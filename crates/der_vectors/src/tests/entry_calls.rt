@@ -13,16 +13,16 @@ use std::test::Fail;
 #[test]
 fn a_vector_keeps_what_lies_past_the_encoding(rt: HostRuntime) -> Result<(), Fail> {
     let mut out = bytes_of(rt.alloc(), "09 09 09 09 09")?;
-    assert_eq!(rt; to_byte_buf(rt.alloc(), &(), &mut out), Ok(2));
-    assert_eq!(rt; text_of(rt.alloc(), &out)?.as_str(), "05 00 09 09 09");
+    same!(rt; to_byte_buf(rt.alloc(), &(), &mut out), Ok(2));
+    same!(rt; text_of(rt.alloc(), &out)?.as_str(), "05 00 09 09 09");
     Ok(())
 }
 
 #[test]
 fn a_slice_keeps_what_lies_past_the_encoding(rt: HostRuntime) -> Result<(), Fail> {
     let mut room = [9; 5];
-    assert_eq!(rt; to_bytes(rt.alloc(), &7u8, &mut room), Ok(3));
-    assert_eq!(rt; text_of(rt.alloc(), &room)?.as_str(), "02 01 07 09 09");
+    same!(rt; to_bytes(rt.alloc(), &7u8, &mut room), Ok(3));
+    same!(rt; text_of(rt.alloc(), &room)?.as_str(), "02 01 07 09 09");
     Ok(())
 }
 
@@ -34,23 +34,23 @@ fn slices_of_each_length_are_filled(rt: HostRuntime) {
         let slice = &mut buf[..room];
         let answer = to_bytes(rt.alloc(), &7u8, slice);
         let filled = room.min(3);
-        assert_eq!(rt; &slice[..filled], &encoding[..filled], "{room}");
-        assert!(rt; slice[filled..].iter().all(|byte| *byte == 9), "{room}");
+        same!(rt; &slice[..filled], &encoding[..filled], room);
+        same!(rt; slice[filled..].iter().all(|byte| *byte == 9), true, room);
         let wanted = match room {
             0..3 => Err(InvalidSink),
             _ => Ok(3),
         };
-        assert_eq!(rt; answer, wanted, "{room}");
+        same!(rt; answer, wanted, room);
     }
 }
 
 #[test]
 fn a_writer_takes_one_value_after_another(rt: HostRuntime) -> Result<(), Fail> {
     let mut writer = Watched::new(SlowWriter::new(rt.alloc()));
-    assert_eq!(rt; to_writer(rt.alloc(), &Bytes(&[0xAA]), &mut writer), Ok(3));
-    assert_eq!(rt; to_writer(rt.alloc(), &(), &mut writer), Ok(2));
+    same!(rt; to_writer(rt.alloc(), &Bytes(&[0xAA]), &mut writer), Ok(3));
+    same!(rt; to_writer(rt.alloc(), &(), &mut writer), Ok(2));
     let taken = text_of(rt.alloc(), writer.get_ref().taken())?;
-    assert_eq!(rt; taken.as_str(), "04 01 AA 05 00");
+    same!(rt; taken.as_str(), "04 01 AA 05 00");
     Ok(())
 }
 
@@ -64,8 +64,8 @@ fn a_failing_reader_gives_its_error(rt: HostRuntime) -> Result<(), Fail> {
     ] {
         let mut reader = Watched::new(FailingReader::new(&bytes, 2, kind));
         let answer = from_reader::<char, _>(rt.alloc(), &mut reader);
-        assert_eq!(rt; answer, Err(error), "{kind:?}");
-        assert_eq!(rt; reader.get_ref().given(), 1, "{kind:?}");
+        same!(rt; answer, Err(error), kind);
+        same!(rt; reader.get_ref().given(), 1, kind);
     }
     Ok(())
 }
@@ -75,14 +75,14 @@ fn a_reader_gives_one_value_after_another(rt: HostRuntime) -> Result<(), Fail> {
     let alloc = rt.alloc();
     let bytes = bytes_of(alloc, "0C 02 C3 A9 13 01 41 05 00")?;
     let mut reader = PeekableReader::new(bytes.as_slice());
-    assert_eq!(rt; reader.peek_one()?, 0x0C);
-    assert_eq!(rt; from_reader(alloc, &mut reader), Ok('é'));
+    same!(rt; reader.peek_one()?, 0x0C);
+    same!(rt; from_reader(alloc, &mut reader), Ok('é'));
     let text: PrintableStringAsn1 = from_reader_with_max_len(alloc, &mut reader, 3)?;
-    assert_eq!(rt; text.0.as_slice(), b"A".as_slice());
-    assert_eq!(rt; reader.pos(), 7);
-    assert_eq!(rt; from_reader(alloc, &mut reader), Ok(()));
-    assert_eq!(rt; reader.read_next()?, None);
-    assert_eq!(rt; de::DEFAULT_MAX_LEN, 10240);
-    assert_eq!(rt; Length::encoded_len(290), 3);
+    same!(rt; text.0.as_slice(), b"A".as_slice());
+    same!(rt; reader.pos(), 7);
+    same!(rt; from_reader(alloc, &mut reader), Ok(()));
+    same!(rt; reader.read_next()?, None);
+    same!(rt; de::DEFAULT_MAX_LEN, 10240);
+    same!(rt; Length::encoded_len(290), 3);
     Ok(())
 }

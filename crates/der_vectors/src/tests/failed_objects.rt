@@ -21,12 +21,12 @@ fn over_a_writer(alloc: Global) -> Serializer<Watched<SlowWriter>> {
 fn numbers_with_a_sign_and_maps_arent_written(rt: HostRuntime) {
     let alloc = rt.alloc();
     let refused = Err(UnsupportedType);
-    assert_eq!(rt; over_a_writer(alloc).serialize_i8(-1), refused);
-    assert_eq!(rt; over_a_writer(alloc).serialize_i16(-1), refused);
-    assert_eq!(rt; over_a_writer(alloc).serialize_i32(-1), refused);
-    assert_eq!(rt; over_a_writer(alloc).serialize_i64(-1), refused);
-    assert_eq!(rt; over_a_writer(alloc).serialize_i128(-1), refused);
-    assert_eq!(rt; over_a_writer(alloc).serialize_map(None), refused);
+    same!(rt; over_a_writer(alloc).serialize_i8(-1), refused);
+    same!(rt; over_a_writer(alloc).serialize_i16(-1), refused);
+    same!(rt; over_a_writer(alloc).serialize_i32(-1), refused);
+    same!(rt; over_a_writer(alloc).serialize_i64(-1), refused);
+    same!(rt; over_a_writer(alloc).serialize_i128(-1), refused);
+    same!(rt; over_a_writer(alloc).serialize_map(None), refused);
 }
 
 #[test]
@@ -34,26 +34,23 @@ fn variants_arent_written(rt: HostRuntime) {
     let alloc = rt.alloc();
     let refused = Err(UnsupportedType);
     let mut ser = over_a_writer(alloc);
-    assert_eq!(rt; ser.serialize_unit_variant("Choice", 0, "A"), refused);
+    same!(rt; ser.serialize_unit_variant("Choice", 0, "A"), refused);
     let mut ser = over_a_writer(alloc);
-    assert_eq!(rt;
-        ser.serialize_newtype_variant("Choice", 0, "A", &7u8),
-        refused
-    );
+    same!(rt; ser.serialize_newtype_variant("Choice", 0, "A", &7u8), refused);
     let mut ser = over_a_writer(alloc);
-    assert_eq!(rt; ser.serialize_tuple_variant("Choice", 0, "A", 2), refused);
+    same!(rt; ser.serialize_tuple_variant("Choice", 0, "A", 2), refused);
     let mut ser = over_a_writer(alloc);
-    assert_eq!(rt; ser.serialize_struct_variant("Choice", 0, "A", 2), refused);
+    same!(rt; ser.serialize_struct_variant("Choice", 0, "A", 2), refused);
 }
 
 #[test]
 fn a_failed_serializer_writes_nothing(rt: HostRuntime) {
     let mut ser = over_a_writer(rt.alloc());
-    assert_eq!(rt; ser.serialize_i8(-1), Err(UnsupportedType));
-    assert_eq!(rt; ser.serialize_bool(true), Err(UnsupportedType));
+    same!(rt; ser.serialize_i8(-1), Err(UnsupportedType));
+    same!(rt; ser.serialize_bool(true), Err(UnsupportedType));
     let mut members = ser::Sequence::serialize_lazy(&mut ser, Tag::SEQUENCE);
-    assert_eq!(rt; members.serialize_element(&7u8), Err(UnsupportedType));
-    assert_eq!(rt; members.end(), Err(UnsupportedType));
+    same!(rt; members.serialize_element(&7u8), Err(UnsupportedType));
+    same!(rt; members.end(), Err(UnsupportedType));
     assert!(rt; ser.into_writer().into_inner().taken().is_empty());
 }
 
@@ -63,11 +60,11 @@ fn numbers_with_a_sign_and_maps_arent_read(rt: HostRuntime) -> Result<(), Fail> 
     let bytes = bytes_of(alloc, "02 01 07")?;
     let refused = Err(UnsupportedType);
     let over = |bytes| Deserializer::new_from_bytes(alloc, bytes);
-    assert_eq!(rt; over(&bytes).deserialize_i16(), refused);
-    assert_eq!(rt; over(&bytes).deserialize_i32(), refused);
-    assert_eq!(rt; over(&bytes).deserialize_i64(), refused);
-    assert_eq!(rt; over(&bytes).deserialize_i128(), refused);
-    assert_eq!(rt; over(&bytes).deserialize_map(), refused);
+    same!(rt; over(&bytes).deserialize_i16(), refused);
+    same!(rt; over(&bytes).deserialize_i32(), refused);
+    same!(rt; over(&bytes).deserialize_i64(), refused);
+    same!(rt; over(&bytes).deserialize_i128(), refused);
+    same!(rt; over(&bytes).deserialize_map(), refused);
     Ok(())
 }
 
@@ -75,14 +72,14 @@ fn numbers_with_a_sign_and_maps_arent_read(rt: HostRuntime) -> Result<(), Fail> 
 fn a_failed_deserializer_answers_its_own_error(rt: HostRuntime) -> Result<(), Fail> {
     let bytes = bytes_of(rt.alloc(), "02 01 07")?;
     let mut de = Deserializer::new_from_bytes(rt.alloc(), &bytes);
-    assert_eq!(rt; de.deserialize_i8(), Err(UnsupportedType));
-    assert_eq!(rt; de.taken(), 0);
-    assert_eq!(rt; de.deserialize_u8(), Err(UnsupportedType));
-    assert_eq!(rt; de.refuse(InvalidData), UnsupportedType);
-    assert_eq!(rt; de.deserialize_identifier(), Err(UnsupportedType));
+    same!(rt; de.deserialize_i8(), Err(UnsupportedType));
+    same!(rt; de.taken(), 0);
+    same!(rt; de.deserialize_u8(), Err(UnsupportedType));
+    same!(rt; de.refuse(InvalidData), UnsupportedType);
+    same!(rt; de.deserialize_identifier(), Err(UnsupportedType));
     let mut members = de::Sequence::deserialize_lazy(&mut de, 0);
-    assert_eq!(rt; members.next_element::<u8>(), Err(UnsupportedType));
-    assert_eq!(rt; de.taken(), 0);
+    same!(rt; members.next_element::<u8>(), Err(UnsupportedType));
+    same!(rt; de.taken(), 0);
     Ok(())
 }
 
@@ -90,10 +87,10 @@ fn a_failed_deserializer_answers_its_own_error(rt: HostRuntime) -> Result<(), Fa
 fn a_refusal_is_kept(rt: HostRuntime) -> Result<(), Fail> {
     let bytes = bytes_of(rt.alloc(), "02 01 07")?;
     let mut de = Deserializer::new_from_bytes(rt.alloc(), &bytes);
-    assert_eq!(rt; de.refuse(InvalidData), InvalidData);
-    assert_eq!(rt; de.deserialize_map(), Err(InvalidData));
-    assert_eq!(rt; de.deserialize_u8(), Err(InvalidData));
-    assert_eq!(rt; de.taken(), 0);
+    same!(rt; de.refuse(InvalidData), InvalidData);
+    same!(rt; de.deserialize_map(), Err(InvalidData));
+    same!(rt; de.deserialize_u8(), Err(InvalidData));
+    same!(rt; de.taken(), 0);
     Ok(())
 }
 
@@ -103,17 +100,14 @@ fn a_tag_number_of_31_is_kept_out(rt: HostRuntime) -> Result<(), Fail> {
     let refused = Err(UnsupportedValue);
     for byte in [0x1F, 0x3F, 0x7F, 0x9F, 0xFF] {
         let mut ser = over_a_writer(alloc);
-        assert_eq!(rt;
-            ser.serialize_tagged_bytes(Tag::from(byte), &[0xAA]),
-            refused
-        );
-        assert_eq!(rt; ser.serialize_unit(), refused, "{byte}");
-        assert!(rt; ser.into_writer().into_inner().taken().is_empty(), "{byte}");
+        same!(rt; ser.serialize_tagged_bytes(Tag::from(byte), &[0xAA]), refused);
+        same!(rt; ser.serialize_unit(), refused, byte);
+        same!(rt; ser.into_writer().into_inner().taken().is_empty(), true, byte);
         let reader = Watched::new(SlowReader::new(&[0x1F, 0x01, 0xAA]));
         let mut de = Deserializer::new_from_reader(alloc, reader, 3);
         let answer = de.deserialize_tagged_bytes(Tag::from(byte));
-        assert_eq!(rt; answer.err(), Some(UnsupportedValue), "{byte}");
-        assert_eq!(rt; de.into_reader().into_inner().given(), 0, "{byte}");
+        same!(rt; answer.err(), Some(UnsupportedValue), byte);
+        same!(rt; de.into_reader().into_inner().given(), 0, byte);
     }
     Ok(())
 }
@@ -132,10 +126,10 @@ fn a_serializer_stays_failed_after_a_fault(rt: HostRuntime) -> Result<(), Fail> 
         for (call, row) in [(1, ""), (2, "02"), (3, "02 02"), (4, "02 02 01")] {
             let writer = Watched::new(FailingWriter::new(alloc, call, refusal));
             let mut ser = Serializer::new_to_writer(alloc, writer);
-            assert_eq!(rt; ser.serialize_u16(0x0102), Err(error), "{row}");
-            assert_eq!(rt; ser.serialize_bytes(&[]), Err(error), "{row}");
+            same!(rt; ser.serialize_u16(0x0102), Err(error), row);
+            same!(rt; ser.serialize_bytes(&[]), Err(error), row);
             let writer = ser.into_writer().into_inner();
-            assert_eq!(rt; text_of(alloc, writer.taken())?.as_str(), row);
+            same!(rt; text_of(alloc, writer.taken())?.as_str(), row);
         }
     }
     Ok(())
@@ -153,10 +147,10 @@ fn a_deserializer_stays_failed_after_a_fault(rt: HostRuntime) -> Result<(), Fail
         for place in 0..bytes.len() {
             let reader = Watched::new(FailingReader::new(&bytes, place + 1, kind));
             let mut de = Deserializer::new_from_reader(alloc, reader, 9);
-            assert_eq!(rt; de.deserialize_byte_buf().err(), Some(error), "{place}");
-            assert_eq!(rt; de.deserialize_bool(), Err(error), "{place}");
-            assert_eq!(rt; de.taken(), place);
-            assert_eq!(rt; de.into_reader().into_inner().given(), place);
+            same!(rt; de.deserialize_byte_buf().err(), Some(error), place);
+            same!(rt; de.deserialize_bool(), Err(error), place);
+            same!(rt; de.taken(), place);
+            same!(rt; de.into_reader().into_inner().given(), place);
         }
     }
     Ok(())

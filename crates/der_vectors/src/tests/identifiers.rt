@@ -12,17 +12,17 @@ use std::test::Fail;
 fn the_next_tag_is_left_unread(rt: HostRuntime) -> Result<(), Fail> {
     let bytes = bytes_of(rt.alloc(), "81 01 07 30 03 02 01 07 05 00")?;
     let mut de = Deserializer::new_from_bytes(rt.alloc(), &bytes);
-    assert_eq!(rt; de.deserialize_identifier(), Ok(Tag::from(0x81)));
-    assert_eq!(rt; de.taken(), 0);
+    same!(rt; de.deserialize_identifier(), Ok(Tag::from(0x81)));
+    same!(rt; de.taken(), 0);
     let seven: ImplicitContextTag1<u8> = Deserialize::deserialize(&mut de)?;
-    assert_eq!(rt; seven.0, 7);
-    assert_eq!(rt; de.taken(), 3);
-    assert_eq!(rt; de.deserialize_enum("Any", &["list"]), Ok(Tag::SEQUENCE));
-    assert_eq!(rt; de.deserialize_ignored_any(), Ok(()));
-    assert_eq!(rt; de.taken(), 8);
-    assert_eq!(rt; de.deserialize_unit(), Ok(()));
-    assert_eq!(rt; de.taken(), 10);
-    assert_eq!(rt; de.deserialize_bool(), Err(TruncatedData));
+    same!(rt; seven.0, 7);
+    same!(rt; de.taken(), 3);
+    same!(rt; de.deserialize_enum("Any", &["list"]), Ok(Tag::SEQUENCE));
+    same!(rt; de.deserialize_ignored_any(), Ok(()));
+    same!(rt; de.taken(), 8);
+    same!(rt; de.deserialize_unit(), Ok(()));
+    same!(rt; de.taken(), 10);
+    same!(rt; de.deserialize_bool(), Err(TruncatedData));
     Ok(())
 }
 
@@ -32,11 +32,11 @@ fn a_look_draws_one_byte(rt: HostRuntime) -> Result<(), Fail> {
     let reader = Watched::new(SlowReader::new(&bytes));
     let mut de = Deserializer::new_from_reader(rt.alloc(), reader, 3);
     for _ in 0..2 {
-        assert_eq!(rt; de.deserialize_identifier(), Ok(Tag::INTEGER));
-        assert_eq!(rt; de.deserialize_enum("Any", &[]), Ok(Tag::INTEGER));
+        same!(rt; de.deserialize_identifier(), Ok(Tag::INTEGER));
+        same!(rt; de.deserialize_enum("Any", &[]), Ok(Tag::INTEGER));
     }
-    assert_eq!(rt; de.taken(), 0);
-    assert_eq!(rt; de.into_reader().into_inner().given(), 1);
+    same!(rt; de.taken(), 0);
+    same!(rt; de.into_reader().into_inner().given(), 1);
     Ok(())
 }
 
@@ -45,9 +45,9 @@ fn a_look_at_the_limit_draws_nothing(rt: HostRuntime) -> Result<(), Fail> {
     let bytes = bytes_of(rt.alloc(), "02 01 07")?;
     let reader = Watched::new(SlowReader::new(&bytes));
     let mut de = Deserializer::new_from_reader(rt.alloc(), reader, 0);
-    assert_eq!(rt; de.deserialize_identifier(), Err(TruncatedData));
-    assert_eq!(rt; de.deserialize_enum("Any", &[]), Err(TruncatedData));
-    assert_eq!(rt; de.into_reader().into_inner().given(), 0);
+    same!(rt; de.deserialize_identifier(), Err(TruncatedData));
+    same!(rt; de.deserialize_enum("Any", &[]), Err(TruncatedData));
+    same!(rt; de.into_reader().into_inner().given(), 0);
     Ok(())
 }
 
@@ -56,10 +56,10 @@ fn a_look_passes_on_a_fault(rt: HostRuntime) -> Result<(), Fail> {
     let bytes = bytes_of(rt.alloc(), "02 01 07")?;
     let reader = Watched::new(FailingReader::new(&bytes, 1, TimedOut));
     let mut de = Deserializer::new_from_reader(rt.alloc(), reader, 3);
-    assert_eq!(rt; de.deserialize_identifier(), Err(Other(TimedOut)));
-    assert_eq!(rt; de.deserialize_enum("Any", &[]), Err(Other(TimedOut)));
-    assert_eq!(rt; de.deserialize_u8(), Err(Other(TimedOut)));
-    assert_eq!(rt; de.taken(), 0);
+    same!(rt; de.deserialize_identifier(), Err(Other(TimedOut)));
+    same!(rt; de.deserialize_enum("Any", &[]), Err(Other(TimedOut)));
+    same!(rt; de.deserialize_u8(), Err(Other(TimedOut)));
+    same!(rt; de.taken(), 0);
     Ok(())
 }
 
@@ -68,7 +68,7 @@ fn no_tag_is_looked_at_past_an_end(rt: HostRuntime) -> Result<(), Fail> {
     let bytes = bytes_of(rt.alloc(), "02 01 07")?;
     let mut de = Deserializer::new_from_bytes(rt.alloc(), &bytes);
     drop(de::Sequence::deserialize_lazy(&mut de, 0));
-    assert_eq!(rt; de.deserialize_identifier(), Err(TruncatedData));
-    assert_eq!(rt; de.taken(), 0);
+    same!(rt; de.deserialize_identifier(), Err(TruncatedData));
+    same!(rt; de.taken(), 0);
     Ok(())
 }

@@ -13,9 +13,9 @@ fn a_limit_of_0_refuses_each_call(rt: HostRuntime) -> Result<(), Fail> {
     let bytes = bytes_of(rt.alloc(), "02 01 07 05 00")?;
     let reader = Watched::new(SlowReader::new(&bytes));
     let mut de = Deserializer::new_from_reader(rt.alloc(), reader, 0);
-    assert_eq!(rt; de.deserialize_u8(), Err(TruncatedData));
-    assert_eq!(rt; de.deserialize_u8(), Err(TruncatedData));
-    assert_eq!(rt; de.into_reader().into_inner().given(), 0);
+    same!(rt; de.deserialize_u8(), Err(TruncatedData));
+    same!(rt; de.deserialize_u8(), Err(TruncatedData));
+    same!(rt; de.into_reader().into_inner().given(), 0);
     Ok(())
 }
 
@@ -32,16 +32,16 @@ fn from_reader_draws_10240_bytes_at_most(rt: HostRuntime) -> Result<(), Fail> {
     let whole = zeros_behind(alloc, "04 82 27 FC", 10236)?;
     let mut reader = Watched::new(SlowReader::new(&whole));
     let octets: ByteBuf = from_reader(alloc, &mut reader)?;
-    assert_eq!(rt; octets.0.len(), 10236);
+    same!(rt; octets.0.len(), 10236);
     assert!(rt; octets.0.iter().all(|byte| *byte == 0));
-    assert_eq!(rt; reader.get_ref().given(), 10240);
+    same!(rt; reader.get_ref().given(), 10240);
 
     let past = zeros_behind(alloc, "04 82 27 FD", 10237)?;
     let mut reader = Watched::new(SlowReader::new(&past));
     let refused = from_reader::<ByteBuf, _>(alloc, &mut reader);
-    assert_eq!(rt; refused.err(), Some(TruncatedData));
-    assert_eq!(rt; reader.get_ref().given(), 4);
+    same!(rt; refused.err(), Some(TruncatedData));
+    same!(rt; reader.get_ref().given(), 4);
     let octets: ByteBuf = from_bytes(alloc, &past)?;
-    assert_eq!(rt; octets.0.len(), 10237);
+    same!(rt; octets.0.len(), 10237);
     Ok(())
 }

@@ -20,11 +20,11 @@ fn one_element_is_taken(rt: HostRuntime) -> Result<(), Fail> {
         let input = [element.as_slice(), &[0x05, 0x00]].concat(alloc)?;
         let reader = Watched::new(SlowReader::new(&input));
         let mut de = Deserializer::new_from_reader(alloc, reader, input.len());
-        assert_eq!(rt; de.deserialize_raw()?.as_slice(), element.as_slice());
-        assert_eq!(rt; de.into_reader().into_inner().given(), element.len());
+        same!(rt; de.deserialize_raw()?.as_slice(), element.as_slice());
+        same!(rt; de.into_reader().into_inner().given(), element.len());
         let mut de = Deserializer::new_from_bytes(alloc, &input);
-        assert_eq!(rt; de.deserialize_ignored_any(), Ok(()), "{row}");
-        assert_eq!(rt; de.taken(), element.len(), "{row}");
+        same!(rt; de.deserialize_ignored_any(), Ok(()), row);
+        same!(rt; de.taken(), element.len(), row);
     }
     Ok(())
 }
@@ -45,8 +45,8 @@ fn what_is_no_element_isnt_ignored(rt: HostRuntime) -> Result<(), Fail> {
         let bytes = bytes_of(rt.alloc(), row)?;
         let reader = Watched::new(SlowReader::new(&bytes));
         let mut de = Deserializer::new_from_reader(rt.alloc(), reader, 64);
-        assert_eq!(rt; de.deserialize_ignored_any(), Err(error), "{row}");
-        assert_eq!(rt; de.taken(), drawn, "{row}");
+        same!(rt; de.deserialize_ignored_any(), Err(error), row);
+        same!(rt; de.taken(), drawn, row);
     }
     Ok(())
 }
@@ -60,9 +60,9 @@ fn a_raw_element_is_shown_in_hexadecimal(rt: HostRuntime) -> Result<(), Fail> {
         ("", "RawDer(0x)"),
     ] {
         let text = format!(in alloc; "{:?}", raw(alloc, row)?)?;
-        assert_eq!(rt; text.as_str(), wanted);
+        same!(rt; text.as_str(), wanted);
     }
-    assert_eq!(rt; Asn1RawDer::NAME, "Asn1RawDer");
+    same!(rt; Asn1RawDer::NAME, "Asn1RawDer");
     Ok(())
 }
 

@@ -17,18 +17,18 @@ fn each_call_writes_a_sequence(rt: HostRuntime) -> Result<(), Fail> {
     let mut ser = Serializer::new_to_byte_buf(rt.alloc(), &mut out);
     let mut members = ser.serialize_seq(Some(2))?;
     members.serialize_element(&7u8)?;
-    assert_eq!(rt; members.end(), Ok(5));
+    same!(rt; members.end(), Ok(5));
     let mut members = ser.serialize_tuple(0)?;
     members.serialize_element(&7u8)?;
-    assert_eq!(rt; members.end(), Ok(5));
+    same!(rt; members.end(), Ok(5));
     let mut members = ser.serialize_tuple_struct("Seven", 3)?;
     members.serialize_element(&7u8)?;
-    assert_eq!(rt; members.end(), Ok(5));
+    same!(rt; members.end(), Ok(5));
     let mut members = ser.serialize_struct("Seven", usize::MAX)?;
     members.serialize_field("number", &7u8)?;
-    assert_eq!(rt; members.end(), Ok(5));
+    same!(rt; members.end(), Ok(5));
     drop(ser);
-    assert_eq!(rt; text_of(rt.alloc(), &out)?.as_str(), FOUR_SEQUENCES);
+    same!(rt; text_of(rt.alloc(), &out)?.as_str(), FOUR_SEQUENCES);
     Ok(())
 }
 
@@ -37,18 +37,18 @@ fn each_call_reads_a_sequence(rt: HostRuntime) -> Result<(), Fail> {
     let bytes = bytes_of(rt.alloc(), FOUR_SEQUENCES)?;
     let mut de = Deserializer::new_from_bytes(rt.alloc(), &bytes);
     let mut members = de.deserialize_seq()?;
-    assert_eq!(rt; members.next_element::<u8>(), Ok(Some(7)));
+    same!(rt; members.next_element::<u8>(), Ok(Some(7)));
     members.end()?;
     let mut members = de.deserialize_tuple(0)?;
-    assert_eq!(rt; members.next_element::<u8>(), Ok(Some(7)));
+    same!(rt; members.next_element::<u8>(), Ok(Some(7)));
     members.end()?;
     let mut members = de.deserialize_tuple_struct("Eight", 3)?;
-    assert_eq!(rt; members.next_element::<u8>(), Ok(Some(7)));
+    same!(rt; members.next_element::<u8>(), Ok(Some(7)));
     members.end()?;
     let mut members = de.deserialize_struct("Eight", &["number", "name"])?;
-    assert_eq!(rt; members.next_field::<u8>(), Ok(7));
+    same!(rt; members.next_field::<u8>(), Ok(7));
     members.end()?;
-    assert_eq!(rt; de.taken(), 20);
+    same!(rt; de.taken(), 20);
     Ok(())
 }
 
@@ -58,12 +58,12 @@ fn a_set_has_a_call_of_its_own(rt: HostRuntime) -> Result<(), Fail> {
     let mut ser = Serializer::new_to_byte_buf(rt.alloc(), &mut out);
     let mut members = ser.serialize_set()?;
     members.serialize_element(&7u8)?;
-    assert_eq!(rt; members.end(), Ok(5));
+    same!(rt; members.end(), Ok(5));
     drop(ser);
-    assert_eq!(rt; text_of(rt.alloc(), &out)?.as_str(), "31 03 02 01 07");
+    same!(rt; text_of(rt.alloc(), &out)?.as_str(), "31 03 02 01 07");
     let mut de = Deserializer::new_from_bytes(rt.alloc(), &out);
     let mut members = de.deserialize_set()?;
-    assert_eq!(rt; members.next_field::<u8>(), Ok(7));
+    same!(rt; members.next_field::<u8>(), Ok(7));
     members.end()?;
     Ok(())
 }
@@ -73,10 +73,10 @@ fn a_missing_member_is_truncated(rt: HostRuntime) -> Result<(), Fail> {
     let bytes = bytes_of(rt.alloc(), "30 00 02 01 07")?;
     let mut de = Deserializer::new_from_bytes(rt.alloc(), &bytes);
     let mut members = de.deserialize_seq()?;
-    assert_eq!(rt; members.next_field::<u8>(), Err(TruncatedData));
-    assert_eq!(rt; members.next_element::<u8>(), Err(TruncatedData));
-    assert_eq!(rt; members.end(), Err(TruncatedData));
-    assert_eq!(rt; de.taken(), 2);
+    same!(rt; members.next_field::<u8>(), Err(TruncatedData));
+    same!(rt; members.next_element::<u8>(), Err(TruncatedData));
+    same!(rt; members.end(), Err(TruncatedData));
+    same!(rt; de.taken(), 2);
     Ok(())
 }
 
@@ -85,10 +85,10 @@ fn a_member_too_many_is_invalid(rt: HostRuntime) -> Result<(), Fail> {
     let bytes = bytes_of(rt.alloc(), "30 06 02 01 07 02 01 08")?;
     let mut de = Deserializer::new_from_bytes(rt.alloc(), &bytes);
     let mut members = de.deserialize_seq()?;
-    assert_eq!(rt; members.next_field::<u8>(), Ok(7));
-    assert_eq!(rt; members.end(), Err(InvalidData));
-    assert_eq!(rt; de.deserialize_u8(), Err(InvalidData));
-    assert_eq!(rt; de.taken(), 5);
+    same!(rt; members.next_field::<u8>(), Ok(7));
+    same!(rt; members.end(), Err(InvalidData));
+    same!(rt; de.deserialize_u8(), Err(InvalidData));
+    same!(rt; de.taken(), 5);
     Ok(())
 }
 
@@ -97,9 +97,9 @@ fn the_end_of_a_dropped_sequence_stays(rt: HostRuntime) -> Result<(), Fail> {
     let bytes = bytes_of(rt.alloc(), "30 03 02 01 07 05 00")?;
     let mut de = Deserializer::new_from_bytes(rt.alloc(), &bytes);
     drop(de.deserialize_seq()?);
-    assert_eq!(rt; de.deserialize_u8(), Ok(7));
-    assert_eq!(rt; de.deserialize_unit(), Err(TruncatedData));
-    assert_eq!(rt; de.taken(), 5);
+    same!(rt; de.deserialize_u8(), Ok(7));
+    same!(rt; de.deserialize_unit(), Err(TruncatedData));
+    same!(rt; de.taken(), 5);
     Ok(())
 }
 
@@ -109,8 +109,8 @@ fn a_sequence_in_a_dropped_one_has_its_own_end(rt: HostRuntime) -> Result<(), Fa
     let mut de = Deserializer::new_from_bytes(rt.alloc(), &bytes);
     drop(de.deserialize_seq()?);
     let mut members = de.deserialize_seq()?;
-    assert_eq!(rt; members.next_element::<u8>(), Err(TruncatedData));
-    assert_eq!(rt; de.taken(), 5);
+    same!(rt; members.next_element::<u8>(), Err(TruncatedData));
+    same!(rt; de.taken(), 5);
     Ok(())
 }
 
@@ -119,13 +119,13 @@ fn a_lazy_sequence_has_no_header(rt: HostRuntime) -> Result<(), Fail> {
     let bytes = bytes_of(rt.alloc(), "02 01 07 05 00")?;
     let mut de = Deserializer::new_from_bytes(rt.alloc(), &bytes);
     let mut members = de::Sequence::deserialize_lazy(&mut de, 3);
-    assert_eq!(rt; members.next_element::<u8>(), Ok(Some(7)));
-    assert_eq!(rt; members.next_element::<u8>(), Ok(None));
-    assert_eq!(rt; members.end(), Ok(()));
-    assert_eq!(rt; de.deserialize_unit(), Ok(()));
+    same!(rt; members.next_element::<u8>(), Ok(Some(7)));
+    same!(rt; members.next_element::<u8>(), Ok(None));
+    same!(rt; members.end(), Ok(()));
+    same!(rt; de.deserialize_unit(), Ok(()));
     let mut de = Deserializer::new_from_bytes(rt.alloc(), &bytes);
     drop(de::Sequence::deserialize_lazy(&mut de, 6));
-    assert_eq!(rt; de.deserialize_u8(), Err(TruncatedData));
+    same!(rt; de.deserialize_u8(), Err(TruncatedData));
     Ok(())
 }
 
@@ -143,10 +143,10 @@ fn a_member_makes_the_lengths_around_it_long(rt: HostRuntime) -> Result<(), Fail
     ] {
         let list = vec![in alloc; zeros(alloc, len)?]?;
         let front = bytes_of(alloc, once)?;
-        assert!(rt; to_vec(alloc, &list)?.starts_with(&front), "{once}");
+        same!(rt; to_vec(alloc, &list)?.starts_with(&front), true, once);
         let lists = vec![in alloc; list]?;
         let front = bytes_of(alloc, twice)?;
-        assert!(rt; to_vec(alloc, &lists)?.starts_with(&front), "{twice}");
+        same!(rt; to_vec(alloc, &lists)?.starts_with(&front), true, twice);
     }
     Ok(())
 }
@@ -158,8 +158,8 @@ fn a_dropped_sequence_writes_nothing(rt: HostRuntime) -> Result<(), Fail> {
     let mut members = ser.serialize_seq(None)?;
     members.serialize_element(&1u8)?;
     drop(members);
-    assert_eq!(rt; ser.serialize_u8(7), Ok(3));
+    same!(rt; ser.serialize_u8(7), Ok(3));
     drop(ser);
-    assert_eq!(rt; text_of(rt.alloc(), &out)?.as_str(), "02 01 07");
+    same!(rt; text_of(rt.alloc(), &out)?.as_str(), "02 01 07");
     Ok(())
 }

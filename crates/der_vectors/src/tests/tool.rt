@@ -14,9 +14,9 @@ fn answers(rt: &(impl Abort + AllocGlobal), input: &[u8], wanted: &str) -> Resul
     let mut rest = input;
     let mut text = Vec::new(rt.alloc());
     let mut output = BufSink::new(&mut text);
-    assert_eq!(rt; run(rt.alloc(), &mut rest, &mut output), Ok(()));
+    same!(rt; run(rt.alloc(), &mut rest, &mut output), Ok(()));
     drop(output);
-    assert_eq!(rt; text.as_slice(), wanted.as_bytes());
+    same!(rt; text.as_slice(), wanted.as_bytes());
     Ok(())
 }
 
@@ -129,9 +129,9 @@ fn stops_where_the_reader_fails(rt: HostRuntime) {
         let mut input = Watched::new(FailingReader::new(b"len 290\nlen 1", 14, kind));
         let mut text = Vec::new(rt.alloc());
         let mut output = BufSink::new(&mut text);
-        assert_eq!(rt; run(rt.alloc(), &mut input, &mut output), Err(error));
+        same!(rt; run(rt.alloc(), &mut input, &mut output), Err(error));
         drop(output);
-        assert_eq!(rt; text.as_slice(), b"820122\n".as_slice());
+        same!(rt; text.as_slice(), b"820122\n".as_slice());
     }
 }
 
@@ -142,9 +142,9 @@ fn stops_where_the_writer_fails(rt: HostRuntime) {
     let refusal = Refusal::Error(ErrorKind::BrokenPipe);
     let mut output = Watched::new(FailingWriter::new(alloc, 9, refusal));
     let outcome = run(alloc, &mut input, &mut output);
-    assert_eq!(rt; outcome, Err(Other(ErrorKind::BrokenPipe)));
-    assert_eq!(rt; output.get_ref().taken(), b"820122\n0".as_slice());
-    assert_eq!(rt; input, b"len 11\n".as_slice());
+    same!(rt; outcome, Err(Other(ErrorKind::BrokenPipe)));
+    same!(rt; output.get_ref().taken(), b"820122\n0".as_slice());
+    same!(rt; input, b"len 11\n".as_slice());
 }
 
 #[test]
@@ -159,6 +159,6 @@ fn each_error_has_its_word(rt: HostRuntime) {
         (Asn1DerError::Other(ErrorKind::BrokenPipe), "Other"),
         (Asn1DerError::OutOfMemory, "OutOfMemory"),
     ] {
-        assert_eq!(rt; kind_word(error), word);
+        same!(rt; kind_word(error), word);
     }
 }

@@ -11,15 +11,15 @@ fn the_byte_of_unused_bits_makes_a_length_long(rt: HostRuntime) -> Result<(), Fa
     let zeros = ByteBuf(vec![in alloc; 0; 124]?);
     let short = to_vec(alloc, &BitStringAsn1Container(zeros))?;
     let front = bytes_of(alloc, "03 7F 00 04 7C")?;
-    assert!(rt; short.starts_with(&front), "{short:?}");
+    same!(rt; short.starts_with(&front), true, short);
     let zeros = ByteBuf(vec![in alloc; 0; 125]?);
     let long = ExplicitContextTag0::from(BitStringAsn1Container(zeros));
     let front = bytes_of(alloc, "03 81 80 00 04 7D")?;
     assert!(rt; to_vec(alloc, &long.0)?.starts_with(&front));
     let front = bytes_of(alloc, "A0 81 83 03 81 80 00 04 7D")?;
     let bytes = to_vec(alloc, &long)?;
-    assert!(rt; bytes.starts_with(&front), "{bytes:?}");
-    assert_eq!(rt; from_bytes(alloc, &bytes), Ok(long));
+    same!(rt; bytes.starts_with(&front), true, bytes);
+    same!(rt; from_bytes(alloc, &bytes), Ok(long));
     Ok(())
 }
 
@@ -39,7 +39,7 @@ fn each_newtype_writes_its_wrapper(rt: HostRuntime) -> Result<(), Fail> {
         let mut ser = Serializer::new_to_byte_buf(rt.alloc(), &mut out);
         ser.serialize_newtype_struct(kind, &7u8)?;
         drop(ser);
-        assert_eq!(rt; text_of(rt.alloc(), &out)?.as_str(), row);
+        same!(rt; text_of(rt.alloc(), &out)?.as_str(), row);
     }
     Ok(())
 }
@@ -49,8 +49,8 @@ fn each_newtype_reads_its_wrapper(rt: HostRuntime) -> Result<(), Fail> {
     for (kind, row) in NEWTYPES {
         let bytes = bytes_of(rt.alloc(), row)?;
         let mut de = Deserializer::new_from_bytes(rt.alloc(), &bytes);
-        assert_eq!(rt; de.deserialize_newtype_struct::<u8>(kind), Ok(7), "{row}");
-        assert_eq!(rt; de.taken(), bytes.len(), "{row}");
+        same!(rt; de.deserialize_newtype_struct::<u8>(kind), Ok(7), row);
+        same!(rt; de.taken(), bytes.len(), row);
     }
     Ok(())
 }

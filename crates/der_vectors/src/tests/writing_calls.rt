@@ -20,9 +20,9 @@ fn truth_values_numbers_and_octet_strings_follow(rt: HostRuntime) -> Result<(), 
         ser.serialize_bytes(&[0x08, 0x09])?,
     ];
     drop(ser);
-    assert_eq!(rt; counts, [3, 3, 4, 6, 4, 3, 4]);
+    same!(rt; counts, [3, 3, 4, 6, 4, 3, 4]);
     let row = "01 01 FF 02 01 01 02 02 02 03 02 04 04 05 06 07 02 02 00 80 02 01 00 04 02 08 09";
-    assert_eq!(rt; text_of(rt.alloc(), &out)?.as_str(), row);
+    same!(rt; text_of(rt.alloc(), &out)?.as_str(), row);
     Ok(())
 }
 
@@ -41,9 +41,9 @@ fn nulls_texts_and_options_follow(rt: HostRuntime) -> Result<(), Fail> {
         ser.serialize_some(&7u8)?,
     ];
     drop(ser);
-    assert_eq!(rt; counts, [2, 2, 4, 5, 3, 0, 3]);
+    same!(rt; counts, [2, 2, 4, 5, 3, 0, 3]);
     let row = "05 00 05 00 0C 02 C3 A9 0C 03 41 C3 A9 9E 01 AA 02 01 07";
-    assert_eq!(rt; text_of(rt.alloc(), &out)?.as_str(), row);
+    same!(rt; text_of(rt.alloc(), &out)?.as_str(), row);
     Ok(())
 }
 
@@ -58,9 +58,9 @@ fn application_tags_and_raw_bytes_follow(rt: HostRuntime) -> Result<(), Fail> {
         ser.serialize_raw(&[])?,
     ];
     drop(ser);
-    assert_eq!(rt; counts, [5, 2, 2, 0]);
+    same!(rt; counts, [5, 2, 2, 0]);
     let row = "7E 03 02 01 07 6A 00 1F 81";
-    assert_eq!(rt; text_of(rt.alloc(), &out)?.as_str(), row);
+    same!(rt; text_of(rt.alloc(), &out)?.as_str(), row);
     Ok(())
 }
 
@@ -75,9 +75,9 @@ fn contents_are_written_as_their_values(rt: HostRuntime) -> Result<(), Fail> {
         ser::Utf8String::serialize("z", &mut ser)?,
     ];
     drop(ser);
-    assert_eq!(rt; counts, [3, 3, 2, 3]);
+    same!(rt; counts, [3, 3, 2, 3]);
     let row = "01 01 00 02 01 0A 05 00 0C 01 7A";
-    assert_eq!(rt; text_of(rt.alloc(), &out)?.as_str(), row);
+    same!(rt; text_of(rt.alloc(), &out)?.as_str(), row);
     Ok(())
 }
 
@@ -85,15 +85,15 @@ fn contents_are_written_as_their_values(rt: HostRuntime) -> Result<(), Fail> {
 fn a_slice_is_filled_by_each_call(rt: HostRuntime) {
     let mut room = [9; 6];
     let mut ser = Serializer::new_to_bytes(rt.alloc(), &mut room);
-    assert_eq!(rt; ser.serialize_u8(7), Ok(3));
-    assert_eq!(rt; ser.serialize_unit(), Ok(2));
-    assert_eq!(rt; ser.serialize_unit(), Err(InvalidSink));
+    same!(rt; ser.serialize_u8(7), Ok(3));
+    same!(rt; ser.serialize_unit(), Ok(2));
+    same!(rt; ser.serialize_unit(), Err(InvalidSink));
     drop(ser);
-    assert_eq!(rt; room, [0x02, 0x01, 0x07, 0x05, 0x00, 0x05]);
+    same!(rt; room, [0x02, 0x01, 0x07, 0x05, 0x00, 0x05]);
 }
 
 #[test]
 fn numbers_are_widened(rt: HostRuntime) {
-    assert_eq!(rt; ser::UInt::into_u128(u8::MAX), 255);
-    assert_eq!(rt; ser::UInt::into_u128(u128::MAX), u128::MAX);
+    same!(rt; ser::UInt::into_u128(u8::MAX), 255);
+    same!(rt; ser::UInt::into_u128(u128::MAX), u128::MAX);
 }
