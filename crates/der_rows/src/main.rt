@@ -5,17 +5,23 @@
 #![tactic(auto)]
 
 mod answers;
+mod calls;
+mod devices;
 mod hand_written;
 mod kept;
 mod lists;
+mod members;
 mod nested_tags;
 mod numbered_tags;
 mod own_types;
 mod plain;
+mod reading;
 mod rows;
 mod seen;
+mod tool;
 mod values;
 mod wrappers;
+mod writing;
 
 use rows::answer_to;
 use std::io;

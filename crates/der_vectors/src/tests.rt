@@ -9,20 +9,14 @@ macro_rules! same {
 }
 
 mod checks;
+mod contents;
 mod copies;
-mod devices;
 mod entry_calls;
 mod errors;
-mod failed_objects;
-mod identifiers;
 mod lengths;
-mod limits;
+mod long_lengths;
 mod pieces;
 mod raw_elements;
-mod reading_calls;
-mod sequences;
 mod streams;
 mod tags;
 mod tool;
-mod wrappers;
-mod writing_calls;

@@ -1,12 +1,17 @@
 //! What the entry calls leave in a slice, in a vector, and in a device.
 
-use der_fixtures::{FailingReader, SlowWriter, bytes_of, text_of};
+use der_fixtures::{
+    FailingReader, FailingWriter, Refusal, SlowReader, SlowWriter, bytes_of, text_of,
+};
+use der_tool_lib::TestStruct;
 use picky_asn1_der::Asn1DerError::{InvalidSink, Other, OutOfMemory, TruncatedData};
-use picky_asn1_der::asn1::{Bytes, PrintableStringAsn1};
+use picky_asn1_der::asn1::{ByteBuf, Bytes, PrintableStringAsn1};
 use picky_asn1_der::misc::{PeekableReader, ReadExt, Watched};
 use picky_asn1_der::{
-    Length, de, from_reader, from_reader_with_max_len, to_byte_buf, to_bytes, to_writer,
+    Length, Serializer, de, from_bytes, from_reader, from_reader_with_max_len, to_byte_buf,
+    to_bytes, to_writer,
 };
+use std::alloc::{AllocError, Global};
 use std::io::ErrorKind;
 use std::test::Fail;
 
@@ -84,5 +89,64 @@ fn a_reader_gives_one_value_after_another(rt: HostRuntime) -> Result<(), Fail> {
     same!(rt; reader.read_next()?, None);
     same!(rt; de::DEFAULT_MAX_LEN, 10240);
     same!(rt; Length::encoded_len(290), 3);
+    Ok(())
+}
+
+#[test]
+fn a_slice_is_filled_by_each_call(rt: HostRuntime) {
+    let mut room = [9; 6];
+    let mut ser = Serializer::new_to_bytes(rt.alloc(), &mut room);
+    same!(rt; ser.serialize_u8(7), Ok(3));
+    same!(rt; ser.serialize_unit(), Ok(2));
+    same!(rt; ser.serialize_unit(), Err(InvalidSink));
+    drop(ser);
+    same!(rt; room, [0x02, 0x01, 0x07, 0x05, 0x00, 0x05]);
+}
+
+// A struct whose encoding has 23 bytes, of which the first four are a header and that of its first field.
+fn testolope(alloc: Global) -> Result<TestStruct, AllocError> {
+    Ok(TestStruct {
+        number: 7,
+        vec: ByteBuf(Vec::from_slice(alloc, b"Testolope")?),
+        tuple: (4, ()),
+    })
+}
+
+#[test]
+fn a_writer_fails_at_its_fifth_call(rt: HostRuntime) -> Result<(), Fail> {
+    let alloc = rt.alloc();
+    let refusal = Refusal::Error(ErrorKind::BrokenPipe);
+    let mut writer = Watched::new(FailingWriter::new(alloc, 5, refusal));
+    let answer = to_writer(alloc, &testolope(alloc)?, &mut writer);
+    same!(rt; answer, Err(Other(ErrorKind::BrokenPipe)));
+    let taken = text_of(alloc, writer.get_ref().taken())?;
+    same!(rt; taken.as_str(), "30 15 02 01");
+    Ok(())
+}
+
+// This header, and so many zero bytes.
+fn zeros_behind(alloc: Global, header: &str, zeros: usize) -> Result<Vec<u8>, Fail> {
+    let mut bytes = bytes_of(alloc, header)?;
+    bytes.resize(bytes.len().saturating_add(zeros), 0)?;
+    Ok(bytes)
+}
+
+#[test]
+fn from_reader_draws_10240_bytes_at_most(rt: HostRuntime) -> Result<(), Fail> {
+    let alloc = rt.alloc();
+    let whole = zeros_behind(alloc, "04 82 27 FC", 10236)?;
+    let mut reader = Watched::new(SlowReader::new(&whole));
+    let octets: ByteBuf = from_reader(alloc, &mut reader)?;
+    same!(rt; octets.0.len(), 10236);
+    assert!(rt; octets.0.iter().all(|byte| *byte == 0));
+    same!(rt; reader.get_ref().given(), 10240);
+
+    let past = zeros_behind(alloc, "04 82 27 FD", 10237)?;
+    let mut reader = Watched::new(SlowReader::new(&past));
+    let refused = from_reader::<ByteBuf, _>(alloc, &mut reader);
+    same!(rt; refused.err(), Some(TruncatedData));
+    same!(rt; reader.get_ref().given(), 4);
+    let octets: ByteBuf = from_bytes(alloc, &past)?;
+    same!(rt; octets.0.len(), 10237);
     Ok(())
 }
