@@ -1,11 +1,7 @@
-//! Tests of the public calls of all the crates, over rows of bytes that were worked out by hand, with the readers and
-//! writers that they need: such of a byte a call, and such that fail.
+//! Tests of what no row of bytes says: of entry calls, readers and writers, long contents and texts. The rows of bytes
+//! stand beside the program `der_rows`.
 #![tactic(auto)]
 
-#[cfg(test)]
-mod hexadecimal;
-#[cfg(test)]
-mod hostile;
 #[cfg(test)]
 mod tests;
 

@@ -1,26 +1,22 @@
-mod application_tags;
-mod choices;
-mod context_tags;
+// Compares what came with what was wanted, and may name the place of a table where it stands.
+macro_rules! same {
+    ($rt:expr; $came:expr, $wanted:expr) => {
+        $crate::tests::checks::same(&$rt, stringify!($came), &$came, &$wanted)
+    };
+    ($rt:expr; $came:expr, $wanted:expr, $place:expr) => {
+        $crate::tests::checks::same_at(&$rt, stringify!($came), &$place, &$came, &$wanted)
+    };
+}
+
+mod checks;
+mod contents;
 mod copies;
-mod devices;
 mod entry_calls;
 mod errors;
-mod failed_objects;
-mod identifiers;
 mod lengths;
-mod limits;
-mod own_types;
+mod long_lengths;
 mod pieces;
-mod plain_values;
 mod raw_elements;
-mod reading_calls;
-mod rows;
-mod sequences;
-mod sets;
 mod streams;
-mod structs;
 mod tags;
-mod texts;
 mod tool;
-mod wrappers;
-mod writing_calls;

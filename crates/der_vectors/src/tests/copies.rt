@@ -10,9 +10,9 @@ use std::test::Fail;
 #[test]
 fn bytes_are_copied(rt: HostRuntime) -> Result<(), Fail> {
     let octets = ByteBuf::from(vec![in rt.alloc(); 0xAA; 3]?);
-    assert_eq!(rt; octets.clone()?, octets);
+    same!(rt; octets.clone()?, octets);
     let tagged = BmpStringAsn1::from(vec![in rt.alloc(); 0xAA; 3]?);
-    assert_eq!(rt; tagged.clone()?, tagged);
+    same!(rt; tagged.clone()?, tagged);
     Ok(())
 }
 

@@ -1,29 +1,33 @@
 //! What the entry calls leave in a slice, in a vector, and in a device.
 
-use crate::hexadecimal::{bytes_of, text_of};
-use crate::hostile::{FailingReader, SlowWriter};
+use der_fixtures::{
+    FailingReader, FailingWriter, Refusal, SlowReader, SlowWriter, bytes_of, text_of,
+};
+use der_tool_lib::TestStruct;
 use picky_asn1_der::Asn1DerError::{InvalidSink, Other, OutOfMemory, TruncatedData};
-use picky_asn1_der::asn1::{Bytes, PrintableStringAsn1};
+use picky_asn1_der::asn1::{ByteBuf, Bytes, PrintableStringAsn1};
 use picky_asn1_der::misc::{PeekableReader, ReadExt, Watched};
 use picky_asn1_der::{
-    Length, de, from_reader, from_reader_with_max_len, to_byte_buf, to_bytes, to_writer,
+    Length, Serializer, de, from_bytes, from_reader, from_reader_with_max_len, to_byte_buf,
+    to_bytes, to_writer,
 };
+use std::alloc::{AllocError, Global};
 use std::io::ErrorKind;
 use std::test::Fail;
 
 #[test]
 fn a_vector_keeps_what_lies_past_the_encoding(rt: HostRuntime) -> Result<(), Fail> {
     let mut out = bytes_of(rt.alloc(), "09 09 09 09 09")?;
-    assert_eq!(rt; to_byte_buf(rt.alloc(), &(), &mut out), Ok(2));
-    assert_eq!(rt; text_of(rt.alloc(), &out)?.as_str(), "05 00 09 09 09");
+    same!(rt; to_byte_buf(rt.alloc(), &(), &mut out), Ok(2));
+    same!(rt; text_of(rt.alloc(), &out)?.as_str(), "05 00 09 09 09");
     Ok(())
 }
 
 #[test]
 fn a_slice_keeps_what_lies_past_the_encoding(rt: HostRuntime) -> Result<(), Fail> {
     let mut room = [9; 5];
-    assert_eq!(rt; to_bytes(rt.alloc(), &7u8, &mut room), Ok(3));
-    assert_eq!(rt; text_of(rt.alloc(), &room)?.as_str(), "02 01 07 09 09");
+    same!(rt; to_bytes(rt.alloc(), &7u8, &mut room), Ok(3));
+    same!(rt; text_of(rt.alloc(), &room)?.as_str(), "02 01 07 09 09");
     Ok(())
 }
 
@@ -35,23 +39,23 @@ fn slices_of_each_length_are_filled(rt: HostRuntime) {
         let slice = &mut buf[..room];
         let answer = to_bytes(rt.alloc(), &7u8, slice);
         let filled = room.min(3);
-        assert_eq!(rt; &slice[..filled], &encoding[..filled], "{room}");
-        assert!(rt; slice[filled..].iter().all(|byte| *byte == 9), "{room}");
+        same!(rt; &slice[..filled], &encoding[..filled], room);
+        same!(rt; slice[filled..].iter().all(|byte| *byte == 9), true, room);
         let wanted = match room {
             0..3 => Err(InvalidSink),
             _ => Ok(3),
         };
-        assert_eq!(rt; answer, wanted, "{room}");
+        same!(rt; answer, wanted, room);
     }
 }
 
 #[test]
 fn a_writer_takes_one_value_after_another(rt: HostRuntime) -> Result<(), Fail> {
     let mut writer = Watched::new(SlowWriter::new(rt.alloc()));
-    assert_eq!(rt; to_writer(rt.alloc(), &Bytes(&[0xAA]), &mut writer), Ok(3));
-    assert_eq!(rt; to_writer(rt.alloc(), &(), &mut writer), Ok(2));
+    same!(rt; to_writer(rt.alloc(), &Bytes(&[0xAA]), &mut writer), Ok(3));
+    same!(rt; to_writer(rt.alloc(), &(), &mut writer), Ok(2));
     let taken = text_of(rt.alloc(), writer.get_ref().taken())?;
-    assert_eq!(rt; taken.as_str(), "04 01 AA 05 00");
+    same!(rt; taken.as_str(), "04 01 AA 05 00");
     Ok(())
 }
 
@@ -65,8 +69,8 @@ fn a_failing_reader_gives_its_error(rt: HostRuntime) -> Result<(), Fail> {
     ] {
         let mut reader = Watched::new(FailingReader::new(&bytes, 2, kind));
         let answer = from_reader::<char, _>(rt.alloc(), &mut reader);
-        assert_eq!(rt; answer, Err(error), "{kind:?}");
-        assert_eq!(rt; reader.get_ref().given(), 1, "{kind:?}");
+        same!(rt; answer, Err(error), kind);
+        same!(rt; reader.get_ref().given(), 1, kind);
     }
     Ok(())
 }
@@ -76,14 +80,73 @@ fn a_reader_gives_one_value_after_another(rt: HostRuntime) -> Result<(), Fail> {
     let alloc = rt.alloc();
     let bytes = bytes_of(alloc, "0C 02 C3 A9 13 01 41 05 00")?;
     let mut reader = PeekableReader::new(bytes.as_slice());
-    assert_eq!(rt; reader.peek_one()?, 0x0C);
-    assert_eq!(rt; from_reader(alloc, &mut reader), Ok('é'));
+    same!(rt; reader.peek_one()?, 0x0C);
+    same!(rt; from_reader(alloc, &mut reader), Ok('é'));
     let text: PrintableStringAsn1 = from_reader_with_max_len(alloc, &mut reader, 3)?;
-    assert_eq!(rt; text.0.as_slice(), b"A".as_slice());
-    assert_eq!(rt; reader.pos(), 7);
-    assert_eq!(rt; from_reader(alloc, &mut reader), Ok(()));
-    assert_eq!(rt; reader.read_next()?, None);
-    assert_eq!(rt; de::DEFAULT_MAX_LEN, 10240);
-    assert_eq!(rt; Length::encoded_len(290), 3);
+    same!(rt; text.0.as_slice(), b"A".as_slice());
+    same!(rt; reader.pos(), 7);
+    same!(rt; from_reader(alloc, &mut reader), Ok(()));
+    same!(rt; reader.read_next()?, None);
+    same!(rt; de::DEFAULT_MAX_LEN, 10240);
+    same!(rt; Length::encoded_len(290), 3);
+    Ok(())
+}
+
+#[test]
+fn a_slice_is_filled_by_each_call(rt: HostRuntime) {
+    let mut room = [9; 6];
+    let mut ser = Serializer::new_to_bytes(rt.alloc(), &mut room);
+    same!(rt; ser.serialize_u8(7), Ok(3));
+    same!(rt; ser.serialize_unit(), Ok(2));
+    same!(rt; ser.serialize_unit(), Err(InvalidSink));
+    drop(ser);
+    same!(rt; room, [0x02, 0x01, 0x07, 0x05, 0x00, 0x05]);
+}
+
+// A struct whose encoding has 23 bytes, of which the first four are a header and that of its first field.
+fn testolope(alloc: Global) -> Result<TestStruct, AllocError> {
+    Ok(TestStruct {
+        number: 7,
+        vec: ByteBuf(Vec::from_slice(alloc, b"Testolope")?),
+        tuple: (4, ()),
+    })
+}
+
+#[test]
+fn a_writer_fails_at_its_fifth_call(rt: HostRuntime) -> Result<(), Fail> {
+    let alloc = rt.alloc();
+    let refusal = Refusal::Error(ErrorKind::BrokenPipe);
+    let mut writer = Watched::new(FailingWriter::new(alloc, 5, refusal));
+    let answer = to_writer(alloc, &testolope(alloc)?, &mut writer);
+    same!(rt; answer, Err(Other(ErrorKind::BrokenPipe)));
+    let taken = text_of(alloc, writer.get_ref().taken())?;
+    same!(rt; taken.as_str(), "30 15 02 01");
+    Ok(())
+}
+
+// This header, and so many zero bytes.
+fn zeros_behind(alloc: Global, header: &str, zeros: usize) -> Result<Vec<u8>, Fail> {
+    let mut bytes = bytes_of(alloc, header)?;
+    bytes.resize(bytes.len().saturating_add(zeros), 0)?;
+    Ok(bytes)
+}
+
+#[test]
+fn from_reader_draws_10240_bytes_at_most(rt: HostRuntime) -> Result<(), Fail> {
+    let alloc = rt.alloc();
+    let whole = zeros_behind(alloc, "04 82 27 FC", 10236)?;
+    let mut reader = Watched::new(SlowReader::new(&whole));
+    let octets: ByteBuf = from_reader(alloc, &mut reader)?;
+    same!(rt; octets.0.len(), 10236);
+    assert!(rt; octets.0.iter().all(|byte| *byte == 0));
+    same!(rt; reader.get_ref().given(), 10240);
+
+    let past = zeros_behind(alloc, "04 82 27 FD", 10237)?;
+    let mut reader = Watched::new(SlowReader::new(&past));
+    let refused = from_reader::<ByteBuf, _>(alloc, &mut reader);
+    same!(rt; refused.err(), Some(TruncatedData));
+    same!(rt; reader.get_ref().given(), 4);
+    let octets: ByteBuf = from_bytes(alloc, &past)?;
+    same!(rt; octets.0.len(), 10237);
     Ok(())
 }

@@ -20,7 +20,7 @@ fn an_error_is_shown_by_its_name(rt: HostRuntime) -> Result<(), Fail> {
         (Asn1DerError::OutOfMemory, "OutOfMemory"),
     ] {
         let text = format!(in rt.alloc(); "{error}")?;
-        assert_eq!(rt; text.as_str(), wanted);
+        same!(rt; text.as_str(), wanted);
     }
     Ok(())
 }
@@ -36,6 +36,6 @@ fn errors_of_devices_keep_what_they_tell(rt: HostRuntime) {
             Asn1DerError::Other(ErrorKind::Interrupted),
         ),
     ] {
-        assert_eq!(rt; Asn1DerError::from(Error::from(kind)), error);
+        same!(rt; Asn1DerError::from(Error::from(kind)), error);
     }
 }

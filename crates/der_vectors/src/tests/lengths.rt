@@ -1,6 +1,6 @@
 //! Lengths alone.
 
-use crate::hexadecimal::{bytes_of, text_of};
+use der_fixtures::{bytes_of, text_of};
 use picky_asn1_der::Asn1DerError::{InvalidData, TruncatedData, UnsupportedValue};
 use picky_asn1_der::Length;
 use picky_asn1_der::misc::BufSink;
@@ -16,13 +16,13 @@ fn is_written_as(
 ) -> Result<(), Fail> {
     let mut out = Vec::new(rt.alloc());
     let mut sink = BufSink::new(&mut out);
-    assert_eq!(rt; Length::serialize(len, &mut sink), Ok(count), "{len}");
+    same!(rt; Length::serialize(len, &mut sink), Ok(count), len);
     drop(sink);
-    assert_eq!(rt; text_of(rt.alloc(), &out)?.as_str(), row);
-    assert_eq!(rt; Length::encoded_len(len), count, "{len}");
+    same!(rt; text_of(rt.alloc(), &out)?.as_str(), row);
+    same!(rt; Length::encoded_len(len), count, len);
     let mut rest = out.as_slice();
-    assert_eq!(rt; Length::deserialized(&mut rest), Ok(len), "{row}");
-    assert!(rt; rest.is_empty(), "{row}");
+    same!(rt; Length::deserialized(&mut rest), Ok(len), row);
+    same!(rt; rest.is_empty(), true, row);
     Ok(())
 }
 
@@ -50,16 +50,16 @@ fn every_other_form_is_refused(rt: HostRuntime) -> Result<(), Fail> {
     ] {
         let bytes = bytes_of(rt.alloc(), row)?;
         let mut rest = bytes.as_slice();
-        assert_eq!(rt; Length::deserialized(&mut rest), Err(error), "{row}");
+        same!(rt; Length::deserialized(&mut rest), Err(error), row);
     }
     Ok(())
 }
 
 #[test]
 fn the_bytes_behind_the_first_are_counted(rt: HostRuntime) {
-    assert_eq!(rt; Length::long_count(0x80), Err(InvalidData));
-    assert_eq!(rt; Length::long_count(0x82), Ok(2));
-    assert_eq!(rt; Length::long_count(0x89), Err(UnsupportedValue));
-    assert_eq!(rt; Length::shortest(2, 290), Ok(290));
-    assert_eq!(rt; Length::shortest(2, 128), Err(InvalidData));
+    same!(rt; Length::long_count(0x80), Err(InvalidData));
+    same!(rt; Length::long_count(0x82), Ok(2));
+    same!(rt; Length::long_count(0x89), Err(UnsupportedValue));
+    same!(rt; Length::shortest(2, 290), Ok(290));
+    same!(rt; Length::shortest(2, 128), Err(InvalidData));
 }

@@ -1,7 +1,6 @@
 //! Contents that are drawn in pieces of 512 bytes.
 
-use crate::hexadecimal::bytes_of;
-use crate::hostile::{FailingReader, SlowReader};
+use der_fixtures::{FailingReader, SlowReader, bytes_of};
 use picky_asn1_der::Asn1DerError::{InvalidData, Other, TruncatedData};
 use picky_asn1_der::asn1::ByteBuf;
 use picky_asn1_der::misc::{ReadExt, Watched};
@@ -23,16 +22,16 @@ fn octet_strings_of_about_a_piece(rt: HostRuntime) -> Result<(), Fail> {
     ] {
         let octets = ByteBuf(vec![in alloc; 0; len]?);
         let mut bytes = to_vec(alloc, &octets)?;
-        assert!(rt; bytes.starts_with(&bytes_of(alloc, header)?), "{header}");
+        same!(rt; bytes.starts_with(&bytes_of(alloc, header)?), true, header);
         bytes.push(0xFF)?;
         let mut de = Deserializer::new_from_bytes(alloc, &bytes);
         let read: ByteBuf = Deserialize::deserialize(&mut de)?;
-        assert_eq!(rt; &read, &octets, "{header}");
-        assert_eq!(rt; de.taken(), 4 + len);
+        same!(rt; &read, &octets, header);
+        same!(rt; de.taken(), 4 + len);
         let mut reader = Watched::new(SlowReader::new(&bytes));
         let read: ByteBuf = from_reader(alloc, &mut reader)?;
-        assert_eq!(rt; &read, &octets, "{header}");
-        assert_eq!(rt; reader.get_ref().given(), 4 + len);
+        same!(rt; &read, &octets, header);
+        same!(rt; reader.get_ref().given(), 4 + len);
     }
     Ok(())
 }
@@ -47,10 +46,10 @@ fn each_byte_comes_in_its_place(rt: HostRuntime) -> Result<(), Fail> {
     let octets = ByteBuf(octets);
     let bytes = to_vec(alloc, &octets)?;
     let read: ByteBuf = from_bytes(alloc, &bytes)?;
-    assert_eq!(rt; &read, &octets);
+    same!(rt; &read, &octets);
     let mut reader = Watched::new(SlowReader::new(&bytes));
     let read: ByteBuf = from_reader(alloc, &mut reader)?;
-    assert_eq!(rt; &read, &octets);
+    same!(rt; &read, &octets);
     Ok(())
 }
 
@@ -62,17 +61,17 @@ fn a_huge_length_draws_what_is_there(rt: HostRuntime) -> Result<(), Fail> {
         bytes.resize(10 + behind, 0)?;
         let mut reader = Watched::new(SlowReader::new(&bytes));
         let answer = from_reader_with_max_len::<ByteBuf, _>(alloc, &mut reader, usize::MAX);
-        assert_eq!(rt; answer.err(), Some(TruncatedData), "{behind}");
-        assert_eq!(rt; reader.get_ref().given(), 10 + behind);
+        same!(rt; answer.err(), Some(TruncatedData), behind);
+        same!(rt; reader.get_ref().given(), 10 + behind);
     }
     Ok(())
 }
 
 fn ignores_1028_of_1030<R: ReadExt + Drop>(rt: &impl Abort, mut de: Deserializer<R>) {
-    assert_eq!(rt; de.deserialize_ignored_any(), Ok(()));
-    assert_eq!(rt; de.taken(), 1028);
-    assert_eq!(rt; de.deserialize_unit(), Ok(()));
-    assert_eq!(rt; de.taken(), 1030);
+    same!(rt; de.deserialize_ignored_any(), Ok(()));
+    same!(rt; de.taken(), 1028);
+    same!(rt; de.deserialize_unit(), Ok(()));
+    same!(rt; de.taken(), 1030);
 }
 
 #[test]
@@ -92,13 +91,10 @@ fn a_long_truth_value_is_drawn_whole(rt: HostRuntime) -> Result<(), Fail> {
     let alloc = rt.alloc();
     let mut bytes = bytes_of(alloc, "01 82 02 58")?;
     bytes.resize(605, 0xFF)?;
-    assert_eq!(rt; from_bytes::<bool>(alloc, &bytes), Err(InvalidData));
+    same!(rt; from_bytes::<bool>(alloc, &bytes), Err(InvalidData));
     let mut reader = Watched::new(SlowReader::new(&bytes));
-    assert_eq!(rt;
-        from_reader::<bool, _>(alloc, &mut reader),
-        Err(InvalidData)
-    );
-    assert_eq!(rt; reader.get_ref().given(), 604);
+    same!(rt; from_reader::<bool, _>(alloc, &mut reader), Err(InvalidData));
+    same!(rt; reader.get_ref().given(), 604);
     Ok(())
 }
 
@@ -108,10 +104,10 @@ fn a_fault_comes_behind_what_was_drawn(rt: HostRuntime) -> Result<(), Fail> {
     let bytes = to_vec(alloc, &ByteBuf(vec![in alloc; 0; 600]?))?;
     let reader = Watched::new(FailingReader::new(&bytes, 551, TimedOut));
     let mut de = Deserializer::new_from_reader(alloc, reader, bytes.len());
-    assert_eq!(rt; de.deserialize_byte_buf().err(), Some(Other(TimedOut)));
-    assert_eq!(rt; de.taken(), 550);
-    assert_eq!(rt; de.deserialize_byte_buf().err(), Some(Other(TimedOut)));
-    assert_eq!(rt; de.taken(), 550);
+    same!(rt; de.deserialize_byte_buf().err(), Some(Other(TimedOut)));
+    same!(rt; de.taken(), 550);
+    same!(rt; de.deserialize_byte_buf().err(), Some(Other(TimedOut)));
+    same!(rt; de.taken(), 550);
     Ok(())
 }
 
@@ -125,7 +121,7 @@ fn no_content_makes_no_read(rt: HostRuntime) -> Result<(), Fail> {
             "04 00" => from_reader::<ByteBuf, _>(alloc, &mut reader).err(),
             _ => from_reader::<String, _>(alloc, &mut reader).err(),
         };
-        assert_eq!(rt; answer, None, "{row}");
+        same!(rt; answer, None, row);
     }
     Ok(())
 }

@@ -29,9 +29,9 @@ fn tags_have_their_bytes(rt: HostRuntime) {
         (Tag::SEQUENCE, 0x30),
         (Tag::SET, 0x31),
     ] {
-        assert_eq!(rt; tag.inner(), byte);
+        same!(rt; tag.inner(), byte);
     }
-    assert_eq!(rt; Tag::MAX_NUMBER, 30);
+    same!(rt; Tag::MAX_NUMBER, 30);
 }
 
 #[test]
@@ -43,20 +43,20 @@ fn a_tag_tells_its_class(rt: HostRuntime) {
         (0xFE, TagClass::Private, 30),
     ] {
         let tag = Tag::from(byte);
-        assert_eq!(rt; tag.class(), class);
-        assert_eq!(rt; tag.number(), number);
-        assert_eq!(rt; tag.is_universal(), byte == 0x02);
-        assert_eq!(rt; tag.is_application(), byte == 0x6A);
-        assert_eq!(rt; tag.is_context_specific(), byte == 0x81);
-        assert_eq!(rt; tag.is_primitive(), !tag.is_constructed());
+        same!(rt; tag.class(), class);
+        same!(rt; tag.number(), number);
+        same!(rt; tag.is_universal(), byte == 0x02);
+        same!(rt; tag.is_application(), byte == 0x6A);
+        same!(rt; tag.is_context_specific(), byte == 0x81);
+        same!(rt; tag.is_primitive(), !tag.is_constructed());
     }
 }
 
 // These bytes, of which there are none, are written under this tag.
 fn has_tag<const TAG: u8>(rt: &(impl Abort + AllocGlobal), none: TaggedBytes<TAG>, byte: u8) {
     let mut encoding = [0; 2];
-    assert_eq!(rt; to_bytes(rt.alloc(), &none, &mut encoding), Ok(2));
-    assert_eq!(rt; encoding, [byte, 0]);
+    same!(rt; to_bytes(rt.alloc(), &none, &mut encoding), Ok(2));
+    same!(rt; encoding, [byte, 0]);
 }
 
 #[test]

@@ -1,0 +1,99 @@
+//! Readers over given bytes.
+ghost use Rattle.std.specs.Prelude.{◌≡◌, ◌+◌, ◌≤◌, length, Some};
+
+use std::io;
+use std::io::{ErrorKind, Read};
+
+/// Gives its bytes one a call, whatever room there is.
+#[derive(Drop)]
+pub struct SlowReader<'a> {
+    rest: &'a [u8],
+    total: usize,
+    ghost within: { length rest.now ≤ total },
+}
+
+impl<'a> SlowReader<'a> {
+    /// A reader of these bytes.
+    pub fn new(bytes: &'a [u8]) -> SlowReader<'a>
+        ensures left { result.rest.now ≡ bytes.now }
+        ensures total { result.total ≡ length bytes.now }
+    {
+        SlowReader {
+            rest: bytes,
+            total: bytes.len(),
+        }
+    }
+
+    /// How many bytes it has given.
+    pub fn given(&self) -> usize
+        ensures { result + length self.now.rest.now ≡ self.now.total }
+    {
+        self.total - self.rest.len()
+    }
+}
+
+impl Read for SlowReader<'_> {
+    ghost remaining = { λ r. Some r.rest.now };
+
+    fn read(&mut self, buf: &mut [u8]) -> io::Result<usize> {
+        if buf.is_empty() {
+            return Ok(0);
+        }
+        let Some((byte, rest)) = self.rest.split_first() else {
+            return Ok(0);
+        };
+        buf[0] = *byte;
+        self.rest = rest;
+        Ok(1)
+    }
+}
+
+/// Gives its bytes one a call, but that one of its calls fails. The call behind that one gives the byte that would have
+/// come.
+#[derive(Drop)]
+pub struct FailingReader<'a> {
+    reader: SlowReader<'a>,
+    // How many calls come before the one that fails, if that one is still to come.
+    before: Option<usize>,
+    kind: ErrorKind,
+}
+
+impl<'a> FailingReader<'a> {
+    /// A reader of these bytes whose call number `call` fails with an error of this kind. Calls are counted from 1, and at
+    /// 0 none fails.
+    pub fn new(bytes: &'a [u8], call: usize, kind: ErrorKind) -> FailingReader<'a>
+        ensures left { result.reader.rest.now ≡ bytes.now }
+        ensures total { result.reader.total ≡ length bytes.now }
+    {
+        FailingReader {
+            reader: SlowReader::new(bytes),
+            before: call.checked_sub(1),
+            kind,
+        }
+    }
+
+    /// How many bytes it has given.
+    pub fn given(&self) -> usize
+        ensures { result + length self.now.reader.rest.now ≡ self.now.reader.total }
+    {
+        self.reader.given()
+    }
+}
+
+impl Read for FailingReader<'_> {
+    ghost remaining = { λ r. Some r.reader.rest.now };
+
+    fn read(&mut self, buf: &mut [u8]) -> io::Result<usize> {
+        match self.before {
+            Some(0) => {
+                self.before = None;
+                Err(self.kind.into())
+            }
+            Some(calls) => {
+                self.before = Some(calls - 1);
+                self.reader.read(buf)
+            }
+            None => self.reader.read(buf),
+        }
+    }
+}

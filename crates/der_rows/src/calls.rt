@@ -1,0 +1,61 @@
+//! Calls of one deserializer, one after another.
+
+use crate::devices::Device;
+use crate::members;
+use der_fixtures::FailingReader;
+use picky_asn1_der::Deserializer;
+use picky_asn1_der::misc::{ReadExt, Watched};
+use std::alloc::{AllocError, Global};
+use std::fmt::Debug;
+
+/// The bytes of a row, how they are given, and the calls, with `, ` between any two.
+#[derive(Drop)]
+pub(crate) struct Calls<'a> {
+    pub(crate) bytes: Vec<u8>,
+
+    /// The reader that gives the bytes one a call. Without one they are read from a slice.
+    pub(crate) device: Option<Device>,
+
+    pub(crate) names: &'a str,
+}
+
+/// What the calls answer, each with how many bytes are taken then, and how many were drawn from a reader in all.
+pub(crate) fn answer(alloc: Global, calls: &Calls<'_>) -> Result<String, AllocError> {
+    match calls.device {
+        None => {
+            let mut de = Deserializer::new_from_bytes(alloc, &calls.bytes);
+            answers(alloc, &mut de, calls.names)
+        }
+        Some(device) => {
+            let reader = FailingReader::new(&calls.bytes, device.failing, device.kind);
+            let mut de = Deserializer::new_from_reader(alloc, Watched::new(reader), device.limit);
+            let answers = answers(alloc, &mut de, calls.names)?;
+            let drawn = de.into_reader().into_inner().given();
+            format!(in alloc; "{answers}, {drawn} drawn")
+        }
+    }
+}
+
+fn answers<R: ReadExt>(
+    alloc: Global,
+    de: &mut Deserializer<R>,
+    names: &str,
+) -> Result<String, AllocError> {
+    let mut answers = String::new(alloc);
+    for name in names.split(", ") {
+        if !answers.is_empty() {
+            answers.push_str(", ")?;
+        }
+        let answer = members::answer(alloc, de, name)?;
+        answers.push_str(answer.as_str())?;
+        let taken = de.taken();
+        let place = format!(in alloc; " at {taken}")?;
+        answers.push_str(place.as_str())?;
+    }
+    Ok(answers)
+}
+
+/// What a call answers, as text.
+pub(crate) fn shown<T: Debug>(alloc: Global, outcome: &T) -> Result<String, AllocError> {
+    format!(in alloc; "{outcome:?}")
+}

@@ -1,0 +1,37 @@
+//! Values that write by calls of their own.
+
+use picky_asn1_der::asn1::Tag;
+use picky_asn1_der::misc::WriteExt;
+use picky_asn1_der::{Result, Serialize, Serializer, ser};
+
+/// Writes its bytes as they are.
+#[derive(Drop)]
+pub(crate) struct Untouched;
+
+impl Serialize for Untouched {
+    ghost use Rattle.std.specs.Prelude.{◌∷◌, []};
+    ghost use Rattle.picky_der_core.specs.Tree.{Tree};
+
+    ghost meaning = { λ s. Tree.raw (0x02 ∷ 0x01 ∷ 0x07 ∷ []) };
+
+    fn serialize<W: WriteExt>(&self, serializer: &mut Serializer<W>) -> Result<usize> {
+        serializer.serialize_raw(&[0x02, 0x01, 0x07])
+    }
+}
+
+/// Writes 7, then begins a sequence with 1 in it and drops it.
+#[derive(Drop)]
+pub(crate) struct Littering;
+
+impl Serialize for Littering {
+    ghost use Rattle.picky_der_core.specs.Tree.{Tree};
+
+    ghost meaning = { λ _. Tree.unsigned 7 };
+
+    fn serialize<W: WriteExt>(&self, serializer: &mut Serializer<W>) -> Result<usize> {
+        let count = serializer.serialize_u8(7)?;
+        let mut members = ser::Sequence::serialize_lazy(serializer, Tag::SEQUENCE);
+        members.serialize_element(&1u8)?;
+        Ok(count)
+    }
+}

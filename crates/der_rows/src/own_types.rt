@@ -1,0 +1,37 @@
+//! Types that are written by hand.
+
+use crate::answers::{Input, read_as};
+use crate::kept::Kept;
+use crate::nested_tags::{FourTags, SixteenTags};
+use crate::seen::Seen;
+use der_examples::{Marker, Moment, Named, NumberOrFlag, Point, Tagged, Track, Version};
+use der_tool_lib::TestStruct;
+use picky_asn1_der::asn1::{ExplicitContextTag0, ImplicitContextTag1};
+use std::alloc::{AllocError, Global};
+
+/// The answer to a row that names one of these types.
+pub(crate) fn answer(alloc: Global, name: &str, input: &Input) -> Result<String, AllocError> {
+    match name {
+        "TestStruct" => read_as::<TestStruct>(alloc, input),
+        "NumberOrFlag" => read_as::<NumberOrFlag>(alloc, input),
+        "Point" => read_as::<Point>(alloc, input),
+        "Moment" => read_as::<Moment>(alloc, input),
+        "Named<bool>" => read_as::<Named<bool>>(alloc, input),
+        "ImplicitContextTag1<Named<bool>>" => read_as::<ImplicitContextTag1<Named<bool>>>(
+            alloc, input,
+        ),
+        "ExplicitContextTag0<Named<u8>>" => read_as::<ExplicitContextTag0<Named<u8>>>(alloc, input),
+        "ImplicitContextTag1<Point>" => read_as::<ImplicitContextTag1<Point>>(alloc, input),
+        "Marker" => read_as::<Marker>(alloc, input),
+        "Track" => read_as::<Track>(alloc, input),
+        "Tagged" => read_as::<Tagged>(alloc, input),
+        "Version" => read_as::<Version>(alloc, input),
+        "ImplicitContextTag1<Version>" => read_as::<ImplicitContextTag1<Version>>(alloc, input),
+        "Kept" => read_as::<Kept>(alloc, input),
+        "Seen" => read_as::<Seen>(alloc, input),
+        "ImplicitContextTag1<Seen>" => read_as::<ImplicitContextTag1<Seen>>(alloc, input),
+        "FourTags" => read_as::<FourTags>(alloc, input),
+        "SixteenTags" => read_as::<SixteenTags>(alloc, input),
+        _ => String::from_str(alloc, "unknown type"),
+    }
+}

@@ -1,0 +1,51 @@
+//! A look at the tag in front of a value.
+ghost use Rattle.std.specs.Prelude.{nat_eq};
+ghost use Rattle.std.proofs.Common.{rules};
+ghost use Rattle.picky_der_core.specs.Tree.{Tree};
+ghost use Rattle.picky_der_de.specs.KnownLaws.{unsigned_known};
+
+use picky_asn1_der::misc::{ReadExt, WriteExt};
+use picky_asn1_der::{Deserialize, Deserializer, Result, Serialize, Serializer};
+
+/// A number, and the tag, as a byte, that was seen before it was read. Numbers alone are compared, since a tree has no
+/// more.
+#[derive(Debug, Drop)]
+pub(crate) struct Seen {
+    tag: u8,
+    number: u8,
+}
+
+impl PartialEq for Seen {
+    ghost eq = { λ x y. nat_eq x.number y.number };
+
+    ghost laws = { Prim.search rules };
+
+    fn eq(&self, other: &Seen) -> bool {
+        self.number == other.number
+    }
+}
+
+impl Serialize for Seen {
+    ghost meaning = { λ x. Tree.unsigned x.number };
+
+    fn serialize<W: WriteExt>(&self, serializer: &mut Serializer<W>) -> Result<usize> {
+        serializer.serialize_u8(self.number)
+    }
+}
+
+impl Deserialize for Seen {
+    ghost shape = { ⟦<u8 as Deserialize>⟧.shape };
+
+    ghost known_by_tree = { λ x y p q r e. unsigned_known x.number y.number e };
+
+    ghost sound = { tt };
+
+    fn deserialize<R: ReadExt>(deserializer: &mut Deserializer<R>) -> Result<Seen> {
+        let tag = match deserializer.deserialize_identifier() {
+            Ok(tag) => tag.inner(),
+            Err(error) => return Err(error),
+        };
+        let number = deserializer.deserialize_u8()?;
+        Ok(Seen { tag, number })
+    }
+}

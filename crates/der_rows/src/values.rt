@@ -1,0 +1,80 @@
+//! Values that can't be read from what they are written as, and such that are refused in writing.
+
+use crate::answers::written;
+use crate::hand_written::{Littering, Untouched};
+use der_examples::NumberOrFlag;
+use der_tool_lib::TestStruct;
+use picky_asn1_der::Asn1RawDer;
+use picky_asn1_der::application_tag::ApplicationTag;
+use picky_asn1_der::asn1::{
+    ByteBuf, ExplicitContextTag, ExplicitContextTag0, ImplicitContextTag, ImplicitContextTag1,
+    TaggedBytes,
+};
+use std::alloc::{AllocError, Global};
+
+/// The answer to a row that names one of these values.
+pub(crate) fn answer(alloc: Global, name: &str) -> Result<String, AllocError> {
+    match name {
+        "None::<u8>" => written(alloc, &None::<u8>),
+        "\"\"" => written(alloc, &""),
+        "[5u8, 6].as_slice()" => written(alloc, &[5u8, 6].as_slice()),
+        "vec![None::<u8>]" => written(alloc, &vec![in alloc; None::<u8>]?),
+        "TaggedBytes::<0x1F>([0xAA])" => {
+            let bytes = Vec::from_slice(alloc, &[0xAA])?;
+            written(alloc, &TaggedBytes::<0x1F>(bytes))
+        }
+        "[Asn1RawDer([2, 1, 5, 2, 1, 6])]" => {
+            let bytes = Vec::from_slice(alloc, &[2, 1, 5, 2, 1, 6])?;
+            written(alloc, &[Asn1RawDer(bytes)])
+        }
+        "TestStruct { number: 7, vec: ByteBuf(b\"Testolope\"), tuple: (4, ()) }" => {
+            written(alloc, &testolope(alloc)?)
+        }
+        "ImplicitContextTag1(Untouched)" => {
+            written(alloc, &ImplicitContextTag1::from(Untouched))
+        }
+        "[Untouched]" => written(alloc, &[Untouched]),
+        "vec![Littering]" => written(alloc, &vec![in alloc; Littering]?),
+        _ => tagged(alloc, name),
+    }
+}
+
+fn testolope(alloc: Global) -> Result<TestStruct, AllocError> {
+    Ok(TestStruct {
+        number: 7,
+        vec: ByteBuf(Vec::from_slice(alloc, b"Testolope")?),
+        tuple: (4, ()),
+    })
+}
+
+// Values in context tags and application tags.
+fn tagged(alloc: Global, name: &str) -> Result<String, AllocError> {
+    match name {
+        "ExplicitContextTag0(None::<u8>)" => {
+            written(alloc, &ExplicitContextTag0::from(None::<u8>))
+        }
+        "(ExplicitContextTag0(None::<u8>), 7u8)" => {
+            written(alloc, &(ExplicitContextTag0::from(None::<u8>), 7u8))
+        }
+        "ImplicitContextTag1(NumberOrFlag::Flag(true))" => written(
+            alloc,
+            &ImplicitContextTag1::from(NumberOrFlag::Flag(true)),
+        ),
+        "ApplicationTag::<Option<u8>, 10>(None)" => {
+            written(alloc, &ApplicationTag::<Option<u8>, 10>(None))
+        }
+        "ApplicationTag::<u8, 31>(7)" => written(alloc, &ApplicationTag::<u8, 31>(7)),
+        "(7u8, ApplicationTag::<u8, 31>(7))" => {
+            written(alloc, &(7u8, ApplicationTag::<u8, 31>(7)))
+        }
+        "ExplicitContextTag::<u8, 31>(7)" => written(alloc, &ExplicitContextTag::<u8, 31>(7)),
+        "ExplicitContextTag::<Option<u8>, 31>(None)" => {
+            written(alloc, &ExplicitContextTag::<Option<u8>, 31>(None))
+        }
+        "ImplicitContextTag::<u8, 31>(7)" => written(alloc, &ImplicitContextTag::<u8, 31>(7)),
+        "ImplicitContextTag::<Option<u8>, 31>(None)" => {
+            written(alloc, &ImplicitContextTag::<Option<u8>, 31>(None))
+        }
+        _ => String::from_str(alloc, "unknown value"),
+    }
+}

@@ -1,0 +1,179 @@
+//! Calls of one serializer, one after another.
+
+use crate::calls::shown;
+use crate::reading::newtype;
+use der_fixtures::{FailingWriter, Refusal, text_of};
+use picky_asn1_der::asn1::Tag;
+use picky_asn1_der::misc::{Watched, WriteExt};
+use picky_asn1_der::{Serializer, ser};
+use std::alloc::{AllocError, Global};
+
+/// What the calls answer, with `, ` between any two, and the bytes that reach a writer that takes one byte a call and
+/// refuses the call with this number. Calls are counted from 1, and at 0 none is refused.
+pub(crate) fn answer(
+    alloc: Global,
+    failing: usize,
+    refusal: Refusal,
+    names: &str,
+) -> Result<String, AllocError> {
+    let writer = Watched::new(FailingWriter::new(alloc, failing, refusal));
+    let mut ser = Serializer::new_to_writer(alloc, writer);
+    let mut answers = String::new(alloc);
+    for name in names.split(", ") {
+        if !answers.is_empty() {
+            answers.push_str(", ")?;
+        }
+        let answer = answer_call(alloc, &mut ser, name)?;
+        answers.push_str(answer.as_str())?;
+    }
+    let writer = ser.into_writer().into_inner();
+    let row = text_of(alloc, writer.taken())?;
+    format!(in alloc; "{answers} [{row}]")
+}
+
+fn answer_call<W: WriteExt>(
+    alloc: Global,
+    ser: &mut Serializer<W>,
+    name: &str,
+) -> Result<String, AllocError> {
+    match name.split_once(" {") {
+        Some((opening, calls)) => answer_sequence(alloc, ser, opening, calls),
+        None => answer_plain(alloc, ser, name),
+    }
+}
+
+// The calls that write one value.
+fn answer_plain<W: WriteExt>(
+    alloc: Global,
+    ser: &mut Serializer<W>,
+    name: &str,
+) -> Result<String, AllocError> {
+    match name {
+        "serialize_bool true" => shown(alloc, &ser.serialize_bool(true)),
+        "serialize_u8 1" => shown(alloc, &ser.serialize_u8(1)),
+        "serialize_u8 7" => shown(alloc, &ser.serialize_u8(7)),
+        "serialize_u16 0x0102" => shown(alloc, &ser.serialize_u16(0x0102)),
+        "serialize_u16 0x0203" => shown(alloc, &ser.serialize_u16(0x0203)),
+        "serialize_u32 0x04050607" => shown(alloc, &ser.serialize_u32(0x0405_0607)),
+        "serialize_u64 0x80" => shown(alloc, &ser.serialize_u64(0x80)),
+        "serialize_u128 0" => shown(alloc, &ser.serialize_u128(0)),
+        "serialize_char é" => shown(alloc, &ser.serialize_char('é')),
+        "serialize_str Aé" => shown(alloc, &ser.serialize_str("Aé")),
+        "serialize_bytes []" => shown(alloc, &ser.serialize_bytes(&[])),
+        "serialize_bytes [08 09]" => shown(alloc, &ser.serialize_bytes(&[0x08, 0x09])),
+        "serialize_unit" => shown(alloc, &ser.serialize_unit()),
+        "serialize_unit_struct" => shown(alloc, &ser.serialize_unit_struct("Nothing")),
+        "serialize_none" => shown(alloc, &ser.serialize_none()),
+        "serialize_some 7" => shown(alloc, &ser.serialize_some(&7u8)),
+        "is_human_readable" => shown(alloc, &ser.is_human_readable()),
+        _ => answer_tag(alloc, ser, name),
+    }
+}
+
+// The calls about tags, and those that write bytes as they are.
+fn answer_tag<W: WriteExt>(
+    alloc: Global,
+    ser: &mut Serializer<W>,
+    name: &str,
+) -> Result<String, AllocError> {
+    if let Some(byte) = name.strip_prefix("serialize_tagged_bytes [AA] ") {
+        return match byte.parse::<u8>() {
+            Ok(byte) => shown(alloc, &ser.serialize_tagged_bytes(Tag::from(byte), &[0xAA])),
+            Err(_) => String::from_str(alloc, "unknown tag"),
+        };
+    }
+    if let Some(kind) = name.strip_prefix("serialize_newtype_struct 7 ") {
+        return match newtype(kind) {
+            Some(kind) => shown(alloc, &ser.serialize_newtype_struct(kind, &7u8)),
+            None => String::from_str(alloc, "unknown newtype"),
+        };
+    }
+    match name {
+        "serialize_application 7 30" => shown(alloc, &ser.serialize_application(30, &7u8)),
+        "serialize_application None 10" => shown(
+            alloc,
+            &ser.serialize_application(10, &None::<u8>),
+        ),
+        "serialize_raw []" => shown(alloc, &ser.serialize_raw(&[])),
+        "serialize_raw [1F 81]" => shown(alloc, &ser.serialize_raw(&[0x1F, 0x81])),
+        _ => answer_refused(alloc, ser, name),
+    }
+}
+
+// The calls for what has no encoding.
+fn answer_refused<W: WriteExt>(
+    alloc: Global,
+    ser: &mut Serializer<W>,
+    name: &str,
+) -> Result<String, AllocError> {
+    match name {
+        "serialize_i8" => shown(alloc, &ser.serialize_i8(-1)),
+        "serialize_i16" => shown(alloc, &ser.serialize_i16(-1)),
+        "serialize_i32" => shown(alloc, &ser.serialize_i32(-1)),
+        "serialize_i64" => shown(alloc, &ser.serialize_i64(-1)),
+        "serialize_i128" => shown(alloc, &ser.serialize_i128(-1)),
+        "serialize_map" => shown(alloc, &ser.serialize_map(None)),
+        "serialize_unit_variant" => shown(alloc, &ser.serialize_unit_variant("Choice", 0, "A")),
+        "serialize_newtype_variant" => {
+            shown(
+                alloc,
+                &ser.serialize_newtype_variant("Choice", 0, "A", &7u8),
+            )
+        }
+        "serialize_tuple_variant" => {
+            shown(alloc, &ser.serialize_tuple_variant("Choice", 0, "A", 2))
+        }
+        "serialize_struct_variant" => {
+            shown(alloc, &ser.serialize_struct_variant("Choice", 0, "A", 2))
+        }
+        _ => String::from_str(alloc, "unknown call"),
+    }
+}
+
+// What a sequence answers that is opened so, with 7 as its one member. No function may take a sequence by value, so each
+// opening has this code of its own.
+macro_rules! answer_member {
+    ($alloc:expr, $opening:expr, $calls:expr) => {
+        match $opening {
+            Ok(mut members) => {
+                let added = match $calls {
+                    "serialize_field; end}" => members.serialize_field("number", &7u8),
+                    _ => members.serialize_element(&7u8),
+                };
+                if $calls == "serialize_element; drop}" {
+                    return format!(in $alloc; "{added:?}; dropped");
+                }
+                let end = members.end();
+                format!(in $alloc; "{added:?}; {end:?}")
+            }
+            Err(error) => shown($alloc, &error),
+        }
+    };
+}
+
+// The names and lengths that are given don't matter.
+fn answer_sequence<W: WriteExt>(
+    alloc: Global,
+    ser: &mut Serializer<W>,
+    opening: &str,
+    calls: &str,
+) -> Result<String, AllocError> {
+    match opening {
+        "serialize_seq" => answer_member!(alloc, ser.serialize_seq(Some(2)), calls),
+        "serialize_tuple" => answer_member!(alloc, ser.serialize_tuple(0), calls),
+        "serialize_tuple_struct" => {
+            answer_member!(alloc, ser.serialize_tuple_struct("Seven", 3), calls)
+        }
+        "serialize_struct" => {
+            answer_member!(alloc, ser.serialize_struct("Seven", usize::MAX), calls)
+        }
+        "serialize_set" => answer_member!(alloc, ser.serialize_set(), calls),
+        "serialize_lazy" => {
+            let mut members = ser::Sequence::serialize_lazy(ser, Tag::SEQUENCE);
+            let added = members.serialize_element(&7u8);
+            let end = members.end();
+            format!(in alloc; "{added:?}; {end:?}")
+        }
+        _ => String::from_str(alloc, "unknown sequence"),
+    }
+}
