@@ -2,9 +2,9 @@
 ghost use Rattle.std.proofs.Common.{rules};
 ghost use Rattle.picky_der_de.specs.TwinLaws.{knowns};
 
-use picky_asn1_der::asn1::{ByteBuf, Tag};
+use picky_asn1_der::asn1::ByteBuf;
 use picky_asn1_der::misc::{ReadExt, WriteExt};
-use picky_asn1_der::{Alike, Deserialize, Deserializer, Result, Serialize, Serializer, de, ser};
+use picky_asn1_der::{Alike, Deserialize, Deserializer, Result, Serialize, Serializer, de};
 
 /// A number, an octet string, and a pair, as a SEQUENCE.
 #[derive(Debug, Drop, PartialEq, Eq)]
@@ -22,13 +22,8 @@ pub struct TestStruct {
 impl Serialize for TestStruct {
     ghost meaning = { λ s. ⟦<(u8, ByteBuf, (usize, ())) as Serialize>⟧.meaning (s.number, s.vec, s.tuple) };
 
-    #[tactic(auto, using(picky_der_ser::proofs::Rows::row3))]
     fn serialize<W: WriteExt>(&self, serializer: &mut Serializer<W>) -> Result<usize> {
-        let mut seq = ser::Sequence::serialize_lazy(serializer, Tag::SEQUENCE);
-        seq.serialize_field("number", &self.number)?;
-        seq.serialize_field("vec", &self.vec)?;
-        seq.serialize_field("tuple", &self.tuple)?;
-        seq.end()
+        (&self.number, &self.vec, &self.tuple).serialize(serializer)
     }
 }
 
