@@ -8,7 +8,7 @@ use Rattle.der_tool_lib.proofs.value.answer_as.Goals as goal
 pub returns-in_ok-hexadecimal-in-Ok-clause-ok : goal.returns-in_ok-hexadecimal-in-Ok-clause-ok
 returns-in_ok-hexadecimal-in-Ok-clause-ok g c =
     MatchResult-weaker c.read_text.result c.read_text.ensures.ok
-    (λ text h. answers_read _ c.new_from_bytes-de.ensures c.in-Ok.ensures.ok (g.met.T.Named.same_meaning _) c.taken-taken.ensures (c.deref.ensures ∙ c.in_ok-hexadecimal-in-Ok.ensures.ok) h)
+    (λ text h. answers_read _ c.new_from_bytes-de.ensures c.in-Ok.ensures.ok (g.met.T.Named.same_meaning _) c.taken-taken.ensures.taken (c.deref.ensures ∙ c.in_ok-hexadecimal-in-Ok.ensures.ok) h)
     (λ e h. tt)
 
 pub returns-in-Err-2-clause-ok : goal.returns-in-Err-2-clause-ok
