@@ -130,19 +130,21 @@ fn answer_refused<W: WriteExt>(
     }
 }
 
-// What a sequence answers that is opened so, with 7 as its one member. No function may take a sequence by value, so each
+// What a sequence answers that is opened so, with one member. No function may take a sequence by value, so each
 // opening has this code of its own.
 macro_rules! answer_member {
     ($alloc:expr, $opening:expr, $calls:expr) => {
         match $opening {
             Ok(mut members) => {
                 let added = match $calls {
-                    "serialize_field; end}" => members.serialize_field("number", &7u8),
-                    _ => members.serialize_element(&7u8),
+                    "serialize_element 1; drop}" => {
+                        let added = members.serialize_element(&1u8);
+                        return format!(in $alloc; "{added:?}; dropped");
+                    }
+                    "serialize_field 7; end}" => members.serialize_field("number", &7u8),
+                    "serialize_element 7; end}" => members.serialize_element(&7u8),
+                    _ => return String::from_str($alloc, "unknown member"),
                 };
-                if $calls == "serialize_element; drop}" {
-                    return format!(in $alloc; "{added:?}; dropped");
-                }
                 let end = members.end();
                 format!(in $alloc; "{added:?}; {end:?}")
             }
