@@ -2,11 +2,9 @@
 ghost use Rattle.std.proofs.Common.{rules};
 ghost use Rattle.picky_der_de.specs.TwinLaws.{knowns};
 
-use picky_asn1_der::asn1::Tag;
 use picky_asn1_der::misc::{ReadExt, WriteExt};
 use picky_asn1_der::{
     Alike, Asn1RawDer, Deserialize, Deserializer, Result, Serialize, Serializer, deserialize_as,
-    ser,
 };
 
 /// A number, and an element that isn't looked at.
@@ -19,12 +17,8 @@ pub(crate) struct Kept {
 impl Serialize for Kept {
     ghost meaning = { λ x. ⟦<(u8, Asn1RawDer) as Serialize>⟧.meaning (x.number, x.element) };
 
-    #[tactic(auto, using(picky_der_ser::proofs::Rows::row2))]
     fn serialize<W: WriteExt>(&self, serializer: &mut Serializer<W>) -> Result<usize> {
-        let mut members = ser::Sequence::serialize_lazy(serializer, Tag::SEQUENCE);
-        members.serialize_field("number", &self.number)?;
-        members.serialize_field("element", &self.element)?;
-        members.end()
+        (&self.number, &self.element).serialize(serializer)
     }
 }
 
