@@ -104,6 +104,7 @@ fn member_answers<R: ReadExt>(
         let answer = match name {
             "next_element" => shown(alloc, &members.next_element::<u8>()),
             "next_field" => shown(alloc, &members.next_field::<u8>()),
+            "next_tag" => shown(alloc, &members.next_tag()),
             "drop" => String::from_str(alloc, "dropped"),
             _ => String::from_str(alloc, "unknown call"),
         };

@@ -89,6 +89,7 @@ fn answer_refused<R: ReadExt>(
         "deserialize_i128" => shown(alloc, &de.deserialize_i128()),
         "deserialize_map" => shown(alloc, &de.deserialize_map()),
         "refuse InvalidData" => shown(alloc, &de.refuse(Asn1DerError::InvalidData)),
+        "refuse Message" => shown(alloc, &de.refuse(Asn1DerError::custom("too late"))),
         _ => String::from_str(alloc, "unknown call"),
     }
 }
