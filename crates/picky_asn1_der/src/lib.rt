@@ -21,6 +21,7 @@ pub mod ser {
 }
 
 pub mod raw_der;
+pub mod round_trip;
 
 pub use picky_der_core::misc::Length;
 pub use picky_der_core::{Asn1DerError, Result, asn1, laws, misc};

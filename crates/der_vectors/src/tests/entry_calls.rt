@@ -7,6 +7,7 @@ use der_tool_lib::TestStruct;
 use picky_asn1_der::Asn1DerError::{InvalidSink, Other, OutOfMemory, TruncatedData};
 use picky_asn1_der::asn1::{ByteBuf, Bytes, PrintableStringAsn1};
 use picky_asn1_der::misc::{PeekableReader, ReadExt, Watched};
+use picky_asn1_der::round_trip::{read_back, written_back};
 use picky_asn1_der::{
     Length, Serializer, de, from_bytes, from_reader, from_reader_with_max_len, to_byte_buf,
     to_bytes, to_writer,
@@ -47,6 +48,16 @@ fn slices_of_each_length_are_filled(rt: HostRuntime) {
         };
         same!(rt; answer, wanted, room);
     }
+}
+
+#[test]
+fn a_value_goes_there_and_back(rt: HostRuntime) -> Result<(), Fail> {
+    same!(rt; read_back(rt.alloc(), &128u8), Ok(128));
+    let bytes = bytes_of(rt.alloc(), "02 02 00 80 05 00")?;
+    let again = written_back::<u8>(rt.alloc(), &bytes)?;
+    same!(rt; text_of(rt.alloc(), &again)?.as_str(), "02 02 00 80");
+    same!(rt; written_back::<u8>(rt.alloc(), &bytes[..3]).err(), Some(TruncatedData));
+    Ok(())
 }
 
 #[test]

@@ -1,0 +1,37 @@
+//! What writing and reading promise of each other, as contracts of code that is nothing but their calls.
+ghost use Rattle.std.specs.Prelude.{◌≡◌, ◌≢◌, length, true, IfOk, IfErr};
+ghost use Rattle.picky_der_core.specs.Element.{Begins};
+ghost use Rattle.picky_der_core.specs.Encoding.{der};
+ghost use Rattle.picky_der_core.specs.Shape.{IsOf};
+ghost use Rattle.picky_der_core.specs.Readable.{IsReadable, IsWritable};
+ghost use Rattle.picky_der_core.specs.Reading.{Reads};
+ghost use Rattle.picky_der_ser.specs.Calls.{MemoryExcuse};
+
+use crate::{Asn1DerError, Deserialize, Result, from_bytes, to_vec};
+use std::alloc::Global;
+
+/// Writes a value and reads it back: it is equal to the value, and means the same tree.
+///
+/// `OutOfMemory` where memory was refused, and `UnsupportedValue` where the value can't be written.
+pub fn read_back<T: Deserialize>(alloc: Global, value: &T) -> Result<T>
+    requires of_shape { IsOf T.shape (T.meaning value.now) }
+    requires readable { IsReadable (T.meaning value.now) }
+    ensures equal { IfOk result (λ back. T.eq back value.now ≡ true) }
+    ensures same { IfOk result (λ back. T.meaning back ≡ T.meaning value.now) }
+    ensures err { IfErr result (MemoryExcuse (IsWritable (T.meaning value.now))) }
+{
+    let bytes = to_vec(alloc, value)?;
+    from_bytes(alloc, &bytes)
+}
+
+/// Reads the value at the front of some bytes and writes it again: what is written is what was read, byte for byte.
+///
+/// `OutOfMemory` where memory was refused; any other error means that no value that can be written stands there.
+pub fn written_back<T: Deserialize>(alloc: Global, bytes: &[u8]) -> Result<Vec<u8>>
+    ensures written { IfOk result (λ again. (v : T) × Reads T.meaning T.shape bytes.now (length bytes.now) v × (again.items ≡ der (T.meaning v))) }
+    ensures same { IfOk result (λ again. Begins again.items bytes.now) }
+    ensures err { IfErr result (λ e. e ≢ Asn1DerError.OutOfMemory → (v : T) → Reads T.meaning T.shape bytes.now (length bytes.now) v → IsWritable (T.meaning v) → ⊥) }
+{
+    let value: T = from_bytes(alloc, bytes)?;
+    to_vec(alloc, &value)
+}
