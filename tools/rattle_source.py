@@ -142,6 +142,11 @@ class Edit:
         before, after = all_functions(texts), all_functions(self.applied(texts))
         return {name: after.get(name) for name in {*before, *after} if before.get(name) != after.get(name)}
 
+    def clashes_with(self, other):
+        """Whether both change one function, or add one of the same name to a type, whose methods may stand in several files."""
+        names = {name if name in self.own else name[1:] for name in self.changed}
+        return any((name if name in other.own else name[1:]) in names for name in other.changed)
+
     def own_functions(self, texts):
         """The functions that the edit is about: those whose text it changes, or else those that it adds."""
         before, changed = all_functions(texts), self.changes(texts)
