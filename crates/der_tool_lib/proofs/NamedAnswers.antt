@@ -24,7 +24,7 @@ known_front : (left : Option (List ℕ)) (bytes front : List ℕ) → Consumes (
 known_front None bytes front c = absurd c
 known_front (Some rest) bytes front c = record { rest = rest; is = c }
 
-pub answers_read : {type : ValueType} {old new : State} {bytes answer digits : List ℕ} {taken : ℕ} {t : Tree} (v : (described type).Value) → old ≡ fresh (Some bytes) (length bytes) 0 [] → ReadsNamed type old new v → (described type).meaning v ≡ t
+pub answers_read : {type : ValueType} {old new : State} {bytes answer digits : List ℕ} {taken : ℕ} {t : Tree} (v : (described type).Value) → old ≡ fresh (Some bytes) (length bytes) [] [] → ReadsNamed type old new v → (described type).meaning v ≡ t
     → taken ≡ new.taken → digits ≡ encode_lower (der t) → answer ≡ codes "ok " ++ (decimal taken ++ (codes " " ++ digits)) → AnswersRead type bytes answer
 answers_read {type} {old} {new} {bytes} {answer} {digits} {taken} {t} v is r same n d a =
     let u = (described type).meaning v in
@@ -49,7 +49,7 @@ truncated_or_not (error.Other kind) h = absurd (h (λ q. cc))
 truncated_or_not error.OutOfMemory h = absurd (h (λ q. cc))
 
 abbrev begun : List ℕ → State
-begun bytes = fresh (Some bytes) (length bytes) 0 []
+begun bytes = fresh (Some bytes) (length bytes) [] []
 
 module _ (d : Description) (bytes : List ℕ) {new : State} {e : Asn1DerError} (judged : IsJudged (begun bytes) new e) where
   -- a final refusal came of bytes that begin the encoding of no value
@@ -77,10 +77,10 @@ module _ (d : Description) (bytes : List ℕ) {new : State} {e : Asn1DerError} (
         ap (λ x. fault (element_refusal false (length bytes) x)) (sym all) ∙ ap fault (h.1 judged bytes refl).refused,
       )
   refused_as mendable h =
-      let no_other : IsOther e → ⊥ = λ o. omega (arith, h.fails.other refl o, judged.faults) in
+      let no_other : IsOther e → ⊥ = h.fails.other refl judged.faults in
       (h.none judged (length bytes) bytes (now refl refl), ((no_other, judged.memory), is_truncated h))
 
-pub answers_refused : {type : ValueType} {old : State} (new : State) {bytes answer : List ℕ} {e : Asn1DerError} → old ≡ begun bytes → new.faults ≡ 0 → e ≢ error.OutOfMemory → RefusesNamed type old new e
+pub answers_refused : {type : ValueType} {old : State} (new : State) {bytes answer : List ℕ} {e : Asn1DerError} → old ≡ begun bytes → new.faults ≡ [] → e ≢ error.OutOfMemory → RefusesNamed type old new e
     → answer ≡ codes "refused " ++ word_of e → AnswersRead type bytes answer
 answers_refused {type} {old} new {bytes} {answer} {e} is none memory r a =
     let judged : IsJudged (begun bytes) new e = record { had_not_failed = refl; faults = none; memory = memory } in

@@ -1,27 +1,28 @@
 -- The ways in which a run ends with an error.
-use Rattle.std.proofs.Common.{◌≡◌, ℕ, ◌-◌, ◌^◌, ◌<◌, List, [], ◌∷◌, ◌++◌, length, Option, refl, sym, subst}
+use Rattle.std.proofs.Common.{◌≡◌, ℕ, suc, ◌-◌, ◌^◌, ◌<◌, List, [], ◌∷◌, ◌++◌, length, Option, refl, sym, subst}
 use Rattle.std.specs.Io.KnownBytes.{Consumes, Keeps, IsAtEnd}
 use Rattle.std.specs.declared.io.ErrorKind.{ErrorKind}
 use Rattle.picky_der_core.specs.declared.error.Asn1DerError.{Asn1DerError}
 use Rattle.picky_der_core.specs.declared.error.Asn1DerError.TheVariants.{UnsupportedValue, OutOfMemory}
 use Rattle.picky_der_core.specs.declared.misc.writer.WriteExt.{Ghosts}
 use Rattle.picky_der_core.specs.Error.{kind_of}
+use Rattle.picky_der_core.specs.Faults.{Fault}
 use Rattle.picky_der_core.specs.WriterFaults.{Faulted}
 use Rattle.der_tool_lib.specs.Text.{IsLine}
 use Rattle.der_tool_lib.specs.Run.{StopsAt, no_memory, no_sink, not_ended, just_ended, WroteWhole, Stops, memory, reader, writer, too_long}
 use Rattle.der_tool_lib.proofs.RunSteps.{RunsOn, draws, stands, begins, begins_last, too_many}
 
-module _ {W : Type 0} (g : Ghosts W) {a b : Option (List ℕ)} {w v : W} {line : List ℕ} {count : ℕ} (h : RunsOn a b (g.told w) (g.told v) line count) (i j : ℕ) where
+module _ {W : Type 0} (g : Ghosts W) {a b : Option (List ℕ)} {w v : W} {line : List ℕ} {count : ℕ} (h : RunsOn a b (g.told w) (g.told v) line count) (i j : List Fault) where
   -- the reader failed
-  pub reader_stops : (b' : Option (List ℕ)) (e : Asn1DerError) (k : ErrorKind) → Keeps b b' → i < j → e ≡ kind_of k → Stops g a b' i j w v e
-  reader_stops b' e k same rose is = reader (record { rose = rose; kind = k; is = is }) line h.is_line (stands h b' same)
+  pub reader_stops : (b' : Option (List ℕ)) (e : Asn1DerError) (k : ErrorKind) → Keeps b b' → j ≡ record { kind = k; told = b' } ∷ i → e ≡ kind_of k → Stops g a b' i j w v e
+  reader_stops b' e k same once is = reader (record { kind = k; once = once; is = is }) line h.is_line (stands h b' same)
 
   -- memory was refused for a byte of the line
   pub byte_stops : (b' : Option (List ℕ)) (x : ℕ) → Consumes b b' (x ∷ []) → IsLine (line ++ (x ∷ [])) → Stops g a b' i j w v OutOfMemory
   byte_stops b' x k is_line = memory refl _ (not_ended is_line) (draws h b' x k)
 
   since : (v' : W) (e : Asn1DerError) → g.faults v ≡ g.faults w → Faulted g v e v' → Faulted g w e v'
-  since v' e same f = record { rose = subst (λ n. n < g.faults v') same f.rose; kind = f.kind; answered = f.answered; is = f.is }
+  since v' e same f = record { rose = subst (λ n. g.faults v' ≡ suc n) same f.rose; kind = f.kind; answered = f.answered; is = f.is }
 
   -- the line that was ended wasn't answered
   pub line_stops : (b' : Option (List ℕ)) (v' : W) (e : Asn1DerError) → Consumes b b' (0x0A ∷ []) → g.faults v ≡ g.faults w → StopsAt g line v v' e → Stops g a b' i j w v' e

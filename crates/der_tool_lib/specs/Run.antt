@@ -6,6 +6,7 @@ use Rattle.picky_der_core.specs.declared.error.Asn1DerError.{Asn1DerError}
 use Rattle.picky_der_core.specs.declared.error.Asn1DerError.TheVariants.{UnsupportedValue, OutOfMemory}
 use Rattle.picky_der_core.specs.declared.misc.writer.WriteExt.{Ghosts}
 use Rattle.picky_der_core.specs.Error.{kind_of}
+use Rattle.picky_der_core.specs.Faults.{Fault}
 use Rattle.picky_der_core.specs.Writer.{AppendsBeginning}
 use Rattle.picky_der_core.specs.WriterFaults.{Faulted}
 use Rattle.der_tool_lib.specs.Answer.{IsAnswer}
@@ -52,10 +53,10 @@ pub data IsLastLine (bytes : List ℕ) : Type 0 where
   not_ended : IsLine bytes → IsLastLine bytes
   just_ended : (line : List ℕ) → IsLine line → bytes ≡ line ++ (0x0A ∷ []) → IsLastLine bytes
 
--- a reader failed, and e says how
-pub record ReaderFaulted (old new : ℕ) (e : Asn1DerError) : Type 0 where
-  pub rose : old < new
+-- a reader failed once more, e says how, and nothing was drawn behind it
+pub record ReaderFaulted (old new : List Fault) (left : Option (List ℕ)) (e : Asn1DerError) : Type 0 where
   pub kind : ErrorKind
+  pub once : new ≡ record { kind = kind; told = left } ∷ old
   pub is : e ≡ kind_of kind
 
 -- no end came within as many bytes as are read
@@ -63,7 +64,7 @@ abbrev pub IsTooLong : Option (List ℕ) → Type 0
 IsTooLong None = ⊤
 IsTooLong (Some input) = 2 ^ 64 - 1 ≤ length input
 
-module _ {W : Type 0} (g : Ghosts W) (in_old in_new : Option (List ℕ)) (faults_old faults_new : ℕ) (out_old out_new : W) where
+module _ {W : Type 0} (g : Ghosts W) (in_old in_new : Option (List ℕ)) (faults_old faults_new : List Fault) (out_old out_new : W) where
   -- the lines before this one were answered, and it wasn't
   abbrev pub StopsBefore : List ℕ → Type 0
   StopsBefore line = WroteWhole in_old in_new (g.told out_old) (g.told out_new) line
@@ -73,6 +74,6 @@ module _ {W : Type 0} (g : Ghosts W) (in_old in_new : Option (List ℕ)) (faults
     -- memory was refused for the line or its answer
     memory : e ≡ OutOfMemory → (line : List ℕ) → IsLastLine line → StopsBefore line → Stops e
     -- the reader cut the line
-    reader : ReaderFaulted faults_old faults_new e → (line : List ℕ) → IsLine line → StopsBefore line → Stops e
+    reader : ReaderFaulted faults_old faults_new in_new e → (line : List ℕ) → IsLine line → StopsBefore line → Stops e
     writer : Faulted g out_old e out_new → WroteBeginning in_old in_new (g.told out_old) (g.told out_new) → Stops e
     too_long : e ≡ UnsupportedValue → IsTooLong in_old → (line : List ℕ) → IsLine line → StopsBefore line → Stops e

@@ -1,6 +1,8 @@
 //! The lines of an input, one after another.
-ghost use Rattle.std.specs.Prelude.{◌≡◌, ◌≤◌, OnOk, IfErr};
+ghost use Rattle.std.specs.Prelude.{◌≡◌, OnOk, IfErr};
 ghost use Rattle.std.specs.Io.KnownBytes.{IsAtEnd};
+ghost use Rattle.picky_der_core.specs.Reader.{TellsFault};
+ghost use Rattle.picky_der_core.specs.WriterFaults.{IsOnceAtMost};
 ghost use Rattle.der_tool_lib.specs.Run.{AnswersLine, Stops, StopsAt};
 ghost use Rattle.der_tool_lib.specs.Text.{WritesText};
 
@@ -13,7 +15,7 @@ use std::alloc::Global;
 fn answer_line<W: WriteExt>(alloc: Global, line: &[u8], output: &mut W) -> Result<()>
     ensures ok { OnOk result (AnswersLine line.now (W.told output.old) (W.told output.new)) }
     ensures err { IfErr result (StopsAt W.WriteExt.own line.now output.old output.new) }
-    ensures counted { W.faults output.old ≤ W.faults output.new }
+    ensures counted { IsOnceAtMost (W.faults output.old) (W.faults output.new) }
     ensures no_fault { OnOk result (W.faults output.new ≡ W.faults output.old) }
     ensures goes_on { W.later output.old output.new }
 {
@@ -36,8 +38,8 @@ pub fn run<R: ReadExt, W: WriteExt>(alloc: Global, input: &mut R, output: &mut W
     ensures at_end { OnOk result (IsAtEnd (R.remaining input.new)) }
     ensures stops { IfErr result (Stops W.WriteExt.own (R.remaining input.old) (R.remaining input.new)
         (R.faults input.old) (R.faults input.new) output.old output.new) }
-    ensures reads_counted { R.faults input.old ≤ R.faults input.new }
-    ensures writes_counted { W.faults output.old ≤ W.faults output.new }
+    ensures reads { IfErr result (TellsFault (R.faults input.old) (R.faults input.new) (R.remaining input.new)) }
+    ensures writes_counted { IsOnceAtMost (W.faults output.old) (W.faults output.new) }
     ensures no_read_fault { OnOk result (R.faults input.new ≡ R.faults input.old) }
     ensures no_write_fault { OnOk result (W.faults output.new ≡ W.faults output.old) }
     ensures same_references { R.through input.new ≡ R.through input.old }

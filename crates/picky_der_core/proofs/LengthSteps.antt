@@ -12,7 +12,9 @@ use Rattle.picky_der_core.specs.declared.error.Asn1DerError.TheVariants.{Truncat
 use Rattle.picky_der_core.specs.Element.{len, Begins}
 use Rattle.picky_der_core.specs.Error.{kind_of}
 use Rattle.picky_der_core.specs.Shape.{AreBytes}
+use Rattle.picky_der_core.specs.Faults.{Fault}
 use Rattle.picky_der_core.specs.Reader.{IsFaultOrEnd}
+use Rattle.picky_der_core.specs.ReaderLaws.{not_more}
 use Rattle.picky_der_core.specs.Refusal.{length_of}
 use Rattle.picky_der_core.specs.Lengths.{IsReadAs, IsRefusedAs, IsOfDevice, IsLongCount, IsNoLongCount}
 use Rattle.picky_der_core.specs.LengthLaws.{length_of-len, length_of-none, length_of-too_many, length_of-cut, length_of-longer, len-number, no_length}
@@ -53,18 +55,18 @@ none_from_refused (Err e) P a b h = λ p. IsNoLength-from_refused a b e (h p)
 
 -- ---- a byte that isn't given
 
-module _ {left : Option (List ℕ)} {old new : ℕ} {e : Error} where
+module _ {before left : Option (List ℕ)} {old new : List Fault} {e : Error} where
   -- it is missing, unless the device failed
-  pub refused_missing : (a c : Option (List ℕ)) (bs : List ℕ) → length_of TruncatedData bs ≡ Err (TruncatedData, []) → Consumes a left bs → Keeps left c → IsFaultOrEnd left old new e → new ≡ old
+  pub refused_missing : (a c : Option (List ℕ)) (bs : List ℕ) → length_of TruncatedData bs ≡ Err (TruncatedData, []) → Consumes a before bs → Keeps before c → IsFaultOrEnd before left old new e → new ≡ old
       → IsRefusedAs (length_of TruncatedData) a c (kind_of (error_kind e))
   unfolding kind_of
-  refused_missing a c bs is h kept (IsFaultOrEnd.fault rose) same = absurd (omega arith)
-  refused_missing a c bs is h kept (IsFaultOrEnd.end stays kind end) same = rw kind (refused_at_end a left c bs h end kept is)
+  refused_missing a c bs is h kept (IsFaultOrEnd.fault once) same = absurd (not_more (sym once ∙ same))
+  refused_missing a c bs is h kept (IsFaultOrEnd.end stays kind end) same = rw kind (refused_at_end a before c bs h end kept is)
 
-  pub device_rose : IsFaultOrEnd left old new e → IsOfDevice (kind_of (error_kind e)) → old < new
+  pub no_device : IsFaultOrEnd before left old new e → new ≡ old → IsOfDevice (kind_of (error_kind e)) → ⊥
   unfolding kind_of
-  device_rose (IsFaultOrEnd.fault rose) device = rose
-  device_rose (IsFaultOrEnd.end stays kind end) device = absurd (rw kind at device)
+  no_device (IsFaultOrEnd.fault once) same device = not_more (sym once ∙ same)
+  no_device (IsFaultOrEnd.end stays kind end) same device = absurd (rw kind at device)
 
 -- ---- the long form
 
@@ -107,7 +109,7 @@ module _ {a b : Option (List ℕ)} {first k count number : ℕ} (t : Taken a b f
       omega (arith, t.is, number_lt 256 t.digits t.bytes)
 
   -- and it isn't given
-  pub refused_cut : (c : Option (List ℕ)) {old new : ℕ} {e : Error} → k < count → Keeps b c → IsFaultOrEnd b old new e → new ≡ old → IsRefusedAs (length_of TruncatedData) a c (kind_of (error_kind e))
+  pub refused_cut : (c : Option (List ℕ)) {left : Option (List ℕ)} {old new : List Fault} {e : Error} → k < count → Keeps b c → IsFaultOrEnd b left old new e → new ≡ old → IsRefusedAs (length_of TruncatedData) a c (kind_of (error_kind e))
   refused_cut c fewer = refused_missing a c (first ∷ t.digits) (length_of-cut TruncatedData first count t.digits long (omega (arith, t.size))) t.consumed
 
   -- all came, and are as few as can be

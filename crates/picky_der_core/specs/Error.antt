@@ -1,5 +1,4 @@
 -- Which error a fault of a device becomes.
-use Rattle.std.specs.Prelude.{◌≡◌}
 use Rattle.std.specs.declared.io.ErrorKind.{ErrorKind}
 use Rattle.std.specs.declared.io.ErrorKind.TheVariants as kind
 use Rattle.picky_der_core.specs.declared.error.Asn1DerError.{Asn1DerError}
@@ -10,7 +9,3 @@ kind_of kind.UnexpectedEof = error.TruncatedData
 kind_of kind.WriteZero = error.InvalidSink
 kind_of kind.OutOfMemory = error.OutOfMemory
 kind_of other = error.Other other
-
--- an error that a fault of a device becomes
-abbrev pub IsKindOfFault : Asn1DerError → Type 0
-IsKindOfFault e = (kind : ErrorKind) × (e ≡ kind_of kind)

@@ -1,8 +1,36 @@
--- How often a device failed.
-use Rattle.std.specs.Prelude.{ℕ, suc}
+-- The faults of a device.
+use Rattle.std.specs.Prelude.{ℕ, List, [], ◌∷◌, length, Option, map, refl}
+use Rattle.std.specs.Coded.{Coded, code_by, coded×, coded_list, coded_option, coded_ℕ}
+use Rattle.std.specs.declared.io.ErrorKind.{ErrorKind}
+use Rattle.std.specs.contracts.io.ErrorKind as error_kind
 use Rattle.picky_der_core.specs.declared.misc.faults.Faults.{Faults}
 use Rattle.picky_der_core.specs.declared.misc.faults.Faults.TheVariants.{Fresh, More'}
 
-abbrev pub count_of : Faults → ℕ
-count_of Fresh = 0
-count_of (More' before n) = suc (count_of n)
+-- a fault: its kind, and what the device told of its bytes behind it
+pub record Fault : Type 0 where
+  pub kind : ErrorKind
+  pub told : Option (List ℕ)
+
+abbrev pub fault_code : Coded Fault
+fault_code = code_by (ErrorKind × Option (List ℕ)) (coded× error_kind.the_row.coded (coded_option (coded_list coded_ℕ))) (λ f. (f.kind, f.told)) (λ p. record { kind = p.0; told = p.1 }) (λ _. refl)
+
+-- a fault: its kind, and the device behind it
+pub record FaultOf (T : Type 0) : Type 0 where
+  pub kind : ErrorKind
+  pub device : T
+
+abbrev pub fault_of_code : {T : Type 0} → Coded T → Coded (FaultOf T)
+fault_of_code {T} device =
+    code_by (ErrorKind × T) (coded× error_kind.the_row.coded device) (λ f. (f.kind, f.device)) (λ p. record { kind = p.0; device = p.1 }) (λ _. refl)
+
+-- the last first
+abbrev pub faults_in : {T : Type 0} → Faults T → List (FaultOf T)
+faults_in Fresh = []
+faults_in (More' kind device before others) = record { kind = kind; device = device.value } ∷ faults_in others
+
+abbrev pub count_of : {T : Type 0} → Faults T → ℕ
+count_of faults = length (faults_in faults)
+
+-- what a device tells of its bytes, at each of its faults
+abbrev pub faults_told : {T : Type 0} → (T → Option (List ℕ)) → List (FaultOf T) → List Fault
+faults_told bytes faults = map (λ f. record { kind = f.kind; told = bytes f.device }) faults

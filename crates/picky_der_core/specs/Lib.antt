@@ -18,6 +18,7 @@ pub mod ShapeLaws
 pub mod Laws
 pub mod Faults
 pub mod Reader
+pub mod ReaderLaws
 pub mod Writer
 pub mod Watching
 pub mod Peeking

@@ -1,9 +1,13 @@
 -- What a read of one byte does.
-use Rattle.std.specs.Prelude.{◌≡◌, ℕ, ◌<◌, List, [], ◌∷◌, Option, MatchOption, Result, MatchResult}
+use Rattle.std.specs.Prelude.{◌≡◌, ℕ, List, [], ◌∷◌, Option, MatchOption, Result, MatchResult}
 use Rattle.std.specs.Io.KnownBytes.{Consumes, Keeps, IsAtEnd}
 use Rattle.std.specs.IoError.{error_kind}
 use Rattle.std.specs.declared.io.Error.{Error}
+use Rattle.std.specs.declared.io.ErrorKind.{ErrorKind}
 use Rattle.std.specs.declared.io.ErrorKind.TheVariants.{UnexpectedEof}
+use Rattle.picky_der_core.specs.declared.error.Asn1DerError.{Asn1DerError}
+use Rattle.picky_der_core.specs.Error.{kind_of}
+use Rattle.picky_der_core.specs.Faults.{Fault}
 
 -- the next byte was taken, or none
 abbrev pub GivesByte : Option (List ℕ) → Option (List ℕ) → Result ℕ Error → Type 0
@@ -14,10 +18,19 @@ abbrev pub GivesNext : Option (List ℕ) → Option (List ℕ) → Result (Optio
 GivesNext old new r =
     MatchResult r (λ next. MatchOption next (Keeps old new × IsAtEnd new) (λ b. Consumes old new (b ∷ []))) (λ _. Keeps old new)
 
--- an error is a fault, or the end of the input
-pub data IsFaultOrEnd (left : Option (List ℕ)) (old new : ℕ) (e : Error) : Type 0 where
-  fault : old < new → IsFaultOrEnd left old new e
-  end : new ≡ old → error_kind e ≡ UnexpectedEof → IsAtEnd left → IsFaultOrEnd left old new e
+-- of the faults the last is new, of this error, and these bytes are left behind it
+abbrev pub FailsOnce : List Fault → List Fault → Option (List ℕ) → Error → Type 0
+FailsOnce old new left e = new ≡ record { kind = error_kind e; told = left } ∷ old
 
-abbrev pub CountsFault : Option (List ℕ) → ℕ → ℕ → Result ℕ Error → Type 0
-CountsFault left old new r = MatchResult r (λ _. new ≡ old) (IsFaultOrEnd left old new)
+-- an error is a fault, or the end of the input
+pub data IsFaultOrEnd (before left : Option (List ℕ)) (old new : List Fault) (e : Error) : Type 0 where
+  fault : FailsOnce old new left e → IsFaultOrEnd before left old new e
+  end : new ≡ old → error_kind e ≡ UnexpectedEof → IsAtEnd before → IsFaultOrEnd before left old new e
+
+abbrev pub CountsFault : Option (List ℕ) → Option (List ℕ) → List Fault → List Fault → Result ℕ Error → Type 0
+CountsFault before left old new r = MatchResult r (λ _. new ≡ old) (IsFaultOrEnd before left old new)
+
+-- the reader failed just once, the error is what that fault becomes, and nothing was drawn behind it; or it didn't fail
+pub data TellsFault (old new : List Fault) (left : Option (List ℕ)) (e : Asn1DerError) : Type 0 where
+  fault : (kind : ErrorKind) → new ≡ record { kind = kind; told = left } ∷ old → e ≡ kind_of kind → TellsFault old new left e
+  no_fault : new ≡ old → TellsFault old new left e

@@ -40,10 +40,6 @@ pub record StandsAt (place : Place) (s : Shape) (bs : List ℕ) (limit : ℕ) (t
 abbrev pub Reads : {V : Type 0} → (V → Tree) → Shape → List ℕ → ℕ → V → Type 0
 Reads meaning s input limit v = StandsAt Place.whole s input limit (meaning v)
 
--- the same directly under an implicit tag, from what the reader has of the bytes before that tag's end
-abbrev pub ReadsInside : {V : Type 0} → (V → Tree) → Shape → List ℕ → ℕ → V → Type 0
-ReadsInside meaning s rest ahead v = StandsAt (Place.under_implicit ahead) s rest ahead (meaning v)
-
 -- more bytes behind b could make a value of the type of it: of some value, of at most `room` bytes, b is the beginning, or
 -- it is the beginning of b
 pub record IsMendable {V : Type 0} (meaning : V → Tree) (s : Shape) (place : Place) (b : List ℕ) (room : ℕ) : Type 0 where

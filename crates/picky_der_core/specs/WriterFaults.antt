@@ -1,14 +1,23 @@
 -- A fault of a writer, and the error that it becomes.
-use Rattle.std.specs.Prelude.{◌≡◌, ◌<◌}
+use Rattle.std.proofs.Common.{◌≡◌, ◌≤◌, ℕ, suc, Result, Ok, Err, OnOk, IfErr, arith}
 use Rattle.std.specs.declared.io.ErrorKind.{ErrorKind}
 use Rattle.picky_der_core.specs.declared.error.Asn1DerError.{Asn1DerError}
 use Rattle.picky_der_core.specs.declared.misc.writer.WriteExt.{Ghosts}
 use Rattle.picky_der_core.specs.Error.{kind_of}
 
+-- of two counts of faults, the later one is the same or one more
+abbrev pub IsOnceAtMost : ℕ → ℕ → Type 0
+IsOnceAtMost old new = (old ≤ new) × (new ≤ suc old)
+
 module _ {W : Type 0} (g : Ghosts W) where
-  -- the writer failed, and e says how
+  -- the writer failed once, and e says how
   pub record Faulted (old : W) (e : Asn1DerError) (new : W) : Type 0 where
-    pub rose : g.faults old < g.faults new
+    pub rose : g.faults new ≡ suc (g.faults old)
     pub kind : ErrorKind
     pub answered : g.answers kind
     pub is : e ≡ kind_of kind
+
+  -- an answer that tells of each fault
+  pub once_at_most : {A : Type 0} (old new : W) (r : Result A Asn1DerError) → OnOk r (g.faults new ≡ g.faults old) → IfErr r (λ e. Faulted old e new) → IsOnceAtMost (g.faults old) (g.faults new)
+  once_at_most old new (Ok v) same f = (omega (arith, same), omega (arith, same))
+  once_at_most old new (Err e) same f = (omega (arith, f.rose), omega (arith, f.rose))

@@ -46,8 +46,8 @@ restored_fails {b} {c} {e} outer l f = record {
   failed = f.failed;
   again = λ k w. let q = f.again k w in (q.0, record { input = q.1.input; taken = q.1.taken; peeked = q.1.peeked; faults = q.1.faults });
   faults = f.faults;
+  unpeeked = f.unpeeked;
   other = f.other;
-  fault = f.fault;
   took = record { bytes = f.took.bytes; input = f.took.input; count = f.took.count };
   grows = f.grows;
   end = omega (arith, f.end, l);

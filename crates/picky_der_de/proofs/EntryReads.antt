@@ -8,6 +8,8 @@ use Rattle.picky_der_core.specs.Tree.{Tree}
 use Rattle.picky_der_core.specs.Encoding.{der}
 use Rattle.picky_der_core.specs.Shape.{Shape, IsSound}
 use Rattle.picky_der_core.specs.Reading.{Place, StandsAt, IsMendable}
+use Rattle.picky_der_core.specs.Reader.{TellsFault}
+use Rattle.picky_der_core.specs.ReaderLaws.{not_more}
 use Rattle.picky_der_core.proofs.Unique.{same_tree}
 use Rattle.picky_der_input.specs.State.{State, fresh}
 use Rattle.picky_der_core.specs.Peeking.{in_front, count_of_any}
@@ -123,6 +125,13 @@ module _ {V : Type 0} (meaning : V → Tree) (s : Shape) {old new : State} {thro
         | inr p ↦ h.none judged any_length (der t) (ever other refl d p.rest rest k drawn p.is) m.value (record { of_shape = m.of_shape; readable = m.readable; may_stand = tt; within = m.within; front = record { rest = []; is = sym (append-nil (der t)) } })
       ])
 
+  -- what the reader told behind a fault, it tells still
+  told_fault : {e : Asn1DerError} → TellsFault before.faults new.faults new.input e → (new.faults ≢ before.faults → new.peeked ≡ None) → TellsFault before.faults after.faults after.input e
+  told_fault (TellsFault.fault kind once is) unpeeked =
+      let none = unpeeked (λ same. not_more (sym once ∙ same)) in
+      TellsFault.fault kind (faults ∙ once ∙ ap (λ i. record { kind = kind; told = i } ∷ before.faults) (left ∙ left_of new.peeked after.input none)) is
+  told_fault (TellsFault.no_fault same) unpeeked = TellsFault.no_fault (faults ∙ same)
+
   -- where none was read, none stands
   pub refuses_front : {e : Asn1DerError} → Refuses meaning s old new e → RefusesFront meaning s limit before after e
   refuses_front {e} refused =
@@ -132,9 +141,8 @@ module _ {V : Type 0} (meaning : V → Tree) (s : Shape) {old new : State} {thro
         final = λ same memory d rest k still m. final h (sym faults ∙ same) memory d rest k still m;
         first = λ same cut ahead b rest k. h.first (record { had_not_failed = refl; faults = sym faults ∙ same; memory = λ (o : e ≡ OutOfMemory). let q : TruncatedData ≡ OutOfMemory = sym cut ∙ o in cc }) cut refl ahead b rest k;
         drawn = draws h;
-        faults = omega (arith, faults, h.fails.faults);
-        other = λ o. omega (arith, faults, h.fails.other refl o);
-        fault = λ rose. h.fails.fault refl (omega (arith, faults, rose));
+        faults = told_fault h.fails.faults h.fails.unpeeked;
+        other = λ same. h.fails.other refl (sym faults ∙ same);
       }
 
 -- ---- of a slice
@@ -145,10 +153,10 @@ slice_final meaning s bytes None k same is d h memory m = absurd d.are
 slice_final meaning s bytes (Some left) k same is d h memory m =
     h.final same memory d.bytes left (k ∙ ap Some d.are) (sym is) (mends_beginning d.bytes left (subst (λ z. IsMendable meaning s Place.whole z any_length) d.are m))
 
-pub slice_refused : {V : Type 0} (meaning : V → Tree) (s : Shape) {limit : ℕ} {before after : Reader} {e : Asn1DerError} {bytes : List ℕ} → before.input ≡ Some bytes → before.faults ≡ 0 → after.faults ≡ 0 → RefusesFront meaning s limit before after e → HasNoFront meaning s bytes limit e
+pub slice_refused : {V : Type 0} (meaning : V → Tree) (s : Shape) {limit : ℕ} {before after : Reader} {e : Asn1DerError} {bytes : List ℕ} → before.input ≡ Some bytes → before.faults ≡ [] → after.faults ≡ [] → RefusesFront meaning s limit before after e → HasNoFront meaning s bytes limit e
 slice_refused meaning s {limit = limit} {after = after} {bytes = bytes} k none still h = record {
   none = λ memory v stands. h.none (still ∙ sym none) memory bytes k v stands;
   final = slice_final meaning s bytes after.input k (still ∙ sym none) refl (subst (λ i. Draws limit i after.input) k h.drawn) h;
   first = λ cut ahead b left is. h.first (still ∙ sym none) cut ahead b left (k ∙ ap Some is);
-  no_fault = λ o. omega (arith, h.other o, none, still);
+  no_fault = h.other (still ∙ sym none);
 }

@@ -8,6 +8,7 @@ use Rattle.picky_der_core.specs.Peeking.{count_of_any}
 use Rattle.picky_der_core.specs.Tree.{Tree}
 use Rattle.picky_der_core.specs.Encoding.{der}
 use Rattle.picky_der_core.specs.EncodingLaws.{length-der}
+use Rattle.picky_der_core.specs.Reader.{TellsFault}
 use Rattle.picky_der_core.specs.Shape.{Shape}
 use Rattle.picky_der_core.specs.Reading.{Place, written_at, MayStand, StandsAt}
 use Rattle.picky_der_input.specs.State.{State}
@@ -72,9 +73,9 @@ module _ {a b : State} {x : ℕ} (p : Peeks a b x) where
   peeks_fails {c} {e} f = record {
     failed = f.failed;
     again = λ k w. absurd (let q : None ≡ Some k = sym p.had_not_failed ∙ w in cc);
-    faults = omega (arith, f.faults, still_faults);
-    other = λ w o. let q = f.other not_failed o in omega (arith, q, still_faults);
-    fault = λ w rose. f.fault not_failed (omega (arith, rose, still_faults));
+    faults = subst (λ l. TellsFault l c.faults c.input e) still_faults f.faults;
+    unpeeked = λ more. f.unpeeked (λ same. more (same ∙ still_faults));
+    other = λ w same. f.other not_failed (same ∙ sym still_faults);
     took = record { bytes = f.took.bytes; input = consumes_behind c.input f.took.bytes f.took.input; count = omega (arith, f.took.count, still_taken) };
     grows = omega (arith, f.grows, draws_more);
     end = omega (arith, f.end, still_taken, still_room);

@@ -3,7 +3,8 @@ use Rattle.std.specs.Prelude.{◌≡◌, ◌≢◌, ℕ, ◌-◌, ◌^◌, ◌<�
 use Rattle.std.specs.Io.KnownBytes.{Consumes}
 use Rattle.picky_der_core.specs.declared.error.Asn1DerError.{Asn1DerError}
 use Rattle.picky_der_core.specs.declared.error.Asn1DerError.TheVariants.{TruncatedData, OutOfMemory}
-use Rattle.picky_der_core.specs.Error.{IsKindOfFault}
+use Rattle.picky_der_core.specs.Faults.{Fault}
+use Rattle.picky_der_core.specs.Reader.{TellsFault}
 use Rattle.picky_der_core.specs.Tree.{Tree}
 use Rattle.picky_der_core.specs.Encoding.{der}
 use Rattle.picky_der_core.specs.Readable.{IsReadable}
@@ -30,12 +31,12 @@ pub record HasNoFront {V : Type 0} (meaning : V → Tree) (s : Shape) (input : L
   pub first : e ≡ TruncatedData → 0 < limit → (b : ℕ) (left : List ℕ) → input ≡ b ∷ left → IsFirst s b
   pub no_fault : IsOther e → ⊥
 
--- What a reader tells of the bytes that are left, and how often it failed: before a call, and behind it.
+-- What a reader tells of the bytes that are left, and how it failed so far: before a call, and behind it.
 pub record Reader : Type 0 where
   pub input : Option (List ℕ)
-  pub faults : ℕ
+  pub faults : List Fault
 
-abbrev pub told : {R : Type 0} → (R → Option (List ℕ)) → (R → ℕ) → R → Reader
+abbrev pub told : {R : Type 0} → (R → Option (List ℕ)) → (R → List Fault) → R → Reader
 told remaining faults r = record { input = remaining r; faults = faults r }
 
 -- just the value's encoding was drawn, and of a known input it is the value at the front
@@ -61,8 +62,7 @@ pub record RefusesFront {V : Type 0} (meaning : V → Tree) (s : Shape) (limit :
   -- it isn't said to be cut short at a byte with which no value begins
   pub first : new.faults ≡ old.faults → e ≡ TruncatedData → 0 < limit → (b : ℕ) (left : List ℕ) → old.input ≡ Some (b ∷ left) → IsFirst s b
   pub drawn : Draws limit old.input new.input
-  pub faults : old.faults ≤ new.faults
-  -- `Other` comes from a fault of the reader alone
-  pub other : IsOther e → old.faults < new.faults
-  -- what a fault becomes is answered as that
-  pub fault : old.faults < new.faults → IsKindOfFault e
+  -- the reader failed at most once; then the error is what that becomes, and nothing was drawn behind it
+  pub faults : TellsFault old.faults new.faults new.input e
+  -- `Other` comes from a fault alone
+  pub other : new.faults ≡ old.faults → IsOther e → ⊥

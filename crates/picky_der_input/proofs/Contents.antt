@@ -85,6 +85,22 @@ pub kept_push : {U E A : Type 0} (items : A → List ℕ) (r : Result U E) (old 
 kept_push items (Ok u) old new c b e pushed room same full = pushed ∙ kept_more (items old) c b e (room refl)
 kept_push items (Err u) old new c b e pushed room same full = ap items same ∙ kept_full (items old) c b e (omega arith)
 
+-- bytes were taken, and then no byte came, or memory was wanted
+pub stops_later : {a b c : State} {n left : ℕ} {e : Asn1DerError} {content : List ℕ} → Takes a b content → length content + left ≡ n → StopsShort b c left e → StopsShort a c n e
+stops_later {content = content} t whole s = record {
+  fails = fails_after t s.fails;
+  short = λ j. let cut = s.short (judged_after t j) in record {
+    mid = cut.mid;
+    bytes = content ++ cut.bytes;
+    takes = takes_then t cut.takes;
+    short = omega (arith, length-append content cut.bytes, cut.short, whole);
+    missing = cut.missing;
+    input = cut.input;
+    taken = cut.taken;
+    peeked = cut.peeked;
+  };
+}
+
 -- memory was wanted
 pub stops_for_memory : {a b c : State} {n : ℕ} {e : Asn1DerError} {content : List ℕ} → Takes a b content → Fails b c e → e ≡ OutOfMemory → StopsShort a c n e
 stops_for_memory t f m = record { fails = fails_after t f; short = λ j. absurd (j.memory m) }

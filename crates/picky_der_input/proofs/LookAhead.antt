@@ -37,7 +37,7 @@ nothing_there None s h = refl
 nothing_there (Some number) s h = absurd (let q : Some number ≡ None = h in cc)
 
 -- the reader gave no byte
-pub choice_unread : {old new : State} {e : Asn1DerError} → StopsAt old new e → (error : Error) → e ≡ kind_of (error_kind error) → IsFaultOrEnd old.input old.faults new.faults error → 0 < old.room → old.direct ≡ None → RefusesChoice old new e
+pub choice_unread : {old new : State} {e : Asn1DerError} → StopsAt old new e → (error : Error) → e ≡ kind_of (error_kind error) → IsFaultOrEnd old.input new.input old.faults new.faults error → 0 < old.room → old.direct ≡ None → RefusesChoice old new e
 choice_unread {old} {new} {e} s error is f ahead whole = record {
   refuses = record {
     fails = read_fails s error is f;

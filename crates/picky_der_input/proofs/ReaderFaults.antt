@@ -1,5 +1,5 @@
 -- A read of the reader that failed.
-use Rattle.std.proofs.Common.{◌≡◌, ℕ, ◌<◌, ◌≤◌, List, [], Option, Some, None, IfSome, Result, Ok, Err, refl, sym, ◌∙◌, ap, arith, subst}
+use Rattle.std.proofs.Common.{◌≡◌, ℕ, ◌<◌, List, [], Option, Some, None, IfSome, Result, Ok, Err, refl, sym, ◌∙◌, ap, arith, subst}
 use Rattle.std.specs.Io.KnownBytes.{Keeps, Consumes}
 use Rattle.std.specs.IoError.{error_kind}
 use Rattle.std.specs.declared.io.Error.{Error}
@@ -9,6 +9,7 @@ use Rattle.picky_der_core.specs.Failure.{failure_of}
 use Rattle.picky_der_core.specs.declared.error.Asn1DerError.TheVariants.{TruncatedData}
 use Rattle.picky_der_core.specs.Error.{kind_of}
 use Rattle.picky_der_core.specs.Reader.{IsFaultOrEnd, fault, end}
+use Rattle.picky_der_core.specs.ReaderLaws.{not_more, tells_fault}
 use Rattle.picky_der_core.specs.Peeking.{count_of_any}
 use Rattle.picky_der_input.specs.State.{State}
 use Rattle.picky_der_input.specs.Steps.{Fails, IsOther, IsMissing, input_ended, HasDrawn}
@@ -41,17 +42,13 @@ pub record StopsAt (old new : State) (e : Asn1DerError) : Type 0 where
   pub limit : new.limit ≡ old.limit
   pub through : new.through ≡ old.through
 
-module _ {old new : State} {e : Asn1DerError} (s : StopsAt old new e) (error : Error) (is : e ≡ kind_of (error_kind error)) (f : IsFaultOrEnd old.input old.faults new.faults error) where
+module _ {old new : State} {e : Asn1DerError} (s : StopsAt old new e) (error : Error) (is : e ≡ kind_of (error_kind error)) (f : IsFaultOrEnd old.input new.input old.faults new.faults error) where
   same_drawn : (p q : Option ℕ) → p ≡ q → count_of_any p ≡ count_of_any q
   same_drawn p q h = ap count_of_any h
 
-  other_rose : IsFaultOrEnd old.input old.faults new.faults error → IsOther e → old.faults < new.faults
-  other_rose (fault r) o = r
-  other_rose (end same kind left) o = absurd (subst IsOther (is ∙ ap kind_of kind ∙ end_of_input) o)
-
-  faults_grow : IsFaultOrEnd old.input old.faults new.faults error → old.faults ≤ new.faults
-  faults_grow (fault r) = omega arith
-  faults_grow (end same kind left) = omega arith
+  no_other : IsFaultOrEnd old.input new.input old.faults new.faults error → new.faults ≡ old.faults → IsOther e → ⊥
+  no_other (fault once) same o = not_more (sym once ∙ same)
+  no_other (end q kind left) same o = absurd (subst IsOther (is ∙ ap kind_of kind ∙ end_of_input) o)
 
   pub read_fails : Fails old new e
   read_fails =
@@ -60,9 +57,9 @@ module _ {old new : State} {e : Asn1DerError} (s : StopsAt old new e) (error : E
       record {
         failed = s.failed;
         again = λ k w. absurd (let q : None ≡ Some k = sym s.had_not_failed ∙ w in cc);
-        faults = faults_grow f;
-        other = λ w o. other_rose f o;
-        fault = λ w rose. (error_kind error, is);
+        faults = rw is (tells_fault refl f);
+        unpeeked = λ more. s.peeked ∙ s.unpeeked;
+        other = λ w. no_other f;
         took = record { bytes = []; input = keeps_consumes old.input new.input s.input; count = omega (arith, s.taken) };
         grows = omega (arith, p, s.taken);
         end = omega (arith, s.taken, s.room);
@@ -75,8 +72,8 @@ module _ {old new : State} {e : Asn1DerError} (s : StopsAt old new e) (error : E
   pub read_missing : 0 < old.room → new.faults ≡ old.faults → IsMissing old e
   read_missing r same = by_case f
     where
-      by_case : IsFaultOrEnd old.input old.faults new.faults error → IsMissing old e
-      by_case (fault rose) = absurd (omega arith)
+      by_case : IsFaultOrEnd old.input new.input old.faults new.faults error → IsMissing old e
+      by_case (fault once) = absurd (not_more (sym once ∙ same))
       by_case (end q kind left) = input_ended r left (is ∙ ap kind_of kind ∙ end_of_input)
 
 -- a peeked byte would have been the answer

@@ -1,10 +1,11 @@
 -- Steps of a deserializer, one after another.
-use Rattle.std.proofs.Common.{◌≡◌, ℕ, ◌+◌, List, [], ◌++◌, length, Option, Some, None, refl, sym, ◌∙◌, ap, arith, length-append}
+use Rattle.std.proofs.Common.{◌≡◌, ℕ, ◌+◌, List, [], ◌++◌, length, Option, Some, None, refl, sym, subst, ◌∙◌, ap, arith, length-append}
 use Rattle.std.specs.Io.KnownBytes.{Consumes}
 use Rattle.std.proofs.KnownBytes.{Consumes-nil, Consumes-trans, Keeps-refl}
 use Rattle.picky_der_core.specs.declared.error.Asn1DerError.{Asn1DerError}
 use Rattle.picky_der_core.specs.Failure.{failure_of}
 use Rattle.picky_der_core.specs.Peeking.{count_of_any}
+use Rattle.picky_der_core.specs.Reader.{TellsFault}
 use Rattle.picky_der_input.specs.State.{State}
 use Rattle.picky_der_input.specs.Steps.{Takes, Took, Fails, IsWithin, IsUnmoved, HasDrawn, IsJudged, drawn}
 
@@ -65,9 +66,9 @@ fails_after {a} {b} {c} {x} {e} h f =
     record {
       failed = f.failed;
       again = λ k w. absurd (let q : None ≡ Some k = sym h.had_not_failed ∙ w in cc);
-      faults = omega (arith, f.faults, h.faults);
-      other = λ w o. let q = f.other h.not_failed o in omega (arith, q, h.faults);
-      fault = λ w rose. f.fault h.not_failed (omega (arith, h.faults, rose));
+      faults = subst (λ l. TellsFault l c.faults c.input e) h.faults f.faults;
+      unpeeked = λ more. f.unpeeked (λ same. more (same ∙ h.faults));
+      other = λ w same. f.other h.not_failed (same ∙ sym h.faults);
       took = took_after h f.took;
       grows = omega (arith, f.grows, h.drawn, p);
       end = omega (arith, f.end, h.taken, h.room);
@@ -95,9 +96,9 @@ pub fails_again : (a : State) {e : Asn1DerError} → a.failed ≡ Some (failure_
 fails_again a {e} h = record {
   failed = h;
   again = λ f w. (let q : Some (failure_of e) ≡ Some f = sym h ∙ w in cc, unmoved a);
-  faults = omega arith;
+  faults = TellsFault.no_fault refl;
+  unpeeked = λ more. absurd (more refl);
   other = λ w. absurd (let q : None ≡ Some (failure_of e) = sym w ∙ h in cc);
-  fault = λ w. absurd (let q : None ≡ Some (failure_of e) = sym w ∙ h in cc);
   took = took_none a;
   grows = omega arith;
   end = omega arith;

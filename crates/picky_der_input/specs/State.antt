@@ -1,6 +1,7 @@
 -- What contracts see of a deserializer.
 use Rattle.std.specs.Prelude.{ℕ, List, Option, None}
 use Rattle.picky_der_core.specs.declared.failure.Failure.{Failure}
+use Rattle.picky_der_core.specs.Faults.{Fault}
 use Rattle.picky_der_input.specs.declared.end.End.{End}
 use Rattle.picky_der_input.specs.declared.end.End.TheVariants.{Limit}
 
@@ -22,13 +23,13 @@ pub record State : Type 0 where
   pub direct : Option ℕ
   -- the kind of the error that it has failed with
   pub failed : Option Failure
-  -- how often the reader failed
-  pub faults : ℕ
+  -- how the reader failed so far, the last fault first
+  pub faults : List Fault
   -- the references that it reads through, outermost first
   pub through : List ℕ
 
 -- a deserializer that has taken nothing
-abbrev pub fresh : Option (List ℕ) → ℕ → ℕ → List ℕ → State
+abbrev pub fresh : Option (List ℕ) → ℕ → List Fault → List ℕ → State
 fresh input limit faults through = record {
   input = input;
   peeked = None;

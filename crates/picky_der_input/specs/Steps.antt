@@ -5,7 +5,7 @@ use Rattle.picky_der_core.specs.declared.error.Asn1DerError.{Asn1DerError}
 use Rattle.picky_der_core.specs.declared.failure.Failure.{Failure}
 use Rattle.picky_der_core.specs.Failure.{failure_of}
 use Rattle.picky_der_core.specs.declared.error.Asn1DerError.TheVariants.{TruncatedData, Other, OutOfMemory}
-use Rattle.picky_der_core.specs.Error.{IsKindOfFault}
+use Rattle.picky_der_core.specs.Reader.{TellsFault}
 use Rattle.picky_der_core.specs.Peeking.{count_of_any}
 use Rattle.picky_der_core.specs.Refusal.{past}
 use Rattle.picky_der_core.specs.Shape.{AreBytes}
@@ -108,11 +108,12 @@ HasDrawn input taken n = IfSome input (λ bs. n ≤ taken + length bs)
 pub record Fails (old new : State) (e : Asn1DerError) : Type 0 where
   pub failed : new.failed ≡ Some (failure_of e)
   pub again : (f : Failure) → old.failed ≡ Some f → (failure_of e ≡ f) × IsUnmoved old new
-  pub faults : old.faults ≤ new.faults
-  -- `Other` comes from a fault of the reader alone
-  pub other : old.failed ≡ None → IsOther e → old.faults < new.faults
-  -- what a fault becomes is answered as that
-  pub fault : old.failed ≡ None → old.faults < new.faults → IsKindOfFault e
+  -- the reader failed at most once; then the error is what that becomes, and nothing was drawn behind it
+  pub faults : TellsFault old.faults new.faults new.input e
+  -- nor did a byte stand peeked
+  pub unpeeked : new.faults ≢ old.faults → new.peeked ≡ None
+  -- `Other` comes from a fault alone
+  pub other : old.failed ≡ None → new.faults ≡ old.faults → IsOther e → ⊥
   pub took : Took old new
   -- a peeked byte stays, or was taken
   pub grows : drawn old ≤ drawn new
@@ -177,6 +178,10 @@ pub record TakesBehind (front : List ℕ) (old new : State) (n : ℕ) (all : Lis
   pub content : List ℕ
   pub takes : TakesBytes old new n content
   pub is : all ≡ front ++ content
+
+-- a vector was made longer by no more bytes than were taken
+abbrev pub GrowsByTaken : List ℕ → List ℕ → State → State → Type 0
+GrowsByTaken before behind old new = length behind + old.taken ≤ length before + new.taken
 
 -- a content of n bytes was taken, and its first bytes are kept
 pub record TakesKept (old new : State) (n : ℕ) (kept : List ℕ) : Type 0 where

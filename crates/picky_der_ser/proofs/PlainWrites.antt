@@ -67,6 +67,6 @@ module _ {W : Type 0} (g : Ghosts W) where
         failed = record { failed = refl; again = rw f tt; first = rw f refused };
         outside = λ w. absurd (unwritable-by t past w);
         past = λ n failed. (refl, refl);
-        counted = omega arith;
+        counted = (omega arith, omega arith);
         goes_on = later;
       }

@@ -4,7 +4,7 @@ use Rattle.std.specs.Io.KnownBytes.{Appends}
 use Rattle.picky_der_core.specs.Failure.{failure_of}
 use Rattle.picky_der_core.specs.declared.asn1.wrapper.Wrapper.{Wrapper}
 use Rattle.picky_der_core.specs.Writer.{AppendsTooFew, beginning_none}
-use Rattle.picky_der_core.specs.WriterFaults.{Faulted}
+use Rattle.picky_der_core.specs.WriterFaults.{Faulted, IsOnceAtMost}
 use Rattle.picky_der_core.specs.declared.misc.writer.WriteExt.{Ghosts}
 use Rattle.picky_der_core.specs.declared.error.Asn1DerError.{Asn1DerError}
 use Rattle.picky_der_core.specs.declared.error.Asn1DerError.TheVariants.{OutOfMemory}
@@ -60,13 +60,13 @@ module _ {W : Type 0} (g : Ghosts W) where
   pub plain_outside : (t : Tree) (old new : State W) (mid : W) (levels : List Level) (r s : Result ℕ Asn1DerError) → s ≡ r → new.sink ≡ mid → new.inside ≡ levels → IsWritable t → old.failed ≡ None → old.inside ≡ []
       → OnOk r (levels ≡ []) → OnOk r ((new.around ≡ []) × (new.failed ≡ old.failed)) → IfErr r (λ e. new.failed ≡ Some (failure_of e))
       → IfOk r (λ n. Wrote g (under old.around t) old.sink n mid) → IfErr r (λ e. Refused g (under old.around t) old.sink e mid) → IfErr r (λ e. old.around ≡ [] → Faulted g old.sink e mid)
-      → OnOk r (g.faults mid ≡ g.faults old.sink) → g.faults old.sink ≤ g.faults mid → g.later old.sink mid → WritesPlain g t old s new
+      → OnOk r (g.faults mid ≡ g.faults old.sink) → IsOnceAtMost (g.faults old.sink) (g.faults mid) → g.later old.sink mid → WritesPlain g t old s new
   plain_outside t old new mid levels (Ok n) s is same x w f i j a b h k m q c l = rw is (record {
     wrote = writes_outside t old new n f i (x ∙ j) a.0 (a.1 ∙ f) (subst (λ v. Wrote g (under old.around t) old.sink n v) (sym same) h) (ap g.faults same ∙ q);
     failed = tt;
     outside = tt;
     past = λ no. absurd (no w);
-    counted = subst (λ v. g.faults old.sink ≤ g.faults v) (sym same) c;
+    counted = subst (λ v. IsOnceAtMost (g.faults old.sink) (g.faults v)) (sym same) c;
     goes_on = subst (g.later old.sink) (sym same) l;
   })
   plain_outside t old new mid levels (Err e) s is same x w f i j a b h k m q c l = rw is (record {
@@ -74,14 +74,14 @@ module _ {W : Type 0} (g : Ghosts W) where
     failed = fails_outside t old new e f i b (subst (λ v. Refused g (under old.around t) old.sink e v) (sym same) k);
     outside = λ p y z bare. subst (λ v. Faulted g old.sink e v) (sym same) (m bare);
     past = λ no. absurd (no w);
-    counted = subst (λ v. g.faults old.sink ≤ g.faults v) (sym same) c;
+    counted = subst (λ v. IsOnceAtMost (g.faults old.sink) (g.faults v)) (sym same) c;
     goes_on = subst (g.later old.sink) (sym same) l;
   })
 
-  pub plain_inside : (t : Tree) (old new : State W) (n : ℕ) → IsWritable t → Writes g t old n new → g.faults old.sink ≤ g.faults new.sink → g.later old.sink new.sink → WritesPlain g t old (Ok n) new
+  pub plain_inside : (t : Tree) (old new : State W) (n : ℕ) → IsWritable t → Writes g t old n new → IsOnceAtMost (g.faults old.sink) (g.faults new.sink) → g.later old.sink new.sink → WritesPlain g t old (Ok n) new
   plain_inside t old new n w h c l = record { wrote = h; failed = tt; outside = tt; past = λ no. absurd (no w); counted = c; goes_on = l }
 
-  pub plain_refused : (t : Tree) (old new : State W) (e : Asn1DerError) → IsWritable t → old.inside ≢ [] → Fails g t old e new → g.faults old.sink ≤ g.faults new.sink → g.later old.sink new.sink → WritesPlain g t old (Err e) new
+  pub plain_refused : (t : Tree) (old new : State W) (e : Asn1DerError) → IsWritable t → old.inside ≢ [] → Fails g t old e new → IsOnceAtMost (g.faults old.sink) (g.faults new.sink) → g.later old.sink new.sink → WritesPlain g t old (Err e) new
   plain_refused t old new e w some h c l = record { wrote = tt; failed = h; outside = λ x y inside around. absurd (some inside); past = λ no. absurd (no w); counted = c; goes_on = l }
 
   -- without wrappers, the sink took an element
@@ -116,7 +116,7 @@ module _ {W : Type 0} (g : Ghosts W) where
           record {
             wrote = writes_inside (tree_of l.header l.content) (record old { around = l.around }) new n f some (λ k ks e. z l k ks refl e) s a b writable y;
             failed = tt;
-            counted = omega (arith, ap g.faults s);
+            counted = let same = ap g.faults s in (omega (arith, same), omega (arith, same));
             goes_on = subst (g.later old.sink) (sym s) later;
           }
 

@@ -3,7 +3,7 @@ use Rattle.std.specs.Prelude.{◌≡◌, ℕ, List, [], ◌∷◌, length, None,
 use Rattle.picky_der_core.specs.declared.asn1.wrapper.Wrapper.{Wrapper}
 use Rattle.std.specs.Io.KnownBytes.{Appends}
 use Rattle.picky_der_core.specs.Writer.{AppendsBeginning}
-use Rattle.picky_der_core.specs.WriterFaults.{Faulted}
+use Rattle.picky_der_core.specs.WriterFaults.{Faulted, IsOnceAtMost}
 use Rattle.picky_der_core.specs.declared.misc.writer.WriteExt.{Ghosts}
 use Rattle.picky_der_core.specs.declared.error.Asn1DerError.{Asn1DerError}
 use Rattle.picky_der_core.specs.declared.failure.Failure.{Failure}
@@ -102,7 +102,7 @@ module _ {W : Type 0} (g : Ghosts W) where
     pub failed : IfErr r (λ e. Fails t old e new)
     pub outside : IfErr r (λ e. OnlySinkFails t old e new)
     pub past : RefusesUnwritable t old r new
-    pub counted : g.faults old.sink ≤ g.faults new.sink
+    pub counted : IsOnceAtMost (g.faults old.sink) (g.faults new.sink)
     pub goes_on : g.later old.sink new.sink
 
   -- the call writes what isn't there: the open wrappers are dropped, nothing is written, and only an earlier error is answered
@@ -170,7 +170,7 @@ module _ {W : Type 0} (g : Ghosts W) where
   pub record Ends (header : Header) (content : List ℕ) (old : State W) (r : Result ℕ Asn1DerError) (new : State W) : Type 0 where
     pub wrote : IfOk r (λ n. Writes (tree_of header content) old n new)
     pub failed : IfErr r (λ e. Fails (tree_of header content) old e new)
-    pub counted : g.faults old.sink ≤ g.faults new.sink
+    pub counted : IsOnceAtMost (g.faults old.sink) (g.faults new.sink)
     pub goes_on : g.later old.sink new.sink
 
   -- the level that was opened last has ended

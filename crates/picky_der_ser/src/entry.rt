@@ -1,5 +1,6 @@
 //! Whole values.
 ghost use Rattle.std.specs.Prelude.{◌≡◌, ◌≤◌, length, IfOk, OnOk, IfErr};
+ghost use Rattle.picky_der_core.specs.WriterFaults.{IsOnceAtMost};
 ghost use Rattle.picky_der_core.specs.Encoding.{der};
 ghost use Rattle.picky_der_core.specs.Readable.{IsWritable};
 ghost use Rattle.picky_der_core.specs.SliceSink.{slice_of};
@@ -69,7 +70,7 @@ pub fn to_writer<T: Serialize, W: WriteExt>(
     ensures ok { IfOk result (λ n. Wrote W.WriteExt.own (T.meaning value.now) writer.old n writer.new) }
     ensures no_fault { OnOk result (W.faults writer.new ≡ W.faults writer.old) }
     ensures err { IfErr result (λ e. Refused W.WriteExt.own (T.meaning value.now) writer.old e writer.new) }
-    ensures counted { W.faults writer.old ≤ W.faults writer.new }
+    ensures counted { IsOnceAtMost (W.faults writer.old) (W.faults writer.new) }
     ensures goes_on { W.later writer.old writer.new }
 {
     let mut ser = Serializer::new_to_writer(alloc, writer);

@@ -15,7 +15,6 @@ pub(crate) fn put_element<W: WriteExt>(sink: &mut W, tag: Tag, content: &[u8]) -
     ensures appends { OnOk result (Appends (W.told sink.old) (W.told sink.new) (tlv tag content.now)) }
     ensures beginning { OnErr result (AppendsTooFew (W.told sink.old) (W.told sink.new) (tlv tag content.now)) }
     ensures fault { IfErr result (λ e. Faulted W.WriteExt.own sink.old e sink.new) }
-    ensures counted { W.faults sink.old ≤ W.faults sink.new }
     ensures no_fault { OnOk result (W.faults sink.new ≡ W.faults sink.old) }
     ensures goes_on { W.later sink.old sink.new }
 {
@@ -31,7 +30,6 @@ pub(crate) fn put_headed<W: WriteExt>(sink: &mut W, headers: &[u8], content: &[u
     ensures appends { OnOk result (Appends (W.told sink.old) (W.told sink.new) (headers.now ++ content.now)) }
     ensures beginning { OnErr result (AppendsTooFew (W.told sink.old) (W.told sink.new) (headers.now ++ content.now)) }
     ensures fault { IfErr result (λ e. Faulted W.WriteExt.own sink.old e sink.new) }
-    ensures counted { W.faults sink.old ≤ W.faults sink.new }
     ensures no_fault { OnOk result (W.faults sink.new ≡ W.faults sink.old) }
     ensures goes_on { W.later sink.old sink.new }
 {

@@ -1,6 +1,7 @@
 //! The serializer.
 ghost use Rattle.std.specs.Prelude.{◌≡◌, ◌<◌, ◌≤◌, [], None, Some, false, IfOk, IfErr, OnOk};
 ghost use Rattle.std.specs.Io.KnownBytes.{Appends};
+ghost use Rattle.picky_der_core.specs.WriterFaults.{IsOnceAtMost};
 ghost use Rattle.picky_der_core.specs.Failure.{failure_of};
 ghost use Rattle.picky_der_core.specs.Tree.{Tree};
 ghost use Rattle.picky_der_ser.specs.Calls.{Writes, Fails, WritesAbsent};
@@ -32,7 +33,7 @@ pub trait Serialize {
     fn serialize<W: WriteExt>(&self, ser: &mut Serializer<W>) -> Result<usize>
         ensures wrote { IfOk result (λ n. Writes W.WriteExt.own (meaning self.now) ser.old n ser.new) }
         ensures failed { IfErr result (λ e. Fails W.WriteExt.own (meaning self.now) ser.old e ser.new) }
-        ensures counted { W.faults ser.old.sink ≤ W.faults ser.new.sink }
+        ensures counted { IsOnceAtMost (W.faults ser.old.sink) (W.faults ser.new.sink) }
         ensures goes_on { W.later ser.old.sink ser.new.sink };
 }
 
@@ -154,7 +155,7 @@ impl<W: WriteExt> Serializer<W> {
     pub fn serialize_some<T: Serialize>(&mut self, value: &T) -> Result<usize>
         ensures wrote { IfOk result (λ n. Writes W.WriteExt.own (T.meaning value.now) self.old n self.new) }
         ensures failed { IfErr result (λ e. Fails W.WriteExt.own (T.meaning value.now) self.old e self.new) }
-        ensures counted { W.faults self.old.sink ≤ W.faults self.new.sink }
+        ensures counted { IsOnceAtMost (W.faults self.old.sink) (W.faults self.new.sink) }
         ensures goes_on { W.later self.old.sink self.new.sink }
     {
         value.serialize(self)

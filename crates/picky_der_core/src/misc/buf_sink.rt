@@ -1,5 +1,5 @@
 //! A vector as a sink.
-ghost use Rattle.std.specs.Prelude.{◌≡◌, ◌+◌, ◌<◌, ◌≤◌, ◌++◌, length, take, drop, Some, IsOk, IfOk, OnOk, IfErr, OnErr, vec_len};
+ghost use Rattle.std.specs.Prelude.{◌≡◌, suc, ◌+◌, ◌<◌, ◌≤◌, ◌++◌, length, take, drop, Some, IsOk, IfOk, OnOk, IfErr, OnErr, vec_len};
 ghost use Rattle.std.specs.IoError.{error_kind};
 ghost use Rattle.std.specs.Io.KnownBytes.{Keeps, WriteAppends};
 ghost use Rattle.std.specs.Io.{WritesAtMost};
@@ -12,7 +12,7 @@ ghost use Rattle.picky_der_core.specs.Writer.{at_least, at_least_trans, later_dr
 use super::{Faults, WriteExt};
 use std::alloc::AllocError;
 use std::io;
-use std::io::{Error, Write};
+use std::io::{Error, ErrorKind, Write};
 
 // Writes the bytes over those from `at` on, and past the end.
 fn overwrite(buf: &mut Vec<u8>, at: usize, bytes: &[u8]) -> Result<(), AllocError>
@@ -39,7 +39,7 @@ fn overwrite(buf: &mut Vec<u8>, at: usize, bytes: &[u8]) -> Result<(), AllocErro
 pub struct BufSink<'a> {
     buf: &'a mut Vec<u8>,
     at: usize,
-    faults: Faults,
+    faults: Faults<()>,
     ghost within: { at ≤ vec_len buf.now },
 }
 
@@ -84,7 +84,7 @@ impl<'a> BufSink<'a> {
         ensures nothing { OnErr result (self.new.buf.now.items ≡ self.old.buf.now.items) }
         ensures some { OnErr result (0 < length bytes.now) }
         ensures kind { IfErr result (λ e. error_kind e ≡ ErrorKind.OutOfMemory) }
-        ensures fault { OnErr result (count_of self.old.faults < count_of self.new.faults) }
+        ensures fault { OnErr result (count_of self.new.faults ≡ suc (count_of self.old.faults)) }
         ensures no_fault { OnOk result (count_of self.new.faults ≡ count_of self.old.faults) }
         ensures same_reference { self.new.buf.ghost_name ≡ self.old.buf.ghost_name }
     {
@@ -94,7 +94,7 @@ impl<'a> BufSink<'a> {
                 Ok(bytes.len())
             }
             Err(e) => {
-                self.faults.raise();
+                self.faults.raise(ErrorKind::OutOfMemory, &());
                 Err(Error::from(e))
             }
         }
@@ -110,7 +110,7 @@ impl Write for BufSink<'_> {
         ensures bound { WritesAtMost result bytes.now }
         ensures bytes { WriteAppends (Some (written_of self.old)) (Some (written_of self.new)) result bytes.now }
         ensures count { IfOk result (λ n. n ≡ length bytes.now) }
-        ensures fault { IfErr result (λ e. (faults_of self.old < faults_of self.new) × (error_kind e ≡ OutOfMemory)) }
+        ensures fault { IfErr result (λ e. (faults_of self.new ≡ suc (faults_of self.old)) × (error_kind e ≡ OutOfMemory)) }
         ensures no_fault { OnOk result (faults_of self.new ≡ faults_of self.old) }
         ensures goes_on { IsLater self.old self.new }
     {

@@ -1,32 +1,33 @@
-//! The count of a device's faults, which only clauses read.
-ghost use Rattle.std.specs.Prelude.{◌≡◌, ◌+◌};
-ghost use Rattle.picky_der_core.specs.Faults.{count_of};
+//! The faults of a device, which only clauses read.
+ghost use Rattle.std.specs.Prelude.{◌≡◌, ◌+◌, [], ◌∷◌};
+ghost use Rattle.picky_der_core.specs.Faults.{faults_in};
 
+use std::io::ErrorKind;
 use std::snapshot::Snapshot;
 
-/// How often a device failed: a count without a greatest value, which takes no memory.
+/// The faults of a device so far. They take no memory, and there may be any number of them.
 #[derive(Drop)]
-pub enum Faults {
+pub enum Faults<T> {
     /// None yet.
     Fresh,
 
-    /// One more than before.
-    More(Snapshot<Faults>),
+    /// One more than before: its kind, and the device as it was behind it.
+    More(ErrorKind, Snapshot<T>, Snapshot<Faults<T>>),
 }
 
-impl Faults {
+impl<T> Faults<T> {
     /// No fault yet.
-    pub fn new() -> Faults
-        ensures { count_of result ≡ 0 }
+    pub fn new() -> Faults<T>
+        ensures { faults_in result ≡ [] }
     {
         Faults::Fresh
     }
 
-    /// One fault more.
-    pub fn raise(&mut self)
-        ensures { count_of self.new ≡ count_of self.old + 1 }
+    /// One fault more, of this kind, and what the device is behind it.
+    pub fn raise(&mut self, kind: ErrorKind, device: &T)
+        ensures { faults_in self.new ≡ record { kind = kind; device = device.now } ∷ faults_in self.old }
     {
         let before = Snapshot::of(self);
-        *self = Faults::More(before);
+        *self = Faults::More(kind, Snapshot::of(device), before);
     }
 }

@@ -5,7 +5,7 @@ ghost use Rattle.picky_der_core.specs.Element.{len as bytes_of, Begins};
 ghost use Rattle.picky_der_core.specs.Writer.{AppendsTooFew};
 ghost use Rattle.picky_der_core.specs.WriterFaults.{Faulted};
 ghost use Rattle.picky_der_core.specs.Lengths.{IsReadAs, IsRefusedAs, IsOfDevice, IsLongCount, IsNoLongCount};
-ghost use Rattle.picky_der_core.specs.Error.{IsKindOfFault};
+ghost use Rattle.picky_der_core.specs.Reader.{TellsFault};
 ghost use Rattle.picky_der_core.specs.Refusal.{length_of};
 
 use super::{ReadExt, WriteExt};
@@ -29,9 +29,8 @@ impl Length {
             → IsRefusedAs (length_of Asn1DerError.TruncatedData) (R.remaining reader.old) (R.remaining reader.new) e) }
         ensures none { OnErr result (R.faults reader.new ≡ R.faults reader.old
             → IfSome (R.remaining reader.old) (λ bs. (n : ℕ) → n < 2 ^ 64 → Begins (bytes_of n) bs → ⊥)) }
-        ensures device { IfErr result (λ e. IsOfDevice e → R.faults reader.old < R.faults reader.new) }
-        ensures told { IfErr result (λ e. R.faults reader.old < R.faults reader.new → IsKindOfFault e) }
-        ensures counted { R.faults reader.old ≤ R.faults reader.new }
+        ensures fault { IfErr result (TellsFault (R.faults reader.old) (R.faults reader.new) (R.remaining reader.new)) }
+        ensures device { IfErr result (λ e. R.faults reader.new ≡ R.faults reader.old → IsOfDevice e → ⊥) }
         ensures no_fault { OnOk result (R.faults reader.new ≡ R.faults reader.old) }
         ensures same_references { R.through reader.new ≡ R.through reader.old }
     {
@@ -54,7 +53,6 @@ impl Length {
         ensures appends { OnOk result (Appends (W.told writer.old) (W.told writer.new) (bytes_of len)) }
         ensures beginning { OnErr result (AppendsTooFew (W.told writer.old) (W.told writer.new) (bytes_of len)) }
         ensures fault { IfErr result (λ e. Faulted W.WriteExt.own writer.old e writer.new) }
-        ensures counted { W.faults writer.old ≤ W.faults writer.new }
         ensures no_fault { OnOk result (W.faults writer.new ≡ W.faults writer.old) }
         ensures goes_on { W.later writer.old writer.new }
     {

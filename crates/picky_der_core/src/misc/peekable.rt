@@ -1,8 +1,8 @@
 //! A reader whose next byte can be looked at.
-ghost use Rattle.std.specs.Prelude.{◌≡◌, ◌<◌, ◌∷◌, length, drop, Ok, None, Some, IfSome, IfOk, OnOk, OnErr};
+ghost use Rattle.std.specs.Prelude.{◌≡◌, ◌<◌, ◌∷◌, length, drop, Ok, None, Some, IfSome, IfOk, OnOk, IfErr, OnErr};
 ghost use Rattle.std.specs.Io.KnownBytes.{Keeps, ReadConsumes};
 ghost use Rattle.std.specs.Io.{ReadsAtMost};
-ghost use Rattle.picky_der_core.specs.Reader.{GivesByte, GivesNext, CountsFault};
+ghost use Rattle.picky_der_core.specs.Reader.{GivesByte, GivesNext, CountsFault, FailsOnce};
 ghost use Rattle.picky_der_core.specs.Peeking.{left_in, IsByteIfAny, count_of_any, moved};
 
 use super::ReadExt;
@@ -53,7 +53,8 @@ impl<R: ReadExt> PeekableReader<R> {
         ensures kept { OnErr result (self.new.peeked ≡ self.old.peeked) }
         ensures input { Keeps (left_in R.remaining self.old) (left_in R.remaining self.new) }
         ensures pos { self.new.pos ≡ self.old.pos }
-        ensures fault { CountsFault (left_in R.remaining self.old) (R.faults self.old.reader) (R.faults self.new.reader) result }
+        ensures fault { CountsFault (left_in R.remaining self.old) (left_in R.remaining self.new)
+            (R.faults self.old.reader) (R.faults self.new.reader) result }
         ensures same_references { R.through self.new.reader ≡ R.through self.old.reader }
     {
         if let Some(byte) = self.peeked {
@@ -112,7 +113,7 @@ impl<R: ReadExt> Read for PeekableReader<R> {
         ensures kept { OnErr result (self.new.peeked ≡ self.old.peeked) }
         ensures pos { IfOk result (λ n. self.new.pos ≡ moved self.old.pos n) }
         ensures same_pos { OnErr result (self.new.pos ≡ self.old.pos) }
-        ensures fault { OnErr result (R.faults self.old.reader < R.faults self.new.reader) }
+        ensures fault { IfErr result (FailsOnce (R.faults self.old.reader) (R.faults self.new.reader) (left_in R.remaining self.new)) }
         ensures no_fault { OnOk result (R.faults self.new.reader ≡ R.faults self.old.reader) }
         ensures same_references { R.through self.new.reader ≡ R.through self.old.reader }
     {
@@ -133,7 +134,7 @@ impl<R: ReadExt> ReadExt for PeekableReader<R> {
         ensures kept { OnErr result (self.new.peeked ≡ self.old.peeked) }
         ensures pos { IfOk result (λ next. self.new.pos ≡ moved self.old.pos (count_of_any next)) }
         ensures same_pos { OnErr result (self.new.pos ≡ self.old.pos) }
-        ensures fault { OnErr result (R.faults self.old.reader < R.faults self.new.reader) }
+        ensures fault { IfErr result (FailsOnce (R.faults self.old.reader) (R.faults self.new.reader) (left_in R.remaining self.new)) }
         ensures no_fault { OnOk result (R.faults self.new.reader ≡ R.faults self.old.reader) }
         ensures same_references { R.through self.new.reader ≡ R.through self.old.reader }
     {
@@ -158,7 +159,7 @@ impl<R: ReadExt> ReadExt for PeekableReader<R> {
         ensures kept { OnErr result (self.new.peeked ≡ self.old.peeked) }
         ensures pos { IfOk result (λ n. self.new.pos ≡ moved self.old.pos n) }
         ensures same_pos { OnErr result (self.new.pos ≡ self.old.pos) }
-        ensures fault { OnErr result (R.faults self.old.reader < R.faults self.new.reader) }
+        ensures fault { IfErr result (FailsOnce (R.faults self.old.reader) (R.faults self.new.reader) (left_in R.remaining self.new)) }
         ensures no_fault { OnOk result (R.faults self.new.reader ≡ R.faults self.old.reader) }
         ensures same_references { R.through self.new.reader ≡ R.through self.old.reader }
     {
@@ -182,7 +183,8 @@ impl<R: ReadExt> ReadExt for PeekableReader<R> {
         ensures kept { OnErr result (self.new.peeked ≡ self.old.peeked) }
         ensures pos { OnOk result (self.new.pos ≡ moved self.old.pos 1) }
         ensures same_pos { OnErr result (self.new.pos ≡ self.old.pos) }
-        ensures fault { CountsFault (left_in R.remaining self.old) (R.faults self.old.reader) (R.faults self.new.reader) result }
+        ensures fault { CountsFault (left_in R.remaining self.old) (left_in R.remaining self.new)
+            (R.faults self.old.reader) (R.faults self.new.reader) result }
         ensures same_references { R.through self.new.reader ≡ R.through self.old.reader }
     {
         match self.read_next() {

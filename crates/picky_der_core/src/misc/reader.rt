@@ -1,16 +1,17 @@
 //! Readers of one byte or of a piece at a time.
-ghost use Rattle.std.specs.Prelude.{◌≡◌, ◌<◌, ℕ, List, [], ◌∷◌, OnOk, OnErr};
+ghost use Rattle.std.specs.Prelude.{◌≡◌, ℕ, List, [], ◌∷◌, OnOk, IfErr};
 ghost use Rattle.std.specs.Io.KnownBytes.{ReadConsumes};
 ghost use Rattle.std.specs.Io.{ReadsAtMost};
-ghost use Rattle.picky_der_core.specs.Reader.{GivesByte, GivesNext, CountsFault};
+ghost use Rattle.picky_der_core.specs.Faults.{Fault};
+ghost use Rattle.picky_der_core.specs.Reader.{GivesByte, GivesNext, CountsFault, FailsOnce};
 
 use std::io;
 use std::io::{Error, ErrorKind, Read};
 
-/// A reader that gives one byte or a piece at a time, and whose faults are counted in contracts.
+/// A reader that gives one byte or a piece at a time, and whose faults are told in contracts.
 pub trait ReadExt: Read {
-    // Reads that answered an error so far. The end of the input is none.
-    ghost faults: { Self → ℕ };
+    // Reads that answered an error so far, the last first. The end of the input is none.
+    ghost faults: { Self → List Fault };
 
     // The references that it reads through, outermost first.
     ghost through: { Self → List ℕ };
@@ -18,7 +19,7 @@ pub trait ReadExt: Read {
     /// The next byte, and `None` at the end of the input. Each error is the device's, and takes no byte.
     fn read_next(&mut self) -> io::Result<Option<u8>>
         ensures byte { GivesNext (Self.remaining self.old) (Self.remaining self.new) result }
-        ensures fault { OnErr result (faults self.old < faults self.new) }
+        ensures fault { IfErr result (FailsOnce (faults self.old) (faults self.new) (Self.remaining self.new)) }
         ensures no_fault { OnOk result (faults self.new ≡ faults self.old) }
         ensures same_references { through self.new ≡ through self.old };
 
@@ -27,14 +28,14 @@ pub trait ReadExt: Read {
     fn read_some(&mut self, buf: &mut [u8]) -> io::Result<usize>
         ensures bound { ReadsAtMost result buf.new }
         ensures bytes { ReadConsumes (Self.remaining self.old) (Self.remaining self.new) result buf.new }
-        ensures fault { OnErr result (faults self.old < faults self.new) }
+        ensures fault { IfErr result (FailsOnce (faults self.old) (faults self.new) (Self.remaining self.new)) }
         ensures no_fault { OnOk result (faults self.new ≡ faults self.old) }
         ensures same_references { through self.new ≡ through self.old };
 
     /// The next byte. At the end of the input it is an error of kind `UnexpectedEof`; any other error is the device's.
     fn read_one(&mut self) -> io::Result<u8>
         ensures byte { GivesByte (Self.remaining self.old) (Self.remaining self.new) result }
-        ensures fault { CountsFault (Self.remaining self.old) (faults self.old) (faults self.new) result }
+        ensures fault { CountsFault (Self.remaining self.old) (Self.remaining self.new) (faults self.old) (faults self.new) result }
         ensures same_references { through self.new ≡ through self.old }
     {
         match self.read_next() {
@@ -46,7 +47,7 @@ pub trait ReadExt: Read {
 }
 
 impl ReadExt for &[u8] {
-    ghost faults = { λ _. 0 };
+    ghost faults = { λ _. [] };
 
     ghost through = { λ _. [] };
 

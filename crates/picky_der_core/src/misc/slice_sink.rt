@@ -1,5 +1,5 @@
 //! A slice as a sink.
-ghost use Rattle.std.specs.Prelude.{◌≡◌, ◌+◌, ◌-◌, ◌<◌, ◌≤◌, ◌++◌, ◌↔◌, min, length, take, drop, Ok, Some, IsOk, IfOk, OnOk, IfErr, OnErr};
+ghost use Rattle.std.specs.Prelude.{◌≡◌, suc, ◌+◌, ◌-◌, ◌<◌, ◌≤◌, ◌++◌, ◌↔◌, min, length, take, drop, Ok, Some, IsOk, IfOk, OnOk, IfErr, OnErr};
 ghost use Rattle.std.specs.IoError.{error_kind};
 ghost use Rattle.std.specs.declared.io.ErrorKind.{ErrorKind};
 ghost use Rattle.std.specs.declared.io.ErrorKind.TheVariants.{WriteZero};
@@ -18,7 +18,7 @@ use std::io::{Error, ErrorKind, Write};
 pub struct SliceSink<'a> {
     buf: &'a mut [u8],
     at: usize,
-    faults: Faults,
+    faults: Faults<()>,
     ghost within: { at ≤ length buf.now },
     ghost full: { 0 < count_of faults → at ≡ length buf.now },
 }
@@ -83,15 +83,14 @@ impl Write for SliceSink<'_> {
         ensures bound { WritesAtMost result bytes.now }
         ensures bytes { WriteAppends (Some (written_of self.old)) (Some (written_of self.new)) result bytes.now }
         ensures count { result ≡ Ok (min (length bytes.now) (room_of self.old)) }
-        ensures fault { room_of self.old ≡ 0 → 0 < length bytes.now → faults_of self.old < faults_of self.new }
+        ensures fault { room_of self.old ≡ 0 → 0 < length bytes.now → faults_of self.new ≡ suc (faults_of self.old) }
         ensures no_fault { 0 < room_of self.old → faults_of self.new ≡ faults_of self.old }
         ensures no_bytes { length bytes.now ≡ 0 → faults_of self.new ≡ faults_of self.old }
-        ensures counted { faults_of self.old ≤ faults_of self.new }
         ensures goes_on { IsLater self.old self.new }
     {
         let count = self.fill(bytes);
         if count == 0 && !bytes.is_empty() {
-            self.faults.raise();
+            self.faults.raise(ErrorKind::WriteZero, &());
         }
         Ok(count)
     }
@@ -123,14 +122,13 @@ impl WriteExt for SliceSink<'_> {
         ensures appends { OnOk result (Appends (Some (written_of self.old)) (Some (written_of self.new)) bytes.now) }
         ensures beginning { OnErr result (AppendsTooFew (Some (written_of self.old)) (Some (written_of self.new)) bytes.now) }
         ensures fits { IsOk result ↔ length bytes.now ≤ room_of self.old }
-        ensures fault { IfErr result (λ e. (faults_of self.old < faults_of self.new) × (error_kind e ≡ WriteZero)) }
-        ensures counted { faults_of self.old ≤ faults_of self.new }
+        ensures fault { IfErr result (λ e. (faults_of self.new ≡ suc (faults_of self.old)) × (error_kind e ≡ WriteZero)) }
         ensures no_fault { OnOk result (faults_of self.new ≡ faults_of self.old) }
         ensures goes_on { IsLater self.old self.new }
     {
         let count = self.fill(bytes);
         if count < bytes.len() {
-            self.faults.raise();
+            self.faults.raise(ErrorKind::WriteZero, &());
             return Err(Error::from(ErrorKind::WriteZero));
         }
         Ok(count)

@@ -1,9 +1,11 @@
-//! Readers and writers whose faults are counted.
-ghost use Rattle.std.specs.Prelude.{◌≡◌, ◌<◌, ◌≤◌, [], length, IfOk, OnErr, OnOk};
+//! Readers and writers whose faults are told.
+ghost use Rattle.std.specs.Prelude.{◌≡◌, ◌<◌, [], ◌∷◌, length, IfOk, IfErr, OnOk};
+ghost use Rattle.std.specs.IoError.{error_kind};
+ghost use Rattle.std.specs.declared.io.ErrorKind.TheVariants.{WriteZero};
 ghost use Rattle.std.specs.Io.KnownBytes.{WriteAppends, ReadConsumes};
 ghost use Rattle.std.specs.Io.{WritesAtMost, ReadsAtMost};
 ghost use Rattle.std.proofs.Common.{refl};
-ghost use Rattle.picky_der_core.specs.Faults.{count_of};
+ghost use Rattle.picky_der_core.specs.Faults.{faults_told};
 
 use super::{Faults, ReadExt, WriteExt};
 use std::io;
@@ -11,28 +13,28 @@ use std::io::{Error, ErrorKind, Read, Write};
 use std::marker::Model;
 
 /// Any reader or writer, as a file, a pipe or one of tests: it tells the bytes that the inner one tells, and its
-/// faults are counted.
+/// faults are told in contracts, each with its kind.
 #[derive(Drop)]
 pub struct Watched<T> {
     inner: T,
-    faults: Faults,
+    faults: Faults<T>,
 }
 
 impl<T> Model for Watched<T> {
     ghost use Rattle.picky_der_core.specs.Watching.{Watching, watching_code};
-    ghost use Rattle.picky_der_core.specs.Faults.{count_of};
+    ghost use Rattle.picky_der_core.specs.Faults.{faults_in};
 
     ghost Value = { Watching T };
 
     ghost coded = { watching_code T.code };
 
-    ghost view = { λ w. record { inner = w.inner; faults = count_of w.faults } };
+    ghost view = { λ w. record { inner = w.inner; faults = faults_in w.faults } };
 }
 
 impl<T> Watched<T> {
     /// Watches the reader or writer from here on.
     pub fn new(inner: T) -> Watched<T>
-        ensures { result ≡ record { inner = inner; faults = 0 } }
+        ensures { result ≡ record { inner = inner; faults = [] } }
     {
         Watched {
             inner,
@@ -62,13 +64,13 @@ impl<T: Read> Read for Watched<T> {
     fn read(&mut self, buf: &mut [u8]) -> io::Result<usize>
         ensures bound { ReadsAtMost result buf.new }
         ensures bytes { ReadConsumes (T.remaining self.old.inner) (T.remaining self.new.inner) result buf.new }
-        ensures fault { OnErr result (self.old.faults < self.new.faults) }
+        ensures fault { IfErr result (λ e. self.new.faults ≡ record { kind = error_kind e; device = self.new.inner } ∷ self.old.faults) }
         ensures no_fault { OnOk result (self.new.faults ≡ self.old.faults) }
     {
         match self.inner.read(buf) {
             Ok(n) => Ok(n),
             Err(e) => {
-                self.faults.raise();
+                self.faults.raise(e.kind(), &self.inner);
                 Err(e)
             }
         }
@@ -76,7 +78,7 @@ impl<T: Read> Read for Watched<T> {
 }
 
 impl<T: Read> ReadExt for Watched<T> {
-    ghost faults = { λ w. w.faults };
+    ghost faults = { λ w. faults_told T.remaining w.faults };
 
     ghost through = { λ _. [] };
 
@@ -100,21 +102,21 @@ impl<T: Write> Write for Watched<T> {
     fn write(&mut self, buf: &[u8]) -> io::Result<usize>
         ensures bound { WritesAtMost result buf.now }
         ensures bytes { WriteAppends (T.contents self.old.inner) (T.contents self.new.inner) result buf.now }
-        ensures fault { OnErr result (self.old.faults < self.new.faults) }
-        ensures nothing { IfOk result (λ n. n ≡ 0 → 0 < length buf.now → self.old.faults < self.new.faults) }
+        ensures fault { IfErr result (λ e. self.new.faults ≡ record { kind = error_kind e; device = self.new.inner } ∷ self.old.faults) }
+        ensures nothing { IfOk result (λ n. n ≡ 0 → 0 < length buf.now
+            → self.new.faults ≡ record { kind = WriteZero; device = self.new.inner } ∷ self.old.faults) }
         ensures no_fault { IfOk result (λ n. 0 < n → self.new.faults ≡ self.old.faults) }
         ensures no_bytes { length buf.now ≡ 0 → OnOk result (self.new.faults ≡ self.old.faults) }
-        ensures counted { self.old.faults ≤ self.new.faults }
     {
         match self.inner.write(buf) {
             Ok(n) => {
                 if n == 0 && !buf.is_empty() {
-                    self.faults.raise();
+                    self.faults.raise(ErrorKind::WriteZero, &self.inner);
                 }
                 Ok(n)
             }
             Err(e) => {
-                self.faults.raise();
+                self.faults.raise(e.kind(), &self.inner);
                 Err(e)
             }
         }
@@ -128,7 +130,7 @@ impl<T: Write> Write for Watched<T> {
 impl<T: Write> WriteExt for Watched<T> {
     ghost told = { λ w. T.contents w.inner };
 
-    ghost faults = { λ w. w.faults };
+    ghost faults = { λ w. length w.faults };
 
     ghost answers = { λ _. Unit {0} };
 

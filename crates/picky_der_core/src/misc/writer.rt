@@ -1,5 +1,5 @@
 //! Writers that write all of a slice, or tell a fault.
-ghost use Rattle.std.specs.Prelude.{◌≡◌, ℕ, ◌<◌, ◌≤◌, List, [], ◌∷◌, length, Option, IfOk, OnOk, IfErr, OnErr};
+ghost use Rattle.std.specs.Prelude.{◌≡◌, ℕ, suc, List, [], ◌∷◌, length, Option, IfOk, OnOk, IfErr, OnErr};
 ghost use Rattle.std.specs.IoError.{error_kind};
 ghost use Rattle.std.specs.declared.io.ErrorKind.{ErrorKind};
 ghost use Rattle.std.specs.Io.KnownBytes.{Appends};
@@ -30,8 +30,7 @@ pub trait WriteExt: Write {
         ensures count { IfOk result (λ n. n ≡ length bytes.now) }
         ensures appends { OnOk result (Appends (told self.old) (told self.new) bytes.now) }
         ensures beginning { OnErr result (AppendsTooFew (told self.old) (told self.new) bytes.now) }
-        ensures fault { IfErr result (λ e. (faults self.old < faults self.new) × answers (error_kind e)) }
-        ensures counted { faults self.old ≤ faults self.new }
+        ensures fault { IfErr result (λ e. (faults self.new ≡ suc (faults self.old)) × answers (error_kind e)) }
         ensures no_fault { OnOk result (faults self.new ≡ faults self.old) }
         ensures goes_on { later self.old self.new };
 
@@ -40,8 +39,7 @@ pub trait WriteExt: Write {
         ensures count { IfOk result (λ n. n ≡ 1) }
         ensures appends { OnOk result (Appends (told self.old) (told self.new) (byte ∷ [])) }
         ensures beginning { OnErr result (AppendsTooFew (told self.old) (told self.new) (byte ∷ [])) }
-        ensures fault { IfErr result (λ e. (faults self.old < faults self.new) × answers (error_kind e)) }
-        ensures counted { faults self.old ≤ faults self.new }
+        ensures fault { IfErr result (λ e. (faults self.new ≡ suc (faults self.old)) × answers (error_kind e)) }
         ensures no_fault { OnOk result (faults self.new ≡ faults self.old) }
         ensures goes_on { later self.old self.new }
     {

@@ -1,8 +1,8 @@
 //! Contents, which are drawn in pieces.
 ghost use Rattle.picky_der_core.specs.Failure.{failure_of};
-ghost use Rattle.std.specs.Prelude.{◌≡◌, ◌<◌, ℕ, List, length, None, Some, IfOk, IfErr, OnOk};
+ghost use Rattle.std.specs.Prelude.{◌≡◌, ◌<◌, ◌≤◌, ℕ, List, length, None, Some, IfOk, IfErr, OnOk};
 ghost use Rattle.picky_der_core.specs.Shape.{AreBytes};
-ghost use Rattle.picky_der_input.specs.Steps.{Takes, TakesBytes, TakesBehind, TakesPiece, StopsShort, Fails, IsMissing, TakesNoMemory};
+ghost use Rattle.picky_der_input.specs.Steps.{Takes, TakesBytes, TakesBehind, GrowsByTaken, TakesPiece, StopsShort, Fails, IsMissing, TakesNoMemory};
 
 use super::Input;
 use picky_der_core::misc::ReadExt;
@@ -20,28 +20,44 @@ impl<R: ReadExt> Input<R> {
         ensures direct { OnOk result (self.new.direct ≡ self.old.direct) }
         ensures err { IfErr result (StopsShort self.old self.new len) }
     {
-        self.draw_behind(Vec::new(self.alloc), len)
+        let mut content = Vec::new(self.alloc);
+        self.draw_behind(&mut content, len)?;
+        Ok(content)
     }
 
-    // Takes the content, and puts it behind what the vector holds.
-    pub(crate) fn draw_behind(&mut self, bytes: Vec<u8>, len: usize) -> Result<Vec<u8>>
+    // Takes the content, and puts it behind what the vector holds. However long it is said to be, the vector grows by what
+    // was taken alone.
+    pub(crate) fn draw_behind(&mut self, bytes: &mut Vec<u8>, len: usize) -> Result<()>
         requires had_not_failed { self.old.failed ≡ None }
         requires unpeeked { self.old.peeked ≡ None }
-        ensures ok { IfOk result (λ all. TakesBehind bytes.items self.old self.new len all.items) }
+        ensures ok { OnOk result (TakesBehind bytes.old.items self.old self.new len bytes.new.items) }
         ensures direct { OnOk result (self.new.direct ≡ self.old.direct) }
         ensures err { IfErr result (StopsShort self.old self.new len) }
+        ensures no_longer { GrowsByTaken bytes.old.items bytes.new.items self.old self.new }
     {
-        let mut all = bytes;
         let mut piece = [0; PIECE];
         let mut left = len;
         while left > 0 {
-            let count = self.draw_piece(&mut piece, left)?;
-            if all.extend_from_slice(&piece[..count]).is_err() {
-                return Err(self.fail(Asn1DerError::OutOfMemory));
-            }
-            left -= count;
+            left -= self.append_piece(bytes, &mut piece, left)?;
         }
-        Ok(all)
+        Ok(())
+    }
+
+    // Takes a piece of the content, where so many bytes are left of it, and puts it behind what the vector holds.
+    fn append_piece(&mut self, bytes: &mut Vec<u8>, piece: &mut [u8; PIECE], left: usize) -> Result<usize>
+        requires had_not_failed { self.old.failed ≡ None }
+        requires unpeeked { self.old.peeked ≡ None }
+        requires some_left { 0 < left }
+        ensures ok { IfOk result (λ n. TakesBehind bytes.old.items self.old self.new n bytes.new.items × (0 < n) × (n ≤ left)) }
+        ensures direct { OnOk result (self.new.direct ≡ self.old.direct) }
+        ensures err { IfErr result (StopsShort self.old self.new left) }
+        ensures no_longer { GrowsByTaken bytes.old.items bytes.new.items self.old self.new }
+    {
+        let count = self.draw_piece(piece, left)?;
+        if bytes.extend_from_slice(&piece[..count]).is_err() {
+            return Err(self.fail(Asn1DerError::OutOfMemory));
+        }
+        Ok(count)
     }
 
     // Takes the content, and drops it.

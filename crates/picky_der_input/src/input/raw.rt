@@ -56,7 +56,10 @@ impl<R: ReadExt> Input<R> {
             Err(error) => return Err(error),
         };
         match header(self.alloc, tag, len) {
-            Ok(bytes) => self.draw_behind(bytes, len),
+            Ok(mut bytes) => {
+                self.draw_behind(&mut bytes, len)?;
+                Ok(bytes)
+            }
             Err(error) => Err(self.fail(error)),
         }
     }

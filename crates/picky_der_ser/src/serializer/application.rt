@@ -1,5 +1,6 @@
 //! Application tags, written (X.690, 8.14).
 ghost use Rattle.std.specs.Prelude.{◌≡◌, ◌≤◌, ◌<◌, None, Err, IfOk, IfErr};
+ghost use Rattle.picky_der_core.specs.WriterFaults.{IsOnceAtMost};
 ghost use Rattle.picky_der_core.specs.Tree.{Tree};
 ghost use Rattle.picky_der_ser.specs.Calls.{Writes, Fails};
 
@@ -20,7 +21,7 @@ impl<W: WriteExt> Serializer<W> {
         ensures wrote { IfOk result (λ n. Writes W.WriteExt.own (Tree.application number (T.meaning value.now)) self.old n self.new) }
         ensures failed { IfErr result (λ e. Fails W.WriteExt.own (Tree.application number (T.meaning value.now)) self.old e self.new) }
         ensures past { 30 < number → self.old.failed ≡ None → (result ≡ Err Asn1DerError.UnsupportedValue) × (self.new.sink ≡ self.old.sink) }
-        ensures counted { W.faults self.old.sink ≤ W.faults self.new.sink }
+        ensures counted { IsOnceAtMost (W.faults self.old.sink) (W.faults self.new.sink) }
         ensures goes_on { W.later self.old.sink self.new.sink }
     {
         if let Some(error) = self.earlier() {

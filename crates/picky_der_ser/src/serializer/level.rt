@@ -1,5 +1,6 @@
 //! Levels, as a serializer opens and ends them.
 ghost use Rattle.std.specs.Prelude.{◌≡◌, ◌≢◌, ◌≤◌, List, [], ◌∷◌, None, Some, IfSome, IfNone, IsSome, IfOk, IfErr, OnOk};
+ghost use Rattle.picky_der_core.specs.WriterFaults.{IsOnceAtMost};
 ghost use Rattle.picky_der_core.specs.Failure.{failure_of};
 ghost use Rattle.picky_der_core.specs.Wrapper.{under};
 ghost use Rattle.picky_der_ser.specs.Heading.{tree_of};
@@ -33,7 +34,7 @@ impl<W: WriteExt> Serializer<W> {
         ensures still_outside { OnOk result (self.new.inside ≡ []) }
         ensures wrote { IfOk result (λ n. IfSome self.old.pending (λ l. Wrote W.WriteExt.own (under l.around (tree_of l.header content.now)) self.old.sink n self.new.sink)) }
         ensures refused { IfErr result (λ e. IfSome self.old.pending (λ l. Refused W.WriteExt.own (under l.around (tree_of l.header content.now)) self.old.sink e self.new.sink)) }
-        ensures counted { W.faults self.old.sink ≤ W.faults self.new.sink }
+        ensures counted { IsOnceAtMost (W.faults self.old.sink) (W.faults self.new.sink) }
         ensures no_fault { OnOk result (W.faults self.new.sink ≡ W.faults self.old.sink) }
         ensures goes_on { W.later self.old.sink self.new.sink }
     {
@@ -53,7 +54,7 @@ impl<W: WriteExt> Serializer<W> {
         ensures still_outside { OnOk result (self.new.inside ≡ []) }
         ensures wrote { IfOk result (λ n. IfSome self.old.pending (λ l. Wrote W.WriteExt.own (under l.around (tree_of l.header l.content)) self.old.sink n self.new.sink)) }
         ensures refused { IfErr result (λ e. IfSome self.old.pending (λ l. Refused W.WriteExt.own (under l.around (tree_of l.header l.content)) self.old.sink e self.new.sink)) }
-        ensures counted { W.faults self.old.sink ≤ W.faults self.new.sink }
+        ensures counted { IsOnceAtMost (W.faults self.old.sink) (W.faults self.new.sink) }
         ensures no_fault { OnOk result (W.faults self.new.sink ≡ W.faults self.old.sink) }
         ensures goes_on { W.later self.old.sink self.new.sink }
     {

@@ -1,5 +1,6 @@
 //! Wrappers, as a serializer opens them.
 ghost use Rattle.std.specs.Prelude.{◌≡◌, ◌≤◌, true, false, [], ◌∷◌, ◌++◌, None, Err, IfOk, IfErr, OnOk};
+ghost use Rattle.picky_der_core.specs.WriterFaults.{IsOnceAtMost};
 ghost use Rattle.picky_der_core.specs.Wrapper.{wrap, wrapper_of, wrap_if, HasTagNumber, HasTagNumberIfAny};
 ghost use Rattle.picky_der_ser.specs.Calls.{Writes, Fails, Declines};
 
@@ -45,7 +46,7 @@ impl<W: WriteExt> Serializer<W> {
         ensures wrote { IfOk result (λ n. Writes W.WriteExt.own (wrap wrapper (T.meaning value.now)) self.old n self.new) }
         ensures failed { IfErr result (λ e. Fails W.WriteExt.own (wrap wrapper (T.meaning value.now)) self.old e self.new) }
         ensures past { (HasTagNumber wrapper → ⊥) → self.old.failed ≡ None → (result ≡ Err Asn1DerError.UnsupportedValue) × (self.new.sink ≡ self.old.sink) }
-        ensures counted { W.faults self.old.sink ≤ W.faults self.new.sink }
+        ensures counted { IsOnceAtMost (W.faults self.old.sink) (W.faults self.new.sink) }
         ensures goes_on { W.later self.old.sink self.new.sink }
     {
         self.wrap(wrapper)?;
@@ -64,7 +65,7 @@ impl<W: WriteExt> Serializer<W> {
         ensures wrote { IfOk result (λ n. Writes W.WriteExt.own (wrap_if (wrapper_of kind) (T.meaning value.now)) self.old n self.new) }
         ensures failed { IfErr result (λ e. Fails W.WriteExt.own (wrap_if (wrapper_of kind) (T.meaning value.now)) self.old e self.new) }
         ensures past { (HasTagNumberIfAny (wrapper_of kind) → ⊥) → self.old.failed ≡ None → (result ≡ Err Asn1DerError.UnsupportedValue) × (self.new.sink ≡ self.old.sink) }
-        ensures counted { W.faults self.old.sink ≤ W.faults self.new.sink }
+        ensures counted { IsOnceAtMost (W.faults self.old.sink) (W.faults self.new.sink) }
         ensures goes_on { W.later self.old.sink self.new.sink }
     {
         match kind.wrapper() {

@@ -27,7 +27,7 @@ returns-in_err-byte-clause-stops g c =
     let p = err_from_is_err_and c.from_residual.result c.from_residual.ensures.1 in
     let failed = c.in_err-byte.ensures in
     let i = c.loop-drawn.invariant in
-    rw p.1 (reader_stops g.W.WriteExt i.runs _ _ _ _ _ failed.byte (omega (arith, i.reads, failed.fault)) p.2)
+    rw p.1 (reader_stops g.W.WriteExt i.runs _ _ _ _ _ failed.byte (failed.fault ∙ ap (λ l. _ ∷ l) i.reads) p.2)
 
 pub returns-in_err-answer_line-2-clause-stops : goal.returns-in_err-answer_line-2-clause-stops
 returns-in_err-answer_line-2-clause-stops g c =

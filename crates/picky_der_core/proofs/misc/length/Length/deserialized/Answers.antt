@@ -2,7 +2,8 @@ use Rattle.std.proofs.Common.{[], refl, sym, ◌∙◌, arith}
 use Rattle.std.proofs.KnownBytes.{Consumes-nil}
 use Rattle.std.proofs.lemmas.Result.{err_from_is_err_and, IfOk-weaker, IfErr-weaker}
 use Rattle.picky_der_core.specs.ElementLaws.{len-short}
-use Rattle.picky_der_core.proofs.LengthSteps.{none_from_refused, refused_missing, device_rose, refused_count, Taken-first, Taken-more, Taken-below, refused_cut, Consumes-shortest, refused_longer, read_len}
+use Rattle.picky_der_core.specs.ReaderLaws.{tells_fault}
+use Rattle.picky_der_core.proofs.LengthSteps.{none_from_refused, refused_missing, no_device, refused_count, Taken-first, Taken-more, Taken-below, refused_cut, Consumes-shortest, refused_longer, read_len}
 use Rattle.picky_der_core.proofs.misc.length.Length.deserialized.Goals as goal
 
 -- ---- the first byte
@@ -19,7 +20,12 @@ returns-in_err-first-clause-none g c = none_from_refused _ _ _ _ (returns-in_err
 pub returns-in_err-first-clause-device : goal.returns-in_err-first-clause-device
 returns-in_err-first-clause-device g c =
     let p = err_from_is_err_and c.from_residual.result c.from_residual.ensures.1 in
-    rw (p.1, p.2) (device_rose c.in_err-first.ensures.fault)
+    rw (p.1, p.2) (no_device c.in_err-first.ensures.fault)
+
+pub returns-in_err-first-clause-fault : goal.returns-in_err-first-clause-fault
+returns-in_err-first-clause-fault g c =
+    let p = err_from_is_err_and c.from_residual.result c.from_residual.ensures.1 in
+    rw (p.1, p.2) (tells_fault refl c.in_err-first.ensures.fault)
 
 pub returns-then-first-lt128-clause-ok : goal.returns-then-first-lt128-clause-ok
 returns-then-first-lt128-clause-ok g c =
@@ -57,7 +63,12 @@ returns-in_err-read_one-clause-none g c = none_from_refused _ _ _ _ (returns-in_
 pub returns-in_err-read_one-clause-device : goal.returns-in_err-read_one-clause-device
 returns-in_err-read_one-clause-device g c =
     let p = err_from_is_err_and c.from_residual-in_err-read_one.result c.from_residual-in_err-read_one.ensures.1 in
-    rw (p.1, p.2, ← c.loop.invariant.no_fault) (device_rose c.in_err-read_one.ensures.fault)
+    rw (p.1, p.2) (λ same. no_device c.in_err-read_one.ensures.fault (same ∙ sym c.loop.invariant.no_fault))
+
+pub returns-in_err-read_one-clause-fault : goal.returns-in_err-read_one-clause-fault
+returns-in_err-read_one-clause-fault g c =
+    let p = err_from_is_err_and c.from_residual-in_err-read_one.result c.from_residual-in_err-read_one.ensures.1 in
+    rw (p.1, p.2) (tells_fault c.loop.invariant.no_fault c.in_err-read_one.ensures.fault)
 
 pub overflow_add-len : goal.overflow_add-len
 overflow_add-len g c = omega (arith, Taken-below c.loop.invariant.taken c.in_ok-count.ensures.ok c.loop-test.true)
