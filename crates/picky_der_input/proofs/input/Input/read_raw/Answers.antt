@@ -1,14 +1,16 @@
 use Rattle.std.proofs.Common.{◌∙◌, ◌++◌, ap}
-use Rattle.std.proofs.lemmas.Result.{MatchResult-weaker}
-use Rattle.picky_der_input.proofs.Contents.{IfOk-both}
+use Rattle.std.proofs.lemmas.Result.{err_from_is_err_and}
 use Rattle.picky_der_input.proofs.Elements.{raw_cut, reads_raw}
 use Rattle.picky_der_input.proofs.input.Input.read_raw.Goals as goal
 
-pub returns-in-Ok-header-clause-ok : goal.returns-in-Ok-header-clause-ok
-returns-in-Ok-header-clause-ok g c =
+pub returns-in_ok-draw_behind-in-Ok-header-clause-ok : goal.returns-in_ok-draw_behind-in-Ok-header-clause-ok
+returns-in_ok-draw_behind-in-Ok-header-clause-ok g c =
     let h = c.in-Ok.ensures.ok in
     let front = c.in-Ok-header.ensures.ok in
-    IfOk-both c.draw_behind.result c.draw_behind.ensures.ok c.draw_behind.ensures.direct (λ v k d. reads_raw h k.takes (d ∙ h.direct) (k.is ∙ ap (λ x. x ++ k.content) front))
+    let k = c.in_ok-draw_behind-in-Ok-header.ensures in
+    reads_raw h k.ok.takes (k.direct ∙ h.direct) (k.ok.is ∙ ap (λ x. x ++ k.ok.content) front)
 
-pub returns-in-Ok-header-clause-err : goal.returns-in-Ok-header-clause-err
-returns-in-Ok-header-clause-err g c = MatchResult-weaker c.draw_behind.result c.draw_behind.ensures.err (λ v k. tt) (λ e k. raw_cut c.in-Ok.ensures.ok k)
+pub returns-in_err-draw_behind-in-Ok-header-clause-err : goal.returns-in_err-draw_behind-in-Ok-header-clause-err
+returns-in_err-draw_behind-in-Ok-header-clause-err g c =
+    let p = err_from_is_err_and c.from_residual.result c.from_residual.ensures.1 in
+    rw (p.1, p.2) (raw_cut c.in-Ok.ensures.ok c.in_err-draw_behind-in-Ok-header.ensures.err)
