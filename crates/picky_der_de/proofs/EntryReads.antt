@@ -8,6 +8,7 @@ use Rattle.picky_der_core.specs.Tree.{Tree}
 use Rattle.picky_der_core.specs.Encoding.{der}
 use Rattle.picky_der_core.specs.Shape.{Shape, IsSound}
 use Rattle.picky_der_core.specs.Reading.{Place, StandsAt, IsMendable}
+use Rattle.picky_der_core.specs.Faults.{Fault}
 use Rattle.picky_der_core.specs.Reader.{TellsFault}
 use Rattle.picky_der_core.specs.ReaderLaws.{not_more}
 use Rattle.picky_der_core.proofs.Unique.{same_tree}
@@ -31,6 +32,13 @@ drawn_in_front (Some bs) (Some cs) (Some b) x c = (x ++ (b ∷ []), length-appen
 left_of : (p : Option ℕ) (r : Option (List ℕ)) → p ≡ None → in_front p r ≡ r
 left_of None r e = refl
 left_of (Some b) r e = absurd (let q : Some b ≡ None = e in cc)
+
+-- what the reader told behind a fault it tells still, since no byte stands peeked there
+told_fault : {before between after : List Fault} {seen left : Option (List ℕ)} {peeked : Option ℕ} {e : Asn1DerError} → TellsFault before between seen e → (between ≢ before → peeked ≡ None) → after ≡ between → seen ≡ in_front peeked left → TellsFault before after left e
+told_fault {before = before} {left = left} {peeked = peeked} (TellsFault.fault kind once is) unpeeked same front =
+    let none = unpeeked (λ kept. not_more (sym once ∙ kept)) in
+    TellsFault.fault kind (same ∙ once ∙ ap (λ i. record { kind = kind; told = i } ∷ before) (front ∙ left_of peeked left none)) is
+told_fault (TellsFault.no_fault none) unpeeked same front = TellsFault.no_fault (same ∙ none)
 
 -- ---- what more bytes could mend
 
@@ -125,13 +133,6 @@ module _ {V : Type 0} (meaning : V → Tree) (s : Shape) {old new : State} {thro
         | inr p ↦ h.none judged any_length (der t) (ever other refl d p.rest rest k drawn p.is) m.value (record { of_shape = m.of_shape; readable = m.readable; may_stand = tt; within = m.within; front = record { rest = []; is = sym (append-nil (der t)) } })
       ])
 
-  -- what the reader told behind a fault, it tells still
-  told_fault : {e : Asn1DerError} → TellsFault before.faults new.faults new.input e → (new.faults ≢ before.faults → new.peeked ≡ None) → TellsFault before.faults after.faults after.input e
-  told_fault (TellsFault.fault kind once is) unpeeked =
-      let none = unpeeked (λ same. not_more (sym once ∙ same)) in
-      TellsFault.fault kind (faults ∙ once ∙ ap (λ i. record { kind = kind; told = i } ∷ before.faults) (left ∙ left_of new.peeked after.input none)) is
-  told_fault (TellsFault.no_fault same) unpeeked = TellsFault.no_fault (faults ∙ same)
-
   -- where none was read, none stands
   pub refuses_front : {e : Asn1DerError} → Refuses meaning s old new e → RefusesFront meaning s limit before after e
   refuses_front {e} refused =
@@ -141,7 +142,7 @@ module _ {V : Type 0} (meaning : V → Tree) (s : Shape) {old new : State} {thro
         final = λ same memory d rest k still m. final h (sym faults ∙ same) memory d rest k still m;
         first = λ same cut ahead b rest k. h.first (record { had_not_failed = refl; faults = sym faults ∙ same; memory = λ (o : e ≡ OutOfMemory). let q : TruncatedData ≡ OutOfMemory = sym cut ∙ o in cc }) cut refl ahead b rest k;
         drawn = draws h;
-        faults = told_fault h.fails.faults h.fails.unpeeked;
+        faults = told_fault h.fails.faults h.fails.unpeeked faults left;
         other = λ same. h.fails.other refl (sym faults ∙ same);
       }
 

@@ -43,7 +43,7 @@ impl<R: ReadExt> Model for Deserializer<R> {
 impl<'a> Deserializer<&'a [u8]> {
     /// Reads from a slice, whose length is the limit.
     pub fn new_from_bytes(alloc: Global, bytes: &'a [u8]) -> Deserializer<&'a [u8]>
-        ensures { result ≡ fresh (Some bytes.now) (length bytes.now) 0 [] }
+        ensures { result ≡ fresh (Some bytes.now) (length bytes.now) [] [] }
     {
         Deserializer::new_from_reader(alloc, bytes, bytes.len())
     }
