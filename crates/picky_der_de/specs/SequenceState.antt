@@ -1,5 +1,5 @@
 -- What contracts see of a sequence that is being read: the deserializer that it borrows, and the end around its own.
-use Rattle.std.specs.Borrow.{MutBor, GName}
+use Rattle.std.specs.Borrow.{GName}
 use Rattle.std.specs.declared.io.Read as read
 use Rattle.picky_der_core.specs.declared.misc.reader.ReadExt as reader
 use Rattle.picky_der_de.specs.declared.sequence.Sequence.{Sequence}

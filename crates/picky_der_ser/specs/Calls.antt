@@ -1,5 +1,5 @@
 -- What the calls of a serializer do.
-use Rattle.std.specs.Prelude.{◌≡◌, ℕ, List, [], ◌∷◌, length, None, Some, IfSome, IfNone, Option, Result, Err, IfOk, IfErr, ⊤, ◌<◌, ◌≤◌}
+use Rattle.std.specs.Prelude.{◌≡◌, ℕ, List, [], ◌∷◌, length, None, Some, IfSome, IfNone, Option, Result, Err, IfOk, IfErr, ⊤, ◌<◌}
 use Rattle.picky_der_core.specs.declared.asn1.wrapper.Wrapper.{Wrapper}
 use Rattle.std.specs.Io.KnownBytes.{Appends}
 use Rattle.picky_der_core.specs.Writer.{AppendsBeginning}

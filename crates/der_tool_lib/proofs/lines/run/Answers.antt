@@ -2,7 +2,7 @@ use Rattle.std.proofs.Common.{ℕ, ◌<◌, ◌==◌, false, rules, ◌≡◌, �
 use Rattle.std.proofs.lemmas.Bool.Decides.{Decides-eqb, not_from_Decides}
 use Rattle.std.proofs.lemmas.Result.{err_from_is_err_and}
 use Rattle.der_tool_lib.proofs.RunSteps.{run_starts, byte_drawn, line_answered, line_push, ends, ends_answered}
-use Rattle.der_tool_lib.proofs.RunStops.{reader_stops, byte_stops, line_stops, last_stops, limit_stops}
+use Rattle.der_tool_lib.proofs.RunStops.{fault_told, reader_stops, byte_stops, line_stops, last_stops, limit_stops}
 use Rattle.der_tool_lib.proofs.lines.run.Goals as goal
 use Rattle.der_tool_lib.proofs.lines.run.Goals.{then-byte-eq10+in_ok-answer_line-2, else-byte-eq10+else-is_err, then-not-is_empty+in_ok-answer_line, else-not-is_empty}
 
@@ -27,7 +27,12 @@ returns-in_err-byte-clause-stops g c =
     let p = err_from_is_err_and c.from_residual.result c.from_residual.ensures.1 in
     let failed = c.in_err-byte.ensures in
     let i = c.loop-drawn.invariant in
-    rw p.1 (reader_stops g.W.WriteExt i.runs _ _ _ _ _ failed.byte (failed.fault ∙ ap (λ l. _ ∷ l) i.reads) p.2)
+    rw p.1 (reader_stops g.W.WriteExt i.runs _ _ _ _ _ failed.byte i.reads failed.fault p.2)
+
+pub returns-in_err-byte-clause-reads : goal.returns-in_err-byte-clause-reads
+returns-in_err-byte-clause-reads g c =
+    let p = err_from_is_err_and c.from_residual.result c.from_residual.ensures.1 in
+    rw p.1 (fault_told c.loop-drawn.invariant.reads c.in_err-byte.ensures.fault p.2)
 
 pub returns-in_err-answer_line-2-clause-stops : goal.returns-in_err-answer_line-2-clause-stops
 returns-in_err-answer_line-2-clause-stops g c =
