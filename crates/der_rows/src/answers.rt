@@ -1,5 +1,6 @@
 //! The answers to rows, at any type.
 
+use crate::{apart, hostile};
 use der_fixtures::{SlowReader, SlowWriter, text_of};
 use picky_asn1_der::misc::Watched;
 use picky_asn1_der::{
@@ -8,13 +9,36 @@ use picky_asn1_der::{
 use std::alloc::{AllocError, Global};
 use std::fmt::Debug;
 
-/// The bytes of a row, and how they are given.
+/// The bytes of a row, and how they are read.
 #[derive(Drop)]
 pub(crate) struct Input {
     pub(crate) bytes: Vec<u8>,
+    pub(crate) way: Way,
+}
 
-    /// The limit of a read from a reader that gives one byte a call. Without one the bytes are read from a slice.
-    pub(crate) limit: Option<usize>,
+/// How the bytes of a row are read.
+#[derive(Clone, Copy)]
+pub(crate) enum Way {
+    /// From a slice. A value's encoding is tried as a hostile one, too.
+    Slice,
+    /// From a reader that gives one byte a call, with this limit.
+    Reader(usize),
+    /// As an encoding that is cut, limited and changed.
+    Hostile,
+    /// As values one behind the other, of which the encoding of none begins that of another.
+    Apart,
+}
+
+impl Way {
+    /// That of `read`, `draw LIMIT`, `hostile` and `apart`.
+    pub(crate) fn named(words: &str) -> Option<Way> {
+        match words {
+            "read" => Some(Way::Slice),
+            "hostile" => Some(Way::Hostile),
+            "apart" => Some(Way::Apart),
+            _ => Some(Way::Reader(words.strip_prefix("draw ")?.parse().ok()?)),
+        }
+    }
 }
 
 /// What becomes of the bytes when they are read as this type.
@@ -22,9 +46,11 @@ pub(crate) fn read_as<T: Deserialize + Debug>(
     alloc: Global,
     input: &Input,
 ) -> Result<String, AllocError> {
-    match input.limit {
-        Some(limit) => read_a_byte_a_call::<T>(alloc, &input.bytes, limit),
-        None => read_slice::<T>(alloc, &input.bytes),
+    match input.way {
+        Way::Slice => read_slice::<T>(alloc, &input.bytes),
+        Way::Reader(limit) => read_a_byte_a_call::<T>(alloc, &input.bytes, limit),
+        Way::Hostile => hostile::answer::<T>(alloc, &input.bytes),
+        Way::Apart => apart::answer::<T>(alloc, &input.bytes),
     }
 }
 
@@ -54,18 +80,21 @@ fn read_a_byte_a_call<T: Deserialize + Debug>(
     }
 }
 
-// How many bytes were taken, the bytes that the value is written as, and the value.
-fn shown<T: Serialize + Debug>(
+// How many bytes were taken, the bytes that the value is written as, and the value; or where these bytes aren't read as
+// they must be.
+fn shown<T: Deserialize + Debug>(
     alloc: Global,
     taken: usize,
     value: &T,
 ) -> Result<String, AllocError> {
-    match to_vec(alloc, value) {
-        Ok(bytes) => {
-            let row = text_of(alloc, &bytes)?;
-            format!(in alloc; "ok {taken} [{row}] {value:?}")
-        }
-        Err(error) => format!(in alloc; "ok {taken} but {error} {value:?}"),
+    let bytes = match to_vec(alloc, value) {
+        Ok(bytes) => bytes,
+        Err(error) => return format!(in alloc; "ok {taken} but {error} {value:?}"),
+    };
+    let row = text_of(alloc, &bytes)?;
+    match hostile::tried(alloc, &bytes, value) {
+        Ok(_) => format!(in alloc; "ok {taken} [{row}] {value:?}"),
+        Err(wrong) => format!(in alloc; "ok {taken} [{row}] {wrong:?}"),
     }
 }
 

@@ -2,7 +2,6 @@
 
 use crate::devices::Device;
 use crate::members;
-use der_fixtures::FailingReader;
 use picky_asn1_der::Deserializer;
 use picky_asn1_der::misc::{ReadExt, Watched};
 use std::alloc::{AllocError, Global};
@@ -27,8 +26,8 @@ pub(crate) fn answer(alloc: Global, calls: &Calls<'_>) -> Result<String, AllocEr
             answers(alloc, &mut de, calls.names)
         }
         Some(device) => {
-            let reader = FailingReader::new(&calls.bytes, device.failing, device.kind);
-            let mut de = Deserializer::new_from_reader(alloc, Watched::new(reader), device.limit);
+            let reader = Watched::new(device.fault.reader(&calls.bytes));
+            let mut de = Deserializer::new_from_reader(alloc, reader, device.limit);
             let answers = answers(alloc, &mut de, calls.names)?;
             let drawn = de.into_reader().into_inner().given();
             format!(in alloc; "{answers}, {drawn} drawn")
@@ -41,18 +40,11 @@ fn answers<R: ReadExt>(
     de: &mut Deserializer<R>,
     names: &str,
 ) -> Result<String, AllocError> {
-    let mut answers = String::new(alloc);
-    for name in names.split(", ") {
-        if !answers.is_empty() {
-            answers.push_str(", ")?;
-        }
+    Ok(answer_each!(alloc; name in names, ", ", {
         let answer = members::answer(alloc, de, name)?;
-        answers.push_str(answer.as_str())?;
         let taken = de.taken();
-        let place = format!(in alloc; " at {taken}")?;
-        answers.push_str(place.as_str())?;
-    }
-    Ok(answers)
+        format!(in alloc; "{answer} at {taken}")
+    }))
 }
 
 /// What a call answers, as text.

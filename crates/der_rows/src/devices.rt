@@ -1,16 +1,41 @@
 //! Readers and writers that rows name.
 
-use der_fixtures::Refusal;
+use der_fixtures::{FailingReader, Refusal};
 use std::io::ErrorKind;
+
+/// The number of the call that fails, counted from 1, and how it does. At 0 none fails.
+#[derive(Clone, Copy)]
+pub(crate) struct Fault {
+    call: usize,
+    kind: ErrorKind,
+}
+
+impl Fault {
+    const NONE: Fault = Fault {
+        call: 0,
+        kind: ErrorKind::Other,
+    };
+
+    /// That of `N with KIND`.
+    pub(crate) fn named(name: &str) -> Option<Fault> {
+        let (call, kind) = name.split_once(" with ")?;
+        Some(Fault {
+            call: call.parse().ok()?,
+            kind: fault_kind(kind)?,
+        })
+    }
+
+    /// A reader that gives these bytes one a call, and fails so.
+    pub(crate) fn reader(self, bytes: &[u8]) -> FailingReader<'_> {
+        FailingReader::new(bytes, self.call, self.kind)
+    }
+}
 
 /// A reader that gives one byte a call, and how many bytes may be drawn from it.
 #[derive(Clone, Copy)]
 pub(crate) struct Device {
     pub(crate) limit: usize,
-
-    /// The number of the call that fails, counted from 1, and how it does. At 0 none fails.
-    pub(crate) failing: usize,
-    pub(crate) kind: ErrorKind,
+    pub(crate) fault: Fault,
 }
 
 impl Device {
@@ -20,15 +45,12 @@ impl Device {
         let Some((limit, fault)) = name.split_once(" failing at ") else {
             return Some(Device {
                 limit: name.parse().ok()?,
-                failing: 0,
-                kind: ErrorKind::Other,
+                fault: Fault::NONE,
             });
         };
-        let (failing, kind) = fault.split_once(" with ")?;
         Some(Device {
             limit: limit.parse().ok()?,
-            failing: failing.parse().ok()?,
-            kind: fault_kind(kind)?,
+            fault: Fault::named(fault)?,
         })
     }
 }
@@ -37,19 +59,26 @@ impl Device {
 pub(crate) fn refused_call(text: &str) -> Option<(usize, Refusal, &str)> {
     let (fault, rest) = text.split_once(": ")?;
     let (call, kind) = fault.split_once(" with ")?;
-    let refusal = match kind {
-        "nothing taken" => Refusal::TakesNothing,
-        _ => Refusal::Error(fault_kind(kind)?),
-    };
-    Some((call.parse().ok()?, refusal, rest))
+    Some((call.parse().ok()?, refusal_named(kind)?, rest))
 }
 
-fn fault_kind(name: &str) -> Option<ErrorKind> {
+/// The refusal of a writer with this name.
+pub(crate) fn refusal_named(name: &str) -> Option<Refusal> {
+    match name {
+        "nothing taken" => Some(Refusal::TakesNothing),
+        _ => Some(Refusal::Error(fault_kind(name)?)),
+    }
+}
+
+/// The kind of error with this name.
+pub(crate) fn fault_kind(name: &str) -> Option<ErrorKind> {
     match name {
         "BrokenPipe" => Some(ErrorKind::BrokenPipe),
+        "Interrupted" => Some(ErrorKind::Interrupted),
         "OutOfMemory" => Some(ErrorKind::OutOfMemory),
         "TimedOut" => Some(ErrorKind::TimedOut),
         "UnexpectedEof" => Some(ErrorKind::UnexpectedEof),
+        "WriteZero" => Some(ErrorKind::WriteZero),
         _ => None,
     }
 }

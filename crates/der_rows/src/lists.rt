@@ -2,7 +2,7 @@
 
 use crate::answers::{Input, read_as};
 use crate::wrappers;
-use picky_asn1_der::asn1::{Asn1SequenceOf, Asn1SetOf, ObjectIdentifierAsn1};
+use picky_asn1_der::asn1::{Asn1SequenceOf, Asn1SetOf, ByteBuf, ObjectIdentifierAsn1};
 use picky_asn1_der::{Asn1RawDer, Row};
 use std::alloc::{AllocError, Global};
 
@@ -10,7 +10,9 @@ use std::alloc::{AllocError, Global};
 pub(crate) fn answer(alloc: Global, name: &str, input: &Input) -> Result<String, AllocError> {
     match name {
         "Vec<u8>" => read_as::<Vec<u8>>(alloc, input),
+        "Vec<ByteBuf>" => read_as::<Vec<ByteBuf>>(alloc, input),
         "Vec<Vec<u8>>" => read_as::<Vec<Vec<u8>>>(alloc, input),
+        "Vec<Vec<ByteBuf>>" => read_as::<Vec<Vec<ByteBuf>>>(alloc, input),
         "Vec<Option<u8>>" => read_as::<Vec<Option<u8>>>(alloc, input),
         "Vec<Asn1RawDer>" => read_as::<Vec<Asn1RawDer>>(alloc, input),
         "Asn1SequenceOf<u8>" => read_as::<Asn1SequenceOf<u8>>(alloc, input),

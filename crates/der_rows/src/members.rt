@@ -96,19 +96,11 @@ fn member_answers<R: ReadExt>(
     members: &mut de::Sequence<'_, R>,
     names: &str,
 ) -> Result<String, AllocError> {
-    let mut answers = String::new(alloc);
-    for name in names.split("; ") {
-        if !answers.is_empty() {
-            answers.push_str("; ")?;
-        }
-        let answer = match name {
-            "next_element" => shown(alloc, &members.next_element::<u8>()),
-            "next_field" => shown(alloc, &members.next_field::<u8>()),
-            "next_tag" => shown(alloc, &members.next_tag()),
-            "drop" => String::from_str(alloc, "dropped"),
-            _ => String::from_str(alloc, "unknown call"),
-        };
-        answers.push_str(answer?.as_str())?;
-    }
-    Ok(answers)
+    Ok(answer_each!(alloc; name in names, "; ", match name {
+        "next_element" => shown(alloc, &members.next_element::<u8>()),
+        "next_field" => shown(alloc, &members.next_field::<u8>()),
+        "next_tag" => shown(alloc, &members.next_tag()),
+        "drop" => String::from_str(alloc, "dropped"),
+        _ => String::from_str(alloc, "unknown call"),
+    }))
 }

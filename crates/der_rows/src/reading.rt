@@ -56,6 +56,7 @@ fn answer_tag<R: ReadExt>(
         "deserialize_option" => shown(alloc, &de.deserialize_option::<u8>()),
         "deserialize_application 30" => shown(alloc, &de.deserialize_application::<u8>(30)),
         "ImplicitContextTag1<u8>" => shown(alloc, &ImplicitContextTag1::<u8>::deserialize(de)),
+        "Vec<u8>" => shown(alloc, &Vec::<u8>::deserialize(de)),
         "deserialize_identifier" => shown(alloc, &de.deserialize_identifier()),
         "deserialize_enum" => shown(alloc, &de.deserialize_enum("Any", &["list"])),
         _ => answer_refused(alloc, de, name),

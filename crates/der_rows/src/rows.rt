@@ -1,53 +1,11 @@
 //! The forms of rows.
 
-use crate::answers::Input;
 use crate::calls::Calls;
 use crate::devices::{Device, refused_call};
-use crate::{calls, plain, tool, values, writing};
-use der_fixtures::{Refusal, bytes_of};
+use crate::notation::bytes_in;
+use crate::{calls, streams, tool, typed, values, writing};
+use der_fixtures::Refusal;
 use std::alloc::{AllocError, Global};
-
-// What a row asks.
-#[derive(Clone, Copy)]
-enum Row<'a> {
-    // Nothing.
-    Heading,
-    // Bytes to be read as a type.
-    Read(&'a str),
-    // The same, from a reader with a limit.
-    Draw(&'a str),
-    // A value to be written.
-    Write(&'a str),
-    // Calls of a deserializer.
-    Call(&'a str),
-    // Calls of a serializer.
-    Put(&'a str),
-    // The same, over a writer that fails.
-    PutFailing(&'a str),
-    // A line of the tool.
-    Tool(&'a str),
-    Unknown,
-}
-
-impl<'a> Row<'a> {
-    fn of(row: &'a str) -> Row<'a> {
-        if row.is_empty() || row.starts_with('#') {
-            return Row::Heading;
-        }
-        match row.split_once(" ") {
-            Some(("read", rest)) => Row::Read(rest),
-            Some(("draw", rest)) => Row::Draw(rest),
-            Some(("write", rest)) => Row::Write(rest),
-            Some(("call", rest)) => Row::Call(rest),
-            Some(("put", rest)) => match rest.strip_prefix("failing at ") {
-                Some(rest) => Row::PutFailing(rest),
-                None => Row::Put(rest),
-            },
-            Some(("tool", rest)) => Row::Tool(rest),
-            _ => Row::Unknown,
-        }
-    }
-}
 
 /// The answer to a row. An empty line and a heading, which begins with `#`, are their own answers.
 ///
@@ -55,54 +13,41 @@ impl<'a> Row<'a> {
 /// |---|---|
 /// | `read [BYTES] as TYPE` | `ok TAKEN [BYTES] VALUE` with the bytes that the value is written as, or `refused ERROR` |
 /// | `draw LIMIT [BYTES] as TYPE` | the same of a reader that gives a byte a call, with the bytes that were drawn for TAKEN, or `refused ERROR after DRAWN` |
+/// | `hostile [BYTES] as TYPE` | with each byte of this encoding replaced by each of 256, how many are values, and how many are refused with each error |
+/// | `apart [BYTES] as TYPE` | how many values stand one behind the other, where the encoding of none begins with that of another |
+/// | `sweep readers failing with KIND [BYTES] as TYPE` | what is answered where the reader's call with each number from 0 on fails so; at 0 none fails |
+/// | `sweep writers failing with KIND [BYTES] as TYPE` | the same of a writer, to which the value is written that these bytes encode |
+/// | `sweep slices [BYTES] as TYPE` | the same of slices of each length from 0 on |
+/// | `sweep vectors [BYTES] as TYPE` | the same of vectors that are written over |
 /// | `write VALUE` | `ok COUNT [BYTES]`, or `refused ERROR [BYTES]` with the bytes that were written by then |
 /// | `call [BYTES] CALLS` | what each call of one deserializer answers, and how many bytes are taken then |
 /// | `call limit LIMIT [BYTES] CALLS` | the same of a reader that gives a byte a call, and how many bytes were drawn |
 /// | `call limit LIMIT failing at N with KIND [BYTES] CALLS` | the same of one whose call number N fails so |
 /// | `put CALLS` | what each call of one serializer answers, and the bytes that reach the writer |
 /// | `put failing at N with KIND: CALLS` | the same over a writer that takes a byte a call and whose call number N fails so |
+/// | `stream [BYTES] CALLS` | what each call of a reader over memory answers, and how many bytes are left |
+/// | `stream failing at N with KIND [BYTES] CALLS` | the same of one that gives a byte a call and whose call number N fails so, and how many bytes were drawn |
+/// | `peek ..` | as `stream ..`, of a reader whose next byte can be looked at, and how many bytes were handed out then |
+/// | `sink failing at N with KIND: CALLS` | what each call of a writer of a byte a call answers whose call number N fails so, and the bytes that it took |
+/// | `fill LENGTH CALLS` | the same of a writer over a slice of so many bytes EE, and what the slice holds |
 /// | `tool "LINE"` | the answer of `der_tool` to that line |
+///
+/// What stands N times in bytes and lines may be written as `N*PART`.
 pub(crate) fn answer_to(alloc: Global, row: &str) -> Result<String, AllocError> {
-    match Row::of(row) {
-        Row::Heading => String::from_str(alloc, row),
-        Row::Read(rest) => answer_read(alloc, None, rest),
-        Row::Draw(rest) => answer_draw(alloc, rest),
-        Row::Write(value) => values::answer(alloc, value),
-        Row::Call(rest) => answer_calls(alloc, rest),
-        Row::Put(names) => writing::answer(alloc, 0, Refusal::TakesNothing, names),
-        Row::PutFailing(rest) => match refused_call(rest) {
-            Some((call, refusal, names)) => writing::answer(alloc, call, refusal, names),
-            None => String::from_str(alloc, "unknown writer"),
-        },
-        Row::Tool(line) => tool::answer(alloc, line),
-        Row::Unknown => String::from_str(alloc, "unknown row"),
+    if row.is_empty() || row.starts_with('#') {
+        return String::from_str(alloc, row);
     }
-}
-
-// Bytes and the type that they are read as, from a reader with this limit or from a slice.
-fn answer_read(alloc: Global, limit: Option<usize>, row: &str) -> Result<String, AllocError> {
-    match asked(alloc, row) {
-        Some((bytes, name)) => plain::answer(alloc, name, &Input { bytes, limit }),
-        None => String::from_str(alloc, "unknown bytes"),
+    match row.split_once(" ") {
+        Some(("write", value)) => values::answer(alloc, value),
+        Some(("call", rest)) => answer_calls(alloc, rest),
+        Some(("put", rest)) => answer_puts(alloc, rest),
+        Some(("stream", rest)) => streams::answer_stream(alloc, rest),
+        Some(("peek", rest)) => streams::answer_peek(alloc, rest),
+        Some(("sink", rest)) => streams::answer_sink(alloc, rest),
+        Some(("fill", rest)) => streams::answer_fill(alloc, rest),
+        Some(("tool", line)) => tool::answer(alloc, line),
+        _ => typed::answer(alloc, row),
     }
-}
-
-// The bytes of a row, and what stands behind `] as `.
-fn asked(alloc: Global, row: &str) -> Option<(Vec<u8>, &str)> {
-    let (bytes, name) = row.strip_prefix("[")?.split_once("] as ")?;
-    Some((bytes_of(alloc, bytes).ok()?, name))
-}
-
-fn answer_draw(alloc: Global, row: &str) -> Result<String, AllocError> {
-    match limited(row) {
-        Some((limit, rest)) => answer_read(alloc, Some(limit), rest),
-        None => String::from_str(alloc, "unknown limit"),
-    }
-}
-
-fn limited(row: &str) -> Option<(usize, &str)> {
-    let (limit, rest) = row.split_once(" ")?;
-    Some((limit.parse().ok()?, rest))
 }
 
 fn answer_calls(alloc: Global, row: &str) -> Result<String, AllocError> {
@@ -120,10 +65,20 @@ fn called(alloc: Global, row: &str) -> Option<Calls<'_>> {
         "" => None,
         _ => Some(Device::named(source)?),
     };
-    let bytes = bytes_of(alloc, bytes).ok()?;
+    let bytes = bytes_in(alloc, bytes)?;
     Some(Calls {
         bytes,
         device,
         names,
     })
+}
+
+fn answer_puts(alloc: Global, row: &str) -> Result<String, AllocError> {
+    let Some(rest) = row.strip_prefix("failing at ") else {
+        return writing::answer(alloc, 0, Refusal::TakesNothing, row);
+    };
+    match refused_call(rest) {
+        Some((call, refusal, names)) => writing::answer(alloc, call, refusal, names),
+        None => String::from_str(alloc, "unknown writer"),
+    }
 }

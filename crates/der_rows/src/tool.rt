@@ -1,5 +1,6 @@
 //! Lines of `der_tool`.
 
+use crate::notation::expanded;
 use der_tool_lib::run;
 use picky_asn1_der::misc::BufSink;
 use std::alloc::{AllocError, Global};
@@ -9,6 +10,7 @@ pub(crate) fn answer(alloc: Global, row: &str) -> Result<String, AllocError> {
     let Some(line) = quoted(row) else {
         return String::from_str(alloc, "unknown line");
     };
+    let line = expanded(alloc, line)?;
     let mut input = line.as_bytes();
     let mut text = Vec::new(alloc);
     let mut output = BufSink::new(&mut text);

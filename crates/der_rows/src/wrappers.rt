@@ -20,6 +20,12 @@ pub(crate) fn answer(alloc: Global, name: &str, input: &Input) -> Result<String,
             alloc, input,
         ),
         "BitStringAsn1Container<u8>" => read_as::<BitStringAsn1Container<u8>>(alloc, input),
+        "BitStringAsn1Container<ByteBuf>" => read_as::<BitStringAsn1Container<ByteBuf>>(
+            alloc, input,
+        ),
+        "ExplicitContextTag0<BitStringAsn1Container<ByteBuf>>" => read_as::<
+            ExplicitContextTag0<BitStringAsn1Container<ByteBuf>>,
+        >(alloc, input),
         "ExplicitContextTag0<BitStringAsn1Container<u8>>" => read_as::<
             ExplicitContextTag0<BitStringAsn1Container<u8>>,
         >(alloc, input),
@@ -27,6 +33,9 @@ pub(crate) fn answer(alloc: Global, name: &str, input: &Input) -> Result<String,
         "ExplicitContextTag0<Asn1RawDer>" => read_as::<ExplicitContextTag0<Asn1RawDer>>(
             alloc, input,
         ),
+        "ExplicitContextTag0<(u8,)>" => read_as::<ExplicitContextTag0<(u8,)>>(alloc, input),
+        "ExplicitContextTag0<Vec<u8>>" => read_as::<ExplicitContextTag0<Vec<u8>>>(alloc, input),
+        "(ExplicitContextTag0<u8>,)" => read_as::<(ExplicitContextTag0<u8>,)>(alloc, input),
         "(ExplicitContextTag0<Option<u8>>, u8)" => read_as::<(ExplicitContextTag0<Option<u8>>, u8)>(
             alloc, input,
         ),

@@ -18,14 +18,7 @@ pub(crate) fn answer(
 ) -> Result<String, AllocError> {
     let writer = Watched::new(FailingWriter::new(alloc, failing, refusal));
     let mut ser = Serializer::new_to_writer(alloc, writer);
-    let mut answers = String::new(alloc);
-    for name in names.split(", ") {
-        if !answers.is_empty() {
-            answers.push_str(", ")?;
-        }
-        let answer = answer_call(alloc, &mut ser, name)?;
-        answers.push_str(answer.as_str())?;
-    }
+    let answers = answer_each!(alloc; name in names, ", ", answer_call(alloc, &mut ser, name));
     let writer = ser.into_writer().into_inner();
     let row = text_of(alloc, writer.taken())?;
     format!(in alloc; "{answers} [{row}]")

@@ -1,5 +1,5 @@
-//! Tests of what no row of bytes says: of entry calls, readers and writers, long contents and texts. The rows of bytes
-//! stand beside the program `der_rows`.
+//! Tests of what no row of bytes says: of entry calls, a long content and texts. The rows of bytes stand beside the
+//! program `der_rows`.
 #![tactic(auto)]
 
 #[cfg(test)]

@@ -1,54 +1,15 @@
-//! What the entry calls leave in a slice, in a vector, and in a device.
+//! What the entry calls answer one after another, and what they leave in a slice and in a device.
 
-use der_fixtures::{
-    FailingReader, FailingWriter, Refusal, SlowReader, SlowWriter, bytes_of, text_of,
-};
-use der_tool_lib::TestStruct;
-use picky_asn1_der::Asn1DerError::{InvalidSink, Other, OutOfMemory, TruncatedData};
+use der_fixtures::{SlowReader, SlowWriter, bytes_of, text_of};
+use picky_asn1_der::Asn1DerError::{InvalidSink, TruncatedData};
 use picky_asn1_der::asn1::{ByteBuf, Bytes, PrintableStringAsn1};
 use picky_asn1_der::misc::{PeekableReader, ReadExt, Watched};
 use picky_asn1_der::round_trip::{read_back, written_back};
 use picky_asn1_der::{
-    Length, Serializer, de, from_bytes, from_reader, from_reader_with_max_len, to_byte_buf,
-    to_bytes, to_writer,
+    Length, Serializer, de, from_bytes, from_reader, from_reader_with_max_len, to_writer,
 };
-use std::alloc::{AllocError, Global};
-use std::io::ErrorKind;
+use std::alloc::Global;
 use std::test::Fail;
-
-#[test]
-fn a_vector_keeps_what_lies_past_the_encoding(rt: HostRuntime) -> Result<(), Fail> {
-    let mut out = bytes_of(rt.alloc(), "09 09 09 09 09")?;
-    same!(rt; to_byte_buf(rt.alloc(), &(), &mut out), Ok(2));
-    same!(rt; text_of(rt.alloc(), &out)?.as_str(), "05 00 09 09 09");
-    Ok(())
-}
-
-#[test]
-fn a_slice_keeps_what_lies_past_the_encoding(rt: HostRuntime) -> Result<(), Fail> {
-    let mut room = [9; 5];
-    same!(rt; to_bytes(rt.alloc(), &7u8, &mut room), Ok(3));
-    same!(rt; text_of(rt.alloc(), &room)?.as_str(), "02 01 07 09 09");
-    Ok(())
-}
-
-#[test]
-fn slices_of_each_length_are_filled(rt: HostRuntime) {
-    let encoding = [0x02, 0x01, 0x07];
-    for room in 0..6 {
-        let mut buf = [9; 5];
-        let slice = &mut buf[..room];
-        let answer = to_bytes(rt.alloc(), &7u8, slice);
-        let filled = room.min(3);
-        same!(rt; &slice[..filled], &encoding[..filled], room);
-        same!(rt; slice[filled..].iter().all(|byte| *byte == 9), true, room);
-        let wanted = match room {
-            0..3 => Err(InvalidSink),
-            _ => Ok(3),
-        };
-        same!(rt; answer, wanted, room);
-    }
-}
 
 #[test]
 fn a_value_goes_there_and_back(rt: HostRuntime) -> Result<(), Fail> {
@@ -68,22 +29,6 @@ fn a_writer_takes_one_value_after_another(rt: HostRuntime) -> Result<(), Fail> {
     same!(rt; to_writer(rt.alloc(), &(), &mut writer), Ok(2));
     let taken = text_of(rt.alloc(), writer.get_ref().taken())?;
     same!(rt; taken.as_str(), "04 01 AA 05 00");
-    Ok(())
-}
-
-#[test]
-fn a_failing_reader_gives_its_error(rt: HostRuntime) -> Result<(), Fail> {
-    let bytes = bytes_of(rt.alloc(), "0C 01 41")?;
-    for (kind, error) in [
-        (ErrorKind::TimedOut, Other(ErrorKind::TimedOut)),
-        (ErrorKind::UnexpectedEof, TruncatedData),
-        (ErrorKind::OutOfMemory, OutOfMemory),
-    ] {
-        let mut reader = Watched::new(FailingReader::new(&bytes, 2, kind));
-        let answer = from_reader::<char, _>(rt.alloc(), &mut reader);
-        same!(rt; answer, Err(error), kind);
-        same!(rt; reader.get_ref().given(), 1, kind);
-    }
     Ok(())
 }
 
@@ -113,27 +58,6 @@ fn a_slice_is_filled_by_each_call(rt: HostRuntime) {
     same!(rt; ser.serialize_unit(), Err(InvalidSink));
     drop(ser);
     same!(rt; room, [0x02, 0x01, 0x07, 0x05, 0x00, 0x05]);
-}
-
-// A struct whose encoding has 23 bytes, of which the first four are a header and that of its first field.
-fn testolope(alloc: Global) -> Result<TestStruct, AllocError> {
-    Ok(TestStruct {
-        number: 7,
-        vec: ByteBuf(Vec::from_slice(alloc, b"Testolope")?),
-        tuple: (4, ()),
-    })
-}
-
-#[test]
-fn a_writer_fails_at_its_fifth_call(rt: HostRuntime) -> Result<(), Fail> {
-    let alloc = rt.alloc();
-    let refusal = Refusal::Error(ErrorKind::BrokenPipe);
-    let mut writer = Watched::new(FailingWriter::new(alloc, 5, refusal));
-    let answer = to_writer(alloc, &testolope(alloc)?, &mut writer);
-    same!(rt; answer, Err(Other(ErrorKind::BrokenPipe)));
-    let taken = text_of(alloc, writer.get_ref().taken())?;
-    same!(rt; taken.as_str(), "30 15 02 01");
-    Ok(())
 }
 
 // This header, and so many zero bytes.

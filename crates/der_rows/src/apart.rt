@@ -1,0 +1,56 @@
+//! Values of one type, of which no encoding begins another.
+
+use picky_asn1_der::misc::ReadExt;
+use picky_asn1_der::{Deserialize, Deserializer, to_vec};
+use std::alloc::{AllocError, Global};
+
+/// How many values stand in the bytes, one behind the other, where the encoding of none begins with that of another.
+pub(crate) fn answer<T: Deserialize>(alloc: Global, bytes: &[u8]) -> Result<String, AllocError> {
+    let mut encodings = Vec::new(alloc);
+    let mut de = Deserializer::new_from_bytes(alloc, bytes);
+    for _ in 0..bytes.len() {
+        if de.taken() == bytes.len() {
+            break;
+        }
+        match next_encoding::<T, _>(alloc, &mut de) {
+            Ok(encoding) => encodings.push(encoding)?,
+            Err(error) => return format!(in alloc; "refused {error}"),
+        }
+    }
+    match clash(&encodings) {
+        Some((shorter, longer)) => format!(in alloc; "{longer} begins with {shorter}"),
+        None => {
+            let count = encodings.len();
+            format!(in alloc; "{count} encodings")
+        }
+    }
+}
+
+// What the next value is written as.
+fn next_encoding<T: Deserialize, R: ReadExt>(
+    alloc: Global,
+    de: &mut Deserializer<R>,
+) -> picky_asn1_der::Result<Vec<u8>> {
+    let value = T::deserialize(de)?;
+    to_vec(alloc, &value)
+}
+
+// The place of an encoding, and that of another that begins with it.
+fn clash(encodings: &[Vec<u8>]) -> Option<(usize, usize)> {
+    for (place, encoding) in encodings.iter().enumerate() {
+        if let Some(other) = beginning_with(encodings, encoding, place) {
+            return Some((place, other));
+        }
+    }
+    None
+}
+
+// The first that begins so, at another place than this.
+fn beginning_with(encodings: &[Vec<u8>], front: &[u8], place: usize) -> Option<usize> {
+    for (other, encoding) in encodings.iter().enumerate() {
+        if other != place && encoding.starts_with(front) {
+            return Some(other);
+        }
+    }
+    None
+}
