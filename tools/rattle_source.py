@@ -143,14 +143,22 @@ class Edit:
         return {name: after.get(name) for name in {*before, *after} if before.get(name) != after.get(name)}
 
     def clashes_with(self, other):
-        """Whether both change one function, or add one of the same name to a type, whose methods may stand in several files."""
+        """Whether both change one function, or add one of the same name to a type, whose methods may stand in several files; or
+        both are about one function."""
         names = {name if name in self.own else name[1:] for name in self.changed}
-        return any((name if name in other.own else name[1:]) in names for name in other.changed)
+        return any((name if name in other.own else name[1:]) in names for name in other.changed) or not set(self.own).isdisjoint(other.own)
+
+    def names(self, function):
+        """Whether this is the function in the edit's name."""
+        path, block, name = function
+        file, called = self.name.split(".")[:2]
+        return path == f"src/{file.replace('-', '/')}.rt" and called in (name, f"{block}-{name}")
 
     def own_functions(self, texts):
-        """The functions that the edit is about: those whose text it changes, or else those that it adds."""
+        """The functions that the edit is about: those whose text it changes; or else the one in its name, as a law of what it adds;
+        or else those that it adds."""
         before, changed = all_functions(texts), self.changes(texts)
-        return sorted([it for it in changed if it in before] or changed)
+        return sorted([it for it in changed if it in before] or [it for it in before if self.names(it)] or changed)
 
 
 def all_functions(texts):

@@ -1,5 +1,6 @@
 //! Application tags around values (X.690, 8.14).
 ghost use Rattle.std.specs.Prelude.{◌≡◌, IfOk, IfErr};
+ghost use Rattle.picky_der_core.specs.Equality.{IsThatOf};
 ghost use Rattle.picky_der_core.specs.Tree.{Tree};
 ghost use Rattle.picky_der_core.specs.Shape.{Shape};
 ghost use Rattle.picky_der_input.specs.declared.enclosure.Enclosure.TheVariants as enclosure;
@@ -14,6 +15,11 @@ use std::fmt::Debug;
 pub struct ApplicationTag<V, const T: u8>(pub V)
 where
     V: Debug + PartialEq;
+
+/// Two values under one application tag are equal just where they are without it.
+pub fn equality<V: Debug + PartialEq, const T: u8>()
+    ensures { IsThatOf ⟦<ApplicationTag<V, T> as PartialEq>⟧.eq (λ tagged. tagged.0) V.eq }
+{}
 
 impl<V: Debug + PartialEq + Clone, const T: u8> ApplicationTag<V, T> {
     /// A copy. `OutOfMemory` where memory is refused.

@@ -1,5 +1,9 @@
 //! Elements that are kept as they are.
 ghost use Rattle.std.specs.Prelude.{◌≡◌, IfOk, IfErr};
+ghost use Rattle.std.specs.Cmp.Lexicographic.{slice_cmp};
+ghost use Rattle.std.specs.Ordering.{nat_cmp};
+ghost use Rattle.std.specs.Hash as fed;
+ghost use Rattle.picky_der_core.specs.Equality.{IsEqualityOf, IsThatOf};
 ghost use Rattle.picky_der_core.specs.Tree.{Tree};
 ghost use Rattle.picky_der_core.specs.Shape.{Shape};
 ghost use Rattle.picky_der_de.specs.KnownLaws.{raw_known};
@@ -9,11 +13,20 @@ use picky_der_core::{Asn1DerError, Result};
 use picky_der_de::{Deserialize, Deserializer};
 use picky_der_ser::{Serialize, Serializer};
 use std::fmt;
+use std::hash::Hash;
 
 /// One element, whatever its tag, by its bytes with the header (X.690, 8.1.1). They are written as they stand: what
 /// isn't just one element isn't read back as this.
 #[derive(Clone, Drop, PartialEq, Eq, PartialOrd, Hash)]
 pub struct Asn1RawDer(pub Vec<u8>);
+
+/// Raw elements are equal just where their bytes are the same. They are ordered as their bytes are, at the first place
+/// where these differ, and hashed as a list of these.
+pub fn comparisons()
+    ensures equal { IsEqualityOf ⟦<Asn1RawDer as PartialEq>⟧.eq (λ raw. raw.0.items) }
+    ensures order { IsThatOf ⟦<Asn1RawDer as PartialOrd>⟧.partial_cmp (λ raw. raw.0.items) (λ x y. Some (slice_cmp nat_cmp x y)) }
+    ensures hash { (raw : _) → ⟦<Asn1RawDer as Hash>⟧.hash_input raw ≡ fed.slice fed.u8 raw.0.items }
+{}
 
 impl Asn1RawDer {
     /// The name of the type.

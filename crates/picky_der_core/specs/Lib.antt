@@ -1,5 +1,6 @@
 pub mod Error
 pub mod Failure
+pub mod Equality
 pub mod Tag
 pub mod Element
 pub mod Tree

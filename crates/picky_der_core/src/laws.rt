@@ -1,5 +1,8 @@
 //! The laws of canonical DER: each is the contract of a function without arguments, over the definitions alone.
+//! Beside them stand those of `==`.
 ghost use Rattle.picky_der_core.specs.Laws.{LengthBothWays, WrapperLengths, FirstsTell, UniqueReadability, OneValue, RoundTrip, SameBytes, OneInside};
+
+pub mod equality;
 
 /// A length that begins another length, followed by any bytes, is that length (X.690, 8.1.3 and 10.1).
 pub fn length_both_ways()

@@ -1,5 +1,6 @@
 //! Sequences of members of any types.
 ghost use Rattle.std.specs.Prelude.{◌≡◌, IfErr, OnOk};
+ghost use Rattle.picky_der_core.specs.Equality.{IsThatOf};
 ghost use Rattle.picky_der_core.specs.Tree.{ListKind, Tree, Trees};
 ghost use Rattle.picky_der_ser.specs.Calls.{GainsRow, RejectsRow};
 
@@ -43,6 +44,13 @@ impl<A: Serialize, B: SerializeMembers> SerializeMembers for (A, B) {
 /// be read as one.
 #[derive(Debug, Clone, Drop, PartialEq, Eq)]
 pub struct Row<M>(pub M);
+
+impl<M: PartialEq> Row<M> {
+    /// Two rows are equal just where their members are.
+    pub fn equality()
+        ensures { IsThatOf ⟦<Row<M> as PartialEq>⟧.eq (λ row. row.0) M.eq }
+    {}
+}
 
 impl<M: SerializeMembers> Serialize for Row<M> {
     ghost meaning = { λ row. Tree.list ListKind.sequence (M.members row.0) };

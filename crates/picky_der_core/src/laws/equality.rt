@@ -1,0 +1,50 @@
+//! When two values of a type of this crate are equal by `==`: each law is the contract of a function that does nothing.
+//!
+//! Reading tells a value up to `==`, so these say how much it tells.
+ghost use Rattle.std.specs.Cmp.Lexicographic.{pointwise};
+ghost use Rattle.picky_der_core.specs.Equality.{IsEqualityOf, IsThatOf, compared};
+
+use crate::asn1::{
+    Asn1SequenceOf, Asn1SetOf, BitStringAsn1Container, ByteBuf, Bytes, ExplicitContextTag,
+    ImplicitContextTag, Newtype, OctetStringAsn1Container, Tag, TagClass, TaggedBytes, Wrapper,
+};
+use crate::{Asn1DerError, Failure};
+
+/// Octet strings, and bytes under one tag, are equal just where their bytes are the same.
+pub fn bytes<const TAG: u8>()
+    ensures byte_buf { IsEqualityOf ⟦<ByteBuf as PartialEq>⟧.eq (λ octets. octets.0.items) }
+    ensures bytes { IsEqualityOf ⟦<Bytes<'static> as PartialEq>⟧.eq (λ octets. octets.0.now) }
+    ensures tagged { IsEqualityOf ⟦<TaggedBytes<TAG> as PartialEq>⟧.eq (λ tagged. tagged.0.items) }
+{}
+
+/// Lists are equal just where they are as long and each two values at one place are equal.
+pub fn lists<T: PartialEq>()
+    ensures sequence { IsThatOf ⟦<Asn1SequenceOf<T> as PartialEq>⟧.eq (λ list. list.0.items) (pointwise T.eq) }
+    ensures set { IsThatOf ⟦<Asn1SetOf<T> as PartialEq>⟧.eq (λ list. list.0.items) (pointwise T.eq) }
+{}
+
+/// Two values in one wrapper are equal just where they are without it.
+pub fn wrappers<T: PartialEq, const N: u8>()
+    ensures octets { IsThatOf ⟦<OctetStringAsn1Container<T> as PartialEq>⟧.eq (λ held. held.0) T.eq }
+    ensures bits { IsThatOf ⟦<BitStringAsn1Container<T> as PartialEq>⟧.eq (λ held. held.0) T.eq }
+    ensures explicit { IsThatOf ⟦<ExplicitContextTag<T, N> as PartialEq>⟧.eq (λ held. held.0) T.eq }
+    ensures implicit { IsThatOf ⟦<ImplicitContextTag<T, N> as PartialEq>⟧.eq (λ held. held.0) T.eq }
+{}
+
+/// Tags are equal just where their bytes are the same, and classes where they are one class.
+pub fn tags()
+    ensures tag { IsEqualityOf ⟦<Tag as PartialEq>⟧.eq (λ tag. tag) }
+    ensures class { IsEqualityOf ⟦<TagClass as PartialEq>⟧.eq (λ class. class) }
+{}
+
+/// Wrappers, and what a newtype names, are equal just where they are one kind with one number.
+pub fn newtypes()
+    ensures newtype { IsEqualityOf ⟦<Newtype as PartialEq>⟧.eq (λ newtype. newtype) }
+    ensures wrapper { IsEqualityOf ⟦<Wrapper as PartialEq>⟧.eq (λ wrapper. wrapper) }
+{}
+
+/// Errors are equal just where their kinds are the same, with the kind of a device's error, and the texts of messages.
+pub fn errors()
+    ensures error { IsEqualityOf ⟦<Asn1DerError as PartialEq>⟧.eq compared }
+    ensures failure { IsEqualityOf ⟦<Failure as PartialEq>⟧.eq (λ failure. failure) }
+{}
