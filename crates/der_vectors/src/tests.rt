@@ -12,6 +12,7 @@ mod checks;
 mod contents;
 mod copies;
 mod entry_calls;
+mod equality;
 mod errors;
 mod lengths;
 mod pieces;

@@ -1,0 +1,152 @@
+//! Values that differ in one part each, and that `==` tells apart.
+
+use der_fixtures::bytes_of;
+use picky_asn1_der::application_tag::ApplicationTag;
+use picky_asn1_der::asn1::{
+    Asn1SequenceOf, Asn1SetOf, BitStringAsn1Container, BmpStringAsn1, ByteBuf, Bytes,
+    ExplicitContextTag, ImplicitContextTag, Newtype, OctetStringAsn1Container, Tag, TagClass,
+    Wrapper,
+};
+use picky_asn1_der::{Asn1DerError, Asn1RawDer, Row};
+use picky_der_core::Failure;
+use std::io::ErrorKind;
+use std::process::Abort;
+use std::test::Fail;
+
+// Each of these values is equal to itself, and to none that stands before it.
+fn all_differ<T: PartialEq>(rt: &impl Abort, values: &[T]) {
+    for (place, value) in values.iter().enumerate() {
+        same!(rt; values.iter().position(|it| it == value), Some(place));
+    }
+}
+
+#[test]
+fn bytes_differ(rt: HostRuntime) -> Result<(), Fail> {
+    let alloc = rt.alloc();
+    let mut octets = Vec::new(alloc);
+    let mut tagged = Vec::new(alloc);
+    let mut raw = Vec::new(alloc);
+    for row in ["", "00", "01", "00 00", "00 01", "01 00"] {
+        octets.push(ByteBuf::from(bytes_of(alloc, row)?))?;
+        tagged.push(BmpStringAsn1::from(bytes_of(alloc, row)?))?;
+        raw.push(Asn1RawDer::from(bytes_of(alloc, row)?))?;
+    }
+    all_differ(&rt, &octets);
+    all_differ(&rt, &tagged);
+    all_differ(&rt, &raw);
+    all_differ(&rt, &[Bytes(&[]), Bytes(&[0]), Bytes(&[1]), Bytes(&[0, 0])]);
+    Ok(())
+}
+
+#[test]
+fn lists_differ(rt: HostRuntime) -> Result<(), Fail> {
+    let alloc = rt.alloc();
+    let mut sequences = Vec::new(alloc);
+    let mut sets = Vec::new(alloc);
+    for row in ["", "05", "06", "05 06", "06 05"] {
+        sequences.push(Asn1SequenceOf::from(bytes_of(alloc, row)?))?;
+        sets.push(Asn1SetOf::from(bytes_of(alloc, row)?))?;
+    }
+    all_differ(&rt, &sequences);
+    all_differ(&rt, &sets);
+    Ok(())
+}
+
+#[test]
+fn values_in_wrappers_differ(rt: HostRuntime) {
+    all_differ(
+        &rt,
+        &[OctetStringAsn1Container(5u8), OctetStringAsn1Container(6)],
+    );
+    all_differ(
+        &rt,
+        &[BitStringAsn1Container(5u8), BitStringAsn1Container(6)],
+    );
+    all_differ(
+        &rt,
+        &[ExplicitContextTag::<u8, 0>(5), ExplicitContextTag(6)],
+    );
+    all_differ(
+        &rt,
+        &[ImplicitContextTag::<u8, 1>(5), ImplicitContextTag(6)],
+    );
+    all_differ(&rt, &[ApplicationTag::<u8, 10>(5), ApplicationTag(6)]);
+    all_differ(
+        &rt,
+        &[
+            Row((5u8, (true, ()))),
+            Row((6, (true, ()))),
+            Row((5, (false, ()))),
+        ],
+    );
+}
+
+#[test]
+fn tags_and_wrappers_differ(rt: HostRuntime) {
+    all_differ(
+        &rt,
+        &[
+            Tag::INTEGER,
+            Tag::BIT_STRING,
+            Tag::from(0x22),
+            Tag::from(0x82),
+        ],
+    );
+    all_differ(
+        &rt,
+        &[
+            TagClass::Universal,
+            TagClass::Application,
+            TagClass::ContextSpecific,
+            TagClass::Private,
+        ],
+    );
+    all_differ(
+        &rt,
+        &[
+            Wrapper::OctetContainer,
+            Wrapper::BitContainer,
+            Wrapper::Explicit(0),
+            Wrapper::Explicit(1),
+            Wrapper::Implicit(0),
+            Wrapper::Implicit(1),
+        ],
+    );
+    all_differ(
+        &rt,
+        &[
+            Newtype::Plain,
+            Newtype::OctetContainer,
+            Newtype::BitContainer,
+            Newtype::Explicit(0),
+            Newtype::Explicit(1),
+            Newtype::Implicit(0),
+            Newtype::Implicit(1),
+        ],
+    );
+}
+
+#[test]
+fn errors_differ(rt: HostRuntime) {
+    let errors = [
+        Asn1DerError::TruncatedData,
+        Asn1DerError::InvalidData,
+        Asn1DerError::UnsupportedValue,
+        Asn1DerError::UnsupportedType,
+        Asn1DerError::InvalidSink,
+        Asn1DerError::custom("a"),
+        Asn1DerError::Other(ErrorKind::BrokenPipe),
+        Asn1DerError::Other(ErrorKind::Interrupted),
+        Asn1DerError::OutOfMemory,
+    ];
+    all_differ(&rt, &errors);
+    all_differ(&rt, &errors.map(Failure::of));
+    all_differ(
+        &rt,
+        &[
+            Asn1DerError::custom("a"),
+            Asn1DerError::custom("b"),
+            Asn1DerError::custom(""),
+        ],
+    );
+}
