@@ -1,5 +1,6 @@
 //! The answers to rows, at any type.
 
+use crate::growths;
 use der_fixtures::{SlowReader, SlowWriter, text_of};
 use picky_asn1_der::misc::Watched;
 use picky_asn1_der::{
@@ -8,13 +9,22 @@ use picky_asn1_der::{
 use std::alloc::{AllocError, Global};
 use std::fmt::Debug;
 
-/// The bytes of a row, and how they are given.
+/// The bytes of a row, and how they are read.
 #[derive(Drop)]
 pub(crate) struct Input {
     pub(crate) bytes: Vec<u8>,
+    pub(crate) how: How,
+}
 
-    /// The limit of a read from a reader that gives one byte a call. Without one the bytes are read from a slice.
-    pub(crate) limit: Option<usize>,
+/// How bytes are read.
+#[derive(Clone, Copy)]
+pub(crate) enum How {
+    /// From a slice.
+    Slice,
+    /// From a reader that gives one byte a call, with this limit.
+    Reader(usize),
+    /// By each call that reads, and then written by each call that writes. Any growth of memory may be refused.
+    Growing,
 }
 
 /// What becomes of the bytes when they are read as this type.
@@ -22,9 +32,10 @@ pub(crate) fn read_as<T: Deserialize + Debug>(
     alloc: Global,
     input: &Input,
 ) -> Result<String, AllocError> {
-    match input.limit {
-        Some(limit) => read_a_byte_a_call::<T>(alloc, &input.bytes, limit),
-        None => read_slice::<T>(alloc, &input.bytes),
+    match input.how {
+        How::Slice => read_slice::<T>(alloc, &input.bytes),
+        How::Reader(limit) => read_a_byte_a_call::<T>(alloc, &input.bytes, limit),
+        How::Growing => growths::read::<T>(alloc, &input.bytes),
     }
 }
 
@@ -69,8 +80,29 @@ fn shown<T: Serialize + Debug>(
     }
 }
 
-/// What becomes of the value when it is written, and the bytes that reach the sink.
-pub(crate) fn written<T: Serialize>(alloc: Global, value: &T) -> Result<String, AllocError> {
+/// How a value is written.
+#[derive(Clone, Copy)]
+pub(crate) enum Writing {
+    /// By `to_writer`, which has to agree with `to_vec`.
+    Whole,
+    /// By each call that writes. Any growth of memory may be refused.
+    Growing,
+}
+
+/// What becomes of the value when it is written so.
+pub(crate) fn written<T: Serialize>(
+    alloc: Global,
+    how: Writing,
+    value: &T,
+) -> Result<String, AllocError> {
+    match how {
+        Writing::Whole => write_whole(alloc, value),
+        Writing::Growing => growths::write(alloc, value),
+    }
+}
+
+// What becomes of the value, and the bytes that reach the sink.
+fn write_whole<T: Serialize>(alloc: Global, value: &T) -> Result<String, AllocError> {
     let mut writer = Watched::new(SlowWriter::new(alloc));
     let outcome = to_writer(alloc, value, &mut writer);
     let bytes = writer.get_ref().taken();

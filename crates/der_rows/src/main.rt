@@ -6,7 +6,9 @@
 
 mod answers;
 mod calls;
+mod copies;
 mod devices;
+mod growths;
 mod hand_written;
 mod kept;
 mod lists;
@@ -27,8 +29,9 @@ use rows::answer_to;
 use std::io;
 
 fn main(rt: HostRuntime) -> io::Result<()> {
-    for line in rt.lines(rt.alloc()) {
-        let answer = answer_to(rt.alloc(), line?.as_str())?;
+    let rows = io::read_to_string(rt.alloc(), rt.reader())?;
+    for row in rows.lines() {
+        let answer = answer_to(rt.alloc(), row)?;
         println!(rt; "{answer}")?;
     }
     Ok(())

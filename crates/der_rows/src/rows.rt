@@ -1,9 +1,9 @@
 //! The forms of rows.
 
-use crate::answers::Input;
+use crate::answers::{How, Input, Writing};
 use crate::calls::Calls;
 use crate::devices::{Device, refused_call};
-use crate::{calls, plain, tool, values, writing};
+use crate::{calls, copies, growths, plain, tool, values, writing};
 use der_fixtures::{Refusal, bytes_of};
 use std::alloc::{AllocError, Global};
 
@@ -26,6 +26,16 @@ enum Row<'a> {
     PutFailing(&'a str),
     // A line of the tool.
     Tool(&'a str),
+    // A value to be copied.
+    Copy(&'a str),
+    // Bytes to be read and written again, where memory may be refused.
+    GrowRead(&'a str),
+    // A value to be written, where memory may be refused.
+    GrowWrite(&'a str),
+    // Lines of the tool, where memory may be refused.
+    GrowTool(&'a str),
+    // Memory to be asked for, and given back.
+    Spend(&'a str),
     Unknown,
 }
 
@@ -44,6 +54,18 @@ impl<'a> Row<'a> {
                 None => Row::Put(rest),
             },
             Some(("tool", rest)) => Row::Tool(rest),
+            Some(("copy", rest)) => Row::Copy(rest),
+            Some(("grow", rest)) => Row::growing(rest),
+            Some(("spend", rest)) => Row::Spend(rest),
+            _ => Row::Unknown,
+        }
+    }
+
+    fn growing(row: &'a str) -> Row<'a> {
+        match row.split_once(" ") {
+            Some(("read", rest)) => Row::GrowRead(rest),
+            Some(("write", rest)) => Row::GrowWrite(rest),
+            Some(("tool", rest)) => Row::GrowTool(rest),
             _ => Row::Unknown,
         }
     }
@@ -62,12 +84,21 @@ impl<'a> Row<'a> {
 /// | `put CALLS` | what each call of one serializer answers, and the bytes that reach the writer |
 /// | `put failing at N with KIND: CALLS` | the same over a writer that takes a byte a call and whose call number N fails so |
 /// | `tool "LINE"` | the answer of `der_tool` to that line |
+/// | `copy [BYTES] as TYPE` | `whole`, where the copy of the value is equal to it |
+/// | `grow read [BYTES] as TYPE` | `whole`, where each call that reads takes the same value, and each call that writes gives its encoding |
+/// | `grow write VALUE` | `whole`, where each call that writes does the same |
+/// | `grow tool "LINE", .. as "ANSWER", ..` | `whole`, where these are the answers of `der_tool` to these lines |
+///
+/// | `spend TIMES` | `whole`, after memory was asked for so many times, and given back |
+///
+/// In the last five rows each call may be refused memory. The answer is `OutOfMemory of CALL` where one was, answered so
+/// and left what it should, and `wrong CALL` where one did anything else.
 pub(crate) fn answer_to(alloc: Global, row: &str) -> Result<String, AllocError> {
     match Row::of(row) {
         Row::Heading => String::from_str(alloc, row),
-        Row::Read(rest) => answer_read(alloc, None, rest),
+        Row::Read(rest) => answer_read(alloc, How::Slice, rest),
         Row::Draw(rest) => answer_draw(alloc, rest),
-        Row::Write(value) => values::answer(alloc, value),
+        Row::Write(value) => values::answer(alloc, Writing::Whole, value),
         Row::Call(rest) => answer_calls(alloc, rest),
         Row::Put(names) => writing::answer(alloc, 0, Refusal::TakesNothing, names),
         Row::PutFailing(rest) => match refused_call(rest) {
@@ -75,14 +106,26 @@ pub(crate) fn answer_to(alloc: Global, row: &str) -> Result<String, AllocError> 
             None => String::from_str(alloc, "unknown writer"),
         },
         Row::Tool(line) => tool::answer(alloc, line),
+        Row::Copy(rest) => answer_copy(alloc, rest),
+        Row::GrowRead(rest) => answer_read(alloc, How::Growing, rest),
+        Row::GrowWrite(value) => values::answer(alloc, Writing::Growing, value),
+        Row::GrowTool(rest) => tool::answer_growing(alloc, rest),
+        Row::Spend(times) => growths::spend(alloc, times),
         Row::Unknown => String::from_str(alloc, "unknown row"),
     }
 }
 
-// Bytes and the type that they are read as, from a reader with this limit or from a slice.
-fn answer_read(alloc: Global, limit: Option<usize>, row: &str) -> Result<String, AllocError> {
+// Bytes that are read so, and the type that they are read as.
+fn answer_read(alloc: Global, how: How, row: &str) -> Result<String, AllocError> {
     match asked(alloc, row) {
-        Some((bytes, name)) => plain::answer(alloc, name, &Input { bytes, limit }),
+        Some((bytes, name)) => plain::answer(alloc, name, &Input { bytes, how }),
+        None => String::from_str(alloc, "unknown bytes"),
+    }
+}
+
+fn answer_copy(alloc: Global, row: &str) -> Result<String, AllocError> {
+    match asked(alloc, row) {
+        Some((bytes, name)) => growths::answer(alloc, copies::copy(alloc, name, &bytes)),
         None => String::from_str(alloc, "unknown bytes"),
     }
 }
@@ -95,7 +138,7 @@ fn asked(alloc: Global, row: &str) -> Option<(Vec<u8>, &str)> {
 
 fn answer_draw(alloc: Global, row: &str) -> Result<String, AllocError> {
     match limited(row) {
-        Some((limit, rest)) => answer_read(alloc, Some(limit), rest),
+        Some((limit, rest)) => answer_read(alloc, How::Reader(limit), rest),
         None => String::from_str(alloc, "unknown limit"),
     }
 }
