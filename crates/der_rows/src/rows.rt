@@ -88,7 +88,6 @@ impl<'a> Row<'a> {
 /// | `grow read [BYTES] as TYPE` | `whole`, where each call that reads takes the same value, and each call that writes gives its encoding |
 /// | `grow write VALUE` | `whole`, where each call that writes does the same |
 /// | `grow tool "LINE", .. as "ANSWER", ..` | `whole`, where these are the answers of `der_tool` to these lines |
-///
 /// | `spend TIMES` | `whole`, after memory was asked for so many times, and given back |
 ///
 /// In the last five rows each call may be refused memory. The answer is `OutOfMemory of CALL` where one was, answered so
