@@ -1,6 +1,6 @@
 //! The answers to rows, at any type.
 
-use crate::{apart, hostile};
+use crate::{apart, growths, hostile};
 use der_fixtures::{SlowReader, SlowWriter, text_of};
 use picky_asn1_der::misc::Watched;
 use picky_asn1_der::{
@@ -27,15 +27,18 @@ pub(crate) enum Way {
     Hostile,
     /// As values one behind the other, of which the encoding of none begins that of another.
     Apart,
+    /// By each call that reads, and then written by each call that writes. Any growth of memory may be refused.
+    Growing,
 }
 
 impl Way {
-    /// That of `read`, `draw LIMIT`, `hostile` and `apart`.
+    /// That of `read`, `draw LIMIT`, `hostile`, `apart` and `grow read`.
     pub(crate) fn named(words: &str) -> Option<Way> {
         match words {
             "read" => Some(Way::Slice),
             "hostile" => Some(Way::Hostile),
             "apart" => Some(Way::Apart),
+            "grow read" => Some(Way::Growing),
             _ => Some(Way::Reader(words.strip_prefix("draw ")?.parse().ok()?)),
         }
     }
@@ -51,6 +54,7 @@ pub(crate) fn read_as<T: Deserialize + Debug>(
         Way::Reader(limit) => read_a_byte_a_call::<T>(alloc, &input.bytes, limit),
         Way::Hostile => hostile::answer::<T>(alloc, &input.bytes),
         Way::Apart => apart::answer::<T>(alloc, &input.bytes),
+        Way::Growing => growths::read::<T>(alloc, &input.bytes),
     }
 }
 
@@ -98,8 +102,29 @@ fn shown<T: Deserialize + Debug>(
     }
 }
 
-/// What becomes of the value when it is written, and the bytes that reach the sink.
-pub(crate) fn written<T: Serialize>(alloc: Global, value: &T) -> Result<String, AllocError> {
+/// How a value is written.
+#[derive(Clone, Copy)]
+pub(crate) enum Writing {
+    /// By `to_writer`, which has to agree with `to_vec`.
+    Whole,
+    /// By each call that writes. Any growth of memory may be refused.
+    Growing,
+}
+
+/// What becomes of the value when it is written so.
+pub(crate) fn written<T: Serialize>(
+    alloc: Global,
+    how: Writing,
+    value: &T,
+) -> Result<String, AllocError> {
+    match how {
+        Writing::Whole => write_whole(alloc, value),
+        Writing::Growing => growths::write(alloc, value),
+    }
+}
+
+// What becomes of the value, and the bytes that reach the sink.
+fn write_whole<T: Serialize>(alloc: Global, value: &T) -> Result<String, AllocError> {
     let mut writer = Watched::new(SlowWriter::new(alloc));
     let outcome = to_writer(alloc, value, &mut writer);
     let bytes = writer.get_ref().taken();

@@ -22,7 +22,9 @@ macro_rules! answer_each {
 mod answers;
 mod apart;
 mod calls;
+mod copies;
 mod devices;
+mod growths;
 mod hand_written;
 mod hostile;
 mod kept;
@@ -49,8 +51,9 @@ use rows::answer_to;
 use std::io;
 
 fn main(rt: HostRuntime) -> io::Result<()> {
-    for line in rt.lines(rt.alloc()) {
-        let answer = answer_to(rt.alloc(), line?.as_str())?;
+    let rows = io::read_to_string(rt.alloc(), rt.reader())?;
+    for row in rows.lines() {
+        let answer = answer_to(rt.alloc(), row)?;
         println!(rt; "{answer}")?;
     }
     Ok(())

@@ -1,9 +1,10 @@
 //! The forms of rows.
 
+use crate::answers::Writing;
 use crate::calls::Calls;
 use crate::devices::{Device, refused_call};
 use crate::notation::bytes_in;
-use crate::{calls, streams, tool, typed, values, writing};
+use crate::{calls, growths, streams, tool, typed, values, writing};
 use der_fixtures::Refusal;
 use std::alloc::{AllocError, Global};
 
@@ -31,6 +32,14 @@ use std::alloc::{AllocError, Global};
 /// | `sink failing at N with KIND: CALLS` | what each call of a writer of a byte a call answers whose call number N fails so, and the bytes that it took |
 /// | `fill LENGTH CALLS` | the same of a writer over a slice of so many bytes EE, and what the slice holds |
 /// | `tool "LINE"` | the answer of `der_tool` to that line |
+/// | `copy [BYTES] as TYPE` | `whole`, where the copy of the value is equal to it |
+/// | `grow read [BYTES] as TYPE` | `whole`, where each call that reads takes the same value, and each call that writes gives its encoding |
+/// | `grow write VALUE` | `whole`, where each call that writes does the same |
+/// | `grow tool "LINE", .. as "ANSWER", ..` | `whole`, where these are the answers of `der_tool` to these lines |
+/// | `spend TIMES` | `whole`, after memory was asked for so many times, and given back |
+///
+/// In the last five rows each call may be refused memory. The answer is `OutOfMemory of CALL` where one was, answered so
+/// and left what it should, and `wrong CALL` where one did anything else.
 ///
 /// What stands N times in bytes and lines may be written as `N*PART`.
 pub(crate) fn answer_to(alloc: Global, row: &str) -> Result<String, AllocError> {
@@ -38,7 +47,7 @@ pub(crate) fn answer_to(alloc: Global, row: &str) -> Result<String, AllocError> 
         return String::from_str(alloc, row);
     }
     match row.split_once(" ") {
-        Some(("write", value)) => values::answer(alloc, value),
+        Some(("write", value)) => values::answer(alloc, Writing::Whole, value),
         Some(("call", rest)) => answer_calls(alloc, rest),
         Some(("put", rest)) => answer_puts(alloc, rest),
         Some(("stream", rest)) => streams::answer_stream(alloc, rest),
@@ -46,6 +55,16 @@ pub(crate) fn answer_to(alloc: Global, row: &str) -> Result<String, AllocError> 
         Some(("sink", rest)) => streams::answer_sink(alloc, rest),
         Some(("fill", rest)) => streams::answer_fill(alloc, rest),
         Some(("tool", line)) => tool::answer(alloc, line),
+        Some(("grow", rest)) => answer_growing(alloc, row, rest),
+        Some(("spend", times)) => growths::spend(alloc, times),
+        _ => typed::answer(alloc, row),
+    }
+}
+
+fn answer_growing(alloc: Global, row: &str, rest: &str) -> Result<String, AllocError> {
+    match rest.split_once(" ") {
+        Some(("write", value)) => values::answer(alloc, Writing::Growing, value),
+        Some(("tool", lines)) => tool::answer_growing(alloc, lines),
         _ => typed::answer(alloc, row),
     }
 }

@@ -3,7 +3,7 @@
 use crate::answers::{Input, Way};
 use crate::notation::bytes_in;
 use crate::sweeps::Sweep;
-use crate::{plain, sweeps};
+use crate::{copies, growths, plain, sweeps};
 use std::alloc::{AllocError, Global};
 
 /// The answer to words of what is done, bytes in brackets, and ` as ` with a type.
@@ -11,6 +11,9 @@ pub(crate) fn answer(alloc: Global, row: &str) -> Result<String, AllocError> {
     let Some((words, bytes, name)) = parts(alloc, row) else {
         return String::from_str(alloc, "unknown row");
     };
+    if words == "copy" {
+        return growths::answer(alloc, copies::copy(alloc, name, &bytes));
+    }
     if let Some(way) = Way::named(words) {
         return plain::answer(alloc, name, &Input { bytes, way });
     }

@@ -1,6 +1,6 @@
 //! Values that can't be read from what they are written as, and such that are refused in writing.
 
-use crate::answers::written;
+use crate::answers::{Writing, written};
 use crate::hand_written::{Littering, Untouched};
 use der_examples::NumberOrFlag;
 use der_tool_lib::TestStruct;
@@ -12,30 +12,30 @@ use picky_asn1_der::asn1::{
 };
 use std::alloc::{AllocError, Global};
 
-/// The answer to a row that names one of these values.
-pub(crate) fn answer(alloc: Global, name: &str) -> Result<String, AllocError> {
+/// The answer to a row that names one of these values, which is written so.
+pub(crate) fn answer(alloc: Global, how: Writing, name: &str) -> Result<String, AllocError> {
     match name {
-        "None::<u8>" => written(alloc, &None::<u8>),
-        "\"\"" => written(alloc, &""),
-        "[5u8, 6].as_slice()" => written(alloc, &[5u8, 6].as_slice()),
-        "vec![None::<u8>]" => written(alloc, &vec![in alloc; None::<u8>]?),
+        "None::<u8>" => written(alloc, how, &None::<u8>),
+        "\"\"" => written(alloc, how, &""),
+        "[5u8, 6].as_slice()" => written(alloc, how, &[5u8, 6].as_slice()),
+        "vec![None::<u8>]" => written(alloc, how, &vec![in alloc; None::<u8>]?),
         "TaggedBytes::<0x1F>([0xAA])" => {
             let bytes = Vec::from_slice(alloc, &[0xAA])?;
-            written(alloc, &TaggedBytes::<0x1F>(bytes))
+            written(alloc, how, &TaggedBytes::<0x1F>(bytes))
         }
         "[Asn1RawDer([2, 1, 5, 2, 1, 6])]" => {
             let bytes = Vec::from_slice(alloc, &[2, 1, 5, 2, 1, 6])?;
-            written(alloc, &[Asn1RawDer(bytes)])
+            written(alloc, how, &[Asn1RawDer(bytes)])
         }
         "TestStruct { number: 7, vec: ByteBuf(b\"Testolope\"), tuple: (4, ()) }" => {
-            written(alloc, &testolope(alloc)?)
+            written(alloc, how, &testolope(alloc)?)
         }
         "ImplicitContextTag1(Untouched)" => {
-            written(alloc, &ImplicitContextTag1::from(Untouched))
+            written(alloc, how, &ImplicitContextTag1::from(Untouched))
         }
-        "[Untouched]" => written(alloc, &[Untouched]),
-        "vec![Littering]" => written(alloc, &vec![in alloc; Littering]?),
-        _ => tagged(alloc, name),
+        "[Untouched]" => written(alloc, how, &[Untouched]),
+        "vec![Littering]" => written(alloc, how, &vec![in alloc; Littering]?),
+        _ => tagged(alloc, how, name),
     }
 }
 
@@ -48,32 +48,33 @@ fn testolope(alloc: Global) -> Result<TestStruct, AllocError> {
 }
 
 // Values in context tags and application tags.
-fn tagged(alloc: Global, name: &str) -> Result<String, AllocError> {
+fn tagged(alloc: Global, how: Writing, name: &str) -> Result<String, AllocError> {
     match name {
         "ExplicitContextTag0(None::<u8>)" => {
-            written(alloc, &ExplicitContextTag0::from(None::<u8>))
+            written(alloc, how, &ExplicitContextTag0::from(None::<u8>))
         }
         "(ExplicitContextTag0(None::<u8>), 7u8)" => {
-            written(alloc, &(ExplicitContextTag0::from(None::<u8>), 7u8))
+            written(alloc, how, &(ExplicitContextTag0::from(None::<u8>), 7u8))
         }
         "ImplicitContextTag1(NumberOrFlag::Flag(true))" => written(
             alloc,
+            how,
             &ImplicitContextTag1::from(NumberOrFlag::Flag(true)),
         ),
         "ApplicationTag::<Option<u8>, 10>(None)" => {
-            written(alloc, &ApplicationTag::<Option<u8>, 10>(None))
+            written(alloc, how, &ApplicationTag::<Option<u8>, 10>(None))
         }
-        "ApplicationTag::<u8, 31>(7)" => written(alloc, &ApplicationTag::<u8, 31>(7)),
+        "ApplicationTag::<u8, 31>(7)" => written(alloc, how, &ApplicationTag::<u8, 31>(7)),
         "(7u8, ApplicationTag::<u8, 31>(7))" => {
-            written(alloc, &(7u8, ApplicationTag::<u8, 31>(7)))
+            written(alloc, how, &(7u8, ApplicationTag::<u8, 31>(7)))
         }
-        "ExplicitContextTag::<u8, 31>(7)" => written(alloc, &ExplicitContextTag::<u8, 31>(7)),
+        "ExplicitContextTag::<u8, 31>(7)" => written(alloc, how, &ExplicitContextTag::<u8, 31>(7)),
         "ExplicitContextTag::<Option<u8>, 31>(None)" => {
-            written(alloc, &ExplicitContextTag::<Option<u8>, 31>(None))
+            written(alloc, how, &ExplicitContextTag::<Option<u8>, 31>(None))
         }
-        "ImplicitContextTag::<u8, 31>(7)" => written(alloc, &ImplicitContextTag::<u8, 31>(7)),
+        "ImplicitContextTag::<u8, 31>(7)" => written(alloc, how, &ImplicitContextTag::<u8, 31>(7)),
         "ImplicitContextTag::<Option<u8>, 31>(None)" => {
-            written(alloc, &ImplicitContextTag::<Option<u8>, 31>(None))
+            written(alloc, how, &ImplicitContextTag::<Option<u8>, 31>(None))
         }
         _ => String::from_str(alloc, "unknown value"),
     }

@@ -1,0 +1,51 @@
+//! Values that have a `clone` of their own.
+
+use crate::growths::{Stop, is};
+use picky_asn1_der::Asn1DerError::OutOfMemory;
+use picky_asn1_der::application_tag::ApplicationTag;
+use picky_asn1_der::asn1::{
+    Asn1SequenceOf, Asn1SetOf, BitStringAsn1Container, ByteBuf, ExplicitContextTag0,
+    ImplicitContextTag1, OctetStringAsn1Container, TaggedBytes,
+};
+use picky_asn1_der::{Asn1RawDer, Deserialize, from_bytes};
+use std::alloc::Global;
+
+// Whether the copy of the value is equal to it, that the bytes are read as. No closure may answer an error that holds a
+// `'static` text, so each type has this code of its own.
+macro_rules! copy_as {
+    ($type:ty, $alloc:expr, $bytes:expr) => {
+        match value_of::<$type>($alloc, $bytes) {
+            Ok(value) => is("clone", value.clone(), &value),
+            Err(stop) => Err(stop),
+        }
+    };
+}
+
+/// Whether the copy of the value is equal to it, that the bytes are read as in the type with this name.
+pub(crate) fn copy(alloc: Global, name: &str, bytes: &[u8]) -> Result<(), Stop> {
+    match name {
+        "ByteBuf" => copy_as!(ByteBuf, alloc, bytes),
+        "TaggedBytes<0x9E>" => copy_as!(TaggedBytes<0x9E>, alloc, bytes),
+        "Asn1RawDer" => copy_as!(Asn1RawDer, alloc, bytes),
+        "Asn1SequenceOf<ByteBuf>" => copy_as!(Asn1SequenceOf<ByteBuf>, alloc, bytes),
+        "Asn1SetOf<ByteBuf>" => copy_as!(Asn1SetOf<ByteBuf>, alloc, bytes),
+        "ExplicitContextTag0<ByteBuf>" => copy_as!(ExplicitContextTag0<ByteBuf>, alloc, bytes),
+        "ImplicitContextTag1<ByteBuf>" => copy_as!(ImplicitContextTag1<ByteBuf>, alloc, bytes),
+        "ApplicationTag<ByteBuf, 10>" => copy_as!(ApplicationTag<ByteBuf, 10>, alloc, bytes),
+        "OctetStringAsn1Container<ByteBuf>" => {
+            copy_as!(OctetStringAsn1Container<ByteBuf>, alloc, bytes)
+        }
+        "BitStringAsn1Container<ByteBuf>" => {
+            copy_as!(BitStringAsn1Container<ByteBuf>, alloc, bytes)
+        }
+        _ => Err(Stop::Wrong("type")),
+    }
+}
+
+fn value_of<T: Deserialize>(alloc: Global, bytes: &[u8]) -> Result<T, Stop> {
+    match from_bytes(alloc, bytes) {
+        Ok(value) => Ok(value),
+        Err(OutOfMemory) => Err(Stop::Refused("from_bytes")),
+        Err(_) => Err(Stop::Wrong("from_bytes")),
+    }
+}

@@ -1,0 +1,206 @@
+//! Calls that may be refused memory.
+//!
+//! Nothing in this program refuses any: `tools/refuse-growths` has one request of a run refused, and another in the next run.
+//! Calls that meet no refusal do what the row says, and the one that meets it has to answer so.
+
+use der_fixtures::SlowReader;
+use picky_asn1_der::Asn1DerError::OutOfMemory;
+use picky_asn1_der::misc::{SliceSink, Watched};
+use picky_asn1_der::{
+    Deserialize, Deserializer, Result as DerResult, Serialize, Serializer, from_bytes, from_reader,
+    to_byte_buf, to_bytes, to_vec, to_writer,
+};
+use std::alloc::{AllocError, Global};
+
+/// What stands in a vector or a slice before it is written over.
+pub(crate) const OLD: u8 = 0xEE;
+
+/// Why no further call of a row was made.
+#[derive(Clone, Copy)]
+pub(crate) enum Stop {
+    /// This call was refused memory, answered so, and left what it should.
+    Refused(&'static str),
+    /// This call did something else than it should.
+    Wrong(&'static str),
+}
+
+/// The answer to a row whose calls ended so.
+pub(crate) fn answer(alloc: Global, outcome: Result<(), Stop>) -> Result<String, AllocError> {
+    match outcome {
+        Ok(()) => String::from_str(alloc, "whole"),
+        Err(Stop::Refused(call)) => format!(in alloc; "OutOfMemory of {call}"),
+        Err(Stop::Wrong(call)) => format!(in alloc; "wrong {call}"),
+    }
+}
+
+/// Asks for memory so many times, and gives it back.
+pub(crate) fn spend(alloc: Global, times: &str) -> Result<String, AllocError> {
+    let mut outcome = Ok(());
+    for _ in 0..times.parse::<u32>().unwrap_or(0) {
+        if Vec::<u8>::with_capacity(alloc, 1).is_err() {
+            outcome = Err(Stop::Refused("spend"));
+        }
+    }
+    answer(alloc, outcome)
+}
+
+/// Reads the value at the front of the bytes by each call that reads, and writes it by each call that writes.
+pub(crate) fn read<T: Deserialize>(alloc: Global, bytes: &[u8]) -> Result<String, AllocError> {
+    let mut room = vec![in alloc; OLD; 2]?;
+    answer(alloc, read_and_written::<T>(alloc, bytes, &mut room))
+}
+
+fn read_and_written<T: Deserialize>(
+    alloc: Global,
+    bytes: &[u8],
+    room: &mut Vec<u8>,
+) -> Result<(), Stop> {
+    let (value, taken) = deserialized::<T>(alloc, bytes)?;
+    is("from_bytes", from_bytes(alloc, bytes), &value)?;
+    let mut reader = Watched::new(SlowReader::new(bytes));
+    is("from_reader", from_reader(alloc, &mut reader), &value)?;
+    skip(alloc, bytes, taken)?;
+    let wanted = Wanted {
+        encoding: bytes.get(..taken).unwrap_or(bytes),
+        outcome: Ok(taken),
+    };
+    wanted.write(alloc, &value, room)
+}
+
+/// Whether this call answered a value that is equal to this one.
+pub(crate) fn is<T: PartialEq + Drop>(
+    call: &'static str,
+    came: DerResult<T>,
+    value: &T,
+) -> Result<(), Stop> {
+    match came {
+        Ok(came) if came == *value => Ok(()),
+        Err(OutOfMemory) => Err(Stop::Refused(call)),
+        _ => Err(Stop::Wrong(call)),
+    }
+}
+
+// The value, and how many bytes were taken. A deserializer that was refused memory answers so again, and takes nothing.
+fn deserialized<T: Deserialize>(alloc: Global, bytes: &[u8]) -> Result<(T, usize), Stop> {
+    let mut de = Deserializer::new_from_bytes(alloc, bytes);
+    let outcome = T::deserialize(&mut de);
+    let taken = de.taken();
+    match outcome {
+        Ok(value) => Ok((value, taken)),
+        Err(OutOfMemory) => {
+            let again = de.deserialize_bool();
+            if again == Err(OutOfMemory) && de.taken() == taken {
+                return Err(Stop::Refused("deserialize"));
+            }
+            Err(Stop::Wrong("deserialize_bool"))
+        }
+        Err(_) => Err(Stop::Wrong("deserialize")),
+    }
+}
+
+// An element is passed over without memory.
+fn skip(alloc: Global, bytes: &[u8], taken: usize) -> Result<(), Stop> {
+    let mut de = Deserializer::new_from_bytes(alloc, bytes);
+    if de.deserialize_ignored_any() == Ok(()) && de.taken() == taken {
+        return Ok(());
+    }
+    Err(Stop::Wrong("deserialize_ignored_any"))
+}
+
+/// Writes the value by each call that writes.
+pub(crate) fn write<T: Serialize>(alloc: Global, value: &T) -> Result<String, AllocError> {
+    let mut room = vec![in alloc; OLD; 2]?;
+    let outcome = match to_vec(alloc, value) {
+        Ok(bytes) => {
+            let wanted = Wanted {
+                encoding: &bytes,
+                outcome: Ok(bytes.len()),
+            };
+            wanted.write(alloc, value, &mut room)
+        }
+        Err(OutOfMemory) => Err(Stop::Refused("to_vec")),
+        Err(error) => {
+            let wanted = Wanted {
+                encoding: &[],
+                outcome: Err(error),
+            };
+            wanted.write(alloc, value, &mut room)
+        }
+    };
+    answer(alloc, outcome)
+}
+
+/// What each call that writes has to leave and to answer.
+#[derive(Clone, Copy)]
+pub(crate) struct Wanted<'a> {
+    /// The bytes, or none where the answer is an error.
+    pub(crate) encoding: &'a [u8],
+
+    /// The answer.
+    pub(crate) outcome: DerResult<usize>,
+}
+
+impl Wanted<'_> {
+    /// Whether this call answered so and left the bytes, or was refused memory and left a beginning of them, in front of
+    /// what stood there.
+    pub(crate) fn was_left(
+        &self,
+        call: &'static str,
+        came: DerResult<usize>,
+        left: &[u8],
+    ) -> Result<(), Stop> {
+        let pairs = left.iter().zip(self.encoding);
+        let count = pairs.take_while(|(came, wanted)| came == wanted).count();
+        let stays = match left.get(count..) {
+            Some(rest) => rest.iter().all(|byte| *byte == OLD),
+            None => false,
+        };
+        match came {
+            Err(OutOfMemory) if stays => Err(Stop::Refused(call)),
+            _ if stays && came == self.outcome && count == self.encoding.len() => Ok(()),
+            _ => Err(Stop::Wrong(call)),
+        }
+    }
+
+    fn write<T: Serialize>(
+        &self,
+        alloc: Global,
+        value: &T,
+        room: &mut Vec<u8>,
+    ) -> Result<(), Stop> {
+        match to_vec(alloc, value) {
+            Ok(bytes) => self.was_left("to_vec", Ok(bytes.len()), &bytes)?,
+            Err(error) => self.was_left("to_vec", Err(error), &[])?,
+        }
+        let outcome = to_byte_buf(alloc, value, room);
+        self.was_left("to_byte_buf", outcome, room)?;
+        room.fill(OLD);
+        let outcome = to_bytes(alloc, value, room);
+        self.was_left("to_bytes", outcome, room)?;
+        room.fill(OLD);
+        let mut sink = SliceSink::new(room);
+        let outcome = to_writer(alloc, value, &mut sink);
+        self.was_left("to_writer", outcome, sink.into_inner())?;
+        self.serialize(alloc, value, room)
+    }
+
+    // A serializer that failed answers its error again, and writes nothing.
+    fn serialize<T: Serialize>(
+        &self,
+        alloc: Global,
+        value: &T,
+        room: &mut [u8],
+    ) -> Result<(), Stop> {
+        room.fill(OLD);
+        let mut ser = Serializer::new_to_bytes(alloc, room);
+        let outcome = value.serialize(&mut ser);
+        let again = match outcome {
+            Ok(count) => Ok(count),
+            Err(_) => ser.serialize_unit(),
+        };
+        if again != outcome {
+            return Err(Stop::Wrong("serialize_unit"));
+        }
+        self.was_left("serialize", outcome, ser.into_writer().into_inner())
+    }
+}
