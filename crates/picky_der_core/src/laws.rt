@@ -1,5 +1,5 @@
 //! The laws of canonical DER: each is the contract of a function without arguments, over the definitions alone.
-ghost use Rattle.picky_der_core.specs.Laws.{LengthBothWays, WrapperLengths, FirstsTell, UniqueReadability, OneValue, RoundTrip, SameBytes, OneInside};
+ghost use Rattle.picky_der_core.specs.Laws.{LengthBothWays, WrapperLengths, FirstsTell, UniqueReadability, OneValue, RoundTrip, SameBytes, OneInside, SetOrder};
 
 /// A length that begins another length, followed by any bytes, is that length (X.690, 8.1.3 and 10.1).
 pub fn length_both_ways()
@@ -40,4 +40,9 @@ pub fn same_bytes()
 /// What stands directly under an implicit tag, within one end, is one tree of a sound shape.
 pub fn one_inside()
     ensures { OneInside }
+{}
+
+/// Sets of the same members, each as often, in any order, have the same encoding (X.690, 11.6).
+pub fn set_order()
+    ensures { SetOrder }
 {}
