@@ -41,11 +41,13 @@ module _ {X : Type 0} (less : X → X → Bool) where
       sym (ap₂ less (get_or_append_left xs ys d (k + 1) high) (get_or_append_left xs ys d k (omega arith))) ∙ up k d low (omega arith)
 
   -- two lists in order that share an element: the last of the one is the first of the other
-  pub IsSortedBy-join : (xs : List X) (b : X) (zs : List X) → IsSortedBy less (xs ++ b ∷ []) → IsSortedBy less (b ∷ zs) → IsSortedBy less (xs ++ b ∷ zs)
+  pub IsSortedBy-join : (xs : List X) (b : X) (zs : List X) → IsSortedBy less (xs ++ b ∷ []) → IsSortedBy less (b ∷ zs)
+      → IsSortedBy less (xs ++ b ∷ zs)
   IsSortedBy-join [] b zs up on = on
   IsSortedBy-join (a ∷ []) b zs up on = IsSortedBy-cons a b zs (IsSortedBy-first a b [] up) on
   IsSortedBy-join (a ∷ c ∷ xs) b zs up on =
-      IsSortedBy-cons a c (xs ++ b ∷ zs) (IsSortedBy-first a c (xs ++ b ∷ []) up) (IsSortedBy-join (c ∷ xs) b zs (IsSortedBy-tail a (c ∷ xs ++ b ∷ []) up) on)
+      let others = IsSortedBy-join (c ∷ xs) b zs (IsSortedBy-tail a (c ∷ xs ++ b ∷ []) up) on in
+      IsSortedBy-cons a c (xs ++ b ∷ zs) (IsSortedBy-first a c (xs ++ b ∷ []) up) others
 
   -- one more behind the last, which isn't less
   pub IsSortedBy-push : (xs : List X) (a b : X) → IsSortedBy less (xs ++ a ∷ []) → less b a ≡ false → IsSortedBy less (xs ++ a ∷ b ∷ [])
@@ -56,12 +58,17 @@ module _ {X : Type 0} (less : X → X → Bool) where
   IsSortedBy-broken [] a b ys e up = true≢false (sym e ∙ IsSortedBy-first a b ys up)
   IsSortedBy-broken (c ∷ xs) a b ys e up = IsSortedBy-broken xs a b ys e (IsSortedBy-tail c (xs ++ a ∷ b ∷ ys) up)
 
--- by keys, and the keys themselves
-pub IsSortedBy-map : {X Y : Type 0} (less : Y → Y → Bool) (key : X → Y) (xs : List X) → IsSortedBy (λ a b. less (key a) (key b)) xs → IsSortedBy less (map key xs)
-IsSortedBy-map less key [] up = IsSortedBy-nil less
-IsSortedBy-map less key (a ∷ []) up = IsSortedBy-one less (key a)
-IsSortedBy-map less key (a ∷ b ∷ xs) up =
-    IsSortedBy-cons less (key a) (key b) (map key xs) (IsSortedBy-first (λ c d. less (key c) (key d)) a b xs up) (IsSortedBy-map less key (b ∷ xs) (IsSortedBy-tail (λ c d. less (key c) (key d)) a (b ∷ xs) up))
+module _ {X Y : Type 0} (less : Y → Y → Bool) (key : X → Y) where
+  abbrev by_key : X → X → Bool
+  by_key a b = less (key a) (key b)
+
+  -- where elements are in order by their keys, the keys are
+  pub IsSortedBy-map : (xs : List X) → IsSortedBy by_key xs → IsSortedBy less (map key xs)
+  IsSortedBy-map [] up = IsSortedBy-nil less
+  IsSortedBy-map (a ∷ []) up = IsSortedBy-one less (key a)
+  IsSortedBy-map (a ∷ b ∷ xs) up =
+      let others = IsSortedBy-map (b ∷ xs) (IsSortedBy-tail by_key a (b ∷ xs) up) in
+      IsSortedBy-cons less (key a) (key b) (map key xs) (IsSortedBy-first by_key a b xs up) others
 
 -- ---- the order of bytes
 
@@ -123,7 +130,8 @@ count_less a b (c ∷ ys) h up =
     omega (arith, count_more a b (c ∷ ys), less_differs (slice_cmp nat_cmp a b) h)
 
 -- the first of one list isn't less than the first of another where it is as often
-first_not_less : (a b : List ℕ) (xs ys : List (List ℕ)) → IsAscending (b ∷ ys) → count a (a ∷ xs) ≡ count a (b ∷ ys) → is_less a b ≡ false
+first_not_less : (a b : List ℕ) (xs ys : List (List ℕ)) → IsAscending (b ∷ ys) → count a (a ∷ xs) ≡ count a (b ∷ ys)
+    → is_less a b ≡ false
 first_not_less a b xs ys up same = by_test (is_less a b) refl
   where
     by_test : (t : Bool) → is_less a b ≡ t → is_less a b ≡ false
@@ -137,7 +145,8 @@ same_ascending (a ∷ xs) [] up on same = absurd (omega (arith, same a, count_it
 same_ascending (a ∷ xs) (b ∷ ys) up on same =
     let first : a ≡ b = neither_less a b (first_not_less a b xs ys on (same a)) (first_not_less b a ys xs up (sym (same b))) in
     let counts = λ (c : List ℕ). ap (λ d. once_if_equal (slice_cmp nat_cmp c d)) first in
-    let others : xs ≡ ys = same_ascending xs ys (IsSortedBy-tail is_less a xs up) (IsSortedBy-tail is_less b ys on) (λ c. omega (arith, same c, count_more c a xs, count_more c b ys, counts c)) in
+    let fewer : (c : List ℕ) → count c xs ≡ count c ys = λ c. omega (arith, same c, count_more c a xs, count_more c b ys, counts c) in
+    let others : xs ≡ ys = same_ascending xs ys (IsSortedBy-tail is_less a xs up) (IsSortedBy-tail is_less b ys on) fewer in
     cc
 
 -- of the same elements one list alone is ascending
@@ -151,11 +160,14 @@ inserted_permutation a [] = IsPermutation-refl (a ∷ [])
 inserted_permutation a (b ∷ ys) = by_test (is_less b a) (inserted_permutation a ys)
   where
     by_test : (t : Bool) → IsPermutation (a ∷ ys) (inserted a ys) → IsPermutation (a ∷ b ∷ ys) (cond t (b ∷ inserted a ys) (a ∷ b ∷ ys))
-    by_test true moved = IsPermutation-trans _ _ _ (IsPermutation-sym _ _ (IsPermutation-middle (b ∷ []) a ys)) (IsPermutation-cons b _ _ moved)
+    by_test true moved =
+        let swapped = IsPermutation-sym _ _ (IsPermutation-middle (b ∷ []) a ys) in
+        IsPermutation-trans _ _ _ swapped (IsPermutation-cons b _ _ moved)
     by_test false moved = IsPermutation-refl (a ∷ b ∷ ys)
 
 -- behind b, which a isn't less than
-inserted_behind : (a b : List ℕ) (ys : List (List ℕ)) → is_less a b ≡ false → IsAscending (b ∷ ys) → IsAscending (inserted a ys) → IsAscending (b ∷ inserted a ys)
+inserted_behind : (a b : List ℕ) (ys : List (List ℕ)) → is_less a b ≡ false → IsAscending (b ∷ ys) → IsAscending (inserted a ys)
+    → IsAscending (b ∷ inserted a ys)
 inserted_behind a b [] h up on = IsSortedBy-cons is_less b a [] h on
 inserted_behind a b (c ∷ ys) h up on = by_test (is_less c a) on
   where
@@ -190,12 +202,15 @@ pub arranged-permuted : (xs ys : List (List ℕ)) → IsPermutation xs ys → ar
 arranged-permuted xs ys moved =
     let back = IsPermutation-sym _ _ (arranged-permutation xs) in
     let on = IsPermutation-trans _ _ _ moved (arranged-permutation ys) in
-    only_ascending (arranged xs) (arranged ys) (IsPermutation-trans _ _ _ back on) (arranged-ascending xs) (arranged-ascending ys)
+    let whole = IsPermutation-trans _ _ _ back on in
+    only_ascending (arranged xs) (arranged ys) whole (arranged-ascending xs) (arranged-ascending ys)
 
 -- it is what a sort by the bytes of each element gives
-pub arranged-sorted : {X : Type 0} (bytes : X → List ℕ) (xs ys : List X) → IsPermutation xs ys → IsSortedByKey bytes (slice_cmp nat_cmp) ys → arranged (map bytes xs) ≡ map bytes ys
+pub arranged-sorted : {X : Type 0} (bytes : X → List ℕ) (xs ys : List X) → IsPermutation xs ys
+    → IsSortedByKey bytes (slice_cmp nat_cmp) ys → arranged (map bytes xs) ≡ map bytes ys
 arranged-sorted bytes xs ys moved up =
-    arranged-permuted (map bytes xs) (map bytes ys) (IsPermutation-map bytes xs ys moved) ∙ arranged-same (map bytes ys) (IsSortedBy-map is_less bytes ys up)
+    let same = arranged-permuted (map bytes xs) (map bytes ys) (IsPermutation-map bytes xs ys moved) in
+    same ∙ arranged-same (map bytes ys) (IsSortedBy-map is_less bytes ys up)
 
 -- as many bytes in all
 pub length-arranged : (xs : List (List ℕ)) → length (concat (arranged xs)) ≡ length (concat xs)
@@ -221,7 +236,8 @@ inserted_nothing [] = refl
 inserted_nothing ([] ∷ xs) = refl
 inserted_nothing ((b ∷ a) ∷ xs) = refl
 
-inserted_behind_empty : (b : ℕ) (a : List ℕ) (xs ys : List (List ℕ)) → inserted (b ∷ a) (empty_ones xs ++ ys) ≡ empty_ones xs ++ inserted (b ∷ a) ys
+inserted_behind_empty : (b : ℕ) (a : List ℕ) (xs ys : List (List ℕ))
+    → inserted (b ∷ a) (empty_ones xs ++ ys) ≡ empty_ones xs ++ inserted (b ∷ a) ys
 inserted_behind_empty b a [] ys = refl
 inserted_behind_empty b a ([] ∷ xs) ys = ap (λ l. [] ∷ l) (inserted_behind_empty b a xs ys)
 inserted_behind_empty b a ((d ∷ c) ∷ xs) ys = inserted_behind_empty b a xs ys
