@@ -10,8 +10,11 @@ pub mod WrapWrites
 pub mod Brought
 pub mod HeaderSizes
 pub mod EntryWrites
+pub mod Seams
+pub mod SetBytes
 pub mod ListBytes
 pub mod Members
+pub mod SetWrites
 pub mod Items
 pub mod ApplicationWrites
 pub mod Rows
