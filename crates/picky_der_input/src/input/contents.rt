@@ -44,7 +44,12 @@ impl<R: ReadExt> Input<R> {
     }
 
     // Takes a piece of the content, where so many bytes are left of it, and puts it behind what the vector holds.
-    fn append_piece(&mut self, bytes: &mut Vec<u8>, piece: &mut [u8; PIECE], left: usize) -> Result<usize>
+    fn append_piece(
+        &mut self,
+        bytes: &mut Vec<u8>,
+        piece: &mut [u8; PIECE],
+        left: usize,
+    ) -> Result<usize>
         requires had_not_failed { self.old.failed ≡ None }
         requires unpeeked { self.old.peeked ≡ None }
         requires some_left { 0 < left }
