@@ -19,7 +19,7 @@ mod texts;
 
 use crate::End;
 use arrayvec::ArrayVec;
-pub use ends::Outer;
+pub use ends::{Last, Outer};
 use picky_der_core::misc::{PeekableReader, ReadExt};
 use picky_der_core::{Asn1DerError, Failure, Result};
 use std::alloc::Global;

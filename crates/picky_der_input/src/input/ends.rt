@@ -12,23 +12,38 @@ use picky_der_core::misc::ReadExt;
 use picky_der_core::{Asn1DerError, Failure, Result};
 use std::marker::Model;
 
+/// What is kept of a member of a set: its encoding.
+pub trait Last: Drop {
+    ghost use Rattle.std.specs.Prelude.{ℕ, List};
+
+    // Its bytes.
+    ghost bytes: { Self → List ℕ };
+}
+
+impl Last for Vec<u8> {
+    ghost bytes = { λ l. l.items };
+}
+
 /// The end around an open one, which is put back where that is closed.
+///
+/// `L` is always a vector. It is a parameter so that contracts of calls that take a struct with an `Outer` and a reference in it
+/// know what they leave behind the reference.
 #[derive(Drop)]
-pub struct Outer {
+pub struct Outer<L: Last = Vec<u8>> {
     // How many bytes are taken before it.
     place: usize,
     kind: End,
     // The encoding of the last member before it, where it is a set's.
-    last: Option<Vec<u8>>,
+    last: Option<L>,
 }
 
-impl Model for Outer {
+impl<L: Last> Model for Outer<L> {
     ghost use Rattle.std.specs.Prelude.{option_map};
     ghost use Rattle.picky_der_input.specs.Ends.{Outer as OuterEnd};
 
     ghost Value = { OuterEnd };
 
-    ghost view = { λ o. record { place = o.place; kind = o.kind; last = option_map (λ l. l.items) o.last } };
+    ghost view = { λ o. record { place = o.place; kind = o.kind; last = option_map L.bytes o.last } };
 }
 
 impl<R: ReadExt> Input<R> {
