@@ -14,7 +14,6 @@ pub mod Seams
 pub mod SetBytes
 pub mod ListBytes
 pub mod Members
-pub mod SetWrites
 pub mod Items
 pub mod ApplicationWrites
 pub mod Rows

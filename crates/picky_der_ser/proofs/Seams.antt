@@ -50,7 +50,8 @@ last_seam-next header ss n h = by_test (is_set header && nat_lt 0 n)
 between-front : (start s : ℕ) (c b : List ℕ) → s ≤ length c → between start s (c ++ b) ≡ between start s c
 between-front start s c b h = between_is (c ++ b) start s ∙ ap (drop start) (take-append-le s c b h) ∙ sym (between_is c start s)
 
-pub parts-push : (start : ℕ) (ss c b : List ℕ) → AreSeams start ss → last_seam start ss ≤ length c → parts_from start (ss ++ (length c ∷ [])) (c ++ b) ≡ parts_from start ss c ++ (b ∷ [])
+pub parts-push : (start : ℕ) (ss c b : List ℕ) → AreSeams start ss → last_seam start ss ≤ length c
+    → parts_from start (ss ++ (length c ∷ [])) (c ++ b) ≡ parts_from start ss c ++ (b ∷ [])
 parts-push start [] c b k h =
     let front : between start (length c) (c ++ b) ≡ drop start c = between_is (c ++ b) start (length c) ∙ ap (drop start) (take-append_seam c b) in
     ap₂ (λ x y. x ∷ y ∷ []) front (drop-append_seam c b)
@@ -79,9 +80,11 @@ arranged-uncut (s ∷ ss) c h = absurd (omega (arith, h))
 
 -- ---- what a sort of the parts gives, one behind the other
 
-pub joined-sorted : (xs ys : List (Bor (List ℕ))) (all : List (List ℕ)) (r : Result (Vec ℕ Global) AllocError) → map (λ x. x.now) xs ≡ all → IsPermutation xs ys → IsSortedByKey (λ x. x.now) (slice_cmp nat_cmp) ys
+pub joined-sorted : (xs ys : List (Bor (List ℕ))) (all : List (List ℕ)) (r : Result (Vec ℕ Global) AllocError)
+    → map (λ x. x.now) xs ≡ all → IsPermutation xs ys → IsSortedByKey (λ x. x.now) (slice_cmp nat_cmp) ys
     → IfOk r (λ v. AllZip (λ a b. b ≡ a) (flat_map (λ y. y.now) ys) v.items) → IfOk r (λ v. v.items ≡ concat (arranged all))
 joined-sorted xs ys all (Err e) is moved up h = tt
 joined-sorted xs ys all (Ok v) is moved up h =
     let bytes : map (λ y. y.now) ys ≡ arranged all = sym (arranged-sorted (λ y. y.now) xs ys moved up) ∙ ap arranged is in
-    each_same (flat_map (λ y. y.now) ys) v.items h ∙ sym (flat_map-map (λ l. l) (λ y. y.now) ys) ∙ sym (concat_is (map (λ y. y.now) ys)) ∙ ap concat bytes
+    let items : v.items ≡ flat_map (λ y. y.now) ys = each_same (flat_map (λ y. y.now) ys) v.items h in
+    items ∙ sym (flat_map-map (λ l. l) (λ y. y.now) ys) ∙ sym (concat_is (map (λ y. y.now) ys)) ∙ ap concat bytes

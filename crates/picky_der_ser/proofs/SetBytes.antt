@@ -39,7 +39,8 @@ holds_first b members none = record {
   same = ap (λ l. l ++ without_empty (b ∷ [])) (sym none) ∙ sym (without_empty-append members (b ∷ []));
 }
 
-holds_more : (x : ℕ) (ss c b : List ℕ) (members : List (List ℕ)) → Holds ss (x ∷ c) members → Holds (ss ++ (length (x ∷ c) ∷ [])) (x ∷ c ++ b) (members ++ (b ∷ []))
+holds_more : (x : ℕ) (ss c b : List ℕ) (members : List (List ℕ)) → Holds ss (x ∷ c) members
+    → Holds (ss ++ (length (x ∷ c) ∷ [])) (x ∷ c ++ b) (members ++ (b ∷ []))
 holds_more x ss c b members h =
     let last = last_seam-push 0 ss (length (x ∷ c)) in
     let size = length-append (x ∷ c) b in
@@ -51,7 +52,8 @@ holds_more x ss c b members h =
           ∙ ap (λ l. l ++ without_empty (b ∷ [])) h.same ∙ sym (without_empty-append members (b ∷ []));
     }
 
-holds_next : (header : Header) (ss c b : List ℕ) (members : List (List ℕ)) → is_set header ≡ true → Holds ss c members → Holds (next_seams header ss (length c)) (c ++ b) (members ++ (b ∷ []))
+holds_next : (header : Header) (ss c b : List ℕ) (members : List (List ℕ)) → is_set header ≡ true → Holds ss c members
+    → Holds (next_seams header ss (length c)) (c ++ b) (members ++ (b ∷ []))
 holds_next header ss [] b members e h =
     let none = h.first refl in
     let seams : next_seams header ss 0 ≡ [] = ap (λ t. cond (t && nat_lt 0 0) (ss ++ (0 ∷ [])) ss) e ∙ none in
@@ -63,7 +65,8 @@ holds_next header ss (x ∷ c) b members e h =
     let seams : next_seams header ss n ≡ ss ++ (n ∷ []) = ap (λ t. cond (t && nat_lt 0 n) (ss ++ (n ∷ [])) ss) e ∙ more in
     subst (λ l. Holds l (x ∷ c ++ b) (members ++ (b ∷ []))) (sym seams) (holds_more x ss c b members h)
 
-holds_all : (l : Level) (members bs : List (List ℕ)) → is_set l.header ≡ true → Holds l.seams l.content members → let m = with_members l bs in Holds m.seams m.content (members ++ bs)
+holds_all : (l : Level) (members bs : List (List ℕ)) → is_set l.header ≡ true → Holds l.seams l.content members
+    → let m = with_members l bs in Holds m.seams m.content (members ++ bs)
 holds_all l members [] e h = subst (Holds l.seams l.content) (sym (append-nil members)) h
 holds_all l members (b ∷ bs) e h =
     let m = with_members l (b ∷ bs) in
@@ -101,7 +104,8 @@ members-push l [] b = refl
 members-push l (c ∷ bs) b = members-push (with_member l c) bs b
 
 -- with its members it is settled to the content of the list
-pub settled-members : (kind : ListKind) (around : List Wrapper) (bs : List (List ℕ)) → settled (with_members (list_level kind around) bs) ≡ list_content kind bs
+pub settled-members : (kind : ListKind) (around : List Wrapper) (bs : List (List ℕ))
+    → settled (with_members (list_level kind around) bs) ≡ list_content kind bs
 settled-members ListKind.sequence around bs =
     let l = list_level ListKind.sequence around in
     settled-uncut (with_members l bs) (uncut_seams l bs refl) ∙ members_content l bs
