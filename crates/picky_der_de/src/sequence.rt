@@ -5,15 +5,15 @@ use crate::{Deserialize, Deserializer};
 use picky_der_core::asn1::Tag;
 use picky_der_core::misc::ReadExt;
 use picky_der_core::{Asn1DerError, Result};
-use picky_der_input::Outer;
+use picky_der_input::{Last, Outer};
 
 /// A sequence or a set that is being read. Dropped without `end`, its end stays the innermost one: nothing behind it is
-/// read then.
+/// read then. `L` is always a vector of bytes.
 #[derive(Drop)]
-pub struct Sequence<'a, R: ReadExt> {
+pub struct Sequence<'a, R: ReadExt, L: Last = Vec<u8>> {
     de: &'a mut Deserializer<R>,
     // The end around its own.
-    outer: Outer,
+    outer: Outer<L>,
     ghost within: { de.now.taken + de.now.room ≤ outer.place },
     ghost bounded: { outer.place ≤ de.now.limit },
     ghost whole: { de.now.failed ≡ None → de.now.direct ≡ None },
@@ -21,14 +21,11 @@ pub struct Sequence<'a, R: ReadExt> {
 
 impl<'a, R: ReadExt> Sequence<'a, R> {
     ghost use Rattle.picky_der_de.specs.SequenceState.{borrowed_by, outer_of, state_of};
-    ghost use Rattle.std.specs.Prelude.{◌≡◌, ◌+◌, ◌<◌, ◌≤◌, None, Err, IfNone, IfSome, IfOk, IfErr, OnOk};
-    ghost use Rattle.picky_der_input.specs.Steps.{failed_with};
+    ghost use Rattle.std.specs.Prelude.{◌≡◌, OnOk, IfErr};
     ghost use Rattle.picky_der_input.specs.Ends.{OpensLazily, Closes, RefusesClose};
-    ghost use Rattle.picky_der_input.specs.LookAhead.{Identifies, RefusesIdentifier};
-    ghost use Rattle.picky_der_de.specs.Members.{ReadsMember, RefusesMember, HasNoMore, ReadsAll, RefusesAll};
 
     /// Reads so many bytes from here as members, without a header. Directly under an implicit tag that tag's special
-    /// reading is given up, and its end is the one around this.
+    /// reading is given up, and its end is the one around this. No order of members is tested.
     ///
     /// Where these bytes reach past the innermost end, the deserializer has failed: with `InvalidData` at a hard end,
     /// and `TruncatedData` at a soft one.
@@ -40,7 +37,26 @@ impl<'a, R: ReadExt> Sequence<'a, R> {
         Sequence { de, outer }
     }
 
-    /// The next member, and `None` exactly at the end. A member is refused as its type is.
+    /// Closes the sequence. Bytes left over before its end are `InvalidData`, and none of them is drawn.
+    pub fn end(self) -> Result<()>
+        ensures ok { OnOk result (Closes (outer_of self.entry) (state_of self.entry) self.exit.0.now) }
+        ensures err { IfErr result (RefusesClose (state_of self.entry) self.exit.0.now) }
+    {
+        let Sequence { de, outer } = self;
+        de.close_end(outer)
+    }
+}
+
+impl<'a, R: ReadExt, L: Last> Sequence<'a, R, L> {
+    ghost use Rattle.picky_der_de.specs.SequenceState.{borrowed_by, outer_of, state_of};
+    ghost use Rattle.std.specs.Prelude.{◌≡◌, ◌<◌, None, Err, IfNone, IfSome, IfOk, IfErr};
+    ghost use Rattle.picky_der_input.specs.Steps.{failed_with};
+    ghost use Rattle.picky_der_input.specs.LookAhead.{Identifies, RefusesIdentifier};
+    ghost use Rattle.picky_der_de.specs.Members.{ReadsMember, RefusesMember, HasNoMore, ReadsAll, RefusesAll};
+
+    /// The next member, and `None` exactly at the end. A member is refused as its type is. In a set that was begun by
+    /// `deserialize_set` one that was read is refused with `InvalidData` where its encoding is less than the one before it
+    /// (X.690, 11.6), and with `OutOfMemory` where a growth for that test was; no byte behind it is drawn.
     pub fn next_element<T: Deserialize>(&mut self) -> Result<Option<T>>
         ensures same_reference { borrowed_by self.new ≡ borrowed_by self.old }
         ensures outer { outer_of self.new ≡ outer_of self.old }
@@ -52,10 +68,12 @@ impl<'a, R: ReadExt> Sequence<'a, R> {
         if self.de.is_at_end()? {
             return Ok(None);
         }
-        Ok(Some(T::deserialize(self.de)?))
+        let value = T::deserialize(self.de)?;
+        self.de.test_order(&value)?;
+        Ok(Some(value))
     }
 
-    /// The next member. At the end it is refused with `TruncatedData`, and nothing is drawn; else as its type is.
+    /// The next member. At the end it is refused with `TruncatedData`, and nothing is drawn; else as `next_element` refuses it.
     pub fn next_field<T: Deserialize>(&mut self) -> Result<T>
         ensures same_reference { borrowed_by self.new ≡ borrowed_by self.old }
         ensures outer { outer_of self.new ≡ outer_of self.old }
@@ -107,15 +125,6 @@ impl<'a, R: ReadExt> Sequence<'a, R> {
             }
         }
         Ok(values)
-    }
-
-    /// Closes the sequence. Bytes left over before its end are `InvalidData`, and none of them is drawn.
-    pub fn end(self) -> Result<()>
-        ensures ok { OnOk result (Closes (outer_of self.entry) (state_of self.entry) self.exit.0.now) }
-        ensures err { IfErr result (RefusesClose (state_of self.entry) self.exit.0.now) }
-    {
-        let Sequence { de, outer } = self;
-        de.close_end(outer)
     }
 }
 
@@ -175,7 +184,7 @@ impl<R: ReadExt> Deserializer<R> {
         self.open(Tag::SEQUENCE)
     }
 
-    /// Begins to read a set, as a sequence is begun.
+    /// Begins to read a set, as a sequence is begun. The order of its members is tested as each is read.
     pub fn deserialize_set(&mut self) -> Result<Sequence<'_, R>>
         ensures* rests { sem 𝓛 (RestsIfErr (the_row R.row R.ReadExt.own R.Read) self.entry borrowed_by result (λ new. IfErr result (RefusesList 0x31 self.old new))) }
         ensures same_reference { IfOk result (λ q. borrowed_by q ≡ self.entry.ghost_name) }

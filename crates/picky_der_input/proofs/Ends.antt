@@ -7,6 +7,7 @@ use Rattle.picky_der_input.specs.declared.end.End.{End}
 use Rattle.picky_der_input.specs.declared.end.End.TheVariants.{Soft}
 use Rattle.picky_der_input.specs.State.{State}
 use Rattle.picky_der_input.specs.Steps.{Takes, Fails, IsJudged, far, is_hard}
+use Rattle.picky_der_input.specs.Order.{order_of}
 use Rattle.picky_der_input.specs.Reading.{Concerns, now, ever}
 use Rattle.picky_der_input.specs.Headers.{header_bytes, Begins}
 use Rattle.picky_der_input.specs.Ends.{Outer, innermost, narrowed, Closes, OpensList, list_refusal_in, list_refusal}
@@ -27,7 +28,7 @@ not_refused {tag} {n} {a} {b} i h k =
     ap (list_refusal tag a) f.before ∙ header_not_refused a.direct tag n b.room a (take b.room f.rest) i (fits_below h) h.takes.room h.fits
 
 -- the end of a list was opened behind its header
-pub opens_list : {tag n : ℕ} {a b c : State} {outer : Outer} → IsTagNumber (number_of tag) → Begins tag a b n → c ≡ narrowed b n Soft → outer ≡ innermost b → OpensList tag a c outer
+pub opens_list : {tag n : ℕ} {a b c : State} {outer : Outer} → IsTagNumber (number_of tag) → Begins tag a b n → c ≡ record (narrowed b n Soft) { last = order_of tag } → outer ≡ innermost b → OpensList tag a c outer
 opens_list {n = n} {b = b} i h opened back = record {
   mid = b;
   len = n;

@@ -8,6 +8,7 @@ use Rattle.picky_der_input.specs.declared.end.End.{End}
 use Rattle.picky_der_input.specs.declared.end.End.TheVariants.{Soft}
 use Rattle.picky_der_input.specs.State.{State}
 use Rattle.picky_der_input.specs.Steps.{Fails, TakesNoMemory, failed_with, at_end, is_hard}
+use Rattle.picky_der_input.specs.Order.{order_of}
 use Rattle.picky_der_input.specs.Reading.{AreNotRefused}
 use Rattle.picky_der_input.specs.Headers.{Begins, RefusesBegin}
 
@@ -52,7 +53,7 @@ pub record OpensList (tag : ℕ) (old new : State) (outer : Outer) : Type 0 wher
   pub mid : State
   pub len : ℕ
   pub begins : Begins tag old mid len
-  pub opened : new ≡ narrowed mid len Soft
+  pub opened : new ≡ record (narrowed mid len Soft) { last = order_of tag }
   pub around : outer ≡ innermost mid
   pub no_refusal : AreNotRefused (list_refusal tag old) old
 
@@ -62,9 +63,10 @@ pub record RefusesList (tag : ℕ) (old new : State) (e : Asn1DerError) : Type 0
   pub memory : TakesNoMemory old new e
 
 -- A soft end was opened so many bytes from here, or it would have been past the innermost end, and then the deserializer has
--- failed. One that had failed is as it was.
+-- failed. One that had failed is as it was. No order of members is tested before that end.
 pub record OpensLazily (len : ℕ) (old new : State) (outer : Outer) : Type 0 where
   pub again : (f : Failure) → old.failed ≡ Some f → new ≡ old
   pub past : old.failed ≡ None → old.room < len → new ≡ failed_with old (at_end old.end)
   pub opened : old.failed ≡ None → len ≤ old.room → new ≡ record (narrowed old len Soft) { direct = None }
-  pub around : outer ≡ innermost old
+  pub around : old.failed ≡ None → len ≤ old.room → outer ≡ innermost old
+  pub place : outer.place ≡ old.taken + old.room

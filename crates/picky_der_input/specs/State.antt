@@ -17,7 +17,8 @@ pub record State : Type 0 where
   -- how far ahead the innermost end is, and what it is
   pub room : ℕ
   pub end : End
-  -- the encoding of the last member that was read of a set whose end is the innermost one; no call keeps one yet
+  -- the encoding of the member that was read last, where the innermost end is that of a set, and no bytes before the first one;
+  -- where that is another end the order isn't tested
   pub last : Option (List ℕ)
   -- the number of the implicit tag directly under which it stands
   pub direct : Option ℕ

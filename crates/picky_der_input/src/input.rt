@@ -10,6 +10,7 @@ mod enclosure;
 mod ends;
 mod header;
 mod octets;
+mod order;
 mod peek;
 mod plain;
 mod raw;
@@ -18,7 +19,7 @@ mod texts;
 
 use crate::End;
 use arrayvec::ArrayVec;
-pub use ends::Outer;
+pub use ends::{Last, Outer};
 use picky_der_core::misc::{PeekableReader, ReadExt};
 use picky_der_core::{Asn1DerError, Failure, Result};
 use std::alloc::Global;
@@ -36,12 +37,14 @@ pub struct Input<R: ReadExt> {
     limit: usize,
     room: usize,
     end: End,
+    // The encoding of the last member, where a set is read, and nothing before the first one.
+    last: Option<Vec<u8>>,
     direct: Option<u8>,
     failed: Option<Failure>,
 }
 
 impl<R: ReadExt> Model for Input<R> {
-    ghost use Rattle.std.specs.Prelude.{◌+◌, ◌<◌, ◌≤◌, ◌^◌, None};
+    ghost use Rattle.std.specs.Prelude.{◌+◌, ◌<◌, ◌≤◌, ◌^◌, option_map};
     ghost use Rattle.picky_der_input.specs.State.{State};
     ghost use Rattle.picky_der_core.specs.Peeking.{count_of_any, left_in};
     ghost use Rattle.picky_der_input.specs.Steps.{IsUnpeekedIfDirect, IsTagNumberIfAny};
@@ -55,7 +58,7 @@ impl<R: ReadExt> Model for Input<R> {
       limit = d.limit;
       room = d.room;
       end = d.end;
-      last = None;
+      last = option_map (λ l. l.items) d.last;
       direct = d.direct;
       failed = d.failed;
       faults = R.faults d.reader.reader;
@@ -78,6 +81,7 @@ impl<R: ReadExt> Input<R> {
             limit: max_len,
             room: max_len,
             end: End::Limit,
+            last: None,
             direct: None,
             failed: None,
         }
@@ -95,6 +99,7 @@ impl<R: ReadExt> Input<R> {
             limit: _,
             room: _,
             end: _,
+            last: _,
             direct: _,
             failed: _,
         } = self;

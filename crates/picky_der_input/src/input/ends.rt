@@ -5,27 +5,45 @@ ghost use Rattle.picky_der_core.specs.Tag.{number_of, IsTagNumber};
 ghost use Rattle.picky_der_input.specs.Ends.{innermost, narrowed, Closes, RefusesClose, OpensList, RefusesList, OpensLazily};
 
 use super::Input;
+use super::order::before_first;
 use crate::End;
 use picky_der_core::asn1::Tag;
 use picky_der_core::misc::ReadExt;
 use picky_der_core::{Asn1DerError, Failure, Result};
 use std::marker::Model;
 
+/// What is kept of a member of a set: its encoding.
+pub trait Last: Drop {
+    ghost use Rattle.std.specs.Prelude.{ℕ, List};
+
+    // Its bytes.
+    ghost bytes: { Self → List ℕ };
+}
+
+impl Last for Vec<u8> {
+    ghost bytes = { λ l. l.items };
+}
+
 /// The end around an open one, which is put back where that is closed.
+///
+/// `L` is always a vector. It is a parameter so that contracts of calls that take a struct with an `Outer` and a reference in it
+/// know what they leave behind the reference.
 #[derive(Drop)]
-pub struct Outer {
+pub struct Outer<L: Last = Vec<u8>> {
     // How many bytes are taken before it.
     place: usize,
     kind: End,
+    // The encoding of the last member before it, where it is a set's.
+    last: Option<L>,
 }
 
-impl Model for Outer {
-    ghost use Rattle.std.specs.Prelude.{None};
+impl<L: Last> Model for Outer<L> {
+    ghost use Rattle.std.specs.Prelude.{option_map};
     ghost use Rattle.picky_der_input.specs.Ends.{Outer as OuterEnd};
 
     ghost Value = { OuterEnd };
 
-    ghost view = { λ o. record { place = o.place; kind = o.kind; last = None } };
+    ghost view = { λ o. record { place = o.place; kind = o.kind; last = option_map L.bytes o.last } };
 }
 
 impl<R: ReadExt> Input<R> {
@@ -39,6 +57,7 @@ impl<R: ReadExt> Input<R> {
         let outer = Outer {
             place: self.reader.pos() + self.room,
             kind: self.end,
+            last: self.last.take(),
         };
         self.room = len;
         self.end = kind;
@@ -46,7 +65,7 @@ impl<R: ReadExt> Input<R> {
     }
 
     /// Takes the header of a sequence or set under this tag, and opens its end. Directly under an implicit tag the header
-    /// was that tag's.
+    /// was that tag's. Of a set the order of the members is tested from here on.
     pub fn open_list(&mut self, tag: Tag) -> Result<Outer>
         requires number { IsTagNumber (number_of tag) }
         ensures ok { IfOk result (λ outer. OpensList tag self.old self.new outer) }
@@ -54,10 +73,13 @@ impl<R: ReadExt> Input<R> {
         ensures err { IfErr result (RefusesList tag self.old self.new) }
     {
         let len = self.begin(tag)?;
-        Ok(self.open_end(len, End::Soft))
+        let outer = self.open_end(len, End::Soft);
+        self.last = before_first(self.alloc, tag);
+        Ok(outer)
     }
 
-    /// Opens a soft end so many bytes from here. Where that is past the innermost end, it has failed.
+    /// Opens a soft end so many bytes from here, before which no order is tested. Where that is past the innermost end, it
+    /// has failed.
     pub fn open_lazily(&mut self, len: usize) -> Outer
         ensures opened { OpensLazily len self.old self.new result }
         ensures bounded { result.place ≤ self.new.limit }
@@ -72,6 +94,7 @@ impl<R: ReadExt> Input<R> {
         Outer {
             place: self.reader.pos() + self.room,
             kind: self.end,
+            last: None,
         }
     }
 
@@ -90,6 +113,7 @@ impl<R: ReadExt> Input<R> {
         }
         self.room = outer.place - self.reader.pos();
         self.end = outer.kind;
+        self.last = outer.last;
         Ok(())
     }
 
