@@ -13,7 +13,7 @@ mod utf8_string;
 pub use boolean::Boolean;
 pub use enclosure::Enclosure;
 pub use end::End;
-pub use input::{Input, Last, Outer};
+pub use input::{Input, Outer};
 pub use integer::{UInt, UnsignedInteger};
 pub use null::Null;
 pub use utf8_string::Utf8String;

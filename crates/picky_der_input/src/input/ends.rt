@@ -5,45 +5,28 @@ ghost use Rattle.picky_der_core.specs.Tag.{number_of, IsTagNumber};
 ghost use Rattle.picky_der_input.specs.Ends.{innermost, narrowed, Closes, RefusesClose, OpensList, RefusesList, OpensLazily};
 
 use super::Input;
-use super::order::before_first;
 use crate::End;
 use picky_der_core::asn1::Tag;
 use picky_der_core::misc::ReadExt;
 use picky_der_core::{Asn1DerError, Failure, Result};
 use std::marker::Model;
 
-/// What is kept of a member of a set: its encoding.
-pub trait Last: Drop {
-    ghost use Rattle.std.specs.Prelude.{ℕ, List};
-
-    // Its bytes.
-    ghost bytes: { Self → List ℕ };
-}
-
-impl Last for Vec<u8> {
-    ghost bytes = { λ l. l.items };
-}
-
 /// The end around an open one, which is put back where that is closed.
-///
-/// `L` is always a vector. It is a parameter so that contracts of calls that take a struct with an `Outer` and a reference in it
-/// know what they leave behind the reference.
 #[derive(Drop)]
-pub struct Outer<L: Last = Vec<u8>> {
+pub struct Outer {
     // How many bytes are taken before it.
     place: usize,
     kind: End,
-    // The encoding of the last member before it, where it is a set's.
-    last: Option<L>,
+    // Where it is a set's, how many bytes are kept before the encoding of its last member.
+    last: Option<usize>,
 }
 
-impl<L: Last> Model for Outer<L> {
-    ghost use Rattle.std.specs.Prelude.{option_map};
+impl Model for Outer {
     ghost use Rattle.picky_der_input.specs.Ends.{Outer as OuterEnd};
 
     ghost Value = { OuterEnd };
 
-    ghost view = { λ o. record { place = o.place; kind = o.kind; last = option_map L.bytes o.last } };
+    ghost view = { λ o. record { place = o.place; kind = o.kind; last = o.last } };
 }
 
 impl<R: ReadExt> Input<R> {
@@ -74,7 +57,7 @@ impl<R: ReadExt> Input<R> {
     {
         let len = self.begin(tag)?;
         let outer = self.open_end(len, End::Soft);
-        self.last = before_first(self.alloc, tag);
+        self.order_members(tag);
         Ok(outer)
     }
 
@@ -94,7 +77,7 @@ impl<R: ReadExt> Input<R> {
         Outer {
             place: self.reader.pos() + self.room,
             kind: self.end,
-            last: None,
+            last: self.last,
         }
     }
 
@@ -113,7 +96,7 @@ impl<R: ReadExt> Input<R> {
         }
         self.room = outer.place - self.reader.pos();
         self.end = outer.kind;
-        self.last = outer.last;
+        self.leave_set(outer.last);
         Ok(())
     }
 
