@@ -36,7 +36,7 @@ readable-push meaning (w ∷ vs) v h p = (h.0, readable-push meaning vs v h.1 p)
 
 -- what is in order behind these members is so with them in front
 abbrev pub LeadOn : {V : Type 0} → (V → Tree) → State → State → List V → Type 0
-LeadOn meaning old new vs = (ms : List (List ℕ)) → AreInOrder new.last ms → AreInOrder old.last (encodings (trees (map meaning vs)) ++ ms)
+LeadOn meaning old new vs = (ms : List (List ℕ)) → AreInOrder new.sets ms → AreInOrder old.sets (encodings (trees (map meaning vs)) ++ ms)
 
 pub leads-none : {V : Type 0} (meaning : V → Tree) (a : State) → LeadOn meaning a a []
 unfolding written
@@ -48,10 +48,10 @@ encodings-push meaning [] v ms = refl
 encodings-push meaning (w ∷ vs) v ms = ap (λ l. der (meaning w) ∷ l) (encodings-push meaning vs v ms)
 
 pub leads-push : {V : Type 0} (meaning : V → Tree) {s : Shape} (a : State) {b c : State} (vs : List V) (v : V) → LeadOn meaning a b vs → ReadsMember s b c (meaning v) → LeadOn meaning a c (vs ++ v ∷ [])
-leads-push meaning a vs v h r ms o = subst (AreInOrder a.last) (sym (encodings-push meaning vs v ms)) (h (der (meaning v) ∷ ms) (member_leads r ms o))
+leads-push meaning a vs v h r ms o = subst (AreInOrder a.sets) (sym (encodings-push meaning vs v ms)) (h (der (meaning v) ∷ ms) (member_leads r ms o))
 
-pub leads-all : {V : Type 0} (meaning : V → Tree) (a b : State) (vs : List V) → LeadOn meaning a b vs → AreInOrder a.last (encodings (trees (map meaning vs)))
-leads-all meaning a b vs h = subst (AreInOrder a.last) (append-nil (encodings (trees (map meaning vs)))) (h [] (order_none b.last))
+pub leads-all : {V : Type 0} (meaning : V → Tree) (a b : State) (vs : List V) → LeadOn meaning a b vs → AreInOrder a.sets (encodings (trees (map meaning vs)))
+leads-all meaning a b vs h = subst (AreInOrder a.sets) (append-nil (encodings (trees (map meaning vs)))) (h [] (order_none b.sets))
 
 -- ---- refused
 
@@ -59,7 +59,7 @@ leads-all meaning a b vs h = subst (AreInOrder a.last) (append-nil (encodings (t
 pub all_refused : {V : Type 0} {meaning : V → Tree} {s : Shape} {c d : State} {e : Asn1DerError} → RefusesMember meaning s c d e → (c.failed ≡ None → 0 < c.room) → RefusesAll meaning s c d e
 all_refused {V} {meaning} {s} {c} {d} {e} r ahead = record { fails = r.fails; none = none }
   where
-    none : IsJudged c d e → (vs : List V) → EachIs (IsOf s) (trees (map meaning vs)) → AreReadable (trees (map meaning vs)) → AreInOrder c.last (encodings (trees (map meaning vs))) → StandUpToEnd c d e (bytes_of (trees (map meaning vs))) → ⊥
+    none : IsJudged c d e → (vs : List V) → EachIs (IsOf s) (trees (map meaning vs)) → AreReadable (trees (map meaning vs)) → AreInOrder c.sets (encodings (trees (map meaning vs))) → StandUpToEnd c d e (bytes_of (trees (map meaning vs))) → ⊥
     none j [] of_shape readable order w = none_left (ahead j.had_not_failed) w
     none j (v ∷ vs) of_shape readable order w = no_member v (trees (map meaning vs)) r j of_shape.0 readable.0 order w.stand
 
@@ -67,7 +67,7 @@ all_refused {V} {meaning} {s} {c} {d} {e} r ahead = record { fails = r.fails; no
 pub all_next : {V : Type 0} {meaning : V → Tree} {s : Shape} {b c d : State} {t : Tree} {e : Asn1DerError} → ReadsMember s b c t → RefusesAll meaning s c d e → RefusesAll meaning s b d e
 all_next {V} {meaning} {s} {b} {c} {d} {t} {e} r h = record { fails = fails_behind (takes_member r) h.fails; none = none }
   where
-    none : IsJudged b d e → (vs : List V) → EachIs (IsOf s) (trees (map meaning vs)) → AreReadable (trees (map meaning vs)) → AreInOrder b.last (encodings (trees (map meaning vs))) → StandUpToEnd b d e (bytes_of (trees (map meaning vs))) → ⊥
+    none : IsJudged b d e → (vs : List V) → EachIs (IsOf s) (trees (map meaning vs)) → AreReadable (trees (map meaning vs)) → AreInOrder b.sets (encodings (trees (map meaning vs))) → StandUpToEnd b d e (bytes_of (trees (map meaning vs))) → ⊥
     none j [] of_shape readable order w = none_left (member_ahead r) w
     none j (v ∷ vs) of_shape readable order w =
         let us = trees (map meaning vs) in

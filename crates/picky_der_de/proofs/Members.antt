@@ -10,14 +10,14 @@ use Rattle.picky_der_core.specs.Readable.{IsReadable, AreReadable, IsInOrder}
 use Rattle.picky_der_core.specs.Shape.{Shape, IsOf, IsFirst}
 use Rattle.picky_der_core.specs.Reading.{Place, written_at, StandsAt}
 use Rattle.picky_der_input.specs.declared.end.End.TheVariants.{Soft}
-use Rattle.picky_der_input.specs.State.{State}
+use Rattle.picky_der_input.specs.State.{OpenSets, State}
 use Rattle.picky_der_input.specs.Steps.{Takes, Fails, IsJudged, place_in, place_of, drawn}
-use Rattle.picky_der_input.specs.Order.{order_of, is_out_of_order, last_after, AreInOrder, unordered}
+use Rattle.picky_der_input.specs.Order.{order_of, entered, is_out_of_order, with_last, AreInOrder, unordered, RefusesTest, out_of_order, without_memory}
 use Rattle.picky_der_input.specs.Reading.{Concerns, now, ever, Reads, Refuses}
 use Rattle.picky_der_input.specs.Ends.{Outer, narrowed, Closes, OpensList, RefusesList}
-use Rattle.picky_der_de.specs.Members.{ReadsMember, RefusesTest, out_of_order, without_memory, RefusesNext, no_value, behind_value, RefusesMember, HasNoMore, bytes_of, StandBefore, StandUpToEnd}
+use Rattle.picky_der_de.specs.Members.{ReadsMember, RefusesNext, no_value, behind_value, RefusesMember, HasNoMore, bytes_of, StandBefore, StandUpToEnd}
 use Rattle.picky_der_input.proofs.Steps.{fails_after, fails_again, judged_after}
-use Rattle.picky_der_input.proofs.Order.{concerns_alike, judged_alike, fails_alike, takes_unordered, order_none, order_first, order_next, order_more, order_begins, order_whole}
+use Rattle.picky_der_input.proofs.Order.{concerns_alike, concerns_unordered, judged_alike, fails_alike, takes_unordered, order_none, order_first, order_next, order_more, order_begins, order_whole}
 use Rattle.picky_der_input.proofs.Refusals.{behind, failed_grows, end_below}
 use Rattle.picky_der_input.proofs.PlainReads.{no_plain, begun, takes_plain, may_stand, first_of_header}
 use Rattle.picky_der_input.proofs.Ends.{narrowed_concerns, concerns_room, narrowed_judged, widened_fails, closes_behind}
@@ -40,14 +40,14 @@ unfolding der written
 encodings-more t ts = refl
 
 -- members in order, from left to right
-pub no_members_in_order : (l : Option (List ℕ)) → AreInOrder l (encodings Trees.none)
+pub no_members_in_order : (l : OpenSets) → AreInOrder l (encodings Trees.none)
 unfolding written
 no_members_in_order l = order_none l
 
-first_in_order : (l : Option (List ℕ)) (t : Tree) (ts : Trees) → AreInOrder l (encodings (Trees.more t ts)) → is_out_of_order l (der t) ≡ false
+first_in_order : (l : OpenSets) (t : Tree) (ts : Trees) → AreInOrder l (encodings (Trees.more t ts)) → is_out_of_order l (der t) ≡ false
 first_in_order l t ts h = order_first l (der t) (encodings ts) (subst (AreInOrder l) (encodings-more t ts) h)
 
-next_in_order : (l : Option (List ℕ)) (t : Tree) (ts : Trees) → AreInOrder l (encodings (Trees.more t ts)) → AreInOrder (last_after l (der t)) (encodings ts)
+next_in_order : (l : OpenSets) (t : Tree) (ts : Trees) → AreInOrder l (encodings (Trees.more t ts)) → AreInOrder (with_last l (der t)) (encodings ts)
 next_in_order l t ts h = order_next l (der t) (encodings ts) (subst (AreInOrder l) (encodings-more t ts) h)
 
 -- ---- one member
@@ -63,17 +63,17 @@ pub member_direct : {s : Shape} {b c : State} {t : Tree} → ReadsMember s b c t
 member_direct r = ap (λ (z : State). z.direct) r.follows.same ∙ r.reads.direct
 
 -- it is the last one from here on
-last_member : {s : Shape} {b c : State} {t : Tree} → ReadsMember s b c t → c.last ≡ last_after b.last (der t)
-last_member {t = t} r = ap (λ (z : State). z.last) r.follows.same ∙ ap (λ l. last_after l (der t)) r.reads.takes.last
+last_member : {s : Shape} {b c : State} {t : Tree} → ReadsMember s b c t → c.sets ≡ with_last b.sets (der t)
+last_member {t = t} r = ap (λ (z : State). z.sets) r.follows.same ∙ ap (λ l. with_last l (der t)) r.reads.takes.sets
 
 -- and what is in order behind it is so with it in front
-pub member_leads : {s : Shape} {b c : State} {t : Tree} → ReadsMember s b c t → (ms : List (List ℕ)) → AreInOrder c.last ms → AreInOrder b.last (der t ∷ ms)
+pub member_leads : {s : Shape} {b c : State} {t : Tree} → ReadsMember s b c t → (ms : List (List ℕ)) → AreInOrder c.sets ms → AreInOrder b.sets (der t ∷ ms)
 member_leads {b = b} {t = t} r ms h =
-    let first : is_out_of_order b.last (der t) ≡ false = ap (λ l. is_out_of_order l (der t)) (sym r.reads.takes.last) ∙ r.follows.in_order in
-    order_more b.last (der t) ms first (subst (λ l. AreInOrder l ms) (last_member r) h)
+    let first : is_out_of_order b.sets (der t) ≡ false = ap (λ l. is_out_of_order l (der t)) (sym r.reads.takes.sets) ∙ r.follows.in_order in
+    order_more b.sets (der t) ms first (subst (λ l. AreInOrder l ms) (last_member r) h)
 
-pub members_lead : {s : Shape} {b c : State} {t : Tree} (ts : Trees) → ReadsMember s b c t → AreInOrder c.last (encodings ts) → AreInOrder b.last (encodings (Trees.more t ts))
-members_lead {b = b} {t = t} ts r h = subst (AreInOrder b.last) (sym (encodings-more t ts)) (member_leads r (encodings ts) h)
+pub members_lead : {s : Shape} {b c : State} {t : Tree} (ts : Trees) → ReadsMember s b c t → AreInOrder c.sets (encodings ts) → AreInOrder b.sets (encodings (Trees.more t ts))
+members_lead {b = b} {t = t} ts r h = subst (AreInOrder b.sets) (sym (encodings-more t ts)) (member_leads r (encodings ts) h)
 
 -- a member isn't read at the end
 pub member_ahead : {s : Shape} {b c : State} {t : Tree} → ReadsMember s b c t → 0 < b.room
@@ -127,28 +127,28 @@ same_first t u us readable read m l w rest begins =
 
 -- a member was read, and others stand behind it
 module _ {s : Shape} {b c d : State} {e : Asn1DerError} {t : Tree} (u : Tree) (us : Trees) (readable : IsReadable u) (r : ReadsMember s b c t) (f : Fails c d e) (w : StandBefore b d e (bytes_of (Trees.more u us))) where
-  same_member : (der u ≡ der t) × (bytes_of us ++ w.rest ≡ (behind (takes_member r) (failed_grows f) (concerns_alike None w.concerns)).rest)
-  same_member = same_first t u us readable r.reads.readable (takes_member r) (failed_grows f) (concerns_alike None w.concerns) w.rest w.begins
+  same_member : (der u ≡ der t) × (bytes_of us ++ w.rest ≡ (behind (takes_member r) (failed_grows f) (concerns_unordered w.concerns)).rest)
+  same_member = same_first t u us readable r.reads.readable (takes_member r) (failed_grows f) (concerns_unordered w.concerns) w.rest w.begins
 
   pub next_member : StandBefore c d e (bytes_of us)
   next_member =
       let m = takes_member r in
-      let v = behind m (failed_grows f) (concerns_alike None w.concerns) in
+      let v = behind m (failed_grows f) (concerns_unordered w.concerns) in
       let soft : c.end ≡ Soft = m.end ∙ w.soft in
       let left : v.left ≡ c.room = concerns_room soft v.concerns in
       record {
         soft = soft;
         seen = v.rest;
-        concerns = subst (λ n. Concerns c d e n v.rest) left (concerns_alike c.last v.concerns);
+        concerns = subst (λ n. Concerns c d e n v.rest) left (concerns_alike c.sets v.concerns);
         rest = w.rest;
         begins = sym same_member.1;
         within = omega (arith, w.within, ap length (bytes_of-more u us), length-append (der u) (bytes_of us), ap length same_member.0, m.room);
       }
 
-  pub next_order : AreInOrder b.last (encodings (Trees.more u us)) → AreInOrder c.last (encodings us)
+  pub next_order : AreInOrder b.sets (encodings (Trees.more u us)) → AreInOrder c.sets (encodings us)
   next_order h =
-      let last : c.last ≡ last_after b.last (der u) = last_member r ∙ ap (last_after b.last) (sym same_member.0) in
-      subst (λ l. AreInOrder l (encodings us)) (sym last) (next_in_order b.last u us h)
+      let last : c.sets ≡ with_last b.sets (der u) = last_member r ∙ ap (with_last b.sets) (sym same_member.0) in
+      subst (λ l. AreInOrder l (encodings us)) (sym last) (next_in_order b.sets u us h)
 
 pub next_up_to_end : {s : Shape} {b c d : State} {e : Asn1DerError} {t : Tree} (u : Tree) (us : Trees) → IsReadable u → ReadsMember s b c t → Fails c d e → StandUpToEnd b d e (bytes_of (Trees.more u us)) → StandUpToEnd c d e (bytes_of us)
 next_up_to_end u us readable r f w =
@@ -160,7 +160,7 @@ next_up_to_end u us readable r f w =
 
 -- the next member was refused, so no value of its type stands there in order
 module _ {V : Type 0} (meaning : V → Tree) {s : Shape} {c d : State} {e : Asn1DerError} (v : V) (us : Trees) (direct : c.direct ≡ None) (j : IsJudged c d e) (of_shape : IsOf s (meaning v)) (readable : IsReadable (meaning v))
-    (order : AreInOrder c.last (encodings (Trees.more (meaning v) us))) (w : StandBefore c d e (bytes_of (Trees.more (meaning v) us))) where
+    (order : AreInOrder c.sets (encodings (Trees.more (meaning v) us))) (w : StandBefore c d e (bytes_of (Trees.more (meaning v) us))) where
   unread : Refuses meaning s c d e → ⊥
   unread r =
       let parts : bytes_of (Trees.more (meaning v) us) ≡ der (meaning v) ++ bytes_of us = bytes_of-more (meaning v) us in
@@ -179,13 +179,13 @@ module _ {V : Type 0} (meaning : V → Tree) {s : Shape} {c d : State} {e : Asn1
   untested t r (out_of_order h) =
       let m = takes_whole r direct in
       let same = (same_first t (meaning v) us readable r.readable m (failed_grows h.fails) w.concerns w.rest w.begins).0 in
-      true≢false (sym h.less ∙ ap₂ is_out_of_order m.last (sym same) ∙ first_in_order c.last (meaning v) us order)
+      true≢false (sym h.less ∙ ap₂ is_out_of_order m.sets (sym same) ∙ first_in_order c.sets (meaning v) us order)
 
   unrefused : RefusesNext meaning s c d e → ⊥
   unrefused (no_value r) = unread r
   unrefused (behind_value b t r h) = untested t r h
 
-pub no_member : {V : Type 0} {meaning : V → Tree} {s : Shape} {c d : State} {e : Asn1DerError} (v : V) (us : Trees) → RefusesMember meaning s c d e → IsJudged c d e → IsOf s (meaning v) → IsReadable (meaning v) → AreInOrder c.last (encodings (Trees.more (meaning v) us))
+pub no_member : {V : Type 0} {meaning : V → Tree} {s : Shape} {c d : State} {e : Asn1DerError} (v : V) (us : Trees) → RefusesMember meaning s c d e → IsJudged c d e → IsOf s (meaning v) → IsReadable (meaning v) → AreInOrder c.sets (encodings (Trees.more (meaning v) us))
     → StandBefore c d e (bytes_of (Trees.more (meaning v) us)) → ⊥
 no_member {meaning = meaning} v us r j of_shape readable order w = unrefused meaning v us (r.direct j.had_not_failed) j of_shape readable order w r.refuses
 
@@ -196,11 +196,11 @@ none_left l w = omega (arith, w.fills, ap length bytes_of-none)
 -- ---- whole lists
 
 -- the members of a list that was opened, in order from its first one on
-opened_in_order : (kind : ListKind) {a b : State} {outer : Outer} (ts : Trees) → OpensList (list_tag kind) a b outer → IsInOrder kind (encodings ts) → AreInOrder b.last (encodings ts)
-opened_in_order kind ts h i = subst (λ l. AreInOrder l (encodings ts)) (sym (ap (λ (z : State). z.last) h.opened)) (order_begins kind (encodings ts) i)
+opened_in_order : (kind : ListKind) {a b : State} {outer : Outer} (ts : Trees) → OpensList (list_tag kind) a b outer → IsInOrder kind (encodings ts) → AreInOrder b.sets (encodings ts)
+opened_in_order kind ts h i = subst (λ l. AreInOrder l (encodings ts)) (sym (ap (λ (z : State). z.sets) h.opened)) (order_begins kind h.mid.sets (encodings ts) i)
 
-whole_in_order : (kind : ListKind) {a b : State} {outer : Outer} (ts : Trees) → OpensList (list_tag kind) a b outer → AreInOrder b.last (encodings ts) → IsInOrder kind (encodings ts)
-whole_in_order kind ts h i = order_whole kind (encodings ts) (subst (λ l. AreInOrder l (encodings ts)) (ap (λ (z : State). z.last) h.opened) i)
+whole_in_order : (kind : ListKind) {a b : State} {outer : Outer} (ts : Trees) → OpensList (list_tag kind) a b outer → AreInOrder b.sets (encodings ts) → IsInOrder kind (encodings ts)
+whole_in_order kind ts h i = order_whole kind h.mid.sets (encodings ts) (subst (λ l. AreInOrder l (encodings ts)) (ap (λ (z : State). z.sets) h.opened) i)
 
 -- the members of a list that stands, before the list's end
 members_stand : (kind : ListKind) (s : Shape) {a b c : State} {outer : Outer} {e : Asn1DerError} {end : ℕ} {bs : List ℕ} (ts : Trees) → OpensList (list_tag kind) a b outer → Fails b c e → Concerns a c e end bs → StandsAt (place_of a) s bs end (Tree.list kind ts) → StandUpToEnd b c e (bytes_of ts)
@@ -208,12 +208,12 @@ members_stand kind s {b = b} {c = c} {e = e} ts h f w st =
     let grows : h.mid.taken ≤ drawn c = omega (arith, failed_grows f, ap (λ (z : State). z.taken) h.opened) in
     let o = begun h.begins grows refl refl w st in
     let content_is = bytes_of-content kind ts st.readable.0 in
-    let opened : State = record (narrowed h.mid h.len Soft) { last = order_of (list_tag kind) } in
+    let opened : State = record (narrowed h.mid h.len Soft) { sets = entered (order_of (list_tag kind)) h.mid.sets } in
     let size : length (bytes_of ts) ≡ opened.room = sym (ap length content_is) ∙ o.size in
     let stand : StandBefore opened c e (bytes_of ts) = record {
       soft = refl;
       seen = o.seen;
-      concerns = concerns_alike (order_of (list_tag kind)) (narrowed_concerns o.concerns);
+      concerns = concerns_alike (entered (order_of (list_tag kind)) h.mid.sets) (narrowed_concerns o.concerns);
       rest = o.rest;
       begins = o.begins ∙ ap (λ x. x ++ o.rest) content_is;
       within = omega (arith, size);
@@ -222,11 +222,11 @@ members_stand kind s {b = b} {c = c} {e = e} ts h f w st =
 
 -- a list whose header was taken, and whose members can't stand there
 pub list_refused : {V : Type 0} (kind : ListKind) (members : V → Trees) (s : Shape) → IsFirst s (list_tag kind) → {a b c : State} {outer : Outer} {e : Asn1DerError} → OpensList (list_tag kind) a b outer → Fails b c e
-    → (IsJudged b c e → (v : V) → IsOf s (Tree.list kind (members v)) → AreReadable (members v) → AreInOrder b.last (encodings (members v)) → StandUpToEnd b c e (bytes_of (members v)) → ⊥) → Refuses (λ v. Tree.list kind (members v)) s a c e
+    → (IsJudged b c e → (v : V) → IsOf s (Tree.list kind (members v)) → AreReadable (members v) → AreInOrder b.sets (encodings (members v)) → StandUpToEnd b c e (bytes_of (members v)) → ⊥) → Refuses (λ v. Tree.list kind (members v)) s a c e
 list_refused kind members s first {a} {b} {c} {outer} {e} h f none =
-    let before : Fails (narrowed h.mid h.len Soft) c e = fails_alike None (subst (λ z. Fails z c e) h.opened f) in
+    let before : Fails (narrowed h.mid h.len Soft) c e = fails_alike (entered None h.mid.sets) (subst (λ z. Fails z c e) h.opened f) in
     let fails : Fails h.mid c e = widened_fails h.begins.fits before in
-    let judged : IsJudged a c e → IsJudged b c e = λ j. subst (λ z. IsJudged z c e) (sym h.opened) (judged_alike (order_of (list_tag kind)) (narrowed_judged h.len Soft (judged_after h.begins.takes j))) in
+    let judged : IsJudged a c e → IsJudged b c e = λ j. subst (λ z. IsJudged z c e) (sym h.opened) (judged_alike (entered (order_of (list_tag kind)) h.mid.sets) (narrowed_judged h.len Soft (judged_after h.begins.takes j))) in
     record {
       fails = fails_after h.begins.takes fails;
       none = λ j end bs w v st. none (judged j) v st.of_shape st.readable.1 (opened_in_order kind (members v) h st.readable.0) (members_stand kind s (members v) h f w st);
@@ -244,7 +244,7 @@ list_unopened kind members s first {a} h =
     }
 
 -- the members of a list that was opened and closed were read
-pub list_reads : {s : Shape} {a b c d : State} {kind : ListKind} {outer closed : Outer} (ts : Trees) → OpensList (list_tag kind) a b outer → AreInOrder b.last (encodings ts) → Takes (unordered b) (unordered c) (bytes_of ts) → c.direct ≡ None → Closes closed c d → closed ≡ outer
+pub list_reads : {s : Shape} {a b c d : State} {kind : ListKind} {outer closed : Outer} (ts : Trees) → OpensList (list_tag kind) a b outer → AreInOrder b.sets (encodings ts) → Takes (unordered b) (unordered c) (bytes_of ts) → c.direct ≡ None → Closes closed c d → closed ≡ outer
     → IsOf s (Tree.list kind ts) → AreReadable ts → Reads s a d (Tree.list kind ts)
 list_reads {s} {a} {b} {c} {d} {kind} {outer} {closed} ts h o t none k same of_shape readable =
     let order = whole_in_order kind ts h o in

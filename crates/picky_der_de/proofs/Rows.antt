@@ -13,7 +13,7 @@ use Rattle.picky_der_input.specs.Reading.{Reads, Refuses}
 use Rattle.picky_der_input.specs.Ends.{Outer, Closes, RefusesClose, OpensList, RefusesList}
 use Rattle.picky_der_de.specs.Members.{ReadsMember, RefusesMember, bytes_of, ReadsRow, RefusesRow}
 use Rattle.picky_der_input.proofs.Steps.{takes_none, takes_then}
-use Rattle.picky_der_input.proofs.Order.{concerns_alike, fails_behind, judged_behind}
+use Rattle.picky_der_input.proofs.Order.{concerns_unordered, fails_behind, judged_behind}
 use Rattle.picky_der_input.proofs.Refusals.{behind, failed_grows}
 use Rattle.picky_der_de.proofs.Members.{bytes_of-more, bytes_of-none, no_members_in_order, takes_member, members_lead, next_order, next_member, no_member, list_refused, list_unopened, list_reads}
 
@@ -64,7 +64,7 @@ same_rows (Shapes.more s ss) (Trees.more u us) (Trees.more t ts) x y p q r z e =
 pub row_left : {V : Type 0} {members : V → Trees} {ss : Shapes} {kind : ListKind} {a b c d : State} {outer : Outer} {ts : Trees} {e : Asn1DerError} → OpensList (list_tag kind) a b outer → ReadsRow ss b c ts → RefusesClose c d e
     → Refuses (λ v. Tree.list kind (members v)) (Shape.fields kind ss) a d e
 row_left {members = members} {ss = ss} {kind = kind} {ts = ts} o r h = list_refused kind members (Shape.fields kind ss) (row_first kind ss) o (fails_behind r.takes h.fails) (λ j v of_shape readable order w.
-    let u = behind r.takes (failed_grows h.fails) (concerns_alike None w.stand.concerns) in
+    let u = behind r.takes (failed_grows h.fails) (concerns_unordered w.stand.concerns) in
     let same = same_rows ss (members v) ts w.stand.rest u.rest of_shape.1 r.of_shape readable r.readable (sym w.stand.begins ∙ u.begins) in
     omega (arith, w.fills, r.takes.room, (h.left r.takes.not_failed).0, ap length same))
 
@@ -79,7 +79,7 @@ pub row_none : {c : State} → c.failed ≡ None → c.peeked ≡ None → c.dir
 row_none {c = c} f p d = record {
   of_shape = tt;
   readable = tt;
-  order = no_members_in_order c.last;
+  order = no_members_in_order c.sets;
   takes = subst (Takes (unordered c) (unordered c)) (sym bytes_of-none) (takes_none (unordered c) f p);
   direct = d;
 }

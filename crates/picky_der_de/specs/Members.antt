@@ -10,7 +10,7 @@ use Rattle.picky_der_core.specs.Shape.{Shape, Shapes, IsOf, AreOf, EachIs}
 use Rattle.picky_der_input.specs.declared.end.End.TheVariants.{Soft}
 use Rattle.picky_der_input.specs.State.{State}
 use Rattle.picky_der_input.specs.Steps.{Takes, Fails, IsJudged, failed_with}
-use Rattle.picky_der_input.specs.Order.{AreInOrder, unordered, Follows, RefusesOrder}
+use Rattle.picky_der_input.specs.Order.{AreInOrder, unordered, Follows, RefusesTest}
 use Rattle.picky_der_input.specs.Reading.{Reads, Refuses, Concerns}
 
 -- ---- one member
@@ -21,11 +21,6 @@ pub record ReadsMember (s : Shape) (old new : State) (t : Tree) : Type 0 where
   pub reads : Reads s old mid t
   pub direct : old.direct ≡ None
   pub follows : Follows (der t) mid new
-
--- Why a member with this encoding was refused behind it: it is less than the last one, or the memory for that test was refused.
-pub data RefusesTest (member : List ℕ) (old new : State) (e : Asn1DerError) : Type 0 where
-  out_of_order : RefusesOrder member old new e → RefusesTest member old new e
-  without_memory : old.last ≢ None → Fails old new e → e ≡ OutOfMemory → new ≡ failed_with old e → RefusesTest member old new e
 
 -- why none may come next: no value of the type stands there, or one does that was read and then refused
 pub data RefusesNext {V : Type 0} (meaning : V → Tree) (s : Shape) (old new : State) (e : Asn1DerError) : Type 0 where
@@ -68,21 +63,21 @@ pub record StandUpToEnd (old new : State) (e : Asn1DerError) (bytes : List ℕ) 
 pub record ReadsRow (ss : Shapes) (old new : State) (ts : Trees) : Type 0 where
   pub of_shape : AreOf ss ts
   pub readable : AreReadable ts
-  pub order : AreInOrder old.last (encodings ts)
+  pub order : AreInOrder old.sets (encodings ts)
   pub takes : Takes (unordered old) (unordered new) (bytes_of ts)
   pub direct : new.direct ≡ None
 
 -- no values stand there as members, whatever is behind them
 pub record RefusesRow {V : Type 0} (members : V → Trees) (ss : Shapes) (old new : State) (e : Asn1DerError) : Type 0 where
   pub fails : Fails old new e
-  pub none : IsJudged old new e → (v : V) → AreOf ss (members v) → AreReadable (members v) → AreInOrder old.last (encodings (members v))
+  pub none : IsJudged old new e → (v : V) → AreOf ss (members v) → AreReadable (members v) → AreInOrder old.sets (encodings (members v))
       → StandBefore old new e (bytes_of (members v)) → ⊥
 
 -- all members up to the end were read
 pub record ReadsAll {V : Type 0} (meaning : V → Tree) (s : Shape) (old new : State) (vs : List V) : Type 0 where
   pub of_shape : EachIs (IsOf s) (trees (map meaning vs))
   pub readable : AreReadable (trees (map meaning vs))
-  pub order : AreInOrder old.last (encodings (trees (map meaning vs)))
+  pub order : AreInOrder old.sets (encodings (trees (map meaning vs)))
   pub takes : Takes (unordered old) (unordered new) (bytes_of (trees (map meaning vs)))
   pub direct : new.direct ≡ None
   pub reached : new.room ≡ 0
@@ -90,5 +85,5 @@ pub record ReadsAll {V : Type 0} (meaning : V → Tree) (s : Shape) (old new : S
 -- no values stand there as members up to the end, as many as there may be
 pub record RefusesAll {V : Type 0} (meaning : V → Tree) (s : Shape) (old new : State) (e : Asn1DerError) : Type 0 where
   pub fails : Fails old new e
-  pub none : IsJudged old new e → (vs : List V) → EachIs (IsOf s) (trees (map meaning vs)) → AreReadable (trees (map meaning vs)) → AreInOrder old.last (encodings (trees (map meaning vs)))
+  pub none : IsJudged old new e → (vs : List V) → EachIs (IsOf s) (trees (map meaning vs)) → AreReadable (trees (map meaning vs)) → AreInOrder old.sets (encodings (trees (map meaning vs)))
       → StandUpToEnd old new e (bytes_of (trees (map meaning vs))) → ⊥

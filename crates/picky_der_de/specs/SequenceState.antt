@@ -2,20 +2,19 @@
 use Rattle.std.specs.Borrow.{GName}
 use Rattle.std.specs.declared.io.Read as read
 use Rattle.picky_der_core.specs.declared.misc.reader.ReadExt as reader
-use Rattle.picky_der_input.specs.declared.input.ends.Last as last
 use Rattle.picky_der_de.specs.declared.sequence.Sequence.{Sequence}
 use Rattle.picky_der_input.specs.State.{State}
 use Rattle.picky_der_input.specs.Ends.{Outer}
 
-module _ {R L : Type 0} {g : reader.Ghosts R} {h : read.Ghosts R} {k : last.Ghosts L} where
+module _ {R : Type 0} {g : reader.Ghosts R} {h : read.Ghosts R} where
   -- the state of the deserializer
-  abbrev pub state_of : Sequence R L g h k → State
+  abbrev pub state_of : Sequence R g h → State
   state_of sequence = sequence.de.now
 
   -- which deserializer it is
-  abbrev pub borrowed_by : Sequence R L g h k → GName
+  abbrev pub borrowed_by : Sequence R g h → GName
   borrowed_by sequence = sequence.de.ghost_name
 
   -- the end that is the innermost again once the sequence is closed
-  abbrev pub outer_of : Sequence R L g h k → Outer
+  abbrev pub outer_of : Sequence R g h → Outer
   outer_of sequence = sequence.outer

@@ -5,15 +5,15 @@ use crate::{Deserialize, Deserializer};
 use picky_der_core::asn1::Tag;
 use picky_der_core::misc::ReadExt;
 use picky_der_core::{Asn1DerError, Result};
-use picky_der_input::{Last, Outer};
+use picky_der_input::Outer;
 
 /// A sequence or a set that is being read. Dropped without `end`, its end stays the innermost one: nothing behind it is
-/// read then. `L` is always a vector of bytes.
+/// read then.
 #[derive(Drop)]
-pub struct Sequence<'a, R: ReadExt, L: Last = Vec<u8>> {
+pub struct Sequence<'a, R: ReadExt> {
     de: &'a mut Deserializer<R>,
     // The end around its own.
-    outer: Outer<L>,
+    outer: Outer,
     ghost within: { de.now.taken + de.now.room ≤ outer.place },
     ghost bounded: { outer.place ≤ de.now.limit },
     ghost whole: { de.now.failed ≡ None → de.now.direct ≡ None },
@@ -21,8 +21,11 @@ pub struct Sequence<'a, R: ReadExt, L: Last = Vec<u8>> {
 
 impl<'a, R: ReadExt> Sequence<'a, R> {
     ghost use Rattle.picky_der_de.specs.SequenceState.{borrowed_by, outer_of, state_of};
-    ghost use Rattle.std.specs.Prelude.{◌≡◌, OnOk, IfErr};
+    ghost use Rattle.std.specs.Prelude.{◌≡◌, ◌+◌, ◌<◌, ◌≤◌, None, Err, IfNone, IfSome, IfOk, IfErr, OnOk};
+    ghost use Rattle.picky_der_input.specs.Steps.{failed_with};
     ghost use Rattle.picky_der_input.specs.Ends.{OpensLazily, Closes, RefusesClose};
+    ghost use Rattle.picky_der_input.specs.LookAhead.{Identifies, RefusesIdentifier};
+    ghost use Rattle.picky_der_de.specs.Members.{ReadsMember, RefusesMember, HasNoMore, ReadsAll, RefusesAll};
 
     /// Reads so many bytes from here as members, without a header. Directly under an implicit tag that tag's special
     /// reading is given up, and its end is the one around this. No order of members is tested.
@@ -36,23 +39,6 @@ impl<'a, R: ReadExt> Sequence<'a, R> {
         let outer = de.open_lazily(len);
         Sequence { de, outer }
     }
-
-    /// Closes the sequence. Bytes left over before its end are `InvalidData`, and none of them is drawn.
-    pub fn end(self) -> Result<()>
-        ensures ok { OnOk result (Closes (outer_of self.entry) (state_of self.entry) self.exit.0.now) }
-        ensures err { IfErr result (RefusesClose (state_of self.entry) self.exit.0.now) }
-    {
-        let Sequence { de, outer } = self;
-        de.close_end(outer)
-    }
-}
-
-impl<'a, R: ReadExt, L: Last> Sequence<'a, R, L> {
-    ghost use Rattle.picky_der_de.specs.SequenceState.{borrowed_by, outer_of, state_of};
-    ghost use Rattle.std.specs.Prelude.{◌≡◌, ◌<◌, None, Err, IfNone, IfSome, IfOk, IfErr};
-    ghost use Rattle.picky_der_input.specs.Steps.{failed_with};
-    ghost use Rattle.picky_der_input.specs.LookAhead.{Identifies, RefusesIdentifier};
-    ghost use Rattle.picky_der_de.specs.Members.{ReadsMember, RefusesMember, HasNoMore, ReadsAll, RefusesAll};
 
     /// The next member, and `None` exactly at the end. A member is refused as its type is. In a set that was begun by
     /// `deserialize_set` one that was read is refused with `InvalidData` where its encoding is less than the one before it
@@ -125,6 +111,15 @@ impl<'a, R: ReadExt, L: Last> Sequence<'a, R, L> {
             }
         }
         Ok(values)
+    }
+
+    /// Closes the sequence. Bytes left over before its end are `InvalidData`, and none of them is drawn.
+    pub fn end(self) -> Result<()>
+        ensures ok { OnOk result (Closes (outer_of self.entry) (state_of self.entry) self.exit.0.now) }
+        ensures err { IfErr result (RefusesClose (state_of self.entry) self.exit.0.now) }
+    {
+        let Sequence { de, outer } = self;
+        de.close_end(outer)
     }
 }
 

@@ -57,6 +57,9 @@ fails_alike s f = record {
   through = f.through;
 }
 
+pub concerns_unordered : {b c : State} {e : Asn1DerError} {end : ℕ} {bs : List ℕ} → Concerns b c e end bs → Concerns (unordered b) c e end bs
+concerns_unordered {b = b} h = concerns_alike (record b.sets { last = None }) h
+
 pub takes_unordered : {a b : State} {x : List ℕ} → Takes a b x → Takes (unordered a) (unordered b) x
 takes_unordered t = record {
   input = t.input;

@@ -1,8 +1,7 @@
 //! The order of the members of a set (X.690, 11.6).
 ghost use Rattle.std.specs.Prelude.{◌≡◌, None, OnOk, IfErr};
 ghost use Rattle.picky_der_core.specs.Encoding.{der};
-ghost use Rattle.picky_der_input.specs.Order.{Follows};
-ghost use Rattle.picky_der_de.specs.Members.{RefusesTest};
+ghost use Rattle.picky_der_input.specs.Order.{Follows, RefusesTest};
 
 use super::Deserializer;
 use picky_der_core::misc::ReadExt;
@@ -21,7 +20,7 @@ impl<R: ReadExt> Deserializer<R> {
             return Ok(());
         }
         match to_vec(self.alloc(), value) {
-            Ok(member) => self.input.follow(member),
+            Ok(member) => self.input.follow(&member),
             Err(_) => Err(self.fail(Asn1DerError::OutOfMemory)),
         }
     }
