@@ -4,7 +4,7 @@ use der_fixtures::{SlowReader, bytes_of};
 use picky_asn1_der::Asn1DerError::InvalidData;
 use picky_asn1_der::asn1::Asn1SetOf;
 use picky_asn1_der::misc::Watched;
-use picky_asn1_der::{from_reader_with_max_len, to_vec};
+use picky_asn1_der::{Asn1DerError, from_reader_with_max_len, to_vec};
 use std::alloc::{AllocError, Global};
 use std::process::Abort;
 use std::test::Fail;
@@ -28,8 +28,9 @@ fn descending(alloc: Global, numbers: &[u16]) -> Result<Vec<u16>, AllocError> {
 fn shuffled(alloc: Global, numbers: &[u16]) -> Result<Vec<u16>, AllocError> {
     let mut mixed = Vec::new(alloc);
     for place in 0..numbers.len() {
-        let number = numbers.get(place.wrapping_mul(7919) % numbers.len());
-        mixed.extend_from_slice(number.as_slice())?;
+        if let Some(number) = numbers.get(place.wrapping_mul(7919) % numbers.len()) {
+            mixed.push(*number)?;
+        }
     }
     Ok(mixed)
 }
@@ -57,7 +58,11 @@ fn goes_there_and_back(
     let set = Asn1SetOf(members);
     same!(*rt; to_vec(alloc, &set)?.as_slice(), wanted, header);
     let mut reader = Watched::new(SlowReader::new(&given));
-    let read = from_reader_with_max_len::<Asn1SetOf<u16>>(alloc, &mut reader, given.len());
+    let read: Result<Asn1SetOf<u16>, Asn1DerError> = from_reader_with_max_len(
+        alloc,
+        &mut reader,
+        given.len(),
+    );
     let less = set.0.windows(2).position(|two| two[1] < two[0]);
     match less {
         None => same!(*rt; read, Ok(set), header),
