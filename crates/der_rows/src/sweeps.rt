@@ -6,7 +6,7 @@ use crate::runs::in_runs;
 use der_examples::NumberOrFlag;
 use der_fixtures::{FailingReader, FailingWriter, Refusal, text_of};
 use der_tool_lib::{SubjectPublicKeyInfo, TestStruct};
-use picky_asn1_der::asn1::{BitStringAsn1Container, ByteBuf, ExplicitContextTag0};
+use picky_asn1_der::asn1::{Asn1SetOf, BitStringAsn1Container, ByteBuf, ExplicitContextTag0};
 use picky_asn1_der::de::DEFAULT_MAX_LEN;
 use picky_asn1_der::misc::Watched;
 use picky_asn1_der::{
@@ -58,6 +58,7 @@ pub(crate) fn answer(
         "char" => answer_as::<char>(alloc, sweep, encoding),
         "ByteBuf" => answer_as::<ByteBuf>(alloc, sweep, encoding),
         "Asn1RawDer" => answer_as::<Asn1RawDer>(alloc, sweep, encoding),
+        "Asn1SetOf<u8>" => answer_as::<Asn1SetOf<u8>>(alloc, sweep, encoding),
         "ExplicitContextTag0<BitStringAsn1Container<u8>>" => answer_as::<
             ExplicitContextTag0<BitStringAsn1Container<u8>>,
         >(alloc, sweep, encoding),

@@ -7,8 +7,8 @@ use der_tool_lib::{AlgorithmIdentifier, SubjectPublicKeyInfo, TestStruct};
 use picky_asn1_der::Asn1RawDer;
 use picky_asn1_der::application_tag::ApplicationTag;
 use picky_asn1_der::asn1::{
-    ByteBuf, ExplicitContextTag, ExplicitContextTag0, ImplicitContextTag, ImplicitContextTag1,
-    TaggedBytes,
+    Asn1SetOf, ByteBuf, ExplicitContextTag, ExplicitContextTag0, ImplicitContextTag,
+    ImplicitContextTag1, TaggedBytes,
 };
 use std::alloc::{AllocError, Global};
 
@@ -49,6 +49,39 @@ pub(crate) fn answer(alloc: Global, how: Writing, name: &str) -> Result<String, 
         }
         "[Untouched]" => written(alloc, how, &[Untouched]),
         "vec![Littering]" => written(alloc, how, &vec![in alloc; Littering]?),
+        _ => set(alloc, how, name),
+    }
+}
+
+// Sets whose members aren't given in the order in which they are written.
+fn set(alloc: Global, how: Writing, name: &str) -> Result<String, AllocError> {
+    match name {
+        "Asn1SetOf([256u16, 5, 5])" => {
+            let numbers = Vec::from_slice(alloc, &[256u16, 5, 5])?;
+            written(alloc, how, &Asn1SetOf(numbers))
+        }
+        "Asn1SetOf([ByteBuf([0, 0]), ByteBuf([0xFF])])" => {
+            let zeros = ByteBuf(Vec::from_slice(alloc, &[0, 0])?);
+            let one = ByteBuf(Vec::from_slice(alloc, &[0xFF])?);
+            written(alloc, how, &Asn1SetOf(vec![in alloc; zeros, one]?))
+        }
+        "Asn1SetOf([Asn1SetOf([2u8, 1]), Asn1SetOf([1u8])])" => {
+            let two = Asn1SetOf(Vec::from_slice(alloc, &[2u8, 1])?);
+            let one = Asn1SetOf(Vec::from_slice(alloc, &[1u8])?);
+            written(alloc, how, &Asn1SetOf(vec![in alloc; two, one]?))
+        }
+        "Asn1SetOf([Some(7u8), None, Some(5)])" => {
+            let numbers = vec![in alloc; Some(7u8), None, Some(5)]?;
+            written(alloc, how, &Asn1SetOf(numbers))
+        }
+        "(Asn1SetOf([5u8, 3]), 1u8)" => {
+            let numbers = Vec::from_slice(alloc, &[5u8, 3])?;
+            written(alloc, how, &(Asn1SetOf(numbers), 1u8))
+        }
+        "ImplicitContextTag1(Asn1SetOf([5u8, 3]))" => {
+            let numbers = Vec::from_slice(alloc, &[5u8, 3])?;
+            written(alloc, how, &ImplicitContextTag1::from(Asn1SetOf(numbers)))
+        }
         _ => tagged(alloc, how, name),
     }
 }

@@ -136,6 +136,10 @@ macro_rules! answer_member {
                     }
                     "serialize_field 7; end}" => members.serialize_field("number", &7u8),
                     "serialize_element 7; end}" => members.serialize_element(&7u8),
+                    "serialize_element 7; serialize_element 5; end}" => {
+                        let first = members.serialize_element(&7u8);
+                        first.and(members.serialize_element(&5u8))
+                    }
                     _ => return String::from_str($alloc, "unknown member"),
                 };
                 let end = members.end();

@@ -16,5 +16,6 @@ mod errors;
 mod lengths;
 mod pieces;
 mod raw_elements;
+mod sets;
 mod tags;
 mod tool;

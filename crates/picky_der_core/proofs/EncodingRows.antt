@@ -76,9 +76,43 @@ algorithm : der (Tree.list ListKind.sequence (trees (Tree.bytes 0x06 rsa_encrypt
 unfolding der_on_literals
 algorithm = refl
 
-set_in_given_order : der (Tree.list ListKind.set (trees (Tree.unsigned 5 ∷ Tree.unsigned 3 ∷ []))) ≡ 0x31 ∷ 0x06 ∷ 0x02 ∷ 0x01 ∷ 0x05 ∷ 0x02 ∷ 0x01 ∷ 0x03 ∷ []
+-- ---- sets, whose members are written in ascending order
+
+abbrev set_of : List Tree → Tree
+set_of ts = Tree.list ListKind.set (trees ts)
+
+no_members : der (set_of []) ≡ 0x31 ∷ 0x00 ∷ []
 unfolding der_on_literals
-set_in_given_order = refl
+no_members = refl
+
+repeated_members : der (set_of (Tree.unsigned 256 ∷ Tree.unsigned 5 ∷ Tree.unsigned 5 ∷ []))
+    ≡ 0x31 ∷ 0x0A ∷ 0x02 ∷ 0x01 ∷ 0x05 ∷ 0x02 ∷ 0x01 ∷ 0x05 ∷ 0x02 ∷ 0x02 ∷ 0x01 ∷ 0x00 ∷ []
+unfolding der_on_literals
+repeated_members = refl
+
+-- the length comes before the content
+by_encodings : der (set_of (Tree.bytes 0x04 (0x00 ∷ 0x00 ∷ []) ∷ Tree.bytes 0x04 (0xFF ∷ []) ∷ []))
+    ≡ 0x31 ∷ 0x07 ∷ 0x04 ∷ 0x01 ∷ 0xFF ∷ 0x04 ∷ 0x02 ∷ 0x00 ∷ 0x00 ∷ []
+unfolding der_on_literals
+by_encodings = refl
+
+-- the tag comes before the length
+by_tags : der (set_of (Tree.bytes 0x04 [] ∷ Tree.unsigned 256 ∷ [])) ≡ 0x31 ∷ 0x06 ∷ 0x02 ∷ 0x02 ∷ 0x01 ∷ 0x00 ∷ 0x04 ∷ 0x00 ∷ []
+unfolding der_on_literals
+by_tags = refl
+
+set_of_sets : der (set_of (set_of (Tree.unsigned 2 ∷ Tree.unsigned 1 ∷ []) ∷ set_of (Tree.unsigned 1 ∷ []) ∷ []))
+    ≡ 0x31 ∷ 0x0D ∷ 0x31 ∷ 0x03 ∷ 0x02 ∷ 0x01 ∷ 0x01 ∷ 0x31 ∷ 0x06 ∷ 0x02 ∷ 0x01 ∷ 0x01 ∷ 0x02 ∷ 0x01 ∷ 0x02 ∷ []
+unfolding der_on_literals
+set_of_sets = refl
+
+implicit_set : der (Tree.implicit 1 (set_of (Tree.unsigned 5 ∷ Tree.unsigned 3 ∷ []))) ≡ 0x81 ∷ 0x06 ∷ 0x02 ∷ 0x01 ∷ 0x03 ∷ 0x02 ∷ 0x01 ∷ 0x05 ∷ []
+unfolding der_on_literals
+implicit_set = refl
+
+absent_in_set : der (set_of (Tree.unsigned 5 ∷ Tree.absent ∷ [])) ≡ 0x31 ∷ 0x03 ∷ 0x02 ∷ 0x01 ∷ 0x05 ∷ []
+unfolding der_on_literals
+absent_in_set = refl
 
 -- ---- tags and containers
 

@@ -1,6 +1,8 @@
 -- Worked examples of shapes, and what the laws would fail without.
-use Rattle.std.proofs.Common.{◌≡◌, false, [], ◌∷◌, ◌++◌, inl, inr, refl, arith}
+use Rattle.std.proofs.Common.{◌≡◌, ℕ, false, List, [], ◌∷◌, ◌++◌, inl, inr, refl, arith}
 use Rattle.picky_der_core.specs.Tree.{ListKind, Tree, trees}
+use Rattle.picky_der_core.specs.Order.{is_less}
+use Rattle.picky_der_core.specs.OrderLaws.{IsSortedBy-one, IsSortedBy-cons, IsSortedBy-broken}
 use Rattle.picky_der_core.specs.Encoding.{der, inside}
 use Rattle.picky_der_core.specs.Readable.{IsReadable}
 use Rattle.picky_der_core.specs.Shape.{Shape, shapes, IsOf, IsSound, tags_below}
@@ -30,7 +32,7 @@ struct_is_of : IsOf struct_shape struct
 struct_is_of = ((refl, ((omega arith, omega arith), ((refl, (omega arith, (omega arith, tt))), ((refl, ((omega arith, omega arith), (tt, tt))), tt)))))
 
 struct_is_readable : IsReadable struct
-struct_is_readable = (tt, (omega arith, ((tt, (tt, tt)), tt)))
+struct_is_readable = (tt, (tt, (omega arith, ((tt, (tt, (tt, tt))), tt))))
 
 -- ---- alternatives that aren't told: null, and an element
 
@@ -68,3 +70,31 @@ begins_another = refl
 no_element : der (Tree.list ListKind.sequence (trees (Tree.raw [] ∷ []))) ≡ der (Tree.list ListKind.sequence (trees []))
 unfolding der_on_literals
 no_element = refl
+
+-- ---- a set in two orders, of which one is readable
+
+abbrev ascending_set : Tree
+ascending_set = Tree.list ListKind.set (trees (Tree.unsigned 3 ∷ Tree.unsigned 5 ∷ Tree.unsigned 5 ∷ []))
+
+abbrev other_set : Tree
+other_set = Tree.list ListKind.set (trees (Tree.unsigned 5 ∷ Tree.unsigned 3 ∷ Tree.unsigned 5 ∷ []))
+
+-- the encodings of 3 and 5
+abbrev three : List ℕ
+three = 0x02 ∷ 0x01 ∷ 0x03 ∷ []
+
+abbrev five : List ℕ
+five = 0x02 ∷ 0x01 ∷ 0x05 ∷ []
+
+one_encoding : der ascending_set ≡ der other_set
+unfolding der_on_literals
+one_encoding = refl
+
+ascending_is_readable : IsReadable ascending_set
+unfolding der_on_literals
+ascending_is_readable =
+    (IsSortedBy-cons is_less three five (five ∷ []) refl (IsSortedBy-cons is_less five five [] refl (IsSortedBy-one is_less five)), (tt, (tt, (tt, tt))))
+
+other_is_not : IsReadable other_set → ⊥
+unfolding der_on_literals
+other_is_not readable = IsSortedBy-broken is_less [] five three (five ∷ []) refl readable.0

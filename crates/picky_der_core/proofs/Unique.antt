@@ -7,7 +7,7 @@ use Rattle.picky_der_core.specs.Encoding.{headed, around, written, encodings, de
 use Rattle.picky_der_core.specs.Readable.{IsReadable, AreReadable, IsNoChoice}
 use Rattle.picky_der_core.specs.Shape.{Shape, Shapes, IsOf, AreOf, IsOneOf, firsts, firsts_of, has, are_apart, IsBoolean, IsUnsigned, IsNull, IsText, IsCharacter, IsBytes, IsRaw, IsList, IsOptional, IsOctetContainer, IsBitContainer, IsExplicit, IsImplicit, IsApplication, IsChoice, EachIs, FirstAndRest, IsEmpty, IsSound, AreSound, AreTold}
 use Rattle.picky_der_core.specs.ElementLaws.{tlv-same}
-use Rattle.picky_der_core.specs.EncodingLaws.{is_absent-readable, same_encoding, length-der, unsigned_content-same}
+use Rattle.picky_der_core.specs.EncodingLaws.{is_absent-readable, list_content-in_order, same_encoding, length-der, unsigned_content-same}
 use Rattle.picky_der_core.specs.FirstLaws.{BeginsIn, begins_in, begins_in_one, apart_has, is_of-optional}
 
 -- directly under an implicit tag stands no choice
@@ -81,18 +81,13 @@ bytes_known tag header (Tree.bytes x b) (Tree.bytes y c) p q r s m n e =
 bytes_known tag header (Tree.bytes x b) _ p q r s m n e = absurd q
 bytes_known tag header _ _ p q r s m n e = absurd p
 
-list_content-same : (kind : ListKind) (Q : Trees → Type 0) → AreKnown Q → (ts us : Trees) → Q ts → Q us → AreReadable ts → AreReadable us
-    → list_content kind (encodings ts) ≡ list_content kind (encodings us) → ts ≡ us
-list_content-same ListKind.sequence Q known ts us = known ts us
-list_content-same ListKind.set Q known ts us = known ts us
-
 list_known : (kind : ListKind) (Q : Trees → Type 0) → AreKnown Q → (header : Bool) → IsKnown header (IsList kind Q)
 unfolding written
 list_known kind Q known header (Tree.list x ts) (Tree.list y us) p q r s m n e =
     let f : x ≡ y = p.0 ∙ sym q.0 in
     let h : list_content x (encodings ts) ≡ list_content y (encodings us) = headed-same header _ _ _ _ e in
-    let k : list_content x (encodings ts) ≡ list_content x (encodings us) = h ∙ ap (λ z. list_content z (encodings us)) (sym f) in
-    let g : ts ≡ us = list_content-same x Q known ts us p.1 q.1 r s k in
+    let k : concat (encodings ts) ≡ concat (encodings us) = sym (list_content-in_order x (encodings ts) r.0) ∙ h ∙ list_content-in_order y (encodings us) s.0 in
+    let g : ts ≡ us = known ts us p.1 q.1 r.1 s.1 k in
     cc
 list_known kind Q known header (Tree.list x ts) _ p q r s m n e = absurd q
 list_known kind Q known header _ _ p q r s m n e = absurd p

@@ -1,8 +1,9 @@
--- The encoding of a tree (X.690, 8.1 to 8.3, 8.6.2, 8.7 to 8.14, 8.23, 10.1, 11.1).
+-- The encoding of a tree (X.690, 8.1 to 8.3, 8.6.2, 8.7 to 8.14, 8.23, 10.1, 11.1, 11.6).
 use Rattle.std.specs.Prelude.{ℕ, ◌+◌, Bool, true, false, List, [], ◌∷◌, nat_lt, if◌then◌else◌}
 use Rattle.std.specs.List.{concat}
 use Rattle.picky_der_core.specs.Element.{big_endian, tlv}
 use Rattle.picky_der_core.specs.Tree.{ListKind, Tree, Trees, is_absent}
+use Rattle.picky_der_core.specs.Order.{arranged}
 
 -- ---- contents
 
@@ -20,10 +21,11 @@ positive (b ∷ bs) = if nat_lt b 0x80 then b ∷ bs else 0x00 ∷ b ∷ bs
 unfoldable pub unsigned_content : ℕ → List ℕ
 unsigned_content n = positive (big_endian n)
 
--- a list, from the encodings of its members: one after another, as they are given (8.9 to 8.12)
+-- a list, from the encodings of its members: one after another, in a sequence as they are given (8.9, 8.10), and in a set in
+-- ascending order (8.11, 8.12, 11.6)
 abbrev pub list_content : ListKind → List (List ℕ) → List ℕ
 list_content ListKind.sequence members = concat members
-list_content ListKind.set members = concat members
+list_content ListKind.set members = concat (arranged members)
 
 -- ---- headers
 

@@ -1,13 +1,15 @@
 -- The encoding of each kind of tree, and how encodings tell each other apart.
 use Rattle.std.proofs.Common.{◌≡◌, ℕ, ◌+◌, ◌<◌, Bool, true, false, cond, List, [], ◌∷◌, ◌++◌, length, nat_lt, map, refl, sym, ap, ◌∙◌, arith}
 use Rattle.std.specs.Int.Digits.{number_from_digits}
+use Rattle.std.specs.List.{concat}
 use Rattle.picky_der_core.specs.Tag.{number_of, IsTagNumber}
 use Rattle.picky_der_core.specs.Element.{big_endian, tlv, IsElement}
 use Rattle.picky_der_core.specs.Tree.{ListKind, Tree, trees, is_plain, is_absent}
 use Rattle.picky_der_core.specs.Encoding.{boolean_content, positive, unsigned_content, list_content, list_tag, headed, around, written, encodings, der, inside, content, plain_tag}
-use Rattle.picky_der_core.specs.Readable.{IsReadable, IsNoChoice}
+use Rattle.picky_der_core.specs.Readable.{IsReadable, IsInOrder, IsNoChoice}
 use Rattle.picky_der_core.specs.BigEndianLaws.{number-big_endian}
 use Rattle.picky_der_core.specs.ElementLaws.{tlv_prefix}
+use Rattle.picky_der_core.specs.OrderLaws.{arranged-same, length-arranged}
 
 -- ---- the encoding by its kinds
 
@@ -139,6 +141,18 @@ der-list_of_meanings {V} meaning kind vs =
     each : (us : List V) → map der (map meaning us) ≡ map (λ v. der (meaning v)) us
     each [] = refl
     each (u ∷ us) = ap (λ l. der (meaning u) ∷ l) (each us)
+
+-- ---- the content of a list
+
+-- members in order are written as they stand
+pub list_content-in_order : (kind : ListKind) (members : List (List ℕ)) → IsInOrder kind members → list_content kind members ≡ concat members
+list_content-in_order ListKind.sequence members h = refl
+list_content-in_order ListKind.set members h = ap concat (arranged-same members h)
+
+-- it is as long as they are in all, in whatever order
+pub length-list_content : (kind : ListKind) (members : List (List ℕ)) → length (list_content kind members) ≡ length (concat members)
+length-list_content ListKind.sequence members = refl
+length-list_content ListKind.set members = length-arranged members
 
 -- ---- readable trees
 

@@ -1,10 +1,11 @@
 -- The laws of canonical DER, each over the definitions alone.
 use Rattle.std.specs.Prelude.{◌≡◌, ℕ, ◌+◌, ◌≤◌, ◌↔◌, List, ◌∷◌, ◌++◌, length, map, IsFalse}
 use Rattle.std.specs.List.{AllByRecursion, concat}
+use Rattle.std.specs.List.Sorted.{IsPermutation}
 use Rattle.picky_der_core.specs.declared.asn1.wrapper.Wrapper.{Wrapper}
 use Rattle.picky_der_core.specs.Tag.{number_of, IsTagNumber}
 use Rattle.picky_der_core.specs.Element.{len, tlv, Begins}
-use Rattle.picky_der_core.specs.Tree.{Tree, is_absent}
+use Rattle.picky_der_core.specs.Tree.{ListKind, Tree, trees, is_absent}
 use Rattle.picky_der_core.specs.Encoding.{der}
 use Rattle.picky_der_core.specs.Readable.{IsReadable}
 use Rattle.picky_der_core.specs.Shape.{Shape, IsOf, IsSound, IsFirst}
@@ -59,3 +60,7 @@ abbrev pub OneInside : Type 0
 OneInside =
     (s : Shape) → IsSound s → (rest : List ℕ) (ahead : ℕ) (t u : Tree)
     → StandsAt (Place.under_implicit ahead) s rest ahead t → StandsAt (Place.under_implicit ahead) s rest ahead u → t ≡ u
+
+-- sets of the same members, each as often, in any order, have one encoding
+abbrev pub SetOrder : Type 0
+SetOrder = (ts us : List Tree) → IsPermutation ts us → der (Tree.list ListKind.set (trees ts)) ≡ der (Tree.list ListKind.set (trees us))

@@ -4,6 +4,7 @@ pub mod Equality
 pub mod Tag
 pub mod Element
 pub mod Tree
+pub mod Order
 pub mod Encoding
 pub mod Readable
 pub mod Shape
@@ -12,6 +13,7 @@ pub mod Reading
 pub mod Refusal
 pub mod BigEndianLaws
 pub mod ElementLaws
+pub mod OrderLaws
 pub mod EncodingLaws
 pub mod WrapperLaws
 pub mod FirstLaws

@@ -1,17 +1,23 @@
 -- Which trees are read back, and which are written.
-use Rattle.std.specs.Prelude.{◌<◌, ◌^◌, Bool, true, ◌&&◌, length, ⊤, IsTrue}
+use Rattle.std.specs.Prelude.{ℕ, ◌<◌, ◌^◌, Bool, true, ◌&&◌, List, length, ⊤, IsTrue}
 use Rattle.picky_der_core.specs.Tag.{number_of, is_tag_number, IsTagNumber}
-use Rattle.picky_der_core.specs.Tree.{Tree, Trees}
+use Rattle.picky_der_core.specs.Tree.{ListKind, Tree, Trees}
+use Rattle.picky_der_core.specs.Order.{IsAscending}
 use Rattle.picky_der_core.specs.Element.{IsElement}
-use Rattle.picky_der_core.specs.Encoding.{der}
+use Rattle.picky_der_core.specs.Encoding.{encodings, der}
 
 -- no choice stands here
 abbrev pub IsNoChoice : Tree → Type 0
 IsNoChoice (Tree.choice t) = ⊥
 IsNoChoice _ = ⊤
 
--- Nothing in it is absent, each raw part is one element, each tag number is at most 30, and no choice stands directly under an
--- implicit tag.
+-- the encodings of a list's members stand in order: those of a set ascend
+abbrev pub IsInOrder : ListKind → List (List ℕ) → Type 0
+IsInOrder ListKind.sequence members = ⊤
+IsInOrder ListKind.set members = IsAscending members
+
+-- Nothing in it is absent, each raw part is one element, each tag number is at most 30, no choice stands directly under an
+-- implicit tag, and the members of each set stand in ascending order.
 abbrev mutual
   pub IsReadable : Tree → Type 0
   IsReadable (Tree.boolean b) = ⊤
@@ -19,7 +25,7 @@ abbrev mutual
   IsReadable Tree.null = ⊤
   IsReadable (Tree.text s) = ⊤
   IsReadable (Tree.bytes tag s) = IsTagNumber (number_of tag)
-  IsReadable (Tree.list kind ts) = AreReadable ts
+  IsReadable (Tree.list kind ts) = IsInOrder kind (encodings ts) × AreReadable ts
   IsReadable (Tree.octet_container t) = IsReadable t
   IsReadable (Tree.bit_container t) = IsReadable t
   IsReadable (Tree.explicit n t) = IsTagNumber n × IsReadable t

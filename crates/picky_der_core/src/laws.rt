@@ -1,6 +1,6 @@
 //! The laws of canonical DER: each is the contract of a function without arguments, over the definitions alone.
 //! Beside them stand those of `==`.
-ghost use Rattle.picky_der_core.specs.Laws.{LengthBothWays, WrapperLengths, FirstsTell, UniqueReadability, OneValue, RoundTrip, SameBytes, OneInside};
+ghost use Rattle.picky_der_core.specs.Laws.{LengthBothWays, WrapperLengths, FirstsTell, UniqueReadability, OneValue, RoundTrip, SameBytes, OneInside, SetOrder};
 
 pub mod equality;
 
@@ -43,4 +43,9 @@ pub fn same_bytes()
 /// What stands directly under an implicit tag, within one end, is one tree of a sound shape.
 pub fn one_inside()
     ensures { OneInside }
+{}
+
+/// Sets of the same members, each as often, in any order, have the same encoding (X.690, 11.6).
+pub fn set_order()
+    ensures { SetOrder }
 {}

@@ -3,14 +3,17 @@ use Rattle.std.proofs.Common.{◌≡◌, ℕ, suc, ◌+◌, ◌-◌, ◌<◌, Li
 use Rattle.picky_der_core.specs.declared.error.Asn1DerError.{Asn1DerError}
 use Rattle.picky_der_core.specs.Tree.{Tree, trees}
 use Rattle.picky_der_core.specs.Readable.{AreReadable}
+use Rattle.picky_der_core.specs.Encoding.{encodings}
 use Rattle.picky_der_core.specs.Shape.{Shape, IsOf, AreOf, EachIs}
 use Rattle.picky_der_input.specs.State.{State}
 use Rattle.picky_der_input.specs.Steps.{Takes, IsJudged}
+use Rattle.picky_der_input.specs.Order.{AreInOrder, unordered}
 use Rattle.picky_der_de.specs.Members.{ReadsMember, RefusesMember, bytes_of, StandBefore, ReadsRow, RefusesRow}
 use Rattle.picky_der_de.specs.ArrayLaws.{times}
-use Rattle.picky_der_input.proofs.Steps.{takes_none, takes_then, fails_after, judged_after}
-use Rattle.picky_der_de.proofs.Members.{bytes_of-none, takes_member, next_member, no_member}
-use Rattle.picky_der_de.proofs.ListReads.{bytes_of-push, each-push, readable-push}
+use Rattle.picky_der_input.proofs.Steps.{takes_none, takes_then}
+use Rattle.picky_der_input.proofs.Order.{fails_behind, judged_behind}
+use Rattle.picky_der_de.proofs.Members.{bytes_of-none, takes_member, member_direct, next_order, next_member, no_member}
+use Rattle.picky_der_de.proofs.ListReads.{bytes_of-push, each-push, readable-push, LeadOn, leads-none, leads-push, leads-all}
 
 -- ---- refused
 
@@ -20,26 +23,29 @@ RefusesTimes meaning n s old new e = RefusesRow (λ vs. trees (map meaning vs)) 
 
 -- the next member was refused
 pub times_refused : {V : Type 0} {meaning : V → Tree} {s : Shape} {c d : State} {e : Asn1DerError} (n : ℕ) → RefusesMember meaning s c d e → RefusesTimes meaning (suc n) s c d e
-times_refused {V} {meaning} {s} {c} {d} {e} n r = record { fails = r.refuses.fails; none = none }
+times_refused {V} {meaning} {s} {c} {d} {e} n r = record { fails = r.fails; none = none }
   where
-    none : IsJudged c d e → (vs : List V) → AreOf (times (suc n) s) (trees (map meaning vs)) → AreReadable (trees (map meaning vs)) → StandBefore c d e (bytes_of (trees (map meaning vs))) → ⊥
-    none j [] of_shape readable w = of_shape
-    none j (v ∷ vs) of_shape readable w = no_member v (trees (map meaning vs)) r j of_shape.0 readable.0 w
+    none : IsJudged c d e → (vs : List V) → AreOf (times (suc n) s) (trees (map meaning vs)) → AreReadable (trees (map meaning vs)) → AreInOrder c.sets (encodings (trees (map meaning vs))) → StandBefore c d e (bytes_of (trees (map meaning vs))) → ⊥
+    none j [] of_shape readable order w = of_shape
+    none j (v ∷ vs) of_shape readable order w = no_member v (trees (map meaning vs)) r j of_shape.0 readable.0 order w
 
 -- a member was read, and those behind it were refused
 pub times_next : {V : Type 0} {meaning : V → Tree} {s : Shape} {b c d : State} {t : Tree} {e : Asn1DerError} (n : ℕ) → ReadsMember s b c t → RefusesTimes meaning n s c d e → RefusesTimes meaning (suc n) s b d e
-times_next {V} {meaning} {s} {b} {c} {d} {t} {e} n r h = record { fails = fails_after r.reads.takes h.fails; none = none }
+times_next {V} {meaning} {s} {b} {c} {d} {t} {e} n r h = record { fails = fails_behind (takes_member r) h.fails; none = none }
   where
-    none : IsJudged b d e → (vs : List V) → AreOf (times (suc n) s) (trees (map meaning vs)) → AreReadable (trees (map meaning vs)) → StandBefore b d e (bytes_of (trees (map meaning vs))) → ⊥
-    none j [] of_shape readable w = of_shape
-    none j (v ∷ vs) of_shape readable w = h.none (judged_after r.reads.takes j) vs of_shape.1 readable.1 (next_member (meaning v) (trees (map meaning vs)) readable.0 r h.fails w)
+    none : IsJudged b d e → (vs : List V) → AreOf (times (suc n) s) (trees (map meaning vs)) → AreReadable (trees (map meaning vs)) → AreInOrder b.sets (encodings (trees (map meaning vs))) → StandBefore b d e (bytes_of (trees (map meaning vs))) → ⊥
+    none j [] of_shape readable order w = of_shape
+    none j (v ∷ vs) of_shape readable order w =
+        let us = trees (map meaning vs) in
+        h.none (judged_behind (takes_member r) j) vs of_shape.1 readable.1 (next_order (meaning v) us readable.0 r h.fails w order) (next_member (meaning v) us readable.0 r h.fails w)
 
 -- ---- members so far
 
 pub record ReadsFirst {V : Type 0} (meaning : V → Tree) (s : Shape) (old new : State) (vs : List V) : Type 0 where
   pub of_shape : EachIs (IsOf s) (trees (map meaning vs))
   pub readable : AreReadable (trees (map meaning vs))
-  pub takes : Takes old new (bytes_of (trees (map meaning vs)))
+  pub leads : LeadOn meaning old new vs
+  pub takes : Takes (unordered old) (unordered new) (bytes_of (trees (map meaning vs)))
   pub direct : new.direct ≡ None
   pub refuses : (n : ℕ) (d : State) (e : Asn1DerError) → RefusesTimes meaning n s new d e → RefusesTimes meaning (length vs + n) s old d e
 
@@ -47,7 +53,8 @@ pub first_none : {V : Type 0} (meaning : V → Tree) (s : Shape) (a : State) →
 first_none meaning s a h p d = record {
   of_shape = tt;
   readable = tt;
-  takes = subst (Takes a a) (sym bytes_of-none) (takes_none a h p);
+  leads = leads-none meaning a;
+  takes = subst (Takes (unordered a) (unordered a)) (sym bytes_of-none) (takes_none (unordered a) h p);
   direct = d;
   refuses = λ n d e r. subst (λ m. RefusesTimes meaning m s a d e) (omega arith) r;
 }
@@ -56,8 +63,9 @@ pub first_more : {V : Type 0} (meaning : V → Tree) (s : Shape) {a b c : State}
 first_more meaning s {a} {b} {c} vs v h r = record {
   of_shape = each-push meaning (IsOf s) vs v h.of_shape r.reads.of_shape;
   readable = readable-push meaning vs v h.readable r.reads.readable;
-  takes = subst (Takes a c) (sym (bytes_of-push meaning vs v)) (takes_then h.takes (takes_member r));
-  direct = r.reads.direct;
+  leads = leads-push meaning a vs v h.leads r;
+  takes = subst (Takes (unordered a) (unordered c)) (sym (bytes_of-push meaning vs v)) (takes_then h.takes (takes_member r));
+  direct = member_direct r;
   refuses = λ n d e w. subst (λ m. RefusesTimes meaning m s a d e) (omega (arith, length-append vs (v ∷ []))) (h.refuses (suc n) d e (times_next n r w));
 }
 
@@ -66,9 +74,10 @@ each_times meaning s [] h = tt
 each_times meaning s (v ∷ vs) h = (h.0, each_times meaning s vs h.1)
 
 pub first_all : {V : Type 0} (meaning : V → Tree) (s : Shape) {a b : State} (n : ℕ) (vs : List V) → length vs ≡ n → ReadsFirst meaning s a b vs → ReadsRow (times n s) a b (trees (map meaning vs))
-first_all meaning s n vs same h = record {
+first_all meaning s {a} {b} n vs same h = record {
   of_shape = subst (λ m. AreOf (times m s) (trees (map meaning vs))) same (each_times meaning s vs h.of_shape);
   readable = h.readable;
+  order = leads-all meaning a b vs h.leads;
   takes = h.takes;
   direct = h.direct;
 }

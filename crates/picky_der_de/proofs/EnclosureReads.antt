@@ -12,10 +12,11 @@ use Rattle.picky_der_core.specs.Reading.{Place, written_at, MayStand, StandsAt}
 use Rattle.picky_der_core.specs.Shape.{Shape, IsOf, IsFirst}
 use Rattle.picky_der_core.specs.ShapeLaws.{is_plain_shape, plain_by_shape}
 use Rattle.picky_der_input.specs.declared.enclosure.Enclosure.{Enclosure}
-use Rattle.picky_der_input.specs.State.{State}
+use Rattle.picky_der_input.specs.State.{OpenSets, State}
 use Rattle.picky_der_input.specs.Steps.{Takes, Fails, IsJudged, place_in, place_of}
 use Rattle.picky_der_input.specs.Reading.{Concerns, Reads, Refuses}
 use Rattle.picky_der_input.specs.Ends.{Outer, Closes}
+use Rattle.picky_der_input.specs.Order.{cut_at}
 use Rattle.picky_der_input.specs.Enclosures.{enclose, enclosure_tag, enclose_shape, unused_bits, implicit_number, restored, opening, OpensEnclosure, RefusesOpening, ReadsEnclosed, RefusesEnclosed, before_value, in_value, behind_value}
 use Rattle.picky_der_input.proofs.Steps.{takes_then, fails_after, judged_after}
 use Rattle.picky_der_input.proofs.Refusals.{behind, failed_grows, end_below, taken_first}
@@ -32,7 +33,7 @@ restored_takes outer l t = record {
   room = omega (arith, t.taken, l);
   end = refl;
   limit = t.limit;
-  last = refl;
+  sets = ap (λ (s : OpenSets). cut_at outer.last s.around) t.sets;
   unpeeked = t.unpeeked;
   drawn = t.drawn;
   had_not_failed = t.had_not_failed;

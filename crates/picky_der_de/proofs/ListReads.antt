@@ -1,18 +1,20 @@
 -- Lists of values of one type, read and refused.
-use Rattle.std.proofs.Common.{◌≡◌, ◌<◌, List, [], ◌∷◌, ◌++◌, map, None, refl, sym, ◌∙◌, ap, subst, arith, append_assoc, append-nil}
+use Rattle.std.proofs.Common.{◌≡◌, ◌<◌, ℕ, List, [], ◌∷◌, ◌++◌, map, None, refl, sym, ◌∙◌, ap, subst, arith, append_assoc, append-nil}
 use Rattle.picky_der_core.specs.declared.error.Asn1DerError.{Asn1DerError}
 use Rattle.picky_der_core.specs.declared.error.Asn1DerError.TheVariants.{OutOfMemory}
 use Rattle.picky_der_core.specs.Tree.{ListKind, Tree, Trees, trees}
-use Rattle.picky_der_core.specs.Encoding.{der, list_tag}
+use Rattle.picky_der_core.specs.Encoding.{written, der, encodings, list_tag}
 use Rattle.picky_der_core.specs.Readable.{IsReadable, AreReadable}
 use Rattle.picky_der_core.specs.Shape.{Shape, IsOf, IsFirst, EachIs}
 use Rattle.picky_der_input.specs.State.{State}
 use Rattle.picky_der_input.specs.Steps.{Takes, Fails, IsJudged}
+use Rattle.picky_der_input.specs.Order.{AreInOrder, unordered}
 use Rattle.picky_der_input.specs.Reading.{Reads, Refuses}
 use Rattle.picky_der_input.specs.Ends.{Outer, Closes, RefusesClose, OpensList, RefusesList}
 use Rattle.picky_der_de.specs.Members.{ReadsMember, RefusesMember, HasNoMore, bytes_of, StandUpToEnd, ReadsAll, RefusesAll}
-use Rattle.picky_der_input.proofs.Steps.{takes_none, takes_then, fails_after, judged_after}
-use Rattle.picky_der_de.proofs.Members.{bytes_of-more, bytes_of-none, takes_member, member_ahead, next_up_to_end, no_member, none_left, list_refused, list_unopened, list_reads}
+use Rattle.picky_der_input.proofs.Steps.{takes_none, takes_then}
+use Rattle.picky_der_input.proofs.Order.{fails_behind, judged_behind, order_none}
+use Rattle.picky_der_de.proofs.Members.{bytes_of-more, bytes_of-none, takes_member, member_direct, member_leads, member_ahead, next_order, next_up_to_end, no_member, none_left, list_refused, list_unopened, list_reads}
 
 -- ---- one member more behind others
 
@@ -32,23 +34,44 @@ pub readable-push : {V : Type 0} (meaning : V → Tree) (vs : List V) (v : V) �
 readable-push meaning [] v h p = (p, tt)
 readable-push meaning (w ∷ vs) v h p = (h.0, readable-push meaning vs v h.1 p)
 
+-- what is in order behind these members is so with them in front
+abbrev pub LeadOn : {V : Type 0} → (V → Tree) → State → State → List V → Type 0
+LeadOn meaning old new vs = (ms : List (List ℕ)) → AreInOrder new.sets ms → AreInOrder old.sets (encodings (trees (map meaning vs)) ++ ms)
+
+pub leads-none : {V : Type 0} (meaning : V → Tree) (a : State) → LeadOn meaning a a []
+unfolding written
+leads-none meaning a ms h = h
+
+encodings-push : {V : Type 0} (meaning : V → Tree) (vs : List V) (v : V) (ms : List (List ℕ)) → encodings (trees (map meaning (vs ++ v ∷ []))) ++ ms ≡ encodings (trees (map meaning vs)) ++ der (meaning v) ∷ ms
+unfolding der written
+encodings-push meaning [] v ms = refl
+encodings-push meaning (w ∷ vs) v ms = ap (λ l. der (meaning w) ∷ l) (encodings-push meaning vs v ms)
+
+pub leads-push : {V : Type 0} (meaning : V → Tree) {s : Shape} (a : State) {b c : State} (vs : List V) (v : V) → LeadOn meaning a b vs → ReadsMember s b c (meaning v) → LeadOn meaning a c (vs ++ v ∷ [])
+leads-push meaning a vs v h r ms o = subst (AreInOrder a.sets) (sym (encodings-push meaning vs v ms)) (h (der (meaning v) ∷ ms) (member_leads r ms o))
+
+pub leads-all : {V : Type 0} (meaning : V → Tree) (a b : State) (vs : List V) → LeadOn meaning a b vs → AreInOrder a.sets (encodings (trees (map meaning vs)))
+leads-all meaning a b vs h = subst (AreInOrder a.sets) (append-nil (encodings (trees (map meaning vs)))) (h [] (order_none b.sets))
+
 -- ---- refused
 
 -- the next member was refused
 pub all_refused : {V : Type 0} {meaning : V → Tree} {s : Shape} {c d : State} {e : Asn1DerError} → RefusesMember meaning s c d e → (c.failed ≡ None → 0 < c.room) → RefusesAll meaning s c d e
-all_refused {V} {meaning} {s} {c} {d} {e} r ahead = record { fails = r.refuses.fails; none = none }
+all_refused {V} {meaning} {s} {c} {d} {e} r ahead = record { fails = r.fails; none = none }
   where
-    none : IsJudged c d e → (vs : List V) → EachIs (IsOf s) (trees (map meaning vs)) → AreReadable (trees (map meaning vs)) → StandUpToEnd c d e (bytes_of (trees (map meaning vs))) → ⊥
-    none j [] of_shape readable w = none_left (ahead j.had_not_failed) w
-    none j (v ∷ vs) of_shape readable w = no_member v (trees (map meaning vs)) r j of_shape.0 readable.0 w.stand
+    none : IsJudged c d e → (vs : List V) → EachIs (IsOf s) (trees (map meaning vs)) → AreReadable (trees (map meaning vs)) → AreInOrder c.sets (encodings (trees (map meaning vs))) → StandUpToEnd c d e (bytes_of (trees (map meaning vs))) → ⊥
+    none j [] of_shape readable order w = none_left (ahead j.had_not_failed) w
+    none j (v ∷ vs) of_shape readable order w = no_member v (trees (map meaning vs)) r j of_shape.0 readable.0 order w.stand
 
 -- a member was read, and those behind it were refused
 pub all_next : {V : Type 0} {meaning : V → Tree} {s : Shape} {b c d : State} {t : Tree} {e : Asn1DerError} → ReadsMember s b c t → RefusesAll meaning s c d e → RefusesAll meaning s b d e
-all_next {V} {meaning} {s} {b} {c} {d} {t} {e} r h = record { fails = fails_after r.reads.takes h.fails; none = none }
+all_next {V} {meaning} {s} {b} {c} {d} {t} {e} r h = record { fails = fails_behind (takes_member r) h.fails; none = none }
   where
-    none : IsJudged b d e → (vs : List V) → EachIs (IsOf s) (trees (map meaning vs)) → AreReadable (trees (map meaning vs)) → StandUpToEnd b d e (bytes_of (trees (map meaning vs))) → ⊥
-    none j [] of_shape readable w = none_left (member_ahead r) w
-    none j (v ∷ vs) of_shape readable w = h.none (judged_after r.reads.takes j) vs of_shape.1 readable.1 (next_up_to_end (meaning v) (trees (map meaning vs)) readable.0 r h.fails w)
+    none : IsJudged b d e → (vs : List V) → EachIs (IsOf s) (trees (map meaning vs)) → AreReadable (trees (map meaning vs)) → AreInOrder b.sets (encodings (trees (map meaning vs))) → StandUpToEnd b d e (bytes_of (trees (map meaning vs))) → ⊥
+    none j [] of_shape readable order w = none_left (member_ahead r) w
+    none j (v ∷ vs) of_shape readable order w =
+        let us = trees (map meaning vs) in
+        h.none (judged_behind (takes_member r) j) vs of_shape.1 readable.1 (next_order (meaning v) us readable.0 r h.fails w.stand order) (next_up_to_end (meaning v) us readable.0 r h.fails w)
 
 -- memory was wanted
 pub all_for_memory : {V : Type 0} {meaning : V → Tree} {s : Shape} {c d : State} {e : Asn1DerError} → Fails c d e → e ≡ OutOfMemory → RefusesAll meaning s c d e
@@ -59,7 +82,8 @@ all_for_memory f is = record { fails = f; none = λ j. absurd (j.memory is) }
 pub record ReadsSome {V : Type 0} (meaning : V → Tree) (s : Shape) (old new : State) (vs : List V) : Type 0 where
   pub of_shape : EachIs (IsOf s) (trees (map meaning vs))
   pub readable : AreReadable (trees (map meaning vs))
-  pub takes : Takes old new (bytes_of (trees (map meaning vs)))
+  pub leads : LeadOn meaning old new vs
+  pub takes : Takes (unordered old) (unordered new) (bytes_of (trees (map meaning vs)))
   pub direct : new.direct ≡ None
   pub refuses : (d : State) (e : Asn1DerError) → RefusesAll meaning s new d e → RefusesAll meaning s old d e
 
@@ -67,7 +91,8 @@ pub some_none : {V : Type 0} (meaning : V → Tree) (s : Shape) (a : State) → 
 some_none meaning s a h p d = record {
   of_shape = tt;
   readable = tt;
-  takes = subst (Takes a a) (sym bytes_of-none) (takes_none a h p);
+  leads = leads-none meaning a;
+  takes = subst (Takes (unordered a) (unordered a)) (sym bytes_of-none) (takes_none (unordered a) h p);
   direct = d;
   refuses = λ d e r. r;
 }
@@ -76,16 +101,18 @@ pub some_more : {V : Type 0} (meaning : V → Tree) (s : Shape) {a b c : State} 
 some_more meaning s {a} {b} {c} vs v h r = record {
   of_shape = each-push meaning (IsOf s) vs v h.of_shape r.reads.of_shape;
   readable = readable-push meaning vs v h.readable r.reads.readable;
-  takes = subst (Takes a c) (sym (bytes_of-push meaning vs v)) (takes_then h.takes (takes_member r));
-  direct = r.reads.direct;
+  leads = leads-push meaning a vs v h.leads r;
+  takes = subst (Takes (unordered a) (unordered c)) (sym (bytes_of-push meaning vs v)) (takes_then h.takes (takes_member r));
+  direct = member_direct r;
   refuses = λ d e w. h.refuses d e (all_next r w);
 }
 
 pub some_all : {V : Type 0} {meaning : V → Tree} {s : Shape} {a b c : State} {vs : List V} → ReadsSome meaning s a b vs → HasNoMore b c → ReadsAll meaning s a c vs
-some_all {meaning = meaning} {a = a} {vs = vs} h n = record {
+some_all {meaning = meaning} {a = a} {b = b} {vs = vs} h n = record {
+  order = leads-all meaning a b vs h.leads;
   of_shape = h.of_shape;
   readable = h.readable;
-  takes = subst (λ z. Takes a z (bytes_of (trees (map meaning vs)))) (sym n.same) h.takes;
+  takes = subst (λ z. Takes (unordered a) (unordered z) (bytes_of (trees (map meaning vs)))) (sym n.same) h.takes;
   direct = ap (λ (z : State). z.direct) n.same ∙ h.direct;
   reached = ap (λ (z : State). z.room) n.same ∙ n.reached;
 }
@@ -103,7 +130,7 @@ module _ {V W : Type 0} (meaning : W → Tree) (s : Shape) (kind : ListKind) (it
 
   -- a member was refused
   pub list_of_refused : {b c : State} {outer : Outer} {e : Asn1DerError} → OpensList (list_tag kind) a b outer → RefusesAll meaning s b c e → Refuses (λ v. Tree.list kind (trees (map meaning (items v)))) (Shape.list_of kind s) a c e
-  list_of_refused h r = list_refused kind (λ v. trees (map meaning (items v))) (Shape.list_of kind s) (list_first kind s) h r.fails (λ j v of_shape readable w. r.none j (items v) of_shape.1 readable w)
+  list_of_refused h r = list_refused kind (λ v. trees (map meaning (items v))) (Shape.list_of kind s) (list_first kind s) h r.fails (λ j v of_shape readable order w. r.none j (items v) of_shape.1 readable order w)
 
 -- nothing is left behind the last member
 pub all_closed : {V : Type 0} {meaning : V → Tree} {s : Shape} {b c d : State} {vs : List V} {e : Asn1DerError} → ReadsAll meaning s b c vs → RefusesClose c d e → ⊥
@@ -112,4 +139,4 @@ all_closed r k = omega (arith, r.reached, (k.left r.takes.not_failed).0)
 -- all were read
 pub list_of_reads : {V : Type 0} (meaning : V → Tree) (s : Shape) (kind : ListKind) {a b c d : State} {outer closed : Outer} (vs : List V) → OpensList (list_tag kind) a b outer → ReadsAll meaning s b c vs → Closes closed c d → closed ≡ outer
     → Reads (Shape.list_of kind s) a d (Tree.list kind (trees (map meaning vs)))
-list_of_reads meaning s kind vs h r k same = list_reads (trees (map meaning vs)) h r.takes r.direct k same (refl, r.of_shape) r.readable
+list_of_reads meaning s kind vs h r k same = list_reads (trees (map meaning vs)) h r.order r.takes r.direct k same (refl, r.of_shape) r.readable

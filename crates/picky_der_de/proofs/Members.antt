@@ -1,21 +1,23 @@
 -- Members of sequences and sets, read and refused.
-use Rattle.std.proofs.Common.{◌≡◌, ℕ, ◌<◌, ◌≤◌, List, [], ◌++◌, length, Some, None, refl, sym, ◌∙◌, ap, subst, arith, append_assoc, length-append}
+use Rattle.std.proofs.Common.{◌≡◌, ℕ, ◌<◌, ◌≤◌, Bool, false, List, [], ◌∷◌, ◌++◌, length, Option, Some, None, refl, sym, ◌∙◌, ap, ap₂, subst, arith, append_assoc, length-append, true≢false}
 use Rattle.picky_der_core.specs.declared.error.Asn1DerError.{Asn1DerError}
 use Rattle.picky_der_core.specs.Failure.{failure_of}
 use Rattle.picky_der_core.specs.declared.error.Asn1DerError.TheVariants.{TruncatedData}
 use Rattle.picky_der_core.specs.Tree.{ListKind, Tree, Trees}
-use Rattle.picky_der_core.specs.Encoding.{written, der, list_tag, content}
-use Rattle.picky_der_core.specs.EncodingLaws.{same_encoding, length-der}
-use Rattle.picky_der_core.specs.Readable.{IsReadable, AreReadable}
+use Rattle.picky_der_core.specs.Encoding.{written, der, encodings, list_tag, content}
+use Rattle.picky_der_core.specs.EncodingLaws.{same_encoding, length-der, list_content-in_order}
+use Rattle.picky_der_core.specs.Readable.{IsReadable, AreReadable, IsInOrder}
 use Rattle.picky_der_core.specs.Shape.{Shape, IsOf, IsFirst}
 use Rattle.picky_der_core.specs.Reading.{Place, written_at, StandsAt}
 use Rattle.picky_der_input.specs.declared.end.End.TheVariants.{Soft}
-use Rattle.picky_der_input.specs.State.{State}
+use Rattle.picky_der_input.specs.State.{OpenSets, State}
 use Rattle.picky_der_input.specs.Steps.{Takes, Fails, IsJudged, place_in, place_of, drawn}
+use Rattle.picky_der_input.specs.Order.{order_of, entered, is_out_of_order, with_last, AreInOrder, unordered, RefusesTest, out_of_order, without_memory}
 use Rattle.picky_der_input.specs.Reading.{Concerns, now, ever, Reads, Refuses}
 use Rattle.picky_der_input.specs.Ends.{Outer, narrowed, Closes, OpensList, RefusesList}
-use Rattle.picky_der_de.specs.Members.{ReadsMember, RefusesMember, HasNoMore, bytes_of, StandBefore, StandUpToEnd}
+use Rattle.picky_der_de.specs.Members.{ReadsMember, RefusesNext, no_value, behind_value, RefusesMember, HasNoMore, bytes_of, StandBefore, StandUpToEnd}
 use Rattle.picky_der_input.proofs.Steps.{fails_after, fails_again, judged_after}
+use Rattle.picky_der_input.proofs.Order.{concerns_alike, concerns_unordered, judged_alike, fails_alike, takes_unordered, order_none, order_first, order_next, order_more, order_begins, order_whole}
 use Rattle.picky_der_input.proofs.Refusals.{behind, failed_grows, end_below}
 use Rattle.picky_der_input.proofs.PlainReads.{no_plain, begun, takes_plain, may_stand, first_of_header}
 use Rattle.picky_der_input.proofs.Ends.{narrowed_concerns, concerns_room, narrowed_judged, widened_fails, closes_behind}
@@ -30,14 +32,48 @@ pub bytes_of-none : bytes_of Trees.none ≡ []
 unfolding written
 bytes_of-none = refl
 
-pub bytes_of-content : (kind : ListKind) (ts : Trees) → content (Tree.list kind ts) ≡ bytes_of ts
-bytes_of-content ListKind.sequence ts = refl
-bytes_of-content ListKind.set ts = refl
+pub bytes_of-content : (kind : ListKind) (ts : Trees) → IsInOrder kind (encodings ts) → content (Tree.list kind ts) ≡ bytes_of ts
+bytes_of-content kind ts h = list_content-in_order kind (encodings ts) h
+
+encodings-more : (t : Tree) (ts : Trees) → encodings (Trees.more t ts) ≡ der t ∷ encodings ts
+unfolding der written
+encodings-more t ts = refl
+
+-- members in order, from left to right
+pub no_members_in_order : (l : OpenSets) → AreInOrder l (encodings Trees.none)
+unfolding written
+no_members_in_order l = order_none l
+
+first_in_order : (l : OpenSets) (t : Tree) (ts : Trees) → AreInOrder l (encodings (Trees.more t ts)) → is_out_of_order l (der t) ≡ false
+first_in_order l t ts h = order_first l (der t) (encodings ts) (subst (AreInOrder l) (encodings-more t ts) h)
+
+next_in_order : (l : OpenSets) (t : Tree) (ts : Trees) → AreInOrder l (encodings (Trees.more t ts)) → AreInOrder (with_last l (der t)) (encodings ts)
+next_in_order l t ts h = order_next l (der t) (encodings ts) (subst (AreInOrder l) (encodings-more t ts) h)
 
 -- ---- one member
 
-pub takes_member : {s : Shape} {b c : State} {t : Tree} → ReadsMember s b c t → Takes b c (der t)
-takes_member {b = b} {c = c} {t = t} r = subst (λ d. Takes b c (written_at (place_in d b.room) t)) r.direct r.reads.takes
+-- a value that doesn't stand directly under an implicit tag
+takes_whole : {s : Shape} {b c : State} {t : Tree} → Reads s b c t → b.direct ≡ None → Takes b c (der t)
+takes_whole {b = b} {c = c} {t = t} r direct = subst (λ d. Takes b c (written_at (place_in d b.room) t)) direct r.takes
+
+pub takes_member : {s : Shape} {b c : State} {t : Tree} → ReadsMember s b c t → Takes (unordered b) (unordered c) (der t)
+takes_member {b = b} {t = t} r = subst (λ z. Takes (unordered b) (unordered z) (der t)) (sym r.follows.same) (takes_unordered (takes_whole r.reads r.direct))
+
+pub member_direct : {s : Shape} {b c : State} {t : Tree} → ReadsMember s b c t → c.direct ≡ None
+member_direct r = ap (λ (z : State). z.direct) r.follows.same ∙ r.reads.direct
+
+-- it is the last one from here on
+last_member : {s : Shape} {b c : State} {t : Tree} → ReadsMember s b c t → c.sets ≡ with_last b.sets (der t)
+last_member {t = t} r = ap (λ (z : State). z.sets) r.follows.same ∙ ap (λ l. with_last l (der t)) r.reads.takes.sets
+
+-- and what is in order behind it is so with it in front
+pub member_leads : {s : Shape} {b c : State} {t : Tree} → ReadsMember s b c t → (ms : List (List ℕ)) → AreInOrder c.sets ms → AreInOrder b.sets (der t ∷ ms)
+member_leads {b = b} {t = t} r ms h =
+    let first : is_out_of_order b.sets (der t) ≡ false = ap (λ l. is_out_of_order l (der t)) (sym r.reads.takes.sets) ∙ r.follows.in_order in
+    order_more b.sets (der t) ms first (subst (λ l. AreInOrder l ms) (last_member r) h)
+
+pub members_lead : {s : Shape} {b c : State} {t : Tree} (ts : Trees) → ReadsMember s b c t → AreInOrder c.sets (encodings ts) → AreInOrder b.sets (encodings (Trees.more t ts))
+members_lead {b = b} {t = t} ts r h = subst (AreInOrder b.sets) (sym (encodings-more t ts)) (member_leads r (encodings ts) h)
 
 -- a member isn't read at the end
 pub member_ahead : {s : Shape} {b c : State} {t : Tree} → ReadsMember s b c t → 0 < b.room
@@ -48,9 +84,22 @@ pub member_again : {V : Type 0} {meaning : V → Tree} {s : Shape} {a : State} {
 member_again {a = a} {e = e} h =
     let no : a.failed ≡ None → ⊥ = λ w. let q : None ≡ Some (failure_of e) = sym w ∙ h in cc in
     record {
-      refuses = record { fails = fails_again a h; none = λ j. absurd (no j.had_not_failed); first = λ j. absurd (no j.had_not_failed) };
+      fails = fails_again a h;
+      refuses = no_value (record { fails = fails_again a h; none = λ j. absurd (no j.had_not_failed); first = λ j. absurd (no j.had_not_failed) });
       direct = λ w. absurd (no w);
     }
+
+-- its type refused it
+pub member_unread : {V : Type 0} {meaning : V → Tree} {s : Shape} {a c : State} {e : Asn1DerError} → Refuses meaning s a c e → (a.failed ≡ None → a.direct ≡ None) → RefusesMember meaning s a c e
+member_unread r d = record { fails = r.fails; refuses = no_value r; direct = d }
+
+test_fails : {m : List ℕ} {b c : State} {e : Asn1DerError} → RefusesTest m b c e → Fails b c e
+test_fails (out_of_order h) = h.fails
+test_fails (without_memory n f is same) = f
+
+-- it was read, and then refused
+pub member_untested : {V : Type 0} {meaning : V → Tree} {s : Shape} {a b c : State} {t : Tree} {e : Asn1DerError} → Reads s a b t → RefusesTest (der t) b c e → (a.failed ≡ None → a.direct ≡ None) → RefusesMember meaning s a c e
+member_untested {b = b} {t = t} r h d = record { fails = fails_after r.takes (test_fails h); refuses = behind_value b t r h; direct = d }
 
 -- nothing stands whole at the end
 nothing_here : {V : Type 0} (meaning : V → Tree) {s : Shape} {a c : State} {e : Asn1DerError} {end : ℕ} {bs : List ℕ} (v : V) → a.room ≡ 0 → e ≡ TruncatedData → Concerns a c e end bs → StandsAt Place.whole s bs end (meaning v) → ⊥
@@ -59,42 +108,47 @@ nothing_here meaning v z is (ever n r d y left i q f) st = n is
 
 -- a member was wanted at the end
 pub member_missing : {V : Type 0} {meaning : V → Tree} {s : Shape} {a b c : State} {e : Asn1DerError} → HasNoMore a b → a.direct ≡ None → Fails b c e → e ≡ TruncatedData → RefusesMember meaning s a c e
-member_missing {meaning = meaning} {s = s} {a = a} {b = b} {c = c} {e = e} h d f is = record {
-  refuses = record {
-    fails = subst (λ z. Fails z c e) h.same f;
-    none = λ j end bs w v st. nothing_here meaning v h.reached is w (subst (λ x. StandsAt (place_in x a.room) s bs end (meaning v)) d st);
-    first = λ j k x l. absurd (omega (arith, h.reached));
-  };
-  direct = λ w. d;
-}
+member_missing {meaning = meaning} {s = s} {a = a} {b = b} {c = c} {e = e} h d f is = member_unread (record {
+  fails = subst (λ z. Fails z c e) h.same f;
+  none = λ j end bs w v st. nothing_here meaning v h.reached is w (subst (λ x. StandsAt (place_in x a.room) s bs end (meaning v)) d st);
+  first = λ j k x l. absurd (omega (arith, h.reached));
+}) (λ w. d)
 
 -- ---- members one after another
 
--- a member was read: its bytes are those of the first that stands, and the bytes of the others are those behind it
-same_member : {s : Shape} {b c d : State} {e : Asn1DerError} {t : Tree} (u : Tree) (us : Trees) → IsReadable u → (r : ReadsMember s b c t) → (f : Fails c d e) → (w : StandBefore b d e (bytes_of (Trees.more u us)))
-    → (der u ≡ der t) × (bytes_of us ++ w.rest ≡ (behind (takes_member r) (failed_grows f) w.concerns).rest)
-same_member {t = t} u us readable r f w =
-    let v = behind (takes_member r) (failed_grows f) w.concerns in
-    let same : der u ++ (bytes_of us ++ w.rest) ≡ der t ++ v.rest =
-    sym (append_assoc (der u) (bytes_of us) w.rest) ∙ ap (λ x. x ++ w.rest) (sym (bytes_of-more u us)) ∙ sym w.begins ∙ v.begins in
-    same_encoding u t (bytes_of us ++ w.rest) v.rest readable r.reads.readable same
+-- the bytes of a value were taken: they are those of the first that stands, and the bytes of the others are those behind it
+same_first : {b c d : State} {e : Asn1DerError} (t u : Tree) (us : Trees) → IsReadable u → IsReadable t → (m : Takes b c (der t)) → (l : c.taken ≤ drawn d) → {end : ℕ} {seen : List ℕ} (w : Concerns b d e end seen) (rest : List ℕ) → seen ≡ bytes_of (Trees.more u us) ++ rest
+    → (der u ≡ der t) × (bytes_of us ++ rest ≡ (behind m l w).rest)
+same_first t u us readable read m l w rest begins =
+    let v = behind m l w in
+    let same : der u ++ (bytes_of us ++ rest) ≡ der t ++ v.rest =
+    sym (append_assoc (der u) (bytes_of us) rest) ∙ ap (λ x. x ++ rest) (sym (bytes_of-more u us)) ∙ sym begins ∙ v.begins in
+    same_encoding u t (bytes_of us ++ rest) v.rest readable read same
 
--- the others stand behind it
-pub next_member : {s : Shape} {b c d : State} {e : Asn1DerError} {t : Tree} (u : Tree) (us : Trees) → IsReadable u → ReadsMember s b c t → Fails c d e → StandBefore b d e (bytes_of (Trees.more u us)) → StandBefore c d e (bytes_of us)
-next_member {b = b} {c = c} {d = d} {e = e} {t = t} u us readable r f w =
-    let m = takes_member r in
-    let v = behind m (failed_grows f) w.concerns in
-    let p = same_member u us readable r f w in
-    let soft : c.end ≡ Soft = m.end ∙ w.soft in
-    let left : v.left ≡ c.room = concerns_room soft v.concerns in
-    record {
-      soft = soft;
-      seen = v.rest;
-      concerns = subst (λ n. Concerns c d e n v.rest) left v.concerns;
-      rest = w.rest;
-      begins = sym p.1;
-      within = omega (arith, w.within, ap length (bytes_of-more u us), length-append (der u) (bytes_of us), ap length p.0, m.room);
-    }
+-- a member was read, and others stand behind it
+module _ {s : Shape} {b c d : State} {e : Asn1DerError} {t : Tree} (u : Tree) (us : Trees) (readable : IsReadable u) (r : ReadsMember s b c t) (f : Fails c d e) (w : StandBefore b d e (bytes_of (Trees.more u us))) where
+  same_member : (der u ≡ der t) × (bytes_of us ++ w.rest ≡ (behind (takes_member r) (failed_grows f) (concerns_unordered w.concerns)).rest)
+  same_member = same_first t u us readable r.reads.readable (takes_member r) (failed_grows f) (concerns_unordered w.concerns) w.rest w.begins
+
+  pub next_member : StandBefore c d e (bytes_of us)
+  next_member =
+      let m = takes_member r in
+      let v = behind m (failed_grows f) (concerns_unordered w.concerns) in
+      let soft : c.end ≡ Soft = m.end ∙ w.soft in
+      let left : v.left ≡ c.room = concerns_room soft v.concerns in
+      record {
+        soft = soft;
+        seen = v.rest;
+        concerns = subst (λ n. Concerns c d e n v.rest) left (concerns_alike c.sets v.concerns);
+        rest = w.rest;
+        begins = sym same_member.1;
+        within = omega (arith, w.within, ap length (bytes_of-more u us), length-append (der u) (bytes_of us), ap length same_member.0, m.room);
+      }
+
+  pub next_order : AreInOrder b.sets (encodings (Trees.more u us)) → AreInOrder c.sets (encodings us)
+  next_order h =
+      let last : c.sets ≡ with_last b.sets (der u) = last_member r ∙ ap (with_last b.sets) (sym same_member.0) in
+      subst (λ l. AreInOrder l (encodings us)) (sym last) (next_in_order b.sets u us h)
 
 pub next_up_to_end : {s : Shape} {b c d : State} {e : Asn1DerError} {t : Tree} (u : Tree) (us : Trees) → IsReadable u → ReadsMember s b c t → Fails c d e → StandUpToEnd b d e (bytes_of (Trees.more u us)) → StandUpToEnd c d e (bytes_of us)
 next_up_to_end u us readable r f w =
@@ -104,18 +158,36 @@ next_up_to_end u us readable r f w =
       fills = omega (arith, w.fills, ap length (bytes_of-more u us), length-append (der u) (bytes_of us), ap length p.0, (takes_member r).room);
     }
 
--- the next member was refused, so no value of its type stands there
-pub no_member : {V : Type 0} {meaning : V → Tree} {s : Shape} {c d : State} {e : Asn1DerError} (v : V) (us : Trees) → RefusesMember meaning s c d e → IsJudged c d e → IsOf s (meaning v) → IsReadable (meaning v) → StandBefore c d e (bytes_of (Trees.more (meaning v) us)) → ⊥
-no_member {meaning = meaning} {s = s} {c = c} v us r j of_shape readable w =
-    let parts : bytes_of (Trees.more (meaning v) us) ≡ der (meaning v) ++ bytes_of us = bytes_of-more (meaning v) us in
-    let stands : StandsAt Place.whole s w.seen c.room (meaning v) = record {
-      of_shape = of_shape;
-      readable = readable;
-      may_stand = tt;
-      within = omega (arith, w.within, ap length parts, length-append (der (meaning v)) (bytes_of us));
-      front = record { rest = bytes_of us ++ w.rest; is = w.begins ∙ ap (λ x. x ++ w.rest) parts ∙ append_assoc (der (meaning v)) (bytes_of us) w.rest };
-    } in
-    r.refuses.none j c.room w.seen w.concerns v (subst (λ x. StandsAt (place_in x c.room) s w.seen c.room (meaning v)) (sym (r.direct j.had_not_failed)) stands)
+-- the next member was refused, so no value of its type stands there in order
+module _ {V : Type 0} (meaning : V → Tree) {s : Shape} {c d : State} {e : Asn1DerError} (v : V) (us : Trees) (direct : c.direct ≡ None) (j : IsJudged c d e) (of_shape : IsOf s (meaning v)) (readable : IsReadable (meaning v))
+    (order : AreInOrder c.sets (encodings (Trees.more (meaning v) us))) (w : StandBefore c d e (bytes_of (Trees.more (meaning v) us))) where
+  unread : Refuses meaning s c d e → ⊥
+  unread r =
+      let parts : bytes_of (Trees.more (meaning v) us) ≡ der (meaning v) ++ bytes_of us = bytes_of-more (meaning v) us in
+      let stands : StandsAt Place.whole s w.seen c.room (meaning v) = record {
+        of_shape = of_shape;
+        readable = readable;
+        may_stand = tt;
+        within = omega (arith, w.within, ap length parts, length-append (der (meaning v)) (bytes_of us));
+        front = record { rest = bytes_of us ++ w.rest; is = w.begins ∙ ap (λ x. x ++ w.rest) parts ∙ append_assoc (der (meaning v)) (bytes_of us) w.rest };
+      } in
+      r.none j c.room w.seen w.concerns v (subst (λ x. StandsAt (place_in x c.room) s w.seen c.room (meaning v)) (sym direct) stands)
+
+  -- it is the value that was read, and is less than the last one
+  untested : (t : Tree) {b : State} → Reads s c b t → RefusesTest (der t) b d e → ⊥
+  untested t r (without_memory n f is same) = j.memory is
+  untested t r (out_of_order h) =
+      let m = takes_whole r direct in
+      let same = (same_first t (meaning v) us readable r.readable m (failed_grows h.fails) w.concerns w.rest w.begins).0 in
+      true≢false (sym h.less ∙ ap₂ is_out_of_order m.sets (sym same) ∙ first_in_order c.sets (meaning v) us order)
+
+  unrefused : RefusesNext meaning s c d e → ⊥
+  unrefused (no_value r) = unread r
+  unrefused (behind_value b t r h) = untested t r h
+
+pub no_member : {V : Type 0} {meaning : V → Tree} {s : Shape} {c d : State} {e : Asn1DerError} (v : V) (us : Trees) → RefusesMember meaning s c d e → IsJudged c d e → IsOf s (meaning v) → IsReadable (meaning v) → AreInOrder c.sets (encodings (Trees.more (meaning v) us))
+    → StandBefore c d e (bytes_of (Trees.more (meaning v) us)) → ⊥
+no_member {meaning = meaning} v us r j of_shape readable order w = unrefused meaning v us (r.direct j.had_not_failed) j of_shape readable order w r.refuses
 
 -- something is left, so no member is missing
 pub none_left : {c d : State} {e : Asn1DerError} → 0 < c.room → StandUpToEnd c d e (bytes_of Trees.none) → ⊥
@@ -123,32 +195,41 @@ none_left l w = omega (arith, w.fills, ap length bytes_of-none)
 
 -- ---- whole lists
 
+-- the members of a list that was opened, in order from its first one on
+opened_in_order : (kind : ListKind) {a b : State} {outer : Outer} (ts : Trees) → OpensList (list_tag kind) a b outer → IsInOrder kind (encodings ts) → AreInOrder b.sets (encodings ts)
+opened_in_order kind ts h i = subst (λ l. AreInOrder l (encodings ts)) (sym (ap (λ (z : State). z.sets) h.opened)) (order_begins kind h.mid.sets (encodings ts) i)
+
+whole_in_order : (kind : ListKind) {a b : State} {outer : Outer} (ts : Trees) → OpensList (list_tag kind) a b outer → AreInOrder b.sets (encodings ts) → IsInOrder kind (encodings ts)
+whole_in_order kind ts h i = order_whole kind h.mid.sets (encodings ts) (subst (λ l. AreInOrder l (encodings ts)) (ap (λ (z : State). z.sets) h.opened) i)
+
 -- the members of a list that stands, before the list's end
 members_stand : (kind : ListKind) (s : Shape) {a b c : State} {outer : Outer} {e : Asn1DerError} {end : ℕ} {bs : List ℕ} (ts : Trees) → OpensList (list_tag kind) a b outer → Fails b c e → Concerns a c e end bs → StandsAt (place_of a) s bs end (Tree.list kind ts) → StandUpToEnd b c e (bytes_of ts)
 members_stand kind s {b = b} {c = c} {e = e} ts h f w st =
     let grows : h.mid.taken ≤ drawn c = omega (arith, failed_grows f, ap (λ (z : State). z.taken) h.opened) in
     let o = begun h.begins grows refl refl w st in
-    let size : length (bytes_of ts) ≡ (narrowed h.mid h.len Soft).room = sym (ap length (bytes_of-content kind ts)) ∙ o.size in
-    let stand : StandBefore (narrowed h.mid h.len Soft) c e (bytes_of ts) = record {
+    let content_is = bytes_of-content kind ts st.readable.0 in
+    let opened : State = record (narrowed h.mid h.len Soft) { sets = entered (order_of (list_tag kind)) h.mid.sets } in
+    let size : length (bytes_of ts) ≡ opened.room = sym (ap length content_is) ∙ o.size in
+    let stand : StandBefore opened c e (bytes_of ts) = record {
       soft = refl;
       seen = o.seen;
-      concerns = narrowed_concerns o.concerns;
+      concerns = concerns_alike (entered (order_of (list_tag kind)) h.mid.sets) (narrowed_concerns o.concerns);
       rest = o.rest;
-      begins = o.begins ∙ ap (λ x. x ++ o.rest) (bytes_of-content kind ts);
+      begins = o.begins ∙ ap (λ x. x ++ o.rest) content_is;
       within = omega (arith, size);
     } in
     subst (λ z. StandUpToEnd z c e (bytes_of ts)) (sym h.opened) (record { stand = stand; fills = size })
 
 -- a list whose header was taken, and whose members can't stand there
 pub list_refused : {V : Type 0} (kind : ListKind) (members : V → Trees) (s : Shape) → IsFirst s (list_tag kind) → {a b c : State} {outer : Outer} {e : Asn1DerError} → OpensList (list_tag kind) a b outer → Fails b c e
-    → (IsJudged b c e → (v : V) → IsOf s (Tree.list kind (members v)) → AreReadable (members v) → StandUpToEnd b c e (bytes_of (members v)) → ⊥) → Refuses (λ v. Tree.list kind (members v)) s a c e
+    → (IsJudged b c e → (v : V) → IsOf s (Tree.list kind (members v)) → AreReadable (members v) → AreInOrder b.sets (encodings (members v)) → StandUpToEnd b c e (bytes_of (members v)) → ⊥) → Refuses (λ v. Tree.list kind (members v)) s a c e
 list_refused kind members s first {a} {b} {c} {outer} {e} h f none =
-    let before : Fails (narrowed h.mid h.len Soft) c e = subst (λ z. Fails z c e) h.opened f in
+    let before : Fails (narrowed h.mid h.len Soft) c e = fails_alike (entered None h.mid.sets) (subst (λ z. Fails z c e) h.opened f) in
     let fails : Fails h.mid c e = widened_fails h.begins.fits before in
-    let judged : IsJudged a c e → IsJudged b c e = λ j. subst (λ z. IsJudged z c e) (sym h.opened) (narrowed_judged h.len Soft (judged_after h.begins.takes j)) in
+    let judged : IsJudged a c e → IsJudged b c e = λ j. subst (λ z. IsJudged z c e) (sym h.opened) (judged_alike (entered (order_of (list_tag kind)) h.mid.sets) (narrowed_judged h.len Soft (judged_after h.begins.takes j))) in
     record {
       fails = fails_after h.begins.takes fails;
-      none = λ j end bs w v st. none (judged j) v st.of_shape st.readable (members_stand kind s (members v) h f w st);
+      none = λ j end bs w v st. none (judged j) v st.of_shape st.readable.1 (opened_in_order kind (members v) h st.readable.0) (members_stand kind s (members v) h f w st);
       first = λ j k d x left l q. first_of_header s a.direct a.input h.mid.input (list_tag kind) h.len first h.begins.takes.input d left l q;
     }
 
@@ -163,14 +244,18 @@ list_unopened kind members s first {a} h =
     }
 
 -- the members of a list that was opened and closed were read
-pub list_reads : {s : Shape} {a b c d : State} {kind : ListKind} {outer closed : Outer} (ts : Trees) → OpensList (list_tag kind) a b outer → Takes b c (bytes_of ts) → c.direct ≡ None → Closes closed c d → closed ≡ outer
+pub list_reads : {s : Shape} {a b c d : State} {kind : ListKind} {outer closed : Outer} (ts : Trees) → OpensList (list_tag kind) a b outer → AreInOrder b.sets (encodings ts) → Takes (unordered b) (unordered c) (bytes_of ts) → c.direct ≡ None → Closes closed c d → closed ≡ outer
     → IsOf s (Tree.list kind ts) → AreReadable ts → Reads s a d (Tree.list kind ts)
-list_reads {s} {a} {b} {c} {d} {kind} {outer} {closed} ts h t none k same of_shape readable =
-    let within : Takes (narrowed h.mid h.len Soft) c (content (Tree.list kind ts)) = subst (λ z. Takes z c (content (Tree.list kind ts))) h.opened (subst (Takes b c) (sym (bytes_of-content kind ts)) t) in
-    let p = closes_behind h.begins.fits (same ∙ h.around) within k in
+list_reads {s} {a} {b} {c} {d} {kind} {outer} {closed} ts h o t none k same of_shape readable =
+    let order = whole_in_order kind ts h o in
+    let all = content (Tree.list kind ts) in
+    let taken : Takes (unordered b) (unordered c) all = subst (Takes (unordered b) (unordered c)) (sym (bytes_of-content kind ts order)) t in
+    let within : Takes (narrowed h.mid h.len Soft) (unordered c) all = subst (λ z. Takes (unordered z) (unordered c) all) h.opened taken in
+    let closes : Closes closed (unordered c) d = record { reached = k.reached; had_not_failed = k.had_not_failed; same = k.same } in
+    let p = closes_behind h.begins.fits (same ∙ h.around) within closes in
     record {
       of_shape = of_shape;
-      readable = readable;
+      readable = (order, readable);
       may_stand = may_stand a.direct (list_tag kind) h.len a.room h.mid.room (Tree.list kind ts) refl h.begins.takes.room h.begins.all p.1 tt;
       takes = takes_plain a.direct a.room (Tree.list kind ts) refl refl h.begins.takes p.0 p.1;
       direct = ap (λ (z : State). z.direct) k.same ∙ none;

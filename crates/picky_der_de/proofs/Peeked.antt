@@ -60,7 +60,7 @@ module _ {a b : State} {x : ℕ} (p : Peeks a b x) where
     room = omega (arith, t.room, still_room);
     end = t.end ∙ ap (λ (s : State). s.end) p.same;
     limit = t.limit ∙ still_limit;
-    last = t.last ∙ ap (λ (s : State). s.last) p.same;
+    sets = t.sets ∙ ap (λ (s : State). s.sets) p.same;
     unpeeked = t.unpeeked;
     drawn = omega (arith, t.drawn, draws_more);
     had_not_failed = p.had_not_failed;

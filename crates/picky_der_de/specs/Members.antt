@@ -1,26 +1,36 @@
 -- What reading the members of a sequence or set does.
-use Rattle.std.specs.Prelude.{◌≡◌, ◌≤◌, ℕ, List, ◌++◌, length, map, None}
+use Rattle.std.specs.Prelude.{◌≡◌, ◌≢◌, ◌≤◌, ℕ, List, ◌++◌, length, map, None}
 use Rattle.std.specs.List.{concat}
 use Rattle.picky_der_core.specs.declared.error.Asn1DerError.{Asn1DerError}
+use Rattle.picky_der_core.specs.declared.error.Asn1DerError.TheVariants.{OutOfMemory}
 use Rattle.picky_der_core.specs.Tree.{Tree, Trees, trees}
-use Rattle.picky_der_core.specs.Encoding.{encodings}
+use Rattle.picky_der_core.specs.Encoding.{der, encodings}
 use Rattle.picky_der_core.specs.Readable.{AreReadable}
 use Rattle.picky_der_core.specs.Shape.{Shape, Shapes, IsOf, AreOf, EachIs}
 use Rattle.picky_der_input.specs.declared.end.End.TheVariants.{Soft}
 use Rattle.picky_der_input.specs.State.{State}
-use Rattle.picky_der_input.specs.Steps.{Takes, Fails, IsJudged}
+use Rattle.picky_der_input.specs.Steps.{Takes, Fails, IsJudged, failed_with}
+use Rattle.picky_der_input.specs.Order.{AreInOrder, unordered, Follows, RefusesTest}
 use Rattle.picky_der_input.specs.Reading.{Reads, Refuses, Concerns}
 
 -- ---- one member
 
--- A member was read, and it may come next.
+-- A member was read, and it may come next: in a set its encoding isn't less than the last one.
 pub record ReadsMember (s : Shape) (old new : State) (t : Tree) : Type 0 where
-  pub reads : Reads s old new t
+  pub mid : State
+  pub reads : Reads s old mid t
   pub direct : old.direct ≡ None
+  pub follows : Follows (der t) mid new
+
+-- why none may come next: no value of the type stands there, or one does that was read and then refused
+pub data RefusesNext {V : Type 0} (meaning : V → Tree) (s : Shape) (old new : State) (e : Asn1DerError) : Type 0 where
+  no_value : Refuses meaning s old new e → RefusesNext meaning s old new e
+  behind_value : (mid : State) (t : Tree) → Reads s old mid t → RefusesTest (der t) mid new e → RefusesNext meaning s old new e
 
 -- No member was read, and none stands there that may come next.
 pub record RefusesMember {V : Type 0} (meaning : V → Tree) (s : Shape) (old new : State) (e : Asn1DerError) : Type 0 where
-  pub refuses : Refuses meaning s old new e
+  pub fails : Fails old new e
+  pub refuses : RefusesNext meaning s old new e
   pub direct : old.failed ≡ None → old.direct ≡ None
 
 -- the end is here, and nothing was done
@@ -53,23 +63,27 @@ pub record StandUpToEnd (old new : State) (e : Asn1DerError) (bytes : List ℕ) 
 pub record ReadsRow (ss : Shapes) (old new : State) (ts : Trees) : Type 0 where
   pub of_shape : AreOf ss ts
   pub readable : AreReadable ts
-  pub takes : Takes old new (bytes_of ts)
+  pub order : AreInOrder old.sets (encodings ts)
+  pub takes : Takes (unordered old) (unordered new) (bytes_of ts)
   pub direct : new.direct ≡ None
 
 -- no values stand there as members, whatever is behind them
 pub record RefusesRow {V : Type 0} (members : V → Trees) (ss : Shapes) (old new : State) (e : Asn1DerError) : Type 0 where
   pub fails : Fails old new e
-  pub none : IsJudged old new e → (v : V) → AreOf ss (members v) → AreReadable (members v) → StandBefore old new e (bytes_of (members v)) → ⊥
+  pub none : IsJudged old new e → (v : V) → AreOf ss (members v) → AreReadable (members v) → AreInOrder old.sets (encodings (members v))
+      → StandBefore old new e (bytes_of (members v)) → ⊥
 
 -- all members up to the end were read
 pub record ReadsAll {V : Type 0} (meaning : V → Tree) (s : Shape) (old new : State) (vs : List V) : Type 0 where
   pub of_shape : EachIs (IsOf s) (trees (map meaning vs))
   pub readable : AreReadable (trees (map meaning vs))
-  pub takes : Takes old new (bytes_of (trees (map meaning vs)))
+  pub order : AreInOrder old.sets (encodings (trees (map meaning vs)))
+  pub takes : Takes (unordered old) (unordered new) (bytes_of (trees (map meaning vs)))
   pub direct : new.direct ≡ None
   pub reached : new.room ≡ 0
 
 -- no values stand there as members up to the end, as many as there may be
 pub record RefusesAll {V : Type 0} (meaning : V → Tree) (s : Shape) (old new : State) (e : Asn1DerError) : Type 0 where
   pub fails : Fails old new e
-  pub none : IsJudged old new e → (vs : List V) → EachIs (IsOf s) (trees (map meaning vs)) → AreReadable (trees (map meaning vs)) → StandUpToEnd old new e (bytes_of (trees (map meaning vs))) → ⊥
+  pub none : IsJudged old new e → (vs : List V) → EachIs (IsOf s) (trees (map meaning vs)) → AreReadable (trees (map meaning vs)) → AreInOrder old.sets (encodings (trees (map meaning vs)))
+      → StandUpToEnd old new e (bytes_of (trees (map meaning vs))) → ⊥

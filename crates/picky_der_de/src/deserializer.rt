@@ -10,6 +10,7 @@ mod enclosure;
 mod ends;
 mod octets;
 mod options;
+mod order;
 mod peek;
 mod plain;
 mod raw;

@@ -65,7 +65,7 @@ impl<A: Deserialize, B: DeserializeMembers> DeserializeMembers for (A, B) {
 impl<M: DeserializeMembers> Deserialize for Row<M> {
     ghost shape = { Shape.fields ListKind.sequence M.shapes };
 
-    ghost known_by_tree = { λ x y p q r e. M.known_by_trees x.0 y.0 p.1 q.1 r (row_members e) };
+    ghost known_by_tree = { λ x y p q r e. M.known_by_trees x.0 y.0 p.1 q.1 r.1 (row_members e) };
 
     ghost sound = { M.sound };
 

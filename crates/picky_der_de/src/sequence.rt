@@ -28,7 +28,7 @@ impl<'a, R: ReadExt> Sequence<'a, R> {
     ghost use Rattle.picky_der_de.specs.Members.{ReadsMember, RefusesMember, HasNoMore, ReadsAll, RefusesAll};
 
     /// Reads so many bytes from here as members, without a header. Directly under an implicit tag that tag's special
-    /// reading is given up, and its end is the one around this.
+    /// reading is given up, and its end is the one around this. No order of members is tested.
     ///
     /// Where these bytes reach past the innermost end, the deserializer has failed: with `InvalidData` at a hard end,
     /// and `TruncatedData` at a soft one.
@@ -40,7 +40,9 @@ impl<'a, R: ReadExt> Sequence<'a, R> {
         Sequence { de, outer }
     }
 
-    /// The next member, and `None` exactly at the end. A member is refused as its type is.
+    /// The next member, and `None` exactly at the end. A member is refused as its type is. In a set that was begun by
+    /// `deserialize_set` one that was read is refused with `InvalidData` where its encoding is less than the one before it
+    /// (X.690, 11.6), and with `OutOfMemory` where a growth for that test was; no byte behind it is drawn.
     pub fn next_element<T: Deserialize>(&mut self) -> Result<Option<T>>
         ensures same_reference { borrowed_by self.new ≡ borrowed_by self.old }
         ensures outer { outer_of self.new ≡ outer_of self.old }
@@ -52,10 +54,12 @@ impl<'a, R: ReadExt> Sequence<'a, R> {
         if self.de.is_at_end()? {
             return Ok(None);
         }
-        Ok(Some(T::deserialize(self.de)?))
+        let value = T::deserialize(self.de)?;
+        self.de.test_order(&value)?;
+        Ok(Some(value))
     }
 
-    /// The next member. At the end it is refused with `TruncatedData`, and nothing is drawn; else as its type is.
+    /// The next member. At the end it is refused with `TruncatedData`, and nothing is drawn; else as `next_element` refuses it.
     pub fn next_field<T: Deserialize>(&mut self) -> Result<T>
         ensures same_reference { borrowed_by self.new ≡ borrowed_by self.old }
         ensures outer { outer_of self.new ≡ outer_of self.old }
@@ -175,7 +179,7 @@ impl<R: ReadExt> Deserializer<R> {
         self.open(Tag::SEQUENCE)
     }
 
-    /// Begins to read a set, as a sequence is begun.
+    /// Begins to read a set, as a sequence is begun. The order of its members is tested as each is read.
     pub fn deserialize_set(&mut self) -> Result<Sequence<'_, R>>
         ensures* rests { sem 𝓛 (RestsIfErr (the_row R.row R.ReadExt.own R.Read) self.entry borrowed_by result (λ new. IfErr result (RefusesList 0x31 self.old new))) }
         ensures same_reference { IfOk result (λ q. borrowed_by q ≡ self.entry.ghost_name) }

@@ -7,6 +7,8 @@ use Rattle.picky_der_input.specs.declared.end.End.{End}
 use Rattle.picky_der_input.specs.declared.end.End.TheVariants.{Soft}
 use Rattle.picky_der_input.specs.State.{State}
 use Rattle.picky_der_input.specs.Steps.{Takes, Fails, IsJudged, far, is_hard}
+use Rattle.picky_der_input.specs.Order.{order_of, entered, cut_at}
+use Rattle.picky_der_input.proofs.Order.{put_back}
 use Rattle.picky_der_input.specs.Reading.{Concerns, now, ever}
 use Rattle.picky_der_input.specs.Headers.{header_bytes, Begins}
 use Rattle.picky_der_input.specs.Ends.{Outer, innermost, narrowed, Closes, OpensList, list_refusal_in, list_refusal}
@@ -27,7 +29,7 @@ not_refused {tag} {n} {a} {b} i h k =
     ap (list_refusal tag a) f.before ∙ header_not_refused a.direct tag n b.room a (take b.room f.rest) i (fits_below h) h.takes.room h.fits
 
 -- the end of a list was opened behind its header
-pub opens_list : {tag n : ℕ} {a b c : State} {outer : Outer} → IsTagNumber (number_of tag) → Begins tag a b n → c ≡ narrowed b n Soft → outer ≡ innermost b → OpensList tag a c outer
+pub opens_list : {tag n : ℕ} {a b c : State} {outer : Outer} → IsTagNumber (number_of tag) → Begins tag a b n → c ≡ record (narrowed b n Soft) { sets = entered (order_of tag) b.sets } → outer ≡ innermost b → OpensList tag a c outer
 opens_list {n = n} {b = b} i h opened back = record {
   mid = b;
   len = n;
@@ -73,14 +75,14 @@ pub closes_behind : {b c d : State} {n : ℕ} {kind : End} {outer : Outer} {byte
 closes_behind {b} {c} {d} {n} {kind} {outer} {bytes} l back t k =
     let size : length bytes ≡ n = omega (arith, t.room, k.reached) in
     let place : outer.place ≡ b.taken + b.room = ap (λ (o : Outer). o.place) back in
-    let new : State = record c { room = outer.place - c.taken; end = outer.kind; last = outer.last } in
+    let new : State = record c { room = outer.place - c.taken; end = outer.kind; sets = cut_at outer.last c.sets.around } in
     let takes : Takes b new bytes = record {
       input = t.input;
       taken = t.taken;
       room = omega (arith, t.taken, place, size);
       end = ap (λ (o : Outer). o.kind) back;
       limit = t.limit;
-      last = ap (λ (o : Outer). o.last) back;
+      sets = put_back b back t.sets;
       unpeeked = t.unpeeked;
       drawn = t.drawn;
       had_not_failed = t.had_not_failed;

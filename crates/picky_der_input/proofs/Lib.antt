@@ -1,4 +1,5 @@
 pub mod Steps
+pub mod Order
 pub mod ReaderFaults
 pub mod Numbers
 pub mod Contents

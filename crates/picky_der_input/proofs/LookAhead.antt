@@ -30,7 +30,7 @@ missing_no_want {s} (end_is_here z is) h = no_want_at_end s.end (sym is ∙ h)
 missing_no_want (input_ended l z is) h = let q : TruncatedData ≡ OutOfMemory = sym is ∙ h in cc
 
 stopped_same : (old new : State) {e : Asn1DerError} → StopsAt old new e → new ≡ record old { input = new.input; failed = Some (failure_of e); faults = new.faults }
-stopped_same old new {e} s = rw (← s.failed, ← s.peeked, ← s.taken, ← s.room, ← s.end, ← s.direct, ← s.last, ← s.limit, ← s.through) refl
+stopped_same old new {e} s = rw (← s.failed, ← s.peeked, ← s.taken, ← s.room, ← s.end, ← s.direct, ← s.sets, ← s.limit, ← s.through) refl
 
 nothing_there : (d : Option ℕ) (s : State) → d ≡ None → choice_refusal_in d s [] ≡ Some (missing (is_hard s.end) s.room [], [])
 nothing_there None s h = refl

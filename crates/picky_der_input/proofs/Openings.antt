@@ -20,6 +20,7 @@ use Rattle.picky_der_input.proofs.Refusals.{consumed, behind, failed_grows, miss
 use Rattle.picky_der_input.proofs.Known.{front_of, just_taken, kept_known, peeked_kept}
 use Rattle.picky_der_input.proofs.Headers.{header_length}
 use Rattle.picky_der_input.proofs.PlainReads.{just_map}
+use Rattle.picky_der_input.proofs.Order.{put_back}
 use Rattle.picky_der_input.proofs.Ends.{narrowed_judged, widened_fails}
 use Rattle.picky_der_input.proofs.Enclosures.{some_unused, no_unused, unused_cut, unused_other, behind_read, opening_read, opening_refused, opening_unsupported}
 
@@ -97,14 +98,14 @@ just_alike : {refusal : List ℕ → Option Refusal} {a c d : State} {e : Asn1De
 just_alike i t p h = record { left = h.left; refused = h.refused; input = i ∙ h.input; kept = λ q. p ∙ h.kept (sym t ∙ q); used = λ more. p ∙ h.used (omega (arith, more, t)) }
 
 -- what was taken before an opened end was taken before the one around it
-widened_takes : {b c : State} {n : ℕ} {x : List ℕ} → n ≤ b.room → Takes (narrowed b n Hard) c x → Takes b (record c { room = b.room - length x; end = b.end; last = b.last }) x
+widened_takes : {b c : State} {n : ℕ} {x : List ℕ} → n ≤ b.room → Takes (narrowed b n Hard) c x → Takes b (record c { room = b.room - length x; end = b.end; sets = b.sets }) x
 widened_takes l t = record {
   input = t.input;
   taken = t.taken;
   room = omega (arith, t.room, l);
   end = refl;
   limit = t.limit;
-  last = refl;
+  sets = refl;
   unpeeked = t.unpeeked;
   drawn = t.drawn;
   had_not_failed = t.had_not_failed;
@@ -143,7 +144,7 @@ just_unused {w} {a} {c = c} {bs = bs} h counts (count_missing m i t p) k =
     }
 just_unused {w} {a} {c = c} {e = e} h counts (count_other mid x t d is same) k =
     let header = enclosure_tag w ∷ len h.size in
-    let end = record mid { room = h.mid.room - 1; end = h.mid.end; last = h.mid.last } in
+    let end = record mid { room = h.mid.room - 1; end = h.mid.end; sets = h.mid.sets } in
     let some : 0 < h.size = omega (arith, t.room) in
     just_alike (ap (λ (s : State). s.input) same) (ap (λ (s : State). s.taken) same) (ap (λ (s : State). s.peeked) same)
     (just_taken (opening_refusal w a) {c = failed_with end e} (takes_then h.takes (widened_takes h.fits t)) refl k (λ y.
@@ -174,7 +175,7 @@ opening_unused {w} {a} {b} {c} {outer} {e} h counts r =
 same_innermost : {a b : State} {x : List ℕ} → Takes a b x → innermost b ≡ innermost a
 same_innermost {a} {b} t =
     let place : b.taken + b.room ≡ a.taken + a.room = omega (arith, t.taken, t.room) in
-    rw (place, t.end, t.last) refl
+    rw (place, t.end, t.sets) refl
 
 not_refused : {w : Enclosure} {a b c : State} {outer : Outer} {bs : List ℕ} (h : BeginsEnclosure w a b outer) → Takes (narrowed h.mid h.size Hard) c (unused_bits w) → a.input ≡ Some bs → opening_refusal w a (take a.room bs) ≡ None
 not_refused {w} {a} {c = c} h t k =
@@ -195,7 +196,7 @@ opens_enclosure {w} {a} {b} {c} {d} {outer} h taken is =
       room = omega (arith, t.taken, t.room, place, h.fits);
       end = ap (λ (o : Outer). o.kind) h.around;
       limit = t.limit;
-      last = ap (λ (o : Outer). o.last) h.around;
+      sets = put_back h.mid h.around t.sets;
       unpeeked = t.unpeeked;
       drawn = t.drawn;
       had_not_failed = t.had_not_failed;

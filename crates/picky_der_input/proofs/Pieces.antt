@@ -52,7 +52,7 @@ pub record Gives (old new : State) (n : ℕ) (bytes : List ℕ) : Type 0 where
   pub room : new.room ≡ old.room - n
   pub end : new.end ≡ old.end
   pub limit : new.limit ≡ old.limit
-  pub last : new.last ≡ old.last
+  pub sets : new.sets ≡ old.sets
   pub was_unpeeked : old.peeked ≡ None
   pub unpeeked : new.peeked ≡ None
   pub had_not_failed : old.failed ≡ None
@@ -71,7 +71,7 @@ given_taken {old} {new} {n} {bytes} h =
       room = omega (arith, h.room, h.count, h.fits);
       end = h.end;
       limit = h.limit;
-      last = h.last;
+      sets = h.sets;
       unpeeked = h.unpeeked;
       drawn = omega (arith, place, none);
       had_not_failed = h.had_not_failed;

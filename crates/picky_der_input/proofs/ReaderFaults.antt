@@ -38,7 +38,7 @@ pub record StopsAt (old new : State) (e : Asn1DerError) : Type 0 where
   pub room : new.room ≡ old.room
   pub end : new.end ≡ old.end
   pub direct : new.direct ≡ old.direct
-  pub last : new.last ≡ old.last
+  pub sets : new.sets ≡ old.sets
   pub limit : new.limit ≡ old.limit
   pub through : new.through ≡ old.through
 

@@ -16,7 +16,7 @@ takes_then {a} {b} {c} {x} {y} h k = record {
   room = omega (arith, length-append x y);
   end = k.end ∙ h.end;
   limit = k.limit ∙ h.limit;
-  last = k.last ∙ h.last;
+  sets = k.sets ∙ h.sets;
   unpeeked = k.unpeeked;
   drawn = omega (arith, h.drawn, k.drawn);
   had_not_failed = h.had_not_failed;
@@ -33,7 +33,7 @@ takes_none a h p = record {
   room = omega arith;
   end = refl;
   limit = refl;
-  last = refl;
+  sets = refl;
   unpeeked = p;
   drawn = let e : count_of_any a.peeked ≡ 0 = ap count_of_any p in omega (arith, e);
   had_not_failed = h;

@@ -17,6 +17,7 @@ use Rattle.picky_der_input.specs.declared.end.End.TheVariants.{Hard}
 use Rattle.picky_der_input.specs.State.{State}
 use Rattle.picky_der_input.specs.Steps.{Takes, Fails, IsJudged, IsMissing, TakesNoMemory, failed_with, is_hard}
 use Rattle.picky_der_input.specs.Reading.{Reads, Refuses, Tells, AreNotRefused, AreJustRefused}
+use Rattle.picky_der_input.specs.Order.{cut_at}
 use Rattle.picky_der_input.specs.Ends.{Outer, innermost, narrowed, RefusesClose}
 
 -- ---- enclosures
@@ -102,7 +103,7 @@ opening_refusal w s rest = refusal_behind (counts_unused_bits w) (enclosure_head
 
 -- the end around the innermost one was put back
 abbrev pub restored : Outer → State → State
-restored outer s = record s { room = outer.place - s.taken; end = outer.kind; last = outer.last }
+restored outer s = record s { room = outer.place - s.taken; end = outer.kind; sets = cut_at outer.last s.sets.around }
 
 -- the header, and the count of unused bits
 abbrev pub opening : Enclosure → ℕ → List ℕ

@@ -8,29 +8,30 @@ use Rattle.picky_der_input.specs.declared.end.End.{End}
 use Rattle.picky_der_input.specs.declared.end.End.TheVariants.{Soft}
 use Rattle.picky_der_input.specs.State.{State}
 use Rattle.picky_der_input.specs.Steps.{Fails, TakesNoMemory, failed_with, at_end, is_hard}
+use Rattle.picky_der_input.specs.Order.{order_of, entered, place_of, cut_at}
 use Rattle.picky_der_input.specs.Reading.{AreNotRefused}
 use Rattle.picky_der_input.specs.Headers.{Begins, RefusesBegin}
 
--- What is put back where an end is closed: how many bytes are before the end around it, what this is, and what is kept of the
--- members before it.
+-- What is put back where an end is closed: how many bytes are before the end around it, what this is, and, where it is that of
+-- a set, how many bytes are kept before the encoding of its last member.
 pub record Outer : Type 0 where
   pub place : ℕ
   pub kind : End
-  pub last : Option (List ℕ)
+  pub last : Option ℕ
 
 -- the innermost end, to be put back
 abbrev pub innermost : State → Outer
-innermost s = record { place = s.taken + s.room; kind = s.end; last = s.last }
+innermost s = record { place = s.taken + s.room; kind = s.end; last = place_of s.sets }
 
 -- an end of this kind was opened so many bytes from here
 abbrev pub narrowed : State → ℕ → End → State
-narrowed s n kind = record s { room = n; end = kind; last = None }
+narrowed s n kind = record s { room = n; end = kind; sets = entered None s.sets }
 
 -- the end was reached, and the one around it is the innermost again
 pub record Closes (outer : Outer) (old new : State) : Type 0 where
   pub reached : old.room ≡ 0
   pub had_not_failed : old.failed ≡ None
-  pub same : new ≡ record old { room = outer.place - old.taken; end = outer.kind; last = outer.last }
+  pub same : new ≡ record old { room = outer.place - old.taken; end = outer.kind; sets = cut_at outer.last old.sets.around }
 
 -- bytes are left before the end, and none of them was drawn
 pub record RefusesClose (old new : State) (e : Asn1DerError) : Type 0 where
@@ -52,7 +53,7 @@ pub record OpensList (tag : ℕ) (old new : State) (outer : Outer) : Type 0 wher
   pub mid : State
   pub len : ℕ
   pub begins : Begins tag old mid len
-  pub opened : new ≡ narrowed mid len Soft
+  pub opened : new ≡ record (narrowed mid len Soft) { sets = entered (order_of tag) mid.sets }
   pub around : outer ≡ innermost mid
   pub no_refusal : AreNotRefused (list_refusal tag old) old
 
@@ -62,9 +63,10 @@ pub record RefusesList (tag : ℕ) (old new : State) (e : Asn1DerError) : Type 0
   pub memory : TakesNoMemory old new e
 
 -- A soft end was opened so many bytes from here, or it would have been past the innermost end, and then the deserializer has
--- failed. One that had failed is as it was.
+-- failed. One that had failed is as it was. No order of members is tested before that end.
 pub record OpensLazily (len : ℕ) (old new : State) (outer : Outer) : Type 0 where
   pub again : (f : Failure) → old.failed ≡ Some f → new ≡ old
   pub past : old.failed ≡ None → old.room < len → new ≡ failed_with old (at_end old.end)
   pub opened : old.failed ≡ None → len ≤ old.room → new ≡ record (narrowed old len Soft) { direct = None }
-  pub around : outer ≡ innermost old
+  pub around : old.failed ≡ None → len ≤ old.room → outer ≡ innermost old
+  pub place : outer.place ≡ old.taken + old.room

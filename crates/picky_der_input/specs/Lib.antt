@@ -1,5 +1,6 @@
 pub mod State
 pub mod Steps
+pub mod Order
 pub mod Reading
 pub mod Headers
 pub mod Refusing

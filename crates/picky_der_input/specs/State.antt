@@ -1,9 +1,16 @@
 -- What contracts see of a deserializer.
-use Rattle.std.specs.Prelude.{ℕ, List, Option, None}
+use Rattle.std.specs.Prelude.{ℕ, List, [], Option, None}
 use Rattle.picky_der_core.specs.declared.failure.Failure.{Failure}
 use Rattle.picky_der_core.specs.Faults.{Fault}
 use Rattle.picky_der_input.specs.declared.end.End.{End}
 use Rattle.picky_der_input.specs.declared.end.End.TheVariants.{Limit}
+
+-- What is kept of the sets that are open: the encodings of their last members.
+pub record OpenSets : Type 0 where
+  -- where the innermost end is that of a set, the member that was read last, and no bytes before the first one
+  pub last : Option (List ℕ)
+  -- those of the sets around it, one behind the other
+  pub around : List ℕ
 
 pub record State : Type 0 where
   -- what the reader tells of what is left, a peeked byte in front
@@ -17,8 +24,8 @@ pub record State : Type 0 where
   -- how far ahead the innermost end is, and what it is
   pub room : ℕ
   pub end : End
-  -- the encoding of the last member that was read of a set whose end is the innermost one; no call keeps one yet
-  pub last : Option (List ℕ)
+  -- the last members of the sets that are open
+  pub sets : OpenSets
   -- the number of the implicit tag directly under which it stands
   pub direct : Option ℕ
   -- the kind of the error that it has failed with
@@ -37,7 +44,7 @@ fresh input limit faults through = record {
   limit = limit;
   room = limit;
   end = Limit;
-  last = None;
+  sets = record { last = None; around = [] };
   direct = None;
   failed = None;
   faults = faults;

@@ -70,7 +70,7 @@ pub record Takes (old new : State) (bytes : List ℕ) : Type 0 where
   pub room : old.room ≡ length bytes + new.room
   pub end : new.end ≡ old.end
   pub limit : new.limit ≡ old.limit
-  pub last : new.last ≡ old.last
+  pub sets : new.sets ≡ old.sets
   pub unpeeked : new.peeked ≡ None
   -- a peeked byte was the first of them
   pub drawn : drawn old ≤ new.taken

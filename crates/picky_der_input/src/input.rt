@@ -10,6 +10,7 @@ mod enclosure;
 mod ends;
 mod header;
 mod octets;
+mod order;
 mod peek;
 mod plain;
 mod raw;
@@ -36,13 +37,18 @@ pub struct Input<R: ReadExt> {
     limit: usize,
     room: usize,
     end: End,
+    // The encodings of the last members of the sets that are open, one behind the other.
+    kept: Vec<u8>,
+    // Where the innermost end is that of a set, how many of these bytes are before its own.
+    last: Option<usize>,
     direct: Option<u8>,
     failed: Option<Failure>,
 }
 
 impl<R: ReadExt> Model for Input<R> {
-    ghost use Rattle.std.specs.Prelude.{◌+◌, ◌<◌, ◌≤◌, ◌^◌, None};
+    ghost use Rattle.std.specs.Prelude.{◌+◌, ◌<◌, ◌≤◌, ◌^◌, IfSome, length};
     ghost use Rattle.picky_der_input.specs.State.{State};
+    ghost use Rattle.picky_der_input.specs.Order.{cut_at};
     ghost use Rattle.picky_der_core.specs.Peeking.{count_of_any, left_in};
     ghost use Rattle.picky_der_input.specs.Steps.{IsUnpeekedIfDirect, IsTagNumberIfAny};
 
@@ -55,7 +61,7 @@ impl<R: ReadExt> Model for Input<R> {
       limit = d.limit;
       room = d.room;
       end = d.end;
-      last = None;
+      sets = cut_at d.last d.kept.items;
       direct = d.direct;
       failed = d.failed;
       faults = R.faults d.reader.reader;
@@ -64,7 +70,8 @@ impl<R: ReadExt> Model for Input<R> {
 
     // No more is drawn than the limit allows, and no end is past it.
     ghost invariant = { λ d. (d.reader.pos + d.room < 2 ^ 64) × IsUnpeekedIfDirect d.direct d.reader.peeked × IsTagNumberIfAny d.direct
-        × (d.reader.pos + d.room ≤ d.limit) × (d.reader.pos + count_of_any d.reader.peeked ≤ d.limit) };
+        × (d.reader.pos + d.room ≤ d.limit) × (d.reader.pos + count_of_any d.reader.peeked ≤ d.limit)
+        × IfSome d.last (λ place. place ≤ length d.kept.items) };
 }
 
 impl<R: ReadExt> Input<R> {
@@ -78,6 +85,8 @@ impl<R: ReadExt> Input<R> {
             limit: max_len,
             room: max_len,
             end: End::Limit,
+            kept: Vec::new(alloc),
+            last: None,
             direct: None,
             failed: None,
         }
@@ -95,6 +104,8 @@ impl<R: ReadExt> Input<R> {
             limit: _,
             room: _,
             end: _,
+            kept: _,
+            last: _,
             direct: _,
             failed: _,
         } = self;

@@ -15,11 +15,12 @@ use Rattle.picky_der_core.specs.Wrapper.{under}
 use Rattle.picky_der_core.specs.WrapperLaws.{AreAlike, alike-under, der-alike}
 use Rattle.picky_der_ser.specs.declared.header.Header.TheVariants.{Application}
 use Rattle.picky_der_ser.specs.Headers.{headers}
-use Rattle.picky_der_ser.specs.State.{State, Level, with_member}
+use Rattle.picky_der_ser.specs.State.{State, Level, with_member, settled}
 use Rattle.picky_der_ser.specs.Calls.{MemoryExcuse, Writes, Fails, Opens, Gains, Rejects, Ends, Finishes}
 use Rattle.picky_der_ser.proofs.Alike.{writes-alike, fails-alike}
 use Rattle.picky_der_ser.proofs.HeaderBytes.{der-headers}
 use Rattle.picky_der_ser.proofs.ListBytes.{numbers_inside, second_of}
+use Rattle.picky_der_ser.proofs.SetBytes.{settled-uncut}
 use Rattle.picky_der_ser.proofs.Members.{refused_part, writes_whatever, fails_whatever}
 use Rattle.picky_der_ser.proofs.PlainWrites.{past_under, unwritable-by, refused_unwritable}
 
@@ -42,10 +43,10 @@ part_writable ws n t w =
 module _ {W : Type 0} (g : Ghosts W) (n : ℕ) (t : Tree) (old now : State W) (o : Opens g (Application n) old now) where
   -- the level without its member, and with it
   abbrev empty : Level
-  empty = record { header = Application n; around = old.around; content = [] }
+  empty = record { header = Application n; around = old.around; content = []; seams = [] }
 
   abbrev full : Level
-  full = record { header = Application n; around = old.around; content = der t }
+  full = record { header = Application n; around = old.around; content = der t; seams = [] }
 
   pending_at : now.pending ≡ Some empty
   pending_at = ap (λ (s : State W). s.pending) o.opened
@@ -64,9 +65,9 @@ module _ {W : Type 0} (g : Ghosts W) (n : ℕ) (t : Tree) (old now : State W) (o
   ended : (d new : State W) (r : Result ℕ Asn1DerError) → Gains g t now d → Finishes g d r new → Ends g (Application n) (der t) (record old { pending = Some full }) r new
   ended d new r h f =
       let none : old.failed ≡ None = sym failed_at ∙ h.had_not_failed in
-      let at : Ends g (Application n) (der t) (record { sink = old.sink; around = old.around; failed = None; inside = old.inside; pending = Some full }) r new =
-      subst (λ s. IfSome s.pending (λ l. Ends g l.header l.content (record s { around = l.around }) r new)) (gained d h) f.ended in
-      subst (λ e. Ends g (Application n) (der t) (record { sink = old.sink; around = old.around; failed = e; inside = old.inside; pending = Some full }) r new) (sym none) at
+      let at : Ends g (Application n) (settled full) (record { sink = old.sink; around = old.around; failed = None; inside = old.inside; pending = Some full }) r new =
+      subst (λ s. IfSome s.pending (λ l. Ends g l.header (settled l) (record s { around = l.around }) r new)) (gained d h) f.ended in
+      subst (λ e. Ends g (Application n) (der t) (record { sink = old.sink; around = old.around; failed = e; inside = old.inside; pending = Some full }) r new) (sym none) (subst (λ c. Ends g (Application n) c (record { sink = old.sink; around = old.around; failed = None; inside = old.inside; pending = Some full }) r new) (settled-uncut full refl) at)
 
   pub application_wrote : (d new : State W) (r : Result ℕ Asn1DerError) (k : ℕ) → Gains g t now d → Finishes g d r new → r ≡ Ok k → Writes g (Tree.application n t) old k new
   application_wrote d new r k h f e =

@@ -1,5 +1,5 @@
 -- The levels in one list of bytes.
-use Rattle.std.proofs.Common.{◌≡◌, ◌≢◌, ℕ, ◌<◌, ◌≤◌, List, [], ◌∷◌, ◌++◌, length, take, drop, Option, None, Some, sym, ap, ◌∙◌, arith, subst}
+use Rattle.std.proofs.Common.{◌≡◌, ◌≢◌, ℕ, ◌<◌, ◌≤◌, ◌-◌, List, [], ◌∷◌, ◌++◌, length, take, drop, Vec, Global, Option, None, Some, sym, ap, ◌∙◌, arith, subst}
 use Rattle.std.specs.Prelude.{reverse}
 use Rattle.std.proofs.lemmas.Grind.{common_steps}
 use Rattle.std.proofs.lemmas.List.{drop-append-le, take-append-le, length-take-le}
@@ -9,11 +9,13 @@ use Rattle.picky_der_core.specs.Encoding.{der}
 use Rattle.picky_der_core.specs.Wrapper.{under}
 use Rattle.picky_der_ser.specs.Heading.{tree_of}
 use Rattle.picky_der_ser.specs.Marks.{level_at, levels_of, below, level_of, with_pending, IsMark, AreMarks}
+use Rattle.picky_der_ser.specs.Parts.{AreSeams, last_seam, next_seams}
+use Rattle.picky_der_ser.proofs.Seams.{seams-next, last_seam-next}
 
 -- ---- marks within more bytes, and fewer marks
 
 pub mark-more : {m : Mark} {a b : ℕ} → a ≤ b → IsMark m a → IsMark m b
-mark-more h k = record { numbers = k.numbers; number = k.number; room = k.room; within = omega (arith, h, k.within); least = k.least }
+mark-more h k = record { numbers = k.numbers; number = k.number; room = k.room; within = omega (arith, h, k.within); seams = k.seams; least = k.least }
 
 pub marks-more : (ms : List Mark) {a b : ℕ} → a ≤ b → AreMarks ms a → AreMarks ms b
 marks-more [] h k = tt
@@ -22,6 +24,23 @@ marks-more (m ∷ ms) h k = (mark-more h k.0, k.1)
 -- without the first
 pub marks-rest : (m : Mark) (ms : List Mark) {n : ℕ} → AreMarks (m ∷ ms) n → AreMarks ms n
 marks-rest m ms {n} k = let room = k.0.room in let within = k.0.within in marks-more ms (omega (arith, room, within)) k.1
+
+-- another member of the innermost begins where it ends
+pub marks-begun : (m : Mark) (ms : List Mark) (seams : Vec ℕ Global) (n : ℕ) → AreMarks (m ∷ ms) n → seams.items ≡ next_seams m.header m.seams.items (n - m.start)
+    → AreMarks (record m { seams = seams } ∷ ms) n
+marks-begun m ms seams n k e =
+    let within = k.0.within in
+    let held : last_seam 0 m.seams.items ≤ n - m.start = omega (arith, within) in
+    let last = last_seam-next m.header m.seams.items (n - m.start) held in
+    let first : IsMark (record m { seams = seams }) n = record {
+      numbers = k.0.numbers;
+      number = k.0.number;
+      room = k.0.room;
+      within = omega (arith, within, last, ap (last_seam 0) e);
+      seams = subst (AreSeams 0) (sym e) (seams-next m.header m.seams.items (n - m.start) held k.0.seams);
+      least = k.0.least;
+    } in
+    (first, k.1)
 
 pub marks-settled : (p : Option Mark) (ms : List Mark) (n : ℕ) → AreMarks (with_pending p ms) n → AreMarks ms n
 marks-settled None ms n k = k
@@ -41,13 +60,15 @@ some_inside ms s h = let some : 0 < length (reverse ms) = grind (arith, common_s
 pub levels-grown : (ms : List Mark) (s bs : List ℕ) (l : Level) (ls : List Level) → AreMarks ms (length s) → levels_of ms s ≡ l ∷ ls → levels_of ms (s ++ bs) ≡ with_bytes l bs ∷ ls
 levels-grown [] s bs l ls h e = cc
 levels-grown (m ∷ ms) s bs l ls h e =
-    let within = h.0.within in
+    let last = h.0.within in
+    let within : m.start ≤ length s = omega (arith, last) in
     let room = h.0.room in
     let first : level_at m s ≡ l = cc in
     let others : levels_of ms (take m.at s) ≡ ls = cc in
     let header = ap (λ (o : Level). o.header) first in
     let around = ap (λ (o : Level). o.around) first in
     let content = ap (λ (o : Level). o.content) first in
+    let seams = ap (λ (o : Level). o.seams) first in
     let a = drop-append-le m.start s bs within in
     let b = ap (λ x. levels_of ms x) (take-append-le m.at s bs (omega (arith, room, within))) in
     cc

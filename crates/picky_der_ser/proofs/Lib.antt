@@ -10,6 +10,8 @@ pub mod WrapWrites
 pub mod Brought
 pub mod HeaderSizes
 pub mod EntryWrites
+pub mod Seams
+pub mod SetBytes
 pub mod ListBytes
 pub mod Members
 pub mod Items

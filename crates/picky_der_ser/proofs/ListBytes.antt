@@ -1,5 +1,5 @@
 -- The members of a list, and the bytes of these.
-use Rattle.std.proofs.Common.{◌≡◌, ℕ, ◌<◌, ◌≤◌, ◌^◌, Bool, true, false, ◌&&◌, List, [], ◌∷◌, ◌++◌, length, map, refl, sym, ap, ◌∙◌, subst, arith, append-nil, append_assoc, length-append}
+use Rattle.std.proofs.Common.{◌≡◌, ◌<◌, ◌≤◌, ◌^◌, Bool, true, false, ◌&&◌, List, [], ◌∷◌, ◌++◌, length, map, refl, sym, ap, ◌∙◌, subst, arith, length-append}
 use Rattle.std.specs.Prelude.{IsTrue}
 use Rattle.std.specs.List.{concat}
 use Rattle.picky_der_core.specs.declared.asn1.wrapper.Wrapper.{Wrapper}
@@ -7,7 +7,7 @@ use Rattle.picky_der_core.specs.Tree.{ListKind, Tree, Trees, trees}
 use Rattle.picky_der_core.specs.Encoding.{list_content, list_tag, written, encodings, der}
 use Rattle.picky_der_core.specs.Readable.{has_tag_numbers, have_tag_numbers, IsWritable}
 use Rattle.picky_der_core.specs.Wrapper.{under}
-use Rattle.picky_der_core.specs.EncodingLaws.{encodings-trees}
+use Rattle.picky_der_core.specs.EncodingLaws.{encodings-trees, length-list_content}
 use Rattle.picky_der_core.specs.WrapperLaws.{AreAlike, alike-under, der-alike}
 use Rattle.picky_der_ser.specs.declared.header.Header.TheVariants.{Tagged}
 use Rattle.picky_der_ser.specs.Headers.{headers}
@@ -61,22 +61,9 @@ numbers_inside ws t h = by_cases (has_tag_numbers t) refl
 
 -- ---- bytes
 
-members_next : (bs : List (List ℕ)) (b : List ℕ) → concat bs ++ b ≡ concat (bs ++ (b ∷ []))
-members_next [] b = sym (append-nil b)
-members_next (c ∷ bs) b = append_assoc c (concat bs) b ∙ ap (λ l. c ++ l) (members_next bs b)
-
-map_next : (ts : List Tree) (t : Tree) → map der (ts ++ (t ∷ [])) ≡ map der ts ++ (der t ∷ [])
+pub map_next : (ts : List Tree) (t : Tree) → map der (ts ++ (t ∷ [])) ≡ map der ts ++ (der t ∷ [])
 map_next [] t = refl
 map_next (s ∷ ts) t = ap (λ l. der s ∷ l) (map_next ts t)
-
--- the bytes of a member are added behind those of the members before it
-pub content_next : (kind : ListKind) (ts : List Tree) (t : Tree) → list_content kind (map der ts) ++ der t ≡ list_content kind (map der (ts ++ (t ∷ [])))
-content_next ListKind.sequence ts t = members_next (map der ts) (der t) ∙ ap concat (sym (map_next ts t))
-content_next ListKind.set ts t = members_next (map der ts) (der t) ∙ ap concat (sym (map_next ts t))
-
-content_size : (kind : ListKind) (bs : List (List ℕ)) → length (list_content kind bs) ≡ length (concat bs)
-content_size ListKind.sequence bs = refl
-content_size ListKind.set bs = refl
 
 size_at : (ts : List Tree) (t : Tree) (us : Trees) → length (der t) ≤ length (concat (encodings (before ts (Trees.more t us))))
 unfolding der written
@@ -102,4 +89,4 @@ member_writable ws kind ts t us h =
     let front = headers ws (Tagged (list_tag kind)) (length c) in
     let whole : der (under ws (Tree.list kind all)) ≡ front ++ c = sym same ∙ der-headers ws (Tagged (list_tag kind)) c in
     let fits : length (der (under ws (Tree.list kind all))) < 2 ^ 64 = h.fits in
-    record { numbers = numbers_at ts t us numbers; fits = omega (arith, fits, ap length whole, length-append front c, content_size kind (encodings all), size_at ts t us) }
+    record { numbers = numbers_at ts t us numbers; fits = omega (arith, fits, ap length whole, length-append front c, length-list_content kind (encodings all), size_at ts t us) }

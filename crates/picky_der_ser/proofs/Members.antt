@@ -11,18 +11,19 @@ use Rattle.picky_der_core.specs.Readable.{have_tag_numbers, IsWritable}
 use Rattle.picky_der_core.specs.Wrapper.{under}
 use Rattle.picky_der_core.specs.WrapperLaws.{AreAlike}
 use Rattle.picky_der_ser.specs.declared.header.Header.TheVariants.{Tagged}
-use Rattle.picky_der_ser.specs.State.{State, Level, with_member}
+use Rattle.picky_der_ser.specs.State.{State, Level, with_member, with_members, settled}
 use Rattle.picky_der_ser.specs.Sequences.{IsListTag, kind_of}
 use Rattle.picky_der_ser.specs.Calls.{MemoryExcuse, no_room, no_way, RefusedIn, Writes, Fails, Opens, StopsBefore, Gains, Rejects, Ends, Finishes}
 use Rattle.picky_der_ser.proofs.Alike.{writes-alike, fails-alike}
 use Rattle.picky_der_ser.proofs.PlainWrites.{refused_unwritable}
 use Rattle.picky_der_ser.proofs.StateWrites.{refused_memory}
-use Rattle.picky_der_ser.proofs.ListBytes.{before, before_none, before_next, numbers_next, content_next, alike_list, member_writable}
+use Rattle.picky_der_ser.proofs.ListBytes.{before, before_none, before_next, numbers_next, map_next, alike_list, member_writable}
+use Rattle.picky_der_ser.proofs.SetBytes.{list_level, members_header, members_around, members-push, settled-members}
 
 module _ {W : Type 0} where
   -- the list, opened on this serializer, with these members
   abbrev pub level_with : ListKind → List Tree → State W → Level
-  level_with kind ts old = record { header = Tagged (list_tag kind); around = old.around; content = list_content kind (map der ts) }
+  level_with kind ts old = with_members (list_level kind old.around) (map der ts)
 
   abbrev pub opened_with : ListKind → List Tree → State W → State W
   opened_with kind ts old = record { sink = old.sink; around = []; failed = old.failed; inside = old.inside; pending = Some (level_with kind ts old) }
@@ -36,8 +37,7 @@ module _ {W : Type 0} where
 
 module _ {W : Type 0} (g : Ghosts W) where
   pub list_opened : (kind : ListKind) (all : Trees) (old now : State W) → Opens g (Tagged (list_tag kind)) old now → Awaits kind all all old now
-  list_opened ListKind.sequence all old now h = record { done = []; split = refl; numbers = refl; is = h.opened }
-  list_opened ListKind.set all old now h = record { done = []; split = refl; numbers = refl; is = h.opened }
+  list_opened kind all old now h = record { done = []; split = refl; numbers = refl; is = h.opened }
 
   pub list_opened_by : (tag : ℕ) (all : Trees) (old now : State W) → IsListTag tag → Opens g (Tagged tag) old now → Awaits (kind_of tag) all all old now
   list_opened_by tag all old now (inl e) h = rw e (list_opened ListKind.sequence all old now (subst (λ t. Opens g (Tagged t) old now) e h))
@@ -52,7 +52,7 @@ module _ {W : Type 0} (g : Ghosts W) where
       let sink : now.sink ≡ old.sink = ap (λ (s : State W). s.sink) a.is in
       let failed : None ≡ old.failed = sym h.had_not_failed ∙ ap (λ (s : State W). s.failed) a.is in
       let inside : now.inside ≡ old.inside = ap (λ (s : State W). s.inside) a.is in
-      let next = content_next kind a.done t in
+      let next : level_with kind (a.done ++ (t ∷ [])) old ≡ with_member l (der t) = ap (with_members (list_level kind old.around)) (map_next a.done t) ∙ members-push (list_level kind old.around) (map der a.done) (der t) in
       record { done = a.done ++ (t ∷ []); split = a.split ∙ before_next a.done t rest; numbers = numbers_next a.done t a.numbers h.writable.numbers; is = cc }
 
   -- ---- errors
@@ -101,7 +101,14 @@ module _ {W : Type 0} (g : Ghosts W) where
   ended : (kind : ListKind) (all : Trees) (old now new : State W) (r : Result ℕ Asn1DerError) → Finishes g now r new → (a : Awaits kind Trees.none all old now)
       → Ends g (Tagged (list_tag kind)) (list_content kind (map der a.done)) (record old { pending = Some (level_with kind a.done old) }) r new
   ended kind all old now new r h a =
-      subst (λ s. IfSome s.pending (λ l. Ends g l.header l.content (record s { around = l.around }) r new)) a.is h.ended
+      let l = level_with kind a.done old in
+      let empty = list_level kind old.around in
+      let bs = map der a.done in
+      let whole : Ends g l.header (settled l) (record (opened_with kind a.done old) { around = l.around }) r new =
+      subst (λ s. IfSome s.pending (λ m. Ends g m.header (settled m) (record s { around = m.around }) r new)) a.is h.ended in
+      let headed = subst (λ x. Ends g x (settled l) (record (opened_with kind a.done old) { around = l.around }) r new) (members_header empty bs) whole in
+      let wrapped = subst (λ x. Ends g (Tagged (list_tag kind)) (settled l) (record (opened_with kind a.done old) { around = x }) r new) (members_around empty bs) headed in
+      subst (λ c. Ends g (Tagged (list_tag kind)) c (record old { pending = Some l }) r new) (settled-members kind old.around bs) wrapped
 
   same_list : (kind : ListKind) (all : Trees) (old now : State W) (a : Awaits kind Trees.none all old now) → AreAlike (Tree.bytes (list_tag kind) (list_content kind (map der a.done))) (Tree.list kind all)
   same_list kind all old now a =

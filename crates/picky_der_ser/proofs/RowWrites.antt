@@ -1,7 +1,6 @@
 -- The members of a row, added to a list that is being written.
-use Rattle.std.proofs.Common.{◌≡◌, List, [], ◌∷◌, ◌++◌, Option, None, Some, refl, sym, ap, ◌∙◌, subst, Result, Ok, Err, IfErr, append-nil, append_assoc}
+use Rattle.std.proofs.Common.{◌≡◌, List, [], ◌∷◌, ◌++◌, Option, None, Some, refl, sym, ap, ◌∙◌, subst, Result, Ok, Err, IfErr}
 use Rattle.std.specs.Prelude.{IfSome, IfNone, IsSome, OnOk}
-use Rattle.std.specs.List.{concat}
 use Rattle.picky_der_core.specs.declared.failure.Failure.{Failure}
 use Rattle.picky_der_core.specs.declared.misc.writer.WriteExt.{Ghosts}
 use Rattle.picky_der_core.specs.declared.error.Asn1DerError.{Asn1DerError}
@@ -19,11 +18,11 @@ use Rattle.picky_der_ser.proofs.Members.{Awaits, level_with, list_gained, list_s
 -- a member, and those behind it
 members_behind : (l : Level) (t : Tree) (ts : Trees) → with_members (with_member l (der t)) (encodings ts) ≡ with_members l (encodings (Trees.more t ts))
 unfolding der written
-members_behind l t ts = ap (λ c. record l { content = c }) (append_assoc l.content (der t) (concat (encodings ts)))
+members_behind l t ts = refl
 
 one_member : (l : Level) (t : Tree) → with_members l (encodings (Trees.more t Trees.none)) ≡ with_member l (der t)
 unfolding der written
-one_member l t = ap (λ c. record l { content = l.content ++ c }) (append-nil (der t))
+one_member l t = refl
 
 -- a list is written only if those of its members are that stand behind others
 members_writable : (ws : List Wrapper) (kind : ListKind) (ts : List Tree) (us : Trees) → IsWritable (under ws (Tree.list kind (before ts us))) → AreWritable us

@@ -15,7 +15,7 @@ use Rattle.picky_der_core.specs.Readable.{IsWritable}
 use Rattle.picky_der_core.specs.Wrapper.{under, HasTagNumber}
 use Rattle.picky_der_ser.specs.declared.header.Header.{Header}
 use Rattle.picky_der_ser.specs.Heading.{tree_of}
-use Rattle.picky_der_ser.specs.State.{State, Level, with_bytes, with_member, with_members}
+use Rattle.picky_der_ser.specs.State.{State, Level, with_bytes, with_member, with_members, settled}
 
 -- each of the trees can be written
 abbrev pub AreWritable : Trees → Type 0
@@ -123,7 +123,7 @@ module _ {W : Type 0} (g : Ghosts W) where
 
   -- a level was opened under this header, and took the open wrappers with it
   pub record Opens (header : Header) (old new : State W) : Type 0 where
-    pub opened : new ≡ record { sink = old.sink; around = []; failed = old.failed; inside = old.inside; pending = Some (record { header = header; around = old.around; content = [] }) }
+    pub opened : new ≡ record { sink = old.sink; around = []; failed = old.failed; inside = old.inside; pending = Some (record { header = header; around = old.around; content = []; seams = [] }) }
 
   -- the tree was added as a member to the level that was opened last
   pub record Gains (t : Tree) (old new : State W) : Type 0 where
@@ -175,7 +175,7 @@ module _ {W : Type 0} (g : Ghosts W) where
 
   -- the level that was opened last has ended
   pub record Finishes (old : State W) (r : Result ℕ Asn1DerError) (new : State W) : Type 0 where
-    pub ended : IfSome old.pending (λ l. Ends l.header l.content (record old { around = l.around }) r new)
+    pub ended : IfSome old.pending (λ l. Ends l.header (settled l) (record old { around = l.around }) r new)
     pub again : IfSome old.failed (λ f. AnswersAgain old.sink f r new)
 
   -- ---- wrappers

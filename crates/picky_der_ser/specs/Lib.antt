@@ -1,5 +1,6 @@
 pub mod Heading
 pub mod Headers
+pub mod Parts
 pub mod Marks
 pub mod Overwrite
 pub mod State

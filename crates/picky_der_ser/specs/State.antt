@@ -1,41 +1,58 @@
 -- What a serializer is to its callers.
-use Rattle.std.specs.Prelude.{ℕ, List, ◌++◌, Option, refl}
+use Rattle.std.specs.Prelude.{ℕ, List, [], ◌∷◌, ◌++◌, length, Option, refl}
 use Rattle.std.specs.List.{concat}
 use Rattle.std.specs.Coded.{Coded, code_by, coded×, coded_list, coded_option, coded_ℕ}
+use Rattle.picky_der_core.specs.Order.{arranged}
 use Rattle.picky_der_core.specs.declared.failure.Failure.{Failure}
 use Rattle.picky_der_core.specs.contracts.failure.Failure as failure
 use Rattle.picky_der_core.specs.declared.asn1.wrapper.Wrapper.{Wrapper}
 use Rattle.picky_der_core.specs.contracts.asn1.wrapper.Wrapper as wrapper
 use Rattle.picky_der_ser.specs.declared.header.Header.{Header}
 use Rattle.picky_der_ser.specs.contracts.header.Header as header
+use Rattle.picky_der_ser.specs.Parts.{parts, next_seams}
 
 -- a level: a sequence, set or application tag that is open
 pub record Level : Type 0 where
   pub header : Header
   -- the wrappers around it, outermost first
   pub around : List Wrapper
-  -- the encodings of its members so far
+  -- the encodings of its members so far, as they were given
   pub content : List ℕ
+  -- of a set, how many bytes of the content stand in front of each member but the first
+  pub seams : List ℕ
 
 abbrev pub level_code : Coded Level
 level_code =
-    code_by (Header × (List Wrapper × List ℕ))
-    (coded× header.the_row.coded (coded× (coded_list wrapper.the_row.coded) (coded_list coded_ℕ)))
-    (λ l. (l.header, (l.around, l.content)))
-    (λ p. record { header = p.0; around = p.1.0; content = p.1.1 })
+    code_by (Header × (List Wrapper × (List ℕ × List ℕ)))
+    (coded× header.the_row.coded (coded× (coded_list wrapper.the_row.coded) (coded× (coded_list coded_ℕ) (coded_list coded_ℕ))))
+    (λ l. (l.header, (l.around, (l.content, l.seams))))
+    (λ p. record { header = p.0; around = p.1.0; content = p.1.1.0; seams = p.1.1.1 })
     (λ _. refl)
 
 -- a level whose innermost member grew by these bytes
 abbrev pub with_bytes : Level → List ℕ → Level
 with_bytes l bs = record l { content = l.content ++ bs }
 
+-- a level of which another member begins
+abbrev pub begun : Level → Level
+begun l = record l { seams = next_seams l.header l.seams (length l.content) }
+
 -- a level with one member more, by its encoding
 abbrev pub with_member : Level → List ℕ → Level
-with_member l bs = with_bytes l bs
+with_member l bs = with_bytes (begun l) bs
 
 -- a level with more members, by their encodings
 abbrev pub with_members : Level → List (List ℕ) → Level
-with_members l members = with_bytes l (concat members)
+with_members l [] = l
+with_members l (b ∷ members) = with_members (with_member l b) members
+
+-- what is written of a level: its content, of a set with the members in ascending order (X.690, 11.6)
+abbrev pub settled : Level → List ℕ
+settled l = concat (arranged (parts l.seams l.content))
+
+-- the level once its content is that
+abbrev pub in_order : Level → Level
+in_order l = record l { content = settled l; seams = [] }
 
 -- the levels of a serializer: those of which a member is being written, innermost first, and the one that was opened last, until
 -- it ends or another call is made

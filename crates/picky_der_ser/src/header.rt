@@ -1,4 +1,6 @@
 //! Headers of contents that are being written.
+ghost use Rattle.std.specs.Prelude.{◌≡◌};
+ghost use Rattle.picky_der_ser.specs.Heading.{is_set};
 
 use picky_der_core::asn1::Tag;
 
@@ -14,4 +16,16 @@ pub enum Header {
 
     /// None: the content stands as it is.
     Raw,
+}
+
+impl Header {
+    // Whether the members of what stands under it are put in order.
+    pub(crate) fn is_set(self) -> bool
+        ensures { result ≡ is_set self }
+    {
+        match self {
+            Header::Tagged(tag) => tag == Tag::SET,
+            Header::Application(_) | Header::Raw => false,
+        }
+    }
 }

@@ -4,22 +4,25 @@ ghost use Rattle.picky_der_core.specs.Encoding.{der};
 ghost use Rattle.picky_der_core.specs.Wrapper.{under};
 ghost use Rattle.picky_der_ser.specs.Heading.{tree_of};
 ghost use Rattle.picky_der_ser.specs.Headers.{headers, HasNumber, HaveTagNumbers};
-ghost use Rattle.picky_der_ser.specs.State.{Level, with_bytes};
+ghost use Rattle.picky_der_ser.specs.State.{Level, with_bytes, begun, in_order};
 
 use crate::Header;
 use crate::enclose::{enclose, push_enclosed};
 use crate::headers::push_headers;
+use crate::sets::{arrange, begin_member};
 use picky_der_core::asn1::Wrapper;
 use std::alloc::{AllocError, Global};
 use std::marker::Model;
 
-// Where a level begins: the room for its headers, and behind it its content.
+// Where a level begins: the room for its headers, and behind it its content. Only a set takes memory for its seams.
 #[derive(Drop)]
 struct Mark {
     header: Header,
     around: Vec<Wrapper>,
     at: usize,
     start: usize,
+    // Of a set, how many bytes of the content stand in front of each member but the first.
+    seams: Vec<usize>,
 }
 
 // The contents of the levels stand one behind the other, the innermost last.
@@ -76,9 +79,9 @@ impl Levels {
     }
 
     // Opens a level, in place of one that was opened and hasn't ended.
-    pub(crate) fn open(&mut self, header: Header, around: Vec<Wrapper>)
+    pub(crate) fn open(&mut self, header: Header, around: Vec<Wrapper>, alloc: Global)
         requires numbers { HaveTagNumbers around.items × HasNumber header }
-        ensures { self.new ≡ record self.old { pending = Some (record { header = header; around = around.items; content = [] }) } }
+        ensures { self.new ≡ record self.old { pending = Some (record { header = header; around = around.items; content = []; seams = [] }) } }
     {
         self.give_up();
         let at = self.scratch.len();
@@ -87,6 +90,7 @@ impl Levels {
             around,
             at,
             start: at,
+            seams: Vec::new(alloc),
         });
     }
 
@@ -105,10 +109,12 @@ impl Levels {
 
     // A member of the level that was opened last is written from here on.
     pub(crate) fn enter(&mut self) -> Result<(), AllocError>
-        ensures { OnOk result (IfSome self.old.pending (λ l. self.new ≡ record { inside = l ∷ self.old.inside; pending = None })) }
+        ensures { OnOk result (IfSome self.old.pending (λ l. self.new ≡ record { inside = begun l ∷ self.old.inside; pending = None })) }
     {
         self.make_room()?;
-        if let Some(mark) = self.pending.take() {
+        if let Some(mut mark) = self.pending.take() {
+            let held = self.scratch.len() - mark.start;
+            begin_member(&mut mark.seams, mark.header, held)?;
             self.marks.push(mark)?;
         }
         Ok(())
@@ -139,6 +145,17 @@ impl Levels {
         let start = self.scratch.len();
         push_enclosed(&mut self.scratch, around, header, content)?;
         Ok(self.scratch.len() - start)
+    }
+
+    // Puts the members of the level that was opened last in ascending order, if it is a set.
+    pub(crate) fn arrange(&mut self, alloc: Global) -> Result<(), AllocError>
+        ensures { OnOk result (IfSome self.old.pending (λ l. self.new ≡ record self.old { pending = Some (in_order l) })) }
+    {
+        if let Some(mark) = &mut self.pending {
+            arrange(&mut self.scratch, mark.start, &mark.seams, alloc)?;
+            mark.seams.clear();
+        }
+        Ok(())
     }
 
     // Puts the headers of the level that was opened last in front of its content, and adds all this to the level around it.

@@ -14,6 +14,7 @@ mod plain;
 mod row;
 mod sequence;
 mod serializer;
+mod sets;
 mod utf8_string;
 
 pub use boolean::Boolean;

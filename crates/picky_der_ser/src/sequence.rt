@@ -55,10 +55,12 @@ impl<'a, W: WriteExt> Sequence<'a, W> {
         self.serialize_element(value)
     }
 
-    /// Writes the members in the wrappers that were open when the sequence began. Answers how many bytes were written, the
-    /// header and those of the wrappers included.
+    /// Writes the members in the wrappers that were open when the sequence began, those of a set in ascending order of
+    /// their encodings (X.690, 11.6), each as often as it was added. Answers how many bytes were written, the header and
+    /// those of the wrappers included.
     ///
-    /// An earlier error is answered again; else `OutOfMemory` where memory is refused, and the sink's fault.
+    /// An earlier error is answered again; else `OutOfMemory` where memory is refused, as that for the order of a set, of
+    /// which nothing is written then; and the sink's fault.
     pub fn end(self) -> Result<usize>
         ensures { Finishes W.WriteExt.own (state_of self.entry) result self.exit.0.now }
     {
@@ -135,7 +137,8 @@ impl<W: WriteExt> Serializer<W> {
         self.begin(Tag::SEQUENCE)
     }
 
-    /// Begins a set in the open wrappers (X.690, 8.11 and 8.12).
+    /// Begins a set in the open wrappers (X.690, 8.11 and 8.12). In whatever order its members are added, they are written
+    /// in ascending order of their encodings (11.6).
     pub fn serialize_set(&mut self) -> Result<Sequence<'_, W>>
         ensures* rests { sem 𝓛 (RestsIfErr (the_row W.row W.WriteExt.own W.Write) self.entry borrowed_by result (λ new. IfErr result (λ e. HadFailed self.old e new))) }
         ensures same_reference { IfOk result (λ q. borrowed_by q ≡ self.entry.ghost_name) }

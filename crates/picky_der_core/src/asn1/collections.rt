@@ -29,7 +29,8 @@ impl<T> From<Vec<T>> for Asn1SequenceOf<T> {
     }
 }
 
-/// A SET OF (X.690, 8.12): values of one type. They keep the order in which they are given.
+/// A SET OF (X.690, 8.12): values of one type. They keep the order in which they are given, and are written in ascending
+/// order of their encodings (11.6).
 #[derive(Debug, Clone, Drop, PartialEq, Eq)]
 pub struct Asn1SetOf<T>(pub Vec<T>);
 

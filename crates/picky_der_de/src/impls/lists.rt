@@ -11,7 +11,7 @@ use picky_der_core::misc::ReadExt;
 impl<T: Deserialize> Deserialize for Vec<T> {
     ghost shape = { Shape.list_of ListKind.sequence T.shape };
 
-    ghost known_by_tree = { λ x y p q r e. list_known T.meaning T.shape T.eq T.known_by_tree x.items y.items p.1 q.1 r e };
+    ghost known_by_tree = { λ x y p q r e. list_known T.meaning T.shape T.eq T.known_by_tree x.items y.items p.1 q.1 r.1 e };
 
     ghost sound = { T.sound };
 
@@ -23,7 +23,7 @@ impl<T: Deserialize> Deserialize for Vec<T> {
 impl<T: Deserialize> Deserialize for Asn1SequenceOf<T> {
     ghost shape = { Shape.list_of ListKind.sequence T.shape };
 
-    ghost known_by_tree = { λ x y p q r e. list_known T.meaning T.shape T.eq T.known_by_tree x.0.items y.0.items p.1 q.1 r e };
+    ghost known_by_tree = { λ x y p q r e. list_known T.meaning T.shape T.eq T.known_by_tree x.0.items y.0.items p.1 q.1 r.1 e };
 
     ghost sound = { T.sound };
 
@@ -35,7 +35,7 @@ impl<T: Deserialize> Deserialize for Asn1SequenceOf<T> {
 impl<T: Deserialize> Deserialize for Asn1SetOf<T> {
     ghost shape = { Shape.list_of ListKind.set T.shape };
 
-    ghost known_by_tree = { λ x y p q r e. list_known T.meaning T.shape T.eq T.known_by_tree x.0.items y.0.items p.1 q.1 r e };
+    ghost known_by_tree = { λ x y p q r e. list_known T.meaning T.shape T.eq T.known_by_tree x.0.items y.0.items p.1 q.1 r.1 e };
 
     ghost sound = { T.sound };
 

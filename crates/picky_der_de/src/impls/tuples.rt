@@ -21,7 +21,7 @@ impl<A: Deserialize> Alike for (A,) {
 impl<A: Deserialize> Deserialize for (A,) {
     ghost shape = { Shape.fields ListKind.sequence (Shapes.more A.shape Shapes.none) };
 
-    ghost known_by_tree = { λ x y p q r e. row_known1 (A.known_by_tree x.0 y.0 p.1.0 q.1.0 r.0) e };
+    ghost known_by_tree = { λ x y p q r e. row_known1 (A.known_by_tree x.0 y.0 p.1.0 q.1.0 r.1.0) e };
 
     ghost sound = { (A.sound, tt) };
 
@@ -43,7 +43,7 @@ impl<A: Deserialize, B: Deserialize> Alike for (A, B) {
 impl<A: Deserialize, B: Deserialize> Deserialize for (A, B) {
     ghost shape = { Shape.fields ListKind.sequence (Shapes.more A.shape (Shapes.more B.shape Shapes.none)) };
 
-    ghost known_by_tree = { λ x y p q r e. row_known2 (A.known_by_tree x.0 y.0 p.1.0 q.1.0 r.0) (B.known_by_tree x.1 y.1 p.1.1.0 q.1.1.0 r.1.0) e };
+    ghost known_by_tree = { λ x y p q r e. row_known2 (A.known_by_tree x.0 y.0 p.1.0 q.1.0 r.1.0) (B.known_by_tree x.1 y.1 p.1.1.0 q.1.1.0 r.1.1.0) e };
 
     ghost sound = { (A.sound, (B.sound, tt)) };
 
@@ -65,7 +65,7 @@ impl<A: Deserialize, B: Deserialize, C: Deserialize> Alike for (A, B, C) {
 impl<A: Deserialize, B: Deserialize, C: Deserialize> Deserialize for (A, B, C) {
     ghost shape = { Shape.fields ListKind.sequence (Shapes.more A.shape (Shapes.more B.shape (Shapes.more C.shape Shapes.none))) };
 
-    ghost known_by_tree = { λ x y p q r e. row_known3 (A.known_by_tree x.0 y.0 p.1.0 q.1.0 r.0) (B.known_by_tree x.1 y.1 p.1.1.0 q.1.1.0 r.1.0) (C.known_by_tree x.2 y.2 p.1.1.1.0 q.1.1.1.0 r.1.1.0) e };
+    ghost known_by_tree = { λ x y p q r e. row_known3 (A.known_by_tree x.0 y.0 p.1.0 q.1.0 r.1.0) (B.known_by_tree x.1 y.1 p.1.1.0 q.1.1.0 r.1.1.0) (C.known_by_tree x.2 y.2 p.1.1.1.0 q.1.1.1.0 r.1.1.1.0) e };
 
     ghost sound = { (A.sound, (B.sound, (C.sound, tt))) };
 
@@ -87,7 +87,7 @@ impl<A: Deserialize, B: Deserialize, C: Deserialize, D: Deserialize> Alike for (
 impl<A: Deserialize, B: Deserialize, C: Deserialize, D: Deserialize> Deserialize for (A, B, C, D) {
     ghost shape = { Shape.fields ListKind.sequence (Shapes.more A.shape (Shapes.more B.shape (Shapes.more C.shape (Shapes.more D.shape Shapes.none)))) };
 
-    ghost known_by_tree = { λ x y p q r e. row_known4 (A.known_by_tree x.0 y.0 p.1.0 q.1.0 r.0) (B.known_by_tree x.1 y.1 p.1.1.0 q.1.1.0 r.1.0) (C.known_by_tree x.2 y.2 p.1.1.1.0 q.1.1.1.0 r.1.1.0) (D.known_by_tree x.3 y.3 p.1.1.1.1.0 q.1.1.1.1.0 r.1.1.1.0) e };
+    ghost known_by_tree = { λ x y p q r e. row_known4 (A.known_by_tree x.0 y.0 p.1.0 q.1.0 r.1.0) (B.known_by_tree x.1 y.1 p.1.1.0 q.1.1.0 r.1.1.0) (C.known_by_tree x.2 y.2 p.1.1.1.0 q.1.1.1.0 r.1.1.1.0) (D.known_by_tree x.3 y.3 p.1.1.1.1.0 q.1.1.1.1.0 r.1.1.1.1.0) e };
 
     ghost sound = { (A.sound, (B.sound, (C.sound, (D.sound, tt)))) };
 

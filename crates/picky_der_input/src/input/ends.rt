@@ -17,15 +17,16 @@ pub struct Outer {
     // How many bytes are taken before it.
     place: usize,
     kind: End,
+    // Where it is a set's, how many bytes are kept before the encoding of its last member.
+    last: Option<usize>,
 }
 
 impl Model for Outer {
-    ghost use Rattle.std.specs.Prelude.{None};
     ghost use Rattle.picky_der_input.specs.Ends.{Outer as OuterEnd};
 
     ghost Value = { OuterEnd };
 
-    ghost view = { λ o. record { place = o.place; kind = o.kind; last = None } };
+    ghost view = { λ o. record { place = o.place; kind = o.kind; last = o.last } };
 }
 
 impl<R: ReadExt> Input<R> {
@@ -39,6 +40,7 @@ impl<R: ReadExt> Input<R> {
         let outer = Outer {
             place: self.reader.pos() + self.room,
             kind: self.end,
+            last: self.last.take(),
         };
         self.room = len;
         self.end = kind;
@@ -46,7 +48,7 @@ impl<R: ReadExt> Input<R> {
     }
 
     /// Takes the header of a sequence or set under this tag, and opens its end. Directly under an implicit tag the header
-    /// was that tag's.
+    /// was that tag's. Of a set the order of the members is tested from here on.
     pub fn open_list(&mut self, tag: Tag) -> Result<Outer>
         requires number { IsTagNumber (number_of tag) }
         ensures ok { IfOk result (λ outer. OpensList tag self.old self.new outer) }
@@ -54,10 +56,13 @@ impl<R: ReadExt> Input<R> {
         ensures err { IfErr result (RefusesList tag self.old self.new) }
     {
         let len = self.begin(tag)?;
-        Ok(self.open_end(len, End::Soft))
+        let outer = self.open_end(len, End::Soft);
+        self.order_members(tag);
+        Ok(outer)
     }
 
-    /// Opens a soft end so many bytes from here. Where that is past the innermost end, it has failed.
+    /// Opens a soft end so many bytes from here, before which no order is tested. Where that is past the innermost end, it
+    /// has failed.
     pub fn open_lazily(&mut self, len: usize) -> Outer
         ensures opened { OpensLazily len self.old self.new result }
         ensures bounded { result.place ≤ self.new.limit }
@@ -72,6 +77,7 @@ impl<R: ReadExt> Input<R> {
         Outer {
             place: self.reader.pos() + self.room,
             kind: self.end,
+            last: self.last,
         }
     }
 
@@ -90,6 +96,7 @@ impl<R: ReadExt> Input<R> {
         }
         self.room = outer.place - self.reader.pos();
         self.end = outer.kind;
+        self.leave_set(outer.last);
         Ok(())
     }
 

@@ -5,7 +5,7 @@ ghost use Rattle.picky_der_core.specs.Failure.{failure_of};
 ghost use Rattle.picky_der_core.specs.Wrapper.{under};
 ghost use Rattle.picky_der_ser.specs.Heading.{tree_of};
 ghost use Rattle.picky_der_ser.specs.Headers.{HasNumber};
-ghost use Rattle.picky_der_ser.specs.State.{Level};
+ghost use Rattle.picky_der_ser.specs.State.{Level, begun};
 ghost use Rattle.picky_der_ser.specs.Calls.{Wrote, Refused, Stops, Opens, Gains, Rejects, Ends, Finishes};
 
 use super::Serializer;
@@ -22,7 +22,7 @@ impl<W: WriteExt> Serializer<W> {
         ensures { Opens W.WriteExt.own header self.old self.new }
     {
         let around = mem::replace(&mut self.around, Vec::new(self.alloc));
-        self.levels.open(header, around);
+        self.levels.open(header, around, self.alloc);
     }
 
     // Writes the headers of the level that was opened last, and this content, to the sink.
@@ -95,7 +95,8 @@ impl<W: WriteExt> Serializer<W> {
         self.settle(outcome)
     }
 
-    // Writes the level that was opened last, in its wrappers.
+    // Writes the level that was opened last, in its wrappers, with the members of a set in order. Where memory is refused for
+    // this order, nothing of the set is written.
     pub(crate) fn close(&mut self) -> Result<usize>
         requires { IfNone self.old.failed (IsSome self.old.pending) }
         ensures { Finishes W.WriteExt.own self.old result self.new }
@@ -103,6 +104,9 @@ impl<W: WriteExt> Serializer<W> {
         if let Some(error) = self.earlier() {
             return Err(error);
         }
+        let Ok(()) = self.levels.arrange(self.alloc) else {
+            return Err(self.fail(Asn1DerError::OutOfMemory));
+        };
         if self.levels.is_inside() {
             return self.close_inside();
         }
@@ -112,7 +116,7 @@ impl<W: WriteExt> Serializer<W> {
     // A member of the level that was opened last is written from here on.
     fn enter(&mut self) -> Result<()>
         requires { IfNone self.old.failed (IsSome self.old.pending) }
-        ensures ok { OnOk result (IfSome self.old.pending (λ l. self.new ≡ record self.old { around = []; inside = l ∷ self.old.inside; pending = None })) }
+        ensures ok { OnOk result (IfSome self.old.pending (λ l. self.new ≡ record self.old { around = []; inside = begun l ∷ self.old.inside; pending = None })) }
         ensures had_not_failed { OnOk result (self.old.failed ≡ None) }
         ensures err { IfErr result (λ e. Stops W.WriteExt.own self.old e self.new) }
     {

@@ -18,7 +18,7 @@ returns-in-Ok-clause-ok g c =
     let some : 0 < c.in-Ok.count = omega (arith, c.in-Ok.count-test.1) in
     rw (← c.self.view_is)
     (given_piece c.read_some.new.buf _
-    (record { input = e.bytes.0; count = sym e.bound.1; fits = fits; small = c.self.invariant.0; taken = e.pos; room = refl; end = refl; limit = refl; last = refl; was_unpeeked = was_unpeeked; unpeeked = e.unpeeked place; had_not_failed = had_not_failed; not_failed = had_not_failed; faults = e.no_fault; through = e.same_references })
+    (record { input = e.bytes.0; count = sym e.bound.1; fits = fits; small = c.self.invariant.0; taken = e.pos; room = refl; end = refl; limit = refl; sets = refl; was_unpeeked = was_unpeeked; unpeeked = e.unpeeked place; had_not_failed = had_not_failed; not_failed = had_not_failed; faults = e.no_fault; through = e.same_references })
     e.bound.0 (λ i. let byte = c.type_inv.piece i in omega arith) some (omega (arith, most, c.min-most.ensures, c.min.ensures)))
 
 pub returns-in-Err-clause-err : goal.returns-in-Err-clause-err
@@ -27,7 +27,7 @@ returns-in-Err-clause-err g c =
     let was_unpeeked : c.self.inside.reader.peeked ≡ None = ap (λ (s : State). s.peeked) c.self.view_is ∙ c.requires.unpeeked in
     let had_not_failed : c.self.inside.failed ≡ None = ap (λ (s : State). s.failed) c.self.view_is ∙ c.requires.had_not_failed in
     rw (← c.self.view_is) (read_fails
-    (record { failed = ap Some c.of.ensures; had_not_failed = had_not_failed; input = e.bytes; unpeeked = was_unpeeked; peeked = e.kept; taken = e.same_pos; room = refl; end = refl; direct = refl; last = refl; limit = refl; through = e.same_references })
+    (record { failed = ap Some c.of.ensures; had_not_failed = had_not_failed; input = e.bytes; unpeeked = was_unpeeked; peeked = e.kept; taken = e.same_pos; room = refl; end = refl; direct = refl; sets = refl; limit = refl; through = e.same_references })
     c.in-Err.e c.from-error.ensures (fault e.fault))
 
 pub returns-in-Err-clause-missing : goal.returns-in-Err-clause-missing

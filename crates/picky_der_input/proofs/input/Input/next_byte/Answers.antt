@@ -7,7 +7,7 @@ returns-in-Err-clause-err g c =
     let e = c.in-Err.ensures in
     let p : c.self.inside.reader.peeked ≡ None = unpeeked_at_error _ _ _ e.peeked in
     rw (← c.self.view_is) (read_fails
-    (record { failed = ap Some c.of.ensures; had_not_failed = rw (← c.self.view_is) at c.in_default.ensures.not_failed; input = e.byte; unpeeked = p; peeked = e.kept; taken = e.same_pos; room = refl; end = refl; direct = refl; last = refl; limit = refl; through = e.same_references })
+    (record { failed = ap Some c.of.ensures; had_not_failed = rw (← c.self.view_is) at c.in_default.ensures.not_failed; input = e.byte; unpeeked = p; peeked = e.kept; taken = e.same_pos; room = refl; end = refl; direct = refl; sets = refl; limit = refl; through = e.same_references })
     c.in-Err.e c.from-error.ensures e.fault)
 
 pub returns-in-Err-clause-missing : goal.returns-in-Err-clause-missing
@@ -15,5 +15,5 @@ returns-in-Err-clause-missing g c =
     let e = c.in-Err.ensures in
     let p : c.self.inside.reader.peeked ≡ None = unpeeked_at_error _ _ _ e.peeked in
     rw (← c.self.view_is) (λ f same. read_missing
-    (record { failed = ap Some c.of.ensures; had_not_failed = rw (← c.self.view_is) at c.in_default.ensures.not_failed; input = e.byte; unpeeked = p; peeked = e.kept; taken = e.same_pos; room = refl; end = refl; direct = refl; last = refl; limit = refl; through = e.same_references })
+    (record { failed = ap Some c.of.ensures; had_not_failed = rw (← c.self.view_is) at c.in_default.ensures.not_failed; input = e.byte; unpeeked = p; peeked = e.kept; taken = e.same_pos; room = refl; end = refl; direct = refl; sets = refl; limit = refl; through = e.same_references })
     c.in-Err.e c.from-error.ensures e.fault (omega arith) same)

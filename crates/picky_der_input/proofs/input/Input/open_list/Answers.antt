@@ -1,5 +1,11 @@
+use Rattle.std.proofs.Common.{◌∙◌, ap}
+use Rattle.picky_der_input.specs.Order.{order_of}
+use Rattle.picky_der_input.specs.State.{State}
 use Rattle.picky_der_input.proofs.Ends.{opens_list}
 use Rattle.picky_der_input.proofs.input.Input.open_list.Goals as goal
 
 pub returns-clause-ok : goal.returns-clause-ok
-returns-clause-ok g c = opens_list c.requires.number c.in_ok-len.ensures.ok c.open_end.ensures.opened c.open_end.ensures.around
+returns-clause-ok g c =
+    let opened = c.open_end-outer.ensures in
+    let is = c.order_members.ensures ∙ ap (λ (s : State). record s { sets = record s.sets { last = order_of c.args.tag } }) opened.opened in
+    opens_list c.requires.number c.in_ok-len.ensures.ok is opened.around

@@ -1,0 +1,82 @@
+//! The order of the members of a set (X.690, 11.6).
+ghost use Rattle.std.specs.Prelude.{◌≡◌, ◌≢◌, ◌≤◌, length, None, ◌↔◌, IsTrue, OnOk, OnErr, IfErr};
+ghost use Rattle.picky_der_input.specs.Order.{order_of, cut_at, with_last, is_out_of_order, Follows, RefusesTest};
+
+use super::Input;
+use picky_der_core::asn1::Tag;
+use picky_der_core::misc::ReadExt;
+use picky_der_core::{Asn1DerError, Result};
+use std::alloc::AllocError;
+
+impl<R: ReadExt> Input<R> {
+    /// Whether the order of members is tested: the innermost end is that of a set.
+    pub fn is_in_set(&self) -> bool
+        ensures { IsTrue result ↔ (self.now.sets.last ≢ None) }
+    {
+        self.last.is_some()
+    }
+
+    // Before the members of a list under this tag: only those of a set have an order that is tested.
+    pub(super) fn order_members(&mut self, tag: Tag)
+        requires { self.old.sets.last ≡ None }
+        ensures { self.new ≡ record self.old { sets = record self.old.sets { last = order_of tag } } }
+    {
+        if tag == Tag::SET {
+            self.last = Some(self.kept.len());
+        }
+    }
+
+    // What is kept of the innermost set is forgotten, and that of the end around it is the innermost again.
+    pub(super) fn leave_set(&mut self, outer: Option<usize>)
+        ensures { self.new ≡ record self.old { sets = cut_at outer self.old.sets.around } }
+    {
+        if let Some(own) = self.last {
+            self.kept.truncate(own);
+        }
+        self.last = match outer {
+            Some(place) => Some(place.min(self.kept.len())),
+            None => None,
+        };
+    }
+
+    // Whether an encoding is less than the last member's, where the order is tested.
+    fn is_out_of_order(&self, member: &[u8]) -> bool
+        ensures { result ≡ is_out_of_order self.now.sets member.now }
+    {
+        match self.last {
+            Some(place) => member.cmp(&self.kept[place..]).is_lt(),
+            None => false,
+        }
+    }
+
+    // Keeps the encoding of a member in place of that of the one before it, where the order is tested. Without room for both
+    // nothing changes.
+    fn keep_last(&mut self, member: &[u8]) -> std::result::Result<(), AllocError>
+        ensures ok { OnOk result (self.new ≡ record self.old { sets = with_last self.old.sets member.now }) }
+        ensures err { OnErr result ((self.new ≡ self.old) × (self.old.sets.last ≢ None)) }
+    {
+        if let Some(place) = self.last {
+            self.kept.reserve(member.len())?;
+            self.kept.truncate(place);
+            self.kept.extend_from_slice(member)?;
+        }
+        Ok(())
+    }
+
+    /// Keeps the encoding of a member that was read, where the order is tested.
+    ///
+    /// `InvalidData` where it is less than the one before it; else `OutOfMemory`.
+    pub fn follow(&mut self, member: &[u8]) -> Result<()>
+        requires { self.old.failed ≡ None }
+        ensures ok { OnOk result (Follows member.now self.old self.new) }
+        ensures err { IfErr result (RefusesTest member.now self.old self.new) }
+    {
+        if self.is_out_of_order(member) {
+            return Err(self.fail(Asn1DerError::InvalidData));
+        }
+        if self.keep_last(member).is_err() {
+            return Err(self.fail(Asn1DerError::OutOfMemory));
+        }
+        Ok(())
+    }
+}

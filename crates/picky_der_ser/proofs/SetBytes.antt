@@ -1,0 +1,117 @@
+-- What a level holds, put in order: the content of the list that is being written.
+use Rattle.std.proofs.Common.{◌≡◌, ℕ, ◌≤◌, true, false, ◌&&◌, cond, nat_lt, List, [], ◌∷◌, ◌++◌, length, refl, sym, ap, ◌∙◌, subst, arith, append-nil, append_assoc, length-append}
+use Rattle.std.specs.List.{concat}
+use Rattle.std.proofs.lemmas.Bool.{lt-ltb}
+use Rattle.picky_der_core.specs.declared.asn1.wrapper.Wrapper.{Wrapper}
+use Rattle.picky_der_core.specs.Tree.{ListKind}
+use Rattle.picky_der_core.specs.Encoding.{list_content, list_tag}
+use Rattle.picky_der_core.specs.Order.{arranged}
+use Rattle.picky_der_core.specs.OrderLaws.{without_empty, arranged-without_empty}
+use Rattle.picky_der_ser.specs.declared.header.Header.{Header}
+use Rattle.picky_der_ser.specs.declared.header.Header.TheVariants.{Tagged}
+use Rattle.picky_der_ser.specs.Heading.{is_set}
+use Rattle.picky_der_ser.specs.Parts.{parts, AreSeams, last_seam, next_seams}
+use Rattle.picky_der_ser.specs.State.{Level, with_member, with_members, settled}
+use Rattle.picky_der_ser.proofs.Seams.{last_seam-push, seams-push, parts-push, arranged-uncut}
+
+-- what isn't cut stays as it is
+pub settled-uncut : (l : Level) → l.seams ≡ [] → settled l ≡ l.content
+settled-uncut l e = arranged-uncut l.seams l.content (ap length e)
+
+-- ---- members of a set: those that aren't empty are the parts of the content that aren't
+
+record Holds (seams content : List ℕ) (members : List (List ℕ)) : Type 0 where
+  pub ascending : AreSeams 0 seams
+  pub within : last_seam 0 seams ≤ length content
+  pub first : content ≡ [] → seams ≡ []
+  pub same : without_empty (parts seams content) ≡ without_empty members
+
+without_empty-append : (xs ys : List (List ℕ)) → without_empty (xs ++ ys) ≡ without_empty xs ++ without_empty ys
+without_empty-append [] ys = refl
+without_empty-append ([] ∷ xs) ys = without_empty-append xs ys
+without_empty-append ((b ∷ a) ∷ xs) ys = ap (λ l. (b ∷ a) ∷ l) (without_empty-append xs ys)
+
+holds_first : (b : List ℕ) (members : List (List ℕ)) → without_empty members ≡ [] → Holds [] b (members ++ (b ∷ []))
+holds_first b members none = record {
+  ascending = tt;
+  within = omega arith;
+  first = λ _. refl;
+  same = ap (λ l. l ++ without_empty (b ∷ [])) (sym none) ∙ sym (without_empty-append members (b ∷ []));
+}
+
+holds_more : (x : ℕ) (ss c b : List ℕ) (members : List (List ℕ)) → Holds ss (x ∷ c) members
+    → Holds (ss ++ (length (x ∷ c) ∷ [])) (x ∷ c ++ b) (members ++ (b ∷ []))
+holds_more x ss c b members h =
+    let last = last_seam-push 0 ss (length (x ∷ c)) in
+    let size = length-append (x ∷ c) b in
+    record {
+      ascending = seams-push 0 ss (length (x ∷ c)) h.within h.ascending;
+      within = omega (arith, last, size);
+      first = λ e. cc;
+      same = ap without_empty (parts-push 0 ss (x ∷ c) b h.ascending h.within) ∙ without_empty-append (parts ss (x ∷ c)) (b ∷ [])
+          ∙ ap (λ l. l ++ without_empty (b ∷ [])) h.same ∙ sym (without_empty-append members (b ∷ []));
+    }
+
+holds_next : (header : Header) (ss c b : List ℕ) (members : List (List ℕ)) → is_set header ≡ true → Holds ss c members
+    → Holds (next_seams header ss (length c)) (c ++ b) (members ++ (b ∷ []))
+holds_next header ss [] b members e h =
+    let none = h.first refl in
+    let seams : next_seams header ss 0 ≡ [] = ap (λ t. cond (t && nat_lt 0 0) (ss ++ (0 ∷ [])) ss) e ∙ none in
+    let empty : without_empty members ≡ [] = sym h.same ∙ ap (λ l. without_empty (parts l [])) none in
+    subst (λ l. Holds l b (members ++ (b ∷ []))) (sym seams) (holds_first b members empty)
+holds_next header ss (x ∷ c) b members e h =
+    let n = length (x ∷ c) in
+    let more = ap (λ t. cond t (ss ++ (n ∷ [])) ss) (lt-ltb 0 n (omega arith)) in
+    let seams : next_seams header ss n ≡ ss ++ (n ∷ []) = ap (λ t. cond (t && nat_lt 0 n) (ss ++ (n ∷ [])) ss) e ∙ more in
+    subst (λ l. Holds l (x ∷ c ++ b) (members ++ (b ∷ []))) (sym seams) (holds_more x ss c b members h)
+
+holds_all : (l : Level) (members bs : List (List ℕ)) → is_set l.header ≡ true → Holds l.seams l.content members
+    → let m = with_members l bs in Holds m.seams m.content (members ++ bs)
+holds_all l members [] e h = subst (Holds l.seams l.content) (sym (append-nil members)) h
+holds_all l members (b ∷ bs) e h =
+    let m = with_members l (b ∷ bs) in
+    let next = holds_next l.header l.seams l.content b members e h in
+    subst (Holds m.seams m.content) (append_assoc members (b ∷ []) bs) (holds_all (with_member l b) (members ++ (b ∷ [])) bs e next)
+
+-- ---- members of a level that isn't cut
+
+uncut_seams : (l : Level) (bs : List (List ℕ)) → is_set l.header ≡ false → (with_members l bs).seams ≡ l.seams
+uncut_seams l [] e = refl
+uncut_seams l (b ∷ bs) e =
+    let n = length l.content in
+    uncut_seams (with_member l b) bs e ∙ ap (λ t. cond (t && nat_lt 0 n) (l.seams ++ (n ∷ [])) l.seams) e
+
+members_content : (l : Level) (bs : List (List ℕ)) → (with_members l bs).content ≡ l.content ++ concat bs
+members_content l [] = sym (append-nil l.content)
+members_content l (b ∷ bs) = members_content (with_member l b) bs ∙ append_assoc l.content b (concat bs)
+
+-- ---- the level of a list
+
+abbrev pub list_level : ListKind → List Wrapper → Level
+list_level kind around = record { header = Tagged (list_tag kind); around = around; content = []; seams = [] }
+
+pub members_header : (l : Level) (bs : List (List ℕ)) → (with_members l bs).header ≡ l.header
+members_header l [] = refl
+members_header l (b ∷ bs) = members_header (with_member l b) bs
+
+pub members_around : (l : Level) (bs : List (List ℕ)) → (with_members l bs).around ≡ l.around
+members_around l [] = refl
+members_around l (b ∷ bs) = members_around (with_member l b) bs
+
+-- one behind the others
+pub members-push : (l : Level) (bs : List (List ℕ)) (b : List ℕ) → with_members l (bs ++ (b ∷ [])) ≡ with_member (with_members l bs) b
+members-push l [] b = refl
+members-push l (c ∷ bs) b = members-push (with_member l c) bs b
+
+-- with its members it is settled to the content of the list
+pub settled-members : (kind : ListKind) (around : List Wrapper) (bs : List (List ℕ))
+    → settled (with_members (list_level kind around) bs) ≡ list_content kind bs
+settled-members ListKind.sequence around bs =
+    let l = list_level ListKind.sequence around in
+    settled-uncut (with_members l bs) (uncut_seams l bs refl) ∙ members_content l bs
+settled-members ListKind.set around bs =
+    let l = list_level ListKind.set around in
+    let m = with_members l bs in
+    let start : Holds [] [] [] = record { ascending = tt; within = omega arith; first = λ _. refl; same = refl } in
+    let all = holds_all l [] bs refl start in
+    arranged-without_empty (parts m.seams m.content) ∙ ap (λ x. concat (arranged x)) all.same ∙ sym (arranged-without_empty bs)

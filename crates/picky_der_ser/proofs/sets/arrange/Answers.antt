@@ -1,0 +1,28 @@
+use Rattle.std.proofs.Common.{◌≡◌, ◌++◌, length, take, drop, ap, sym, ◌∙◌, arith}
+use Rattle.std.proofs.lemmas.Bool.Decides.{nat_tests}
+use Rattle.std.specs.List.{between, concat}
+use Rattle.std.proofs.lemmas.List.{take-append-drop, length-drop}
+use Rattle.std.proofs.lemmas.Slice.{between_to_end}
+use Rattle.picky_der_core.specs.Order.{arranged}
+use Rattle.picky_der_ser.specs.Parts.{parts}
+use Rattle.picky_der_ser.proofs.Seams.{arranged-uncut, length-arranged_parts}
+use Rattle.picky_der_ser.proofs.sets.arrange.Goals as goal
+
+pub returns-then-is_empty-clause-ok : goal.returns-then-is_empty-clause-ok
+returns-then-is_empty-clause-ok c =
+    let s = c.args.out.now.items in
+    let n = c.args.start in
+    let none : length c.args.seams.now ≡ 0 = grind (arith, nat_tests) in
+    sym (ap (λ x. take n s ++ x) (arranged-uncut c.args.seams.now (drop n s) none) ∙ take-append-drop n s)
+
+pub copy_from_slice-requires : goal.copy_from_slice-requires
+copy_from_slice-requires c =
+    let s = c.args.out.now.items in
+    let n = c.args.start in
+    let ss = c.args.seams.now in
+    let to_end : between n (length s) s ≡ drop n s = between_to_end s n (length s) (omega arith) in
+    let content = ap (λ r. between n (length r) r) c.deref.ensures.value ∙ to_end in
+    let is : c.in_ok-members.members.items ≡ concat (arranged (parts ss (drop n s))) = c.in_ok-members.ensures ∙ ap (λ x. concat (arranged (parts ss x))) content in
+    let size = length-arranged_parts ss (drop n s) c.requires.ascending (omega (arith, c.requires.within, length-drop n s)) in
+    let same : length (between n (length s) s) ≡ length c.in_ok-members.members.items = ap length to_end ∙ sym (ap length is ∙ size) in
+    ap (λ r. length (between n (length r) r)) c.deref_mut.ensures.value ∙ same ∙ sym (ap length c.deref-2.ensures.value)
