@@ -5,7 +5,7 @@ use crate::kept::Kept;
 use crate::nested_tags::{FourTags, SixteenTags};
 use crate::seen::Seen;
 use der_examples::{Marker, Moment, Named, NumberOrFlag, Point, Tagged, Track, Version};
-use der_tool_lib::TestStruct;
+use der_tool_lib::{AlgorithmIdentifier, SubjectPublicKeyInfo, TestStruct};
 use picky_asn1_der::asn1::{ExplicitContextTag0, ImplicitContextTag1};
 use std::alloc::{AllocError, Global};
 
@@ -13,6 +13,10 @@ use std::alloc::{AllocError, Global};
 pub(crate) fn answer(alloc: Global, name: &str, input: &Input) -> Result<String, AllocError> {
     match name {
         "TestStruct" => read_as::<TestStruct>(alloc, input),
+        "SubjectPublicKeyInfo" => read_as::<SubjectPublicKeyInfo>(alloc, input),
+        "ImplicitContextTag1<AlgorithmIdentifier>" => {
+            read_as::<ImplicitContextTag1<AlgorithmIdentifier>>(alloc, input)
+        }
         "NumberOrFlag" => read_as::<NumberOrFlag>(alloc, input),
         "Point" => read_as::<Point>(alloc, input),
         "Moment" => read_as::<Moment>(alloc, input),

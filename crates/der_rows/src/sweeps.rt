@@ -5,7 +5,7 @@ use crate::devices::{fault_kind, refusal_named};
 use crate::runs::in_runs;
 use der_examples::NumberOrFlag;
 use der_fixtures::{FailingReader, FailingWriter, Refusal, text_of};
-use der_tool_lib::TestStruct;
+use der_tool_lib::{SubjectPublicKeyInfo, TestStruct};
 use picky_asn1_der::asn1::{Asn1SetOf, BitStringAsn1Container, ByteBuf, ExplicitContextTag0};
 use picky_asn1_der::de::DEFAULT_MAX_LEN;
 use picky_asn1_der::misc::Watched;
@@ -64,6 +64,7 @@ pub(crate) fn answer(
         >(alloc, sweep, encoding),
         "NumberOrFlag" => answer_as::<NumberOrFlag>(alloc, sweep, encoding),
         "TestStruct" => answer_as::<TestStruct>(alloc, sweep, encoding),
+        "SubjectPublicKeyInfo" => answer_as::<SubjectPublicKeyInfo>(alloc, sweep, encoding),
         _ => String::from_str(alloc, "unknown type"),
     }
 }

@@ -3,7 +3,7 @@
 use crate::answers::{Writing, written};
 use crate::hand_written::{Littering, Untouched};
 use der_examples::NumberOrFlag;
-use der_tool_lib::TestStruct;
+use der_tool_lib::{AlgorithmIdentifier, SubjectPublicKeyInfo, TestStruct};
 use picky_asn1_der::Asn1RawDer;
 use picky_asn1_der::application_tag::ApplicationTag;
 use picky_asn1_der::asn1::{
@@ -29,6 +29,20 @@ pub(crate) fn answer(alloc: Global, how: Writing, name: &str) -> Result<String, 
         }
         "TestStruct { number: 7, vec: ByteBuf(b\"Testolope\"), tuple: (4, ()) }" => {
             written(alloc, how, &testolope(alloc)?)
+        }
+        "SubjectPublicKeyInfo { algorithm: AlgorithmIdentifier { algorithm: [42], parameters: None }, subject_public_key: [0, 7] }" =>
+            {
+                let key = SubjectPublicKeyInfo {
+                    algorithm: identifier(alloc, None)?,
+                    subject_public_key: TaggedBytes(Vec::from_slice(alloc, &[0, 7])?),
+                };
+                written(alloc, how, &key)
+            }
+        "AlgorithmIdentifier { algorithm: [42], parameters: Some([5, 0, 5, 0]) }" => {
+            written(alloc, how, &identifier(alloc, Some(&[5, 0, 5, 0]))?)
+        }
+        "AlgorithmIdentifier { algorithm: [42], parameters: Some([]) }" => {
+            written(alloc, how, &identifier(alloc, Some(&[]))?)
         }
         "ImplicitContextTag1(Untouched)" => {
             written(alloc, how, &ImplicitContextTag1::from(Untouched))
@@ -77,6 +91,16 @@ fn testolope(alloc: Global) -> Result<TestStruct, AllocError> {
         number: 7,
         vec: ByteBuf(Vec::from_slice(alloc, b"Testolope")?),
         tuple: (4, ()),
+    })
+}
+
+fn identifier(alloc: Global, parameters: Option<&[u8]>) -> Result<AlgorithmIdentifier, AllocError> {
+    Ok(AlgorithmIdentifier {
+        algorithm: TaggedBytes(Vec::from_slice(alloc, &[42])?),
+        parameters: match parameters {
+            Some(bytes) => Some(Asn1RawDer(Vec::from_slice(alloc, bytes)?)),
+            None => None,
+        },
     })
 }
 

@@ -1,19 +1,23 @@
 -- What the reads of the types that lines name tell of answers.
-use Rattle.std.proofs.Common.{◌≡◌, ◌≢◌, ℕ, ◌+◌, ◌-◌, ◌^◌, ◌≤◌, false, List, [], ◌++◌, length, take, drop, codes, decimal, Option, Some, None, refl, sym, ◌∙◌, ap, subst, arith, append-nil}
+use Rattle.std.proofs.Common.{◌≡◌, ◌≢◌, ℕ, ◌+◌, ◌-◌, ◌^◌, ◌<◌, ◌≤◌, false, List, [], ◌∷◌, ◌++◌, length, map, take, drop, codes, decimal, Option, Some, None, refl, sym, ◌∙◌, ap, subst, arith, append-nil}
 use Rattle.std.proofs.lemmas.Grind.{common_steps}
+use Rattle.std.specs.Bool.{IsTrue}
 use Rattle.std.specs.Io.KnownBytes.{Consumes}
 use Rattle.hex.specs.Hex.{encode_lower}
 use Rattle.picky_der_core.specs.declared.error.Asn1DerError.{Asn1DerError}
 use Rattle.picky_der_core.specs.declared.error.Asn1DerError.TheVariants as error
 use Rattle.picky_der_core.specs.Element.{Begins}
-use Rattle.picky_der_core.specs.Tree.{Tree}
+use Rattle.picky_der_core.specs.Tree.{Tree, trees}
 use Rattle.picky_der_core.specs.Encoding.{der}
+use Rattle.picky_der_core.specs.Readable.{has_tag_numbers, have_tag_numbers, IsWritable}
 use Rattle.picky_der_core.specs.Reading.{Place, StandsAt}
 use Rattle.picky_der_core.specs.Refusal.{plain_refusal, element_refusal, fault}
 use Rattle.picky_der_de.specs.State.{State, fresh}
 use Rattle.picky_der_de.specs.Steps.{IsJudged, IsOther, drawn}
 use Rattle.picky_der_de.specs.Reading.{Refuses, now, ever}
 use Rattle.der_tool_lib.specs.declared.value.ValueType.{ValueType}
+use Rattle.der_tool_lib.specs.declared.value.ValueType.TheVariants as named
+use Rattle.der_tool_lib.specs.AlgorithmIdentifier.{elements}
 use Rattle.der_tool_lib.specs.Words.{word_of}
 use Rattle.der_tool_lib.specs.Value.{Kinds, plain, element, mendable, Description, described, StandsFirst, BeginsValue, IsKind, AnswersRead, read, refused}
 use Rattle.der_tool_lib.specs.Reads.{RefusesAs, ReadsNamed, RefusesNamed}
@@ -34,6 +38,33 @@ answers_read {type} {old} {new} {bytes} {answer} {digits} {taken} {t} v is r sam
     let size : taken ≡ length (der u) = n ∙ omega (arith, h.takes.taken) in
     let text : digits ≡ encode_lower (der u) = d ∙ ap (λ x. encode_lower (der x)) (sym same) in
     read v stands (a ∙ ap (λ m. codes "ok " ++ (decimal m ++ (codes " " ++ digits))) size ∙ ap (λ x. codes "ok " ++ (decimal (length (der u)) ++ (codes " " ++ x))) text)
+
+-- raw elements have no tag numbers of their own
+raw_numbers : (ss : List (List ℕ)) → IsTrue (have_tag_numbers (trees (map Tree.raw ss)))
+raw_numbers [] = refl
+raw_numbers (s ∷ ss) = raw_numbers ss
+
+numbers : (type : ValueType) (v : (described type).Value) → IsTrue (has_tag_numbers ((described type).meaning v))
+numbers named.Bool v = refl
+numbers named.U8 v = refl
+numbers named.U16 v = refl
+numbers named.U32 v = refl
+numbers named.U64 v = refl
+numbers named.U128 v = refl
+numbers named.Null v = refl
+numbers named.Char v = refl
+numbers named.Text v = refl
+numbers named.Octets v = refl
+numbers named.Raw v = refl
+numbers named.Test v = refl
+numbers named.Spki v = rw (raw_numbers (elements v.algorithm)) refl
+
+-- what was read can be written
+pub writable_read : (type : ValueType) {old new : State} {bytes : List ℕ} {taken : ℕ} {t : Tree} (v : (described type).Value) → old ≡ fresh (Some bytes) (length bytes) [] [] → ReadsNamed type old new v → (described type).meaning v ≡ t
+    → taken ≡ new.taken → taken < 2 ^ 64 → IsWritable t
+writable_read type {new = new} v is r same n small =
+    let h = subst (λ o. ReadsNamed type o new v) is r in
+    subst IsWritable same (record { numbers = numbers type v; fits = omega (arith, h.takes.taken, n, small) })
 
 -- ---- refusals
 

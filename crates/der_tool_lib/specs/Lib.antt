@@ -6,3 +6,5 @@ pub mod Run
 pub mod Laws
 pub mod Value
 pub mod Reads
+pub mod AlgorithmIdentifier
+pub mod AlgorithmIdentifierLaws

@@ -33,6 +33,7 @@ word_for named.Text = codes "text"
 word_for named.Octets = codes "octets"
 word_for named.Raw = codes "raw"
 word_for named.Test = codes "test"
+word_for named.Spki = codes "spki"
 
 -- what can be asked for: the bytes of a length, a value of a type from the bytes that these digits may be, or nothing
 pub data Query : Type 0 where

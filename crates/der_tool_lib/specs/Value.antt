@@ -12,10 +12,13 @@ use Rattle.picky_der_core.specs.Reading.{Reads}
 use Rattle.picky_der_core.specs.Refusal.{Judge, boolean_fault, unsigned_fault, null_fault, character_fault, text_fault, bytes_fault, plain_refusal, element_refusal, fault}
 use Rattle.picky_der_de.specs.Steps.{IsOfContent}
 use Rattle.der_tool_lib.specs.declared.test_struct.TestStruct.{TestStruct}
+use Rattle.der_tool_lib.specs.declared.subject_public_key_info.SubjectPublicKeyInfo.{SubjectPublicKeyInfo}
 use Rattle.der_tool_lib.specs.declared.value.ValueType.{ValueType}
 use Rattle.der_tool_lib.specs.declared.value.ValueType.TheVariants as named
 use Rattle.der_tool_lib.specs.contracts.test_struct.TestStructSerialize.TheImpl as test_written
 use Rattle.der_tool_lib.specs.contracts.test_struct.TestStructDeserialize.TheImpl as test_read
+use Rattle.der_tool_lib.specs.contracts.subject_public_key_info.SubjectPublicKeyInfoSerialize.TheImpl as spki_written
+use Rattle.der_tool_lib.specs.contracts.subject_public_key_info.SubjectPublicKeyInfoDeserialize.TheImpl as spki_read
 use Rattle.der_tool_lib.specs.Words.{word_of}
 
 -- ---- the types
@@ -52,6 +55,7 @@ described named.Text = record { Value = List ℕ; meaning = Tree.text; shape = S
 described named.Octets = record { Value = List ℕ; meaning = Tree.bytes 0x04; shape = Shape.bytes 0x04; kinds = plain 0x04 bytes_fault }
 described named.Raw = record { Value = List ℕ; meaning = Tree.raw; shape = Shape.raw; kinds = element }
 described named.Test = record { Value = TestStruct; meaning = test_written.ghosts.meaning; shape = test_read.ghosts.shape; kinds = mendable }
+described named.Spki = record { Value = SubjectPublicKeyInfo; meaning = spki_written.ghosts.meaning; shape = spki_read.ghosts.shape; kinds = mendable }
 
 -- ---- the answers
 

@@ -84,6 +84,9 @@ fn typed(words: &[u8]) -> Request<'_>
     if let Some(digits) = behind(words, b"test ") {
         return Request::Read(ValueType::Test, digits);
     }
+    if let Some(digits) = behind(words, b"spki ") {
+        return Request::Read(ValueType::Spki, digits);
+    }
     Request::Refused
 }
 

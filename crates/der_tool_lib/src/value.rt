@@ -5,7 +5,7 @@ ghost use Rattle.der_tool_lib.specs.Value.{AnswersRead};
 mod named;
 mod texts;
 
-use crate::TestStruct;
+use crate::{SubjectPublicKeyInfo, TestStruct};
 use named::Named;
 use picky_asn1_der::asn1::ByteBuf;
 use picky_asn1_der::{Asn1DerError, Asn1RawDer, Deserializer, Result};
@@ -13,7 +13,7 @@ use std::alloc::Global;
 use texts::{hexadecimal, read_text, refused_text, wants_memory};
 
 /// A type that lines name, by the word that the variant has in lower case: `null` is `()`, `text` a `String`, `octets` a
-/// `ByteBuf`, `raw` an `Asn1RawDer` and `test` a `TestStruct`.
+/// `ByteBuf`, `raw` an `Asn1RawDer`, `test` a `TestStruct` and `spki` a `SubjectPublicKeyInfo`.
 #[derive(Debug, Clone, Copy, PartialEq, Eq)]
 pub enum ValueType {
     Bool,
@@ -28,6 +28,7 @@ pub enum ValueType {
     Octets,
     Raw,
     Test,
+    Spki,
 }
 
 /// The answer to a line that asks for a value of the type to be read from these bytes: how many were taken and the value
@@ -49,6 +50,7 @@ pub fn answer_read(alloc: Global, named: ValueType, bytes: &[u8]) -> Result<Stri
         ValueType::Octets => answer_as::<ByteBuf>(alloc, bytes),
         ValueType::Raw => answer_as::<Asn1RawDer>(alloc, bytes),
         ValueType::Test => answer_as::<TestStruct>(alloc, bytes),
+        ValueType::Spki => answer_as::<SubjectPublicKeyInfo>(alloc, bytes),
     }
 }
 

@@ -1,8 +1,9 @@
 -- A length and an element say where they end, and what they hold.
-use Rattle.std.proofs.Common.{◌≡◌, ℕ, ◌+◌, ◌^◌, ◌<◌, ◌≤◌, Bool, true, false, cond, List, [], ◌∷◌, ◌++◌, length, nat_lt, refl, ap, arith, append_assoc, length-append, lt-ltb, ltb-true}
-use Rattle.std.proofs.lemmas.Bool.{ltb-false}
+use Rattle.std.proofs.Common.{◌≡◌, ℕ, ◌+◌, ◌^◌, ◌<◌, ◌≤◌, Bool, true, false, cond, List, [], ◌∷◌, ◌++◌, length, nat_lt, refl, ap, arith, append_assoc, length-append, lt-ltb, ltb-true, inl, inr}
+use Rattle.std.proofs.lemmas.Bool.{ltb-false, cases_lt}
 use Rattle.picky_der_core.specs.Element.{big_endian, len, tlv}
-use Rattle.picky_der_core.specs.BigEndianLaws.{big_endian-same, length-big_endian}
+use Rattle.picky_der_core.specs.BigEndianLaws.{big_endian-same, length-big_endian, AreBytes-big_endian}
+use Rattle.picky_der_core.specs.Shape.{AreBytes}
 
 -- lists that are as long and begin one list are the same
 pub same_front : (xs ys a b : List ℕ) → length xs ≡ length ys → xs ++ a ≡ ys ++ b → (xs ≡ ys) × (a ≡ b)
@@ -73,3 +74,29 @@ tlv-same x y c d e =
     let h : tlv x c ++ [] ≡ tlv y d ++ [] = ap (λ b. b ++ []) e in
     let parts = tlv_prefix x y c d [] [] h in
     (parts.0, parts.1)
+
+-- ---- what is made of bytes
+
+-- bytes behind bytes
+pub bytes_then : (xs ys : List ℕ) → AreBytes xs → AreBytes ys → AreBytes (xs ++ ys)
+bytes_then [] ys h k = k
+bytes_then (x ∷ xs) ys h k = (h.0, bytes_then xs ys h.1 k)
+
+second_bytes : (xs ys : List ℕ) → AreBytes (xs ++ ys) → AreBytes ys
+second_bytes [] ys h = h
+second_bytes (x ∷ xs) ys h = second_bytes xs ys h.1
+
+pub length_bytes : (n : ℕ) → n < 2 ^ 64 → AreBytes (len n)
+length_bytes n small = elim (cases_lt n 0x80) [
+  | inl short ↦ rw (len-short n short) (omega arith, tt)
+  | inr long ↦ rw (len-long n long) (omega (arith, length-big_endian 8 n (omega arith)), AreBytes-big_endian n)
+]
+
+-- an element is made of bytes where its content is
+pub element_bytes : (tag : ℕ) (c : List ℕ) → tag < 256 → length c < 2 ^ 64 → AreBytes c → AreBytes (tlv tag c)
+unfolding tlv
+element_bytes tag c byte small h = (byte, bytes_then (len (length c)) c (length_bytes (length c) small) h)
+
+pub content_bytes : (tag : ℕ) (c : List ℕ) → AreBytes (tlv tag c) → AreBytes c
+unfolding tlv
+content_bytes tag c h = second_bytes (len (length c)) c h.1

@@ -7,6 +7,7 @@ pub mod OtherValues
 pub mod Members
 pub mod Rows
 pub mod Asked
+pub mod Rests
 pub mod ListReads
 pub mod ArrayReads
 pub use Rattle.picky_der_input.proofs.PlainReads

@@ -1,13 +1,11 @@
 -- Elements that are taken whole: each is refused and read as bytes under its own tag are.
 use Rattle.std.proofs.Common.{◌≡◌, ℕ, ◌<◌, ◌≤◌, ◌^◌, inl, inr, Bool, true, false, List, [], ◌∷◌, ◌++◌, length, take, Option, Some, None, refl, sym, ◌∙◌, ap, subst, arith, length-append}
 use Rattle.std.proofs.lemmas.Bool.Decides.{nat_tests}
-use Rattle.std.proofs.lemmas.Bool.{cases_lt}
 use Rattle.std.specs.Io.KnownBytes.{Keeps}
 use Rattle.picky_der_core.specs.declared.error.Asn1DerError.{Asn1DerError}
 use Rattle.picky_der_core.specs.declared.error.Asn1DerError.TheVariants.{TruncatedData, UnsupportedValue, OutOfMemory}
 use Rattle.picky_der_core.specs.Element.{len, tlv, IsElement}
-use Rattle.picky_der_core.specs.BigEndianLaws.{AreBytes-big_endian, length-big_endian}
-use Rattle.picky_der_core.specs.ElementLaws.{len-short, len-long}
+use Rattle.picky_der_core.specs.ElementLaws.{bytes_then, length_bytes, content_bytes}
 use Rattle.picky_der_core.specs.Tag.{number_of, is_tag_number, IsTagNumber}
 use Rattle.picky_der_core.specs.Tree.{Tree}
 use Rattle.picky_der_core.specs.Encoding.{der}
@@ -22,7 +20,6 @@ use Rattle.picky_der_input.specs.Reading.{Concerns, now, ever, IsJustRefused, Re
 use Rattle.picky_der_input.specs.Headers.{Begins, RefusesContentLength}
 use Rattle.picky_der_input.specs.Elements.{raw_refusal, given_up, BeginsElement, ReadsRaw, RefusesRaw}
 use Rattle.picky_der_input.proofs.Steps.{fails_after}
-use Rattle.picky_der_input.proofs.Pieces.{bytes_then}
 use Rattle.picky_der_input.proofs.Refusals.{behind, failed_grows, missing_here, missing_first, taken_first}
 use Rattle.picky_der_input.proofs.Known.{front_of, just_taken, just_missing}
 use Rattle.picky_der_input.proofs.Headers.{is_number, same_byte, length_tlv, header_unread}
@@ -79,20 +76,6 @@ given_up_just h = record { left = h.left; refused = h.refused; input = h.input; 
 written_raw : (place : Place) (s : List ℕ) → written_at place (Tree.raw s) ≡ s
 written_raw Place.whole s = der-raw s
 written_raw (Place.under_implicit ahead) s = inside-other (Tree.raw s) refl tt ∙ der-raw s
-
-second_bytes : (xs ys : List ℕ) → AreBytes (xs ++ ys) → AreBytes ys
-second_bytes [] ys h = h
-second_bytes (x ∷ xs) ys h = second_bytes xs ys h.1
-
-content_bytes : (tag : ℕ) (c : List ℕ) → AreBytes (tlv tag c) → AreBytes c
-unfolding tlv
-content_bytes tag c h = second_bytes (len (length c)) c h.1
-
-length_bytes : (n : ℕ) → n < 2 ^ 64 → AreBytes (len n)
-length_bytes n small = elim (cases_lt n 0x80) [
-  | inl short ↦ rw (len-short n short) (omega arith, tt)
-  | inr long ↦ rw (len-long n long) (omega (arith, length-big_endian 8 n (omega arith)), AreBytes-big_endian n)
-]
 
 first_tag : (x tag : ℕ) (c rest left : List ℕ) → tag ∷ left ≡ tlv x c ++ rest → x ≡ tag
 unfolding tlv

@@ -2,16 +2,12 @@
 use Rattle.std.proofs.Common.{◌≡◌, ℕ, zero, suc, ◌+◌, ◌-◌, ◌^◌, ◌<◌, ◌≤◌, List, [], ◌∷◌, ◌++◌, length, take, get_or, None, ◌∙◌, ap, arith, append_assoc, length-append}
 use Rattle.std.specs.Io.KnownBytes.{Consumes}
 use Rattle.std.proofs.lemmas.List.{take-append-le}
+use Rattle.picky_der_core.specs.ElementLaws.{bytes_then}
 use Rattle.picky_der_core.specs.Peeking.{moved, count_of_any}
 use Rattle.picky_der_core.specs.Shape.{AreBytes}
 use Rattle.picky_der_input.specs.State.{State}
 use Rattle.picky_der_input.specs.Steps.{Takes, TakesBytes, TakesBehind, TakesPiece}
 use Rattle.picky_der_input.proofs.Steps.{takes_then}
-
--- bytes behind bytes
-pub bytes_then : (xs ys : List ℕ) → AreBytes xs → AreBytes ys → AreBytes (xs ++ ys)
-bytes_then [] ys h k = k
-bytes_then (x ∷ xs) ys h k = (h.0, bytes_then xs ys h.1 k)
 
 -- one piece more was taken
 pub takes_bytes-piece : {a b c : State} {k n m left : ℕ} {content buffer : List ℕ} → TakesBytes a b k content → TakesPiece b c left n buffer → m ≡ k + n → TakesBytes a c m (content ++ take n buffer)

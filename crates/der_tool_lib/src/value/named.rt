@@ -3,7 +3,7 @@ ghost use Rattle.std.specs.Prelude.{◌≡◌, IfOk, IfErr, string_bytes, refl};
 ghost use Rattle.der_tool_lib.specs.Value.{described};
 ghost use Rattle.der_tool_lib.specs.Reads.{ReadsNamed, RefusesNamed};
 
-use crate::TestStruct;
+use crate::{SubjectPublicKeyInfo, TestStruct};
 use picky_asn1_der::asn1::ByteBuf;
 use picky_asn1_der::misc::ReadExt;
 use picky_asn1_der::{Asn1RawDer, Deserialize, Deserializer, Result};
@@ -190,5 +190,19 @@ impl Named for TestStruct {
 
     fn read<R: ReadExt>(de: &mut Deserializer<R>) -> Result<TestStruct> {
         TestStruct::deserialize(de)
+    }
+}
+
+impl Named for SubjectPublicKeyInfo {
+    ghost use Rattle.der_tool_lib.specs.declared.value.ValueType.TheVariants.{Spki};
+
+    ghost named = { Spki };
+
+    ghost described_as = { λ v. v };
+
+    ghost same_meaning = { λ v. refl };
+
+    fn read<R: ReadExt>(de: &mut Deserializer<R>) -> Result<SubjectPublicKeyInfo> {
+        SubjectPublicKeyInfo::deserialize(de)
     }
 }

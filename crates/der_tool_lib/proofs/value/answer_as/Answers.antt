@@ -2,8 +2,11 @@ use Rattle.std.proofs.Common.{◌≡◌, ◌≢◌, true, false, sym, ap, ◌∙
 use Rattle.der_tool_lib.specs.Value.{is_memory}
 use Rattle.picky_der_core.specs.declared.error.Asn1DerError.TheVariants.{OutOfMemory}
 use Rattle.std.proofs.lemmas.Result.{MatchResult-weaker}
-use Rattle.der_tool_lib.proofs.NamedAnswers.{answers_read, answers_refused}
+use Rattle.der_tool_lib.proofs.NamedAnswers.{writable_read, answers_read, answers_refused}
 use Rattle.der_tool_lib.proofs.value.answer_as.Goals as goal
+
+pub hexadecimal-requires : goal.hexadecimal-requires
+hexadecimal-requires g c = writable_read _ _ c.new_from_bytes-de.ensures c.in-Ok.ensures.ok (g.met.T.Named.same_meaning _) c.taken-taken.ensures.taken c.taken-taken.type_inv
 
 pub returns-in_ok-hexadecimal-in-Ok-clause-ok : goal.returns-in_ok-hexadecimal-in-Ok-clause-ok
 returns-in_ok-hexadecimal-in-Ok-clause-ok g c =

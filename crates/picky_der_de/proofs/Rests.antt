@@ -1,0 +1,124 @@
+-- The rest of a sequence's members, from one place on up to its end: for types whose values don't all have as many members.
+-- Each call gives one record, and one lemma takes it.
+use Rattle.std.proofs.Common.{◌≡◌, ℕ, ◌<◌, List, ◌∷◌, ◌++◌, None, sym, ◌∙◌, ap, subst, arith}
+use Rattle.picky_der_core.specs.declared.error.Asn1DerError.{Asn1DerError}
+use Rattle.picky_der_core.specs.Tree.{ListKind, Tree, Trees}
+use Rattle.picky_der_core.specs.Encoding.{written, der, encodings, list_tag}
+use Rattle.picky_der_core.specs.Readable.{IsReadable, AreReadable}
+use Rattle.picky_der_core.specs.Shape.{Shape, Shapes, IsOf, IsFirst}
+use Rattle.picky_der_core.specs.Reading.{written_at, MayStand}
+use Rattle.picky_der_input.specs.State.{State}
+use Rattle.picky_der_input.specs.Steps.{Takes, Fails, IsJudged, place_in}
+use Rattle.picky_der_input.specs.Order.{AreInOrder, Follows}
+use Rattle.picky_der_input.specs.Reading.{Reads, Refuses}
+use Rattle.picky_der_input.specs.Ends.{Outer, RefusesClose, OpensList, RefusesList}
+use Rattle.picky_der_de.specs.Members.{ReadsMember, RefusesMember, HasNoMore, bytes_of, StandUpToEnd, ReadsRow}
+use Rattle.picky_der_input.proofs.Order.{fails_behind, judged_behind}
+use Rattle.picky_der_de.proofs.Members.{bytes_of-more, takes_member, member_direct, member_ahead, next_order, next_up_to_end, no_member, none_left, list_refused, list_unopened}
+use Rattle.picky_der_de.proofs.Rows.{row_none, row_read}
+
+-- the members behind the first one
+abbrev pub behind_first : Trees → Trees
+behind_first Trees.none = Trees.none
+behind_first (Trees.more t ts) = ts
+
+-- no value of which P holds stands there by its members, which would be all up to the end
+pub record RefusesRest {V : Type 0} (P : V → Type 0) (members : V → Trees) (old new : State) (e : Asn1DerError) : Type 0 where
+  pub fails : Fails old new e
+  pub none : IsJudged old new e → (v : V) → P v → AreReadable (members v) → AreInOrder old.sets (encodings (members v)) → StandUpToEnd old new e (bytes_of (members v)) → ⊥
+
+-- ---- refused
+
+-- Why these members don't stand where the next one was refused: there are none, and something is left; or the first is
+-- written as a value of the type that was refused.
+pub data Unread {W : Type 0} (meaning : W → Tree) (s : Shape) (Ahead : Type 0) : Trees → Type 0 where
+  nothing : Ahead → Unread meaning s Ahead Trees.none
+  first : (w : W) (t : Tree) (ts : Trees) → IsOf s (meaning w) → IsReadable (meaning w) → der t ≡ der (meaning w) → Unread meaning s Ahead (Trees.more t ts)
+
+-- something is left, unless the deserializer had failed
+abbrev pub IsAhead : State → Type 0
+IsAhead c = c.failed ≡ None → 0 < c.room
+
+module _ {V : Type 0} {members : V → Trees} {kind : ListKind} {s : Shape} {a : State} (starts : IsFirst s (list_tag kind)) where
+  -- there is no header
+  pub rest_unopened : {c : State} {e : Asn1DerError} → RefusesList (list_tag kind) a c e → Refuses (λ v. Tree.list kind (members v)) s a c e
+  rest_unopened h = list_unopened kind members s starts h
+
+  -- the members were refused
+  pub rest_refused : {P : V → Type 0} {b c : State} {outer : Outer} {e : Asn1DerError} → ((v : V) → IsOf s (Tree.list kind (members v)) → P v) → OpensList (list_tag kind) a b outer → RefusesRest P members b c e
+      → Refuses (λ v. Tree.list kind (members v)) s a c e
+  rest_refused holds o r = list_refused kind members s starts o r.fails (λ j v of_shape readable order w. r.none j v (holds v of_shape) readable order w)
+
+-- the first member written as another is
+encodings-as : (t u : Tree) (ts : Trees) → der t ≡ der u → encodings (Trees.more t ts) ≡ encodings (Trees.more u ts)
+unfolding der written
+encodings-as t u ts same = ap (λ m. m ∷ encodings ts) same
+
+first_refused : {W : Type 0} {meaning : W → Tree} {s : Shape} {c d : State} {e : Asn1DerError} (ts : Trees) → RefusesMember meaning s c d e → IsJudged c d e → Unread meaning s (IsAhead c) ts → AreInOrder c.sets (encodings ts) → StandUpToEnd c d e (bytes_of ts) → ⊥
+first_refused ts r j (nothing ahead) order w = none_left (ahead j.had_not_failed) w
+first_refused {meaning = meaning} {c = c} {d = d} {e = e} ts r j (first v t us of_shape readable same) order w =
+    let as_value = bytes_of-more t us ∙ ap (λ x. x ++ bytes_of us) same ∙ sym (bytes_of-more (meaning v) us) in
+    no_member v us r j of_shape readable (subst (AreInOrder c.sets) (encodings-as t (meaning v) us same) order) (subst (StandUpToEnd c d e) as_value w).stand
+
+behind_refused : {s : Shape} {b c d : State} {t : Tree} {e : Asn1DerError} (ts : Trees) → ReadsMember s b c t → Fails c d e → AreReadable ts → StandUpToEnd b d e (bytes_of ts) → StandUpToEnd c d e (bytes_of (behind_first ts))
+behind_refused Trees.none r f readable w = absurd (none_left (member_ahead r) w)
+behind_refused (Trees.more u us) r f readable w = next_up_to_end u us readable.0 r f w
+
+behind_in_order : {s : Shape} {b c d : State} {t : Tree} {e : Asn1DerError} (ts : Trees) → ReadsMember s b c t → Fails c d e → AreReadable ts → StandUpToEnd b d e (bytes_of ts) → AreInOrder b.sets (encodings ts) → AreInOrder c.sets (encodings (behind_first ts))
+behind_in_order Trees.none r f readable w order = absurd (none_left (member_ahead r) w)
+behind_in_order (Trees.more u us) r f readable w order = next_order u us readable.0 r f w.stand order
+
+module _ {V : Type 0} {P : V → Type 0} {members : V → Trees} where
+  -- the next member was refused
+  pub rest_head : {W : Type 0} {meaning : W → Tree} {s : Shape} {c d : State} {e : Asn1DerError} → ((v : V) → P v → AreReadable (members v) → Unread meaning s (IsAhead c) (members v)) → RefusesMember meaning s c d e → RefusesRest P members c d e
+  rest_head unread r = record { fails = r.fails; none = λ j v p readable order w. first_refused (members v) r j (unread v p readable) order w }
+
+  -- a member was read, and those behind it were refused
+  pub rest_next : {s : Shape} {b c d : State} {t : Tree} {e : Asn1DerError} → ReadsMember s b c t → RefusesRest P (λ v. behind_first (members v)) c d e → RefusesRest P members b d e
+  rest_next r h = record {
+    fails = fails_behind (takes_member r) h.fails;
+    none = λ j v p readable order w. h.none (judged_behind (takes_member r) j) v p (readable_behind (members v) readable) (behind_in_order (members v) r h.fails readable w order) (behind_refused (members v) r h.fails readable w);
+  } where
+    readable_behind : (ts : Trees) → AreReadable ts → AreReadable (behind_first ts)
+    readable_behind Trees.none q = tt
+    readable_behind (Trees.more u us) q = q.1
+
+  -- a member was read which is the last one of all values, and something is left behind it
+  pub rest_left : {s : Shape} {b c d : State} {t : Tree} {e : Asn1DerError} → ((v : V) → behind_first (members v) ≡ Trees.none) → ReadsMember s b c t → RefusesClose c d e → RefusesRest P members b d e
+  rest_left {c = c} {d = d} {e = e} last r k = rest_next r (record {
+    fails = k.fails;
+    none = λ j v p readable order w. none_left (k.left (takes_member r).not_failed).0 (subst (λ ts. StandUpToEnd c d e (bytes_of ts)) (last v) w);
+  })
+
+-- nothing is left where there is no more member
+pub rest_closed : {b c d : State} {e : Asn1DerError} → HasNoMore b c → RefusesClose c d e → ⊥
+rest_closed n k = omega (arith, n.reached, (k.left (ap (λ (z : State). z.failed) n.same ∙ n.had_not_failed)).0, ap (λ (z : State). z.room) n.same)
+
+-- ---- read
+
+-- a member was read as another value that is written so
+pub member_as : {s as_shape : Shape} {b c : State} {t : Tree} (u : Tree) → IsOf as_shape u → IsReadable u → der t ≡ der u → ReadsMember s b c t → ReadsMember as_shape b c u
+member_as {b = b} {c = c} {t = t} u of_shape readable same r = record {
+  mid = r.mid;
+  reads = record {
+    of_shape = of_shape;
+    readable = readable;
+    may_stand = subst (λ d. MayStand (place_in d b.room) u) (sym r.direct) tt;
+    takes = subst (λ d. Takes b r.mid (written_at (place_in d b.room) u)) (sym r.direct) (subst (Takes b r.mid) same (subst (λ d. Takes b r.mid (written_at (place_in d b.room) t)) r.direct r.reads.takes));
+    direct = r.reads.direct;
+  };
+  direct = r.direct;
+  follows = subst (λ m. Follows m r.mid c) same r.follows;
+}
+
+-- a member was read, and it may be the last one
+pub row_last : {s : Shape} {b c : State} {t : Tree} → ReadsMember s b c t → ReadsRow (Shapes.more s Shapes.none) b c (Trees.more t Trees.none)
+row_last r = row_read r (row_none (takes_member r).not_failed (takes_member r).unpeeked (member_direct r))
+
+-- a member was read, and there was no more
+pub row_ended : {s : Shape} {b c d : State} {t : Tree} → ReadsMember s b c t → HasNoMore c d → ReadsRow (Shapes.more s Shapes.none) b d (Trees.more t Trees.none)
+row_ended {s = s} {b = b} {t = t} r n = subst (λ z. ReadsRow (Shapes.more s Shapes.none) b z (Trees.more t Trees.none)) (sym n.same) (row_last r)
+
+-- what was read is of another shape too
+pub reads_as : {s as_shape : Shape} {a b : State} {t : Tree} → IsOf as_shape t → Reads s a b t → Reads as_shape a b t
+reads_as of_shape h = record { of_shape = of_shape; readable = h.readable; may_stand = h.may_stand; takes = h.takes; direct = h.direct }
