@@ -25,21 +25,29 @@ fn opening(name: &str) -> Option<(&str, &str)> {
 }
 
 // What the calls of a sequence answer that is opened so. No function may take a sequence by value, so each opening has
-// this code of its own.
+// this code of its own, as little as can be.
 macro_rules! answer_members {
     ($alloc:expr, $opening:expr, $calls:expr) => {
         match $opening {
-            Ok(mut members) => match $calls.strip_suffix("; end") {
-                Some(calls) => {
-                    let answers = member_answers($alloc, &mut members, calls)?;
-                    let end = members.end();
-                    format!(in $alloc; "{answers}; {end:?}")
+            Ok(mut members) => {
+                let answers = member_answers($alloc, &mut members, $calls)?;
+                if !$calls.ends_with("; end") {
+                    return Ok(answers);
                 }
-                None => member_answers($alloc, &mut members, $calls),
-            },
+                ended($alloc, &answers, members.end())
+            }
             Err(error) => shown($alloc, &error),
         }
     };
+}
+
+// The answers of a sequence's calls, and that of its end.
+fn ended(
+    alloc: Global,
+    answers: &str,
+    end: picky_asn1_der::Result<()>,
+) -> Result<String, AllocError> {
+    format!(in alloc; "{answers}; {end:?}")
 }
 
 // The names and lengths that are given don't matter.
@@ -81,22 +89,21 @@ fn answer_lazy<R: ReadExt>(
         return String::from_str(alloc, "unknown length");
     };
     let mut members = de::Sequence::deserialize_lazy(de, len);
-    match calls.strip_suffix("; end") {
-        Some(calls) => {
-            let answers = member_answers(alloc, &mut members, calls)?;
-            let end = members.end();
-            format!(in alloc; "{answers}; {end:?}")
-        }
-        None => member_answers(alloc, &mut members, calls),
+    let answers = member_answers(alloc, &mut members, calls)?;
+    if !calls.ends_with("; end") {
+        return Ok(answers);
     }
+    ended(alloc, &answers, members.end())
 }
 
+// The calls but for `end`, which takes the sequence.
 fn member_answers<R: ReadExt>(
     alloc: Global,
     members: &mut de::Sequence<'_, R>,
     names: &str,
 ) -> Result<String, AllocError> {
-    Ok(answer_each!(alloc; name in names, "; ", match name {
+    let calls = names.strip_suffix("; end").unwrap_or(names);
+    Ok(answer_each!(alloc; name in calls, "; ", match name {
         "next_element" => shown(alloc, &members.next_element::<u8>()),
         "next_field" => shown(alloc, &members.next_field::<u8>()),
         "next_tag" => shown(alloc, &members.next_tag()),

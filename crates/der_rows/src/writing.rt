@@ -123,31 +123,48 @@ fn answer_refused<W: WriteExt>(
     }
 }
 
-// What a sequence answers that is opened so, with one member. No function may take a sequence by value, so each
-// opening has this code of its own.
+// What a sequence answers that is opened so. No function may take a sequence by value, so each opening has this code of its
+// own, as little as can be.
 macro_rules! answer_member {
     ($alloc:expr, $opening:expr, $calls:expr) => {
         match $opening {
             Ok(mut members) => {
-                let added = match $calls {
-                    "serialize_element 1; drop}" => {
-                        let added = members.serialize_element(&1u8);
-                        return format!(in $alloc; "{added:?}; dropped");
-                    }
-                    "serialize_field 7; end}" => members.serialize_field("number", &7u8),
-                    "serialize_element 7; end}" => members.serialize_element(&7u8),
-                    "serialize_element 7; serialize_element 5; end}" => {
-                        let first = members.serialize_element(&7u8);
-                        first.and(members.serialize_element(&5u8))
-                    }
-                    _ => return String::from_str($alloc, "unknown member"),
+                let Some(added) = add_members(&mut members, $calls) else {
+                    return String::from_str($alloc, "unknown member");
                 };
-                let end = members.end();
-                format!(in $alloc; "{added:?}; {end:?}")
+                if $calls.ends_with("drop}") {
+                    return format!(in $alloc; "{added:?}; dropped");
+                }
+                ended($alloc, added, members.end())
             }
             Err(error) => shown($alloc, &error),
         }
     };
+}
+
+// The calls but for `end`, which takes the sequence.
+fn add_members<W: WriteExt>(
+    members: &mut ser::Sequence<'_, W>,
+    calls: &str,
+) -> Option<picky_asn1_der::Result<()>> {
+    match calls {
+        "serialize_element 1; drop}" => Some(members.serialize_element(&1u8)),
+        "serialize_element 7; end}" => Some(members.serialize_element(&7u8)),
+        "serialize_field 7; end}" => Some(members.serialize_field("number", &7u8)),
+        "serialize_element 7; serialize_element 5; end}" => {
+            let first = members.serialize_element(&7u8);
+            Some(first.and(members.serialize_element(&5u8)))
+        }
+        _ => None,
+    }
+}
+
+fn ended(
+    alloc: Global,
+    added: picky_asn1_der::Result<()>,
+    end: picky_asn1_der::Result<usize>,
+) -> Result<String, AllocError> {
+    format!(in alloc; "{added:?}; {end:?}")
 }
 
 // The names and lengths that are given don't matter.
@@ -170,8 +187,7 @@ fn answer_sequence<W: WriteExt>(
         "serialize_lazy" => {
             let mut members = ser::Sequence::serialize_lazy(ser, Tag::SEQUENCE);
             let added = members.serialize_element(&7u8);
-            let end = members.end();
-            format!(in alloc; "{added:?}; {end:?}")
+            ended(alloc, added, members.end())
         }
         _ => String::from_str(alloc, "unknown sequence"),
     }
