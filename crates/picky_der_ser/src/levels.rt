@@ -14,21 +14,23 @@ use picky_der_core::asn1::Wrapper;
 use std::alloc::{AllocError, Global};
 use std::marker::Model;
 
-// Where a level begins: the room for its headers, and behind it its content. Only a set takes memory for its seams.
+// Where a level begins: the room for its headers, and behind it its content; and how many seams those around it have.
 #[derive(Drop)]
 struct Mark {
     header: Header,
     around: Vec<Wrapper>,
     at: usize,
     start: usize,
-    // Of a set, how many bytes of the content stand in front of each member but the first.
-    seams: Vec<usize>,
+    first_seam: usize,
 }
 
-// The contents of the levels stand one behind the other, the innermost last.
+// The contents of the levels stand one behind the other, the innermost last, and so do their seams: of a set, how many bytes
+// of its content stand in front of each member but the first. A vector in each mark would be copied and dropped with those of
+// sequences too, which have no seams.
 #[derive(Drop)]
 pub(crate) struct Levels {
     scratch: Vec<u8>,
+    seams: Vec<usize>,
     marks: Vec<Mark>,
     pending: Option<Mark>,
 }
@@ -36,18 +38,18 @@ pub(crate) struct Levels {
 impl Model for Levels {
     ghost use Rattle.std.specs.Prelude.{reverse, length};
     ghost use Rattle.picky_der_ser.specs.State.{Stack, stack_code};
-    ghost use Rattle.picky_der_ser.specs.Marks.{levels_of, below, level_of, with_pending, AreMarks};
+    ghost use Rattle.picky_der_ser.specs.Marks.{levels_of, below, seams_below, level_of, with_pending, AreMarks};
 
     ghost Value = { Stack };
 
     ghost coded = { stack_code };
 
     ghost view = { λ s. record {
-      inside = levels_of (reverse s.marks.items) (below s.pending s.scratch.items);
-      pending = level_of s.pending s.scratch.items;
+      inside = levels_of (reverse s.marks.items) (below s.pending s.scratch.items) (seams_below s.pending s.seams.items);
+      pending = level_of s.pending s.scratch.items s.seams.items;
     } };
 
-    ghost invariant = { λ s. AreMarks (with_pending s.pending (reverse s.marks.items)) (length s.scratch.items) };
+    ghost invariant = { λ s. AreMarks (with_pending s.pending (reverse s.marks.items)) (length s.scratch.items) s.seams.items };
 }
 
 impl Levels {
@@ -56,6 +58,7 @@ impl Levels {
     {
         Levels {
             scratch: Vec::new(alloc),
+            seams: Vec::new(alloc),
             marks: Vec::new(alloc),
             pending: None,
         }
@@ -75,11 +78,12 @@ impl Levels {
     {
         if let Some(mark) = self.pending.take() {
             self.scratch.truncate(mark.at);
+            self.seams.truncate(mark.first_seam);
         }
     }
 
     // Opens a level, in place of one that was opened and hasn't ended.
-    pub(crate) fn open(&mut self, header: Header, around: Vec<Wrapper>, alloc: Global)
+    pub(crate) fn open(&mut self, header: Header, around: Vec<Wrapper>)
         requires numbers { HaveTagNumbers around.items × HasNumber header }
         ensures { self.new ≡ record self.old { pending = Some (record { header = header; around = around.items; content = []; seams = [] }) } }
     {
@@ -90,7 +94,7 @@ impl Levels {
             around,
             at,
             start: at,
-            seams: Vec::new(alloc),
+            first_seam: self.seams.len(),
         });
     }
 
@@ -107,15 +111,26 @@ impl Levels {
         Ok(())
     }
 
+    // Keeps where another member of the level begins that was opened last, if it is a set.
+    fn begin_member(&mut self) -> Result<(), AllocError>
+        ensures { OnOk result (IfSome self.old.pending (λ l. self.new ≡ record self.old { pending = Some (begun l) })) }
+    {
+        if let Some(mark) = &self.pending {
+            let held = self.scratch.len() - mark.start;
+            begin_member(&mut self.seams, mark.header, held)?;
+        }
+        Ok(())
+    }
+
     // A member of the level that was opened last is written from here on.
     pub(crate) fn enter(&mut self) -> Result<(), AllocError>
         ensures { OnOk result (IfSome self.old.pending (λ l. self.new ≡ record { inside = begun l ∷ self.old.inside; pending = None })) }
     {
         self.make_room()?;
-        if let Some(mut mark) = self.pending.take() {
-            let held = self.scratch.len() - mark.start;
-            begin_member(&mut mark.seams, mark.header, held)?;
-            self.marks.push(mark)?;
+        self.begin_member()?;
+        self.marks.reserve(1)?;
+        if let Some(mark) = self.pending.take() {
+            self.marks.push_reserved(mark);
         }
         Ok(())
     }
@@ -151,9 +166,10 @@ impl Levels {
     pub(crate) fn arrange(&mut self, alloc: Global) -> Result<(), AllocError>
         ensures { OnOk result (IfSome self.old.pending (λ l. self.new ≡ record self.old { pending = Some (in_order l) })) }
     {
-        if let Some(mark) = &mut self.pending {
-            arrange(&mut self.scratch, mark.start, &mark.seams, alloc)?;
-            mark.seams.clear();
+        if let Some(mark) = &self.pending {
+            let seams = &self.seams[mark.first_seam..];
+            arrange(&mut self.scratch, mark.start, seams, alloc)?;
+            self.seams.truncate(mark.first_seam);
         }
         Ok(())
     }
@@ -169,6 +185,7 @@ impl Levels {
         let Some(mark) = self.pending.take() else {
             return Ok(0);
         };
+        self.seams.truncate(mark.first_seam);
         enclose(
             &mut self.scratch,
             mark.at,

@@ -10,17 +10,20 @@ pub invariant_of-self-in_err-enclose : goal.invariant_of-self-in_err-enclose
 invariant_of-self-in_err-enclose c =
     let was : c.self.inside.pending ≡ Some c.in-Some.mark = sym c.take.ensures.value ∙ c.in-Some.is in
     let within : c.in-Some.mark.at ≤ length c.enclose.new.out.items = omega (arith, c.in_err-enclose.ensures.grows) in
-    marks-taken _ was c.take.ensures.after _ _ within c.self.invariant
+    rw c.truncate.ensures.items (marks-taken _ _ was c.take.ensures.after _ _ within c.self.invariant)
 
 pub invariant_of-self-2 : goal.invariant_of-self-2
 invariant_of-self-2 c =
     let was : c.self.inside.pending ≡ Some c.in-Some.mark = sym c.take.ensures.value ∙ c.in-Some.is in
     let within : c.in-Some.mark.at ≤ length c.enclose.new.out.items = omega (arith, c.in_ok-enclose.ensures.grows) in
-    marks-taken _ was c.take.ensures.after _ _ within c.self.invariant
+    rw c.truncate.ensures.items (marks-taken _ _ was c.take.ensures.after _ _ within c.self.invariant)
 
 pub returns-clause-ok : goal.returns-clause-ok
 returns-clause-ok c = λ p l ls e f.
     let was : c.self.inside.pending ≡ Some c.in-Some.mark = sym c.take.ensures.value ∙ c.in-Some.is in
     let m = c.in-Some.mark in
     let s = c.self.inside.scratch.items in
-    stack-enclosed _ was c.take.ensures.after _ _ p l ls c.self.invariant (ap (λ (x : Stack). x.pending) c.self.view_is ∙ e) (ap (λ (x : Stack). x.inside) c.self.view_is ∙ f) (c.in_ok-enclose.ensures.ok ∙ ap (λ ws. take m.at s ++ der (under ws (tree_of m.header (drop m.start s)))) c.deref.ensures.value)
+    let enclosed = c.in_ok-enclose.ensures.ok ∙ ap (λ ws. take m.at s ++ der (under ws (tree_of m.header (drop m.start s)))) c.deref.ensures.value in
+    rw c.truncate.ensures.items (
+    stack-enclosed _ _ was c.take.ensures.after _ _ p l ls c.self.invariant (ap (λ (x : Stack). x.pending) c.self.view_is ∙ e) (ap (λ (x : Stack). x.inside) c.self.view_is ∙ f) enclosed
+    )
