@@ -76,9 +76,10 @@ impl Levels {
     pub(crate) fn give_up(&mut self)
         ensures { self.new ≡ record self.old { pending = None } }
     {
-        if let Some(mark) = self.pending.take() {
+        if let Some(mark) = &self.pending {
             self.scratch.truncate(mark.at);
             self.seams.truncate(mark.first_seam);
+            self.pending = None;
         }
     }
 
