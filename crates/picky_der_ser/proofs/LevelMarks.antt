@@ -2,15 +2,16 @@
 use Rattle.std.proofs.Common.{◌≡◌, ◌≢◌, ℕ, ◌<◌, ◌≤◌, ◌-◌, List, [], ◌∷◌, ◌++◌, length, take, drop, Option, None, Some, IfSome, sym, ap, ap₂, ◌∙◌, arith, subst}
 use Rattle.std.specs.Prelude.{reverse}
 use Rattle.std.proofs.lemmas.Grind.{common_steps}
-use Rattle.std.proofs.lemmas.List.{drop-append-le, length-drop, take-append-le, length-take-le}
+use Rattle.std.proofs.lemmas.List.{drop-append-le, drop_all, length-drop, take-append-le, length-take-le}
 use Rattle.picky_der_ser.specs.declared.levels.Mark.{Mark}
-use Rattle.picky_der_ser.specs.State.{Level, Stack, with_bytes, begun}
+use Rattle.picky_der_ser.specs.State.{Level, Stack, with_bytes, begun, in_order}
 use Rattle.picky_der_core.specs.Encoding.{der}
 use Rattle.picky_der_core.specs.Wrapper.{under}
 use Rattle.picky_der_ser.specs.Heading.{tree_of}
 use Rattle.picky_der_ser.specs.Marks.{level_at, levels_of, below, seams_below, level_of, with_pending, IsMark, AreMarks}
 use Rattle.picky_der_ser.specs.Parts.{AreSeams, last_seam, next_seams}
 use Rattle.picky_der_ser.proofs.Seams.{seams-next, last_seam-next, drop-next_seams, take-next_seams, length-next_seams}
+use Rattle.picky_der_ser.proofs.SetBytes.{in_order-uncut}
 
 -- ---- marks within more bytes, and fewer marks
 
@@ -97,6 +98,14 @@ stack-begun {p} {m} ms s q r was k e =
     drop-next_seams m.header m.first_seam q n first ∙ ap (next_seams m.header (drop m.first_seam q)) (sym (length-drop m.start s)) in
     let others = take-next_seams m.header m.first_seam q n first in
     rw (was, e) (ap₂ (λ x y. record { inside = levels_of ms (take m.at s) x; pending = Some (record { header = m.header; around = m.around.items; content = drop m.start s; seams = y }) }) others own)
+
+-- what is pending and has no seams is in order
+pub stack-uncut : {p : Option Mark} {m : Mark} (ms : List Mark) (s q : List ℕ) → p ≡ Some m → length q ≤ m.first_seam
+    → IfSome (level_of p s q) (λ l. stack_at p ms s q ≡ record (stack_at p ms s q) { pending = Some (in_order l) })
+stack-uncut {p} {m} ms s q was h =
+    let none : drop m.first_seam q ≡ [] = drop_all m.first_seam q h in
+    let order : level_at m s q ≡ in_order (level_at m s q) = in_order-uncut (level_at m s q) none in
+    rw was (ap (λ l. record { inside = levels_of ms (take m.at s) (take m.first_seam q); pending = Some l }) order)
 
 -- where nothing is pending, what is added goes to the innermost level
 pub stack-grown : (p : Option Mark) (ms : List Mark) (s q bs : List ℕ) (l : Level) (ls : List Level) → AreMarks (with_pending p ms) (length s) q → level_of p s q ≡ None

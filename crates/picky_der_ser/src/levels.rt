@@ -168,9 +168,11 @@ impl Levels {
         ensures { OnOk result (IfSome self.old.pending (λ l. self.new ≡ record self.old { pending = Some (in_order l) })) }
     {
         if let Some(mark) = &self.pending {
-            let seams = &self.seams[mark.first_seam..];
-            arrange(&mut self.scratch, mark.start, seams, alloc)?;
-            self.seams.truncate(mark.first_seam);
+            if mark.first_seam < self.seams.len() {
+                let seams = &self.seams[mark.first_seam..];
+                arrange(&mut self.scratch, mark.start, seams, alloc)?;
+                self.seams.truncate(mark.first_seam);
+            }
         }
         Ok(())
     }
@@ -183,18 +185,21 @@ impl Levels {
         ensures ok { OnOk result ((p l : Level) (ls : List Level) → self.old.pending ≡ Some p → self.old.inside ≡ l ∷ ls
             → self.new ≡ record { inside = with_bytes l (der (under p.around (tree_of p.header p.content))) ∷ ls; pending = None }) }
     {
-        let Some(mark) = self.pending.take() else {
+        let Some(mark) = &self.pending else {
             return Ok(0);
         };
+        let at = mark.at;
         self.seams.truncate(mark.first_seam);
-        enclose(
+        let outcome = enclose(
             &mut self.scratch,
-            mark.at,
+            at,
             mark.start,
             &mark.around,
             mark.header,
-        )?;
-        Ok(self.scratch.len() - mark.at)
+        );
+        self.pending = None;
+        outcome?;
+        Ok(self.scratch.len() - at)
     }
 
     // Adds the headers of a content of so many bytes to the level that was opened last.

@@ -49,7 +49,9 @@ fn joined(content: &[u8], seams: &[usize], alloc: Global) -> Result<Vec<u8>, All
     members.concat(alloc)
 }
 
-// Puts the parts of what stands from `start` on in ascending order.
+// Puts the parts of what stands from `start` on in ascending order. Most of what ends has but one part and doesn't come here,
+// so this stays out of line.
+#[inline(never)]
 pub(crate) fn arrange(
     out: &mut Vec<u8>,
     start: usize,
@@ -61,9 +63,6 @@ pub(crate) fn arrange(
     ensures ok { OnOk result (out.new.items ≡ take start out.old.items ++ concat (arranged (parts seams.now (drop start out.old.items)))) }
     ensures len { vec_len out.new ≡ vec_len out.old }
 {
-    if seams.is_empty() {
-        return Ok(());
-    }
     let members = joined(&out[start..], seams, alloc)?;
     out[start..].copy_from_slice(&members);
     Ok(())
