@@ -141,7 +141,9 @@ impl Levels {
         ensures { (l : Level) (ls : List Level) → self.old.inside ≡ l ∷ ls → self.new ≡ record { inside = ls; pending = Some l } }
     {
         self.give_up();
-        self.pending = self.marks.pop();
+        if let Some(mark) = self.marks.pop() {
+            self.pending = Some(mark);
+        }
     }
 
     // Adds the encoding of a content under this header in these wrappers to the level of which a member is being written,
