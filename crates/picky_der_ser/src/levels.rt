@@ -17,11 +17,12 @@ use std::marker::Model;
 // Where a level begins: the room for its headers, and behind it its content; and how many seams those around it have.
 #[derive(Drop)]
 struct Mark {
-    header: Header,
     around: Vec<Wrapper>,
     at: usize,
     start: usize,
     first_seam: usize,
+    // Last, since each move of a mark would copy the gap behind it.
+    header: Header,
 }
 
 // The contents of the levels stand one behind the other, the innermost last, and so do their seams: of a set, how many bytes
@@ -192,13 +193,7 @@ impl Levels {
         };
         let at = mark.at;
         self.seams.truncate(mark.first_seam);
-        let outcome = enclose(
-            &mut self.scratch,
-            at,
-            mark.start,
-            &mark.around,
-            mark.header,
-        );
+        let outcome = enclose(&mut self.scratch, at, mark.start, &mark.around, mark.header);
         self.pending = None;
         outcome?;
         Ok(self.scratch.len() - at)
