@@ -1,15 +1,14 @@
 -- What reading the members of a sequence or set does.
-use Rattle.std.specs.Prelude.{◌≡◌, ◌≢◌, ◌≤◌, ℕ, List, ◌++◌, length, map, None}
+use Rattle.std.specs.Prelude.{◌≡◌, ◌≤◌, ℕ, List, ◌++◌, length, map, None}
 use Rattle.std.specs.List.{concat}
 use Rattle.picky_der_core.specs.declared.error.Asn1DerError.{Asn1DerError}
-use Rattle.picky_der_core.specs.declared.error.Asn1DerError.TheVariants.{OutOfMemory}
 use Rattle.picky_der_core.specs.Tree.{Tree, Trees, trees}
 use Rattle.picky_der_core.specs.Encoding.{der, encodings}
 use Rattle.picky_der_core.specs.Readable.{AreReadable}
 use Rattle.picky_der_core.specs.Shape.{Shape, Shapes, IsOf, AreOf, EachIs}
 use Rattle.picky_der_input.specs.declared.end.End.TheVariants.{Soft}
 use Rattle.picky_der_input.specs.State.{State}
-use Rattle.picky_der_input.specs.Steps.{Takes, Fails, IsJudged, failed_with}
+use Rattle.picky_der_input.specs.Steps.{Takes, Fails, IsJudged}
 use Rattle.picky_der_input.specs.Order.{AreInOrder, unordered, Follows, RefusesTest}
 use Rattle.picky_der_input.specs.Reading.{Reads, Refuses, Concerns}
 

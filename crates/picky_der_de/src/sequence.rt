@@ -55,7 +55,9 @@ impl<'a, R: ReadExt> Sequence<'a, R> {
             return Ok(None);
         }
         let value = T::deserialize(self.de)?;
-        self.de.test_order(&value)?;
+        if self.de.is_in_set() {
+            self.de.test_order(&value)?;
+        }
         Ok(Some(value))
     }
 

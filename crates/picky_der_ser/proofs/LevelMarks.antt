@@ -1,113 +1,143 @@
 -- The levels in one list of bytes.
-use Rattle.std.proofs.Common.{◌≡◌, ◌≢◌, ℕ, ◌<◌, ◌≤◌, ◌-◌, List, [], ◌∷◌, ◌++◌, length, take, drop, Vec, Global, Option, None, Some, sym, ap, ◌∙◌, arith, subst}
+use Rattle.std.proofs.Common.{◌≡◌, ◌≢◌, ℕ, ◌<◌, ◌≤◌, ◌-◌, List, [], ◌∷◌, ◌++◌, length, take, drop, Option, None, Some, IfSome, sym, ap, ap₂, ◌∙◌, arith, subst}
 use Rattle.std.specs.Prelude.{reverse}
 use Rattle.std.proofs.lemmas.Grind.{common_steps}
-use Rattle.std.proofs.lemmas.List.{drop-append-le, take-append-le, length-take-le}
+use Rattle.std.proofs.lemmas.List.{drop-append-le, drop_all, length-drop, take-append-le, length-take-le}
 use Rattle.picky_der_ser.specs.declared.levels.Mark.{Mark}
-use Rattle.picky_der_ser.specs.State.{Level, Stack, with_bytes}
+use Rattle.picky_der_ser.specs.State.{Level, Stack, with_bytes, begun, in_order}
 use Rattle.picky_der_core.specs.Encoding.{der}
 use Rattle.picky_der_core.specs.Wrapper.{under}
 use Rattle.picky_der_ser.specs.Heading.{tree_of}
-use Rattle.picky_der_ser.specs.Marks.{level_at, levels_of, below, level_of, with_pending, IsMark, AreMarks}
+use Rattle.picky_der_ser.specs.Marks.{level_at, levels_of, below, seams_below, level_of, with_pending, IsMark, AreMarks}
 use Rattle.picky_der_ser.specs.Parts.{AreSeams, last_seam, next_seams}
-use Rattle.picky_der_ser.proofs.Seams.{seams-next, last_seam-next}
+use Rattle.picky_der_ser.proofs.Seams.{seams-next, last_seam-next, drop-next_seams, take-next_seams, length-next_seams}
+use Rattle.picky_der_ser.proofs.SetBytes.{in_order-uncut}
 
 -- ---- marks within more bytes, and fewer marks
 
-pub mark-more : {m : Mark} {a b : ℕ} → a ≤ b → IsMark m a → IsMark m b
-mark-more h k = record { numbers = k.numbers; number = k.number; room = k.room; within = omega (arith, h, k.within); seams = k.seams; least = k.least }
+pub mark-more : {m : Mark} {a b : ℕ} {q : List ℕ} → a ≤ b → IsMark m a q → IsMark m b q
+mark-more h k = record { numbers = k.numbers; number = k.number; room = k.room; first = k.first; within = omega (arith, h, k.within); ascending = k.ascending; least = k.least }
 
-pub marks-more : (ms : List Mark) {a b : ℕ} → a ≤ b → AreMarks ms a → AreMarks ms b
-marks-more [] h k = tt
-marks-more (m ∷ ms) h k = (mark-more h k.0, k.1)
+pub marks-more : (ms : List Mark) {a b : ℕ} (q : List ℕ) → a ≤ b → AreMarks ms a q → AreMarks ms b q
+marks-more [] q h k = tt
+marks-more (m ∷ ms) q h k = (mark-more h k.0, k.1)
 
 -- without the first
-pub marks-rest : (m : Mark) (ms : List Mark) {n : ℕ} → AreMarks (m ∷ ms) n → AreMarks ms n
-marks-rest m ms {n} k = let room = k.0.room in let within = k.0.within in marks-more ms (omega (arith, room, within)) k.1
+pub marks-rest : (m : Mark) (ms : List Mark) (n : ℕ) (q : List ℕ) → AreMarks (m ∷ ms) n q → AreMarks ms n (take m.first_seam q)
+marks-rest m ms n q k = let room = k.0.room in let within = k.0.within in marks-more ms (take m.first_seam q) (omega (arith, room, within)) k.1
+
+pub marks-settled : (p : Option Mark) (ms : List Mark) (n : ℕ) (q : List ℕ) → AreMarks (with_pending p ms) n q → AreMarks ms n (seams_below p q)
+marks-settled None ms n q k = k
+marks-settled (Some m) ms n q k = marks-rest m ms n q k
 
 -- another member of the innermost begins where it ends
-pub marks-begun : (m : Mark) (ms : List Mark) (seams : Vec ℕ Global) (n : ℕ) → AreMarks (m ∷ ms) n → seams.items ≡ next_seams m.header m.seams.items (n - m.start)
-    → AreMarks (record m { seams = seams } ∷ ms) n
-marks-begun m ms seams n k e =
+marks-next : (m : Mark) (ms : List Mark) (n : ℕ) (q : List ℕ) → AreMarks (m ∷ ms) n q → AreMarks (m ∷ ms) n (next_seams m.header q (n - m.start))
+marks-next m ms n q k =
     let within = k.0.within in
-    let held : last_seam 0 m.seams.items ≤ n - m.start = omega (arith, within) in
-    let last = last_seam-next m.header m.seams.items (n - m.start) held in
-    let first : IsMark (record m { seams = seams }) n = record {
+    let own = drop m.first_seam q in
+    let held : last_seam 0 own ≤ n - m.start = omega (arith, within) in
+    let last = last_seam-next m.header own (n - m.start) held in
+    let is = drop-next_seams m.header m.first_seam q (n - m.start) k.0.first in
+    let first : IsMark m n (next_seams m.header q (n - m.start)) = record {
       numbers = k.0.numbers;
       number = k.0.number;
       room = k.0.room;
-      within = omega (arith, within, last, ap (last_seam 0) e);
-      seams = subst (AreSeams 0) (sym e) (seams-next m.header m.seams.items (n - m.start) held k.0.seams);
+      first = omega (arith, k.0.first, length-next_seams m.header q (n - m.start));
+      within = omega (arith, within, last, ap (last_seam 0) is);
+      ascending = subst (AreSeams 0) (sym is) (seams-next m.header own (n - m.start) held k.0.ascending);
       least = k.0.least;
     } in
-    (first, k.1)
+    (first, subst (AreMarks ms m.at) (sym (take-next_seams m.header m.first_seam q (n - m.start) k.0.first)) k.1)
 
-pub marks-settled : (p : Option Mark) (ms : List Mark) (n : ℕ) → AreMarks (with_pending p ms) n → AreMarks ms n
-marks-settled None ms n k = k
-marks-settled (Some m) ms n k = marks-rest m ms k
+pub marks-begun : {p : Option Mark} {m : Mark} (ms : List Mark) (n : ℕ) (q r : List ℕ) → p ≡ Some m → AreMarks (with_pending p ms) n q → r ≡ next_seams m.header q (n - m.start)
+    → AreMarks (with_pending p ms) n r
+marks-begun {p} {m} ms n q r was k e =
+    let before : AreMarks (m ∷ ms) n q = subst (λ o. AreMarks (with_pending o ms) n q) was k in
+    rw (was, e) (marks-next m ms n q before)
 
 -- ---- whether there is one
 
-some_level : (ms : List Mark) (s : List ℕ) → 0 < length ms → levels_of ms s ≢ []
-some_level [] s h = absurd (omega arith)
-some_level (m ∷ ms) s h = λ e. cc
+some_level : (ms : List Mark) (s q : List ℕ) → 0 < length ms → levels_of ms s q ≢ []
+some_level [] s q h = absurd (omega arith)
+some_level (m ∷ ms) s q h = λ e. cc
 
-pub some_inside : (ms : List Mark) (s : List ℕ) → 0 < length ms → levels_of (reverse ms) s ≢ []
-some_inside ms s h = let some : 0 < length (reverse ms) = grind (arith, common_steps) in some_level (reverse ms) s some
+pub some_inside : (ms : List Mark) (s q : List ℕ) → 0 < length ms → levels_of (reverse ms) s q ≢ []
+some_inside ms s q h = let some : 0 < length (reverse ms) = grind (arith, common_steps) in some_level (reverse ms) s q some
 
 -- ---- what is added to the innermost
 
-pub levels-grown : (ms : List Mark) (s bs : List ℕ) (l : Level) (ls : List Level) → AreMarks ms (length s) → levels_of ms s ≡ l ∷ ls → levels_of ms (s ++ bs) ≡ with_bytes l bs ∷ ls
-levels-grown [] s bs l ls h e = cc
-levels-grown (m ∷ ms) s bs l ls h e =
+pub levels-grown : (ms : List Mark) (s q bs : List ℕ) (l : Level) (ls : List Level) → AreMarks ms (length s) q → levels_of ms s q ≡ l ∷ ls → levels_of ms (s ++ bs) q ≡ with_bytes l bs ∷ ls
+levels-grown [] s q bs l ls h e = cc
+levels-grown (m ∷ ms) s q bs l ls h e =
     let last = h.0.within in
     let within : m.start ≤ length s = omega (arith, last) in
     let room = h.0.room in
-    let first : level_at m s ≡ l = cc in
-    let others : levels_of ms (take m.at s) ≡ ls = cc in
+    let first : level_at m s q ≡ l = cc in
+    let others : levels_of ms (take m.at s) (take m.first_seam q) ≡ ls = cc in
     let header = ap (λ (o : Level). o.header) first in
     let around = ap (λ (o : Level). o.around) first in
     let content = ap (λ (o : Level). o.content) first in
     let seams = ap (λ (o : Level). o.seams) first in
     let a = drop-append-le m.start s bs within in
-    let b = ap (λ x. levels_of ms x) (take-append-le m.at s bs (omega (arith, room, within))) in
+    let b = ap (λ x. levels_of ms x (take m.first_seam q)) (take-append-le m.at s bs (omega (arith, room, within))) in
     cc
 
 -- ---- the stack
 
-abbrev pub stack_at : Option Mark → List Mark → List ℕ → Stack
-stack_at p ms s = record { inside = levels_of ms (below p s); pending = level_of p s }
+abbrev pub stack_at : Option Mark → List Mark → List ℕ → List ℕ → Stack
+stack_at p ms s q = record { inside = levels_of ms (below p s) (seams_below p q); pending = level_of p s q }
+
+-- another member of what is pending begins
+pub stack-begun : {p : Option Mark} {m : Mark} (ms : List Mark) (s q r : List ℕ) → p ≡ Some m → AreMarks (with_pending p ms) (length s) q → r ≡ next_seams m.header q (length s - m.start)
+    → IfSome (level_of p s q) (λ l. stack_at p ms s r ≡ record (stack_at p ms s q) { pending = Some (begun l) })
+stack-begun {p} {m} ms s q r was k e =
+    let before : AreMarks (m ∷ ms) (length s) q = subst (λ o. AreMarks (with_pending o ms) (length s) q) was k in
+    let first = before.0.first in
+    let n = length s - m.start in
+    let own : drop m.first_seam (next_seams m.header q n) ≡ next_seams m.header (drop m.first_seam q) (length (drop m.start s)) =
+    drop-next_seams m.header m.first_seam q n first ∙ ap (next_seams m.header (drop m.first_seam q)) (sym (length-drop m.start s)) in
+    let others = take-next_seams m.header m.first_seam q n first in
+    rw (was, e) (ap₂ (λ x y. record { inside = levels_of ms (take m.at s) x; pending = Some (record { header = m.header; around = m.around.items; content = drop m.start s; seams = y }) }) others own)
+
+-- what is pending and has no seams is in order
+pub stack-uncut : {p : Option Mark} {m : Mark} (ms : List Mark) (s q : List ℕ) → p ≡ Some m → length q ≤ m.first_seam
+    → IfSome (level_of p s q) (λ l. stack_at p ms s q ≡ record (stack_at p ms s q) { pending = Some (in_order l) })
+stack-uncut {p} {m} ms s q was h =
+    let none : drop m.first_seam q ≡ [] = drop_all m.first_seam q h in
+    let order : level_at m s q ≡ in_order (level_at m s q) = in_order-uncut (level_at m s q) none in
+    rw was (ap (λ l. record { inside = levels_of ms (take m.at s) (take m.first_seam q); pending = Some l }) order)
 
 -- where nothing is pending, what is added goes to the innermost level
-pub stack-grown : (p : Option Mark) (ms : List Mark) (s bs : List ℕ) (l : Level) (ls : List Level) → AreMarks (with_pending p ms) (length s) → level_of p s ≡ None → levels_of ms (below p s) ≡ l ∷ ls
-    → stack_at p ms (s ++ bs) ≡ record { inside = with_bytes l bs ∷ ls; pending = None }
-stack-grown None ms s bs l ls h n e = let f = levels-grown ms s bs l ls h e in cc
-stack-grown (Some m) ms s bs l ls h n e = cc
+pub stack-grown : (p : Option Mark) (ms : List Mark) (s q bs : List ℕ) (l : Level) (ls : List Level) → AreMarks (with_pending p ms) (length s) q → level_of p s q ≡ None
+    → levels_of ms (below p s) (seams_below p q) ≡ l ∷ ls → stack_at p ms (s ++ bs) q ≡ record { inside = with_bytes l bs ∷ ls; pending = None }
+stack-grown None ms s q bs l ls h n e = let f = levels-grown ms s q bs l ls h e in cc
+stack-grown (Some m) ms s q bs l ls h n e = cc
 
 -- the bytes from the last mark on are replaced, and go to the level around it
-stack-merged : (m : Mark) (ms : List Mark) (s bs : List ℕ) (l : Level) (ls : List Level) → AreMarks (m ∷ ms) (length s) → levels_of ms (take m.at s) ≡ l ∷ ls
-    → stack_at None ms (take m.at s ++ bs) ≡ record { inside = with_bytes l bs ∷ ls; pending = None }
-stack-merged m ms s bs l ls h e =
+stack-merged : (m : Mark) (ms : List Mark) (s q bs : List ℕ) (l : Level) (ls : List Level) → AreMarks (m ∷ ms) (length s) q → levels_of ms (take m.at s) (take m.first_seam q) ≡ l ∷ ls
+    → stack_at None ms (take m.at s ++ bs) (take m.first_seam q) ≡ record { inside = with_bytes l bs ∷ ls; pending = None }
+stack-merged m ms s q bs l ls h e =
     let within = h.0.within in
     let room = h.0.room in
     let size : length (take m.at s) ≡ m.at = length-take-le m.at s (omega (arith, within, room)) in
-    let f = levels-grown ms (take m.at s) bs l ls (subst (AreMarks ms) (sym size) h.1) e in
+    let f = levels-grown ms (take m.at s) (take m.first_seam q) bs l ls (subst (λ k. AreMarks ms k (take m.first_seam q)) (sym size) h.1) e in
     cc
 
-module _ {p q : Option Mark} {m : Mark} (ms : List Mark) (was : p ≡ Some m) (now : q ≡ None) where
-  pub marks-taken : (n k : ℕ) → m.at ≤ k → AreMarks (with_pending p ms) n → AreMarks (with_pending q ms) k
+module _ {p q : Option Mark} {m : Mark} (ms : List Mark) (seams : List ℕ) (was : p ≡ Some m) (now : q ≡ None) where
+  pub marks-taken : (n k : ℕ) → m.at ≤ k → AreMarks (with_pending p ms) n seams → AreMarks (with_pending q ms) k (take m.first_seam seams)
   marks-taken n k h marks =
-      let before : AreMarks (m ∷ ms) n = subst (λ o. AreMarks (with_pending o ms) n) was marks in
-      rw now (marks-more ms h before.1)
+      let before : AreMarks (m ∷ ms) n seams = subst (λ o. AreMarks (with_pending o ms) n seams) was marks in
+      rw now (marks-more ms (take m.first_seam seams) h before.1)
 
   -- what was pending is enclosed, and goes to the level around it
-  pub stack-enclosed : (s t : List ℕ) (o l : Level) (ls : List Level) → AreMarks (with_pending p ms) (length s) → level_of p s ≡ Some o → levels_of ms (below p s) ≡ l ∷ ls
-      → t ≡ take m.at s ++ der (under m.around.items (tree_of m.header (drop m.start s))) → stack_at q ms t ≡ record { inside = with_bytes l (der (under o.around (tree_of o.header o.content))) ∷ ls; pending = None }
+  pub stack-enclosed : (s t : List ℕ) (o l : Level) (ls : List Level) → AreMarks (with_pending p ms) (length s) seams → level_of p s seams ≡ Some o → levels_of ms (below p s) (seams_below p seams) ≡ l ∷ ls
+      → t ≡ take m.at s ++ der (under m.around.items (tree_of m.header (drop m.start s)))
+      → stack_at q ms t (take m.first_seam seams) ≡ record { inside = with_bytes l (der (under o.around (tree_of o.header o.content))) ∷ ls; pending = None }
   stack-enclosed s t o l ls marks e f g =
-      let before : AreMarks (m ∷ ms) (length s) = subst (λ x. AreMarks (with_pending x ms) (length s)) was marks in
-      let level : level_at m s ≡ o = let a : Some (level_at m s) ≡ Some o = ap (λ x. level_of x s) (sym was) ∙ e in cc in
-      let inside : levels_of ms (take m.at s) ≡ l ∷ ls = ap (λ x. levels_of ms (below x s)) (sym was) ∙ f in
+      let before : AreMarks (m ∷ ms) (length s) seams = subst (λ x. AreMarks (with_pending x ms) (length s) seams) was marks in
+      let level : level_at m s seams ≡ o = let a : Some (level_at m s seams) ≡ Some o = ap (λ x. level_of x s seams) (sym was) ∙ e in cc in
+      let inside : levels_of ms (take m.at s) (take m.first_seam seams) ≡ l ∷ ls = ap (λ x. levels_of ms (below x s) (seams_below x seams)) (sym was) ∙ f in
       rw now (
-      ap (stack_at None ms) g ∙ stack-merged m ms s _ l ls before inside
+      ap (λ x. stack_at None ms x (take m.first_seam seams)) g ∙ stack-merged m ms s seams _ l ls before inside
       ∙ ap (λ (x : Level). record { inside = with_bytes l (der (under x.around (tree_of x.header x.content))) ∷ ls; pending = None }) level
       )

@@ -4,7 +4,7 @@ use Rattle.std.specs.declared.alloc.AllocError.{AllocError}
 use Rattle.std.specs.Cmp.Lexicographic.{slice_cmp}
 use Rattle.std.specs.List.{between, concat, flat_map, AllZip, each_same}
 use Rattle.std.proofs.Math.Seq.{take-append_seam, drop-append_seam}
-use Rattle.std.proofs.lemmas.List.{take-append-le, take-append-drop, drop-append-le, length-take-le}
+use Rattle.std.proofs.lemmas.List.{take-append-le, take-append-drop, drop-append-le, length-append, length-take-le}
 use Rattle.std.proofs.lemmas.List.Concat.{concat_is}
 use Rattle.std.proofs.lemmas.List.Folds.{flat_map-map}
 use Rattle.std.proofs.lemmas.Slice.{between_is}
@@ -44,6 +44,29 @@ last_seam-next header ss n h = by_test (is_set header && nat_lt 0 n)
     by_test : (t : Bool) → last_seam 0 (cond t (ss ++ (n ∷ [])) ss) ≤ n
     by_test true = omega (arith, last_seam-push 0 ss n)
     by_test false = h
+
+-- of seams that stand one behind the other, those before the `k`th stay
+
+pub drop-next_seams : (header : Header) (k : ℕ) (ss : List ℕ) (n : ℕ) → k ≤ length ss → drop k (next_seams header ss n) ≡ next_seams header (drop k ss) n
+drop-next_seams header k ss n h = by_test (is_set header && nat_lt 0 n)
+  where
+    by_test : (t : Bool) → drop k (cond t (ss ++ (n ∷ [])) ss) ≡ cond t (drop k ss ++ (n ∷ [])) (drop k ss)
+    by_test true = drop-append-le k ss (n ∷ []) h
+    by_test false = refl
+
+pub take-next_seams : (header : Header) (k : ℕ) (ss : List ℕ) (n : ℕ) → k ≤ length ss → take k (next_seams header ss n) ≡ take k ss
+take-next_seams header k ss n h = by_test (is_set header && nat_lt 0 n)
+  where
+    by_test : (t : Bool) → take k (cond t (ss ++ (n ∷ [])) ss) ≡ take k ss
+    by_test true = take-append-le k ss (n ∷ []) h
+    by_test false = refl
+
+pub length-next_seams : (header : Header) (ss : List ℕ) (n : ℕ) → length ss ≤ length (next_seams header ss n)
+length-next_seams header ss n = by_test (is_set header && nat_lt 0 n)
+  where
+    by_test : (t : Bool) → length ss ≤ length (cond t (ss ++ (n ∷ [])) ss)
+    by_test true = omega (arith, length-append ss (n ∷ []))
+    by_test false = omega arith
 
 -- ---- a member behind the others is one part more
 

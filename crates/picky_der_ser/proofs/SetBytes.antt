@@ -1,5 +1,5 @@
 -- What a level holds, put in order: the content of the list that is being written.
-use Rattle.std.proofs.Common.{◌≡◌, ℕ, ◌≤◌, true, false, ◌&&◌, cond, nat_lt, List, [], ◌∷◌, ◌++◌, length, refl, sym, ap, ◌∙◌, subst, arith, append-nil, append_assoc, length-append}
+use Rattle.std.proofs.Common.{◌≡◌, ℕ, ◌≤◌, true, false, ◌&&◌, cond, nat_lt, List, [], ◌∷◌, ◌++◌, length, refl, sym, ap, ap₂, ◌∙◌, subst, arith, append-nil, append_assoc, length-append}
 use Rattle.std.specs.List.{concat}
 use Rattle.std.proofs.lemmas.Bool.{lt-ltb}
 use Rattle.picky_der_core.specs.declared.asn1.wrapper.Wrapper.{Wrapper}
@@ -11,12 +11,15 @@ use Rattle.picky_der_ser.specs.declared.header.Header.{Header}
 use Rattle.picky_der_ser.specs.declared.header.Header.TheVariants.{Tagged}
 use Rattle.picky_der_ser.specs.Heading.{is_set}
 use Rattle.picky_der_ser.specs.Parts.{parts, AreSeams, last_seam, next_seams}
-use Rattle.picky_der_ser.specs.State.{Level, with_member, with_members, settled}
+use Rattle.picky_der_ser.specs.State.{Level, with_member, with_members, settled, in_order}
 use Rattle.picky_der_ser.proofs.Seams.{last_seam-push, seams-push, parts-push, arranged-uncut}
 
 -- what isn't cut stays as it is
 pub settled-uncut : (l : Level) → l.seams ≡ [] → settled l ≡ l.content
 settled-uncut l e = arranged-uncut l.seams l.content (ap length e)
+
+pub in_order-uncut : (l : Level) → l.seams ≡ [] → l ≡ in_order l
+in_order-uncut l e = ap₂ (λ c ss. record l { content = c; seams = ss }) (sym (settled-uncut l e)) e
 
 -- ---- members of a set: those that aren't empty are the parts of the content that aren't
 

@@ -14,21 +14,24 @@ use picky_der_core::asn1::Wrapper;
 use std::alloc::{AllocError, Global};
 use std::marker::Model;
 
-// Where a level begins: the room for its headers, and behind it its content. Only a set takes memory for its seams.
+// Where a level begins: the room for its headers, and behind it its content; and how many seams those around it have.
 #[derive(Drop)]
 struct Mark {
-    header: Header,
     around: Vec<Wrapper>,
     at: usize,
     start: usize,
-    // Of a set, how many bytes of the content stand in front of each member but the first.
-    seams: Vec<usize>,
+    first_seam: usize,
+    // Last, since each move of a mark would copy the gap behind it.
+    header: Header,
 }
 
-// The contents of the levels stand one behind the other, the innermost last.
+// The contents of the levels stand one behind the other, the innermost last, and so do their seams: of a set, how many bytes
+// of its content stand in front of each member but the first. A vector in each mark would be copied and dropped with those of
+// sequences too, which have no seams.
 #[derive(Drop)]
 pub(crate) struct Levels {
     scratch: Vec<u8>,
+    seams: Vec<usize>,
     marks: Vec<Mark>,
     pending: Option<Mark>,
 }
@@ -36,18 +39,18 @@ pub(crate) struct Levels {
 impl Model for Levels {
     ghost use Rattle.std.specs.Prelude.{reverse, length};
     ghost use Rattle.picky_der_ser.specs.State.{Stack, stack_code};
-    ghost use Rattle.picky_der_ser.specs.Marks.{levels_of, below, level_of, with_pending, AreMarks};
+    ghost use Rattle.picky_der_ser.specs.Marks.{levels_of, below, seams_below, level_of, with_pending, AreMarks};
 
     ghost Value = { Stack };
 
     ghost coded = { stack_code };
 
     ghost view = { λ s. record {
-      inside = levels_of (reverse s.marks.items) (below s.pending s.scratch.items);
-      pending = level_of s.pending s.scratch.items;
+      inside = levels_of (reverse s.marks.items) (below s.pending s.scratch.items) (seams_below s.pending s.seams.items);
+      pending = level_of s.pending s.scratch.items s.seams.items;
     } };
 
-    ghost invariant = { λ s. AreMarks (with_pending s.pending (reverse s.marks.items)) (length s.scratch.items) };
+    ghost invariant = { λ s. AreMarks (with_pending s.pending (reverse s.marks.items)) (length s.scratch.items) s.seams.items };
 }
 
 impl Levels {
@@ -56,6 +59,7 @@ impl Levels {
     {
         Levels {
             scratch: Vec::new(alloc),
+            seams: Vec::new(alloc),
             marks: Vec::new(alloc),
             pending: None,
         }
@@ -73,13 +77,15 @@ impl Levels {
     pub(crate) fn give_up(&mut self)
         ensures { self.new ≡ record self.old { pending = None } }
     {
-        if let Some(mark) = self.pending.take() {
+        if let Some(mark) = &self.pending {
             self.scratch.truncate(mark.at);
+            self.seams.truncate(mark.first_seam);
+            self.pending = None;
         }
     }
 
     // Opens a level, in place of one that was opened and hasn't ended.
-    pub(crate) fn open(&mut self, header: Header, around: Vec<Wrapper>, alloc: Global)
+    pub(crate) fn open(&mut self, header: Header, around: Vec<Wrapper>)
         requires numbers { HaveTagNumbers around.items × HasNumber header }
         ensures { self.new ≡ record self.old { pending = Some (record { header = header; around = around.items; content = []; seams = [] }) } }
     {
@@ -90,7 +96,7 @@ impl Levels {
             around,
             at,
             start: at,
-            seams: Vec::new(alloc),
+            first_seam: self.seams.len(),
         });
     }
 
@@ -107,15 +113,26 @@ impl Levels {
         Ok(())
     }
 
+    // Keeps where another member of the level begins that was opened last, if it is a set.
+    fn begin_member(&mut self) -> Result<(), AllocError>
+        ensures { OnOk result (IfSome self.old.pending (λ l. self.new ≡ record self.old { pending = Some (begun l) })) }
+    {
+        if let Some(mark) = &self.pending {
+            let held = self.scratch.len() - mark.start;
+            begin_member(&mut self.seams, mark.header, held)?;
+        }
+        Ok(())
+    }
+
     // A member of the level that was opened last is written from here on.
     pub(crate) fn enter(&mut self) -> Result<(), AllocError>
         ensures { OnOk result (IfSome self.old.pending (λ l. self.new ≡ record { inside = begun l ∷ self.old.inside; pending = None })) }
     {
         self.make_room()?;
-        if let Some(mut mark) = self.pending.take() {
-            let held = self.scratch.len() - mark.start;
-            begin_member(&mut mark.seams, mark.header, held)?;
-            self.marks.push(mark)?;
+        self.begin_member()?;
+        self.marks.reserve(1)?;
+        if let Some(mark) = self.pending.take() {
+            self.marks.push_reserved(mark);
         }
         Ok(())
     }
@@ -125,7 +142,9 @@ impl Levels {
         ensures { (l : Level) (ls : List Level) → self.old.inside ≡ l ∷ ls → self.new ≡ record { inside = ls; pending = Some l } }
     {
         self.give_up();
-        self.pending = self.marks.pop();
+        if let Some(mark) = self.marks.pop() {
+            self.pending = Some(mark);
+        }
     }
 
     // Adds the encoding of a content under this header in these wrappers to the level of which a member is being written,
@@ -151,9 +170,12 @@ impl Levels {
     pub(crate) fn arrange(&mut self, alloc: Global) -> Result<(), AllocError>
         ensures { OnOk result (IfSome self.old.pending (λ l. self.new ≡ record self.old { pending = Some (in_order l) })) }
     {
-        if let Some(mark) = &mut self.pending {
-            arrange(&mut self.scratch, mark.start, &mark.seams, alloc)?;
-            mark.seams.clear();
+        if let Some(mark) = &self.pending {
+            if mark.first_seam < self.seams.len() {
+                let seams = &self.seams[mark.first_seam..];
+                arrange(&mut self.scratch, mark.start, seams, alloc)?;
+                self.seams.truncate(mark.first_seam);
+            }
         }
         Ok(())
     }
@@ -166,17 +188,15 @@ impl Levels {
         ensures ok { OnOk result ((p l : Level) (ls : List Level) → self.old.pending ≡ Some p → self.old.inside ≡ l ∷ ls
             → self.new ≡ record { inside = with_bytes l (der (under p.around (tree_of p.header p.content))) ∷ ls; pending = None }) }
     {
-        let Some(mark) = self.pending.take() else {
+        let Some(mark) = &self.pending else {
             return Ok(0);
         };
-        enclose(
-            &mut self.scratch,
-            mark.at,
-            mark.start,
-            &mark.around,
-            mark.header,
-        )?;
-        Ok(self.scratch.len() - mark.at)
+        let at = mark.at;
+        self.seams.truncate(mark.first_seam);
+        let outcome = enclose(&mut self.scratch, at, mark.start, &mark.around, mark.header);
+        self.pending = None;
+        outcome?;
+        Ok(self.scratch.len() - at)
     }
 
     // Adds the headers of a content of so many bytes to the level that was opened last.

@@ -1,5 +1,5 @@
 //! The order of the members of a set (X.690, 11.6).
-ghost use Rattle.std.specs.Prelude.{◌≡◌, ◌≤◌, ◌+◌, ◌++◌, length, map, take, drop, vec_len, IfOk, OnOk};
+ghost use Rattle.std.specs.Prelude.{◌≡◌, ◌≤◌, ◌+◌, ◌++◌, length, map, take, drop, vec_len, IfOk, OnOk, OnErr};
 ghost use Rattle.std.specs.List.{concat};
 ghost use Rattle.picky_der_core.specs.Order.{arranged};
 ghost use Rattle.picky_der_ser.specs.Parts.{parts, AreSeams, last_seam, next_seams};
@@ -7,13 +7,14 @@ ghost use Rattle.picky_der_ser.specs.Parts.{parts, AreSeams, last_seam, next_sea
 use crate::Header;
 use std::alloc::{AllocError, Global};
 
-// Keeps where the next member of a set begins, behind so many bytes of other members.
+// Keeps where the next member of a set begins, behind so many bytes of other members. Without room for it nothing changes.
 pub(crate) fn begin_member(
     seams: &mut Vec<usize>,
     header: Header,
     held: usize,
 ) -> Result<(), AllocError>
-    ensures { OnOk result (seams.new.items ≡ next_seams header seams.old.items held) }
+    ensures ok { OnOk result (seams.new.items ≡ next_seams header seams.old.items held) }
+    ensures err { OnErr result (seams.new.items ≡ seams.old.items) }
 {
     if header.is_set() && held > 0 {
         seams.push(held)?;
@@ -48,7 +49,9 @@ fn joined(content: &[u8], seams: &[usize], alloc: Global) -> Result<Vec<u8>, All
     members.concat(alloc)
 }
 
-// Puts the parts of what stands from `start` on in ascending order.
+// Puts the parts of what stands from `start` on in ascending order. Most of what ends has but one part and doesn't come here,
+// so this stays out of line.
+#[inline(never)]
 pub(crate) fn arrange(
     out: &mut Vec<u8>,
     start: usize,
@@ -60,9 +63,6 @@ pub(crate) fn arrange(
     ensures ok { OnOk result (out.new.items ≡ take start out.old.items ++ concat (arranged (parts seams.now (drop start out.old.items)))) }
     ensures len { vec_len out.new ≡ vec_len out.old }
 {
-    if seams.is_empty() {
-        return Ok(());
-    }
     let members = joined(&out[start..], seams, alloc)?;
     out[start..].copy_from_slice(&members);
     Ok(())

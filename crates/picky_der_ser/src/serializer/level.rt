@@ -22,7 +22,7 @@ impl<W: WriteExt> Serializer<W> {
         ensures { Opens W.WriteExt.own header self.old self.new }
     {
         let around = mem::replace(&mut self.around, Vec::new(self.alloc));
-        self.levels.open(header, around, self.alloc);
+        self.levels.open(header, around);
     }
 
     // Writes the headers of the level that was opened last, and this content, to the sink.

@@ -1,19 +1,11 @@
-use Rattle.std.proofs.Common.{◌≡◌, ◌++◌, length, take, drop, ap, sym, ◌∙◌, arith}
-use Rattle.std.proofs.lemmas.Bool.Decides.{nat_tests}
+use Rattle.std.proofs.Common.{◌≡◌, length, drop, ap, sym, ◌∙◌, arith}
 use Rattle.std.specs.List.{between, concat}
-use Rattle.std.proofs.lemmas.List.{take-append-drop, length-drop}
+use Rattle.std.proofs.lemmas.List.{length-drop}
 use Rattle.std.proofs.lemmas.Slice.{between_to_end}
 use Rattle.picky_der_core.specs.Order.{arranged}
 use Rattle.picky_der_ser.specs.Parts.{parts}
-use Rattle.picky_der_ser.proofs.Seams.{arranged-uncut, length-arranged_parts}
+use Rattle.picky_der_ser.proofs.Seams.{length-arranged_parts}
 use Rattle.picky_der_ser.proofs.sets.arrange.Goals as goal
-
-pub returns-then-is_empty-clause-ok : goal.returns-then-is_empty-clause-ok
-returns-then-is_empty-clause-ok c =
-    let s = c.args.out.now.items in
-    let n = c.args.start in
-    let none : length c.args.seams.now ≡ 0 = grind (arith, nat_tests) in
-    sym (ap (λ x. take n s ++ x) (arranged-uncut c.args.seams.now (drop n s) none) ∙ take-append-drop n s)
 
 pub copy_from_slice-requires : goal.copy_from_slice-requires
 copy_from_slice-requires c =

@@ -1,4 +1,4 @@
-use Rattle.std.proofs.Common.{◌≡◌, ◌≤◌, ◌++◌, length, take, drop, Some, ap, ◌∙◌, sym, arith}
+use Rattle.std.proofs.Common.{◌≤◌, ◌++◌, length, take, drop, refl, ap, ◌∙◌, arith}
 use Rattle.picky_der_core.specs.Encoding.{der}
 use Rattle.picky_der_core.specs.Wrapper.{under}
 use Rattle.picky_der_ser.specs.Heading.{tree_of}
@@ -6,21 +6,21 @@ use Rattle.picky_der_ser.specs.State.{Stack}
 use Rattle.picky_der_ser.proofs.LevelMarks.{marks-taken, stack-enclosed}
 use Rattle.picky_der_ser.proofs.levels.Levels.merge.Goals as goal
 
-pub invariant_of-self-in_err-enclose : goal.invariant_of-self-in_err-enclose
-invariant_of-self-in_err-enclose c =
-    let was : c.self.inside.pending ≡ Some c.in-Some.mark = sym c.take.ensures.value ∙ c.in-Some.is in
-    let within : c.in-Some.mark.at ≤ length c.enclose.new.out.items = omega (arith, c.in_err-enclose.ensures.grows) in
-    marks-taken _ was c.take.ensures.after _ _ within c.self.invariant
+pub invariant_of-self : goal.invariant_of-self
+invariant_of-self c =
+    let within : c.in-Some.mark.at ≤ length c.enclose-outcome.new.out.items = omega (arith, c.enclose-outcome.ensures.grows) in
+    rw c.truncate.ensures.items (marks-taken _ _ c.in-Some.is refl _ _ within c.self.invariant)
 
 pub invariant_of-self-2 : goal.invariant_of-self-2
 invariant_of-self-2 c =
-    let was : c.self.inside.pending ≡ Some c.in-Some.mark = sym c.take.ensures.value ∙ c.in-Some.is in
-    let within : c.in-Some.mark.at ≤ length c.enclose.new.out.items = omega (arith, c.in_ok-enclose.ensures.grows) in
-    marks-taken _ was c.take.ensures.after _ _ within c.self.invariant
+    let within : c.in-Some.mark.at ≤ length c.enclose-outcome.new.out.items = omega (arith, c.enclose-outcome.ensures.grows) in
+    rw c.truncate.ensures.items (marks-taken _ _ c.in-Some.is refl _ _ within c.self.invariant)
 
 pub returns-clause-ok : goal.returns-clause-ok
 returns-clause-ok c = λ p l ls e f.
-    let was : c.self.inside.pending ≡ Some c.in-Some.mark = sym c.take.ensures.value ∙ c.in-Some.is in
     let m = c.in-Some.mark in
     let s = c.self.inside.scratch.items in
-    stack-enclosed _ was c.take.ensures.after _ _ p l ls c.self.invariant (ap (λ (x : Stack). x.pending) c.self.view_is ∙ e) (ap (λ (x : Stack). x.inside) c.self.view_is ∙ f) (c.in_ok-enclose.ensures.ok ∙ ap (λ ws. take m.at s ++ der (under ws (tree_of m.header (drop m.start s)))) c.deref.ensures.value)
+    let enclosed = c.in_ok-outcome.ensures.ok ∙ ap (λ ws. take m.at s ++ der (under ws (tree_of m.header (drop m.start s)))) c.deref.ensures.value in
+    rw c.truncate.ensures.items (
+    stack-enclosed _ _ c.in-Some.is refl _ _ p l ls c.self.invariant (ap (λ (x : Stack). x.pending) c.self.view_is ∙ e) (ap (λ (x : Stack). x.inside) c.self.view_is ∙ f) enclosed
+    )

@@ -1,0 +1,13 @@
+use Rattle.std.proofs.Common.{◌≡◌, ◌-◌, length, ap, ◌∙◌, arith}
+use Rattle.picky_der_ser.specs.Parts.{next_seams}
+use Rattle.picky_der_ser.proofs.LevelMarks.{marks-begun}
+use Rattle.picky_der_ser.proofs.levels.Levels.begin_member.Goals as goal
+
+pub invariant_of-self : goal.invariant_of-self
+invariant_of-self c =
+    let m = c.in-Some.mark in
+    let q = c.self.inside.seams.items in
+    let n = length c.self.inside.scratch.items in
+    let count : c.len.result ≡ n = omega arith in
+    let seams = c.in_ok-begin_member.ensures.ok ∙ ap (λ k. next_seams m.header q (k - m.start)) count in
+    marks-begun _ n q _ c.in-Some.is c.self.invariant seams
