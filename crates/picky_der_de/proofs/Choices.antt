@@ -17,7 +17,7 @@ use Rattle.picky_der_de.specs.declared.alternatives.OneOf.{OneOf}
 use Rattle.picky_der_de.specs.declared.alternatives.OneOf.TheVariants.{This, Other}
 use Rattle.picky_der_de.specs.declared.alternatives.NoneOf.{NoneOf}
 use Rattle.picky_der_de.specs.Firsts.{IsBegunBy, bytes_in_one}
-use Rattle.picky_der_de.specs.Choices.{meaning_of, ReadsBehind, RefusesBehind, begun, of_this, of_other}
+use Rattle.picky_der_de.specs.Choices.{chosen_of, ReadsBehind, RefusesBehind, begun, of_this, of_other}
 use Rattle.picky_der_input.proofs.Refusals.{missing_first}
 use Rattle.picky_der_de.proofs.Peeked.{not_direct, peeks_takes, peeks_fails, peeks_judged, peeks_concerns, peeks_front, peeked_first, is_whole, nothing_whole}
 
@@ -76,33 +76,33 @@ reads_other h a p = let r = h a p in record { of_shape = inr r.of_shape; readabl
 
 module _ {A B : Type 0} {m : A → Tree} {n : B → Tree} {s : Shape} {ss : Shapes} {x : ℕ} {b c : State} {e : Asn1DerError} (this : (v : A) → IsBegunBy (firsts s) (m v)) (other : (v : B) → IsBegunBy (firsts_of ss) (n v)) where
   -- this alternative was chosen, and refused
-  pub refuses_this : IsFirst s x → Refuses m s b c e → RefusesBehind (meaning_of m n) (Shapes.more s ss) x b c e
+  pub refuses_this : IsFirst s x → Refuses m s b c e → RefusesBehind (chosen_of m n) (Shapes.more s ss) x b c e
   refuses_this g h = record {
     fails = h.fails;
     refuses = λ told a p. record {
       fails = peeks_fails p h.fails;
-      none = λ j end bs k v st. none told p (peeks_judged p j) (peeks_concerns p k) (peeks_front p h.fails k).1 v (subst (λ z. StandsAt z (Shape.choice (Shapes.more s ss)) bs end (Tree.choice (meaning_of m n v))) (is_whole a p.direct) st);
+      none = λ j end bs k v st. none told p (peeks_judged p j) (peeks_concerns p k) (peeks_front p h.fails k).1 v (subst (λ z. StandsAt z (Shape.choice (Shapes.more s ss)) bs end (Tree.choice (chosen_of m n v))) (is_whole a p.direct) st);
       first = λ j k d l y left i. subst (IsFirst (Shape.choice (Shapes.more s ss))) (sym (peeked_first p y left i)) (has-append_left x (firsts s) (firsts_of ss) g);
     };
   } where
-    none : {a : State} → AreTold (Shapes.more s ss) → Peeks a b x → IsJudged b c e → {end : ℕ} {bs left : List ℕ} → Concerns b c e end bs → bs ≡ x ∷ left → (v : OneOf A B) → StandsAt Place.whole (Shape.choice (Shapes.more s ss)) bs end (Tree.choice (meaning_of m n v)) → ⊥
+    none : {a : State} → AreTold (Shapes.more s ss) → Peeks a b x → IsJudged b c e → {end : ℕ} {bs left : List ℕ} → Concerns b c e end bs → bs ≡ x ∷ left → (v : OneOf A B) → StandsAt Place.whole (Shape.choice (Shapes.more s ss)) bs end (Tree.choice (chosen_of m n v)) → ⊥
     none told p j {end} {bs} k f (This v) st =
         let own = alternative (of_this m n s ss this other told.0 v st.readable st.of_shape) st in
         h.none j end bs k v (subst (λ z. StandsAt z s bs end (m v)) (sym (is_whole b (not_direct p))) own)
     none told p j k f (Other v) st = apart_has x (firsts s) (firsts_of ss) told.0 g (stands_begun (firsts_of ss) (other v) st f)
 
   -- those behind it were refused
-  pub refuses_other : (IsFirst s x → ⊥) → RefusesBehind n ss x b c e → RefusesBehind (meaning_of m n) (Shapes.more s ss) x b c e
+  pub refuses_other : (IsFirst s x → ⊥) → RefusesBehind n ss x b c e → RefusesBehind (chosen_of m n) (Shapes.more s ss) x b c e
   refuses_other g h = record {
     fails = h.fails;
     refuses = λ told a p. let r = h.refuses told.1 a p in record {
       fails = r.fails;
-      none = λ j end bs k v st. none told p r j k (peeks_front p h.fails k).1 v (subst (λ z. StandsAt z (Shape.choice (Shapes.more s ss)) bs end (Tree.choice (meaning_of m n v))) (is_whole a p.direct) st);
+      none = λ j end bs k v st. none told p r j k (peeks_front p h.fails k).1 v (subst (λ z. StandsAt z (Shape.choice (Shapes.more s ss)) bs end (Tree.choice (chosen_of m n v))) (is_whole a p.direct) st);
       first = λ j k d l y left i. has-append_right y (firsts s) (firsts_of ss) (r.first j k d l y left i);
     };
   } where
     none : {a : State} → AreTold (Shapes.more s ss) → Peeks a b x → Refuses (λ v. Tree.choice (n v)) (Shape.choice ss) a c e → IsJudged a c e → {end : ℕ} {bs left : List ℕ} → Concerns a c e end bs → bs ≡ x ∷ left → (v : OneOf A B)
-        → StandsAt Place.whole (Shape.choice (Shapes.more s ss)) bs end (Tree.choice (meaning_of m n v)) → ⊥
+        → StandsAt Place.whole (Shape.choice (Shapes.more s ss)) bs end (Tree.choice (chosen_of m n v)) → ⊥
     none told p r j k f (This v) st = g (stands_begun (firsts s) (this v) st f)
     none {a} told p r j {end} {bs} k f (Other v) st =
         let own : StandsAt Place.whole (Shape.choice ss) bs end (Tree.choice (n v)) = record { of_shape = of_other m n s ss this other told.0 v st.readable st.of_shape; readable = st.readable; may_stand = tt; within = st.within; front = st.front } in

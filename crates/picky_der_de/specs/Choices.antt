@@ -17,9 +17,9 @@ use Rattle.picky_der_de.specs.Firsts.{IsBegunBy, BytesIn, begins_in_own, bytes_i
 use Rattle.picky_der_de.specs.KnownLaws.{IsKnownByTree}
 
 -- what a value of one alternative, or of those behind it, means
-abbrev pub meaning_of : {A B : Type 0} → (A → Tree) → (B → Tree) → OneOf A B → Tree
-meaning_of m n (This a) = m a
-meaning_of m n (Other b) = n b
+abbrev pub chosen_of : {A B : Type 0} → (A → Tree) → (B → Tree) → OneOf A B → Tree
+chosen_of m n (This a) = m a
+chosen_of m n (Other b) = n b
 
 -- ---- behind a look at the first byte
 
@@ -47,7 +47,7 @@ begins_once fs gs t w h k =
     apart_has h.first fs gs w h.listed (subst (λ x. has gs x ≡ true) same k.listed)
 
 module _ {A B : Type 0} (m : A → Tree) (n : B → Tree) (s : Shape) (ss : Shapes) (this : (a : A) → IsBegunBy (firsts s) (m a)) (other : (b : B) → IsBegunBy (firsts_of ss) (n b)) where
-  pub begins_this_or_other : (v : OneOf A B) → IsBegunBy (firsts s ++ firsts_of ss) (meaning_of m n v)
+  pub begins_this_or_other : (v : OneOf A B) → IsBegunBy (firsts s ++ firsts_of ss) (chosen_of m n v)
   begins_this_or_other (This a) = λ b h. has-append_left b (firsts s) (firsts_of ss) (this a b h)
   begins_this_or_other (Other c) = λ b h. has-append_right b (firsts s) (firsts_of ss) (other c b h)
 
@@ -72,7 +72,7 @@ module _ {A B : Type 0} (m : A → Tree) (n : B → Tree) (s : Shape) (ss : Shap
     differ a b r p e = no_other a r (subst (IsOneOf ss) (sym e) (of_other b (subst IsReadable e r) p))
 
   pub known_this_or_other : {p : A → A → Bool} {q : B → B → Bool} (eq : OneOf A B → OneOf A B → Bool) → ((a c : A) → p a c ≡ true → eq (This a) (This c) ≡ true) → ((b d : B) → q b d ≡ true → eq (Other b) (Other d) ≡ true)
-      → IsKnownByTree m s p → AreKnownApart n ss q → AreKnownApart (meaning_of m n) (Shapes.more s ss) eq
+      → IsKnownByTree m s p → AreKnownApart n ss q → AreKnownApart (chosen_of m n) (Shapes.more s ss) eq
   known_this_or_other eq f g k l told (This a) (This c) o p r e =
       let r' = subst IsReadable e r in
       f a c (k a c (of_this told.0 a r o) (of_this told.0 c r' p) r e)

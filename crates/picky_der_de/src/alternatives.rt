@@ -3,7 +3,7 @@ ghost use Rattle.std.specs.Prelude.{◌↔◌, IsTrue, IfOk, IfErr};
 ghost use Rattle.picky_der_core.specs.Tree.{Tree};
 ghost use Rattle.picky_der_core.specs.Shape.{Shapes, AreSound, firsts_of, has};
 ghost use Rattle.picky_der_de.specs.Firsts.{IsBegunBy};
-ghost use Rattle.picky_der_de.specs.Choices.{ReadsBehind, RefusesBehind, AreKnownApart, meaning_of, begins_this_or_other, known_this_or_other};
+ghost use Rattle.picky_der_de.specs.Choices.{ReadsBehind, RefusesBehind, AreKnownApart, chosen_of, begins_this_or_other, known_this_or_other};
 
 use crate::{Begins, Deserializer};
 use picky_der_core::asn1::Tag;
@@ -29,7 +29,10 @@ pub trait Alternatives: PartialEq + Drop + Sized {
     // A shape for each alternative.
     ghost shapes: { Shapes };
 
-    // What the value means that was chosen.
+    // What the value means that was chosen, as a value of its own type.
+    ghost chosen: { Self → Tree };
+
+    // What it means as a choice.
     ghost meaning: { Self → Tree };
 
     /// Whether a value of one of them can begin with this byte.
@@ -40,14 +43,14 @@ pub trait Alternatives: PartialEq + Drop + Sized {
     ///
     /// `InvalidData` where it begins none; else as the value is refused.
     fn deserialize_alternative<R: ReadExt>(tag: Tag, de: &mut Deserializer<R>) -> Result<Self>
-        ensures ok { IfOk result (λ value. ReadsBehind shapes tag de.old de.new (meaning value)) }
-        ensures err { IfErr result (RefusesBehind meaning shapes tag de.old de.new) };
+        ensures ok { IfOk result (λ value. ReadsBehind shapes tag de.old de.new (chosen value)) }
+        ensures err { IfErr result (RefusesBehind chosen shapes tag de.old de.new) };
 
     // No value begins with another byte.
-    ghost begins: { (v : Self) → IsBegunBy (firsts_of shapes) (meaning v) };
+    ghost begins: { (v : Self) → IsBegunBy (firsts_of shapes) (chosen v) };
 
     // Two readable values with one tree are equal, where the alternatives are told by their first byte.
-    ghost known: { AreKnownApart meaning shapes Self.eq };
+    ghost known: { AreKnownApart chosen shapes Self.eq };
 
     // The choices in the shapes are told by their first byte.
     ghost sound: { AreSound shapes };
@@ -55,6 +58,8 @@ pub trait Alternatives: PartialEq + Drop + Sized {
 
 impl Alternatives for NoneOf {
     ghost shapes = { Shapes.none };
+
+    ghost chosen = { λ v. elim v [ ] };
 
     ghost meaning = { λ v. elim v [ ] };
 
@@ -76,7 +81,9 @@ impl Alternatives for NoneOf {
 impl<A: Begins, B: Alternatives> Alternatives for OneOf<A, B> {
     ghost shapes = { Shapes.more A.shape B.shapes };
 
-    ghost meaning = { meaning_of A.meaning B.meaning };
+    ghost chosen = { chosen_of A.meaning B.chosen };
+
+    ghost meaning = { λ v. Tree.choice (chosen_of A.meaning B.chosen v) };
 
     fn begins_with(tag: Tag) -> bool {
         A::begins_with(tag) || B::begins_with(tag)
@@ -92,9 +99,9 @@ impl<A: Begins, B: Alternatives> Alternatives for OneOf<A, B> {
         Ok(OneOf::Other(B::deserialize_alternative(tag, de)?))
     }
 
-    ghost begins = { begins_this_or_other A.meaning B.meaning A.shape B.shapes A.begins B.begins };
+    ghost begins = { begins_this_or_other A.meaning B.chosen A.shape B.shapes A.begins B.begins };
 
-    ghost known = { known_this_or_other A.meaning B.meaning A.shape B.shapes A.begins B.begins ⟦<OneOf<A, B> as PartialEq>⟧.eq (λ _ _ h. h) (λ _ _ h. h) A.known_by_tree B.known };
+    ghost known = { known_this_or_other A.meaning B.chosen A.shape B.shapes A.begins B.begins ⟦<OneOf<A, B> as PartialEq>⟧.eq (λ _ _ h. h) (λ _ _ h. h) A.known_by_tree B.known };
 
     ghost sound = { (A.sound, B.sound) };
 }

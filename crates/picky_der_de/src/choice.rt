@@ -32,7 +32,7 @@ pub trait Told: Choice + Serialize + PartialEq + Drop {
     ghost told: { AreTold Self.Alternatives.shapes };
 
     // A value means the choice of its alternative's.
-    ghost meant: { (v : Self) → Self.meaning v ≡ Tree.choice (Self.Alternatives.meaning (Self.parts v)) };
+    ghost meant: { (v : Self) → Self.meaning v ≡ Tree.choice (Self.Alternatives.chosen (Self.parts v)) };
 
     // Choices of equal values are equal.
     ghost equal: { (v w : Self) → Self.Alternatives.eq (Self.parts v) (Self.parts w) ≡ true → Self.eq v w ≡ true };
@@ -41,7 +41,7 @@ pub trait Told: Choice + Serialize + PartialEq + Drop {
 impl<T: Told> Deserialize for T {
     ghost shape = { Shape.choice T.Alternatives.shapes };
 
-    ghost known_by_tree = { λ v w. choice_known T.Alternatives.meaning T.Alternatives.shapes T.Alternatives.eq T.told T.Alternatives.known (T.parts v) (T.parts w) (T.meant v) (T.meant w) (T.equal v w) };
+    ghost known_by_tree = { λ v w. choice_known T.Alternatives.chosen T.Alternatives.shapes T.Alternatives.eq T.told T.Alternatives.known (T.parts v) (T.parts w) (T.meant v) (T.meant w) (T.equal v w) };
 
     ghost sound = { (T.Alternatives.sound, T.told) };
 
@@ -59,5 +59,5 @@ impl<T: Told> Begins for T {
         T::Alternatives::begins_with(tag)
     }
 
-    ghost begins = { λ v. choice_begins T.Alternatives.meaning T.Alternatives.shapes T.Alternatives.begins (T.parts v) (T.meant v) };
+    ghost begins = { λ v. choice_begins T.Alternatives.chosen T.Alternatives.shapes T.Alternatives.begins (T.parts v) (T.meant v) };
 }

@@ -16,4 +16,4 @@ returns-in_err-deserialize_alternative-clause-err g c =
 
 pub returns-clause-ok : goal.returns-clause-ok
 returns-clause-ok g c =
-    reads_meant g.T.Alternatives.Alternatives.meaning (c.in_ok-deserialize_alternative.ensures.ok c.args.de.now c.in-Ok.ensures.ok.peeks) (g.met.T.Told.meant c.from_parts.result) c.from_parts.ensures
+    reads_meant g.T.Alternatives.Alternatives.chosen (c.in_ok-deserialize_alternative.ensures.ok c.args.de.now c.in-Ok.ensures.ok.peeks) (g.met.T.Told.meant c.from_parts.result) c.from_parts.ensures
