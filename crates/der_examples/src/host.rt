@@ -1,0 +1,63 @@
+//! A choice of four under tags of their own, one of which is a list.
+ghost use Rattle.std.proofs.Common.{rules};
+ghost use Rattle.picky_der_de.specs.declared.alternatives.OneOf.TheVariants.{This, Other};
+ghost use Rattle.der_examples.specs.declared.host.Host.TheVariants.{Email, Domain, Owner, Address};
+
+use picky_asn1_der::OneOf::{Other, This};
+use picky_asn1_der::asn1::{ByteBuf, ExplicitContextTag4, Ia5StringAsn1, ImplicitContextTag};
+use picky_asn1_der::misc::WriteExt;
+use picky_asn1_der::{Alternatives, Choice, NoneOf, OneOf, Result, Serialize, Serializer, Told};
+
+/// How a host is named: four of the general names of a certificate (RFC 5280, 4.2.1.6).
+#[derive(Debug, Drop, PartialEq, Eq)]
+pub enum Host {
+    /// `[1] IMPLICIT IA5String`.
+    Email(ImplicitContextTag<Ia5StringAsn1, 1>),
+    /// `[2] IMPLICIT IA5String`.
+    Domain(ImplicitContextTag<Ia5StringAsn1, 2>),
+    /// `[4] EXPLICIT SEQUENCE OF OCTET STRING`.
+    Owner(ExplicitContextTag4<Vec<ByteBuf>>),
+    /// `[7] IMPLICIT OCTET STRING`.
+    Address(ImplicitContextTag<ByteBuf, 7>),
+}
+
+type Text<const N: u8> = ImplicitContextTag<Ia5StringAsn1, N>;
+
+type Parts = OneOf<Text<1>, OneOf<Text<2>, OneOf<ExplicitContextTag4<Vec<ByteBuf>>, OneOf<ImplicitContextTag<ByteBuf, 7>, NoneOf>>>>;
+
+impl Choice for Host {
+    type Alternatives = Parts;
+
+    ghost parts = { elim [ Email e ↦ This e | Domain d ↦ Other (This d) | Owner o ↦ Other (Other (This o)) | Address a ↦ Other (Other (Other (This a))) ] };
+
+    fn from_parts(value: Parts) -> Host {
+        match value {
+            This(email) => Host::Email(email),
+            Other(This(domain)) => Host::Domain(domain),
+            Other(Other(This(owner))) => Host::Owner(owner),
+            Other(Other(Other(This(address)))) => Host::Address(address),
+        }
+    }
+}
+
+impl Serialize for Host {
+    ghost meaning = { λ v. ⟦<Parts as Alternatives>⟧.meaning (⟦<Host as Choice>⟧.parts v) };
+
+    #[tactic(auto, using(picky_der_ser::proofs::Choices::choice))]
+    fn serialize<W: WriteExt>(&self, serializer: &mut Serializer<W>) -> Result<usize> {
+        match self {
+            Host::Email(email) => email.serialize(serializer),
+            Host::Domain(domain) => domain.serialize(serializer),
+            Host::Owner(owner) => owner.serialize(serializer),
+            Host::Address(address) => address.serialize(serializer),
+        }
+    }
+}
+
+impl Told for Host {
+    ghost told = { Prim.search rules };
+
+    ghost meant = { Prim.search rules };
+
+    ghost equal = { Prim.search rules };
+}
