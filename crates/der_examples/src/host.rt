@@ -28,7 +28,7 @@ type Parts = OneOf<Text<1>, OneOf<Text<2>, OneOf<ExplicitContextTag4<Vec<ByteBuf
 impl Choice for Host {
     type Alternatives = Parts;
 
-    ghost parts = { elim [ Email e ↦ This e | Domain d ↦ Other (This d) | Owner o ↦ Other (Other (This o)) | Address a ↦ Other (Other (Other (This a))) ] };
+    ghost parts = { elim [ Email x ↦ This x | Domain d ↦ Other (This d) | Owner o ↦ Other (Other (This o)) | Address a ↦ Other (Other (Other (This a))) ] };
 
     fn from_parts(value: Parts) -> Host {
         match value {

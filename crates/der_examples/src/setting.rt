@@ -23,7 +23,7 @@ type Parts = OneOf<u64, OneOf<String, OneOf<Vec<u16>, NoneOf>>>;
 impl Choice for Setting {
     type Alternatives = Parts;
 
-    ghost parts = { elim [ Number n ↦ This n | Text s ↦ Other (This s) | Numbers ns ↦ Other (Other (This ns)) ] };
+    ghost parts = { elim [ Number n ↦ This n | Text s ↦ Other (This s) | Numbers x ↦ Other (Other (This x)) ] };
 
     fn from_parts(value: Parts) -> Setting {
         match value {

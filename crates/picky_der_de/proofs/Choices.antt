@@ -134,3 +134,11 @@ refuses_meant {meaning = meaning} {tree = tree} {s = s} {a = a} same h = record 
 
 pub reads_meant : {P : Type 0} (m : P → Tree) {s : Shape} {a c : State} {p q : P} {t : Tree} → Reads s a c (Tree.choice (m p)) → t ≡ Tree.choice (m q) → q ≡ p → Reads s a c t
 reads_meant m {s = s} {a = a} {c = c} h same is = subst (Reads s a c) (sym (same ∙ ap (λ z. Tree.choice (m z)) is)) h
+
+-- ---- of values that are those of another type
+
+pub refuses_through : {V U : Type 0} (f : V → U) {m : U → Tree} {ss : Shapes} {x : ℕ} {b c : State} {e : Asn1DerError} → RefusesBehind m ss x b c e → RefusesBehind (λ v. m (f v)) ss x b c e
+refuses_through f h = record {
+  fails = h.fails;
+  refuses = λ told a p. let r = h.refuses told a p in record { fails = r.fails; none = λ j end bs k v. r.none j end bs k (f v); first = r.first };
+}

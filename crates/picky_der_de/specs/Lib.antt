@@ -13,6 +13,7 @@ pub mod EnclosureLaws
 pub mod TwinLaws
 pub mod Firsts
 pub mod Choices
+pub mod FourChoices
 pub mod Entry
 pub mod Lending
 pub mod ArrayLaws

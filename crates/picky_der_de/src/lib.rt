@@ -3,6 +3,7 @@
 
 mod alike;
 mod alternatives;
+mod alternatives4;
 mod begins;
 mod choice;
 mod deserialize;
@@ -14,6 +15,7 @@ mod sequence;
 
 pub use alike::{Alike, deserialize_as};
 pub use alternatives::{Alternatives, NoneOf, OneOf};
+pub use alternatives4::OneOf4;
 pub use begins::Begins;
 pub use choice::{Choice, Told};
 pub use deserialize::Deserialize;
