@@ -1,9 +1,11 @@
 //! A choice of nine.
 ghost use Rattle.std.proofs.Common.{rules};
-ghost use Rattle.picky_der_de.specs.declared.alternatives.OneOf.TheVariants.{This, Other};
+ghost use Rattle.picky_der_de.specs.declared.alternatives.OneOf.TheVariants.{This};
+ghost use Rattle.picky_der_de.specs.declared.alternatives4.OneOf4.TheVariants.{First, Second, Third, Fourth, Later};
 ghost use Rattle.der_examples.specs.declared.general_name.GeneralName.TheVariants.{OtherName, Rfc822Name, DnsName, X400Address, DirectoryName, EdiPartyName, UniformResourceIdentifier, IpAddress, RegisteredId};
 
-use picky_asn1_der::OneOf::{Other, This};
+use picky_asn1_der::OneOf::This;
+use picky_asn1_der::OneOf4::{First, Fourth, Later, Second, Third};
 use picky_asn1_der::asn1::{
     Asn1SetOf, ByteBuf, ExplicitContextTag4, Ia5StringAsn1, ImplicitContextTag1,
     ImplicitContextTag2, ImplicitContextTag6, ImplicitContextTag7, ImplicitContextTag8,
@@ -11,7 +13,7 @@ use picky_asn1_der::asn1::{
 };
 use picky_asn1_der::misc::WriteExt;
 use picky_asn1_der::{
-    Alternatives, Asn1RawDer, Choice, NoneOf, OneOf, Result, Serialize, Serializer, Told,
+    Alternatives, Asn1RawDer, Choice, NoneOf, OneOf, OneOf4, Result, Serialize, Serializer, Told,
 };
 
 /// A distinguished name: sets of attributes, each with its type and its value (RFC 5280, 4.1.2.4).
@@ -40,32 +42,32 @@ pub enum GeneralName {
     RegisteredId(ImplicitContextTag8<ObjectIdentifierAsn1>),
 }
 
-type Parts = OneOf<TaggedBytes<0xA0>, OneOf<ImplicitContextTag1<Ia5StringAsn1>, OneOf<ImplicitContextTag2<Ia5StringAsn1>, OneOf<TaggedBytes<0xA3>, OneOf<ExplicitContextTag4<Name>, OneOf<TaggedBytes<0xA5>, OneOf<ImplicitContextTag6<Ia5StringAsn1>, OneOf<ImplicitContextTag7<ByteBuf>, OneOf<ImplicitContextTag8<ObjectIdentifierAsn1>, NoneOf>>>>>>>>>;
+type Parts = OneOf4<TaggedBytes<0xA0>, ImplicitContextTag1<Ia5StringAsn1>, ImplicitContextTag2<Ia5StringAsn1>, TaggedBytes<0xA3>, OneOf4<ExplicitContextTag4<Name>, TaggedBytes<0xA5>, ImplicitContextTag6<Ia5StringAsn1>, ImplicitContextTag7<ByteBuf>, OneOf<ImplicitContextTag8<ObjectIdentifierAsn1>, NoneOf>>>;
 
 impl Choice for GeneralName {
     type Alternatives = Parts;
 
-    ghost parts = { elim [ OtherName x ↦ This x
-      | Rfc822Name x ↦ Other (This x)
-      | DnsName x ↦ Other (Other (This x))
-      | X400Address x ↦ Other (Other (Other (This x)))
-      | DirectoryName x ↦ Other (Other (Other (Other (This x))))
-      | EdiPartyName x ↦ Other (Other (Other (Other (Other (This x)))))
-      | UniformResourceIdentifier x ↦ Other (Other (Other (Other (Other (Other (This x))))))
-      | IpAddress x ↦ Other (Other (Other (Other (Other (Other (Other (This x)))))))
-      | RegisteredId x ↦ Other (Other (Other (Other (Other (Other (Other (Other (This x)))))))) ] };
+    ghost parts = { elim [ OtherName x ↦ First x
+      | Rfc822Name x ↦ Second x
+      | DnsName x ↦ Third x
+      | X400Address x ↦ Fourth x
+      | DirectoryName x ↦ Later (First x)
+      | EdiPartyName x ↦ Later (Second x)
+      | UniformResourceIdentifier x ↦ Later (Third x)
+      | IpAddress x ↦ Later (Fourth x)
+      | RegisteredId x ↦ Later (Later (This x)) ] };
 
     fn from_parts(value: Parts) -> GeneralName {
         match value {
-            This(other_name) => GeneralName::OtherName(other_name),
-            Other(This(email)) => GeneralName::Rfc822Name(email),
-            Other(Other(This(domain))) => GeneralName::DnsName(domain),
-            Other(Other(Other(This(address)))) => GeneralName::X400Address(address),
-            Other(Other(Other(Other(This(name))))) => GeneralName::DirectoryName(name),
-            Other(Other(Other(Other(Other(This(party)))))) => GeneralName::EdiPartyName(party),
-            Other(Other(Other(Other(Other(Other(This(uri))))))) => GeneralName::UniformResourceIdentifier(uri),
-            Other(Other(Other(Other(Other(Other(Other(This(address)))))))) => GeneralName::IpAddress(address),
-            Other(Other(Other(Other(Other(Other(Other(Other(This(identifier))))))))) => GeneralName::RegisteredId(identifier),
+            First(other_name) => GeneralName::OtherName(other_name),
+            Second(email) => GeneralName::Rfc822Name(email),
+            Third(domain) => GeneralName::DnsName(domain),
+            Fourth(address) => GeneralName::X400Address(address),
+            Later(First(name)) => GeneralName::DirectoryName(name),
+            Later(Second(party)) => GeneralName::EdiPartyName(party),
+            Later(Third(uri)) => GeneralName::UniformResourceIdentifier(uri),
+            Later(Fourth(address)) => GeneralName::IpAddress(address),
+            Later(Later(This(identifier))) => GeneralName::RegisteredId(identifier),
         }
     }
 }

@@ -1,12 +1,12 @@
 //! A choice of four under tags of their own, one of which is a list.
 ghost use Rattle.std.proofs.Common.{rules};
-ghost use Rattle.picky_der_de.specs.declared.alternatives.OneOf.TheVariants.{This, Other};
+ghost use Rattle.picky_der_de.specs.declared.alternatives4.OneOf4.TheVariants.{First, Second, Third, Fourth};
 ghost use Rattle.der_examples.specs.declared.host.Host.TheVariants.{Email, Domain, Owner, Address};
 
-use picky_asn1_der::OneOf::{Other, This};
+use picky_asn1_der::OneOf4::{First, Fourth, Second, Third};
 use picky_asn1_der::asn1::{ByteBuf, ExplicitContextTag4, Ia5StringAsn1, ImplicitContextTag};
 use picky_asn1_der::misc::WriteExt;
-use picky_asn1_der::{Alternatives, Choice, NoneOf, OneOf, Result, Serialize, Serializer, Told};
+use picky_asn1_der::{Alternatives, Choice, NoneOf, OneOf4, Result, Serialize, Serializer, Told};
 
 /// How a host is named: four of the general names of a certificate (RFC 5280, 4.2.1.6).
 #[derive(Debug, Drop, PartialEq, Eq)]
@@ -23,19 +23,19 @@ pub enum Host {
 
 type Text<const N: u8> = ImplicitContextTag<Ia5StringAsn1, N>;
 
-type Parts = OneOf<Text<1>, OneOf<Text<2>, OneOf<ExplicitContextTag4<Vec<ByteBuf>>, OneOf<ImplicitContextTag<ByteBuf, 7>, NoneOf>>>>;
+type Parts = OneOf4<Text<1>, Text<2>, ExplicitContextTag4<Vec<ByteBuf>>, ImplicitContextTag<ByteBuf, 7>, NoneOf>;
 
 impl Choice for Host {
     type Alternatives = Parts;
 
-    ghost parts = { elim [ Email x ↦ This x | Domain d ↦ Other (This d) | Owner o ↦ Other (Other (This o)) | Address a ↦ Other (Other (Other (This a))) ] };
+    ghost parts = { elim [ Email e ↦ First e | Domain d ↦ Second d | Owner o ↦ Third o | Address a ↦ Fourth a ] };
 
     fn from_parts(value: Parts) -> Host {
         match value {
-            This(email) => Host::Email(email),
-            Other(This(domain)) => Host::Domain(domain),
-            Other(Other(This(owner))) => Host::Owner(owner),
-            Other(Other(Other(This(address)))) => Host::Address(address),
+            First(email) => Host::Email(email),
+            Second(domain) => Host::Domain(domain),
+            Third(owner) => Host::Owner(owner),
+            Fourth(address) => Host::Address(address),
         }
     }
 }
