@@ -75,18 +75,17 @@ impl Choice for GeneralName {
 impl Serialize for GeneralName {
     ghost meaning = { λ v. ⟦<Parts as Alternatives>⟧.meaning (⟦<GeneralName as Choice>⟧.parts v) };
 
-    #[tactic(auto, using(picky_der_ser::proofs::Choices::choice))]
     fn serialize<W: WriteExt>(&self, serializer: &mut Serializer<W>) -> Result<usize> {
         match self {
-            GeneralName::OtherName(other_name) => other_name.serialize(serializer),
-            GeneralName::Rfc822Name(email) => email.serialize(serializer),
-            GeneralName::DnsName(domain) => domain.serialize(serializer),
-            GeneralName::X400Address(address) => address.serialize(serializer),
-            GeneralName::DirectoryName(name) => name.serialize(serializer),
-            GeneralName::EdiPartyName(party) => party.serialize(serializer),
-            GeneralName::UniformResourceIdentifier(uri) => uri.serialize(serializer),
-            GeneralName::IpAddress(address) => address.serialize(serializer),
-            GeneralName::RegisteredId(identifier) => identifier.serialize(serializer),
+            GeneralName::OtherName(other_name) => serializer.serialize_choice(other_name),
+            GeneralName::Rfc822Name(email) => serializer.serialize_choice(email),
+            GeneralName::DnsName(domain) => serializer.serialize_choice(domain),
+            GeneralName::X400Address(address) => serializer.serialize_choice(address),
+            GeneralName::DirectoryName(name) => serializer.serialize_choice(name),
+            GeneralName::EdiPartyName(party) => serializer.serialize_choice(party),
+            GeneralName::UniformResourceIdentifier(uri) => serializer.serialize_choice(uri),
+            GeneralName::IpAddress(address) => serializer.serialize_choice(address),
+            GeneralName::RegisteredId(identifier) => serializer.serialize_choice(identifier),
         }
     }
 }

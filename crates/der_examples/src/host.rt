@@ -43,13 +43,12 @@ impl Choice for Host {
 impl Serialize for Host {
     ghost meaning = { λ v. ⟦<Parts as Alternatives>⟧.meaning (⟦<Host as Choice>⟧.parts v) };
 
-    #[tactic(auto, using(picky_der_ser::proofs::Choices::choice))]
     fn serialize<W: WriteExt>(&self, serializer: &mut Serializer<W>) -> Result<usize> {
         match self {
-            Host::Email(email) => email.serialize(serializer),
-            Host::Domain(domain) => domain.serialize(serializer),
-            Host::Owner(owner) => owner.serialize(serializer),
-            Host::Address(address) => address.serialize(serializer),
+            Host::Email(email) => serializer.serialize_choice(email),
+            Host::Domain(domain) => serializer.serialize_choice(domain),
+            Host::Owner(owner) => serializer.serialize_choice(owner),
+            Host::Address(address) => serializer.serialize_choice(address),
         }
     }
 }

@@ -34,11 +34,10 @@ impl Choice for NumberOrFlag {
 impl Serialize for NumberOrFlag {
     ghost meaning = { λ v. ⟦<Parts as Alternatives>⟧.meaning (⟦<NumberOrFlag as Choice>⟧.parts v) };
 
-    #[tactic(auto, using(picky_der_ser::proofs::Choices::choice))]
     fn serialize<W: WriteExt>(&self, serializer: &mut Serializer<W>) -> Result<usize> {
         match self {
-            NumberOrFlag::Number(number) => number.serialize(serializer),
-            NumberOrFlag::Flag(flag) => flag.serialize(serializer),
+            NumberOrFlag::Number(number) => serializer.serialize_choice(number),
+            NumberOrFlag::Flag(flag) => serializer.serialize_choice(flag),
         }
     }
 }

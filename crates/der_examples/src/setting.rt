@@ -37,12 +37,11 @@ impl Choice for Setting {
 impl Serialize for Setting {
     ghost meaning = { λ v. ⟦<Parts as Alternatives>⟧.meaning (⟦<Setting as Choice>⟧.parts v) };
 
-    #[tactic(auto, using(picky_der_ser::proofs::Choices::choice))]
     fn serialize<W: WriteExt>(&self, serializer: &mut Serializer<W>) -> Result<usize> {
         match self {
-            Setting::Number(number) => number.serialize(serializer),
-            Setting::Text(text) => text.serialize(serializer),
-            Setting::Numbers(numbers) => numbers.serialize(serializer),
+            Setting::Number(number) => serializer.serialize_choice(number),
+            Setting::Text(text) => serializer.serialize_choice(text),
+            Setting::Numbers(numbers) => serializer.serialize_choice(numbers),
         }
     }
 }
