@@ -2,7 +2,8 @@
 ghost use Rattle.std.proofs.Common.{rules};
 ghost use Rattle.picky_der_de.specs.declared.alternatives.OneOf.TheVariants.{This};
 ghost use Rattle.picky_der_de.specs.declared.alternatives4.OneOf4.TheVariants.{First, Second, Third, Fourth, Later};
-ghost use Rattle.der_examples.specs.declared.general_name.GeneralName.TheVariants.{OtherName, Rfc822Name, DnsName, X400Address, DirectoryName, EdiPartyName, UniformResourceIdentifier, IpAddress, RegisteredId};
+ghost use Rattle.der_examples.specs.declared.general_name.GeneralName.TheVariants.{OtherName, Rfc822Name, DnsName, X400Address, DirectoryName};
+ghost use Rattle.der_examples.specs.declared.general_name.GeneralName.TheVariants.{EdiPartyName, UniformResourceIdentifier, IpAddress, RegisteredId};
 
 use picky_asn1_der::OneOf::This;
 use picky_asn1_der::OneOf4::{First, Fourth, Later, Second, Third};
@@ -42,12 +43,25 @@ pub enum GeneralName {
     RegisteredId(ImplicitContextTag8<ObjectIdentifierAsn1>),
 }
 
-type Parts = OneOf4<TaggedBytes<0xA0>, ImplicitContextTag1<Ia5StringAsn1>, ImplicitContextTag2<Ia5StringAsn1>, TaggedBytes<0xA3>, OneOf4<ExplicitContextTag4<Name>, TaggedBytes<0xA5>, ImplicitContextTag6<Ia5StringAsn1>, ImplicitContextTag7<ByteBuf>, OneOf<ImplicitContextTag8<ObjectIdentifierAsn1>, NoneOf>>>;
+type Parts = OneOf4<
+    TaggedBytes<0xA0>,
+    ImplicitContextTag1<Ia5StringAsn1>,
+    ImplicitContextTag2<Ia5StringAsn1>,
+    TaggedBytes<0xA3>,
+    OneOf4<
+        ExplicitContextTag4<Name>,
+        TaggedBytes<0xA5>,
+        ImplicitContextTag6<Ia5StringAsn1>,
+        ImplicitContextTag7<ByteBuf>,
+        OneOf<ImplicitContextTag8<ObjectIdentifierAsn1>, NoneOf>,
+    >,
+>;
 
 impl Choice for GeneralName {
     type Alternatives = Parts;
 
-    ghost parts = { elim [ OtherName x ↦ First x
+    ghost parts = { elim [
+      | OtherName x ↦ First x
       | Rfc822Name x ↦ Second x
       | DnsName x ↦ Third x
       | X400Address x ↦ Fourth x
@@ -55,7 +69,8 @@ impl Choice for GeneralName {
       | EdiPartyName x ↦ Later (Second x)
       | UniformResourceIdentifier x ↦ Later (Third x)
       | IpAddress x ↦ Later (Fourth x)
-      | RegisteredId x ↦ Later (Later (This x)) ] };
+      | RegisteredId x ↦ Later (Later (This x))
+    ] };
 
     fn from_parts(value: Parts) -> GeneralName {
         match value {

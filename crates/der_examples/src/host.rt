@@ -1,29 +1,27 @@
-//! A choice of four under tags of their own, one of which is a list.
+//! A choice of four, one of which is a list.
 ghost use Rattle.std.proofs.Common.{rules};
 ghost use Rattle.picky_der_de.specs.declared.alternatives4.OneOf4.TheVariants.{First, Second, Third, Fourth};
 ghost use Rattle.der_examples.specs.declared.host.Host.TheVariants.{Email, Domain, Owner, Address};
 
 use picky_asn1_der::OneOf4::{First, Fourth, Second, Third};
-use picky_asn1_der::asn1::{ByteBuf, ExplicitContextTag4, Ia5StringAsn1, ImplicitContextTag};
+use picky_asn1_der::asn1::{ByteBuf, Ia5StringAsn1, ImplicitContextTag2};
 use picky_asn1_der::misc::WriteExt;
 use picky_asn1_der::{Alternatives, Choice, NoneOf, OneOf4, Result, Serialize, Serializer, Told};
 
-/// How a host is named: four of the general names of a certificate (RFC 5280, 4.2.1.6).
+/// How a host is named.
 #[derive(Debug, Drop, PartialEq, Eq)]
 pub enum Host {
-    /// `[1] IMPLICIT IA5String`.
-    Email(ImplicitContextTag<Ia5StringAsn1, 1>),
-    /// `[2] IMPLICIT IA5String`.
-    Domain(ImplicitContextTag<Ia5StringAsn1, 2>),
-    /// `[4] EXPLICIT SEQUENCE OF OCTET STRING`.
-    Owner(ExplicitContextTag4<Vec<ByteBuf>>),
-    /// `[7] IMPLICIT OCTET STRING`.
-    Address(ImplicitContextTag<ByteBuf, 7>),
+    /// A UTF8String.
+    Email(String),
+    /// An IA5String under the implicit tag 2.
+    Domain(ImplicitContextTag2<Ia5StringAsn1>),
+    /// A SEQUENCE OF OCTET STRING.
+    Owner(Vec<ByteBuf>),
+    /// An OCTET STRING.
+    Address(ByteBuf),
 }
 
-type Text<const N: u8> = ImplicitContextTag<Ia5StringAsn1, N>;
-
-type Parts = OneOf4<Text<1>, Text<2>, ExplicitContextTag4<Vec<ByteBuf>>, ImplicitContextTag<ByteBuf, 7>, NoneOf>;
+type Parts = OneOf4<String, ImplicitContextTag2<Ia5StringAsn1>, Vec<ByteBuf>, ByteBuf, NoneOf>;
 
 impl Choice for Host {
     type Alternatives = Parts;

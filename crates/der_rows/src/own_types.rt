@@ -4,7 +4,9 @@ use crate::answers::{Input, read_as};
 use crate::kept::Kept;
 use crate::nested_tags::{FourTags, SixteenTags};
 use crate::seen::Seen;
-use der_examples::{Marker, Moment, Named, NumberOrFlag, Point, Tagged, Track, Version};
+use der_examples::{
+    GeneralName, Host, Marker, Moment, Named, NumberOrFlag, Point, Setting, Tagged, Track, Version,
+};
 use der_tool_lib::TestStruct;
 use picky_asn1_der::asn1::{ExplicitContextTag0, ImplicitContextTag1};
 use std::alloc::{AllocError, Global};
@@ -14,6 +16,10 @@ pub(crate) fn answer(alloc: Global, name: &str, input: &Input) -> Result<String,
     match name {
         "TestStruct" => read_as::<TestStruct>(alloc, input),
         "NumberOrFlag" => read_as::<NumberOrFlag>(alloc, input),
+        "Setting" => read_as::<Setting>(alloc, input),
+        "Host" => read_as::<Host>(alloc, input),
+        "GeneralName" => read_as::<GeneralName>(alloc, input),
+        "Vec<GeneralName>" => read_as::<Vec<GeneralName>>(alloc, input),
         "Point" => read_as::<Point>(alloc, input),
         "Moment" => read_as::<Moment>(alloc, input),
         "Named<bool>" => read_as::<Named<bool>>(alloc, input),

@@ -24,8 +24,7 @@ pub enum OneOf4<A, B, C, D, E> {
 }
 
 impl<A: Begins, B: Begins, C: Begins, D: Begins, E: Alternatives> Alternatives
-    for OneOf4<A, B, C, D, E>
-{
+    for OneOf4<A, B, C, D, E> {
     ghost shapes = { Shapes.more A.shape (Shapes.more B.shape (Shapes.more C.shape (Shapes.more D.shape E.shapes))) };
 
     ghost chosen = { chosen_of4 A.meaning B.meaning C.meaning D.meaning E.chosen };
@@ -40,8 +39,7 @@ impl<A: Begins, B: Begins, C: Begins, D: Begins, E: Alternatives> Alternatives
         tag: Tag,
         de: &mut Deserializer<R>,
     ) -> Result<OneOf4<A, B, C, D, E>> {
-        let value =
-            OneOf::<A, OneOf<B, OneOf<C, OneOf<D, E>>>>::deserialize_alternative(tag, de)?;
+        let value = OneOf::<A, OneOf<B, OneOf<C, OneOf<D, E>>>>::deserialize_alternative(tag, de)?;
         Ok(match value {
             OneOf::This(first) => OneOf4::First(first),
             OneOf::Other(OneOf::This(second)) => OneOf4::Second(second),

@@ -5,9 +5,9 @@ ghost use Rattle.picky_der_core.specs.Shape.{Shape, AreTold};
 ghost use Rattle.picky_der_de.specs.Choices.{choice_known, choice_begins};
 
 use crate::{Alternatives, Begins, Deserialize, Deserializer};
+use picky_der_core::Result;
 use picky_der_core::asn1::Tag;
 use picky_der_core::misc::ReadExt;
-use picky_der_core::Result;
 use picky_der_ser::Serialize;
 
 /// A type whose values are told by those of alternatives, as an enum's with one field in each variant.
