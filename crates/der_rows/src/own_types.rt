@@ -5,7 +5,8 @@ use crate::kept::Kept;
 use crate::nested_tags::{FourTags, SixteenTags};
 use crate::seen::Seen;
 use der_examples::{
-    GeneralName, Host, Marker, Moment, Named, NumberOrFlag, Point, Setting, Tagged, Track, Version,
+    GeneralName, Host, Marker, Moment, Named, NumberOrFlag, Place, Point, Setting, Tagged, Track,
+    Version,
 };
 use der_tool_lib::TestStruct;
 use picky_asn1_der::asn1::{ExplicitContextTag0, ImplicitContextTag1};
@@ -18,6 +19,7 @@ pub(crate) fn answer(alloc: Global, name: &str, input: &Input) -> Result<String,
         "NumberOrFlag" => read_as::<NumberOrFlag>(alloc, input),
         "Setting" => read_as::<Setting>(alloc, input),
         "Host" => read_as::<Host>(alloc, input),
+        "Place" => read_as::<Place>(alloc, input),
         "GeneralName" => read_as::<GeneralName>(alloc, input),
         "Vec<GeneralName>" => read_as::<Vec<GeneralName>>(alloc, input),
         "Point" => read_as::<Point>(alloc, input),
