@@ -1,21 +1,17 @@
 -- Choices, read and refused behind a look at the first byte.
-use Rattle.std.proofs.Common.{◌≡◌, ◌≢◌, ℕ, ◌<◌, ◌⊎◌, inl, inr, true, List, [], ◌∷◌, ◌++◌, length, Option, Some, None, sym, ◌∙◌, ap, subst, arith}
-use Rattle.picky_der_core.specs.declared.failure.Failure.{Failure}
-use Rattle.picky_der_input.specs.Refusing.{IsAnswer}
+use Rattle.std.proofs.Common.{◌≡◌, ℕ, ◌<◌, inl, inr, true, List, ◌∷◌, ◌++◌, length, Some, None, sym, ◌∙◌, ap, subst, arith}
 use Rattle.picky_der_core.specs.declared.error.Asn1DerError.{Asn1DerError}
-use Rattle.picky_der_core.specs.declared.error.Asn1DerError.TheVariants.{TruncatedData, InvalidData}
 use Rattle.picky_der_core.specs.Tree.{Tree}
 use Rattle.picky_der_core.specs.EncodingLaws.{der-choice}
-use Rattle.picky_der_core.specs.Shape.{Shape, Shapes, IsOf, IsOneOf, IsFirst, AreTold, firsts, firsts_of, has}
+use Rattle.picky_der_core.specs.Shape.{Shape, Shapes, IsOf, IsFirst, AreTold, firsts, firsts_of, has}
 use Rattle.picky_der_core.specs.FirstLaws.{apart_has, has-append_left, has-append_right}
 use Rattle.picky_der_core.specs.Reading.{Place, written_at, MayStand, StandsAt}
 use Rattle.picky_der_input.specs.State.{State}
-use Rattle.picky_der_input.specs.Steps.{Takes, Fails, IsJudged, place_in, place_of}
+use Rattle.picky_der_input.specs.Steps.{Takes, IsJudged, place_in, place_of}
 use Rattle.picky_der_input.specs.Reading.{Concerns, Reads, Refuses}
 use Rattle.picky_der_input.specs.LookAhead.{Peeks, HidesChoice, no_byte, implicit, RefusesChoice}
 use Rattle.picky_der_de.specs.declared.alternatives.OneOf.{OneOf}
 use Rattle.picky_der_de.specs.declared.alternatives.OneOf.TheVariants.{This, Other}
-use Rattle.picky_der_de.specs.declared.alternatives.NoneOf.{NoneOf}
 use Rattle.picky_der_de.specs.Firsts.{IsBegunBy, bytes_in_one}
 use Rattle.picky_der_de.specs.Choices.{chosen_of, ReadsBehind, RefusesBehind, begun, of_this, of_other}
 use Rattle.picky_der_input.proofs.Refusals.{missing_first}
@@ -107,21 +103,6 @@ module _ {A B : Type 0} {m : A → Tree} {n : B → Tree} {s : Shape} {ss : Shap
     none {a} told p r j {end} {bs} k f (Other v) st =
         let own : StandsAt Place.whole (Shape.choice ss) bs end (Tree.choice (n v)) = record { of_shape = of_other m n s ss this other told.0 v st.readable st.of_shape; readable = st.readable; may_stand = tt; within = st.within; front = st.front } in
         r.none j end bs k v (subst (λ z. StandsAt z (Shape.choice ss) bs end (Tree.choice (n v))) (sym (is_whole a p.direct)) own)
-
--- there is none
-pub refuses_none : {V : Type 0} {meaning : V → Tree} {x : ℕ} {b c : State} {e : Asn1DerError} → (V → ⊥) → Fails b c e → (IsJudged b c e → e ≢ TruncatedData) → RefusesBehind meaning Shapes.none x b c e
-refuses_none empty h short = record {
-  fails = h;
-  refuses = λ told a p. record {
-    fails = peeks_fails p h;
-    none = λ j end bs k v st. empty v;
-    first = λ j k. absurd (short (peeks_judged p j) k);
-  };
-}
-
--- what was refused as invalid isn't cut short
-pub not_short : {failed : Option Failure} {e : Asn1DerError} → IsAnswer failed InvalidData e → failed ≡ None → e ≢ TruncatedData
-not_short {e = e} is none h = let q : InvalidData ≡ TruncatedData = sym (subst (λ f. IsAnswer f InvalidData e) none is) ∙ h in cc
 
 -- ---- of a type that means the choice
 

@@ -1,9 +1,9 @@
 -- With which bytes the encodings of a tree's kind begin.
-use Rattle.std.specs.Prelude.{◌≡◌, ℕ, ◌+◌, Bool, true, false, ◌⊎◌, Option, Some, None, List, [], ◌∷◌, ◌++◌, ⊤, IsTrue, refl}
-use Rattle.std.proofs.Common.{inl, inr, subst, sym, ◌∙◌, ap, eq-eqb, le-leb}
+use Rattle.std.specs.Prelude.{◌≡◌, ℕ, ◌+◌, true, ◌⊎◌, Option, Some, None, List, [], ◌∷◌, ⊤, IsTrue, refl}
+use Rattle.std.proofs.Common.{inl, inr, subst, sym, eq-eqb, le-leb}
 use Rattle.picky_der_core.specs.Tag.{number_of, IsTagNumber}
 use Rattle.picky_der_core.specs.Element.{tlv}
-use Rattle.picky_der_core.specs.Tree.{ListKind, Tree, Trees}
+use Rattle.picky_der_core.specs.Tree.{Tree}
 use Rattle.picky_der_core.specs.Encoding.{headed, written, der, list_tag}
 use Rattle.picky_der_core.specs.EncodingLaws.{is_absent-readable, around-present}
 use Rattle.picky_der_core.specs.Readable.{IsReadable}

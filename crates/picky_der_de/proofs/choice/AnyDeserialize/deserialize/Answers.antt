@@ -1,4 +1,3 @@
-use Rattle.std.proofs.Common.{refl}
 use Rattle.std.proofs.lemmas.Result.{err_from_is_err_and}
 use Rattle.picky_der_input.proofs.PlainReads.{refuses_of}
 use Rattle.picky_der_de.proofs.Choices.{refuses_hidden, refuses_meant, reads_meant}
