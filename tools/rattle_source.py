@@ -78,10 +78,14 @@ def block_of(header):
     """The name of an `impl` or `trait` in the checker's names: that of the type, and of the trait that it has there."""
     header = re.sub(r"\bwhere\b.*", "", header, flags=re.S).strip()
     if header.startswith("impl"):
-        header = header[len("impl") :].strip()
+        header, parameters = header[len("impl") :].strip(), []
         if header.startswith("<"):
-            header = header[behind(header.replace("->", "  "), 0, "<", ">") :].strip()
+            end = behind(header.replace("->", "  "), 0, "<", ">")
+            parameters = [it.split(":")[0].strip() for it in split(header[1 : end - 1])]
+            header = header[end:].strip()
         trait, found, own = header.partition(" for ")
+        if own.strip() in parameters:
+            return "Any" + words_of(trait)
         return words_of(own) + words_of(trait) if found else words_of(header)
     return re.match(r"trait\s+(\w+)", header)[1]
 

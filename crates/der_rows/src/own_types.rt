@@ -4,7 +4,10 @@ use crate::answers::{Input, read_as};
 use crate::kept::Kept;
 use crate::nested_tags::{FourTags, SixteenTags};
 use crate::seen::Seen;
-use der_examples::{Marker, Moment, Named, NumberOrFlag, Point, Tagged, Track, Version};
+use der_examples::{
+    GeneralName, Host, Marker, Moment, Named, NumberOrFlag, Place, Point, Setting, Tagged, Track,
+    Version,
+};
 use der_tool_lib::{AlgorithmIdentifier, SubjectPublicKeyInfo, TestStruct};
 use picky_asn1_der::asn1::{ExplicitContextTag0, ImplicitContextTag1};
 use std::alloc::{AllocError, Global};
@@ -18,6 +21,11 @@ pub(crate) fn answer(alloc: Global, name: &str, input: &Input) -> Result<String,
             read_as::<ImplicitContextTag1<AlgorithmIdentifier>>(alloc, input)
         }
         "NumberOrFlag" => read_as::<NumberOrFlag>(alloc, input),
+        "Setting" => read_as::<Setting>(alloc, input),
+        "Host" => read_as::<Host>(alloc, input),
+        "Place" => read_as::<Place>(alloc, input),
+        "GeneralName" => read_as::<GeneralName>(alloc, input),
+        "Vec<GeneralName>" => read_as::<Vec<GeneralName>>(alloc, input),
         "Point" => read_as::<Point>(alloc, input),
         "Moment" => read_as::<Moment>(alloc, input),
         "Named<bool>" => read_as::<Named<bool>>(alloc, input),

@@ -11,7 +11,9 @@ pub mod Members
 pub mod KnownLaws
 pub mod EnclosureLaws
 pub mod TwinLaws
+pub mod Firsts
 pub mod Choices
+pub mod FourChoices
 pub mod Entry
 pub mod Lending
 pub mod ArrayLaws

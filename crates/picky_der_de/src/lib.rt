@@ -2,6 +2,9 @@
 #![tactic(auto)]
 
 mod alike;
+mod alternatives;
+mod alternatives4;
+mod begins;
 mod choice;
 mod deserialize;
 mod deserializer;
@@ -11,7 +14,10 @@ mod row;
 mod sequence;
 
 pub use alike::{Alike, deserialize_as};
-pub use choice::{Choice, deserialize_choice};
+pub use alternatives::{Alternatives, NoneOf, OneOf};
+pub use alternatives4::OneOf4;
+pub use begins::Begins;
+pub use choice::{Choice, Told};
 pub use deserialize::Deserialize;
 pub use deserializer::Deserializer;
 pub use entry::{DEFAULT_MAX_LEN, from_bytes, from_reader, from_reader_with_max_len};
