@@ -9,6 +9,7 @@ mod entry;
 mod impls;
 mod row;
 mod sequence;
+mod several;
 
 pub use alike::{Alike, deserialize_as};
 pub use choice::{Choice, deserialize_choice};

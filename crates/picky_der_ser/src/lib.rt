@@ -15,6 +15,7 @@ mod row;
 mod sequence;
 mod serializer;
 mod sets;
+mod several;
 mod utf8_string;
 
 pub use boolean::Boolean;
