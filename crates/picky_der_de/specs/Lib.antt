@@ -11,6 +11,7 @@ pub mod Members
 pub mod KnownLaws
 pub mod EnclosureLaws
 pub mod TwinLaws
+pub mod Telling
 pub mod Choices
 pub mod Entry
 pub mod Lending

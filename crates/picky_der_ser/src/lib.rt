@@ -8,6 +8,7 @@ mod header;
 mod headers;
 mod impls;
 mod integer;
+mod lent;
 mod levels;
 mod null;
 mod plain;

@@ -2,7 +2,10 @@
 ghost use Rattle.std.specs.Prelude.{[], ◌∷◌};
 ghost use Rattle.picky_der_core.specs.Tree.{ListKind, Tree, trees};
 
-use crate::several::{Eight, Five, Four, One, Seven, Six, Three, Two};
+use crate::lent::{
+    Eight, Eleven, Fifteen, Five, Four, Fourteen, Nine, One, Seven, Six, Sixteen, Ten, Thirteen,
+    Three, Twelve, Two,
+};
 use crate::{Row, Serialize, Serializer};
 use picky_der_core::Result;
 use picky_der_core::misc::WriteExt;
@@ -105,6 +108,302 @@ impl<
             &self.5,
             &self.6,
             &self.7,
+            &(),
+        ))
+        .serialize(ser)
+    }
+}
+
+impl<
+    A: Serialize,
+    B: Serialize,
+    C: Serialize,
+    D: Serialize,
+    E: Serialize,
+    F: Serialize,
+    G: Serialize,
+    H: Serialize,
+    I: Serialize,
+> Serialize for (A, B, C, D, E, F, G, H, I) {
+    ghost meaning = { λ t. Tree.list ListKind.sequence (trees (A.meaning t.0 ∷ B.meaning t.1 ∷ C.meaning t.2 ∷ D.meaning t.3 ∷ E.meaning t.4 ∷ F.meaning t.5 ∷ G.meaning t.6 ∷ H.meaning t.7 ∷ I.meaning t.8 ∷ [])) };
+
+    fn serialize<W: WriteExt>(&self, ser: &mut Serializer<W>) -> Result<usize> {
+        Row(Nine(
+            &self.0,
+            &self.1,
+            &self.2,
+            &self.3,
+            &self.4,
+            &self.5,
+            &self.6,
+            &self.7,
+            &self.8,
+            &(),
+        ))
+        .serialize(ser)
+    }
+}
+
+impl<
+    A: Serialize,
+    B: Serialize,
+    C: Serialize,
+    D: Serialize,
+    E: Serialize,
+    F: Serialize,
+    G: Serialize,
+    H: Serialize,
+    I: Serialize,
+    J: Serialize,
+> Serialize for (A, B, C, D, E, F, G, H, I, J) {
+    ghost meaning = { λ t. Tree.list ListKind.sequence (trees (A.meaning t.0 ∷ B.meaning t.1 ∷ C.meaning t.2 ∷ D.meaning t.3 ∷ E.meaning t.4 ∷ F.meaning t.5 ∷ G.meaning t.6 ∷ H.meaning t.7 ∷ I.meaning t.8 ∷ J.meaning t.9 ∷ [])) };
+
+    fn serialize<W: WriteExt>(&self, ser: &mut Serializer<W>) -> Result<usize> {
+        Row(Ten(
+            &self.0,
+            &self.1,
+            &self.2,
+            &self.3,
+            &self.4,
+            &self.5,
+            &self.6,
+            &self.7,
+            &self.8,
+            &self.9,
+            &(),
+        ))
+        .serialize(ser)
+    }
+}
+
+impl<
+    A: Serialize,
+    B: Serialize,
+    C: Serialize,
+    D: Serialize,
+    E: Serialize,
+    F: Serialize,
+    G: Serialize,
+    H: Serialize,
+    I: Serialize,
+    J: Serialize,
+    K: Serialize,
+> Serialize for (A, B, C, D, E, F, G, H, I, J, K) {
+    ghost meaning = { λ t. Tree.list ListKind.sequence (trees (A.meaning t.0 ∷ B.meaning t.1 ∷ C.meaning t.2 ∷ D.meaning t.3 ∷ E.meaning t.4 ∷ F.meaning t.5 ∷ G.meaning t.6 ∷ H.meaning t.7 ∷ I.meaning t.8 ∷ J.meaning t.9 ∷ K.meaning t.10 ∷ [])) };
+
+    fn serialize<W: WriteExt>(&self, ser: &mut Serializer<W>) -> Result<usize> {
+        Row(Eleven(
+            &self.0,
+            &self.1,
+            &self.2,
+            &self.3,
+            &self.4,
+            &self.5,
+            &self.6,
+            &self.7,
+            &self.8,
+            &self.9,
+            &self.10,
+            &(),
+        ))
+        .serialize(ser)
+    }
+}
+
+impl<
+    A: Serialize,
+    B: Serialize,
+    C: Serialize,
+    D: Serialize,
+    E: Serialize,
+    F: Serialize,
+    G: Serialize,
+    H: Serialize,
+    I: Serialize,
+    J: Serialize,
+    K: Serialize,
+    L: Serialize,
+> Serialize for (A, B, C, D, E, F, G, H, I, J, K, L) {
+    ghost meaning = { λ t. Tree.list ListKind.sequence (trees (A.meaning t.0 ∷ B.meaning t.1 ∷ C.meaning t.2 ∷ D.meaning t.3 ∷ E.meaning t.4 ∷ F.meaning t.5 ∷ G.meaning t.6 ∷ H.meaning t.7 ∷ I.meaning t.8 ∷ J.meaning t.9 ∷ K.meaning t.10 ∷ L.meaning t.11 ∷ [])) };
+
+    fn serialize<W: WriteExt>(&self, ser: &mut Serializer<W>) -> Result<usize> {
+        Row(Twelve(
+            &self.0,
+            &self.1,
+            &self.2,
+            &self.3,
+            &self.4,
+            &self.5,
+            &self.6,
+            &self.7,
+            &self.8,
+            &self.9,
+            &self.10,
+            &self.11,
+            &(),
+        ))
+        .serialize(ser)
+    }
+}
+
+impl<
+    A: Serialize,
+    B: Serialize,
+    C: Serialize,
+    D: Serialize,
+    E: Serialize,
+    F: Serialize,
+    G: Serialize,
+    H: Serialize,
+    I: Serialize,
+    J: Serialize,
+    K: Serialize,
+    L: Serialize,
+    M: Serialize,
+> Serialize for (A, B, C, D, E, F, G, H, I, J, K, L, M) {
+    ghost meaning = { λ t. Tree.list ListKind.sequence (trees (A.meaning t.0 ∷ B.meaning t.1.0 ∷ C.meaning t.1.1.0 ∷ D.meaning t.1.1.1.0 ∷ E.meaning t.1.1.1.1.0 ∷ F.meaning t.1.1.1.1.1.0 ∷ G.meaning t.1.1.1.1.1.1.0 ∷ H.meaning t.1.1.1.1.1.1.1.0 ∷ I.meaning t.1.1.1.1.1.1.1.1.0 ∷ J.meaning t.1.1.1.1.1.1.1.1.1.0 ∷ K.meaning t.1.1.1.1.1.1.1.1.1.1.0 ∷ L.meaning t.1.1.1.1.1.1.1.1.1.1.1.0 ∷ M.meaning t.1.1.1.1.1.1.1.1.1.1.1.1.0 ∷ [])) };
+
+    fn serialize<W: WriteExt>(&self, ser: &mut Serializer<W>) -> Result<usize> {
+        Row(Thirteen(
+            &self.0,
+            &self.1,
+            &self.2,
+            &self.3,
+            &self.4,
+            &self.5,
+            &self.6,
+            &self.7,
+            &self.8,
+            &self.9,
+            &self.10,
+            &self.11,
+            &self.12,
+            &(),
+        ))
+        .serialize(ser)
+    }
+}
+
+impl<
+    A: Serialize,
+    B: Serialize,
+    C: Serialize,
+    D: Serialize,
+    E: Serialize,
+    F: Serialize,
+    G: Serialize,
+    H: Serialize,
+    I: Serialize,
+    J: Serialize,
+    K: Serialize,
+    L: Serialize,
+    M: Serialize,
+    N: Serialize,
+> Serialize for (A, B, C, D, E, F, G, H, I, J, K, L, M, N) {
+    ghost meaning = { λ t. Tree.list ListKind.sequence (trees (A.meaning t.0 ∷ B.meaning t.1.0 ∷ C.meaning t.1.1.0 ∷ D.meaning t.1.1.1.0 ∷ E.meaning t.1.1.1.1.0 ∷ F.meaning t.1.1.1.1.1.0 ∷ G.meaning t.1.1.1.1.1.1.0 ∷ H.meaning t.1.1.1.1.1.1.1.0 ∷ I.meaning t.1.1.1.1.1.1.1.1.0 ∷ J.meaning t.1.1.1.1.1.1.1.1.1.0 ∷ K.meaning t.1.1.1.1.1.1.1.1.1.1.0 ∷ L.meaning t.1.1.1.1.1.1.1.1.1.1.1.0 ∷ M.meaning t.1.1.1.1.1.1.1.1.1.1.1.1.0 ∷ N.meaning t.1.1.1.1.1.1.1.1.1.1.1.1.1.0 ∷ [])) };
+
+    fn serialize<W: WriteExt>(&self, ser: &mut Serializer<W>) -> Result<usize> {
+        Row(Fourteen(
+            &self.0,
+            &self.1,
+            &self.2,
+            &self.3,
+            &self.4,
+            &self.5,
+            &self.6,
+            &self.7,
+            &self.8,
+            &self.9,
+            &self.10,
+            &self.11,
+            &self.12,
+            &self.13,
+            &(),
+        ))
+        .serialize(ser)
+    }
+}
+
+impl<
+    A: Serialize,
+    B: Serialize,
+    C: Serialize,
+    D: Serialize,
+    E: Serialize,
+    F: Serialize,
+    G: Serialize,
+    H: Serialize,
+    I: Serialize,
+    J: Serialize,
+    K: Serialize,
+    L: Serialize,
+    M: Serialize,
+    N: Serialize,
+    O: Serialize,
+> Serialize for (A, B, C, D, E, F, G, H, I, J, K, L, M, N, O) {
+    ghost meaning = { λ t. Tree.list ListKind.sequence (trees (A.meaning t.0 ∷ B.meaning t.1.0 ∷ C.meaning t.1.1.0 ∷ D.meaning t.1.1.1.0 ∷ E.meaning t.1.1.1.1.0 ∷ F.meaning t.1.1.1.1.1.0 ∷ G.meaning t.1.1.1.1.1.1.0 ∷ H.meaning t.1.1.1.1.1.1.1.0 ∷ I.meaning t.1.1.1.1.1.1.1.1.0 ∷ J.meaning t.1.1.1.1.1.1.1.1.1.0 ∷ K.meaning t.1.1.1.1.1.1.1.1.1.1.0 ∷ L.meaning t.1.1.1.1.1.1.1.1.1.1.1.0 ∷ M.meaning t.1.1.1.1.1.1.1.1.1.1.1.1.0 ∷ N.meaning t.1.1.1.1.1.1.1.1.1.1.1.1.1.0 ∷ O.meaning t.1.1.1.1.1.1.1.1.1.1.1.1.1.1.0 ∷ [])) };
+
+    fn serialize<W: WriteExt>(&self, ser: &mut Serializer<W>) -> Result<usize> {
+        Row(Fifteen(
+            &self.0,
+            &self.1,
+            &self.2,
+            &self.3,
+            &self.4,
+            &self.5,
+            &self.6,
+            &self.7,
+            &self.8,
+            &self.9,
+            &self.10,
+            &self.11,
+            &self.12,
+            &self.13,
+            &self.14,
+            &(),
+        ))
+        .serialize(ser)
+    }
+}
+
+impl<
+    A: Serialize,
+    B: Serialize,
+    C: Serialize,
+    D: Serialize,
+    E: Serialize,
+    F: Serialize,
+    G: Serialize,
+    H: Serialize,
+    I: Serialize,
+    J: Serialize,
+    K: Serialize,
+    L: Serialize,
+    M: Serialize,
+    N: Serialize,
+    O: Serialize,
+    P: Serialize,
+> Serialize for (A, B, C, D, E, F, G, H, I, J, K, L, M, N, O, P) {
+    ghost meaning = { λ t. Tree.list ListKind.sequence (trees (A.meaning t.0 ∷ B.meaning t.1.0 ∷ C.meaning t.1.1.0 ∷ D.meaning t.1.1.1.0 ∷ E.meaning t.1.1.1.1.0 ∷ F.meaning t.1.1.1.1.1.0 ∷ G.meaning t.1.1.1.1.1.1.0 ∷ H.meaning t.1.1.1.1.1.1.1.0 ∷ I.meaning t.1.1.1.1.1.1.1.1.0 ∷ J.meaning t.1.1.1.1.1.1.1.1.1.0 ∷ K.meaning t.1.1.1.1.1.1.1.1.1.1.0 ∷ L.meaning t.1.1.1.1.1.1.1.1.1.1.1.0 ∷ M.meaning t.1.1.1.1.1.1.1.1.1.1.1.1.0 ∷ N.meaning t.1.1.1.1.1.1.1.1.1.1.1.1.1.0 ∷ O.meaning t.1.1.1.1.1.1.1.1.1.1.1.1.1.1.0 ∷ P.meaning t.1.1.1.1.1.1.1.1.1.1.1.1.1.1.1.0 ∷ [])) };
+
+    fn serialize<W: WriteExt>(&self, ser: &mut Serializer<W>) -> Result<usize> {
+        Row(Sixteen(
+            &self.0,
+            &self.1,
+            &self.2,
+            &self.3,
+            &self.4,
+            &self.5,
+            &self.6,
+            &self.7,
+            &self.8,
+            &self.9,
+            &self.10,
+            &self.11,
+            &self.12,
+            &self.13,
+            &self.14,
+            &self.15,
             &(),
         ))
         .serialize(ser)
