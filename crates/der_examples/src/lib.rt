@@ -1,20 +1,28 @@
 //! Types written by hand over the public calls alone, as a user of the crates writes them.
 #![tactic(auto)]
 
+pub mod certificate;
+mod gust;
 mod marker;
 mod moment;
 mod named;
 mod number_or_flag;
 mod point;
+mod report;
+mod stay;
 mod tagged;
 mod track;
 mod version;
 
+pub use certificate::Certificate;
+pub use gust::Gust;
 pub use marker::Marker;
 pub use moment::Moment;
 pub use named::Named;
 pub use number_or_flag::NumberOrFlag;
 pub use point::Point;
+pub use report::Report;
+pub use stay::Stay;
 pub use tagged::Tagged;
 pub use track::Track;
 pub use version::Version;

@@ -4,11 +4,11 @@ use Rattle.std.specs.Option.{option_eq}
 use mathlib.Core.Bool.{beq}
 use lib.Pointwise.{pointwise}
 use lib.Dec.{eqb}
-use Rattle.std.proofs.Common.{ap, subst}
 use Rattle.picky_der_core.specs.Tree.{ListKind, Tree, Trees, trees}
 use Rattle.picky_der_core.specs.Readable.{IsReadable, AreReadable}
-use Rattle.picky_der_core.specs.Shape.{Shape, Shapes, IsOf, AreOf, EachIs}
+use Rattle.picky_der_core.specs.Shape.{Shape, Shapes, IsOf, AreOf}
 use Rattle.picky_der_ser.specs.Meaning.{option_meaning}
+use Rattle.picky_der_de.specs.ArrayLaws.{times, array_known}
 use Rattle.picky_der_de.specs.KnownLaws.{IsKnownByTree, AreKnownByTrees, boolean_known, unsigned_known, bytes_known, text_known, character_known, raw_known, option_known, list_known, both, row_members, first_member, other_members}
 
 -- where the two are one readable tree of the shape, the two values that mean them are equal
@@ -21,8 +21,8 @@ pub record TellAll (ss : Shapes) (ts us : Trees) (equal : Bool) : Type 0 where
 pub told : {V : Type 0} {meaning : V → Tree} (s : Shape) {eq : V → V → Bool} → ((x y : V) → Tells s (meaning x) (meaning y) (eq x y)) → IsKnownByTree meaning s eq
 told s h x y = (h x y).tells
 
-pub by_law : {V : Type 0} {meaning : V → Tree} {s : Shape} {eq : V → V → Bool} → IsKnownByTree meaning s eq → (x y : V) → Tells s (meaning x) (meaning y) (eq x y)
-by_law h x y = record { tells = h x y }
+pub by_law : {V : Type 0} {meaning : V → Tree} (s : Shape) {eq : V → V → Bool} → IsKnownByTree meaning s eq → (x y : V) → Tells s (meaning x) (meaning y) (eq x y)
+by_law s h x y = record { tells = h x y }
 
 pub tells_boolean : (x y : Bool) → Tells Shape.boolean (Tree.boolean x) (Tree.boolean y) (beq x y)
 tells_boolean x y = record { tells = λ p q r. boolean_known x y }
@@ -70,20 +70,9 @@ tells_application n s t u p h = record { tells = λ a b r e. let f : t ≡ u = c
 
 -- ---- arrays
 
--- each of the shapes is this one
-pub data AreAll (s : Shape) : Shapes → Type 0 where
-  all_none : AreAll s Shapes.none
-  all_more : {ss : Shapes} → AreAll s ss → AreAll s (Shapes.more s ss)
-
-each_is : {s : Shape} {ss : Shapes} → AreAll s ss → (ts : Trees) → AreOf ss ts → EachIs (IsOf s) ts
-each_is all_none Trees.none h = tt
-each_is all_none (Trees.more t ts) h = absurd h
-each_is (all_more a) Trees.none h = absurd h
-each_is (all_more a) (Trees.more t ts) h = (h.0, each_is a ts h.1)
-
-pub tells_array : {V : Type 0} (meaning : V → Tree) (s : Shape) (ss : Shapes) (eq : V → V → Bool) → AreAll s ss → ((x y : V) → Tells s (meaning x) (meaning y) (eq x y)) → (k : ListKind) (xs ys : List V)
-    → Tells (Shape.fields k ss) (Tree.list k (trees (map meaning xs))) (Tree.list k (trees (map meaning ys))) (pointwise eq xs ys)
-tells_array meaning s ss eq all h k xs ys = record { tells = λ p q r. list_known meaning s eq (λ v w. (h v w).tells) xs ys (each_is all _ p.1) (each_is all _ q.1) r.1 }
+pub tells_array : {V : Type 0} (n : ℕ) (meaning : V → Tree) (s : Shape) (eq : V → V → Bool) → ((x y : V) → Tells s (meaning x) (meaning y) (eq x y)) → (k : ListKind) (xs ys : List V)
+    → Tells (Shape.fields k (times n s)) (Tree.list k (trees (map meaning xs))) (Tree.list k (trees (map meaning ys))) (pointwise eq xs ys)
+tells_array n meaning s eq h k xs ys = record { tells = λ p q r. array_known meaning s eq (λ v w. (h v w).tells) n xs ys p.1 q.1 r.1 }
 
 -- ---- fields
 
@@ -104,4 +93,4 @@ pub tell_grouped : (ss : Shapes) (ts us : Trees) (p q r : Bool) → TellAll ss t
 tell_grouped ss ts us true q r h = h
 tell_grouped ss ts us false q r h = h
 
-pub ruleset tells = (tells_boolean, tells_unsigned, tells_null, tells_text, tells_character, tells_bytes, tells_raw, tells_option, tells_list, tells_octets, tells_bits, tells_explicit, tells_implicit, tells_application, tells_fields, tells_array, all_none, all_more, tell_none, tell_last, tell_next, tell_grouped)
+pub ruleset tells = (tells_boolean, tells_unsigned, tells_null, tells_text, tells_character, tells_bytes, tells_raw, tells_option, tells_list, tells_octets, tells_bits, tells_explicit, tells_implicit, tells_application, tells_array, tells_fields, tell_none, tell_last, tell_next, tell_grouped)
