@@ -1,6 +1,7 @@
 //! What is signed of a certificate.
 ghost use Rattle.std.proofs.Common.{rules};
-ghost use Rattle.picky_der_de.specs.Telling.{told, tells};
+ghost use Rattle.picky_der_de.specs.Telling.{by_law, told, tells};
+ghost use Rattle.der_examples.specs.contracts.version.VersionDeserialize.TheImpl.Laws.{known_by_tree-law};
 
 mod algorithm;
 mod attribute;
@@ -8,6 +9,7 @@ mod extension;
 mod public_key;
 mod validity;
 
+use crate::Version;
 pub use algorithm::Algorithm;
 pub use attribute::Attribute;
 pub use extension::Extension;
@@ -20,8 +22,8 @@ pub use validity::Validity;
 /// What is signed of a certificate (RFC 5280, 4.1), where each of these members is there and no other.
 #[derive(Debug, Drop, PartialEq, Eq)]
 pub struct Certificate {
-    /// 2 for the third version.
-    pub version: ExplicitContextTag0<u8>,
+    /// The version.
+    pub version: ExplicitContextTag0<Version>,
     /// The number that the issuer gave it.
     pub serial: IntegerAsn1,
     /// How it is signed.
@@ -40,7 +42,7 @@ pub struct Certificate {
 
 type Fields = Row<
     (
-        ExplicitContextTag0<u8>,
+        ExplicitContextTag0<Version>,
         IntegerAsn1,
         Algorithm,
         Vec<Asn1SetOf<Attribute>>,
@@ -94,7 +96,7 @@ impl Alike for Certificate {
 impl Deserialize for Certificate {
     ghost shape = { ⟦<Fields as Deserialize>⟧.shape };
 
-    ghost known_by_tree = { told ⟦<Fields as Deserialize>⟧.shape (Prim.search tells depth 99) };
+    ghost known_by_tree = { told ⟦<Fields as Deserialize>⟧.shape (Prim.search (tells, by_law ⟦<Version as Deserialize>⟧.shape known_by_tree-law) depth 99) };
 
     ghost sound = { Prim.search rules depth 99 };
 

@@ -2,9 +2,10 @@
 ghost use Rattle.std.proofs.Common.{rules};
 ghost use Rattle.picky_der_de.specs.Telling.{told, tells};
 
-use picky_asn1_der::Asn1RawDer;
 use picky_asn1_der::misc::{ReadExt, WriteExt};
-use picky_asn1_der::{Alike, Deserialize, Deserializer, Result, Row, Serialize, Serializer, de};
+use picky_asn1_der::{
+    Alike, Asn1RawDer, Deserialize, Deserializer, Result, Row, Serialize, Serializer, de,
+};
 
 /// A number, and an element that isn't looked at.
 #[derive(Debug, Drop, PartialEq, Eq)]

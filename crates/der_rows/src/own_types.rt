@@ -4,7 +4,10 @@ use crate::answers::{Input, read_as};
 use crate::kept::Kept;
 use crate::nested_tags::{FourTags, SixteenTags};
 use crate::seen::Seen;
-use der_examples::{Marker, Moment, Named, NumberOrFlag, Point, Tagged, Track, Version};
+use der_examples::{
+    Certificate, Gust, Marker, Moment, Named, NumberOrFlag, Point, Report, Stay, Tagged, Track,
+    Version,
+};
 use der_tool_lib::TestStruct;
 use picky_asn1_der::asn1::{ExplicitContextTag0, ImplicitContextTag1};
 use std::alloc::{AllocError, Global};
@@ -16,6 +19,10 @@ pub(crate) fn answer(alloc: Global, name: &str, input: &Input) -> Result<String,
         "NumberOrFlag" => read_as::<NumberOrFlag>(alloc, input),
         "Point" => read_as::<Point>(alloc, input),
         "Moment" => read_as::<Moment>(alloc, input),
+        "Stay" => read_as::<Stay>(alloc, input),
+        "Gust" => read_as::<Gust>(alloc, input),
+        "Report" => read_as::<Report>(alloc, input),
+        "Certificate" => read_as::<Certificate>(alloc, input),
         "Named<bool>" => read_as::<Named<bool>>(alloc, input),
         "ImplicitContextTag1<Named<bool>>" => read_as::<ImplicitContextTag1<Named<bool>>>(
             alloc, input,
