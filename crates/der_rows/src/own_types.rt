@@ -5,8 +5,8 @@ use crate::kept::Kept;
 use crate::nested_tags::{FourTags, SixteenTags};
 use crate::seen::Seen;
 use der_examples::{
-    GeneralName, Host, Marker, Moment, Named, NumberOrFlag, Place, Point, Setting, Tagged, Track,
-    Version,
+    Certificate, GeneralName, Gust, Host, Marker, Moment, Named, NumberOrFlag, Place, Point, Report,
+    Setting, Stay, Tagged, Track, Version,
 };
 use der_tool_lib::{AlgorithmIdentifier, SubjectPublicKeyInfo, TestStruct};
 use picky_asn1_der::asn1::{ExplicitContextTag0, ImplicitContextTag1};
@@ -28,6 +28,10 @@ pub(crate) fn answer(alloc: Global, name: &str, input: &Input) -> Result<String,
         "Vec<GeneralName>" => read_as::<Vec<GeneralName>>(alloc, input),
         "Point" => read_as::<Point>(alloc, input),
         "Moment" => read_as::<Moment>(alloc, input),
+        "Stay" => read_as::<Stay>(alloc, input),
+        "Gust" => read_as::<Gust>(alloc, input),
+        "Report" => read_as::<Report>(alloc, input),
+        "Certificate" => read_as::<Certificate>(alloc, input),
         "Named<bool>" => read_as::<Named<bool>>(alloc, input),
         "ImplicitContextTag1<Named<bool>>" => read_as::<ImplicitContextTag1<Named<bool>>>(
             alloc, input,

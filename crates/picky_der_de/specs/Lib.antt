@@ -12,6 +12,7 @@ pub mod KnownLaws
 pub mod EnclosureLaws
 pub mod TwinLaws
 pub mod Firsts
+pub mod Telling
 pub mod Choices
 pub mod FourChoices
 pub mod Entry

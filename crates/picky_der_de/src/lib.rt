@@ -12,6 +12,7 @@ mod entry;
 mod impls;
 mod row;
 mod sequence;
+mod several;
 
 pub use alike::{Alike, deserialize_as};
 pub use alternatives::{Alternatives, NoneOf, OneOf};

@@ -8,6 +8,7 @@ mod header;
 mod headers;
 mod impls;
 mod integer;
+mod lent;
 mod levels;
 mod null;
 mod plain;
@@ -15,6 +16,7 @@ mod row;
 mod sequence;
 mod serializer;
 mod sets;
+mod several;
 mod utf8_string;
 
 pub use boolean::Boolean;
