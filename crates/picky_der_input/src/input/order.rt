@@ -30,8 +30,8 @@ impl<R: ReadExt> Input<R> {
     pub(super) fn leave_set(&mut self, outer: Option<usize>)
         ensures { self.new ≡ record self.old { sets = cut_at outer self.old.sets.around } }
     {
-        if let Some(own) = self.last {
-            self.kept.truncate(own);
+        if let Some(begin) = self.last {
+            self.kept.truncate(begin);
         }
         self.last = match outer {
             Some(place) => Some(place.min(self.kept.len())),
