@@ -27,19 +27,18 @@ def behind(text, at, opening="{", closing="}"):
     return len(text)
 
 
-def end_of_function(text, at):
-    """The place behind a function whose name ends here: behind its body, or behind the `;` of one without a body."""
+def body_of(text, at):
+    """The place of a function's body whose name ends here, or of the `;` of one without a body."""
     begin = at
     while at < len(text):
         if text[at] in "([":
             at = behind(text, at, text[at], ")" if text[at] == "(" else "]")
         elif text[at] == ";":
-            return at + 1
+            return at
         elif text[at] == "{":
-            is_clause = re.search(r"(requires|ensures)\*?(\s+\w+)?\s*$|\bghost\s+\w+\s*:\s*$", text[begin:at])
-            at = begin = behind(text, at)
-            if not is_clause:
+            if not re.search(r"(requires|ensures)\*?(\s+\w+)?\s*$|\bghost\s+\w+\s*:\s*$", text[begin:at]):
                 return at
+            at = begin = behind(text, at)
         else:
             at += 1
     return at
@@ -62,6 +61,18 @@ def words_of(type_name):
     return name[:1].upper() + name[1:]
 
 
+def arguments_of(trait, parameters):
+    """How the checker writes the types that a trait is given, without what stands for any type."""
+    inner = re.match(r"[\w:]+<(.*)>$", re.sub(r"'\w+\s*", "", trait).strip())
+    words = ""
+    for it in split(inner[1]) if inner else []:
+        it = re.sub(r"\b\w+::(?=\w+::)", "", it)
+        if it not in parameters:
+            words += "".join(part[:1].upper() + part[1:] for part in it.split("<")[0].split("::")) if it[0].isalpha() else words_of(it)
+            words += arguments_of(it, parameters)
+    return words
+
+
 def split(text):
     """The parts of a text between the commas that stand in no brackets."""
     parts, depth = [""], 0
@@ -78,28 +89,39 @@ def block_of(header):
     """The name of an `impl` or `trait` in the checker's names: that of the type, and of the trait that it has there."""
     header = re.sub(r"\bwhere\b.*", "", header, flags=re.S).strip()
     if header.startswith("impl"):
-        header = header[len("impl") :].strip()
+        header, parameters = header[len("impl") :].strip(), []
         if header.startswith("<"):
-            header = header[behind(header.replace("->", "  "), 0, "<", ">") :].strip()
+            end = behind(header.replace("->", "  "), 0, "<", ">")
+            parameters = [it.split(":")[0].strip() for it in split(header[1 : end - 1])]
+            header = header[end:].strip()
         trait, found, own = header.partition(" for ")
-        return words_of(own) + words_of(trait) if found else words_of(header)
+        if own.strip() in parameters:
+            return "Any" + words_of(trait)
+        return words_of(own) + words_of(trait) + arguments_of(trait, parameters) if found else words_of(header)
     return re.match(r"trait\s+(\w+)", header)[1]
 
 
-def functions(text):
-    """The functions of a file: the block of each (or an empty text), its name, and the places of its beginning and end."""
+def parts(text):
+    """The functions of a file, each as the header of its block (or an empty text), its name, and the places of its beginning, its
+    body and its end; and the blocks, each as its header and the places of its beginning and end."""
     code, found, blocks, at = blanked(text), [], [], 0
     pattern = re.compile(r"\bfn\s+(\w+)|\b((?:impl|trait)\b(?:[^;{\[]|\[[^\]]*\])*)\{")
     for it in iter(lambda: pattern.search(code, at), None):
         if it[1]:
             begin = max(code.rfind(sign, 0, it.start()) for sign in "{};") + 1
-            at = end_of_function(code, it.end())
-            own = [name for name, start, end in blocks if start < begin < end]
-            found.append((own[-1] if own else "", it[1], begin, at))
+            body = body_of(code, it.end())
+            at = body + 1 if code[body : body + 1] == ";" else behind(code, body)
+            own = [header for header, start, end in blocks if start < begin < end]
+            found.append((own[-1] if own else "", it[1], begin, body, at))
         else:
-            blocks.append((block_of(it[2].strip()), it.start(), behind(code, it.end() - 1)))
+            blocks.append((it[2].strip(), it.start(), behind(code, it.end() - 1)))
             at = it.end()
-    return found
+    return found, blocks
+
+
+def functions(text):
+    """The functions of a file: the block of each (or an empty text), its name, and the places of its beginning and end."""
+    return [(block_of(header) if header else "", name, begin, end) for header, name, begin, _, end in parts(text)[0]]
 
 
 def module_of(path):

@@ -1,10 +1,10 @@
 //! A struct of structs.
 ghost use Rattle.std.proofs.Common.{rules};
-ghost use Rattle.picky_der_de.specs.TwinLaws.{knowns};
+ghost use Rattle.picky_der_de.specs.Telling.{told, tells};
 
 use crate::{Named, Point};
 use picky_asn1_der::misc::{ReadExt, WriteExt};
-use picky_asn1_der::{Alike, Deserialize, Deserializer, Result, Serialize, Serializer, de};
+use picky_asn1_der::{Alike, Deserialize, Deserializer, Result, Row, Serialize, Serializer, de};
 
 /// A point with a label, as a SEQUENCE of the two.
 #[derive(Debug, Drop, PartialEq, Eq)]
@@ -15,8 +15,10 @@ pub struct Marker {
     pub at: Point,
 }
 
+type Fields = Row<(Named<u8>, Point, ())>;
+
 impl Serialize for Marker {
-    ghost meaning = { λ m. ⟦<(Named<u8>, Point) as Serialize>⟧.meaning (m.label, m.at) };
+    ghost meaning = { λ it. ⟦<Fields as Serialize>⟧.meaning (⟦<Marker as Alike>⟧.parts it) };
 
     fn serialize<W: WriteExt>(&self, serializer: &mut Serializer<W>) -> Result<usize> {
         (&self.label, &self.at).serialize(serializer)
@@ -24,21 +26,22 @@ impl Serialize for Marker {
 }
 
 impl Alike for Marker {
-    type As = (Named<u8>, Point);
+    type As = Fields;
 
-    ghost parts = { λ m. (m.label, m.at) };
+    ghost parts = { λ it. record { 0 = (it.label, it.at, tt) } };
 
-    fn from_parts((label, at): Self::As) -> Marker {
+    fn from_parts(Row(fields): Fields) -> Marker {
+        let (label, at, ()) = fields;
         Marker { label, at }
     }
 }
 
 impl Deserialize for Marker {
-    ghost shape = { ⟦<(Named<u8>, Point) as Deserialize>⟧.shape };
+    ghost shape = { ⟦<Fields as Deserialize>⟧.shape };
 
-    ghost known_by_tree = { Prim.search (rules, knowns) };
+    ghost known_by_tree = { told ⟦<Fields as Deserialize>⟧.shape (Prim.search tells depth 99) };
 
-    ghost sound = { Prim.search rules };
+    ghost sound = { Prim.search rules depth 99 };
 
     fn deserialize<R: ReadExt>(deserializer: &mut Deserializer<R>) -> Result<Marker> {
         de::deserialize_as(deserializer)

@@ -1,6 +1,6 @@
-//! A struct of more fields than a tuple has.
+//! A struct of seven fields.
 ghost use Rattle.std.proofs.Common.{rules};
-ghost use Rattle.picky_der_de.specs.TwinLaws.{knowns};
+ghost use Rattle.picky_der_de.specs.Telling.{told, tells};
 
 use picky_asn1_der::misc::{ReadExt, WriteExt};
 use picky_asn1_der::{Alike, Deserialize, Deserializer, Result, Row, Serialize, Serializer, de};
@@ -24,26 +24,32 @@ pub struct Moment {
     pub millisecond: u16,
 }
 
-type Numbers = Row<(u16, (u8, (u8, (u8, (u8, (u8, (u16, ())))))))>;
+type Fields = Row<(u16, u8, u8, u8, u8, u8, u16, ())>;
 
 impl Serialize for Moment {
-    ghost meaning = { λ m. ⟦<Numbers as Serialize>⟧.meaning (⟦<Moment as Alike>⟧.parts m) };
+    ghost meaning = { λ it. ⟦<Fields as Serialize>⟧.meaning (⟦<Moment as Alike>⟧.parts it) };
 
     fn serialize<W: WriteExt>(&self, serializer: &mut Serializer<W>) -> Result<usize> {
-        let seconds = (self.second, (self.millisecond, ()));
-        let time = (self.hour, (self.minute, seconds));
-        Row((self.year, (self.month, (self.day, time)))).serialize(serializer)
+        (
+            &self.year,
+            &self.month,
+            &self.day,
+            &self.hour,
+            &self.minute,
+            &self.second,
+            &self.millisecond,
+        )
+            .serialize(serializer)
     }
 }
 
 impl Alike for Moment {
-    type As = Numbers;
+    type As = Fields;
 
-    ghost parts = { λ m. record { 0 = (m.year, (m.month, (m.day, (m.hour, (m.minute, (m.second, (m.millisecond, tt))))))) } };
+    ghost parts = { λ it. record { 0 = (it.year, it.month, it.day, it.hour, it.minute, it.second, it.millisecond, tt) } };
 
-    fn from_parts(
-        Row((year, (month, (day, (hour, (minute, (second, (millisecond, ())))))))): Numbers,
-    ) -> Moment {
+    fn from_parts(Row(fields): Fields) -> Moment {
+        let (year, month, day, hour, minute, second, millisecond, ()) = fields;
         Moment {
             year,
             month,
@@ -57,11 +63,11 @@ impl Alike for Moment {
 }
 
 impl Deserialize for Moment {
-    ghost shape = { ⟦<Numbers as Deserialize>⟧.shape };
+    ghost shape = { ⟦<Fields as Deserialize>⟧.shape };
 
-    ghost known_by_tree = { Prim.search (rules, knowns) };
+    ghost known_by_tree = { told ⟦<Fields as Deserialize>⟧.shape (Prim.search tells depth 99) };
 
-    ghost sound = { Prim.search rules };
+    ghost sound = { Prim.search rules depth 99 };
 
     fn deserialize<R: ReadExt>(deserializer: &mut Deserializer<R>) -> Result<Moment> {
         de::deserialize_as(deserializer)

@@ -1,10 +1,10 @@
 //! A struct with a field of any type.
 ghost use Rattle.std.proofs.Common.{rules};
-ghost use Rattle.picky_der_de.specs.TwinLaws.{knowns};
+ghost use Rattle.picky_der_de.specs.Telling.{by_law, told, tells};
 
 use picky_asn1_der::asn1::ByteBuf;
 use picky_asn1_der::misc::{ReadExt, WriteExt};
-use picky_asn1_der::{Alike, Deserialize, Deserializer, Result, Serialize, Serializer, de};
+use picky_asn1_der::{Alike, Deserialize, Deserializer, Result, Row, Serialize, Serializer, de};
 
 /// A value under a name, as a SEQUENCE of an OCTET STRING and the value.
 #[derive(Debug, Drop, PartialEq, Eq)]
@@ -15,8 +15,10 @@ pub struct Named<T> {
     pub value: T,
 }
 
+type Fields<T> = Row<(ByteBuf, T, ())>;
+
 impl<T: Serialize> Serialize for Named<T> {
-    ghost meaning = { λ n. ⟦<(ByteBuf, T) as Serialize>⟧.meaning (n.name, n.value) };
+    ghost meaning = { λ it. ⟦<Fields<T> as Serialize>⟧.meaning (record { 0 = (it.name, it.value, tt) }) };
 
     fn serialize<W: WriteExt>(&self, serializer: &mut Serializer<W>) -> Result<usize> {
         (&self.name, &self.value).serialize(serializer)
@@ -24,21 +26,22 @@ impl<T: Serialize> Serialize for Named<T> {
 }
 
 impl<T: Deserialize> Alike for Named<T> {
-    type As = (ByteBuf, T);
+    type As = Fields<T>;
 
-    ghost parts = { λ n. (n.name, n.value) };
+    ghost parts = { λ it. record { 0 = (it.name, it.value, tt) } };
 
-    fn from_parts((name, value): Self::As) -> Named<T> {
+    fn from_parts(Row(fields): Fields<T>) -> Named<T> {
+        let (name, value, ()) = fields;
         Named { name, value }
     }
 }
 
 impl<T: Deserialize> Deserialize for Named<T> {
-    ghost shape = { ⟦<(ByteBuf, T) as Deserialize>⟧.shape };
+    ghost shape = { ⟦<Fields<T> as Deserialize>⟧.shape };
 
-    ghost known_by_tree = { Prim.search (rules, knowns, T.known_by_tree) };
+    ghost known_by_tree = { told ⟦<Fields<T> as Deserialize>⟧.shape (Prim.search (tells, by_law T.shape T.known_by_tree) depth 99) };
 
-    ghost sound = { Prim.search (rules, T.sound) };
+    ghost sound = { Prim.search (rules, T.sound) depth 99 };
 
     fn deserialize<R: ReadExt>(deserializer: &mut Deserializer<R>) -> Result<Named<T>> {
         de::deserialize_as(deserializer)

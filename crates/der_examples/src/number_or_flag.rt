@@ -1,12 +1,11 @@
 //! A choice, as a CHOICE of an INTEGER and a BOOLEAN (X.690, 8.13).
-ghost use Rattle.std.proofs.Common.{rules, inl, inr};
-ghost use Rattle.picky_der_de.specs.Choices.{two_shapes, choice_tree};
+ghost use Rattle.std.proofs.Common.{rules};
+ghost use Rattle.picky_der_de.specs.declared.alternatives.OneOf.TheVariants.{This, Other};
 ghost use Rattle.der_examples.specs.declared.number_or_flag.NumberOrFlag.TheVariants.{Number, Flag};
 
-use picky_asn1_der::asn1::Tag;
-use picky_asn1_der::de::{Choice, deserialize_choice};
-use picky_asn1_der::misc::{ReadExt, WriteExt};
-use picky_asn1_der::{Deserialize, Deserializer, Result, Serialize, Serializer};
+use picky_asn1_der::OneOf::{Other, This};
+use picky_asn1_der::misc::WriteExt;
+use picky_asn1_der::{Alternatives, Choice, NoneOf, OneOf, Result, Serialize, Serializer, Told};
 
 /// A number or a truth value.
 #[derive(Debug, Drop, PartialEq, Eq)]
@@ -17,52 +16,36 @@ pub enum NumberOrFlag {
     Flag(bool),
 }
 
+type Parts = OneOf<u8, OneOf<bool, NoneOf>>;
+
 impl Choice for NumberOrFlag {
-    type First = u8;
+    type Alternatives = Parts;
 
-    type Second = bool;
+    ghost parts = { elim [ Number n ↦ This n | Flag b ↦ Other (This b) ] };
 
-    ghost parts = { elim [ Number n ↦ inl n | Flag b ↦ inr b ] };
-
-    ghost apart = { Prim.search rules };
-
-    fn is_first(tag: Tag) -> bool {
-        tag == Tag::INTEGER
-    }
-
-    fn is_second(tag: Tag) -> bool {
-        tag == Tag::BOOLEAN
-    }
-
-    fn from_first(value: u8) -> NumberOrFlag {
-        NumberOrFlag::Number(value)
-    }
-
-    fn from_second(value: bool) -> NumberOrFlag {
-        NumberOrFlag::Flag(value)
-    }
-}
-
-impl Serialize for NumberOrFlag {
-    ghost meaning = { λ v. choice_tree ⟦<u8 as Serialize>⟧.meaning ⟦<bool as Serialize>⟧.meaning (⟦<NumberOrFlag as Choice>⟧.parts v) };
-
-    #[tactic(auto, using(picky_der_ser::proofs::Choices::choice))]
-    fn serialize<W: WriteExt>(&self, serializer: &mut Serializer<W>) -> Result<usize> {
-        match self {
-            NumberOrFlag::Number(number) => number.serialize(serializer),
-            NumberOrFlag::Flag(flag) => flag.serialize(serializer),
+    fn from_parts(value: Parts) -> NumberOrFlag {
+        match value {
+            This(number) => NumberOrFlag::Number(number),
+            Other(This(flag)) => NumberOrFlag::Flag(flag),
         }
     }
 }
 
-impl Deserialize for NumberOrFlag {
-    ghost shape = { two_shapes ⟦<u8 as Deserialize>⟧.shape ⟦<bool as Deserialize>⟧.shape };
+impl Serialize for NumberOrFlag {
+    ghost meaning = { λ v. ⟦<Parts as Alternatives>⟧.meaning (⟦<NumberOrFlag as Choice>⟧.parts v) };
 
-    ghost known_by_tree = { Prim.search rules };
-
-    ghost sound = { Prim.search rules };
-
-    fn deserialize<R: ReadExt>(deserializer: &mut Deserializer<R>) -> Result<NumberOrFlag> {
-        deserialize_choice(deserializer)
+    fn serialize<W: WriteExt>(&self, serializer: &mut Serializer<W>) -> Result<usize> {
+        match self {
+            NumberOrFlag::Number(number) => serializer.serialize_choice(number),
+            NumberOrFlag::Flag(flag) => serializer.serialize_choice(flag),
+        }
     }
+}
+
+impl Told for NumberOrFlag {
+    ghost told = { Prim.search rules };
+
+    ghost meant = { Prim.search rules };
+
+    ghost equal = { Prim.search rules };
 }

@@ -1,9 +1,9 @@
 //! A struct of three fields.
 ghost use Rattle.std.proofs.Common.{rules};
-ghost use Rattle.picky_der_de.specs.TwinLaws.{knowns};
+ghost use Rattle.picky_der_de.specs.Telling.{told, tells};
 
 use picky_asn1_der::misc::{ReadExt, WriteExt};
-use picky_asn1_der::{Alike, Deserialize, Deserializer, Result, Serialize, Serializer, de};
+use picky_asn1_der::{Alike, Deserialize, Deserializer, Result, Row, Serialize, Serializer, de};
 
 /// A point so far east and north, which may be hidden: a SEQUENCE of two INTEGERs and a BOOLEAN.
 #[derive(Debug, Drop, PartialEq, Eq)]
@@ -13,8 +13,10 @@ pub struct Point {
     pub hidden: bool,
 }
 
+type Fields = Row<(u32, u32, bool, ())>;
+
 impl Serialize for Point {
-    ghost meaning = { λ p. ⟦<(u32, u32, bool) as Serialize>⟧.meaning (p.x, p.y, p.hidden) };
+    ghost meaning = { λ it. ⟦<Fields as Serialize>⟧.meaning (⟦<Point as Alike>⟧.parts it) };
 
     fn serialize<W: WriteExt>(&self, serializer: &mut Serializer<W>) -> Result<usize> {
         (&self.x, &self.y, &self.hidden).serialize(serializer)
@@ -22,21 +24,22 @@ impl Serialize for Point {
 }
 
 impl Alike for Point {
-    type As = (u32, u32, bool);
+    type As = Fields;
 
-    ghost parts = { λ p. (p.x, p.y, p.hidden) };
+    ghost parts = { λ it. record { 0 = (it.x, it.y, it.hidden, tt) } };
 
-    fn from_parts((x, y, hidden): Self::As) -> Point {
+    fn from_parts(Row(fields): Fields) -> Point {
+        let (x, y, hidden, ()) = fields;
         Point { x, y, hidden }
     }
 }
 
 impl Deserialize for Point {
-    ghost shape = { ⟦<(u32, u32, bool) as Deserialize>⟧.shape };
+    ghost shape = { ⟦<Fields as Deserialize>⟧.shape };
 
-    ghost known_by_tree = { Prim.search (rules, knowns) };
+    ghost known_by_tree = { told ⟦<Fields as Deserialize>⟧.shape (Prim.search tells depth 99) };
 
-    ghost sound = { Prim.search rules };
+    ghost sound = { Prim.search rules depth 99 };
 
     fn deserialize<R: ReadExt>(deserializer: &mut Deserializer<R>) -> Result<Point> {
         de::deserialize_as(deserializer)

@@ -1,11 +1,11 @@
 //! Structs under tags, as fields.
 ghost use Rattle.std.proofs.Common.{rules};
-ghost use Rattle.picky_der_de.specs.TwinLaws.{knowns};
+ghost use Rattle.picky_der_de.specs.Telling.{told, tells};
 
 use crate::{Named, Point};
 use picky_asn1_der::asn1::{ExplicitContextTag, ImplicitContextTag};
 use picky_asn1_der::misc::{ReadExt, WriteExt};
-use picky_asn1_der::{Alike, Deserialize, Deserializer, Result, Serialize, Serializer, de};
+use picky_asn1_der::{Alike, Deserialize, Deserializer, Result, Row, Serialize, Serializer, de};
 
 /// A label and a point that may be told apart by their tags: `[0] EXPLICIT` and `[1] IMPLICIT`.
 #[derive(Debug, Drop, PartialEq, Eq)]
@@ -16,8 +16,16 @@ pub struct Tagged {
     pub at: ImplicitContextTag<Point, 1>,
 }
 
+type Fields = Row<
+    (
+        ExplicitContextTag<Named<u8>, 0>,
+        ImplicitContextTag<Point, 1>,
+        (),
+    ),
+>;
+
 impl Serialize for Tagged {
-    ghost meaning = { λ t. ⟦<(ExplicitContextTag<Named<u8>, 0>, ImplicitContextTag<Point, 1>) as Serialize>⟧.meaning (t.label, t.at) };
+    ghost meaning = { λ it. ⟦<Fields as Serialize>⟧.meaning (⟦<Tagged as Alike>⟧.parts it) };
 
     fn serialize<W: WriteExt>(&self, serializer: &mut Serializer<W>) -> Result<usize> {
         (&self.label, &self.at).serialize(serializer)
@@ -25,24 +33,22 @@ impl Serialize for Tagged {
 }
 
 impl Alike for Tagged {
-    type As = (
-        ExplicitContextTag<Named<u8>, 0>,
-        ImplicitContextTag<Point, 1>,
-    );
+    type As = Fields;
 
-    ghost parts = { λ t. (t.label, t.at) };
+    ghost parts = { λ it. record { 0 = (it.label, it.at, tt) } };
 
-    fn from_parts((label, at): Self::As) -> Tagged {
+    fn from_parts(Row(fields): Fields) -> Tagged {
+        let (label, at, ()) = fields;
         Tagged { label, at }
     }
 }
 
 impl Deserialize for Tagged {
-    ghost shape = { ⟦<(ExplicitContextTag<Named<u8>, 0>, ImplicitContextTag<Point, 1>) as Deserialize>⟧.shape };
+    ghost shape = { ⟦<Fields as Deserialize>⟧.shape };
 
-    ghost known_by_tree = { Prim.search (rules, knowns) };
+    ghost known_by_tree = { told ⟦<Fields as Deserialize>⟧.shape (Prim.search tells depth 99) };
 
-    ghost sound = { Prim.search rules };
+    ghost sound = { Prim.search rules depth 99 };
 
     fn deserialize<R: ReadExt>(deserializer: &mut Deserializer<R>) -> Result<Tagged> {
         de::deserialize_as(deserializer)

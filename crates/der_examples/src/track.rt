@@ -1,11 +1,11 @@
 //! A struct with lists.
 ghost use Rattle.std.proofs.Common.{rules};
-ghost use Rattle.picky_der_de.specs.TwinLaws.{knowns};
+ghost use Rattle.picky_der_de.specs.Telling.{told, tells};
 
 use crate::Point;
 use picky_asn1_der::asn1::{Asn1SetOf, ByteBuf, ExplicitContextTag};
 use picky_asn1_der::misc::{ReadExt, WriteExt};
-use picky_asn1_der::{Alike, Deserialize, Deserializer, Result, Serialize, Serializer, de};
+use picky_asn1_der::{Alike, Deserialize, Deserializer, Result, Row, Serialize, Serializer, de};
 
 /// A track through points, as a SEQUENCE of its members.
 #[derive(Debug, Drop, PartialEq, Eq)]
@@ -20,8 +20,18 @@ pub struct Track {
     pub names: ExplicitContextTag<Asn1SetOf<ByteBuf>, 0>,
 }
 
+type Fields = Row<
+    (
+        bool,
+        Vec<Point>,
+        [u16; 2],
+        ExplicitContextTag<Asn1SetOf<ByteBuf>, 0>,
+        (),
+    ),
+>;
+
 impl Serialize for Track {
-    ghost meaning = { λ t. ⟦<(bool, Vec<Point>, [u16; 2], ExplicitContextTag<Asn1SetOf<ByteBuf>, 0>) as Serialize>⟧.meaning (⟦<Track as Alike>⟧.parts t) };
+    ghost meaning = { λ it. ⟦<Fields as Serialize>⟧.meaning (⟦<Track as Alike>⟧.parts it) };
 
     fn serialize<W: WriteExt>(&self, serializer: &mut Serializer<W>) -> Result<usize> {
         (&self.closed, &self.points, &self.days, &self.names).serialize(serializer)
@@ -29,16 +39,12 @@ impl Serialize for Track {
 }
 
 impl Alike for Track {
-    type As = (
-        bool,
-        Vec<Point>,
-        [u16; 2],
-        ExplicitContextTag<Asn1SetOf<ByteBuf>, 0>,
-    );
+    type As = Fields;
 
-    ghost parts = { λ t. (t.closed, t.points, t.days, t.names) };
+    ghost parts = { λ it. record { 0 = (it.closed, it.points, it.days, it.names, tt) } };
 
-    fn from_parts((closed, points, days, names): Self::As) -> Track {
+    fn from_parts(Row(fields): Fields) -> Track {
+        let (closed, points, days, names, ()) = fields;
         Track {
             closed,
             points,
@@ -49,11 +55,11 @@ impl Alike for Track {
 }
 
 impl Deserialize for Track {
-    ghost shape = { ⟦<(bool, Vec<Point>, [u16; 2], ExplicitContextTag<Asn1SetOf<ByteBuf>, 0>) as Deserialize>⟧.shape };
+    ghost shape = { ⟦<Fields as Deserialize>⟧.shape };
 
-    ghost known_by_tree = { Prim.search (rules, knowns) };
+    ghost known_by_tree = { told ⟦<Fields as Deserialize>⟧.shape (Prim.search tells depth 99) };
 
-    ghost sound = { Prim.search rules };
+    ghost sound = { Prim.search rules depth 99 };
 
     fn deserialize<R: ReadExt>(deserializer: &mut Deserializer<R>) -> Result<Track> {
         de::deserialize_as(deserializer)

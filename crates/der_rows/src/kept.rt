@@ -1,10 +1,10 @@
 //! A struct with an element that is kept as it is.
 ghost use Rattle.std.proofs.Common.{rules};
-ghost use Rattle.picky_der_de.specs.TwinLaws.{knowns};
+ghost use Rattle.picky_der_de.specs.Telling.{told, tells};
 
 use picky_asn1_der::misc::{ReadExt, WriteExt};
 use picky_asn1_der::{
-    Alike, Asn1RawDer, Deserialize, Deserializer, Result, Serialize, Serializer, deserialize_as,
+    Alike, Asn1RawDer, Deserialize, Deserializer, Result, Row, Serialize, Serializer, de,
 };
 
 /// A number, and an element that isn't looked at.
@@ -14,8 +14,10 @@ pub(crate) struct Kept {
     element: Asn1RawDer,
 }
 
+type Fields = Row<(u8, Asn1RawDer, ())>;
+
 impl Serialize for Kept {
-    ghost meaning = { λ x. ⟦<(u8, Asn1RawDer) as Serialize>⟧.meaning (x.number, x.element) };
+    ghost meaning = { λ it. ⟦<Fields as Serialize>⟧.meaning (⟦<Kept as Alike>⟧.parts it) };
 
     fn serialize<W: WriteExt>(&self, serializer: &mut Serializer<W>) -> Result<usize> {
         (&self.number, &self.element).serialize(serializer)
@@ -23,23 +25,24 @@ impl Serialize for Kept {
 }
 
 impl Alike for Kept {
-    type As = (u8, Asn1RawDer);
+    type As = Fields;
 
-    ghost parts = { λ x. (x.number, x.element) };
+    ghost parts = { λ it. record { 0 = (it.number, it.element, tt) } };
 
-    fn from_parts((number, element): Self::As) -> Kept {
+    fn from_parts(Row(fields): Fields) -> Kept {
+        let (number, element, ()) = fields;
         Kept { number, element }
     }
 }
 
 impl Deserialize for Kept {
-    ghost shape = { ⟦<(u8, Asn1RawDer) as Deserialize>⟧.shape };
+    ghost shape = { ⟦<Fields as Deserialize>⟧.shape };
 
-    ghost known_by_tree = { Prim.search (rules, knowns) };
+    ghost known_by_tree = { told ⟦<Fields as Deserialize>⟧.shape (Prim.search tells depth 99) };
 
-    ghost sound = { Prim.search rules };
+    ghost sound = { Prim.search rules depth 99 };
 
     fn deserialize<R: ReadExt>(deserializer: &mut Deserializer<R>) -> Result<Kept> {
-        deserialize_as(deserializer)
+        de::deserialize_as(deserializer)
     }
 }

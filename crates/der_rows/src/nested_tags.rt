@@ -1,6 +1,5 @@
 //! Explicit tags in one another.
-ghost use Rattle.picky_der_de.specs.KnownLaws.{unsigned_known};
-ghost use Rattle.picky_der_de.specs.TwinLaws.{in_explicit};
+ghost use Rattle.picky_der_de.specs.Telling.{told, tells};
 
 use picky_asn1_der::asn1::ExplicitContextTag;
 use picky_asn1_der::misc::{ReadExt, WriteExt};
@@ -46,7 +45,7 @@ impl Alike for LastEight {
 impl Deserialize for LastEight {
     ghost shape = { ⟦<Eight as Deserialize>⟧.shape };
 
-    ghost known_by_tree = { λ x y p q r e. unsigned_known _ _ (in_explicit (in_explicit (in_explicit (in_explicit (in_explicit (in_explicit (in_explicit (in_explicit e)))))))) };
+    ghost known_by_tree = { told ⟦<Eight as Deserialize>⟧.shape (Prim.search tells depth 99) };
 
     ghost sound = { tt };
 

@@ -4,7 +4,10 @@ use crate::answers::{Input, read_as};
 use crate::kept::Kept;
 use crate::nested_tags::{FourTags, SixteenTags};
 use crate::seen::Seen;
-use der_examples::{Marker, Moment, Named, NumberOrFlag, Point, Tagged, Track, Version};
+use der_examples::{
+    Certificate, GeneralName, Gust, Host, Marker, Moment, Named, NumberOrFlag, Place, Point,
+    Report, Setting, Stay, Tagged, Track, Version,
+};
 use der_tool_lib::{AlgorithmIdentifier, SubjectPublicKeyInfo, TestStruct};
 use picky_asn1_der::asn1::{ExplicitContextTag0, ImplicitContextTag1};
 use std::alloc::{AllocError, Global};
@@ -18,8 +21,17 @@ pub(crate) fn answer(alloc: Global, name: &str, input: &Input) -> Result<String,
             read_as::<ImplicitContextTag1<AlgorithmIdentifier>>(alloc, input)
         }
         "NumberOrFlag" => read_as::<NumberOrFlag>(alloc, input),
+        "Setting" => read_as::<Setting>(alloc, input),
+        "Host" => read_as::<Host>(alloc, input),
+        "Place" => read_as::<Place>(alloc, input),
+        "GeneralName" => read_as::<GeneralName>(alloc, input),
+        "Vec<GeneralName>" => read_as::<Vec<GeneralName>>(alloc, input),
         "Point" => read_as::<Point>(alloc, input),
         "Moment" => read_as::<Moment>(alloc, input),
+        "Stay" => read_as::<Stay>(alloc, input),
+        "Gust" => read_as::<Gust>(alloc, input),
+        "Report" => read_as::<Report>(alloc, input),
+        "Certificate" => read_as::<Certificate>(alloc, input),
         "Named<bool>" => read_as::<Named<bool>>(alloc, input),
         "ImplicitContextTag1<Named<bool>>" => read_as::<ImplicitContextTag1<Named<bool>>>(
             alloc, input,

@@ -3,7 +3,7 @@
 use crate::calls::shown;
 use crate::devices::{fault_kind, refusal_named};
 use crate::runs::in_runs;
-use der_examples::NumberOrFlag;
+use der_examples::{Host, NumberOrFlag};
 use der_fixtures::{FailingReader, FailingWriter, Refusal, text_of};
 use der_tool_lib::{SubjectPublicKeyInfo, TestStruct};
 use picky_asn1_der::asn1::{Asn1SetOf, BitStringAsn1Container, ByteBuf, ExplicitContextTag0};
@@ -63,6 +63,7 @@ pub(crate) fn answer(
             ExplicitContextTag0<BitStringAsn1Container<u8>>,
         >(alloc, sweep, encoding),
         "NumberOrFlag" => answer_as::<NumberOrFlag>(alloc, sweep, encoding),
+        "Host" => answer_as::<Host>(alloc, sweep, encoding),
         "TestStruct" => answer_as::<TestStruct>(alloc, sweep, encoding),
         "SubjectPublicKeyInfo" => answer_as::<SubjectPublicKeyInfo>(alloc, sweep, encoding),
         _ => String::from_str(alloc, "unknown type"),

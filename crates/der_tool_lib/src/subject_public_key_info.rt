@@ -1,12 +1,12 @@
 //! Public keys, as certificates hold them.
 ghost use Rattle.std.proofs.Common.{rules};
-ghost use Rattle.picky_der_de.specs.TwinLaws.{knowns};
-ghost use Rattle.der_tool_lib.specs.AlgorithmIdentifierLaws.{algorithm_known};
+ghost use Rattle.picky_der_de.specs.Telling.{by_law, told, tells};
+ghost use Rattle.der_tool_lib.specs.contracts.algorithm_identifier.AlgorithmIdentifierDeserialize.TheImpl.Laws.{known_by_tree-law};
 
 use crate::AlgorithmIdentifier;
 use picky_asn1_der::asn1::BitStringAsn1;
 use picky_asn1_der::misc::{ReadExt, WriteExt};
-use picky_asn1_der::{Alike, Deserialize, Deserializer, Result, Serialize, Serializer, de};
+use picky_asn1_der::{Alike, Deserialize, Deserializer, Result, Row, Serialize, Serializer, de};
 
 /// A public key and the algorithm that it is for, as a SEQUENCE (RFC 5280, 4.1.2.7).
 #[derive(Debug, Drop, PartialEq, Eq)]
@@ -19,8 +19,10 @@ pub struct SubjectPublicKeyInfo {
     pub subject_public_key: BitStringAsn1,
 }
 
+type Fields = Row<(AlgorithmIdentifier, BitStringAsn1, ())>;
+
 impl Serialize for SubjectPublicKeyInfo {
-    ghost meaning = { λ k. ⟦<(AlgorithmIdentifier, BitStringAsn1) as Serialize>⟧.meaning (k.algorithm, k.subject_public_key) };
+    ghost meaning = { λ it. ⟦<Fields as Serialize>⟧.meaning (⟦<SubjectPublicKeyInfo as Alike>⟧.parts it) };
 
     fn serialize<W: WriteExt>(&self, serializer: &mut Serializer<W>) -> Result<usize> {
         (&self.algorithm, &self.subject_public_key).serialize(serializer)
@@ -28,11 +30,12 @@ impl Serialize for SubjectPublicKeyInfo {
 }
 
 impl Alike for SubjectPublicKeyInfo {
-    type As = (AlgorithmIdentifier, BitStringAsn1);
+    type As = Fields;
 
-    ghost parts = { λ k. (k.algorithm, k.subject_public_key) };
+    ghost parts = { λ it. record { 0 = (it.algorithm, it.subject_public_key, tt) } };
 
-    fn from_parts((algorithm, subject_public_key): Self::As) -> SubjectPublicKeyInfo {
+    fn from_parts(Row(fields): Fields) -> SubjectPublicKeyInfo {
+        let (algorithm, subject_public_key, ()) = fields;
         SubjectPublicKeyInfo {
             algorithm,
             subject_public_key,
@@ -41,11 +44,11 @@ impl Alike for SubjectPublicKeyInfo {
 }
 
 impl Deserialize for SubjectPublicKeyInfo {
-    ghost shape = { ⟦<(AlgorithmIdentifier, BitStringAsn1) as Deserialize>⟧.shape };
+    ghost shape = { ⟦<Fields as Deserialize>⟧.shape };
 
-    ghost known_by_tree = { Prim.search (rules, knowns, algorithm_known) };
+    ghost known_by_tree = { told ⟦<Fields as Deserialize>⟧.shape (Prim.search (tells, by_law ⟦<AlgorithmIdentifier as Deserialize>⟧.shape known_by_tree-law) depth 99) };
 
-    ghost sound = { Prim.search rules };
+    ghost sound = { Prim.search rules depth 99 };
 
     fn deserialize<R: ReadExt>(deserializer: &mut Deserializer<R>) -> Result<SubjectPublicKeyInfo> {
         de::deserialize_as(deserializer)

@@ -19,3 +19,4 @@ mod raw_elements;
 mod sets;
 mod tags;
 mod tool;
+mod values;

@@ -6,6 +6,8 @@ ghost use Rattle.picky_der_core.specs.Shape.{Shape};
 ghost use Rattle.picky_der_input.specs.declared.enclosure.Enclosure.TheVariants as enclosure;
 ghost use Rattle.picky_der_de.specs.EnclosureLaws.{enclosed_known};
 
+use crate::asn1::Tag;
+use crate::de::Begins;
 use crate::misc::{ReadExt, WriteExt};
 use crate::{Asn1DerError, Deserialize, Deserializer, Result, Serialize, Serializer};
 use std::fmt::Debug;
@@ -61,4 +63,12 @@ impl<V: Deserialize + Debug, const T: u8> Deserialize for ApplicationTag<V, T> {
         let value = de.deserialize_application(T)?;
         Ok(ApplicationTag(value))
     }
+}
+
+impl<V: Deserialize + Debug, const T: u8> Begins for ApplicationTag<V, T> {
+    fn begins_with(tag: Tag) -> bool {
+        T <= Tag::MAX_NUMBER && tag.inner() == 0x60 + T
+    }
+
+    ghost begins = { λ v b h. h };
 }

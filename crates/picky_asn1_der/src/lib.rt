@@ -6,9 +6,10 @@ pub mod application_tag;
 /// Reading.
 pub mod de {
     pub use picky_der_de::{
-        Alike, Boolean, Choice, DEFAULT_MAX_LEN, Deserialize, DeserializeMembers, Deserializer,
-        Enclosure, End, Null, Sequence, UInt, UnsignedInteger, Utf8String, deserialize_as,
-        deserialize_choice, from_bytes, from_reader, from_reader_with_max_len,
+        Alike, Alternatives, Begins, Boolean, Choice, DEFAULT_MAX_LEN, Deserialize,
+        DeserializeMembers, Deserializer, Enclosure, End, NoneOf, Null, OneOf, OneOf4, Sequence,
+        Told, UInt, UnsignedInteger, Utf8String, deserialize_as, from_bytes, from_reader,
+        from_reader_with_max_len, next_from_bytes, next_from_reader,
     };
 }
 
@@ -26,8 +27,9 @@ pub mod round_trip;
 pub use picky_der_core::misc::Length;
 pub use picky_der_core::{Asn1DerError, Result, asn1, laws, misc};
 pub use picky_der_de::{
-    Alike, Choice, Deserialize, Deserializer, deserialize_as, deserialize_choice, from_bytes,
-    from_reader, from_reader_with_max_len,
+    Alike, Alternatives, Choice, Deserialize, Deserializer, NoneOf, OneOf, OneOf4, Told,
+    deserialize_as, from_bytes, from_reader, from_reader_with_max_len, next_from_bytes,
+    next_from_reader,
 };
 pub use picky_der_ser::{Row, Serialize, Serializer, to_byte_buf, to_bytes, to_vec, to_writer};
 pub use raw_der::Asn1RawDer;

@@ -3,6 +3,7 @@ ghost use Rattle.std.specs.Prelude.{◌≡◌};
 ghost use Rattle.std.specs.IoError.{error_kind};
 ghost use Rattle.picky_der_core.specs.Error.{kind_of};
 
+use std::alloc::AllocError;
 use std::io::{self, ErrorKind};
 use thiserror::Error;
 
@@ -67,6 +68,17 @@ impl From<io::Error> for Asn1DerError {
             ErrorKind::OutOfMemory => Self::OutOfMemory,
             other => Self::Other(other),
         }
+    }
+}
+
+/// Want of memory.
+impl From<AllocError> for Asn1DerError {
+    ghost use Rattle.picky_der_core.specs.declared.error.Asn1DerError.TheVariants.{OutOfMemory};
+
+    ghost from_gives = { λ e k. k ≡ OutOfMemory };
+
+    fn from(_error: AllocError) -> Self {
+        Self::OutOfMemory
     }
 }
 

@@ -6,6 +6,8 @@ mod error;
 mod failure;
 pub mod laws;
 pub mod misc;
+mod uint;
 
 pub use error::{Asn1DerError, Result};
 pub use failure::Failure;
+pub use uint::UInt;

@@ -1,19 +1,19 @@
 -- Choices, read and refused behind a look at the first byte.
-use Rattle.std.proofs.Common.{◌≡◌, ◌≢◌, ℕ, ◌<◌, ◌⊎◌, inl, inr, true, List, [], ◌∷◌, ◌++◌, length, Option, Some, None, sym, ◌∙◌, ap, subst, arith}
-use Rattle.picky_der_core.specs.declared.failure.Failure.{Failure}
-use Rattle.picky_der_input.specs.Refusing.{IsAnswer}
+use Rattle.std.proofs.Common.{◌≡◌, ℕ, ◌<◌, inl, inr, true, List, ◌∷◌, ◌++◌, length, Some, None, sym, ◌∙◌, ap, subst, arith}
 use Rattle.picky_der_core.specs.declared.error.Asn1DerError.{Asn1DerError}
-use Rattle.picky_der_core.specs.declared.error.Asn1DerError.TheVariants.{TruncatedData, InvalidData}
 use Rattle.picky_der_core.specs.Tree.{Tree}
 use Rattle.picky_der_core.specs.EncodingLaws.{der-choice}
-use Rattle.picky_der_core.specs.Shape.{Shape, IsOf, IsFirst, firsts, has}
-use Rattle.picky_der_core.specs.FirstLaws.{begins_in, apart_has, has-append_left, has-append_right}
+use Rattle.picky_der_core.specs.Shape.{Shape, Shapes, IsOf, IsFirst, AreTold, firsts, firsts_of, has}
+use Rattle.picky_der_core.specs.FirstLaws.{apart_has, has-append_left, has-append_right}
 use Rattle.picky_der_core.specs.Reading.{Place, written_at, MayStand, StandsAt}
 use Rattle.picky_der_input.specs.State.{State}
-use Rattle.picky_der_input.specs.Steps.{Takes, Fails, IsJudged, place_in, place_of}
+use Rattle.picky_der_input.specs.Steps.{Takes, IsJudged, place_in, place_of}
 use Rattle.picky_der_input.specs.Reading.{Concerns, Reads, Refuses}
 use Rattle.picky_der_input.specs.LookAhead.{Peeks, HidesChoice, no_byte, implicit, RefusesChoice}
-use Rattle.picky_der_de.specs.Choices.{two_shapes, choice_tree, AreApart}
+use Rattle.picky_der_de.specs.declared.alternatives.OneOf.{OneOf}
+use Rattle.picky_der_de.specs.declared.alternatives.OneOf.TheVariants.{This, Other}
+use Rattle.picky_der_de.specs.Firsts.{IsBegunBy, bytes_in_one}
+use Rattle.picky_der_de.specs.Choices.{chosen_of, ReadsBehind, RefusesBehind, begun, of_this, of_other}
 use Rattle.picky_der_input.proofs.Refusals.{missing_first}
 use Rattle.picky_der_de.proofs.Peeked.{not_direct, peeks_takes, peeks_fails, peeks_judged, peeks_concerns, peeks_front, peeked_first, is_whole, nothing_whole}
 
@@ -29,103 +29,97 @@ alternative {u = u} o st = record {
   front = record { rest = st.front.rest; is = st.front.is ∙ ap (λ z. z ++ st.front.rest) (der-choice u) };
 }
 
--- what stands there begins with a first byte of its shape
-stands_first : {s : Shape} {bs left : List ℕ} {end x : ℕ} {u : Tree} → StandsAt Place.whole s bs end u → bs ≡ x ∷ left → IsFirst s x
-stands_first {s} {bs} {left} {end} {x} {u} st e =
-    let h = begins_in s u st.of_shape st.readable in
-    let q : h.first ∷ (h.others ++ st.front.rest) ≡ x ∷ left = sym (ap (λ z. z ++ st.front.rest) h.is) ∙ sym st.front.is ∙ e in
+-- the first byte there is one with which it begins
+stands_begun : {ss : Shapes} {bs left : List ℕ} {end x : ℕ} {u : Tree} (fs : List ℕ) → IsBegunBy fs u → StandsAt Place.whole (Shape.choice ss) bs end (Tree.choice u) → bs ≡ x ∷ left → has fs x ≡ true
+stands_begun {ss} {bs} {left} {end} {x} {u} fs f st e =
+    let h = begun fs u f st.readable (bytes_in_one ss u st.of_shape) in
+    let d = der-choice u ∙ h.is in
+    let q : h.first ∷ (h.others ++ st.front.rest) ≡ x ∷ left = sym (ap (λ z. z ++ st.front.rest) d) ∙ sym st.front.is ∙ e in
     let same : h.first ≡ x = cc in
-    subst (λ z. has (firsts s) z ≡ true) same h.listed
+    subst (λ z. has fs z ≡ true) same h.listed
 
-nothing_stands : {s t : Shape} {a c : State} {e : Asn1DerError} {end : ℕ} {bs : List ℕ} (u : Tree) → HidesChoice a e → Concerns a c e end bs → StandsAt (place_of a) (two_shapes s t) bs end (Tree.choice u) → ⊥
+nothing_stands : {s : Shape} {a c : State} {e : Asn1DerError} {end : ℕ} {bs : List ℕ} (u : Tree) → HidesChoice a e → Concerns a c e end bs → StandsAt (place_of a) s bs end (Tree.choice u) → ⊥
 nothing_stands u (no_byte d m) w st = nothing_whole d m w st
-nothing_stands {s} {t} {a} {c} {e} {end} {bs} u (implicit number d is) w st =
+nothing_stands {s} {a} {c} {e} {end} {bs} u (implicit number d is) w st =
     let place : place_of a ≡ Place.under_implicit a.room = ap (λ z. place_in z a.room) d in
     let may = subst (λ z. MayStand z (Tree.choice u)) place st.may_stand in
     may.no_choice
 
-module _ {A B : Type 0} {m : A → Tree} {n : B → Tree} {s t : Shape} where
-  -- no choice stands where neither alternative does that the first byte lets stand
-  no_choice : {bs left : List ℕ} {end x : ℕ} → AreApart m n s t → bs ≡ x ∷ left → (IsFirst s x → (a : A) → StandsAt Place.whole s bs end (m a) → ⊥) → (IsFirst t x → (b : B) → StandsAt Place.whole t bs end (n b) → ⊥)
-      → (v : A ⊎ B) → StandsAt Place.whole (two_shapes s t) bs end (choice_tree m n v) → ⊥
-  no_choice w e f g (inl a) st = by_shape st.of_shape
-    where
-      by_shape : IsOf s (m a) ⊎ (IsOf t (m a) ⊎ ⊥) → ⊥
-      by_shape (inl o) = let u = alternative o st in f (stands_first u e) a u
-      by_shape (inr (inl o)) = w.1 a o
-      by_shape (inr (inr o)) = o
-  no_choice w e f g (inr b) st = by_shape st.of_shape
-    where
-      by_shape : IsOf s (n b) ⊎ (IsOf t (n b) ⊎ ⊥) → ⊥
-      by_shape (inl o) = w.2 b o
-      by_shape (inr (inl o)) = let u = alternative o st in g (stands_first u e) b u
-      by_shape (inr (inr o)) = o
+-- no byte tells a choice there
+pub refuses_hidden : {V : Type 0} {m : V → Tree} {s : Shape} {a c : State} {e : Asn1DerError} → RefusesChoice a c e → Refuses (λ v. Tree.choice (m v)) s a c e
+refuses_hidden {V} {m} {s} {a} {c} {e} h = record {
+  fails = h.refuses.fails;
+  none = λ j end bs w v st. nothing_stands (m v) (h.hidden j) w st;
+  first = λ j k d l b left q. foreign (h.hidden j) d l q;
+} where
+  foreign : {P : Type 0} → HidesChoice a e → a.direct ≡ None → 0 < a.room → {b : ℕ} {left : List ℕ} → a.input ≡ Some (b ∷ left) → P
+  foreign (no_byte whole m) d l q = absurd (missing_first a m l q)
+  foreign (implicit number i is) d l q = absurd (let z : Some number ≡ None = sym i ∙ d in cc)
 
-  module _ {a b : State} {x : ℕ} (w : AreApart m n s t) (p : Peeks a b x) where
-    refuses_choice : {c : State} {e : Asn1DerError} → Fails b c e
-        → (IsJudged b c e → (end : ℕ) (bs : List ℕ) → Concerns b c e end bs → IsFirst s x → (v : A) → StandsAt Place.whole s bs end (m v) → ⊥)
-        → (IsJudged b c e → (end : ℕ) (bs : List ℕ) → Concerns b c e end bs → IsFirst t x → (v : B) → StandsAt Place.whole t bs end (n v) → ⊥)
-        → (IsJudged b c e → e ≡ TruncatedData → IsFirst (two_shapes s t) x) → Refuses (choice_tree m n) (two_shapes s t) a c e
-    refuses_choice {c} {e} h f g own = record {
-      fails = peeks_fails p h;
-      none = λ j end bs k v st.
-          let i = peeks_judged p j in
-          let q = peeks_concerns p k in
-          no_choice w (peeks_front p h k).1 (f i end bs q) (g i end bs q) v (subst (λ z. StandsAt z (two_shapes s t) bs end (choice_tree m n v)) (is_whole a p.direct) st);
-      first = λ j k d l y left i. subst (IsFirst (two_shapes s t)) (sym (peeked_first p y left i)) (own (peeks_judged p j) k);
-    }
+-- ---- of one alternative and those behind it
 
-    -- the first alternative was chosen, and refused
-    pub refuses_first : {c : State} {e : Asn1DerError} → IsFirst s x → Refuses m s b c e → Refuses (choice_tree m n) (two_shapes s t) a c e
-    refuses_first g h = refuses_choice h.fails
-        (λ j end bs k o v st. h.none j end bs k v (subst (λ z. StandsAt z s bs end (m v)) (sym (is_whole b (not_direct p))) st))
-        (λ j end bs k o. absurd (apart_has x (firsts s) (firsts t) w.0 g o))
-        (λ j k. has-append_left x (firsts s) (firsts t ++ []) g)
-
-    -- the second was chosen, and refused
-    pub refuses_second : {c : State} {e : Asn1DerError} → IsFirst t x → Refuses n t b c e → Refuses (choice_tree m n) (two_shapes s t) a c e
-    refuses_second g h = refuses_choice h.fails
-        (λ j end bs k o. absurd (apart_has x (firsts s) (firsts t) w.0 o g))
-        (λ j end bs k o v st. h.none j end bs k v (subst (λ z. StandsAt z t bs end (n v)) (sym (is_whole b (not_direct p))) st))
-        (λ j k. has-append_right x (firsts s) (firsts t ++ []) (has-append_left x (firsts t) [] g))
-
-    -- the byte is of neither
-    pub refuses_neither : {c : State} {e : Asn1DerError} → (IsFirst s x → ⊥) → (IsFirst t x → ⊥) → Fails b c e → (IsJudged b c e → e ≢ TruncatedData) → Refuses (choice_tree m n) (two_shapes s t) a c e
-    refuses_neither f g h short = refuses_choice h (λ j end bs k o. absurd (f o)) (λ j end bs k o. absurd (g o)) (λ j k. absurd (short j k))
-
-  -- no byte tells a choice there
-  pub refuses_hidden : {a c : State} {e : Asn1DerError} → RefusesChoice a c e → Refuses (choice_tree m n) (two_shapes s t) a c e
-  refuses_hidden {a} {c} {e} h = record {
-    fails = h.refuses.fails;
-    none = λ j end bs w v st. none j w v st;
-    first = λ j k d l b left q. foreign (h.hidden j) d l q;
-  } where
-    none : IsJudged a c e → {end : ℕ} {bs : List ℕ} → Concerns a c e end bs → (v : A ⊎ B) → StandsAt (place_of a) (two_shapes s t) bs end (choice_tree m n v) → ⊥
-    none j w (inl v) st = nothing_stands (m v) (h.hidden j) w st
-    none j w (inr v) st = nothing_stands (n v) (h.hidden j) w st
-
-    foreign : {P : Type 0} → HidesChoice a e → a.direct ≡ None → 0 < a.room → {b : ℕ} {left : List ℕ} → a.input ≡ Some (b ∷ left) → P
-    foreign (no_byte whole m) d l q = absurd (missing_first a m l q)
-    foreign (implicit number i is) d l q = absurd (let z : Some number ≡ None = sym i ∙ d in cc)
-
--- ---- read
-
--- a tree of one alternative is a choice of two
-reads_choice : {a b c : State} {x : ℕ} {s t : Shape} {u : Tree} → Peeks a b x → IsOf (two_shapes s t) (Tree.choice u) → (r : Shape) → Reads r b c u → Reads (two_shapes s t) a c (Tree.choice u)
-reads_choice {a} {b} {c} {u = u} p o r h = record {
-  of_shape = o;
+pub reads_this : {s : Shape} {ss : Shapes} {x : ℕ} {b c : State} {t : Tree} → Reads s b c t → ReadsBehind (Shapes.more s ss) x b c t
+reads_this {b = b} {c = c} {t = t} h a p = record {
+  of_shape = inl h.of_shape;
   readable = h.readable;
-  may_stand = subst (λ z. MayStand z (Tree.choice u)) (sym (is_whole a p.direct)) tt;
-  takes = subst (λ z. Takes a c (written_at z (Tree.choice u))) (sym (is_whole a p.direct)) (subst (Takes a c) (ap (λ z. written_at z u) (is_whole b (not_direct p)) ∙ sym (der-choice u)) (peeks_takes p h.takes));
+  may_stand = subst (λ z. MayStand z (Tree.choice t)) (sym (is_whole a p.direct)) tt;
+  takes = subst (λ z. Takes a c (written_at z (Tree.choice t))) (sym (is_whole a p.direct)) (subst (Takes a c) (ap (λ z. written_at z t) (is_whole b (not_direct p)) ∙ sym (der-choice t)) (peeks_takes p h.takes));
   direct = h.direct;
 }
 
-pub reads_first : {A B : Type 0} (m : A → Tree) (n : B → Tree) {s t : Shape} {a b c : State} {x : ℕ} {v : A} {z : A ⊎ B} → Peeks a b x → Reads s b c (m v) → z ≡ inl v → Reads (two_shapes s t) a c (choice_tree m n z)
-reads_first m n {s = s} p h e = rw e (reads_choice p (inl h.of_shape) s h)
+pub reads_other : {s : Shape} {ss : Shapes} {x : ℕ} {b c : State} {t : Tree} → ReadsBehind ss x b c t → ReadsBehind (Shapes.more s ss) x b c t
+reads_other h a p = let r = h a p in record { of_shape = inr r.of_shape; readable = r.readable; may_stand = r.may_stand; takes = r.takes; direct = r.direct }
 
-pub reads_second : {A B : Type 0} (m : A → Tree) (n : B → Tree) {s t : Shape} {a b c : State} {x : ℕ} {v : B} {z : A ⊎ B} → Peeks a b x → Reads t b c (n v) → z ≡ inr v → Reads (two_shapes s t) a c (choice_tree m n z)
-reads_second m n {t = t} p h e = rw e (reads_choice p (inr (inl h.of_shape)) t h)
+module _ {A B : Type 0} {m : A → Tree} {n : B → Tree} {s : Shape} {ss : Shapes} {x : ℕ} {b c : State} {e : Asn1DerError} (this : (v : A) → IsBegunBy (firsts s) (m v)) (other : (v : B) → IsBegunBy (firsts_of ss) (n v)) where
+  -- this alternative was chosen, and refused
+  pub refuses_this : IsFirst s x → Refuses m s b c e → RefusesBehind (chosen_of m n) (Shapes.more s ss) x b c e
+  refuses_this g h = record {
+    fails = h.fails;
+    refuses = λ told a p. record {
+      fails = peeks_fails p h.fails;
+      none = λ j end bs k v st. none told p (peeks_judged p j) (peeks_concerns p k) (peeks_front p h.fails k).1 v (subst (λ z. StandsAt z (Shape.choice (Shapes.more s ss)) bs end (Tree.choice (chosen_of m n v))) (is_whole a p.direct) st);
+      first = λ j k d l y left i. subst (IsFirst (Shape.choice (Shapes.more s ss))) (sym (peeked_first p y left i)) (has-append_left x (firsts s) (firsts_of ss) g);
+    };
+  } where
+    none : {a : State} → AreTold (Shapes.more s ss) → Peeks a b x → IsJudged b c e → {end : ℕ} {bs left : List ℕ} → Concerns b c e end bs → bs ≡ x ∷ left → (v : OneOf A B) → StandsAt Place.whole (Shape.choice (Shapes.more s ss)) bs end (Tree.choice (chosen_of m n v)) → ⊥
+    none told p j {end} {bs} k f (This v) st =
+        let own = alternative (of_this m n s ss this other told.0 v st.readable st.of_shape) st in
+        h.none j end bs k v (subst (λ z. StandsAt z s bs end (m v)) (sym (is_whole b (not_direct p))) own)
+    none told p j k f (Other v) st = apart_has x (firsts s) (firsts_of ss) told.0 g (stands_begun (firsts_of ss) (other v) st f)
 
--- what was refused as invalid isn't cut short
-pub not_short : {failed : Option Failure} {e : Asn1DerError} → IsAnswer failed InvalidData e → failed ≡ None → e ≢ TruncatedData
-not_short {e = e} is none h = let q : InvalidData ≡ TruncatedData = sym (subst (λ f. IsAnswer f InvalidData e) none is) ∙ h in cc
+  -- those behind it were refused
+  pub refuses_other : (IsFirst s x → ⊥) → RefusesBehind n ss x b c e → RefusesBehind (chosen_of m n) (Shapes.more s ss) x b c e
+  refuses_other g h = record {
+    fails = h.fails;
+    refuses = λ told a p. let r = h.refuses told.1 a p in record {
+      fails = r.fails;
+      none = λ j end bs k v st. none told p r j k (peeks_front p h.fails k).1 v (subst (λ z. StandsAt z (Shape.choice (Shapes.more s ss)) bs end (Tree.choice (chosen_of m n v))) (is_whole a p.direct) st);
+      first = λ j k d l y left i. has-append_right y (firsts s) (firsts_of ss) (r.first j k d l y left i);
+    };
+  } where
+    none : {a : State} → AreTold (Shapes.more s ss) → Peeks a b x → Refuses (λ v. Tree.choice (n v)) (Shape.choice ss) a c e → IsJudged a c e → {end : ℕ} {bs left : List ℕ} → Concerns a c e end bs → bs ≡ x ∷ left → (v : OneOf A B)
+        → StandsAt Place.whole (Shape.choice (Shapes.more s ss)) bs end (Tree.choice (chosen_of m n v)) → ⊥
+    none told p r j k f (This v) st = g (stands_begun (firsts s) (this v) st f)
+    none {a} told p r j {end} {bs} k f (Other v) st =
+        let own : StandsAt Place.whole (Shape.choice ss) bs end (Tree.choice (n v)) = record { of_shape = of_other m n s ss this other told.0 v st.readable st.of_shape; readable = st.readable; may_stand = tt; within = st.within; front = st.front } in
+        r.none j end bs k v (subst (λ z. StandsAt z (Shape.choice ss) bs end (Tree.choice (n v))) (sym (is_whole a p.direct)) own)
+
+-- ---- of a type that means the choice
+
+pub refuses_meant : {V : Type 0} {meaning tree : V → Tree} {s : Shape} {a c : State} {e : Asn1DerError} → ((v : V) → meaning v ≡ tree v) → Refuses tree s a c e → Refuses meaning s a c e
+refuses_meant {meaning = meaning} {tree = tree} {s = s} {a = a} same h = record {
+  fails = h.fails;
+  none = λ j end bs k v st. h.none j end bs k v (subst (StandsAt (place_of a) s bs end) (same v) st);
+  first = h.first;
+}
+
+pub reads_meant : {P : Type 0} (m : P → Tree) {s : Shape} {a c : State} {p q : P} {t : Tree} → Reads s a c (Tree.choice (m p)) → t ≡ Tree.choice (m q) → q ≡ p → Reads s a c t
+reads_meant m {s = s} {a = a} {c = c} h same is = subst (Reads s a c) (sym (same ∙ ap (λ z. Tree.choice (m z)) is)) h
+
+-- ---- of values that are those of another type
+
+pub refuses_through : {V U : Type 0} (f : V → U) {m : U → Tree} {ss : Shapes} {x : ℕ} {b c : State} {e : Asn1DerError} → RefusesBehind m ss x b c e → RefusesBehind (λ v. m (f v)) ss x b c e
+refuses_through f h = record {
+  fails = h.fails;
+  refuses = λ told a p. let r = h.refuses told a p in record { fails = r.fails; none = λ j end bs k v. r.none j end bs k (f v); first = r.first };
+}

@@ -1,6 +1,6 @@
 -- What an entry call tells from what reading tells.
-use Rattle.std.proofs.Common.{◌≡◌, ◌≢◌, ◌⊎◌, ℕ, ◌+◌, Bool, List, [], ◌∷◌, ◌++◌, length, Option, Some, None, refl, sym, ◌∙◌, subst, ap, inl, inr, arith, length-append, append_assoc, append-nil}
-use Rattle.std.specs.Io.KnownBytes.{Consumes}
+use Rattle.std.proofs.Common.{◌≡◌, ◌≢◌, ◌⊎◌, ℕ, ◌+◌, ◌<◌, Bool, List, [], ◌∷◌, ◌++◌, length, Option, Some, None, IfSome, Result, Ok, Err, IfErr, refl, sym, ◌∙◌, subst, ap, inl, inr, arith, length-append, append_assoc, append-nil}
+use Rattle.std.specs.Io.KnownBytes.{Consumes, Keeps}
 use Rattle.picky_der_core.specs.declared.error.Asn1DerError.{Asn1DerError}
 use Rattle.picky_der_core.specs.declared.error.Asn1DerError.TheVariants.{TruncatedData, InvalidData, UnsupportedValue, UnsupportedType, InvalidSink, Message, Other, OutOfMemory}
 use Rattle.picky_der_core.specs.Element.{Begins}
@@ -15,9 +15,10 @@ use Rattle.picky_der_core.proofs.Unique.{same_tree}
 use Rattle.picky_der_input.specs.State.{State, fresh}
 use Rattle.picky_der_core.specs.Peeking.{in_front, count_of_any}
 use Rattle.picky_der_input.specs.Steps.{IsJudged}
+use Rattle.picky_der_input.specs.LookAhead.{HasEnded}
 use Rattle.picky_der_input.specs.Reading.{Reads, Refuses, now, ever}
 use Rattle.picky_der_de.specs.KnownLaws.{IsKnownByTree}
-use Rattle.picky_der_de.specs.Entry.{any_length, HasNoFront, Reader, ReadsFront, Draws, RefusesFront}
+use Rattle.picky_der_de.specs.Entry.{any_length, HasNoFront, Reader, ReadsFront, Draws, RefusesFront, HasNoneLeft, RefusesNextValue}
 use Rattle.picky_der_input.proofs.Refusals.{consumed}
 
 -- ---- what is left in the reader
@@ -76,6 +77,11 @@ mends_beginning {meaning = meaning} d left m = record {
 }
 
 -- ---- read and refused
+
+-- two facts of one error
+pub err_both : {A : Type 0} (P Q : Asn1DerError → Type 0) (r : Result A Asn1DerError) → IfErr r P → IfErr r Q → IfErr r (λ e. P e × Q e)
+err_both P Q (Ok v) p q = tt
+err_both P Q (Err e) p q = (p, q)
 
 -- two trees at the front are one
 one_tree : (s : Shape) → IsSound s → {bytes : List ℕ} {limit : ℕ} (t u : Tree) → StandsAt Place.whole s bytes limit t → StandsAt Place.whole s bytes limit u → t ≡ u
@@ -145,6 +151,28 @@ module _ {V : Type 0} (meaning : V → Tree) (s : Shape) {old new : State} {thro
         faults = told_fault h.fails.faults h.fails.unpeeked faults left;
         other = λ same. h.fails.other refl (sym faults ∙ same);
       }
+
+  -- where the input ended, the reader has nothing left
+  pub none_left : HasEnded old new → HasNoneLeft limit before after
+  none_left ended =
+      let h : HasEnded (begun before limit through) new = subst (λ o. HasEnded o new) is ended in
+      let unpeeked : new.peeked ≡ None = ap (λ (s : State). s.peeked) h.same in
+      record {
+        ahead = h.ahead;
+        ended = h.ended;
+        input = subst (λ i. Keeps before.input i) (left ∙ left_of new.peeked after.input unpeeked) h.input;
+        faults = faults ∙ ap (λ (s : State). s.faults) h.same;
+      }
+
+  -- where a refusal means that something is left, there was
+  pub refuses_next_value : {e : Asn1DerError} → Refuses meaning s old new e → (IsJudged old new e → 0 < old.room → IfSome old.input (λ bytes. 0 < length bytes)) → RefusesNextValue meaning s limit before after e
+  refuses_next_value {e} refused ahead = record {
+    refuses = refuses_front refused;
+    ahead = λ room same memory none.
+        let some : IsJudged (begun before limit through) new e → 0 < limit → IfSome before.input (λ bytes. 0 < length bytes) = subst (λ (o : State). IsJudged o new e → 0 < o.room → IfSome o.input (λ bytes. 0 < length bytes)) is ahead in
+        let bytes : IfSome (Some []) (λ (bytes : List ℕ). 0 < length bytes) = subst (λ i. IfSome i (λ bytes. 0 < length bytes)) none (some (record { had_not_failed = refl; faults = sym faults ∙ same; memory = memory }) room) in
+        omega (arith, bytes);
+  }
 
 -- ---- of a slice
 

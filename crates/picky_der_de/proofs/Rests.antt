@@ -1,6 +1,6 @@
 -- The rest of a sequence's members, from one place on up to its end: for types whose values don't all have as many members.
 -- Each call gives one record, and one lemma takes it.
-use Rattle.std.proofs.Common.{◌≡◌, ℕ, ◌<◌, List, ◌∷◌, ◌++◌, None, sym, ◌∙◌, ap, subst, arith}
+use Rattle.std.proofs.Common.{◌≡◌, ◌<◌, ◌∷◌, ◌++◌, None, sym, ◌∙◌, ap, subst, arith}
 use Rattle.picky_der_core.specs.declared.error.Asn1DerError.{Asn1DerError}
 use Rattle.picky_der_core.specs.Tree.{ListKind, Tree, Trees}
 use Rattle.picky_der_core.specs.Encoding.{written, der, encodings, list_tag}

@@ -1,17 +1,94 @@
--- Choices of two alternatives.
-use Rattle.std.specs.Prelude.{◌⊎◌, IsTrue}
-use Rattle.std.proofs.Common.{inl, inr}
+-- Choices, whose alternatives are told by their first bytes.
+use Rattle.std.specs.Prelude.{◌≡◌, ℕ, Bool, true, ◌⊎◌, List, ◌∷◌, ◌++◌, IsTrue}
+use Rattle.std.proofs.Common.{inl, inr, sym, ◌∙◌, subst}
+use Rattle.picky_der_core.specs.declared.error.Asn1DerError.{Asn1DerError}
 use Rattle.picky_der_core.specs.Tree.{Tree}
-use Rattle.picky_der_core.specs.Shape.{Shape, Shapes, IsOf, firsts, are_apart}
+use Rattle.picky_der_core.specs.Readable.{IsReadable}
+use Rattle.picky_der_core.specs.Shape.{Shape, Shapes, IsOf, IsOneOf, AreTold, firsts, firsts_of, has, are_apart}
+use Rattle.picky_der_core.specs.FirstLaws.{BeginsIn, begins_in, begins_in_one, apart_has, has-append_left, has-append_right}
+use Rattle.picky_der_input.specs.State.{State}
+use Rattle.picky_der_input.specs.Steps.{Fails}
+use Rattle.picky_der_input.specs.Reading.{Reads, Refuses}
+use Rattle.picky_der_input.specs.LookAhead.{Peeks}
+use Rattle.picky_der_de.specs.declared.alternatives.OneOf.{OneOf}
+use Rattle.picky_der_de.specs.declared.alternatives.OneOf.TheVariants.{This, Other}
+use Rattle.picky_der_de.specs.Firsts.{IsBegunBy, BytesIn, begins_in_own, bytes_in, bytes_in_one}
+use Rattle.picky_der_de.specs.KnownLaws.{IsKnownByTree}
 
-abbrev pub two_shapes : Shape → Shape → Shape
-two_shapes s t = Shape.choice (Shapes.more s (Shapes.more t Shapes.none))
+-- what a value of one alternative, or of those behind it, means
+abbrev pub chosen_of : {A B : Type 0} → (A → Tree) → (B → Tree) → OneOf A B → Tree
+chosen_of m n (This a) = m a
+chosen_of m n (Other b) = n b
 
--- the tree of a value of one of two types, each with its meaning
-abbrev pub choice_tree : {A B : Type 0} → (A → Tree) → (B → Tree) → A ⊎ B → Tree
-choice_tree m n (inl a) = Tree.choice (m a)
-choice_tree m n (inr b) = Tree.choice (n b)
+-- ---- behind a look at the first byte
 
--- the first bytes tell the alternatives, and no value of one is of the other's shape
-abbrev pub AreApart : {A B : Type 0} → (A → Tree) → (B → Tree) → Shape → Shape → Type 0
-AreApart {A} {B} m n s t = IsTrue (are_apart (firsts s) (firsts t)) × ((a : A) → IsOf t (m a) → ⊥) × ((b : B) → IsOf s (n b) → ⊥)
+-- an alternative was read, which makes it the choice of these that began with the byte
+abbrev pub ReadsBehind : Shapes → ℕ → State → State → Tree → Type 0
+ReadsBehind ss byte old new t = (before : State) → Peeks before old byte → Reads (Shape.choice ss) before new (Tree.choice t)
+
+-- none was read, and no choice of these begins with the byte there, if one byte tells them
+pub record RefusesBehind {V : Type 0} (meaning : V → Tree) (ss : Shapes) (byte : ℕ) (old new : State) (e : Asn1DerError) : Type 0 where
+  pub fails : Fails old new e
+  pub refuses : AreTold ss → (before : State) → Peeks before old byte → Refuses (λ v. Tree.choice (meaning v)) (Shape.choice ss) before new e
+
+-- ---- alternatives that are told
+
+-- where a first byte tells the alternatives, two readable values with one tree are equal
+abbrev pub AreKnownApart : {V : Type 0} → (V → Tree) → Shapes → (V → V → Bool) → Type 0
+AreKnownApart {V} meaning ss eq = AreTold ss → (v w : V) → IsOneOf ss (meaning v) → IsOneOf ss (meaning w) → IsReadable (meaning v) → meaning v ≡ meaning w → eq v w ≡ true
+
+pub begun : (fs : List ℕ) (t : Tree) → IsBegunBy fs t → IsReadable t → BytesIn t → BeginsIn fs t
+begun fs t f r k = let b = begins_in_own t r k in record { first = b.first; others = b.others; is = b.is; listed = f b.first b.listed }
+
+begins_once : (fs gs : List ℕ) (t : Tree) → are_apart fs gs ≡ true → BeginsIn fs t → BeginsIn gs t → ⊥
+begins_once fs gs t w h k =
+    let same : k.first ≡ h.first = let q : k.first ∷ k.others ≡ h.first ∷ h.others = sym k.is ∙ h.is in cc in
+    apart_has h.first fs gs w h.listed (subst (λ x. has gs x ≡ true) same k.listed)
+
+module _ {A B : Type 0} (m : A → Tree) (n : B → Tree) (s : Shape) (ss : Shapes) (this : (a : A) → IsBegunBy (firsts s) (m a)) (other : (b : B) → IsBegunBy (firsts_of ss) (n b)) where
+  pub begins_this_or_other : (v : OneOf A B) → IsBegunBy (firsts s ++ firsts_of ss) (chosen_of m n v)
+  begins_this_or_other (This a) = λ b h. has-append_left b (firsts s) (firsts_of ss) (this a b h)
+  begins_this_or_other (Other c) = λ b h. has-append_right b (firsts s) (firsts_of ss) (other c b h)
+
+  module _ (w : IsTrue (are_apart (firsts s) (firsts_of ss))) where
+    -- a value of this alternative is of no other's shape
+    no_other : (a : A) → IsReadable (m a) → IsOneOf ss (m a) → ⊥
+    no_other a r o = begins_once (firsts s) (firsts_of ss) (m a) w (begun (firsts s) (m a) (this a) r (bytes_in_one ss (m a) o)) (begins_in_one ss (m a) o r)
+
+    pub of_this : (a : A) → IsReadable (m a) → IsOf s (m a) ⊎ IsOneOf ss (m a) → IsOf s (m a)
+    of_this a r (inl o) = o
+    of_this a r (inr o) = absurd (no_other a r o)
+
+    -- one of another isn't of this one's
+    no_this : (b : B) → IsReadable (n b) → IsOf s (n b) → ⊥
+    no_this b r o = begins_once (firsts s) (firsts_of ss) (n b) w (begins_in s (n b) o r) (begun (firsts_of ss) (n b) (other b) r (bytes_in s (n b) o))
+
+    pub of_other : (b : B) → IsReadable (n b) → IsOf s (n b) ⊎ IsOneOf ss (n b) → IsOneOf ss (n b)
+    of_other b r (inl o) = absurd (no_this b r o)
+    of_other b r (inr o) = o
+
+    differ : (a : A) (b : B) → IsReadable (m a) → IsOf s (n b) ⊎ IsOneOf ss (n b) → m a ≡ n b → ⊥
+    differ a b r p e = no_other a r (subst (IsOneOf ss) (sym e) (of_other b (subst IsReadable e r) p))
+
+  pub known_this_or_other : {p : A → A → Bool} {q : B → B → Bool} (eq : OneOf A B → OneOf A B → Bool) → ((a c : A) → p a c ≡ true → eq (This a) (This c) ≡ true) → ((b d : B) → q b d ≡ true → eq (Other b) (Other d) ≡ true)
+      → IsKnownByTree m s p → AreKnownApart n ss q → AreKnownApart (chosen_of m n) (Shapes.more s ss) eq
+  known_this_or_other eq f g k l told (This a) (This c) o p r e =
+      let r' = subst IsReadable e r in
+      f a c (k a c (of_this told.0 a r o) (of_this told.0 c r' p) r e)
+  known_this_or_other eq f g k l told (This a) (Other d) o p r e = absurd (differ told.0 a d r p e)
+  known_this_or_other eq f g k l told (Other b) (This c) o p r e = absurd (differ told.0 c b (subst IsReadable e r) o (sym e))
+  known_this_or_other eq f g k l told (Other b) (Other d) o p r e =
+      let r' = subst IsReadable e r in
+      g b d (l told.1 b d (of_other told.0 b r o) (of_other told.0 d r' p) r e)
+
+-- ---- the choice of them
+
+module _ {P : Type 0} (m : P → Tree) (ss : Shapes) where
+  pub choice_known : (eq : P → P → Bool) → AreTold ss → AreKnownApart m ss eq → (p q : P) {t u : Tree} {b : Bool} → t ≡ Tree.choice (m p) → u ≡ Tree.choice (m q) → (eq p q ≡ true → b ≡ true)
+      → IsOf (Shape.choice ss) t → IsOf (Shape.choice ss) u → IsReadable t → t ≡ u → b ≡ true
+  choice_known eq told known p q e f same o k r d =
+      let c : m p ≡ m q = cc in
+      same (known told p q (subst (IsOf (Shape.choice ss)) e o) (subst (IsOf (Shape.choice ss)) f k) (subst IsReadable e r) c)
+
+  pub choice_begins : ((p : P) → IsBegunBy (firsts_of ss) (m p)) → (p : P) {t : Tree} → t ≡ Tree.choice (m p) → IsBegunBy (firsts_of ss) t
+  choice_begins begins p e = subst (IsBegunBy (firsts_of ss)) (sym e) (begins p)

@@ -1,6 +1,6 @@
 -- What a whole read answers.
-use Rattle.std.specs.Prelude.{◌≡◌, ◌≢◌, ℕ, ◌-◌, ◌^◌, ◌<◌, ◌≤◌, List, ◌∷◌, ◌++◌, length, Bool, true, Option, Some}
-use Rattle.std.specs.Io.KnownBytes.{Consumes}
+use Rattle.std.specs.Prelude.{◌≡◌, ◌≢◌, ℕ, ◌-◌, ◌^◌, ◌<◌, ◌≤◌, List, [], ◌∷◌, ◌++◌, length, Bool, true, Option, Some}
+use Rattle.std.specs.Io.KnownBytes.{Consumes, Keeps, IsAtEnd}
 use Rattle.picky_der_core.specs.declared.error.Asn1DerError.{Asn1DerError}
 use Rattle.picky_der_core.specs.declared.error.Asn1DerError.TheVariants.{TruncatedData, OutOfMemory}
 use Rattle.picky_der_core.specs.Faults.{Fault}
@@ -66,3 +66,17 @@ pub record RefusesFront {V : Type 0} (meaning : V → Tree) (s : Shape) (limit :
   pub faults : TellsFault old.faults new.faults new.input e
   -- `Other` comes from a fault alone
   pub other : new.faults ≡ old.faults → IsOther e → ⊥
+
+-- ---- values behind each other
+
+-- nothing is left in the reader, and nothing was drawn
+pub record HasNoneLeft (limit : ℕ) (old new : Reader) : Type 0 where
+  pub ahead : 0 < limit
+  pub ended : IsAtEnd old.input
+  pub input : Keeps old.input new.input
+  pub faults : new.faults ≡ old.faults
+
+-- the next value is refused, which isn't where none is left
+pub record RefusesNextValue {V : Type 0} (meaning : V → Tree) (s : Shape) (limit : ℕ) (old new : Reader) (e : Asn1DerError) : Type 0 where
+  pub refuses : RefusesFront meaning s limit old new e
+  pub ahead : 0 < limit → new.faults ≡ old.faults → e ≢ OutOfMemory → old.input ≡ Some [] → ⊥

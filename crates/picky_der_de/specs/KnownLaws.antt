@@ -102,18 +102,3 @@ other_members e = cc
 
 pub both : {p q : Bool} → p ≡ true → q ≡ true → (p && q) ≡ true
 both h k = rw (h, k) refl
-
-module _ {k l : ListKind} {a b : Tree} {p : Bool} (f : a ≡ b → p ≡ true) where
-  pub row_known1 : Tree.list k (Trees.more a Trees.none) ≡ Tree.list l (Trees.more b Trees.none) → p ≡ true
-  row_known1 e = f (first_member (row_members e))
-
-  pub row_known2 : {c d : Tree} {q : Bool} → (c ≡ d → q ≡ true) → Tree.list k (Trees.more a (Trees.more c Trees.none)) ≡ Tree.list l (Trees.more b (Trees.more d Trees.none)) → (p && q) ≡ true
-  row_known2 g e = let ts = row_members e in let us = other_members ts in both (f (first_member ts)) (g (first_member us))
-
-  pub row_known3 : {c d x y : Tree} {q r : Bool} → (c ≡ d → q ≡ true) → (x ≡ y → r ≡ true)
-      → Tree.list k (Trees.more a (Trees.more c (Trees.more x Trees.none))) ≡ Tree.list l (Trees.more b (Trees.more d (Trees.more y Trees.none))) → (p && q && r) ≡ true
-  row_known3 g h e = let ts = row_members e in let us = other_members ts in let vs = other_members us in rw (f (first_member ts), g (first_member us), h (first_member vs)) refl
-
-  pub row_known4 : {c d x y u v : Tree} {q r s : Bool} → (c ≡ d → q ≡ true) → (x ≡ y → r ≡ true) → (u ≡ v → s ≡ true)
-      → Tree.list k (Trees.more a (Trees.more c (Trees.more x (Trees.more u Trees.none)))) ≡ Tree.list l (Trees.more b (Trees.more d (Trees.more y (Trees.more v Trees.none)))) → (p && q && r && s) ≡ true
-  row_known4 g h i e = let ts = row_members e in let us = other_members ts in let vs = other_members us in let ws = other_members vs in rw (f (first_member ts), g (first_member us), h (first_member vs), i (first_member ws)) refl

@@ -10,8 +10,10 @@ pub use Rattle.picky_der_input.specs.Enclosures
 pub mod Members
 pub mod KnownLaws
 pub mod EnclosureLaws
-pub mod TwinLaws
+pub mod Firsts
+pub mod Telling
 pub mod Choices
+pub mod FourChoices
 pub mod Entry
 pub mod Lending
 pub mod ArrayLaws

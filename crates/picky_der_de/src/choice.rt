@@ -1,63 +1,63 @@
-//! Choices of two alternatives (X.690, 8.13).
-ghost use Rattle.std.specs.Prelude.{◌≡◌, ◌⊎◌, ◌↔◌, IsTrue, IfOk, IfErr};
-ghost use Rattle.std.proofs.Common.{inl, inr};
-ghost use Rattle.picky_der_core.specs.Shape.{IsFirst};
-ghost use Rattle.picky_der_input.specs.Reading.{Reads, Refuses};
-ghost use Rattle.picky_der_de.specs.Choices.{two_shapes, choice_tree, AreApart};
+//! Choices of any number of alternatives (X.690, 8.13).
+ghost use Rattle.std.specs.Prelude.{◌≡◌, true};
+ghost use Rattle.picky_der_core.specs.Tree.{Tree};
+ghost use Rattle.picky_der_core.specs.Shape.{Shape, AreTold};
+ghost use Rattle.picky_der_de.specs.Choices.{choice_known, choice_begins};
 
-use crate::{Deserialize, Deserializer};
+use crate::{Alternatives, Begins, Deserialize, Deserializer};
+use picky_der_core::Result;
 use picky_der_core::asn1::Tag;
 use picky_der_core::misc::ReadExt;
-use picky_der_core::{Asn1DerError, Result};
+use picky_der_ser::Serialize;
 
-/// A choice of two alternatives, each of which has a type of its own. The first byte tells which of them stands there.
+/// A type whose values are told by those of alternatives, as an enum's with one field in each variant.
 pub trait Choice: Sized {
-    /// The type of one alternative.
-    type First: Deserialize;
-
-    /// The type of the other.
-    type Second: Deserialize;
+    /// The alternatives, as `OneOf<A, OneOf<B, NoneOf>>` of two.
+    type Alternatives: Alternatives;
 
     // The value of the alternative that was chosen.
-    ghost parts: { Self → Self.First ⊎ Self.Second };
-
-    /// Whether a value of the first type can begin with this byte.
-    fn is_first(tag: Tag) -> bool
-        ensures { IsTrue result ↔ IsFirst Self.First.shape tag };
-
-    /// Whether a value of the second type can begin with this byte.
-    fn is_second(tag: Tag) -> bool
-        ensures { IsTrue result ↔ IsFirst Self.Second.shape tag };
+    ghost parts: { Self → Self.Alternatives };
 
     /// The choice of this value.
-    fn from_first(value: Self::First) -> Self
-        ensures { parts result ≡ inl value };
-
-    /// The choice of this value.
-    fn from_second(value: Self::Second) -> Self
-        ensures { parts result ≡ inr value };
-
-    // The alternatives are told apart.
-    ghost apart: { AreApart Self.First.meaning Self.Second.meaning Self.First.shape Self.Second.shape };
+    fn from_parts(value: Self::Alternatives) -> Self
+        ensures { parts result ≡ value };
 }
 
-/// Reads a choice of two alternatives.
+/// A choice that is read: the first byte tells which alternative stands there.
 ///
-/// `InvalidData` for a first byte that is of neither, and directly under an implicit tag, where no byte tells them;
-/// the refusal of an end; else as the value is refused.
-pub fn deserialize_choice<T: Choice, R: ReadExt>(de: &mut Deserializer<R>) -> Result<T>
-    ensures ok { IfOk result (λ choice. Reads (two_shapes T.First.shape T.Second.shape) de.old de.new (choice_tree T.First.meaning T.Second.meaning (T.parts choice))) }
-    ensures err { IfErr result (Refuses (λ choice. choice_tree T.First.meaning T.Second.meaning (T.parts choice)) (two_shapes T.First.shape T.Second.shape) de.old de.new) }
-{
-    let tag = match de.deserialize_enum("", &[]) {
-        Ok(tag) => tag,
-        Err(error) => return Err(error),
-    };
-    if T::is_first(tag) {
-        return Ok(T::from_first(T::First::deserialize(de)?));
+/// `InvalidData` for a first byte that is of none, and directly under an implicit tag, where no byte tells them; the refusal
+/// of an end; else as the value is refused.
+pub trait Told: Choice + Serialize + PartialEq + Drop {
+    // No byte begins two alternatives.
+    ghost told: { AreTold Self.Alternatives.shapes };
+
+    // A value means the choice of its alternative's.
+    ghost meant: { (v : Self) → Self.meaning v ≡ Tree.choice (Self.Alternatives.chosen (Self.parts v)) };
+
+    // Choices of equal values are equal.
+    ghost equal: { (v w : Self) → Self.Alternatives.eq (Self.parts v) (Self.parts w) ≡ true → Self.eq v w ≡ true };
+}
+
+impl<T: Told> Deserialize for T {
+    ghost shape = { Shape.choice T.Alternatives.shapes };
+
+    ghost known_by_tree = { λ v w. choice_known T.Alternatives.chosen T.Alternatives.shapes T.Alternatives.eq T.told T.Alternatives.known (T.parts v) (T.parts w) (T.meant v) (T.meant w) (T.equal v w) };
+
+    ghost sound = { (T.Alternatives.sound, T.told) };
+
+    fn deserialize<R: ReadExt>(de: &mut Deserializer<R>) -> Result<T> {
+        let tag = match de.deserialize_enum("", &[]) {
+            Ok(tag) => tag,
+            Err(error) => return Err(error),
+        };
+        Ok(T::from_parts(T::Alternatives::deserialize_alternative(tag, de)?))
     }
-    if T::is_second(tag) {
-        return Ok(T::from_second(T::Second::deserialize(de)?));
+}
+
+impl<T: Told> Begins for T {
+    fn begins_with(tag: Tag) -> bool {
+        T::Alternatives::begins_with(tag)
     }
-    Err(de.refuse(Asn1DerError::InvalidData))
+
+    ghost begins = { λ v. choice_begins T.Alternatives.chosen T.Alternatives.shapes T.Alternatives.begins (T.parts v) (T.meant v) };
 }

@@ -1,6 +1,7 @@
 //! The built-in types, as they are read.
 
 mod arrays;
+mod begins;
 mod bytes;
 mod lists;
 mod numbers;

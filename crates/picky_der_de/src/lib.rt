@@ -2,6 +2,9 @@
 #![tactic(auto)]
 
 mod alike;
+mod alternatives;
+mod alternatives4;
+mod begins;
 mod choice;
 mod deserialize;
 mod deserializer;
@@ -9,12 +12,18 @@ mod entry;
 mod impls;
 mod row;
 mod sequence;
+mod several;
+mod values;
 
 pub use alike::{Alike, deserialize_as};
-pub use choice::{Choice, deserialize_choice};
+pub use alternatives::{Alternatives, NoneOf, OneOf};
+pub use alternatives4::OneOf4;
+pub use begins::Begins;
+pub use choice::{Choice, Told};
 pub use deserialize::Deserialize;
 pub use deserializer::Deserializer;
 pub use entry::{DEFAULT_MAX_LEN, from_bytes, from_reader, from_reader_with_max_len};
 pub use picky_der_input::{Boolean, Enclosure, End, Null, UInt, UnsignedInteger, Utf8String};
 pub use row::DeserializeMembers;
 pub use sequence::Sequence;
+pub use values::{next_from_bytes, next_from_reader};

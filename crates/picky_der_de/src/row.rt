@@ -48,20 +48,6 @@ impl DeserializeMembers for () {
     ghost sound = { tt };
 }
 
-impl<A: Deserialize, B: DeserializeMembers> DeserializeMembers for (A, B) {
-    ghost shapes = { Shapes.more A.shape B.shapes };
-
-    fn deserialize_members<R: ReadExt>(sequence: &mut Sequence<'_, R>) -> Result<(A, B)> {
-        let first = sequence.next_field::<A>()?;
-        let others = B::deserialize_members(sequence)?;
-        Ok((first, others))
-    }
-
-    ghost known_by_trees = { λ x y p q r e. both (A.known_by_tree x.0 y.0 p.0 q.0 r.0 (first_member e)) (B.known_by_trees x.1 y.1 p.1 q.1 r.1 (other_members e)) };
-
-    ghost sound = { (A.sound, B.sound) };
-}
-
 impl<M: DeserializeMembers> Deserialize for Row<M> {
     ghost shape = { Shape.fields ListKind.sequence M.shapes };
 

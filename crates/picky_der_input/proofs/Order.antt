@@ -1,5 +1,5 @@
 -- What isn't concerned with the order of the members before, and members in order, from left to right.
-use Rattle.std.proofs.Common.{◌≡◌, ℕ, ◌≤◌, Bool, false, List, [], ◌∷◌, ◌++◌, length, take, drop, Option, Some, None, option_map, refl, ◌∙◌, ap, ap₂, arith}
+use Rattle.std.proofs.Common.{◌≡◌, ℕ, ◌≤◌, false, List, [], ◌∷◌, ◌++◌, length, take, drop, Option, Some, None, option_map, refl, ◌∙◌, ap, ap₂, arith}
 use Rattle.std.proofs.lemmas.List.{take_all, drop_all, take-append-le, drop-append-le}
 use Rattle.picky_der_core.specs.declared.error.Asn1DerError.{Asn1DerError}
 use Rattle.picky_der_core.specs.Encoding.{list_tag}
@@ -10,7 +10,7 @@ use Rattle.picky_der_core.specs.Tree.{ListKind}
 use Rattle.picky_der_input.specs.State.{OpenSets, State}
 use Rattle.picky_der_input.specs.Steps.{Takes, Fails, IsJudged}
 use Rattle.picky_der_input.specs.Ends.{Outer, innermost}
-use Rattle.picky_der_input.specs.Order.{kept_in, order_of, entered, place_of, cut_at, is_less_than, is_out_of_order, with_last, AreBehind, AreInOrder, unordered}
+use Rattle.picky_der_input.specs.Order.{kept_in, order_of, entered, cut_at, is_less_than, is_out_of_order, with_last, AreBehind, AreInOrder, unordered}
 use Rattle.picky_der_input.specs.Reading.{Concerns, now, ever}
 use Rattle.picky_der_input.proofs.Steps.{fails_after, judged_after}
 

@@ -1,6 +1,6 @@
 -- A look at the next byte, which stays unread.
 use Rattle.std.specs.Prelude.{◌≡◌, ℕ, ◌+◌, ◌<◌, List, [], ◌∷◌, Option, None, Some, IfSome}
-use Rattle.std.specs.Io.KnownBytes.{Keeps}
+use Rattle.std.specs.Io.KnownBytes.{Keeps, IsAtEnd}
 use Rattle.picky_der_core.specs.declared.error.Asn1DerError.{Asn1DerError}
 use Rattle.picky_der_core.specs.Failure.{failure_of}
 use Rattle.picky_der_core.specs.declared.error.Asn1DerError.TheVariants.{InvalidData}
@@ -68,6 +68,16 @@ pub record Identifies (old new : State) (tag : ℕ) : Type 0 where
 pub record RefusesIdentifier (old new : State) (e : Asn1DerError) : Type 0 where
   pub refuses : RefusesPeek identifier_refusal old new e
   pub missing : IsJudged old new e → (old.direct ≡ None) × IsMissing old e
+
+-- no byte is next, since the input ended before the innermost end; nothing changed
+pub record HasEnded (old new : State) : Type 0 where
+  pub had_not_failed : old.failed ≡ None
+  pub unpeeked : old.peeked ≡ None
+  pub direct : old.direct ≡ None
+  pub ahead : 0 < old.room
+  pub ended : IsAtEnd old.input
+  pub input : Keeps old.input new.input
+  pub same : new ≡ record old { input = new.input }
 
 -- ---- choices
 

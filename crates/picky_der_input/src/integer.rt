@@ -1,99 +1,11 @@
 //! Unsigned integers (X.690, 8.3).
-ghost use Rattle.std.specs.Prelude.{◌≡◌, ◌<◌, ◌≤◌, ◌^◌, ◌-◌, ℕ, length, None, Some, IfOk, OnOk, IfErr};
+ghost use Rattle.std.specs.Prelude.{◌≡◌, ◌≤◌, ℕ, length, None, Some, IfOk, OnOk, IfErr};
 ghost use Rattle.std.specs.Int.Digits.{number_from_digits};
 ghost use Rattle.picky_der_core.specs.Encoding.{unsigned_content};
 ghost use Rattle.picky_der_core.specs.Refusal.{unsigned_fault, number_fault};
 ghost use Rattle.picky_der_input.specs.Steps.{IsOfContent};
 
-use picky_der_core::{Asn1DerError, Result};
-
-/// An unsigned integer type.
-pub trait UInt: Sized + Copy {
-    // The number, and the greatest one.
-    ghost number: { Self → ℕ };
-
-    ghost greatest: { ℕ };
-
-    /// The same number, or `UnsupportedValue` past the type's greatest.
-    fn from_u128(num: u128) -> Result<Self>
-        ensures ok { IfOk result (λ value. (number value ≡ num) × (num ≤ greatest)) }
-        ensures err { IfErr result (λ e. (e ≡ Asn1DerError.UnsupportedValue) × (greatest < num)) };
-}
-
-impl UInt for u8 {
-    ghost number = { λ n. n };
-
-    ghost greatest = { 2 ^ 8 - 1 };
-
-    fn from_u128(num: u128) -> Result<u8> {
-        match u8::try_from(num) {
-            Ok(value) => Ok(value),
-            Err(_) => Err(Asn1DerError::UnsupportedValue),
-        }
-    }
-}
-
-impl UInt for u16 {
-    ghost number = { λ n. n };
-
-    ghost greatest = { 2 ^ 16 - 1 };
-
-    fn from_u128(num: u128) -> Result<u16> {
-        match u16::try_from(num) {
-            Ok(value) => Ok(value),
-            Err(_) => Err(Asn1DerError::UnsupportedValue),
-        }
-    }
-}
-
-impl UInt for u32 {
-    ghost number = { λ n. n };
-
-    ghost greatest = { 2 ^ 32 - 1 };
-
-    fn from_u128(num: u128) -> Result<u32> {
-        match u32::try_from(num) {
-            Ok(value) => Ok(value),
-            Err(_) => Err(Asn1DerError::UnsupportedValue),
-        }
-    }
-}
-
-impl UInt for u64 {
-    ghost number = { λ n. n };
-
-    ghost greatest = { 2 ^ 64 - 1 };
-
-    fn from_u128(num: u128) -> Result<u64> {
-        match u64::try_from(num) {
-            Ok(value) => Ok(value),
-            Err(_) => Err(Asn1DerError::UnsupportedValue),
-        }
-    }
-}
-
-impl UInt for usize {
-    ghost number = { λ n. n };
-
-    ghost greatest = { 2 ^ 64 - 1 };
-
-    fn from_u128(num: u128) -> Result<usize> {
-        match usize::try_from(num) {
-            Ok(value) => Ok(value),
-            Err(_) => Err(Asn1DerError::UnsupportedValue),
-        }
-    }
-}
-
-impl UInt for u128 {
-    ghost number = { λ n. n };
-
-    ghost greatest = { 2 ^ 128 - 1 };
-
-    fn from_u128(num: u128) -> Result<u128> {
-        Ok(num)
-    }
-}
+use picky_der_core::{Asn1DerError, Result, UInt};
 
 // The bytes of a number behind a 00 that keeps it from being negative.
 fn digits_of(content: &[u8]) -> Result<&[u8]>

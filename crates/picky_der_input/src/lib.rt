@@ -14,6 +14,7 @@ pub use boolean::Boolean;
 pub use enclosure::Enclosure;
 pub use end::End;
 pub use input::{Input, Outer};
-pub use integer::{UInt, UnsignedInteger};
+pub use integer::UnsignedInteger;
 pub use null::Null;
+pub use picky_der_core::UInt;
 pub use utf8_string::Utf8String;

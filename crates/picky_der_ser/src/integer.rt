@@ -1,71 +1,13 @@
 //! Unsigned integers (X.690, 8.3).
-ghost use Rattle.std.specs.Prelude.{◌≡◌, ◌≤◌, ◌<◌, ℕ};
+ghost use Rattle.std.specs.Prelude.{◌≤◌};
 ghost use Rattle.picky_der_core.specs.Tree.{Tree};
 ghost use Rattle.picky_der_ser.specs.Calls.{WritesPlain};
 ghost use Rattle.picky_der_ser.specs.Integer.{IsUnsignedContent};
 
 use crate::Serializer;
-use picky_der_core::Result;
 use picky_der_core::asn1::Tag;
 use picky_der_core::misc::WriteExt;
-
-/// An unsigned integer type.
-pub trait UInt: Sized + Copy {
-    // The number.
-    ghost number: { Self → ℕ };
-
-    /// The same number, of 128 bits.
-    fn into_u128(self) -> u128
-        ensures { result ≡ number self };
-}
-
-impl UInt for u8 {
-    ghost number = { λ n. n };
-
-    fn into_u128(self) -> u128 {
-        u128::from(self)
-    }
-}
-
-impl UInt for u16 {
-    ghost number = { λ n. n };
-
-    fn into_u128(self) -> u128 {
-        u128::from(self)
-    }
-}
-
-impl UInt for u32 {
-    ghost number = { λ n. n };
-
-    fn into_u128(self) -> u128 {
-        u128::from(self)
-    }
-}
-
-impl UInt for u64 {
-    ghost number = { λ n. n };
-
-    fn into_u128(self) -> u128 {
-        u128::from(self)
-    }
-}
-
-impl UInt for u128 {
-    ghost number = { λ n. n };
-
-    fn into_u128(self) -> u128 {
-        self
-    }
-}
-
-impl UInt for usize {
-    ghost number = { λ n. n };
-
-    fn into_u128(self) -> u128 {
-        self as u128
-    }
-}
+use picky_der_core::{Result, UInt};
 
 // A 00 and the sixteen bytes of a number, and where its content begins among these.
 #[derive(Drop)]

@@ -31,15 +31,6 @@ impl SerializeMembers for () {
     }
 }
 
-impl<A: Serialize, B: SerializeMembers> SerializeMembers for (A, B) {
-    ghost members = { λ row. Trees.more (A.meaning row.0) (B.members row.1) };
-
-    fn serialize_members<W: WriteExt>(&self, sequence: &mut Sequence<'_, W>) -> Result<()> {
-        sequence.serialize_element(&self.0)?;
-        self.1.serialize_members(sequence)
-    }
-}
-
 /// A sequence of members of any types: that of `a`, `b` and `c` is `Row((a, (b, (c, ()))))`. A struct of any length can
 /// be read as one.
 #[derive(Debug, Clone, Drop, PartialEq, Eq)]

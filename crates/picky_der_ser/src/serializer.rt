@@ -7,6 +7,7 @@ ghost use Rattle.picky_der_core.specs.Tree.{Tree};
 ghost use Rattle.picky_der_ser.specs.Calls.{Writes, Fails, WritesAbsent};
 
 mod application;
+mod choice;
 mod level;
 mod plain;
 mod raw;

@@ -74,9 +74,9 @@ fn values_in_wrappers_differ(rt: HostRuntime) {
     all_differ(
         &rt,
         &[
-            Row((5u8, (true, ()))),
-            Row((6, (true, ()))),
-            Row((5, (false, ()))),
+            Row((5u8, true, ())),
+            Row((6, true, ())),
+            Row((5, false, ())),
         ],
     );
 }

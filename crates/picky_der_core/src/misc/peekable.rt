@@ -1,6 +1,6 @@
 //! A reader whose next byte can be looked at.
-ghost use Rattle.std.specs.Prelude.{◌≡◌, ◌<◌, ◌∷◌, length, drop, Ok, None, Some, IfSome, IfOk, OnOk, IfErr, OnErr};
-ghost use Rattle.std.specs.Io.KnownBytes.{Keeps, ReadConsumes};
+ghost use Rattle.std.specs.Prelude.{◌≡◌, ◌<◌, ◌∷◌, length, drop, Ok, None, Some, IfNone, IfSome, IfOk, OnOk, IfErr, OnErr};
+ghost use Rattle.std.specs.Io.KnownBytes.{Keeps, IsAtEnd, ReadConsumes};
 ghost use Rattle.std.specs.Io.{ReadsAtMost};
 ghost use Rattle.picky_der_core.specs.Reader.{GivesByte, GivesNext, CountsFault, FailsOnce};
 ghost use Rattle.picky_der_core.specs.Peeking.{left_in, IsByteIfAny, count_of_any, moved};
@@ -41,6 +41,27 @@ impl<R: ReadExt> PeekableReader<R> {
             peeked: None,
             pos: 0,
         }
+    }
+
+    /// The next byte, which the next read hands out, and `None` at the end of the input. Where a byte was peeked already,
+    /// the inner reader isn't asked.
+    pub fn peek_next(&mut self) -> io::Result<Option<u8>>
+        ensures again { IfSome self.old.peeked (λ b. (result ≡ Ok (Some b)) × (self.new ≡ self.old)) }
+        ensures ok { IfOk result (λ next. self.new.peeked ≡ next) }
+        ensures bounded { IfOk result IsByteIfAny }
+        ensures end { IfOk result (λ next. IfNone next (IsAtEnd (left_in R.remaining self.old))) }
+        ensures asked { OnErr result (self.old.peeked ≡ None) }
+        ensures kept { OnErr result (self.new.peeked ≡ self.old.peeked) }
+        ensures input { Keeps (left_in R.remaining self.old) (left_in R.remaining self.new) }
+        ensures pos { self.new.pos ≡ self.old.pos }
+        ensures fault { IfErr result (FailsOnce (R.faults self.old.reader) (R.faults self.new.reader) (left_in R.remaining self.new)) }
+        ensures no_fault { OnOk result (R.faults self.new.reader ≡ R.faults self.old.reader) }
+        ensures same_references { R.through self.new.reader ≡ R.through self.old.reader }
+    {
+        if self.peeked.is_none() {
+            self.peeked = self.reader.read_next()?;
+        }
+        Ok(self.peeked)
     }
 
     /// The next byte, which the next read hands out. At the end of the input it is an error of kind `UnexpectedEof`;

@@ -1,6 +1,7 @@
 //! The next tag, looked at and left.
-ghost use Rattle.std.specs.Prelude.{IfOk, IfErr};
-ghost use Rattle.picky_der_input.specs.LookAhead.{TellsChoice, RefusesChoice, Identifies, RefusesIdentifier};
+ghost use Rattle.std.specs.Prelude.{◌≡◌, None, IfNone, IfSome, IfOk, IfErr};
+ghost use Rattle.picky_der_input.specs.Steps.{IsJudged};
+ghost use Rattle.picky_der_input.specs.LookAhead.{Peeks, HasEnded, TellsChoice, RefusesChoice, Identifies, RefusesIdentifier};
 
 use super::Deserializer;
 use picky_der_core::Result;
@@ -18,6 +19,18 @@ impl<R: ReadExt> Deserializer<R> {
         ensures err { IfErr result (RefusesIdentifier self.old self.new) }
     {
         self.input.identify()
+    }
+
+    // The tag that is next, which is left unread, and `None` where the input ended here, before the innermost end.
+    pub(crate) fn identify_next(&mut self) -> Result<Option<Tag>>
+        requires had_not_failed { self.old.failed ≡ None }
+        requires whole { self.old.direct ≡ None }
+        ensures tag { IfOk result (λ next. IfSome next (Peeks self.old self.new)) }
+        ensures ended { IfOk result (λ next. IfNone next (HasEnded self.old self.new)) }
+        ensures err { IfErr result (RefusesIdentifier self.old self.new) }
+        ensures at_end { IfErr result (λ e. IsJudged self.old self.new e → self.old.room ≡ 0) }
+    {
+        self.input.identify_next()
     }
 
     /// The tag that tells which alternative of a choice is next. It is left unread. The names aren't looked at.

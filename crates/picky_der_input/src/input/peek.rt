@@ -1,6 +1,7 @@
 //! The next tag, looked at and left.
-ghost use Rattle.std.specs.Prelude.{◌≡◌, None, IfOk, IfErr};
-ghost use Rattle.picky_der_input.specs.LookAhead.{TellsChoice, RefusesChoice, Identifies, RefusesIdentifier};
+ghost use Rattle.std.specs.Prelude.{◌≡◌, None, IfNone, IfSome, IfOk, IfErr};
+ghost use Rattle.picky_der_input.specs.Steps.{IsJudged};
+ghost use Rattle.picky_der_input.specs.LookAhead.{Peeks, HasEnded, TellsChoice, RefusesChoice, Identifies, RefusesIdentifier};
 
 use super::Input;
 use picky_der_core::asn1::Tag;
@@ -44,6 +45,33 @@ impl<R: ReadExt> Input<R> {
         match self.direct {
             Some(number) => Ok(Tag::context_specific_primitive(number)),
             None => self.peek_tag(),
+        }
+    }
+
+    /// The tag that is next, which is left unread, and `None` where the input ended here, before the innermost end.
+    ///
+    /// At the innermost end it is `InvalidData` where that is a hard one, and else `TruncatedData`; else the reader's
+    /// fault. No memory is taken.
+    pub fn identify_next(&mut self) -> Result<Option<Tag>>
+        requires had_not_failed { self.old.failed ≡ None }
+        requires whole { self.old.direct ≡ None }
+        ensures tag { IfOk result (λ next. IfSome next (Peeks self.old self.new)) }
+        ensures ended { IfOk result (λ next. IfNone next (HasEnded self.old self.new)) }
+        ensures err { IfErr result (RefusesIdentifier self.old self.new) }
+        ensures at_end { IfErr result (λ e. IsJudged self.old self.new e → self.old.room ≡ 0) }
+    {
+        if self.room == 0 {
+            let error = self.end.missing();
+            return Err(self.fail(error));
+        }
+        match self.reader.peek_next() {
+            Ok(Some(byte)) => Ok(Some(Tag::from(byte))),
+            Ok(None) => Ok(None),
+            Err(e) => {
+                let error = Asn1DerError::from(e);
+                self.failed = Some(Failure::of(error));
+                Err(error)
+            }
         }
     }
 

@@ -4,10 +4,10 @@ ghost use Rattle.picky_der_input.specs.Steps.{TakesNoMemory};
 ghost use Rattle.picky_der_input.specs.Reading.{ReadsBoolean, RefusesBoolean, ReadsUnsigned, RefusesUnsigned, ReadsNull, RefusesNull};
 
 use super::Input;
-use crate::{Boolean, Null, UInt, UnsignedInteger};
-use picky_der_core::Result;
+use crate::{Boolean, Null, UnsignedInteger};
 use picky_der_core::asn1::Tag;
 use picky_der_core::misc::ReadExt;
+use picky_der_core::{Result, UInt};
 
 impl<R: ReadExt> Input<R> {
     /// Reads a truth value (X.690, 8.2 and 11.1).

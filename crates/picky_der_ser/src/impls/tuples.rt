@@ -1,54 +1,20 @@
 //! What tuples mean.
 ghost use Rattle.std.specs.Prelude.{[], ◌∷◌};
-ghost use Rattle.picky_der_core.specs.Tree.{ListKind, Tree, Trees, trees};
+ghost use Rattle.picky_der_core.specs.Tree.{ListKind, Tree, trees};
 
-use crate::{Row, Sequence, Serialize, SerializeMembers, Serializer};
+use crate::lent::{
+    Eight, Eleven, Fifteen, Five, Four, Fourteen, Nine, One, Seven, Six, Sixteen, Ten, Thirteen,
+    Three, Twelve, Two,
+};
+use crate::{Row, Serialize, Serializer};
 use picky_der_core::Result;
 use picky_der_core::misc::WriteExt;
-
-// The members of a tuple, by references of one lifetime: a row of references has a lifetime for each.
-#[derive(Drop)]
-struct Two<'a, A, B>(&'a A, &'a B);
-
-#[derive(Drop)]
-struct Three<'a, A, B, C>(&'a A, &'a B, &'a C);
-
-#[derive(Drop)]
-struct Four<'a, A, B, C, D>(&'a A, &'a B, &'a C, &'a D);
-
-impl<A: Serialize, B: Serialize> SerializeMembers for Two<'_, A, B> {
-    ghost members = { λ row. Trees.more (A.meaning row.0.now) (Trees.more (B.meaning row.1.now) Trees.none) };
-
-    fn serialize_members<W: WriteExt>(&self, sequence: &mut Sequence<'_, W>) -> Result<()> {
-        sequence.serialize_element(self.0)?;
-        (self.1, ()).serialize_members(sequence)
-    }
-}
-
-impl<A: Serialize, B: Serialize, C: Serialize> SerializeMembers for Three<'_, A, B, C> {
-    ghost members = { λ row. Trees.more (A.meaning row.0.now) (Trees.more (B.meaning row.1.now) (Trees.more (C.meaning row.2.now) Trees.none)) };
-
-    fn serialize_members<W: WriteExt>(&self, sequence: &mut Sequence<'_, W>) -> Result<()> {
-        sequence.serialize_element(self.0)?;
-        Two(self.1, self.2).serialize_members(sequence)
-    }
-}
-
-impl<A: Serialize, B: Serialize, C: Serialize, D: Serialize> SerializeMembers
-    for Four<'_, A, B, C, D> {
-    ghost members = { λ row. Trees.more (A.meaning row.0.now) (Trees.more (B.meaning row.1.now) (Trees.more (C.meaning row.2.now) (Trees.more (D.meaning row.3.now) Trees.none))) };
-
-    fn serialize_members<W: WriteExt>(&self, sequence: &mut Sequence<'_, W>) -> Result<()> {
-        sequence.serialize_element(self.0)?;
-        Three(self.1, self.2, self.3).serialize_members(sequence)
-    }
-}
 
 impl<A: Serialize> Serialize for (A,) {
     ghost meaning = { λ t. Tree.list ListKind.sequence (trees (A.meaning t.0 ∷ [])) };
 
     fn serialize<W: WriteExt>(&self, ser: &mut Serializer<W>) -> Result<usize> {
-        Row((&self.0, ())).serialize(ser)
+        Row(One(&self.0, &())).serialize(ser)
     }
 }
 
@@ -56,7 +22,7 @@ impl<A: Serialize, B: Serialize> Serialize for (A, B) {
     ghost meaning = { λ t. Tree.list ListKind.sequence (trees (A.meaning t.0 ∷ B.meaning t.1 ∷ [])) };
 
     fn serialize<W: WriteExt>(&self, ser: &mut Serializer<W>) -> Result<usize> {
-        Row(Two(&self.0, &self.1)).serialize(ser)
+        Row(Two(&self.0, &self.1, &())).serialize(ser)
     }
 }
 
@@ -64,7 +30,7 @@ impl<A: Serialize, B: Serialize, C: Serialize> Serialize for (A, B, C) {
     ghost meaning = { λ t. Tree.list ListKind.sequence (trees (A.meaning t.0 ∷ B.meaning t.1 ∷ C.meaning t.2 ∷ [])) };
 
     fn serialize<W: WriteExt>(&self, ser: &mut Serializer<W>) -> Result<usize> {
-        Row(Three(&self.0, &self.1, &self.2)).serialize(ser)
+        Row(Three(&self.0, &self.1, &self.2, &())).serialize(ser)
     }
 }
 
@@ -72,6 +38,374 @@ impl<A: Serialize, B: Serialize, C: Serialize, D: Serialize> Serialize for (A, B
     ghost meaning = { λ t. Tree.list ListKind.sequence (trees (A.meaning t.0 ∷ B.meaning t.1 ∷ C.meaning t.2 ∷ D.meaning t.3 ∷ [])) };
 
     fn serialize<W: WriteExt>(&self, ser: &mut Serializer<W>) -> Result<usize> {
-        Row(Four(&self.0, &self.1, &self.2, &self.3)).serialize(ser)
+        Row(Four(&self.0, &self.1, &self.2, &self.3, &())).serialize(ser)
+    }
+}
+
+impl<A: Serialize, B: Serialize, C: Serialize, D: Serialize, E: Serialize> Serialize
+    for (A, B, C, D, E) {
+    ghost meaning = { λ t. Tree.list ListKind.sequence (trees (A.meaning t.0 ∷ B.meaning t.1 ∷ C.meaning t.2 ∷ D.meaning t.3 ∷ E.meaning t.4 ∷ [])) };
+
+    fn serialize<W: WriteExt>(&self, ser: &mut Serializer<W>) -> Result<usize> {
+        Row(Five(&self.0, &self.1, &self.2, &self.3, &self.4, &())).serialize(ser)
+    }
+}
+
+impl<A: Serialize, B: Serialize, C: Serialize, D: Serialize, E: Serialize, F: Serialize> Serialize
+    for (A, B, C, D, E, F) {
+    ghost meaning = { λ t. Tree.list ListKind.sequence (trees (A.meaning t.0 ∷ B.meaning t.1 ∷ C.meaning t.2 ∷ D.meaning t.3 ∷ E.meaning t.4 ∷ F.meaning t.5 ∷ [])) };
+
+    fn serialize<W: WriteExt>(&self, ser: &mut Serializer<W>) -> Result<usize> {
+        Row(Six(&self.0, &self.1, &self.2, &self.3, &self.4, &self.5, &())).serialize(ser)
+    }
+}
+
+impl<
+    A: Serialize,
+    B: Serialize,
+    C: Serialize,
+    D: Serialize,
+    E: Serialize,
+    F: Serialize,
+    G: Serialize,
+> Serialize for (A, B, C, D, E, F, G) {
+    ghost meaning = { λ t. Tree.list ListKind.sequence (trees (A.meaning t.0 ∷ B.meaning t.1 ∷ C.meaning t.2 ∷ D.meaning t.3 ∷ E.meaning t.4 ∷ F.meaning t.5 ∷ G.meaning t.6 ∷ [])) };
+
+    fn serialize<W: WriteExt>(&self, ser: &mut Serializer<W>) -> Result<usize> {
+        Row(Seven(
+            &self.0,
+            &self.1,
+            &self.2,
+            &self.3,
+            &self.4,
+            &self.5,
+            &self.6,
+            &(),
+        ))
+        .serialize(ser)
+    }
+}
+
+impl<
+    A: Serialize,
+    B: Serialize,
+    C: Serialize,
+    D: Serialize,
+    E: Serialize,
+    F: Serialize,
+    G: Serialize,
+    H: Serialize,
+> Serialize for (A, B, C, D, E, F, G, H) {
+    ghost meaning = { λ t. Tree.list ListKind.sequence (trees (A.meaning t.0 ∷ B.meaning t.1 ∷ C.meaning t.2 ∷ D.meaning t.3 ∷ E.meaning t.4 ∷ F.meaning t.5 ∷ G.meaning t.6 ∷ H.meaning t.7 ∷ [])) };
+
+    fn serialize<W: WriteExt>(&self, ser: &mut Serializer<W>) -> Result<usize> {
+        Row(Eight(
+            &self.0,
+            &self.1,
+            &self.2,
+            &self.3,
+            &self.4,
+            &self.5,
+            &self.6,
+            &self.7,
+            &(),
+        ))
+        .serialize(ser)
+    }
+}
+
+impl<
+    A: Serialize,
+    B: Serialize,
+    C: Serialize,
+    D: Serialize,
+    E: Serialize,
+    F: Serialize,
+    G: Serialize,
+    H: Serialize,
+    I: Serialize,
+> Serialize for (A, B, C, D, E, F, G, H, I) {
+    ghost meaning = { λ t. Tree.list ListKind.sequence (trees (A.meaning t.0 ∷ B.meaning t.1 ∷ C.meaning t.2 ∷ D.meaning t.3 ∷ E.meaning t.4 ∷ F.meaning t.5 ∷ G.meaning t.6 ∷ H.meaning t.7 ∷ I.meaning t.8 ∷ [])) };
+
+    fn serialize<W: WriteExt>(&self, ser: &mut Serializer<W>) -> Result<usize> {
+        Row(Nine(
+            &self.0,
+            &self.1,
+            &self.2,
+            &self.3,
+            &self.4,
+            &self.5,
+            &self.6,
+            &self.7,
+            &self.8,
+            &(),
+        ))
+        .serialize(ser)
+    }
+}
+
+impl<
+    A: Serialize,
+    B: Serialize,
+    C: Serialize,
+    D: Serialize,
+    E: Serialize,
+    F: Serialize,
+    G: Serialize,
+    H: Serialize,
+    I: Serialize,
+    J: Serialize,
+> Serialize for (A, B, C, D, E, F, G, H, I, J) {
+    ghost meaning = { λ t. Tree.list ListKind.sequence (trees (A.meaning t.0 ∷ B.meaning t.1 ∷ C.meaning t.2 ∷ D.meaning t.3 ∷ E.meaning t.4 ∷ F.meaning t.5 ∷ G.meaning t.6 ∷ H.meaning t.7 ∷ I.meaning t.8 ∷ J.meaning t.9 ∷ [])) };
+
+    fn serialize<W: WriteExt>(&self, ser: &mut Serializer<W>) -> Result<usize> {
+        Row(Ten(
+            &self.0,
+            &self.1,
+            &self.2,
+            &self.3,
+            &self.4,
+            &self.5,
+            &self.6,
+            &self.7,
+            &self.8,
+            &self.9,
+            &(),
+        ))
+        .serialize(ser)
+    }
+}
+
+impl<
+    A: Serialize,
+    B: Serialize,
+    C: Serialize,
+    D: Serialize,
+    E: Serialize,
+    F: Serialize,
+    G: Serialize,
+    H: Serialize,
+    I: Serialize,
+    J: Serialize,
+    K: Serialize,
+> Serialize for (A, B, C, D, E, F, G, H, I, J, K) {
+    ghost meaning = { λ t. Tree.list ListKind.sequence (trees (A.meaning t.0 ∷ B.meaning t.1 ∷ C.meaning t.2 ∷ D.meaning t.3 ∷ E.meaning t.4 ∷ F.meaning t.5 ∷ G.meaning t.6 ∷ H.meaning t.7 ∷ I.meaning t.8 ∷ J.meaning t.9 ∷ K.meaning t.10 ∷ [])) };
+
+    fn serialize<W: WriteExt>(&self, ser: &mut Serializer<W>) -> Result<usize> {
+        Row(Eleven(
+            &self.0,
+            &self.1,
+            &self.2,
+            &self.3,
+            &self.4,
+            &self.5,
+            &self.6,
+            &self.7,
+            &self.8,
+            &self.9,
+            &self.10,
+            &(),
+        ))
+        .serialize(ser)
+    }
+}
+
+impl<
+    A: Serialize,
+    B: Serialize,
+    C: Serialize,
+    D: Serialize,
+    E: Serialize,
+    F: Serialize,
+    G: Serialize,
+    H: Serialize,
+    I: Serialize,
+    J: Serialize,
+    K: Serialize,
+    L: Serialize,
+> Serialize for (A, B, C, D, E, F, G, H, I, J, K, L) {
+    ghost meaning = { λ t. Tree.list ListKind.sequence (trees (A.meaning t.0 ∷ B.meaning t.1 ∷ C.meaning t.2 ∷ D.meaning t.3 ∷ E.meaning t.4 ∷ F.meaning t.5 ∷ G.meaning t.6 ∷ H.meaning t.7 ∷ I.meaning t.8 ∷ J.meaning t.9 ∷ K.meaning t.10 ∷ L.meaning t.11 ∷ [])) };
+
+    fn serialize<W: WriteExt>(&self, ser: &mut Serializer<W>) -> Result<usize> {
+        Row(Twelve(
+            &self.0,
+            &self.1,
+            &self.2,
+            &self.3,
+            &self.4,
+            &self.5,
+            &self.6,
+            &self.7,
+            &self.8,
+            &self.9,
+            &self.10,
+            &self.11,
+            &(),
+        ))
+        .serialize(ser)
+    }
+}
+
+impl<
+    A: Serialize,
+    B: Serialize,
+    C: Serialize,
+    D: Serialize,
+    E: Serialize,
+    F: Serialize,
+    G: Serialize,
+    H: Serialize,
+    I: Serialize,
+    J: Serialize,
+    K: Serialize,
+    L: Serialize,
+    M: Serialize,
+> Serialize for (A, B, C, D, E, F, G, H, I, J, K, L, M) {
+    ghost meaning = { λ t. Tree.list ListKind.sequence (trees (A.meaning t.0 ∷ B.meaning t.1.0 ∷ C.meaning t.1.1.0 ∷ D.meaning t.1.1.1.0 ∷ E.meaning t.1.1.1.1.0 ∷ F.meaning t.1.1.1.1.1.0 ∷ G.meaning t.1.1.1.1.1.1.0 ∷ H.meaning t.1.1.1.1.1.1.1.0 ∷ I.meaning t.1.1.1.1.1.1.1.1.0 ∷ J.meaning t.1.1.1.1.1.1.1.1.1.0 ∷ K.meaning t.1.1.1.1.1.1.1.1.1.1.0 ∷ L.meaning t.1.1.1.1.1.1.1.1.1.1.1.0 ∷ M.meaning t.1.1.1.1.1.1.1.1.1.1.1.1.0 ∷ [])) };
+
+    fn serialize<W: WriteExt>(&self, ser: &mut Serializer<W>) -> Result<usize> {
+        Row(Thirteen(
+            &self.0,
+            &self.1,
+            &self.2,
+            &self.3,
+            &self.4,
+            &self.5,
+            &self.6,
+            &self.7,
+            &self.8,
+            &self.9,
+            &self.10,
+            &self.11,
+            &self.12,
+            &(),
+        ))
+        .serialize(ser)
+    }
+}
+
+impl<
+    A: Serialize,
+    B: Serialize,
+    C: Serialize,
+    D: Serialize,
+    E: Serialize,
+    F: Serialize,
+    G: Serialize,
+    H: Serialize,
+    I: Serialize,
+    J: Serialize,
+    K: Serialize,
+    L: Serialize,
+    M: Serialize,
+    N: Serialize,
+> Serialize for (A, B, C, D, E, F, G, H, I, J, K, L, M, N) {
+    ghost meaning = { λ t. Tree.list ListKind.sequence (trees (A.meaning t.0 ∷ B.meaning t.1.0 ∷ C.meaning t.1.1.0 ∷ D.meaning t.1.1.1.0 ∷ E.meaning t.1.1.1.1.0 ∷ F.meaning t.1.1.1.1.1.0 ∷ G.meaning t.1.1.1.1.1.1.0 ∷ H.meaning t.1.1.1.1.1.1.1.0 ∷ I.meaning t.1.1.1.1.1.1.1.1.0 ∷ J.meaning t.1.1.1.1.1.1.1.1.1.0 ∷ K.meaning t.1.1.1.1.1.1.1.1.1.1.0 ∷ L.meaning t.1.1.1.1.1.1.1.1.1.1.1.0 ∷ M.meaning t.1.1.1.1.1.1.1.1.1.1.1.1.0 ∷ N.meaning t.1.1.1.1.1.1.1.1.1.1.1.1.1.0 ∷ [])) };
+
+    fn serialize<W: WriteExt>(&self, ser: &mut Serializer<W>) -> Result<usize> {
+        Row(Fourteen(
+            &self.0,
+            &self.1,
+            &self.2,
+            &self.3,
+            &self.4,
+            &self.5,
+            &self.6,
+            &self.7,
+            &self.8,
+            &self.9,
+            &self.10,
+            &self.11,
+            &self.12,
+            &self.13,
+            &(),
+        ))
+        .serialize(ser)
+    }
+}
+
+impl<
+    A: Serialize,
+    B: Serialize,
+    C: Serialize,
+    D: Serialize,
+    E: Serialize,
+    F: Serialize,
+    G: Serialize,
+    H: Serialize,
+    I: Serialize,
+    J: Serialize,
+    K: Serialize,
+    L: Serialize,
+    M: Serialize,
+    N: Serialize,
+    O: Serialize,
+> Serialize for (A, B, C, D, E, F, G, H, I, J, K, L, M, N, O) {
+    ghost meaning = { λ t. Tree.list ListKind.sequence (trees (A.meaning t.0 ∷ B.meaning t.1.0 ∷ C.meaning t.1.1.0 ∷ D.meaning t.1.1.1.0 ∷ E.meaning t.1.1.1.1.0 ∷ F.meaning t.1.1.1.1.1.0 ∷ G.meaning t.1.1.1.1.1.1.0 ∷ H.meaning t.1.1.1.1.1.1.1.0 ∷ I.meaning t.1.1.1.1.1.1.1.1.0 ∷ J.meaning t.1.1.1.1.1.1.1.1.1.0 ∷ K.meaning t.1.1.1.1.1.1.1.1.1.1.0 ∷ L.meaning t.1.1.1.1.1.1.1.1.1.1.1.0 ∷ M.meaning t.1.1.1.1.1.1.1.1.1.1.1.1.0 ∷ N.meaning t.1.1.1.1.1.1.1.1.1.1.1.1.1.0 ∷ O.meaning t.1.1.1.1.1.1.1.1.1.1.1.1.1.1.0 ∷ [])) };
+
+    fn serialize<W: WriteExt>(&self, ser: &mut Serializer<W>) -> Result<usize> {
+        Row(Fifteen(
+            &self.0,
+            &self.1,
+            &self.2,
+            &self.3,
+            &self.4,
+            &self.5,
+            &self.6,
+            &self.7,
+            &self.8,
+            &self.9,
+            &self.10,
+            &self.11,
+            &self.12,
+            &self.13,
+            &self.14,
+            &(),
+        ))
+        .serialize(ser)
+    }
+}
+
+impl<
+    A: Serialize,
+    B: Serialize,
+    C: Serialize,
+    D: Serialize,
+    E: Serialize,
+    F: Serialize,
+    G: Serialize,
+    H: Serialize,
+    I: Serialize,
+    J: Serialize,
+    K: Serialize,
+    L: Serialize,
+    M: Serialize,
+    N: Serialize,
+    O: Serialize,
+    P: Serialize,
+> Serialize for (A, B, C, D, E, F, G, H, I, J, K, L, M, N, O, P) {
+    ghost meaning = { λ t. Tree.list ListKind.sequence (trees (A.meaning t.0 ∷ B.meaning t.1.0 ∷ C.meaning t.1.1.0 ∷ D.meaning t.1.1.1.0 ∷ E.meaning t.1.1.1.1.0 ∷ F.meaning t.1.1.1.1.1.0 ∷ G.meaning t.1.1.1.1.1.1.0 ∷ H.meaning t.1.1.1.1.1.1.1.0 ∷ I.meaning t.1.1.1.1.1.1.1.1.0 ∷ J.meaning t.1.1.1.1.1.1.1.1.1.0 ∷ K.meaning t.1.1.1.1.1.1.1.1.1.1.0 ∷ L.meaning t.1.1.1.1.1.1.1.1.1.1.1.0 ∷ M.meaning t.1.1.1.1.1.1.1.1.1.1.1.1.0 ∷ N.meaning t.1.1.1.1.1.1.1.1.1.1.1.1.1.0 ∷ O.meaning t.1.1.1.1.1.1.1.1.1.1.1.1.1.1.0 ∷ P.meaning t.1.1.1.1.1.1.1.1.1.1.1.1.1.1.1.0 ∷ [])) };
+
+    fn serialize<W: WriteExt>(&self, ser: &mut Serializer<W>) -> Result<usize> {
+        Row(Sixteen(
+            &self.0,
+            &self.1,
+            &self.2,
+            &self.3,
+            &self.4,
+            &self.5,
+            &self.6,
+            &self.7,
+            &self.8,
+            &self.9,
+            &self.10,
+            &self.11,
+            &self.12,
+            &self.13,
+            &self.14,
+            &self.15,
+            &(),
+        ))
+        .serialize(ser)
     }
 }

@@ -1,0 +1,52 @@
+//! Periods of validity.
+ghost use Rattle.std.proofs.Common.{rules};
+ghost use Rattle.picky_der_de.specs.Telling.{told, tells};
+
+use picky_asn1_der::asn1::UtcTimeAsn1;
+use picky_asn1_der::misc::{ReadExt, WriteExt};
+use picky_asn1_der::{Alike, Deserialize, Deserializer, Result, Row, Serialize, Serializer, de};
+
+/// From when to when a certificate is good.
+#[derive(Debug, Drop, PartialEq, Eq)]
+pub struct Validity {
+    /// Its first second.
+    pub not_before: UtcTimeAsn1,
+    /// Its last second.
+    pub not_after: UtcTimeAsn1,
+}
+
+type Fields = Row<(UtcTimeAsn1, UtcTimeAsn1, ())>;
+
+impl Serialize for Validity {
+    ghost meaning = { λ it. ⟦<Fields as Serialize>⟧.meaning (⟦<Validity as Alike>⟧.parts it) };
+
+    fn serialize<W: WriteExt>(&self, serializer: &mut Serializer<W>) -> Result<usize> {
+        (&self.not_before, &self.not_after).serialize(serializer)
+    }
+}
+
+impl Alike for Validity {
+    type As = Fields;
+
+    ghost parts = { λ it. record { 0 = (it.not_before, it.not_after, tt) } };
+
+    fn from_parts(Row(fields): Fields) -> Validity {
+        let (not_before, not_after, ()) = fields;
+        Validity {
+            not_before,
+            not_after,
+        }
+    }
+}
+
+impl Deserialize for Validity {
+    ghost shape = { ⟦<Fields as Deserialize>⟧.shape };
+
+    ghost known_by_tree = { told ⟦<Fields as Deserialize>⟧.shape (Prim.search tells depth 99) };
+
+    ghost sound = { Prim.search rules depth 99 };
+
+    fn deserialize<R: ReadExt>(deserializer: &mut Deserializer<R>) -> Result<Validity> {
+        de::deserialize_as(deserializer)
+    }
+}

@@ -1,0 +1,48 @@
+//! A struct with an option of a list.
+ghost use Rattle.std.proofs.Common.{rules};
+ghost use Rattle.picky_der_de.specs.Telling.{told, tells};
+
+use picky_asn1_der::misc::{ReadExt, WriteExt};
+use picky_asn1_der::{Alike, Deserialize, Deserializer, Result, Row, Serialize, Serializer, de};
+
+/// A gust of wind, as a SEQUENCE of an INTEGER and a SEQUENCE of texts.
+#[derive(Debug, Drop, PartialEq, Eq)]
+pub struct Gust {
+    /// Whole meters in a second.
+    pub speed: u8,
+    /// What was noted of it. As each optional member, it has to be there to be read back.
+    pub notes: Option<Vec<String>>,
+}
+
+type Fields = Row<(u8, Option<Vec<String>>, ())>;
+
+impl Serialize for Gust {
+    ghost meaning = { λ it. ⟦<Fields as Serialize>⟧.meaning (⟦<Gust as Alike>⟧.parts it) };
+
+    fn serialize<W: WriteExt>(&self, serializer: &mut Serializer<W>) -> Result<usize> {
+        (&self.speed, &self.notes).serialize(serializer)
+    }
+}
+
+impl Alike for Gust {
+    type As = Fields;
+
+    ghost parts = { λ it. record { 0 = (it.speed, it.notes, tt) } };
+
+    fn from_parts(Row(fields): Fields) -> Gust {
+        let (speed, notes, ()) = fields;
+        Gust { speed, notes }
+    }
+}
+
+impl Deserialize for Gust {
+    ghost shape = { ⟦<Fields as Deserialize>⟧.shape };
+
+    ghost known_by_tree = { told ⟦<Fields as Deserialize>⟧.shape (Prim.search tells depth 99) };
+
+    ghost sound = { Prim.search rules depth 99 };
+
+    fn deserialize<R: ReadExt>(deserializer: &mut Deserializer<R>) -> Result<Gust> {
+        de::deserialize_as(deserializer)
+    }
+}

@@ -1,0 +1,60 @@
+//! A choice of four, one of which is a list.
+ghost use Rattle.std.proofs.Common.{rules};
+ghost use Rattle.picky_der_de.specs.declared.alternatives4.OneOf4.TheVariants.{First, Second, Third, Fourth};
+ghost use Rattle.der_examples.specs.declared.host.Host.TheVariants.{Email, Domain, Owner, Address};
+
+use picky_asn1_der::OneOf4::{First, Fourth, Second, Third};
+use picky_asn1_der::asn1::{ByteBuf, Ia5StringAsn1, ImplicitContextTag2};
+use picky_asn1_der::misc::WriteExt;
+use picky_asn1_der::{Alternatives, Choice, NoneOf, OneOf4, Result, Serialize, Serializer, Told};
+
+/// How a host is named.
+#[derive(Debug, Drop, PartialEq, Eq)]
+pub enum Host {
+    /// A UTF8String.
+    Email(String),
+    /// An IA5String under the implicit tag 2.
+    Domain(ImplicitContextTag2<Ia5StringAsn1>),
+    /// A SEQUENCE OF OCTET STRING.
+    Owner(Vec<ByteBuf>),
+    /// An OCTET STRING.
+    Address(ByteBuf),
+}
+
+type Parts = OneOf4<String, ImplicitContextTag2<Ia5StringAsn1>, Vec<ByteBuf>, ByteBuf, NoneOf>;
+
+impl Choice for Host {
+    type Alternatives = Parts;
+
+    ghost parts = { elim [ Email e ↦ First e | Domain d ↦ Second d | Owner o ↦ Third o | Address a ↦ Fourth a ] };
+
+    fn from_parts(value: Parts) -> Host {
+        match value {
+            First(email) => Host::Email(email),
+            Second(domain) => Host::Domain(domain),
+            Third(owner) => Host::Owner(owner),
+            Fourth(address) => Host::Address(address),
+        }
+    }
+}
+
+impl Serialize for Host {
+    ghost meaning = { λ v. ⟦<Parts as Alternatives>⟧.meaning (⟦<Host as Choice>⟧.parts v) };
+
+    fn serialize<W: WriteExt>(&self, serializer: &mut Serializer<W>) -> Result<usize> {
+        match self {
+            Host::Email(email) => serializer.serialize_choice(email),
+            Host::Domain(domain) => serializer.serialize_choice(domain),
+            Host::Owner(owner) => serializer.serialize_choice(owner),
+            Host::Address(address) => serializer.serialize_choice(address),
+        }
+    }
+}
+
+impl Told for Host {
+    ghost told = { Prim.search rules };
+
+    ghost meant = { Prim.search rules };
+
+    ghost equal = { Prim.search rules };
+}

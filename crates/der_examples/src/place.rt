@@ -1,0 +1,62 @@
+//! A choice of a struct and another choice.
+ghost use Rattle.std.proofs.Common.{rules};
+ghost use Rattle.picky_der_de.specs.declared.alternatives.OneOf.TheVariants.{This, Other};
+ghost use Rattle.der_examples.specs.declared.place.Place.TheVariants.{At, By};
+
+use crate::{NumberOrFlag, Point};
+use picky_asn1_der::OneOf::{Other, This};
+use picky_asn1_der::asn1::Tag;
+use picky_asn1_der::de::Begins;
+use picky_asn1_der::misc::WriteExt;
+use picky_asn1_der::{Alternatives, Choice, NoneOf, OneOf, Result, Serialize, Serializer, Told};
+
+impl Begins for Point {
+    fn begins_with(tag: Tag) -> bool {
+        tag == Tag::SEQUENCE
+    }
+
+    ghost begins = { λ point byte held. held };
+}
+
+/// Where something is.
+#[derive(Debug, Drop, PartialEq, Eq)]
+pub enum Place {
+    /// At a point, a SEQUENCE.
+    At(Point),
+    /// By a number or a flag, a CHOICE.
+    By(NumberOrFlag),
+}
+
+type Parts = OneOf<Point, OneOf<NumberOrFlag, NoneOf>>;
+
+impl Choice for Place {
+    type Alternatives = Parts;
+
+    ghost parts = { elim [ At p ↦ This p | By n ↦ Other (This n) ] };
+
+    fn from_parts(value: Parts) -> Place {
+        match value {
+            This(point) => Place::At(point),
+            Other(This(sign)) => Place::By(sign),
+        }
+    }
+}
+
+impl Serialize for Place {
+    ghost meaning = { λ v. ⟦<Parts as Alternatives>⟧.meaning (⟦<Place as Choice>⟧.parts v) };
+
+    fn serialize<W: WriteExt>(&self, serializer: &mut Serializer<W>) -> Result<usize> {
+        match self {
+            Place::At(point) => serializer.serialize_choice(point),
+            Place::By(sign) => serializer.serialize_choice(sign),
+        }
+    }
+}
+
+impl Told for Place {
+    ghost told = { Prim.search rules };
+
+    ghost meant = { Prim.search rules };
+
+    ghost equal = { Prim.search rules };
+}

@@ -1,0 +1,137 @@
+//! A struct of sixteen fields.
+ghost use Rattle.std.proofs.Common.{rules};
+ghost use Rattle.picky_der_de.specs.Telling.{told, tells};
+
+use crate::{Gust, Moment};
+use picky_asn1_der::asn1::{Asn1SetOf, ByteBuf, ExplicitContextTag, OctetStringAsn1Container};
+use picky_asn1_der::misc::{ReadExt, WriteExt};
+use picky_asn1_der::{Alike, Deserialize, Deserializer, Result, Row, Serialize, Serializer, de};
+
+/// What a weather station reports, as a SEQUENCE of sixteen members.
+#[derive(Debug, Drop, PartialEq, Eq)]
+pub struct Report {
+    /// What the station is called.
+    pub station: String,
+    /// Its number.
+    pub number: u32,
+    /// When it was made.
+    pub moment: Moment,
+    /// Whether nobody looked at it.
+    pub automatic: bool,
+    /// The height over the sea in meters.
+    pub height: Option<u16>,
+    /// In pascals.
+    pub pressure: u32,
+    /// Of a hundred.
+    pub humidity: u8,
+    /// The number of the report.
+    pub serial: u128,
+    /// A mark that the station puts on it.
+    pub seal: ByteBuf,
+    /// How good it is.
+    pub grade: char,
+    /// A NULL.
+    pub reserved: (),
+    /// The first and the last day that it is about.
+    pub days: [u16; 2],
+    /// Corrections, under the tag `[0]`.
+    pub offsets: ExplicitContextTag<Vec<u16>, 0>,
+    /// Who made it, as a SET.
+    pub authors: Asn1SetOf<ByteBuf>,
+    /// Two values within an OCTET STRING.
+    pub sealed: OctetStringAsn1Container<(u8, bool)>,
+    /// Each gust.
+    pub gusts: Vec<Gust>,
+}
+
+type Fields = Row<
+    (
+        String,
+        u32,
+        Moment,
+        bool,
+        Option<u16>,
+        u32,
+        u8,
+        u128,
+        (
+            ByteBuf,
+            char,
+            (),
+            [u16; 2],
+            ExplicitContextTag<Vec<u16>, 0>,
+            Asn1SetOf<ByteBuf>,
+            OctetStringAsn1Container<(u8, bool)>,
+            Vec<Gust>,
+            (),
+        ),
+    ),
+>;
+
+impl Serialize for Report {
+    ghost meaning = { λ it. ⟦<Fields as Serialize>⟧.meaning (⟦<Report as Alike>⟧.parts it) };
+
+    fn serialize<W: WriteExt>(&self, serializer: &mut Serializer<W>) -> Result<usize> {
+        (
+            &self.station,
+            &self.number,
+            &self.moment,
+            &self.automatic,
+            &self.height,
+            &self.pressure,
+            &self.humidity,
+            &self.serial,
+            &self.seal,
+            &self.grade,
+            &self.reserved,
+            &self.days,
+            &self.offsets,
+            &self.authors,
+            &self.sealed,
+            &self.gusts,
+        )
+            .serialize(serializer)
+    }
+}
+
+impl Alike for Report {
+    type As = Fields;
+
+    ghost parts = { λ it. record { 0 = (it.station, it.number, it.moment, it.automatic, it.height, it.pressure, it.humidity, it.serial, (it.seal, it.grade, it.reserved, it.days, it.offsets, it.authors, it.sealed, it.gusts, tt)) } };
+
+    fn from_parts(Row(fields): Fields) -> Report {
+        let (station, number, moment, automatic, height, pressure, humidity, serial, others) =
+            fields;
+        let (seal, grade, reserved, days, offsets, authors, sealed, gusts, ()) = others;
+        Report {
+            station,
+            number,
+            moment,
+            automatic,
+            height,
+            pressure,
+            humidity,
+            serial,
+            seal,
+            grade,
+            reserved,
+            days,
+            offsets,
+            authors,
+            sealed,
+            gusts,
+        }
+    }
+}
+
+impl Deserialize for Report {
+    ghost shape = { ⟦<Fields as Deserialize>⟧.shape };
+
+    ghost known_by_tree = { told ⟦<Fields as Deserialize>⟧.shape (Prim.search tells depth 99) };
+
+    ghost sound = { Prim.search rules depth 99 };
+
+    fn deserialize<R: ReadExt>(deserializer: &mut Deserializer<R>) -> Result<Report> {
+        de::deserialize_as(deserializer)
+    }
+}

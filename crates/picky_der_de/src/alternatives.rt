@@ -1,0 +1,107 @@
+//! The alternatives of a choice, of any number.
+ghost use Rattle.std.specs.Prelude.{◌↔◌, IsTrue, IfOk, IfErr};
+ghost use Rattle.picky_der_core.specs.Tree.{Tree};
+ghost use Rattle.picky_der_core.specs.Shape.{Shapes, AreSound, firsts_of, has};
+ghost use Rattle.picky_der_de.specs.Firsts.{IsBegunBy};
+ghost use Rattle.picky_der_de.specs.Choices.{ReadsBehind, RefusesBehind, AreKnownApart, chosen_of, begins_this_or_other, known_this_or_other};
+
+use crate::{Begins, Deserializer};
+use picky_der_core::asn1::Tag;
+use picky_der_core::misc::ReadExt;
+use picky_der_core::{Asn1DerError, Result};
+
+/// A value of the first alternative, or of one of those behind it: of `OneOf<A, OneOf<B, NoneOf>>`, `This` has an `A` and
+/// `Other(This)` a `B`.
+#[derive(Debug, Drop, PartialEq, Eq)]
+pub enum OneOf<A, B> {
+    /// The first alternative was chosen.
+    This(A),
+    /// Another was.
+    Other(B),
+}
+
+/// No alternative: what stands behind the last one. There is no value of it.
+#[derive(Debug, Drop, PartialEq, Eq)]
+pub enum NoneOf {}
+
+/// Alternatives of a choice, in order: none, as `NoneOf`, or one and those behind it, as `OneOf<A, B>`.
+pub trait Alternatives: PartialEq + Drop + Sized {
+    // A shape for each alternative.
+    ghost shapes: { Shapes };
+
+    // What the value means that was chosen, as a value of its own type.
+    ghost chosen: { Self → Tree };
+
+    // What it means as a choice.
+    ghost meaning: { Self → Tree };
+
+    /// Whether a value of one of them can begin with this byte.
+    fn begins_with(tag: Tag) -> bool
+        ensures { IsTrue result ↔ IsTrue (has (firsts_of shapes) tag) };
+
+    /// Reads a value of the first alternative that can begin with this byte, which was looked at and is next.
+    ///
+    /// `InvalidData` where it begins none; else as the value is refused.
+    fn deserialize_alternative<R: ReadExt>(tag: Tag, de: &mut Deserializer<R>) -> Result<Self>
+        ensures ok { IfOk result (λ value. ReadsBehind shapes tag de.old de.new (chosen value)) }
+        ensures err { IfErr result (RefusesBehind chosen shapes tag de.old de.new) };
+
+    // No value begins with another byte.
+    ghost begins: { (v : Self) → IsBegunBy (firsts_of shapes) (chosen v) };
+
+    // Two readable values with one tree are equal, where the alternatives are told by their first byte.
+    ghost known: { AreKnownApart chosen shapes Self.eq };
+
+    // The choices in the shapes are told by their first byte.
+    ghost sound: { AreSound shapes };
+}
+
+impl Alternatives for NoneOf {
+    ghost shapes = { Shapes.none };
+
+    ghost chosen = { λ v. elim v [ ] };
+
+    ghost meaning = { λ v. elim v [ ] };
+
+    fn begins_with(_tag: Tag) -> bool {
+        false
+    }
+
+    fn deserialize_alternative<R: ReadExt>(_tag: Tag, de: &mut Deserializer<R>) -> Result<NoneOf> {
+        Err(de.refuse(Asn1DerError::InvalidData))
+    }
+
+    ghost begins = { λ v. elim v [ ] };
+
+    ghost known = { λ _ v. elim v [ ] };
+
+    ghost sound = { tt };
+}
+
+impl<A: Begins, B: Alternatives> Alternatives for OneOf<A, B> {
+    ghost shapes = { Shapes.more A.shape B.shapes };
+
+    ghost chosen = { chosen_of A.meaning B.chosen };
+
+    ghost meaning = { λ v. Tree.choice (chosen_of A.meaning B.chosen v) };
+
+    fn begins_with(tag: Tag) -> bool {
+        A::begins_with(tag) || B::begins_with(tag)
+    }
+
+    fn deserialize_alternative<R: ReadExt>(
+        tag: Tag,
+        de: &mut Deserializer<R>,
+    ) -> Result<OneOf<A, B>> {
+        if A::begins_with(tag) {
+            return Ok(OneOf::This(A::deserialize(de)?));
+        }
+        Ok(OneOf::Other(B::deserialize_alternative(tag, de)?))
+    }
+
+    ghost begins = { begins_this_or_other A.meaning B.chosen A.shape B.shapes A.begins B.begins };
+
+    ghost known = { known_this_or_other A.meaning B.chosen A.shape B.shapes A.begins B.begins ⟦<OneOf<A, B> as PartialEq>⟧.eq (λ _ _ h. h) (λ _ _ h. h) A.known_by_tree B.known };
+
+    ghost sound = { (A.sound, B.sound) };
+}

@@ -1,0 +1,59 @@
+//! Alternatives of a choice, four at a time.
+ghost use Rattle.picky_der_core.specs.Tree.{Tree};
+ghost use Rattle.picky_der_core.specs.Shape.{Shapes};
+ghost use Rattle.picky_der_de.specs.FourChoices.{chosen_of4, begins_one_of4, known_one_of4};
+
+use crate::{Alternatives, Begins, Deserializer, OneOf};
+use picky_der_core::Result;
+use picky_der_core::asn1::Tag;
+use picky_der_core::misc::ReadExt;
+
+/// A value of one of four alternatives, or of one of those behind them.
+#[derive(Debug, Drop, PartialEq, Eq)]
+pub enum OneOf4<A, B, C, D, E> {
+    /// The first alternative was chosen.
+    First(A),
+    /// The second was.
+    Second(B),
+    /// The third was.
+    Third(C),
+    /// The fourth was.
+    Fourth(D),
+    /// Another was.
+    Later(E),
+}
+
+impl<A: Begins, B: Begins, C: Begins, D: Begins, E: Alternatives> Alternatives
+    for OneOf4<A, B, C, D, E> {
+    ghost shapes = { Shapes.more A.shape (Shapes.more B.shape (Shapes.more C.shape (Shapes.more D.shape E.shapes))) };
+
+    ghost chosen = { chosen_of4 A.meaning B.meaning C.meaning D.meaning E.chosen };
+
+    ghost meaning = { λ v. Tree.choice (chosen_of4 A.meaning B.meaning C.meaning D.meaning E.chosen v) };
+
+    fn begins_with(tag: Tag) -> bool {
+        OneOf::<A, OneOf<B, OneOf<C, OneOf<D, E>>>>::begins_with(tag)
+    }
+
+    fn deserialize_alternative<R: ReadExt>(
+        tag: Tag,
+        de: &mut Deserializer<R>,
+    ) -> Result<OneOf4<A, B, C, D, E>> {
+        let value = OneOf::<A, OneOf<B, OneOf<C, OneOf<D, E>>>>::deserialize_alternative(tag, de)?;
+        Ok(match value {
+            OneOf::This(first) => OneOf4::First(first),
+            OneOf::Other(OneOf::This(second)) => OneOf4::Second(second),
+            OneOf::Other(OneOf::Other(OneOf::This(third))) => OneOf4::Third(third),
+            OneOf::Other(OneOf::Other(OneOf::Other(OneOf::This(fourth)))) => {
+                OneOf4::Fourth(fourth)
+            }
+            OneOf::Other(OneOf::Other(OneOf::Other(OneOf::Other(later)))) => OneOf4::Later(later),
+        })
+    }
+
+    ghost begins = { begins_one_of4 A.meaning B.meaning C.meaning D.meaning E.chosen A.shape B.shape C.shape D.shape E.shapes A.begins B.begins C.begins D.begins E.begins };
+
+    ghost known = { known_one_of4 A.meaning B.meaning C.meaning D.meaning E.chosen A.shape B.shape C.shape D.shape E.shapes A.begins B.begins C.begins D.begins E.begins ⟦<OneOf4<A, B, C, D, E> as PartialEq>⟧.eq (λ _ _ h. h) (λ _ _ h. h) (λ _ _ h. h) (λ _ _ h. h) (λ _ _ h. h) A.known_by_tree B.known_by_tree C.known_by_tree D.known_by_tree E.known };
+
+    ghost sound = { (A.sound, (B.sound, (C.sound, (D.sound, E.sound)))) };
+}

@@ -1,0 +1,81 @@
+//! Values that stand behind each other.
+ghost use Rattle.std.specs.Prelude.{◌≡◌, ◌<◌, ◌≤◌, length, None, IfNone, IfSome, IfOk, IfErr};
+ghost use Rattle.picky_der_core.specs.Encoding.{der};
+ghost use Rattle.picky_der_input.specs.LookAhead.{HasEnded};
+ghost use Rattle.picky_der_input.specs.Reading.{Reads, Refuses};
+ghost use Rattle.picky_der_input.specs.Steps.{IsJudged};
+ghost use Rattle.picky_der_de.specs.Entry.{IsFront, HasNoFront, ReadsFront, HasNoneLeft, RefusesNextValue, told};
+
+use crate::{Deserialize, Deserializer, from_reader_with_max_len};
+use picky_der_core::Result;
+use picky_der_core::misc::ReadExt;
+use std::alloc::Global;
+
+/// The value at the front of a slice, and how many bytes its encoding has. The next value stands behind these.
+///
+/// It is refused as `from_bytes` refuses it. An empty slice is `TruncatedData`.
+pub fn next_from_bytes<T: Deserialize>(alloc: Global, bytes: &[u8]) -> Result<(T, usize)>
+    ensures ok { IfOk result (λ next. IsFront T.meaning T.shape T.eq bytes.now (length bytes.now) next.0) }
+    ensures taken { IfOk result (λ next. next.1 ≡ length (der (T.meaning next.0))) }
+    ensures within { IfOk result (λ next. next.1 ≤ length bytes.now) }
+    ensures err { IfErr result (HasNoFront T.meaning T.shape bytes.now (length bytes.now)) }
+{
+    let mut rest = bytes;
+    let value = from_reader_with_max_len::<T, &[u8]>(alloc, &mut rest, bytes.len())?;
+    Ok((value, bytes.len() - rest.len()))
+}
+
+impl<R: ReadExt> Deserializer<R> {
+    // The next value, and `None` where the input has ended.
+    fn next_value<T: Deserialize>(&mut self) -> Result<Option<T>>
+        requires had_not_failed { self.old.failed ≡ None }
+        requires whole { self.old.direct ≡ None }
+        ensures value { IfOk result (λ next. IfSome next (λ value. Reads T.shape self.old self.new (T.meaning value))) }
+        ensures ended { IfOk result (λ next. IfNone next (HasEnded self.old self.new)) }
+        ensures err { IfErr result (Refuses T.meaning T.shape self.old self.new) }
+        ensures ahead { IfErr result (λ e. IsJudged self.old self.new e → 0 < self.old.room → IfSome self.old.input (λ bytes. 0 < length bytes)) }
+    {
+        match self.identify_next() {
+            Ok(Some(_tag)) => {
+                let value = T::deserialize(self)?;
+                Ok(Some(value))
+            }
+            Ok(None) => Ok(None),
+            Err(error) => Err(error),
+        }
+    }
+}
+
+// The next value of a reader, and the reader.
+fn read_next_from<T: Deserialize, R: ReadExt>(
+    alloc: Global,
+    reader: R,
+    max_len: usize,
+) -> (Result<Option<T>>, R)
+    ensures value { IfOk result.0 (λ next. IfSome next (ReadsFront T.meaning T.shape T.eq max_len (told R.remaining R.faults reader) (told R.remaining R.faults result.1))) }
+    ensures ended { IfOk result.0 (λ next. IfNone next (HasNoneLeft max_len (told R.remaining R.faults reader) (told R.remaining R.faults result.1))) }
+    ensures err { IfErr result.0 (RefusesNextValue T.meaning T.shape max_len (told R.remaining R.faults reader) (told R.remaining R.faults result.1)) }
+    ensures same_references { R.through result.1 ≡ R.through reader }
+{
+    let mut de = Deserializer::new_from_reader(alloc, reader, max_len);
+    let next = de.next_value::<T>();
+    (next, de.into_reader())
+}
+
+/// The next of several values that a reader has left, in at most `max_len` bytes, and `None` where it has none left. Bytes
+/// behind the value are left in the reader.
+///
+/// It is refused as `from_reader_with_max_len` refuses it. So `TruncatedData` is a value that is cut short, or a limit of 0.
+pub fn next_from_reader<T: Deserialize, R: ReadExt>(
+    alloc: Global,
+    reader: &mut R,
+    max_len: usize,
+) -> Result<Option<T>>
+    ensures value { IfOk result (λ next. IfSome next (ReadsFront T.meaning T.shape T.eq max_len (told R.remaining R.faults reader.old) (told R.remaining R.faults reader.new))) }
+    ensures ended { IfOk result (λ next. IfNone next (HasNoneLeft max_len (told R.remaining R.faults reader.old) (told R.remaining R.faults reader.new))) }
+    ensures err { IfErr result (RefusesNextValue T.meaning T.shape max_len (told R.remaining R.faults reader.old) (told R.remaining R.faults reader.new)) }
+    ensures same_references { R.through reader.new ≡ R.through reader.old }
+{
+    let (next, _reader) = read_next_from::<T, &mut R>(alloc, reader, max_len);
+    next
+}

@@ -1,0 +1,24 @@
+//! The alternatives of choices, as they are written.
+ghost use Rattle.std.specs.Prelude.{IfOk, IfErr};
+ghost use Rattle.picky_der_core.specs.Tree.{Tree};
+ghost use Rattle.picky_der_core.specs.WriterFaults.{IsOnceAtMost};
+ghost use Rattle.picky_der_ser.specs.Calls.{Writes, Fails};
+
+use super::Serializer;
+use crate::Serialize;
+use picky_der_core::Result;
+use picky_der_core::misc::WriteExt;
+
+impl<W: WriteExt> Serializer<W> {
+    /// Writes a value as the alternative of a choice that was made, which is how it is written itself. An error is the
+    /// value's.
+    #[tactic(auto, using(crate::proofs::Choices::choice))]
+    pub fn serialize_choice<T: Serialize>(&mut self, value: &T) -> Result<usize>
+        ensures wrote { IfOk result (λ n. Writes W.WriteExt.own (Tree.choice (T.meaning value.now)) self.old n self.new) }
+        ensures failed { IfErr result (λ e. Fails W.WriteExt.own (Tree.choice (T.meaning value.now)) self.old e self.new) }
+        ensures counted { IsOnceAtMost (W.faults self.old.sink) (W.faults self.new.sink) }
+        ensures goes_on { W.later self.old.sink self.new.sink }
+    {
+        value.serialize(self)
+    }
+}
