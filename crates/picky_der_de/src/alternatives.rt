@@ -9,6 +9,7 @@ use crate::{Begins, Deserializer};
 use picky_der_core::asn1::Tag;
 use picky_der_core::misc::ReadExt;
 use picky_der_core::{Asn1DerError, Result};
+use std::convert::Infallible;
 
 /// A value of the first alternative, or of one of those behind it: of `OneOf<A, OneOf<B, NoneOf>>`, `This` has an `A` and
 /// `Other(This)` a `B`.
@@ -21,8 +22,7 @@ pub enum OneOf<A, B> {
 }
 
 /// No alternative: what stands behind the last one. There is no value of it.
-#[derive(Debug, Drop, PartialEq, Eq)]
-pub enum NoneOf {}
+pub type NoneOf = Infallible;
 
 /// Alternatives of a choice, in order: none, as `NoneOf`, or one and those behind it, as `OneOf<A, B>`.
 pub trait Alternatives: PartialEq + Drop + Sized {
