@@ -7,7 +7,7 @@ use picky_asn1_der::OneOf::{Other, This};
 use picky_asn1_der::misc::WriteExt;
 use picky_asn1_der::{Alternatives, Choice, NoneOf, OneOf, Result, Serialize, Serializer, Told};
 
-/// A number or a truth value.
+/// A number or a bool.
 #[derive(Debug, Drop, PartialEq, Eq)]
 pub enum NumberOrFlag {
     /// An INTEGER.

@@ -20,7 +20,7 @@ one = refl
 one_is_writable : IsWritable (Tree.unsigned 1)
 one_is_writable = record { numbers = refl; fits = subst (λ bs. length bs < 2 ^ 64) (sym one) (omega arith) }
 
--- the number 1 is refused for want of memory alone
+-- the number 1 is refused only where memory is
 only_memory : (e : Asn1DerError) → MemoryExcuse (IsWritable (Tree.unsigned 1)) e → e ≡ OutOfMemory
 only_memory e (no_room m) = m
 only_memory e (no_way m n) = absurd (n one_is_writable)

@@ -158,7 +158,7 @@ fn try_limits<T: Deserialize>(alloc: Global, encoding: &[u8], value: &T) -> Resu
     Ok(())
 }
 
-// So many bytes of the front, and behind them 64 bytes that begin nothing.
+// The first `len` bytes of the front, and behind them 64 bytes that begin nothing.
 fn with_others_behind(alloc: Global, front: &[u8], len: usize) -> Result<Vec<u8>, AllocError> {
     let mut bytes = Vec::from_slice(alloc, front)?;
     bytes.truncate(len);

@@ -30,7 +30,7 @@ use std::alloc::{AllocError, Global};
 /// | `stream failing at N with KIND [BYTES] CALLS` | the same of one that gives a byte a call and whose call number N fails so, and how many bytes were drawn |
 /// | `peek ..` | as `stream ..`, of a reader whose next byte can be looked at, and how many bytes were handed out then |
 /// | `sink failing at N with KIND: CALLS` | what each call of a writer of a byte a call answers whose call number N fails so, and the bytes that it took |
-/// | `fill LENGTH CALLS` | the same of a writer over a slice of so many bytes EE, and what the slice holds |
+/// | `fill LENGTH CALLS` | the same of a writer over a slice of LENGTH bytes EE, and what the slice holds |
 /// | `tool "LINE"` | the answer of `der_tool` to that line |
 /// | `copy [BYTES] as TYPE` | `whole`, where the copy of the value is equal to it |
 /// | `grow read [BYTES] as TYPE` | `whole`, where each call that reads takes the same value, and each call that writes gives its encoding |

@@ -114,7 +114,7 @@ fn answer_read<R: ReadExt>(
     }
 }
 
-// The calls that are given room for so many bytes.
+// The calls that are given room for `len` bytes.
 fn answer_piece<R: ReadExt>(
     alloc: Global,
     reader: &mut R,
@@ -154,7 +154,7 @@ pub(crate) fn answer_sink(alloc: Global, row: &str) -> Result<String, AllocError
     format!(in alloc; "{answers} [{row}]")
 }
 
-/// What the calls of a writer over a slice of so many bytes EE answer, and what the slice holds then.
+/// What the calls of a writer over a slice of LENGTH bytes EE answer, and what the slice holds then.
 pub(crate) fn answer_fill(alloc: Global, row: &str) -> Result<String, AllocError> {
     let Some((len, names)) = room_and_calls(row) else {
         return String::from_str(alloc, "unknown room");

@@ -52,7 +52,7 @@ longer (Some xs) (Some ys) bytes k n = omega (arith, n, ap length k, length-appe
 
 -- ---- what stands while the input is read
 
--- so many bytes were drawn, of which `line` has no end yet; the lines before it were answered
+-- this many bytes were drawn, of which `line` has no end yet; the lines before it were answered
 pub record RunsOn (a b c d : Option (List ℕ)) (line : List ℕ) (count : ℕ) : Type 0 where
   pub whole : WroteWhole a b c d line
   pub is_line : IsLine line

@@ -65,7 +65,7 @@ greatest = refl
 past_greatest : fault (plain_refusal 0x02 (unsigned_fault 0xFFFF_FFFF_FFFF_FFFF_FFFF_FFFF_FFFF_FFFF) false 20 (0x02 ∷ 0x12 ∷ 0x00 ∷ replicate 17 0xFF)) ≡ Some UnsupportedValue
 past_greatest = refl
 
--- ---- truth values and null
+-- ---- bools and null
 
 one : fault (plain_refusal 0x01 boolean_fault false 3 (0x01 ∷ 0x01 ∷ 0x01 ∷ [])) ≡ Some InvalidData
 one = refl

@@ -1,15 +1,15 @@
--- The contents that are truth values.
+-- The contents that are bools.
 use Rattle.std.proofs.Common.{◌≡◌, ℕ, Bool, true, false, ◌||◌, cond, List, [], ◌∷◌, ◌==◌, ◌⊎◌, inl, inr, refl, ap, None, Some, eqb-true}
 use Rattle.picky_der_core.specs.declared.error.Asn1DerError.TheVariants.{InvalidData}
 use Rattle.picky_der_core.specs.Encoding.{boolean_content}
 use Rattle.picky_der_core.specs.Refusal.{boolean_fault}
 
--- the content of a truth value is read
+-- the content of a bool is read
 pub boolean_fault-content : (b : Bool) → boolean_fault (boolean_content b) ≡ None
 boolean_fault-content true = refl
 boolean_fault-content false = refl
 
--- what is read is the content of a truth value
+-- what is read is the content of a bool
 pub content-boolean_fault : (bs : List ℕ) → boolean_fault bs ≡ None → (bs ≡ boolean_content false) ⊎ (bs ≡ boolean_content true)
 content-boolean_fault [] e = cc
 content-boolean_fault (b ∷ []) e = by_tests (b == 0x00) (b == 0xFF) refl refl e

@@ -7,7 +7,7 @@ use Rattle.picky_der_core.specs.Order.{arranged}
 
 -- ---- contents
 
--- a truth value (8.2, 11.1)
+-- a bool (8.2, 11.1)
 abbrev pub boolean_content : Bool → List ℕ
 boolean_content false = 0x00 ∷ []
 boolean_content true = 0xFF ∷ []

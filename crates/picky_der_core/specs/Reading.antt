@@ -10,7 +10,7 @@ use Rattle.picky_der_core.specs.Shape.{Shape, IsOf}
 pub data Place : Type 0 where
   -- with its own header
   whole : Place
-  -- directly under an implicit tag, whose end is so many bytes ahead
+  -- directly under an implicit tag, whose end is this many bytes ahead
   under_implicit : ℕ → Place
 
 -- what stands there of a tree

@@ -55,8 +55,8 @@ impl Asn1DerError {
     }
 }
 
-/// An early end of the input is `TruncatedData`, a sink that takes no more is `InvalidSink`, want of memory stays
-/// want of memory, and any other kind is `Other`.
+/// An early end of the input is `TruncatedData`, a sink that takes no more is `InvalidSink`, out of memory stays
+/// out of memory, and any other kind is `Other`.
 impl From<io::Error> for Asn1DerError {
     ghost from_gives = { λ e k. k ≡ kind_of (error_kind e) };
 
@@ -71,7 +71,7 @@ impl From<io::Error> for Asn1DerError {
     }
 }
 
-/// Want of memory.
+/// Out of memory.
 impl From<AllocError> for Asn1DerError {
     ghost use Rattle.picky_der_core.specs.declared.error.Asn1DerError.TheVariants.{OutOfMemory};
 

@@ -17,7 +17,7 @@ pub trait Deserialize: Serialize + PartialEq + Drop + Sized {
     /// Reads a value, and takes just the bytes of its encoding. Directly under an implicit tag these are its content's.
     ///
     /// An implementation passes on the errors of the calls that it makes, and has the deserializer fail with its own.
-    /// An error that neither the reader nor want of memory gave means that no value of the type stands there. But for
+    /// An error that is no fault of the reader and not `OutOfMemory` means that no value of the type stands there. But for
     /// `TruncatedData` it is final: no bytes behind those that were drawn could help.
     fn deserialize<R: ReadExt>(de: &mut Deserializer<R>) -> Result<Self>
         ensures ok { IfOk result (λ value. Reads shape de.old de.new (Self.meaning value)) }

@@ -51,7 +51,7 @@ impl<'a> Deserializer<&'a [u8]> {
 }
 
 impl<R: ReadExt> Deserializer<R> {
-    /// Reads from a reader. At most so many bytes are drawn in all.
+    /// Reads from a reader. At most `max_len` bytes are drawn in all.
     pub fn new_from_reader(alloc: Global, reader: R, max_len: usize) -> Deserializer<R>
         ensures { result ≡ fresh (R.remaining reader) max_len (R.faults reader) (R.through reader) }
     {

@@ -27,7 +27,7 @@ impl<'a, R: ReadExt> Sequence<'a, R> {
     ghost use Rattle.picky_der_input.specs.LookAhead.{Identifies, RefusesIdentifier};
     ghost use Rattle.picky_der_de.specs.Members.{ReadsMember, RefusesMember, HasNoMore, ReadsAll, RefusesAll};
 
-    /// Reads so many bytes from here as members, without a header. Directly under an implicit tag that tag's special
+    /// Reads the next `len` bytes as members, without a header. Directly under an implicit tag that tag's special
     /// reading is given up, and its end is the one around this. No order of members is tested.
     ///
     /// Where these bytes reach past the innermost end, the deserializer has failed: with `InvalidData` at a hard end,

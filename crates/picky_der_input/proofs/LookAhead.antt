@@ -24,7 +24,7 @@ no_want_at_end Limit h = cc
 no_want_at_end Soft h = cc
 no_want_at_end Hard h = cc
 
--- a byte that is missing is no want of memory
+-- a byte that is missing isn't out of memory
 pub missing_no_want : {s : State} {e : Asn1DerError} → IsMissing s e → e ≢ OutOfMemory
 missing_no_want {s} (end_is_here z is) h = no_want_at_end s.end (sym is ∙ h)
 missing_no_want (input_ended l z is) h = let q : TruncatedData ≡ OutOfMemory = sym is ∙ h in cc

@@ -23,7 +23,7 @@ pub record Outer : Type 0 where
 abbrev pub innermost : State → Outer
 innermost s = record { place = s.taken + s.room; kind = s.end; last = place_of s.sets }
 
--- an end of this kind was opened so many bytes from here
+-- an end of this kind was opened this many bytes from here
 abbrev pub narrowed : State → ℕ → End → State
 narrowed s n kind = record s { room = n; end = kind; sets = entered None s.sets }
 
@@ -62,7 +62,7 @@ pub record RefusesList (tag : ℕ) (old new : State) (e : Asn1DerError) : Type 0
   pub begin : RefusesBegin tag old new e
   pub memory : TakesNoMemory old new e
 
--- A soft end was opened so many bytes from here, or it would have been past the innermost end, and then the deserializer has
+-- A soft end was opened this many bytes from here, or it would have been past the innermost end, and then the deserializer has
 -- failed. One that had failed is as it was. No order of members is tested before that end.
 pub record OpensLazily (len : ℕ) (old new : State) (outer : Outer) : Type 0 where
   pub again : (f : Failure) → old.failed ≡ Some f → new ≡ old

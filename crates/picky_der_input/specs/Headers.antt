@@ -59,7 +59,7 @@ pub record RefusesBegin (tag : ℕ) (old new : State) (e : Asn1DerError) : Type 
   pub header : IsJudged old new e → (old.direct ≡ None) × RefusesHeader tag old new e
   pub bounded : old.failed ≡ None → old.room < 2 ^ 64
 
--- a number was read from so many bytes
+-- a number was read from this many bytes
 pub record ReadsDigits (old new : State) (count n : ℕ) : Type 0 where
   pub digits : List ℕ
   pub takes : TakesBytes old new count digits

@@ -19,7 +19,7 @@ pub record State : Type 0 where
   pub peeked : Option ℕ
   -- how many bytes were taken, a peeked one not counted
   pub taken : ℕ
-  -- so many bytes may be drawn in all
+  -- this many bytes may be drawn in all
   pub limit : ℕ
   -- how far ahead the innermost end is, and what it is
   pub room : ℕ

@@ -124,7 +124,7 @@ pub record Fails (old new : State) (e : Asn1DerError) : Type 0 where
   pub there : old.failed ≡ None → HasDrawn old.input old.taken (drawn new)
   pub through : new.through ≡ old.through
 
--- neither a fault nor want of memory
+-- neither a fault nor out of memory
 pub record IsJudged (old new : State) (e : Asn1DerError) : Type 0 where
   pub had_not_failed : old.failed ≡ None
   pub faults : new.faults ≡ old.faults

@@ -1,4 +1,4 @@
-//! Truth values (X.690, 8.2 and 11.1).
+//! Bools (X.690, 8.2 and 11.1).
 ghost use Rattle.std.specs.Prelude.{◌≡◌, None, Some, IfOk, OnOk, IfErr};
 ghost use Rattle.picky_der_core.specs.Encoding.{boolean_content};
 ghost use Rattle.picky_der_core.specs.Refusal.{boolean_fault};
@@ -6,11 +6,11 @@ ghost use Rattle.picky_der_input.specs.Steps.{IsOfContent};
 
 use picky_der_core::{Asn1DerError, Result};
 
-/// Reads contents of truth values.
+/// Reads contents of bools.
 pub struct Boolean;
 
 impl Boolean {
-    /// The truth value with this content: `00` is false, `FF` true. `TruncatedData` where it is empty, and
+    /// The bool with this content: `00` is false, `FF` true. `TruncatedData` where it is empty, and
     /// `InvalidData` for more than one byte and for any other byte.
     pub fn deserialize(content: &[u8]) -> Result<bool>
         ensures ok { IfOk result (λ value. content.now ≡ boolean_content value) }

@@ -25,7 +25,7 @@ use picky_der_core::{Asn1DerError, Failure, Result};
 use std::alloc::Global;
 use std::marker::Model;
 
-// How many bytes of a number or truth value are kept: one more than the longest content of a number has.
+// How many bytes of a number or bool are kept: one more than the longest content of a number has.
 const KEPT: usize = 18;
 
 /// What a reader has left, up to the innermost end. After an error it has failed: each later call answers an error of its kind
@@ -75,7 +75,7 @@ impl<R: ReadExt> Model for Input<R> {
 }
 
 impl<R: ReadExt> Input<R> {
-    /// Reads from a reader. At most so many bytes are drawn in all.
+    /// Reads from a reader. At most `max_len` bytes are drawn in all.
     pub fn new(alloc: Global, reader: R, max_len: usize) -> Input<R>
         ensures { result ≡ fresh (R.remaining reader) max_len (R.faults reader) (R.through reader) }
     {

@@ -110,7 +110,7 @@ module _ {W : Type 0} (g : Ghosts W) where
   refused_level t None bs old new (Err e) is begins fault = tt
   refused_level t (Some l) bs old new (Err e) is begins fault = refused_by (t l) bs old new (Err e) is.0 is.1 begins fault
 
-  -- nothing was written, for want of memory
+  -- nothing was written: out of memory
   pub refused_memory : (t : Level → Tree) (p : Option Level) (sink : W) → IfSome p (λ l. Refused g (t l) sink OutOfMemory sink)
   refused_memory t None sink = tt
   refused_memory t (Some l) sink = record { begins = beginning_none (g.told sink) (der (t l)); excuse = no_memory refl }

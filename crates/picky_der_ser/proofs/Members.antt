@@ -61,7 +61,7 @@ module _ {W : Type 0} (g : Ghosts W) where
   excused ls u sink e (no_room m) part = rw m (refused_memory g ls u sink)
   excused ls u sink e (no_way m n) part = rw m (refused_unwritable g ls u sink (λ w. n (part w)))
 
-  -- nothing was written, for want of memory or a part that can't be written
+  -- nothing was written: out of memory, or a part that can't be written
   pub refused_part : {Part : Type 0} (u : Tree) (old new : State W) (e : Asn1DerError) → (IsWritable (under old.around u) → Part) → new.failed ≡ Some (failure_of e) → new.sink ≡ old.sink
       → IfSome old.failed (λ f. failure_of e ≡ f) → IfNone old.failed (MemoryExcuse Part e) → Fails g u old e new
   refused_part {Part} u old new e part failed same again first = record { failed = failed; again = earlier old.failed again; first = own old.failed first }

@@ -44,7 +44,7 @@ module _ {W : Type 0} (g : Ghosts W) where
   writes_inside t old new n f some h s a b w count =
       record { had_not_failed = f; writable = w; count = count; adds = adds_inside old.inside new.inside old.sink new.sink _ some h s; closed = a; not_failed = b; no_fault = ap g.faults s }
 
-  -- anywhere, for want of memory
+  -- anywhere: out of memory
   pub refused_memory : (inside : List Level) (t : Tree) (sink : W) → RefusedIn g inside t sink OutOfMemory sink
   refused_memory [] t sink = record { begins = beginning_none (g.told sink) (der t); excuse = no_memory refl }
   refused_memory (l ∷ ls) t sink = (no_room refl, refl)

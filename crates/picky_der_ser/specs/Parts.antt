@@ -23,6 +23,6 @@ abbrev pub last_seam : ℕ → List ℕ → ℕ
 last_seam start [] = start
 last_seam start (s ∷ ss) = last_seam s ss
 
--- The seams once a member begins behind so many bytes of other members. Nothing is kept of any level but a set.
+-- The seams once a member begins behind `held` bytes of other members. Nothing is kept of any level but a set.
 abbrev pub next_seams : Header → List ℕ → ℕ → List ℕ
 next_seams header seams held = if is_set header && nat_lt 0 held then seams ++ (held ∷ []) else seams

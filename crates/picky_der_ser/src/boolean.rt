@@ -1,4 +1,4 @@
-//! Truth values (X.690, 8.2 and 11.1).
+//! Bools (X.690, 8.2 and 11.1).
 ghost use Rattle.std.specs.Prelude.{◌≡◌};
 ghost use Rattle.picky_der_core.specs.Tree.{Tree};
 ghost use Rattle.picky_der_core.specs.Encoding.{boolean_content};
@@ -9,11 +9,11 @@ use picky_der_core::Result;
 use picky_der_core::asn1::Tag;
 use picky_der_core::misc::WriteExt;
 
-/// Writes truth values.
+/// Writes bools.
 pub struct Boolean;
 
 impl Boolean {
-    /// Writes a truth value, as `Serializer::serialize_bool` does.
+    /// Writes a bool, as `Serializer::serialize_bool` does.
     pub fn serialize<W: WriteExt>(value: bool, ser: &mut Serializer<W>) -> Result<usize>
         ensures { WritesPlain W.WriteExt.own (Tree.boolean value) ser.old result ser.new }
     {

@@ -30,7 +30,7 @@ fn reverse_from(out: &mut Vec<u8>, start: usize)
     out[start..].reverse();
 }
 
-// Adds what the wrapper puts in front of so many bytes, the last byte first.
+// Adds what the wrapper puts in front of `len` bytes, the last byte first.
 fn push_opening(out: &mut Vec<u8>, wrapper: Wrapper, len: usize) -> Result<(), AllocError>
     requires number { HasTagNumber wrapper }
     requires fits { len + 1 < 2 ^ 64 }
@@ -56,7 +56,7 @@ fn push_opening(out: &mut Vec<u8>, wrapper: Wrapper, len: usize) -> Result<(), A
     }
 }
 
-// Adds the header of so many bytes, the last byte first.
+// Adds the header of a content of `len` bytes, the last byte first.
 fn push_own_header(out: &mut Vec<u8>, header: Header, len: usize) -> Result<(), AllocError>
     requires { HasNumber header }
     ensures ok { OnOk result (out.new.items ≡ out.old.items ++ reverse (own_header header len)) }
@@ -97,7 +97,7 @@ fn innermost(around: &[Wrapper], header: &Header) -> Option<Header>
     }
 }
 
-// Adds all that stands in front of a content of so many bytes.
+// Adds all that stands in front of a content of `len` bytes.
 pub(crate) fn push_headers(
     out: &mut Vec<u8>,
     around: &[Wrapper],

@@ -199,7 +199,7 @@ impl Levels {
         Ok(self.scratch.len() - at)
     }
 
-    // Adds the headers of a content of so many bytes to the level that was opened last.
+    // Adds the headers of a content of `len` bytes to the level that was opened last.
     pub(crate) fn add_headers(&mut self, len: usize) -> Result<(), AllocError>
         requires fits { len < 2 ^ 63 }
         ensures numbers { IfSome self.old.pending (λ p. HaveTagNumbers p.around × HasNumber p.header) }

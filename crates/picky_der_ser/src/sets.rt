@@ -7,7 +7,7 @@ ghost use Rattle.picky_der_ser.specs.Parts.{parts, AreSeams, last_seam, next_sea
 use crate::Header;
 use std::alloc::{AllocError, Global};
 
-// Keeps where the next member of a set begins, behind so many bytes of other members. Without room for it nothing changes.
+// Keeps where the next member of a set begins, behind `held` bytes of other members. Without room for it nothing changes.
 pub(crate) fn begin_member(
     seams: &mut Vec<usize>,
     header: Header,

@@ -36,7 +36,7 @@ impl Tag {
     /// The greatest number. One more announces the long form.
     pub const MAX_NUMBER: u8 = 30;
 
-    /// A truth value (X.690, 8.2).
+    /// A bool (X.690, 8.2).
     pub const BOOLEAN: Tag = Tag(0x01);
 
     /// A number (8.3).

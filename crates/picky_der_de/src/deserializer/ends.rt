@@ -22,7 +22,7 @@ impl<R: ReadExt> Deserializer<R> {
         self.input.open_list(tag)
     }
 
-    // Opens a soft end so many bytes from here. Where that is past the innermost end, it has failed.
+    // Opens a soft end `len` bytes from here. Where that is past the innermost end, it has failed.
     pub(crate) fn open_lazily(&mut self, len: usize) -> Outer
         ensures opened { OpensLazily len self.old self.new result }
         ensures bounded { result.place ≤ self.new.limit }

@@ -1,4 +1,4 @@
-//! Truth values and numbers, as they are read.
+//! Bools and numbers, as they are read.
 ghost use Rattle.std.specs.Prelude.{◌^◌, ◌-◌, IfOk, IfErr};
 ghost use Rattle.picky_der_core.specs.Tree.{Tree};
 ghost use Rattle.picky_der_core.specs.Shape.{Shape};

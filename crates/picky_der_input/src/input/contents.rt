@@ -8,7 +8,7 @@ use super::Input;
 use picky_der_core::misc::ReadExt;
 use picky_der_core::{Asn1DerError, Failure, Result};
 
-// At most so many bytes are drawn at a time, whatever length a content is said to have.
+// At most this many bytes are drawn at a time, whatever length a content is said to have.
 const PIECE: usize = 512;
 
 impl<R: ReadExt> Input<R> {
@@ -43,7 +43,7 @@ impl<R: ReadExt> Input<R> {
         Ok(())
     }
 
-    // Takes a piece of the content, where so many bytes are left of it, and puts it behind what the vector holds.
+    // Takes a piece of the content, where `left` bytes are left of it, and puts it behind what the vector holds.
     fn append_piece(
         &mut self,
         bytes: &mut Vec<u8>,

@@ -30,7 +30,7 @@ impl Model for Outer {
 }
 
 impl<R: ReadExt> Input<R> {
-    // Opens an end so many bytes from here, and answers the one that was the innermost.
+    // Opens an end `len` bytes from here, and answers the one that was the innermost.
     pub(crate) fn open_end(&mut self, len: usize, kind: End) -> Outer
         requires { len ≤ self.old.room }
         ensures opened { self.new ≡ narrowed self.old len kind }
@@ -61,7 +61,7 @@ impl<R: ReadExt> Input<R> {
         Ok(outer)
     }
 
-    /// Opens a soft end so many bytes from here, before which no order is tested. Where that is past the innermost end, it
+    /// Opens a soft end `len` bytes from here, before which no order is tested. Where that is past the innermost end, it
     /// has failed.
     pub fn open_lazily(&mut self, len: usize) -> Outer
         ensures opened { OpensLazily len self.old self.new result }

@@ -1,4 +1,4 @@
-//! Truth values, numbers and nulls: a header, a content, and its judge.
+//! Bools, numbers and nulls: a header, a content, and its judge.
 ghost use Rattle.std.specs.Prelude.{◌^◌, ◌-◌, IfOk, IfErr, OnOk};
 ghost use Rattle.picky_der_input.specs.Steps.{TakesNoMemory};
 ghost use Rattle.picky_der_input.specs.Reading.{ReadsBoolean, RefusesBoolean, ReadsUnsigned, RefusesUnsigned, ReadsNull, RefusesNull};
@@ -10,7 +10,7 @@ use picky_der_core::misc::ReadExt;
 use picky_der_core::{Result, UInt};
 
 impl<R: ReadExt> Input<R> {
-    /// Reads a truth value (X.690, 8.2 and 11.1).
+    /// Reads a bool (X.690, 8.2 and 11.1).
     ///
     /// `InvalidData` for another tag and for a content other than one byte `00` or `FF`; `TruncatedData` for an empty
     /// content; the refusals of a header and of an end; else the reader's fault.

@@ -1,4 +1,4 @@
-//! What truth values and numbers mean.
+//! What bools and numbers mean.
 ghost use Rattle.picky_der_core.specs.Tree.{Tree};
 
 use crate::{Serialize, Serializer};

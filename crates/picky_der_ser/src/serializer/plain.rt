@@ -73,7 +73,7 @@ impl<W: WriteExt> Serializer<W> {
         self.settle(outcome)
     }
 
-    /// Writes a truth value. Outside wrappers, sequences and application tags no memory is taken, and only the sink
+    /// Writes a bool. Outside wrappers, sequences and application tags no memory is taken, and only the sink
     /// can refuse; the same holds for the other calls of plain values.
     pub fn serialize_bool(&mut self, value: bool) -> Result<usize>
         ensures { WritesPlain W.WriteExt.own (Tree.boolean value) self.old result self.new }

@@ -2,7 +2,7 @@ use Rattle.std.proofs.Common.{ap, ◌∙◌}
 use Rattle.picky_der_core.specs.Error.{kind_of}
 use Rattle.der_tool_lib.proofs.answer.length_in_hex.Goals as goal
 
--- the sink's only fault is want of memory
+-- the sink's only fault is out of memory
 pub returns-in-Err-clause-err : goal.returns-in-Err-clause-err
 unfolding kind_of
 returns-in-Err-clause-err c = let fault = c.in-Err.ensures.fault in fault.is ∙ ap kind_of fault.answered
