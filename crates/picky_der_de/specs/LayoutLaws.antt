@@ -1,0 +1,82 @@
+-- What members owe of which some may be missing: the first byte tells them.
+use Rattle.std.proofs.Common.{◌≡◌, ℕ, Bool, true, ◌&&◌, List, ◌∷◌, ◌++◌, Option, None, Some, inl, inr, sym, ◌∙◌, subst}
+use Rattle.std.specs.Prelude.{IsTrue}
+use Rattle.std.specs.Option.{option_eq}
+use Rattle.picky_der_core.specs.Tree.{Tree, Trees}
+use Rattle.picky_der_core.specs.Readable.{IsReadable, AreReadable}
+use Rattle.picky_der_core.specs.Shape.{Shape, Layout, IsOf, AreMembersOf, AreMembersTold, FirstAndRest, FirstOrNone, firsts, next_firsts, has, are_apart}
+use Rattle.picky_der_core.specs.FirstLaws.{BeginsIn, begins_in, begins_next, apart_has, has-append_left, has-append_right}
+use Rattle.picky_der_ser.specs.Meaning.{maybe_more}
+use Rattle.picky_der_de.specs.Firsts.{IsBegunBy, BytesIn, bytes_in, begins_in_own}
+use Rattle.picky_der_de.specs.KnownLaws.{IsKnownByTree, both, first_member, other_members}
+use Rattle.picky_der_de.specs.Layouts.{AreBegunBy, AreKnownByLayout}
+
+begun : (fs : List ℕ) (t : Tree) → IsBegunBy fs t → IsReadable t → BytesIn t → BeginsIn fs t
+begun fs t f r k =
+    let b = begins_in_own t r k in
+    record { first = b.first; others = b.others; is = b.is; listed = f b.first b.listed }
+
+begins_apart : (fs gs : List ℕ) (t : Tree) → are_apart fs gs ≡ true → BeginsIn fs t → BeginsIn gs t → ⊥
+begins_apart fs gs t a b c =
+    let same : b.first ∷ b.others ≡ c.first ∷ c.others = sym b.is ∙ c.is in
+    let first : b.first ≡ c.first = cc in
+    apart_has c.first fs gs a (subst (λ x. has fs x ≡ true) first b.listed) c.listed
+
+-- the first member that is there is made of bytes, where it is a raw part
+bytes_next : (l : Layout) (t : Tree) (ts : Trees) → AreMembersOf l (Trees.more t ts) → BytesIn t
+bytes_next Layout.empty t ts p = absurd p
+bytes_next (Layout.required s l) t ts p = bytes_in s t p.0
+bytes_next (Layout.maybe s l) t ts (inl p) = bytes_in s t p.0
+bytes_next (Layout.maybe s l) t ts (inr q) = bytes_next l t ts q
+
+module _ (s : Shape) (l : Layout) (apart : are_apart (firsts s) (next_firsts l) ≡ true) where
+  -- a member that begins as the one that may be missing is that one
+  pub is_there : (t : Tree) (ts : Trees) → IsBegunBy (firsts s) t → IsReadable t → FirstOrNone (IsOf s) (AreMembersOf l) (Trees.more t ts) → IsOf s t × AreMembersOf l ts
+  is_there t ts f r (inl p) = p
+  is_there t ts f r (inr q) = absurd (begins_apart (firsts s) (next_firsts l) t apart (begun (firsts s) t f r (bytes_next l t ts q)) (begins_next l t ts q r))
+
+  not_first : (ts : Trees) → AreBegunBy (next_firsts l) ts → AreReadable ts → FirstAndRest (IsOf s) (AreMembersOf l) ts → ⊥
+  not_first Trees.none f r p = absurd p
+  not_first (Trees.more t ts) f r p = begins_apart (firsts s) (next_firsts l) t apart (begins_in s t p.0 r.0) (begun (next_firsts l) t f r.0 (bytes_in s t p.0))
+
+  -- members that begin as those behind it are these
+  pub is_missing : (ts : Trees) → AreBegunBy (next_firsts l) ts → AreReadable ts → FirstOrNone (IsOf s) (AreMembersOf l) ts → AreMembersOf l ts
+  is_missing ts f r (inl p) = absurd (not_first ts f r p)
+  is_missing ts f r (inr q) = q
+
+-- ---- with which bytes members begin
+
+wider : (fs gs : List ℕ) (ts : Trees) → AreBegunBy gs ts → AreBegunBy (fs ++ gs) ts
+wider fs gs Trees.none f = tt
+wider fs gs (Trees.more t ts) f = λ b h. has-append_right b fs gs (f b h)
+
+pub maybe_begun : {V : Type 0} (meaning : V → Tree) (s : Shape) (l : Layout) → ((v : V) → IsBegunBy (firsts s) (meaning v)) → (o : Option V) (ts : Trees) → AreBegunBy (next_firsts l) ts → AreBegunBy (firsts s ++ next_firsts l) (maybe_more meaning o ts)
+maybe_begun meaning s l f None ts g = wider (firsts s) (next_firsts l) ts g
+maybe_begun meaning s l f (Some v) ts g = λ b h. has-append_left b (firsts s) (next_firsts l) (f v b h)
+
+-- ---- members are known by their trees
+
+module _ {V W : Type 0} (meaning : V → Tree) (s : Shape) (eq : V → V → Bool) (members : W → Trees) (l : Layout) (others : W → W → Bool) (known : IsKnownByTree meaning s eq) (known_others : AreKnownByLayout members l others) where
+  pub required_known : AreMembersTold l → (v x : V) (w y : W) → AreMembersOf (Layout.required s l) (Trees.more (meaning v) (members w)) → AreMembersOf (Layout.required s l) (Trees.more (meaning x) (members y)) → AreReadable (Trees.more (meaning v) (members w))
+      → Trees.more (meaning v) (members w) ≡ Trees.more (meaning x) (members y) → (eq v x && others w y) ≡ true
+  required_known told v x w y p q r e = both (known v x p.0 q.0 r.0 (first_member e)) (known_others told w y p.1 q.1 r.1 (other_members e))
+
+  module _ (begins : (v : V) → IsBegunBy (firsts s) (meaning v)) (begin : (w : W) → AreBegunBy (next_firsts l) (members w)) (told : AreMembersTold (Layout.maybe s l)) where
+    -- one that is there isn't what stands where it is missing
+    other_place : (v : V) (w y : W) → AreMembersOf (Layout.maybe s l) (Trees.more (meaning v) (members w)) → AreMembersOf (Layout.maybe s l) (members y) → AreReadable (Trees.more (meaning v) (members w)) → Trees.more (meaning v) (members w) ≡ members y → ⊥
+    other_place v w y p q r e =
+        let there = is_there s l told.0 (meaning v) (members w) (begins v) r.0 p in
+        let behind = is_missing s l told.0 (members y) (begin y) (subst AreReadable e r) q in
+        begins_apart (firsts s) (next_firsts l) (meaning v) told.0 (begins_in s (meaning v) there.0 r.0) (begins_next l (meaning v) (members w) (subst (AreMembersOf l) (sym e) behind) r.0)
+
+    pub maybe_known : (v x : Option V) (w y : W) → AreMembersOf (Layout.maybe s l) (maybe_more meaning v (members w)) → AreMembersOf (Layout.maybe s l) (maybe_more meaning x (members y)) → AreReadable (maybe_more meaning v (members w))
+        → maybe_more meaning v (members w) ≡ maybe_more meaning x (members y) → (option_eq eq v x && others w y) ≡ true
+    maybe_known None None w y p q r e =
+        known_others told.1 w y (is_missing s l told.0 (members w) (begin w) r p) (is_missing s l told.0 (members y) (begin y) (subst AreReadable e r) q) r e
+    maybe_known None (Some x) w y p q r e = absurd (other_place x y w q p (subst AreReadable e r) (sym e))
+    maybe_known (Some v) None w y p q r e = absurd (other_place v w y p q r e)
+    maybe_known (Some v) (Some x) w y p q r e =
+        let z = subst AreReadable e r in
+        let a = is_there s l told.0 (meaning v) (members w) (begins v) r.0 p in
+        let b = is_there s l told.0 (meaning x) (members y) (begins x) z.0 q in
+        both (known v x a.0 b.0 r.0 (first_member e)) (known_others told.1 w y a.1 b.1 r.1 (other_members e))
