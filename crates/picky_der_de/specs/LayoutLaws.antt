@@ -56,27 +56,30 @@ maybe_begun meaning s l f (Some v) ts g = λ b h. has-append_left b (firsts s) (
 
 -- ---- members are known by their trees
 
+module _ {V : Type 0} (meaning : V → Tree) (s : Shape) (l : Layout) (begins : (v : V) → IsBegunBy (firsts s) (meaning v)) (told : AreMembersTold (Layout.maybe s l)) where
+  -- one that is there isn't what stands where it is missing
+  other_place : (v : V) (ts us : Trees) → AreBegunBy (next_firsts l) us → AreMembersOf (Layout.maybe s l) (Trees.more (meaning v) ts) → AreMembersOf (Layout.maybe s l) us → AreReadable (Trees.more (meaning v) ts) → Trees.more (meaning v) ts ≡ us → ⊥
+  other_place v ts us f p q r e =
+      let there = is_there s l told.0 (meaning v) ts (begins v) r.0 p in
+      let behind = is_missing s l told.0 us f (subst AreReadable e r) q in
+      begins_apart (firsts s) (next_firsts l) (meaning v) told.0 (begins_in s (meaning v) there.0 r.0) (begins_next l (meaning v) ts (subst (AreMembersOf l) (sym e) behind) r.0)
+
+  -- the first may be missing, and those behind it are told by `others`
+  pub maybe_told : (eq : V → V → Bool) (others : Bool) → IsKnownByTree meaning s eq → (ts us : Trees) → AreBegunBy (next_firsts l) ts → AreBegunBy (next_firsts l) us → (AreMembersOf l ts → AreMembersOf l us → AreReadable ts → ts ≡ us → others ≡ true)
+      → (x y : Option V) → AreMembersOf (Layout.maybe s l) (maybe_more meaning x ts) → AreMembersOf (Layout.maybe s l) (maybe_more meaning y us) → AreReadable (maybe_more meaning x ts) → maybe_more meaning x ts ≡ maybe_more meaning y us → (option_eq eq x y && others) ≡ true
+  maybe_told eq others known ts us f g k None None p q r e = k (is_missing s l told.0 ts f r p) (is_missing s l told.0 us g (subst AreReadable e r) q) r e
+  maybe_told eq others known ts us f g k None (Some y) p q r e = absurd (other_place y us ts f q p (subst AreReadable e r) (sym e))
+  maybe_told eq others known ts us f g k (Some x) None p q r e = absurd (other_place x ts us g p q r e)
+  maybe_told eq others known ts us f g k (Some x) (Some y) p q r e =
+      let a = is_there s l told.0 (meaning x) ts (begins x) r.0 p in
+      let b = is_there s l told.0 (meaning y) us (begins y) (subst AreReadable e r).0 q in
+      both (known x y a.0 b.0 r.0 (first_member e)) (k a.1 b.1 r.1 (other_members e))
+
 module _ {V W : Type 0} (meaning : V → Tree) (s : Shape) (eq : V → V → Bool) (members : W → Trees) (l : Layout) (others : W → W → Bool) (known : IsKnownByTree meaning s eq) (known_others : AreKnownByLayout members l others) where
   pub required_known : AreMembersTold l → (v x : V) (w y : W) → AreMembersOf (Layout.required s l) (Trees.more (meaning v) (members w)) → AreMembersOf (Layout.required s l) (Trees.more (meaning x) (members y)) → AreReadable (Trees.more (meaning v) (members w))
       → Trees.more (meaning v) (members w) ≡ Trees.more (meaning x) (members y) → (eq v x && others w y) ≡ true
   required_known told v x w y p q r e = both (known v x p.0 q.0 r.0 (first_member e)) (known_others told w y p.1 q.1 r.1 (other_members e))
 
-  module _ (begins : (v : V) → IsBegunBy (firsts s) (meaning v)) (begin : (w : W) → AreBegunBy (next_firsts l) (members w)) (told : AreMembersTold (Layout.maybe s l)) where
-    -- one that is there isn't what stands where it is missing
-    other_place : (v : V) (w y : W) → AreMembersOf (Layout.maybe s l) (Trees.more (meaning v) (members w)) → AreMembersOf (Layout.maybe s l) (members y) → AreReadable (Trees.more (meaning v) (members w)) → Trees.more (meaning v) (members w) ≡ members y → ⊥
-    other_place v w y p q r e =
-        let there = is_there s l told.0 (meaning v) (members w) (begins v) r.0 p in
-        let behind = is_missing s l told.0 (members y) (begin y) (subst AreReadable e r) q in
-        begins_apart (firsts s) (next_firsts l) (meaning v) told.0 (begins_in s (meaning v) there.0 r.0) (begins_next l (meaning v) (members w) (subst (AreMembersOf l) (sym e) behind) r.0)
-
-    pub maybe_known : (v x : Option V) (w y : W) → AreMembersOf (Layout.maybe s l) (maybe_more meaning v (members w)) → AreMembersOf (Layout.maybe s l) (maybe_more meaning x (members y)) → AreReadable (maybe_more meaning v (members w))
-        → maybe_more meaning v (members w) ≡ maybe_more meaning x (members y) → (option_eq eq v x && others w y) ≡ true
-    maybe_known None None w y p q r e =
-        known_others told.1 w y (is_missing s l told.0 (members w) (begin w) r p) (is_missing s l told.0 (members y) (begin y) (subst AreReadable e r) q) r e
-    maybe_known None (Some x) w y p q r e = absurd (other_place x y w q p (subst AreReadable e r) (sym e))
-    maybe_known (Some v) None w y p q r e = absurd (other_place v w y p q r e)
-    maybe_known (Some v) (Some x) w y p q r e =
-        let z = subst AreReadable e r in
-        let a = is_there s l told.0 (meaning v) (members w) (begins v) r.0 p in
-        let b = is_there s l told.0 (meaning x) (members y) (begins x) z.0 q in
-        both (known v x a.0 b.0 r.0 (first_member e)) (known_others told.1 w y a.1 b.1 r.1 (other_members e))
+  pub maybe_known : ((v : V) → IsBegunBy (firsts s) (meaning v)) → ((w : W) → AreBegunBy (next_firsts l) (members w)) → AreMembersTold (Layout.maybe s l) → (v x : Option V) (w y : W) → AreMembersOf (Layout.maybe s l) (maybe_more meaning v (members w))
+      → AreMembersOf (Layout.maybe s l) (maybe_more meaning x (members y)) → AreReadable (maybe_more meaning v (members w)) → maybe_more meaning v (members w) ≡ maybe_more meaning x (members y) → (option_eq eq v x && others w y) ≡ true
+  maybe_known begins begin told v x w y = maybe_told meaning s l begins told eq (others w y) known (members w) (members y) (begin w) (begin y) (known_others told.1 w y) v x
