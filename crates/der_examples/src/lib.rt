@@ -2,6 +2,7 @@
 #![tactic(auto)]
 
 pub mod certificate;
+mod extension;
 mod first_steps;
 mod general_name;
 mod gust;
@@ -20,6 +21,7 @@ mod track;
 mod version;
 
 pub use certificate::Certificate;
+pub use extension::Extension;
 pub use first_steps::{number, octets, small_number, text};
 pub use general_name::{GeneralName, Name};
 pub use gust::Gust;

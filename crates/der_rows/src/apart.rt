@@ -1,23 +1,35 @@
 //! Values of one type, of which no encoding begins another.
 
 use picky_asn1_der::misc::ReadExt;
-use picky_asn1_der::{Deserialize, Deserializer, to_vec};
+use picky_asn1_der::{Asn1DerError, Deserialize, Deserializer, to_vec};
 use std::alloc::{AllocError, Global};
 
 /// How many values stand in the bytes, one behind the other, where the encoding of none begins with that of another.
 pub(crate) fn answer<T: Deserialize>(alloc: Global, bytes: &[u8]) -> Result<String, AllocError> {
+    match encodings::<T>(alloc, bytes) {
+        Ok(encodings) => compared(alloc, &encodings),
+        Err(error) => format!(in alloc; "refused {error}"),
+    }
+}
+
+// What the values are written as.
+fn encodings<T: Deserialize>(alloc: Global, bytes: &[u8]) -> picky_asn1_der::Result<Vec<Vec<u8>>> {
     let mut encodings = Vec::new(alloc);
     let mut de = Deserializer::new_from_bytes(alloc, bytes);
     for _ in 0..bytes.len() {
         if de.taken() == bytes.len() {
             break;
         }
-        match next_encoding::<T, _>(alloc, &mut de) {
-            Ok(encoding) => encodings.push(encoding)?,
-            Err(error) => return format!(in alloc; "refused {error}"),
+        let encoding = next_encoding::<T, _>(alloc, &mut de)?;
+        if encodings.push(encoding).is_err() {
+            return Err(Asn1DerError::OutOfMemory);
         }
     }
-    match clash(&encodings) {
+    Ok(encodings)
+}
+
+fn compared(alloc: Global, encodings: &[Vec<u8>]) -> Result<String, AllocError> {
+    match clash(encodings) {
         Some((shorter, longer)) => format!(in alloc; "{longer} begins with {shorter}"),
         None => {
             let count = encodings.len();

@@ -27,11 +27,32 @@ pub(crate) fn copy(alloc: Global, name: &str, bytes: &[u8]) -> Result<(), Stop> 
         "ByteBuf" => copy_as!(ByteBuf, alloc, bytes),
         "TaggedBytes<0x9E>" => copy_as!(TaggedBytes<0x9E>, alloc, bytes),
         "Asn1RawDer" => copy_as!(Asn1RawDer, alloc, bytes),
+        _ => copy_list(alloc, name, bytes),
+    }
+}
+
+// The same of a list.
+fn copy_list(alloc: Global, name: &str, bytes: &[u8]) -> Result<(), Stop> {
+    match name {
         "Asn1SequenceOf<ByteBuf>" => copy_as!(Asn1SequenceOf<ByteBuf>, alloc, bytes),
         "Asn1SetOf<ByteBuf>" => copy_as!(Asn1SetOf<ByteBuf>, alloc, bytes),
+        _ => copy_tagged(alloc, name, bytes),
+    }
+}
+
+// Of a value under a tag.
+fn copy_tagged(alloc: Global, name: &str, bytes: &[u8]) -> Result<(), Stop> {
+    match name {
         "ExplicitContextTag0<ByteBuf>" => copy_as!(ExplicitContextTag0<ByteBuf>, alloc, bytes),
         "ImplicitContextTag1<ByteBuf>" => copy_as!(ImplicitContextTag1<ByteBuf>, alloc, bytes),
         "ApplicationTag<ByteBuf, 10>" => copy_as!(ApplicationTag<ByteBuf, 10>, alloc, bytes),
+        _ => copy_contained(alloc, name, bytes),
+    }
+}
+
+// Of one in a container.
+fn copy_contained(alloc: Global, name: &str, bytes: &[u8]) -> Result<(), Stop> {
+    match name {
         "OctetStringAsn1Container<ByteBuf>" => {
             copy_as!(OctetStringAsn1Container<ByteBuf>, alloc, bytes)
         }

@@ -249,22 +249,29 @@ fn read<T: Deserialize>(
     bytes: &[u8],
 ) -> (picky_asn1_der::Result<T>, usize) {
     match source {
-        Source::Slice => {
-            let mut de = Deserializer::new_from_bytes(alloc, bytes);
-            let answer = T::deserialize(&mut de);
-            let used = if answer.is_ok() {
-                de.taken()
-            } else {
-                bytes.len()
-            };
-            (answer, used)
-        }
-        Source::Reader => {
-            let mut reader = Watched::new(SlowReader::new(bytes));
-            let answer = from_reader(alloc, &mut reader);
-            (answer, reader.get_ref().given())
-        }
+        Source::Slice => read_slice(alloc, bytes),
+        Source::Reader => read_a_byte_a_call(alloc, bytes),
     }
+}
+
+fn read_slice<T: Deserialize>(alloc: Global, bytes: &[u8]) -> (picky_asn1_der::Result<T>, usize) {
+    let mut de = Deserializer::new_from_bytes(alloc, bytes);
+    let answer = T::deserialize(&mut de);
+    let used = if answer.is_ok() {
+        de.taken()
+    } else {
+        bytes.len()
+    };
+    (answer, used)
+}
+
+fn read_a_byte_a_call<T: Deserialize>(
+    alloc: Global,
+    bytes: &[u8],
+) -> (picky_asn1_der::Result<T>, usize) {
+    let mut reader = Watched::new(SlowReader::new(bytes));
+    let answer = from_reader(alloc, &mut reader);
+    (answer, reader.get_ref().given())
 }
 
 // The value is written as this many bytes of the front.

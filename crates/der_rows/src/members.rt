@@ -24,21 +24,43 @@ fn opening(name: &str) -> Option<(&str, &str)> {
     name.strip_suffix("}")?.split_once(" {")
 }
 
-// What the calls of a sequence answer that is opened so. No function may take a sequence by value, so each opening has
-// this code of its own, as little as can be.
-macro_rules! answer_members {
-    ($alloc:expr, $opening:expr, $calls:expr) => {
-        match $opening {
-            Ok(mut members) => {
-                let answers = member_answers($alloc, &mut members, $calls)?;
-                if !$calls.ends_with("; end") {
-                    return Ok(answers);
-                }
-                ended($alloc, &answers, members.end())
+// What the calls of a sequence answer that is opened so, and its end. No function may take a sequence by value, so that it is
+// ended where it is.
+fn answer_sequence<R: ReadExt>(
+    alloc: Global,
+    de: &mut Deserializer<R>,
+    opening: &str,
+    calls: &str,
+) -> Result<String, AllocError> {
+    match opened(de, opening) {
+        Some(Ok(mut members)) => {
+            let answers = member_answers(alloc, &mut members, calls)?;
+            if !calls.ends_with("; end") {
+                return Ok(answers);
             }
-            Err(error) => shown($alloc, &error),
+            ended(alloc, &answers, members.end())
         }
-    };
+        Some(Err(error)) => shown(alloc, &error),
+        None => String::from_str(alloc, "unknown sequence"),
+    }
+}
+
+// The sequence that this call opens. The names and lengths that are given don't matter.
+fn opened<'a, R: ReadExt>(
+    de: &'a mut Deserializer<R>,
+    opening: &str,
+) -> Option<picky_asn1_der::Result<de::Sequence<'a, R>>> {
+    match opening {
+        "deserialize_seq" => Some(de.deserialize_seq()),
+        "deserialize_set" => Some(de.deserialize_set()),
+        "deserialize_tuple" => Some(de.deserialize_tuple(0)),
+        "deserialize_tuple_struct" => Some(de.deserialize_tuple_struct("Eight", 3)),
+        "deserialize_struct" => Some(de.deserialize_struct("Eight", &["number", "name"])),
+        _ => {
+            let len = opening.strip_prefix("deserialize_lazy ")?.parse().ok()?;
+            Some(Ok(de::Sequence::deserialize_lazy(de, len)))
+        }
+    }
 }
 
 // The answers of a sequence's calls, and that of its end.
@@ -48,52 +70,6 @@ fn ended(
     end: picky_asn1_der::Result<()>,
 ) -> Result<String, AllocError> {
     format!(in alloc; "{answers}; {end:?}")
-}
-
-// The names and lengths that are given don't matter.
-fn answer_sequence<R: ReadExt>(
-    alloc: Global,
-    de: &mut Deserializer<R>,
-    opening: &str,
-    calls: &str,
-) -> Result<String, AllocError> {
-    match opening {
-        "deserialize_seq" => answer_members!(alloc, de.deserialize_seq(), calls),
-        "deserialize_set" => answer_members!(alloc, de.deserialize_set(), calls),
-        "deserialize_tuple" => answer_members!(alloc, de.deserialize_tuple(0), calls),
-        "deserialize_tuple_struct" => {
-            answer_members!(alloc, de.deserialize_tuple_struct("Eight", 3), calls)
-        }
-        "deserialize_struct" => {
-            answer_members!(
-                alloc,
-                de.deserialize_struct("Eight", &["number", "name"]),
-                calls
-            )
-        }
-        _ => answer_lazy(alloc, de, opening, calls),
-    }
-}
-
-// A sequence with no header, and with a length of this many bytes.
-fn answer_lazy<R: ReadExt>(
-    alloc: Global,
-    de: &mut Deserializer<R>,
-    opening: &str,
-    calls: &str,
-) -> Result<String, AllocError> {
-    let Some(len) = opening.strip_prefix("deserialize_lazy ") else {
-        return String::from_str(alloc, "unknown sequence");
-    };
-    let Ok(len) = len.parse::<usize>() else {
-        return String::from_str(alloc, "unknown length");
-    };
-    let mut members = de::Sequence::deserialize_lazy(de, len);
-    let answers = member_answers(alloc, &mut members, calls)?;
-    if !calls.ends_with("; end") {
-        return Ok(answers);
-    }
-    ended(alloc, &answers, members.end())
 }
 
 // The calls but for `end`, which takes the sequence.

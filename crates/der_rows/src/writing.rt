@@ -35,7 +35,7 @@ fn answer_call<W: WriteExt>(
     }
 }
 
-// The calls that write one value.
+// Truth values and small numbers.
 fn answer_plain<W: WriteExt>(
     alloc: Global,
     ser: &mut Serializer<W>,
@@ -45,20 +45,63 @@ fn answer_plain<W: WriteExt>(
         "serialize_bool true" => shown(alloc, &ser.serialize_bool(true)),
         "serialize_u8 1" => shown(alloc, &ser.serialize_u8(1)),
         "serialize_u8 7" => shown(alloc, &ser.serialize_u8(7)),
+        _ => answer_number(alloc, ser, name),
+    }
+}
+
+// Greater numbers.
+fn answer_number<W: WriteExt>(
+    alloc: Global,
+    ser: &mut Serializer<W>,
+    name: &str,
+) -> Result<String, AllocError> {
+    match name {
         "serialize_u16 0x0102" => shown(alloc, &ser.serialize_u16(0x0102)),
         "serialize_u16 0x0203" => shown(alloc, &ser.serialize_u16(0x0203)),
         "serialize_u32 0x04050607" => shown(alloc, &ser.serialize_u32(0x0405_0607)),
+        _ => answer_wide_number(alloc, ser, name),
+    }
+}
+
+// Wider numbers.
+fn answer_wide_number<W: WriteExt>(
+    alloc: Global,
+    ser: &mut Serializer<W>,
+    name: &str,
+) -> Result<String, AllocError> {
+    match name {
         "serialize_u64 0x80" => shown(alloc, &ser.serialize_u64(0x80)),
         "serialize_u128 0" => shown(alloc, &ser.serialize_u128(0)),
+        _ => answer_text(alloc, ser, name),
+    }
+}
+
+// Texts and octets.
+fn answer_text<W: WriteExt>(
+    alloc: Global,
+    ser: &mut Serializer<W>,
+    name: &str,
+) -> Result<String, AllocError> {
+    match name {
         "serialize_char é" => shown(alloc, &ser.serialize_char('é')),
         "serialize_str Aé" => shown(alloc, &ser.serialize_str("Aé")),
         "serialize_bytes []" => shown(alloc, &ser.serialize_bytes(&[])),
         "serialize_bytes [08 09]" => shown(alloc, &ser.serialize_bytes(&[0x08, 0x09])),
+        _ => answer_unit(alloc, ser, name),
+    }
+}
+
+// What there is and what there is not.
+fn answer_unit<W: WriteExt>(
+    alloc: Global,
+    ser: &mut Serializer<W>,
+    name: &str,
+) -> Result<String, AllocError> {
+    match name {
         "serialize_unit" => shown(alloc, &ser.serialize_unit()),
         "serialize_unit_struct" => shown(alloc, &ser.serialize_unit_struct("Nothing")),
         "serialize_none" => shown(alloc, &ser.serialize_none()),
         "serialize_some 7" => shown(alloc, &ser.serialize_some(&7u8)),
-        "is_human_readable" => shown(alloc, &ser.is_human_readable()),
         _ => answer_tag(alloc, ser, name),
     }
 }
@@ -70,31 +113,68 @@ fn answer_tag<W: WriteExt>(
     name: &str,
 ) -> Result<String, AllocError> {
     if let Some(byte) = name.strip_prefix("serialize_tagged_bytes [AA] ") {
-        return match byte.parse::<u8>() {
-            Ok(byte) => shown(alloc, &ser.serialize_tagged_bytes(Tag::from(byte), &[0xAA])),
-            Err(_) => String::from_str(alloc, "unknown tag"),
-        };
+        return answer_tagged_bytes(alloc, ser, byte);
     }
     if let Some(kind) = name.strip_prefix("serialize_newtype_struct 7 ") {
-        return match newtype(kind) {
-            Some(kind) => shown(alloc, &ser.serialize_newtype_struct(kind, &7u8)),
-            None => String::from_str(alloc, "unknown newtype"),
-        };
+        return answer_newtype(alloc, ser, kind);
     }
+    answer_application(alloc, ser, name)
+}
+
+fn answer_tagged_bytes<W: WriteExt>(
+    alloc: Global,
+    ser: &mut Serializer<W>,
+    byte: &str,
+) -> Result<String, AllocError> {
+    match byte.parse::<u8>() {
+        Ok(byte) => shown(alloc, &ser.serialize_tagged_bytes(Tag::from(byte), &[0xAA])),
+        Err(_) => String::from_str(alloc, "unknown tag"),
+    }
+}
+
+fn answer_newtype<W: WriteExt>(
+    alloc: Global,
+    ser: &mut Serializer<W>,
+    kind: &str,
+) -> Result<String, AllocError> {
+    match newtype(kind) {
+        Some(kind) => shown(alloc, &ser.serialize_newtype_struct(kind, &7u8)),
+        None => String::from_str(alloc, "unknown newtype"),
+    }
+}
+
+// Application tags.
+fn answer_application<W: WriteExt>(
+    alloc: Global,
+    ser: &mut Serializer<W>,
+    name: &str,
+) -> Result<String, AllocError> {
     match name {
         "serialize_application 7 30" => shown(alloc, &ser.serialize_application(30, &7u8)),
         "serialize_application None 10" => shown(
             alloc,
             &ser.serialize_application(10, &None::<u8>),
         ),
-        "serialize_raw []" => shown(alloc, &ser.serialize_raw(&[])),
-        "serialize_raw [1F 81]" => shown(alloc, &ser.serialize_raw(&[0x1F, 0x81])),
-        _ => answer_refused(alloc, ser, name),
+        _ => answer_raw(alloc, ser, name),
     }
 }
 
-// The calls for what has no encoding.
-fn answer_refused<W: WriteExt>(
+// Bytes as they are.
+fn answer_raw<W: WriteExt>(
+    alloc: Global,
+    ser: &mut Serializer<W>,
+    name: &str,
+) -> Result<String, AllocError> {
+    match name {
+        "serialize_raw []" => shown(alloc, &ser.serialize_raw(&[])),
+        "serialize_raw [1F 81]" => shown(alloc, &ser.serialize_raw(&[0x1F, 0x81])),
+        "is_human_readable" => shown(alloc, &ser.is_human_readable()),
+        _ => answer_signed(alloc, ser, name),
+    }
+}
+
+// Signed numbers, which have no encoding.
+fn answer_signed<W: WriteExt>(
     alloc: Global,
     ser: &mut Serializer<W>,
     name: &str,
@@ -103,43 +183,46 @@ fn answer_refused<W: WriteExt>(
         "serialize_i8" => shown(alloc, &ser.serialize_i8(-1)),
         "serialize_i16" => shown(alloc, &ser.serialize_i16(-1)),
         "serialize_i32" => shown(alloc, &ser.serialize_i32(-1)),
-        "serialize_i64" => shown(alloc, &ser.serialize_i64(-1)),
-        "serialize_i128" => shown(alloc, &ser.serialize_i128(-1)),
-        "serialize_map" => shown(alloc, &ser.serialize_map(None)),
-        "serialize_unit_variant" => shown(alloc, &ser.serialize_unit_variant("Choice", 0, "A")),
-        "serialize_newtype_variant" => {
-            shown(
-                alloc,
-                &ser.serialize_newtype_variant("Choice", 0, "A", &7u8),
-            )
-        }
-        "serialize_tuple_variant" => {
-            shown(alloc, &ser.serialize_tuple_variant("Choice", 0, "A", 2))
-        }
-        "serialize_struct_variant" => {
-            shown(alloc, &ser.serialize_struct_variant("Choice", 0, "A", 2))
-        }
-        _ => String::from_str(alloc, "unknown call"),
+        _ => answer_wide_signed(alloc, ser, name),
     }
 }
 
-// What a sequence answers that is opened so. No function may take a sequence by value, so each opening has this code of its
-// own, as little as can be.
-macro_rules! answer_member {
-    ($alloc:expr, $opening:expr, $calls:expr) => {
-        match $opening {
-            Ok(mut members) => {
-                let Some(added) = add_members(&mut members, $calls) else {
-                    return String::from_str($alloc, "unknown member");
-                };
-                if $calls.ends_with("drop}") {
-                    return format!(in $alloc; "{added:?}; dropped");
-                }
-                ended($alloc, added, members.end())
-            }
-            Err(error) => shown($alloc, &error),
-        }
-    };
+// Wider ones.
+fn answer_wide_signed<W: WriteExt>(
+    alloc: Global,
+    ser: &mut Serializer<W>,
+    name: &str,
+) -> Result<String, AllocError> {
+    match name {
+        "serialize_i64" => shown(alloc, &ser.serialize_i64(-1)),
+        "serialize_i128" => shown(alloc, &ser.serialize_i128(-1)),
+        "serialize_map" => shown(alloc, &ser.serialize_map(None)),
+        _ => answer_variant(alloc, ser, name),
+    }
+}
+
+// Variants, which have none either.
+fn answer_variant<W: WriteExt>(
+    alloc: Global,
+    ser: &mut Serializer<W>,
+    name: &str,
+) -> Result<String, AllocError> {
+    match name {
+        "serialize_unit_variant" => shown(alloc, &ser.serialize_unit_variant("Choice", 0, "A")),
+        "serialize_newtype_variant" => shown(
+            alloc,
+            &ser.serialize_newtype_variant("Choice", 0, "A", &7u8),
+        ),
+        "serialize_tuple_variant" => shown(
+            alloc,
+            &ser.serialize_tuple_variant("Choice", 0, "A", 2),
+        ),
+        "serialize_struct_variant" => shown(
+            alloc,
+            &ser.serialize_struct_variant("Choice", 0, "A", 2),
+        ),
+        _ => String::from_str(alloc, "unknown call"),
+    }
 }
 
 // The calls but for `end`, which takes the sequence.
@@ -167,28 +250,41 @@ fn ended(
     format!(in alloc; "{added:?}; {end:?}")
 }
 
-// The names and lengths that are given don't matter.
+// What the calls of a sequence answer that is opened so, and its end. No function may take a sequence by value, so that it is
+// ended where it is.
 fn answer_sequence<W: WriteExt>(
     alloc: Global,
     ser: &mut Serializer<W>,
     opening: &str,
     calls: &str,
 ) -> Result<String, AllocError> {
-    match opening {
-        "serialize_seq" => answer_member!(alloc, ser.serialize_seq(Some(2)), calls),
-        "serialize_tuple" => answer_member!(alloc, ser.serialize_tuple(0), calls),
-        "serialize_tuple_struct" => {
-            answer_member!(alloc, ser.serialize_tuple_struct("Seven", 3), calls)
-        }
-        "serialize_struct" => {
-            answer_member!(alloc, ser.serialize_struct("Seven", usize::MAX), calls)
-        }
-        "serialize_set" => answer_member!(alloc, ser.serialize_set(), calls),
-        "serialize_lazy" => {
-            let mut members = ser::Sequence::serialize_lazy(ser, Tag::SEQUENCE);
-            let added = members.serialize_element(&7u8);
+    match opened(ser, opening) {
+        Some(Ok(mut members)) => {
+            let Some(added) = add_members(&mut members, calls) else {
+                return String::from_str(alloc, "unknown member");
+            };
+            if calls.ends_with("drop}") {
+                return format!(in alloc; "{added:?}; dropped");
+            }
             ended(alloc, added, members.end())
         }
-        _ => String::from_str(alloc, "unknown sequence"),
+        Some(Err(error)) => shown(alloc, &error),
+        None => String::from_str(alloc, "unknown sequence"),
+    }
+}
+
+// The sequence that this call opens. The names and lengths that are given don't matter.
+fn opened<'a, W: WriteExt>(
+    ser: &'a mut Serializer<W>,
+    opening: &str,
+) -> Option<picky_asn1_der::Result<ser::Sequence<'a, W>>> {
+    match opening {
+        "serialize_seq" => Some(ser.serialize_seq(Some(2))),
+        "serialize_tuple" => Some(ser.serialize_tuple(0)),
+        "serialize_tuple_struct" => Some(ser.serialize_tuple_struct("Seven", 3)),
+        "serialize_struct" => Some(ser.serialize_struct("Seven", usize::MAX)),
+        "serialize_set" => Some(ser.serialize_set()),
+        "serialize_lazy" => Some(Ok(ser::Sequence::serialize_lazy(ser, Tag::SEQUENCE))),
+        _ => None,
     }
 }

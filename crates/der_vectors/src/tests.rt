@@ -10,6 +10,7 @@ macro_rules! same {
 
 mod checks;
 mod contents;
+mod defaults;
 mod entry_calls;
 mod equality;
 mod errors;

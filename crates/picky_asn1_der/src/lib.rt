@@ -7,17 +7,19 @@ pub mod application_tag;
 pub mod de {
     pub use picky_der_de::{
         Alike, Alternatives, Begins, Boolean, Choice, DEFAULT_MAX_LEN, Deserialize,
-        DeserializeMembers, Deserializer, Enclosure, End, NoneOf, Null, OneOf, OneOf4, Sequence,
-        Told, UInt, UnsignedInteger, Utf8String, deserialize_as, from_bytes, from_reader,
-        from_reader_with_max_len, next_from_bytes, next_from_reader,
+        DeserializeLayout, DeserializeMembers, Deserializer, Enclosure, End, NoneOf, Null, OneOf,
+        OneOf4, Sequence, Struct, Told, UInt, UnsignedInteger, Utf8String, deserialize_as,
+        deserialize_struct_as, from_bytes, from_reader, from_reader_with_max_len, next_from_bytes,
+        next_from_reader,
     };
 }
 
 /// Writing.
 pub mod ser {
     pub use picky_der_ser::{
-        Boolean, Header, Null, Row, Sequence, Serialize, SerializeMembers, Serializer, UInt,
-        UnsignedInteger, Utf8String, to_byte_buf, to_bytes, to_vec, to_writer,
+        Boolean, DefaultOf, Defaulted, DefaultedRef, False, Header, Null, Number, Optional,
+        OptionalRef, Row, Sequence, Serialize, SerializeMember, SerializeMembers, Serializer, True,
+        UInt, UnsignedInteger, Utf8String, to_byte_buf, to_bytes, to_vec, to_writer,
     };
 }
 

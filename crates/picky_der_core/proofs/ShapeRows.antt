@@ -5,7 +5,7 @@ use Rattle.picky_der_core.specs.Order.{is_less}
 use Rattle.picky_der_core.specs.OrderLaws.{IsSortedBy-one, IsSortedBy-cons, IsSortedBy-broken}
 use Rattle.picky_der_core.specs.Encoding.{der, inside}
 use Rattle.picky_der_core.specs.Readable.{IsReadable}
-use Rattle.picky_der_core.specs.Shape.{Shape, shapes, IsOf, IsSound, tags_below}
+use Rattle.picky_der_core.specs.Shape.{Shape, Layout, shapes, IsOf, IsSound, tags_below}
 use Rattle.picky_der_core.proofs.OnLiterals.{der_on_literals}
 
 -- ---- choices that are told by the first byte, and one that isn't
@@ -33,6 +33,32 @@ struct_is_of = ((refl, ((omega arith, omega arith), ((refl, (omega arith, (omega
 
 struct_is_readable : IsReadable struct
 struct_is_readable = (tt, (tt, (omega arith, ((tt, (tt, (tt, tt))), tt))))
+
+-- ---- a struct of an identifier, a flag that may be missing, and bytes
+
+abbrev flagged_shape : Shape
+flagged_shape = Shape.struct_of ListKind.sequence (Layout.required (Shape.bytes 0x06) (Layout.maybe Shape.boolean (Layout.required (Shape.bytes 0x04) Layout.empty)))
+
+flagged_is_sound : IsSound flagged_shape
+flagged_is_sound = ((tt, (tt, (tt, tt))), (refl, tt))
+
+flagged_is_of : IsOf flagged_shape (Tree.list ListKind.sequence (trees (Tree.bytes 0x06 [] ∷ Tree.boolean false ∷ Tree.bytes 0x04 [] ∷ [])))
+flagged_is_of = (refl, ((refl, tt), inl (tt, ((refl, tt), tt))))
+
+unflagged_is_of : IsOf flagged_shape (Tree.list ListKind.sequence (trees (Tree.bytes 0x06 [] ∷ Tree.bytes 0x04 [] ∷ [])))
+unflagged_is_of = (refl, ((refl, tt), inr ((refl, tt), tt)))
+
+-- ---- members that may be missing and aren't told: from the next one, and from the one behind another that may be missing
+
+untold_member : IsSound (Shape.struct_of ListKind.sequence (Layout.maybe (Shape.unsigned 255) (Layout.required (Shape.unsigned 65535) Layout.empty))) → ⊥
+untold_member sound = let untold = sound.1.0 in cc
+
+untold_behind : IsSound (Shape.struct_of ListKind.sequence (Layout.maybe Shape.null (Layout.maybe Shape.boolean (Layout.required Shape.null Layout.empty)))) → ⊥
+untold_behind sound = let untold = sound.1.0 in cc
+
+-- behind a member that is always there it may come again
+told_by_place : IsSound (Shape.struct_of ListKind.sequence (Layout.maybe Shape.null (Layout.required Shape.boolean (Layout.maybe Shape.null Layout.empty))))
+told_by_place = ((tt, (tt, (tt, tt))), (refl, (refl, tt)))
 
 -- ---- alternatives that aren't told: null, and an element
 

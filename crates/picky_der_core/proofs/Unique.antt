@@ -5,10 +5,10 @@ use Rattle.std.specs.List.{concat}
 use Rattle.picky_der_core.specs.Tree.{ListKind, Tree, Trees}
 use Rattle.picky_der_core.specs.Encoding.{headed, around, written, encodings, der, boolean_content, list_content}
 use Rattle.picky_der_core.specs.Readable.{IsReadable, AreReadable, IsNoChoice}
-use Rattle.picky_der_core.specs.Shape.{Shape, Shapes, IsOf, AreOf, IsOneOf, firsts, firsts_of, has, are_apart, IsBoolean, IsUnsigned, IsNull, IsText, IsCharacter, IsBytes, IsRaw, IsList, IsOptional, IsOctetContainer, IsBitContainer, IsExplicit, IsImplicit, IsApplication, IsChoice, EachIs, FirstAndRest, IsEmpty, IsSound, AreSound, AreTold}
+use Rattle.picky_der_core.specs.Shape.{Shape, Shapes, Layout, IsOf, AreOf, IsOneOf, AreMembersOf, firsts, firsts_of, next_firsts, has, are_apart, IsBoolean, IsUnsigned, IsNull, IsText, IsCharacter, IsBytes, IsRaw, IsList, IsOptional, IsOctetContainer, IsBitContainer, IsExplicit, IsImplicit, IsApplication, IsChoice, EachIs, FirstAndRest, FirstOrNone, IsEmpty, IsSound, AreSound, AreTold, AreMembersSound, AreMembersTold}
 use Rattle.picky_der_core.specs.ElementLaws.{tlv-same}
 use Rattle.picky_der_core.specs.EncodingLaws.{is_absent-readable, list_content-in_order, same_encoding, length-der, unsigned_content-same}
-use Rattle.picky_der_core.specs.FirstLaws.{BeginsIn, begins_in, begins_in_one, apart_has, is_of-optional}
+use Rattle.picky_der_core.specs.FirstLaws.{BeginsIn, begins_in, begins_in_one, begins_next, apart_has, is_of-optional}
 
 -- directly under an implicit tag stands no choice
 abbrev pub MayStand : Bool → Tree → Type 0
@@ -209,6 +209,24 @@ one_known s ss a known others t u (inr p) (inr q) r v m n e = others t u p q r v
 one_known s ss a known others t u (inl p) (inr q) r v m n e = absurd (told (firsts s) (firsts_of ss) t u a (begins_in s t p r) (begins_in_one ss u q v) e)
 one_known s ss a known others t u (inr p) (inl q) r v m n e = absurd (told (firsts s) (firsts_of ss) u t a (begins_in s u q v) (begins_in_one ss t p r) (sym e))
 
+-- ---- members that may be missing
+
+-- a member, and what stands in its place where it is missing, aren't written alike
+missing_told : (s : Shape) (l : Layout) → are_apart (firsts s) (next_firsts l) ≡ true → (ts us : Trees) → FirstAndRest (IsOf s) (AreMembersOf l) ts → AreMembersOf l us → AreReadable ts → AreReadable us
+    → concat (encodings ts) ≡ concat (encodings us) → ⊥
+unfolding written der
+missing_told s l apart (Trees.more t ts) Trees.none p q r v e = not_empty t (concat (encodings ts)) r.0 e
+missing_told s l apart (Trees.more t ts) (Trees.more u us) p q r v e =
+    let same = (same_encoding t u (concat (encodings ts)) (concat (encodings us)) r.0 v.0 e).0 in
+    told (firsts s) (next_firsts l) t u apart (begins_in s t p.0 r.0) (begins_next l u us q v.0) same
+missing_told s l apart Trees.none _ p q r v e = absurd p
+
+first_or_none_known : (s : Shape) (l : Layout) → are_apart (firsts s) (next_firsts l) ≡ true → IsKnown true (IsOf s) → AreKnown (AreMembersOf l) → AreKnown (FirstOrNone (IsOf s) (AreMembersOf l))
+first_or_none_known s l apart known others ts us (inl p) (inl q) r v e = first_and_rest_known (IsOf s) (AreMembersOf l) known others ts us p q r v e
+first_or_none_known s l apart known others ts us (inr p) (inr q) r v e = others ts us p q r v e
+first_or_none_known s l apart known others ts us (inl p) (inr q) r v e = absurd (missing_told s l apart ts us p q r v e)
+first_or_none_known s l apart known others ts us (inr p) (inl q) r v e = absurd (missing_told s l apart us ts q p v r (sym e))
+
 mutual
   pub known : (s : Shape) → IsSound s → (header : Bool) → IsKnown header (IsOf s)
   known Shape.boolean = λ sound header. boolean_known header
@@ -219,6 +237,7 @@ mutual
   known (Shape.bytes tag) = λ sound header. bytes_known tag header
   known (Shape.list_of kind s) = λ sound header. list_known kind _ (each_known _ (known s sound true)) header
   known (Shape.fields kind ss) = λ sound header. list_known kind _ (fields_known ss sound) header
+  known (Shape.struct_of kind l) = λ sound header. list_known kind _ (members_known l sound.0 sound.1) header
   known (Shape.optional s) = λ sound header. optional_known _ header (known s sound header)
   known (Shape.octet_container s) = λ sound header. octet_container_known _ (known s sound true) header
   known (Shape.bit_container s) = λ sound header. bit_container_known _ (known s sound true) header
@@ -231,6 +250,11 @@ mutual
   fields_known : (ss : Shapes) → AreSound ss → AreKnown (AreOf ss)
   fields_known Shapes.none = λ sound. empty_known
   fields_known (Shapes.more s ss) = λ sound. first_and_rest_known _ _ (known s sound.0 true) (fields_known ss sound.1)
+
+  members_known : (l : Layout) → AreMembersSound l → AreMembersTold l → AreKnown (AreMembersOf l)
+  members_known Layout.empty = λ sound apart. empty_known
+  members_known (Layout.required s l) = λ sound apart. first_and_rest_known _ _ (known s sound.0 true) (members_known l sound.1 apart)
+  members_known (Layout.maybe s l) = λ sound apart. first_or_none_known s l apart.0 (known s sound.0 true) (members_known l sound.1 apart.1)
 
   alternatives_known : (ss : Shapes) → AreSound ss → AreTold ss → IsKnown true (IsOneOf ss)
   alternatives_known Shapes.none = λ sound apart t u p. absurd p

@@ -5,7 +5,7 @@ use Rattle.picky_der_core.specs.Element.{tlv}
 use Rattle.picky_der_core.specs.Tree.{ListKind, Tree, Trees}
 use Rattle.picky_der_core.specs.Encoding.{headed, written, der, list_tag}
 use Rattle.picky_der_core.specs.Readable.{IsReadable}
-use Rattle.picky_der_core.specs.Shape.{Shape, Shapes, IsOf, IsOneOf, firsts, firsts_of, has, are_apart, tags_below, tag_with_number, AreBytes, IsBoolean, IsUnsigned, IsNull, IsText, IsCharacter, IsBytes, IsRaw, IsList, IsOptional, IsOctetContainer, IsBitContainer, IsExplicit, IsImplicit, IsApplication, IsChoice}
+use Rattle.picky_der_core.specs.Shape.{Shape, Shapes, Layout, IsOf, IsOneOf, AreMembersOf, FirstOrNone, firsts, firsts_of, next_firsts, has, are_apart, tags_below, tag_with_number, AreBytes, IsBoolean, IsUnsigned, IsNull, IsText, IsCharacter, IsBytes, IsRaw, IsList, IsOptional, IsOctetContainer, IsBitContainer, IsExplicit, IsImplicit, IsApplication, IsChoice}
 use Rattle.picky_der_core.specs.EncodingLaws.{is_absent-readable, around-present}
 
 -- its encoding begins with one of these bytes
@@ -181,6 +181,12 @@ one_of_first : (P Q : Tree → Type 0) (fs gs : List ℕ) → ((t : Tree) → P 
 one_of_first P Q fs gs f g t (inl p) r = begins_left fs gs t (f t p r)
 one_of_first P Q fs gs f g t (inr q) r = begins_right fs gs t (g t q r)
 
+-- the first member that is there, where the first of the layout may be missing
+first_or_none_first : (P : Tree → Type 0) (Q : Trees → Type 0) (fs gs : List ℕ) → ((t : Tree) → P t → IsReadable t → BeginsIn fs t) → ((t : Tree) (ts : Trees) → Q (Trees.more t ts) → IsReadable t → BeginsIn gs t)
+    → (t : Tree) (ts : Trees) → FirstOrNone P Q (Trees.more t ts) → IsReadable t → BeginsIn (fs ++ gs) t
+first_or_none_first P Q fs gs f g t ts (inl p) r = begins_left fs gs t (f t p.0 r)
+first_or_none_first P Q fs gs f g t ts (inr q) r = begins_right fs gs t (g t ts q r)
+
 mutual
   pub begins_in : (s : Shape) (t : Tree) → IsOf s t → IsReadable t → BeginsIn (firsts s) t
   begins_in Shape.boolean = boolean_first
@@ -191,6 +197,7 @@ mutual
   begins_in (Shape.bytes tag) = bytes_first tag
   begins_in (Shape.list_of kind s) = list_first kind _
   begins_in (Shape.fields kind ss) = list_first kind _
+  begins_in (Shape.struct_of kind l) = list_first kind _
   begins_in (Shape.optional s) = λ t p r. begins_in s t (is_of-optional (IsOf s) t p r) r
   begins_in (Shape.octet_container s) = octet_container_first _
   begins_in (Shape.bit_container s) = bit_container_first _
@@ -203,3 +210,8 @@ mutual
   pub begins_in_one : (ss : Shapes) (t : Tree) → IsOneOf ss t → IsReadable t → BeginsIn (firsts_of ss) t
   begins_in_one Shapes.none = λ t p r. absurd p
   begins_in_one (Shapes.more s ss) = one_of_first (IsOf s) (IsOneOf ss) (firsts s) (firsts_of ss) (begins_in s) (begins_in_one ss)
+
+pub begins_next : (l : Layout) (t : Tree) (ts : Trees) → AreMembersOf l (Trees.more t ts) → IsReadable t → BeginsIn (next_firsts l) t
+begins_next Layout.empty = λ t ts p r. absurd p
+begins_next (Layout.required s l) = λ t ts p r. begins_in s t p.0 r
+begins_next (Layout.maybe s l) = first_or_none_first (IsOf s) (AreMembersOf l) (firsts s) (next_firsts l) (begins_in s) (begins_next l)

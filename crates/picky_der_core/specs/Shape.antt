@@ -19,6 +19,8 @@ mutual
     list_of : ListKind → Shape → Shape
     -- a list of one member for each shape, in order
     fields : ListKind → Shapes → Shape
+    -- a list of the members of a layout, of which some may be missing
+    struct_of : ListKind → Layout → Shape
     optional : Shape → Shape
     octet_container : Shape → Shape
     bit_container : Shape → Shape
@@ -32,6 +34,13 @@ mutual
   pub data Shapes : Type 0 where
     none : Shapes
     more : Shape → Shapes → Shapes
+
+  -- which members a list has, in order
+  pub data Layout : Type 0 where
+    empty : Layout
+    required : Shape → Layout → Layout
+    -- one that may be missing, and those behind it
+    maybe : Shape → Layout → Layout
 
 abbrev pub shapes : List Shape → Shapes
 shapes [] = Shapes.none
@@ -113,6 +122,10 @@ abbrev pub FirstAndRest : (Tree → Type 0) → (Trees → Type 0) → Trees →
 FirstAndRest P Q Trees.none = ⊥
 FirstAndRest P Q (Trees.more t ts) = P t × Q ts
 
+-- P of the first member, and Q of the others, or Q of all
+abbrev pub FirstOrNone : (Tree → Type 0) → (Trees → Type 0) → Trees → Type 0
+FirstOrNone P Q ts = FirstAndRest P Q ts ⊎ Q ts
+
 abbrev pub IsEmpty : Trees → Type 0
 IsEmpty Trees.none = ⊤
 IsEmpty (Trees.more t ts) = ⊥
@@ -128,6 +141,7 @@ abbrev mutual
   IsOf (Shape.bytes tag) = IsBytes tag
   IsOf (Shape.list_of kind s) = IsList kind (EachIs (IsOf s))
   IsOf (Shape.fields kind ss) = IsList kind (AreOf ss)
+  IsOf (Shape.struct_of kind l) = IsList kind (AreMembersOf l)
   IsOf (Shape.optional s) = IsOptional (IsOf s)
   IsOf (Shape.octet_container s) = IsOctetContainer (IsOf s)
   IsOf (Shape.bit_container s) = IsBitContainer (IsOf s)
@@ -141,6 +155,12 @@ abbrev mutual
   pub AreOf : Shapes → Trees → Type 0
   AreOf Shapes.none = IsEmpty
   AreOf (Shapes.more s ss) = FirstAndRest (IsOf s) (AreOf ss)
+
+  -- the members that are there, in order
+  pub AreMembersOf : Layout → Trees → Type 0
+  AreMembersOf Layout.empty = IsEmpty
+  AreMembersOf (Layout.required s l) = FirstAndRest (IsOf s) (AreMembersOf l)
+  AreMembersOf (Layout.maybe s l) = FirstOrNone (IsOf s) (AreMembersOf l)
 
   -- of one of the shapes
   pub IsOneOf : Shapes → Tree → Type 0
@@ -169,6 +189,7 @@ abbrev mutual
   firsts (Shape.bytes tag) = tag_with_number (number_of tag) tag
   firsts (Shape.list_of kind s) = list_tag kind ∷ []
   firsts (Shape.fields kind ss) = list_tag kind ∷ []
+  firsts (Shape.struct_of kind l) = list_tag kind ∷ []
   firsts (Shape.optional s) = firsts s
   firsts (Shape.octet_container s) = 0x04 ∷ []
   firsts (Shape.bit_container s) = 0x03 ∷ []
@@ -182,6 +203,12 @@ abbrev mutual
   firsts_of Shapes.none = []
   firsts_of (Shapes.more s ss) = firsts s ++ firsts_of ss
 
+-- the bytes with which the first member that is there can begin
+abbrev pub next_firsts : Layout → List ℕ
+next_firsts Layout.empty = []
+next_firsts (Layout.required s l) = firsts s
+next_firsts (Layout.maybe s l) = firsts s ++ next_firsts l
+
 abbrev pub has : List ℕ → ℕ → Bool
 has xs x = list_any (λ y. x == y) xs
 
@@ -193,18 +220,25 @@ IsFirst s b = IsTrue (has (firsts s) b)
 abbrev pub are_apart : List ℕ → List ℕ → Bool
 are_apart xs ys = list_all (λ x. not (has ys x)) xs
 
--- ---- shapes whose choices are told
+-- ---- shapes whose choices and missing members are told
 
 -- each of the shapes is told from those after it by the first byte
 abbrev pub AreTold : Shapes → Type 0
 AreTold Shapes.none = ⊤
 AreTold (Shapes.more s ss) = IsTrue (are_apart (firsts s) (firsts_of ss)) × AreTold ss
 
--- in every choice inside, the alternatives are told by their first byte
+-- each member that may be missing is told by the first byte from those that may come in its place
+abbrev pub AreMembersTold : Layout → Type 0
+AreMembersTold Layout.empty = ⊤
+AreMembersTold (Layout.required s l) = AreMembersTold l
+AreMembersTold (Layout.maybe s l) = IsTrue (are_apart (firsts s) (next_firsts l)) × AreMembersTold l
+
+-- inside, the alternatives of every choice and the members of every layout are told by their first byte
 abbrev mutual
   pub IsSound : Shape → Type 0
   IsSound (Shape.list_of kind s) = IsSound s
   IsSound (Shape.fields kind ss) = AreSound ss
+  IsSound (Shape.struct_of kind l) = AreMembersSound l × AreMembersTold l
   IsSound (Shape.optional s) = IsSound s
   IsSound (Shape.octet_container s) = IsSound s
   IsSound (Shape.bit_container s) = IsSound s
@@ -217,3 +251,8 @@ abbrev mutual
   pub AreSound : Shapes → Type 0
   AreSound Shapes.none = ⊤
   AreSound (Shapes.more s ss) = IsSound s × AreSound ss
+
+  pub AreMembersSound : Layout → Type 0
+  AreMembersSound Layout.empty = ⊤
+  AreMembersSound (Layout.required s l) = IsSound s × AreMembersSound l
+  AreMembersSound (Layout.maybe s l) = IsSound s × AreMembersSound l

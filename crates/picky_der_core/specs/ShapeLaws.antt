@@ -14,6 +14,7 @@ is_plain_shape Shape.text = true
 is_plain_shape (Shape.bytes tag) = true
 is_plain_shape (Shape.list_of kind s) = true
 is_plain_shape (Shape.fields kind ss) = true
+is_plain_shape (Shape.struct_of kind l) = true
 is_plain_shape (Shape.optional s) = is_plain_shape s
 is_plain_shape _ = false
 
@@ -86,6 +87,7 @@ plain_by_shape Shape.text = text_plain
 plain_by_shape (Shape.bytes tag) = bytes_plain tag
 plain_by_shape (Shape.list_of kind s) = list_plain kind _
 plain_by_shape (Shape.fields kind ss) = list_plain kind _
+plain_by_shape (Shape.struct_of kind l) = list_plain kind _
 plain_by_shape (Shape.optional s) = λ t p r n. plain_by_shape s t (is_of-optional (IsOf s) t p r) r n
 plain_by_shape (Shape.octet_container s) = octet_container_plain _
 plain_by_shape (Shape.bit_container s) = bit_container_plain _

@@ -8,6 +8,7 @@ pub mod Members
 pub mod Rows
 pub mod Asked
 pub mod Rests
+pub mod LayoutReads
 pub mod ListReads
 pub mod ArrayReads
 pub use Rattle.picky_der_input.proofs.PlainReads

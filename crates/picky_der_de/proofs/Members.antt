@@ -127,7 +127,7 @@ same_first t u us readable read m l w rest begins =
 
 -- a member was read, and others stand behind it
 module _ {s : Shape} {b c d : State} {e : Asn1DerError} {t : Tree} (u : Tree) (us : Trees) (readable : IsReadable u) (r : ReadsMember s b c t) (f : Fails c d e) (w : StandBefore b d e (bytes_of (Trees.more u us))) where
-  same_member : (der u ≡ der t) × (bytes_of us ++ w.rest ≡ (behind (takes_member r) (failed_grows f) (concerns_unordered w.concerns)).rest)
+  pub same_member : (der u ≡ der t) × (bytes_of us ++ w.rest ≡ (behind (takes_member r) (failed_grows f) (concerns_unordered w.concerns)).rest)
   same_member = same_first t u us readable r.reads.readable (takes_member r) (failed_grows f) (concerns_unordered w.concerns) w.rest w.begins
 
   pub next_member : StandBefore c d e (bytes_of us)

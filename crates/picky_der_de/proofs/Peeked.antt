@@ -146,7 +146,7 @@ nothing_whole {a} {s = s} {end = end} {bs = bs} {t = t} d m w st =
 
 -- ---- behind a look at the tag
 
-identified : (P : State → Type 0) {a b : State} {tag : ℕ} → (d : Option ℕ) → IdentifiesIn d a b tag → (Peeks a b tag → P b → P a) → P b → P a
+pub identified : (P : State → Type 0) {a b : State} {tag : ℕ} → (d : Option ℕ) → IdentifiesIn d a b tag → (Peeks a b tag → P b → P a) → P b → P a
 identified P None h f k = f h k
 identified P (Some number) h f k = subst P h.2 k
 

@@ -107,6 +107,7 @@ mutual
   bytes_in (Shape.bytes tag) = apart_from_both (IsBytes tag) (λ s p. p) (λ u p. p)
   bytes_in (Shape.list_of kind s) = apart_from_both (IsList kind _) (λ s p. p) (λ u p. p)
   bytes_in (Shape.fields kind ss) = apart_from_both (IsList kind _) (λ s p. p) (λ u p. p)
+  bytes_in (Shape.struct_of kind l) = apart_from_both (IsList kind _) (λ s p. p) (λ u p. p)
   bytes_in (Shape.optional s) = optional_bytes (IsOf s) (bytes_in s)
   bytes_in (Shape.octet_container s) = apart_from_both (IsOctetContainer _) (λ s p. p) (λ u p. p)
   bytes_in (Shape.bit_container s) = apart_from_both (IsBitContainer _) (λ s p. p) (λ u p. p)

@@ -8,6 +8,8 @@ pub use Rattle.picky_der_input.specs.Elements
 pub use Rattle.picky_der_input.specs.Ends
 pub use Rattle.picky_der_input.specs.Enclosures
 pub mod Members
+pub mod Layouts
+pub mod LayoutLaws
 pub mod KnownLaws
 pub mod EnclosureLaws
 pub mod Firsts

@@ -6,9 +6,13 @@ use lib.Pointwise.{pointwise}
 use lib.Dec.{eqb}
 use Rattle.picky_der_core.specs.Tree.{ListKind, Tree, Trees, trees}
 use Rattle.picky_der_core.specs.Readable.{IsReadable, AreReadable}
-use Rattle.picky_der_core.specs.Shape.{Shape, Shapes, IsOf, AreOf}
-use Rattle.picky_der_ser.specs.Meaning.{option_meaning}
+use Rattle.picky_der_core.specs.Shape.{Shape, Shapes, Layout, IsOf, AreOf, AreMembersOf, AreMembersTold, firsts, next_firsts}
+use Rattle.picky_der_ser.specs.Meaning.{option_meaning, maybe_more, unless_default}
+use Rattle.picky_der_ser.specs.Defaults.{IsOne}
 use Rattle.picky_der_de.specs.ArrayLaws.{times, array_known}
+use Rattle.picky_der_de.specs.Firsts.{IsBegunBy, firsts_in}
+use Rattle.picky_der_de.specs.Layouts.{AreBegunBy}
+use Rattle.picky_der_de.specs.LayoutLaws.{maybe_begun, maybe_told, same_unless_default}
 use Rattle.picky_der_de.specs.KnownLaws.{IsKnownByTree, boolean_known, unsigned_known, bytes_known, text_known, character_known, raw_known, option_known, list_known, both, row_members, first_member, other_members}
 
 -- where the two are one readable tree of the shape, the two values that mean them are equal
@@ -93,4 +97,35 @@ pub tell_grouped : (ss : Shapes) (ts us : Trees) (p q r : Bool) → TellAll ss t
 tell_grouped ss ts us true q r h = h
 tell_grouped ss ts us false q r h = h
 
-pub ruleset tells = (tells_boolean, tells_unsigned, tells_null, tells_text, tells_character, tells_bytes, tells_raw, tells_option, tells_list, tells_octets, tells_bits, tells_explicit, tells_implicit, tells_application, tells_array, tells_fields, tell_none, tell_last, tell_next, tell_grouped)
+-- ---- members of which some may be missing
+
+pub record TellMembers (l : Layout) (ts us : Trees) (equal : Bool) : Type 0 where
+  pub tell : AreMembersTold l → AreMembersOf l ts → AreMembersOf l us → AreReadable ts → ts ≡ us → equal ≡ true
+
+pub tells_struct : (k : ListKind) (l : Layout) (ts us : Trees) (p : Bool) → AreMembersTold l → TellMembers l ts us p → Tells (Shape.struct_of k l) (Tree.list k ts) (Tree.list k us) p
+tells_struct k l ts us p apart h = record { tells = λ a b r e. h.tell apart a.1 b.1 r.1 (row_members e) }
+
+pub tell_empty : TellMembers Layout.empty Trees.none Trees.none true
+tell_empty = record { tell = λ apart a b r e. refl }
+
+pub tell_last_required : (s : Shape) (t u : Tree) (p : Bool) → Tells s t u p → TellMembers (Layout.required s Layout.empty) (Trees.more t Trees.none) (Trees.more u Trees.none) p
+tell_last_required s t u p h = record { tell = λ apart a b r e. h.tells a.0 b.0 r.0 (first_member e) }
+
+pub tell_required : (s : Shape) (l : Layout) (t u : Tree) (ts us : Trees) (p q : Bool) → Tells s t u p → TellMembers l ts us q → TellMembers (Layout.required s l) (Trees.more t ts) (Trees.more u us) (p && q)
+tell_required s l t u ts us p q h k = record { tell = λ apart a b r e. both (h.tells a.0 b.0 r.0 (first_member e)) (k.tell apart a.1 b.1 r.1 (other_members e)) }
+
+pub tell_maybe : {V : Type 0} (meaning : V → Tree) (s : Shape) (eq : V → V → Bool) (l : Layout) (ts us : Trees) (q : Bool) → ((v : V) → IsBegunBy (firsts s) (meaning v)) → ((x y : V) → Tells s (meaning x) (meaning y) (eq x y))
+    → AreBegunBy (next_firsts l) ts → AreBegunBy (next_firsts l) us → TellMembers l ts us q → (x y : Option V) → TellMembers (Layout.maybe s l) (maybe_more meaning x ts) (maybe_more meaning y us) (option_eq eq x y && q)
+tell_maybe meaning s eq l ts us q begins h f g k x y = record { tell = λ apart. maybe_told meaning s l begins apart eq q (λ v w. (h v w).tells) ts us f g (k.tell apart.1) x y }
+
+pub tell_default : {V : Type 0} (meaning : V → Tree) (left_out : V → Bool) (s : Shape) (eq : V → V → Bool) (l : Layout) (ts us : Trees) (q : Bool) → IsOne eq left_out → ((v : V) → IsBegunBy (firsts s) (meaning v)) → ((x y : V) → Tells s (meaning x) (meaning y) (eq x y))
+    → AreBegunBy (next_firsts l) ts → AreBegunBy (next_firsts l) us → TellMembers l ts us q → (x y : V) → TellMembers (Layout.maybe s l) (maybe_more meaning (unless_default left_out x) ts) (maybe_more meaning (unless_default left_out y) us) (eq x y && q)
+tell_default meaning left_out s eq l ts us q one begins h f g k x y = record {
+  tell = λ apart a b r e. same_unless_default eq left_out one x y q (maybe_told meaning s l begins apart eq q (λ v w. (h v w).tells) ts us f g (k.tell apart.1) (unless_default left_out x) (unless_default left_out y) a b r e);
+}
+
+-- with which bytes they begin, where their kind tells it
+pub begun_so : (t : Tree) → IsBegunBy (firsts_in t) t
+begun_so t = λ b h. h
+
+pub ruleset tells = (tells_boolean, tells_unsigned, tells_null, tells_text, tells_character, tells_bytes, tells_raw, tells_option, tells_list, tells_octets, tells_bits, tells_explicit, tells_implicit, tells_application, tells_array, tells_fields, tell_none, tell_last, tell_next, tell_grouped, tells_struct, tell_empty, tell_last_required, tell_required, tell_maybe, tell_default, begun_so, maybe_begun)

@@ -1,11 +1,12 @@
 //! Sequences and sets that are being read (X.690, 8.9 to 8.12).
 ghost use Rattle.std.specs.Prelude.{◌≡◌, ◌≤◌, ◌+◌, None};
 
-use crate::{Deserialize, Deserializer};
+use crate::{Begins, Deserialize, Deserializer};
 use picky_der_core::asn1::Tag;
 use picky_der_core::misc::ReadExt;
 use picky_der_core::{Asn1DerError, Result};
 use picky_der_input::Outer;
+use picky_der_ser::DefaultOf;
 
 /// A sequence or a set that is being read. Dropped without `end`, its end stays the innermost one: nothing behind it is
 /// read then.
@@ -26,6 +27,8 @@ impl<'a, R: ReadExt> Sequence<'a, R> {
     ghost use Rattle.picky_der_input.specs.Ends.{OpensLazily, Closes, RefusesClose};
     ghost use Rattle.picky_der_input.specs.LookAhead.{Identifies, RefusesIdentifier};
     ghost use Rattle.picky_der_de.specs.Members.{ReadsMember, RefusesMember, HasNoMore, ReadsAll, RefusesAll};
+    ghost use Rattle.picky_der_ser.specs.Meaning.{unless_default};
+    ghost use Rattle.picky_der_de.specs.Layouts.{Lacks, RefusesOptional, RefusesDefault};
 
     /// Reads the next `len` bytes as members, without a header. Directly under an implicit tag that tag's special
     /// reading is given up, and its end is the one around this. No order of members is tested.
@@ -93,6 +96,51 @@ impl<'a, R: ReadExt> Sequence<'a, R> {
         match self.de.deserialize_identifier() {
             Ok(tag) => Ok(Some(tag)),
             Err(error) => Err(error),
+        }
+    }
+
+    /// The next member, where the next byte begins a value of this type, and `None` where it doesn't, and at the end. That byte
+    /// is left unread then.
+    ///
+    /// A member is refused as `next_element` refuses it, and a byte that isn't there as `next_tag` does.
+    pub fn next_optional<T: Begins>(&mut self) -> Result<Option<T>>
+        ensures same_reference { borrowed_by self.new ≡ borrowed_by self.old }
+        ensures outer { outer_of self.new ≡ outer_of self.old }
+        ensures member { IfOk result (λ next. IfSome next (λ value. ReadsMember T.shape (state_of self.old) (state_of self.new) (T.meaning value))) }
+        ensures none { IfOk result (λ next. IfNone next (Lacks T.shape (state_of self.old) (state_of self.new))) }
+        ensures err { IfErr result (RefusesOptional T.meaning T.shape (state_of self.old) (state_of self.new)) }
+    {
+        match self.next_tag() {
+            Ok(Some(tag)) => {
+                if T::begins_with(tag) {
+                    return Ok(Some(self.next_field::<T>()?));
+                }
+                Ok(None)
+            }
+            Ok(None) => Ok(None),
+            Err(error) => Err(error),
+        }
+    }
+
+    /// The next member, and the default where the next byte begins no value of this type, and at the end. That byte is left
+    /// unread then.
+    ///
+    /// `InvalidData` where the default is written out (X.690, 11.5); else as `next_optional` refuses it.
+    pub fn next_or_default<T: Begins, D: DefaultOf<T>>(&mut self) -> Result<T>
+        ensures same_reference { borrowed_by self.new ≡ borrowed_by self.old }
+        ensures outer { outer_of self.new ≡ outer_of self.old }
+        ensures member { IfOk result (λ value. IfSome (unless_default D.left_out value) (λ other. ReadsMember T.shape (state_of self.old) (state_of self.new) (T.meaning other))) }
+        ensures none { IfOk result (λ value. IfNone (unless_default D.left_out value) (Lacks T.shape (state_of self.old) (state_of self.new))) }
+        ensures err { IfErr result (RefusesDefault T.meaning D.left_out T.shape (state_of self.old) (state_of self.new)) }
+    {
+        match self.next_optional::<T>()? {
+            Some(value) => {
+                if D::is_default(&value) {
+                    return Err(self.de.refuse(Asn1DerError::InvalidData));
+                }
+                Ok(value)
+            }
+            None => Ok(D::default()),
         }
     }
 

@@ -1,13 +1,9 @@
 -- A look at the next byte.
 use Rattle.std.proofs.Common.{◌≡◌, ◌≢◌, ℕ, ◌<◌, List, [], take, Option, Some, None, refl, sym, ◌∙◌, ap, arith}
 use Rattle.std.proofs.lemmas.List.{take-append-drop}
-use Rattle.std.specs.declared.io.Error.{Error}
-use Rattle.std.specs.IoError.{error_kind}
 use Rattle.picky_der_core.specs.declared.error.Asn1DerError.{Asn1DerError}
 use Rattle.picky_der_core.specs.Failure.{failure_of}
 use Rattle.picky_der_core.specs.declared.error.Asn1DerError.TheVariants.{TruncatedData, InvalidData, OutOfMemory}
-use Rattle.picky_der_core.specs.Error.{kind_of}
-use Rattle.picky_der_core.specs.Reader.{IsFaultOrEnd}
 use Rattle.picky_der_core.specs.Refusal.{Refusal, missing}
 use Rattle.picky_der_input.specs.declared.end.End.{End}
 use Rattle.picky_der_input.specs.declared.end.End.TheVariants.{Limit, Soft, Hard}
@@ -29,23 +25,20 @@ pub missing_no_want : {s : State} {e : Asn1DerError} → IsMissing s e → e ≢
 missing_no_want {s} (end_is_here z is) h = no_want_at_end s.end (sym is ∙ h)
 missing_no_want (input_ended l z is) h = let q : TruncatedData ≡ OutOfMemory = sym is ∙ h in cc
 
-stopped_same : (old new : State) {e : Asn1DerError} → StopsAt old new e → new ≡ record old { input = new.input; failed = Some (failure_of e); faults = new.faults }
-stopped_same old new {e} s = rw (← s.failed, ← s.peeked, ← s.taken, ← s.room, ← s.end, ← s.direct, ← s.sets, ← s.limit, ← s.through) refl
-
 nothing_there : (d : Option ℕ) (s : State) → d ≡ None → choice_refusal_in d s [] ≡ Some (missing (is_hard s.end) s.room [], [])
 nothing_there None s h = refl
 nothing_there (Some number) s h = absurd (let q : Some number ≡ None = h in cc)
 
 -- the reader gave no byte
-pub choice_unread : {old new : State} {e : Asn1DerError} → StopsAt old new e → (error : Error) → e ≡ kind_of (error_kind error) → IsFaultOrEnd old.input new.input old.faults new.faults error → 0 < old.room → old.direct ≡ None → RefusesChoice old new e
-choice_unread {old} {new} {e} s error is f ahead whole = record {
+pub choice_unread : {old new : State} {e : Asn1DerError} → StopsAt old new e → 0 < old.room → old.direct ≡ None → RefusesChoice old new e
+choice_unread {old} {new} {e} s ahead whole = record {
   refuses = record {
-    fails = read_fails s error is f;
-    just = λ j bs k. just_missing (choice_refusal old) (read_missing s error is f ahead j.faults) s.input s.taken s.peeked k (λ h. nothing_there old.direct old whole ∙ ap (λ x. Some (x, [])) h);
-    memory = λ n same. missing_no_want (read_missing s error is f ahead same);
-    same = stopped_same old new s;
+    fails = read_fails s;
+    just = λ j bs k. just_missing (choice_refusal old) (read_missing s ahead j.faults) s.input (ap (λ (x : State). x.taken) s.same) (ap (λ (x : State). x.peeked) s.same) k (λ h. nothing_there old.direct old whole ∙ ap (λ x. Some (x, [])) h);
+    memory = λ n same. missing_no_want (read_missing s ahead same);
+    same = s.same;
   };
-  hidden = λ j. no_byte whole (read_missing s error is f ahead j.faults);
+  hidden = λ j. no_byte whole (read_missing s ahead j.faults);
 }
 
 stands_implicit : (d : Option ℕ) (number : ℕ) (s : State) (rest : List ℕ) → d ≡ Some number → choice_refusal_in d s rest ≡ Some (InvalidData, rest)

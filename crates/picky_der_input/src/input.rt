@@ -1,9 +1,11 @@
 //! The input, and how far it may be read.
 ghost use Rattle.std.specs.Prelude.{◌≡◌, ◌<◌, ◌^◌, ◌∷◌, [], length, false, None, Some, IfNone, IfSome, IfOk, IfErr, OnOk};
 ghost use Rattle.picky_der_input.specs.State.{fresh};
+ghost use Rattle.std.specs.IoError.{error_kind};
+ghost use Rattle.picky_der_core.specs.Error.{kind_of};
 ghost use Rattle.picky_der_core.specs.Failure.{failure_of};
 ghost use Rattle.picky_der_core.specs.Peeking.{in_front};
-ghost use Rattle.picky_der_input.specs.Steps.{IsWithin, Takes, TakesKept, StopsShort, Fails, IsMissing, IsOther, TakesNoMemory};
+ghost use Rattle.picky_der_input.specs.Steps.{IsWithin, Takes, TakesKept, StopsShort, Fails, IsMissing, IsOther, TakesNoMemory, failed_with};
 
 mod contents;
 mod enclosure;
@@ -23,6 +25,7 @@ pub use ends::Outer;
 use picky_der_core::misc::{PeekableReader, ReadExt};
 use picky_der_core::{Asn1DerError, Failure, Result};
 use std::alloc::Global;
+use std::io;
 use std::marker::Model;
 
 // How many bytes of a number or bool are kept: one more than the longest content of a number has.
@@ -149,6 +152,16 @@ impl<R: ReadExt> Input<R> {
         error
     }
 
+    // Has failed from here on with a fault of the reader.
+    pub(crate) fn fault(&mut self, error: io::Error) -> Asn1DerError
+        ensures error { result ≡ kind_of (error_kind error) }
+        ensures same { self.new ≡ failed_with self.old result }
+    {
+        let error = Asn1DerError::from(error);
+        self.failed = Some(Failure::of(error));
+        error
+    }
+
     // The next byte before the innermost end.
     pub(crate) fn next_byte(&mut self) -> Result<u8>
         ensures ok { IfOk result (λ b. Takes self.old self.new (b ∷ [])) }
@@ -165,16 +178,13 @@ impl<R: ReadExt> Input<R> {
             let error = self.end.missing();
             return Err(self.fail(error));
         }
-        match self.reader.read_one() {
-            Ok(byte) => {
+        match self.reader.read_next() {
+            Ok(Some(byte)) => {
                 self.room -= 1;
                 Ok(byte)
             }
-            Err(e) => {
-                let error = Asn1DerError::from(e);
-                self.failed = Some(Failure::of(error));
-                Err(error)
-            }
+            Ok(None) => Err(self.fail(Asn1DerError::TruncatedData)),
+            Err(error) => Err(self.fault(error)),
         }
     }
 

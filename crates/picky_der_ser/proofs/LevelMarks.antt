@@ -2,12 +2,15 @@
 use Rattle.std.proofs.Common.{◌≡◌, ◌≢◌, ℕ, ◌<◌, ◌≤◌, ◌-◌, List, [], ◌∷◌, ◌++◌, length, take, drop, Option, None, Some, IfSome, sym, ap, ap₂, ◌∙◌, arith, subst}
 use Rattle.std.specs.Prelude.{reverse}
 use Rattle.std.proofs.lemmas.Grind.{common_steps}
-use Rattle.std.proofs.lemmas.List.{drop-append-le, drop_all, length-drop, take-append-le, length-take-le}
+use Rattle.std.proofs.Math.Seq.{take-append_seam, drop-append_seam}
+use Rattle.std.proofs.lemmas.List.{take-take, drop-append-le, drop_all, length-drop, take-append-le, length-take-le}
 use Rattle.picky_der_ser.specs.declared.levels.Mark.{Mark}
 use Rattle.picky_der_ser.specs.State.{Level, Stack, with_bytes, begun, in_order}
 use Rattle.picky_der_core.specs.Encoding.{der}
 use Rattle.picky_der_core.specs.Wrapper.{under}
 use Rattle.picky_der_ser.specs.Heading.{tree_of}
+use Rattle.picky_der_ser.specs.declared.header.Header.TheVariants.{Raw}
+use Rattle.picky_der_ser.specs.Sealed.{sealed}
 use Rattle.picky_der_ser.specs.Marks.{level_at, levels_of, below, seams_below, level_of, with_pending, IsMark, AreMarks}
 use Rattle.picky_der_ser.specs.Parts.{AreSeams, last_seam, next_seams}
 use Rattle.picky_der_ser.proofs.Seams.{seams-next, last_seam-next, drop-next_seams, take-next_seams, length-next_seams}
@@ -106,6 +109,25 @@ stack-uncut {p} {m} ms s q was h =
     let none : drop m.first_seam q ≡ [] = drop_all m.first_seam q h in
     let order : level_at m s q ≡ in_order (level_at m s q) = in_order-uncut (level_at m s q) none in
     rw was (ap (λ l. record { inside = levels_of ms (take m.at s) (take m.first_seam q); pending = Some l }) order)
+
+-- what is pending holds its whole encoding
+pub stack-sealed : {p : Option Mark} {m : Mark} (n : Mark) (ms : List Mark) (s t q r : List ℕ) → p ≡ Some m → n.header ≡ Raw → n.around.items ≡ [] → n.at ≡ m.at → n.start ≡ m.at → n.first_seam ≡ m.first_seam
+    → AreMarks (with_pending p ms) (length s) q → t ≡ take m.at s ++ der (under m.around.items (tree_of m.header (drop m.start s))) → r ≡ take m.first_seam q
+    → IfSome (level_of p s q) (λ l. stack_at (Some n) ms t r ≡ record (stack_at p ms s q) { pending = Some (sealed l) })
+stack-sealed {p} {m} n ms s t q r was header around at start first marks e f =
+    let before : AreMarks (m ∷ ms) (length s) q = subst (λ o. AreMarks (with_pending o ms) (length s) q) was marks in
+    let within = before.0.within in
+    let room = before.0.room in
+    let whole = der (under m.around.items (tree_of m.header (drop m.start s))) in
+    let front = take m.at s in
+    let size : length front ≡ m.at = length-take-le m.at s (omega (arith, within, room)) in
+    let count : length (take m.first_seam q) ≡ m.first_seam = length-take-le m.first_seam q before.0.first in
+    let all : drop n.start t ≡ whole = ap (λ k. drop k t) (start ∙ sym size) ∙ ap (drop (length front)) e ∙ drop-append_seam front whole in
+    let none : drop n.first_seam r ≡ [] = ap (λ k. drop k r) first ∙ ap (drop m.first_seam) f ∙ drop_all m.first_seam (take m.first_seam q) (omega (arith, count)) in
+    let bytes : take n.at t ≡ front = ap (λ k. take k t) (at ∙ sym size) ∙ ap (take (length front)) e ∙ take-append_seam front whole in
+    let seams : take n.first_seam r ≡ take m.first_seam q = ap (λ k. take k r) first ∙ ap (take m.first_seam) f ∙ take-take m.first_seam m.first_seam q (omega arith) in
+    let inside : levels_of ms (take n.at t) (take n.first_seam r) ≡ levels_of ms front (take m.first_seam q) = ap₂ (λ x y. levels_of ms x y) bytes seams in
+    rw was (cc)
 
 -- where nothing is pending, what is added goes to the innermost level
 pub stack-grown : (p : Option Mark) (ms : List Mark) (s q bs : List ℕ) (l : Level) (ls : List Level) → AreMarks (with_pending p ms) (length s) q → level_of p s q ≡ None

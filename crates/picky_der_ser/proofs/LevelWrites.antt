@@ -20,6 +20,7 @@ use Rattle.picky_der_ser.specs.declared.header.Header.TheVariants.{Tagged, Appli
 use Rattle.picky_der_ser.specs.Heading.{tree_of}
 use Rattle.picky_der_ser.specs.Headers.{headers, HasNumber, HaveTagNumbers}
 use Rattle.picky_der_ser.specs.State.{Level, Stack, with_bytes}
+use Rattle.picky_der_ser.specs.Sealed.{sealed}
 use Rattle.picky_der_ser.specs.Calls.{Wrote, Refused, no_sink, no_memory}
 use Rattle.picky_der_ser.proofs.HeaderBytes.{der-headers}
 
@@ -88,6 +89,14 @@ module _ (p : Option Level) (old new : Stack) (n : ℕ) (numbers : IfSome p (λ 
           let last : hs ≡ headers l.around l.header (length l.content) =
           back ∙ ap (λ m. drop m all) size ∙ ap (drop (length l.content)) d ∙ drop-append_seam l.content (headers l.around l.header n) ∙ ap (headers l.around l.header) size in
           (writable_headed l.around l.header l.content a (omega (arith, ap length last, ap length first, fits)), rw (last, first) (sym (der-headers l.around l.header l.content)))
+
+-- it holds its whole encoding
+pub encoding_sealed : (p : Option Level) (old new : Stack) (bs : List ℕ) → IfSome p (λ l. HaveTagNumbers l.around × HasNumber l.header) → IfSome p (λ l. new ≡ record old { pending = Some (sealed l) })
+    → IfSome new.pending (λ l. bs ≡ l.content) → length bs < 2 ^ 64 → AreEncoding as_it_is p bs
+encoding_sealed None old new bs numbers is shown fits = tt
+encoding_sealed (Some l) old new bs numbers is shown fits =
+    let e : bs ≡ der (under l.around (tree_of l.header l.content)) = subst (λ o. IfSome o (λ m. bs ≡ m.content)) (ap (λ (s : Stack). s.pending) is) shown in
+    (writable_counted l.around l.header l.content numbers (omega (arith, ap length e, fits)), e)
 
 module _ {W : Type 0} (g : Ghosts W) where
   pub wrote_by : (t : Tree) (bs : List ℕ) (old new : W) (r : Result ℕ Asn1DerError) → IsWritable t → bs ≡ der t → IfOk r (λ n. n ≡ length bs) → OnOk r (Appends (g.told old) (g.told new) bs) → IfOk r (λ n. Wrote g t old n new)

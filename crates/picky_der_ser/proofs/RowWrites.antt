@@ -10,7 +10,7 @@ use Rattle.picky_der_core.specs.Encoding.{written, encodings, der}
 use Rattle.picky_der_core.specs.Readable.{IsWritable}
 use Rattle.picky_der_core.specs.Wrapper.{under}
 use Rattle.picky_der_ser.specs.State.{State, Level, with_member, with_members}
-use Rattle.picky_der_ser.specs.Calls.{AreWritable, MemoryExcuse, Fails, Gains, Rejects, GainsAll, GainsRow, RejectsRow}
+use Rattle.picky_der_ser.specs.Calls.{AreWritable, MemoryExcuse, Fails, Gains, Rejects, GainsAll, GainsRow, RejectsRow, Leads}
 use Rattle.picky_der_ser.proofs.Alike.{excuse_of_part}
 use Rattle.picky_der_ser.proofs.ListBytes.{before, before_next, member_writable}
 use Rattle.picky_der_ser.proofs.Members.{Awaits, level_with, list_gained, list_stopped}
@@ -57,10 +57,6 @@ module _ {W : Type 0} (g : Ghosts W) where
           subst (λ (s : State W). IfSome s.pending (λ m. new ≡ with_level s (with_members m (encodings all)))) k h.added in
           rest ∙ ap (with_level old) (members_behind l t all)
 
-  pub row_goes_on : {T : Type 0} (r : Result T Asn1DerError) (ts : Trees) (new : State W) {t : Tree} {old between : State W} → Gains g t old between → OnOk r (GainsRow g ts between new) → OnOk r (GainsRow g (Trees.more t ts) old new)
-  row_goes_on (Ok v) ts new a h = all_gained ts new a h
-  row_goes_on (Err e) ts new a h = tt
-
   -- the first one was refused
   pub row_starts : (ts : Trees) {t : Tree} {old new : State W} {e : Asn1DerError} → Rejects g t old e new → RejectsRow g (Trees.more t ts) old e new
   row_starts ts {t} {old} {new} {e} h = record { failed = h.failed; same = h.same; again = h.again; first = first old.failed h.first }
@@ -80,9 +76,20 @@ module _ {W : Type 0} (g : Ghosts W) where
       with_it None is k = cc
       with_it (Some l) is k = (ap (λ (s : State W). s.sink) k, ap (λ (s : State W). s.failed) k)
 
-  pub row_stops : {T : Type 0} (r : Result T Asn1DerError) (ts : Trees) (new : State W) {t : Tree} {old between : State W} → IfNone old.failed (IsSome old.pending) → Gains g t old between → IfErr r (λ e. RejectsRow g ts between e new) → IfErr r (λ e. RejectsRow g (Trees.more t ts) old e new)
-  row_stops (Ok v) ts new opened a h = tt
-  row_stops (Err e) ts new opened a h = all_stopped ts new opened a h
+  -- a member comes in front of others
+  pub row_leads : {T : Type 0} (r : Result T Asn1DerError) (t : Tree) (old between : State W) → IfNone old.failed (IsSome old.pending) → OnOk r (Gains g t old between) → OnOk r (Leads g (Trees.more t) old between)
+  row_leads (Ok v) t old between opened a = record { added = λ ts last h. all_gained ts last a h; refused = λ ts e last h. all_stopped ts last opened a h }
+  row_leads (Err e) t old between opened a = tt
+
+  -- ---- what the calls for what comes in front and for those behind it do together
+
+  pub row_goes_on : {T : Type 0} (r : Result T Asn1DerError) (ts : Trees) (new : State W) {in_front : Trees → Trees} {old between : State W} → Leads g in_front old between → OnOk r (GainsRow g ts between new) → OnOk r (GainsRow g (in_front ts) old new)
+  row_goes_on (Ok v) ts new a h = a.added ts new h
+  row_goes_on (Err e) ts new a h = tt
+
+  pub row_stops : {T : Type 0} (r : Result T Asn1DerError) (ts : Trees) (new : State W) {in_front : Trees → Trees} {old between : State W} → Leads g in_front old between → IfErr r (λ e. RejectsRow g ts between e new) → IfErr r (λ e. RejectsRow g (in_front ts) old e new)
+  row_stops (Ok v) ts new a h = tt
+  row_stops (Err e) ts new a h = a.refused ts e new h
 
   -- ---- the list
 

@@ -158,6 +158,15 @@ module _ {W : Type 0} (g : Ghosts W) where
   RejectsRow Trees.none old e new = ⊥
   RejectsRow (Trees.more t ts) old e new = StopsBefore (AreWritable (Trees.more t ts)) old e new
 
+  -- What comes in front of members was added: they are added, or refused, as the row of it and of them is.
+  pub record Leads (in_front : Trees → Trees) (old new : State W) : Type 0 where
+    pub added : (ts : Trees) (last : State W) → GainsRow ts new last → GainsRow (in_front ts) old last
+    pub refused : (ts : Trees) (e : Asn1DerError) (last : State W) → RejectsRow ts new e last → RejectsRow (in_front ts) old e last
+
+  -- It wasn't added, and so no row is that begins with it.
+  abbrev pub Bars : (Trees → Trees) → State W → Asn1DerError → State W → Type 0
+  Bars in_front old e new = (ts : Trees) → RejectsRow (in_front ts) old e new
+
   -- one that had failed answered one of that kind again, and wrote nothing
   pub record AnswersAgain (old : W) (f : Failure) (r : Result ℕ Asn1DerError) (new : State W) : Type 0 where
     pub error : Asn1DerError

@@ -10,3 +10,5 @@ pub mod Integer
 pub mod Meaning
 pub mod Sequences
 pub mod SequenceState
+pub mod Defaults
+pub mod Sealed

@@ -1,11 +1,20 @@
 -- What values mean that are made of others.
-use Rattle.std.specs.Prelude.{List, map, Option, None, Some}
-use Rattle.picky_der_core.specs.Tree.{ListKind, Tree, trees}
+use Rattle.std.specs.Prelude.{Bool, if◌then◌else◌, List, map, Option, None, Some}
+use Rattle.picky_der_core.specs.Tree.{ListKind, Tree, Trees, trees}
 
 -- a value that may be missing: nothing stands for one that is missing
 abbrev pub option_meaning : {A : Type 0} → (A → Tree) → Option A → Tree
 option_meaning meaning (Some x) = meaning x
 option_meaning meaning None = Tree.absent
+
+-- a member that may be missing, and those behind it
+abbrev pub maybe_more : {A : Type 0} → (A → Tree) → Option A → Trees → Trees
+maybe_more meaning (Some x) ts = Trees.more (meaning x) ts
+maybe_more meaning None ts = ts
+
+-- the value, unless it is the default
+abbrev pub unless_default : {A : Type 0} → (A → Bool) → A → Option A
+unless_default is_default x = if is_default x then None else Some x
 
 -- values of one type, in their order
 abbrev pub list_meaning : {A : Type 0} → ListKind → (A → Tree) → List A → Tree

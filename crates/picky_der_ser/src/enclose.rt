@@ -1,5 +1,5 @@
 //! Contents with their headers in front.
-ghost use Rattle.std.specs.Prelude.{◌≡◌, ◌≤◌, ◌<◌, ◌+◌, ◌-◌, ◌++◌, length, take, drop, vec_len, OnOk};
+ghost use Rattle.std.specs.Prelude.{◌≡◌, ◌≤◌, ◌<◌, ◌+◌, ◌-◌, ◌∷◌, ◌++◌, length, take, drop, vec_len, OnOk};
 ghost use Rattle.std.specs.List.{slice_rotate_right};
 ghost use Rattle.picky_der_core.specs.Encoding.{der};
 ghost use Rattle.picky_der_core.specs.Wrapper.{under};
@@ -8,7 +8,7 @@ ghost use Rattle.picky_der_ser.specs.Headers.{headers, HasNumber, HaveTagNumbers
 ghost use Rattle.picky_der_ser.specs.Overwrite.{overwritten};
 
 use crate::Header;
-use crate::headers::push_headers;
+use crate::headers::{push_headers, short_identifier};
 use picky_der_core::asn1::Wrapper;
 use std::alloc::AllocError;
 
@@ -32,8 +32,19 @@ fn fill_from_last(out: &mut Vec<u8>, at: usize, count: usize)
     out.truncate(kept);
 }
 
+// Writes a header of two bytes over those from `at` on.
+pub(crate) fn fill_short(out: &mut Vec<u8>, at: usize, identifier: u8, len: u8)
+    requires { at + 2 ≤ vec_len out.old }
+    ensures items { out.new.items ≡ take at out.old.items ++ (identifier ∷ len ∷ drop (at + 2) out.old.items) }
+    ensures len { vec_len out.new ≡ vec_len out.old }
+{
+    out[at..at + 2].copy_from_slice(&[identifier, len]);
+}
+
 // Adds a content with its headers in front.
-pub(crate) fn push_enclosed(
+#[cold]
+#[inline(never)]
+fn push_nested(
     out: &mut Vec<u8>,
     around: &[Wrapper],
     header: Header,
@@ -48,9 +59,32 @@ pub(crate) fn push_enclosed(
     Ok(())
 }
 
+// Adds a content with its headers in front. The vector grows once at most where there is one header with a short length.
+pub(crate) fn push_enclosed(
+    out: &mut Vec<u8>,
+    around: &[Wrapper],
+    header: Header,
+    content: &[u8],
+) -> Result<(), AllocError>
+    requires numbers { HaveTagNumbers around.now × HasNumber header }
+    ensures ok { OnOk result (out.new.items ≡ out.old.items ++ der (under around.now (tree_of header content.now))) }
+    ensures grows { vec_len out.old ≤ vec_len out.new }
+{
+    let len = content.len();
+    let Some(identifier) = short_identifier(around, &header, len) else {
+        return push_nested(out, around, header, content);
+    };
+    out.reserve(2 + len)?;
+    out.extend_from_slice(&[identifier, len as u8])?;
+    out.extend_from_slice(content)?;
+    Ok(())
+}
+
 // Puts the headers of the content from `start` on in front of it. The room from `at` to `start` takes the first of them, so
 // the content moves only where they are longer.
-pub(crate) fn enclose(
+#[cold]
+#[inline(never)]
+fn enclose_nested(
     out: &mut Vec<u8>,
     at: usize,
     start: usize,
@@ -71,4 +105,30 @@ pub(crate) fn enclose(
     rotate_from(out, start, more);
     fill_from_last(out, at, room);
     Ok(())
+}
+
+// Puts the headers of the content from `start` on in front of it. The room from `at` to `start` isn't larger than they are;
+// one header with a short length just fills it.
+pub(crate) fn enclose(
+    out: &mut Vec<u8>,
+    at: usize,
+    start: usize,
+    around: &[Wrapper],
+    header: Header,
+) -> Result<(), AllocError>
+    requires numbers { HaveTagNumbers around.now × HasNumber header }
+    requires room { at ≤ start }
+    requires within { start ≤ vec_len out.old }
+    requires least { start ≤ at + length (headers around.now header 0) }
+    ensures ok { OnOk result (out.new.items ≡ take at out.old.items ++ der (under around.now (tree_of header (drop start out.old.items)))) }
+    ensures grows { at ≤ vec_len out.new }
+{
+    let len = out.len() - start;
+    match short_identifier(around, &header, len) {
+        Some(identifier) if start - at == 2 => {
+            fill_short(out, at, identifier, len as u8);
+            Ok(())
+        }
+        _ => enclose_nested(out, at, start, around, header),
+    }
 }

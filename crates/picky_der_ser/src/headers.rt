@@ -1,5 +1,5 @@
 //! The bytes in front of a content: the headers of the wrappers around it, and its own.
-ghost use Rattle.std.specs.Prelude.{◌≡◌, ◌+◌, ◌^◌, ◌<◌, ◌≤◌, ◌∷◌, ◌++◌, reverse, take, drop, vec_len, OnOk};
+ghost use Rattle.std.specs.Prelude.{◌≡◌, ◌+◌, ◌^◌, ◌<◌, ◌≤◌, ◌∷◌, ◌++◌, reverse, take, drop, vec_len, [], IfSome, IsSome, OnOk};
 ghost use Rattle.picky_der_core.specs.Element.{len as bytes_of};
 ghost use Rattle.picky_der_core.specs.Wrapper.{HasTagNumber};
 ghost use Rattle.picky_der_ser.specs.Headers.{opening, own_header, headers, joined as joined_in, joined_last, HasNumber, HaveTagNumbers};
@@ -97,8 +97,27 @@ fn innermost(around: &[Wrapper], header: &Header) -> Option<Header>
     }
 }
 
-// Adds all that stands in front of a content of `len` bytes.
-pub(crate) fn push_headers(
+// The identifier byte in front of a content of `len` bytes, where nothing but it and a length of one byte stands there
+// (X.690, 8.1.3.4), as nearly always.
+pub(crate) fn short_identifier(around: &[Wrapper], header: &Header, len: usize) -> Option<u8>
+    requires { HasNumber header.now }
+    ensures header { IfSome result (λ identifier. headers around.now header.now len ≡ identifier ∷ len ∷ []) }
+    ensures short { IsSome result → len < 0x80 }
+{
+    if !around.is_empty() || len >= 0x80 {
+        return None;
+    }
+    match header {
+        Header::Tagged(tag) => Some(tag.inner()),
+        Header::Application(number) => Some(Tag::application_constructed(*number).inner()),
+        Header::Raw => None,
+    }
+}
+
+// Adds all that stands in front of a content of `len` bytes, the innermost header first.
+#[cold]
+#[inline(never)]
+fn push_nested_headers(
     out: &mut Vec<u8>,
     around: &[Wrapper],
     header: Header,
@@ -119,5 +138,24 @@ pub(crate) fn push_headers(
         rest = outer;
     }
     reverse_from(out, start);
+    Ok(())
+}
+
+// Adds all that stands in front of a content of `len` bytes.
+pub(crate) fn push_headers(
+    out: &mut Vec<u8>,
+    around: &[Wrapper],
+    header: Header,
+    len: usize,
+) -> Result<(), AllocError>
+    requires numbers { HaveTagNumbers around.now × HasNumber header }
+    requires fits { len < 2 ^ 63 }
+    ensures ok { OnOk result (out.new.items ≡ out.old.items ++ headers around.now header len) }
+    ensures grows { vec_len out.old ≤ vec_len out.new }
+{
+    let Some(identifier) = short_identifier(around, &header, len) else {
+        return push_nested_headers(out, around, header, len);
+    };
+    out.extend_from_slice(&[identifier, len as u8])?;
     Ok(())
 }

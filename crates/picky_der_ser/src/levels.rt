@@ -5,14 +5,18 @@ ghost use Rattle.picky_der_core.specs.Wrapper.{under};
 ghost use Rattle.picky_der_ser.specs.Heading.{tree_of};
 ghost use Rattle.picky_der_ser.specs.Headers.{headers, HasNumber, HaveTagNumbers};
 ghost use Rattle.picky_der_ser.specs.State.{Level, with_bytes, begun, in_order};
+ghost use Rattle.picky_der_ser.specs.Sealed.{sealed};
 
 use crate::Header;
-use crate::enclose::{enclose, push_enclosed};
-use crate::headers::push_headers;
+use crate::enclose::{enclose, fill_short, push_enclosed};
+use crate::headers::{push_headers, short_identifier};
 use crate::sets::{arrange, begin_member};
 use picky_der_core::asn1::Wrapper;
 use std::alloc::{AllocError, Global};
 use std::marker::Model;
+
+// How many bytes are asked for when the first member of an outermost level comes.
+const FIRST_ROOM: usize = 120;
 
 // Where a level begins: the room for its headers, and behind it its content; and how many seams those around it have.
 #[derive(Drop)]
@@ -73,8 +77,18 @@ impl Levels {
         !self.marks.is_empty()
     }
 
-    // Drops the level that was opened last and hasn't ended.
+    // Drops the level that was opened last and hasn't ended. Where a member is written there mostly is none.
     pub(crate) fn give_up(&mut self)
+        ensures { self.new ≡ record self.old { pending = None } }
+    {
+        if self.pending.is_some() {
+            self.drop_pending();
+        }
+    }
+
+    #[cold]
+    #[inline(never)]
+    fn drop_pending(&mut self)
         ensures { self.new ≡ record self.old { pending = None } }
     {
         if let Some(mark) = &self.pending {
@@ -100,12 +114,16 @@ impl Levels {
         });
     }
 
-    // Makes room for the headers of a level without members, as much as those of an empty content take.
+    // Makes room for the headers of a level without members, as much as those of an empty content take. The first level asks
+    // for some bytes more, so that what is small needs no other room.
     fn make_room(&mut self) -> Result<(), AllocError>
         ensures { OnOk result (self.new ≡ self.old) }
     {
         if let Some(mark) = &mut self.pending {
             if self.scratch.len() == mark.at {
+                if mark.at == 0 {
+                    self.scratch.reserve(FIRST_ROOM)?;
+                }
                 push_headers(&mut self.scratch, &mark.around, mark.header, 0)?;
                 mark.start = self.scratch.len();
             }
@@ -209,6 +227,29 @@ impl Levels {
             push_headers(&mut self.scratch, &mark.around, mark.header, len)?;
         }
         Ok(())
+    }
+
+    // Writes the header of the level that was opened last into the room for it, where it fits, and answers whether it did:
+    // then the level holds its whole encoding.
+    pub(crate) fn seal(&mut self) -> bool
+        ensures numbers { IfSome self.old.pending (λ p. HaveTagNumbers p.around × HasNumber p.header) }
+        ensures yes { result ≡ true → IfSome self.old.pending (λ p. self.new ≡ record self.old { pending = Some (sealed p) }) }
+        ensures no { result ≡ false → self.new ≡ self.old }
+    {
+        if let Some(mark) = &mut self.pending {
+            let len = self.scratch.len() - mark.start;
+            if let Some(identifier) = short_identifier(&mark.around, &mark.header, len) {
+                if mark.start - mark.at == 2 {
+                    fill_short(&mut self.scratch, mark.at, identifier, len as u8);
+                    self.seams.truncate(mark.first_seam);
+                    mark.around.clear();
+                    mark.header = Header::Raw;
+                    mark.start = mark.at;
+                    return true;
+                }
+            }
+        }
+        false
     }
 
     // What the level that was opened last holds.

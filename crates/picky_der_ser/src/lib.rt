@@ -2,6 +2,7 @@
 #![tactic(auto)]
 
 mod boolean;
+mod default;
 mod enclose;
 mod entry;
 mod header;
@@ -10,7 +11,9 @@ mod impls;
 mod integer;
 mod lent;
 mod levels;
+mod member;
 mod null;
+mod optional;
 mod plain;
 mod row;
 mod sequence;
@@ -20,10 +23,13 @@ mod several;
 mod utf8_string;
 
 pub use boolean::Boolean;
+pub use default::{DefaultOf, Defaulted, DefaultedRef, False, Number, True};
 pub use entry::{to_byte_buf, to_bytes, to_vec, to_writer};
 pub use header::Header;
 pub use integer::UnsignedInteger;
+pub use member::SerializeMember;
 pub use null::Null;
+pub use optional::{Optional, OptionalRef};
 pub use picky_der_core::UInt;
 pub use row::{Row, SerializeMembers};
 pub use sequence::Sequence;

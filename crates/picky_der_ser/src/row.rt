@@ -1,8 +1,9 @@
 //! Sequences of members of any types.
-ghost use Rattle.std.specs.Prelude.{◌≡◌, IfErr, OnOk};
+ghost use Rattle.std.specs.Prelude.{◌≡◌, IfOk, IfErr, OnOk};
+ghost use Rattle.picky_der_core.specs.WriterFaults.{IsOnceAtMost};
 ghost use Rattle.picky_der_core.specs.Equality.{IsThatOf};
 ghost use Rattle.picky_der_core.specs.Tree.{ListKind, Tree, Trees};
-ghost use Rattle.picky_der_ser.specs.Calls.{GainsRow, RejectsRow};
+ghost use Rattle.picky_der_ser.specs.Calls.{Fails, GainsRow, RejectsRow, Writes};
 
 use crate::{Sequence, Serialize, Serializer};
 use picky_der_core::Result;
@@ -21,6 +22,18 @@ pub trait SerializeMembers {
         ensures same_reference { borrowed_by sequence.new ≡ borrowed_by sequence.old }
         ensures added { OnOk result (GainsRow W.WriteExt.own (members self.now) (state_of sequence.old) (state_of sequence.new)) }
         ensures err { IfErr result (λ e. RejectsRow W.WriteExt.own (members self.now) (state_of sequence.old) e (state_of sequence.new)) };
+
+    /// Writes the members as a sequence, as the whole body of `Serialize::serialize` of a struct. It is refused as that is.
+    fn serialize_sequence<W: WriteExt>(&self, ser: &mut Serializer<W>) -> Result<usize>
+        ensures wrote { IfOk result (λ n. Writes W.WriteExt.own (Tree.list ListKind.sequence (members self.now)) ser.old n ser.new) }
+        ensures failed { IfErr result (λ e. Fails W.WriteExt.own (Tree.list ListKind.sequence (members self.now)) ser.old e ser.new) }
+        ensures counted { IsOnceAtMost (W.faults ser.old.sink) (W.faults ser.new.sink) }
+        ensures goes_on { W.later ser.old.sink ser.new.sink }
+    {
+        let mut sequence = Sequence::serialize_lazy(ser, Tag::SEQUENCE);
+        self.serialize_members(&mut sequence)?;
+        sequence.end()
+    }
 }
 
 impl SerializeMembers for () {
@@ -47,8 +60,6 @@ impl<M: SerializeMembers> Serialize for Row<M> {
     ghost meaning = { λ row. Tree.list ListKind.sequence (M.members row.0) };
 
     fn serialize<W: WriteExt>(&self, ser: &mut Serializer<W>) -> Result<usize> {
-        let mut sequence = Sequence::serialize_lazy(ser, Tag::SEQUENCE);
-        self.0.serialize_members(&mut sequence)?;
-        sequence.end()
+        self.0.serialize_sequence(ser)
     }
 }

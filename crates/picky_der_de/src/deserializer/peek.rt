@@ -1,7 +1,7 @@
 //! The next tag, looked at and left.
-ghost use Rattle.std.specs.Prelude.{◌≡◌, None, IfNone, IfSome, IfOk, IfErr};
+ghost use Rattle.std.specs.Prelude.{◌≡◌, IfNone, IfSome, IfOk, IfErr};
 ghost use Rattle.picky_der_input.specs.Steps.{IsJudged};
-ghost use Rattle.picky_der_input.specs.LookAhead.{Peeks, HasEnded, TellsChoice, RefusesChoice, Identifies, RefusesIdentifier};
+ghost use Rattle.picky_der_input.specs.LookAhead.{HasEnded, TellsChoice, RefusesChoice, Identifies, RefusesIdentifier};
 
 use super::Deserializer;
 use picky_der_core::Result;
@@ -21,11 +21,10 @@ impl<R: ReadExt> Deserializer<R> {
         self.input.identify()
     }
 
-    // The tag that is next, which is left unread, and `None` where the input ended here, before the innermost end.
+    // The tag that is next, which is left unread, and `None` where the input ended here, before the innermost end. Directly
+    // under an implicit tag it is that one.
     pub(crate) fn identify_next(&mut self) -> Result<Option<Tag>>
-        requires had_not_failed { self.old.failed ≡ None }
-        requires whole { self.old.direct ≡ None }
-        ensures tag { IfOk result (λ next. IfSome next (Peeks self.old self.new)) }
+        ensures tag { IfOk result (λ next. IfSome next (Identifies self.old self.new)) }
         ensures ended { IfOk result (λ next. IfNone next (HasEnded self.old self.new)) }
         ensures err { IfErr result (RefusesIdentifier self.old self.new) }
         ensures at_end { IfErr result (λ e. IsJudged self.old self.new e → self.old.room ≡ 0) }

@@ -6,7 +6,7 @@ ghost use Rattle.picky_der_input.specs.Steps.{Takes, TakesBytes, TakesBehind, Gr
 
 use super::Input;
 use picky_der_core::misc::ReadExt;
-use picky_der_core::{Asn1DerError, Failure, Result};
+use picky_der_core::{Asn1DerError, Result};
 
 // At most this many bytes are drawn at a time, whatever length a content is said to have.
 const PIECE: usize = 512;
@@ -106,11 +106,7 @@ impl<R: ReadExt> Input<R> {
                 self.room -= count;
                 Ok(count)
             }
-            Err(e) => {
-                let error = Asn1DerError::from(e);
-                self.failed = Some(Failure::of(error));
-                Err(error)
-            }
+            Err(error) => Err(self.fault(error)),
         }
     }
 }

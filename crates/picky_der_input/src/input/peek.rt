@@ -1,14 +1,34 @@
 //! The next tag, looked at and left.
 ghost use Rattle.std.specs.Prelude.{◌≡◌, None, IfNone, IfSome, IfOk, IfErr};
 ghost use Rattle.picky_der_input.specs.Steps.{IsJudged};
-ghost use Rattle.picky_der_input.specs.LookAhead.{Peeks, HasEnded, TellsChoice, RefusesChoice, Identifies, RefusesIdentifier};
+ghost use Rattle.picky_der_input.specs.LookAhead.{HasEnded, TellsChoice, RefusesChoice, Identifies, RefusesIdentifier};
 
 use super::Input;
 use picky_der_core::asn1::Tag;
 use picky_der_core::misc::ReadExt;
-use picky_der_core::{Asn1DerError, Failure, Result};
+use picky_der_core::{Asn1DerError, Result};
 
 impl<R: ReadExt> Input<R> {
+    // The next byte before the innermost end, which is left, and `None` where the input ended here, before that end.
+    fn peek_next(&mut self) -> Result<Option<Tag>>
+        requires had_not_failed { self.old.failed ≡ None }
+        requires whole { self.old.direct ≡ None }
+        ensures tag { IfOk result (λ next. IfSome next (TellsChoice self.old self.new)) }
+        ensures ended { IfOk result (λ next. IfNone next (HasEnded self.old self.new)) }
+        ensures err { IfErr result (RefusesChoice self.old self.new) }
+        ensures at_end { IfErr result (λ e. IsJudged self.old self.new e → self.old.room ≡ 0) }
+    {
+        if self.room == 0 {
+            let error = self.end.missing();
+            return Err(self.fail(error));
+        }
+        match self.reader.peek_next() {
+            Ok(Some(byte)) => Ok(Some(Tag::from(byte))),
+            Ok(None) => Ok(None),
+            Err(error) => Err(self.fault(error)),
+        }
+    }
+
     // The next byte before the innermost end, which is left.
     fn peek_tag(&mut self) -> Result<Tag>
         requires had_not_failed { self.old.failed ≡ None }
@@ -16,17 +36,10 @@ impl<R: ReadExt> Input<R> {
         ensures ok { IfOk result (TellsChoice self.old self.new) }
         ensures err { IfErr result (RefusesChoice self.old self.new) }
     {
-        if self.room == 0 {
-            let error = self.end.missing();
-            return Err(self.fail(error));
-        }
-        match self.reader.peek_one() {
-            Ok(byte) => Ok(Tag::from(byte)),
-            Err(e) => {
-                let error = Asn1DerError::from(e);
-                self.failed = Some(Failure::of(error));
-                Err(error)
-            }
+        match self.peek_next() {
+            Ok(Some(tag)) => Ok(tag),
+            Ok(None) => Err(self.fail(Asn1DerError::TruncatedData)),
+            Err(error) => Err(error),
         }
     }
 
@@ -49,29 +62,22 @@ impl<R: ReadExt> Input<R> {
     }
 
     /// The tag that is next, which is left unread, and `None` where the input ended here, before the innermost end.
+    /// Directly under an implicit tag that one was taken already, and is answered.
     ///
     /// At the innermost end it is `InvalidData` where that is a hard one, and else `TruncatedData`; else the reader's
     /// fault. No memory is taken.
     pub fn identify_next(&mut self) -> Result<Option<Tag>>
-        requires had_not_failed { self.old.failed ≡ None }
-        requires whole { self.old.direct ≡ None }
-        ensures tag { IfOk result (λ next. IfSome next (Peeks self.old self.new)) }
+        ensures tag { IfOk result (λ next. IfSome next (Identifies self.old self.new)) }
         ensures ended { IfOk result (λ next. IfNone next (HasEnded self.old self.new)) }
         ensures err { IfErr result (RefusesIdentifier self.old self.new) }
         ensures at_end { IfErr result (λ e. IsJudged self.old self.new e → self.old.room ≡ 0) }
     {
-        if self.room == 0 {
-            let error = self.end.missing();
-            return Err(self.fail(error));
+        if let Some(error) = self.earlier() {
+            return Err(error);
         }
-        match self.reader.peek_next() {
-            Ok(Some(byte)) => Ok(Some(Tag::from(byte))),
-            Ok(None) => Ok(None),
-            Err(e) => {
-                let error = Asn1DerError::from(e);
-                self.failed = Some(Failure::of(error));
-                Err(error)
-            }
+        match self.direct {
+            Some(number) => Ok(Some(Tag::context_specific_primitive(number))),
+            None => self.peek_next(),
         }
     }
 

@@ -58,6 +58,11 @@ impl<W: WriteExt> Serializer<W> {
         ensures no_fault { OnOk result (W.faults self.new.sink ≡ W.faults self.old.sink) }
         ensures goes_on { W.later self.old.sink self.new.sink }
     {
+        if self.levels.seal() {
+            let outcome = put_headed(&mut self.sink, &[], self.levels.content());
+            self.levels.give_up();
+            return outcome;
+        }
         let held = self.levels.content().len();
         let Ok(()) = self.levels.add_headers(held) else {
             return Err(Asn1DerError::OutOfMemory);

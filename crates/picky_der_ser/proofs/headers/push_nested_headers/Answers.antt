@@ -3,7 +3,7 @@ use mir.Val.{bool_byte}
 use Rattle.std.specs.Option.{is_some, unwrap_or}
 use Rattle.picky_der_ser.specs.Headers.{HasNumber, HaveTagNumbers, joined_last, own_header}
 use Rattle.picky_der_ser.proofs.HeaderLoop.{nil_of, last_number, outer_numbers, innermost_number, kept_numbers, kept_first, pushed_first, pushed_more, pushed_count, pushed_all}
-use Rattle.picky_der_ser.proofs.headers.push_headers.Goals as goal
+use Rattle.picky_der_ser.proofs.headers.push_nested_headers.Goals as goal
 
 pub push_own_header-requires : goal.push_own_header-requires
 push_own_header-requires c =

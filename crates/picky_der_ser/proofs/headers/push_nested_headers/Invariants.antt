@@ -2,7 +2,7 @@ use Rattle.std.proofs.Common.{◌≡◌, length}
 use Rattle.std.specs.Option.{unwrap_or}
 use Rattle.picky_der_ser.specs.Headers.{own_header, joined_last, kept, HaveTagNumbers}
 use Rattle.picky_der_ser.proofs.HeaderLoop.{Pushed}
-use Rattle.picky_der_ser.proofs.headers.push_headers.Given as goal
+use Rattle.picky_der_ser.proofs.headers.push_nested_headers.Given as goal
 
 -- the wrappers that are left, and the headers of the others
 pub record Kept (l : goal.Live-loop-wrapper) : Type 0 where

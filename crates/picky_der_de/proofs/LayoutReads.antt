@@ -1,0 +1,391 @@
+-- Members of which some may be missing, read and refused. Each call gives one record, and one lemma takes it.
+use Rattle.std.proofs.Common.{◌≡◌, ℕ, ◌<◌, inl, inr, Bool, true, false, if◌then◌else◌, List, [], ◌∷◌, ◌++◌, length, Option, Some, None, IfSome, IfNone, ◌⊎◌, refl, sym, ◌∙◌, ap, subst, arith, length-append}
+use Rattle.std.specs.Io.KnownBytes.{Keeps}
+use Rattle.std.specs.Prelude.{IsTrue}
+use Rattle.picky_der_core.specs.declared.error.Asn1DerError.{Asn1DerError}
+use Rattle.picky_der_core.specs.Tree.{ListKind, Tree, Trees}
+use Rattle.picky_der_core.specs.Encoding.{der, encodings, list_tag}
+use Rattle.picky_der_core.specs.EncodingLaws.{length-der}
+use Rattle.picky_der_core.specs.Readable.{IsReadable, AreReadable}
+use Rattle.picky_der_core.specs.Shape.{Shape, Layout, IsOf, IsSound, AreMembersOf, AreMembersTold, IsFirst, firsts, next_firsts, has, are_apart}
+use Rattle.picky_der_core.specs.FirstLaws.{begins_in, begins_next, apart_has}
+use Rattle.picky_der_core.proofs.Unique.{same_tree}
+use Rattle.picky_der_input.specs.State.{State}
+use Rattle.picky_der_input.specs.Steps.{Takes, Fails, IsJudged}
+use Rattle.picky_der_input.specs.Order.{AreInOrder, unordered}
+use Rattle.picky_der_input.specs.Reading.{Concerns, Reads, Refuses}
+use Rattle.picky_der_input.specs.Ends.{Outer, Closes, RefusesClose, OpensList, RefusesList}
+use Rattle.picky_der_input.specs.LookAhead.{Peeks, IdentifiesIn, Identifies}
+use Rattle.picky_der_ser.specs.Meaning.{maybe_more, unless_default}
+use Rattle.picky_der_ser.specs.Defaults.{IsByTree}
+use Rattle.picky_der_de.specs.Firsts.{IsBegunBy}
+use Rattle.picky_der_de.specs.Members.{ReadsMember, RefusesMember, bytes_of, StandUpToEnd}
+use Rattle.picky_der_de.specs.Layouts.{Lacks, no_more, begins_otherwise, RefusesOptional, no_tag, no_member, RefusesDefault, as_optional, written_out, Rests, same, looked, Passes, ReadsLayout, RefusesLayout, AreBegunBy}
+use Rattle.picky_der_de.specs.LayoutLaws.{is_there, is_missing}
+use Rattle.picky_der_input.proofs.Steps.{takes_none, takes_then}
+use Rattle.picky_der_input.proofs.Order.{fails_behind, judged_behind}
+use Rattle.picky_der_input.proofs.Refusals.{missing_here}
+use Rattle.picky_der_de.proofs.Peeked.{peeks_takes, peeks_fails, peeks_judged, peeks_concerns, peeks_front, identified, identified_reads}
+use Rattle.picky_der_de.proofs.Members.{bytes_of-more, bytes_of-none, no_members_in_order, takes_member, member_ahead, members_lead, next_order, next_up_to_end, none_left, list_refused, list_unopened, list_reads}
+use Rattle.picky_der_de.proofs.Members.{no_member as no_value_there, same_member}
+
+-- ---- looks
+
+-- a look behind a look
+look_again : {a b c : State} {x y : ℕ} → Peeks a b x → Peeks b c y → Peeks a c x
+look_again {a} {b} {c} {x} {y} p q =
+    let kept : b.peeked ≡ Some x = ap (λ (s : State). s.peeked) p.same in
+    let one : y ≡ x = subst (λ o. IfSome o (λ z. y ≡ z)) kept q.again in
+    let now : c ≡ record b { input = c.input; peeked = Some x } = q.same ∙ ap (λ z. record b { input = c.input; peeked = Some z }) one in
+    record {
+      had_not_failed = p.had_not_failed;
+      direct = p.direct;
+      ahead = p.ahead;
+      byte = p.byte;
+      next = p.next;
+      again = p.again;
+      input = keeps a.input b.input c.input p.input q.input;
+      same = now ∙ ap (λ (z : State). record z { input = c.input; peeked = Some x }) p.same;
+    }
+  where
+    keeps : (i j k : Option (List ℕ)) → Keeps i j → Keeps j k → Keeps i k
+    keeps None j k h g = tt
+    keeps (Some xs) None k h g = absurd h
+    keeps (Some xs) (Some ys) None h g = absurd g
+    keeps (Some xs) (Some ys) (Some zs) h g = g ∙ h
+
+peeks_unordered : {a b : State} {x : ℕ} → Peeks a b x → Peeks (unordered a) (unordered b) x
+peeks_unordered p = record { had_not_failed = p.had_not_failed; direct = p.direct; ahead = p.ahead; byte = p.byte; next = p.next; again = p.again; input = p.input; same = ap unordered p.same }
+
+as_look : {b c : State} {tag : ℕ} → b.direct ≡ None → Identifies b c tag → Peeks b c tag
+as_look {b} {c} {tag} d h = subst (λ o. IdentifiesIn o b c tag) d h.is
+
+rests_here : {a : State} → a.failed ≡ None → a.peeked ≡ None → Rests a a
+rests_here f p = same refl f p
+
+rests_look : {a b c : State} {x : ℕ} → Rests a b → Peeks b c x → Rests a c
+rests_look {c = c} {x = x} (same e f g) p = looked x g (subst (λ z. Peeks z c x) e p)
+rests_look (looked y g q) p = looked y g (look_again q p)
+
+rests_takes : {a b : State} (c : State) {bytes : List ℕ} → Rests a b → Takes (unordered b) (unordered c) bytes → Takes (unordered a) (unordered c) bytes
+rests_takes c {bytes = bytes} (same e f g) t = subst (λ z. Takes (unordered z) (unordered c) bytes) e t
+rests_takes c (looked x g p) t = peeks_takes (peeks_unordered p) t
+
+rests_not_failed : {a b : State} → Rests a b → b.failed ≡ None
+rests_not_failed (same e f g) = ap (λ (s : State). s.failed) e ∙ f
+rests_not_failed (looked x g p) = ap (λ (s : State). s.failed) p.same ∙ p.had_not_failed
+
+-- the end was reached, so no look was taken
+rested : {a b : State} → Rests a b → b.room ≡ 0 → b ≡ a
+rested (same e f g) z = e
+rested (looked x g p) z = absurd (let q : _ = ap (λ (s : State). s.room) p.same in omega (arith, q, z, p.ahead))
+
+-- ---- bytes behind a look
+
+module _ {b c : State} {x : ℕ} (p : Peeks b c x) where
+  stands_looked : {d : State} {e : Asn1DerError} {bytes : List ℕ} → StandUpToEnd b d e bytes → StandUpToEnd c d e bytes
+  stands_looked {d} {e} {bytes} w =
+      let room : b.room ≡ c.room = sym (ap (λ (s : State). s.room) p.same) in
+      record {
+        stand = record {
+          soft = ap (λ (s : State). s.end) p.same ∙ w.stand.soft;
+          seen = w.stand.seen;
+          concerns = subst (λ n. Concerns c d e n w.stand.seen) room (peeks_concerns p w.stand.concerns);
+          rest = w.stand.rest;
+          begins = w.stand.begins;
+          within = omega (arith, w.stand.within, room);
+        };
+        fills = w.fills ∙ room;
+      }
+
+  order_looked : (ms : List (List ℕ)) → AreInOrder b.sets ms → AreInOrder c.sets ms
+  order_looked ms h = subst (λ s. AreInOrder s ms) (sym (ap (λ (z : State). z.sets) p.same)) h
+
+  -- what stands begins with the byte
+  first_is : {d : State} {e : Asn1DerError} {bytes others : List ℕ} {y : ℕ} → Fails c d e → StandUpToEnd b d e bytes → bytes ≡ y ∷ others → y ≡ x
+  first_is {d} {e} {bytes} {others} {y} f w is =
+      let h = peeks_front p f w.stand.concerns in
+      let q : y ∷ (others ++ w.stand.rest) ≡ x ∷ h.0 = sym (ap (λ z. z ++ w.stand.rest) is) ∙ sym w.stand.begins ∙ h.1 in
+      cc
+
+  -- no member stands there whose shape begins otherwise
+  not_there : (s : Shape) {d : State} {e : Asn1DerError} (u : Tree) (us : Trees) → (IsFirst s x → ⊥) → Fails c d e → IsOf s u → IsReadable u → StandUpToEnd b d e (bytes_of (Trees.more u us)) → ⊥
+  not_there s u us other f o r w =
+      let h = begins_in s u o r in
+      let is : bytes_of (Trees.more u us) ≡ h.first ∷ (h.others ++ bytes_of us) = bytes_of-more u us ∙ ap (λ z. z ++ bytes_of us) h.is in
+      other (subst (λ z. has (firsts s) z ≡ true) (first_is f w is) h.listed)
+
+  -- a member that may be missing isn't, where the next byte is one of its first
+  not_missing : (s : Shape) (l : Layout) {d : State} {e : Asn1DerError} (us : Trees) → are_apart (firsts s) (next_firsts l) ≡ true → IsFirst s x → Fails c d e → AreMembersOf l us → AreReadable us → StandUpToEnd b d e (bytes_of us) → ⊥
+  not_missing s l Trees.none apart own f are readable w = none_left p.ahead w
+  not_missing s l (Trees.more u us) apart own f are readable w =
+      let h = begins_next l u us are readable.0 in
+      let is : bytes_of (Trees.more u us) ≡ h.first ∷ (h.others ++ bytes_of us) = bytes_of-more u us ∙ ap (λ z. z ++ bytes_of us) h.is in
+      apart_has x (firsts s) (next_firsts l) apart own (subst (λ z. has (next_firsts l) z ≡ true) (first_is f w is) h.listed)
+
+-- nor where it was read
+not_missing_read : (s : Shape) (l : Layout) {b c d : State} {t : Tree} {e : Asn1DerError} (us : Trees) → are_apart (firsts s) (next_firsts l) ≡ true → ReadsMember s b c t → Fails c d e → AreMembersOf l us → AreReadable us → StandUpToEnd b d e (bytes_of us) → ⊥
+not_missing_read s l Trees.none apart r f are readable w = none_left (member_ahead r) w
+not_missing_read s l {t = t} (Trees.more u us) apart r f are readable w =
+    let h = begins_next l u us are readable.0 in
+    let k = begins_in s t r.reads.of_shape r.reads.readable in
+    let same_first : h.first ∷ h.others ≡ k.first ∷ k.others = sym h.is ∙ (same_member u us readable.0 r f w.stand).0 ∙ k.is in
+    let first : h.first ≡ k.first = cc in
+    apart_has k.first (firsts s) (next_firsts l) apart k.listed (subst (λ z. has (next_firsts l) z ≡ true) first h.listed)
+
+-- no member stands at the end
+nothing_there : {b d : State} {e : Asn1DerError} (u : Tree) (us : Trees) → b.room ≡ 0 → IsReadable u → StandUpToEnd b d e (bytes_of (Trees.more u us)) → ⊥
+nothing_there u us z r w = omega (arith, z, w.fills, ap length (bytes_of-more u us), length-append (der u) (bytes_of us), length-der u r)
+
+-- ---- no members
+
+pub layout_none : {b : State} → b.direct ≡ None → ReadsLayout Layout.empty b b Trees.none
+layout_none {b} d = record {
+  are = tt;
+  readable = tt;
+  order = no_members_in_order b.sets;
+  passes = λ a q. record { mid = a; takes = subst (Takes (unordered a) (unordered a)) (sym bytes_of-none) (nothing q); rests = q };
+  direct = d;
+  fails = λ last e f. f;
+  full = λ told last e f left us are r w. full us are left w;
+} where
+  nothing : {a : State} → Rests a b → Takes (unordered a) (unordered a) []
+  nothing {a} (same e f g) = takes_none (unordered a) f g
+  nothing {a} (looked x g p) = takes_none (unordered a) p.had_not_failed g
+
+  full : {last : State} {e : Asn1DerError} (us : Trees) → AreMembersOf Layout.empty us → 0 < b.room → StandUpToEnd b last e (bytes_of us) → ⊥
+  full Trees.none are left w = none_left left w
+  full (Trees.more t ts) are left w = absurd are
+
+-- ---- a member that is always there
+
+pub required_head : {V W : Type 0} {meaning : W → Tree} {others : V → Trees} {s : Shape} {l : Layout} {c d : State} {e : Asn1DerError} (part : V → W) → RefusesMember meaning s c d e
+    → RefusesLayout (λ v. Trees.more (meaning (part v)) (others v)) (Layout.required s l) c d e
+required_head {others = others} part r = record {
+  fails = r.fails;
+  none = λ told j v are readable order w. no_value_there (part v) (others v) r j are.0 readable.0 order w.stand;
+}
+
+pub required_next : {V W U : Type 0} (meaning : W → Tree) {others : U → Trees} {s : Shape} {l : Layout} {b c d : State} {t : Tree} {e : Asn1DerError} (part : V → W) (rest : V → U) → ReadsMember s b c t → RefusesLayout others l c d e
+    → RefusesLayout (λ v. Trees.more (meaning (part v)) (others (rest v))) (Layout.required s l) b d e
+required_next meaning {others = others} part rest r h = record {
+  fails = fails_behind (takes_member r) h.fails;
+  none = λ told j v are readable order w.
+      h.none told (judged_behind (takes_member r) j) (rest v) are.1 readable.1 (next_order (meaning (part v)) (others (rest v)) readable.0 r h.fails w.stand order) (next_up_to_end (meaning (part v)) (others (rest v)) readable.0 r h.fails w);
+}
+
+member_then : {s : Shape} {l : Layout} {a b c d : State} {t : Tree} {ts : Trees} → Rests a b → ReadsMember s b c t → ReadsLayout l c d ts → Passes a d (bytes_of (Trees.more t ts))
+member_then {a = a} {c = c} {d = d} {t = t} {ts = ts} q r h =
+    let m = takes_member r in
+    let p = h.passes c (rests_here m.not_failed m.unpeeked) in
+    record { mid = p.mid; takes = subst (Takes (unordered a) (unordered p.mid)) (sym (bytes_of-more t ts)) (takes_then (rests_takes c q m) p.takes); rests = p.rests }
+
+pub required_read : {s : Shape} {l : Layout} {b c d : State} {t : Tree} {ts : Trees} → ReadsMember s b c t → ReadsLayout l c d ts → ReadsLayout (Layout.required s l) b d (Trees.more t ts)
+required_read {s} {l} {b} {c} {d} {t} {ts} r h = record {
+  are = (r.reads.of_shape, h.are);
+  readable = (r.reads.readable, h.readable);
+  order = members_lead ts r h.order;
+  passes = λ a q. member_then q r h;
+  direct = h.direct;
+  fails = λ last e f. fails_behind (takes_member r) (h.fails last e f);
+  full = λ told last e f left us are readable w. full told f left us are readable w;
+} where
+  full : AreMembersTold l → {last : State} {e : Asn1DerError} → Fails d last e → 0 < d.room → (us : Trees) → AreMembersOf (Layout.required s l) us → AreReadable us → StandUpToEnd b last e (bytes_of us) → ⊥
+  full told f left Trees.none are readable w = absurd are
+  full told {last} {e} f left (Trees.more u us) are readable w =
+      h.full told last e f left us are.1 readable.1 (next_up_to_end u us readable.0 r (h.fails last e f) w)
+
+-- ---- a member that may be missing
+
+-- what values of the types owe, of which the first may be missing
+module _ {V W U : Type 0} (meaning : W → Tree) (others : U → Trees) (s : Shape) (l : Layout) (part : V → Option W) (rest : V → U) (begins : (w : W) → IsBegunBy (firsts s) (meaning w)) (begin : (u : U) → AreBegunBy (next_firsts l) (others u)) where
+  -- the members of a value, by whether the first is there
+  by_option : (P : Trees → Type 0) → AreMembersTold (Layout.maybe s l)
+      → ((w : W) (u : U) → IsOf s (meaning w) → AreMembersOf l (others u) → AreReadable (Trees.more (meaning w) (others u)) → P (Trees.more (meaning w) (others u)) → ⊥)
+      → ((u : U) → AreMembersOf l (others u) → AreReadable (others u) → P (others u) → ⊥)
+      → (o : Option W) (u : U) → AreMembersOf (Layout.maybe s l) (maybe_more meaning o (others u)) → AreReadable (maybe_more meaning o (others u)) → P (maybe_more meaning o (others u)) → ⊥
+  by_option P told f g None u are readable p = g u (is_missing s l told.0 (others u) (begin u) readable are) readable p
+  by_option P told f g (Some w) u are readable p =
+      let q = is_there s l told.0 (meaning w) (others u) (begins w) readable.0 are in
+      f w u q.0 q.1 readable p
+
+  -- members that stand in order
+  abbrev Stand : State → State → Asn1DerError → Trees → Type 0
+  Stand b d e ts = AreInOrder b.sets (encodings ts) × StandUpToEnd b d e (bytes_of ts)
+
+  refused_by : {b d : State} {e : Asn1DerError} → Fails b d e
+      → (AreMembersTold (Layout.maybe s l) → IsJudged b d e → (w : W) (u : U) → IsOf s (meaning w) → AreMembersOf l (others u) → AreReadable (Trees.more (meaning w) (others u)) → Stand b d e (Trees.more (meaning w) (others u)) → ⊥)
+      → (AreMembersTold (Layout.maybe s l) → IsJudged b d e → (u : U) → AreMembersOf l (others u) → AreReadable (others u) → Stand b d e (others u) → ⊥)
+      → RefusesLayout (λ v. maybe_more meaning (part v) (others (rest v))) (Layout.maybe s l) b d e
+  refused_by {b} {d} {e} fails f g = record {
+    fails = fails;
+    none = λ told j v are readable order w. by_option (Stand b d e) told (f told j) (g told j) (part v) (rest v) are readable (order, w);
+  }
+
+  -- no tag was there, or the member was refused
+  pub maybe_head : {b d : State} {e : Asn1DerError} → b.direct ≡ None → RefusesOptional meaning s b d e → RefusesLayout (λ v. maybe_more meaning (part v) (others (rest v))) (Layout.maybe s l) b d e
+  maybe_head {b} {d} {e} whole (no_tag h ahead) = record {
+    fails = h.refuses.fails;
+    none = λ told j v are readable order w. no_bytes (ahead j.had_not_failed) w (missing_here (h.missing j).1 w.stand.concerns);
+  } where
+    no_bytes : {bytes : List ℕ} → 0 < b.room → (w : StandUpToEnd b d e bytes) → (b.room ≡ 0) ⊎ (w.stand.seen ≡ []) → ⊥
+    no_bytes ahead w (inl z) = omega (arith, ahead, z)
+    no_bytes {bytes} ahead w (inr z) = omega (arith, ahead, w.fills, ap length (sym w.stand.begins ∙ z), length-append bytes w.stand.rest)
+  maybe_head whole (no_member mid tag i own r) =
+      let p = as_look whole i in
+      refused_by (peeks_fails p r.fails)
+      (λ told j w u o a readable st. no_value_there w (others u) r (peeks_judged p j) o readable.0 (order_looked p (encodings (Trees.more (meaning w) (others u))) st.0) (stands_looked p st.1).stand)
+      (λ told j u a readable st. not_missing p s l (others u) told.0 own r.fails a readable st.1)
+
+  -- it was read, and those behind it were refused
+  pub there_next : {b c d : State} {t : Tree} {e : Asn1DerError} → ReadsMember s b c t → RefusesLayout others l c d e → RefusesLayout (λ v. maybe_more meaning (part v) (others (rest v))) (Layout.maybe s l) b d e
+  there_next r n = refused_by (fails_behind (takes_member r) n.fails)
+      (λ told j w u o a readable st.
+      n.none told.1 (judged_behind (takes_member r) j) u a readable.1 (next_order (meaning w) (others u) readable.0 r n.fails st.1.stand st.0) (next_up_to_end (meaning w) (others u) readable.0 r n.fails st.1))
+      (λ told j u a readable st. not_missing_read s l (others u) told.0 r n.fails a readable st.1)
+
+-- it can't be there, and what stands stands behind the look
+record Skips (s : Shape) (b c : State) : Type 0 where
+  fails : (d : State) (e : Asn1DerError) → Fails c d e → Fails b d e
+  judged : (d : State) (e : Asn1DerError) → IsJudged b d e → IsJudged c d e
+  stands : (d : State) (e : Asn1DerError) (bytes : List ℕ) → StandUpToEnd b d e bytes → StandUpToEnd c d e bytes
+  sets : c.sets ≡ b.sets
+  rests : (a : State) → Rests a b → Rests a c
+  not : (d : State) (e : Asn1DerError) (u : Tree) (us : Trees) → Fails c d e → IsOf s u → IsReadable u → StandUpToEnd b d e (bytes_of (Trees.more u us)) → ⊥
+
+skips : {s : Shape} {b c : State} → b.direct ≡ None → Lacks s b c → Skips s b c
+skips {b = b} whole (no_more h) = record {
+  fails = λ d e f. subst (λ x. Fails x d e) h.same f;
+  judged = λ d e j. subst (λ x. IsJudged x d e) (sym h.same) j;
+  stands = λ d e bytes w. subst (λ x. StandUpToEnd x d e bytes) (sym h.same) w;
+  sets = ap (λ (z : State). z.sets) h.same;
+  rests = λ a q. subst (Rests a) (sym h.same) q;
+  not = λ d e u us f o r w. nothing_there u us h.reached r w;
+}
+skips {s = s} whole (begins_otherwise tag i other) =
+    let p = as_look whole i in
+    record {
+      fails = λ d e f. peeks_fails p f;
+      judged = λ d e j. peeks_judged p j;
+      stands = λ d e bytes w. stands_looked p w;
+      sets = ap (λ (z : State). z.sets) p.same;
+      rests = λ a q. rests_look q p;
+      not = λ d e u us f o r w. not_there p s u us other f o r w;
+    }
+
+-- it is missing, and those behind it were refused
+pub missing_next : {V W U : Type 0} (meaning : W → Tree) (others : U → Trees) (s : Shape) (l : Layout) (part : V → Option W) (rest : V → U) → ((w : W) → IsBegunBy (firsts s) (meaning w)) → ((u : U) → AreBegunBy (next_firsts l) (others u))
+    → {b c d : State} {e : Asn1DerError} → b.direct ≡ None → Lacks s b c → RefusesLayout others l c d e → RefusesLayout (λ v. maybe_more meaning (part v) (others (rest v))) (Layout.maybe s l) b d e
+missing_next meaning others s l part rest begins begin {b} {c} {d} {e} whole h n =
+    let k : Skips s b c = skips whole h in
+    refused_by meaning others s l part rest begins begin (k.fails d e n.fails)
+    (λ told j w u o a readable st. k.not d e (meaning w) (others u) n.fails o readable.0 st.1)
+    (λ told j u a readable st. n.none told.1 (k.judged d e j) u a readable (subst (λ x. AreInOrder x (encodings (others u))) (sym k.sets) st.0) (k.stands d e (bytes_of (others u)) st.1))
+
+-- it was read, and those behind it
+pub there_read : {s : Shape} {l : Layout} {b c d : State} {t : Tree} {ts : Trees} → ReadsMember s b c t → ReadsLayout l c d ts → ReadsLayout (Layout.maybe s l) b d (Trees.more t ts)
+there_read {s} {l} {b} {c} {d} {t} {ts} r h = record {
+  are = inl (r.reads.of_shape, h.are);
+  readable = (r.reads.readable, h.readable);
+  order = members_lead ts r h.order;
+  passes = λ a q. member_then q r h;
+  direct = h.direct;
+  fails = λ last e f. fails_behind (takes_member r) (h.fails last e f);
+  full = λ told last e f left us are readable w. full told f left us are readable w;
+} where
+  full : AreMembersTold (Layout.maybe s l) → {last : State} {e : Asn1DerError} → Fails d last e → 0 < d.room → (us : Trees) → AreMembersOf (Layout.maybe s l) us → AreReadable us → StandUpToEnd b last e (bytes_of us) → ⊥
+  full told {last} {e} f left us (inr are) readable w = not_missing_read s l us told.0 r (h.fails last e f) are readable w
+  full told f left Trees.none (inl are) readable w = absurd are
+  full told {last} {e} f left (Trees.more u us) (inl are) readable w =
+      h.full told.1 last e f left us are.1 readable.1 (next_up_to_end u us readable.0 r (h.fails last e f) w)
+
+-- it is missing, and those behind it were read
+pub missing_read : {s : Shape} {l : Layout} {b c d : State} {ts : Trees} → b.direct ≡ None → Lacks s b c → ReadsLayout l c d ts → ReadsLayout (Layout.maybe s l) b d ts
+missing_read {s} {l} {b} {c} {d} {ts} whole h n =
+    let k : Skips s b c = skips whole h in
+    record {
+      are = inr n.are;
+      readable = n.readable;
+      order = subst (λ x. AreInOrder x (encodings ts)) k.sets n.order;
+      passes = λ a q. n.passes a (k.rests a q);
+      direct = n.direct;
+      fails = λ last e f. k.fails last e (n.fails last e f);
+      full = λ told last e f left us are readable w. full k told f left us are readable w;
+    }
+  where
+    full : Skips s b c → AreMembersTold (Layout.maybe s l) → {last : State} {e : Asn1DerError} → Fails d last e → 0 < d.room → (us : Trees) → AreMembersOf (Layout.maybe s l) us → AreReadable us → StandUpToEnd b last e (bytes_of us) → ⊥
+    full k told {last} {e} f left us (inr are) readable w = n.full told.1 last e f left us are readable (k.stands last e (bytes_of us) w)
+    full k told f left Trees.none (inl are) readable w = absurd are
+    full k told {last} {e} f left (Trees.more u us) (inl are) readable w = k.not last e u us (n.fails last e f) are.0 readable.0 w
+
+-- by whether it was read
+pub maybe_read : {W : Type 0} (meaning : W → Tree) {s : Shape} {l : Layout} {b c d : State} {ts : Trees} (o : Option W) → b.direct ≡ None → IfSome o (λ w. ReadsMember s b c (meaning w)) → IfNone o (Lacks s b c) → ReadsLayout l c d ts
+    → ReadsLayout (Layout.maybe s l) b d (maybe_more meaning o ts)
+maybe_read meaning None whole r h n = missing_read whole h n
+maybe_read meaning (Some w) whole r h n = there_read r n
+
+pub maybe_next : {V W U : Type 0} (meaning : W → Tree) (others : U → Trees) (s : Shape) (l : Layout) (part : V → Option W) (rest : V → U) → ((w : W) → IsBegunBy (firsts s) (meaning w)) → ((u : U) → AreBegunBy (next_firsts l) (others u))
+    → {b c d : State} {e : Asn1DerError} (o : Option W) → b.direct ≡ None → IfSome o (λ w. ReadsMember s b c (meaning w)) → IfNone o (Lacks s b c) → RefusesLayout others l c d e
+    → RefusesLayout (λ v. maybe_more meaning (part v) (others (rest v))) (Layout.maybe s l) b d e
+maybe_next meaning others s l part rest begins begin None whole r h n = missing_next meaning others s l part rest begins begin whole h n
+maybe_next meaning others s l part rest begins begin (Some w) whole r h n = there_next meaning others s l part rest begins begin r n
+
+-- ---- a member with a default
+
+module _ {V W U : Type 0} (meaning : W → Tree) (left_out : W → Bool) (others : U → Trees) (s : Shape) (l : Layout) (part : V → W) (rest : V → U) (by_tree : IsByTree meaning left_out) (sound : IsSound s)
+    (begins : (w : W) → IsBegunBy (firsts s) (meaning w)) (begin : (u : U) → AreBegunBy (next_firsts l) (others u)) where
+  -- the default stands there, and in no row
+  out_of_place : {b c d : State} {e : Asn1DerError} (x : W) → IsTrue (left_out x) → ReadsMember s b c (meaning x) → Fails c d e → AreMembersTold (Layout.maybe s l) → (y : W) (u : U) (out : Bool) → left_out y ≡ out
+      → AreMembersOf (Layout.maybe s l) (maybe_more meaning (if out then None else Some y) (others u)) → AreReadable (maybe_more meaning (if out then None else Some y) (others u)) → StandUpToEnd b d e (bytes_of (maybe_more meaning (if out then None else Some y) (others u))) → ⊥
+  out_of_place x is r f told y u true q are readable w = not_missing_read s l (others u) told.0 r f (is_missing s l told.0 (others u) (begin u) readable are) readable w
+  out_of_place x is r f told y u false q are readable w =
+      let there = is_there s l told.0 (meaning y) (others u) (begins y) readable.0 are in
+      let bytes : der (meaning y) ≡ der (meaning x) = (same_member (meaning y) (others u) readable.0 r f w.stand).0 in
+      let same : meaning x ≡ meaning y = (same_tree s sound (meaning x) (meaning y) r.reads.of_shape there.0 r.reads.readable readable.0 [] [] (ap (λ z. z ++ []) (sym bytes))).0 in
+      let out : left_out y ≡ true = (by_tree x y is).1 same in
+      let never : false ≡ true = sym q ∙ out in
+      cc
+
+  pub default_head : {b d : State} {e : Asn1DerError} → b.direct ≡ None → RefusesDefault meaning left_out s b d e → RefusesLayout (λ v. maybe_more meaning (unless_default left_out (part v)) (others (rest v))) (Layout.maybe s l) b d e
+  default_head whole (as_optional h) = maybe_head meaning others s l (λ v. unless_default left_out (part v)) rest begins begin whole h
+  default_head whole (written_out c x is r f) = record {
+    fails = fails_behind (takes_member r) f;
+    none = λ told j v are readable order w. out_of_place x is r f told (part v) (rest v) (left_out (part v)) refl are readable w;
+  }
+
+-- ---- the whole list
+
+layout_first : (kind : ListKind) (l : Layout) → IsFirst (Shape.struct_of kind l) (list_tag kind)
+layout_first ListKind.sequence l = refl
+layout_first ListKind.set l = refl
+
+opened_rests : (kind : ListKind) {a b : State} {outer : Outer} → OpensList (list_tag kind) a b outer → Rests b b
+opened_rests kind o = rests_here (ap (λ (s : State). s.failed) o.opened ∙ o.begins.takes.not_failed) (ap (λ (s : State). s.peeked) o.opened ∙ o.begins.takes.unpeeked)
+
+-- there is no header
+pub layout_unopened : {V : Type 0} {members : V → Trees} {l : Layout} {kind : ListKind} {a c : State} {e : Asn1DerError} → RefusesList (list_tag kind) a c e → Refuses (λ v. Tree.list kind (members v)) (Shape.struct_of kind l) a c e
+layout_unopened {members = members} {l = l} {kind = kind} h = list_unopened kind members (Shape.struct_of kind l) (layout_first kind l) h
+
+-- the members were refused
+pub layout_refused : {V U : Type 0} {members : U → Trees} {l : Layout} {kind : ListKind} {a b c : State} {outer : Outer} {e : Asn1DerError} (part : V → U) → AreMembersTold l → OpensList (list_tag kind) a b outer → RefusesLayout members l b c e
+    → Refuses (λ v. Tree.list kind (members (part v))) (Shape.struct_of kind l) a c e
+layout_refused {members = members} {l = l} {kind = kind} part told o r = list_refused kind (λ v. members (part v)) (Shape.struct_of kind l) (layout_first kind l) o r.fails (λ j v of_shape readable order w. r.none told j (part v) of_shape.1 readable order w)
+
+-- something is left behind the members
+pub layout_left : {V : Type 0} {members : V → Trees} {l : Layout} {kind : ListKind} {a b c d : State} {outer : Outer} {ts : Trees} {e : Asn1DerError} → AreMembersTold l → OpensList (list_tag kind) a b outer → ReadsLayout l b c ts → RefusesClose c d e
+    → Refuses (λ v. Tree.list kind (members v)) (Shape.struct_of kind l) a d e
+layout_left {members = members} {l = l} {kind = kind} {b = b} {d = d} {e = e} told o r h =
+    let left = h.left (rests_not_failed (r.passes b (opened_rests kind o)).rests) in
+    list_refused kind members (Shape.struct_of kind l) (layout_first kind l) o (r.fails d e h.fails) (λ j v of_shape readable order w. r.full told d e h.fails left.0 (members v) of_shape.1 readable w)
+
+-- the members were read, and the list was closed
+pub layout_reads : {l : Layout} {kind : ListKind} {a b c d : State} {outer closed : Outer} {ts : Trees} → OpensList (list_tag kind) a b outer → ReadsLayout l b c ts → Closes closed c d → closed ≡ outer → Reads (Shape.struct_of kind l) a d (Tree.list kind ts)
+layout_reads {kind = kind} {b = b} {ts = ts} o r k back =
+    let q = r.passes b (opened_rests kind o) in
+    let takes = subst (λ z. Takes (unordered b) (unordered z) (bytes_of ts)) (sym (rested q.rests k.reached)) q.takes in
+    list_reads ts o r.order takes r.direct k back (refl, r.are) r.readable
+
+-- ---- behind a look
+
+pub read_behind_look : {s : Shape} {b m c : State} {tag : ℕ} {t : Tree} → Identifies b m tag → ReadsMember s m c t → ReadsMember s b c t
+read_behind_look {b = b} i r = record { mid = r.mid; reads = identified_reads i r.reads; direct = identified (λ x. x.direct ≡ None) b.direct i.is (λ p k. p.direct) r.direct; follows = r.follows }

@@ -1,0 +1,71 @@
+-- What reading the members of a layout does, of which some may be missing.
+use Rattle.std.specs.Prelude.{◌≡◌, ◌<◌, ℕ, List, None, Bool, true, ⊤, IsTrue}
+use Rattle.picky_der_core.specs.declared.error.Asn1DerError.{Asn1DerError}
+use Rattle.picky_der_core.specs.Tree.{Tree, Trees}
+use Rattle.picky_der_core.specs.Encoding.{encodings}
+use Rattle.picky_der_core.specs.Readable.{AreReadable}
+use Rattle.picky_der_core.specs.Shape.{Shape, Layout, IsFirst, AreMembersOf, AreMembersTold}
+use Rattle.picky_der_input.specs.State.{State}
+use Rattle.picky_der_input.specs.Steps.{Takes, Fails, IsJudged}
+use Rattle.picky_der_input.specs.Order.{AreInOrder, unordered}
+use Rattle.picky_der_input.specs.LookAhead.{Peeks, Identifies, RefusesIdentifier}
+use Rattle.picky_der_de.specs.Firsts.{IsBegunBy}
+use Rattle.picky_der_de.specs.Members.{ReadsMember, RefusesMember, HasNoMore, bytes_of, StandUpToEnd}
+
+-- ---- one member that may be missing
+
+-- None of this shape comes next: the end is here, or another byte is next, and at most was looked at.
+pub data Lacks (s : Shape) (old new : State) : Type 0 where
+  no_more : HasNoMore old new → Lacks s old new
+  begins_otherwise : (tag : ℕ) → Identifies old new tag → (IsFirst s tag → ⊥) → Lacks s old new
+
+-- No tag could be looked at, though the end isn't here; or a value begins there as those of the type do, and was refused.
+pub data RefusesOptional {V : Type 0} (meaning : V → Tree) (s : Shape) (old new : State) (e : Asn1DerError) : Type 0 where
+  no_tag : RefusesIdentifier old new e → (old.failed ≡ None → 0 < old.room) → RefusesOptional meaning s old new e
+  no_member : (mid : State) (tag : ℕ) → Identifies old mid tag → IsFirst s tag → RefusesMember meaning s mid new e → RefusesOptional meaning s old new e
+
+-- It was refused as one that may be missing is, or the default stands there, and no default is written out.
+pub data RefusesDefault {V : Type 0} (meaning : V → Tree) (left_out : V → Bool) (s : Shape) (old new : State) (e : Asn1DerError) : Type 0 where
+  as_optional : RefusesOptional meaning s old new e → RefusesDefault meaning left_out s old new e
+  written_out : (mid : State) (v : V) → IsTrue (left_out v) → ReadsMember s old mid (meaning v) → Fails mid new e → RefusesDefault meaning left_out s old new e
+
+-- ---- all members of a layout
+
+-- at most a look was taken at the next byte
+pub data Rests (old new : State) : Type 0 where
+  same : new ≡ old → old.failed ≡ None → old.peeked ≡ None → Rests old new
+  looked : (x : ℕ) → old.peeked ≡ None → Peeks old new x → Rests old new
+
+-- these bytes were taken, and at most a look at the byte behind them
+pub record Passes (old new : State) (bytes : List ℕ) : Type 0 where
+  pub mid : State
+  pub takes : Takes (unordered old) (unordered mid) bytes
+  pub rests : Rests mid new
+
+-- These members were read. Where something is left behind them, no members stand there that reach up to the end.
+pub record ReadsLayout (l : Layout) (old new : State) (ts : Trees) : Type 0 where
+  pub are : AreMembersOf l ts
+  pub readable : AreReadable ts
+  pub order : AreInOrder old.sets (encodings ts)
+  -- whether the first byte was looked at or not
+  pub passes : (a : State) → Rests a old → Passes a new (bytes_of ts)
+  pub direct : new.direct ≡ None
+  -- what fails behind them has failed from before them
+  pub fails : (last : State) (e : Asn1DerError) → Fails new last e → Fails old last e
+  pub full : AreMembersTold l → (last : State) (e : Asn1DerError) → Fails new last e → 0 < new.room → (us : Trees) → AreMembersOf l us → AreReadable us → StandUpToEnd old last e (bytes_of us) → ⊥
+
+-- no values stand there as members up to the end
+pub record RefusesLayout {V : Type 0} (members : V → Trees) (l : Layout) (old new : State) (e : Asn1DerError) : Type 0 where
+  pub fails : Fails old new e
+  pub none : AreMembersTold l → IsJudged old new e → (v : V) → AreMembersOf l (members v) → AreReadable (members v) → AreInOrder old.sets (encodings (members v)) → StandUpToEnd old new e (bytes_of (members v)) → ⊥
+
+-- ---- laws
+
+-- the first of the trees, if there is one, begins with no other byte
+abbrev pub AreBegunBy : List ℕ → Trees → Type 0
+AreBegunBy fs Trees.none = ⊤
+AreBegunBy fs (Trees.more t ts) = IsBegunBy fs t
+
+-- where missing members are told, two rows of readable members with the same trees are equal
+abbrev pub AreKnownByLayout : {V : Type 0} → (V → Trees) → Layout → (V → V → Bool) → Type 0
+AreKnownByLayout {V} members l eq = AreMembersTold l → (x y : V) → AreMembersOf l (members x) → AreMembersOf l (members y) → AreReadable (members x) → members x ≡ members y → eq x y ≡ true

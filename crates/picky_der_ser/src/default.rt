@@ -1,0 +1,247 @@
+//! Members of a sequence that are left out where they have the default value.
+ghost use Rattle.std.proofs.Common.{rules};
+ghost use Rattle.std.specs.Prelude.{◌≡◌, ◌↔◌, Bool, IsTrue, not, nat_eq};
+ghost use Rattle.picky_der_ser.specs.Meaning.{maybe_more, unless_default};
+ghost use Rattle.picky_der_ser.specs.Defaults.{IsByTree, IsOne, numbers_by_tree, one_number, explicit_by_tree};
+
+use crate::{Sequence, Serialize, SerializeMember};
+use picky_der_core::Result;
+use picky_der_core::asn1::ExplicitContextTag;
+use picky_der_core::misc::WriteExt;
+use std::marker::PhantomData;
+
+/// Which value of a type a member has that is absent (ASN.1's DEFAULT).
+pub trait DefaultOf<T: Serialize + PartialEq> {
+    // Whether a value is the default.
+    ghost left_out: { T → Bool };
+
+    /// Whether a value is the default.
+    fn is_default(value: &T) -> bool
+        ensures { result ≡ left_out value.now };
+
+    /// The default.
+    fn default() -> T
+        ensures { IsTrue (left_out result) };
+
+    // A value is the default just where it means the tree that the default means.
+    ghost by_tree: { IsByTree T.meaning left_out };
+
+    // There is one default.
+    ghost one: { IsOne T.eq left_out };
+}
+
+/// A member of a row with the default `D`: nothing is written of one that has it (X.690, 11.5), and the others stand as they do
+/// without it.
+#[derive(Drop)]
+#[derive_where(Debug, PartialEq, Eq; T)]
+pub struct Defaulted<T, D> {
+    /// The value, which may be the default.
+    pub value: T,
+    /// Which value the default is.
+    #[derive_where(skip)]
+    pub default: PhantomData<D>,
+}
+
+impl<T, D> Defaulted<T, D> {
+    /// The member that this value is.
+    pub fn new(value: T) -> Defaulted<T, D>
+        ensures { result.value ≡ value }
+    {
+        Defaulted {
+            value,
+            default: PhantomData,
+        }
+    }
+}
+
+/// The same by reference, as a struct writes its field.
+#[derive(Drop)]
+pub struct DefaultedRef<'a, T, D> {
+    value: &'a T,
+    default: PhantomData<D>,
+}
+
+impl<'a, T, D> DefaultedRef<'a, T, D> {
+    /// The member that this value is.
+    pub fn new(value: &'a T) -> DefaultedRef<'a, T, D>
+        ensures { result.value ≡ value.entry }
+    {
+        DefaultedRef {
+            value,
+            default: PhantomData,
+        }
+    }
+}
+
+impl<T: Serialize + PartialEq, D: DefaultOf<T>> SerializeMember for Defaulted<T, D> {
+    ghost in_front = { λ member. maybe_more T.meaning (unless_default D.left_out member.value) };
+
+    fn serialize_member<W: WriteExt>(&self, sequence: &mut Sequence<'_, W>) -> Result<()> {
+        DefaultedRef::<T, D>::new(&self.value).serialize_member(sequence)
+    }
+}
+
+impl<T: Serialize + PartialEq, D: DefaultOf<T>> SerializeMember for DefaultedRef<'_, T, D> {
+    ghost in_front = { λ member. maybe_more T.meaning (unless_default D.left_out member.value.now) };
+
+    fn serialize_member<W: WriteExt>(&self, sequence: &mut Sequence<'_, W>) -> Result<()> {
+        if D::is_default(self.value) {
+            return Ok(());
+        }
+        sequence.serialize_element(self.value)
+    }
+}
+
+/// The default `FALSE` of a BOOLEAN.
+pub struct False;
+
+/// The default `TRUE` of a BOOLEAN.
+pub struct True;
+
+/// A default of an INTEGER, with or without explicit tags around it.
+pub struct Number<const N: u8>;
+
+impl DefaultOf<bool> for False {
+    ghost left_out = { not };
+
+    fn is_default(value: &bool) -> bool {
+        !*value
+    }
+
+    fn default() -> bool {
+        false
+    }
+
+    ghost by_tree = { Prim.search rules };
+
+    ghost one = { Prim.search rules };
+}
+
+impl DefaultOf<bool> for True {
+    ghost left_out = { λ value. value };
+
+    fn is_default(value: &bool) -> bool {
+        *value
+    }
+
+    fn default() -> bool {
+        true
+    }
+
+    ghost by_tree = { Prim.search rules };
+
+    ghost one = { Prim.search rules };
+}
+
+impl<const N: u8> DefaultOf<u8> for Number<N> {
+    ghost left_out = { λ number. nat_eq number N };
+
+    fn is_default(value: &u8) -> bool {
+        *value == N
+    }
+
+    fn default() -> u8 {
+        N
+    }
+
+    ghost by_tree = { numbers_by_tree N };
+
+    ghost one = { one_number N };
+}
+
+impl<const N: u8> DefaultOf<u16> for Number<N> {
+    ghost left_out = { λ number. nat_eq number N };
+
+    fn is_default(value: &u16) -> bool {
+        *value == N as u16
+    }
+
+    fn default() -> u16 {
+        N as u16
+    }
+
+    ghost by_tree = { numbers_by_tree N };
+
+    ghost one = { one_number N };
+}
+
+impl<const N: u8> DefaultOf<u32> for Number<N> {
+    ghost left_out = { λ number. nat_eq number N };
+
+    fn is_default(value: &u32) -> bool {
+        *value == N as u32
+    }
+
+    fn default() -> u32 {
+        N as u32
+    }
+
+    ghost by_tree = { numbers_by_tree N };
+
+    ghost one = { one_number N };
+}
+
+impl<const N: u8> DefaultOf<u64> for Number<N> {
+    ghost left_out = { λ number. nat_eq number N };
+
+    fn is_default(value: &u64) -> bool {
+        *value == N as u64
+    }
+
+    fn default() -> u64 {
+        N as u64
+    }
+
+    ghost by_tree = { numbers_by_tree N };
+
+    ghost one = { one_number N };
+}
+
+impl<const N: u8> DefaultOf<u128> for Number<N> {
+    ghost left_out = { λ number. nat_eq number N };
+
+    fn is_default(value: &u128) -> bool {
+        *value == N as u128
+    }
+
+    fn default() -> u128 {
+        N as u128
+    }
+
+    ghost by_tree = { numbers_by_tree N };
+
+    ghost one = { one_number N };
+}
+
+impl<const N: u8> DefaultOf<usize> for Number<N> {
+    ghost left_out = { λ number. nat_eq number N };
+
+    fn is_default(value: &usize) -> bool {
+        *value == N as usize
+    }
+
+    fn default() -> usize {
+        N as usize
+    }
+
+    ghost by_tree = { numbers_by_tree N };
+
+    ghost one = { one_number N };
+}
+
+impl<T: Serialize + PartialEq, D: DefaultOf<T>, const N: u8> DefaultOf<ExplicitContextTag<T, N>>
+    for D {
+    ghost left_out = { λ tagged. D.left_out tagged.0 };
+
+    fn is_default(value: &ExplicitContextTag<T, N>) -> bool {
+        D::is_default(&value.0)
+    }
+
+    fn default() -> ExplicitContextTag<T, N> {
+        ExplicitContextTag(D::default())
+    }
+
+    ghost by_tree = { λ x y d. explicit_by_tree N T.meaning D.left_out D.by_tree x.0 y.0 d };
+
+    ghost one = { λ x y. D.one x.0 y.0 };
+}
