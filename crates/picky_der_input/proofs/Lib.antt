@@ -16,3 +16,5 @@ pub mod Ends
 pub mod Enclosures
 pub mod Openings
 pub mod Pieces
+pub mod Ahead
+pub mod Whole

@@ -8,3 +8,4 @@ pub mod LookAhead
 pub mod Elements
 pub mod Ends
 pub mod Enclosures
+pub mod Ahead

@@ -7,6 +7,7 @@ ghost use Rattle.picky_der_core.specs.Failure.{failure_of};
 ghost use Rattle.picky_der_core.specs.Peeking.{in_front};
 ghost use Rattle.picky_der_input.specs.Steps.{IsWithin, Takes, TakesKept, StopsShort, Fails, IsMissing, IsOther, TakesNoMemory, failed_with};
 
+mod ahead;
 mod contents;
 mod enclosure;
 mod ends;

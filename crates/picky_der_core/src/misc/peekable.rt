@@ -1,8 +1,8 @@
 //! A reader whose next byte can be looked at.
-ghost use Rattle.std.specs.Prelude.{◌≡◌, ◌<◌, ◌∷◌, length, drop, Ok, None, Some, IfNone, IfSome, IfOk, OnOk, IfErr, OnErr};
+ghost use Rattle.std.specs.Prelude.{◌≡◌, ◌<◌, ◌∷◌, [], true, false, length, drop, Ok, None, Some, IfNone, IfSome, IfOk, OnOk, IfErr, OnErr};
 ghost use Rattle.std.specs.Io.KnownBytes.{Keeps, IsAtEnd, ReadConsumes};
-ghost use Rattle.std.specs.Io.{ReadsAtMost};
-ghost use Rattle.picky_der_core.specs.Reader.{GivesByte, GivesNext, CountsFault, FailsOnce};
+ghost use Rattle.std.specs.Io.{ReadsAtMost, StartsWith};
+ghost use Rattle.picky_der_core.specs.Reader.{GivesByte, GivesNext, TakesFirst, CountsFault, FailsOnce};
 ghost use Rattle.picky_der_core.specs.Peeking.{left_in, IsByteIfAny, count_of_any, moved};
 
 use super::ReadExt;
@@ -194,6 +194,34 @@ impl<R: ReadExt> ReadExt for PeekableReader<R> {
             self.pos = self.pos.saturating_add(given);
             Ok(given)
         }
+    }
+
+    /// While a byte is peeked none are shown.
+    fn ahead(&self) -> &[u8]
+        ensures front { IfSome (left_in R.remaining self.now) (λ bytes. StartsWith bytes result.now) }
+        ensures peeked { IfSome self.now.peeked (λ b. result.now ≡ []) }
+    {
+        match self.peeked {
+            Some(_) => &[],
+            None => self.reader.ahead(),
+        }
+    }
+
+    /// While a byte is peeked none are taken.
+    fn take_ahead(&mut self, count: usize) -> bool
+        ensures taken { result ≡ true → TakesFirst (left_in R.remaining self.old) (left_in R.remaining self.new) count }
+        ensures peeked { result ≡ true → self.old.peeked ≡ None }
+        ensures unpeeked { result ≡ true → self.new.peeked ≡ None }
+        ensures pos { result ≡ true → self.new.pos ≡ moved self.old.pos count }
+        ensures fewer { result ≡ false → self.new ≡ self.old }
+        ensures no_fault { R.faults self.new.reader ≡ R.faults self.old.reader }
+        ensures same_references { R.through self.new.reader ≡ R.through self.old.reader }
+    {
+        if self.peeked.is_some() || !self.reader.take_ahead(count) {
+            return false;
+        }
+        self.pos = self.pos.saturating_add(count);
+        true
     }
 
     fn read_one(&mut self) -> io::Result<u8>

@@ -1,9 +1,9 @@
 //! Readers of one byte or of a piece at a time.
-ghost use Rattle.std.specs.Prelude.{◌≡◌, ℕ, List, [], ◌∷◌, OnOk, IfErr};
+ghost use Rattle.std.specs.Prelude.{◌≡◌, ℕ, List, [], ◌∷◌, true, false, IfSome, OnOk, IfErr};
 ghost use Rattle.std.specs.Io.KnownBytes.{ReadConsumes};
-ghost use Rattle.std.specs.Io.{ReadsAtMost};
+ghost use Rattle.std.specs.Io.{ReadsAtMost, StartsWith};
 ghost use Rattle.picky_der_core.specs.Faults.{Fault};
-ghost use Rattle.picky_der_core.specs.Reader.{GivesByte, GivesNext, CountsFault, FailsOnce};
+ghost use Rattle.picky_der_core.specs.Reader.{GivesByte, GivesNext, TakesFirst, CountsFault, FailsOnce};
 
 use std::io;
 use std::io::{Error, ErrorKind, Read};
@@ -31,6 +31,25 @@ pub trait ReadExt: Read {
         ensures fault { IfErr result (FailsOnce (faults self.old) (faults self.new) (Self.remaining self.new)) }
         ensures no_fault { OnOk result (faults self.new ≡ faults self.old) }
         ensures same_references { through self.new ≡ through self.old };
+
+    /// Bytes that are next and are here already, so that no device has to be asked for them. A reader that has none to
+    /// show shows none, also before its end.
+    fn ahead(&self) -> &[u8]
+        ensures front { IfSome (Self.remaining self.now) (λ bytes. StartsWith bytes result.now) }
+    {
+        &[]
+    }
+
+    /// Takes so many of the bytes that are here already, and answers whether so many are. If not, nothing was taken.
+    fn take_ahead(&mut self, count: usize) -> bool
+        ensures taken { result ≡ true → TakesFirst (Self.remaining self.old) (Self.remaining self.new) count }
+        ensures fewer { result ≡ false → self.new ≡ self.old }
+        ensures no_fault { faults self.new ≡ faults self.old }
+        ensures same_references { through self.new ≡ through self.old }
+    {
+        let _ = count;
+        false
+    }
 
     /// The next byte. At the end of the input it is an error of kind `UnexpectedEof`; any other error is the device's.
     fn read_one(&mut self) -> io::Result<u8>
@@ -65,6 +84,19 @@ impl ReadExt for &[u8] {
     fn read_some(&mut self, buf: &mut [u8]) -> io::Result<usize> {
         Read::read(self, buf)
     }
+
+    fn ahead(&self) -> &[u8] {
+        *self
+    }
+
+    fn take_ahead(&mut self, count: usize) -> bool {
+        let bytes = *self;
+        if count > bytes.len() {
+            return false;
+        }
+        *self = &bytes[count..];
+        true
+    }
 }
 
 impl<R: ReadExt> ReadExt for &mut R {
@@ -78,5 +110,13 @@ impl<R: ReadExt> ReadExt for &mut R {
 
     fn read_some(&mut self, buf: &mut [u8]) -> io::Result<usize> {
         ReadExt::read_some(&mut **self, buf)
+    }
+
+    fn ahead(&self) -> &[u8] {
+        ReadExt::ahead(&**self)
+    }
+
+    fn take_ahead(&mut self, count: usize) -> bool {
+        ReadExt::take_ahead(&mut **self, count)
     }
 }

@@ -20,6 +20,23 @@ impl<R: ReadExt> Input<R> {
         ensures direct { OnOk result (self.new.direct ≡ self.old.direct) }
         ensures err { IfErr result (StopsShort self.old self.new len) }
     {
+        match self.copy_ahead(len) {
+            Ok(Some(content)) => Ok(content),
+            Ok(None) => self.draw_pieces(len),
+            Err(error) => Err(error),
+        }
+    }
+
+    // The same, piece by piece.
+    #[cold]
+    #[inline(never)]
+    fn draw_pieces(&mut self, len: usize) -> Result<Vec<u8>>
+        requires had_not_failed { self.old.failed ≡ None }
+        requires unpeeked { self.old.peeked ≡ None }
+        ensures ok { IfOk result (λ bytes. Takes self.old self.new bytes.items × (length bytes.items ≡ len) × AreBytes bytes.items) }
+        ensures direct { OnOk result (self.new.direct ≡ self.old.direct) }
+        ensures err { IfErr result (StopsShort self.old self.new len) }
+    {
         let mut content = Vec::new(self.alloc);
         self.draw_behind(&mut content, len)?;
         Ok(content)

@@ -80,6 +80,23 @@ impl<R: ReadExt> Input<R> {
         ensures err { IfErr result (RefusesHeader tag self.old self.new) }
         ensures memory { IfErr result (TakesNoMemory self.old self.new) }
     {
+        match self.take_header_ahead(tag) {
+            Some(len) => Ok(len),
+            None => self.draw_header(tag),
+        }
+    }
+
+    // The same, byte by byte.
+    #[cold]
+    #[inline(never)]
+    fn draw_header(&mut self, tag: Tag) -> Result<usize>
+        requires number { IsTagNumber (number_of tag) }
+        requires had_not_failed { self.old.failed ≡ None }
+        ensures ok { IfOk result (λ n. Takes self.old self.new (tag ∷ bytes_of n) × (n ≤ self.new.room)) }
+        ensures direct { OnOk result (self.new.direct ≡ self.old.direct) }
+        ensures err { IfErr result (RefusesHeader tag self.old self.new) }
+        ensures memory { IfErr result (TakesNoMemory self.old self.new) }
+    {
         let first = self.next_byte()?;
         if first != tag.inner() {
             return Err(self.fail(Asn1DerError::InvalidData));

@@ -51,6 +51,20 @@ impl<R: ReadExt> Input<R> {
         ensures ok { IfOk result (λ bytes. ReadsRaw self.old self.new bytes.items) }
         ensures err { IfErr result (RefusesRaw self.old self.new) }
     {
+        match self.copy_element_ahead() {
+            Ok(Some(bytes)) => Ok(bytes),
+            Ok(None) => self.draw_raw(),
+            Err(error) => Err(error),
+        }
+    }
+
+    // The same, byte by byte and piece by piece.
+    #[cold]
+    #[inline(never)]
+    fn draw_raw(&mut self) -> Result<Vec<u8>>
+        ensures ok { IfOk result (λ bytes. ReadsRaw self.old self.new bytes.items) }
+        ensures err { IfErr result (RefusesRaw self.old self.new) }
+    {
         let (tag, len) = match self.begin_element() {
             Ok(header) => header,
             Err(error) => return Err(error),

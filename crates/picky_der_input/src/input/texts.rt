@@ -1,5 +1,5 @@
 //! Texts and characters.
-ghost use Rattle.std.specs.Prelude.{IfOk, IfErr, string_bytes};
+ghost use Rattle.std.specs.Prelude.{◌≡◌, None, IfNone, IfSome, IfOk, IfErr, string_bytes};
 ghost use Rattle.picky_der_input.specs.Steps.{TakesNoMemory};
 ghost use Rattle.picky_der_input.specs.Reading.{ReadsText, RefusesText, ReadsCharacter, RefusesCharacter};
 
@@ -15,6 +15,36 @@ impl<R: ReadExt> Input<R> {
     /// `InvalidData` for another tag, for a content that isn't UTF-8, and for more than one character;
     /// `UnsupportedValue` for an empty content; the refusals of a header and of an end; else the reader's fault.
     pub fn read_char(&mut self) -> Result<char>
+        ensures ok { IfOk result (ReadsCharacter self.old self.new) }
+        ensures err { IfErr result (RefusesCharacter self.old self.new) }
+        ensures memory { IfErr result (TakesNoMemory self.old self.new) }
+    {
+        match self.short_char() {
+            Some(value) => Ok(value),
+            None => self.draw_char(),
+        }
+    }
+
+    // Reads a character that is ahead whole.
+    fn short_char(&mut self) -> Option<char>
+        ensures read { IfSome result (ReadsCharacter self.old self.new) }
+        ensures none { IfNone result (self.new ≡ self.old) }
+    {
+        let content = self.short_ahead(Tag::UTF8_STRING)?;
+        let count = content.len() + 2;
+        let Ok(value) = Utf8String::character(content) else {
+            return None;
+        };
+        if !self.take_ahead(count) {
+            return None;
+        }
+        Some(value)
+    }
+
+    // Reads a character byte by byte.
+    #[cold]
+    #[inline(never)]
+    fn draw_char(&mut self) -> Result<char>
         ensures ok { IfOk result (ReadsCharacter self.old self.new) }
         ensures err { IfErr result (RefusesCharacter self.old self.new) }
         ensures memory { IfErr result (TakesNoMemory self.old self.new) }

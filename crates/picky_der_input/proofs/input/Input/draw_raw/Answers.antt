@@ -1,7 +1,7 @@
 use Rattle.std.proofs.Common.{◌∙◌, ◌++◌, ap}
 use Rattle.std.proofs.lemmas.Result.{err_from_is_err_and}
 use Rattle.picky_der_input.proofs.Elements.{raw_cut, reads_raw}
-use Rattle.picky_der_input.proofs.input.Input.read_raw.Goals as goal
+use Rattle.picky_der_input.proofs.input.Input.draw_raw.Goals as goal
 
 pub returns-in_ok-draw_behind-in-Ok-header-clause-ok : goal.returns-in_ok-draw_behind-in-Ok-header-clause-ok
 returns-in_ok-draw_behind-in-Ok-header-clause-ok g c =

@@ -4,7 +4,7 @@ use Rattle.picky_der_core.specs.Refusal.{null_fault}
 use Rattle.picky_der_input.proofs.Contents.{failed_same}
 use Rattle.picky_der_input.proofs.PlainReads.{refuses_header, refuses_cut}
 use Rattle.picky_der_input.proofs.PlainKinds.{null_kind, null_told, reads_kept, refuses_kept}
-use Rattle.picky_der_input.proofs.input.Input.read_unit.Goals as goal
+use Rattle.picky_der_input.proofs.input.Input.draw_unit.Goals as goal
 
 pub returns-in_err-len-clause-err : goal.returns-in_err-len-clause-err
 returns-in_err-len-clause-err g c =

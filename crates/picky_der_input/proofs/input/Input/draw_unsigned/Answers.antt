@@ -6,7 +6,7 @@ use Rattle.picky_der_core.specs.Refusal.{unsigned_fault}
 use Rattle.picky_der_input.proofs.Contents.{failed_same}
 use Rattle.picky_der_input.proofs.PlainReads.{refuses_header, refuses_cut}
 use Rattle.picky_der_input.proofs.PlainKinds.{unsigned_kind, unsigned_told, unsigned_read, reads_kept, refuses_kept}
-use Rattle.picky_der_input.proofs.input.Input.read_unsigned.Goals as goal
+use Rattle.picky_der_input.proofs.input.Input.draw_unsigned.Goals as goal
 
 pub returns-in_err-len-clause-err : goal.returns-in_err-len-clause-err
 returns-in_err-len-clause-err g c =

@@ -5,7 +5,7 @@ use Rattle.picky_der_input.proofs.Contents.{failed_same}
 use Rattle.picky_der_input.proofs.Texts.{character_told, length_character, of_character}
 use Rattle.picky_der_input.proofs.PlainReads.{refuses_header, refuses_cut}
 use Rattle.picky_der_input.proofs.PlainKinds.{character_kind, reads_kept, refuses_kept}
-use Rattle.picky_der_input.proofs.input.Input.read_char.Goals as goal
+use Rattle.picky_der_input.proofs.input.Input.draw_char.Goals as goal
 
 pub returns-in_err-len-clause-err : goal.returns-in_err-len-clause-err
 returns-in_err-len-clause-err g c =

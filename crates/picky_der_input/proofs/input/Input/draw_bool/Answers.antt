@@ -5,7 +5,7 @@ use Rattle.picky_der_core.specs.Refusal.{boolean_fault}
 use Rattle.picky_der_input.proofs.Contents.{failed_same}
 use Rattle.picky_der_input.proofs.PlainReads.{refuses_header, refuses_cut}
 use Rattle.picky_der_input.proofs.PlainKinds.{boolean_kind, boolean_told, reads_kept, refuses_kept}
-use Rattle.picky_der_input.proofs.input.Input.read_bool.Goals as goal
+use Rattle.picky_der_input.proofs.input.Input.draw_bool.Goals as goal
 
 short : (b : Bool) → length (boolean_content b) < 18
 short false = omega arith

@@ -4,7 +4,7 @@ use Rattle.std.proofs.lemmas.Result.{err_from_is_err_and, MatchResult-weaker}
 use Rattle.picky_der_input.proofs.Steps.{takes_then}
 use Rattle.picky_der_input.proofs.Contents.{kept_input, failed_same, unmoved_taken, unmoved_peeked}
 use Rattle.picky_der_input.proofs.Headers.{header_missing, header_foreign, header_unread}
-use Rattle.picky_der_input.proofs.input.Input.read_header.Goals as goal
+use Rattle.picky_der_input.proofs.input.Input.draw_header.Goals as goal
 
 pub returns-in_err-first-clause-err : goal.returns-in_err-first-clause-err
 returns-in_err-first-clause-err g c =

@@ -1,0 +1,148 @@
+-- Values that were ahead whole, and were taken in one step.
+use Rattle.std.proofs.Common.{◌≡◌, ℕ, ◌+◌, List, [], ◌∷◌, ◌++◌, length, take, Option, Some, None, IfSome, refl, sym, ◌∙◌, ap, subst, arith, append_assoc, length-append}
+use Rattle.std.proofs.lemmas.Grind.{common_steps}
+use Rattle.std.specs.Io.KnownBytes.{Consumes, prepend_known}
+use Rattle.picky_der_core.specs.Element.{len}
+use Rattle.picky_der_core.specs.ElementLaws.{len-short}
+use Rattle.picky_der_core.specs.Tree.{Tree}
+use Rattle.picky_der_core.specs.Encoding.{content}
+use Rattle.picky_der_core.specs.Shape.{Shape, IsOf, AreBytes}
+use Rattle.picky_der_core.specs.Readable.{IsReadable}
+use Rattle.picky_der_core.specs.Peeking.{count_of_any}
+use Rattle.picky_der_core.specs.Refusal.{Judge}
+use Rattle.picky_der_input.specs.State.{State}
+use Rattle.picky_der_input.specs.Steps.{Takes}
+use Rattle.picky_der_input.specs.Reading.{ReadsPlain}
+use Rattle.picky_der_input.specs.Headers.{header_bytes, Begins}
+use Rattle.picky_der_input.specs.Elements.{given_up, BeginsElement, ReadsRaw}
+use Rattle.picky_der_input.specs.Ahead.{ShowsShort, ShowsElement, TakesShown}
+use Rattle.picky_der_input.proofs.PlainReads.{IsPlainKind, reads_plain}
+use Rattle.picky_der_input.proofs.Elements.{reads_raw}
+
+-- ---- two steps in place of one
+
+-- bytes were taken, and then others
+pub record Parts (a c : State) (x y : List ℕ) : Type 0 where
+  pub mid : State
+  pub first : Takes a mid x
+  pub rest : Takes mid c y
+  pub direct : mid.direct ≡ c.direct
+
+first_part : (i j : Option (List ℕ)) (x y : List ℕ) → Consumes i j (x ++ y) → Consumes i (prepend_known y j) x
+first_part None j x y h = tt
+first_part (Some xs) None x y h = h
+first_part (Some xs) (Some ys) x y h = h ∙ append_assoc x y ys
+
+rest_part : (j : Option (List ℕ)) (y : List ℕ) → Consumes (prepend_known y j) j y
+rest_part None y = tt
+rest_part (Some ys) y = refl
+
+pub parts : {a c : State} (x y : List ℕ) → Takes a c (x ++ y) → a.peeked ≡ None → Parts a c x y
+parts {a} {c} x y t p =
+    let none : count_of_any a.peeked ≡ 0 = ap count_of_any p in
+    let size = length-append x y in
+    let no_byte : count_of_any c.peeked ≡ 0 = ap count_of_any t.unpeeked in
+    record {
+      mid = record c { input = prepend_known y c.input; taken = a.taken + length x; room = length y + c.room };
+      first = record {
+        input = first_part a.input c.input x y t.input;
+        taken = refl;
+        room = omega (arith, t.room, size);
+        end = t.end;
+        limit = t.limit;
+        sets = t.sets;
+        unpeeked = t.unpeeked;
+        drawn = omega (arith, none);
+        had_not_failed = t.had_not_failed;
+        not_failed = t.not_failed;
+        faults = t.faults;
+        through = t.through;
+      };
+      rest = record {
+        input = rest_part c.input y;
+        taken = omega (arith, t.taken, size);
+        room = refl;
+        end = refl;
+        limit = refl;
+        sets = refl;
+        unpeeked = t.unpeeked;
+        drawn = omega (arith, t.taken, size, no_byte);
+        had_not_failed = t.not_failed;
+        not_failed = t.not_failed;
+        faults = refl;
+        through = refl;
+      };
+      direct = refl;
+    }
+
+-- ---- plain values
+
+whole_header : (d : Option ℕ) (tag n : ℕ) → d ≡ None → header_bytes d tag n ≡ tag ∷ len n
+whole_header None tag n e = refl
+whole_header (Some number) tag n e = absurd (let q : Some number ≡ None = e in cc)
+
+none_directly : (P : ℕ → Type 0) (d : Option ℕ) → d ≡ None → IfSome d P
+none_directly P None e = tt
+none_directly P (Some number) e = absurd (let q : Some number ≡ None = e in cc)
+
+-- a plain value of which tag, length and content were taken
+pub reads_short : {V : Type 0} {meaning : V → Tree} {s : Shape} {tag : ℕ} {judge : Judge} {a c : State} {bytes : List ℕ} → IsPlainKind meaning s tag judge → (v : V) → IsOf s (meaning v) → IsReadable (meaning v)
+    → bytes ≡ content (meaning v) → ShowsShort a tag bytes → TakesShown a c (length bytes + 2) → a.peeked ≡ None → c.direct ≡ a.direct → ReadsPlain tag judge s a c (meaning v)
+reads_short {meaning = meaning} {tag = tag} {a = a} {c = c} {bytes = bytes} kind v o r is h t p d =
+    let n = length bytes in
+    let taken : Takes a c (tag ∷ (n ∷ bytes)) = t (tag ∷ (n ∷ bytes)) (omega arith) h.shows in
+    let header : header_bytes a.direct tag n ≡ tag ∷ (n ∷ []) = whole_header a.direct tag n h.whole ∙ ap (λ z. tag ∷ z) (len-short n h.short) in
+    let q = parts (tag ∷ (n ∷ [])) bytes taken p in
+    let none : c.direct ≡ None = d ∙ h.whole in
+    let begins : Begins tag a q.mid n = record {
+      takes = rw header q.first;
+      direct = q.direct ∙ none;
+      fits = omega (arith, q.rest.room);
+      all = none_directly _ a.direct h.whole;
+      bounded = h.bounded;
+    } in
+    reads_plain kind v o r begins (subst (Takes q.mid c) is q.rest) (ap length (sym is)) none
+
+-- ---- elements
+
+takes_given_up : {a b : State} {x : List ℕ} → Takes a b x → Takes (given_up a) b x
+takes_given_up t = record {
+  input = t.input;
+  taken = t.taken;
+  room = t.room;
+  end = t.end;
+  limit = t.limit;
+  sets = t.sets;
+  unpeeked = t.unpeeked;
+  drawn = t.drawn;
+  had_not_failed = t.had_not_failed;
+  not_failed = t.not_failed;
+  faults = t.faults;
+  through = t.through;
+}
+
+part_bytes : (x y : List ℕ) → AreBytes (x ++ y) → AreBytes y
+part_bytes [] y h = h
+part_bytes (b ∷ x) y h = part_bytes x y h.1
+
+-- an element that was taken whole
+pub reads_whole : {a c : State} {all : List ℕ} → ShowsElement a all → TakesShown a c (length all) → AreBytes all → a.peeked ≡ None → c.direct ≡ a.direct → ReadsRaw a c all
+reads_whole {a} {c} {all} h t b p d =
+    let e = h.element in
+    let n = length e.content in
+    let is : all ≡ (e.tag ∷ len n) ++ e.content = sym (take_whole all) ∙ e.is in
+    let taken : Takes a c ((e.tag ∷ len n) ++ e.content) = subst (Takes a c) is (t all refl h.shows) in
+    let q = parts (e.tag ∷ len n) e.content taken p in
+    let none : c.direct ≡ None = d ∙ h.whole in
+    let begins : BeginsElement a q.mid e.tag n = record {
+      takes = takes_given_up q.first;
+      number = e.number;
+      byte = e.byte;
+      direct = q.direct ∙ none;
+      fits = omega (arith, q.rest.room);
+      bounded = h.bounded;
+    } in
+    reads_raw begins (record { takes = q.rest; count = refl; bytes = part_bytes (e.tag ∷ len n) e.content (subst AreBytes is b) }) none is
+  where
+    take_whole : (xs : List ℕ) → take (length xs) xs ≡ xs
+    take_whole xs = grind (arith, common_steps)
