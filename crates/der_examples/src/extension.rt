@@ -21,10 +21,7 @@ pub struct Extension {
     pub value: ByteBuf,
 }
 
-type Members = (
-    ObjectIdentifierAsn1,
-    (Defaulted<bool, False>, (ByteBuf, ())),
-);
+type Members = (ObjectIdentifierAsn1, Defaulted<bool, False>, ByteBuf, ());
 
 impl Serialize for Extension {
     ghost meaning = { λ it. Tree.list ListKind.sequence (⟦<Members as SerializeMembers>⟧.members (⟦<Extension as Struct>⟧.parts it)) };
@@ -43,22 +40,13 @@ impl Serialize for Extension {
 impl Struct for Extension {
     type Members = Members;
 
-    ghost parts = { λ it. (it.id, (record { value = it.critical; default = record {} }, (it.value, tt))) };
+    ghost parts = { λ it. (it.id, record { value = it.critical; default = record {} }, it.value, tt) };
 
     fn from_parts(members: Members) -> Extension {
-        let (
-            id,
-            (
-                Defaulted {
-                    value: critical,
-                    ..
-                },
-                (value, ()),
-            ),
-        ) = members;
+        let (id, critical, value, ()) = members;
         Extension {
             id,
-            critical,
+            critical: critical.value,
             value,
         }
     }

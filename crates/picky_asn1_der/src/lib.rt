@@ -7,10 +7,10 @@ pub mod application_tag;
 pub mod de {
     pub use picky_der_de::{
         Alike, Alternatives, Begins, Boolean, Choice, DEFAULT_MAX_LEN, Deserialize,
-        DeserializeLayout, DeserializeMembers, Deserializer, Enclosure, End, NoneOf, Null, OneOf,
-        OneOf4, Sequence, Struct, Told, UInt, UnsignedInteger, Utf8String, deserialize_as,
-        deserialize_struct_as, from_bytes, from_reader, from_reader_with_max_len, next_from_bytes,
-        next_from_reader,
+        DeserializeLayout, DeserializeMember, DeserializeMembers, Deserializer, Enclosure, End,
+        NoneOf, Null, OneOf, OneOf4, Sequence, Struct, Told, UInt, UnsignedInteger, Utf8String,
+        deserialize_as, deserialize_struct_as, from_bytes, from_reader, from_reader_with_max_len,
+        next_from_bytes, next_from_reader,
     };
 }
 

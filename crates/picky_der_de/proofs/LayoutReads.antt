@@ -1,5 +1,5 @@
 -- Members of which some may be missing, read and refused. Each call gives one record, and one lemma takes it.
-use Rattle.std.proofs.Common.{◌≡◌, ℕ, ◌<◌, inl, inr, Bool, true, false, if◌then◌else◌, List, [], ◌∷◌, ◌++◌, length, Option, Some, None, IfSome, IfNone, ◌⊎◌, refl, sym, ◌∙◌, ap, subst, arith, length-append}
+use Rattle.std.proofs.Common.{◌≡◌, ℕ, ◌<◌, inl, inr, Bool, true, false, List, [], ◌∷◌, ◌++◌, length, Option, Some, None, IfSome, IfNone, ◌⊎◌, refl, sym, ◌∙◌, ap, subst, arith, length-append}
 use Rattle.std.specs.Io.KnownBytes.{Keeps}
 use Rattle.std.specs.Prelude.{IsTrue}
 use Rattle.picky_der_core.specs.declared.error.Asn1DerError.{Asn1DerError}
@@ -16,12 +16,12 @@ use Rattle.picky_der_input.specs.Order.{AreInOrder, unordered}
 use Rattle.picky_der_input.specs.Reading.{Concerns, Reads, Refuses}
 use Rattle.picky_der_input.specs.Ends.{Outer, Closes, RefusesClose, OpensList, RefusesList}
 use Rattle.picky_der_input.specs.LookAhead.{Peeks, IdentifiesIn, Identifies}
-use Rattle.picky_der_ser.specs.Meaning.{maybe_more, unless_default}
+use Rattle.picky_der_ser.specs.Meaning.{maybe_more}
 use Rattle.picky_der_ser.specs.Defaults.{IsByTree}
 use Rattle.picky_der_de.specs.Firsts.{IsBegunBy}
 use Rattle.picky_der_de.specs.Members.{ReadsMember, RefusesMember, bytes_of, StandUpToEnd}
-use Rattle.picky_der_de.specs.Layouts.{Lacks, no_more, begins_otherwise, RefusesOptional, no_tag, no_member, RefusesDefault, as_optional, written_out, Rests, same, looked, Passes, ReadsLayout, RefusesLayout, AreBegunBy}
-use Rattle.picky_der_de.specs.LayoutLaws.{is_there, is_missing}
+use Rattle.picky_der_de.specs.Layouts.{Presence, always, perhaps, placed, RefusesComponent, Lacks, no_more, begins_otherwise, RefusesOptional, no_tag, no_member, RefusesDefault, as_optional, written_out, Rests, same, looked, Passes, ReadsLayout, RefusesLayout, AreBegunBy}
+use Rattle.picky_der_de.specs.LayoutLaws.{IsThere, IsComponent, AreComponents, is_there, is_missing}
 use Rattle.picky_der_input.proofs.Steps.{takes_none, takes_then}
 use Rattle.picky_der_input.proofs.Order.{fails_behind, judged_behind}
 use Rattle.picky_der_input.proofs.Refusals.{missing_here}
@@ -159,20 +159,24 @@ layout_none {b} d = record {
 
 -- ---- a member that is always there
 
-pub required_head : {V W : Type 0} {meaning : W → Tree} {others : V → Trees} {s : Shape} {l : Layout} {c d : State} {e : Asn1DerError} (part : V → W) → RefusesMember meaning s c d e
-    → RefusesLayout (λ v. Trees.more (meaning (part v)) (others v)) (Layout.required s l) c d e
-required_head {others = others} part r = record {
-  fails = r.fails;
-  none = λ told j v are readable order w. no_value_there (part v) (others v) r j are.0 readable.0 order w.stand;
-}
+module _ {V W : Type 0} (meaning : W → Tree) {s : Shape} {l : Layout} (item : V → Option W) (there : (v : V) → IfNone (item v) ⊥) where
+  -- refused, whatever is there and whatever is behind it
+  always_refused : (others : V → Trees) {b d : State} {e : Asn1DerError} → Fails b d e
+      → (AreMembersTold l → IsJudged b d e → (v : V) (w : W) → IsOf s (meaning w) → AreMembersOf l (others v) → IsReadable (meaning w) → AreReadable (others v) → AreInOrder b.sets (encodings (Trees.more (meaning w) (others v))) → StandUpToEnd b d e (bytes_of (Trees.more (meaning w) (others v))) → ⊥)
+      → RefusesLayout (λ v. maybe_more meaning (item v) (others v)) (Layout.required s l) b d e
+  always_refused others {b} {d} {e} fails none = record { fails = fails; none = λ told j v. by_option told j v (item v) (there v) }
+    where
+      by_option : AreMembersTold l → IsJudged b d e → (v : V) (o : Option W) → IfNone o ⊥ → AreMembersOf (Layout.required s l) (maybe_more meaning o (others v)) → AreReadable (maybe_more meaning o (others v)) → AreInOrder b.sets (encodings (maybe_more meaning o (others v))) → StandUpToEnd b d e (bytes_of (maybe_more meaning o (others v))) → ⊥
+      by_option told j v None t are readable order w = t
+      by_option told j v (Some x) t are readable order w = none told j v x are.0 are.1 readable.0 readable.1 order w
 
-pub required_next : {V W U : Type 0} (meaning : W → Tree) {others : U → Trees} {s : Shape} {l : Layout} {b c d : State} {t : Tree} {e : Asn1DerError} (part : V → W) (rest : V → U) → ReadsMember s b c t → RefusesLayout others l c d e
-    → RefusesLayout (λ v. Trees.more (meaning (part v)) (others (rest v))) (Layout.required s l) b d e
-required_next meaning {others = others} part rest r h = record {
-  fails = fails_behind (takes_member r) h.fails;
-  none = λ told j v are readable order w.
-      h.none told (judged_behind (takes_member r) j) (rest v) are.1 readable.1 (next_order (meaning (part v)) (others (rest v)) readable.0 r h.fails w.stand order) (next_up_to_end (meaning (part v)) (others (rest v)) readable.0 r h.fails w);
-}
+  required_head : (others : V → Trees) {c d : State} {e : Asn1DerError} → RefusesMember meaning s c d e → RefusesLayout (λ v. maybe_more meaning (item v) (others v)) (Layout.required s l) c d e
+  required_head others r = always_refused others r.fails (λ told j v x of_shape are readable behind order w. no_value_there x (others v) r j of_shape readable order w.stand)
+
+  required_next : {U : Type 0} (others : U → Trees) (rest : V → U) {b c d : State} {t : Tree} {e : Asn1DerError} → ReadsMember s b c t → RefusesLayout others l c d e → RefusesLayout (λ v. maybe_more meaning (item v) (others (rest v))) (Layout.required s l) b d e
+  required_next others rest r h = always_refused (λ v. others (rest v)) (fails_behind (takes_member r) h.fails)
+      (λ told j v x of_shape are readable behind order w.
+      h.none told (judged_behind (takes_member r) j) (rest v) are behind (next_order (meaning x) (others (rest v)) readable r h.fails w.stand order) (next_up_to_end (meaning x) (others (rest v)) readable r h.fails w))
 
 member_then : {s : Shape} {l : Layout} {a b c d : State} {t : Tree} {ts : Trees} → Rests a b → ReadsMember s b c t → ReadsLayout l c d ts → Passes a d (bytes_of (Trees.more t ts))
 member_then {a = a} {c = c} {d = d} {t = t} {ts = ts} q r h =
@@ -180,7 +184,7 @@ member_then {a = a} {c = c} {d = d} {t = t} {ts = ts} q r h =
     let p = h.passes c (rests_here m.not_failed m.unpeeked) in
     record { mid = p.mid; takes = subst (Takes (unordered a) (unordered p.mid)) (sym (bytes_of-more t ts)) (takes_then (rests_takes c q m) p.takes); rests = p.rests }
 
-pub required_read : {s : Shape} {l : Layout} {b c d : State} {t : Tree} {ts : Trees} → ReadsMember s b c t → ReadsLayout l c d ts → ReadsLayout (Layout.required s l) b d (Trees.more t ts)
+required_read : {s : Shape} {l : Layout} {b c d : State} {t : Tree} {ts : Trees} → ReadsMember s b c t → ReadsLayout l c d ts → ReadsLayout (Layout.required s l) b d (Trees.more t ts)
 required_read {s} {l} {b} {c} {d} {t} {ts} r h = record {
   are = (r.reads.of_shape, h.are);
   readable = (r.reads.readable, h.readable);
@@ -223,7 +227,7 @@ module _ {V W U : Type 0} (meaning : W → Tree) (others : U → Trees) (s : Sha
   }
 
   -- no tag was there, or the member was refused
-  pub maybe_head : {b d : State} {e : Asn1DerError} → b.direct ≡ None → RefusesOptional meaning s b d e → RefusesLayout (λ v. maybe_more meaning (part v) (others (rest v))) (Layout.maybe s l) b d e
+  maybe_head : {b d : State} {e : Asn1DerError} → b.direct ≡ None → RefusesOptional meaning s b d e → RefusesLayout (λ v. maybe_more meaning (part v) (others (rest v))) (Layout.maybe s l) b d e
   maybe_head {b} {d} {e} whole (no_tag h ahead) = record {
     fails = h.refuses.fails;
     none = λ told j v are readable order w. no_bytes (ahead j.had_not_failed) w (missing_here (h.missing j).1 w.stand.concerns);
@@ -238,7 +242,7 @@ module _ {V W U : Type 0} (meaning : W → Tree) (others : U → Trees) (s : Sha
       (λ told j u a readable st. not_missing p s l (others u) told.0 own r.fails a readable st.1)
 
   -- it was read, and those behind it were refused
-  pub there_next : {b c d : State} {t : Tree} {e : Asn1DerError} → ReadsMember s b c t → RefusesLayout others l c d e → RefusesLayout (λ v. maybe_more meaning (part v) (others (rest v))) (Layout.maybe s l) b d e
+  there_next : {b c d : State} {t : Tree} {e : Asn1DerError} → ReadsMember s b c t → RefusesLayout others l c d e → RefusesLayout (λ v. maybe_more meaning (part v) (others (rest v))) (Layout.maybe s l) b d e
   there_next r n = refused_by (fails_behind (takes_member r) n.fails)
       (λ told j w u o a readable st.
       n.none told.1 (judged_behind (takes_member r) j) u a readable.1 (next_order (meaning w) (others u) readable.0 r n.fails st.1.stand st.0) (next_up_to_end (meaning w) (others u) readable.0 r n.fails st.1))
@@ -274,7 +278,7 @@ skips {s = s} whole (begins_otherwise tag i other) =
     }
 
 -- it is missing, and those behind it were refused
-pub missing_next : {V W U : Type 0} (meaning : W → Tree) (others : U → Trees) (s : Shape) (l : Layout) (part : V → Option W) (rest : V → U) → ((w : W) → IsBegunBy (firsts s) (meaning w)) → ((u : U) → AreBegunBy (next_firsts l) (others u))
+missing_next : {V W U : Type 0} (meaning : W → Tree) (others : U → Trees) (s : Shape) (l : Layout) (part : V → Option W) (rest : V → U) → ((w : W) → IsBegunBy (firsts s) (meaning w)) → ((u : U) → AreBegunBy (next_firsts l) (others u))
     → {b c d : State} {e : Asn1DerError} → b.direct ≡ None → Lacks s b c → RefusesLayout others l c d e → RefusesLayout (λ v. maybe_more meaning (part v) (others (rest v))) (Layout.maybe s l) b d e
 missing_next meaning others s l part rest begins begin {b} {c} {d} {e} whole h n =
     let k : Skips s b c = skips whole h in
@@ -283,7 +287,7 @@ missing_next meaning others s l part rest begins begin {b} {c} {d} {e} whole h n
     (λ told j u a readable st. n.none told.1 (k.judged d e j) u a readable (subst (λ x. AreInOrder x (encodings (others u))) (sym k.sets) st.0) (k.stands d e (bytes_of (others u)) st.1))
 
 -- it was read, and those behind it
-pub there_read : {s : Shape} {l : Layout} {b c d : State} {t : Tree} {ts : Trees} → ReadsMember s b c t → ReadsLayout l c d ts → ReadsLayout (Layout.maybe s l) b d (Trees.more t ts)
+there_read : {s : Shape} {l : Layout} {b c d : State} {t : Tree} {ts : Trees} → ReadsMember s b c t → ReadsLayout l c d ts → ReadsLayout (Layout.maybe s l) b d (Trees.more t ts)
 there_read {s} {l} {b} {c} {d} {t} {ts} r h = record {
   are = inl (r.reads.of_shape, h.are);
   readable = (r.reads.readable, h.readable);
@@ -300,7 +304,7 @@ there_read {s} {l} {b} {c} {d} {t} {ts} r h = record {
       h.full told.1 last e f left us are.1 readable.1 (next_up_to_end u us readable.0 r (h.fails last e f) w)
 
 -- it is missing, and those behind it were read
-pub missing_read : {s : Shape} {l : Layout} {b c d : State} {ts : Trees} → b.direct ≡ None → Lacks s b c → ReadsLayout l c d ts → ReadsLayout (Layout.maybe s l) b d ts
+missing_read : {s : Shape} {l : Layout} {b c d : State} {ts : Trees} → b.direct ≡ None → Lacks s b c → ReadsLayout l c d ts → ReadsLayout (Layout.maybe s l) b d ts
 missing_read {s} {l} {b} {c} {d} {ts} whole h n =
     let k : Skips s b c = skips whole h in
     record {
@@ -319,12 +323,12 @@ missing_read {s} {l} {b} {c} {d} {ts} whole h n =
     full k told {last} {e} f left (Trees.more u us) (inl are) readable w = k.not last e u us (n.fails last e f) are.0 readable.0 w
 
 -- by whether it was read
-pub maybe_read : {W : Type 0} (meaning : W → Tree) {s : Shape} {l : Layout} {b c d : State} {ts : Trees} (o : Option W) → b.direct ≡ None → IfSome o (λ w. ReadsMember s b c (meaning w)) → IfNone o (Lacks s b c) → ReadsLayout l c d ts
+maybe_read : {W : Type 0} (meaning : W → Tree) {s : Shape} {l : Layout} {b c d : State} {ts : Trees} (o : Option W) → b.direct ≡ None → IfSome o (λ w. ReadsMember s b c (meaning w)) → IfNone o (Lacks s b c) → ReadsLayout l c d ts
     → ReadsLayout (Layout.maybe s l) b d (maybe_more meaning o ts)
 maybe_read meaning None whole r h n = missing_read whole h n
 maybe_read meaning (Some w) whole r h n = there_read r n
 
-pub maybe_next : {V W U : Type 0} (meaning : W → Tree) (others : U → Trees) (s : Shape) (l : Layout) (part : V → Option W) (rest : V → U) → ((w : W) → IsBegunBy (firsts s) (meaning w)) → ((u : U) → AreBegunBy (next_firsts l) (others u))
+maybe_next : {V W U : Type 0} (meaning : W → Tree) (others : U → Trees) (s : Shape) (l : Layout) (part : V → Option W) (rest : V → U) → ((w : W) → IsBegunBy (firsts s) (meaning w)) → ((u : U) → AreBegunBy (next_firsts l) (others u))
     → {b c d : State} {e : Asn1DerError} (o : Option W) → b.direct ≡ None → IfSome o (λ w. ReadsMember s b c (meaning w)) → IfNone o (Lacks s b c) → RefusesLayout others l c d e
     → RefusesLayout (λ v. maybe_more meaning (part v) (others (rest v))) (Layout.maybe s l) b d e
 maybe_next meaning others s l part rest begins begin None whole r h n = missing_next meaning others s l part rest begins begin whole h n
@@ -332,13 +336,13 @@ maybe_next meaning others s l part rest begins begin (Some w) whole r h n = ther
 
 -- ---- a member with a default
 
-module _ {V W U : Type 0} (meaning : W → Tree) (left_out : W → Bool) (others : U → Trees) (s : Shape) (l : Layout) (part : V → W) (rest : V → U) (by_tree : IsByTree meaning left_out) (sound : IsSound s)
+module _ {V W U : Type 0} (meaning : W → Tree) (left_out : W → Bool) (others : U → Trees) (s : Shape) (l : Layout) (item : V → Option W) (rest : V → U) (written : (v : V) → IfSome (item v) (λ w. left_out w ≡ false)) (by_tree : IsByTree meaning left_out) (sound : IsSound s)
     (begins : (w : W) → IsBegunBy (firsts s) (meaning w)) (begin : (u : U) → AreBegunBy (next_firsts l) (others u)) where
   -- the default stands there, and in no row
-  out_of_place : {b c d : State} {e : Asn1DerError} (x : W) → IsTrue (left_out x) → ReadsMember s b c (meaning x) → Fails c d e → AreMembersTold (Layout.maybe s l) → (y : W) (u : U) (out : Bool) → left_out y ≡ out
-      → AreMembersOf (Layout.maybe s l) (maybe_more meaning (if out then None else Some y) (others u)) → AreReadable (maybe_more meaning (if out then None else Some y) (others u)) → StandUpToEnd b d e (bytes_of (maybe_more meaning (if out then None else Some y) (others u))) → ⊥
-  out_of_place x is r f told y u true q are readable w = not_missing_read s l (others u) told.0 r f (is_missing s l told.0 (others u) (begin u) readable are) readable w
-  out_of_place x is r f told y u false q are readable w =
+  out_of_place : {b c d : State} {e : Asn1DerError} (x : W) → IsTrue (left_out x) → ReadsMember s b c (meaning x) → Fails c d e → AreMembersTold (Layout.maybe s l) → (o : Option W) (u : U) → IfSome o (λ w. left_out w ≡ false)
+      → AreMembersOf (Layout.maybe s l) (maybe_more meaning o (others u)) → AreReadable (maybe_more meaning o (others u)) → StandUpToEnd b d e (bytes_of (maybe_more meaning o (others u))) → ⊥
+  out_of_place x is r f told None u q are readable w = not_missing_read s l (others u) told.0 r f (is_missing s l told.0 (others u) (begin u) readable are) readable w
+  out_of_place x is r f told (Some y) u q are readable w =
       let there = is_there s l told.0 (meaning y) (others u) (begins y) readable.0 are in
       let bytes : der (meaning y) ≡ der (meaning x) = (same_member (meaning y) (others u) readable.0 r f w.stand).0 in
       let same : meaning x ≡ meaning y = (same_tree s sound (meaning x) (meaning y) r.reads.of_shape there.0 r.reads.readable readable.0 [] [] (ap (λ z. z ++ []) (sym bytes))).0 in
@@ -346,12 +350,48 @@ module _ {V W U : Type 0} (meaning : W → Tree) (left_out : W → Bool) (others
       let never : false ≡ true = sym q ∙ out in
       cc
 
-  pub default_head : {b d : State} {e : Asn1DerError} → b.direct ≡ None → RefusesDefault meaning left_out s b d e → RefusesLayout (λ v. maybe_more meaning (unless_default left_out (part v)) (others (rest v))) (Layout.maybe s l) b d e
-  default_head whole (as_optional h) = maybe_head meaning others s l (λ v. unless_default left_out (part v)) rest begins begin whole h
+  default_head : {b d : State} {e : Asn1DerError} → b.direct ≡ None → RefusesDefault meaning left_out s b d e → RefusesLayout (λ v. maybe_more meaning (item v) (others (rest v))) (Layout.maybe s l) b d e
+  default_head whole (as_optional h) = maybe_head meaning others s l item rest begins begin whole h
   default_head whole (written_out c x is r f) = record {
     fails = fails_behind (takes_member r) f;
-    none = λ told j v are readable order w. out_of_place x is r f told (part v) (rest v) (left_out (part v)) refl are readable w;
+    none = λ told j v are readable order w. out_of_place x is r f told (item v) (rest v) (written v) are readable w;
   }
+
+-- ---- a member, always there or not
+
+refuses_alike : {V : Type 0} {members others : V → Trees} {l : Layout} {b d : State} {e : Asn1DerError} → ((v : V) → members v ≡ others v) → RefusesLayout others l b d e → RefusesLayout members l b d e
+refuses_alike {l = l} {b = b} {d = d} {e = e} is h = record {
+  fails = h.fails;
+  none = λ told j v are readable order w.
+      h.none told j v (subst (AreMembersOf l) (is v) are) (subst AreReadable (is v) readable) (subst (λ ts. AreInOrder b.sets (encodings ts)) (is v) order) (subst (λ ts. StandUpToEnd b d e (bytes_of ts)) (is v) w);
+}
+
+module _ {W X : Type 0} {presence : Presence} {in_front : X → Trees → Trees} {eq : X → X → Bool} {meaning : W → Tree} {s : Shape} {eq_item : W → W → Bool} {item : X → Option W} {left_out : W → Bool}
+    (c : IsComponent presence in_front eq meaning s eq_item item left_out) where
+  pub component_read : {l : Layout} {b m d : State} {ts : Trees} (x : X) → b.direct ≡ None → IfSome (item x) (λ w. ReadsMember s b m (meaning w)) → IfNone (item x) (Lacks s b m) → ReadsLayout l m d ts → ReadsLayout (placed presence s l) b d (in_front x ts)
+  component_read {l} {b} {m} {d} {ts} x whole r h n = subst (ReadsLayout (placed presence s l) b d) (sym (c.stands x ts)) (by_presence presence (item x) (c.there x) r h)
+    where
+      by_presence : (p : Presence) (o : Option W) → IsThere p o → IfSome o (λ w. ReadsMember s b m (meaning w)) → IfNone o (Lacks s b m) → ReadsLayout (placed p s l) b d (maybe_more meaning o ts)
+      by_presence always None t r h = absurd t
+      by_presence always (Some w) t r h = required_read r n
+      by_presence perhaps o t r h = maybe_read meaning o whole r h n
+
+  pub component_head : {V : Type 0} {others : V → Trees} {l : Layout} {AreEqual : V → V → Type 0} (first : V → X) → AreComponents others l AreEqual → {b d : State} {e : Asn1DerError} → b.direct ≡ None → RefusesComponent presence meaning left_out s b d e
+      → RefusesLayout (λ v. in_front (first v) (others v)) (placed presence s l) b d e
+  component_head {V} {others} {l} first cs {b} {d} {e} whole h = refuses_alike (λ v. c.stands (first v) (others v)) (by_presence presence c.there h)
+    where
+      by_presence : (p : Presence) → ((x : X) → IsThere p (item x)) → RefusesComponent p meaning left_out s b d e → RefusesLayout (λ v. maybe_more meaning (item (first v)) (others v)) (placed p s l) b d e
+      by_presence always there h = required_head meaning (λ v. item (first v)) (λ v. there (first v)) others h
+      by_presence perhaps there h = default_head meaning left_out others s l (λ v. item (first v)) (λ v. v) (λ v. c.written (first v)) c.by_tree c.sound c.begins cs.begins whole h
+
+  pub component_next : {V U : Type 0} {others : U → Trees} {l : Layout} {AreEqual : U → U → Type 0} (first : V → X) (rest : V → U) → AreComponents others l AreEqual → {b m d : State} {e : Asn1DerError} (x : X) → b.direct ≡ None → IfSome (item x) (λ w. ReadsMember s b m (meaning w)) → IfNone (item x) (Lacks s b m)
+      → RefusesLayout others l m d e → RefusesLayout (λ v. in_front (first v) (others (rest v))) (placed presence s l) b d e
+  component_next {V} {U} {others} {l} first rest cs {b} {m} {d} {e} x whole r h n = refuses_alike (λ v. c.stands (first v) (others (rest v))) (by_presence presence (item x) (c.there x) c.there r h)
+    where
+      by_presence : (p : Presence) (o : Option W) → IsThere p o → ((y : X) → IsThere p (item y)) → IfSome o (λ w. ReadsMember s b m (meaning w)) → IfNone o (Lacks s b m) → RefusesLayout (λ v. maybe_more meaning (item (first v)) (others (rest v))) (placed p s l) b d e
+      by_presence always None t there r h = absurd t
+      by_presence always (Some w) t there r h = required_next meaning (λ v. item (first v)) (λ v. there (first v)) others rest r n
+      by_presence perhaps o t there r h = maybe_next meaning others s l (λ v. item (first v)) rest c.begins cs.begins o whole r h n
 
 -- ---- the whole list
 

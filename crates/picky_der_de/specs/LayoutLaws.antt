@@ -1,15 +1,16 @@
 -- What members owe of which some may be missing: the first byte tells them.
-use Rattle.std.proofs.Common.{◌≡◌, ℕ, Bool, true, false, refl, if◌then◌else◌, ◌&&◌, List, ◌∷◌, ◌++◌, Option, None, Some, inl, inr, sym, ◌∙◌, subst}
+use Rattle.std.proofs.Common.{◌≡◌, ℕ, Bool, true, false, refl, if◌then◌else◌, List, ◌∷◌, ◌++◌, Option, None, Some, IfSome, IfNone, inl, inr, sym, ◌∙◌, subst}
+use Rattle.std.specs.Prelude.{⊤}
 use Rattle.std.specs.Option.{option_eq}
 use Rattle.picky_der_core.specs.Tree.{Tree, Trees}
 use Rattle.picky_der_core.specs.Readable.{IsReadable, AreReadable}
-use Rattle.picky_der_core.specs.Shape.{Shape, Layout, IsOf, AreMembersOf, AreMembersTold, FirstAndRest, FirstOrNone, firsts, next_firsts, has, are_apart}
+use Rattle.picky_der_core.specs.Shape.{Shape, Layout, IsOf, IsSound, AreMembersOf, AreMembersTold, AreMembersSound, FirstAndRest, FirstOrNone, firsts, next_firsts, has, are_apart}
 use Rattle.picky_der_core.specs.FirstLaws.{BeginsIn, begins_in, begins_next, apart_has, has-append_left, has-append_right}
 use Rattle.picky_der_ser.specs.Meaning.{maybe_more, unless_default}
-use Rattle.picky_der_ser.specs.Defaults.{IsOne}
+use Rattle.picky_der_ser.specs.Defaults.{IsByTree, IsOne}
 use Rattle.picky_der_de.specs.Firsts.{IsBegunBy, BytesIn, bytes_in, begins_in_own}
-use Rattle.picky_der_de.specs.KnownLaws.{IsKnownByTree, both, first_member, other_members}
-use Rattle.picky_der_de.specs.Layouts.{AreBegunBy, AreKnownByLayout}
+use Rattle.picky_der_de.specs.KnownLaws.{IsKnownByTree, first_member, other_members}
+use Rattle.picky_der_de.specs.Layouts.{Presence, always, perhaps, placed, AreBegunBy}
 
 begun : (fs : List ℕ) (t : Tree) → IsBegunBy fs t → IsReadable t → BytesIn t → BeginsIn fs t
 begun fs t f r k =
@@ -64,41 +65,145 @@ module _ {V : Type 0} (meaning : V → Tree) (s : Shape) (l : Layout) (begins : 
       let behind = is_missing s l told.0 us f (subst AreReadable e r) q in
       begins_apart (firsts s) (next_firsts l) (meaning v) told.0 (begins_in s (meaning v) there.0 r.0) (begins_next l (meaning v) ts (subst (AreMembersOf l) (sym e) behind) r.0)
 
-  -- the first may be missing, and those behind it are told by `others`
-  pub maybe_told : (eq : V → V → Bool) (others : Bool) → IsKnownByTree meaning s eq → (ts us : Trees) → AreBegunBy (next_firsts l) ts → AreBegunBy (next_firsts l) us → (AreMembersOf l ts → AreMembersOf l us → AreReadable ts → ts ≡ us → others ≡ true)
-      → (x y : Option V) → AreMembersOf (Layout.maybe s l) (maybe_more meaning x ts) → AreMembersOf (Layout.maybe s l) (maybe_more meaning y us) → AreReadable (maybe_more meaning x ts) → maybe_more meaning x ts ≡ maybe_more meaning y us → (option_eq eq x y && others) ≡ true
-  maybe_told eq others known ts us f g k None None p q r e = k (is_missing s l told.0 ts f r p) (is_missing s l told.0 us g (subst AreReadable e r) q) r e
-  maybe_told eq others known ts us f g k None (Some y) p q r e = absurd (other_place y us ts f q p (subst AreReadable e r) (sym e))
-  maybe_told eq others known ts us f g k (Some x) None p q r e = absurd (other_place x ts us g p q r e)
-  maybe_told eq others known ts us f g k (Some x) (Some y) p q r e =
+  -- the first may be missing, and of those behind it `Others` holds where they are the same
+  pub maybe_told : (eq : V → V → Bool) (Others : Type 0) → IsKnownByTree meaning s eq → (ts us : Trees) → AreBegunBy (next_firsts l) ts → AreBegunBy (next_firsts l) us → (AreMembersOf l ts → AreMembersOf l us → AreReadable ts → ts ≡ us → Others)
+      → (x y : Option V) → AreMembersOf (Layout.maybe s l) (maybe_more meaning x ts) → AreMembersOf (Layout.maybe s l) (maybe_more meaning y us) → AreReadable (maybe_more meaning x ts) → maybe_more meaning x ts ≡ maybe_more meaning y us → (option_eq eq x y ≡ true) × Others
+  maybe_told eq Others known ts us f g k None None p q r e = (refl, k (is_missing s l told.0 ts f r p) (is_missing s l told.0 us g (subst AreReadable e r) q) r e)
+  maybe_told eq Others known ts us f g k None (Some y) p q r e = absurd (other_place y us ts f q p (subst AreReadable e r) (sym e))
+  maybe_told eq Others known ts us f g k (Some x) None p q r e = absurd (other_place x ts us g p q r e)
+  maybe_told eq Others known ts us f g k (Some x) (Some y) p q r e =
       let a = is_there s l told.0 (meaning x) ts (begins x) r.0 p in
       let b = is_there s l told.0 (meaning y) us (begins y) (subst AreReadable e r).0 q in
-      both (known x y a.0 b.0 r.0 (first_member e)) (k a.1 b.1 r.1 (other_members e))
-
-module _ {V W : Type 0} (meaning : V → Tree) (s : Shape) (eq : V → V → Bool) (members : W → Trees) (l : Layout) (others : W → W → Bool) (known : IsKnownByTree meaning s eq) (known_others : AreKnownByLayout members l others) where
-  pub required_known : AreMembersTold l → (v x : V) (w y : W) → AreMembersOf (Layout.required s l) (Trees.more (meaning v) (members w)) → AreMembersOf (Layout.required s l) (Trees.more (meaning x) (members y)) → AreReadable (Trees.more (meaning v) (members w))
-      → Trees.more (meaning v) (members w) ≡ Trees.more (meaning x) (members y) → (eq v x && others w y) ≡ true
-  required_known told v x w y p q r e = both (known v x p.0 q.0 r.0 (first_member e)) (known_others told w y p.1 q.1 r.1 (other_members e))
-
-  pub maybe_known : ((v : V) → IsBegunBy (firsts s) (meaning v)) → ((w : W) → AreBegunBy (next_firsts l) (members w)) → AreMembersTold (Layout.maybe s l) → (v x : Option V) (w y : W) → AreMembersOf (Layout.maybe s l) (maybe_more meaning v (members w))
-      → AreMembersOf (Layout.maybe s l) (maybe_more meaning x (members y)) → AreReadable (maybe_more meaning v (members w)) → maybe_more meaning v (members w) ≡ maybe_more meaning x (members y) → (option_eq eq v x && others w y) ≡ true
-  maybe_known begins begin told v x w y = maybe_told meaning s l begins told eq (others w y) known (members w) (members y) (begin w) (begin y) (known_others told.1 w y) v x
+      (known x y a.0 b.0 r.0 (first_member e), k a.1 b.1 r.1 (other_members e))
 
 -- ---- members with a default
 
 -- two values are equal where the options of what isn't left out are
-equal_unless_default : {V : Type 0} (eq : V → V → Bool) (left_out : V → Bool) → IsOne eq left_out → (x y : V) (others p q : Bool) → left_out x ≡ p → left_out y ≡ q
-    → (option_eq eq (if p then None else Some x) (if q then None else Some y) && others) ≡ true → (eq x y && others) ≡ true
-equal_unless_default eq left_out one x y others true true p q h = both (one x y p q) h
-equal_unless_default eq left_out one x y others true false p q h = cc
-equal_unless_default eq left_out one x y others false true p q h = cc
-equal_unless_default eq left_out one x y others false false p q h = h
+equal_unless_default : {V : Type 0} (eq : V → V → Bool) (left_out : V → Bool) → IsOne eq left_out → (x y : V) (p q : Bool) → left_out x ≡ p → left_out y ≡ q
+    → option_eq eq (if p then None else Some x) (if q then None else Some y) ≡ true → eq x y ≡ true
+equal_unless_default eq left_out one x y true true p q h = one x y p q
+equal_unless_default eq left_out one x y true false p q h = cc
+equal_unless_default eq left_out one x y false true p q h = cc
+equal_unless_default eq left_out one x y false false p q h = h
 
-pub same_unless_default : {V : Type 0} (eq : V → V → Bool) (left_out : V → Bool) → IsOne eq left_out → (x y : V) (others : Bool) → (option_eq eq (unless_default left_out x) (unless_default left_out y) && others) ≡ true → (eq x y && others) ≡ true
-same_unless_default eq left_out one x y others h = equal_unless_default eq left_out one x y others (left_out x) (left_out y) refl refl h
+pub same_unless_default : {V : Type 0} (eq : V → V → Bool) (left_out : V → Bool) → IsOne eq left_out → (x y : V) → option_eq eq (unless_default left_out x) (unless_default left_out y) ≡ true → eq x y ≡ true
+same_unless_default eq left_out one x y h = equal_unless_default eq left_out one x y (left_out x) (left_out y) refl refl h
 
-pub default_known : {V W : Type 0} (meaning : V → Tree) (s : Shape) (eq : V → V → Bool) (left_out : V → Bool) (members : W → Trees) (l : Layout) (others : W → W → Bool) → IsKnownByTree meaning s eq → IsOne eq left_out → AreKnownByLayout members l others
-    → ((v : V) → IsBegunBy (firsts s) (meaning v)) → ((w : W) → AreBegunBy (next_firsts l) (members w)) → AreMembersTold (Layout.maybe s l) → (v x : V) (w y : W) → AreMembersOf (Layout.maybe s l) (maybe_more meaning (unless_default left_out v) (members w))
-    → AreMembersOf (Layout.maybe s l) (maybe_more meaning (unless_default left_out x) (members y)) → AreReadable (maybe_more meaning (unless_default left_out v) (members w)) → maybe_more meaning (unless_default left_out v) (members w) ≡ maybe_more meaning (unless_default left_out x) (members y) → (eq v x && others w y) ≡ true
-default_known meaning s eq left_out members l others known one known_others begins begin told v x w y p q r e =
-    same_unless_default eq left_out one v x (others w y) (maybe_known meaning s eq members l others known known_others begins begin told (unless_default left_out v) (unless_default left_out x) w y p q r e)
+-- ---- one member
+
+-- what is always there is there
+abbrev pub IsThere : {W : Type 0} → Presence → Option W → Type 0
+IsThere always o = IfNone o ⊥
+IsThere perhaps o = ⊤
+
+-- What a member owes, always there or not: the value that stands in front of the others, if one does.
+pub record IsComponent {V W : Type 0} (presence : Presence) (in_front : V → Trees → Trees) (eq : V → V → Bool) (meaning : W → Tree) (s : Shape) (eq_item : W → W → Bool) (item : V → Option W) (left_out : W → Bool) : Type 0 where
+  pub stands : (v : V) (ts : Trees) → in_front v ts ≡ maybe_more meaning (item v) ts
+  pub there : (v : V) → IsThere presence (item v)
+  pub written : (v : V) → IfSome (item v) (λ w. left_out w ≡ false)
+  pub equal : (x y : V) → option_eq eq_item (item x) (item y) ≡ true → eq x y ≡ true
+  pub begins : (w : W) → IsBegunBy (firsts s) (meaning w)
+  pub known : IsKnownByTree meaning s eq_item
+  pub by_tree : IsByTree meaning left_out
+  pub sound : IsSound s
+
+none_by_tree : {W : Type 0} (meaning : W → Tree) → IsByTree meaning (λ _. false)
+none_by_tree meaning x y h = cc
+
+module _ {W : Type 0} (meaning : W → Tree) (s : Shape) (eq : W → W → Bool) (begins : (w : W) → IsBegunBy (firsts s) (meaning w)) (known : IsKnownByTree meaning s eq) (sound : IsSound s) where
+  -- a value
+  pub always_there : IsComponent always (λ w. Trees.more (meaning w)) eq meaning s eq (λ w. Some w) (λ _. false)
+  always_there = record {
+    stands = λ v ts. refl;
+    there = λ v. tt;
+    written = λ v. refl;
+    equal = λ x y h. h;
+    begins = begins;
+    known = known;
+    by_tree = none_by_tree meaning;
+    sound = sound;
+  }
+
+  -- a value that may be missing
+  pub perhaps_there : {V : Type 0} (item : V → Option W) → IsComponent perhaps (λ v. maybe_more meaning (item v)) (λ x y. option_eq eq (item x) (item y)) meaning s eq item (λ _. false)
+  perhaps_there {V} item = record {
+    stands = λ v ts. refl;
+    there = λ v. tt;
+    written = λ v. none_out (item v);
+    equal = λ x y h. h;
+    begins = begins;
+    known = known;
+    by_tree = none_by_tree meaning;
+    sound = sound;
+  } where
+    none_out : (o : Option W) → IfSome o (λ w. false ≡ false)
+    none_out None = tt
+    none_out (Some w) = refl
+
+  -- a value that is missing where it is the default
+  pub with_default : {V : Type 0} (left_out : W → Bool) → IsByTree meaning left_out → IsOne eq left_out → (value : V → W)
+      → IsComponent perhaps (λ v. maybe_more meaning (unless_default left_out (value v))) (λ x y. eq (value x) (value y)) meaning s eq (λ v. unless_default left_out (value v)) left_out
+  with_default {V} left_out by_tree one value = record {
+    stands = λ v ts. refl;
+    there = λ v. tt;
+    written = λ v. not_out (value v) (left_out (value v)) refl;
+    equal = λ x y h. same_unless_default eq left_out one (value x) (value y) h;
+    begins = begins;
+    known = known;
+    by_tree = by_tree;
+    sound = sound;
+  } where
+    not_out : (w : W) (out : Bool) → left_out w ≡ out → IfSome (if out then None else Some w) (λ x. left_out x ≡ false)
+    not_out w true e = tt
+    not_out w false e = e
+
+-- ---- members, one after another
+
+pub record AreComponents {V : Type 0} (members : V → Trees) (l : Layout) (AreEqual : V → V → Type 0) : Type 0 where
+  -- the first that is there begins with no other byte
+  pub begins : (v : V) → AreBegunBy (next_firsts l) (members v)
+  -- two rows of readable members with the same trees are equal, where missing members are told by the first byte
+  pub known : AreMembersTold l → (x y : V) → AreMembersOf l (members x) → AreMembersOf l (members y) → AreReadable (members x) → members x ≡ members y → AreEqual x y
+  -- the choices in the shapes are told by their first byte
+  pub sound : AreMembersSound l
+
+pub no_components : {V : Type 0} → AreComponents (λ (v : V). Trees.none) Layout.empty (λ x y. true ≡ true)
+no_components = record { begins = λ v. tt; known = λ told x y p q r e. refl; sound = tt }
+
+-- as part of others
+pub behind : {V U : Type 0} {members : U → Trees} {l : Layout} {AreEqual : U → U → Type 0} (part : V → U) → AreComponents members l AreEqual → AreComponents (λ v. members (part v)) l (λ x y. AreEqual (part x) (part y))
+behind part c = record { begins = λ v. c.begins (part v); known = λ told x y. c.known told (part x) (part y); sound = c.sound }
+
+pub equal_so : {V : Type 0} {members : V → Trees} {l : Layout} {AreAlike AreEqual : V → V → Type 0} → ((x y : V) → AreAlike x y → AreEqual x y) → AreComponents members l AreAlike → AreComponents members l AreEqual
+equal_so f c = record { begins = c.begins; known = λ told x y p q r e. f x y (c.known told x y p q r e); sound = c.sound }
+
+-- a member in front of the others
+module _ {V W X : Type 0} {presence : Presence} {in_front : X → Trees → Trees} {eq : X → X → Bool} {meaning : W → Tree} {s : Shape} {eq_item : W → W → Bool} {item : X → Option W} {left_out : W → Bool} {others : V → Trees} {l : Layout} {AreEqual : V → V → Type 0} (first : V → X)
+    (c : IsComponent presence in_front eq meaning s eq_item item left_out) (cs : AreComponents others l AreEqual) where
+  stand : (v : V) → in_front (first v) (others v) ≡ maybe_more meaning (item (first v)) (others v)
+  stand v = c.stands (first v) (others v)
+
+  begun_by : (p : Presence) (o : Option W) (v : V) → IsThere p o → AreBegunBy (next_firsts (placed p s l)) (maybe_more meaning o (others v))
+  begun_by always None v t = absurd t
+  begun_by always (Some w) v t = c.begins w
+  begun_by perhaps o v t = maybe_begun meaning s l c.begins o (others v) (cs.begins v)
+
+  known_by : (p : Presence) (a b : Option W) (x y : V) → IsThere p a → IsThere p b → AreMembersTold (placed p s l) → AreMembersOf (placed p s l) (maybe_more meaning a (others x)) → AreMembersOf (placed p s l) (maybe_more meaning b (others y)) → AreReadable (maybe_more meaning a (others x))
+      → maybe_more meaning a (others x) ≡ maybe_more meaning b (others y) → (option_eq eq_item a b ≡ true) × AreEqual x y
+  known_by always None b x y t k told p q r e = absurd t
+  known_by always (Some v) None x y t k told p q r e = absurd k
+  known_by always (Some v) (Some w) x y t k told p q r e = (c.known v w p.0 q.0 r.0 (first_member e), cs.known told x y p.1 q.1 r.1 (other_members e))
+  known_by perhaps a b x y t k told p q r e = maybe_told meaning s l c.begins told eq_item (AreEqual x y) c.known (others x) (others y) (cs.begins x) (cs.begins y) (cs.known told.1 x y) a b p q r e
+
+  sound_by : (p : Presence) → AreMembersSound (placed p s l)
+  sound_by always = (c.sound, cs.sound)
+  sound_by perhaps = (c.sound, cs.sound)
+
+  pub lead : AreComponents (λ v. in_front (first v) (others v)) (placed presence s l) (λ x y. (eq (first x) (first y) ≡ true) × AreEqual x y)
+  lead = record {
+    begins = λ v. subst (AreBegunBy (next_firsts (placed presence s l))) (sym (stand v)) (begun_by presence (item (first v)) v (c.there (first v)));
+    known = λ told x y p q r e.
+        let same = known_by presence (item (first x)) (item (first y)) x y (c.there (first x)) (c.there (first y)) told (subst (AreMembersOf (placed presence s l)) (stand x) p) (subst (AreMembersOf (placed presence s l)) (stand y) q) (subst AreReadable (stand x) r) (sym (stand x) ∙ e ∙ stand y) in
+        (c.equal (first x) (first y) same.0, same.1);
+    sound = sound_by presence;
+  }

@@ -1,5 +1,5 @@
 -- What reading the members of a layout does, of which some may be missing.
-use Rattle.std.specs.Prelude.{◌≡◌, ◌<◌, ℕ, List, None, Bool, true, ⊤, IsTrue}
+use Rattle.std.specs.Prelude.{◌≡◌, ◌<◌, ℕ, List, None, Bool, ⊤, IsTrue}
 use Rattle.picky_der_core.specs.declared.error.Asn1DerError.{Asn1DerError}
 use Rattle.picky_der_core.specs.Tree.{Tree, Trees}
 use Rattle.picky_der_core.specs.Encoding.{encodings}
@@ -28,6 +28,22 @@ pub data RefusesOptional {V : Type 0} (meaning : V → Tree) (s : Shape) (old ne
 pub data RefusesDefault {V : Type 0} (meaning : V → Tree) (left_out : V → Bool) (s : Shape) (old new : State) (e : Asn1DerError) : Type 0 where
   as_optional : RefusesOptional meaning s old new e → RefusesDefault meaning left_out s old new e
   written_out : (mid : State) (v : V) → IsTrue (left_out v) → ReadsMember s old mid (meaning v) → Fails mid new e → RefusesDefault meaning left_out s old new e
+
+-- ---- one member, always there or not
+
+pub data Presence : Type 0 where
+  always : Presence
+  perhaps : Presence
+
+-- a member in front of others
+abbrev pub placed : Presence → Shape → Layout → Layout
+placed always = Layout.required
+placed perhaps = Layout.maybe
+
+-- why it wasn't read: one that is always there is no default
+abbrev pub RefusesComponent : {V : Type 0} → Presence → (V → Tree) → (V → Bool) → Shape → State → State → Asn1DerError → Type 0
+RefusesComponent always meaning left_out = RefusesMember meaning
+RefusesComponent perhaps meaning left_out = RefusesDefault meaning left_out
 
 -- ---- all members of a layout
 
@@ -65,7 +81,3 @@ pub record RefusesLayout {V : Type 0} (members : V → Trees) (l : Layout) (old 
 abbrev pub AreBegunBy : List ℕ → Trees → Type 0
 AreBegunBy fs Trees.none = ⊤
 AreBegunBy fs (Trees.more t ts) = IsBegunBy fs t
-
--- where missing members are told, two rows of readable members with the same trees are equal
-abbrev pub AreKnownByLayout : {V : Type 0} → (V → Trees) → Layout → (V → V → Bool) → Type 0
-AreKnownByLayout {V} members l eq = AreMembersTold l → (x y : V) → AreMembersOf l (members x) → AreMembersOf l (members y) → AreReadable (members x) → members x ≡ members y → eq x y ≡ true

@@ -116,12 +116,18 @@ tell_required s l t u ts us p q h k = record { tell = λ apart a b r e. both (h.
 
 pub tell_maybe : {V : Type 0} (meaning : V → Tree) (s : Shape) (eq : V → V → Bool) (l : Layout) (ts us : Trees) (q : Bool) → ((v : V) → IsBegunBy (firsts s) (meaning v)) → ((x y : V) → Tells s (meaning x) (meaning y) (eq x y))
     → AreBegunBy (next_firsts l) ts → AreBegunBy (next_firsts l) us → TellMembers l ts us q → (x y : Option V) → TellMembers (Layout.maybe s l) (maybe_more meaning x ts) (maybe_more meaning y us) (option_eq eq x y && q)
-tell_maybe meaning s eq l ts us q begins h f g k x y = record { tell = λ apart. maybe_told meaning s l begins apart eq q (λ v w. (h v w).tells) ts us f g (k.tell apart.1) x y }
+tell_maybe meaning s eq l ts us q begins h f g k x y = record {
+  tell = λ apart a b r e.
+      let same = maybe_told meaning s l begins apart eq (q ≡ true) (λ v w. (h v w).tells) ts us f g (k.tell apart.1) x y a b r e in
+      both same.0 same.1;
+}
 
 pub tell_default : {V : Type 0} (meaning : V → Tree) (left_out : V → Bool) (s : Shape) (eq : V → V → Bool) (l : Layout) (ts us : Trees) (q : Bool) → IsOne eq left_out → ((v : V) → IsBegunBy (firsts s) (meaning v)) → ((x y : V) → Tells s (meaning x) (meaning y) (eq x y))
     → AreBegunBy (next_firsts l) ts → AreBegunBy (next_firsts l) us → TellMembers l ts us q → (x y : V) → TellMembers (Layout.maybe s l) (maybe_more meaning (unless_default left_out x) ts) (maybe_more meaning (unless_default left_out y) us) (eq x y && q)
 tell_default meaning left_out s eq l ts us q one begins h f g k x y = record {
-  tell = λ apart a b r e. same_unless_default eq left_out one x y q (maybe_told meaning s l begins apart eq q (λ v w. (h v w).tells) ts us f g (k.tell apart.1) (unless_default left_out x) (unless_default left_out y) a b r e);
+  tell = λ apart a b r e.
+      let same = maybe_told meaning s l begins apart eq (q ≡ true) (λ v w. (h v w).tells) ts us f g (k.tell apart.1) (unless_default left_out x) (unless_default left_out y) a b r e in
+      both (same_unless_default eq left_out one x y same.0) same.1;
 }
 
 -- with which bytes they begin, where their kind tells it

@@ -16,6 +16,5 @@ pub mod ListBytes
 pub mod Members
 pub mod Items
 pub mod ApplicationWrites
-pub mod Rows
 mod RowWrites
 pub mod Choices

@@ -1,5 +1,5 @@
 -- Values that are left out, as the default is.
-use Rattle.std.proofs.Common.{◌≡◌, ℕ, Bool, true, nat_eq, ap, sym, ◌∙◌, eq-eqb, eqb-true}
+use Rattle.std.proofs.Common.{◌≡◌, ℕ, Bool, nat_eq, ap, sym, ◌∙◌, eq-eqb, eqb-true}
 use Rattle.std.specs.Prelude.{◌↔◌, IsTrue}
 use Rattle.picky_der_core.specs.Tree.{Tree}
 

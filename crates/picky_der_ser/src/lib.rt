@@ -21,6 +21,7 @@ mod serializer;
 mod sets;
 mod several;
 mod utf8_string;
+mod wide;
 
 pub use boolean::Boolean;
 pub use default::{DefaultOf, Defaulted, DefaultedRef, False, Number, True};

@@ -2,11 +2,8 @@
 ghost use Rattle.std.specs.Prelude.{[], ◌∷◌};
 ghost use Rattle.picky_der_core.specs.Tree.{ListKind, Tree, trees};
 
-use crate::lent::{
-    Eight, Eleven, Fifteen, Five, Four, Fourteen, Nine, One, Seven, Six, Sixteen, Ten, Thirteen,
-    Three, Twelve, Two,
-};
-use crate::{Row, Serialize, Serializer};
+use crate::lent::{Eight, Five, Four, One, Seven, Six, Three, Two};
+use crate::{Serialize, SerializeMembers, Serializer};
 use picky_der_core::Result;
 use picky_der_core::misc::WriteExt;
 
@@ -14,7 +11,7 @@ impl<A: Serialize> Serialize for (A,) {
     ghost meaning = { λ t. Tree.list ListKind.sequence (trees (A.meaning t.0 ∷ [])) };
 
     fn serialize<W: WriteExt>(&self, ser: &mut Serializer<W>) -> Result<usize> {
-        Row(One(&self.0, &())).serialize(ser)
+        One(&self.0, &()).serialize_sequence(ser)
     }
 }
 
@@ -22,7 +19,7 @@ impl<A: Serialize, B: Serialize> Serialize for (A, B) {
     ghost meaning = { λ t. Tree.list ListKind.sequence (trees (A.meaning t.0 ∷ B.meaning t.1 ∷ [])) };
 
     fn serialize<W: WriteExt>(&self, ser: &mut Serializer<W>) -> Result<usize> {
-        Row(Two(&self.0, &self.1, &())).serialize(ser)
+        Two(&self.0, &self.1, &()).serialize_sequence(ser)
     }
 }
 
@@ -30,7 +27,7 @@ impl<A: Serialize, B: Serialize, C: Serialize> Serialize for (A, B, C) {
     ghost meaning = { λ t. Tree.list ListKind.sequence (trees (A.meaning t.0 ∷ B.meaning t.1 ∷ C.meaning t.2 ∷ [])) };
 
     fn serialize<W: WriteExt>(&self, ser: &mut Serializer<W>) -> Result<usize> {
-        Row(Three(&self.0, &self.1, &self.2, &())).serialize(ser)
+        Three(&self.0, &self.1, &self.2, &()).serialize_sequence(ser)
     }
 }
 
@@ -38,7 +35,7 @@ impl<A: Serialize, B: Serialize, C: Serialize, D: Serialize> Serialize for (A, B
     ghost meaning = { λ t. Tree.list ListKind.sequence (trees (A.meaning t.0 ∷ B.meaning t.1 ∷ C.meaning t.2 ∷ D.meaning t.3 ∷ [])) };
 
     fn serialize<W: WriteExt>(&self, ser: &mut Serializer<W>) -> Result<usize> {
-        Row(Four(&self.0, &self.1, &self.2, &self.3, &())).serialize(ser)
+        Four(&self.0, &self.1, &self.2, &self.3, &()).serialize_sequence(ser)
     }
 }
 
@@ -47,7 +44,7 @@ impl<A: Serialize, B: Serialize, C: Serialize, D: Serialize, E: Serialize> Seria
     ghost meaning = { λ t. Tree.list ListKind.sequence (trees (A.meaning t.0 ∷ B.meaning t.1 ∷ C.meaning t.2 ∷ D.meaning t.3 ∷ E.meaning t.4 ∷ [])) };
 
     fn serialize<W: WriteExt>(&self, ser: &mut Serializer<W>) -> Result<usize> {
-        Row(Five(&self.0, &self.1, &self.2, &self.3, &self.4, &())).serialize(ser)
+        Five(&self.0, &self.1, &self.2, &self.3, &self.4, &()).serialize_sequence(ser)
     }
 }
 
@@ -56,7 +53,7 @@ impl<A: Serialize, B: Serialize, C: Serialize, D: Serialize, E: Serialize, F: Se
     ghost meaning = { λ t. Tree.list ListKind.sequence (trees (A.meaning t.0 ∷ B.meaning t.1 ∷ C.meaning t.2 ∷ D.meaning t.3 ∷ E.meaning t.4 ∷ F.meaning t.5 ∷ [])) };
 
     fn serialize<W: WriteExt>(&self, ser: &mut Serializer<W>) -> Result<usize> {
-        Row(Six(&self.0, &self.1, &self.2, &self.3, &self.4, &self.5, &())).serialize(ser)
+        Six(&self.0, &self.1, &self.2, &self.3, &self.4, &self.5, &()).serialize_sequence(ser)
     }
 }
 
@@ -72,7 +69,7 @@ impl<
     ghost meaning = { λ t. Tree.list ListKind.sequence (trees (A.meaning t.0 ∷ B.meaning t.1 ∷ C.meaning t.2 ∷ D.meaning t.3 ∷ E.meaning t.4 ∷ F.meaning t.5 ∷ G.meaning t.6 ∷ [])) };
 
     fn serialize<W: WriteExt>(&self, ser: &mut Serializer<W>) -> Result<usize> {
-        Row(Seven(
+        Seven(
             &self.0,
             &self.1,
             &self.2,
@@ -81,8 +78,8 @@ impl<
             &self.5,
             &self.6,
             &(),
-        ))
-        .serialize(ser)
+        )
+        .serialize_sequence(ser)
     }
 }
 
@@ -99,7 +96,7 @@ impl<
     ghost meaning = { λ t. Tree.list ListKind.sequence (trees (A.meaning t.0 ∷ B.meaning t.1 ∷ C.meaning t.2 ∷ D.meaning t.3 ∷ E.meaning t.4 ∷ F.meaning t.5 ∷ G.meaning t.6 ∷ H.meaning t.7 ∷ [])) };
 
     fn serialize<W: WriteExt>(&self, ser: &mut Serializer<W>) -> Result<usize> {
-        Row(Eight(
+        Eight(
             &self.0,
             &self.1,
             &self.2,
@@ -109,8 +106,8 @@ impl<
             &self.6,
             &self.7,
             &(),
-        ))
-        .serialize(ser)
+        )
+        .serialize_sequence(ser)
     }
 }
 
@@ -128,19 +125,11 @@ impl<
     ghost meaning = { λ t. Tree.list ListKind.sequence (trees (A.meaning t.0 ∷ B.meaning t.1 ∷ C.meaning t.2 ∷ D.meaning t.3 ∷ E.meaning t.4 ∷ F.meaning t.5 ∷ G.meaning t.6 ∷ H.meaning t.7 ∷ I.meaning t.8 ∷ [])) };
 
     fn serialize<W: WriteExt>(&self, ser: &mut Serializer<W>) -> Result<usize> {
-        Row(Nine(
-            &self.0,
-            &self.1,
-            &self.2,
-            &self.3,
-            &self.4,
-            &self.5,
-            &self.6,
-            &self.7,
-            &self.8,
-            &(),
-        ))
-        .serialize(ser)
+        let others = One(&self.8, &());
+        Eight(
+            &self.0, &self.1, &self.2, &self.3, &self.4, &self.5, &self.6, &self.7, &others,
+        )
+        .serialize_sequence(ser)
     }
 }
 
@@ -159,20 +148,11 @@ impl<
     ghost meaning = { λ t. Tree.list ListKind.sequence (trees (A.meaning t.0 ∷ B.meaning t.1 ∷ C.meaning t.2 ∷ D.meaning t.3 ∷ E.meaning t.4 ∷ F.meaning t.5 ∷ G.meaning t.6 ∷ H.meaning t.7 ∷ I.meaning t.8 ∷ J.meaning t.9 ∷ [])) };
 
     fn serialize<W: WriteExt>(&self, ser: &mut Serializer<W>) -> Result<usize> {
-        Row(Ten(
-            &self.0,
-            &self.1,
-            &self.2,
-            &self.3,
-            &self.4,
-            &self.5,
-            &self.6,
-            &self.7,
-            &self.8,
-            &self.9,
-            &(),
-        ))
-        .serialize(ser)
+        let others = Two(&self.8, &self.9, &());
+        Eight(
+            &self.0, &self.1, &self.2, &self.3, &self.4, &self.5, &self.6, &self.7, &others,
+        )
+        .serialize_sequence(ser)
     }
 }
 
@@ -192,21 +172,11 @@ impl<
     ghost meaning = { λ t. Tree.list ListKind.sequence (trees (A.meaning t.0 ∷ B.meaning t.1 ∷ C.meaning t.2 ∷ D.meaning t.3 ∷ E.meaning t.4 ∷ F.meaning t.5 ∷ G.meaning t.6 ∷ H.meaning t.7 ∷ I.meaning t.8 ∷ J.meaning t.9 ∷ K.meaning t.10 ∷ [])) };
 
     fn serialize<W: WriteExt>(&self, ser: &mut Serializer<W>) -> Result<usize> {
-        Row(Eleven(
-            &self.0,
-            &self.1,
-            &self.2,
-            &self.3,
-            &self.4,
-            &self.5,
-            &self.6,
-            &self.7,
-            &self.8,
-            &self.9,
-            &self.10,
-            &(),
-        ))
-        .serialize(ser)
+        let others = Three(&self.8, &self.9, &self.10, &());
+        Eight(
+            &self.0, &self.1, &self.2, &self.3, &self.4, &self.5, &self.6, &self.7, &others,
+        )
+        .serialize_sequence(ser)
     }
 }
 
@@ -227,22 +197,11 @@ impl<
     ghost meaning = { λ t. Tree.list ListKind.sequence (trees (A.meaning t.0 ∷ B.meaning t.1 ∷ C.meaning t.2 ∷ D.meaning t.3 ∷ E.meaning t.4 ∷ F.meaning t.5 ∷ G.meaning t.6 ∷ H.meaning t.7 ∷ I.meaning t.8 ∷ J.meaning t.9 ∷ K.meaning t.10 ∷ L.meaning t.11 ∷ [])) };
 
     fn serialize<W: WriteExt>(&self, ser: &mut Serializer<W>) -> Result<usize> {
-        Row(Twelve(
-            &self.0,
-            &self.1,
-            &self.2,
-            &self.3,
-            &self.4,
-            &self.5,
-            &self.6,
-            &self.7,
-            &self.8,
-            &self.9,
-            &self.10,
-            &self.11,
-            &(),
-        ))
-        .serialize(ser)
+        let others = Four(&self.8, &self.9, &self.10, &self.11, &());
+        Eight(
+            &self.0, &self.1, &self.2, &self.3, &self.4, &self.5, &self.6, &self.7, &others,
+        )
+        .serialize_sequence(ser)
     }
 }
 
@@ -264,23 +223,11 @@ impl<
     ghost meaning = { λ t. Tree.list ListKind.sequence (trees (A.meaning t.0 ∷ B.meaning t.1.0 ∷ C.meaning t.1.1.0 ∷ D.meaning t.1.1.1.0 ∷ E.meaning t.1.1.1.1.0 ∷ F.meaning t.1.1.1.1.1.0 ∷ G.meaning t.1.1.1.1.1.1.0 ∷ H.meaning t.1.1.1.1.1.1.1.0 ∷ I.meaning t.1.1.1.1.1.1.1.1.0 ∷ J.meaning t.1.1.1.1.1.1.1.1.1.0 ∷ K.meaning t.1.1.1.1.1.1.1.1.1.1.0 ∷ L.meaning t.1.1.1.1.1.1.1.1.1.1.1.0 ∷ M.meaning t.1.1.1.1.1.1.1.1.1.1.1.1.0 ∷ [])) };
 
     fn serialize<W: WriteExt>(&self, ser: &mut Serializer<W>) -> Result<usize> {
-        Row(Thirteen(
-            &self.0,
-            &self.1,
-            &self.2,
-            &self.3,
-            &self.4,
-            &self.5,
-            &self.6,
-            &self.7,
-            &self.8,
-            &self.9,
-            &self.10,
-            &self.11,
-            &self.12,
-            &(),
-        ))
-        .serialize(ser)
+        let others = Five(&self.8, &self.9, &self.10, &self.11, &self.12, &());
+        Eight(
+            &self.0, &self.1, &self.2, &self.3, &self.4, &self.5, &self.6, &self.7, &others,
+        )
+        .serialize_sequence(ser)
     }
 }
 
@@ -303,15 +250,7 @@ impl<
     ghost meaning = { λ t. Tree.list ListKind.sequence (trees (A.meaning t.0 ∷ B.meaning t.1.0 ∷ C.meaning t.1.1.0 ∷ D.meaning t.1.1.1.0 ∷ E.meaning t.1.1.1.1.0 ∷ F.meaning t.1.1.1.1.1.0 ∷ G.meaning t.1.1.1.1.1.1.0 ∷ H.meaning t.1.1.1.1.1.1.1.0 ∷ I.meaning t.1.1.1.1.1.1.1.1.0 ∷ J.meaning t.1.1.1.1.1.1.1.1.1.0 ∷ K.meaning t.1.1.1.1.1.1.1.1.1.1.0 ∷ L.meaning t.1.1.1.1.1.1.1.1.1.1.1.0 ∷ M.meaning t.1.1.1.1.1.1.1.1.1.1.1.1.0 ∷ N.meaning t.1.1.1.1.1.1.1.1.1.1.1.1.1.0 ∷ [])) };
 
     fn serialize<W: WriteExt>(&self, ser: &mut Serializer<W>) -> Result<usize> {
-        Row(Fourteen(
-            &self.0,
-            &self.1,
-            &self.2,
-            &self.3,
-            &self.4,
-            &self.5,
-            &self.6,
-            &self.7,
+        let others = Six(
             &self.8,
             &self.9,
             &self.10,
@@ -319,8 +258,11 @@ impl<
             &self.12,
             &self.13,
             &(),
-        ))
-        .serialize(ser)
+        );
+        Eight(
+            &self.0, &self.1, &self.2, &self.3, &self.4, &self.5, &self.6, &self.7, &others,
+        )
+        .serialize_sequence(ser)
     }
 }
 
@@ -344,15 +286,7 @@ impl<
     ghost meaning = { λ t. Tree.list ListKind.sequence (trees (A.meaning t.0 ∷ B.meaning t.1.0 ∷ C.meaning t.1.1.0 ∷ D.meaning t.1.1.1.0 ∷ E.meaning t.1.1.1.1.0 ∷ F.meaning t.1.1.1.1.1.0 ∷ G.meaning t.1.1.1.1.1.1.0 ∷ H.meaning t.1.1.1.1.1.1.1.0 ∷ I.meaning t.1.1.1.1.1.1.1.1.0 ∷ J.meaning t.1.1.1.1.1.1.1.1.1.0 ∷ K.meaning t.1.1.1.1.1.1.1.1.1.1.0 ∷ L.meaning t.1.1.1.1.1.1.1.1.1.1.1.0 ∷ M.meaning t.1.1.1.1.1.1.1.1.1.1.1.1.0 ∷ N.meaning t.1.1.1.1.1.1.1.1.1.1.1.1.1.0 ∷ O.meaning t.1.1.1.1.1.1.1.1.1.1.1.1.1.1.0 ∷ [])) };
 
     fn serialize<W: WriteExt>(&self, ser: &mut Serializer<W>) -> Result<usize> {
-        Row(Fifteen(
-            &self.0,
-            &self.1,
-            &self.2,
-            &self.3,
-            &self.4,
-            &self.5,
-            &self.6,
-            &self.7,
+        let others = Seven(
             &self.8,
             &self.9,
             &self.10,
@@ -361,8 +295,11 @@ impl<
             &self.13,
             &self.14,
             &(),
-        ))
-        .serialize(ser)
+        );
+        Eight(
+            &self.0, &self.1, &self.2, &self.3, &self.4, &self.5, &self.6, &self.7, &others,
+        )
+        .serialize_sequence(ser)
     }
 }
 
@@ -387,15 +324,7 @@ impl<
     ghost meaning = { λ t. Tree.list ListKind.sequence (trees (A.meaning t.0 ∷ B.meaning t.1.0 ∷ C.meaning t.1.1.0 ∷ D.meaning t.1.1.1.0 ∷ E.meaning t.1.1.1.1.0 ∷ F.meaning t.1.1.1.1.1.0 ∷ G.meaning t.1.1.1.1.1.1.0 ∷ H.meaning t.1.1.1.1.1.1.1.0 ∷ I.meaning t.1.1.1.1.1.1.1.1.0 ∷ J.meaning t.1.1.1.1.1.1.1.1.1.0 ∷ K.meaning t.1.1.1.1.1.1.1.1.1.1.0 ∷ L.meaning t.1.1.1.1.1.1.1.1.1.1.1.0 ∷ M.meaning t.1.1.1.1.1.1.1.1.1.1.1.1.0 ∷ N.meaning t.1.1.1.1.1.1.1.1.1.1.1.1.1.0 ∷ O.meaning t.1.1.1.1.1.1.1.1.1.1.1.1.1.1.0 ∷ P.meaning t.1.1.1.1.1.1.1.1.1.1.1.1.1.1.1.0 ∷ [])) };
 
     fn serialize<W: WriteExt>(&self, ser: &mut Serializer<W>) -> Result<usize> {
-        Row(Sixteen(
-            &self.0,
-            &self.1,
-            &self.2,
-            &self.3,
-            &self.4,
-            &self.5,
-            &self.6,
-            &self.7,
+        let others = Eight(
             &self.8,
             &self.9,
             &self.10,
@@ -405,7 +334,10 @@ impl<
             &self.14,
             &self.15,
             &(),
-        ))
-        .serialize(ser)
+        );
+        Eight(
+            &self.0, &self.1, &self.2, &self.3, &self.4, &self.5, &self.6, &self.7, &others,
+        )
+        .serialize_sequence(ser)
     }
 }

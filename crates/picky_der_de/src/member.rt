@@ -1,0 +1,90 @@
+//! One place of a struct: a member that is always there, or one that may be absent.
+ghost use Rattle.std.specs.Prelude.{◌≡◌, Bool, false, Option, Some, IfOk, IfErr, IfSome, IfNone};
+ghost use Rattle.picky_der_ser.specs.Meaning.{unless_default};
+ghost use Rattle.picky_der_de.specs.Members.{ReadsMember};
+ghost use Rattle.picky_der_de.specs.Layouts.{Presence, always, perhaps, Lacks, RefusesComponent};
+ghost use Rattle.picky_der_de.specs.LayoutLaws.{IsComponent, always_there, perhaps_there, with_default};
+
+use crate::{Begins, Sequence};
+use picky_der_core::Result;
+use picky_der_core::misc::ReadExt;
+use picky_der_ser::{DefaultOf, Defaulted, Optional, SerializeMember};
+
+/// A place of a struct that is read back: a value, which is always there, or a member that may be absent, as `Optional` and
+/// `Defaulted` are.
+pub trait DeserializeMember: SerializeMember + PartialEq + Drop + Sized {
+    ghost use Rattle.picky_der_de.specs.SequenceState.{borrowed_by, outer_of, state_of};
+
+    /// The type of what stands there.
+    type Item: Begins;
+
+    // Whether it is always there.
+    ghost presence: { Presence };
+
+    // What stands there, where something does.
+    ghost item: { Self → Option Self.Item };
+
+    // What is never written.
+    ghost left_out: { Self.Item → Bool };
+
+    /// Reads the member, which is refused as `next_field`, `next_optional` and `next_or_default` refuse theirs.
+    fn deserialize_member<R: ReadExt>(sequence: &mut Sequence<'_, R>) -> Result<Self>
+        ensures same_reference { borrowed_by sequence.new ≡ borrowed_by sequence.old }
+        ensures outer { outer_of sequence.new ≡ outer_of sequence.old }
+        ensures member { IfOk result (λ place. IfSome (item place) (λ value. ReadsMember Self.Item.shape (state_of sequence.old) (state_of sequence.new) (Self.Item.meaning value))) }
+        ensures none { IfOk result (λ place. IfNone (item place) (Lacks Self.Item.shape (state_of sequence.old) (state_of sequence.new))) }
+        ensures err { IfErr result (RefusesComponent presence Self.Item.meaning left_out Self.Item.shape (state_of sequence.old) (state_of sequence.new)) };
+
+    // What is written of it is what stands there, and it is known by that.
+    ghost is_component: { IsComponent presence Self.in_front Self.eq Self.Item.meaning Self.Item.shape Self.Item.eq item left_out };
+}
+
+impl<T: Begins> DeserializeMember for T {
+    type Item = T;
+
+    ghost presence = { always };
+
+    ghost item = { λ value. Some value };
+
+    ghost left_out = { λ _. false };
+
+    fn deserialize_member<R: ReadExt>(sequence: &mut Sequence<'_, R>) -> Result<T> {
+        sequence.next_field::<T>()
+    }
+
+    ghost is_component = { always_there T.meaning T.shape T.eq T.begins T.known_by_tree T.sound };
+}
+
+impl<T: Begins> DeserializeMember for Optional<T> {
+    type Item = T;
+
+    ghost presence = { perhaps };
+
+    ghost item = { λ member. member.0 };
+
+    ghost left_out = { λ _. false };
+
+    fn deserialize_member<R: ReadExt>(sequence: &mut Sequence<'_, R>) -> Result<Optional<T>> {
+        let value = sequence.next_optional::<T>()?;
+        Ok(Optional(value))
+    }
+
+    ghost is_component = { perhaps_there T.meaning T.shape T.eq T.begins T.known_by_tree T.sound (λ member. member.0) };
+}
+
+impl<T: Begins, D: DefaultOf<T>> DeserializeMember for Defaulted<T, D> {
+    type Item = T;
+
+    ghost presence = { perhaps };
+
+    ghost item = { λ member. unless_default D.left_out member.value };
+
+    ghost left_out = { D.left_out };
+
+    fn deserialize_member<R: ReadExt>(sequence: &mut Sequence<'_, R>) -> Result<Defaulted<T, D>> {
+        let value = sequence.next_or_default::<T, D>()?;
+        Ok(Defaulted::new(value))
+    }
+
+    ghost is_component = { with_default T.meaning T.shape T.eq T.begins T.known_by_tree T.sound D.left_out D.by_tree D.one (λ member. member.value) };
+}
