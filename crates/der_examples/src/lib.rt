@@ -1,7 +1,9 @@
 //! Types written by hand over the public calls alone, as a user of the crates writes them.
 #![tactic(auto)]
 
+mod algorithm_identifier;
 pub mod certificate;
+mod encrypted_data;
 mod extension;
 mod first_steps;
 mod general_name;
@@ -13,14 +15,20 @@ mod named;
 mod number_or_flag;
 mod place;
 mod point;
+mod principal_name;
+mod private_key_info;
 mod report;
+mod rsa_public_key;
 mod setting;
 mod stay;
 mod tagged;
+mod ticket;
 mod track;
 mod version;
 
+pub use algorithm_identifier::AlgorithmIdentifier;
 pub use certificate::Certificate;
+pub use encrypted_data::EncryptedData;
 pub use extension::Extension;
 pub use first_steps::{number, octets, small_number, text};
 pub use general_name::{GeneralName, Name};
@@ -32,9 +40,13 @@ pub use named::Named;
 pub use number_or_flag::NumberOrFlag;
 pub use place::Place;
 pub use point::Point;
+pub use principal_name::PrincipalName;
+pub use private_key_info::PrivateKeyInfo;
 pub use report::Report;
+pub use rsa_public_key::RsaPublicKey;
 pub use setting::Setting;
 pub use stay::Stay;
 pub use tagged::Tagged;
+pub use ticket::{Ticket, TicketBody};
 pub use track::Track;
 pub use version::Version;

@@ -1,0 +1,52 @@
+//! The numbers of a public key.
+ghost use Rattle.std.proofs.Common.{rules};
+ghost use Rattle.picky_der_de.specs.Telling.{told, tells};
+
+use picky_asn1_der::asn1::IntegerAsn1;
+use picky_asn1_der::misc::{ReadExt, WriteExt};
+use picky_asn1_der::{Alike, Deserialize, Deserializer, Result, Row, Serialize, Serializer, de};
+
+/// A public key of RSA, as a SEQUENCE (RFC 8017, A.1.1).
+#[derive(Debug, Drop, PartialEq, Eq)]
+pub struct RsaPublicKey {
+    /// The modulus, in two's complement, most significant byte first.
+    pub modulus: IntegerAsn1,
+    /// The exponent, in the same way.
+    pub public_exponent: IntegerAsn1,
+}
+
+type Fields = Row<(IntegerAsn1, IntegerAsn1, ())>;
+
+impl Serialize for RsaPublicKey {
+    ghost meaning = { λ it. ⟦<Fields as Serialize>⟧.meaning (⟦<RsaPublicKey as Alike>⟧.parts it) };
+
+    fn serialize<W: WriteExt>(&self, serializer: &mut Serializer<W>) -> Result<usize> {
+        (&self.modulus, &self.public_exponent).serialize(serializer)
+    }
+}
+
+impl Alike for RsaPublicKey {
+    type As = Fields;
+
+    ghost parts = { λ it. record { 0 = (it.modulus, it.public_exponent, tt) } };
+
+    fn from_parts(Row(fields): Fields) -> RsaPublicKey {
+        let (modulus, public_exponent, ()) = fields;
+        RsaPublicKey {
+            modulus,
+            public_exponent,
+        }
+    }
+}
+
+impl Deserialize for RsaPublicKey {
+    ghost shape = { ⟦<Fields as Deserialize>⟧.shape };
+
+    ghost known_by_tree = { told ⟦<Fields as Deserialize>⟧.shape (Prim.search tells depth 99) };
+
+    ghost sound = { Prim.search rules depth 99 };
+
+    fn deserialize<R: ReadExt>(deserializer: &mut Deserializer<R>) -> Result<RsaPublicKey> {
+        de::deserialize_as(deserializer)
+    }
+}
