@@ -107,11 +107,19 @@ impl<R: ReadExt> Input<R> {
         Some(len)
     }
 
+    // Whether it hasn't failed and a value stands whole here, with its header.
+    fn wants_header(&self) -> bool
+        ensures not_failed { result ≡ true → self.now.failed ≡ None }
+        ensures whole { result ≡ true → self.now.direct ≡ None }
+    {
+        self.failed.is_none() && self.direct.is_none()
+    }
+
     // The content of an element with this tag that is ahead, where its length is one byte.
     pub(crate) fn short_ahead(&self, tag: Tag) -> Option<&[u8]>
         ensures shown { IfSome result (λ content. ShowsShort self.now tag content.now) }
     {
-        if self.failed.is_some() || self.direct.is_some() {
+        if !self.wants_header() {
             return None;
         }
         let ahead = self.reader.ahead();
@@ -129,7 +137,7 @@ impl<R: ReadExt> Input<R> {
     fn element_ahead(&self) -> Option<&[u8]>
         ensures shown { IfSome result (λ bytes. ShowsElement self.now bytes.now) }
     {
-        if self.failed.is_some() || self.direct.is_some() {
+        if !self.wants_header() {
             return None;
         }
         let ahead = self.reader.ahead();
