@@ -31,7 +31,7 @@ impl Serialize for AlgorithmIdentifier {
 }
 
 impl Struct for AlgorithmIdentifier {
-    type Members = (ObjectIdentifierAsn1, Optional<Asn1RawDer>, ());
+    type Members = Members;
 
     ghost parts = { λ it. (it.algorithm, record { 0 = it.parameters }, tt) };
 

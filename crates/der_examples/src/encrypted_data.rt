@@ -39,12 +39,7 @@ impl Serialize for EncryptedData {
 }
 
 impl Struct for EncryptedData {
-    type Members = (
-        ExplicitContextTag0<u32>,
-        Optional<ExplicitContextTag1<u32>>,
-        ExplicitContextTag2<ByteBuf>,
-        (),
-    );
+    type Members = Members;
 
     ghost parts = { λ it. (it.etype, record { 0 = it.kvno }, it.cipher, tt) };
 

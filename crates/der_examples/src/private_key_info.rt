@@ -49,13 +49,7 @@ impl Serialize for PrivateKeyInfo {
 }
 
 impl Struct for PrivateKeyInfo {
-    type Members = (
-        u8,
-        AlgorithmIdentifier,
-        ByteBuf,
-        Optional<TaggedBytes<0xA0>>,
-        (),
-    );
+    type Members = Members;
 
     ghost parts = { λ it. (it.version, it.algorithm, it.key, record { 0 = it.attributes }, tt) };
 
