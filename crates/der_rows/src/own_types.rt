@@ -5,8 +5,9 @@ use crate::kept::Kept;
 use crate::nested_tags::{FourTags, SixteenTags};
 use crate::seen::Seen;
 use der_examples::{
-    Certificate, GeneralName, Gust, Host, Marker, Moment, Named, NumberOrFlag, Place, Point,
-    Report, Setting, Stay, Tagged, Track, Version,
+    Certificate, EncryptedData, Extension, GeneralName, Gust, Host, Marker, Moment, Named,
+    NumberOrFlag, Place, Point, PrincipalName, PrivateKeyInfo, Report, RsaPublicKey, Setting, Stay,
+    Tagged, Ticket, Track, Version,
 };
 use der_tool_lib::{AlgorithmIdentifier, SubjectPublicKeyInfo, TestStruct};
 use picky_asn1_der::asn1::{ExplicitContextTag0, ImplicitContextTag1};
@@ -32,6 +33,15 @@ pub(crate) fn answer(alloc: Global, name: &str, input: &Input) -> Result<String,
         "Gust" => read_as::<Gust>(alloc, input),
         "Report" => read_as::<Report>(alloc, input),
         "Certificate" => read_as::<Certificate>(alloc, input),
+        "Extension" => read_as::<Extension>(alloc, input),
+        "der_examples::AlgorithmIdentifier" => {
+            read_as::<der_examples::AlgorithmIdentifier>(alloc, input)
+        }
+        "PrivateKeyInfo" => read_as::<PrivateKeyInfo>(alloc, input),
+        "RsaPublicKey" => read_as::<RsaPublicKey>(alloc, input),
+        "EncryptedData" => read_as::<EncryptedData>(alloc, input),
+        "PrincipalName" => read_as::<PrincipalName>(alloc, input),
+        "Ticket" => read_as::<Ticket>(alloc, input),
         "Named<bool>" => read_as::<Named<bool>>(alloc, input),
         "ImplicitContextTag1<Named<bool>>" => read_as::<ImplicitContextTag1<Named<bool>>>(
             alloc, input,
