@@ -8,9 +8,10 @@ ghost use Rattle.picky_der_core.specs.Tree.{Tree};
 ghost use Rattle.picky_der_core.specs.Shape.{Shape};
 ghost use Rattle.picky_der_de.specs.KnownLaws.{raw_known};
 
+use picky_der_core::asn1::Tag;
 use picky_der_core::misc::{ReadExt, WriteExt};
 use picky_der_core::{Asn1DerError, Result};
-use picky_der_de::{Deserialize, Deserializer};
+use picky_der_de::{Begins, Deserialize, Deserializer};
 use picky_der_ser::{Serialize, Serializer};
 use std::fmt;
 use std::hash::Hash;
@@ -81,4 +82,13 @@ impl Deserialize for Asn1RawDer {
     fn deserialize<R: ReadExt>(de: &mut Deserializer<R>) -> Result<Asn1RawDer> {
         Ok(Asn1RawDer(de.deserialize_raw()?))
     }
+}
+
+/// Any byte but a tag of the long form.
+impl Begins for Asn1RawDer {
+    fn begins_with(tag: Tag) -> bool {
+        tag.number() <= Tag::MAX_NUMBER
+    }
+
+    ghost begins = { λ raw byte held. held };
 }
