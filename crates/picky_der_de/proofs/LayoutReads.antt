@@ -352,7 +352,7 @@ module _ {V W U : Type 0} (meaning : W → Tree) (left_out : W → Bool) (others
 
   default_head : {b d : State} {e : Asn1DerError} → b.direct ≡ None → RefusesDefault meaning left_out s b d e → RefusesLayout (λ v. maybe_more meaning (item v) (others (rest v))) (Layout.maybe s l) b d e
   default_head whole (as_optional h) = maybe_head meaning others s l item rest begins begin whole h
-  default_head whole (written_out c x is r f) = record {
+  default_head whole (written_out c x is r _ f) = record {
     fails = fails_behind (takes_member r) f;
     none = λ told j v are readable order w. out_of_place x is r f told (item v) (rest v) (written v) are readable w;
   }

@@ -1,6 +1,7 @@
 -- What reading the members of a layout does, of which some may be missing.
 use Rattle.std.specs.Prelude.{◌≡◌, ◌<◌, ℕ, List, None, Bool, ⊤, IsTrue}
 use Rattle.picky_der_core.specs.declared.error.Asn1DerError.{Asn1DerError}
+use Rattle.picky_der_core.specs.declared.error.Asn1DerError.TheVariants.{InvalidData}
 use Rattle.picky_der_core.specs.Tree.{Tree, Trees}
 use Rattle.picky_der_core.specs.Encoding.{encodings}
 use Rattle.picky_der_core.specs.Readable.{AreReadable}
@@ -8,6 +9,7 @@ use Rattle.picky_der_core.specs.Shape.{Shape, Layout, IsFirst, AreMembersOf, Are
 use Rattle.picky_der_input.specs.State.{State}
 use Rattle.picky_der_input.specs.Steps.{Takes, Fails, IsJudged}
 use Rattle.picky_der_input.specs.Order.{AreInOrder, unordered}
+use Rattle.picky_der_input.specs.Refusing.{FailsAs}
 use Rattle.picky_der_input.specs.LookAhead.{Peeks, Identifies, RefusesIdentifier}
 use Rattle.picky_der_de.specs.Firsts.{IsBegunBy}
 use Rattle.picky_der_de.specs.Members.{ReadsMember, RefusesMember, HasNoMore, bytes_of, StandUpToEnd}
@@ -24,10 +26,10 @@ pub data RefusesOptional {V : Type 0} (meaning : V → Tree) (s : Shape) (old ne
   no_tag : RefusesIdentifier old new e → (old.failed ≡ None → 0 < old.room) → RefusesOptional meaning s old new e
   no_member : (mid : State) (tag : ℕ) → Identifies old mid tag → IsFirst s tag → RefusesMember meaning s mid new e → RefusesOptional meaning s old new e
 
--- It was refused as one that may be missing is, or the default stands there, and no default is written out.
+-- It was refused as one that may be missing is, or the default stands there and was read, and none is written out: this is `InvalidData`.
 pub data RefusesDefault {V : Type 0} (meaning : V → Tree) (left_out : V → Bool) (s : Shape) (old new : State) (e : Asn1DerError) : Type 0 where
   as_optional : RefusesOptional meaning s old new e → RefusesDefault meaning left_out s old new e
-  written_out : (mid : State) (v : V) → IsTrue (left_out v) → ReadsMember s old mid (meaning v) → Fails mid new e → RefusesDefault meaning left_out s old new e
+  written_out : (mid : State) (v : V) → IsTrue (left_out v) → ReadsMember s old mid (meaning v) → FailsAs InvalidData mid e new → Fails mid new e → RefusesDefault meaning left_out s old new e
 
 -- ---- one member, always there or not
 
