@@ -1,0 +1,70 @@
+//! Which algorithm something is for, or was made by.
+ghost use Rattle.std.proofs.Common.{rules};
+ghost use Rattle.picky_der_core.specs.Shape.{Shape};
+ghost use Rattle.picky_der_core.specs.Tree.{ListKind, Tree};
+ghost use Rattle.picky_der_de.specs.Telling.{told, tells};
+ghost use Rattle.picky_asn1_der.specs.RawFirsts.{apart_from_none};
+ghost use Rattle.picky_der_core.specs.Shape.{tags_below};
+
+use picky_asn1_der::asn1::{ObjectIdentifierAsn1, Tag};
+use picky_asn1_der::de::{Begins, DeserializeLayout, Struct, deserialize_struct_as};
+use picky_asn1_der::misc::{ReadExt, WriteExt};
+use picky_asn1_der::ser::{Optional, OptionalRef, SerializeMembers};
+use picky_asn1_der::{Asn1RawDer, Deserialize, Deserializer, Result, Serialize, Serializer};
+
+/// An algorithm and its parameters, as a SEQUENCE (RFC 5280, 4.1.1.2).
+///
+/// Absent parameters are no NULL: that is an element like any other.
+#[derive(Debug, Drop, PartialEq, Eq)]
+pub struct AlgorithmIdentifier {
+    /// The content of the object identifier, which isn't checked.
+    pub algorithm: ObjectIdentifierAsn1,
+    /// The element of the parameters.
+    pub parameters: Option<Asn1RawDer>,
+}
+
+type Members = (ObjectIdentifierAsn1, Optional<Asn1RawDer>, ());
+
+impl Serialize for AlgorithmIdentifier {
+    ghost meaning = { λ it. Tree.list ListKind.sequence (⟦<Members as SerializeMembers>⟧.members (⟦<AlgorithmIdentifier as Struct>⟧.parts it)) };
+
+    fn serialize<W: WriteExt>(&self, serializer: &mut Serializer<W>) -> Result<usize> {
+        (&self.algorithm, OptionalRef(&self.parameters), ()).serialize_sequence(serializer)
+    }
+}
+
+impl Struct for AlgorithmIdentifier {
+    type Members = Members;
+
+    ghost parts = { λ it. (it.algorithm, record { 0 = it.parameters }, tt) };
+
+    fn from_parts(members: Members) -> AlgorithmIdentifier {
+        let (algorithm, Optional(parameters), ()) = members;
+        AlgorithmIdentifier {
+            algorithm,
+            parameters,
+        }
+    }
+
+    ghost told = { (apart_from_none (tags_below 256), tt) };
+}
+
+impl Deserialize for AlgorithmIdentifier {
+    ghost shape = { Shape.struct_of ListKind.sequence ⟦<Members as DeserializeLayout>⟧.layout };
+
+    ghost known_by_tree = { told (Shape.struct_of ListKind.sequence ⟦<Members as DeserializeLayout>⟧.layout) (Prim.search (rules, tells, apart_from_none) depth 99) };
+
+    ghost sound = { Prim.search (rules, apart_from_none) depth 99 };
+
+    fn deserialize<R: ReadExt>(deserializer: &mut Deserializer<R>) -> Result<AlgorithmIdentifier> {
+        deserialize_struct_as(deserializer)
+    }
+}
+
+impl Begins for AlgorithmIdentifier {
+    fn begins_with(tag: Tag) -> bool {
+        tag == Tag::SEQUENCE
+    }
+
+    ghost begins = { λ it byte held. held };
+}

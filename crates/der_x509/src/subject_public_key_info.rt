@@ -1,0 +1,64 @@
+//! Public keys.
+ghost use Rattle.std.proofs.Common.{rules};
+ghost use Rattle.picky_asn1_der.specs.RawFirsts.{apart_from_none};
+ghost use Rattle.picky_der_de.specs.Telling.{by_law, told, tells};
+ghost use Rattle.der_x509.specs.contracts.algorithm_identifier.AlgorithmIdentifierDeserialize.TheImpl.Laws.{known_by_tree-law};
+
+use crate::AlgorithmIdentifier;
+use picky_asn1_der::asn1::{BitStringAsn1, Tag};
+use picky_asn1_der::de::Begins;
+use picky_asn1_der::misc::{ReadExt, WriteExt};
+use picky_asn1_der::{Alike, Deserialize, Deserializer, Result, Row, Serialize, Serializer, de};
+
+/// A public key and the algorithm that it is for, as a SEQUENCE (RFC 5280, 4.1.2.7).
+#[derive(Debug, Drop, PartialEq, Eq)]
+pub struct SubjectPublicKeyInfo {
+    /// What the key is for.
+    pub algorithm: AlgorithmIdentifier,
+    /// The content of the bit string, which isn't checked: how many bits at the end are unused, and the key.
+    pub subject_public_key: BitStringAsn1,
+}
+
+type Fields = Row<(AlgorithmIdentifier, BitStringAsn1, ())>;
+
+impl Serialize for SubjectPublicKeyInfo {
+    ghost meaning = { λ it. ⟦<Fields as Serialize>⟧.meaning (⟦<SubjectPublicKeyInfo as Alike>⟧.parts it) };
+
+    fn serialize<W: WriteExt>(&self, serializer: &mut Serializer<W>) -> Result<usize> {
+        (&self.algorithm, &self.subject_public_key).serialize(serializer)
+    }
+}
+
+impl Alike for SubjectPublicKeyInfo {
+    type As = Fields;
+
+    ghost parts = { λ it. record { 0 = (it.algorithm, it.subject_public_key, tt) } };
+
+    fn from_parts(Row(fields): Fields) -> SubjectPublicKeyInfo {
+        let (algorithm, subject_public_key, ()) = fields;
+        SubjectPublicKeyInfo {
+            algorithm,
+            subject_public_key,
+        }
+    }
+}
+
+impl Deserialize for SubjectPublicKeyInfo {
+    ghost shape = { ⟦<Fields as Deserialize>⟧.shape };
+
+    ghost known_by_tree = { told ⟦<Fields as Deserialize>⟧.shape (Prim.search (tells, by_law ⟦<AlgorithmIdentifier as Deserialize>⟧.shape known_by_tree-law) depth 99) };
+
+    ghost sound = { Prim.search (rules, apart_from_none) depth 99 };
+
+    fn deserialize<R: ReadExt>(deserializer: &mut Deserializer<R>) -> Result<SubjectPublicKeyInfo> {
+        de::deserialize_as(deserializer)
+    }
+}
+
+impl Begins for SubjectPublicKeyInfo {
+    fn begins_with(tag: Tag) -> bool {
+        tag == Tag::SEQUENCE
+    }
+
+    ghost begins = { λ it byte held. held };
+}

@@ -1,0 +1,63 @@
+//! Periods of validity.
+ghost use Rattle.std.proofs.Common.{rules};
+ghost use Rattle.picky_der_de.specs.Telling.{by_law, told, tells};
+ghost use Rattle.der_x509.specs.Time.{time_known};
+
+use crate::Time;
+use picky_asn1_der::asn1::Tag;
+use picky_asn1_der::de::Begins;
+use picky_asn1_der::misc::{ReadExt, WriteExt};
+use picky_asn1_der::{Alike, Deserialize, Deserializer, Result, Row, Serialize, Serializer, de};
+
+/// From when to when a certificate is good, as a SEQUENCE (RFC 5280, 4.1.2.5).
+#[derive(Debug, Drop, PartialEq, Eq)]
+pub struct Validity {
+    /// Its first second.
+    pub not_before: Time,
+    /// Its last second.
+    pub not_after: Time,
+}
+
+type Fields = Row<(Time, Time, ())>;
+
+impl Serialize for Validity {
+    ghost meaning = { λ it. ⟦<Fields as Serialize>⟧.meaning (⟦<Validity as Alike>⟧.parts it) };
+
+    fn serialize<W: WriteExt>(&self, serializer: &mut Serializer<W>) -> Result<usize> {
+        (&self.not_before, &self.not_after).serialize(serializer)
+    }
+}
+
+impl Alike for Validity {
+    type As = Fields;
+
+    ghost parts = { λ it. record { 0 = (it.not_before, it.not_after, tt) } };
+
+    fn from_parts(Row(fields): Fields) -> Validity {
+        let (not_before, not_after, ()) = fields;
+        Validity {
+            not_before,
+            not_after,
+        }
+    }
+}
+
+impl Deserialize for Validity {
+    ghost shape = { ⟦<Fields as Deserialize>⟧.shape };
+
+    ghost known_by_tree = { told ⟦<Fields as Deserialize>⟧.shape (Prim.search (tells, by_law ⟦<Time as Deserialize>⟧.shape time_known) depth 99) };
+
+    ghost sound = { Prim.search rules depth 99 };
+
+    fn deserialize<R: ReadExt>(deserializer: &mut Deserializer<R>) -> Result<Validity> {
+        de::deserialize_as(deserializer)
+    }
+}
+
+impl Begins for Validity {
+    fn begins_with(tag: Tag) -> bool {
+        tag == Tag::SEQUENCE
+    }
+
+    ghost begins = { λ it byte held. held };
+}
