@@ -13,10 +13,7 @@ impl ByteBuf {
         ensures same { IfOk result (λ copy. copy.0.items ≡ self.now.0.items) }
         ensures memory { IfErr result (λ e. e ≡ Asn1DerError.OutOfMemory) }
     {
-        match self.0.clone() {
-            Ok(bytes) => Ok(ByteBuf(bytes)),
-            Err(_) => Err(Asn1DerError::OutOfMemory),
-        }
+        Ok(ByteBuf(self.0.clone()?))
     }
 }
 

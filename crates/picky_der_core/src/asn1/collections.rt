@@ -14,10 +14,7 @@ impl<T: Clone> Asn1SequenceOf<T> {
         ensures same { IfOk result (λ copy. AllZip T.is_clone self.now.0.items copy.0.items) }
         ensures memory { IfErr result (λ e. e ≡ Asn1DerError.OutOfMemory) }
     {
-        match self.0.clone() {
-            Ok(items) => Ok(Asn1SequenceOf(items)),
-            Err(_) => Err(Asn1DerError::OutOfMemory),
-        }
+        Ok(Asn1SequenceOf(self.0.clone()?))
     }
 }
 
@@ -40,10 +37,7 @@ impl<T: Clone> Asn1SetOf<T> {
         ensures same { IfOk result (λ copy. AllZip T.is_clone self.now.0.items copy.0.items) }
         ensures memory { IfErr result (λ e. e ≡ Asn1DerError.OutOfMemory) }
     {
-        match self.0.clone() {
-            Ok(items) => Ok(Asn1SetOf(items)),
-            Err(_) => Err(Asn1DerError::OutOfMemory),
-        }
+        Ok(Asn1SetOf(self.0.clone()?))
     }
 }
 

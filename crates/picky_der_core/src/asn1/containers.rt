@@ -13,10 +13,7 @@ impl<T: Clone> OctetStringAsn1Container<T> {
         ensures same { IfOk result (λ copy. T.is_clone self.now.0 copy.0) }
         ensures memory { IfErr result (λ e. e ≡ Asn1DerError.OutOfMemory) }
     {
-        match self.0.clone() {
-            Ok(value) => Ok(OctetStringAsn1Container(value)),
-            Err(_) => Err(Asn1DerError::OutOfMemory),
-        }
+        Ok(OctetStringAsn1Container(self.0.clone()?))
     }
 }
 
@@ -38,10 +35,7 @@ impl<T: Clone> BitStringAsn1Container<T> {
         ensures same { IfOk result (λ copy. T.is_clone self.now.0 copy.0) }
         ensures memory { IfErr result (λ e. e ≡ Asn1DerError.OutOfMemory) }
     {
-        match self.0.clone() {
-            Ok(value) => Ok(BitStringAsn1Container(value)),
-            Err(_) => Err(Asn1DerError::OutOfMemory),
-        }
+        Ok(BitStringAsn1Container(self.0.clone()?))
     }
 }
 

@@ -13,10 +13,7 @@ impl<T: Clone, const N: u8> ExplicitContextTag<T, N> {
         ensures same { IfOk result (λ copy. T.is_clone self.now.0 copy.0) }
         ensures memory { IfErr result (λ e. e ≡ Asn1DerError.OutOfMemory) }
     {
-        match self.0.clone() {
-            Ok(value) => Ok(ExplicitContextTag(value)),
-            Err(_) => Err(Asn1DerError::OutOfMemory),
-        }
+        Ok(ExplicitContextTag(self.0.clone()?))
     }
 }
 
@@ -39,10 +36,7 @@ impl<T: Clone, const N: u8> ImplicitContextTag<T, N> {
         ensures same { IfOk result (λ copy. T.is_clone self.now.0 copy.0) }
         ensures memory { IfErr result (λ e. e ≡ Asn1DerError.OutOfMemory) }
     {
-        match self.0.clone() {
-            Ok(value) => Ok(ImplicitContextTag(value)),
-            Err(_) => Err(Asn1DerError::OutOfMemory),
-        }
+        Ok(ImplicitContextTag(self.0.clone()?))
     }
 }
 

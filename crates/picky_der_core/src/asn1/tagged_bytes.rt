@@ -47,10 +47,7 @@ impl<const TAG: u8> TaggedBytes<TAG> {
         ensures same { IfOk result (λ copy. copy.0.items ≡ self.now.0.items) }
         ensures memory { IfErr result (λ e. e ≡ Asn1DerError.OutOfMemory) }
     {
-        match self.0.clone() {
-            Ok(bytes) => Ok(TaggedBytes(bytes)),
-            Err(_) => Err(Asn1DerError::OutOfMemory),
-        }
+        Ok(TaggedBytes(self.0.clone()?))
     }
 }
 
