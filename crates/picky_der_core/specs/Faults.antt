@@ -1,6 +1,6 @@
 -- The faults of a device.
 use Rattle.std.specs.Prelude.{ℕ, List, [], ◌∷◌, length, Option, map, refl}
-use Rattle.std.specs.Coded.{Coded, code_by, coded×, coded_list, coded_option, coded_ℕ}
+use Rattle.std.specs.Coded.{Coded, code_by, coded×}
 use Rattle.std.specs.declared.io.ErrorKind.{ErrorKind}
 use Rattle.std.specs.contracts.io.ErrorKind as error_kind
 use Rattle.picky_der_core.specs.declared.misc.faults.Faults.{Faults}
@@ -10,9 +10,6 @@ use Rattle.picky_der_core.specs.declared.misc.faults.Faults.TheVariants.{Fresh, 
 pub record Fault : Type 0 where
   pub kind : ErrorKind
   pub told : Option (List ℕ)
-
-abbrev pub fault_code : Coded Fault
-fault_code = code_by (ErrorKind × Option (List ℕ)) (coded× error_kind.the_row.coded (coded_option (coded_list coded_ℕ))) (λ f. (f.kind, f.told)) (λ p. record { kind = p.0; told = p.1 }) (λ _. refl)
 
 -- a fault: its kind, and the device behind it
 pub record FaultOf (T : Type 0) : Type 0 where

@@ -76,9 +76,6 @@ pub alike-choice : (t : Tree) → AreAlike (Tree.choice t) t
 unfolding written
 alike-choice t = record { written_same = λ h. refl; absent_same = refl; numbers_same = refl }
 
-pub der-under_choice : (ws : List Wrapper) (t : Tree) → der (under ws (Tree.choice t)) ≡ der (under ws t)
-der-under_choice ws t = der-alike _ _ (alike-under ws (Tree.choice t) t (alike-choice t))
-
 -- a plain value, but a list, is written as bytes with its tag
 abbrev pub is_simple : Tree → Bool
 is_simple (Tree.list kind ts) = false

@@ -1,6 +1,6 @@
 -- What an entry call tells from what reading tells.
 use Rattle.std.proofs.Common.{◌≡◌, ◌≢◌, ◌⊎◌, ℕ, ◌+◌, ◌<◌, Bool, List, [], ◌∷◌, ◌++◌, length, Option, Some, None, IfSome, Result, Ok, Err, IfErr, refl, sym, ◌∙◌, subst, ap, inl, inr, arith, length-append, append_assoc, append-nil}
-use Rattle.std.specs.Io.KnownBytes.{Consumes, Keeps}
+use Rattle.std.specs.Io.KnownBytes.{Consumes}
 use Rattle.picky_der_core.specs.declared.error.Asn1DerError.{Asn1DerError}
 use Rattle.picky_der_core.specs.declared.error.Asn1DerError.TheVariants.{TruncatedData, InvalidData, UnsupportedValue, UnsupportedType, InvalidSink, Message, Other, OutOfMemory}
 use Rattle.picky_der_core.specs.Element.{Begins}
@@ -15,10 +15,9 @@ use Rattle.picky_der_core.proofs.Unique.{same_tree}
 use Rattle.picky_der_input.specs.State.{State, fresh}
 use Rattle.picky_der_core.specs.Peeking.{in_front, count_of_any}
 use Rattle.picky_der_input.specs.Steps.{IsJudged}
-use Rattle.picky_der_input.specs.LookAhead.{HasEnded}
 use Rattle.picky_der_input.specs.Reading.{Reads, Refuses, now, ever}
 use Rattle.picky_der_de.specs.KnownLaws.{IsKnownByTree}
-use Rattle.picky_der_de.specs.Entry.{any_length, HasNoFront, Reader, ReadsFront, Draws, RefusesFront, HasNoneLeft, RefusesNextValue}
+use Rattle.picky_der_de.specs.Entry.{any_length, HasNoFront, Reader, ReadsFront, Draws, RefusesFront, RefusesNextValue}
 use Rattle.picky_der_input.proofs.Refusals.{consumed}
 
 -- ---- what is left in the reader
@@ -150,18 +149,6 @@ module _ {V : Type 0} (meaning : V → Tree) (s : Shape) {old new : State} {thro
         drawn = draws h;
         faults = told_fault h.fails.faults h.fails.unpeeked faults left;
         other = λ same. h.fails.other refl (sym faults ∙ same);
-      }
-
-  -- where the input ended, the reader has nothing left
-  pub none_left : HasEnded old new → HasNoneLeft limit before after
-  none_left ended =
-      let h : HasEnded (begun before limit through) new = subst (λ o. HasEnded o new) is ended in
-      let unpeeked : new.peeked ≡ None = ap (λ (s : State). s.peeked) h.same in
-      record {
-        ahead = h.ahead;
-        ended = h.ended;
-        input = subst (λ i. Keeps before.input i) (left ∙ left_of new.peeked after.input unpeeked) h.input;
-        faults = faults ∙ ap (λ (s : State). s.faults) h.same;
       }
 
   -- where a refusal means that something is left, there was

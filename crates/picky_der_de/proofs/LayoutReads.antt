@@ -25,7 +25,7 @@ use Rattle.picky_der_de.specs.LayoutLaws.{IsThere, IsComponent, AreComponents, i
 use Rattle.picky_der_input.proofs.Steps.{takes_none, takes_then}
 use Rattle.picky_der_input.proofs.Order.{fails_behind, judged_behind}
 use Rattle.picky_der_input.proofs.Refusals.{missing_here}
-use Rattle.picky_der_de.proofs.Peeked.{peeks_takes, peeks_fails, peeks_judged, peeks_concerns, peeks_front, identified, identified_reads}
+use Rattle.picky_der_de.proofs.Peeked.{peeks_takes, peeks_fails, peeks_judged, peeks_concerns, peeks_front}
 use Rattle.picky_der_de.proofs.Members.{bytes_of-more, bytes_of-none, no_members_in_order, takes_member, member_ahead, members_lead, next_order, next_up_to_end, none_left, list_refused, list_unopened, list_reads}
 use Rattle.picky_der_de.proofs.Members.{no_member as no_value_there, same_member}
 
@@ -424,8 +424,3 @@ layout_reads {kind = kind} {b = b} {ts = ts} o r k back =
     let q = r.passes b (opened_rests kind o) in
     let takes = subst (λ z. Takes (unordered b) (unordered z) (bytes_of ts)) (sym (rested q.rests k.reached)) q.takes in
     list_reads ts o r.order takes r.direct k back (refl, r.are) r.readable
-
--- ---- behind a look
-
-pub read_behind_look : {s : Shape} {b m c : State} {tag : ℕ} {t : Tree} → Identifies b m tag → ReadsMember s m c t → ReadsMember s b c t
-read_behind_look {b = b} i r = record { mid = r.mid; reads = identified_reads i r.reads; direct = identified (λ x. x.direct ≡ None) b.direct i.is (λ p k. p.direct) r.direct; follows = r.follows }

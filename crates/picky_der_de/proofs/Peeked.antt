@@ -10,10 +10,10 @@ use Rattle.picky_der_core.specs.Encoding.{der}
 use Rattle.picky_der_core.specs.EncodingLaws.{length-der}
 use Rattle.picky_der_core.specs.Reader.{TellsFault}
 use Rattle.picky_der_core.specs.Shape.{Shape}
-use Rattle.picky_der_core.specs.Reading.{Place, written_at, MayStand, StandsAt}
+use Rattle.picky_der_core.specs.Reading.{Place, StandsAt}
 use Rattle.picky_der_input.specs.State.{State}
 use Rattle.picky_der_input.specs.Steps.{Takes, Fails, IsJudged, IsMissing, drawn, reach, place_in, place_of}
-use Rattle.picky_der_input.specs.Reading.{Concerns, now, ever, Reads, Refuses}
+use Rattle.picky_der_input.specs.Reading.{Concerns, now, ever, Refuses}
 use Rattle.picky_der_input.specs.LookAhead.{Peeks, IdentifiesIn, Identifies, RefusesIdentifier}
 use Rattle.picky_der_input.proofs.Steps.{there_after}
 use Rattle.picky_der_input.proofs.ReaderFaults.{keeps_consumes}
@@ -111,16 +111,6 @@ module _ {a b : State} {x : ℕ} (p : Peeks a b x) where
   same_place : place_of b ≡ place_of a
   same_place = ap place_of p.same
 
-  -- a value was read
-  pub peeks_reads : {s : Shape} {c : State} {t : Tree} → Reads s b c t → Reads s a c t
-  peeks_reads {s} {c} {t} h = record {
-    of_shape = h.of_shape;
-    readable = h.readable;
-    may_stand = subst (λ z. MayStand z t) same_place h.may_stand;
-    takes = subst (λ z. Takes a c (written_at z t)) same_place (peeks_takes h.takes);
-    direct = h.direct;
-  }
-
   -- a value was refused
   pub peeks_refuses : {V : Type 0} {meaning : V → Tree} {s : Shape} {c : State} {e : Asn1DerError} → Refuses meaning s b c e → Refuses meaning s a c e
   peeks_refuses {meaning = meaning} {s = s} h = record {
@@ -149,9 +139,6 @@ nothing_whole {a} {s = s} {end = end} {bs = bs} {t = t} d m w st =
 pub identified : (P : State → Type 0) {a b : State} {tag : ℕ} → (d : Option ℕ) → IdentifiesIn d a b tag → (Peeks a b tag → P b → P a) → P b → P a
 identified P None h f k = f h k
 identified P (Some number) h f k = subst P h.2 k
-
-pub identified_reads : {s : Shape} {a b c : State} {tag : ℕ} {t : Tree} → Identifies a b tag → Reads s b c t → Reads s a c t
-identified_reads {s} {a} {b} {c} {tag} {t} h r = identified (λ x. Reads s x c t) a.direct h.is (λ p k. peeks_reads p k) r
 
 pub identified_refuses : {V : Type 0} {meaning : V → Tree} {s : Shape} {a b c : State} {tag : ℕ} {e : Asn1DerError} → Identifies a b tag → Refuses meaning s b c e → Refuses meaning s a c e
 identified_refuses {meaning = meaning} {s = s} {a = a} {c = c} {e = e} h r = identified (λ x. Refuses meaning s x c e) a.direct h.is (λ p k. peeks_refuses p k) r

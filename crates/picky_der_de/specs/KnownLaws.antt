@@ -1,5 +1,5 @@
 -- A tree tells its value.
-use Rattle.std.specs.Prelude.{◌≡◌, ℕ, List, [], ◌∷◌, Bool, true, false, ◌&&◌, map, nat_eq, Some, None, ⊤, encode_utf8, refl}
+use Rattle.std.specs.Prelude.{◌≡◌, ℕ, List, [], ◌∷◌, Bool, true, false, ◌&&◌, map, nat_eq, Some, None, encode_utf8, refl}
 use Rattle.std.specs.Option.{option_eq}
 use mathlib.Core.Bool.{beq}
 use lib.Pointwise.{pointwise}
@@ -81,12 +81,6 @@ list_known {V} meaning s eq known xs ys p q r e =
     let f : trees (map meaning xs) ≡ trees (map meaning ys) = cc in
     same_items meaning eq (λ v. IsOf s (meaning v) × IsReadable (meaning v)) (λ vs. EachIs (IsOf s) (trees (map meaning vs)) × AreReadable (trees (map meaning vs))) (λ v vs h. ((h.0.0, h.1.0), (h.0.1, h.1.1)))
     (λ x y h k g. known x y h.0 k.0 h.1 g) xs ys (p, r) (q, subst AreReadable f r) f
-
--- lists of values that are known by their trees whether they are readable or not
-pub items_known : {V : Type 0} {meaning : V → Tree} {eq : V → V → Bool} → ((x y : V) → meaning x ≡ meaning y → eq x y ≡ true) → {k l : ListKind} (xs ys : List V) → Tree.list k (trees (map meaning xs)) ≡ Tree.list l (trees (map meaning ys)) → pointwise eq xs ys ≡ true
-items_known {V} {meaning} {eq} known xs ys e =
-    let f : trees (map meaning xs) ≡ trees (map meaning ys) = cc in
-    same_items meaning eq (λ _. ⊤) (λ _. ⊤) (λ _ _ _. (tt, tt)) (λ x y _ _ g. known x y g) xs ys tt tt f
 
 -- ---- rows, whose members are each known
 

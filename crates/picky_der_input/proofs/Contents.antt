@@ -3,12 +3,11 @@ use Rattle.std.proofs.Common.{◌≡◌, ℕ, ◌+◌, ◌<◌, ◌≤◌, List,
 use Rattle.std.proofs.lemmas.Grind.{common_steps}
 use Rattle.picky_der_core.specs.declared.error.Asn1DerError.{Asn1DerError}
 use Rattle.picky_der_core.specs.Failure.{failure_of}
-use Rattle.picky_der_core.specs.declared.error.Asn1DerError.TheVariants.{OutOfMemory}
 use Rattle.picky_der_core.specs.Shape.{AreBytes}
 use Rattle.picky_der_input.specs.State.{State}
 use Rattle.std.specs.Io.KnownBytes.{Consumes, Keeps}
 use Rattle.picky_der_input.specs.Steps.{failed_with, Takes, TakesBytes, Took, TakesKept, StopsShort, Fails, IsMissing}
-use Rattle.picky_der_input.proofs.Steps.{takes_then, takes_none, fails_after, judged_after}
+use Rattle.picky_der_input.proofs.Steps.{takes_then, fails_after, judged_after}
 
 -- the first bytes of one byte more
 pub kept_more : (kept c : List ℕ) (b : ℕ) → kept ≡ take 18 c → length kept < 18 → kept ++ (b ∷ []) ≡ take 18 (c ++ (b ∷ []))
@@ -25,10 +24,6 @@ takes_kept-more {x = x} h t e = record {
   count = omega (arith, length-append h.content (x ∷ []), h.count);
   first = e;
 }
-
--- nothing was taken yet
-pub takes_kept-none : (a : State) → a.failed ≡ None → a.peeked ≡ None → TakesKept a a 0 []
-takes_kept-none a h p = record { content = []; takes = takes_none a h p; count = refl; first = grind (arith, common_steps) }
 
 -- no byte was taken, and what is known is kept
 consumes-keeps : (i j : Option (List ℕ)) (bs : List ℕ) → length bs ≡ 0 → Consumes i j bs → Keeps i j
@@ -100,10 +95,6 @@ stops_later {content = content} t whole s = record {
     peeked = cut.peeked;
   };
 }
-
--- memory was wanted
-pub stops_for_memory : {a b c : State} {n : ℕ} {e : Asn1DerError} {content : List ℕ} → Takes a b content → Fails b c e → e ≡ OutOfMemory → StopsShort a c n e
-stops_for_memory t f m = record { fails = fails_after t f; short = λ j. absurd (j.memory m) }
 
 -- two facts of an answer
 pub IfOk-both : {A E : Type 0} {P R : A → Type 0} {Q : Type 0} (r : Result A E) → IfOk r P → OnOk r Q → ((v : A) → P v → Q → R v) → IfOk r R

@@ -3,7 +3,7 @@ use Rattle.std.proofs.Common.{◌≡◌, ℕ, ◌<◌, ◌≤◌, ◌^◌, inl, 
 use Rattle.std.proofs.lemmas.Bool.Decides.{nat_tests}
 use Rattle.std.specs.Io.KnownBytes.{Keeps}
 use Rattle.picky_der_core.specs.declared.error.Asn1DerError.{Asn1DerError}
-use Rattle.picky_der_core.specs.declared.error.Asn1DerError.TheVariants.{TruncatedData, UnsupportedValue, OutOfMemory}
+use Rattle.picky_der_core.specs.declared.error.Asn1DerError.TheVariants.{TruncatedData, UnsupportedValue}
 use Rattle.picky_der_core.specs.Element.{len, tlv, IsElement}
 use Rattle.picky_der_core.specs.ElementLaws.{bytes_then, length_bytes, content_bytes}
 use Rattle.picky_der_core.specs.Tag.{number_of, is_tag_number, IsTagNumber}
@@ -187,10 +187,6 @@ begins_tagged h = record { takes = h.takes; direct = h.direct; fits = h.fits; al
 -- the content ended before it was whole
 pub raw_cut : {a b c : State} {e : Asn1DerError} {tag n : ℕ} → BeginsElement a b tag n → StopsShort b c n e → RefusesRaw a c e
 raw_cut {tag = tag} h s = refuses_tagged h.takes (failed_grows s.fails) h.number h.byte (refuses_cut (bytes_kind tag h.number) (begins_tagged h) s)
-
--- memory was wanted
-pub raw_no_memory : {a b c : State} {e : Asn1DerError} {tag n : ℕ} → BeginsElement a b tag n → Fails b c e → e ≡ OutOfMemory → RefusesRaw a c e
-raw_no_memory h f is = raw_cut h (record { fails = f; short = λ j. absurd (j.memory is) })
 
 -- ---- read
 

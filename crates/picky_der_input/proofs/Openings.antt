@@ -3,7 +3,6 @@ use Rattle.std.proofs.Common.{◌≡◌, ℕ, ◌+◌, ◌-◌, ◌<◌, ◌≤�
 use Rattle.std.proofs.lemmas.Grind.{common_steps}
 use Rattle.std.proofs.lemmas.List.{take-append-drop}
 use Rattle.picky_der_core.specs.declared.error.Asn1DerError.{Asn1DerError}
-use Rattle.picky_der_core.specs.Failure.{failure_of}
 use Rattle.picky_der_core.specs.declared.error.Asn1DerError.TheVariants.{TruncatedData, UnsupportedValue, OutOfMemory}
 use Rattle.picky_der_core.specs.Element.{len}
 use Rattle.picky_der_core.specs.Refusal.{Refusal}
@@ -15,7 +14,7 @@ use Rattle.picky_der_input.specs.Reading.{Concerns, now, ever, IsJustRefused}
 use Rattle.picky_der_input.specs.Headers.{RefusesHeader}
 use Rattle.picky_der_input.specs.Ends.{Outer, innermost, narrowed}
 use Rattle.picky_der_input.specs.Enclosures.{enclosure_tag, HasNumber, unused_bits, counts_unused_bits, implicit_number, unused_bits_refusal, refusal_behind, opening_refusal, restored, OpensEnclosure, RefusesOpening, BeginsEnclosure, StopsUnusedBits, count_missing, count_other, RefusesUnusedBits}
-use Rattle.picky_der_input.proofs.Steps.{takes_then, takes_none, fails_after, fails_again, judged_after}
+use Rattle.picky_der_input.proofs.Steps.{takes_then, takes_none, fails_after, judged_after}
 use Rattle.picky_der_input.proofs.Refusals.{consumed, behind, failed_grows, missing_here, taken_first, at_end_of}
 use Rattle.picky_der_input.proofs.Known.{front_of, just_taken, kept_known, peeked_kept}
 use Rattle.picky_der_input.proofs.Headers.{header_length}
@@ -25,19 +24,6 @@ use Rattle.picky_der_input.proofs.Ends.{narrowed_judged, widened_fails}
 use Rattle.picky_der_input.proofs.Enclosures.{some_unused, no_unused, unused_cut, unused_other, behind_read, opening_read, opening_refused, opening_unsupported}
 
 -- ---- refused headers
-
--- it had failed before
-pub opening_again : {w : Enclosure} {a : State} {e : Asn1DerError} → a.failed ≡ Some (failure_of e) → RefusesOpening w a a e
-opening_again {a = a} {e = e} h =
-    let no : a.failed ≡ None → ⊥ = λ w. let q : None ≡ Some (failure_of e) = sym w ∙ h in cc in
-    record {
-      fails = fails_again a h;
-      none = λ j. absurd (no j.had_not_failed);
-      first = λ j. absurd (no j.had_not_failed);
-      just = λ j. absurd (no j.had_not_failed);
-      memory = λ w. absurd (no w);
-      bounded = λ w. absurd (no w);
-    }
 
 -- a tag of the long form was asked for, and nothing was taken
 pub opening_past : {w : Enclosure} {a c : State} {e : Asn1DerError} → (HasNumber w → ⊥) → Fails a c e → e ≡ UnsupportedValue → c ≡ failed_with a e → a.room < 2 ^ 64 → RefusesOpening w a c e

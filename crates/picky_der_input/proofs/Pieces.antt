@@ -1,12 +1,12 @@
 -- Contents, drawn in pieces.
-use Rattle.std.proofs.Common.{◌≡◌, ℕ, zero, suc, ◌+◌, ◌-◌, ◌^◌, ◌<◌, ◌≤◌, List, [], ◌∷◌, ◌++◌, length, take, get_or, None, ◌∙◌, ap, arith, append_assoc, length-append}
+use Rattle.std.proofs.Common.{◌≡◌, ℕ, zero, suc, ◌+◌, ◌-◌, ◌^◌, ◌<◌, ◌≤◌, List, [], ◌∷◌, ◌++◌, length, take, get_or, None, ◌∙◌, ap, arith, length-append}
 use Rattle.std.specs.Io.KnownBytes.{Consumes}
 use Rattle.std.proofs.lemmas.List.{take-append-le}
 use Rattle.picky_der_core.specs.ElementLaws.{bytes_then}
 use Rattle.picky_der_core.specs.Peeking.{moved, count_of_any}
 use Rattle.picky_der_core.specs.Shape.{AreBytes}
 use Rattle.picky_der_input.specs.State.{State}
-use Rattle.picky_der_input.specs.Steps.{Takes, TakesBytes, TakesBehind, TakesPiece}
+use Rattle.picky_der_input.specs.Steps.{Takes, TakesBytes, TakesPiece}
 use Rattle.picky_der_input.proofs.Steps.{takes_then}
 
 -- one piece more was taken
@@ -15,18 +15,6 @@ takes_bytes-piece {n = n} {content = content} {buffer = buffer} h p e = record {
   takes = takes_then h.takes p.takes.takes;
   count = omega (arith, length-append content (take n buffer), h.count, p.takes.count);
   bytes = bytes_then content (take n buffer) h.bytes p.takes.bytes;
-}
-
--- one piece more was taken, and put behind what was taken before
-pub behind_then : {front all more : List ℕ} {a b c : State} {k n m : ℕ} → TakesBehind front a b k all → TakesBehind all b c n more → m ≡ k + n → TakesBehind front a c m more
-behind_then {front = front} h p e = record {
-  content = h.content ++ p.content;
-  takes = record {
-    takes = takes_then h.takes.takes p.takes.takes;
-    count = omega (arith, length-append h.content p.content, h.takes.count, p.takes.count, e);
-    bytes = bytes_then h.content p.content h.takes.bytes p.takes.bytes;
-  };
-  is = p.is ∙ ap (λ l. l ++ p.content) h.is ∙ append_assoc front h.content p.content;
 }
 
 -- ---- one read

@@ -5,7 +5,6 @@ use Rattle.std.proofs.Math.Seq.{take-append_seam, drop-append_seam}
 use Rattle.std.proofs.lemmas.Bool.Decides.{nat_tests}
 use Rattle.std.proofs.lemmas.List.{take-append-drop}
 use Rattle.picky_der_core.specs.declared.error.Asn1DerError.{Asn1DerError}
-use Rattle.picky_der_core.specs.Failure.{failure_of}
 use Rattle.picky_der_core.specs.declared.error.Asn1DerError.TheVariants.{TruncatedData, UnsupportedValue}
 use Rattle.picky_der_core.specs.Element.{len, tlv}
 use Rattle.picky_der_core.specs.ElementLaws.{same_front}
@@ -21,7 +20,7 @@ use Rattle.picky_der_input.specs.State.{State}
 use Rattle.picky_der_input.specs.Steps.{Takes, Fails, IsCut, StopsShort, IsJudged, failed_with, is_hard, place_in, place_of, drawn}
 use Rattle.picky_der_input.specs.Reading.{Concerns, Refuses, refusal_in, refusal_at, IsJustRefused, ReadsPlain, RefusesPlain}
 use Rattle.picky_der_input.specs.Headers.{header_bytes, Begins, RefusesBegin, NoElement}
-use Rattle.picky_der_input.proofs.Steps.{takes_then, fails_after, fails_again, judged_after}
+use Rattle.picky_der_input.proofs.Steps.{takes_then, fails_after, judged_after}
 use Rattle.picky_der_input.proofs.Refusals.{behind, failed_grows, cut_grows, missing_here, end_below, taken_first}
 use Rattle.picky_der_input.proofs.Lengths.{cut_after}
 use Rattle.picky_der_input.proofs.Known.{front_of, just_cut, just_taken, missing_before}
@@ -136,15 +135,6 @@ refuses_number {tag = tag} {judge = judge} {a = a} n none f is same = record {
     used = λ more. absurd (omega (arith, ap (λ (s : State). s.taken) same));
   };
 }
-
--- it had failed before
-pub refuses_again : {V : Type 0} {meaning : V → Tree} {s : Shape} {tag : ℕ} {judge : Judge} {a : State} {e : Asn1DerError} → a.failed ≡ Some (failure_of e) → RefusesPlain meaning tag judge s a a e
-refuses_again {a = a} {e = e} h =
-    let no : (j : IsJudged a a e) → ⊥ = λ j. let q : None ≡ Some (failure_of e) = sym j.had_not_failed ∙ h in cc in
-    record {
-      refuses = record { fails = fails_again a h; none = λ j. absurd (no j); first = λ j. absurd (no j) };
-      just = λ j. absurd (no j);
-    }
 
 -- ---- refused contents
 

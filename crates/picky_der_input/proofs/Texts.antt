@@ -1,13 +1,12 @@
 -- Texts, and their characters.
 use Rattle.std.proofs.Common.{◌≡◌, ℕ, ◌*◌, ◌<◌, ◌≤◌, inl, inr, Bool, true, false, List, [], ◌∷◌, ◌++◌, length, take, Some, None, ◌==◌, refl, sym, ◌∙◌, ap, arith, length-append, append-nil, IsUtf8, chars, encode_utf8, encode_utf8_all}
 use Rattle.std.specs.Char.{IsScalar}
-use Rattle.std.specs.Str.{is_utf8, all_scalars}
+use Rattle.std.specs.Str.{is_utf8}
 use Rattle.std.proofs.lemmas.Bool.{cases_lt}
 use Rattle.std.proofs.lemmas.Bool.Decides.{nat_tests}
 use Rattle.std.proofs.lemmas.Grind.{common_steps}
-use Rattle.std.proofs.lemmas.Str.{IsUtf8-from_is_utf8, is_utf8-from_IsUtf8, chars-nil, chars_past_char, IsUtf8-past_char, scalars-chars, encodes-chars, length-encode, len_utf8_bounds, IsUtf8-encode}
-use Rattle.picky_der_core.specs.declared.error.Asn1DerError.{Asn1DerError}
-use Rattle.picky_der_core.specs.declared.error.Asn1DerError.TheVariants.{InvalidData, UnsupportedValue}
+use Rattle.std.proofs.lemmas.Str.{IsUtf8-from_is_utf8, is_utf8-from_IsUtf8, chars-nil, chars_past_char, IsUtf8-past_char, encodes-chars, length-encode, len_utf8_bounds, IsUtf8-encode}
+use Rattle.picky_der_core.specs.declared.error.Asn1DerError.TheVariants.{InvalidData}
 use Rattle.picky_der_core.specs.Refusal.{text_fault, character_fault, character_count_fault}
 
 -- ---- texts
@@ -25,18 +24,10 @@ by_test s {P} good bad = by_case (is_utf8 s) refl
 pub text_bad : (s : List ℕ) → ¬ (IsUtf8 s) → text_fault s ≡ Some InvalidData
 text_bad s n = by_test s (λ u. absurd (n u)) (λ e. rw e refl)
 
--- what is no text is no character
-pub character_bad : (s : List ℕ) (e : Asn1DerError) → text_fault s ≡ Some e → character_fault s ≡ Some e
-character_bad s e h = by_test s (λ u. let q : None ≡ Some e = sym (text_good s u) ∙ h in cc) (λ b. let q : text_fault s ≡ Some InvalidData = rw b refl in let r : character_fault s ≡ Some InvalidData = rw b refl in r ∙ sym q ∙ h)
-
 -- ---- characters
 
 pub character_good : (s : List ℕ) → IsUtf8 s → length (chars s) ≡ 1 → character_fault s ≡ None
 character_good s u l = rw (is_utf8-from_IsUtf8 s u, l) refl
-
-pub character_none : (s : List ℕ) → IsUtf8 s → length s ≡ 0 → character_fault s ≡ Some UnsupportedValue
-character_none [] u l = rw (is_utf8-from_IsUtf8 [] u, ap length chars-nil) refl
-character_none (b ∷ bs) u l = absurd (omega arith)
 
 two_or_more : (n : ℕ) → 1 < n → character_count_fault n ≡ Some InvalidData
 two_or_more n h =
@@ -46,12 +37,6 @@ two_or_more n h =
 
 pub character_more : (s : List ℕ) → IsUtf8 s → 1 < length (chars s) → character_fault s ≡ Some InvalidData
 character_more s u l = rw (is_utf8-from_IsUtf8 s u) (two_or_more (length (chars s)) l)
-
--- the first character of a text
-pub first_scalar : (s rest : List ℕ) (c : ℕ) → IsUtf8 s → s ≡ encode_utf8 c ++ rest → IsScalar c
-first_scalar s rest c u e =
-    let is : all_scalars (c ∷ chars rest) ≡ true = ap all_scalars (sym (chars_past_char s rest c u e)) ∙ scalars-chars s u in
-    grind arith
 
 pub one_character : (s rest : List ℕ) (c : ℕ) → IsUtf8 s → s ≡ encode_utf8 c ++ rest → length rest ≡ 0 → (s ≡ encode_utf8 c) × (length (chars s) ≡ 1)
 one_character s [] c u e l = (e ∙ append-nil (encode_utf8 c), ap length (chars_past_char s [] c u e) ∙ ap (λ (cs : List ℕ). length (c ∷ cs)) chars-nil)

@@ -3,9 +3,9 @@ use Rattle.std.proofs.Common.{◌≡◌, ◌≢◌, ℕ, ◌<◌, ◌≤◌, ◌
 use Rattle.std.specs.Prelude.{reverse}
 use Rattle.std.proofs.lemmas.Grind.{common_steps}
 use Rattle.std.proofs.Math.Seq.{take-append_seam, drop-append_seam}
-use Rattle.std.proofs.lemmas.List.{take-take, drop-append-le, drop_all, length-drop, take-append-le, length-take-le}
+use Rattle.std.proofs.lemmas.List.{take-take, drop-append-le, drop_all, take-append-le, length-take-le}
 use Rattle.picky_der_ser.specs.declared.levels.Mark.{Mark}
-use Rattle.picky_der_ser.specs.State.{Level, Stack, with_bytes, begun, in_order}
+use Rattle.picky_der_ser.specs.State.{Level, Stack, with_bytes, in_order}
 use Rattle.picky_der_core.specs.Encoding.{der}
 use Rattle.picky_der_core.specs.Wrapper.{under}
 use Rattle.picky_der_ser.specs.Heading.{tree_of}
@@ -24,14 +24,6 @@ mark-more h k = record { numbers = k.numbers; number = k.number; room = k.room; 
 pub marks-more : (ms : List Mark) {a b : ℕ} (q : List ℕ) → a ≤ b → AreMarks ms a q → AreMarks ms b q
 marks-more [] q h k = tt
 marks-more (m ∷ ms) q h k = (mark-more h k.0, k.1)
-
--- without the first
-pub marks-rest : (m : Mark) (ms : List Mark) (n : ℕ) (q : List ℕ) → AreMarks (m ∷ ms) n q → AreMarks ms n (take m.first_seam q)
-marks-rest m ms n q k = let room = k.0.room in let within = k.0.within in marks-more ms (take m.first_seam q) (omega (arith, room, within)) k.1
-
-pub marks-settled : (p : Option Mark) (ms : List Mark) (n : ℕ) (q : List ℕ) → AreMarks (with_pending p ms) n q → AreMarks ms n (seams_below p q)
-marks-settled None ms n q k = k
-marks-settled (Some m) ms n q k = marks-rest m ms n q k
 
 -- another member of the innermost begins where it ends
 marks-next : (m : Mark) (ms : List Mark) (n : ℕ) (q : List ℕ) → AreMarks (m ∷ ms) n q → AreMarks (m ∷ ms) n (next_seams m.header q (n - m.start))
@@ -89,18 +81,6 @@ levels-grown (m ∷ ms) s q bs l ls h e =
 
 abbrev pub stack_at : Option Mark → List Mark → List ℕ → List ℕ → Stack
 stack_at p ms s q = record { inside = levels_of ms (below p s) (seams_below p q); pending = level_of p s q }
-
--- another member of what is pending begins
-pub stack-begun : {p : Option Mark} {m : Mark} (ms : List Mark) (s q r : List ℕ) → p ≡ Some m → AreMarks (with_pending p ms) (length s) q → r ≡ next_seams m.header q (length s - m.start)
-    → IfSome (level_of p s q) (λ l. stack_at p ms s r ≡ record (stack_at p ms s q) { pending = Some (begun l) })
-stack-begun {p} {m} ms s q r was k e =
-    let before : AreMarks (m ∷ ms) (length s) q = subst (λ o. AreMarks (with_pending o ms) (length s) q) was k in
-    let first = before.0.first in
-    let n = length s - m.start in
-    let own : drop m.first_seam (next_seams m.header q n) ≡ next_seams m.header (drop m.first_seam q) (length (drop m.start s)) =
-    drop-next_seams m.header m.first_seam q n first ∙ ap (next_seams m.header (drop m.first_seam q)) (sym (length-drop m.start s)) in
-    let others = take-next_seams m.header m.first_seam q n first in
-    rw (was, e) (ap₂ (λ x y. record { inside = levels_of ms (take m.at s) x; pending = Some (record { header = m.header; around = m.around.items; content = drop m.start s; seams = y }) }) others own)
 
 -- what is pending and has no seams is in order
 pub stack-uncut : {p : Option Mark} {m : Mark} (ms : List Mark) (s q : List ℕ) → p ≡ Some m → length q ≤ m.first_seam

@@ -6,11 +6,10 @@ use Rattle.std.specs.Io.KnownBytes.{Appends}
 use Rattle.picky_der_core.specs.declared.asn1.wrapper.Wrapper.{Wrapper}
 use Rattle.picky_der_core.specs.declared.asn1.wrapper.Wrapper.TheVariants.{OctetContainer, BitContainer, Explicit, Implicit}
 use Rattle.picky_der_core.specs.Tag.{number_of, is_tag_number}
-use Rattle.picky_der_core.specs.Writer.{AppendsTooFew, beginning_none}
+use Rattle.picky_der_core.specs.Writer.{AppendsTooFew}
 use Rattle.picky_der_core.specs.WriterFaults.{Faulted}
 use Rattle.picky_der_core.specs.declared.misc.writer.WriteExt.{Ghosts}
 use Rattle.picky_der_core.specs.declared.error.Asn1DerError.{Asn1DerError}
-use Rattle.picky_der_core.specs.declared.error.Asn1DerError.TheVariants.{OutOfMemory}
 use Rattle.picky_der_core.specs.Tree.{Tree}
 use Rattle.picky_der_core.specs.Encoding.{der}
 use Rattle.picky_der_core.specs.Readable.{has_tag_numbers, IsWritable}
@@ -21,7 +20,7 @@ use Rattle.picky_der_ser.specs.Heading.{tree_of}
 use Rattle.picky_der_ser.specs.Headers.{headers, HasNumber, HaveTagNumbers}
 use Rattle.picky_der_ser.specs.State.{Level, Stack, with_bytes}
 use Rattle.picky_der_ser.specs.Sealed.{sealed}
-use Rattle.picky_der_ser.specs.Calls.{Wrote, Refused, no_sink, no_memory}
+use Rattle.picky_der_ser.specs.Calls.{Wrote, Refused, no_sink}
 use Rattle.picky_der_ser.proofs.HeaderBytes.{der-headers}
 
 -- ---- what can be written
@@ -118,8 +117,3 @@ module _ {W : Type 0} (g : Ghosts W) where
   refused_level t p bs old new (Ok n) is begins fault = tt
   refused_level t None bs old new (Err e) is begins fault = tt
   refused_level t (Some l) bs old new (Err e) is begins fault = refused_by (t l) bs old new (Err e) is.0 is.1 begins fault
-
-  -- nothing was written: out of memory
-  pub refused_memory : (t : Level → Tree) (p : Option Level) (sink : W) → IfSome p (λ l. Refused g (t l) sink OutOfMemory sink)
-  refused_memory t None sink = tt
-  refused_memory t (Some l) sink = record { begins = beginning_none (g.told sink) (der (t l)); excuse = no_memory refl }

@@ -1,7 +1,6 @@
 -- The members of a row, added to a list that is being written.
 use Rattle.std.proofs.Common.{◌≡◌, List, [], ◌∷◌, ◌++◌, Option, None, Some, refl, sym, ap, ◌∙◌, subst, Result, Ok, Err, IfErr}
 use Rattle.std.specs.Prelude.{IfSome, IfNone, IsSome, OnOk}
-use Rattle.picky_der_core.specs.declared.failure.Failure.{Failure}
 use Rattle.picky_der_core.specs.declared.misc.writer.WriteExt.{Ghosts}
 use Rattle.picky_der_core.specs.declared.error.Asn1DerError.{Asn1DerError}
 use Rattle.picky_der_core.specs.declared.asn1.wrapper.Wrapper.{Wrapper}
@@ -10,7 +9,7 @@ use Rattle.picky_der_core.specs.Encoding.{written, encodings, der}
 use Rattle.picky_der_core.specs.Readable.{IsWritable}
 use Rattle.picky_der_core.specs.Wrapper.{under}
 use Rattle.picky_der_ser.specs.State.{State, Level, with_member, with_members}
-use Rattle.picky_der_ser.specs.Calls.{AreWritable, MemoryExcuse, Fails, Gains, Rejects, GainsAll, GainsRow, RejectsRow, Leads}
+use Rattle.picky_der_ser.specs.Calls.{AreWritable, MemoryExcuse, Fails, Gains, GainsAll, GainsRow, RejectsRow, Leads}
 use Rattle.picky_der_ser.proofs.Alike.{excuse_of_part}
 use Rattle.picky_der_ser.proofs.ListBytes.{before, before_next, member_writable}
 use Rattle.picky_der_ser.proofs.Members.{Awaits, level_with, list_gained, list_stopped}
@@ -56,14 +55,6 @@ module _ {W : Type 0} (g : Ghosts W) where
           let rest : new ≡ with_level old (with_members (with_member l (der t)) (encodings all)) =
           subst (λ (s : State W). IfSome s.pending (λ m. new ≡ with_level s (with_members m (encodings all)))) k h.added in
           rest ∙ ap (with_level old) (members_behind l t all)
-
-  -- the first one was refused
-  pub row_starts : (ts : Trees) {t : Tree} {old new : State W} {e : Asn1DerError} → Rejects g t old e new → RejectsRow g (Trees.more t ts) old e new
-  row_starts ts {t} {old} {new} {e} h = record { failed = h.failed; same = h.same; again = h.again; first = first old.failed h.first }
-    where
-      first : (o : Option Failure) → IfNone o (MemoryExcuse (IsWritable t) e) → IfNone o (MemoryExcuse (AreWritable (Trees.more t ts)) e)
-      first None k = excuse_of_part (λ w. w.0) k
-      first (Some f) k = tt
 
   -- one behind the first was
   all_stopped : {t : Tree} {old between : State W} {e : Asn1DerError} (ts : Trees) (new : State W) → IfNone old.failed (IsSome old.pending) → Gains g t old between → RejectsRow g ts between e new → RejectsRow g (Trees.more t ts) old e new
