@@ -29,10 +29,7 @@ impl<V: Debug + PartialEq + Clone, const T: u8> ApplicationTag<V, T> {
         ensures same { IfOk result (λ copy. V.is_clone self.now.0 copy.0) }
         ensures memory { IfErr result (λ e. e ≡ Asn1DerError.OutOfMemory) }
     {
-        match self.0.clone() {
-            Ok(value) => Ok(ApplicationTag(value)),
-            Err(_) => Err(Asn1DerError::OutOfMemory),
-        }
+        Ok(ApplicationTag(self.0.clone()?))
     }
 }
 

@@ -38,10 +38,7 @@ impl Asn1RawDer {
         ensures same { IfOk result (λ copy. copy.0.items ≡ self.now.0.items) }
         ensures memory { IfErr result (λ e. e ≡ Asn1DerError.OutOfMemory) }
     {
-        match self.0.clone() {
-            Ok(bytes) => Ok(Asn1RawDer(bytes)),
-            Err(_) => Err(Asn1DerError::OutOfMemory),
-        }
+        Ok(Asn1RawDer(self.0.clone()?))
     }
 }
 
