@@ -1,76 +1,90 @@
 //! The line of a certificate.
+ghost use Rattle.std.specs.Prelude.{◌≡◌, ◌++◌, codes, IfOk, IfErr, string_bytes};
+ghost use Rattle.der_x509_tool_lib.specs.Line.{IsLineOf, sameness_of};
 
 use crate::names::push_name;
 use crate::object_identifier::push_object_identifier;
 use crate::text::push_text_or_bytes;
-use crate::{Outcome, Reading, examine};
+use crate::{Outcome, examine};
 use der_x509::{TbsCertificate, Time};
-use picky_asn1_der::Result;
-use std::alloc::Global;
+use picky_asn1_der::{Asn1DerError, Result};
+use std::alloc::{AllocError, Global};
+use std::result;
 
 /// What is printed of the bytes of a certificate, without the byte that ends the line. The only error is `OutOfMemory`.
-pub fn line_of(alloc: Global, bytes: &[u8]) -> Result<String> {
-    let mut line = String::new(alloc);
+///
+/// Of a certificate that was read these are its subject, the times, the key's algorithm and how many extensions it has.
+pub fn line_of(alloc: Global, bytes: &[u8]) -> Result<String>
+    ensures ok { IfOk result (λ line. IsLineOf bytes.now (string_bytes line)) }
+    ensures err { IfErr result (λ e. e ≡ Asn1DerError.OutOfMemory) }
+{
     match examine(alloc, bytes)? {
-        Outcome::Read(reading) => push_reading(alloc, &mut line, &reading)?,
+        Outcome::Read(reading) => {
+            let members = members_of(alloc, &reading.tbs_certificate)?;
+            joined(alloc, "ok ", &members, sameness(reading.is_same))
+        }
         Outcome::Refused(refusal) => {
             let error = refusal.error;
             let taken = refusal.taken;
-            write!(line, "refused {error} after {taken} bytes")?;
+            let reason = format!(in alloc; " {error} after {taken} bytes")?;
+            joined(alloc, "refused", &reason, "")
         }
         Outcome::LeftOver(taken) => {
             let left = bytes.len().saturating_sub(taken);
-            write!(
-                line,
-                "refused: {left} bytes behind the {taken} of the certificate"
-            )?;
+            let reason = format!(in alloc; ": {left} bytes behind the {taken} of the certificate")?;
+            joined(alloc, "refused", &reason, "")
         }
         Outcome::RefusedSigned(refusal) => {
             let error = refusal.error;
             let taken = refusal.taken;
-            write!(
-                line,
-                "refused {error} after {taken} bytes of what is signed"
-            )?;
+            let reason = format!(in alloc; " {error} after {taken} bytes of what is signed")?;
+            joined(alloc, "refused", &reason, "")
         }
     }
-    Ok(line)
 }
 
-// The subject, the times, the key's algorithm, how many extensions there are, and whether both parts are written again as
-// they were.
-fn push_reading(alloc: Global, line: &mut String, reading: &Reading) -> Result<()> {
-    let signed = &reading.tbs_certificate;
-    line.push_str("ok ")?;
-    push_name(alloc, line, &signed.subject)?;
-    line.push_str("; ")?;
-    push_time(line, &signed.validity.not_before)?;
-    line.push_str(" to ")?;
-    push_time(line, &signed.validity.not_after)?;
-    line.push_str("; ")?;
-    let algorithm = &signed.subject_public_key_info.algorithm.algorithm;
-    push_object_identifier(alloc, line, &algorithm.0)?;
-    let count = extension_count(signed);
-    let outcome = if reading.is_same {
-        "same bytes"
+// The three texts, one behind the other.
+fn joined(alloc: Global, front: &str, middle: &str, back: &str) -> Result<String>
+    ensures ok { IfOk result (λ line. string_bytes line ≡ front.now ++ (middle.now ++ back.now)) }
+    ensures err { IfErr result (λ e. e ≡ Asn1DerError.OutOfMemory) }
+{
+    format!(in alloc; "{front}{middle}{back}").map_err(|_| Asn1DerError::OutOfMemory)
+}
+
+// The end of the line of a certificate that was read.
+fn sameness(is_same: bool) -> &'static str
+    ensures { result.now ≡ sameness_of is_same }
+{
+    if is_same {
+        "; same bytes"
     } else {
-        "other bytes"
+        "; other bytes"
+    }
+}
+
+// The subject, the times, the key's algorithm, and how many extensions there are.
+fn members_of(alloc: Global, signed: &TbsCertificate) -> result::Result<String, AllocError> {
+    let mut text = String::new(alloc);
+    push_name(alloc, &mut text, &signed.subject)?;
+    text.push_str("; ")?;
+    push_time(&mut text, &signed.validity.not_before)?;
+    text.push_str(" to ")?;
+    push_time(&mut text, &signed.validity.not_after)?;
+    text.push_str("; ")?;
+    let algorithm = &signed.subject_public_key_info.algorithm.algorithm;
+    push_object_identifier(alloc, &mut text, &algorithm.0)?;
+    let count = match &signed.extensions {
+        Some(extensions) => extensions.0.len(),
+        None => 0,
     };
-    write!(line, "; {count} extensions; {outcome}")?;
-    Ok(())
+    write!(text, "; {count} extensions")?;
+    Ok(text)
 }
 
 // The text of a time.
-fn push_time(line: &mut String, time: &Time) -> Result<()> {
+fn push_time(text: &mut String, time: &Time) -> result::Result<(), AllocError> {
     match time {
-        Time::Utc(time) => push_text_or_bytes(line, &time.0),
-        Time::Generalized(time) => push_text_or_bytes(line, &time.0),
-    }
-}
-
-fn extension_count(signed: &TbsCertificate) -> usize {
-    match &signed.extensions {
-        Some(extensions) => extensions.0.len(),
-        None => 0,
+        Time::Utc(time) => push_text_or_bytes(text, &time.0),
+        Time::Generalized(time) => push_text_or_bytes(text, &time.0),
     }
 }

@@ -4,11 +4,11 @@ use crate::object_identifier::push_object_identifier;
 use crate::text::{push_bytes, push_text};
 use der_x509::{Attribute, Name};
 use picky_asn1_der::asn1::{PrintableStringAsn1, Tag};
-use picky_asn1_der::{Asn1DerError, Result, from_bytes};
-use std::alloc::Global;
+use picky_asn1_der::{Asn1DerError, from_bytes};
+use std::alloc::{AllocError, Global};
 
 /// Appends a name: its steps from the root down, with `, ` between them, and between the attributes of one step ` + `.
-pub fn push_name(alloc: Global, line: &mut String, name: &Name) -> Result<()> {
+pub fn push_name(alloc: Global, line: &mut String, name: &Name) -> Result<(), AllocError> {
     for (place, step) in name.iter().enumerate() {
         if place != 0 {
             line.push_str(", ")?;
@@ -18,7 +18,7 @@ pub fn push_name(alloc: Global, line: &mut String, name: &Name) -> Result<()> {
     Ok(())
 }
 
-fn push_step(alloc: Global, line: &mut String, attributes: &[Attribute]) -> Result<()> {
+fn push_step(alloc: Global, line: &mut String, attributes: &[Attribute]) -> Result<(), AllocError> {
     for (place, attribute) in attributes.iter().enumerate() {
         if place != 0 {
             line.push_str(" + ")?;
@@ -31,7 +31,7 @@ fn push_step(alloc: Global, line: &mut String, attributes: &[Attribute]) -> Resu
 }
 
 // The short name of an attribute's type (RFC 4514, 3), or its object identifier.
-fn push_kind(alloc: Global, line: &mut String, content: &[u8]) -> Result<()> {
+fn push_kind(alloc: Global, line: &mut String, content: &[u8]) -> Result<(), AllocError> {
     let name = match content {
         [0x55, 0x04, 0x03] => "CN",
         [0x55, 0x04, 0x06] => "C",
@@ -47,7 +47,7 @@ fn push_kind(alloc: Global, line: &mut String, content: &[u8]) -> Result<()> {
 }
 
 // The text of a UTF8String or a PrintableString, and any other element as bytes.
-fn push_value(alloc: Global, line: &mut String, element: &[u8]) -> Result<()> {
+fn push_value(alloc: Global, line: &mut String, element: &[u8]) -> Result<(), AllocError> {
     match text_of(alloc, element)? {
         Some(text) => push_text(line, &text),
         None => push_bytes(line, element),
@@ -56,7 +56,7 @@ fn push_value(alloc: Global, line: &mut String, element: &[u8]) -> Result<()> {
 
 // The text in an element, if it is one of the two and has only characters that it may have: of a PrintableString those of
 // ASCII, of which some are met that it may not have, as `@` and `*`.
-fn text_of(alloc: Global, element: &[u8]) -> Result<Option<String>> {
+fn text_of(alloc: Global, element: &[u8]) -> Result<Option<String>, AllocError> {
     let text = match element.first() {
         Some(0x0C) => from_bytes(alloc, element),
         Some(0x13) => printable_text(alloc, element),
@@ -64,12 +64,12 @@ fn text_of(alloc: Global, element: &[u8]) -> Result<Option<String>> {
     };
     match text {
         Ok(text) => Ok(Some(text)),
-        Err(Asn1DerError::OutOfMemory) => Err(Asn1DerError::OutOfMemory),
+        Err(Asn1DerError::OutOfMemory) => Err(AllocError),
         Err(_) => Ok(None),
     }
 }
 
-fn printable_text(alloc: Global, element: &[u8]) -> Result<String> {
+fn printable_text(alloc: Global, element: &[u8]) -> picky_asn1_der::Result<String> {
     let content: PrintableStringAsn1 = from_bytes(alloc, element)?;
     match str::from_utf8(&content.0) {
         Ok(text) if text.is_ascii() => Ok(String::from_str(alloc, text)?),

@@ -1,12 +1,15 @@
 //! Object identifiers as text.
 
 use crate::text::push_bytes;
-use picky_asn1_der::Result;
-use std::alloc::Global;
+use std::alloc::{AllocError, Global};
 
 /// Appends the object identifier with this content in dotted form, as `1.2.840.113549.1.1.1`. A content that is none, or
 /// one with a number of 2^64 or more, is appended as bytes.
-pub fn push_object_identifier(alloc: Global, line: &mut String, content: &[u8]) -> Result<()> {
+pub fn push_object_identifier(
+    alloc: Global,
+    line: &mut String,
+    content: &[u8],
+) -> Result<(), AllocError> {
     match dotted_form(alloc, content)? {
         Some(text) => line.push_str(&text)?,
         None => push_bytes(line, content)?,
@@ -16,7 +19,7 @@ pub fn push_object_identifier(alloc: Global, line: &mut String, content: &[u8]) 
 
 // The dotted form (X.690, 8.19): each number is written to the base 128, the most significant digit first, and each digit but
 // its last has the highest bit set.
-fn dotted_form(alloc: Global, content: &[u8]) -> Result<Option<String>> {
+fn dotted_form(alloc: Global, content: &[u8]) -> Result<Option<String>, AllocError> {
     let mut text = String::new(alloc);
     let mut number: u64 = 0;
     let mut is_inside = false;
@@ -40,7 +43,7 @@ fn dotted_form(alloc: Global, content: &[u8]) -> Result<Option<String>> {
 
 // Appends a number. The first one stands for two: 40 times the first, which is at most 2, and the second, which is below 40
 // behind a 0 or a 1.
-fn push_number(text: &mut String, number: u64) -> Result<()> {
+fn push_number(text: &mut String, number: u64) -> Result<(), AllocError> {
     if !text.is_empty() {
         write!(text, ".{number}")?;
     } else if number < 80 {

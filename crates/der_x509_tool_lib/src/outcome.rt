@@ -1,5 +1,5 @@
 //! What comes of reading bytes as a certificate.
-ghost use Rattle.std.specs.Prelude.{◌≡◌, ◌≢◌, length, IfOk, IfErr, IsTrue};
+ghost use Rattle.std.specs.Prelude.{◌≡◌, ◌≢◌, ◌≤◌, ◌↔◌, length, IfOk, IfErr, IsTrue};
 ghost use Rattle.picky_der_core.specs.Encoding.{der};
 ghost use Rattle.picky_der_core.specs.Readable.{IsWritable};
 ghost use Rattle.picky_der_de.specs.Entry.{IsFront, HasNoFront};
@@ -71,12 +71,13 @@ fn examine_signed(alloc: Global, bytes: &[u8], certificate: Certificate) -> Resu
 {
     match read_front::<TbsCertificate>(alloc, &certificate.tbs_certificate.0) {
         Ok((tbs_certificate, _taken)) => {
-            let is_same = is_written_as(alloc, &certificate, bytes)?
-                && is_written_as(alloc, &tbs_certificate, &certificate.tbs_certificate.0)?;
+            let is_same = is_written_as(alloc, &certificate, bytes)?;
+            let signed = &certificate.tbs_certificate.0;
+            let signed_is_same = is_written_as(alloc, &tbs_certificate, signed)?;
             Ok(Outcome::Read(Reading {
                 certificate,
                 tbs_certificate,
-                is_same,
+                is_same: is_same && signed_is_same,
             }))
         }
         Err(refusal) => Ok(Outcome::RefusedSigned(reported(refusal)?)),
@@ -88,6 +89,7 @@ fn read_front<T: Deserialize>(alloc: Global, bytes: &[u8]) -> result::Result<(T,
     ensures front { IfOk result (λ front. IsFront T.meaning T.shape T.eq bytes.now (length bytes.now) front.0) }
     ensures taken { IfOk result (λ front. front.1 ≡ length (der (T.meaning front.0))) }
     ensures err { IfErr result (λ refusal. HasNoFront T.meaning T.shape bytes.now (length bytes.now) refusal.error) }
+    ensures within { IfErr result (λ refusal. refusal.taken ≤ length bytes.now) }
 {
     let mut de = Deserializer::new_from_bytes(alloc, bytes);
     let outcome = T::deserialize(&mut de);
