@@ -1,0 +1,12 @@
+use Rattle.std.proofs.Common.{◌≡◌}
+use Rattle.der_x509_tool_lib.specs.Blocks.{WritesLines}
+use Rattle.der_x509_tool_lib.proofs.pem.run.Given as goal
+
+abbrev pub invariant-loop-drawn : goal.invariant-loop-drawn
+invariant-loop-drawn g l = record {
+  lines : WritesLines (g.W.WriteExt.told l.initial.output) (g.W.WriteExt.told l.output);
+  reads : g.R.ReadExt.faults l.input ≡ g.R.ReadExt.faults l.initial.input;
+  writes : g.W.WriteExt.faults l.output ≡ g.W.WriteExt.faults l.initial.output;
+  same_references : g.R.ReadExt.through l.input ≡ g.R.ReadExt.through l.initial.input;
+  goes_on : g.W.WriteExt.later l.initial.output l.output;
+}

@@ -1,0 +1,78 @@
+//! Names as text.
+
+use crate::object_identifier::push_object_identifier;
+use crate::text::{push_bytes, push_text};
+use der_x509::{Attribute, Name};
+use picky_asn1_der::asn1::{PrintableStringAsn1, Tag};
+use picky_asn1_der::{Asn1DerError, from_bytes};
+use std::alloc::{AllocError, Global};
+
+/// Appends a name: its steps from the root down, with `, ` between them, and between the attributes of one step ` + `.
+pub fn push_name(alloc: Global, line: &mut String, name: &Name) -> Result<(), AllocError> {
+    for (place, step) in name.iter().enumerate() {
+        if place != 0 {
+            line.push_str(", ")?;
+        }
+        push_step(alloc, line, &step.0)?;
+    }
+    Ok(())
+}
+
+fn push_step(alloc: Global, line: &mut String, attributes: &[Attribute]) -> Result<(), AllocError> {
+    for (place, attribute) in attributes.iter().enumerate() {
+        if place != 0 {
+            line.push_str(" + ")?;
+        }
+        push_kind(alloc, line, &attribute.kind.0)?;
+        line.push('=')?;
+        push_value(alloc, line, &attribute.value.0)?;
+    }
+    Ok(())
+}
+
+// The short name of an attribute's type (RFC 4514, 3), or its object identifier.
+fn push_kind(alloc: Global, line: &mut String, content: &[u8]) -> Result<(), AllocError> {
+    let name = match content {
+        [0x55, 0x04, 0x03] => "CN",
+        [0x55, 0x04, 0x06] => "C",
+        [0x55, 0x04, 0x07] => "L",
+        [0x55, 0x04, 0x08] => "ST",
+        [0x55, 0x04, 0x09] => "STREET",
+        [0x55, 0x04, 0x0A] => "O",
+        [0x55, 0x04, 0x0B] => "OU",
+        _ => return push_object_identifier(alloc, line, content),
+    };
+    line.push_str(name)?;
+    Ok(())
+}
+
+// The text of a UTF8String or a PrintableString, and any other element as bytes.
+fn push_value(alloc: Global, line: &mut String, element: &[u8]) -> Result<(), AllocError> {
+    match text_of(alloc, element)? {
+        Some(text) => push_text(line, &text),
+        None => push_bytes(line, element),
+    }
+}
+
+// The text in an element, if it is one of the two and has only characters that it may have: of a PrintableString those of
+// ASCII, of which some are met that it may not have, as `@` and `*`.
+fn text_of(alloc: Global, element: &[u8]) -> Result<Option<String>, AllocError> {
+    let text = match element.first() {
+        Some(0x0C) => from_bytes(alloc, element),
+        Some(0x13) => printable_text(alloc, element),
+        _ => return Ok(None),
+    };
+    match text {
+        Ok(text) => Ok(Some(text)),
+        Err(Asn1DerError::OutOfMemory) => Err(AllocError),
+        Err(_) => Ok(None),
+    }
+}
+
+fn printable_text(alloc: Global, element: &[u8]) -> picky_asn1_der::Result<String> {
+    let content: PrintableStringAsn1 = from_bytes(alloc, element)?;
+    match str::from_utf8(&content.0) {
+        Ok(text) if text.is_ascii() => Ok(String::from_str(alloc, text)?),
+        _ => Err(Asn1DerError::InvalidData),
+    }
+}
