@@ -6,7 +6,6 @@ use lib.Dec.{eqb}
 use Rattle.picky_der_core.specs.Tree.{Tree}
 use Rattle.picky_der_core.specs.Shape.{Shape, Shapes}
 use Rattle.picky_der_de.specs.KnownLaws.{IsKnownByTree, bytes_known}
-use Rattle.der_x509.specs.declared.time.Time.{Time}
 use Rattle.der_x509.specs.declared.time.Time.TheVariants.{Utc, Generalized}
 use Rattle.der_x509.specs.contracts.time.TimeSerialize.TheImpl as serialize
 use Rattle.der_x509.specs.contracts.time.TimePartialEq.TheImpl as equality

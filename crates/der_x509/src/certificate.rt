@@ -1,16 +1,19 @@
 //! Certificates.
+ghost use Rattle.std.specs.Prelude.{length, IfOk, IfErr};
+ghost use Rattle.picky_der_de.specs.Entry.{IsFront, HasNoFront};
 ghost use Rattle.std.proofs.Common.{rules};
 ghost use Rattle.picky_asn1_der.specs.RawLaws.{raw_is_last};
 ghost use Rattle.picky_der_de.specs.Telling.{by_law, told, tells};
 ghost use Rattle.der_x509.specs.contracts.algorithm_identifier.AlgorithmIdentifierDeserialize.TheImpl.Laws.{known_by_tree-law};
 
-use crate::AlgorithmIdentifier;
+use crate::{AlgorithmIdentifier, TbsCertificate};
 use picky_asn1_der::asn1::BitStringAsn1;
 use picky_asn1_der::misc::{ReadExt, WriteExt};
 use picky_asn1_der::{
     Alike, Asn1RawDer, Deserialize, Deserializer, Result, Row, Serialize, Serializer, de,
     from_bytes,
 };
+use std::alloc::Global;
 
 /// A certificate, as a SEQUENCE (RFC 5280, 4.1).
 #[derive(Debug, Drop, PartialEq, Eq)]
@@ -21,6 +24,17 @@ pub struct Certificate {
     pub signature_algorithm: AlgorithmIdentifier,
     /// The content of the bit string of the signature, which isn't checked.
     pub signature: BitStringAsn1,
+}
+
+impl Certificate {
+    /// What is signed, member by member. It is refused as `from_bytes` refuses its bytes, of which those behind the value are
+    /// left alone: a certificate that was read has none.
+    pub fn read_tbs_certificate(&self, alloc: Global) -> Result<TbsCertificate>
+        ensures ok { IfOk result (IsFront ⟦<TbsCertificate as Serialize>⟧.meaning ⟦<TbsCertificate as Deserialize>⟧.shape ⟦<TbsCertificate as PartialEq>⟧.eq self.now.tbs_certificate.0.items (length self.now.tbs_certificate.0.items)) }
+        ensures err { IfErr result (HasNoFront ⟦<TbsCertificate as Serialize>⟧.meaning ⟦<TbsCertificate as Deserialize>⟧.shape self.now.tbs_certificate.0.items (length self.now.tbs_certificate.0.items)) }
+    {
+        from_bytes(alloc, &self.tbs_certificate.0)
+    }
 }
 
 type Fields = Row<(Asn1RawDer, AlgorithmIdentifier, BitStringAsn1, ())>;

@@ -1,5 +1,5 @@
 -- Trees that tell their values, part by part.
-use Rattle.std.specs.Prelude.{◌≡◌, ℕ, List, Bool, true, false, ◌&&◌, map, nat_eq, Option, encode_utf8, refl}
+use Rattle.std.specs.Prelude.{◌≡◌, ℕ, List, Bool, true, false, ◌&&◌, map, nat_eq, Option, encode_utf8, ⊤, refl}
 use Rattle.std.specs.Option.{option_eq}
 use mathlib.Core.Bool.{beq}
 use lib.Pointwise.{pointwise}
@@ -43,8 +43,8 @@ tells_text xs ys = record { tells = λ p q r. text_known xs ys }
 pub tells_character : (x y : ℕ) → Tells Shape.character (Tree.text (encode_utf8 x)) (Tree.text (encode_utf8 y)) (nat_eq x y)
 tells_character x y = record { tells = λ p q r. character_known x y }
 
-pub tells_bytes : (tag a b : ℕ) (xs ys : List ℕ) → Tells (Shape.bytes tag) (Tree.bytes a xs) (Tree.bytes b ys) (pointwise eqb xs ys)
-tells_bytes tag a b xs ys = record { tells = λ p q r. bytes_known xs ys }
+pub tells_bytes : {tag a b : ℕ} {xs ys : List ℕ} → Tells (Shape.bytes tag) (Tree.bytes a xs) (Tree.bytes b ys) (pointwise eqb xs ys)
+tells_bytes {tag} {a} {b} {xs} {ys} = record { tells = λ p q r. bytes_known xs ys }
 
 pub tells_raw : (xs ys : List ℕ) → Tells Shape.raw (Tree.raw xs) (Tree.raw ys) (pointwise eqb xs ys)
 tells_raw xs ys = record { tells = λ p q r. raw_known xs ys }
@@ -57,20 +57,20 @@ tells_list meaning s eq h k xs ys = record { tells = λ p q r. list_known meanin
 
 -- ---- wrappers
 
-pub tells_octets : (s : Shape) (t u : Tree) (p : Bool) → Tells s t u p → Tells (Shape.octet_container s) (Tree.octet_container t) (Tree.octet_container u) p
-tells_octets s t u p h = record { tells = λ a b r e. let f : t ≡ u = cc in h.tells a b r f }
+pub tells_octets : {s : Shape} {t u : Tree} {p : Bool} → Tells s t u p → Tells (Shape.octet_container s) (Tree.octet_container t) (Tree.octet_container u) p
+tells_octets {s} {t} {u} {p} h = record { tells = λ a b r e. let f : t ≡ u = cc in h.tells a b r f }
 
-pub tells_bits : (s : Shape) (t u : Tree) (p : Bool) → Tells s t u p → Tells (Shape.bit_container s) (Tree.bit_container t) (Tree.bit_container u) p
-tells_bits s t u p h = record { tells = λ a b r e. let f : t ≡ u = cc in h.tells a b r f }
+pub tells_bits : {s : Shape} {t u : Tree} {p : Bool} → Tells s t u p → Tells (Shape.bit_container s) (Tree.bit_container t) (Tree.bit_container u) p
+tells_bits {s} {t} {u} {p} h = record { tells = λ a b r e. let f : t ≡ u = cc in h.tells a b r f }
 
-pub tells_explicit : (n : ℕ) (s : Shape) (t u : Tree) (p : Bool) → Tells s t u p → Tells (Shape.explicit n s) (Tree.explicit n t) (Tree.explicit n u) p
-tells_explicit n s t u p h = record { tells = λ a b r e. let f : t ≡ u = cc in h.tells a.1 b.1 r.1 f }
+pub tells_explicit : {n : ℕ} {s : Shape} {t u : Tree} {p : Bool} → Tells s t u p → Tells (Shape.explicit n s) (Tree.explicit n t) (Tree.explicit n u) p
+tells_explicit {n} {s} {t} {u} {p} h = record { tells = λ a b r e. let f : t ≡ u = cc in h.tells a.1 b.1 r.1 f }
 
-pub tells_implicit : (n : ℕ) (s : Shape) (t u : Tree) (p : Bool) → Tells s t u p → Tells (Shape.implicit n s) (Tree.implicit n t) (Tree.implicit n u) p
-tells_implicit n s t u p h = record { tells = λ a b r e. let f : t ≡ u = cc in h.tells a.1 b.1 r.2 f }
+pub tells_implicit : {n : ℕ} {s : Shape} {t u : Tree} {p : Bool} → Tells s t u p → Tells (Shape.implicit n s) (Tree.implicit n t) (Tree.implicit n u) p
+tells_implicit {n} {s} {t} {u} {p} h = record { tells = λ a b r e. let f : t ≡ u = cc in h.tells a.1 b.1 r.2 f }
 
-pub tells_application : (n : ℕ) (s : Shape) (t u : Tree) (p : Bool) → Tells s t u p → Tells (Shape.application n s) (Tree.application n t) (Tree.application n u) p
-tells_application n s t u p h = record { tells = λ a b r e. let f : t ≡ u = cc in h.tells a.1 b.1 r.1 f }
+pub tells_application : {n : ℕ} {s : Shape} {t u : Tree} {p : Bool} → Tells s t u p → Tells (Shape.application n s) (Tree.application n t) (Tree.application n u) p
+tells_application {n} {s} {t} {u} {p} h = record { tells = λ a b r e. let f : t ≡ u = cc in h.tells a.1 b.1 r.1 f }
 
 -- ---- arrays
 
@@ -102,36 +102,42 @@ tell_grouped ss ts us false q r h = h
 pub record TellMembers (l : Layout) (ts us : Trees) (equal : Bool) : Type 0 where
   pub tell : AreMembersTold l → AreMembersOf l ts → AreMembersOf l us → AreReadable ts → ts ≡ us → equal ≡ true
 
-pub tells_struct : (k : ListKind) (l : Layout) (ts us : Trees) (p : Bool) → AreMembersTold l → TellMembers l ts us p → Tells (Shape.struct_of k l) (Tree.list k ts) (Tree.list k us) p
-tells_struct k l ts us p apart h = record { tells = λ a b r e. h.tell apart a.1 b.1 r.1 (row_members e) }
+pub tells_struct : {k : ListKind} {l : Layout} {ts us : Trees} {p : Bool} → AreMembersTold l → TellMembers l ts us p → Tells (Shape.struct_of k l) (Tree.list k ts) (Tree.list k us) p
+tells_struct apart h = record { tells = λ a b r e. h.tell apart a.1 b.1 r.1 (row_members e) }
 
 pub tell_empty : TellMembers Layout.empty Trees.none Trees.none true
 tell_empty = record { tell = λ apart a b r e. refl }
 
-pub tell_last_required : (s : Shape) (t u : Tree) (p : Bool) → Tells s t u p → TellMembers (Layout.required s Layout.empty) (Trees.more t Trees.none) (Trees.more u Trees.none) p
-tell_last_required s t u p h = record { tell = λ apart a b r e. h.tells a.0 b.0 r.0 (first_member e) }
+pub tell_last_required : {s : Shape} {t u : Tree} {p : Bool} → Tells s t u p → TellMembers (Layout.required s Layout.empty) (Trees.more t Trees.none) (Trees.more u Trees.none) p
+tell_last_required h = record { tell = λ apart a b r e. h.tells a.0 b.0 r.0 (first_member e) }
 
-pub tell_required : (s : Shape) (l : Layout) (t u : Tree) (ts us : Trees) (p q : Bool) → Tells s t u p → TellMembers l ts us q → TellMembers (Layout.required s l) (Trees.more t ts) (Trees.more u us) (p && q)
-tell_required s l t u ts us p q h k = record { tell = λ apart a b r e. both (h.tells a.0 b.0 r.0 (first_member e)) (k.tell apart a.1 b.1 r.1 (other_members e)) }
+pub tell_required : {s : Shape} {l : Layout} {t u : Tree} {ts us : Trees} {p q : Bool} → Tells s t u p → TellMembers l ts us q → TellMembers (Layout.required s l) (Trees.more t ts) (Trees.more u us) (p && q)
+tell_required h k = record { tell = λ apart a b r e. both (h.tells a.0 b.0 r.0 (first_member e)) (k.tell apart a.1 b.1 r.1 (other_members e)) }
 
-pub tell_maybe : {V : Type 0} (meaning : V → Tree) (s : Shape) (eq : V → V → Bool) (l : Layout) (ts us : Trees) (q : Bool) → ((v : V) → IsBegunBy (firsts s) (meaning v)) → ((x y : V) → Tells s (meaning x) (meaning y) (eq x y))
+pub tell_maybe : {V : Type 0} {meaning : V → Tree} {s : Shape} {eq : V → V → Bool} {l : Layout} {ts us : Trees} {q : Bool} → ((v : V) → IsBegunBy (firsts s) (meaning v)) → ((x y : V) → Tells s (meaning x) (meaning y) (eq x y))
     → AreBegunBy (next_firsts l) ts → AreBegunBy (next_firsts l) us → TellMembers l ts us q → (x y : Option V) → TellMembers (Layout.maybe s l) (maybe_more meaning x ts) (maybe_more meaning y us) (option_eq eq x y && q)
-tell_maybe meaning s eq l ts us q begins h f g k x y = record {
+tell_maybe {meaning = meaning} {s = s} {eq = eq} {l = l} {ts = ts} {us = us} {q = q} begins h f g k x y = record {
   tell = λ apart a b r e.
       let same = maybe_told meaning s l begins apart eq (q ≡ true) (λ v w. (h v w).tells) ts us f g (k.tell apart.1) x y a b r e in
       both same.0 same.1;
 }
 
-pub tell_default : {V : Type 0} (meaning : V → Tree) (left_out : V → Bool) (s : Shape) (eq : V → V → Bool) (l : Layout) (ts us : Trees) (q : Bool) → IsOne eq left_out → ((v : V) → IsBegunBy (firsts s) (meaning v)) → ((x y : V) → Tells s (meaning x) (meaning y) (eq x y))
+pub tell_default : {V : Type 0} {meaning : V → Tree} {left_out : V → Bool} {s : Shape} {eq : V → V → Bool} {l : Layout} {ts us : Trees} {q : Bool} → IsOne eq left_out → ((v : V) → IsBegunBy (firsts s) (meaning v)) → ((x y : V) → Tells s (meaning x) (meaning y) (eq x y))
     → AreBegunBy (next_firsts l) ts → AreBegunBy (next_firsts l) us → TellMembers l ts us q → (x y : V) → TellMembers (Layout.maybe s l) (maybe_more meaning (unless_default left_out x) ts) (maybe_more meaning (unless_default left_out y) us) (eq x y && q)
-tell_default meaning left_out s eq l ts us q one begins h f g k x y = record {
+tell_default {meaning = meaning} {left_out = left_out} {s = s} {eq = eq} {l = l} {ts = ts} {us = us} {q = q} one begins h f g k x y = record {
   tell = λ apart a b r e.
       let same = maybe_told meaning s l begins apart eq (q ≡ true) (λ v w. (h v w).tells) ts us f g (k.tell apart.1) (unless_default left_out x) (unless_default left_out y) a b r e in
       both (same_unless_default eq left_out one x y same.0) same.1;
+}
+
+pub tell_last_maybe : {V : Type 0} {meaning : V → Tree} {s : Shape} {eq : V → V → Bool} → ((v : V) → IsBegunBy (firsts s) (meaning v)) → ((x y : V) → Tells s (meaning x) (meaning y) (eq x y))
+    → (x y : Option V) → TellMembers (Layout.maybe s Layout.empty) (maybe_more meaning x Trees.none) (maybe_more meaning y Trees.none) (option_eq eq x y)
+tell_last_maybe {meaning = meaning} {s = s} {eq = eq} begins h x y = record {
+  tell = λ apart a b r e. (maybe_told meaning s Layout.empty begins apart eq ⊤ (λ v w. (h v w).tells) Trees.none Trees.none tt tt (λ _ _ _ _. tt) x y a b r e).0;
 }
 
 -- with which bytes they begin, where their kind tells it
 pub begun_so : (t : Tree) → IsBegunBy (firsts_in t) t
 begun_so t = λ b h. h
 
-pub ruleset tells = (tells_boolean, tells_unsigned, tells_null, tells_text, tells_character, tells_bytes, tells_raw, tells_option, tells_list, tells_octets, tells_bits, tells_explicit, tells_implicit, tells_application, tells_array, tells_fields, tell_none, tell_last, tell_next, tell_grouped, tells_struct, tell_empty, tell_last_required, tell_required, tell_maybe, tell_default, begun_so, maybe_begun)
+pub ruleset tells = (tells_boolean, tells_unsigned, tells_null, tells_text, tells_character, tells_bytes, tells_raw, tells_option, tells_list, tells_octets, tells_bits, tells_explicit, tells_implicit, tells_application, tells_array, tells_fields, tell_none, tell_last, tell_next, tell_grouped, tells_struct, tell_empty, tell_last_required, tell_last_maybe, tell_required, tell_maybe, tell_default, begun_so, maybe_begun)

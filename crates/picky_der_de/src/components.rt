@@ -8,7 +8,7 @@ use picky_der_core::Result;
 use picky_der_core::misc::ReadExt;
 
 impl<A: DeserializeMember, Z: DeserializeLayout> DeserializeLayout for (A, Z) {
-    ghost layout = { placed A.presence A.Item.shape Z.layout };
+    ghost layout = { placed A.presence A.shape Z.layout };
 
     fn deserialize_layout<R: ReadExt>(sequence: &mut Sequence<'_, R>) -> Result<(A, Z)> {
         let first = A::deserialize_member(sequence)?;
@@ -21,7 +21,7 @@ impl<A: DeserializeMember, Z: DeserializeLayout> DeserializeLayout for (A, Z) {
 
 impl<A: DeserializeMember, B: DeserializeMember, Z: DeserializeLayout> DeserializeLayout
     for (A, B, Z) {
-    ghost layout = { placed A.presence A.Item.shape ⟦<(B, Z) as DeserializeLayout>⟧.layout };
+    ghost layout = { placed A.presence A.shape (placed B.presence B.shape Z.layout) };
 
     fn deserialize_layout<R: ReadExt>(sequence: &mut Sequence<'_, R>) -> Result<(A, B, Z)> {
         let first = A::deserialize_member(sequence)?;
@@ -39,7 +39,7 @@ impl<
     C: DeserializeMember,
     Z: DeserializeLayout,
 > DeserializeLayout for (A, B, C, Z) {
-    ghost layout = { placed A.presence A.Item.shape ⟦<(B, C, Z) as DeserializeLayout>⟧.layout };
+    ghost layout = { placed A.presence A.shape (placed B.presence B.shape (placed C.presence C.shape Z.layout)) };
 
     fn deserialize_layout<R: ReadExt>(sequence: &mut Sequence<'_, R>) -> Result<(A, B, C, Z)> {
         let first = A::deserialize_member(sequence)?;
@@ -58,7 +58,7 @@ impl<
     D: DeserializeMember,
     Z: DeserializeLayout,
 > DeserializeLayout for (A, B, C, D, Z) {
-    ghost layout = { placed A.presence A.Item.shape ⟦<(B, C, D, Z) as DeserializeLayout>⟧.layout };
+    ghost layout = { placed A.presence A.shape (placed B.presence B.shape (placed C.presence C.shape (placed D.presence D.shape Z.layout))) };
 
     fn deserialize_layout<R: ReadExt>(sequence: &mut Sequence<'_, R>) -> Result<(A, B, C, D, Z)> {
         let first = A::deserialize_member(sequence)?;
@@ -78,7 +78,7 @@ impl<
     E: DeserializeMember,
     Z: DeserializeLayout,
 > DeserializeLayout for (A, B, C, D, E, Z) {
-    ghost layout = { placed A.presence A.Item.shape ⟦<(B, C, D, E, Z) as DeserializeLayout>⟧.layout };
+    ghost layout = { placed A.presence A.shape (placed B.presence B.shape (placed C.presence C.shape (placed D.presence D.shape (placed E.presence E.shape Z.layout)))) };
 
     fn deserialize_layout<R: ReadExt>(
         sequence: &mut Sequence<'_, R>,
@@ -101,7 +101,7 @@ impl<
     F: DeserializeMember,
     Z: DeserializeLayout,
 > DeserializeLayout for (A, B, C, D, E, F, Z) {
-    ghost layout = { placed A.presence A.Item.shape ⟦<(B, C, D, E, F, Z) as DeserializeLayout>⟧.layout };
+    ghost layout = { placed A.presence A.shape (placed B.presence B.shape (placed C.presence C.shape (placed D.presence D.shape (placed E.presence E.shape (placed F.presence F.shape Z.layout))))) };
 
     fn deserialize_layout<R: ReadExt>(
         sequence: &mut Sequence<'_, R>,
@@ -125,7 +125,7 @@ impl<
     G: DeserializeMember,
     Z: DeserializeLayout,
 > DeserializeLayout for (A, B, C, D, E, F, G, Z) {
-    ghost layout = { placed A.presence A.Item.shape ⟦<(B, C, D, E, F, G, Z) as DeserializeLayout>⟧.layout };
+    ghost layout = { placed A.presence A.shape (placed B.presence B.shape (placed C.presence C.shape (placed D.presence D.shape (placed E.presence E.shape (placed F.presence F.shape (placed G.presence G.shape Z.layout)))))) };
 
     fn deserialize_layout<R: ReadExt>(
         sequence: &mut Sequence<'_, R>,
@@ -150,7 +150,7 @@ impl<
     H: DeserializeMember,
     Z: DeserializeLayout,
 > DeserializeLayout for (A, B, C, D, E, F, G, H, Z) {
-    ghost layout = { placed A.presence A.Item.shape ⟦<(B, C, D, E, F, G, H, Z) as DeserializeLayout>⟧.layout };
+    ghost layout = { placed A.presence A.shape (placed B.presence B.shape (placed C.presence C.shape (placed D.presence D.shape (placed E.presence E.shape (placed F.presence F.shape (placed G.presence G.shape (placed H.presence H.shape Z.layout))))))) };
 
     fn deserialize_layout<R: ReadExt>(
         sequence: &mut Sequence<'_, R>,

@@ -1,5 +1,7 @@
 //! One place of a struct: a member that is always there, or one that may be absent.
 ghost use Rattle.std.specs.Prelude.{◌≡◌, Bool, false, Option, Some, IfOk, IfErr, IfSome, IfNone};
+ghost use Rattle.picky_der_core.specs.Shape.{Shape};
+ghost use Rattle.picky_der_core.specs.Tree.{Tree};
 ghost use Rattle.picky_der_ser.specs.Meaning.{unless_default};
 ghost use Rattle.picky_der_de.specs.Members.{ReadsMember};
 ghost use Rattle.picky_der_de.specs.Layouts.{Presence, always, perhaps, Lacks, RefusesComponent};
@@ -16,7 +18,16 @@ pub trait DeserializeMember: SerializeMember + PartialEq + Drop + Sized {
     ghost use Rattle.picky_der_de.specs.SequenceState.{borrowed_by, outer_of, state_of};
 
     /// The type of what stands there.
-    type Item: Begins;
+    type Item;
+
+    // The trees of what stands there.
+    ghost shape: { Shape };
+
+    // The tree of a value that does.
+    ghost item_meaning: { Self.Item → Tree };
+
+    // Which of them are equal.
+    ghost item_eq: { Self.Item → Self.Item → Bool };
 
     // Whether it is always there.
     ghost presence: { Presence };
@@ -31,16 +42,22 @@ pub trait DeserializeMember: SerializeMember + PartialEq + Drop + Sized {
     fn deserialize_member<R: ReadExt>(sequence: &mut Sequence<'_, R>) -> Result<Self>
         ensures same_reference { borrowed_by sequence.new ≡ borrowed_by sequence.old }
         ensures outer { outer_of sequence.new ≡ outer_of sequence.old }
-        ensures member { IfOk result (λ place. IfSome (item place) (λ value. ReadsMember Self.Item.shape (state_of sequence.old) (state_of sequence.new) (Self.Item.meaning value))) }
-        ensures none { IfOk result (λ place. IfNone (item place) (Lacks Self.Item.shape (state_of sequence.old) (state_of sequence.new))) }
-        ensures err { IfErr result (RefusesComponent presence Self.Item.meaning left_out Self.Item.shape (state_of sequence.old) (state_of sequence.new)) };
+        ensures member { IfOk result (λ place. IfSome (item place) (λ value. ReadsMember shape (state_of sequence.old) (state_of sequence.new) (item_meaning value))) }
+        ensures none { IfOk result (λ place. IfNone (item place) (Lacks shape (state_of sequence.old) (state_of sequence.new))) }
+        ensures err { IfErr result (RefusesComponent presence item_meaning left_out shape (state_of sequence.old) (state_of sequence.new)) };
 
     // What is written of it is what stands there, and it is known by that.
-    ghost is_component: { IsComponent presence Self.in_front Self.eq Self.Item.meaning Self.Item.shape Self.Item.eq item left_out };
+    ghost is_component: { IsComponent presence Self.in_front Self.eq item_meaning shape item_eq item left_out };
 }
 
 impl<T: Begins> DeserializeMember for T {
     type Item = T;
+
+    ghost shape = { T.shape };
+
+    ghost item_meaning = { T.meaning };
+
+    ghost item_eq = { T.eq };
 
     ghost presence = { always };
 
@@ -58,6 +75,12 @@ impl<T: Begins> DeserializeMember for T {
 impl<T: Begins> DeserializeMember for Optional<T> {
     type Item = T;
 
+    ghost shape = { T.shape };
+
+    ghost item_meaning = { T.meaning };
+
+    ghost item_eq = { T.eq };
+
     ghost presence = { perhaps };
 
     ghost item = { λ member. member.0 };
@@ -74,6 +97,12 @@ impl<T: Begins> DeserializeMember for Optional<T> {
 
 impl<T: Begins, D: DefaultOf<T>> DeserializeMember for Defaulted<T, D> {
     type Item = T;
+
+    ghost shape = { T.shape };
+
+    ghost item_meaning = { T.meaning };
+
+    ghost item_eq = { T.eq };
 
     ghost presence = { perhaps };
 
