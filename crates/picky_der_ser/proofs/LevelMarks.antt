@@ -1,17 +1,18 @@
 -- The levels in one list of bytes.
-use Rattle.std.proofs.Common.{◌≡◌, ◌≢◌, ℕ, ◌<◌, ◌≤◌, ◌-◌, List, [], ◌∷◌, ◌++◌, length, take, drop, Option, None, Some, IfSome, sym, ap, ap₂, ◌∙◌, arith, subst}
+use Rattle.std.proofs.Common.{◌≡◌, ◌≢◌, ℕ, ◌<◌, ◌≤◌, ◌-◌, Bool, true, false, List, [], ◌∷◌, ◌++◌, length, take, drop, Option, None, Some, IfSome, IsSome, refl, sym, ap, ap₂, ◌∙◌, arith, subst}
 use Rattle.std.specs.Prelude.{reverse}
 use Rattle.std.proofs.lemmas.Grind.{common_steps}
 use Rattle.std.proofs.Math.Seq.{take-append_seam, drop-append_seam}
-use Rattle.std.proofs.lemmas.List.{take-take, drop-append-le, drop_all, take-append-le, length-take-le}
+use Rattle.std.proofs.lemmas.List.{take-take, drop-append-le, drop_all, length-drop, take-append-le, length-take-le}
 use Rattle.picky_der_ser.specs.declared.levels.Mark.{Mark}
-use Rattle.picky_der_ser.specs.State.{Level, Stack, with_bytes, in_order}
+use Rattle.picky_der_ser.specs.State.{Level, Stack, with_bytes, begun, in_order}
 use Rattle.picky_der_core.specs.Encoding.{der}
 use Rattle.picky_der_core.specs.Wrapper.{under}
 use Rattle.picky_der_ser.specs.Heading.{tree_of}
 use Rattle.picky_der_ser.specs.declared.header.Header.TheVariants.{Raw}
+use Rattle.picky_der_ser.specs.Headers.{headers}
 use Rattle.picky_der_ser.specs.Sealed.{sealed}
-use Rattle.picky_der_ser.specs.Marks.{level_at, levels_of, below, seams_below, level_of, with_pending, IsMark, AreMarks}
+use Rattle.picky_der_ser.specs.Marks.{level_at, levels_of, below, seams_below, level_of, inside_of, pending_of, with_pending, IsMark, AreMarks, HasRoom}
 use Rattle.picky_der_ser.specs.Parts.{AreSeams, last_seam, next_seams}
 use Rattle.picky_der_ser.proofs.Seams.{seams-next, last_seam-next, drop-next_seams, take-next_seams, length-next_seams}
 use Rattle.picky_der_ser.proofs.SetBytes.{in_order-uncut}
@@ -56,8 +57,10 @@ some_level : (ms : List Mark) (s q : List ℕ) → 0 < length ms → levels_of m
 some_level [] s q h = absurd (omega arith)
 some_level (m ∷ ms) s q h = λ e. cc
 
-pub some_inside : (ms : List Mark) (s q : List ℕ) → 0 < length ms → levels_of (reverse ms) s q ≢ []
-some_inside ms s q h = let some : 0 < length (reverse ms) = grind (arith, common_steps) in some_level (reverse ms) s q some
+pub some_inside : (entered : Bool) (p : Option Mark) (ms : List Mark) (s q : List ℕ) → 0 < length ms → inside_of entered p (reverse ms) s q ≢ []
+some_inside true None ms s q h = let some : 0 < length (reverse ms) = grind (arith, common_steps) in some_level (reverse ms) s q some
+some_inside true (Some m) ms s q h = λ e. cc
+some_inside false p ms s q h = let some : 0 < length (reverse ms) = grind (arith, common_steps) in some_level (reverse ms) (below p s) (seams_below p q) some
 
 -- ---- what is added to the innermost
 
@@ -77,24 +80,46 @@ levels-grown (m ∷ ms) s q bs l ls h e =
     let b = ap (λ x. levels_of ms x (take m.first_seam q)) (take-append-le m.at s bs (omega (arith, room, within))) in
     cc
 
+-- ---- room for one more mark
+
+-- none is needed once what was pending is gone
+pub room-ended : (entered : Bool) (p : Option Mark) (s q : List ℕ) (count capacity : ℕ) → IsSome (pending_of entered p s q) → HasRoom entered None count capacity
+room-ended true p s q count capacity some = cc
+room-ended false p s q count capacity some = tt
+
 -- ---- the stack
 
-abbrev pub stack_at : Option Mark → List Mark → List ℕ → List ℕ → Stack
-stack_at p ms s q = record { inside = levels_of ms (below p s) (seams_below p q); pending = level_of p s q }
+abbrev pub stack_at : Bool → Option Mark → List Mark → List ℕ → List ℕ → Stack
+stack_at e p ms s q = record { inside = inside_of e p ms s q; pending = pending_of e p s q }
+
+-- another member of what is pending begins
+pub stack-begun : (entered : Bool) {p : Option Mark} {m : Mark} (ms : List Mark) (s q r : List ℕ) → p ≡ Some m → AreMarks (with_pending p ms) (length s) q → r ≡ next_seams m.header q (length s - m.start)
+    → IfSome (pending_of entered p s q) (λ l. stack_at entered p ms s r ≡ record (stack_at entered p ms s q) { pending = Some (begun l) })
+stack-begun true {p} {m} ms s q r was k e = tt
+stack-begun false {p} {m} ms s q r was k e =
+    let before : AreMarks (m ∷ ms) (length s) q = subst (λ o. AreMarks (with_pending o ms) (length s) q) was k in
+    let first = before.0.first in
+    let n = length s - m.start in
+    let own : drop m.first_seam (next_seams m.header q n) ≡ next_seams m.header (drop m.first_seam q) (length (drop m.start s)) =
+    drop-next_seams m.header m.first_seam q n first ∙ ap (next_seams m.header (drop m.first_seam q)) (sym (length-drop m.start s)) in
+    let others = take-next_seams m.header m.first_seam q n first in
+    rw (was, e) (ap₂ (λ x y. record { inside = levels_of ms (take m.at s) x; pending = Some (record { header = m.header; around = m.around.items; content = drop m.start s; seams = y }) }) others own)
 
 -- what is pending and has no seams is in order
-pub stack-uncut : {p : Option Mark} {m : Mark} (ms : List Mark) (s q : List ℕ) → p ≡ Some m → length q ≤ m.first_seam
-    → IfSome (level_of p s q) (λ l. stack_at p ms s q ≡ record (stack_at p ms s q) { pending = Some (in_order l) })
-stack-uncut {p} {m} ms s q was h =
+pub stack-uncut : (entered : Bool) {p : Option Mark} {m : Mark} (ms : List Mark) (s q : List ℕ) → p ≡ Some m → length q ≤ m.first_seam
+    → IfSome (pending_of entered p s q) (λ l. stack_at entered p ms s q ≡ record (stack_at entered p ms s q) { pending = Some (in_order l) })
+stack-uncut true {p} {m} ms s q was h = tt
+stack-uncut false {p} {m} ms s q was h =
     let none : drop m.first_seam q ≡ [] = drop_all m.first_seam q h in
     let order : level_at m s q ≡ in_order (level_at m s q) = in_order-uncut (level_at m s q) none in
     rw was (ap (λ l. record { inside = levels_of ms (take m.at s) (take m.first_seam q); pending = Some l }) order)
 
 -- what is pending holds its whole encoding
-pub stack-sealed : {p : Option Mark} {m : Mark} (n : Mark) (ms : List Mark) (s t q r : List ℕ) → p ≡ Some m → n.header ≡ Raw → n.around.items ≡ [] → n.at ≡ m.at → n.start ≡ m.at → n.first_seam ≡ m.first_seam
+pub stack-sealed : (entered : Bool) {p : Option Mark} {m : Mark} (n : Mark) (ms : List Mark) (s t q r : List ℕ) → p ≡ Some m → n.header ≡ Raw → n.around.items ≡ [] → n.at ≡ m.at → n.start ≡ m.at → n.first_seam ≡ m.first_seam
     → AreMarks (with_pending p ms) (length s) q → t ≡ take m.at s ++ der (under m.around.items (tree_of m.header (drop m.start s))) → r ≡ take m.first_seam q
-    → IfSome (level_of p s q) (λ l. stack_at (Some n) ms t r ≡ record (stack_at p ms s q) { pending = Some (sealed l) })
-stack-sealed {p} {m} n ms s t q r was header around at start first marks e f =
+    → IfSome (pending_of entered p s q) (λ l. stack_at entered (Some n) ms t r ≡ record (stack_at entered p ms s q) { pending = Some (sealed l) })
+stack-sealed true {p} {m} n ms s t q r was header around at start first marks e f = tt
+stack-sealed false {p} {m} n ms s t q r was header around at start first marks e f =
     let before : AreMarks (m ∷ ms) (length s) q = subst (λ o. AreMarks (with_pending o ms) (length s) q) was marks in
     let within = before.0.within in
     let room = before.0.room in
@@ -110,14 +135,47 @@ stack-sealed {p} {m} n ms s t q r was header around at start first marks e f =
     rw was (cc)
 
 -- where nothing is pending, what is added goes to the innermost level
-pub stack-grown : (p : Option Mark) (ms : List Mark) (s q bs : List ℕ) (l : Level) (ls : List Level) → AreMarks (with_pending p ms) (length s) q → level_of p s q ≡ None
-    → levels_of ms (below p s) (seams_below p q) ≡ l ∷ ls → stack_at p ms (s ++ bs) q ≡ record { inside = with_bytes l bs ∷ ls; pending = None }
-stack-grown None ms s q bs l ls h n e = let f = levels-grown ms s q bs l ls h e in cc
-stack-grown (Some m) ms s q bs l ls h n e = cc
+pub stack-grown : (entered : Bool) (p : Option Mark) (ms : List Mark) (s q bs : List ℕ) (l : Level) (ls : List Level) → AreMarks (with_pending p ms) (length s) q → pending_of entered p s q ≡ None
+    → inside_of entered p ms s q ≡ l ∷ ls → stack_at entered p ms (s ++ bs) q ≡ record { inside = with_bytes l bs ∷ ls; pending = None }
+stack-grown true p ms s q bs l ls h n e = let f = levels-grown (with_pending p ms) s q bs l ls h e in cc
+stack-grown false None ms s q bs l ls h n e = let f = levels-grown ms s q bs l ls h e in cc
+stack-grown false (Some m) ms s q bs l ls h n e = cc
+
+-- what is pending gets its headers
+pub stack-headed : (entered : Bool) {p : Option Mark} {m : Mark} (ms : List Mark) (s t q : List ℕ) (n : ℕ) → p ≡ Some m → AreMarks (with_pending p ms) (length s) q → t ≡ s ++ headers m.around.items m.header n
+    → IfSome (pending_of entered p s q) (λ l. stack_at entered p ms t q ≡ record (stack_at entered p ms s q) { pending = Some (with_bytes l (headers l.around l.header n)) })
+stack-headed true {p} {m} ms s t q n was k e = tt
+stack-headed false {p} {m} ms s t q n was k e =
+    let before : AreMarks (m ∷ ms) (length s) q = subst (λ o. AreMarks (with_pending o ms) (length s) q) was k in
+    let within = before.0.within in
+    let room = before.0.room in
+    let hs = headers m.around.items m.header n in
+    let a = drop-append-le m.start s hs (omega (arith, within)) in
+    let b = take-append-le m.at s hs (omega (arith, room, within)) in
+    rw (was, e, a, b) refl
+
+-- the room for its headers is made
+pub stack-roomed : (entered : Bool) {p : Option Mark} {m : Mark} (n : Mark) (ms : List Mark) (s t q hs : List ℕ) → p ≡ Some m → n.header ≡ m.header → n.around ≡ m.around → n.at ≡ m.at → n.start ≡ length t → n.first_seam ≡ m.first_seam
+    → AreMarks (with_pending p ms) (length s) q → length s ≡ m.at → t ≡ s ++ hs → stack_at entered (Some n) ms t q ≡ stack_at entered p ms s q
+stack-roomed entered {p} {m} n ms s t q hs was header around at start first k size e =
+    let before : AreMarks (m ∷ ms) (length s) q = subst (λ o. AreMarks (with_pending o ms) (length s) q) was k in
+    let room = before.0.room in
+    let none : drop n.start t ≡ [] = drop_all n.start t (omega (arith, start)) in
+    let was_none : drop m.start s ≡ [] = drop_all m.start s (omega (arith, size, room)) in
+    let bytes : take n.at t ≡ take m.at s = ap (λ k. take k t) at ∙ ap (take m.at) e ∙ take-append-le m.at s hs (omega (arith, size)) in
+    let level : level_at n t q ≡ level_at m s q = cc in
+    let others : levels_of ms (take n.at t) (take n.first_seam q) ≡ levels_of ms (take m.at s) (take m.first_seam q) = ap₂ (λ x y. levels_of ms x y) bytes (ap (λ k. take k q) first) in
+    let all : levels_of (n ∷ ms) t q ≡ levels_of (m ∷ ms) s q = ap₂ (λ x y. x ∷ y) level others in
+    rw was (by_entered entered all level others)
+  where
+    by_entered : (k : Bool) → levels_of (n ∷ ms) t q ≡ levels_of (m ∷ ms) s q → level_at n t q ≡ level_at m s q → levels_of ms (take n.at t) (take n.first_seam q) ≡ levels_of ms (take m.at s) (take m.first_seam q)
+        → stack_at k (Some n) ms t q ≡ stack_at k (Some m) ms s q
+    by_entered true x y z = ap (λ ls. record { inside = ls; pending = None }) x
+    by_entered false x y z = ap₂ (λ l ls. record { inside = ls; pending = Some l }) y z
 
 -- the bytes from the last mark on are replaced, and go to the level around it
 stack-merged : (m : Mark) (ms : List Mark) (s q bs : List ℕ) (l : Level) (ls : List Level) → AreMarks (m ∷ ms) (length s) q → levels_of ms (take m.at s) (take m.first_seam q) ≡ l ∷ ls
-    → stack_at None ms (take m.at s ++ bs) (take m.first_seam q) ≡ record { inside = with_bytes l bs ∷ ls; pending = None }
+    → stack_at false None ms (take m.at s ++ bs) (take m.first_seam q) ≡ record { inside = with_bytes l bs ∷ ls; pending = None }
 stack-merged m ms s q bs l ls h e =
     let within = h.0.within in
     let room = h.0.room in
@@ -132,14 +190,15 @@ module _ {p q : Option Mark} {m : Mark} (ms : List Mark) (seams : List ℕ) (was
       rw now (marks-more ms (take m.first_seam seams) h before.1)
 
   -- what was pending is enclosed, and goes to the level around it
-  pub stack-enclosed : (s t : List ℕ) (o l : Level) (ls : List Level) → AreMarks (with_pending p ms) (length s) seams → level_of p s seams ≡ Some o → levels_of ms (below p s) (seams_below p seams) ≡ l ∷ ls
+  pub stack-enclosed : (entered : Bool) (s t : List ℕ) (o l : Level) (ls : List Level) → AreMarks (with_pending p ms) (length s) seams → pending_of entered p s seams ≡ Some o → inside_of entered p ms s seams ≡ l ∷ ls
       → t ≡ take m.at s ++ der (under m.around.items (tree_of m.header (drop m.start s)))
-      → stack_at q ms t (take m.first_seam seams) ≡ record { inside = with_bytes l (der (under o.around (tree_of o.header o.content))) ∷ ls; pending = None }
-  stack-enclosed s t o l ls marks e f g =
+      → stack_at entered q ms t (take m.first_seam seams) ≡ record { inside = with_bytes l (der (under o.around (tree_of o.header o.content))) ∷ ls; pending = None }
+  stack-enclosed true s t o l ls marks e f g = cc
+  stack-enclosed false s t o l ls marks e f g =
       let before : AreMarks (m ∷ ms) (length s) seams = subst (λ x. AreMarks (with_pending x ms) (length s) seams) was marks in
       let level : level_at m s seams ≡ o = let a : Some (level_at m s seams) ≡ Some o = ap (λ x. level_of x s seams) (sym was) ∙ e in cc in
       let inside : levels_of ms (take m.at s) (take m.first_seam seams) ≡ l ∷ ls = ap (λ x. levels_of ms (below x s) (seams_below x seams)) (sym was) ∙ f in
       rw now (
-      ap (λ x. stack_at None ms x (take m.first_seam seams)) g ∙ stack-merged m ms s seams _ l ls before inside
+      ap (λ x. stack_at false None ms x (take m.first_seam seams)) g ∙ stack-merged m ms s seams _ l ls before inside
       ∙ ap (λ (x : Level). record { inside = with_bytes l (der (under x.around (tree_of x.header x.content))) ∷ ls; pending = None }) level
       )

@@ -1,4 +1,5 @@
 pub mod Alike
+pub mod Numbers
 pub mod PlainWrites
 pub mod AbsentWrites
 pub mod HeaderBytes

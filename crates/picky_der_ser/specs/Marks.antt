@@ -1,5 +1,5 @@
 -- How marks divide one list of bytes, and one of seams, among the levels.
-use Rattle.std.specs.Prelude.{ℕ, ◌+◌, ◌≤◌, ⊤, List, [], ◌∷◌, length, take, drop, Option, None, Some}
+use Rattle.std.specs.Prelude.{ℕ, ◌+◌, ◌<◌, ◌≤◌, ⊤, Bool, true, false, List, [], ◌∷◌, length, take, drop, Option, None, Some, IsSome}
 use Rattle.picky_der_ser.specs.declared.levels.Mark.{Mark}
 use Rattle.picky_der_ser.specs.State.{Level}
 use Rattle.picky_der_ser.specs.Headers.{headers, HasNumber, HaveTagNumbers}
@@ -32,6 +32,16 @@ abbrev pub with_pending : Option Mark → List Mark → List Mark
 with_pending None ms = ms
 with_pending (Some m) ms = m ∷ ms
 
+-- the levels of which a member is being written: the innermost one too, if it was entered
+abbrev pub inside_of : Bool → Option Mark → List Mark → List ℕ → List ℕ → List Level
+inside_of true p ms s seams = levels_of (with_pending p ms) s seams
+inside_of false p ms s seams = levels_of ms (below p s) (seams_below p seams)
+
+-- the innermost one, if it wasn't
+abbrev pub pending_of : Bool → Option Mark → List ℕ → List ℕ → Option Level
+pending_of true p s seams = None
+pending_of false p s seams = level_of p s seams
+
 -- Each tag number is at most 30, the room for the headers stands in front of the content, and the last member begins in it.
 pub record IsMark (m : Mark) (n : ℕ) (seams : List ℕ) : Type 0 where
   pub numbers : HaveTagNumbers m.around.items
@@ -47,3 +57,8 @@ pub record IsMark (m : Mark) (n : ℕ) (seams : List ℕ) : Type 0 where
 abbrev pub AreMarks : List Mark → ℕ → List ℕ → Type 0
 AreMarks [] n seams = ⊤
 AreMarks (m ∷ ms) n seams = IsMark m n seams × AreMarks ms m.at (take m.first_seam seams)
+
+-- Where a member of the innermost level is being written, there is one, and room for its mark behind the others: the next level that is opened takes its place.
+abbrev pub HasRoom : Bool → Option Mark → ℕ → ℕ → Type 0
+HasRoom true p count capacity = IsSome p × (count < capacity)
+HasRoom false p count capacity = ⊤

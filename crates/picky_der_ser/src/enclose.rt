@@ -1,7 +1,8 @@
 //! Contents with their headers in front.
-ghost use Rattle.std.specs.Prelude.{◌≡◌, ◌≤◌, ◌<◌, ◌+◌, ◌-◌, ◌∷◌, ◌++◌, length, take, drop, vec_len, OnOk};
+ghost use Rattle.std.specs.Prelude.{◌≡◌, ◌≤◌, ◌<◌, ◌+◌, ◌-◌, ◌∷◌, ◌++◌, length, take, drop, vec_len, vec_capacity, OnOk};
 ghost use Rattle.std.specs.List.{slice_rotate_right};
 ghost use Rattle.picky_der_core.specs.Encoding.{der};
+ghost use Rattle.picky_der_core.specs.Tree.{Tree};
 ghost use Rattle.picky_der_core.specs.Wrapper.{under};
 ghost use Rattle.picky_der_ser.specs.Heading.{tree_of};
 ghost use Rattle.picky_der_ser.specs.Headers.{headers, HasNumber, HaveTagNumbers};
@@ -9,7 +10,7 @@ ghost use Rattle.picky_der_ser.specs.Overwrite.{overwritten};
 
 use crate::Header;
 use crate::headers::{push_headers, short_identifier};
-use picky_der_core::asn1::Wrapper;
+use picky_der_core::asn1::{Tag, Wrapper};
 use std::alloc::AllocError;
 
 // Brings the last `count` bytes in front of those from `start` on.
@@ -78,6 +79,19 @@ pub(crate) fn push_enclosed(
     out.extend_from_slice(&[identifier, len as u8])?;
     out.extend_from_slice(content)?;
     Ok(())
+}
+
+// Adds an element whose length is one byte, for which there is room.
+#[inline(always)]
+pub(crate) fn push_short(out: &mut Vec<u8>, tag: Tag, content: &[u8])
+    requires short { length content.now < 0x80 }
+    requires room { vec_len out.old + 2 + length content.now ≤ vec_capacity out.old }
+    ensures items { out.new.items ≡ out.old.items ++ der (Tree.bytes tag content.now) }
+    ensures count { length (der (Tree.bytes tag content.now)) ≡ 2 + length content.now }
+{
+    // There is room, so neither is refused.
+    let _ = out.extend_from_slice(&[tag.inner(), content.len() as u8]);
+    let _ = out.extend_from_slice(content);
 }
 
 // Puts the headers of the content from `start` on in front of it. The room from `at` to `start` takes the first of them, so

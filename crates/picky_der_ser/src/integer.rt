@@ -40,7 +40,11 @@ impl UnsignedInteger {
     pub fn serialize<T: UInt, W: WriteExt>(value: T, ser: &mut Serializer<W>) -> Result<usize>
         ensures { WritesPlain W.WriteExt.own (Tree.unsigned (T.number value)) ser.old result ser.new }
     {
-        let content = Content::of(value.into_u128());
+        let number = value.into_u128();
+        if number < 0x80 {
+            return ser.write_plain(Tag::INTEGER, &[number as u8]);
+        }
+        let content = Content::of(number);
         ser.write_plain(Tag::INTEGER, &content.bytes[content.start..])
     }
 }

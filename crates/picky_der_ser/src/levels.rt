@@ -1,6 +1,7 @@
 //! The levels of a serializer, in one vector.
-ghost use Rattle.std.specs.Prelude.{◌≡◌, ◌≢◌, ◌<◌, ◌^◌, List, [], ◌∷◌, true, false, length, take, None, Some, IfSome, IfOk, OnOk};
+ghost use Rattle.std.specs.Prelude.{◌≡◌, ◌≢◌, ◌<◌, ◌^◌, ◌+◌, List, [], ◌∷◌, true, false, length, take, None, Some, IfSome, IsSome, IfOk, OnOk};
 ghost use Rattle.picky_der_core.specs.Encoding.{der};
+ghost use Rattle.picky_der_core.specs.Tree.{Tree};
 ghost use Rattle.picky_der_core.specs.Wrapper.{under};
 ghost use Rattle.picky_der_ser.specs.Heading.{tree_of};
 ghost use Rattle.picky_der_ser.specs.Headers.{headers, HasNumber, HaveTagNumbers};
@@ -8,10 +9,10 @@ ghost use Rattle.picky_der_ser.specs.State.{Level, with_bytes, begun, in_order};
 ghost use Rattle.picky_der_ser.specs.Sealed.{sealed};
 
 use crate::Header;
-use crate::enclose::{enclose, fill_short, push_enclosed};
+use crate::enclose::{enclose, fill_short, push_enclosed, push_short};
 use crate::headers::{push_headers, short_identifier};
 use crate::sets::{arrange, begin_member};
-use picky_der_core::asn1::Wrapper;
+use picky_der_core::asn1::{Tag, Wrapper};
 use std::alloc::{AllocError, Global};
 use std::marker::Model;
 
@@ -32,29 +33,34 @@ struct Mark {
 // The contents of the levels stand one behind the other, the innermost last, and so do their seams: of a set, how many bytes
 // of its content stand in front of each member but the first. A vector in each mark would be copied and dropped with those of
 // sequences too, which have no seams.
+//
+// Where a member of the innermost level is being written or not is told by a flag alone, so that nothing moves at a member.
 #[derive(Drop)]
 pub(crate) struct Levels {
     scratch: Vec<u8>,
     seams: Vec<usize>,
+    // The levels around the innermost one.
     marks: Vec<Mark>,
-    pending: Option<Mark>,
+    innermost: Option<Mark>,
+    // Whether a member of the innermost level is being written. Else it was opened last.
+    entered: bool,
 }
 
 impl Model for Levels {
-    ghost use Rattle.std.specs.Prelude.{reverse, length};
+    ghost use Rattle.std.specs.Prelude.{reverse, length, vec_len, vec_capacity};
     ghost use Rattle.picky_der_ser.specs.State.{Stack, stack_code};
-    ghost use Rattle.picky_der_ser.specs.Marks.{levels_of, below, seams_below, level_of, with_pending, AreMarks};
+    ghost use Rattle.picky_der_ser.specs.Marks.{inside_of, pending_of, with_pending, AreMarks, HasRoom};
 
     ghost Value = { Stack };
 
     ghost coded = { stack_code };
 
     ghost view = { λ s. record {
-      inside = levels_of (reverse s.marks.items) (below s.pending s.scratch.items) (seams_below s.pending s.seams.items);
-      pending = level_of s.pending s.scratch.items s.seams.items;
+      inside = inside_of s.entered s.innermost (reverse s.marks.items) s.scratch.items s.seams.items;
+      pending = pending_of s.entered s.innermost s.scratch.items s.seams.items;
     } };
 
-    ghost invariant = { λ s. AreMarks (with_pending s.pending (reverse s.marks.items)) (length s.scratch.items) s.seams.items };
+    ghost invariant = { λ s. AreMarks (with_pending s.innermost (reverse s.marks.items)) (length s.scratch.items) s.seams.items × HasRoom s.entered s.innermost (vec_len s.marks) (vec_capacity s.marks) };
 }
 
 impl Levels {
@@ -65,7 +71,8 @@ impl Levels {
             scratch: Vec::new(alloc),
             seams: Vec::new(alloc),
             marks: Vec::new(alloc),
-            pending: None,
+            innermost: None,
+            entered: false,
         }
     }
 
@@ -74,14 +81,14 @@ impl Levels {
         ensures no { result ≡ false → self.now.inside ≡ [] }
         ensures yes { result ≡ true → self.now.inside ≢ [] }
     {
-        !self.marks.is_empty()
+        self.entered || !self.marks.is_empty()
     }
 
     // Drops the level that was opened last and hasn't ended. Where a member is written there mostly is none.
     pub(crate) fn give_up(&mut self)
         ensures { self.new ≡ record self.old { pending = None } }
     {
-        if self.pending.is_some() {
+        if !self.entered && self.innermost.is_some() {
             self.drop_pending();
         }
     }
@@ -89,12 +96,13 @@ impl Levels {
     #[cold]
     #[inline(never)]
     fn drop_pending(&mut self)
+        requires { IsSome self.old.pending }
         ensures { self.new ≡ record self.old { pending = None } }
     {
-        if let Some(mark) = &self.pending {
+        if let Some(mark) = &self.innermost {
             self.scratch.truncate(mark.at);
             self.seams.truncate(mark.first_seam);
-            self.pending = None;
+            self.innermost = None;
         }
     }
 
@@ -104,8 +112,14 @@ impl Levels {
         ensures { self.new ≡ record self.old { pending = Some (record { header = header; around = around.items; content = []; seams = [] }) } }
     {
         self.give_up();
+        if self.entered {
+            if let Some(mark) = self.innermost.take() {
+                self.marks.push_reserved(mark);
+            }
+            self.entered = false;
+        }
         let at = self.scratch.len();
-        self.pending = Some(Mark {
+        self.innermost = Some(Mark {
             header,
             around,
             at,
@@ -119,7 +133,7 @@ impl Levels {
     fn make_room(&mut self) -> Result<(), AllocError>
         ensures { OnOk result (self.new ≡ self.old) }
     {
-        if let Some(mark) = &mut self.pending {
+        if let Some(mark) = &mut self.innermost {
             if self.scratch.len() == mark.at {
                 if mark.at == 0 {
                     self.scratch.reserve(FIRST_ROOM)?;
@@ -135,7 +149,7 @@ impl Levels {
     fn begin_member(&mut self) -> Result<(), AllocError>
         ensures { OnOk result (IfSome self.old.pending (λ l. self.new ≡ record self.old { pending = Some (begun l) })) }
     {
-        if let Some(mark) = &self.pending {
+        if let Some(mark) = &self.innermost {
             let held = self.scratch.len() - mark.start;
             begin_member(&mut self.seams, mark.header, held)?;
         }
@@ -143,16 +157,32 @@ impl Levels {
     }
 
     // A member of the level that was opened last is written from here on.
+    #[cold]
+    #[inline(never)]
     pub(crate) fn enter(&mut self) -> Result<(), AllocError>
         ensures { OnOk result (IfSome self.old.pending (λ l. self.new ≡ record { inside = begun l ∷ self.old.inside; pending = None })) }
     {
         self.make_room()?;
         self.begin_member()?;
         self.marks.reserve(1)?;
-        if let Some(mark) = self.pending.take() {
-            self.marks.push_reserved(mark);
-        }
+        self.entered = self.innermost.is_some();
         Ok(())
+    }
+
+    // The same behind a member of a level that is no set, where there is nothing to make ready. Else nothing is done.
+    pub(crate) fn enter_again(&mut self) -> bool
+        ensures yes { result ≡ true → IfSome self.old.pending (λ l. self.new ≡ record { inside = begun l ∷ self.old.inside; pending = None }) }
+        ensures no { result ≡ false → self.new ≡ self.old }
+    {
+        let Some(mark) = &self.innermost else {
+            return false;
+        };
+        let begins = self.scratch.len() == mark.at || mark.header.is_set();
+        if begins || self.entered || self.marks.len() == self.marks.capacity() {
+            return false;
+        }
+        self.entered = true;
+        true
     }
 
     // The member has been written.
@@ -160,9 +190,30 @@ impl Levels {
         ensures { (l : Level) (ls : List Level) → self.old.inside ≡ l ∷ ls → self.new ≡ record { inside = ls; pending = Some l } }
     {
         self.give_up();
-        if let Some(mark) = self.marks.pop() {
-            self.pending = Some(mark);
+        if self.entered {
+            self.entered = false;
+        } else if let Some(mark) = self.marks.pop() {
+            self.innermost = Some(mark);
         }
+    }
+
+    // Adds an element with a length of one byte to the level of which a member is being written, where no level was opened in it
+    // and there is room for the element. Else nothing is done.
+    #[inline(always)]
+    pub(crate) fn append_short(&mut self, tag: Tag, content: &[u8]) -> bool
+        ensures inside { result ≡ true → self.old.inside ≢ [] }
+        ensures count { result ≡ true → length (der (Tree.bytes tag content.now)) ≡ 2 + length content.now }
+        ensures yes { result ≡ true → (l : Level) (ls : List Level) → self.old.inside ≡ l ∷ ls
+            → self.new ≡ record { inside = with_bytes l (der (Tree.bytes tag content.now)) ∷ ls; pending = None } }
+        ensures no { result ≡ false → self.new ≡ self.old }
+    {
+        let len = content.len();
+        let room = self.scratch.capacity() - self.scratch.len();
+        if !self.entered || len >= 0x80 || room < 2 + len {
+            return false;
+        }
+        push_short(&mut self.scratch, tag, content);
+        true
     }
 
     // Adds the encoding of a content under this header in these wrappers to the level of which a member is being written,
@@ -188,7 +239,7 @@ impl Levels {
     pub(crate) fn arrange(&mut self, alloc: Global) -> Result<(), AllocError>
         ensures { OnOk result (IfSome self.old.pending (λ l. self.new ≡ record self.old { pending = Some (in_order l) })) }
     {
-        if let Some(mark) = &self.pending {
+        if let Some(mark) = &self.innermost {
             if mark.first_seam < self.seams.len() {
                 let seams = &self.seams[mark.first_seam..];
                 arrange(&mut self.scratch, mark.start, seams, alloc)?;
@@ -201,18 +252,19 @@ impl Levels {
     // Puts the headers of the level that was opened last in front of its content, and adds all this to the level around it.
     // Answers how many bytes these are.
     pub(crate) fn merge(&mut self) -> Result<usize, AllocError>
+        requires { IsSome self.old.pending }
         ensures numbers { IfSome self.old.pending (λ p. HaveTagNumbers p.around × HasNumber p.header) }
         ensures count { IfOk result (λ n. IfSome self.old.pending (λ p. n ≡ length (der (under p.around (tree_of p.header p.content))))) }
         ensures ok { OnOk result ((p l : Level) (ls : List Level) → self.old.pending ≡ Some p → self.old.inside ≡ l ∷ ls
             → self.new ≡ record { inside = with_bytes l (der (under p.around (tree_of p.header p.content))) ∷ ls; pending = None }) }
     {
-        let Some(mark) = &self.pending else {
+        let Some(mark) = &self.innermost else {
             return Ok(0);
         };
         let at = mark.at;
         self.seams.truncate(mark.first_seam);
         let outcome = enclose(&mut self.scratch, at, mark.start, &mark.around, mark.header);
-        self.pending = None;
+        self.innermost = None;
         outcome?;
         Ok(self.scratch.len() - at)
     }
@@ -223,7 +275,7 @@ impl Levels {
         ensures numbers { IfSome self.old.pending (λ p. HaveTagNumbers p.around × HasNumber p.header) }
         ensures ok { OnOk result (IfSome self.old.pending (λ p. self.new ≡ record self.old { pending = Some (with_bytes p (headers p.around p.header len)) })) }
     {
-        if let Some(mark) = &self.pending {
+        if let Some(mark) = &self.innermost {
             push_headers(&mut self.scratch, &mark.around, mark.header, len)?;
         }
         Ok(())
@@ -236,7 +288,7 @@ impl Levels {
         ensures yes { result ≡ true → IfSome self.old.pending (λ p. self.new ≡ record self.old { pending = Some (sealed p) }) }
         ensures no { result ≡ false → self.new ≡ self.old }
     {
-        if let Some(mark) = &mut self.pending {
+        if let Some(mark) = &mut self.innermost {
             let len = self.scratch.len() - mark.start;
             if let Some(identifier) = short_identifier(&mark.around, &mark.header, len) {
                 if mark.start - mark.at == 2 {
@@ -256,7 +308,7 @@ impl Levels {
     pub(crate) fn content(&self) -> &[u8]
         ensures { IfSome self.now.pending (λ p. result.now ≡ p.content) }
     {
-        match &self.pending {
+        match &self.innermost {
             Some(mark) => &self.scratch[mark.start..],
             None => &[],
         }

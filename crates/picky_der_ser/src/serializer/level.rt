@@ -128,9 +128,11 @@ impl<W: WriteExt> Serializer<W> {
         if let Some(error) = self.earlier() {
             return Err(error);
         }
-        let Ok(()) = self.levels.enter() else {
-            return Err(self.fail(Asn1DerError::OutOfMemory));
-        };
+        if !self.levels.enter_again() {
+            let Ok(()) = self.levels.enter() else {
+                return Err(self.fail(Asn1DerError::OutOfMemory));
+            };
+        }
         self.around.clear();
         Ok(())
     }

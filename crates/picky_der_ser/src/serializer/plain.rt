@@ -14,8 +14,23 @@ use picky_der_core::misc::WriteExt;
 use picky_der_core::{Asn1DerError, Result};
 
 impl<W: WriteExt> Serializer<W> {
-    // Writes a plain element in the open wrappers.
+    // Writes a plain element in the open wrappers. Mostly it is a short one in a level and in no wrapper.
+    #[inline(always)]
     pub(crate) fn write_plain(&mut self, tag: Tag, content: &[u8]) -> Result<usize>
+        requires { IsTagNumber (number_of tag) }
+        ensures { WritesPlain W.WriteExt.own (Tree.bytes tag content.now) self.old result self.new }
+    {
+        let is_bare = self.failed.is_none() && self.around.is_empty();
+        if is_bare && self.levels.append_short(tag, content) {
+            return Ok(2 + content.len());
+        }
+        self.write_any_plain(tag, content)
+    }
+
+    // Writes a plain element, wherever one is.
+    #[cold]
+    #[inline(never)]
+    fn write_any_plain(&mut self, tag: Tag, content: &[u8]) -> Result<usize>
         requires { IsTagNumber (number_of tag) }
         ensures { WritesPlain W.WriteExt.own (Tree.bytes tag content.now) self.old result self.new }
     {

@@ -1,0 +1,23 @@
+use Rattle.std.proofs.Common.{◌≡◌, ℕ, ◌<◌, List, [], ◌∷◌, ◌++◌, length, sym, ◌∙◌, ap, append_assoc, arith}
+use Rattle.picky_der_core.specs.ElementLaws.{len-short}
+use Rattle.picky_der_core.specs.Encoding.{der}
+use Rattle.picky_der_core.specs.Tree.{Tree}
+use Rattle.picky_der_ser.specs.declared.header.Header.TheVariants.{Tagged}
+use Rattle.picky_der_ser.proofs.HeaderBytes.{der-headers}
+use Rattle.picky_der_ser.proofs.enclose.push_short.Goals as goal
+
+short : (tag : ℕ) (bs : List ℕ) → length bs < 0x80 → der (Tree.bytes tag bs) ≡ tag ∷ length bs ∷ bs
+short tag bs h = der-headers [] (Tagged tag) bs ∙ ap (λ l. (tag ∷ l) ++ bs) (len-short (length bs) h)
+
+pub returns-clause-items : goal.returns-clause-items
+returns-clause-items c =
+    let s = c.args.out.now.items in
+    let b = c.args.content.now in
+    let front : c.extend_from_slice.new.self.items ≡ s ++ (c.args.tag ∷ length b ∷ []) = grind (arith) in
+    let all : c.extend_from_slice-2.new.self.items ≡ c.extend_from_slice.new.self.items ++ b = grind (arith) in
+    all ∙ ap (λ x. x ++ b) front ∙ append_assoc s (c.args.tag ∷ length b ∷ []) b ∙ ap (λ x. s ++ x) (sym (short c.args.tag b c.requires.short))
+
+pub returns-clause-count : goal.returns-clause-count
+returns-clause-count c =
+    let size = ap length (short c.args.tag c.args.content.now c.requires.short) in
+    omega (arith, size)
