@@ -13,10 +13,10 @@ use std::alloc::{AllocError, Global};
 /// | Row | Answer |
 /// |---|---|
 /// | `read [BYTES] as TYPE` | `ok TAKEN [BYTES] VALUE` with the bytes that the value is written as, or `refused ERROR` |
-/// | `draw LIMIT [BYTES] as TYPE` | the same of a reader that gives a byte a call, with the bytes that were drawn for TAKEN, or `refused ERROR after DRAWN` |
-/// | `hostile [BYTES] as TYPE` | with each byte of this encoding replaced by each of 256, how many are values, and how many are refused with each error |
+/// | `draw LIMIT [BYTES] as TYPE` | the same of a reader of a byte a call, with the bytes drawn for TAKEN, or `refused ERROR after DRAWN` |
+/// | `hostile [BYTES] as TYPE` | how many values and errors of each kind this encoding gives with each byte replaced by each of 256 |
 /// | `apart [BYTES] as TYPE` | how many values stand one behind the other, where the encoding of none begins with that of another |
-/// | `sweep readers failing with KIND [BYTES] as TYPE` | what is answered where the reader's call with each number from 0 on fails so; at 0 none fails |
+/// | `sweep readers failing with KIND [BYTES] as TYPE` | what is answered where the reader's call 1, 2 and so on fails so, and at 0 none |
 /// | `sweep writers failing with KIND [BYTES] as TYPE` | the same of a writer, to which the value is written that these bytes encode |
 /// | `sweep slices [BYTES] as TYPE` | the same of slices of each length from 0 on |
 /// | `sweep vectors [BYTES] as TYPE` | the same of vectors that are written over |
@@ -27,9 +27,9 @@ use std::alloc::{AllocError, Global};
 /// | `put CALLS` | what each call of one serializer answers, and the bytes that reach the writer |
 /// | `put failing at N with KIND: CALLS` | the same over a writer that takes a byte a call and whose call number N fails so |
 /// | `stream [BYTES] CALLS` | what each call of a reader over memory answers, and how many bytes are left |
-/// | `stream failing at N with KIND [BYTES] CALLS` | the same of one that gives a byte a call and whose call number N fails so, and how many bytes were drawn |
+/// | `stream failing at N with KIND [BYTES] CALLS` | the same of one of a byte a call whose call N fails so, and how many were drawn |
 /// | `peek ..` | as `stream ..`, of a reader whose next byte can be looked at, and how many bytes were handed out then |
-/// | `sink failing at N with KIND: CALLS` | what each call of a writer of a byte a call answers whose call number N fails so, and the bytes that it took |
+/// | `sink failing at N with KIND: CALLS` | what each call of a writer answers whose call N fails so, and what it took, a byte a call |
 /// | `fill LENGTH CALLS` | the same of a writer over a slice of LENGTH bytes EE, and what the slice holds |
 /// | `tool "LINE"` | the answer of `der_tool` to that line |
 /// | `copy [BYTES] as TYPE` | `whole`, where the copy of the value is equal to it |
