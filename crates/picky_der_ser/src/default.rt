@@ -1,6 +1,7 @@
 //! Members of a sequence that are left out where they have the default value.
 ghost use Rattle.std.proofs.Common.{rules};
 ghost use Rattle.std.specs.Prelude.{◌≡◌, ◌↔◌, Bool, IsTrue, not, nat_eq};
+ghost use Rattle.picky_der_core.specs.Equality.{IsThatOf};
 ghost use Rattle.picky_der_ser.specs.Meaning.{maybe_more, unless_default};
 ghost use Rattle.picky_der_ser.specs.Defaults.{IsByTree, IsOne, numbers_by_tree, one_number, explicit_by_tree};
 
@@ -52,6 +53,13 @@ impl<T, D> Defaulted<T, D> {
             default: PhantomData,
         }
     }
+}
+
+impl<T: PartialEq, D> Defaulted<T, D> {
+    /// Two are equal just where their values are.
+    pub fn equality()
+        ensures { IsThatOf ⟦<Defaulted<T, D> as PartialEq>⟧.eq (λ member. member.value) T.eq }
+    {}
 }
 
 /// The same by reference, as a struct writes its field.

@@ -1,4 +1,6 @@
 //! Members of a sequence that may be absent.
+ghost use Rattle.std.specs.Option.{option_eq};
+ghost use Rattle.picky_der_core.specs.Equality.{IsThatOf};
 ghost use Rattle.picky_der_ser.specs.Meaning.{maybe_more};
 
 use crate::{Sequence, Serialize, SerializeMember};
@@ -9,6 +11,13 @@ use picky_der_core::misc::WriteExt;
 /// do without it.
 #[derive(Debug, Clone, Drop, PartialEq, Eq)]
 pub struct Optional<T>(pub Option<T>);
+
+impl<T: PartialEq> Optional<T> {
+    /// Two are equal just where both are absent, or both are there and equal.
+    pub fn equality()
+        ensures { IsThatOf ⟦<Optional<T> as PartialEq>⟧.eq (λ member. member.0) (option_eq T.eq) }
+    {}
+}
 
 /// The same by reference, as a struct writes its field.
 #[derive(Drop)]

@@ -15,6 +15,9 @@ fn each_line_gets_a_line(rt: HostRuntime) {
         (b"len 1\r", b"refused Line\n"),
         (b"len 290\nlen 10\n", b"820122\n0a\n"),
         (b"len \xFF\nlen 7\n", b"refused Line\n07\n"),
+        (b"len 7\n\xFF", b"07\nrefused Line\n"),
+        (b"len 1\xC3\n\xA9\n", b"refused Line\nrefused Line\n"),
+        (b"len 7\0\n", b"refused Line\n"),
         (b"len 18446744073709551615", b"88ffffffffffffffff\n"),
         (b"len 0\n\nlen 128", b"00\nrefused Line\n8180\n"),
     ] {
