@@ -8,6 +8,7 @@ use Rattle.picky_der_core.specs.contracts.failure.Failure as failure
 use Rattle.picky_der_core.specs.declared.asn1.wrapper.Wrapper.{Wrapper}
 use Rattle.picky_der_core.specs.contracts.asn1.wrapper.Wrapper as wrapper
 use Rattle.picky_der_ser.specs.declared.header.Header.{Header}
+use Rattle.picky_der_ser.specs.declared.header.Header.TheVariants.{Raw}
 use Rattle.picky_der_ser.specs.contracts.header.Header as header
 use Rattle.picky_der_ser.specs.Parts.{parts, next_seams}
 
@@ -28,6 +29,10 @@ level_code =
     (λ l. (l.header, (l.around, (l.content, l.seams))))
     (λ p. record { header = p.0; around = p.1.0; content = p.1.1.0; seams = p.1.1.1 })
     (λ _. refl)
+
+-- the level around all that `to_vec` writes: it has no header, so what it holds is what was written
+abbrev pub root : Level
+root = record { header = Raw; around = []; content = []; seams = [] }
 
 -- a level whose innermost member grew by these bytes
 abbrev pub with_bytes : Level → List ℕ → Level

@@ -52,11 +52,10 @@ pub fn to_vec<T: Serialize>(alloc: Global, value: &T) -> Result<Vec<u8>>
     ensures writable { OnOk result (IsWritable (T.meaning value.now)) }
     ensures err { IfErr result (MemoryExcuse (IsWritable (T.meaning value.now))) }
 {
-    let mut out = Vec::new(alloc);
-    match to_byte_buf(alloc, value, &mut out) {
-        Ok(_) => Ok(out),
-        Err(error) => Err(error),
-    }
+    let mut untouched = [];
+    let mut ser = Serializer::new_in_root(alloc, &mut untouched)?;
+    value.serialize(&mut ser)?;
+    Ok(ser.into_content())
 }
 
 /// Appends the value's canonical encoding to what the writer has taken, and answers its length. At an error a beginning

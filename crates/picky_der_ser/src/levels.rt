@@ -1,11 +1,11 @@
 //! The levels of a serializer, in one vector.
-ghost use Rattle.std.specs.Prelude.{◌≡◌, ◌≢◌, ◌<◌, ◌^◌, ◌+◌, List, [], ◌∷◌, true, false, length, take, None, Some, IfSome, IsSome, IfOk, OnOk};
+ghost use Rattle.std.specs.Prelude.{◌≡◌, ◌≢◌, ◌<◌, ◌≤◌, ◌^◌, ◌+◌, List, [], ◌∷◌, true, false, length, take, drop, vec_len, None, Some, IfSome, IsSome, IfOk, OnOk};
 ghost use Rattle.picky_der_core.specs.Encoding.{der};
 ghost use Rattle.picky_der_core.specs.Tree.{Tree};
 ghost use Rattle.picky_der_core.specs.Wrapper.{under};
 ghost use Rattle.picky_der_ser.specs.Heading.{tree_of};
 ghost use Rattle.picky_der_ser.specs.Headers.{headers, HasNumber, HaveTagNumbers};
-ghost use Rattle.picky_der_ser.specs.State.{Level, with_bytes, begun, in_order};
+ghost use Rattle.picky_der_ser.specs.State.{Level, root, with_bytes, begun, in_order};
 ghost use Rattle.picky_der_ser.specs.Sealed.{sealed};
 
 use crate::Header;
@@ -63,6 +63,16 @@ impl Model for Levels {
     ghost invariant = { λ s. AreMarks (with_pending s.innermost (reverse s.marks.items)) (length s.scratch.items) s.seams.items × HasRoom s.entered s.innermost (vec_len s.marks) (vec_capacity s.marks) };
 }
 
+// Drops the bytes in front of this place.
+fn drop_front(out: &mut Vec<u8>, start: usize)
+    requires { start ≤ vec_len out.old }
+    ensures { out.new.items ≡ drop start out.old.items }
+{
+    if start > 0 {
+        out.drain(..start);
+    }
+}
+
 impl Levels {
     pub(crate) fn new(alloc: Global) -> Levels
         ensures { result ≡ record { inside = []; pending = None } }
@@ -74,6 +84,47 @@ impl Levels {
             innermost: None,
             entered: false,
         }
+    }
+
+    // Levels inside of one that stands around all. The request for room is that of `make_room`.
+    pub(crate) fn new_in_root(alloc: Global) -> Result<Levels, AllocError>
+        ensures { IfOk result (λ levels. levels ≡ record { inside = root ∷ []; pending = None }) }
+    {
+        let mut scratch = Vec::new(alloc);
+        scratch.reserve(FIRST_ROOM)?;
+        let mut marks = Vec::new(alloc);
+        marks.reserve(1)?;
+        Ok(Levels {
+            scratch,
+            seams: Vec::new(alloc),
+            marks,
+            innermost: Some(Mark {
+                header: Header::Raw,
+                around: Vec::new(alloc),
+                at: 0,
+                start: 0,
+                first_seam: 0,
+            }),
+            entered: true,
+        })
+    }
+
+    // Gives out what the level holds of which a member was being written.
+    pub(crate) fn into_content(mut self) -> Vec<u8>
+        ensures { (l : Level) (ls : List Level) → self.inside ≡ l ∷ ls → result.items ≡ l.content }
+    {
+        self.leave();
+        let Levels {
+            mut scratch,
+            seams: _,
+            marks: _,
+            innermost,
+            entered: _,
+        } = self;
+        if let Some(mark) = &innermost {
+            drop_front(&mut scratch, mark.start);
+        }
+        scratch
     }
 
     // Whether a member of some level is being written.

@@ -1,9 +1,11 @@
 //! The serializer.
-ghost use Rattle.std.specs.Prelude.{◌≡◌, ◌<◌, ◌≤◌, [], None, Some, false, IfOk, IfErr, OnOk};
+ghost use Rattle.std.specs.Prelude.{◌≡◌, ◌<◌, ◌≤◌, List, [], ◌∷◌, None, Some, false, IfOk, IfErr, OnOk};
 ghost use Rattle.std.specs.Io.KnownBytes.{Appends};
 ghost use Rattle.picky_der_core.specs.WriterFaults.{IsOnceAtMost};
 ghost use Rattle.picky_der_core.specs.Failure.{failure_of};
 ghost use Rattle.picky_der_core.specs.Tree.{Tree};
+ghost use Rattle.picky_der_core.specs.declared.error.Asn1DerError.TheVariants.{OutOfMemory};
+ghost use Rattle.picky_der_ser.specs.State.{Level, root};
 ghost use Rattle.picky_der_ser.specs.Calls.{Writes, Fails, WritesAbsent};
 
 mod application;
@@ -87,6 +89,35 @@ impl<'a> Serializer<SliceSink<'a>> {
         ensures pending { result.pending ≡ None }
     {
         Serializer::new_to_writer(alloc, SliceSink::new(buf))
+    }
+
+    // Keeps what is written in a level around all, and leaves the slice alone.
+    pub(crate) fn new_in_root(
+        alloc: Global,
+        untouched: &'a mut [u8],
+    ) -> Result<Serializer<SliceSink<'a>>>
+        ensures around { IfOk result (λ ser. ser.around ≡ []) }
+        ensures failed { IfOk result (λ ser. ser.failed ≡ None) }
+        ensures inside { IfOk result (λ ser. ser.inside ≡ root ∷ []) }
+        ensures err { IfErr result (λ e. e ≡ OutOfMemory) }
+    {
+        let mut ser = Serializer::new_to_bytes(alloc, untouched);
+        ser.levels = Levels::new_in_root(alloc)?;
+        Ok(ser)
+    }
+
+    // Gives out what the level holds of which a member was being written.
+    pub(crate) fn into_content(self) -> Vec<u8>
+        ensures { (l : Level) (ls : List Level) → self.entry.inside ≡ l ∷ ls → result.items ≡ l.content }
+    {
+        let Serializer {
+            sink: _,
+            around: _,
+            failed: _,
+            levels,
+            alloc: _,
+        } = self;
+        levels.into_content()
     }
 }
 
