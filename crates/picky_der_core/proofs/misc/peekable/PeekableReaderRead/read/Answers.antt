@@ -1,0 +1,11 @@
+use Rattle.std.proofs.Common.{rules}
+use Rattle.picky_der_core.proofs.misc.peekable.PeekableReaderRead.read.Goals as goal
+
+pub returns-clause-bytes : goal.returns-clause-bytes
+returns-clause-bytes c = search rules
+
+pub returns-clause-peeked : goal.returns-clause-peeked
+returns-clause-peeked c = search rules
+
+pub returns-clause-unpeeked : goal.returns-clause-unpeeked
+returns-clause-unpeeked c = search rules
