@@ -13,6 +13,9 @@ use crate::headers::{push_headers, short_identifier};
 use picky_der_core::asn1::{Tag, Wrapper};
 use std::alloc::AllocError;
 
+// How many bytes are asked for beside a content that makes a vector grow: those of its own headers and of those around it.
+const SPARE_ROOM: usize = 24;
+
 // Brings the last bytes in front of the others. Headers mostly grow by one byte or two: a turn by one byte is one move of memory,
 // and two of them take less time than one by two, which clears a room of its own first.
 fn turn(bytes: &mut [u8], count: usize)
@@ -69,6 +72,7 @@ fn push_nested(
     ensures ok { OnOk result (out.new.items ≡ out.old.items ++ der (under around.now (tree_of header content.now))) }
     ensures grows { vec_len out.old ≤ vec_len out.new }
 {
+    out.reserve(SPARE_ROOM + content.len())?;
     push_headers(out, around, header, content.len())?;
     out.extend_from_slice(content)?;
     Ok(())
