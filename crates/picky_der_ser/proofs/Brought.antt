@@ -1,7 +1,7 @@
 -- Headers that are brought in front of a content.
-use Rattle.std.proofs.Common.{◌≡◌, ℕ, ◌+◌, ◌-◌, ◌≤◌, List, ◌++◌, length, take, drop, refl, sym, ◌∙◌, ap, arith, append_assoc, length-append, take-append-drop, length-take-le}
+use Rattle.std.proofs.Common.{◌≡◌, ℕ, ◌+◌, ◌-◌, ◌≤◌, List, ◌++◌, length, take, drop, refl, sym, ◌∙◌, ap, ap₂, arith, append_assoc, length-append, take-append-drop, length-take-le}
 use Rattle.std.proofs.Math.Seq.{take-append_seam, drop-append_seam, take-append-add, drop-append-add}
-use Rattle.std.proofs.lemmas.List.{drop-append-le, take-append-le, take-take}
+use Rattle.std.proofs.lemmas.List.{drop-append-le, take-append-le, take-take, length-drop}
 use Rattle.std.specs.List.{slice_rotate_right}
 use Rattle.picky_der_ser.specs.Overwrite.{overwritten}
 
@@ -10,6 +10,21 @@ rotated : (c h : List ℕ) (room more : ℕ) → length h ≡ room + more → sl
 rotated c h room more count =
     let n : length (c ++ h) - more ≡ length c + room = omega (arith, length-append c h) in
     ap (λ k. drop k (c ++ h) ++ take k (c ++ h)) n ∙ ap (λ x. x ++ take (length c + room) (c ++ h)) (drop-append-add c h room) ∙ ap (λ x. drop room h ++ x) (take-append-add c h room)
+
+-- two turns are one
+pub turned : (bs : List ℕ) (i j : ℕ) → i + j ≤ length bs → slice_rotate_right (slice_rotate_right bs i) j ≡ slice_rotate_right bs (i + j)
+turned bs i j h =
+    let k = length bs - i in
+    let m = length bs - (i + j) in
+    let last = drop k bs in
+    let front = take k bs in
+    let size : length last ≡ i = omega (arith, h, length-drop k bs) in
+    let width : length front ≡ k = length-take-le k bs (omega arith) in
+    let n : length (last ++ front) - j ≡ length last + m = omega (arith, h, size, width, length-append last front) in
+    let before : drop m bs ≡ drop m front ++ last = ap (drop m) (sym (take-append-drop k bs)) ∙ drop-append-le m front last (omega (arith, width)) in
+    ap (λ x. drop x (last ++ front) ++ take x (last ++ front)) n
+    ∙ ap₂ (λ x y. x ++ y) (drop-append-add last front m) (take-append-add last front m ∙ ap (λ x. last ++ x) (take-take m k bs (omega arith)))
+    ∙ sym (append_assoc (drop m front) last (take m bs)) ∙ ap (λ x. x ++ take m bs) (sym before)
 
 -- the last `count` of these bytes in the place of those behind `a`
 filled : (a r x f : List ℕ) (at count n : ℕ) → length a ≡ at → length r ≡ count → length f ≡ count → n ≡ at + count + length x

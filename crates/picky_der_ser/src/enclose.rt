@@ -13,13 +13,30 @@ use crate::headers::{push_headers, short_identifier};
 use picky_der_core::asn1::{Tag, Wrapper};
 use std::alloc::AllocError;
 
+// How many bytes are asked for beside a content that makes a vector grow: those of its own headers and of those around it.
+const SPARE_ROOM: usize = 24;
+
+// Brings the last bytes in front of the others. Headers mostly grow by one byte or two: a turn by one byte is one move of memory,
+// and two of them take less time than one by two, which clears a room of its own first.
+fn turn(bytes: &mut [u8], count: usize)
+    requires { count ≤ length bytes.old }
+    ensures { bytes.new ≡ slice_rotate_right bytes.old count }
+{
+    if count == 2 {
+        bytes.rotate_right(1);
+        bytes.rotate_right(1);
+    } else {
+        bytes.rotate_right(count);
+    }
+}
+
 // Brings the last `count` bytes in front of those from `start` on.
 fn rotate_from(out: &mut Vec<u8>, start: usize, count: usize)
     requires { start + count ≤ vec_len out.old }
     ensures items { out.new.items ≡ take start out.old.items ++ slice_rotate_right (drop start out.old.items) count }
     ensures len { vec_len out.new ≡ vec_len out.old }
 {
-    out[start..].rotate_right(count);
+    turn(&mut out[start..], count);
 }
 
 // The last `count` bytes take the place of those from `at` on.
@@ -55,6 +72,7 @@ fn push_nested(
     ensures ok { OnOk result (out.new.items ≡ out.old.items ++ der (under around.now (tree_of header content.now))) }
     ensures grows { vec_len out.old ≤ vec_len out.new }
 {
+    out.reserve(SPARE_ROOM + content.len())?;
     push_headers(out, around, header, content.len())?;
     out.extend_from_slice(content)?;
     Ok(())

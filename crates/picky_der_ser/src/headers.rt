@@ -21,6 +21,16 @@ fn push_back_to_front(out: &mut Vec<u8>, tag: Tag, len: usize) -> Result<(), All
     Ok(())
 }
 
+// Adds a tag and a length.
+fn push_tag_and_length(out: &mut Vec<u8>, tag: Tag, len: usize) -> Result<(), AllocError>
+    ensures ok { OnOk result (out.new.items ≡ out.old.items ++ (tag ∷ bytes_of len)) }
+    ensures grows { vec_len out.old ≤ vec_len out.new }
+{
+    out.push(tag.inner())?;
+    out.extend_from_slice(&Length::bytes(len))?;
+    Ok(())
+}
+
 // Turns around the bytes from there on.
 fn reverse_from(out: &mut Vec<u8>, start: usize)
     requires { start ≤ vec_len out.old }
@@ -65,6 +75,25 @@ fn push_own_header(out: &mut Vec<u8>, header: Header, len: usize) -> Result<(), 
     match header {
         Header::Tagged(tag) => push_back_to_front(out, tag, len),
         Header::Application(number) => push_back_to_front(
+            out,
+            Tag::application_constructed(number),
+            len,
+        ),
+        Header::Raw => Ok(()),
+    }
+}
+
+// Adds the header of a content of `len` bytes that stands in no wrapper.
+#[cold]
+#[inline(never)]
+fn push_lone_header(out: &mut Vec<u8>, header: Header, len: usize) -> Result<(), AllocError>
+    requires { HasNumber header }
+    ensures ok { OnOk result (out.new.items ≡ out.old.items ++ own_header header len) }
+    ensures grows { vec_len out.old ≤ vec_len out.new }
+{
+    match header {
+        Header::Tagged(tag) => push_tag_and_length(out, tag, len),
+        Header::Application(number) => push_tag_and_length(
             out,
             Tag::application_constructed(number),
             len,
@@ -153,9 +182,12 @@ pub(crate) fn push_headers(
     ensures ok { OnOk result (out.new.items ≡ out.old.items ++ headers around.now header len) }
     ensures grows { vec_len out.old ≤ vec_len out.new }
 {
-    let Some(identifier) = short_identifier(around, &header, len) else {
-        return push_nested_headers(out, around, header, len);
-    };
-    out.extend_from_slice(&[identifier, len as u8])?;
-    Ok(())
+    if let Some(identifier) = short_identifier(around, &header, len) {
+        out.extend_from_slice(&[identifier, len as u8])?;
+        return Ok(());
+    }
+    if around.is_empty() {
+        return push_lone_header(out, header, len);
+    }
+    push_nested_headers(out, around, header, len)
 }
