@@ -1,0 +1,5 @@
+use Rattle.std.proofs.Common.{rules}
+use Rattle.picky_der_ser.proofs.serializer.Serializer.serialize_u128.Goals as goal
+
+pub returns : goal.returns
+returns c = search rules
