@@ -107,9 +107,13 @@ pub(crate) fn push_short(out: &mut Vec<u8>, tag: Tag, content: &[u8])
     ensures items { out.new.items ≡ out.old.items ++ der (Tree.bytes tag content.now) }
     ensures count { length (der (Tree.bytes tag content.now)) ≡ 2 + length content.now }
 {
-    // There is room, so neither is refused.
-    let _ = out.extend_from_slice(&[tag.inner(), content.len() as u8]);
-    let _ = out.extend_from_slice(content);
+    // There is room, so none is refused. The content of a small number, one byte, is added together with its header.
+    if content.len() == 1 {
+        let _ = out.extend_from_slice(&[tag.inner(), 1, content[0]]);
+    } else {
+        let _ = out.extend_from_slice(&[tag.inner(), content.len() as u8]);
+        let _ = out.extend_from_slice(content);
+    }
 }
 
 // Puts the headers of the content from `start` on in front of it. The room from `at` to `start` takes the first of them, so

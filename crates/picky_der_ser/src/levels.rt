@@ -16,8 +16,9 @@ use picky_der_core::asn1::{Tag, Wrapper};
 use std::alloc::{AllocError, Global};
 use std::marker::Model;
 
-// How many bytes are asked for when the first member of an outermost level comes.
-const FIRST_ROOM: usize = 120;
+// How many bytes are asked for when the first member of an outermost level comes: as many as public keys of RSA with 2048 bits take
+// to be written, so that the vector grows for none of them.
+const FIRST_ROOM: usize = 376;
 
 // Where a level begins: the room for its headers, and behind it its content; and how many seams those around it have.
 #[derive(Drop)]
