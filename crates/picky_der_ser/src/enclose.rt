@@ -33,7 +33,8 @@ fn turn(bytes: &mut [u8], count: usize)
 // Brings the last `count` bytes in front of those from `start` on.
 fn rotate_from(out: &mut Vec<u8>, start: usize, count: usize)
     requires { start + count ≤ vec_len out.old }
-    ensures items { out.new.items ≡ take start out.old.items ++ slice_rotate_right (drop start out.old.items) count }
+    ensures items { out.new.items ≡ take start out.old.items ++ slice_rotate_right
+        (drop start out.old.items) count }
     ensures len { vec_len out.new ≡ vec_len out.old }
 {
     turn(&mut out[start..], count);
@@ -53,7 +54,8 @@ fn fill_from_last(out: &mut Vec<u8>, at: usize, count: usize)
 // Writes a header of two bytes over those from `at` on.
 pub(crate) fn fill_short(out: &mut Vec<u8>, at: usize, identifier: u8, len: u8)
     requires { at + 2 ≤ vec_len out.old }
-    ensures items { out.new.items ≡ take at out.old.items ++ (identifier ∷ len ∷ drop (at + 2) out.old.items) }
+    ensures items { out.new.items ≡ take at out.old.items ++
+        (identifier ∷ len ∷ drop (at + 2) out.old.items) }
     ensures len { vec_len out.new ≡ vec_len out.old }
 {
     out[at..at + 2].copy_from_slice(&[identifier, len]);
@@ -69,7 +71,8 @@ fn push_nested(
     content: &[u8],
 ) -> Result<(), AllocError>
     requires numbers { HaveTagNumbers around.now × HasNumber header }
-    ensures ok { OnOk result (out.new.items ≡ out.old.items ++ der (under around.now (tree_of header content.now))) }
+    ensures ok { OnOk result (out.new.items ≡ out.old.items ++ der
+        (under around.now (tree_of header content.now))) }
     ensures grows { vec_len out.old ≤ vec_len out.new }
 {
     out.reserve(SPARE_ROOM + content.len())?;
@@ -86,7 +89,8 @@ pub(crate) fn push_enclosed(
     content: &[u8],
 ) -> Result<(), AllocError>
     requires numbers { HaveTagNumbers around.now × HasNumber header }
-    ensures ok { OnOk result (out.new.items ≡ out.old.items ++ der (under around.now (tree_of header content.now))) }
+    ensures ok { OnOk result (out.new.items ≡ out.old.items ++ der
+        (under around.now (tree_of header content.now))) }
     ensures grows { vec_len out.old ≤ vec_len out.new }
 {
     let len = content.len();
@@ -131,7 +135,8 @@ fn enclose_nested(
     requires room { at ≤ start }
     requires within { start ≤ vec_len out.old }
     requires least { start ≤ at + length (headers around.now header 0) }
-    ensures ok { OnOk result (out.new.items ≡ take at out.old.items ++ der (under around.now (tree_of header (drop start out.old.items)))) }
+    ensures ok { OnOk result (out.new.items ≡ take at out.old.items ++ der
+        (under around.now (tree_of header (drop start out.old.items)))) }
     ensures grows { at ≤ vec_len out.new }
 {
     let end = out.len();
@@ -156,7 +161,8 @@ pub(crate) fn enclose(
     requires room { at ≤ start }
     requires within { start ≤ vec_len out.old }
     requires least { start ≤ at + length (headers around.now header 0) }
-    ensures ok { OnOk result (out.new.items ≡ take at out.old.items ++ der (under around.now (tree_of header (drop start out.old.items)))) }
+    ensures ok { OnOk result (out.new.items ≡ take at out.old.items ++ der
+        (under around.now (tree_of header (drop start out.old.items)))) }
     ensures grows { at ≤ vec_len out.new }
 {
     let len = out.len() - start;
