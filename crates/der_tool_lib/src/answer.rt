@@ -25,7 +25,8 @@ pub fn answer_to(alloc: Global, line: &[u8]) -> Result<String>
 
 // The answer to a line that asks for a value, which is refused where the digits aren't those of bytes.
 fn answer_digits(alloc: Global, named: ValueType, digits: &[u8]) -> Result<String>
-    ensures ok { IfOk result (λ text. AnswersDigits named (decode_of digits.now) (string_bytes text)) }
+    ensures ok { IfOk result (λ text. AnswersDigits named (decode_of digits.now)
+        (string_bytes text)) }
     ensures err { IfErr result (λ e. e ≡ Asn1DerError.OutOfMemory) }
 {
     match hex::decode(alloc, digits) {

@@ -86,9 +86,11 @@ fn examine_signed(alloc: Global, bytes: &[u8], certificate: Certificate) -> Resu
 
 // The value at the front of the bytes, and how many of them were taken.
 fn read_front<T: Deserialize>(alloc: Global, bytes: &[u8]) -> result::Result<(T, usize), Refusal>
-    ensures front { IfOk result (λ front. IsFront T.meaning T.shape T.eq bytes.now (length bytes.now) front.0) }
+    ensures front { IfOk result (λ front. IsFront T.meaning T.shape T.eq bytes.now
+        (length bytes.now) front.0) }
     ensures taken { IfOk result (λ front. front.1 ≡ length (der (T.meaning front.0))) }
-    ensures err { IfErr result (λ refusal. HasNoFront T.meaning T.shape bytes.now (length bytes.now) refusal.error) }
+    ensures err { IfErr result (λ refusal. HasNoFront T.meaning T.shape bytes.now
+        (length bytes.now) refusal.error) }
     ensures within { IfErr result (λ refusal. refusal.taken ≤ length bytes.now) }
 {
     let mut de = Deserializer::new_from_bytes(alloc, bytes);

@@ -28,7 +28,8 @@ const LONGEST_KEPT: usize = 64;
 pub fn run<R: ReadExt, W: WriteExt>(alloc: Global, input: &mut R, output: &mut W) -> Result<()>
     ensures lines { OnOk result (WritesLines (W.told output.old) (W.told output.new)) }
     ensures at_end { OnOk result (IsAtEnd (R.remaining input.new)) }
-    ensures reads { IfErr result (TellsFault (R.faults input.old) (R.faults input.new) (R.remaining input.new)) }
+    ensures reads { IfErr result (TellsFault (R.faults input.old) (R.faults input.new)
+        (R.remaining input.new)) }
     ensures writes_counted { IsOnceAtMost (W.faults output.old) (W.faults output.new) }
     ensures no_read_fault { OnOk result (R.faults input.new ≡ R.faults input.old) }
     ensures no_write_fault { OnOk result (W.faults output.new ≡ W.faults output.old) }
@@ -146,7 +147,8 @@ fn write_line<W: WriteExt>(alloc: Global, line: &str, output: &mut W) -> Result<
 
 // Writes a text and the byte 0A.
 fn write_ended<W: WriteExt>(alloc: Global, text: &str, output: &mut W) -> Result<()>
-    ensures written { OnOk result (Appends (W.told output.old) (W.told output.new) (text.now ++ (0x0A ∷ []))) }
+    ensures written { OnOk result (Appends (W.told output.old) (W.told output.new)
+        (text.now ++ (0x0A ∷ []))) }
     ensures counted { IsOnceAtMost (W.faults output.old) (W.faults output.new) }
     ensures no_fault { OnOk result (W.faults output.new ≡ W.faults output.old) }
     ensures goes_on { W.later output.old output.new }

@@ -25,8 +25,10 @@ pub struct Asn1RawDer(pub Vec<u8>);
 /// where these differ, and hashed as a list of these.
 pub fn comparisons()
     ensures equal { IsEqualityOf ⟦<Asn1RawDer as PartialEq>⟧.eq (λ raw. raw.0.items) }
-    ensures order { IsThatOf ⟦<Asn1RawDer as PartialOrd>⟧.partial_cmp (λ raw. raw.0.items) (λ x y. Some (slice_cmp nat_cmp x y)) }
-    ensures hash { (raw : _) → ⟦<Asn1RawDer as Hash>⟧.hash_input raw ≡ fed.slice fed.u8 raw.0.items }
+    ensures order { IsThatOf ⟦<Asn1RawDer as PartialOrd>⟧.partial_cmp (λ raw. raw.0.items)
+        (λ x y. Some (slice_cmp nat_cmp x y)) }
+    ensures hash { (raw : _) → ⟦<Asn1RawDer as Hash>⟧.hash_input raw
+        ≡ fed.slice fed.u8 raw.0.items }
 {}
 
 impl Asn1RawDer {

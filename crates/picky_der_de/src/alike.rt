@@ -26,8 +26,10 @@ pub trait Alike: Sized {
 ///
 /// An error is the one of the twin, and comes when that does: no value of the twin stands there, so none of this type.
 pub fn deserialize_as<T: Alike, R: ReadExt>(de: &mut Deserializer<R>) -> Result<T>
-    ensures ok { IfOk result (λ value. Reads T.As.shape de.old de.new (T.As.meaning (T.parts value))) }
-    ensures err { IfErr result (Refuses (λ value. T.As.meaning (T.parts value)) T.As.shape de.old de.new) }
+    ensures ok { IfOk result (λ value. Reads T.As.shape de.old de.new
+        (T.As.meaning (T.parts value))) }
+    ensures err { IfErr result (Refuses (λ value. T.As.meaning (T.parts value)) T.As.shape de.old
+        de.new) }
 {
     Ok(T::from_parts(T::As::deserialize(de)?))
 }

@@ -12,8 +12,10 @@ pub const DEFAULT_MAX_LEN: usize = 10240;
 
 // The value at the front of what a reader has left, and the reader.
 fn read_from<T: Deserialize, R: ReadExt>(alloc: Global, reader: R, max_len: usize) -> (Result<T>, R)
-    ensures ok { IfOk result.0 (ReadsFront T.meaning T.shape T.eq max_len (told R.remaining R.faults reader) (told R.remaining R.faults result.1)) }
-    ensures err { IfErr result.0 (RefusesFront T.meaning T.shape max_len (told R.remaining R.faults reader) (told R.remaining R.faults result.1)) }
+    ensures ok { IfOk result.0 (ReadsFront T.meaning T.shape T.eq max_len
+        (told R.remaining R.faults reader) (told R.remaining R.faults result.1)) }
+    ensures err { IfErr result.0 (RefusesFront T.meaning T.shape max_len
+        (told R.remaining R.faults reader) (told R.remaining R.faults result.1)) }
     ensures same_references { R.through result.1 ≡ R.through reader }
 {
     let mut de = Deserializer::new_from_reader(alloc, reader, max_len);
@@ -40,8 +42,10 @@ pub fn from_bytes<T: Deserialize>(alloc: Global, bytes: &[u8]) -> Result<T>
 /// `TruncatedData` where more bytes behind those that were drawn could make a value; any other is final.
 /// What was drawn by then isn't given back.
 pub fn from_reader<T: Deserialize, R: ReadExt>(alloc: Global, reader: &mut R) -> Result<T>
-    ensures ok { IfOk result (ReadsFront T.meaning T.shape T.eq 10240 (told R.remaining R.faults reader.old) (told R.remaining R.faults reader.new)) }
-    ensures err { IfErr result (RefusesFront T.meaning T.shape 10240 (told R.remaining R.faults reader.old) (told R.remaining R.faults reader.new)) }
+    ensures ok { IfOk result (ReadsFront T.meaning T.shape T.eq 10240
+        (told R.remaining R.faults reader.old) (told R.remaining R.faults reader.new)) }
+    ensures err { IfErr result (RefusesFront T.meaning T.shape 10240
+        (told R.remaining R.faults reader.old) (told R.remaining R.faults reader.new)) }
     ensures same_references { R.through reader.new ≡ R.through reader.old }
 {
     from_reader_with_max_len(alloc, reader, DEFAULT_MAX_LEN)
@@ -53,8 +57,10 @@ pub fn from_reader_with_max_len<T: Deserialize, R: ReadExt>(
     reader: &mut R,
     max_len: usize,
 ) -> Result<T>
-    ensures ok { IfOk result (ReadsFront T.meaning T.shape T.eq max_len (told R.remaining R.faults reader.old) (told R.remaining R.faults reader.new)) }
-    ensures err { IfErr result (RefusesFront T.meaning T.shape max_len (told R.remaining R.faults reader.old) (told R.remaining R.faults reader.new)) }
+    ensures ok { IfOk result (ReadsFront T.meaning T.shape T.eq max_len
+        (told R.remaining R.faults reader.old) (told R.remaining R.faults reader.new)) }
+    ensures err { IfErr result (RefusesFront T.meaning T.shape max_len
+        (told R.remaining R.faults reader.old) (told R.remaining R.faults reader.new)) }
     ensures same_references { R.through reader.new ≡ R.through reader.old }
 {
     let (result, _reader) = read_from::<T, &mut R>(alloc, reader, max_len);

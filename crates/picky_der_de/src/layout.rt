@@ -27,7 +27,8 @@ pub trait DeserializeLayout: SerializeMembers + PartialEq + Drop + Sized {
         requires direct { (state_of sequence.old).direct ≡ None }
         ensures same_reference { borrowed_by sequence.new ≡ borrowed_by sequence.old }
         ensures outer { outer_of sequence.new ≡ outer_of sequence.old }
-        ensures ok { IfOk result (λ row. ReadsLayout layout (state_of sequence.old) (state_of sequence.new) (Self.members row)) }
+        ensures ok { IfOk result (λ row. ReadsLayout layout (state_of sequence.old)
+            (state_of sequence.new) (Self.members row)) }
         ensures err { IfErr result (RefusesLayout Self.members layout (state_of sequence.old) (state_of sequence.new)) };
 
     // The first that is there begins with no other byte than its layout says, and they are known by their trees.
@@ -65,8 +66,12 @@ pub trait Struct: Sized {
 ///
 /// `InvalidData` for what is left behind the members; else as `deserialize_seq`, `next_field` and `next_optional` refuse them.
 pub fn deserialize_struct_as<T: Struct, R: ReadExt>(de: &mut Deserializer<R>) -> Result<T>
-    ensures ok { IfOk result (λ value. Reads (Shape.struct_of ListKind.sequence T.Members.layout) de.old de.new (Tree.list ListKind.sequence (T.Members.members (T.parts value)))) }
-    ensures err { IfErr result (Refuses (λ value. Tree.list ListKind.sequence (T.Members.members (T.parts value))) (Shape.struct_of ListKind.sequence T.Members.layout) de.old de.new) }
+    ensures ok { IfOk result (λ value. Reads
+        (Shape.struct_of ListKind.sequence T.Members.layout) de.old de.new
+        (Tree.list ListKind.sequence (T.Members.members (T.parts value)))) }
+    ensures err { IfErr result (Refuses (λ value. Tree.list ListKind.sequence
+        (T.Members.members (T.parts value)))
+        (Shape.struct_of ListKind.sequence T.Members.layout) de.old de.new) }
 {
     let mut sequence = de.deserialize_seq()?;
     let members = T::Members::deserialize_layout(&mut sequence)?;

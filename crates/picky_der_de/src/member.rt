@@ -42,8 +42,11 @@ pub trait DeserializeMember: SerializeMember + PartialEq + Drop + Sized {
     fn deserialize_member<R: ReadExt>(sequence: &mut Sequence<'_, R>) -> Result<Self>
         ensures same_reference { borrowed_by sequence.new ≡ borrowed_by sequence.old }
         ensures outer { outer_of sequence.new ≡ outer_of sequence.old }
-        ensures member { IfOk result (λ place. IfSome (item place) (λ value. ReadsMember shape (state_of sequence.old) (state_of sequence.new) (item_meaning value))) }
-        ensures none { IfOk result (λ place. IfNone (item place) (Lacks shape (state_of sequence.old) (state_of sequence.new))) }
+        ensures member { IfOk result (λ place. IfSome (item place)
+            (λ value. ReadsMember shape (state_of sequence.old) (state_of sequence.new)
+            (item_meaning value))) }
+        ensures none { IfOk result (λ place. IfNone (item place)
+            (Lacks shape (state_of sequence.old) (state_of sequence.new))) }
         ensures err { IfErr result (RefusesComponent presence item_meaning left_out shape (state_of sequence.old) (state_of sequence.new)) };
 
     // What is written of it is what stands there, and it is known by that.

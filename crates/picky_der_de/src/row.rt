@@ -26,7 +26,8 @@ pub trait DeserializeMembers: SerializeMembers + PartialEq + Drop + Sized {
         requires direct { (state_of sequence.old).direct ≡ None }
         ensures same_reference { borrowed_by sequence.new ≡ borrowed_by sequence.old }
         ensures outer { outer_of sequence.new ≡ outer_of sequence.old }
-        ensures ok { IfOk result (λ row. ReadsRow shapes (state_of sequence.old) (state_of sequence.new) (Self.members row)) }
+        ensures ok { IfOk result (λ row. ReadsRow shapes (state_of sequence.old)
+            (state_of sequence.new) (Self.members row)) }
         ensures err { IfErr result (RefusesRow Self.members shapes (state_of sequence.old) (state_of sequence.new)) };
 
     // Two rows of readable members with the same trees are equal.

@@ -49,10 +49,15 @@ impl<'a, R: ReadExt> Sequence<'a, R> {
     pub fn next_element<T: Deserialize>(&mut self) -> Result<Option<T>>
         ensures same_reference { borrowed_by self.new ≡ borrowed_by self.old }
         ensures outer { outer_of self.new ≡ outer_of self.old }
-        ensures member { IfOk result (λ next. IfSome next (λ value. ReadsMember T.shape (state_of self.old) (state_of self.new) (T.meaning value))) }
-        ensures none { IfOk result (λ next. IfNone next (HasNoMore (state_of self.old) (state_of self.new))) }
-        ensures err { IfErr result (RefusesMember T.meaning T.shape (state_of self.old) (state_of self.new)) }
-        ensures ahead { IfErr result (λ e. (state_of self.old).failed ≡ None → 0 < (state_of self.old).room) }
+        ensures member { IfOk result (λ next. IfSome next
+            (λ value. ReadsMember T.shape (state_of self.old) (state_of self.new)
+            (T.meaning value))) }
+        ensures none { IfOk result (λ next. IfNone next
+            (HasNoMore (state_of self.old) (state_of self.new))) }
+        ensures err { IfErr result (RefusesMember T.meaning T.shape (state_of self.old)
+            (state_of self.new)) }
+        ensures ahead { IfErr result (λ e. (state_of self.old).failed ≡ None
+            → 0 < (state_of self.old).room) }
     {
         if self.de.is_at_end()? {
             return Ok(None);
@@ -68,8 +73,10 @@ impl<'a, R: ReadExt> Sequence<'a, R> {
     pub fn next_field<T: Deserialize>(&mut self) -> Result<T>
         ensures same_reference { borrowed_by self.new ≡ borrowed_by self.old }
         ensures outer { outer_of self.new ≡ outer_of self.old }
-        ensures ok { IfOk result (λ value. ReadsMember T.shape (state_of self.old) (state_of self.new) (T.meaning value)) }
-        ensures err { IfErr result (RefusesMember T.meaning T.shape (state_of self.old) (state_of self.new)) }
+        ensures ok { IfOk result (λ value. ReadsMember T.shape (state_of self.old)
+            (state_of self.new) (T.meaning value)) }
+        ensures err { IfErr result (RefusesMember T.meaning T.shape (state_of self.old)
+            (state_of self.new)) }
         ensures at_end { (state_of self.old).failed ≡ None → (state_of self.old).room ≡ 0
             → (result ≡ Err Asn1DerError.TruncatedData) × ((state_of self.new) ≡ failed_with (state_of self.old) Asn1DerError.TruncatedData) }
     {
@@ -85,10 +92,13 @@ impl<'a, R: ReadExt> Sequence<'a, R> {
     pub fn next_tag(&mut self) -> Result<Option<Tag>>
         ensures same_reference { borrowed_by self.new ≡ borrowed_by self.old }
         ensures outer { outer_of self.new ≡ outer_of self.old }
-        ensures tag { IfOk result (λ next. IfSome next (Identifies (state_of self.old) (state_of self.new))) }
-        ensures none { IfOk result (λ next. IfNone next (HasNoMore (state_of self.old) (state_of self.new))) }
+        ensures tag { IfOk result (λ next. IfSome next
+            (Identifies (state_of self.old) (state_of self.new))) }
+        ensures none { IfOk result (λ next. IfNone next
+            (HasNoMore (state_of self.old) (state_of self.new))) }
         ensures err { IfErr result (RefusesIdentifier (state_of self.old) (state_of self.new)) }
-        ensures ahead { IfErr result (λ e. (state_of self.old).failed ≡ None → 0 < (state_of self.old).room) }
+        ensures ahead { IfErr result (λ e. (state_of self.old).failed ≡ None
+            → 0 < (state_of self.old).room) }
     {
         if self.de.is_at_end()? {
             return Ok(None);
@@ -106,9 +116,13 @@ impl<'a, R: ReadExt> Sequence<'a, R> {
     pub fn next_optional<T: Begins>(&mut self) -> Result<Option<T>>
         ensures same_reference { borrowed_by self.new ≡ borrowed_by self.old }
         ensures outer { outer_of self.new ≡ outer_of self.old }
-        ensures member { IfOk result (λ next. IfSome next (λ value. ReadsMember T.shape (state_of self.old) (state_of self.new) (T.meaning value))) }
-        ensures none { IfOk result (λ next. IfNone next (Lacks T.shape (state_of self.old) (state_of self.new))) }
-        ensures err { IfErr result (RefusesOptional T.meaning T.shape (state_of self.old) (state_of self.new)) }
+        ensures member { IfOk result (λ next. IfSome next
+            (λ value. ReadsMember T.shape (state_of self.old) (state_of self.new)
+            (T.meaning value))) }
+        ensures none { IfOk result (λ next. IfNone next
+            (Lacks T.shape (state_of self.old) (state_of self.new))) }
+        ensures err { IfErr result (RefusesOptional T.meaning T.shape (state_of self.old)
+            (state_of self.new)) }
     {
         match self.next_tag() {
             Ok(Some(tag)) => {
@@ -129,9 +143,13 @@ impl<'a, R: ReadExt> Sequence<'a, R> {
     pub fn next_or_default<T: Begins, D: DefaultOf<T>>(&mut self) -> Result<T>
         ensures same_reference { borrowed_by self.new ≡ borrowed_by self.old }
         ensures outer { outer_of self.new ≡ outer_of self.old }
-        ensures member { IfOk result (λ value. IfSome (unless_default D.left_out value) (λ other. ReadsMember T.shape (state_of self.old) (state_of self.new) (T.meaning other))) }
-        ensures none { IfOk result (λ value. IfNone (unless_default D.left_out value) (Lacks T.shape (state_of self.old) (state_of self.new))) }
-        ensures err { IfErr result (RefusesDefault T.meaning D.left_out T.shape (state_of self.old) (state_of self.new)) }
+        ensures member { IfOk result (λ value. IfSome (unless_default D.left_out value)
+            (λ other. ReadsMember T.shape (state_of self.old) (state_of self.new)
+            (T.meaning other))) }
+        ensures none { IfOk result (λ value. IfNone (unless_default D.left_out value)
+            (Lacks T.shape (state_of self.old) (state_of self.new))) }
+        ensures err { IfErr result (RefusesDefault T.meaning D.left_out T.shape (state_of self.old)
+            (state_of self.new)) }
     {
         match self.next_optional::<T>()? {
             Some(value) => {
@@ -151,8 +169,10 @@ impl<'a, R: ReadExt> Sequence<'a, R> {
         requires direct { (state_of self.old).direct ≡ None }
         ensures same_reference { borrowed_by self.new ≡ borrowed_by self.old }
         ensures outer { outer_of self.new ≡ outer_of self.old }
-        ensures ok { IfOk result (λ values. ReadsAll T.meaning T.shape (state_of self.old) (state_of self.new) values.items) }
-        ensures err { IfErr result (RefusesAll T.meaning T.shape (state_of self.old) (state_of self.new)) }
+        ensures ok { IfOk result (λ values. ReadsAll T.meaning T.shape (state_of self.old)
+            (state_of self.new) values.items) }
+        ensures err { IfErr result (RefusesAll T.meaning T.shape (state_of self.old)
+            (state_of self.new)) }
     {
         let mut values = Vec::new(self.de.alloc());
         while let Some(value) = self.next_element::<T>()? {
@@ -165,7 +185,8 @@ impl<'a, R: ReadExt> Sequence<'a, R> {
 
     /// Closes the sequence. Bytes left over before its end are `InvalidData`, and none of them is drawn.
     pub fn end(self) -> Result<()>
-        ensures ok { OnOk result (Closes (outer_of self.entry) (state_of self.entry) self.exit.0.now) }
+        ensures ok { OnOk result (Closes (outer_of self.entry)
+            (state_of self.entry) self.exit.0.now) }
         ensures err { IfErr result (RefusesClose (state_of self.entry) self.exit.0.now) }
     {
         let Sequence { de, outer } = self;
@@ -187,7 +208,8 @@ impl<R: ReadExt> Deserializer<R> {
     // Begins a sequence or set under this tag.
     fn open(&mut self, tag: Tag) -> Result<Sequence<'_, R>>
         requires { IsTagNumber (number_of tag) }
-        ensures* rests { sem 𝓛 (RestsIfErr (the_row R.row R.ReadExt.own R.Read) self.entry borrowed_by result (λ new. IfErr result (RefusesList tag self.old new))) }
+        ensures* rests { sem 𝓛 (RestsIfErr (the_row R.row R.ReadExt.own R.Read) self.entry
+            borrowed_by result (λ new. IfErr result (RefusesList tag self.old new))) }
         ensures same_reference { IfOk result (λ q. borrowed_by q ≡ self.entry.ghost_name) }
         ensures ok { IfOk result (λ q. OpensList tag self.old (state_of q) (outer_of q)) }
     {
@@ -197,8 +219,12 @@ impl<R: ReadExt> Deserializer<R> {
 
     // A sequence of values of one type.
     pub(crate) fn read_sequence<T: Deserialize>(&mut self) -> Result<Vec<T>>
-        ensures ok { IfOk result (λ values. Reads (Shape.list_of ListKind.sequence T.shape) self.old self.new (Tree.list ListKind.sequence (trees (map T.meaning values.items)))) }
-        ensures err { IfErr result (Refuses (λ values. Tree.list ListKind.sequence (trees (map T.meaning values))) (Shape.list_of ListKind.sequence T.shape) self.old self.new) }
+        ensures ok { IfOk result (λ values. Reads
+            (Shape.list_of ListKind.sequence T.shape) self.old self.new
+            (Tree.list ListKind.sequence (trees (map T.meaning values.items)))) }
+        ensures err { IfErr result (Refuses (λ values. Tree.list ListKind.sequence
+            (trees (map T.meaning values))) (Shape.list_of ListKind.sequence T.shape) self.old
+            self.new) }
     {
         let mut members = self.deserialize_seq()?;
         let values = members.collect::<T>()?;
@@ -208,8 +234,12 @@ impl<R: ReadExt> Deserializer<R> {
 
     // A set of values of one type.
     pub(crate) fn read_set<T: Deserialize>(&mut self) -> Result<Vec<T>>
-        ensures ok { IfOk result (λ values. Reads (Shape.list_of ListKind.set T.shape) self.old self.new (Tree.list ListKind.set (trees (map T.meaning values.items)))) }
-        ensures err { IfErr result (Refuses (λ values. Tree.list ListKind.set (trees (map T.meaning values))) (Shape.list_of ListKind.set T.shape) self.old self.new) }
+        ensures ok { IfOk result (λ values. Reads
+            (Shape.list_of ListKind.set T.shape) self.old self.new
+            (Tree.list ListKind.set (trees (map T.meaning values.items)))) }
+        ensures err { IfErr result (Refuses (λ values. Tree.list ListKind.set
+            (trees (map T.meaning values))) (Shape.list_of ListKind.set T.shape) self.old
+            self.new) }
     {
         let mut members = self.deserialize_set()?;
         let values = members.collect::<T>()?;
@@ -222,7 +252,8 @@ impl<R: ReadExt> Deserializer<R> {
     ///
     /// `InvalidData` for another tag; else the refusals of a header and of an end, and the reader's fault.
     pub fn deserialize_seq(&mut self) -> Result<Sequence<'_, R>>
-        ensures* rests { sem 𝓛 (RestsIfErr (the_row R.row R.ReadExt.own R.Read) self.entry borrowed_by result (λ new. IfErr result (RefusesList 0x30 self.old new))) }
+        ensures* rests { sem 𝓛 (RestsIfErr (the_row R.row R.ReadExt.own R.Read) self.entry
+            borrowed_by result (λ new. IfErr result (RefusesList 0x30 self.old new))) }
         ensures same_reference { IfOk result (λ q. borrowed_by q ≡ self.entry.ghost_name) }
         ensures ok { IfOk result (λ q. OpensList 0x30 self.old (state_of q) (outer_of q)) }
     {
@@ -231,7 +262,8 @@ impl<R: ReadExt> Deserializer<R> {
 
     /// Begins to read a set, as a sequence is begun. The order of its members is tested as each is read.
     pub fn deserialize_set(&mut self) -> Result<Sequence<'_, R>>
-        ensures* rests { sem 𝓛 (RestsIfErr (the_row R.row R.ReadExt.own R.Read) self.entry borrowed_by result (λ new. IfErr result (RefusesList 0x31 self.old new))) }
+        ensures* rests { sem 𝓛 (RestsIfErr (the_row R.row R.ReadExt.own R.Read) self.entry
+            borrowed_by result (λ new. IfErr result (RefusesList 0x31 self.old new))) }
         ensures same_reference { IfOk result (λ q. borrowed_by q ≡ self.entry.ghost_name) }
         ensures ok { IfOk result (λ q. OpensList 0x31 self.old (state_of q) (outer_of q)) }
     {
@@ -240,7 +272,8 @@ impl<R: ReadExt> Deserializer<R> {
 
     /// Begins to read a tuple as a sequence. The length isn't looked at.
     pub fn deserialize_tuple(&mut self, _len: usize) -> Result<Sequence<'_, R>>
-        ensures* rests { sem 𝓛 (RestsIfErr (the_row R.row R.ReadExt.own R.Read) self.entry borrowed_by result (λ new. IfErr result (RefusesList 0x30 self.old new))) }
+        ensures* rests { sem 𝓛 (RestsIfErr (the_row R.row R.ReadExt.own R.Read) self.entry
+            borrowed_by result (λ new. IfErr result (RefusesList 0x30 self.old new))) }
         ensures same_reference { IfOk result (λ q. borrowed_by q ≡ self.entry.ghost_name) }
         ensures ok { IfOk result (λ q. OpensList 0x30 self.old (state_of q) (outer_of q)) }
     {
@@ -253,7 +286,8 @@ impl<R: ReadExt> Deserializer<R> {
         _name: &'static str,
         _len: usize,
     ) -> Result<Sequence<'_, R>>
-        ensures* rests { sem 𝓛 (RestsIfErr (the_row R.row R.ReadExt.own R.Read) self.entry borrowed_by result (λ new. IfErr result (RefusesList 0x30 self.old new))) }
+        ensures* rests { sem 𝓛 (RestsIfErr (the_row R.row R.ReadExt.own R.Read) self.entry
+            borrowed_by result (λ new. IfErr result (RefusesList 0x30 self.old new))) }
         ensures same_reference { IfOk result (λ q. borrowed_by q ≡ self.entry.ghost_name) }
         ensures ok { IfOk result (λ q. OpensList 0x30 self.old (state_of q) (outer_of q)) }
     {
@@ -266,7 +300,8 @@ impl<R: ReadExt> Deserializer<R> {
         _name: &'static str,
         _fields: &'static [&'static str],
     ) -> Result<Sequence<'_, R>>
-        ensures* rests { sem 𝓛 (RestsIfErr (the_row R.row R.ReadExt.own R.Read) self.entry borrowed_by result (λ new. IfErr result (RefusesList 0x30 self.old new))) }
+        ensures* rests { sem 𝓛 (RestsIfErr (the_row R.row R.ReadExt.own R.Read) self.entry
+            borrowed_by result (λ new. IfErr result (RefusesList 0x30 self.old new))) }
         ensures same_reference { IfOk result (λ q. borrowed_by q ≡ self.entry.ghost_name) }
         ensures ok { IfOk result (λ q. OpensList 0x30 self.old (state_of q) (outer_of q)) }
     {

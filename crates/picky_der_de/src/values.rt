@@ -15,7 +15,8 @@ use std::alloc::Global;
 ///
 /// It is refused as `from_bytes` refuses it. An empty slice is `TruncatedData`.
 pub fn next_from_bytes<T: Deserialize>(alloc: Global, bytes: &[u8]) -> Result<(T, usize)>
-    ensures ok { IfOk result (λ next. IsFront T.meaning T.shape T.eq bytes.now (length bytes.now) next.0) }
+    ensures ok { IfOk result (λ next. IsFront T.meaning T.shape T.eq bytes.now
+        (length bytes.now) next.0) }
     ensures taken { IfOk result (λ next. next.1 ≡ length (der (T.meaning next.0))) }
     ensures within { IfOk result (λ next. next.1 ≤ length bytes.now) }
     ensures err { IfErr result (HasNoFront T.meaning T.shape bytes.now (length bytes.now)) }
@@ -30,10 +31,12 @@ impl<R: ReadExt> Deserializer<R> {
     fn next_value<T: Deserialize>(&mut self) -> Result<Option<T>>
         requires had_not_failed { self.old.failed ≡ None }
         requires whole { self.old.direct ≡ None }
-        ensures value { IfOk result (λ next. IfSome next (λ value. Reads T.shape self.old self.new (T.meaning value))) }
+        ensures value { IfOk result (λ next. IfSome next
+            (λ value. Reads T.shape self.old self.new (T.meaning value))) }
         ensures ended { IfOk result (λ next. IfNone next (HasEnded self.old self.new)) }
         ensures err { IfErr result (Refuses T.meaning T.shape self.old self.new) }
-        ensures ahead { IfErr result (λ e. IsJudged self.old self.new e → 0 < self.old.room → IfSome self.old.input (λ bytes. 0 < length bytes)) }
+        ensures ahead { IfErr result (λ e. IsJudged self.old self.new e → 0 < self.old.room
+            → IfSome self.old.input (λ bytes. 0 < length bytes)) }
     {
         match self.identify_next() {
             Ok(Some(_tag)) => {
@@ -52,9 +55,14 @@ fn read_next_from<T: Deserialize, R: ReadExt>(
     reader: R,
     max_len: usize,
 ) -> (Result<Option<T>>, R)
-    ensures value { IfOk result.0 (λ next. IfSome next (ReadsFront T.meaning T.shape T.eq max_len (told R.remaining R.faults reader) (told R.remaining R.faults result.1))) }
-    ensures ended { IfOk result.0 (λ next. IfNone next (HasNoneLeft max_len (told R.remaining R.faults reader) (told R.remaining R.faults result.1))) }
-    ensures err { IfErr result.0 (RefusesNextValue T.meaning T.shape max_len (told R.remaining R.faults reader) (told R.remaining R.faults result.1)) }
+    ensures value { IfOk result.0 (λ next. IfSome next
+        (ReadsFront T.meaning T.shape T.eq max_len (told R.remaining R.faults reader)
+        (told R.remaining R.faults result.1))) }
+    ensures ended { IfOk result.0 (λ next. IfNone next
+        (HasNoneLeft max_len (told R.remaining R.faults reader)
+        (told R.remaining R.faults result.1))) }
+    ensures err { IfErr result.0 (RefusesNextValue T.meaning T.shape max_len
+        (told R.remaining R.faults reader) (told R.remaining R.faults result.1)) }
     ensures same_references { R.through result.1 ≡ R.through reader }
 {
     let mut de = Deserializer::new_from_reader(alloc, reader, max_len);
@@ -71,9 +79,14 @@ pub fn next_from_reader<T: Deserialize, R: ReadExt>(
     reader: &mut R,
     max_len: usize,
 ) -> Result<Option<T>>
-    ensures value { IfOk result (λ next. IfSome next (ReadsFront T.meaning T.shape T.eq max_len (told R.remaining R.faults reader.old) (told R.remaining R.faults reader.new))) }
-    ensures ended { IfOk result (λ next. IfNone next (HasNoneLeft max_len (told R.remaining R.faults reader.old) (told R.remaining R.faults reader.new))) }
-    ensures err { IfErr result (RefusesNextValue T.meaning T.shape max_len (told R.remaining R.faults reader.old) (told R.remaining R.faults reader.new)) }
+    ensures value { IfOk result (λ next. IfSome next
+        (ReadsFront T.meaning T.shape T.eq max_len (told R.remaining R.faults reader.old)
+        (told R.remaining R.faults reader.new))) }
+    ensures ended { IfOk result (λ next. IfNone next
+        (HasNoneLeft max_len (told R.remaining R.faults reader.old)
+        (told R.remaining R.faults reader.new))) }
+    ensures err { IfErr result (RefusesNextValue T.meaning T.shape max_len
+        (told R.remaining R.faults reader.old) (told R.remaining R.faults reader.new)) }
     ensures same_references { R.through reader.new ≡ R.through reader.old }
 {
     let (next, _reader) = read_next_from::<T, &mut R>(alloc, reader, max_len);

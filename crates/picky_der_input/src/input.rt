@@ -169,8 +169,14 @@ impl<R: ReadExt> Input<R> {
         ensures byte { IfOk result (λ b. b < 256) }
         ensures direct { OnOk result (self.new.direct ≡ self.old.direct) }
         ensures err { IfErr result (Fails self.old self.new) }
-        ensures missing { IfErr result (λ e. self.old.failed ≡ None → self.new.faults ≡ self.old.faults → IsMissing self.old e) }
-        ensures unmoved { IfErr result (λ e. self.new ≡ record self.old { failed = Some (failure_of e); faults = self.new.faults; input = self.new.input }) }
+        ensures missing { IfErr result (λ e. self.old.failed ≡ None
+            → self.new.faults ≡ self.old.faults → IsMissing self.old e) }
+        ensures unmoved { IfErr result (λ e. self.new
+            ≡ record self.old {
+              failed = Some (failure_of e);
+              faults = self.new.faults;
+              input = self.new.input;
+            }) }
     {
         if let Some(error) = self.earlier() {
             return Err(error);

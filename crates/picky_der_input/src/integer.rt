@@ -9,8 +9,10 @@ use picky_der_core::{Asn1DerError, Result, UInt};
 
 // The bytes of a number behind a 00 that keeps it from being negative.
 fn digits_of(content: &[u8]) -> Result<&[u8]>
-    ensures ok { IfOk result (λ digits. (most : ℕ) → unsigned_fault most content.now ≡ number_fault most digits.now) }
-    ensures same { IfOk result (λ digits. number_from_digits 256 digits.now ≡ number_from_digits 256 content.now) }
+    ensures ok { IfOk result (λ digits. (most : ℕ)
+        → unsigned_fault most content.now ≡ number_fault most digits.now) }
+    ensures same { IfOk result (λ digits. number_from_digits 256 digits.now
+        ≡ number_from_digits 256 content.now) }
     ensures err { IfErr result (λ e. (most : ℕ) → unsigned_fault most content.now ≡ Some e) }
     ensures no_device { IfErr result IsOfContent }
 {

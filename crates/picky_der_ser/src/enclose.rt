@@ -33,7 +33,8 @@ fn turn(bytes: &mut [u8], count: usize)
 // Brings the last `count` bytes in front of those from `start` on.
 fn rotate_from(out: &mut Vec<u8>, start: usize, count: usize)
     requires { start + count ≤ vec_len out.old }
-    ensures items { out.new.items ≡ take start out.old.items ++ slice_rotate_right (drop start out.old.items) count }
+    ensures items { out.new.items ≡ take start out.old.items ++ slice_rotate_right
+        (drop start out.old.items) count }
     ensures len { vec_len out.new ≡ vec_len out.old }
 {
     turn(&mut out[start..], count);
@@ -53,7 +54,8 @@ fn fill_from_last(out: &mut Vec<u8>, at: usize, count: usize)
 // Writes a header of two bytes over those from `at` on.
 pub(crate) fn fill_short(out: &mut Vec<u8>, at: usize, identifier: u8, len: u8)
     requires { at + 2 ≤ vec_len out.old }
-    ensures items { out.new.items ≡ take at out.old.items ++ (identifier ∷ len ∷ drop (at + 2) out.old.items) }
+    ensures items { out.new.items ≡ take at out.old.items ++
+        (identifier ∷ len ∷ drop (at + 2) out.old.items) }
     ensures len { vec_len out.new ≡ vec_len out.old }
 {
     out[at..at + 2].copy_from_slice(&[identifier, len]);
@@ -69,7 +71,8 @@ fn push_nested(
     content: &[u8],
 ) -> Result<(), AllocError>
     requires numbers { HaveTagNumbers around.now × HasNumber header }
-    ensures ok { OnOk result (out.new.items ≡ out.old.items ++ der (under around.now (tree_of header content.now))) }
+    ensures ok { OnOk result (out.new.items ≡ out.old.items ++ der
+        (under around.now (tree_of header content.now))) }
     ensures grows { vec_len out.old ≤ vec_len out.new }
 {
     out.reserve(SPARE_ROOM + content.len())?;
@@ -86,7 +89,8 @@ pub(crate) fn push_enclosed(
     content: &[u8],
 ) -> Result<(), AllocError>
     requires numbers { HaveTagNumbers around.now × HasNumber header }
-    ensures ok { OnOk result (out.new.items ≡ out.old.items ++ der (under around.now (tree_of header content.now))) }
+    ensures ok { OnOk result (out.new.items ≡ out.old.items ++ der
+        (under around.now (tree_of header content.now))) }
     ensures grows { vec_len out.old ≤ vec_len out.new }
 {
     let len = content.len();
@@ -107,9 +111,13 @@ pub(crate) fn push_short(out: &mut Vec<u8>, tag: Tag, content: &[u8])
     ensures items { out.new.items ≡ out.old.items ++ der (Tree.bytes tag content.now) }
     ensures count { length (der (Tree.bytes tag content.now)) ≡ 2 + length content.now }
 {
-    // There is room, so neither is refused.
-    let _ = out.extend_from_slice(&[tag.inner(), content.len() as u8]);
-    let _ = out.extend_from_slice(content);
+    // There is room, so none is refused. The content of a small number, one byte, is added together with its header.
+    if content.len() == 1 {
+        let _ = out.extend_from_slice(&[tag.inner(), 1, content[0]]);
+    } else {
+        let _ = out.extend_from_slice(&[tag.inner(), content.len() as u8]);
+        let _ = out.extend_from_slice(content);
+    }
 }
 
 // Puts the headers of the content from `start` on in front of it. The room from `at` to `start` takes the first of them, so
@@ -127,7 +135,8 @@ fn enclose_nested(
     requires room { at ≤ start }
     requires within { start ≤ vec_len out.old }
     requires least { start ≤ at + length (headers around.now header 0) }
-    ensures ok { OnOk result (out.new.items ≡ take at out.old.items ++ der (under around.now (tree_of header (drop start out.old.items)))) }
+    ensures ok { OnOk result (out.new.items ≡ take at out.old.items ++ der
+        (under around.now (tree_of header (drop start out.old.items)))) }
     ensures grows { at ≤ vec_len out.new }
 {
     let end = out.len();
@@ -152,7 +161,8 @@ pub(crate) fn enclose(
     requires room { at ≤ start }
     requires within { start ≤ vec_len out.old }
     requires least { start ≤ at + length (headers around.now header 0) }
-    ensures ok { OnOk result (out.new.items ≡ take at out.old.items ++ der (under around.now (tree_of header (drop start out.old.items)))) }
+    ensures ok { OnOk result (out.new.items ≡ take at out.old.items ++ der
+        (under around.now (tree_of header (drop start out.old.items)))) }
     ensures grows { at ≤ vec_len out.new }
 {
     let len = out.len() - start;

@@ -35,7 +35,8 @@ pub fn to_bytes<T: Serialize>(alloc: Global, value: &T, buf: &mut [u8]) -> Resul
 /// of the encoding stands over the vector's first bytes; at `UnsupportedValue` the vector is as it was.
 pub fn to_byte_buf<T: Serialize>(alloc: Global, value: &T, buf: &mut Vec<u8>) -> Result<usize>
     ensures ok { IfOk result (λ n. Overwrites (T.meaning value.now) buf.old.items n buf.new.items) }
-    ensures err { IfErr result (λ e. RefusedVec (T.meaning value.now) buf.old.items e buf.new.items) }
+    ensures err { IfErr result (λ e. RefusedVec
+        (T.meaning value.now) buf.old.items e buf.new.items) }
 {
     let mut sink = BufSink::new(buf);
     let outcome = to_writer(alloc, value, &mut sink);
@@ -45,8 +46,9 @@ pub fn to_byte_buf<T: Serialize>(alloc: Global, value: &T, buf: &mut Vec<u8>) ->
     outcome
 }
 
-/// The canonical encoding of a value. `OutOfMemory` where a growth was refused, and `UnsupportedValue` where the value
-/// can't be written: a tag number in it is past 30, or the encoding is longer than `usize::MAX`.
+/// The canonical encoding of a value, in a vector that has room for more bytes. `OutOfMemory` where a growth was refused,
+/// and `UnsupportedValue` where the value can't be written: a tag number in it is past 30, or the encoding is longer than
+/// `usize::MAX`.
 pub fn to_vec<T: Serialize>(alloc: Global, value: &T) -> Result<Vec<u8>>
     ensures ok { IfOk result (λ bytes. bytes.items ≡ der (T.meaning value.now)) }
     ensures writable { OnOk result (IsWritable (T.meaning value.now)) }
@@ -66,9 +68,11 @@ pub fn to_writer<T: Serialize, W: WriteExt>(
     value: &T,
     writer: &mut W,
 ) -> Result<usize>
-    ensures ok { IfOk result (λ n. Wrote W.WriteExt.own (T.meaning value.now) writer.old n writer.new) }
+    ensures ok { IfOk result (λ n. Wrote W.WriteExt.own
+        (T.meaning value.now) writer.old n writer.new) }
     ensures no_fault { OnOk result (W.faults writer.new ≡ W.faults writer.old) }
-    ensures err { IfErr result (λ e. Refused W.WriteExt.own (T.meaning value.now) writer.old e writer.new) }
+    ensures err { IfErr result (λ e. Refused W.WriteExt.own
+        (T.meaning value.now) writer.old e writer.new) }
     ensures counted { IsOnceAtMost (W.faults writer.old) (W.faults writer.new) }
     ensures goes_on { W.later writer.old writer.new }
 {

@@ -130,7 +130,8 @@ fn innermost(around: &[Wrapper], header: &Header) -> Option<Header>
 // (X.690, 8.1.3.4), as nearly always.
 pub(crate) fn short_identifier(around: &[Wrapper], header: &Header, len: usize) -> Option<u8>
     requires { HasNumber header.now }
-    ensures header { IfSome result (λ identifier. headers around.now header.now len ≡ identifier ∷ len ∷ []) }
+    ensures header { IfSome result (λ identifier.
+        headers around.now header.now len ≡ identifier ∷ len ∷ []) }
     ensures short { IsSome result → len < 0x80 }
 {
     if !around.is_empty() || len >= 0x80 {

@@ -38,7 +38,8 @@ pub struct UnsignedInteger;
 impl UnsignedInteger {
     /// Writes a number, as `Serializer::serialize_u128` does.
     pub fn serialize<T: UInt, W: WriteExt>(value: T, ser: &mut Serializer<W>) -> Result<usize>
-        ensures { WritesPlain W.WriteExt.own (Tree.unsigned (T.number value)) ser.old result ser.new }
+        ensures { WritesPlain W.WriteExt.own
+            (Tree.unsigned (T.number value)) ser.old result ser.new }
     {
         let number = value.into_u128();
         if number < 0x80 {

@@ -16,8 +16,9 @@ use picky_der_core::asn1::{Tag, Wrapper};
 use std::alloc::{AllocError, Global};
 use std::marker::Model;
 
-// How many bytes are asked for when the first member of an outermost level comes.
-const FIRST_ROOM: usize = 120;
+// How many bytes are asked for when the first member of an outermost level comes: as many as public keys of RSA with 2048 bits take
+// to be written, so that the vector grows for none of them.
+const FIRST_ROOM: usize = 376;
 
 // Where a level begins: the room for its headers, and behind it its content; and how many seams those around it have.
 #[derive(Drop)]
@@ -160,7 +161,10 @@ impl Levels {
     // Opens a level, in place of one that was opened and hasn't ended.
     pub(crate) fn open(&mut self, header: Header, around: Vec<Wrapper>)
         requires numbers { HaveTagNumbers around.items × HasNumber header }
-        ensures { self.new ≡ record self.old { pending = Some (record { header = header; around = around.items; content = []; seams = [] }) } }
+        ensures { self.new ≡ record self.old {
+          pending = Some
+              (record { header = header; around = around.items; content = []; seams = [] });
+        } }
     {
         self.give_up();
         if self.entered {
@@ -198,7 +202,8 @@ impl Levels {
 
     // Keeps where another member of the level begins that was opened last, if it is a set.
     fn begin_member(&mut self) -> Result<(), AllocError>
-        ensures { OnOk result (IfSome self.old.pending (λ l. self.new ≡ record self.old { pending = Some (begun l) })) }
+        ensures { OnOk result (IfSome self.old.pending
+            (λ l. self.new ≡ record self.old { pending = Some (begun l) })) }
     {
         if let Some(mark) = &self.innermost {
             let held = self.scratch.len() - mark.start;
@@ -211,7 +216,8 @@ impl Levels {
     #[cold]
     #[inline(never)]
     pub(crate) fn enter(&mut self) -> Result<(), AllocError>
-        ensures { OnOk result (IfSome self.old.pending (λ l. self.new ≡ record { inside = begun l ∷ self.old.inside; pending = None })) }
+        ensures { OnOk result (IfSome self.old.pending
+            (λ l. self.new ≡ record { inside = begun l ∷ self.old.inside; pending = None })) }
     {
         self.make_room()?;
         self.begin_member()?;
@@ -222,7 +228,8 @@ impl Levels {
 
     // The same behind a member of a level that is no set, where there is nothing to make ready. Else nothing is done.
     pub(crate) fn enter_again(&mut self) -> bool
-        ensures yes { result ≡ true → IfSome self.old.pending (λ l. self.new ≡ record { inside = begun l ∷ self.old.inside; pending = None }) }
+        ensures yes { result ≡ true → IfSome self.old.pending
+            (λ l. self.new ≡ record { inside = begun l ∷ self.old.inside; pending = None }) }
         ensures no { result ≡ false → self.new ≡ self.old }
     {
         let Some(mark) = &self.innermost else {
@@ -238,7 +245,8 @@ impl Levels {
 
     // The member has been written.
     pub(crate) fn leave(&mut self)
-        ensures { (l : Level) (ls : List Level) → self.old.inside ≡ l ∷ ls → self.new ≡ record { inside = ls; pending = Some l } }
+        ensures { (l : Level) (ls : List Level) → self.old.inside ≡ l ∷ ls
+            → self.new ≡ record { inside = ls; pending = Some l } }
     {
         self.give_up();
         if self.entered {
@@ -253,7 +261,8 @@ impl Levels {
     #[inline(always)]
     pub(crate) fn append_short(&mut self, tag: Tag, content: &[u8]) -> bool
         ensures inside { result ≡ true → self.old.inside ≢ [] }
-        ensures count { result ≡ true → length (der (Tree.bytes tag content.now)) ≡ 2 + length content.now }
+        ensures count { result ≡ true → length
+            (der (Tree.bytes tag content.now)) ≡ 2 + length content.now }
         ensures yes { result ≡ true → (l : Level) (ls : List Level) → self.old.inside ≡ l ∷ ls
             → self.new ≡ record { inside = with_bytes l (der (Tree.bytes tag content.now)) ∷ ls; pending = None } }
         ensures no { result ≡ false → self.new ≡ self.old }
@@ -276,7 +285,8 @@ impl Levels {
         content: &[u8],
     ) -> Result<usize, AllocError>
         requires numbers { HaveTagNumbers around.now × HasNumber header }
-        ensures count { IfOk result (λ n. n ≡ length (der (under around.now (tree_of header content.now)))) }
+        ensures count { IfOk result (λ n. n ≡ length
+            (der (under around.now (tree_of header content.now)))) }
         ensures ok { OnOk result ((l : Level) (ls : List Level) → self.old.inside ≡ l ∷ ls
             → self.new ≡ record { inside = with_bytes l (der (under around.now (tree_of header content.now))) ∷ ls; pending = None }) }
     {
@@ -288,7 +298,8 @@ impl Levels {
 
     // Puts the members of the level that was opened last in ascending order, if it is a set.
     pub(crate) fn arrange(&mut self, alloc: Global) -> Result<(), AllocError>
-        ensures { OnOk result (IfSome self.old.pending (λ l. self.new ≡ record self.old { pending = Some (in_order l) })) }
+        ensures { OnOk result (IfSome self.old.pending
+            (λ l. self.new ≡ record self.old { pending = Some (in_order l) })) }
     {
         if let Some(mark) = &self.innermost {
             if mark.first_seam < self.seams.len() {
@@ -304,8 +315,10 @@ impl Levels {
     // Answers how many bytes these are.
     pub(crate) fn merge(&mut self) -> Result<usize, AllocError>
         requires { IsSome self.old.pending }
-        ensures numbers { IfSome self.old.pending (λ p. HaveTagNumbers p.around × HasNumber p.header) }
-        ensures count { IfOk result (λ n. IfSome self.old.pending (λ p. n ≡ length (der (under p.around (tree_of p.header p.content))))) }
+        ensures numbers { IfSome self.old.pending
+            (λ p. HaveTagNumbers p.around × HasNumber p.header) }
+        ensures count { IfOk result (λ n. IfSome self.old.pending
+            (λ p. n ≡ length (der (under p.around (tree_of p.header p.content))))) }
         ensures ok { OnOk result ((p l : Level) (ls : List Level) → self.old.pending ≡ Some p → self.old.inside ≡ l ∷ ls
             → self.new ≡ record { inside = with_bytes l (der (under p.around (tree_of p.header p.content))) ∷ ls; pending = None }) }
     {
@@ -323,8 +336,13 @@ impl Levels {
     // Adds the headers of a content of `len` bytes to the level that was opened last.
     pub(crate) fn add_headers(&mut self, len: usize) -> Result<(), AllocError>
         requires fits { len < 2 ^ 63 }
-        ensures numbers { IfSome self.old.pending (λ p. HaveTagNumbers p.around × HasNumber p.header) }
-        ensures ok { OnOk result (IfSome self.old.pending (λ p. self.new ≡ record self.old { pending = Some (with_bytes p (headers p.around p.header len)) })) }
+        ensures numbers { IfSome self.old.pending
+            (λ p. HaveTagNumbers p.around × HasNumber p.header) }
+        ensures ok { OnOk result (IfSome self.old.pending
+            (λ p. self.new ≡ record self.old {
+              pending = Some
+                  (with_bytes p (headers p.around p.header len));
+            })) }
     {
         if let Some(mark) = &self.innermost {
             push_headers(&mut self.scratch, &mark.around, mark.header, len)?;
@@ -335,8 +353,10 @@ impl Levels {
     // Writes the header of the level that was opened last into the room for it, where it fits, and answers whether it did:
     // then the level holds its whole encoding.
     pub(crate) fn seal(&mut self) -> bool
-        ensures numbers { IfSome self.old.pending (λ p. HaveTagNumbers p.around × HasNumber p.header) }
-        ensures yes { result ≡ true → IfSome self.old.pending (λ p. self.new ≡ record self.old { pending = Some (sealed p) }) }
+        ensures numbers { IfSome self.old.pending
+            (λ p. HaveTagNumbers p.around × HasNumber p.header) }
+        ensures yes { result ≡ true → IfSome self.old.pending
+            (λ p. self.new ≡ record self.old { pending = Some (sealed p) }) }
         ensures no { result ≡ false → self.new ≡ self.old }
     {
         if let Some(mark) = &mut self.innermost {

@@ -17,7 +17,8 @@ pub trait SerializeMember {
     /// Adds the member to the sequence, where it is there. It is refused as `serialize_element` refuses one.
     fn serialize_member<W: WriteExt>(&self, sequence: &mut Sequence<'_, W>) -> Result<()>
         ensures same_reference { borrowed_by sequence.new ≡ borrowed_by sequence.old }
-        ensures added { OnOk result (Leads W.WriteExt.own (in_front self.now) (state_of sequence.old) (state_of sequence.new)) }
+        ensures added { OnOk result (Leads W.WriteExt.own (in_front self.now)
+            (state_of sequence.old) (state_of sequence.new)) }
         ensures err { IfErr result (λ e. Bars W.WriteExt.own (in_front self.now) (state_of sequence.old) e (state_of sequence.new)) };
 }
 

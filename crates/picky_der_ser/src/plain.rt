@@ -12,8 +12,10 @@ use picky_der_core::{Asn1DerError, Result};
 // Writes a tag, the length and the content, and takes no memory.
 pub(crate) fn put_element<W: WriteExt>(sink: &mut W, tag: Tag, content: &[u8]) -> Result<usize>
     ensures count { IfOk result (λ n. n ≡ length (tlv tag content.now)) }
-    ensures appends { OnOk result (Appends (W.told sink.old) (W.told sink.new) (tlv tag content.now)) }
-    ensures beginning { OnErr result (AppendsTooFew (W.told sink.old) (W.told sink.new) (tlv tag content.now)) }
+    ensures appends { OnOk result (Appends (W.told sink.old) (W.told sink.new)
+        (tlv tag content.now)) }
+    ensures beginning { OnErr result (AppendsTooFew (W.told sink.old) (W.told sink.new)
+        (tlv tag content.now)) }
     ensures fault { IfErr result (λ e. Faulted W.WriteExt.own sink.old e sink.new) }
     ensures no_fault { OnOk result (W.faults sink.new ≡ W.faults sink.old) }
     ensures goes_on { W.later sink.old sink.new }
@@ -27,8 +29,10 @@ pub(crate) fn put_element<W: WriteExt>(sink: &mut W, tag: Tag, content: &[u8]) -
 // Writes the headers of a content, and the content.
 pub(crate) fn put_headed<W: WriteExt>(sink: &mut W, headers: &[u8], content: &[u8]) -> Result<usize>
     ensures count { IfOk result (λ n. n ≡ length (headers.now ++ content.now)) }
-    ensures appends { OnOk result (Appends (W.told sink.old) (W.told sink.new) (headers.now ++ content.now)) }
-    ensures beginning { OnErr result (AppendsTooFew (W.told sink.old) (W.told sink.new) (headers.now ++ content.now)) }
+    ensures appends { OnOk result (Appends (W.told sink.old) (W.told sink.new)
+        (headers.now ++ content.now)) }
+    ensures beginning { OnErr result (AppendsTooFew (W.told sink.old) (W.told sink.new)
+        (headers.now ++ content.now)) }
     ensures fault { IfErr result (λ e. Faulted W.WriteExt.own sink.old e sink.new) }
     ensures no_fault { OnOk result (W.faults sink.new ≡ W.faults sink.old) }
     ensures goes_on { W.later sink.old sink.new }

@@ -39,8 +39,10 @@ impl<'a, W: WriteExt> Sequence<'a, W> {
     /// where memory is refused. The sink isn't touched.
     pub fn serialize_element<T: Serialize>(&mut self, value: &T) -> Result<()>
         ensures same_reference { borrowed_by self.new ≡ borrowed_by self.old }
-        ensures added { OnOk result (Gains W.WriteExt.own (T.meaning value.now) (state_of self.old) (state_of self.new)) }
-        ensures err { IfErr result (λ e. Rejects W.WriteExt.own (T.meaning value.now) (state_of self.old) e (state_of self.new)) }
+        ensures added { OnOk result (Gains W.WriteExt.own (T.meaning value.now) (state_of self.old)
+            (state_of self.new)) }
+        ensures err { IfErr result (λ e. Rejects W.WriteExt.own (T.meaning value.now)
+            (state_of self.old) e (state_of self.new)) }
     {
         self.ser.write_member(value)
     }
@@ -48,8 +50,10 @@ impl<'a, W: WriteExt> Sequence<'a, W> {
     /// Adds a member, as `serialize_element` does. The key isn't written.
     pub fn serialize_field<T: Serialize>(&mut self, key: &'static str, value: &T) -> Result<()>
         ensures same_reference { borrowed_by self.new ≡ borrowed_by self.old }
-        ensures added { OnOk result (Gains W.WriteExt.own (T.meaning value.now) (state_of self.old) (state_of self.new)) }
-        ensures err { IfErr result (λ e. Rejects W.WriteExt.own (T.meaning value.now) (state_of self.old) e (state_of self.new)) }
+        ensures added { OnOk result (Gains W.WriteExt.own (T.meaning value.now) (state_of self.old)
+            (state_of self.new)) }
+        ensures err { IfErr result (λ e. Rejects W.WriteExt.own (T.meaning value.now)
+            (state_of self.old) e (state_of self.new)) }
     {
         let _ = key;
         self.serialize_element(value)
@@ -75,10 +79,12 @@ impl<W: WriteExt> Serializer<W> {
     // Begins a sequence or set in the open wrappers, unless it has failed.
     fn begin(&mut self, tag: Tag) -> Result<Sequence<'_, W>>
         requires { IsListTag tag }
-        ensures* rests { sem 𝓛 (RestsIfErr (the_row W.row W.WriteExt.own W.Write) self.entry borrowed_by result (λ new. IfErr result (λ e. HadFailed self.old e new))) }
+        ensures* rests { sem 𝓛 (RestsIfErr (the_row W.row W.WriteExt.own W.Write) self.entry
+            borrowed_by result (λ new. IfErr result (λ e. HadFailed self.old e new))) }
         ensures same_reference { IfOk result (λ q. borrowed_by q ≡ self.entry.ghost_name) }
         ensures had_not_failed { OnOk result (self.old.failed ≡ None) }
-        ensures opened { IfOk result (λ q. Opens W.WriteExt.own (Header.Tagged tag) self.old (state_of q)) }
+        ensures opened { IfOk result (λ q. Opens W.WriteExt.own (Header.Tagged tag) self.old
+            (state_of q)) }
     {
         if let Some(error) = self.earlier() {
             return Err(error);
@@ -89,10 +95,12 @@ impl<W: WriteExt> Serializer<W> {
     /// Begins a sequence in the open wrappers. The length isn't looked at: what is added is written. Only an earlier
     /// error is answered, as by all calls below.
     pub fn serialize_seq(&mut self, len: Option<usize>) -> Result<Sequence<'_, W>>
-        ensures* rests { sem 𝓛 (RestsIfErr (the_row W.row W.WriteExt.own W.Write) self.entry borrowed_by result (λ new. IfErr result (λ e. HadFailed self.old e new))) }
+        ensures* rests { sem 𝓛 (RestsIfErr (the_row W.row W.WriteExt.own W.Write) self.entry
+            borrowed_by result (λ new. IfErr result (λ e. HadFailed self.old e new))) }
         ensures same_reference { IfOk result (λ q. borrowed_by q ≡ self.entry.ghost_name) }
         ensures had_not_failed { OnOk result (self.old.failed ≡ None) }
-        ensures opened { IfOk result (λ q. Opens W.WriteExt.own (Header.Tagged 0x30) self.old (state_of q)) }
+        ensures opened { IfOk result (λ q. Opens W.WriteExt.own (Header.Tagged 0x30) self.old
+            (state_of q)) }
     {
         let _ = len;
         self.begin(Tag::SEQUENCE)
@@ -100,10 +108,12 @@ impl<W: WriteExt> Serializer<W> {
 
     /// Begins a sequence, as `serialize_seq` does.
     pub fn serialize_tuple(&mut self, len: usize) -> Result<Sequence<'_, W>>
-        ensures* rests { sem 𝓛 (RestsIfErr (the_row W.row W.WriteExt.own W.Write) self.entry borrowed_by result (λ new. IfErr result (λ e. HadFailed self.old e new))) }
+        ensures* rests { sem 𝓛 (RestsIfErr (the_row W.row W.WriteExt.own W.Write) self.entry
+            borrowed_by result (λ new. IfErr result (λ e. HadFailed self.old e new))) }
         ensures same_reference { IfOk result (λ q. borrowed_by q ≡ self.entry.ghost_name) }
         ensures had_not_failed { OnOk result (self.old.failed ≡ None) }
-        ensures opened { IfOk result (λ q. Opens W.WriteExt.own (Header.Tagged 0x30) self.old (state_of q)) }
+        ensures opened { IfOk result (λ q. Opens W.WriteExt.own (Header.Tagged 0x30) self.old
+            (state_of q)) }
     {
         let _ = len;
         self.begin(Tag::SEQUENCE)
@@ -115,10 +125,12 @@ impl<W: WriteExt> Serializer<W> {
         name: &'static str,
         len: usize,
     ) -> Result<Sequence<'_, W>>
-        ensures* rests { sem 𝓛 (RestsIfErr (the_row W.row W.WriteExt.own W.Write) self.entry borrowed_by result (λ new. IfErr result (λ e. HadFailed self.old e new))) }
+        ensures* rests { sem 𝓛 (RestsIfErr (the_row W.row W.WriteExt.own W.Write) self.entry
+            borrowed_by result (λ new. IfErr result (λ e. HadFailed self.old e new))) }
         ensures same_reference { IfOk result (λ q. borrowed_by q ≡ self.entry.ghost_name) }
         ensures had_not_failed { OnOk result (self.old.failed ≡ None) }
-        ensures opened { IfOk result (λ q. Opens W.WriteExt.own (Header.Tagged 0x30) self.old (state_of q)) }
+        ensures opened { IfOk result (λ q. Opens W.WriteExt.own (Header.Tagged 0x30) self.old
+            (state_of q)) }
     {
         let _ = name;
         let _ = len;
@@ -127,10 +139,12 @@ impl<W: WriteExt> Serializer<W> {
 
     /// Begins a sequence, as `serialize_seq` does. The name isn't written.
     pub fn serialize_struct(&mut self, name: &'static str, len: usize) -> Result<Sequence<'_, W>>
-        ensures* rests { sem 𝓛 (RestsIfErr (the_row W.row W.WriteExt.own W.Write) self.entry borrowed_by result (λ new. IfErr result (λ e. HadFailed self.old e new))) }
+        ensures* rests { sem 𝓛 (RestsIfErr (the_row W.row W.WriteExt.own W.Write) self.entry
+            borrowed_by result (λ new. IfErr result (λ e. HadFailed self.old e new))) }
         ensures same_reference { IfOk result (λ q. borrowed_by q ≡ self.entry.ghost_name) }
         ensures had_not_failed { OnOk result (self.old.failed ≡ None) }
-        ensures opened { IfOk result (λ q. Opens W.WriteExt.own (Header.Tagged 0x30) self.old (state_of q)) }
+        ensures opened { IfOk result (λ q. Opens W.WriteExt.own (Header.Tagged 0x30) self.old
+            (state_of q)) }
     {
         let _ = name;
         let _ = len;
@@ -140,10 +154,12 @@ impl<W: WriteExt> Serializer<W> {
     /// Begins a set in the open wrappers (X.690, 8.11 and 8.12). In whatever order its members are added, they are written
     /// in ascending order of their encodings (11.6).
     pub fn serialize_set(&mut self) -> Result<Sequence<'_, W>>
-        ensures* rests { sem 𝓛 (RestsIfErr (the_row W.row W.WriteExt.own W.Write) self.entry borrowed_by result (λ new. IfErr result (λ e. HadFailed self.old e new))) }
+        ensures* rests { sem 𝓛 (RestsIfErr (the_row W.row W.WriteExt.own W.Write) self.entry
+            borrowed_by result (λ new. IfErr result (λ e. HadFailed self.old e new))) }
         ensures same_reference { IfOk result (λ q. borrowed_by q ≡ self.entry.ghost_name) }
         ensures had_not_failed { OnOk result (self.old.failed ≡ None) }
-        ensures opened { IfOk result (λ q. Opens W.WriteExt.own (Header.Tagged 0x31) self.old (state_of q)) }
+        ensures opened { IfOk result (λ q. Opens W.WriteExt.own (Header.Tagged 0x31) self.old
+            (state_of q)) }
     {
         self.begin(Tag::SET)
     }

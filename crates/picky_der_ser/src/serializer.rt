@@ -34,8 +34,10 @@ pub trait Serialize {
     /// An implementation passes on the errors of the calls that it makes, and makes none of its own: the serializer
     /// has failed with what is answered. `UnsupportedValue` where the value can't be written, and then nothing is.
     fn serialize<W: WriteExt>(&self, ser: &mut Serializer<W>) -> Result<usize>
-        ensures wrote { IfOk result (λ n. Writes W.WriteExt.own (meaning self.now) ser.old n ser.new) }
-        ensures failed { IfErr result (λ e. Fails W.WriteExt.own (meaning self.now) ser.old e ser.new) }
+        ensures wrote { IfOk result (λ n. Writes W.WriteExt.own
+            (meaning self.now) ser.old n ser.new) }
+        ensures failed { IfErr result (λ e. Fails W.WriteExt.own
+            (meaning self.now) ser.old e ser.new) }
         ensures counted { IsOnceAtMost (W.faults ser.old.sink) (W.faults ser.new.sink) }
         ensures goes_on { W.later ser.old.sink ser.new.sink };
 }
@@ -108,7 +110,8 @@ impl<'a> Serializer<SliceSink<'a>> {
 
     // Gives out what the level holds of which a member was being written.
     pub(crate) fn into_content(self) -> Vec<u8>
-        ensures { (l : Level) (ls : List Level) → self.entry.inside ≡ l ∷ ls → result.items ≡ l.content }
+        ensures { (l : Level) (ls : List Level) → self.entry.inside ≡ l ∷ ls
+            → result.items ≡ l.content }
     {
         let Serializer {
             sink: _,
@@ -185,8 +188,10 @@ impl<W: WriteExt> Serializer<W> {
 
     /// Writes the value as it is.
     pub fn serialize_some<T: Serialize>(&mut self, value: &T) -> Result<usize>
-        ensures wrote { IfOk result (λ n. Writes W.WriteExt.own (T.meaning value.now) self.old n self.new) }
-        ensures failed { IfErr result (λ e. Fails W.WriteExt.own (T.meaning value.now) self.old e self.new) }
+        ensures wrote { IfOk result (λ n. Writes W.WriteExt.own
+            (T.meaning value.now) self.old n self.new) }
+        ensures failed { IfErr result (λ e. Fails W.WriteExt.own
+            (T.meaning value.now) self.old e self.new) }
         ensures counted { IsOnceAtMost (W.faults self.old.sink) (W.faults self.new.sink) }
         ensures goes_on { W.later self.old.sink self.new.sink }
     {

@@ -26,7 +26,8 @@ pub(crate) fn begin_member(
 fn cut<'a>(content: &'a [u8], seams: &[usize], alloc: Global) -> Result<Vec<&'a [u8]>, AllocError>
     requires ascending { AreSeams 0 seams.now }
     requires within { last_seam 0 seams.now ≤ length content.now }
-    ensures { IfOk result (λ members. map (λ m. m.now) members.items ≡ parts seams.now content.now) }
+    ensures { IfOk result (λ members. map (λ m. m.now) members.items
+        ≡ parts seams.now content.now) }
 {
     let mut members = Vec::new(alloc);
     let mut start = 0;
@@ -60,7 +61,8 @@ pub(crate) fn arrange(
 ) -> Result<(), AllocError>
     requires ascending { AreSeams 0 seams.now }
     requires within { start + last_seam 0 seams.now ≤ vec_len out.old }
-    ensures ok { OnOk result (out.new.items ≡ take start out.old.items ++ concat (arranged (parts seams.now (drop start out.old.items)))) }
+    ensures ok { OnOk result (out.new.items ≡ take start out.old.items ++ concat
+        (arranged (parts seams.now (drop start out.old.items)))) }
     ensures len { vec_len out.new ≡ vec_len out.old }
 {
     let members = joined(&out[start..], seams, alloc)?;

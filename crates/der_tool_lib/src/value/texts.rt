@@ -19,7 +19,8 @@ pub(super) fn wants_memory(error: Asn1DerError) -> bool
 // The encoding of the value in hexadecimal.
 pub(super) fn hexadecimal<T: Serialize>(alloc: Global, value: &T) -> Result<String>
     requires { IsWritable (T.meaning value.now) }
-    ensures ok { IfOk result (λ text. string_bytes text ≡ encode_lower (der (T.meaning value.now))) }
+    ensures ok { IfOk result (λ text. string_bytes text ≡ encode_lower
+        (der (T.meaning value.now))) }
     ensures err { IfErr result (λ e. e ≡ Asn1DerError.OutOfMemory) }
 {
     let encoding = to_vec(alloc, value)?;
@@ -27,7 +28,8 @@ pub(super) fn hexadecimal<T: Serialize>(alloc: Global, value: &T) -> Result<Stri
 }
 
 pub(super) fn read_text(alloc: Global, taken: usize, digits: &str) -> Result<String>
-    ensures ok { IfOk result (λ text. string_bytes text ≡ codes "ok " ++ (decimal taken ++ (codes " " ++ digits.now))) }
+    ensures ok { IfOk result (λ text. string_bytes text ≡ codes "ok " ++
+        (decimal taken ++ (codes " " ++ digits.now))) }
     ensures err { IfErr result (λ e. e ≡ Asn1DerError.OutOfMemory) }
 {
     format!(in alloc; "ok {taken} {digits}").map_err(|_| Asn1DerError::OutOfMemory)

@@ -19,13 +19,16 @@ pub fn bytes<const TAG: u8>()
 
 /// Lists are equal just where they are as long and each two values at one place are equal.
 pub fn lists<T: PartialEq>()
-    ensures sequence { IsThatOf ⟦<Asn1SequenceOf<T> as PartialEq>⟧.eq (λ list. list.0.items) (pointwise T.eq) }
-    ensures set { IsThatOf ⟦<Asn1SetOf<T> as PartialEq>⟧.eq (λ list. list.0.items) (pointwise T.eq) }
+    ensures sequence { IsThatOf ⟦<Asn1SequenceOf<T> as PartialEq>⟧.eq (λ list. list.0.items)
+        (pointwise T.eq) }
+    ensures set { IsThatOf ⟦<Asn1SetOf<T> as PartialEq>⟧.eq (λ list. list.0.items)
+        (pointwise T.eq) }
 {}
 
 /// Two values in one wrapper are equal just where they are without it.
 pub fn wrappers<T: PartialEq, const N: u8>()
-    ensures octets { IsThatOf ⟦<OctetStringAsn1Container<T> as PartialEq>⟧.eq (λ held. held.0) T.eq }
+    ensures octets { IsThatOf ⟦<OctetStringAsn1Container<T> as PartialEq>⟧.eq
+        (λ held. held.0) T.eq }
     ensures bits { IsThatOf ⟦<BitStringAsn1Container<T> as PartialEq>⟧.eq (λ held. held.0) T.eq }
     ensures explicit { IsThatOf ⟦<ExplicitContextTag<T, N> as PartialEq>⟧.eq (λ held. held.0) T.eq }
     ensures implicit { IsThatOf ⟦<ImplicitContextTag<T, N> as PartialEq>⟧.eq (λ held. held.0) T.eq }

@@ -108,9 +108,11 @@ impl Write for BufSink<'_> {
 
     fn write(&mut self, bytes: &[u8]) -> io::Result<usize>
         ensures bound { WritesAtMost result bytes.now }
-        ensures bytes { WriteAppends (Some (written_of self.old)) (Some (written_of self.new)) result bytes.now }
+        ensures bytes { WriteAppends (Some (written_of self.old))
+            (Some (written_of self.new)) result bytes.now }
         ensures count { IfOk result (λ n. n ≡ length bytes.now) }
-        ensures fault { IfErr result (λ e. (faults_of self.new ≡ suc (faults_of self.old)) × (error_kind e ≡ OutOfMemory)) }
+        ensures fault { IfErr result (λ e. (faults_of self.new ≡ suc (faults_of self.old))
+            × (error_kind e ≡ OutOfMemory)) }
         ensures no_fault { OnOk result (faults_of self.new ≡ faults_of self.old) }
         ensures goes_on { IsLater self.old self.new }
     {

@@ -25,7 +25,8 @@ impl<T> Faults<T> {
 
     /// One fault more, of this kind, and what the device is behind it.
     pub fn raise(&mut self, kind: ErrorKind, device: &T)
-        ensures { faults_in self.new ≡ record { kind = kind; device = device.now } ∷ faults_in self.old }
+        ensures { faults_in self.new
+            ≡ record { kind = kind; device = device.now } ∷ faults_in self.old }
     {
         let before = Snapshot::of(self);
         *self = Faults::More(kind, Snapshot::of(device), before);

@@ -23,14 +23,18 @@ impl Length {
     /// in the long form; `UnsupportedValue` for a first byte past `88`; else the reader's fault. No byte is drawn
     /// past the one that shows the refusal.
     pub fn deserialized<R: ReadExt>(reader: &mut R) -> Result<usize>
-        ensures ok { IfOk result (λ n. Consumes (R.remaining reader.old) (R.remaining reader.new) (bytes_of n)) }
-        ensures read { IfOk result (IsReadAs (length_of Asn1DerError.TruncatedData) (R.remaining reader.old) (R.remaining reader.new)) }
+        ensures ok { IfOk result (λ n. Consumes (R.remaining reader.old) (R.remaining reader.new)
+            (bytes_of n)) }
+        ensures read { IfOk result (IsReadAs (length_of Asn1DerError.TruncatedData)
+            (R.remaining reader.old) (R.remaining reader.new)) }
         ensures refused { IfErr result (λ e. R.faults reader.new ≡ R.faults reader.old
             → IsRefusedAs (length_of Asn1DerError.TruncatedData) (R.remaining reader.old) (R.remaining reader.new) e) }
         ensures none { OnErr result (R.faults reader.new ≡ R.faults reader.old
             → IfSome (R.remaining reader.old) (λ bs. (n : ℕ) → n < 2 ^ 64 → Begins (bytes_of n) bs → ⊥)) }
-        ensures fault { IfErr result (TellsFault (R.faults reader.old) (R.faults reader.new) (R.remaining reader.new)) }
-        ensures device { IfErr result (λ e. R.faults reader.new ≡ R.faults reader.old → IsOfDevice e → ⊥) }
+        ensures fault { IfErr result (TellsFault (R.faults reader.old) (R.faults reader.new)
+            (R.remaining reader.new)) }
+        ensures device { IfErr result (λ e. R.faults reader.new ≡ R.faults reader.old
+            → IsOfDevice e → ⊥) }
         ensures no_fault { OnOk result (R.faults reader.new ≡ R.faults reader.old) }
         ensures same_references { R.through reader.new ≡ R.through reader.old }
     {
@@ -50,8 +54,10 @@ impl Length {
     /// and at least one byte is missing.
     pub fn serialize<W: WriteExt>(len: usize, writer: &mut W) -> Result<usize>
         ensures count { IfOk result (λ n. n ≡ length (bytes_of len)) }
-        ensures appends { OnOk result (Appends (W.told writer.old) (W.told writer.new) (bytes_of len)) }
-        ensures beginning { OnErr result (AppendsTooFew (W.told writer.old) (W.told writer.new) (bytes_of len)) }
+        ensures appends { OnOk result (Appends (W.told writer.old) (W.told writer.new)
+            (bytes_of len)) }
+        ensures beginning { OnErr result (AppendsTooFew (W.told writer.old) (W.told writer.new)
+            (bytes_of len)) }
         ensures fault { IfErr result (λ e. Faulted W.WriteExt.own writer.old e writer.new) }
         ensures no_fault { OnOk result (W.faults writer.new ≡ W.faults writer.old) }
         ensures goes_on { W.later writer.old writer.new }
@@ -104,7 +110,8 @@ impl Length {
     pub fn shortest(count: usize, len: usize) -> Result<usize>
         requires { 1 + count < 2 ^ 64 }
         ensures ok { IfOk result (λ n. (n ≡ len) × (length (bytes_of len) ≡ 1 + count)) }
-        ensures err { IfErr result (λ e. (e ≡ Asn1DerError.InvalidData) × (length (bytes_of len) ≢ 1 + count)) }
+        ensures err { IfErr result (λ e. (e ≡ Asn1DerError.InvalidData)
+            × (length (bytes_of len) ≢ 1 + count)) }
     {
         if Length::encoded_len(len) == 1 + count {
             Ok(len)

@@ -46,7 +46,8 @@ impl<R: ReadExt> PeekableReader<R> {
     /// The next byte, which the next read hands out, and `None` at the end of the input. Where a byte was peeked already,
     /// the inner reader isn't asked.
     pub fn peek_next(&mut self) -> io::Result<Option<u8>>
-        ensures again { IfSome self.old.peeked (λ b. (result ≡ Ok (Some b)) × (self.new ≡ self.old)) }
+        ensures again { IfSome self.old.peeked
+            (λ b. (result ≡ Ok (Some b)) × (self.new ≡ self.old)) }
         ensures ok { IfOk result (λ next. self.new.peeked ≡ next) }
         ensures bounded { IfOk result IsByteIfAny }
         ensures end { IfOk result (λ next. IfNone next (IsAtEnd (left_in R.remaining self.old))) }
@@ -54,7 +55,8 @@ impl<R: ReadExt> PeekableReader<R> {
         ensures kept { OnErr result (self.new.peeked ≡ self.old.peeked) }
         ensures input { Keeps (left_in R.remaining self.old) (left_in R.remaining self.new) }
         ensures pos { self.new.pos ≡ self.old.pos }
-        ensures fault { IfErr result (FailsOnce (R.faults self.old.reader) (R.faults self.new.reader) (left_in R.remaining self.new)) }
+        ensures fault { IfErr result (FailsOnce (R.faults self.old.reader)
+            (R.faults self.new.reader) (left_in R.remaining self.new)) }
         ensures no_fault { OnOk result (R.faults self.new.reader ≡ R.faults self.old.reader) }
         ensures same_references { R.through self.new.reader ≡ R.through self.old.reader }
     {
@@ -126,7 +128,8 @@ impl<R: ReadExt> Read for PeekableReader<R> {
 
     fn read(&mut self, buf: &mut [u8]) -> io::Result<usize>
         ensures bound { ReadsAtMost result buf.new }
-        ensures bytes { ReadConsumes (left_in R.remaining self.old) (left_in R.remaining self.new) result buf.new }
+        ensures bytes { ReadConsumes (left_in R.remaining self.old)
+            (left_in R.remaining self.new) result buf.new }
         ensures empty { length buf.old ≡ 0 → (result ≡ Ok 0) × (self.new ≡ self.old) }
         ensures peeked { 0 < length buf.old → IfSome self.old.peeked (λ b.
             (result ≡ Ok 1) × (buf.new ≡ b ∷ drop 1 buf.old) × (self.new.reader ≡ self.old.reader)) }
@@ -134,7 +137,8 @@ impl<R: ReadExt> Read for PeekableReader<R> {
         ensures kept { OnErr result (self.new.peeked ≡ self.old.peeked) }
         ensures pos { IfOk result (λ n. self.new.pos ≡ moved self.old.pos n) }
         ensures same_pos { OnErr result (self.new.pos ≡ self.old.pos) }
-        ensures fault { IfErr result (FailsOnce (R.faults self.old.reader) (R.faults self.new.reader) (left_in R.remaining self.new)) }
+        ensures fault { IfErr result (FailsOnce (R.faults self.old.reader)
+            (R.faults self.new.reader) (left_in R.remaining self.new)) }
         ensures no_fault { OnOk result (R.faults self.new.reader ≡ R.faults self.old.reader) }
         ensures same_references { R.through self.new.reader ≡ R.through self.old.reader }
     {
@@ -148,14 +152,17 @@ impl<R: ReadExt> ReadExt for PeekableReader<R> {
     ghost through = { λ p. R.through p.reader };
 
     fn read_next(&mut self) -> io::Result<Option<u8>>
-        ensures byte { GivesNext (left_in R.remaining self.old) (left_in R.remaining self.new) result }
+        ensures byte { GivesNext (left_in R.remaining self.old)
+            (left_in R.remaining self.new) result }
         ensures bounded { IfOk result IsByteIfAny }
-        ensures peeked { IfSome self.old.peeked (λ b. (result ≡ Ok (Some b)) × (self.new.reader ≡ self.old.reader)) }
+        ensures peeked { IfSome self.old.peeked
+            (λ b. (result ≡ Ok (Some b)) × (self.new.reader ≡ self.old.reader)) }
         ensures unpeeked { OnOk result (self.new.peeked ≡ None) }
         ensures kept { OnErr result (self.new.peeked ≡ self.old.peeked) }
         ensures pos { IfOk result (λ next. self.new.pos ≡ moved self.old.pos (count_of_any next)) }
         ensures same_pos { OnErr result (self.new.pos ≡ self.old.pos) }
-        ensures fault { IfErr result (FailsOnce (R.faults self.old.reader) (R.faults self.new.reader) (left_in R.remaining self.new)) }
+        ensures fault { IfErr result (FailsOnce (R.faults self.old.reader)
+            (R.faults self.new.reader) (left_in R.remaining self.new)) }
         ensures no_fault { OnOk result (R.faults self.new.reader ≡ R.faults self.old.reader) }
         ensures same_references { R.through self.new.reader ≡ R.through self.old.reader }
     {
@@ -172,7 +179,8 @@ impl<R: ReadExt> ReadExt for PeekableReader<R> {
     /// The bytes of one read. While a byte is peeked it is that byte alone, and the inner reader isn't asked.
     fn read_some(&mut self, buf: &mut [u8]) -> io::Result<usize>
         ensures bound { ReadsAtMost result buf.new }
-        ensures bytes { ReadConsumes (left_in R.remaining self.old) (left_in R.remaining self.new) result buf.new }
+        ensures bytes { ReadConsumes (left_in R.remaining self.old)
+            (left_in R.remaining self.new) result buf.new }
         ensures empty { length buf.old ≡ 0 → (result ≡ Ok 0) × (self.new ≡ self.old) }
         ensures peeked { 0 < length buf.old → IfSome self.old.peeked (λ b.
             (result ≡ Ok 1) × (buf.new ≡ b ∷ drop 1 buf.old) × (self.new.reader ≡ self.old.reader)) }
@@ -180,7 +188,8 @@ impl<R: ReadExt> ReadExt for PeekableReader<R> {
         ensures kept { OnErr result (self.new.peeked ≡ self.old.peeked) }
         ensures pos { IfOk result (λ n. self.new.pos ≡ moved self.old.pos n) }
         ensures same_pos { OnErr result (self.new.pos ≡ self.old.pos) }
-        ensures fault { IfErr result (FailsOnce (R.faults self.old.reader) (R.faults self.new.reader) (left_in R.remaining self.new)) }
+        ensures fault { IfErr result (FailsOnce (R.faults self.old.reader)
+            (R.faults self.new.reader) (left_in R.remaining self.new)) }
         ensures no_fault { OnOk result (R.faults self.new.reader ≡ R.faults self.old.reader) }
         ensures same_references { R.through self.new.reader ≡ R.through self.old.reader }
     {
@@ -198,7 +207,8 @@ impl<R: ReadExt> ReadExt for PeekableReader<R> {
 
     /// While a byte is peeked none are shown.
     fn ahead(&self) -> &[u8]
-        ensures front { IfSome (left_in R.remaining self.now) (λ bytes. StartsWith bytes result.now) }
+        ensures front { IfSome (left_in R.remaining self.now)
+            (λ bytes. StartsWith bytes result.now) }
         ensures peeked { IfSome self.now.peeked (λ b. result.now ≡ []) }
     {
         match self.peeked {
@@ -209,7 +219,8 @@ impl<R: ReadExt> ReadExt for PeekableReader<R> {
 
     /// While a byte is peeked none are taken.
     fn take_ahead(&mut self, count: usize) -> bool
-        ensures taken { result ≡ true → TakesFirst (left_in R.remaining self.old) (left_in R.remaining self.new) count }
+        ensures taken { result ≡ true → TakesFirst (left_in R.remaining self.old)
+            (left_in R.remaining self.new) count }
         ensures peeked { result ≡ true → self.old.peeked ≡ None }
         ensures unpeeked { result ≡ true → self.new.peeked ≡ None }
         ensures pos { result ≡ true → self.new.pos ≡ moved self.old.pos count }
@@ -225,9 +236,11 @@ impl<R: ReadExt> ReadExt for PeekableReader<R> {
     }
 
     fn read_one(&mut self) -> io::Result<u8>
-        ensures byte { GivesByte (left_in R.remaining self.old) (left_in R.remaining self.new) result }
+        ensures byte { GivesByte (left_in R.remaining self.old)
+            (left_in R.remaining self.new) result }
         ensures bounded { IfOk result (λ b. b < 256) }
-        ensures peeked { IfSome self.old.peeked (λ b. (result ≡ Ok b) × (self.new.reader ≡ self.old.reader)) }
+        ensures peeked { IfSome self.old.peeked
+            (λ b. (result ≡ Ok b) × (self.new.reader ≡ self.old.reader)) }
         ensures unpeeked { OnOk result (self.new.peeked ≡ None) }
         ensures kept { OnErr result (self.new.peeked ≡ self.old.peeked) }
         ensures pos { OnOk result (self.new.pos ≡ moved self.old.pos 1) }

@@ -19,7 +19,8 @@ pub trait ReadExt: Read {
     /// The next byte, and `None` at the end of the input. Each error is the device's, and takes no byte.
     fn read_next(&mut self) -> io::Result<Option<u8>>
         ensures byte { GivesNext (Self.remaining self.old) (Self.remaining self.new) result }
-        ensures fault { IfErr result (FailsOnce (faults self.old) (faults self.new) (Self.remaining self.new)) }
+        ensures fault { IfErr result (FailsOnce (faults self.old) (faults self.new)
+            (Self.remaining self.new)) }
         ensures no_fault { OnOk result (faults self.new ≡ faults self.old) }
         ensures same_references { through self.new ≡ through self.old };
 
@@ -27,8 +28,10 @@ pub trait ReadExt: Read {
     /// where the buffer has no room or at the end of the input. Each error is the device's, and takes no byte.
     fn read_some(&mut self, buf: &mut [u8]) -> io::Result<usize>
         ensures bound { ReadsAtMost result buf.new }
-        ensures bytes { ReadConsumes (Self.remaining self.old) (Self.remaining self.new) result buf.new }
-        ensures fault { IfErr result (FailsOnce (faults self.old) (faults self.new) (Self.remaining self.new)) }
+        ensures bytes { ReadConsumes (Self.remaining self.old)
+            (Self.remaining self.new) result buf.new }
+        ensures fault { IfErr result (FailsOnce (faults self.old) (faults self.new)
+            (Self.remaining self.new)) }
         ensures no_fault { OnOk result (faults self.new ≡ faults self.old) }
         ensures same_references { through self.new ≡ through self.old };
 
@@ -42,7 +45,8 @@ pub trait ReadExt: Read {
 
     /// Takes so many of the bytes that are here already, and answers whether so many are. If not, nothing was taken.
     fn take_ahead(&mut self, count: usize) -> bool
-        ensures taken { result ≡ true → TakesFirst (Self.remaining self.old) (Self.remaining self.new) count }
+        ensures taken { result ≡ true → TakesFirst (Self.remaining self.old)
+            (Self.remaining self.new) count }
         ensures fewer { result ≡ false → self.new ≡ self.old }
         ensures no_fault { faults self.new ≡ faults self.old }
         ensures same_references { through self.new ≡ through self.old }
@@ -54,7 +58,8 @@ pub trait ReadExt: Read {
     /// The next byte. At the end of the input it is an error of kind `UnexpectedEof`; any other error is the device's.
     fn read_one(&mut self) -> io::Result<u8>
         ensures byte { GivesByte (Self.remaining self.old) (Self.remaining self.new) result }
-        ensures fault { CountsFault (Self.remaining self.old) (Self.remaining self.new) (faults self.old) (faults self.new) result }
+        ensures fault { CountsFault (Self.remaining self.old) (Self.remaining self.new)
+            (faults self.old) (faults self.new) result }
         ensures same_references { through self.new ≡ through self.old }
     {
         match self.read_next() {

@@ -81,9 +81,11 @@ impl Write for SliceSink<'_> {
 
     fn write(&mut self, bytes: &[u8]) -> io::Result<usize>
         ensures bound { WritesAtMost result bytes.now }
-        ensures bytes { WriteAppends (Some (written_of self.old)) (Some (written_of self.new)) result bytes.now }
+        ensures bytes { WriteAppends (Some (written_of self.old))
+            (Some (written_of self.new)) result bytes.now }
         ensures count { result ≡ Ok (min (length bytes.now) (room_of self.old)) }
-        ensures fault { room_of self.old ≡ 0 → 0 < length bytes.now → faults_of self.new ≡ suc (faults_of self.old) }
+        ensures fault { room_of self.old ≡ 0 → 0 < length bytes.now
+            → faults_of self.new ≡ suc (faults_of self.old) }
         ensures no_fault { 0 < room_of self.old → faults_of self.new ≡ faults_of self.old }
         ensures no_bytes { length bytes.now ≡ 0 → faults_of self.new ≡ faults_of self.old }
         ensures goes_on { IsLater self.old self.new }
@@ -119,10 +121,13 @@ impl WriteExt for SliceSink<'_> {
 
     fn write_exact(&mut self, bytes: &[u8]) -> io::Result<usize>
         ensures count { IfOk result (λ n. n ≡ length bytes.now) }
-        ensures appends { OnOk result (Appends (Some (written_of self.old)) (Some (written_of self.new)) bytes.now) }
-        ensures beginning { OnErr result (AppendsTooFew (Some (written_of self.old)) (Some (written_of self.new)) bytes.now) }
+        ensures appends { OnOk result (Appends (Some (written_of self.old))
+            (Some (written_of self.new)) bytes.now) }
+        ensures beginning { OnErr result (AppendsTooFew (Some (written_of self.old))
+            (Some (written_of self.new)) bytes.now) }
         ensures fits { IsOk result ↔ length bytes.now ≤ room_of self.old }
-        ensures fault { IfErr result (λ e. (faults_of self.new ≡ suc (faults_of self.old)) × (error_kind e ≡ WriteZero)) }
+        ensures fault { IfErr result (λ e. (faults_of self.new ≡ suc (faults_of self.old))
+            × (error_kind e ≡ WriteZero)) }
         ensures no_fault { OnOk result (faults_of self.new ≡ faults_of self.old) }
         ensures goes_on { IsLater self.old self.new }
     {

@@ -63,8 +63,10 @@ impl<T: Read> Read for Watched<T> {
 
     fn read(&mut self, buf: &mut [u8]) -> io::Result<usize>
         ensures bound { ReadsAtMost result buf.new }
-        ensures bytes { ReadConsumes (T.remaining self.old.inner) (T.remaining self.new.inner) result buf.new }
-        ensures fault { IfErr result (λ e. self.new.faults ≡ record { kind = error_kind e; device = self.new.inner } ∷ self.old.faults) }
+        ensures bytes { ReadConsumes (T.remaining self.old.inner)
+            (T.remaining self.new.inner) result buf.new }
+        ensures fault { IfErr result (λ e. self.new.faults
+            ≡ record { kind = error_kind e; device = self.new.inner } ∷ self.old.faults) }
         ensures no_fault { OnOk result (self.new.faults ≡ self.old.faults) }
     {
         match self.inner.read(buf) {
@@ -101,8 +103,10 @@ impl<T: Write> Write for Watched<T> {
 
     fn write(&mut self, buf: &[u8]) -> io::Result<usize>
         ensures bound { WritesAtMost result buf.now }
-        ensures bytes { WriteAppends (T.contents self.old.inner) (T.contents self.new.inner) result buf.now }
-        ensures fault { IfErr result (λ e. self.new.faults ≡ record { kind = error_kind e; device = self.new.inner } ∷ self.old.faults) }
+        ensures bytes { WriteAppends (T.contents self.old.inner)
+            (T.contents self.new.inner) result buf.now }
+        ensures fault { IfErr result (λ e. self.new.faults
+            ≡ record { kind = error_kind e; device = self.new.inner } ∷ self.old.faults) }
         ensures nothing { IfOk result (λ n. n ≡ 0 → 0 < length buf.now
             → self.new.faults ≡ record { kind = WriteZero; device = self.new.inner } ∷ self.old.faults) }
         ensures no_fault { IfOk result (λ n. 0 < n → self.new.faults ≡ self.old.faults) }

@@ -30,7 +30,8 @@ pub trait WriteExt: Write {
         ensures count { IfOk result (λ n. n ≡ length bytes.now) }
         ensures appends { OnOk result (Appends (told self.old) (told self.new) bytes.now) }
         ensures beginning { OnErr result (AppendsTooFew (told self.old) (told self.new) bytes.now) }
-        ensures fault { IfErr result (λ e. (faults self.new ≡ suc (faults self.old)) × answers (error_kind e)) }
+        ensures fault { IfErr result (λ e. (faults self.new ≡ suc (faults self.old))
+            × answers (error_kind e)) }
         ensures no_fault { OnOk result (faults self.new ≡ faults self.old) }
         ensures goes_on { later self.old self.new };
 
@@ -38,8 +39,10 @@ pub trait WriteExt: Write {
     fn write_one(&mut self, byte: u8) -> io::Result<usize>
         ensures count { IfOk result (λ n. n ≡ 1) }
         ensures appends { OnOk result (Appends (told self.old) (told self.new) (byte ∷ [])) }
-        ensures beginning { OnErr result (AppendsTooFew (told self.old) (told self.new) (byte ∷ [])) }
-        ensures fault { IfErr result (λ e. (faults self.new ≡ suc (faults self.old)) × answers (error_kind e)) }
+        ensures beginning { OnErr result (AppendsTooFew (told self.old) (told self.new)
+            (byte ∷ [])) }
+        ensures fault { IfErr result (λ e. (faults self.new ≡ suc (faults self.old))
+            × answers (error_kind e)) }
         ensures no_fault { OnOk result (faults self.new ≡ faults self.old) }
         ensures goes_on { later self.old self.new }
     {

@@ -20,11 +20,18 @@ impl<R: ReadExt> Deserializer<R> {
     /// another class or number, and for bytes left over before the tag's end, none of which is drawn; the refusals of a
     /// header and of an end; else as the value is refused.
     pub fn deserialize_application<T: Deserialize>(&mut self, number: u8) -> Result<T>
-        ensures ok { IfOk result (λ value. Reads (Shape.application number T.shape) self.old self.new (Tree.application number (T.meaning value))) }
-        ensures err { IfErr result (Refuses (λ (value : T). Tree.application number (T.meaning value)) (Shape.application number T.shape) self.old self.new) }
-        ensures no_refusal { IfOk result (λ value. AreNotRefused (opening_refusal (enclosure.Application number) self.old) self.old) }
-        ensures refused { IfErr result (RefusesEnclosed T.meaning T.shape (enclosure.Application number) self.old self.new) }
-        ensures unsupported { 30 < number → self.old.failed ≡ None → (result ≡ Err Asn1DerError.UnsupportedValue) × (self.new ≡ failed_with self.old Asn1DerError.UnsupportedValue) }
+        ensures ok { IfOk result (λ value. Reads
+            (Shape.application number T.shape) self.old self.new
+            (Tree.application number (T.meaning value))) }
+        ensures err { IfErr result (Refuses (λ (value : T). Tree.application number
+            (T.meaning value)) (Shape.application number T.shape) self.old self.new) }
+        ensures no_refusal { IfOk result (λ value. AreNotRefused
+            (opening_refusal (enclosure.Application number) self.old) self.old) }
+        ensures refused { IfErr result (RefusesEnclosed T.meaning T.shape
+            (enclosure.Application number) self.old self.new) }
+        ensures unsupported { 30 < number → self.old.failed ≡ None
+            → (result ≡ Err Asn1DerError.UnsupportedValue)
+            × (self.new ≡ failed_with self.old Asn1DerError.UnsupportedValue) }
     {
         self.read_enclosed(Enclosure::Application(number))
     }

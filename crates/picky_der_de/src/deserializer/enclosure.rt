@@ -11,9 +11,12 @@ use picky_der_core::{Asn1DerError, Result};
 impl<R: ReadExt> Deserializer<R> {
     // Reads a value in this enclosure.
     pub(crate) fn read_enclosed<T: Deserialize>(&mut self, enclosure: Enclosure) -> Result<T>
-        ensures ok { IfOk result (λ value. ReadsEnclosed enclosure T.shape self.old self.new (T.meaning value)) }
+        ensures ok { IfOk result (λ value. ReadsEnclosed enclosure T.shape self.old self.new
+            (T.meaning value)) }
         ensures err { IfErr result (RefusesEnclosed T.meaning T.shape enclosure self.old self.new) }
-        ensures unsupported { (HasNumber enclosure → ⊥) → self.old.failed ≡ None → (result ≡ Err Asn1DerError.UnsupportedValue) × (self.new ≡ failed_with self.old Asn1DerError.UnsupportedValue) }
+        ensures unsupported { (HasNumber enclosure → ⊥) → self.old.failed ≡ None
+            → (result ≡ Err Asn1DerError.UnsupportedValue)
+            × (self.new ≡ failed_with self.old Asn1DerError.UnsupportedValue) }
     {
         let outer = self.input.open_enclosure(enclosure)?;
         let value = T::deserialize(self)?;

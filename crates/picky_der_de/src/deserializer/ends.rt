@@ -42,7 +42,8 @@ impl<R: ReadExt> Deserializer<R> {
 
     // Whether the innermost end is here.
     pub(crate) fn is_at_end(&self) -> Result<bool>
-        ensures ok { IfOk result (λ here. (self.now.failed ≡ None) × (IsTrue here ↔ (self.now.room ≡ 0))) }
+        ensures ok { IfOk result (λ here. (self.now.failed ≡ None)
+            × (IsTrue here ↔ (self.now.room ≡ 0))) }
         ensures err { IfErr result (λ e. self.now.failed ≡ Some (failure_of e)) }
     {
         self.input.is_at_end()

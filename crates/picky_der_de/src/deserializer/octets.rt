@@ -24,7 +24,9 @@ impl<R: ReadExt> Deserializer<R> {
     pub fn deserialize_tagged_bytes(&mut self, tag: Tag) -> Result<Vec<u8>>
         ensures ok { IfOk result (λ content. ReadsBytes tag self.old self.new content.items) }
         ensures err { IfErr result (RefusesBytes tag self.old self.new) }
-        ensures unsupported { 30 < number_of tag → self.old.failed ≡ None → (result ≡ Err Asn1DerError.UnsupportedValue) × (self.new ≡ failed_with self.old Asn1DerError.UnsupportedValue) }
+        ensures unsupported { 30 < number_of tag → self.old.failed ≡ None
+            → (result ≡ Err Asn1DerError.UnsupportedValue)
+            × (self.new ≡ failed_with self.old Asn1DerError.UnsupportedValue) }
     {
         self.input.read_tagged_bytes(tag)
     }
@@ -40,7 +42,8 @@ impl<R: ReadExt> Deserializer<R> {
     /// Reads an octet string, and lends it. It is refused as one in a vector of its own is.
     pub fn deserialize_bytes(&mut self) -> Result<&[u8]>
         ensures answer { (new : State) × LendsBytes self.old new result }
-        ensures* after_borrow { sem 𝓛 (Rests (the_row R.row R.ReadExt.own R.Read) self.entry (λ new. LendsBytes self.old new result)) }
+        ensures* after_borrow { sem 𝓛 (Rests (the_row R.row R.ReadExt.own R.Read) self.entry
+            (λ new. LendsBytes self.old new result)) }
     {
         self.content = self.deserialize_byte_buf()?;
         Ok(&self.content)

@@ -39,7 +39,8 @@ impl<R: ReadExt> Deserializer<R> {
     /// Reads a text, and lends it. It is refused as one in a string of its own is.
     pub fn deserialize_str(&mut self) -> Result<&str>
         ensures answer { (new : State) × LendsText self.old new result }
-        ensures* after_borrow { sem 𝓛 (Rests (the_row R.row R.ReadExt.own R.Read) self.entry (λ new. LendsText self.old new result)) }
+        ensures* after_borrow { sem 𝓛 (Rests (the_row R.row R.ReadExt.own R.Read) self.entry
+            (λ new. LendsText self.old new result)) }
     {
         self.text = self.deserialize_string()?;
         Ok(self.text.as_str())

@@ -20,11 +20,18 @@ impl<R: ReadExt> Deserializer<R> {
     /// another tag, for a bit string with unused bits, and for bytes left over before the wrapper's end, none of which
     /// is drawn; the refusals of a header and of an end; else as the value is refused.
     pub fn deserialize_newtype_struct<T: Deserialize>(&mut self, kind: Newtype) -> Result<T>
-        ensures ok { IfOk result (λ value. Reads (wrap_shape_if (wrapper_of kind) T.shape) self.old self.new (wrap_if (wrapper_of kind) (T.meaning value))) }
-        ensures err { IfErr result (Refuses (λ (value : T). wrap_if (wrapper_of kind) (T.meaning value)) (wrap_shape_if (wrapper_of kind) T.shape) self.old self.new) }
-        ensures no_refusal { IfOk result (λ value. (w : WrapperOf) → wrapper_of kind ≡ Some w → AreNotRefused (opening_refusal (enclosure.Wrapper w) self.old) self.old) }
-        ensures refused { IfErr result (λ e. (w : WrapperOf) → wrapper_of kind ≡ Some w → RefusesEnclosed T.meaning T.shape (enclosure.Wrapper w) self.old self.new e) }
-        ensures unsupported { (HasTagNumberIfAny (wrapper_of kind) → ⊥) → self.old.failed ≡ None → (result ≡ Err Asn1DerError.UnsupportedValue) × (self.new ≡ failed_with self.old Asn1DerError.UnsupportedValue) }
+        ensures ok { IfOk result (λ value. Reads
+            (wrap_shape_if (wrapper_of kind) T.shape) self.old self.new
+            (wrap_if (wrapper_of kind) (T.meaning value))) }
+        ensures err { IfErr result (Refuses (λ (value : T). wrap_if (wrapper_of kind)
+            (T.meaning value)) (wrap_shape_if (wrapper_of kind) T.shape) self.old self.new) }
+        ensures no_refusal { IfOk result (λ value. (w : WrapperOf) → wrapper_of kind ≡ Some w
+            → AreNotRefused (opening_refusal (enclosure.Wrapper w) self.old) self.old) }
+        ensures refused { IfErr result (λ e. (w : WrapperOf) → wrapper_of kind ≡ Some w
+            → RefusesEnclosed T.meaning T.shape (enclosure.Wrapper w) self.old self.new e) }
+        ensures unsupported { (HasTagNumberIfAny (wrapper_of kind) → ⊥) → self.old.failed ≡ None
+            → (result ≡ Err Asn1DerError.UnsupportedValue)
+            × (self.new ≡ failed_with self.old Asn1DerError.UnsupportedValue) }
     {
         match kind.wrapper() {
             Some(wrapper) => self.read_enclosed(Enclosure::Wrapper(wrapper)),

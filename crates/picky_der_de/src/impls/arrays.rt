@@ -15,8 +15,11 @@ fn read_into<T: Deserialize + Copy, R: ReadExt>(
     places: &mut [T],
     de: &mut Deserializer<R>,
 ) -> Result<()>
-    ensures ok { OnOk result (Reads (Shape.fields ListKind.sequence (times (length places.old) T.shape)) de.old de.new (list_meaning ListKind.sequence T.meaning places.new)) }
-    ensures err { IfErr result (Refuses (list_meaning ListKind.sequence T.meaning) (Shape.fields ListKind.sequence (times (length places.old) T.shape)) de.old de.new) }
+    ensures ok { OnOk result (Reads (Shape.fields ListKind.sequence
+        (times (length places.old) T.shape)) de.old de.new
+        (list_meaning ListKind.sequence T.meaning places.new)) }
+    ensures err { IfErr result (Refuses (list_meaning ListKind.sequence T.meaning)
+        (Shape.fields ListKind.sequence (times (length places.old) T.shape)) de.old de.new) }
 {
     let mut members = de.deserialize_seq()?;
     for at in 0..places.len() {

@@ -90,8 +90,10 @@ impl Deserialize for usize {
     ghost sound = { tt };
 
     fn deserialize<R: ReadExt>(de: &mut Deserializer<R>) -> Result<usize>
-        ensures ok { IfOk result (λ value. Reads (Shape.unsigned (2 ^ 64 - 1)) de.old de.new (Tree.unsigned value)) }
-        ensures err { IfErr result (Refuses (λ value. Tree.unsigned value) (Shape.unsigned (2 ^ 64 - 1)) de.old de.new) }
+        ensures ok { IfOk result (λ value. Reads (Shape.unsigned (2 ^ 64 - 1)) de.old de.new
+            (Tree.unsigned value)) }
+        ensures err { IfErr result (Refuses (λ value. Tree.unsigned value)
+            (Shape.unsigned (2 ^ 64 - 1)) de.old de.new) }
         ensures number { IfOk result (ReadsUnsigned (2 ^ 64 - 1) de.old de.new) }
         ensures refused { IfErr result (RefusesUnsigned (2 ^ 64 - 1) de.old de.new) }
         ensures memory { IfErr result (TakesNoMemory de.old de.new) }

@@ -96,7 +96,8 @@ impl<R: ReadExt> Input<R> {
     // Takes the header of an element with this tag that is ahead, and answers the length of the content.
     pub(crate) fn take_header_ahead(&mut self, tag: Tag) -> Option<usize>
         requires had_not_failed { self.old.failed ≡ None }
-        ensures taken { IfSome result (λ n. Takes self.old self.new (tag ∷ bytes_of n) × (n ≤ self.new.room)) }
+        ensures taken { IfSome result (λ n. Takes self.old self.new (tag ∷ bytes_of n)
+            × (n ≤ self.new.room)) }
         ensures direct { self.new.direct ≡ self.old.direct }
         ensures none { IfNone result (self.new ≡ self.old) }
     {
@@ -151,10 +152,12 @@ impl<R: ReadExt> Input<R> {
     // Takes so many bytes that are ahead into a vector, and `None` where there aren't so many before the innermost end.
     pub(crate) fn copy_ahead(&mut self, count: usize) -> Result<Option<Vec<u8>>>
         requires had_not_failed { self.old.failed ≡ None }
-        ensures taken { IfOk result (λ some. IfSome some (λ bytes. TakesBytes self.old self.new count bytes.items)) }
+        ensures taken { IfOk result (λ some. IfSome some
+            (λ bytes. TakesBytes self.old self.new count bytes.items)) }
         ensures none { IfOk result (λ some. IfNone some (self.new ≡ self.old)) }
         ensures direct { OnOk result (self.new.direct ≡ self.old.direct) }
-        ensures err { IfErr result (λ e. (e ≡ Asn1DerError.OutOfMemory) × Fails self.old self.new e) }
+        ensures err { IfErr result (λ e. (e ≡ Asn1DerError.OutOfMemory)
+            × Fails self.old self.new e) }
     {
         let ahead = self.reader.ahead();
         if count > ahead.len() || count > self.room {
@@ -171,7 +174,8 @@ impl<R: ReadExt> Input<R> {
 
     // Takes the next element into a vector, and `None` where it isn't ahead whole.
     pub(crate) fn copy_element_ahead(&mut self) -> Result<Option<Vec<u8>>>
-        ensures read { IfOk result (λ some. IfSome some (λ bytes. ReadsRaw self.old self.new bytes.items)) }
+        ensures read { IfOk result (λ some. IfSome some
+            (λ bytes. ReadsRaw self.old self.new bytes.items)) }
         ensures none { IfOk result (λ some. IfNone some (self.new ≡ self.old)) }
         ensures err { IfErr result (RefusesRaw self.old self.new) }
     {

@@ -16,7 +16,8 @@ impl<R: ReadExt> Input<R> {
     pub(crate) fn draw_vec(&mut self, len: usize) -> Result<Vec<u8>>
         requires had_not_failed { self.old.failed ≡ None }
         requires unpeeked { self.old.peeked ≡ None }
-        ensures ok { IfOk result (λ bytes. Takes self.old self.new bytes.items × (length bytes.items ≡ len) × AreBytes bytes.items) }
+        ensures ok { IfOk result (λ bytes. Takes self.old self.new bytes.items
+            × (length bytes.items ≡ len) × AreBytes bytes.items) }
         ensures direct { OnOk result (self.new.direct ≡ self.old.direct) }
         ensures err { IfErr result (StopsShort self.old self.new len) }
     {
@@ -33,7 +34,8 @@ impl<R: ReadExt> Input<R> {
     fn draw_pieces(&mut self, len: usize) -> Result<Vec<u8>>
         requires had_not_failed { self.old.failed ≡ None }
         requires unpeeked { self.old.peeked ≡ None }
-        ensures ok { IfOk result (λ bytes. Takes self.old self.new bytes.items × (length bytes.items ≡ len) × AreBytes bytes.items) }
+        ensures ok { IfOk result (λ bytes. Takes self.old self.new bytes.items
+            × (length bytes.items ≡ len) × AreBytes bytes.items) }
         ensures direct { OnOk result (self.new.direct ≡ self.old.direct) }
         ensures err { IfErr result (StopsShort self.old self.new len) }
     {
@@ -47,7 +49,8 @@ impl<R: ReadExt> Input<R> {
     pub(crate) fn draw_behind(&mut self, bytes: &mut Vec<u8>, len: usize) -> Result<()>
         requires had_not_failed { self.old.failed ≡ None }
         requires unpeeked { self.old.peeked ≡ None }
-        ensures ok { OnOk result (TakesBehind bytes.old.items self.old self.new len bytes.new.items) }
+        ensures ok { OnOk result (TakesBehind bytes.old.items self.old self.new len
+            bytes.new.items) }
         ensures direct { OnOk result (self.new.direct ≡ self.old.direct) }
         ensures err { IfErr result (StopsShort self.old self.new len) }
         ensures no_longer { GrowsByTaken bytes.old.items bytes.new.items self.old self.new }
@@ -70,7 +73,8 @@ impl<R: ReadExt> Input<R> {
         requires had_not_failed { self.old.failed ≡ None }
         requires unpeeked { self.old.peeked ≡ None }
         requires some_left { 0 < left }
-        ensures ok { IfOk result (λ n. TakesBehind bytes.old.items self.old self.new n bytes.new.items × (0 < n) × (n ≤ left)) }
+        ensures ok { IfOk result (λ n. TakesBehind bytes.old.items self.old self.new n
+            bytes.new.items × (0 < n) × (n ≤ left)) }
         ensures direct { OnOk result (self.new.direct ≡ self.old.direct) }
         ensures err { IfErr result (StopsShort self.old self.new left) }
         ensures no_longer { GrowsByTaken bytes.old.items bytes.new.items self.old self.new }
@@ -109,8 +113,14 @@ impl<R: ReadExt> Input<R> {
         ensures ok { IfOk result (λ n. TakesPiece self.old self.new left n piece.new) }
         ensures direct { OnOk result (self.new.direct ≡ self.old.direct) }
         ensures err { IfErr result (Fails self.old self.new) }
-        ensures missing { IfErr result (λ e. self.old.failed ≡ None → self.new.faults ≡ self.old.faults → IsMissing self.old e) }
-        ensures unmoved { IfErr result (λ e. self.new ≡ record self.old { failed = Some (failure_of e); faults = self.new.faults; input = self.new.input }) }
+        ensures missing { IfErr result (λ e. self.old.failed ≡ None
+            → self.new.faults ≡ self.old.faults → IsMissing self.old e) }
+        ensures unmoved { IfErr result (λ e. self.new
+            ≡ record self.old {
+              failed = Some (failure_of e);
+              faults = self.new.faults;
+              input = self.new.input;
+            }) }
     {
         if self.room == 0 {
             let error = self.end.missing();

@@ -67,7 +67,9 @@ impl<R: ReadExt> Input<R> {
         ensures ok { IfOk result (BeginsEnclosure enclosure self.old self.new) }
         ensures bounded { IfOk result (λ outer. outer.place ≤ self.new.limit) }
         ensures err { IfErr result (RefusesOpening enclosure self.old self.new) }
-        ensures unsupported { (HasNumber enclosure → ⊥) → self.old.failed ≡ None → (result ≡ Err Asn1DerError.UnsupportedValue) × (self.new ≡ failed_with self.old Asn1DerError.UnsupportedValue) }
+        ensures unsupported { (HasNumber enclosure → ⊥) → self.old.failed ≡ None
+            → (result ≡ Err Asn1DerError.UnsupportedValue)
+            × (self.new ≡ failed_with self.old Asn1DerError.UnsupportedValue) }
     {
         if let Some(error) = self.earlier() {
             return Err(error);
@@ -96,7 +98,9 @@ impl<R: ReadExt> Input<R> {
         ensures ok { IfOk result (OpensEnclosure enclosure self.old self.new) }
         ensures bounded { IfOk result (λ outer. outer.place ≤ self.new.limit) }
         ensures err { IfErr result (RefusesOpening enclosure self.old self.new) }
-        ensures unsupported { (HasNumber enclosure → ⊥) → self.old.failed ≡ None → (result ≡ Err Asn1DerError.UnsupportedValue) × (self.new ≡ failed_with self.old Asn1DerError.UnsupportedValue) }
+        ensures unsupported { (HasNumber enclosure → ⊥) → self.old.failed ≡ None
+            → (result ≡ Err Asn1DerError.UnsupportedValue)
+            × (self.new ≡ failed_with self.old Asn1DerError.UnsupportedValue) }
     {
         let outer = self.begin_enclosure(enclosure)?;
         if has_unused_bits(enclosure) {

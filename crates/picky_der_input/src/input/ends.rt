@@ -102,7 +102,8 @@ impl<R: ReadExt> Input<R> {
 
     /// Whether the innermost end is here.
     pub fn is_at_end(&self) -> Result<bool>
-        ensures ok { IfOk result (λ here. (self.now.failed ≡ None) × (IsTrue here ↔ (self.now.room ≡ 0))) }
+        ensures ok { IfOk result (λ here. (self.now.failed ≡ None)
+            × (IsTrue here ↔ (self.now.room ≡ 0))) }
         ensures err { IfErr result (λ e. self.now.failed ≡ Some (failure_of e)) }
     {
         match self.earlier() {

@@ -75,7 +75,8 @@ impl<R: ReadExt> Input<R> {
     pub(crate) fn read_header(&mut self, tag: Tag) -> Result<usize>
         requires number { IsTagNumber (number_of tag) }
         requires had_not_failed { self.old.failed ≡ None }
-        ensures ok { IfOk result (λ n. Takes self.old self.new (tag ∷ bytes_of n) × (n ≤ self.new.room)) }
+        ensures ok { IfOk result (λ n. Takes self.old self.new (tag ∷ bytes_of n)
+            × (n ≤ self.new.room)) }
         ensures direct { OnOk result (self.new.direct ≡ self.old.direct) }
         ensures err { IfErr result (RefusesHeader tag self.old self.new) }
         ensures memory { IfErr result (TakesNoMemory self.old self.new) }
@@ -92,7 +93,8 @@ impl<R: ReadExt> Input<R> {
     fn draw_header(&mut self, tag: Tag) -> Result<usize>
         requires number { IsTagNumber (number_of tag) }
         requires had_not_failed { self.old.failed ≡ None }
-        ensures ok { IfOk result (λ n. Takes self.old self.new (tag ∷ bytes_of n) × (n ≤ self.new.room)) }
+        ensures ok { IfOk result (λ n. Takes self.old self.new (tag ∷ bytes_of n)
+            × (n ≤ self.new.room)) }
         ensures direct { OnOk result (self.new.direct ≡ self.old.direct) }
         ensures err { IfErr result (RefusesHeader tag self.old self.new) }
         ensures memory { IfErr result (TakesNoMemory self.old self.new) }

@@ -19,7 +19,9 @@ impl<R: ReadExt> Input<R> {
     pub fn read_tagged_bytes(&mut self, tag: Tag) -> Result<Vec<u8>>
         ensures ok { IfOk result (λ content. ReadsBytes tag self.old self.new content.items) }
         ensures err { IfErr result (RefusesBytes tag self.old self.new) }
-        ensures unsupported { 30 < number_of tag → self.old.failed ≡ None → (result ≡ Err Asn1DerError.UnsupportedValue) × (self.new ≡ failed_with self.old Asn1DerError.UnsupportedValue) }
+        ensures unsupported { 30 < number_of tag → self.old.failed ≡ None
+            → (result ≡ Err Asn1DerError.UnsupportedValue)
+            × (self.new ≡ failed_with self.old Asn1DerError.UnsupportedValue) }
     {
         if let Some(error) = self.earlier() {
             return Err(error);

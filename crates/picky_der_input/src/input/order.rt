@@ -52,7 +52,8 @@ impl<R: ReadExt> Input<R> {
     // Keeps the encoding of a member in place of that of the one before it, where the order is tested. Without room for both
     // nothing changes.
     fn keep_last(&mut self, member: &[u8]) -> std::result::Result<(), AllocError>
-        ensures ok { OnOk result (self.new ≡ record self.old { sets = with_last self.old.sets member.now }) }
+        ensures ok { OnOk result
+            (self.new ≡ record self.old { sets = with_last self.old.sets member.now }) }
         ensures err { OnErr result ((self.new ≡ self.old) × (self.old.sets.last ≢ None)) }
     {
         if let Some(place) = self.last {

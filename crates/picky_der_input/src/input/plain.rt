@@ -59,7 +59,8 @@ impl<R: ReadExt> Input<R> {
 
     /// Reads a number (X.690, 8.3).
     pub fn read_unsigned<T: UInt>(&mut self) -> Result<T>
-        ensures ok { IfOk result (λ value. ReadsUnsigned T.greatest self.old self.new (T.number value)) }
+        ensures ok { IfOk result (λ value. ReadsUnsigned T.greatest self.old self.new
+            (T.number value)) }
         ensures err { IfErr result (RefusesUnsigned T.greatest self.old self.new) }
         ensures memory { IfErr result (TakesNoMemory self.old self.new) }
     {
@@ -71,7 +72,8 @@ impl<R: ReadExt> Input<R> {
 
     // Reads a number that is ahead whole.
     fn short_unsigned<T: UInt>(&mut self) -> Option<T>
-        ensures read { IfSome result (λ value. ReadsUnsigned T.greatest self.old self.new (T.number value)) }
+        ensures read { IfSome result (λ value. ReadsUnsigned T.greatest self.old self.new
+            (T.number value)) }
         ensures none { IfNone result (self.new ≡ self.old) }
     {
         let content = self.short_ahead(Tag::INTEGER)?;
@@ -89,7 +91,8 @@ impl<R: ReadExt> Input<R> {
     #[cold]
     #[inline(never)]
     fn draw_unsigned<T: UInt>(&mut self) -> Result<T>
-        ensures ok { IfOk result (λ value. ReadsUnsigned T.greatest self.old self.new (T.number value)) }
+        ensures ok { IfOk result (λ value. ReadsUnsigned T.greatest self.old self.new
+            (T.number value)) }
         ensures err { IfErr result (RefusesUnsigned T.greatest self.old self.new) }
         ensures memory { IfErr result (TakesNoMemory self.old self.new) }
     {

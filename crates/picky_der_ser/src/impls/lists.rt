@@ -18,8 +18,10 @@ fn serialize_items<T: Serialize, W: WriteExt>(
     ser: &mut Serializer<W>,
 ) -> Result<usize>
     requires { IsListTag tag }
-    ensures wrote { IfOk result (λ n. Writes W.WriteExt.own (list_meaning (kind_of tag) T.meaning items.now) ser.old n ser.new) }
-    ensures failed { IfErr result (λ e. Fails W.WriteExt.own (list_meaning (kind_of tag) T.meaning items.now) ser.old e ser.new) }
+    ensures wrote { IfOk result (λ n. Writes W.WriteExt.own
+        (list_meaning (kind_of tag) T.meaning items.now) ser.old n ser.new) }
+    ensures failed { IfErr result (λ e. Fails W.WriteExt.own
+        (list_meaning (kind_of tag) T.meaning items.now) ser.old e ser.new) }
     ensures counted { IsOnceAtMost (W.faults ser.old.sink) (W.faults ser.new.sink) }
     ensures goes_on { W.later ser.old.sink ser.new.sink }
 {

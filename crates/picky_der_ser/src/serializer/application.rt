@@ -18,9 +18,12 @@ impl<W: WriteExt> Serializer<W> {
     /// no memory is taken.
     #[tactic(auto, using(crate::proofs::ApplicationWrites::application))]
     pub fn serialize_application<T: Serialize>(&mut self, number: u8, value: &T) -> Result<usize>
-        ensures wrote { IfOk result (λ n. Writes W.WriteExt.own (Tree.application number (T.meaning value.now)) self.old n self.new) }
-        ensures failed { IfErr result (λ e. Fails W.WriteExt.own (Tree.application number (T.meaning value.now)) self.old e self.new) }
-        ensures past { 30 < number → self.old.failed ≡ None → (result ≡ Err Asn1DerError.UnsupportedValue) × (self.new.sink ≡ self.old.sink) }
+        ensures wrote { IfOk result (λ n. Writes W.WriteExt.own
+            (Tree.application number (T.meaning value.now)) self.old n self.new) }
+        ensures failed { IfErr result (λ e. Fails W.WriteExt.own
+            (Tree.application number (T.meaning value.now)) self.old e self.new) }
+        ensures past { 30 < number → self.old.failed ≡ None
+            → (result ≡ Err Asn1DerError.UnsupportedValue) × (self.new.sink ≡ self.old.sink) }
         ensures counted { IsOnceAtMost (W.faults self.old.sink) (W.faults self.new.sink) }
         ensures goes_on { W.later self.old.sink self.new.sink }
     {

@@ -14,8 +14,10 @@ impl<W: WriteExt> Serializer<W> {
     /// value's.
     #[tactic(auto, using(crate::proofs::Choices::choice))]
     pub fn serialize_choice<T: Serialize>(&mut self, value: &T) -> Result<usize>
-        ensures wrote { IfOk result (λ n. Writes W.WriteExt.own (Tree.choice (T.meaning value.now)) self.old n self.new) }
-        ensures failed { IfErr result (λ e. Fails W.WriteExt.own (Tree.choice (T.meaning value.now)) self.old e self.new) }
+        ensures wrote { IfOk result (λ n. Writes W.WriteExt.own
+            (Tree.choice (T.meaning value.now)) self.old n self.new) }
+        ensures failed { IfErr result (λ e. Fails W.WriteExt.own
+            (Tree.choice (T.meaning value.now)) self.old e self.new) }
         ensures counted { IsOnceAtMost (W.faults self.old.sink) (W.faults self.new.sink) }
         ensures goes_on { W.later self.old.sink self.new.sink }
     {

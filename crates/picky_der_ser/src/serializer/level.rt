@@ -32,8 +32,12 @@ impl<W: WriteExt> Serializer<W> {
         requires outside { self.old.inside ≡ [] }
         ensures kept { (self.new.around ≡ self.old.around) × (self.new.failed ≡ self.old.failed) }
         ensures still_outside { OnOk result (self.new.inside ≡ []) }
-        ensures wrote { IfOk result (λ n. IfSome self.old.pending (λ l. Wrote W.WriteExt.own (under l.around (tree_of l.header content.now)) self.old.sink n self.new.sink)) }
-        ensures refused { IfErr result (λ e. IfSome self.old.pending (λ l. Refused W.WriteExt.own (under l.around (tree_of l.header content.now)) self.old.sink e self.new.sink)) }
+        ensures wrote { IfOk result (λ n. IfSome self.old.pending
+            (λ l. Wrote W.WriteExt.own (under l.around (tree_of l.header content.now)) self.old.sink
+            n self.new.sink)) }
+        ensures refused { IfErr result (λ e. IfSome self.old.pending
+            (λ l. Refused W.WriteExt.own (under l.around (tree_of l.header content.now))
+            self.old.sink e self.new.sink)) }
         ensures counted { IsOnceAtMost (W.faults self.old.sink) (W.faults self.new.sink) }
         ensures no_fault { OnOk result (W.faults self.new.sink ≡ W.faults self.old.sink) }
         ensures goes_on { W.later self.old.sink self.new.sink }
@@ -52,8 +56,12 @@ impl<W: WriteExt> Serializer<W> {
         requires outside { self.old.inside ≡ [] }
         ensures kept { (self.new.around ≡ self.old.around) × (self.new.failed ≡ self.old.failed) }
         ensures still_outside { OnOk result (self.new.inside ≡ []) }
-        ensures wrote { IfOk result (λ n. IfSome self.old.pending (λ l. Wrote W.WriteExt.own (under l.around (tree_of l.header l.content)) self.old.sink n self.new.sink)) }
-        ensures refused { IfErr result (λ e. IfSome self.old.pending (λ l. Refused W.WriteExt.own (under l.around (tree_of l.header l.content)) self.old.sink e self.new.sink)) }
+        ensures wrote { IfOk result (λ n. IfSome self.old.pending
+            (λ l. Wrote W.WriteExt.own (under l.around (tree_of l.header l.content)) self.old.sink n
+            self.new.sink)) }
+        ensures refused { IfErr result (λ e. IfSome self.old.pending
+            (λ l. Refused W.WriteExt.own (under l.around (tree_of l.header l.content)) self.old.sink
+            e self.new.sink)) }
         ensures counted { IsOnceAtMost (W.faults self.old.sink) (W.faults self.new.sink) }
         ensures no_fault { OnOk result (W.faults self.new.sink ≡ W.faults self.old.sink) }
         ensures goes_on { W.later self.old.sink self.new.sink }
@@ -78,7 +86,8 @@ impl<W: WriteExt> Serializer<W> {
         requires had_not_failed { self.old.failed ≡ None }
         requires opened { IsSome self.old.pending }
         requires inside { self.old.inside ≢ [] }
-        ensures { IfSome self.old.pending (λ l. Ends W.WriteExt.own l.header l.content (record self.old { around = l.around }) result self.new) }
+        ensures { IfSome self.old.pending (λ l. Ends W.WriteExt.own l.header l.content
+            (record self.old { around = l.around }) result self.new) }
     {
         match self.levels.merge() {
             Ok(count) => {
@@ -94,7 +103,8 @@ impl<W: WriteExt> Serializer<W> {
         requires had_not_failed { self.old.failed ≡ None }
         requires opened { IsSome self.old.pending }
         requires outside { self.old.inside ≡ [] }
-        ensures { IfSome self.old.pending (λ l. Ends W.WriteExt.own l.header l.content (record self.old { around = l.around }) result self.new) }
+        ensures { IfSome self.old.pending (λ l. Ends W.WriteExt.own l.header l.content
+            (record self.old { around = l.around }) result self.new) }
     {
         let outcome = self.end_outside();
         self.settle(outcome)
@@ -121,7 +131,12 @@ impl<W: WriteExt> Serializer<W> {
     // A member of the level that was opened last is written from here on.
     fn enter(&mut self) -> Result<()>
         requires { IfNone self.old.failed (IsSome self.old.pending) }
-        ensures ok { OnOk result (IfSome self.old.pending (λ l. self.new ≡ record self.old { around = []; inside = begun l ∷ self.old.inside; pending = None })) }
+        ensures ok { OnOk result (IfSome self.old.pending
+            (λ l. self.new ≡ record self.old {
+              around = [];
+              inside = begun l ∷ self.old.inside;
+              pending = None;
+            })) }
         ensures had_not_failed { OnOk result (self.old.failed ≡ None) }
         ensures err { IfErr result (λ e. Stops W.WriteExt.own self.old e self.new) }
     {
@@ -139,7 +154,8 @@ impl<W: WriteExt> Serializer<W> {
 
     // The member has been written.
     fn leave(&mut self)
-        ensures { (l : Level) (ls : List Level) → self.old.inside ≡ l ∷ ls → self.new ≡ record self.old { inside = ls; pending = Some l } }
+        ensures { (l : Level) (ls : List Level) → self.old.inside ≡ l ∷ ls
+            → self.new ≡ record self.old { inside = ls; pending = Some l } }
     {
         self.levels.leave();
     }
@@ -149,7 +165,8 @@ impl<W: WriteExt> Serializer<W> {
         requires { IfNone self.old.failed (IsSome self.old.pending) }
         ensures added { OnOk result (Gains W.WriteExt.own (T.meaning value.now) self.old self.new) }
         ensures still_open { IfNone self.new.failed (IsSome self.new.pending) }
-        ensures err { IfErr result (λ e. Rejects W.WriteExt.own (T.meaning value.now) self.old e self.new) }
+        ensures err { IfErr result (λ e. Rejects W.WriteExt.own
+            (T.meaning value.now) self.old e self.new) }
     {
         self.enter()?;
         value.serialize(self)?;

@@ -155,7 +155,8 @@ impl<W: WriteExt> Serializer<W> {
 
     /// Writes a character, as the text that is just it.
     pub fn serialize_char(&mut self, value: char) -> Result<usize>
-        ensures { WritesPlain W.WriteExt.own (Tree.text (encode_utf8 value)) self.old result self.new }
+        ensures { WritesPlain W.WriteExt.own
+            (Tree.text (encode_utf8 value)) self.old result self.new }
     {
         let mut room = [0; 4];
         Utf8String::serialize(value.encode_utf8(&mut room), self)

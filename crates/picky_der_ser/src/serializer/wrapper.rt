@@ -24,7 +24,10 @@ fn has_tag_number(wrapper: Wrapper) -> bool
 impl<W: WriteExt> Serializer<W> {
     // Opens a wrapper inside the open ones.
     fn wrap(&mut self, wrapper: Wrapper) -> Result<()>
-        ensures ok { OnOk result (self.new ≡ record self.old { around = self.old.around ++ (wrapper ∷ []) }) }
+        ensures ok { OnOk result (self.new ≡ record self.old {
+          around = self.old.around ++
+              (wrapper ∷ []);
+        }) }
         ensures had_not_failed { OnOk result (self.old.failed ≡ None) }
         ensures number { OnOk result (HasTagNumber wrapper) }
         ensures err { IfErr result (λ e. Declines W.WriteExt.own wrapper self.old e self.new) }
@@ -43,9 +46,12 @@ impl<W: WriteExt> Serializer<W> {
 
     // Writes the value in this wrapper, inside the open ones.
     fn serialize_wrapped<T: Serialize>(&mut self, wrapper: Wrapper, value: &T) -> Result<usize>
-        ensures wrote { IfOk result (λ n. Writes W.WriteExt.own (wrap wrapper (T.meaning value.now)) self.old n self.new) }
-        ensures failed { IfErr result (λ e. Fails W.WriteExt.own (wrap wrapper (T.meaning value.now)) self.old e self.new) }
-        ensures past { (HasTagNumber wrapper → ⊥) → self.old.failed ≡ None → (result ≡ Err Asn1DerError.UnsupportedValue) × (self.new.sink ≡ self.old.sink) }
+        ensures wrote { IfOk result (λ n. Writes W.WriteExt.own
+            (wrap wrapper (T.meaning value.now)) self.old n self.new) }
+        ensures failed { IfErr result (λ e. Fails W.WriteExt.own
+            (wrap wrapper (T.meaning value.now)) self.old e self.new) }
+        ensures past { (HasTagNumber wrapper → ⊥) → self.old.failed ≡ None
+            → (result ≡ Err Asn1DerError.UnsupportedValue) × (self.new.sink ≡ self.old.sink) }
         ensures counted { IsOnceAtMost (W.faults self.old.sink) (W.faults self.new.sink) }
         ensures goes_on { W.later self.old.sink self.new.sink }
     {
@@ -62,9 +68,12 @@ impl<W: WriteExt> Serializer<W> {
         kind: Newtype,
         value: &T,
     ) -> Result<usize>
-        ensures wrote { IfOk result (λ n. Writes W.WriteExt.own (wrap_if (wrapper_of kind) (T.meaning value.now)) self.old n self.new) }
-        ensures failed { IfErr result (λ e. Fails W.WriteExt.own (wrap_if (wrapper_of kind) (T.meaning value.now)) self.old e self.new) }
-        ensures past { (HasTagNumberIfAny (wrapper_of kind) → ⊥) → self.old.failed ≡ None → (result ≡ Err Asn1DerError.UnsupportedValue) × (self.new.sink ≡ self.old.sink) }
+        ensures wrote { IfOk result (λ n. Writes W.WriteExt.own
+            (wrap_if (wrapper_of kind) (T.meaning value.now)) self.old n self.new) }
+        ensures failed { IfErr result (λ e. Fails W.WriteExt.own
+            (wrap_if (wrapper_of kind) (T.meaning value.now)) self.old e self.new) }
+        ensures past { (HasTagNumberIfAny (wrapper_of kind) → ⊥) → self.old.failed ≡ None
+            → (result ≡ Err Asn1DerError.UnsupportedValue) × (self.new.sink ≡ self.old.sink) }
         ensures counted { IsOnceAtMost (W.faults self.old.sink) (W.faults self.new.sink) }
         ensures goes_on { W.later self.old.sink self.new.sink }
     {
