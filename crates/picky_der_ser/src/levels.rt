@@ -110,7 +110,8 @@ impl Levels {
         })
     }
 
-    // Gives out what the level holds of which a member was being written.
+    // Gives out what the level holds of which a member was being written. In line, so that the levels aren't copied to be taken apart.
+    #[inline(always)]
     pub(crate) fn into_content(mut self) -> Vec<u8>
         ensures { (l : Level) (ls : List Level) → self.inside ≡ l ∷ ls → result.items ≡ l.content }
     {

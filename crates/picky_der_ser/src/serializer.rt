@@ -109,6 +109,7 @@ impl<'a> Serializer<SliceSink<'a>> {
     }
 
     // Gives out what the level holds of which a member was being written.
+    #[inline(always)]
     pub(crate) fn into_content(self) -> Vec<u8>
         ensures { (l : Level) (ls : List Level) → self.entry.inside ≡ l ∷ ls
             → result.items ≡ l.content }
