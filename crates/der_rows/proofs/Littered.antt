@@ -11,7 +11,7 @@ use Rattle.picky_der_core.specs.Wrapper.{under}
 use Rattle.picky_der_core.proofs.OnLiterals.{der_on_literals}
 use Rattle.picky_der_ser.specs.declared.header.Header.{Header}
 use Rattle.picky_der_ser.specs.State.{State, Level}
-use Rattle.picky_der_ser.specs.Calls.{AddsIn, RefusedIn, MemoryExcuse, no_memory, no_room, no_way, Writes, Fails, Opens, Rejects}
+use Rattle.picky_der_ser.specs.Calls.{AddsIn, RefusedIn, MemoryExcuse, no_memory, no_room, no_way, Writes, RefusesWrite, OpensLevel, RefusesToAdd}
 
 one : der (Tree.unsigned 1) ≡ 0x02 ∷ 0x01 ∷ 0x01 ∷ []
 unfolding der_on_literals
@@ -32,7 +32,7 @@ module _ {W : Type 0} (g : Ghosts W) where
   stopped (l ∷ ls) levels t old mid new e adds same none = (no_room none, same ∙ adds.1)
 
   -- the tree was written, a sequence was begun behind it, and its member was refused
-  pub littered : (header : Header) (t : Tree) (old mid lazy new : State W) (n : ℕ) (e : Asn1DerError) → Writes g t old n mid → Opens g header mid lazy → Rejects g (Tree.unsigned 1) lazy e new → Fails g t old e new
+  pub littered : (header : Header) (t : Tree) (old mid lazy new : State W) (n : ℕ) (e : Asn1DerError) → Writes g t old n mid → OpensLevel g header mid lazy → RefusesToAdd g (Tree.unsigned 1) lazy e new → RefusesWrite g t old e new
   littered header t old mid lazy new n e h o r =
       let failed : lazy.failed ≡ None = ap (λ (s : State W). s.failed) o.opened ∙ h.not_failed in
       let sink : lazy.sink ≡ mid.sink = ap (λ (s : State W). s.sink) o.opened in

@@ -9,7 +9,7 @@ use Rattle.picky_der_core.specs.Encoding.{content, plain_tag}
 use Rattle.picky_der_core.specs.Readable.{IsWritable}
 use Rattle.picky_der_core.specs.WrapperLaws.{AreAlike, alike-under, der-alike, alike-sym, is_simple, alike-bytes}
 use Rattle.picky_der_ser.specs.State.{State, Level}
-use Rattle.picky_der_ser.specs.Calls.{Adds, Excuse, no_memory, unwritable, no_sink, MemoryExcuse, no_room, no_way, Refused, RefusedIn, Writes, Fails, OnlySinkFails, RefusesUnwritable, WritesPlain}
+use Rattle.picky_der_ser.specs.Calls.{Adds, Excuse, no_memory, unwritable, no_sink, MemoryExcuse, no_room, no_way, Refused, RefusedIn, Writes, RefusesWrite, OnlySinkFails, RefusesUnwritable, WritesPlain}
 
 pub writable-alike : (t u : Tree) → AreAlike t u → IsWritable t → IsWritable u
 writable-alike t u a h = record { numbers = subst IsTrue a.numbers_same h.numbers; fits = subst (λ l. length l < 2 ^ 64) (der-alike t u a) h.fits }
@@ -48,7 +48,7 @@ module _ {W : Type 0} (g : Ghosts W) where
       record { had_not_failed = h.had_not_failed; writable = writable-alike _ _ b h.writable; count = h.count ∙ ap length d; adds = subst (Adds g old new) d h.adds; closed = h.closed; not_failed = h.not_failed; no_fault = h.no_fault }
   writes-alike t u old new (Err e) a h = tt
 
-  pub fails-alike : (t u : Tree) (old new : State W) (r : Result ℕ Asn1DerError) → AreAlike t u → IfErr r (λ e. Fails g t old e new) → IfErr r (λ e. Fails g u old e new)
+  pub fails-alike : (t u : Tree) (old new : State W) (r : Result ℕ Asn1DerError) → AreAlike t u → IfErr r (λ e. RefusesWrite g t old e new) → IfErr r (λ e. RefusesWrite g u old e new)
   fails-alike t u old new (Ok n) a h = tt
   fails-alike t u old new (Err e) a h =
       record { failed = h.failed; again = h.again; first = refused_first-alike old.failed _ _ _ _ _ e (alike-under old.around t u a) h.first }

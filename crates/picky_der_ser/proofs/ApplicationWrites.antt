@@ -16,7 +16,7 @@ use Rattle.picky_der_core.specs.WrapperLaws.{AreAlike, alike-under, der-alike}
 use Rattle.picky_der_ser.specs.declared.header.Header.TheVariants.{Application}
 use Rattle.picky_der_ser.specs.Headers.{headers}
 use Rattle.picky_der_ser.specs.State.{State, Level, with_member, settled}
-use Rattle.picky_der_ser.specs.Calls.{MemoryExcuse, Writes, Fails, Opens, Gains, Rejects, Ends, Finishes}
+use Rattle.picky_der_ser.specs.Calls.{MemoryExcuse, Writes, RefusesWrite, OpensLevel, AddsMember, RefusesToAdd, WritesContent, EndsLevel}
 use Rattle.picky_der_ser.proofs.Alike.{writes-alike, fails-alike}
 use Rattle.picky_der_ser.proofs.HeaderBytes.{der-headers}
 use Rattle.picky_der_ser.proofs.ListBytes.{numbers_inside, second_of}
@@ -40,7 +40,7 @@ part_writable ws n t w =
     let whole = der-headers ws (Application n) (der t) in
     record { numbers = numbers; fits = omega (arith, w.fits, ap length same, ap length whole, length-append (headers ws (Application n) (length (der t))) (der t)) }
 
-module _ {W : Type 0} (g : Ghosts W) (n : ℕ) (t : Tree) (old now : State W) (o : Opens g (Application n) old now) where
+module _ {W : Type 0} (g : Ghosts W) (n : ℕ) (t : Tree) (old now : State W) (o : OpensLevel g (Application n) old now) where
   -- the level without its member, and with it
   abbrev empty : Level
   empty = record { header = Application n; around = old.around; content = []; seams = [] }
@@ -54,7 +54,7 @@ module _ {W : Type 0} (g : Ghosts W) (n : ℕ) (t : Tree) (old now : State W) (o
   failed_at : now.failed ≡ old.failed
   failed_at = ap (λ (s : State W). s.failed) o.opened
 
-  gained : (d : State W) → Gains g t now d → d ≡ record { sink = old.sink; around = []; failed = None; inside = old.inside; pending = Some full }
+  gained : (d : State W) → AddsMember g t now d → d ≡ record { sink = old.sink; around = []; failed = None; inside = old.inside; pending = Some full }
   gained d h =
       let step : d ≡ record { sink = now.sink; around = []; failed = None; inside = now.inside; pending = Some (with_member empty (der t)) } =
       subst (λ p. IfSome p (λ l. d ≡ record { sink = now.sink; around = []; failed = None; inside = now.inside; pending = Some (with_member l (der t)) })) pending_at h.added in
@@ -62,31 +62,31 @@ module _ {W : Type 0} (g : Ghosts W) (n : ℕ) (t : Tree) (old now : State W) (o
       let inside : now.inside ≡ old.inside = ap (λ (s : State W). s.inside) o.opened in
       cc
 
-  ended : (d new : State W) (r : Result ℕ Asn1DerError) → Gains g t now d → Finishes g d r new → Ends g (Application n) (der t) (record old { pending = Some full }) r new
+  ended : (d new : State W) (r : Result ℕ Asn1DerError) → AddsMember g t now d → EndsLevel g d r new → WritesContent g (Application n) (der t) (record old { pending = Some full }) r new
   ended d new r h f =
       let none : old.failed ≡ None = sym failed_at ∙ h.had_not_failed in
-      let at : Ends g (Application n) (settled full) (record { sink = old.sink; around = old.around; failed = None; inside = old.inside; pending = Some full }) r new =
-      subst (λ s. IfSome s.pending (λ l. Ends g l.header (settled l) (record s { around = l.around }) r new)) (gained d h) f.ended in
-      subst (λ e. Ends g (Application n) (der t) (record { sink = old.sink; around = old.around; failed = e; inside = old.inside; pending = Some full }) r new) (sym none) (subst (λ c. Ends g (Application n) c (record { sink = old.sink; around = old.around; failed = None; inside = old.inside; pending = Some full }) r new) (settled-uncut full refl) at)
+      let at : WritesContent g (Application n) (settled full) (record { sink = old.sink; around = old.around; failed = None; inside = old.inside; pending = Some full }) r new =
+      subst (λ s. IfSome s.pending (λ l. WritesContent g l.header (settled l) (record s { around = l.around }) r new)) (gained d h) f.ended in
+      subst (λ e. WritesContent g (Application n) (der t) (record { sink = old.sink; around = old.around; failed = e; inside = old.inside; pending = Some full }) r new) (sym none) (subst (λ c. WritesContent g (Application n) c (record { sink = old.sink; around = old.around; failed = None; inside = old.inside; pending = Some full }) r new) (settled-uncut full refl) at)
 
-  pub application_wrote : (d new : State W) (r : Result ℕ Asn1DerError) (k : ℕ) → Gains g t now d → Finishes g d r new → r ≡ Ok k → Writes g (Tree.application n t) old k new
+  pub application_wrote : (d new : State W) (r : Result ℕ Asn1DerError) (k : ℕ) → AddsMember g t now d → EndsLevel g d r new → r ≡ Ok k → Writes g (Tree.application n t) old k new
   application_wrote d new r k h f e =
       let whole = writes-alike g _ _ old new r (alike_application n t h.writable.numbers) (writes_whatever g _ old new _ r (ended d new r h f).wrote) in
       subst (λ v. IfOk v (λ m. Writes g (Tree.application n t) old m new)) e whole
 
-  pub application_failed : (d new : State W) (r : Result ℕ Asn1DerError) (e : Asn1DerError) → Gains g t now d → Finishes g d r new → r ≡ Err e → Fails g (Tree.application n t) old e new
+  pub application_failed : (d new : State W) (r : Result ℕ Asn1DerError) (e : Asn1DerError) → AddsMember g t now d → EndsLevel g d r new → r ≡ Err e → RefusesWrite g (Tree.application n t) old e new
   application_failed d new r e h f i =
       let whole = fails-alike g _ _ old new r (alike_application n t h.writable.numbers) (fails_whatever g _ old new _ r (ended d new r h f).failed) in
-      subst (λ v. IfErr v (λ m. Fails g (Tree.application n t) old m new)) i whole
+      subst (λ v. IfErr v (λ m. RefusesWrite g (Tree.application n t) old m new)) i whole
 
-  pub application_refused : (new : State W) (d e : Asn1DerError) → Rejects g t now e new → d ≡ e → Fails g (Tree.application n t) old d new
+  pub application_refused : (new : State W) (d e : Asn1DerError) → RefusesToAdd g t now e new → d ≡ e → RefusesWrite g (Tree.application n t) old d new
   application_refused new d e h i =
       let sink : new.sink ≡ old.sink = h.same ∙ ap (λ (s : State W). s.sink) o.opened in
       rw i (refused_part g (Tree.application n t) old new e (part_writable old.around n t) h.failed sink (subst (λ f. IfSome f (λ k. failure_of e ≡ k)) failed_at h.again) (subst (λ f. IfNone f (MemoryExcuse (IsWritable t) e)) failed_at h.first))
 
 module _ {W : Type 0} (g : Ghosts W) where
   -- a tag number past 30
-  pub application_past : (n : ℕ) (t : Tree) (old : State W) → 30 < n → old.failed ≡ None → Fails g (Tree.application n t) old UnsupportedValue (record old { failed = Some (failure_of UnsupportedValue) })
+  pub application_past : (n : ℕ) (t : Tree) (old : State W) → 30 < n → old.failed ≡ None → RefusesWrite g (Tree.application n t) old UnsupportedValue (record old { failed = Some (failure_of UnsupportedValue) })
   application_past n t old h f =
       let number : is_tag_number n ≡ false = lt-leb n 30 h in
       let past : has_tag_numbers (Tree.application n t) ≡ false = ap (λ b. b && has_tag_numbers t) number in

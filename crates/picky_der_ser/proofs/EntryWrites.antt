@@ -20,7 +20,7 @@ use Rattle.picky_der_core.specs.Sink.{vector_of, place_of}
 use Rattle.picky_der_core.specs.SliceSink.{slice_of, filled_of, written_of, faults_of, IsLater}
 use Rattle.picky_der_core.specs.SliceSinkLaws.{holds_all, holds_beginning, holds_first}
 use Rattle.picky_der_ser.specs.State.{State}
-use Rattle.picky_der_ser.specs.Calls.{Excuse, no_memory, unwritable, no_sink, MemoryExcuse, no_room, no_way, Wrote, Refused, RefusedIn, Fails}
+use Rattle.picky_der_ser.specs.Calls.{Excuse, no_memory, unwritable, no_sink, MemoryExcuse, no_room, no_way, Wrote, Refused, RefusedIn, RefusesWrite}
 use Rattle.picky_der_ser.specs.Entry.{Overwrites, RefusedVec, SliceExcuse, without_memory, without_form, without_room, RefusedSlice}
 
 memory_kind : kind_of kind.OutOfMemory ≡ OutOfMemory
@@ -48,7 +48,7 @@ module _ {V W : Type 0} (h : Ghosts V) (g : Ghosts W) (now : V → W) (told : (v
       record { begins = record { front = b.front; rest = b.rest; is = b.is; appends = both }; excuse = excuse-through t b.rest old new e r.excuse }
 
   -- a serializer that began with nothing open, and hadn't failed
-  pub refused-fresh : (t : Tree) (old new : State V) (e : Asn1DerError) → old.failed ≡ None → old.inside ≡ [] → old.around ≡ [] → Fails h t old e new → Refused g t (now old.sink) e (now new.sink)
+  pub refused-fresh : (t : Tree) (old new : State V) (e : Asn1DerError) → old.failed ≡ None → old.inside ≡ [] → old.around ≡ [] → RefusesWrite h t old e new → Refused g t (now old.sink) e (now new.sink)
   refused-fresh t old new e f i a k =
       let first : RefusedIn h old.inside (under old.around t) old.sink e new.sink = subst (λ o. IfNone o (RefusedIn h old.inside (under old.around t) old.sink e new.sink)) f k.first in
       let outside : Refused h (under old.around t) old.sink e new.sink = subst (λ ls. RefusedIn h ls (under old.around t) old.sink e new.sink) i first in

@@ -13,7 +13,7 @@ use Rattle.picky_der_core.specs.WrapperLaws.{AreAlike}
 use Rattle.picky_der_ser.specs.declared.header.Header.TheVariants.{Tagged}
 use Rattle.picky_der_ser.specs.State.{State, Level, with_member, with_members, settled}
 use Rattle.picky_der_ser.specs.Sequences.{IsListTag, kind_of}
-use Rattle.picky_der_ser.specs.Calls.{MemoryExcuse, no_room, no_way, RefusedIn, Writes, Fails, Opens, StopsBefore, Gains, Rejects, Ends, Finishes}
+use Rattle.picky_der_ser.specs.Calls.{MemoryExcuse, no_room, no_way, RefusedIn, Writes, RefusesWrite, OpensLevel, RefusesBefore, AddsMember, RefusesToAdd, WritesContent, EndsLevel}
 use Rattle.picky_der_ser.proofs.Alike.{writes-alike, fails-alike}
 use Rattle.picky_der_ser.proofs.PlainWrites.{refused_unwritable}
 use Rattle.picky_der_ser.proofs.StateWrites.{refused_memory}
@@ -36,14 +36,14 @@ module _ {W : Type 0} where
     pub is : now ≡ opened_with kind done old
 
 module _ {W : Type 0} (g : Ghosts W) where
-  pub list_opened : (kind : ListKind) (all : Trees) (old now : State W) → Opens g (Tagged (list_tag kind)) old now → Awaits kind all all old now
+  pub list_opened : (kind : ListKind) (all : Trees) (old now : State W) → OpensLevel g (Tagged (list_tag kind)) old now → Awaits kind all all old now
   list_opened kind all old now h = record { done = []; split = refl; numbers = refl; is = h.opened }
 
-  pub list_opened_by : (tag : ℕ) (all : Trees) (old now : State W) → IsListTag tag → Opens g (Tagged tag) old now → Awaits (kind_of tag) all all old now
-  list_opened_by tag all old now (inl e) h = rw e (list_opened ListKind.sequence all old now (subst (λ t. Opens g (Tagged t) old now) e h))
-  list_opened_by tag all old now (inr e) h = rw e (list_opened ListKind.set all old now (subst (λ t. Opens g (Tagged t) old now) e h))
+  pub list_opened_by : (tag : ℕ) (all : Trees) (old now : State W) → IsListTag tag → OpensLevel g (Tagged tag) old now → Awaits (kind_of tag) all all old now
+  list_opened_by tag all old now (inl e) h = rw e (list_opened ListKind.sequence all old now (subst (λ t. OpensLevel g (Tagged t) old now) e h))
+  list_opened_by tag all old now (inr e) h = rw e (list_opened ListKind.set all old now (subst (λ t. OpensLevel g (Tagged t) old now) e h))
 
-  pub list_gained : (kind : ListKind) (rest all : Trees) (t : Tree) (old now new : State W) → Gains g t now new → Awaits kind (Trees.more t rest) all old now → Awaits kind rest all old new
+  pub list_gained : (kind : ListKind) (rest all : Trees) (t : Tree) (old now new : State W) → AddsMember g t now new → Awaits kind (Trees.more t rest) all old now → Awaits kind rest all old new
   list_gained kind rest all t old now new h a =
       let l = level_with kind a.done old in
       let pending : now.pending ≡ Some l = ap (λ (s : State W). s.pending) a.is in
@@ -63,7 +63,7 @@ module _ {W : Type 0} (g : Ghosts W) where
 
   -- nothing was written: out of memory, or a part that can't be written
   pub refused_part : {Part : Type 0} (u : Tree) (old new : State W) (e : Asn1DerError) → (IsWritable (under old.around u) → Part) → new.failed ≡ Some (failure_of e) → new.sink ≡ old.sink
-      → IfSome old.failed (λ f. failure_of e ≡ f) → IfNone old.failed (MemoryExcuse Part e) → Fails g u old e new
+      → IfSome old.failed (λ f. failure_of e ≡ f) → IfNone old.failed (MemoryExcuse Part e) → RefusesWrite g u old e new
   refused_part {Part} u old new e part failed same again first = record { failed = failed; again = earlier old.failed again; first = own old.failed first }
     where
       earlier : (o : Option Failure) → IfSome o (λ f. failure_of e ≡ f) → IfSome o (λ f. (failure_of e ≡ f) × (new.sink ≡ old.sink))
@@ -76,7 +76,7 @@ module _ {W : Type 0} (g : Ghosts W) where
 
   -- a part was refused that can be written if the list can, so the list is
   pub list_stopped : {Part : Type 0} (kind : ListKind) (rest all : Trees) (old now new : State W) (d e : Asn1DerError) → ((a : Awaits kind rest all old now) → IsWritable (under old.around (Tree.list kind (before a.done rest))) → Part)
-      → StopsBefore g Part now e new → d ≡ e → Awaits kind rest all old now → Fails g (Tree.list kind all) old d new
+      → RefusesBefore g Part now e new → d ≡ e → Awaits kind rest all old now → RefusesWrite g (Tree.list kind all) old d new
   list_stopped {Part} kind rest all old now new d e of_all h i a =
       let sink : new.sink ≡ old.sink = h.same ∙ ap (λ (s : State W). s.sink) a.is in
       let failed : now.failed ≡ old.failed = ap (λ (s : State W). s.failed) a.is in
@@ -84,7 +84,7 @@ module _ {W : Type 0} (g : Ghosts W) where
       rw i (refused_part (Tree.list kind all) old new e part h.failed sink (subst (λ o. IfSome o (λ f. failure_of e ≡ f)) failed h.again) (subst (λ o. IfNone o (MemoryExcuse Part e)) failed h.first))
 
   -- a member was refused
-  pub list_refused : (kind : ListKind) (rest all : Trees) (t : Tree) (old now new : State W) (d e : Asn1DerError) → Rejects g t now e new → d ≡ e → Awaits kind (Trees.more t rest) all old now → Fails g (Tree.list kind all) old d new
+  pub list_refused : (kind : ListKind) (rest all : Trees) (t : Tree) (old now new : State W) (d e : Asn1DerError) → RefusesToAdd g t now e new → d ≡ e → Awaits kind (Trees.more t rest) all old now → RefusesWrite g (Tree.list kind all) old d new
   list_refused kind rest all t old now new d e = list_stopped kind (Trees.more t rest) all old now new d e (λ a. member_writable old.around kind a.done t rest)
 
   -- ---- the end
@@ -94,32 +94,32 @@ module _ {W : Type 0} (g : Ghosts W) where
   writes_whatever t old new p (Ok n) h = record { had_not_failed = h.had_not_failed; writable = h.writable; count = h.count; adds = h.adds; closed = h.closed; not_failed = h.not_failed; no_fault = h.no_fault }
   writes_whatever t old new p (Err e) h = tt
 
-  pub fails_whatever : (t : Tree) (old new : State W) (p : Option Level) (r : Result ℕ Asn1DerError) → IfErr r (λ e. Fails g t (record old { pending = p }) e new) → IfErr r (λ e. Fails g t old e new)
+  pub fails_whatever : (t : Tree) (old new : State W) (p : Option Level) (r : Result ℕ Asn1DerError) → IfErr r (λ e. RefusesWrite g t (record old { pending = p }) e new) → IfErr r (λ e. RefusesWrite g t old e new)
   fails_whatever t old new p (Ok n) h = tt
   fails_whatever t old new p (Err e) h = record { failed = h.failed; again = h.again; first = h.first }
 
-  ended : (kind : ListKind) (all : Trees) (old now new : State W) (r : Result ℕ Asn1DerError) → Finishes g now r new → (a : Awaits kind Trees.none all old now)
-      → Ends g (Tagged (list_tag kind)) (list_content kind (map der a.done)) (record old { pending = Some (level_with kind a.done old) }) r new
+  ended : (kind : ListKind) (all : Trees) (old now new : State W) (r : Result ℕ Asn1DerError) → EndsLevel g now r new → (a : Awaits kind Trees.none all old now)
+      → WritesContent g (Tagged (list_tag kind)) (list_content kind (map der a.done)) (record old { pending = Some (level_with kind a.done old) }) r new
   ended kind all old now new r h a =
       let l = level_with kind a.done old in
       let empty = list_level kind old.around in
       let bs = map der a.done in
-      let whole : Ends g l.header (settled l) (record (opened_with kind a.done old) { around = l.around }) r new =
-      subst (λ s. IfSome s.pending (λ m. Ends g m.header (settled m) (record s { around = m.around }) r new)) a.is h.ended in
-      let headed = subst (λ x. Ends g x (settled l) (record (opened_with kind a.done old) { around = l.around }) r new) (members_header empty bs) whole in
-      let wrapped = subst (λ x. Ends g (Tagged (list_tag kind)) (settled l) (record (opened_with kind a.done old) { around = x }) r new) (members_around empty bs) headed in
-      subst (λ c. Ends g (Tagged (list_tag kind)) c (record old { pending = Some l }) r new) (settled-members kind old.around bs) wrapped
+      let whole : WritesContent g l.header (settled l) (record (opened_with kind a.done old) { around = l.around }) r new =
+      subst (λ s. IfSome s.pending (λ m. WritesContent g m.header (settled m) (record s { around = m.around }) r new)) a.is h.ended in
+      let headed = subst (λ x. WritesContent g x (settled l) (record (opened_with kind a.done old) { around = l.around }) r new) (members_header empty bs) whole in
+      let wrapped = subst (λ x. WritesContent g (Tagged (list_tag kind)) (settled l) (record (opened_with kind a.done old) { around = x }) r new) (members_around empty bs) headed in
+      subst (λ c. WritesContent g (Tagged (list_tag kind)) c (record old { pending = Some l }) r new) (settled-members kind old.around bs) wrapped
 
   same_list : (kind : ListKind) (all : Trees) (old now : State W) (a : Awaits kind Trees.none all old now) → AreAlike (Tree.bytes (list_tag kind) (list_content kind (map der a.done))) (Tree.list kind all)
   same_list kind all old now a =
       subst (λ us. AreAlike (Tree.bytes (list_tag kind) (list_content kind (map der a.done))) (Tree.list kind us)) (sym (a.split ∙ before_none a.done)) (alike_list kind a.done a.numbers)
 
-  pub list_wrote : (kind : ListKind) (all : Trees) (old now new : State W) (r : Result ℕ Asn1DerError) (n : ℕ) → Finishes g now r new → r ≡ Ok n → Awaits kind Trees.none all old now → Writes g (Tree.list kind all) old n new
+  pub list_wrote : (kind : ListKind) (all : Trees) (old now new : State W) (r : Result ℕ Asn1DerError) (n : ℕ) → EndsLevel g now r new → r ≡ Ok n → Awaits kind Trees.none all old now → Writes g (Tree.list kind all) old n new
   list_wrote kind all old now new r n h e a =
       let whole = writes-alike g _ _ old new r (same_list kind all old now a) (writes_whatever _ old new _ r (ended kind all old now new r h a).wrote) in
       subst (λ v. IfOk v (λ m. Writes g (Tree.list kind all) old m new)) e whole
 
-  pub list_failed : (kind : ListKind) (all : Trees) (old now new : State W) (r : Result ℕ Asn1DerError) (e : Asn1DerError) → Finishes g now r new → r ≡ Err e → Awaits kind Trees.none all old now → Fails g (Tree.list kind all) old e new
+  pub list_failed : (kind : ListKind) (all : Trees) (old now new : State W) (r : Result ℕ Asn1DerError) (e : Asn1DerError) → EndsLevel g now r new → r ≡ Err e → Awaits kind Trees.none all old now → RefusesWrite g (Tree.list kind all) old e new
   list_failed kind all old now new r e h i a =
       let whole = fails-alike g _ _ old new r (same_list kind all old now a) (fails_whatever _ old new _ r (ended kind all old now new r h a).failed) in
-      subst (λ v. IfErr v (λ m. Fails g (Tree.list kind all) old m new)) i whole
+      subst (λ v. IfErr v (λ m. RefusesWrite g (Tree.list kind all) old m new)) i whole

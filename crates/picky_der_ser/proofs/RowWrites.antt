@@ -9,7 +9,7 @@ use Rattle.picky_der_core.specs.Encoding.{written, encodings, der}
 use Rattle.picky_der_core.specs.Readable.{IsWritable}
 use Rattle.picky_der_core.specs.Wrapper.{under}
 use Rattle.picky_der_ser.specs.State.{State, Level, with_member, with_members}
-use Rattle.picky_der_ser.specs.Calls.{AreWritable, MemoryExcuse, Fails, Gains, GainsAll, GainsRow, RejectsRow, Leads}
+use Rattle.picky_der_ser.specs.Calls.{AreWritable, MemoryExcuse, RefusesWrite, AddsMember, AddsMembers, AddsRow, RefusesToAddRow, AddsInFront}
 use Rattle.picky_der_ser.proofs.Alike.{excuse_of_part}
 use Rattle.picky_der_ser.proofs.ListBytes.{before, before_next, member_writable}
 use Rattle.picky_der_ser.proofs.Members.{Awaits, level_with, list_gained, list_stopped}
@@ -38,7 +38,7 @@ module _ {W : Type 0} (g : Ghosts W) where
   -- ---- what the calls for one member and for those behind it do together
 
   -- all of them were added
-  all_gained : {t : Tree} {old between : State W} (ts : Trees) (new : State W) → Gains g t old between → GainsRow g ts between new → GainsAll g (Trees.more t ts) old new
+  all_gained : {t : Tree} {old between : State W} (ts : Trees) (new : State W) → AddsMember g t old between → AddsRow g ts between new → AddsMembers g (Trees.more t ts) old new
   all_gained {t} {old} {between} Trees.none new a h = record { had_not_failed = a.had_not_failed; writable = (a.writable, tt); added = added old.pending a.added }
     where
       added : (o : Option Level) → IfSome o (λ l. between ≡ with_level old (with_member l (der t))) → IfSome o (λ l. new ≡ with_level old (with_members l (encodings (Trees.more t Trees.none))))
@@ -57,7 +57,7 @@ module _ {W : Type 0} (g : Ghosts W) where
           rest ∙ ap (with_level old) (members_behind l t all)
 
   -- one behind the first was
-  all_stopped : {t : Tree} {old between : State W} {e : Asn1DerError} (ts : Trees) (new : State W) → IfNone old.failed (IsSome old.pending) → Gains g t old between → RejectsRow g ts between e new → RejectsRow g (Trees.more t ts) old e new
+  all_stopped : {t : Tree} {old between : State W} {e : Asn1DerError} (ts : Trees) (new : State W) → IfNone old.failed (IsSome old.pending) → AddsMember g t old between → RefusesToAddRow g ts between e new → RefusesToAddRow g (Trees.more t ts) old e new
   all_stopped Trees.none new opened a h = absurd h
   all_stopped {t} {old} {between} {e} (Trees.more u us) new opened a h =
       let now = with_it old.pending (subst (λ o. IfNone o (IsSome old.pending)) a.had_not_failed opened) a.added in
@@ -68,50 +68,50 @@ module _ {W : Type 0} (g : Ghosts W) where
       with_it (Some l) is k = (ap (λ (s : State W). s.sink) k, ap (λ (s : State W). s.failed) k)
 
   -- a member comes in front of others
-  pub row_leads : {T : Type 0} (r : Result T Asn1DerError) (t : Tree) (old between : State W) → IfNone old.failed (IsSome old.pending) → OnOk r (Gains g t old between) → OnOk r (Leads g (Trees.more t) old between)
+  pub row_leads : {T : Type 0} (r : Result T Asn1DerError) (t : Tree) (old between : State W) → IfNone old.failed (IsSome old.pending) → OnOk r (AddsMember g t old between) → OnOk r (AddsInFront g (Trees.more t) old between)
   row_leads (Ok v) t old between opened a = record { added = λ ts last h. all_gained ts last a h; refused = λ ts e last h. all_stopped ts last opened a h }
   row_leads (Err e) t old between opened a = tt
 
   -- ---- what the calls for what comes in front and for those behind it do together
 
-  pub row_goes_on : {T : Type 0} (r : Result T Asn1DerError) (ts : Trees) (new : State W) {in_front : Trees → Trees} {old between : State W} → Leads g in_front old between → OnOk r (GainsRow g ts between new) → OnOk r (GainsRow g (in_front ts) old new)
+  pub row_goes_on : {T : Type 0} (r : Result T Asn1DerError) (ts : Trees) (new : State W) {in_front : Trees → Trees} {old between : State W} → AddsInFront g in_front old between → OnOk r (AddsRow g ts between new) → OnOk r (AddsRow g (in_front ts) old new)
   row_goes_on (Ok v) ts new a h = a.added ts new h
   row_goes_on (Err e) ts new a h = tt
 
-  pub row_stops : {T : Type 0} (r : Result T Asn1DerError) (ts : Trees) (new : State W) {in_front : Trees → Trees} {old between : State W} → Leads g in_front old between → IfErr r (λ e. RejectsRow g ts between e new) → IfErr r (λ e. RejectsRow g (in_front ts) old e new)
+  pub row_stops : {T : Type 0} (r : Result T Asn1DerError) (ts : Trees) (new : State W) {in_front : Trees → Trees} {old between : State W} → AddsInFront g in_front old between → IfErr r (λ e. RefusesToAddRow g ts between e new) → IfErr r (λ e. RefusesToAddRow g (in_front ts) old e new)
   row_stops (Ok v) ts new a h = tt
   row_stops (Err e) ts new a h = a.refused ts e new h
 
   -- ---- the list
 
   -- the first member of a row, and those behind it
-  row_parted : (l : Level) (t : Tree) (ts : Trees) (now new : State W) → now.pending ≡ Some l → GainsAll g (Trees.more t ts) now new
-      → Gains g t now (with_level now (with_member l (der t))) × GainsRow g ts (with_level now (with_member l (der t))) new
+  row_parted : (l : Level) (t : Tree) (ts : Trees) (now new : State W) → now.pending ≡ Some l → AddsMembers g (Trees.more t ts) now new
+      → AddsMember g t now (with_level now (with_member l (der t))) × AddsRow g ts (with_level now (with_member l (der t))) new
   row_parted l t ts now new p h = (first, others ts h)
     where
-      first : Gains g t now (with_level now (with_member l (der t)))
+      first : AddsMember g t now (with_level now (with_member l (der t)))
       first = record { had_not_failed = h.had_not_failed; writable = h.writable.0; added = subst (λ o. IfSome o (λ m. with_level now (with_member l (der t)) ≡ with_level now (with_member m (der t)))) (sym p) refl }
 
-      all : (us : Trees) → GainsAll g (Trees.more t us) now new → new ≡ with_level now (with_members l (encodings (Trees.more t us)))
+      all : (us : Trees) → AddsMembers g (Trees.more t us) now new → new ≡ with_level now (with_members l (encodings (Trees.more t us)))
       all us k = subst (λ o. IfSome o (λ m. new ≡ with_level now (with_members m (encodings (Trees.more t us))))) p k.added
 
-      others : (us : Trees) → GainsAll g (Trees.more t us) now new → GainsRow g us (with_level now (with_member l (der t))) new
+      others : (us : Trees) → AddsMembers g (Trees.more t us) now new → AddsRow g us (with_level now (with_member l (der t))) new
       others Trees.none k = all Trees.none k ∙ ap (with_level now) (one_member l t)
       others (Trees.more u us) k = record { had_not_failed = refl; writable = k.writable.1; added = all (Trees.more u us) k ∙ ap (with_level now) (sym (members_behind l t (Trees.more u us))) }
 
   -- the members of a row were added
-  pub row_gained : (kind : ListKind) (ts all : Trees) (old now new : State W) → GainsRow g ts now new → Awaits kind ts all old now → Awaits kind Trees.none all old new
+  pub row_gained : (kind : ListKind) (ts all : Trees) (old now new : State W) → AddsRow g ts now new → Awaits kind ts all old now → Awaits kind Trees.none all old new
   row_gained kind Trees.none all old now new h a = subst (λ s. Awaits kind Trees.none all old s) (sym h) a
   row_gained kind (Trees.more t ts) all old now new h a =
       let p = row_parted (level_with kind a.done old) t ts now new (ap (λ (s : State W). s.pending) a.is) h in
       row_gained kind ts all old _ new p.1 (list_gained g kind ts all t old now _ p.0 a)
 
   -- one of them was refused, so the list is
-  pub row_rejected : (kind : ListKind) (ts all : Trees) (old now new : State W) (d e : Asn1DerError) → RejectsRow g ts now e new → d ≡ e → Awaits kind ts all old now → Fails g (Tree.list kind all) old d new
+  pub row_rejected : (kind : ListKind) (ts all : Trees) (old now new : State W) (d e : Asn1DerError) → RefusesToAddRow g ts now e new → d ≡ e → Awaits kind ts all old now → RefusesWrite g (Tree.list kind all) old d new
   row_rejected kind Trees.none all old now new d e h i a = absurd h
   row_rejected kind (Trees.more t ts) all old now new d e h i a = list_stopped g kind (Trees.more t ts) all old now new d e (λ b. members_writable old.around kind b.done (Trees.more t ts)) h i a
 
   -- up to there nothing reached the sink
-  pub row_untouched : (kind : ListKind) (ts all : Trees) (old now new : State W) (e : Asn1DerError) → RejectsRow g ts now e new → Awaits kind ts all old now → new.sink ≡ old.sink
+  pub row_untouched : (kind : ListKind) (ts all : Trees) (old now new : State W) (e : Asn1DerError) → RefusesToAddRow g ts now e new → Awaits kind ts all old now → new.sink ≡ old.sink
   row_untouched kind Trees.none all old now new e h a = absurd h
   row_untouched kind (Trees.more t ts) all old now new e h a = h.same ∙ ap (λ (s : State W). s.sink) a.is

@@ -15,7 +15,7 @@ use Rattle.picky_der_core.specs.Wrapper.{under}
 use Rattle.picky_der_ser.specs.Heading.{tree_of}
 use Rattle.picky_der_ser.specs.Headers.{HasNumber, HaveTagNumbers}
 use Rattle.picky_der_ser.specs.State.{State, Level, with_bytes}
-use Rattle.picky_der_ser.specs.Calls.{AddsIn, Wrote, Refused, RefusedIn, no_memory, no_room, Writes, Fails, WritesPlain, Ends}
+use Rattle.picky_der_ser.specs.Calls.{AddsIn, Wrote, Refused, RefusedIn, no_memory, no_room, Writes, RefusesWrite, WritesPlain, WritesContent}
 use Rattle.picky_der_ser.proofs.LevelWrites.{wrote_by, refused_by, as_it_is, writable_counted}
 
 module _ {W : Type 0} (g : Ghosts W) where
@@ -28,7 +28,7 @@ module _ {W : Type 0} (g : Ghosts W) where
   writes_outside t old new n f i j a b h q =
       record { had_not_failed = f; writable = h.writable; count = h.count; adds = adds_outside old.inside new.inside old.sink new.sink _ i j h.appends; closed = a; not_failed = b; no_fault = q }
 
-  pub fails_outside : (t : Tree) (old new : State W) (e : Asn1DerError) → old.failed ≡ None → old.inside ≡ [] → new.failed ≡ Some (failure_of e) → Refused g (under old.around t) old.sink e new.sink → Fails g t old e new
+  pub fails_outside : (t : Tree) (old new : State W) (e : Asn1DerError) → old.failed ≡ None → old.inside ≡ [] → new.failed ≡ Some (failure_of e) → Refused g (under old.around t) old.sink e new.sink → RefusesWrite g t old e new
   fails_outside t old new e f i b h =
       let u = under old.around t in
       let first : RefusedIn g old.inside u old.sink e new.sink = subst (λ ls. RefusedIn g ls u old.sink e new.sink) (sym i) h in
@@ -49,7 +49,7 @@ module _ {W : Type 0} (g : Ghosts W) where
   refused_memory [] t sink = record { begins = beginning_none (g.told sink) (der t); excuse = no_memory refl }
   refused_memory (l ∷ ls) t sink = (no_room refl, refl)
 
-  pub fails_memory : (t : Tree) (old new : State W) (e : Asn1DerError) → old.failed ≡ None → e ≡ OutOfMemory → new.failed ≡ Some (failure_of e) → new.sink ≡ old.sink → Fails g t old e new
+  pub fails_memory : (t : Tree) (old new : State W) (e : Asn1DerError) → old.failed ≡ None → e ≡ OutOfMemory → new.failed ≡ Some (failure_of e) → new.sink ≡ old.sink → RefusesWrite g t old e new
   fails_memory t old new e f m b s =
       let first : RefusedIn g old.inside (under old.around t) old.sink e new.sink = rw (m, s) (refused_memory old.inside (under old.around t) old.sink) in
       record { failed = b; again = rw f tt; first = rw f first }
@@ -81,7 +81,7 @@ module _ {W : Type 0} (g : Ghosts W) where
   pub plain_inside : (t : Tree) (old new : State W) (n : ℕ) → IsWritable t → Writes g t old n new → IsOnceAtMost (g.faults old.sink) (g.faults new.sink) → g.later old.sink new.sink → WritesPlain g t old (Ok n) new
   plain_inside t old new n w h c l = record { wrote = h; failed = tt; outside = tt; past = λ no. absurd (no w); counted = c; goes_on = l }
 
-  pub plain_refused : (t : Tree) (old new : State W) (e : Asn1DerError) → IsWritable t → old.inside ≢ [] → Fails g t old e new → IsOnceAtMost (g.faults old.sink) (g.faults new.sink) → g.later old.sink new.sink → WritesPlain g t old (Err e) new
+  pub plain_refused : (t : Tree) (old new : State W) (e : Asn1DerError) → IsWritable t → old.inside ≢ [] → RefusesWrite g t old e new → IsOnceAtMost (g.faults old.sink) (g.faults new.sink) → g.later old.sink new.sink → WritesPlain g t old (Err e) new
   plain_refused t old new e w some h c l = record { wrote = tt; failed = h; outside = λ x y inside around. absurd (some inside); past = λ no. absurd (no w); counted = c; goes_on = l }
 
   -- without wrappers, the sink took an element
@@ -104,11 +104,11 @@ module _ {W : Type 0} (g : Ghosts W) where
   -- the level that was opened last was added to the one around it
   pub ends_inside : (old new : State W) (n : ℕ) → n < 2 ^ 64 → old.failed ≡ None → old.inside ≢ [] → IfSome old.pending (λ l. HaveTagNumbers l.around × HasNumber l.header) → IfSome old.pending (λ l. n ≡ length (der (as_it_is l)))
       → ((p l : Level) (ls : List Level) → old.pending ≡ Some p → old.inside ≡ l ∷ ls → new.inside ≡ with_bytes l (der (as_it_is p)) ∷ ls) → new.sink ≡ old.sink → new.around ≡ [] → new.failed ≡ None → g.later old.sink old.sink
-      → IfSome old.pending (λ l. Ends g l.header l.content (record old { around = l.around }) (Ok n) new)
+      → IfSome old.pending (λ l. WritesContent g l.header l.content (record old { around = l.around }) (Ok n) new)
   ends_inside old new n small f some numbers count added s a b later = by_level old.pending numbers count (λ l k ks. added l k ks)
     where
       by_level : (p : Option Level) → IfSome p (λ l. HaveTagNumbers l.around × HasNumber l.header) → IfSome p (λ l. n ≡ length (der (as_it_is l)))
-          → ((l k : Level) (ks : List Level) → p ≡ Some l → old.inside ≡ k ∷ ks → new.inside ≡ with_bytes k (der (as_it_is l)) ∷ ks) → IfSome p (λ l. Ends g l.header l.content (record old { around = l.around }) (Ok n) new)
+          → ((l k : Level) (ks : List Level) → p ≡ Some l → old.inside ≡ k ∷ ks → new.inside ≡ with_bytes k (der (as_it_is l)) ∷ ks) → IfSome p (λ l. WritesContent g l.header l.content (record old { around = l.around }) (Ok n) new)
       by_level None x y z = tt
       by_level (Some l) x y z =
           let fits : length (der (as_it_is l)) < 2 ^ 64 = omega (arith, y) in

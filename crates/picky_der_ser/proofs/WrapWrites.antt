@@ -17,7 +17,7 @@ use Rattle.picky_der_core.specs.Wrapper.{wrap, under, HasTagNumber}
 use Rattle.picky_der_core.specs.WrapperLaws.{under-push}
 use Rattle.picky_der_ser.specs.Headers.{HaveTagNumbers}
 use Rattle.picky_der_ser.specs.State.{State}
-use Rattle.picky_der_ser.specs.Calls.{AddsIn, RefusedIn, Writes, Fails, Declines}
+use Rattle.picky_der_ser.specs.Calls.{AddsIn, RefusedIn, Writes, RefusesWrite, RefusesWrapper}
 use Rattle.picky_der_ser.proofs.PlainWrites.{past_under, unwritable-by, refused_unwritable}
 use Rattle.picky_der_ser.proofs.StateWrites.{refused_memory}
 
@@ -65,14 +65,14 @@ module _ {W : Type 0} (g : Ghosts W) where
       }
   writes-wrapped w t old new (Err e) h = tt
 
-  pub fails-wrapped : (w : Wrapper) (t : Tree) (old new : State W) (r : Result ℕ Asn1DerError) → IfErr r (λ e. Fails g t (record old { around = old.around ++ (w ∷ []) }) e new) → IfErr r (λ e. Fails g (wrap w t) old e new)
+  pub fails-wrapped : (w : Wrapper) (t : Tree) (old new : State W) (r : Result ℕ Asn1DerError) → IfErr r (λ e. RefusesWrite g t (record old { around = old.around ++ (w ∷ []) }) e new) → IfErr r (λ e. RefusesWrite g (wrap w t) old e new)
   fails-wrapped w t old new (Ok n) h = tt
   fails-wrapped w t old new (Err e) h =
       let u = under-push old.around w t in
       record { failed = h.failed; again = h.again; first = subst (λ v. IfNone old.failed (RefusedIn g old.inside v old.sink e new.sink)) u h.first }
 
   -- no wrapper was opened
-  pub fails-declined : (w : Wrapper) (t : Tree) (old new : State W) (e : Asn1DerError) → Declines g w old e new → Fails g (wrap w t) old e new
+  pub fails-declined : (w : Wrapper) (t : Tree) (old new : State W) (e : Asn1DerError) → RefusesWrapper g w old e new → RefusesWrite g (wrap w t) old e new
   fails-declined w t old new e h = record { failed = h.failed; again = again old.failed h.again; first = first old.failed refl }
     where
       u : Tree

@@ -83,7 +83,7 @@ module _ {W : Type 0} (g : Ghosts W) where
     pub no_fault : g.faults new.sink ≡ g.faults old.sink
 
   -- the call answered an error in place of writing the tree
-  pub record Fails (t : Tree) (old : State W) (e : Asn1DerError) (new : State W) : Type 0 where
+  pub record RefusesWrite (t : Tree) (old : State W) (e : Asn1DerError) (new : State W) : Type 0 where
     pub failed : new.failed ≡ Some (failure_of e)
     pub again : IfSome old.failed (λ f. (failure_of e ≡ f) × (new.sink ≡ old.sink))
     pub first : IfNone old.failed (RefusedIn old.inside (under old.around t) old.sink e new.sink)
@@ -99,7 +99,7 @@ module _ {W : Type 0} (g : Ghosts W) where
   -- the call writes a plain value
   pub record WritesPlain (t : Tree) (old : State W) (r : Result ℕ Asn1DerError) (new : State W) : Type 0 where
     pub wrote : IfOk r (λ n. Writes t old n new)
-    pub failed : IfErr r (λ e. Fails t old e new)
+    pub failed : IfErr r (λ e. RefusesWrite t old e new)
     pub outside : IfErr r (λ e. OnlySinkFails t old e new)
     pub past : RefusesUnwritable t old r new
     pub counted : IsOnceAtMost (g.faults old.sink) (g.faults new.sink)
@@ -115,57 +115,57 @@ module _ {W : Type 0} (g : Ghosts W) where
   -- ---- levels
 
   -- it stopped with this error: it had failed so, or memory was refused; nothing was written
-  pub record Stops (old : State W) (e : Asn1DerError) (new : State W) : Type 0 where
+  pub record RefusesToEnter (old : State W) (e : Asn1DerError) (new : State W) : Type 0 where
     pub failed : new.failed ≡ Some (failure_of e)
     pub same : new.sink ≡ old.sink
     pub again : IfSome old.failed (λ f. failure_of e ≡ f)
     pub first : IfNone old.failed (e ≡ OutOfMemory)
 
   -- a level was opened under this header, and took the open wrappers with it
-  pub record Opens (header : Header) (old new : State W) : Type 0 where
+  pub record OpensLevel (header : Header) (old new : State W) : Type 0 where
     pub opened : new ≡ record { sink = old.sink; around = []; failed = old.failed; inside = old.inside; pending = Some (record { header = header; around = old.around; content = []; seams = [] }) }
 
   -- the tree was added as a member to the level that was opened last
-  pub record Gains (t : Tree) (old new : State W) : Type 0 where
+  pub record AddsMember (t : Tree) (old new : State W) : Type 0 where
     pub had_not_failed : old.failed ≡ None
     pub writable : IsWritable t
     pub added : IfSome old.pending (λ l. new ≡ record { sink = old.sink; around = []; failed = None; inside = old.inside; pending = Some (with_member l (der t)) })
 
   -- It stopped with this error, and nothing was written: it had failed so, memory was refused, or what was to be added can't be written.
-  pub record StopsBefore (Possible : Type 0) (old : State W) (e : Asn1DerError) (new : State W) : Type 0 where
+  pub record RefusesBefore (Possible : Type 0) (old : State W) (e : Asn1DerError) (new : State W) : Type 0 where
     pub failed : new.failed ≡ Some (failure_of e)
     pub same : new.sink ≡ old.sink
     pub again : IfSome old.failed (λ f. failure_of e ≡ f)
     pub first : IfNone old.failed (MemoryExcuse Possible e)
 
   -- the tree wasn't added
-  abbrev pub Rejects : Tree → State W → Asn1DerError → State W → Type 0
-  Rejects t = StopsBefore (IsWritable t)
+  abbrev pub RefusesToAdd : Tree → State W → Asn1DerError → State W → Type 0
+  RefusesToAdd t = RefusesBefore (IsWritable t)
 
   -- all the trees were added as members to the level that was opened last, in their order
-  pub record GainsAll (ts : Trees) (old new : State W) : Type 0 where
+  pub record AddsMembers (ts : Trees) (old new : State W) : Type 0 where
     pub had_not_failed : old.failed ≡ None
     pub writable : AreWritable ts
     pub added : IfSome old.pending (λ l. new ≡ record { sink = old.sink; around = []; failed = None; inside = old.inside; pending = Some (with_members l (encodings ts)) })
 
   -- the members of a row were added; without any, nothing was done
-  abbrev pub GainsRow : Trees → State W → State W → Type 0
-  GainsRow Trees.none old new = new ≡ old
-  GainsRow (Trees.more t ts) old new = GainsAll (Trees.more t ts) old new
+  abbrev pub AddsRow : Trees → State W → State W → Type 0
+  AddsRow Trees.none old new = new ≡ old
+  AddsRow (Trees.more t ts) old new = AddsMembers (Trees.more t ts) old new
 
   -- one of them wasn't added
-  abbrev pub RejectsRow : Trees → State W → Asn1DerError → State W → Type 0
-  RejectsRow Trees.none old e new = ⊥
-  RejectsRow (Trees.more t ts) old e new = StopsBefore (AreWritable (Trees.more t ts)) old e new
+  abbrev pub RefusesToAddRow : Trees → State W → Asn1DerError → State W → Type 0
+  RefusesToAddRow Trees.none old e new = ⊥
+  RefusesToAddRow (Trees.more t ts) old e new = RefusesBefore (AreWritable (Trees.more t ts)) old e new
 
   -- What comes in front of members was added: they are added, or refused, as the row of it and of them is.
-  pub record Leads (in_front : Trees → Trees) (old new : State W) : Type 0 where
-    pub added : (ts : Trees) (last : State W) → GainsRow ts new last → GainsRow (in_front ts) old last
-    pub refused : (ts : Trees) (e : Asn1DerError) (last : State W) → RejectsRow ts new e last → RejectsRow (in_front ts) old e last
+  pub record AddsInFront (in_front : Trees → Trees) (old new : State W) : Type 0 where
+    pub added : (ts : Trees) (last : State W) → AddsRow ts new last → AddsRow (in_front ts) old last
+    pub refused : (ts : Trees) (e : Asn1DerError) (last : State W) → RefusesToAddRow ts new e last → RefusesToAddRow (in_front ts) old e last
 
   -- It wasn't added, and so no row is that begins with it.
-  abbrev pub Bars : (Trees → Trees) → State W → Asn1DerError → State W → Type 0
-  Bars in_front old e new = (ts : Trees) → RejectsRow (in_front ts) old e new
+  abbrev pub RefusesInFront : (Trees → Trees) → State W → Asn1DerError → State W → Type 0
+  RefusesInFront in_front old e new = (ts : Trees) → RefusesToAddRow (in_front ts) old e new
 
   -- one that had failed answered one of that kind again, and wrote nothing
   pub record AnswersAgain (old : W) (f : Failure) (r : Result ℕ Asn1DerError) (new : State W) : Type 0 where
@@ -176,21 +176,21 @@ module _ {W : Type 0} (g : Ghosts W) where
     pub failed : new.failed ≡ Some f
 
   -- the call wrote this content under the header in the wrappers of the state before, or stopped
-  pub record Ends (header : Header) (content : List ℕ) (old : State W) (r : Result ℕ Asn1DerError) (new : State W) : Type 0 where
+  pub record WritesContent (header : Header) (content : List ℕ) (old : State W) (r : Result ℕ Asn1DerError) (new : State W) : Type 0 where
     pub wrote : IfOk r (λ n. Writes (tree_of header content) old n new)
-    pub failed : IfErr r (λ e. Fails (tree_of header content) old e new)
+    pub failed : IfErr r (λ e. RefusesWrite (tree_of header content) old e new)
     pub counted : IsOnceAtMost (g.faults old.sink) (g.faults new.sink)
     pub goes_on : g.later old.sink new.sink
 
   -- the level that was opened last has ended
-  pub record Finishes (old : State W) (r : Result ℕ Asn1DerError) (new : State W) : Type 0 where
-    pub ended : IfSome old.pending (λ l. Ends l.header (settled l) (record old { around = l.around }) r new)
+  pub record EndsLevel (old : State W) (r : Result ℕ Asn1DerError) (new : State W) : Type 0 where
+    pub ended : IfSome old.pending (λ l. WritesContent l.header (settled l) (record old { around = l.around }) r new)
     pub again : IfSome old.failed (λ f. AnswersAgain old.sink f r new)
 
   -- ---- wrappers
 
   -- It stopped with this error before a wrapper was opened, and nothing was written. A tag number past 30 is told before all else.
-  pub record Declines (w : Wrapper) (old : State W) (e : Asn1DerError) (new : State W) : Type 0 where
+  pub record RefusesWrapper (w : Wrapper) (old : State W) (e : Asn1DerError) (new : State W) : Type 0 where
     pub failed : new.failed ≡ Some (failure_of e)
     pub same : new.sink ≡ old.sink
     pub again : IfSome old.failed (λ f. failure_of e ≡ f)

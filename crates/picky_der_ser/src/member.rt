@@ -1,7 +1,7 @@
 //! One place of a row: a member that is always there, or one that may be absent.
 ghost use Rattle.std.specs.Prelude.{◌≡◌, IfErr, OnOk};
 ghost use Rattle.picky_der_core.specs.Tree.{Trees};
-ghost use Rattle.picky_der_ser.specs.Calls.{Leads, Bars};
+ghost use Rattle.picky_der_ser.specs.Calls.{AddsInFront, RefusesInFront};
 
 use crate::{Sequence, Serialize};
 use picky_der_core::Result;
@@ -17,9 +17,9 @@ pub trait SerializeMember {
     /// Adds the member to the sequence, where it is there. It is refused as `serialize_element` refuses one.
     fn serialize_member<W: WriteExt>(&self, sequence: &mut Sequence<'_, W>) -> Result<()>
         ensures same_reference { borrowed_by sequence.new ≡ borrowed_by sequence.old }
-        ensures added { OnOk result (Leads W.WriteExt.own (in_front self.now)
+        ensures added { OnOk result (AddsInFront W.WriteExt.own (in_front self.now)
             (state_of sequence.old) (state_of sequence.new)) }
-        ensures err { IfErr result (λ e. Bars W.WriteExt.own (in_front self.now) (state_of sequence.old) e (state_of sequence.new)) };
+        ensures err { IfErr result (λ e. RefusesInFront W.WriteExt.own (in_front self.now) (state_of sequence.old) e (state_of sequence.new)) };
 }
 
 impl<T: Serialize> SerializeMember for T {

@@ -3,7 +3,7 @@ ghost use Rattle.std.specs.Prelude.{◌≡◌, IfOk, IfErr, OnOk};
 ghost use Rattle.picky_der_core.specs.WriterFaults.{IsOnceAtMost};
 ghost use Rattle.picky_der_core.specs.Equality.{IsThatOf};
 ghost use Rattle.picky_der_core.specs.Tree.{ListKind, Tree, Trees};
-ghost use Rattle.picky_der_ser.specs.Calls.{Fails, GainsRow, RejectsRow, Writes};
+ghost use Rattle.picky_der_ser.specs.Calls.{RefusesWrite, AddsRow, RefusesToAddRow, Writes};
 
 use crate::{Sequence, Serialize, Serializer};
 use picky_der_core::Result;
@@ -20,15 +20,15 @@ pub trait SerializeMembers {
     /// Adds the members to the sequence. They are refused as `serialize_element` refuses one.
     fn serialize_members<W: WriteExt>(&self, sequence: &mut Sequence<'_, W>) -> Result<()>
         ensures same_reference { borrowed_by sequence.new ≡ borrowed_by sequence.old }
-        ensures added { OnOk result (GainsRow W.WriteExt.own (members self.now)
+        ensures added { OnOk result (AddsRow W.WriteExt.own (members self.now)
             (state_of sequence.old) (state_of sequence.new)) }
-        ensures err { IfErr result (λ e. RejectsRow W.WriteExt.own (members self.now) (state_of sequence.old) e (state_of sequence.new)) };
+        ensures err { IfErr result (λ e. RefusesToAddRow W.WriteExt.own (members self.now) (state_of sequence.old) e (state_of sequence.new)) };
 
     /// Writes the members as a sequence, as the whole body of `Serialize::serialize` of a struct. It is refused as that is.
     fn serialize_sequence<W: WriteExt>(&self, ser: &mut Serializer<W>) -> Result<usize>
         ensures wrote { IfOk result (λ n. Writes W.WriteExt.own
             (Tree.list ListKind.sequence (members self.now)) ser.old n ser.new) }
-        ensures failed { IfErr result (λ e. Fails W.WriteExt.own
+        ensures failed { IfErr result (λ e. RefusesWrite W.WriteExt.own
             (Tree.list ListKind.sequence (members self.now)) ser.old e ser.new) }
         ensures counted { IsOnceAtMost (W.faults ser.old.sink) (W.faults ser.new.sink) }
         ensures goes_on { W.later ser.old.sink ser.new.sink }

@@ -2,7 +2,7 @@
 ghost use Rattle.std.specs.Prelude.{◌≡◌, None, IfOk, IfErr, OnOk};
 ghost use Rattle.std.specs.Borrow.{sem, RestsIfErr};
 ghost use Rattle.picky_der_ser.specs.contracts.serializer.Serializer.{the_row};
-ghost use Rattle.picky_der_ser.specs.Calls.{HadFailed, Opens, Gains, Rejects, Finishes};
+ghost use Rattle.picky_der_ser.specs.Calls.{HadFailed, OpensLevel, AddsMember, RefusesToAdd, EndsLevel};
 ghost use Rattle.picky_der_ser.specs.Sequences.{IsListTag, IsOpen, IsOpen-prop};
 
 use crate::{Header, Serialize, Serializer};
@@ -27,7 +27,7 @@ impl<'a, W: WriteExt> Sequence<'a, W> {
     pub fn serialize_lazy(ser: &'a mut Serializer<W>, tag: Tag) -> Sequence<'a, W>
         requires { IsListTag tag }
         ensures same_reference { borrowed_by result ≡ ser.entry.ghost_name }
-        ensures opened { Opens W.WriteExt.own (Header.Tagged tag) ser.old (state_of result) }
+        ensures opened { OpensLevel W.WriteExt.own (Header.Tagged tag) ser.old (state_of result) }
     {
         ser.open(Header::Tagged(tag));
         Sequence { ser }
@@ -39,9 +39,9 @@ impl<'a, W: WriteExt> Sequence<'a, W> {
     /// where memory is refused. The sink isn't touched.
     pub fn serialize_element<T: Serialize>(&mut self, value: &T) -> Result<()>
         ensures same_reference { borrowed_by self.new ≡ borrowed_by self.old }
-        ensures added { OnOk result (Gains W.WriteExt.own (T.meaning value.now) (state_of self.old)
+        ensures added { OnOk result (AddsMember W.WriteExt.own (T.meaning value.now) (state_of self.old)
             (state_of self.new)) }
-        ensures err { IfErr result (λ e. Rejects W.WriteExt.own (T.meaning value.now)
+        ensures err { IfErr result (λ e. RefusesToAdd W.WriteExt.own (T.meaning value.now)
             (state_of self.old) e (state_of self.new)) }
     {
         self.ser.write_member(value)
@@ -50,9 +50,9 @@ impl<'a, W: WriteExt> Sequence<'a, W> {
     /// Adds a member, as `serialize_element` does. The key isn't written.
     pub fn serialize_field<T: Serialize>(&mut self, key: &'static str, value: &T) -> Result<()>
         ensures same_reference { borrowed_by self.new ≡ borrowed_by self.old }
-        ensures added { OnOk result (Gains W.WriteExt.own (T.meaning value.now) (state_of self.old)
+        ensures added { OnOk result (AddsMember W.WriteExt.own (T.meaning value.now) (state_of self.old)
             (state_of self.new)) }
-        ensures err { IfErr result (λ e. Rejects W.WriteExt.own (T.meaning value.now)
+        ensures err { IfErr result (λ e. RefusesToAdd W.WriteExt.own (T.meaning value.now)
             (state_of self.old) e (state_of self.new)) }
     {
         let _ = key;
@@ -66,7 +66,7 @@ impl<'a, W: WriteExt> Sequence<'a, W> {
     /// An earlier error is answered again; else `OutOfMemory` where memory is refused, as that for the order of a set, of
     /// which nothing is written then; and the sink's fault.
     pub fn end(self) -> Result<usize>
-        ensures { Finishes W.WriteExt.own (state_of self.entry) result self.exit.0.now }
+        ensures { EndsLevel W.WriteExt.own (state_of self.entry) result self.exit.0.now }
     {
         let ser: &mut Serializer<W> = self.ser;
         ser.close()
@@ -83,7 +83,7 @@ impl<W: WriteExt> Serializer<W> {
             borrowed_by result (λ new. IfErr result (λ e. HadFailed self.old e new))) }
         ensures same_reference { IfOk result (λ q. borrowed_by q ≡ self.entry.ghost_name) }
         ensures had_not_failed { OnOk result (self.old.failed ≡ None) }
-        ensures opened { IfOk result (λ q. Opens W.WriteExt.own (Header.Tagged tag) self.old
+        ensures opened { IfOk result (λ q. OpensLevel W.WriteExt.own (Header.Tagged tag) self.old
             (state_of q)) }
     {
         if let Some(error) = self.earlier() {
@@ -99,7 +99,7 @@ impl<W: WriteExt> Serializer<W> {
             borrowed_by result (λ new. IfErr result (λ e. HadFailed self.old e new))) }
         ensures same_reference { IfOk result (λ q. borrowed_by q ≡ self.entry.ghost_name) }
         ensures had_not_failed { OnOk result (self.old.failed ≡ None) }
-        ensures opened { IfOk result (λ q. Opens W.WriteExt.own (Header.Tagged 0x30) self.old
+        ensures opened { IfOk result (λ q. OpensLevel W.WriteExt.own (Header.Tagged 0x30) self.old
             (state_of q)) }
     {
         let _ = len;
@@ -112,7 +112,7 @@ impl<W: WriteExt> Serializer<W> {
             borrowed_by result (λ new. IfErr result (λ e. HadFailed self.old e new))) }
         ensures same_reference { IfOk result (λ q. borrowed_by q ≡ self.entry.ghost_name) }
         ensures had_not_failed { OnOk result (self.old.failed ≡ None) }
-        ensures opened { IfOk result (λ q. Opens W.WriteExt.own (Header.Tagged 0x30) self.old
+        ensures opened { IfOk result (λ q. OpensLevel W.WriteExt.own (Header.Tagged 0x30) self.old
             (state_of q)) }
     {
         let _ = len;
@@ -129,7 +129,7 @@ impl<W: WriteExt> Serializer<W> {
             borrowed_by result (λ new. IfErr result (λ e. HadFailed self.old e new))) }
         ensures same_reference { IfOk result (λ q. borrowed_by q ≡ self.entry.ghost_name) }
         ensures had_not_failed { OnOk result (self.old.failed ≡ None) }
-        ensures opened { IfOk result (λ q. Opens W.WriteExt.own (Header.Tagged 0x30) self.old
+        ensures opened { IfOk result (λ q. OpensLevel W.WriteExt.own (Header.Tagged 0x30) self.old
             (state_of q)) }
     {
         let _ = name;
@@ -143,7 +143,7 @@ impl<W: WriteExt> Serializer<W> {
             borrowed_by result (λ new. IfErr result (λ e. HadFailed self.old e new))) }
         ensures same_reference { IfOk result (λ q. borrowed_by q ≡ self.entry.ghost_name) }
         ensures had_not_failed { OnOk result (self.old.failed ≡ None) }
-        ensures opened { IfOk result (λ q. Opens W.WriteExt.own (Header.Tagged 0x30) self.old
+        ensures opened { IfOk result (λ q. OpensLevel W.WriteExt.own (Header.Tagged 0x30) self.old
             (state_of q)) }
     {
         let _ = name;
@@ -158,7 +158,7 @@ impl<W: WriteExt> Serializer<W> {
             borrowed_by result (λ new. IfErr result (λ e. HadFailed self.old e new))) }
         ensures same_reference { IfOk result (λ q. borrowed_by q ≡ self.entry.ghost_name) }
         ensures had_not_failed { OnOk result (self.old.failed ≡ None) }
-        ensures opened { IfOk result (λ q. Opens W.WriteExt.own (Header.Tagged 0x31) self.old
+        ensures opened { IfOk result (λ q. OpensLevel W.WriteExt.own (Header.Tagged 0x31) self.old
             (state_of q)) }
     {
         self.begin(Tag::SET)

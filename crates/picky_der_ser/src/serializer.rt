@@ -6,7 +6,7 @@ ghost use Rattle.picky_der_core.specs.Failure.{failure_of};
 ghost use Rattle.picky_der_core.specs.Tree.{Tree};
 ghost use Rattle.picky_der_core.specs.declared.error.Asn1DerError.TheVariants.{OutOfMemory};
 ghost use Rattle.picky_der_ser.specs.State.{Level, root};
-ghost use Rattle.picky_der_ser.specs.Calls.{Writes, Fails, WritesAbsent};
+ghost use Rattle.picky_der_ser.specs.Calls.{Writes, RefusesWrite, WritesAbsent};
 
 mod application;
 mod choice;
@@ -36,7 +36,7 @@ pub trait Serialize {
     fn serialize<W: WriteExt>(&self, ser: &mut Serializer<W>) -> Result<usize>
         ensures wrote { IfOk result (λ n. Writes W.WriteExt.own
             (meaning self.now) ser.old n ser.new) }
-        ensures failed { IfErr result (λ e. Fails W.WriteExt.own
+        ensures failed { IfErr result (λ e. RefusesWrite W.WriteExt.own
             (meaning self.now) ser.old e ser.new) }
         ensures counted { IsOnceAtMost (W.faults ser.old.sink) (W.faults ser.new.sink) }
         ensures goes_on { W.later ser.old.sink ser.new.sink };
@@ -191,7 +191,7 @@ impl<W: WriteExt> Serializer<W> {
     pub fn serialize_some<T: Serialize>(&mut self, value: &T) -> Result<usize>
         ensures wrote { IfOk result (λ n. Writes W.WriteExt.own
             (T.meaning value.now) self.old n self.new) }
-        ensures failed { IfErr result (λ e. Fails W.WriteExt.own
+        ensures failed { IfErr result (λ e. RefusesWrite W.WriteExt.own
             (T.meaning value.now) self.old e self.new) }
         ensures counted { IsOnceAtMost (W.faults self.old.sink) (W.faults self.new.sink) }
         ensures goes_on { W.later self.old.sink self.new.sink }

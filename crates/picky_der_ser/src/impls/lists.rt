@@ -2,7 +2,7 @@
 ghost use Rattle.std.specs.Prelude.{◌≤◌, IfOk, IfErr};
 ghost use Rattle.picky_der_core.specs.WriterFaults.{IsOnceAtMost};
 ghost use Rattle.picky_der_core.specs.Tree.{ListKind};
-ghost use Rattle.picky_der_ser.specs.Calls.{Writes, Fails};
+ghost use Rattle.picky_der_ser.specs.Calls.{Writes, RefusesWrite};
 ghost use Rattle.picky_der_ser.specs.Meaning.{list_meaning};
 ghost use Rattle.picky_der_ser.specs.Sequences.{IsListTag, kind_of};
 
@@ -20,7 +20,7 @@ fn serialize_items<T: Serialize, W: WriteExt>(
     requires { IsListTag tag }
     ensures wrote { IfOk result (λ n. Writes W.WriteExt.own
         (list_meaning (kind_of tag) T.meaning items.now) ser.old n ser.new) }
-    ensures failed { IfErr result (λ e. Fails W.WriteExt.own
+    ensures failed { IfErr result (λ e. RefusesWrite W.WriteExt.own
         (list_meaning (kind_of tag) T.meaning items.now) ser.old e ser.new) }
     ensures counted { IsOnceAtMost (W.faults ser.old.sink) (W.faults ser.new.sink) }
     ensures goes_on { W.later ser.old.sink ser.new.sink }

@@ -2,7 +2,7 @@
 ghost use Rattle.std.specs.Prelude.{◌≡◌, ◌≤◌, ◌<◌, None, Err, IfOk, IfErr};
 ghost use Rattle.picky_der_core.specs.WriterFaults.{IsOnceAtMost};
 ghost use Rattle.picky_der_core.specs.Tree.{Tree};
-ghost use Rattle.picky_der_ser.specs.Calls.{Writes, Fails};
+ghost use Rattle.picky_der_ser.specs.Calls.{Writes, RefusesWrite};
 
 use super::Serializer;
 use crate::{Header, Serialize};
@@ -20,7 +20,7 @@ impl<W: WriteExt> Serializer<W> {
     pub fn serialize_application<T: Serialize>(&mut self, number: u8, value: &T) -> Result<usize>
         ensures wrote { IfOk result (λ n. Writes W.WriteExt.own
             (Tree.application number (T.meaning value.now)) self.old n self.new) }
-        ensures failed { IfErr result (λ e. Fails W.WriteExt.own
+        ensures failed { IfErr result (λ e. RefusesWrite W.WriteExt.own
             (Tree.application number (T.meaning value.now)) self.old e self.new) }
         ensures past { 30 < number → self.old.failed ≡ None
             → (result ≡ Err Asn1DerError.UnsupportedValue) × (self.new.sink ≡ self.old.sink) }

@@ -2,7 +2,7 @@
 ghost use Rattle.std.specs.Prelude.{IfOk, IfErr};
 ghost use Rattle.picky_der_core.specs.Tree.{Tree};
 ghost use Rattle.picky_der_core.specs.WriterFaults.{IsOnceAtMost};
-ghost use Rattle.picky_der_ser.specs.Calls.{Writes, Fails};
+ghost use Rattle.picky_der_ser.specs.Calls.{Writes, RefusesWrite};
 
 use super::Serializer;
 use crate::Serialize;
@@ -16,7 +16,7 @@ impl<W: WriteExt> Serializer<W> {
     pub fn serialize_choice<T: Serialize>(&mut self, value: &T) -> Result<usize>
         ensures wrote { IfOk result (λ n. Writes W.WriteExt.own
             (Tree.choice (T.meaning value.now)) self.old n self.new) }
-        ensures failed { IfErr result (λ e. Fails W.WriteExt.own
+        ensures failed { IfErr result (λ e. RefusesWrite W.WriteExt.own
             (Tree.choice (T.meaning value.now)) self.old e self.new) }
         ensures counted { IsOnceAtMost (W.faults self.old.sink) (W.faults self.new.sink) }
         ensures goes_on { W.later self.old.sink self.new.sink }

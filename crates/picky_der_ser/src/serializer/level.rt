@@ -6,7 +6,7 @@ ghost use Rattle.picky_der_core.specs.Wrapper.{under};
 ghost use Rattle.picky_der_ser.specs.Heading.{tree_of};
 ghost use Rattle.picky_der_ser.specs.Headers.{HasNumber};
 ghost use Rattle.picky_der_ser.specs.State.{Level, begun};
-ghost use Rattle.picky_der_ser.specs.Calls.{Wrote, Refused, Stops, Opens, Gains, Rejects, Ends, Finishes};
+ghost use Rattle.picky_der_ser.specs.Calls.{Wrote, Refused, RefusesToEnter, OpensLevel, AddsMember, RefusesToAdd, WritesContent, EndsLevel};
 
 use super::Serializer;
 use crate::plain::put_headed;
@@ -19,7 +19,7 @@ impl<W: WriteExt> Serializer<W> {
     // Opens a level in the open wrappers.
     pub(crate) fn open(&mut self, header: Header)
         requires { HasNumber header }
-        ensures { Opens W.WriteExt.own header self.old self.new }
+        ensures { OpensLevel W.WriteExt.own header self.old self.new }
     {
         let around = mem::replace(&mut self.around, Vec::new(self.alloc));
         self.levels.open(header, around);
@@ -86,7 +86,7 @@ impl<W: WriteExt> Serializer<W> {
         requires had_not_failed { self.old.failed ≡ None }
         requires opened { IsSome self.old.pending }
         requires inside { self.old.inside ≢ [] }
-        ensures { IfSome self.old.pending (λ l. Ends W.WriteExt.own l.header l.content
+        ensures { IfSome self.old.pending (λ l. WritesContent W.WriteExt.own l.header l.content
             (record self.old { around = l.around }) result self.new) }
     {
         match self.levels.merge() {
@@ -103,7 +103,7 @@ impl<W: WriteExt> Serializer<W> {
         requires had_not_failed { self.old.failed ≡ None }
         requires opened { IsSome self.old.pending }
         requires outside { self.old.inside ≡ [] }
-        ensures { IfSome self.old.pending (λ l. Ends W.WriteExt.own l.header l.content
+        ensures { IfSome self.old.pending (λ l. WritesContent W.WriteExt.own l.header l.content
             (record self.old { around = l.around }) result self.new) }
     {
         let outcome = self.end_outside();
@@ -114,7 +114,7 @@ impl<W: WriteExt> Serializer<W> {
     // this order, nothing of the set is written.
     pub(crate) fn close(&mut self) -> Result<usize>
         requires { IfNone self.old.failed (IsSome self.old.pending) }
-        ensures { Finishes W.WriteExt.own self.old result self.new }
+        ensures { EndsLevel W.WriteExt.own self.old result self.new }
     {
         if let Some(error) = self.earlier() {
             return Err(error);
@@ -138,7 +138,7 @@ impl<W: WriteExt> Serializer<W> {
               pending = None;
             })) }
         ensures had_not_failed { OnOk result (self.old.failed ≡ None) }
-        ensures err { IfErr result (λ e. Stops W.WriteExt.own self.old e self.new) }
+        ensures err { IfErr result (λ e. RefusesToEnter W.WriteExt.own self.old e self.new) }
     {
         if let Some(error) = self.earlier() {
             return Err(error);
@@ -163,9 +163,10 @@ impl<W: WriteExt> Serializer<W> {
     // Writes the value as a member of the level that was opened last.
     pub(crate) fn write_member<T: Serialize>(&mut self, value: &T) -> Result<()>
         requires { IfNone self.old.failed (IsSome self.old.pending) }
-        ensures added { OnOk result (Gains W.WriteExt.own (T.meaning value.now) self.old self.new) }
+        ensures added { OnOk result (AddsMember W.WriteExt.own
+            (T.meaning value.now) self.old self.new) }
         ensures still_open { IfNone self.new.failed (IsSome self.new.pending) }
-        ensures err { IfErr result (λ e. Rejects W.WriteExt.own
+        ensures err { IfErr result (λ e. RefusesToAdd W.WriteExt.own
             (T.meaning value.now) self.old e self.new) }
     {
         self.enter()?;

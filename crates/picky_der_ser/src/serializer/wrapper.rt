@@ -2,7 +2,7 @@
 ghost use Rattle.std.specs.Prelude.{◌≡◌, ◌≤◌, true, false, [], ◌∷◌, ◌++◌, None, Err, IfOk, IfErr, OnOk};
 ghost use Rattle.picky_der_core.specs.WriterFaults.{IsOnceAtMost};
 ghost use Rattle.picky_der_core.specs.Wrapper.{wrap, wrapper_of, wrap_if, HasTagNumber, HasTagNumberIfAny};
-ghost use Rattle.picky_der_ser.specs.Calls.{Writes, Fails, Declines};
+ghost use Rattle.picky_der_ser.specs.Calls.{Writes, RefusesWrite, RefusesWrapper};
 
 use super::Serializer;
 use crate::Serialize;
@@ -30,7 +30,8 @@ impl<W: WriteExt> Serializer<W> {
         }) }
         ensures had_not_failed { OnOk result (self.old.failed ≡ None) }
         ensures number { OnOk result (HasTagNumber wrapper) }
-        ensures err { IfErr result (λ e. Declines W.WriteExt.own wrapper self.old e self.new) }
+        ensures err { IfErr result (λ e. RefusesWrapper W.WriteExt.own wrapper self.old e
+            self.new) }
     {
         if let Some(error) = self.earlier() {
             return Err(error);
@@ -48,7 +49,7 @@ impl<W: WriteExt> Serializer<W> {
     fn serialize_wrapped<T: Serialize>(&mut self, wrapper: Wrapper, value: &T) -> Result<usize>
         ensures wrote { IfOk result (λ n. Writes W.WriteExt.own
             (wrap wrapper (T.meaning value.now)) self.old n self.new) }
-        ensures failed { IfErr result (λ e. Fails W.WriteExt.own
+        ensures failed { IfErr result (λ e. RefusesWrite W.WriteExt.own
             (wrap wrapper (T.meaning value.now)) self.old e self.new) }
         ensures past { (HasTagNumber wrapper → ⊥) → self.old.failed ≡ None
             → (result ≡ Err Asn1DerError.UnsupportedValue) × (self.new.sink ≡ self.old.sink) }
@@ -70,7 +71,7 @@ impl<W: WriteExt> Serializer<W> {
     ) -> Result<usize>
         ensures wrote { IfOk result (λ n. Writes W.WriteExt.own
             (wrap_if (wrapper_of kind) (T.meaning value.now)) self.old n self.new) }
-        ensures failed { IfErr result (λ e. Fails W.WriteExt.own
+        ensures failed { IfErr result (λ e. RefusesWrite W.WriteExt.own
             (wrap_if (wrapper_of kind) (T.meaning value.now)) self.old e self.new) }
         ensures past { (HasTagNumberIfAny (wrapper_of kind) → ⊥) → self.old.failed ≡ None
             → (result ≡ Err Asn1DerError.UnsupportedValue) × (self.new.sink ≡ self.old.sink) }
