@@ -5,14 +5,14 @@ use picky_asn1_der::misc::ReadExt;
 use picky_asn1_der::{Result, from_bytes, from_reader, to_vec};
 use std::alloc::Global;
 
-/// A number, `02 02 00 80`: the tag, the length, and 128 behind the 00 that keeps it from being negative.
-pub fn number(alloc: Global) -> Result<Vec<u8>> {
-    to_vec(alloc, &128u8)
-}
-
 /// An octet string: the tag 04, the length, and these bytes. `AA BB` gives `04 02 AA BB`.
 pub fn octets(alloc: Global, content: Vec<u8>) -> Result<Vec<u8>> {
     to_vec(alloc, &ByteBuf::from(content))
+}
+
+/// A number, `02 02 00 80`: the tag, the length, and 128 behind the 00 that keeps it from being negative.
+pub fn number(alloc: Global) -> Result<Vec<u8>> {
+    to_vec(alloc, &128u8)
 }
 
 /// The number of 8 bits at the front: 7 of `02 01 07 05 00`. `02 02 00 80` is read as 128, and `02 02 00 7F` is refused
