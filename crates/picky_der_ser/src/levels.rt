@@ -65,13 +65,13 @@ impl Model for Levels {
 }
 
 // Drops the bytes in front of this place.
+#[cold]
+#[inline(never)]
 fn drop_front(out: &mut Vec<u8>, start: usize)
     requires { start ≤ vec_len out.old }
     ensures { out.new.items ≡ drop start out.old.items }
 {
-    if start > 0 {
-        out.drain(..start);
-    }
+    out.drain(..start);
 }
 
 impl Levels {
@@ -87,7 +87,9 @@ impl Levels {
         }
     }
 
-    // Levels inside of one that stands around all. The request for room is that of `make_room`.
+    // Levels inside of one that stands around all. The request for room is that of `make_room`. In line, so that they are made
+    // where they will stand.
+    #[inline(always)]
     pub(crate) fn new_in_root(alloc: Global) -> Result<Levels, AllocError>
         ensures { IfOk result (λ levels. levels ≡ record { inside = root ∷ []; pending = None }) }
     {
@@ -124,7 +126,10 @@ impl Levels {
             entered: _,
         } = self;
         if let Some(mark) = &innermost {
-            drop_front(&mut scratch, mark.start);
+            // Nothing stands in front of what a root holds.
+            if mark.start > 0 {
+                drop_front(&mut scratch, mark.start);
+            }
         }
         scratch
     }

@@ -94,6 +94,7 @@ impl<'a> Serializer<SliceSink<'a>> {
     }
 
     // Keeps what is written in a level around all, and leaves the slice alone.
+    #[inline(always)]
     pub(crate) fn new_in_root(
         alloc: Global,
         untouched: &'a mut [u8],
