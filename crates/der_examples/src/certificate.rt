@@ -15,7 +15,7 @@ pub use attribute::Attribute;
 pub use extension::Extension;
 use picky_asn1_der::asn1::{Asn1SetOf, ExplicitContextTag0, ExplicitContextTag3, IntegerAsn1};
 use picky_asn1_der::misc::{ReadExt, WriteExt};
-use picky_asn1_der::{Alike, Deserialize, Deserializer, Result, Row, Serialize, Serializer, de};
+use picky_asn1_der::{Deserialize, Deserializer, Record, Result, Row, Serialize, Serializer, de};
 pub use public_key::PublicKey;
 pub use validity::Validity;
 
@@ -40,22 +40,20 @@ pub struct Certificate {
     pub extensions: ExplicitContextTag3<Vec<Extension>>,
 }
 
-type Fields = Row<
-    (
-        ExplicitContextTag0<Version>,
-        IntegerAsn1,
-        Algorithm,
-        Vec<Asn1SetOf<Attribute>>,
-        Validity,
-        Vec<Asn1SetOf<Attribute>>,
-        PublicKey,
-        ExplicitContextTag3<Vec<Extension>>,
-        (),
-    ),
->;
+type Fields = (
+    ExplicitContextTag0<Version>,
+    IntegerAsn1,
+    Algorithm,
+    Vec<Asn1SetOf<Attribute>>,
+    Validity,
+    Vec<Asn1SetOf<Attribute>>,
+    PublicKey,
+    ExplicitContextTag3<Vec<Extension>>,
+    (),
+);
 
 impl Serialize for Certificate {
-    ghost meaning = { λ it. ⟦<Fields as Serialize>⟧.meaning (⟦<Certificate as Alike>⟧.parts it) };
+    ghost meaning = { λ it. ⟦<Row<Fields> as Serialize>⟧.meaning (record { 0 = ⟦<Certificate as Record>⟧.parts it }) };
 
     fn serialize<W: WriteExt>(&self, serializer: &mut Serializer<W>) -> Result<usize> {
         (
@@ -72,12 +70,12 @@ impl Serialize for Certificate {
     }
 }
 
-impl Alike for Certificate {
-    type As = Fields;
+impl Record for Certificate {
+    type Fields = Fields;
 
-    ghost parts = { λ it. record { 0 = (it.version, it.serial, it.signature, it.issuer, it.validity, it.subject, it.public_key, it.extensions, tt) } };
+    ghost parts = { λ it. (it.version, it.serial, it.signature, it.issuer, it.validity, it.subject, it.public_key, it.extensions, tt) };
 
-    fn from_parts(Row(fields): Fields) -> Certificate {
+    fn from_parts(fields: Fields) -> Certificate {
         let (version, serial, signature, issuer, validity, subject, public_key, extensions, ()) =
             fields;
         Certificate {
@@ -94,13 +92,13 @@ impl Alike for Certificate {
 }
 
 impl Deserialize for Certificate {
-    ghost shape = { ⟦<Fields as Deserialize>⟧.shape };
+    ghost shape = { ⟦<Row<Fields> as Deserialize>⟧.shape };
 
-    ghost known_by_tree = { told ⟦<Fields as Deserialize>⟧.shape (Prim.search (tells, by_law ⟦<Version as Deserialize>⟧.shape known_by_tree-law) depth 99) };
+    ghost known_by_tree = { told ⟦<Row<Fields> as Deserialize>⟧.shape (Prim.search (tells, by_law ⟦<Version as Deserialize>⟧.shape known_by_tree-law) depth 99) };
 
     ghost sound = { Prim.search rules depth 99 };
 
     fn deserialize<R: ReadExt>(deserializer: &mut Deserializer<R>) -> Result<Certificate> {
-        de::deserialize_as(deserializer)
+        de::deserialize_record_as(deserializer)
     }
 }

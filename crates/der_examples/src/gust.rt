@@ -3,7 +3,7 @@ ghost use Rattle.std.proofs.Common.{rules};
 ghost use Rattle.picky_der_de.specs.Telling.{told, tells};
 
 use picky_asn1_der::misc::{ReadExt, WriteExt};
-use picky_asn1_der::{Alike, Deserialize, Deserializer, Result, Row, Serialize, Serializer, de};
+use picky_asn1_der::{Deserialize, Deserializer, Record, Result, Row, Serialize, Serializer, de};
 
 /// A gust of wind, as a SEQUENCE of an INTEGER and a SEQUENCE of texts.
 #[derive(Debug, Drop, PartialEq, Eq)]
@@ -14,35 +14,35 @@ pub struct Gust {
     pub notes: Option<Vec<String>>,
 }
 
-type Fields = Row<(u8, Option<Vec<String>>, ())>;
+type Fields = (u8, Option<Vec<String>>, ());
 
 impl Serialize for Gust {
-    ghost meaning = { λ it. ⟦<Fields as Serialize>⟧.meaning (⟦<Gust as Alike>⟧.parts it) };
+    ghost meaning = { λ it. ⟦<Row<Fields> as Serialize>⟧.meaning (record { 0 = ⟦<Gust as Record>⟧.parts it }) };
 
     fn serialize<W: WriteExt>(&self, serializer: &mut Serializer<W>) -> Result<usize> {
         (&self.speed, &self.notes).serialize(serializer)
     }
 }
 
-impl Alike for Gust {
-    type As = Fields;
+impl Record for Gust {
+    type Fields = Fields;
 
-    ghost parts = { λ it. record { 0 = (it.speed, it.notes, tt) } };
+    ghost parts = { λ it. (it.speed, it.notes, tt) };
 
-    fn from_parts(Row(fields): Fields) -> Gust {
+    fn from_parts(fields: Fields) -> Gust {
         let (speed, notes, ()) = fields;
         Gust { speed, notes }
     }
 }
 
 impl Deserialize for Gust {
-    ghost shape = { ⟦<Fields as Deserialize>⟧.shape };
+    ghost shape = { ⟦<Row<Fields> as Deserialize>⟧.shape };
 
-    ghost known_by_tree = { told ⟦<Fields as Deserialize>⟧.shape (Prim.search tells depth 99) };
+    ghost known_by_tree = { told ⟦<Row<Fields> as Deserialize>⟧.shape (Prim.search tells depth 99) };
 
     ghost sound = { Prim.search rules depth 99 };
 
     fn deserialize<R: ReadExt>(deserializer: &mut Deserializer<R>) -> Result<Gust> {
-        de::deserialize_as(deserializer)
+        de::deserialize_record_as(deserializer)
     }
 }

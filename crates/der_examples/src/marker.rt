@@ -4,7 +4,7 @@ ghost use Rattle.picky_der_de.specs.Telling.{told, tells};
 
 use crate::{Named, Point};
 use picky_asn1_der::misc::{ReadExt, WriteExt};
-use picky_asn1_der::{Alike, Deserialize, Deserializer, Result, Row, Serialize, Serializer, de};
+use picky_asn1_der::{Deserialize, Deserializer, Record, Result, Row, Serialize, Serializer, de};
 
 /// A point with a label, as a SEQUENCE of the two.
 #[derive(Debug, Drop, PartialEq, Eq)]
@@ -15,35 +15,35 @@ pub struct Marker {
     pub at: Point,
 }
 
-type Fields = Row<(Named<u8>, Point, ())>;
+type Fields = (Named<u8>, Point, ());
 
 impl Serialize for Marker {
-    ghost meaning = { λ it. ⟦<Fields as Serialize>⟧.meaning (⟦<Marker as Alike>⟧.parts it) };
+    ghost meaning = { λ it. ⟦<Row<Fields> as Serialize>⟧.meaning (record { 0 = ⟦<Marker as Record>⟧.parts it }) };
 
     fn serialize<W: WriteExt>(&self, serializer: &mut Serializer<W>) -> Result<usize> {
         (&self.label, &self.at).serialize(serializer)
     }
 }
 
-impl Alike for Marker {
-    type As = Fields;
+impl Record for Marker {
+    type Fields = Fields;
 
-    ghost parts = { λ it. record { 0 = (it.label, it.at, tt) } };
+    ghost parts = { λ it. (it.label, it.at, tt) };
 
-    fn from_parts(Row(fields): Fields) -> Marker {
+    fn from_parts(fields: Fields) -> Marker {
         let (label, at, ()) = fields;
         Marker { label, at }
     }
 }
 
 impl Deserialize for Marker {
-    ghost shape = { ⟦<Fields as Deserialize>⟧.shape };
+    ghost shape = { ⟦<Row<Fields> as Deserialize>⟧.shape };
 
-    ghost known_by_tree = { told ⟦<Fields as Deserialize>⟧.shape (Prim.search tells depth 99) };
+    ghost known_by_tree = { told ⟦<Row<Fields> as Deserialize>⟧.shape (Prim.search tells depth 99) };
 
     ghost sound = { Prim.search rules depth 99 };
 
     fn deserialize<R: ReadExt>(deserializer: &mut Deserializer<R>) -> Result<Marker> {
-        de::deserialize_as(deserializer)
+        de::deserialize_record_as(deserializer)
     }
 }

@@ -3,7 +3,7 @@ ghost use Rattle.std.proofs.Common.{rules};
 ghost use Rattle.picky_der_de.specs.Telling.{told, tells};
 
 use picky_asn1_der::misc::{ReadExt, WriteExt};
-use picky_asn1_der::{Alike, Deserialize, Deserializer, Result, Row, Serialize, Serializer, de};
+use picky_asn1_der::{Deserialize, Deserializer, Record, Result, Row, Serialize, Serializer, de};
 
 /// A moment of a day, as a SEQUENCE of seven INTEGERs.
 #[derive(Debug, Drop, PartialEq, Eq)]
@@ -24,10 +24,10 @@ pub struct Moment {
     pub millisecond: u16,
 }
 
-type Fields = Row<(u16, u8, u8, u8, u8, u8, u16, ())>;
+type Fields = (u16, u8, u8, u8, u8, u8, u16, ());
 
 impl Serialize for Moment {
-    ghost meaning = { λ it. ⟦<Fields as Serialize>⟧.meaning (⟦<Moment as Alike>⟧.parts it) };
+    ghost meaning = { λ it. ⟦<Row<Fields> as Serialize>⟧.meaning (record { 0 = ⟦<Moment as Record>⟧.parts it }) };
 
     fn serialize<W: WriteExt>(&self, serializer: &mut Serializer<W>) -> Result<usize> {
         (
@@ -43,12 +43,12 @@ impl Serialize for Moment {
     }
 }
 
-impl Alike for Moment {
-    type As = Fields;
+impl Record for Moment {
+    type Fields = Fields;
 
-    ghost parts = { λ it. record { 0 = (it.year, it.month, it.day, it.hour, it.minute, it.second, it.millisecond, tt) } };
+    ghost parts = { λ it. (it.year, it.month, it.day, it.hour, it.minute, it.second, it.millisecond, tt) };
 
-    fn from_parts(Row(fields): Fields) -> Moment {
+    fn from_parts(fields: Fields) -> Moment {
         let (year, month, day, hour, minute, second, millisecond, ()) = fields;
         Moment {
             year,
@@ -63,13 +63,13 @@ impl Alike for Moment {
 }
 
 impl Deserialize for Moment {
-    ghost shape = { ⟦<Fields as Deserialize>⟧.shape };
+    ghost shape = { ⟦<Row<Fields> as Deserialize>⟧.shape };
 
-    ghost known_by_tree = { told ⟦<Fields as Deserialize>⟧.shape (Prim.search tells depth 99) };
+    ghost known_by_tree = { told ⟦<Row<Fields> as Deserialize>⟧.shape (Prim.search tells depth 99) };
 
     ghost sound = { Prim.search rules depth 99 };
 
     fn deserialize<R: ReadExt>(deserializer: &mut Deserializer<R>) -> Result<Moment> {
-        de::deserialize_as(deserializer)
+        de::deserialize_record_as(deserializer)
     }
 }

@@ -4,7 +4,7 @@ ghost use Rattle.picky_der_de.specs.Telling.{by_law, told, tells};
 
 use picky_asn1_der::asn1::ByteBuf;
 use picky_asn1_der::misc::{ReadExt, WriteExt};
-use picky_asn1_der::{Alike, Deserialize, Deserializer, Result, Row, Serialize, Serializer, de};
+use picky_asn1_der::{Deserialize, Deserializer, Record, Result, Row, Serialize, Serializer, de};
 
 /// A value under a name, as a SEQUENCE of an OCTET STRING and the value.
 #[derive(Debug, Drop, PartialEq, Eq)]
@@ -15,35 +15,35 @@ pub struct Named<T> {
     pub value: T,
 }
 
-type Fields<T> = Row<(ByteBuf, T, ())>;
+type Fields<T> = (ByteBuf, T, ());
 
 impl<T: Serialize> Serialize for Named<T> {
-    ghost meaning = { λ it. ⟦<Fields<T> as Serialize>⟧.meaning (record { 0 = (it.name, it.value, tt) }) };
+    ghost meaning = { λ it. ⟦<Row<Fields<T>> as Serialize>⟧.meaning (record { 0 = (it.name, it.value, tt) }) };
 
     fn serialize<W: WriteExt>(&self, serializer: &mut Serializer<W>) -> Result<usize> {
         (&self.name, &self.value).serialize(serializer)
     }
 }
 
-impl<T: Deserialize> Alike for Named<T> {
-    type As = Fields<T>;
+impl<T: Deserialize> Record for Named<T> {
+    type Fields = Fields<T>;
 
-    ghost parts = { λ it. record { 0 = (it.name, it.value, tt) } };
+    ghost parts = { λ it. (it.name, it.value, tt) };
 
-    fn from_parts(Row(fields): Fields<T>) -> Named<T> {
+    fn from_parts(fields: Fields<T>) -> Named<T> {
         let (name, value, ()) = fields;
         Named { name, value }
     }
 }
 
 impl<T: Deserialize> Deserialize for Named<T> {
-    ghost shape = { ⟦<Fields<T> as Deserialize>⟧.shape };
+    ghost shape = { ⟦<Row<Fields<T>> as Deserialize>⟧.shape };
 
-    ghost known_by_tree = { told ⟦<Fields<T> as Deserialize>⟧.shape (Prim.search (tells, by_law T.shape T.known_by_tree) depth 99) };
+    ghost known_by_tree = { told ⟦<Row<Fields<T>> as Deserialize>⟧.shape (Prim.search (tells, by_law T.shape T.known_by_tree) depth 99) };
 
     ghost sound = { Prim.search (rules, T.sound) depth 99 };
 
     fn deserialize<R: ReadExt>(deserializer: &mut Deserializer<R>) -> Result<Named<T>> {
-        de::deserialize_as(deserializer)
+        de::deserialize_record_as(deserializer)
     }
 }

@@ -3,7 +3,7 @@ ghost use Rattle.std.proofs.Common.{rules};
 ghost use Rattle.picky_der_de.specs.Telling.{told, tells};
 
 use picky_asn1_der::misc::{ReadExt, WriteExt};
-use picky_asn1_der::{Alike, Deserialize, Deserializer, Result, Row, Serialize, Serializer, de};
+use picky_asn1_der::{Deserialize, Deserializer, Record, Result, Row, Serialize, Serializer, de};
 
 /// A point so far east and north, which may be hidden: a SEQUENCE of two INTEGERs and a BOOLEAN.
 #[derive(Debug, Drop, PartialEq, Eq)]
@@ -13,35 +13,35 @@ pub struct Point {
     pub hidden: bool,
 }
 
-type Fields = Row<(u32, u32, bool, ())>;
+type Fields = (u32, u32, bool, ());
 
 impl Serialize for Point {
-    ghost meaning = { λ it. ⟦<Fields as Serialize>⟧.meaning (⟦<Point as Alike>⟧.parts it) };
+    ghost meaning = { λ it. ⟦<Row<Fields> as Serialize>⟧.meaning (record { 0 = ⟦<Point as Record>⟧.parts it }) };
 
     fn serialize<W: WriteExt>(&self, serializer: &mut Serializer<W>) -> Result<usize> {
         (&self.x, &self.y, &self.hidden).serialize(serializer)
     }
 }
 
-impl Alike for Point {
-    type As = Fields;
+impl Record for Point {
+    type Fields = Fields;
 
-    ghost parts = { λ it. record { 0 = (it.x, it.y, it.hidden, tt) } };
+    ghost parts = { λ it. (it.x, it.y, it.hidden, tt) };
 
-    fn from_parts(Row(fields): Fields) -> Point {
+    fn from_parts(fields: Fields) -> Point {
         let (x, y, hidden, ()) = fields;
         Point { x, y, hidden }
     }
 }
 
 impl Deserialize for Point {
-    ghost shape = { ⟦<Fields as Deserialize>⟧.shape };
+    ghost shape = { ⟦<Row<Fields> as Deserialize>⟧.shape };
 
-    ghost known_by_tree = { told ⟦<Fields as Deserialize>⟧.shape (Prim.search tells depth 99) };
+    ghost known_by_tree = { told ⟦<Row<Fields> as Deserialize>⟧.shape (Prim.search tells depth 99) };
 
     ghost sound = { Prim.search rules depth 99 };
 
     fn deserialize<R: ReadExt>(deserializer: &mut Deserializer<R>) -> Result<Point> {
-        de::deserialize_as(deserializer)
+        de::deserialize_record_as(deserializer)
     }
 }

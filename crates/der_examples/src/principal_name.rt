@@ -4,7 +4,7 @@ ghost use Rattle.picky_der_de.specs.Telling.{told, tells};
 
 use picky_asn1_der::asn1::{ExplicitContextTag0, ExplicitContextTag1, GeneralStringAsn1};
 use picky_asn1_der::misc::{ReadExt, WriteExt};
-use picky_asn1_der::{Alike, Deserialize, Deserializer, Result, Row, Serialize, Serializer, de};
+use picky_asn1_der::{Deserialize, Deserializer, Record, Result, Row, Serialize, Serializer, de};
 
 /// The name of a client or a server, as a SEQUENCE (RFC 4120, 5.2.2).
 #[derive(Debug, Drop, PartialEq, Eq)]
@@ -15,28 +15,26 @@ pub struct PrincipalName {
     pub name_string: ExplicitContextTag1<Vec<GeneralStringAsn1>>,
 }
 
-type Fields = Row<
-    (
-        ExplicitContextTag0<u32>,
-        ExplicitContextTag1<Vec<GeneralStringAsn1>>,
-        (),
-    ),
->;
+type Fields = (
+    ExplicitContextTag0<u32>,
+    ExplicitContextTag1<Vec<GeneralStringAsn1>>,
+    (),
+);
 
 impl Serialize for PrincipalName {
-    ghost meaning = { λ it. ⟦<Fields as Serialize>⟧.meaning (⟦<PrincipalName as Alike>⟧.parts it) };
+    ghost meaning = { λ it. ⟦<Row<Fields> as Serialize>⟧.meaning (record { 0 = ⟦<PrincipalName as Record>⟧.parts it }) };
 
     fn serialize<W: WriteExt>(&self, serializer: &mut Serializer<W>) -> Result<usize> {
         (&self.name_type, &self.name_string).serialize(serializer)
     }
 }
 
-impl Alike for PrincipalName {
-    type As = Fields;
+impl Record for PrincipalName {
+    type Fields = Fields;
 
-    ghost parts = { λ it. record { 0 = (it.name_type, it.name_string, tt) } };
+    ghost parts = { λ it. (it.name_type, it.name_string, tt) };
 
-    fn from_parts(Row(fields): Fields) -> PrincipalName {
+    fn from_parts(fields: Fields) -> PrincipalName {
         let (name_type, name_string, ()) = fields;
         PrincipalName {
             name_type,
@@ -46,13 +44,13 @@ impl Alike for PrincipalName {
 }
 
 impl Deserialize for PrincipalName {
-    ghost shape = { ⟦<Fields as Deserialize>⟧.shape };
+    ghost shape = { ⟦<Row<Fields> as Deserialize>⟧.shape };
 
-    ghost known_by_tree = { told ⟦<Fields as Deserialize>⟧.shape (Prim.search tells depth 99) };
+    ghost known_by_tree = { told ⟦<Row<Fields> as Deserialize>⟧.shape (Prim.search tells depth 99) };
 
     ghost sound = { Prim.search rules depth 99 };
 
     fn deserialize<R: ReadExt>(deserializer: &mut Deserializer<R>) -> Result<PrincipalName> {
-        de::deserialize_as(deserializer)
+        de::deserialize_record_as(deserializer)
     }
 }

@@ -5,7 +5,7 @@ ghost use Rattle.picky_der_de.specs.Telling.{told, tells};
 use crate::{Gust, Moment};
 use picky_asn1_der::asn1::{Asn1SetOf, ByteBuf, ExplicitContextTag, OctetStringAsn1Container};
 use picky_asn1_der::misc::{ReadExt, WriteExt};
-use picky_asn1_der::{Alike, Deserialize, Deserializer, Result, Row, Serialize, Serializer, de};
+use picky_asn1_der::{Deserialize, Deserializer, Record, Result, Row, Serialize, Serializer, de};
 
 /// What a weather station reports, as a SEQUENCE of sixteen members.
 #[derive(Debug, Drop, PartialEq, Eq)]
@@ -44,32 +44,30 @@ pub struct Report {
     pub gusts: Vec<Gust>,
 }
 
-type Fields = Row<
+type Fields = (
+    String,
+    u32,
+    Moment,
+    bool,
+    Option<u16>,
+    u32,
+    u8,
+    u128,
     (
-        String,
-        u32,
-        Moment,
-        bool,
-        Option<u16>,
-        u32,
-        u8,
-        u128,
-        (
-            ByteBuf,
-            char,
-            (),
-            [u16; 2],
-            ExplicitContextTag<Vec<u16>, 0>,
-            Asn1SetOf<ByteBuf>,
-            OctetStringAsn1Container<(u8, bool)>,
-            Vec<Gust>,
-            (),
-        ),
+        ByteBuf,
+        char,
+        (),
+        [u16; 2],
+        ExplicitContextTag<Vec<u16>, 0>,
+        Asn1SetOf<ByteBuf>,
+        OctetStringAsn1Container<(u8, bool)>,
+        Vec<Gust>,
+        (),
     ),
->;
+);
 
 impl Serialize for Report {
-    ghost meaning = { λ it. ⟦<Fields as Serialize>⟧.meaning (⟦<Report as Alike>⟧.parts it) };
+    ghost meaning = { λ it. ⟦<Row<Fields> as Serialize>⟧.meaning (record { 0 = ⟦<Report as Record>⟧.parts it }) };
 
     fn serialize<W: WriteExt>(&self, serializer: &mut Serializer<W>) -> Result<usize> {
         (
@@ -94,12 +92,12 @@ impl Serialize for Report {
     }
 }
 
-impl Alike for Report {
-    type As = Fields;
+impl Record for Report {
+    type Fields = Fields;
 
-    ghost parts = { λ it. record { 0 = (it.station, it.number, it.moment, it.automatic, it.height, it.pressure, it.humidity, it.serial, (it.seal, it.grade, it.reserved, it.days, it.offsets, it.authors, it.sealed, it.gusts, tt)) } };
+    ghost parts = { λ it. (it.station, it.number, it.moment, it.automatic, it.height, it.pressure, it.humidity, it.serial, (it.seal, it.grade, it.reserved, it.days, it.offsets, it.authors, it.sealed, it.gusts, tt)) };
 
-    fn from_parts(Row(fields): Fields) -> Report {
+    fn from_parts(fields: Fields) -> Report {
         let (station, number, moment, automatic, height, pressure, humidity, serial, others) =
             fields;
         let (seal, grade, reserved, days, offsets, authors, sealed, gusts, ()) = others;
@@ -125,13 +123,13 @@ impl Alike for Report {
 }
 
 impl Deserialize for Report {
-    ghost shape = { ⟦<Fields as Deserialize>⟧.shape };
+    ghost shape = { ⟦<Row<Fields> as Deserialize>⟧.shape };
 
-    ghost known_by_tree = { told ⟦<Fields as Deserialize>⟧.shape (Prim.search tells depth 99) };
+    ghost known_by_tree = { told ⟦<Row<Fields> as Deserialize>⟧.shape (Prim.search tells depth 99) };
 
     ghost sound = { Prim.search rules depth 99 };
 
     fn deserialize<R: ReadExt>(deserializer: &mut Deserializer<R>) -> Result<Report> {
-        de::deserialize_as(deserializer)
+        de::deserialize_record_as(deserializer)
     }
 }

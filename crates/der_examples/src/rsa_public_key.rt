@@ -4,7 +4,7 @@ ghost use Rattle.picky_der_de.specs.Telling.{told, tells};
 
 use picky_asn1_der::asn1::IntegerAsn1;
 use picky_asn1_der::misc::{ReadExt, WriteExt};
-use picky_asn1_der::{Alike, Deserialize, Deserializer, Result, Row, Serialize, Serializer, de};
+use picky_asn1_der::{Deserialize, Deserializer, Record, Result, Row, Serialize, Serializer, de};
 
 /// A public key of RSA, as a SEQUENCE (RFC 8017, A.1.1).
 #[derive(Debug, Drop, PartialEq, Eq)]
@@ -15,22 +15,22 @@ pub struct RsaPublicKey {
     pub public_exponent: IntegerAsn1,
 }
 
-type Fields = Row<(IntegerAsn1, IntegerAsn1, ())>;
+type Fields = (IntegerAsn1, IntegerAsn1, ());
 
 impl Serialize for RsaPublicKey {
-    ghost meaning = { λ it. ⟦<Fields as Serialize>⟧.meaning (⟦<RsaPublicKey as Alike>⟧.parts it) };
+    ghost meaning = { λ it. ⟦<Row<Fields> as Serialize>⟧.meaning (record { 0 = ⟦<RsaPublicKey as Record>⟧.parts it }) };
 
     fn serialize<W: WriteExt>(&self, serializer: &mut Serializer<W>) -> Result<usize> {
         (&self.modulus, &self.public_exponent).serialize(serializer)
     }
 }
 
-impl Alike for RsaPublicKey {
-    type As = Fields;
+impl Record for RsaPublicKey {
+    type Fields = Fields;
 
-    ghost parts = { λ it. record { 0 = (it.modulus, it.public_exponent, tt) } };
+    ghost parts = { λ it. (it.modulus, it.public_exponent, tt) };
 
-    fn from_parts(Row(fields): Fields) -> RsaPublicKey {
+    fn from_parts(fields: Fields) -> RsaPublicKey {
         let (modulus, public_exponent, ()) = fields;
         RsaPublicKey {
             modulus,
@@ -40,13 +40,13 @@ impl Alike for RsaPublicKey {
 }
 
 impl Deserialize for RsaPublicKey {
-    ghost shape = { ⟦<Fields as Deserialize>⟧.shape };
+    ghost shape = { ⟦<Row<Fields> as Deserialize>⟧.shape };
 
-    ghost known_by_tree = { told ⟦<Fields as Deserialize>⟧.shape (Prim.search tells depth 99) };
+    ghost known_by_tree = { told ⟦<Row<Fields> as Deserialize>⟧.shape (Prim.search tells depth 99) };
 
     ghost sound = { Prim.search rules depth 99 };
 
     fn deserialize<R: ReadExt>(deserializer: &mut Deserializer<R>) -> Result<RsaPublicKey> {
-        de::deserialize_as(deserializer)
+        de::deserialize_record_as(deserializer)
     }
 }

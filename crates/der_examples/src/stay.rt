@@ -4,7 +4,7 @@ ghost use Rattle.picky_der_de.specs.Telling.{told, tells};
 
 use crate::Moment;
 use picky_asn1_der::misc::{ReadExt, WriteExt};
-use picky_asn1_der::{Alike, Deserialize, Deserializer, Result, Row, Serialize, Serializer, de};
+use picky_asn1_der::{Deserialize, Deserializer, Record, Result, Row, Serialize, Serializer, de};
 
 /// A time spent somewhere, as a SEQUENCE of its two ends.
 #[derive(Debug, Drop, PartialEq, Eq)]
@@ -15,35 +15,35 @@ pub struct Stay {
     pub to: Moment,
 }
 
-type Fields = Row<(Moment, Moment, ())>;
+type Fields = (Moment, Moment, ());
 
 impl Serialize for Stay {
-    ghost meaning = { λ it. ⟦<Fields as Serialize>⟧.meaning (⟦<Stay as Alike>⟧.parts it) };
+    ghost meaning = { λ it. ⟦<Row<Fields> as Serialize>⟧.meaning (record { 0 = ⟦<Stay as Record>⟧.parts it }) };
 
     fn serialize<W: WriteExt>(&self, serializer: &mut Serializer<W>) -> Result<usize> {
         (&self.from, &self.to).serialize(serializer)
     }
 }
 
-impl Alike for Stay {
-    type As = Fields;
+impl Record for Stay {
+    type Fields = Fields;
 
-    ghost parts = { λ it. record { 0 = (it.from, it.to, tt) } };
+    ghost parts = { λ it. (it.from, it.to, tt) };
 
-    fn from_parts(Row(fields): Fields) -> Stay {
+    fn from_parts(fields: Fields) -> Stay {
         let (from, to, ()) = fields;
         Stay { from, to }
     }
 }
 
 impl Deserialize for Stay {
-    ghost shape = { ⟦<Fields as Deserialize>⟧.shape };
+    ghost shape = { ⟦<Row<Fields> as Deserialize>⟧.shape };
 
-    ghost known_by_tree = { told ⟦<Fields as Deserialize>⟧.shape (Prim.search tells depth 99) };
+    ghost known_by_tree = { told ⟦<Row<Fields> as Deserialize>⟧.shape (Prim.search tells depth 99) };
 
     ghost sound = { Prim.search rules depth 99 };
 
     fn deserialize<R: ReadExt>(deserializer: &mut Deserializer<R>) -> Result<Stay> {
-        de::deserialize_as(deserializer)
+        de::deserialize_record_as(deserializer)
     }
 }

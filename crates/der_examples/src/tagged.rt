@@ -5,7 +5,7 @@ ghost use Rattle.picky_der_de.specs.Telling.{told, tells};
 use crate::{Named, Point};
 use picky_asn1_der::asn1::{ExplicitContextTag, ImplicitContextTag};
 use picky_asn1_der::misc::{ReadExt, WriteExt};
-use picky_asn1_der::{Alike, Deserialize, Deserializer, Result, Row, Serialize, Serializer, de};
+use picky_asn1_der::{Deserialize, Deserializer, Record, Result, Row, Serialize, Serializer, de};
 
 /// A label and a point that may be told apart by their tags: `[0] EXPLICIT` and `[1] IMPLICIT`.
 #[derive(Debug, Drop, PartialEq, Eq)]
@@ -16,41 +16,39 @@ pub struct Tagged {
     pub at: ImplicitContextTag<Point, 1>,
 }
 
-type Fields = Row<
-    (
-        ExplicitContextTag<Named<u8>, 0>,
-        ImplicitContextTag<Point, 1>,
-        (),
-    ),
->;
+type Fields = (
+    ExplicitContextTag<Named<u8>, 0>,
+    ImplicitContextTag<Point, 1>,
+    (),
+);
 
 impl Serialize for Tagged {
-    ghost meaning = { λ it. ⟦<Fields as Serialize>⟧.meaning (⟦<Tagged as Alike>⟧.parts it) };
+    ghost meaning = { λ it. ⟦<Row<Fields> as Serialize>⟧.meaning (record { 0 = ⟦<Tagged as Record>⟧.parts it }) };
 
     fn serialize<W: WriteExt>(&self, serializer: &mut Serializer<W>) -> Result<usize> {
         (&self.label, &self.at).serialize(serializer)
     }
 }
 
-impl Alike for Tagged {
-    type As = Fields;
+impl Record for Tagged {
+    type Fields = Fields;
 
-    ghost parts = { λ it. record { 0 = (it.label, it.at, tt) } };
+    ghost parts = { λ it. (it.label, it.at, tt) };
 
-    fn from_parts(Row(fields): Fields) -> Tagged {
+    fn from_parts(fields: Fields) -> Tagged {
         let (label, at, ()) = fields;
         Tagged { label, at }
     }
 }
 
 impl Deserialize for Tagged {
-    ghost shape = { ⟦<Fields as Deserialize>⟧.shape };
+    ghost shape = { ⟦<Row<Fields> as Deserialize>⟧.shape };
 
-    ghost known_by_tree = { told ⟦<Fields as Deserialize>⟧.shape (Prim.search tells depth 99) };
+    ghost known_by_tree = { told ⟦<Row<Fields> as Deserialize>⟧.shape (Prim.search tells depth 99) };
 
     ghost sound = { Prim.search rules depth 99 };
 
     fn deserialize<R: ReadExt>(deserializer: &mut Deserializer<R>) -> Result<Tagged> {
-        de::deserialize_as(deserializer)
+        de::deserialize_record_as(deserializer)
     }
 }

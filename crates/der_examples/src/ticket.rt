@@ -9,7 +9,7 @@ use picky_asn1_der::asn1::{
     GeneralStringAsn1,
 };
 use picky_asn1_der::misc::{ReadExt, WriteExt};
-use picky_asn1_der::{Alike, Deserialize, Deserializer, Result, Row, Serialize, Serializer, de};
+use picky_asn1_der::{Deserialize, Deserializer, Record, Result, Row, Serialize, Serializer, de};
 
 /// A ticket: its body under the application tag 1.
 pub type Ticket = ApplicationTag<TicketBody, 1>;
@@ -27,30 +27,28 @@ pub struct TicketBody {
     pub enc_part: ExplicitContextTag3<EncryptedData>,
 }
 
-type Fields = Row<
-    (
-        ExplicitContextTag0<u8>,
-        ExplicitContextTag1<GeneralStringAsn1>,
-        ExplicitContextTag2<PrincipalName>,
-        ExplicitContextTag3<EncryptedData>,
-        (),
-    ),
->;
+type Fields = (
+    ExplicitContextTag0<u8>,
+    ExplicitContextTag1<GeneralStringAsn1>,
+    ExplicitContextTag2<PrincipalName>,
+    ExplicitContextTag3<EncryptedData>,
+    (),
+);
 
 impl Serialize for TicketBody {
-    ghost meaning = { λ it. ⟦<Fields as Serialize>⟧.meaning (⟦<TicketBody as Alike>⟧.parts it) };
+    ghost meaning = { λ it. ⟦<Row<Fields> as Serialize>⟧.meaning (record { 0 = ⟦<TicketBody as Record>⟧.parts it }) };
 
     fn serialize<W: WriteExt>(&self, serializer: &mut Serializer<W>) -> Result<usize> {
         (&self.tkt_vno, &self.realm, &self.sname, &self.enc_part).serialize(serializer)
     }
 }
 
-impl Alike for TicketBody {
-    type As = Fields;
+impl Record for TicketBody {
+    type Fields = Fields;
 
-    ghost parts = { λ it. record { 0 = (it.tkt_vno, it.realm, it.sname, it.enc_part, tt) } };
+    ghost parts = { λ it. (it.tkt_vno, it.realm, it.sname, it.enc_part, tt) };
 
-    fn from_parts(Row(fields): Fields) -> TicketBody {
+    fn from_parts(fields: Fields) -> TicketBody {
         let (tkt_vno, realm, sname, enc_part, ()) = fields;
         TicketBody {
             tkt_vno,
@@ -62,13 +60,13 @@ impl Alike for TicketBody {
 }
 
 impl Deserialize for TicketBody {
-    ghost shape = { ⟦<Fields as Deserialize>⟧.shape };
+    ghost shape = { ⟦<Row<Fields> as Deserialize>⟧.shape };
 
-    ghost known_by_tree = { told ⟦<Fields as Deserialize>⟧.shape (Prim.search tells depth 99) };
+    ghost known_by_tree = { told ⟦<Row<Fields> as Deserialize>⟧.shape (Prim.search tells depth 99) };
 
     ghost sound = { Prim.search rules depth 99 };
 
     fn deserialize<R: ReadExt>(deserializer: &mut Deserializer<R>) -> Result<TicketBody> {
-        de::deserialize_as(deserializer)
+        de::deserialize_record_as(deserializer)
     }
 }

@@ -5,7 +5,7 @@ ghost use Rattle.picky_der_de.specs.Telling.{told, tells};
 use crate::Point;
 use picky_asn1_der::asn1::{Asn1SetOf, ByteBuf, ExplicitContextTag};
 use picky_asn1_der::misc::{ReadExt, WriteExt};
-use picky_asn1_der::{Alike, Deserialize, Deserializer, Result, Row, Serialize, Serializer, de};
+use picky_asn1_der::{Deserialize, Deserializer, Record, Result, Row, Serialize, Serializer, de};
 
 /// A track through points, as a SEQUENCE of its members.
 #[derive(Debug, Drop, PartialEq, Eq)]
@@ -20,30 +20,28 @@ pub struct Track {
     pub names: ExplicitContextTag<Asn1SetOf<ByteBuf>, 0>,
 }
 
-type Fields = Row<
-    (
-        bool,
-        Vec<Point>,
-        [u16; 2],
-        ExplicitContextTag<Asn1SetOf<ByteBuf>, 0>,
-        (),
-    ),
->;
+type Fields = (
+    bool,
+    Vec<Point>,
+    [u16; 2],
+    ExplicitContextTag<Asn1SetOf<ByteBuf>, 0>,
+    (),
+);
 
 impl Serialize for Track {
-    ghost meaning = { λ it. ⟦<Fields as Serialize>⟧.meaning (⟦<Track as Alike>⟧.parts it) };
+    ghost meaning = { λ it. ⟦<Row<Fields> as Serialize>⟧.meaning (record { 0 = ⟦<Track as Record>⟧.parts it }) };
 
     fn serialize<W: WriteExt>(&self, serializer: &mut Serializer<W>) -> Result<usize> {
         (&self.closed, &self.points, &self.days, &self.names).serialize(serializer)
     }
 }
 
-impl Alike for Track {
-    type As = Fields;
+impl Record for Track {
+    type Fields = Fields;
 
-    ghost parts = { λ it. record { 0 = (it.closed, it.points, it.days, it.names, tt) } };
+    ghost parts = { λ it. (it.closed, it.points, it.days, it.names, tt) };
 
-    fn from_parts(Row(fields): Fields) -> Track {
+    fn from_parts(fields: Fields) -> Track {
         let (closed, points, days, names, ()) = fields;
         Track {
             closed,
@@ -55,13 +53,13 @@ impl Alike for Track {
 }
 
 impl Deserialize for Track {
-    ghost shape = { ⟦<Fields as Deserialize>⟧.shape };
+    ghost shape = { ⟦<Row<Fields> as Deserialize>⟧.shape };
 
-    ghost known_by_tree = { told ⟦<Fields as Deserialize>⟧.shape (Prim.search tells depth 99) };
+    ghost known_by_tree = { told ⟦<Row<Fields> as Deserialize>⟧.shape (Prim.search tells depth 99) };
 
     ghost sound = { Prim.search rules depth 99 };
 
     fn deserialize<R: ReadExt>(deserializer: &mut Deserializer<R>) -> Result<Track> {
-        de::deserialize_as(deserializer)
+        de::deserialize_record_as(deserializer)
     }
 }

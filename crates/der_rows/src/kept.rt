@@ -4,7 +4,7 @@ ghost use Rattle.picky_der_de.specs.Telling.{told, tells};
 
 use picky_asn1_der::misc::{ReadExt, WriteExt};
 use picky_asn1_der::{
-    Alike, Asn1RawDer, Deserialize, Deserializer, Result, Row, Serialize, Serializer, de,
+    Asn1RawDer, Deserialize, Deserializer, Record, Result, Row, Serialize, Serializer, de,
 };
 
 /// A number, and an element that isn't looked at.
@@ -14,35 +14,35 @@ pub(crate) struct Kept {
     element: Asn1RawDer,
 }
 
-type Fields = Row<(u8, Asn1RawDer, ())>;
+type Fields = (u8, Asn1RawDer, ());
 
 impl Serialize for Kept {
-    ghost meaning = { λ it. ⟦<Fields as Serialize>⟧.meaning (⟦<Kept as Alike>⟧.parts it) };
+    ghost meaning = { λ it. ⟦<Row<Fields> as Serialize>⟧.meaning (record { 0 = ⟦<Kept as Record>⟧.parts it }) };
 
     fn serialize<W: WriteExt>(&self, serializer: &mut Serializer<W>) -> Result<usize> {
         (&self.number, &self.element).serialize(serializer)
     }
 }
 
-impl Alike for Kept {
-    type As = Fields;
+impl Record for Kept {
+    type Fields = Fields;
 
-    ghost parts = { λ it. record { 0 = (it.number, it.element, tt) } };
+    ghost parts = { λ it. (it.number, it.element, tt) };
 
-    fn from_parts(Row(fields): Fields) -> Kept {
+    fn from_parts(fields: Fields) -> Kept {
         let (number, element, ()) = fields;
         Kept { number, element }
     }
 }
 
 impl Deserialize for Kept {
-    ghost shape = { ⟦<Fields as Deserialize>⟧.shape };
+    ghost shape = { ⟦<Row<Fields> as Deserialize>⟧.shape };
 
-    ghost known_by_tree = { told ⟦<Fields as Deserialize>⟧.shape (Prim.search tells depth 99) };
+    ghost known_by_tree = { told ⟦<Row<Fields> as Deserialize>⟧.shape (Prim.search tells depth 99) };
 
     ghost sound = { Prim.search rules depth 99 };
 
     fn deserialize<R: ReadExt>(deserializer: &mut Deserializer<R>) -> Result<Kept> {
-        de::deserialize_as(deserializer)
+        de::deserialize_record_as(deserializer)
     }
 }

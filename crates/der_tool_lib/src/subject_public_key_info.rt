@@ -6,7 +6,7 @@ ghost use Rattle.der_tool_lib.specs.contracts.algorithm_identifier.AlgorithmIden
 use crate::AlgorithmIdentifier;
 use picky_asn1_der::asn1::BitStringAsn1;
 use picky_asn1_der::misc::{ReadExt, WriteExt};
-use picky_asn1_der::{Alike, Deserialize, Deserializer, Result, Row, Serialize, Serializer, de};
+use picky_asn1_der::{Deserialize, Deserializer, Record, Result, Row, Serialize, Serializer, de};
 
 /// A public key and the algorithm that it is for, as a SEQUENCE (RFC 5280, 4.1.2.7).
 #[derive(Debug, Drop, PartialEq, Eq)]
@@ -19,22 +19,22 @@ pub struct SubjectPublicKeyInfo {
     pub subject_public_key: BitStringAsn1,
 }
 
-type Fields = Row<(AlgorithmIdentifier, BitStringAsn1, ())>;
+type Fields = (AlgorithmIdentifier, BitStringAsn1, ());
 
 impl Serialize for SubjectPublicKeyInfo {
-    ghost meaning = { λ it. ⟦<Fields as Serialize>⟧.meaning (⟦<SubjectPublicKeyInfo as Alike>⟧.parts it) };
+    ghost meaning = { λ it. ⟦<Row<Fields> as Serialize>⟧.meaning (record { 0 = ⟦<SubjectPublicKeyInfo as Record>⟧.parts it }) };
 
     fn serialize<W: WriteExt>(&self, serializer: &mut Serializer<W>) -> Result<usize> {
         (&self.algorithm, &self.subject_public_key).serialize(serializer)
     }
 }
 
-impl Alike for SubjectPublicKeyInfo {
-    type As = Fields;
+impl Record for SubjectPublicKeyInfo {
+    type Fields = Fields;
 
-    ghost parts = { λ it. record { 0 = (it.algorithm, it.subject_public_key, tt) } };
+    ghost parts = { λ it. (it.algorithm, it.subject_public_key, tt) };
 
-    fn from_parts(Row(fields): Fields) -> SubjectPublicKeyInfo {
+    fn from_parts(fields: Fields) -> SubjectPublicKeyInfo {
         let (algorithm, subject_public_key, ()) = fields;
         SubjectPublicKeyInfo {
             algorithm,
@@ -44,13 +44,13 @@ impl Alike for SubjectPublicKeyInfo {
 }
 
 impl Deserialize for SubjectPublicKeyInfo {
-    ghost shape = { ⟦<Fields as Deserialize>⟧.shape };
+    ghost shape = { ⟦<Row<Fields> as Deserialize>⟧.shape };
 
-    ghost known_by_tree = { told ⟦<Fields as Deserialize>⟧.shape (Prim.search (tells, by_law ⟦<AlgorithmIdentifier as Deserialize>⟧.shape known_by_tree-law) depth 99) };
+    ghost known_by_tree = { told ⟦<Row<Fields> as Deserialize>⟧.shape (Prim.search (tells, by_law ⟦<AlgorithmIdentifier as Deserialize>⟧.shape known_by_tree-law) depth 99) };
 
     ghost sound = { Prim.search rules depth 99 };
 
     fn deserialize<R: ReadExt>(deserializer: &mut Deserializer<R>) -> Result<SubjectPublicKeyInfo> {
-        de::deserialize_as(deserializer)
+        de::deserialize_record_as(deserializer)
     }
 }

@@ -10,7 +10,7 @@ use crate::{AlgorithmIdentifier, TbsCertificate};
 use picky_asn1_der::asn1::BitStringAsn1;
 use picky_asn1_der::misc::{ReadExt, WriteExt};
 use picky_asn1_der::{
-    Alike, Asn1RawDer, Deserialize, Deserializer, Result, Row, Serialize, Serializer, de,
+    Asn1RawDer, Deserialize, Deserializer, Record, Result, Row, Serialize, Serializer, de,
     from_bytes,
 };
 use std::alloc::Global;
@@ -37,10 +37,10 @@ impl Certificate {
     }
 }
 
-type Fields = Row<(Asn1RawDer, AlgorithmIdentifier, BitStringAsn1, ())>;
+type Fields = (Asn1RawDer, AlgorithmIdentifier, BitStringAsn1, ());
 
 impl Serialize for Certificate {
-    ghost meaning = { λ it. ⟦<Fields as Serialize>⟧.meaning (⟦<Certificate as Alike>⟧.parts it) };
+    ghost meaning = { λ it. ⟦<Row<Fields> as Serialize>⟧.meaning (record { 0 = ⟦<Certificate as Record>⟧.parts it }) };
 
     fn serialize<W: WriteExt>(&self, serializer: &mut Serializer<W>) -> Result<usize> {
         (
@@ -52,12 +52,12 @@ impl Serialize for Certificate {
     }
 }
 
-impl Alike for Certificate {
-    type As = Fields;
+impl Record for Certificate {
+    type Fields = Fields;
 
-    ghost parts = { λ it. record { 0 = (it.tbs_certificate, it.signature_algorithm, it.signature, tt) } };
+    ghost parts = { λ it. (it.tbs_certificate, it.signature_algorithm, it.signature, tt) };
 
-    fn from_parts(Row(fields): Fields) -> Certificate {
+    fn from_parts(fields: Fields) -> Certificate {
         let (tbs_certificate, signature_algorithm, signature, ()) = fields;
         Certificate {
             tbs_certificate,
@@ -68,13 +68,13 @@ impl Alike for Certificate {
 }
 
 impl Deserialize for Certificate {
-    ghost shape = { ⟦<Fields as Deserialize>⟧.shape };
+    ghost shape = { ⟦<Row<Fields> as Deserialize>⟧.shape };
 
-    ghost known_by_tree = { told ⟦<Fields as Deserialize>⟧.shape (Prim.search (tells, by_law ⟦<AlgorithmIdentifier as Deserialize>⟧.shape known_by_tree-law) depth 99) };
+    ghost known_by_tree = { told ⟦<Row<Fields> as Deserialize>⟧.shape (Prim.search (tells, by_law ⟦<AlgorithmIdentifier as Deserialize>⟧.shape known_by_tree-law) depth 99) };
 
     ghost sound = { Prim.search (rules, raw_is_last) depth 99 };
 
     fn deserialize<R: ReadExt>(deserializer: &mut Deserializer<R>) -> Result<Certificate> {
-        de::deserialize_as(deserializer)
+        de::deserialize_record_as(deserializer)
     }
 }

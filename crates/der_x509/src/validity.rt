@@ -7,7 +7,7 @@ use crate::Time;
 use picky_asn1_der::asn1::Tag;
 use picky_asn1_der::de::Begins;
 use picky_asn1_der::misc::{ReadExt, WriteExt};
-use picky_asn1_der::{Alike, Deserialize, Deserializer, Result, Row, Serialize, Serializer, de};
+use picky_asn1_der::{Deserialize, Deserializer, Record, Result, Row, Serialize, Serializer, de};
 
 /// From when to when a certificate is good, as a SEQUENCE (RFC 5280, 4.1.2.5).
 #[derive(Debug, Drop, PartialEq, Eq)]
@@ -18,22 +18,22 @@ pub struct Validity {
     pub not_after: Time,
 }
 
-type Fields = Row<(Time, Time, ())>;
+type Fields = (Time, Time, ());
 
 impl Serialize for Validity {
-    ghost meaning = { λ it. ⟦<Fields as Serialize>⟧.meaning (⟦<Validity as Alike>⟧.parts it) };
+    ghost meaning = { λ it. ⟦<Row<Fields> as Serialize>⟧.meaning (record { 0 = ⟦<Validity as Record>⟧.parts it }) };
 
     fn serialize<W: WriteExt>(&self, serializer: &mut Serializer<W>) -> Result<usize> {
         (&self.not_before, &self.not_after).serialize(serializer)
     }
 }
 
-impl Alike for Validity {
-    type As = Fields;
+impl Record for Validity {
+    type Fields = Fields;
 
-    ghost parts = { λ it. record { 0 = (it.not_before, it.not_after, tt) } };
+    ghost parts = { λ it. (it.not_before, it.not_after, tt) };
 
-    fn from_parts(Row(fields): Fields) -> Validity {
+    fn from_parts(fields: Fields) -> Validity {
         let (not_before, not_after, ()) = fields;
         Validity {
             not_before,
@@ -43,14 +43,14 @@ impl Alike for Validity {
 }
 
 impl Deserialize for Validity {
-    ghost shape = { ⟦<Fields as Deserialize>⟧.shape };
+    ghost shape = { ⟦<Row<Fields> as Deserialize>⟧.shape };
 
-    ghost known_by_tree = { told ⟦<Fields as Deserialize>⟧.shape (Prim.search (tells, by_law ⟦<Time as Deserialize>⟧.shape time_known) depth 99) };
+    ghost known_by_tree = { told ⟦<Row<Fields> as Deserialize>⟧.shape (Prim.search (tells, by_law ⟦<Time as Deserialize>⟧.shape time_known) depth 99) };
 
     ghost sound = { Prim.search rules depth 99 };
 
     fn deserialize<R: ReadExt>(deserializer: &mut Deserializer<R>) -> Result<Validity> {
-        de::deserialize_as(deserializer)
+        de::deserialize_record_as(deserializer)
     }
 }
 

@@ -13,6 +13,7 @@ mod entry;
 mod impls;
 mod layout;
 mod member;
+mod record;
 mod row;
 mod sequence;
 mod several;
@@ -29,6 +30,7 @@ pub use entry::{DEFAULT_MAX_LEN, from_bytes, from_reader, from_reader_with_max_l
 pub use layout::{DeserializeLayout, Struct, deserialize_struct_as};
 pub use member::DeserializeMember;
 pub use picky_der_input::{Boolean, Enclosure, End, Null, UInt, UnsignedInteger, Utf8String};
+pub use record::{Record, deserialize_record_as};
 pub use row::DeserializeMembers;
 pub use sequence::Sequence;
 pub use values::{next_from_bytes, next_from_reader};

@@ -5,7 +5,7 @@ ghost use Rattle.picky_der_de.specs.Telling.{told, tells};
 use picky_asn1_der::asn1::ObjectIdentifierAsn1;
 use picky_asn1_der::misc::{ReadExt, WriteExt};
 use picky_asn1_der::{
-    Alike, Asn1RawDer, Deserialize, Deserializer, Result, Row, Serialize, Serializer, de,
+    Asn1RawDer, Deserialize, Deserializer, Record, Result, Row, Serialize, Serializer, de,
 };
 
 /// A type and its value, as X.509 has them in names.
@@ -17,35 +17,35 @@ pub struct Attribute {
     pub value: Asn1RawDer,
 }
 
-type Fields = Row<(ObjectIdentifierAsn1, Asn1RawDer, ())>;
+type Fields = (ObjectIdentifierAsn1, Asn1RawDer, ());
 
 impl Serialize for Attribute {
-    ghost meaning = { λ it. ⟦<Fields as Serialize>⟧.meaning (⟦<Attribute as Alike>⟧.parts it) };
+    ghost meaning = { λ it. ⟦<Row<Fields> as Serialize>⟧.meaning (record { 0 = ⟦<Attribute as Record>⟧.parts it }) };
 
     fn serialize<W: WriteExt>(&self, serializer: &mut Serializer<W>) -> Result<usize> {
         (&self.kind, &self.value).serialize(serializer)
     }
 }
 
-impl Alike for Attribute {
-    type As = Fields;
+impl Record for Attribute {
+    type Fields = Fields;
 
-    ghost parts = { λ it. record { 0 = (it.kind, it.value, tt) } };
+    ghost parts = { λ it. (it.kind, it.value, tt) };
 
-    fn from_parts(Row(fields): Fields) -> Attribute {
+    fn from_parts(fields: Fields) -> Attribute {
         let (kind, value, ()) = fields;
         Attribute { kind, value }
     }
 }
 
 impl Deserialize for Attribute {
-    ghost shape = { ⟦<Fields as Deserialize>⟧.shape };
+    ghost shape = { ⟦<Row<Fields> as Deserialize>⟧.shape };
 
-    ghost known_by_tree = { told ⟦<Fields as Deserialize>⟧.shape (Prim.search tells depth 99) };
+    ghost known_by_tree = { told ⟦<Row<Fields> as Deserialize>⟧.shape (Prim.search tells depth 99) };
 
     ghost sound = { Prim.search rules depth 99 };
 
     fn deserialize<R: ReadExt>(deserializer: &mut Deserializer<R>) -> Result<Attribute> {
-        de::deserialize_as(deserializer)
+        de::deserialize_record_as(deserializer)
     }
 }

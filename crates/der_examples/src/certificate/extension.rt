@@ -4,7 +4,7 @@ ghost use Rattle.picky_der_de.specs.Telling.{told, tells};
 
 use picky_asn1_der::asn1::{ByteBuf, ObjectIdentifierAsn1};
 use picky_asn1_der::misc::{ReadExt, WriteExt};
-use picky_asn1_der::{Alike, Deserialize, Deserializer, Result, Row, Serialize, Serializer, de};
+use picky_asn1_der::{Deserialize, Deserializer, Record, Result, Row, Serialize, Serializer, de};
 
 /// An extension, which says whether it is critical.
 #[derive(Debug, Drop, PartialEq, Eq)]
@@ -17,22 +17,22 @@ pub struct Extension {
     pub value: ByteBuf,
 }
 
-type Fields = Row<(ObjectIdentifierAsn1, bool, ByteBuf, ())>;
+type Fields = (ObjectIdentifierAsn1, bool, ByteBuf, ());
 
 impl Serialize for Extension {
-    ghost meaning = { λ it. ⟦<Fields as Serialize>⟧.meaning (⟦<Extension as Alike>⟧.parts it) };
+    ghost meaning = { λ it. ⟦<Row<Fields> as Serialize>⟧.meaning (record { 0 = ⟦<Extension as Record>⟧.parts it }) };
 
     fn serialize<W: WriteExt>(&self, serializer: &mut Serializer<W>) -> Result<usize> {
         (&self.kind, &self.critical, &self.value).serialize(serializer)
     }
 }
 
-impl Alike for Extension {
-    type As = Fields;
+impl Record for Extension {
+    type Fields = Fields;
 
-    ghost parts = { λ it. record { 0 = (it.kind, it.critical, it.value, tt) } };
+    ghost parts = { λ it. (it.kind, it.critical, it.value, tt) };
 
-    fn from_parts(Row(fields): Fields) -> Extension {
+    fn from_parts(fields: Fields) -> Extension {
         let (kind, critical, value, ()) = fields;
         Extension {
             kind,
@@ -43,13 +43,13 @@ impl Alike for Extension {
 }
 
 impl Deserialize for Extension {
-    ghost shape = { ⟦<Fields as Deserialize>⟧.shape };
+    ghost shape = { ⟦<Row<Fields> as Deserialize>⟧.shape };
 
-    ghost known_by_tree = { told ⟦<Fields as Deserialize>⟧.shape (Prim.search tells depth 99) };
+    ghost known_by_tree = { told ⟦<Row<Fields> as Deserialize>⟧.shape (Prim.search tells depth 99) };
 
     ghost sound = { Prim.search rules depth 99 };
 
     fn deserialize<R: ReadExt>(deserializer: &mut Deserializer<R>) -> Result<Extension> {
-        de::deserialize_as(deserializer)
+        de::deserialize_record_as(deserializer)
     }
 }

@@ -5,7 +5,7 @@ ghost use Rattle.picky_der_de.specs.Telling.{told, tells};
 use super::Algorithm;
 use picky_asn1_der::asn1::BitStringAsn1;
 use picky_asn1_der::misc::{ReadExt, WriteExt};
-use picky_asn1_der::{Alike, Deserialize, Deserializer, Result, Row, Serialize, Serializer, de};
+use picky_asn1_der::{Deserialize, Deserializer, Record, Result, Row, Serialize, Serializer, de};
 
 /// A public key with its algorithm.
 #[derive(Debug, Drop, PartialEq, Eq)]
@@ -16,35 +16,35 @@ pub struct PublicKey {
     pub key: BitStringAsn1,
 }
 
-type Fields = Row<(Algorithm, BitStringAsn1, ())>;
+type Fields = (Algorithm, BitStringAsn1, ());
 
 impl Serialize for PublicKey {
-    ghost meaning = { λ it. ⟦<Fields as Serialize>⟧.meaning (⟦<PublicKey as Alike>⟧.parts it) };
+    ghost meaning = { λ it. ⟦<Row<Fields> as Serialize>⟧.meaning (record { 0 = ⟦<PublicKey as Record>⟧.parts it }) };
 
     fn serialize<W: WriteExt>(&self, serializer: &mut Serializer<W>) -> Result<usize> {
         (&self.algorithm, &self.key).serialize(serializer)
     }
 }
 
-impl Alike for PublicKey {
-    type As = Fields;
+impl Record for PublicKey {
+    type Fields = Fields;
 
-    ghost parts = { λ it. record { 0 = (it.algorithm, it.key, tt) } };
+    ghost parts = { λ it. (it.algorithm, it.key, tt) };
 
-    fn from_parts(Row(fields): Fields) -> PublicKey {
+    fn from_parts(fields: Fields) -> PublicKey {
         let (algorithm, key, ()) = fields;
         PublicKey { algorithm, key }
     }
 }
 
 impl Deserialize for PublicKey {
-    ghost shape = { ⟦<Fields as Deserialize>⟧.shape };
+    ghost shape = { ⟦<Row<Fields> as Deserialize>⟧.shape };
 
-    ghost known_by_tree = { told ⟦<Fields as Deserialize>⟧.shape (Prim.search tells depth 99) };
+    ghost known_by_tree = { told ⟦<Row<Fields> as Deserialize>⟧.shape (Prim.search tells depth 99) };
 
     ghost sound = { Prim.search rules depth 99 };
 
     fn deserialize<R: ReadExt>(deserializer: &mut Deserializer<R>) -> Result<PublicKey> {
-        de::deserialize_as(deserializer)
+        de::deserialize_record_as(deserializer)
     }
 }

@@ -4,7 +4,7 @@ ghost use Rattle.picky_der_de.specs.Telling.{told, tells};
 
 use picky_asn1_der::asn1::UtcTimeAsn1;
 use picky_asn1_der::misc::{ReadExt, WriteExt};
-use picky_asn1_der::{Alike, Deserialize, Deserializer, Result, Row, Serialize, Serializer, de};
+use picky_asn1_der::{Deserialize, Deserializer, Record, Result, Row, Serialize, Serializer, de};
 
 /// From when to when a certificate is good.
 #[derive(Debug, Drop, PartialEq, Eq)]
@@ -15,22 +15,22 @@ pub struct Validity {
     pub not_after: UtcTimeAsn1,
 }
 
-type Fields = Row<(UtcTimeAsn1, UtcTimeAsn1, ())>;
+type Fields = (UtcTimeAsn1, UtcTimeAsn1, ());
 
 impl Serialize for Validity {
-    ghost meaning = { λ it. ⟦<Fields as Serialize>⟧.meaning (⟦<Validity as Alike>⟧.parts it) };
+    ghost meaning = { λ it. ⟦<Row<Fields> as Serialize>⟧.meaning (record { 0 = ⟦<Validity as Record>⟧.parts it }) };
 
     fn serialize<W: WriteExt>(&self, serializer: &mut Serializer<W>) -> Result<usize> {
         (&self.not_before, &self.not_after).serialize(serializer)
     }
 }
 
-impl Alike for Validity {
-    type As = Fields;
+impl Record for Validity {
+    type Fields = Fields;
 
-    ghost parts = { λ it. record { 0 = (it.not_before, it.not_after, tt) } };
+    ghost parts = { λ it. (it.not_before, it.not_after, tt) };
 
-    fn from_parts(Row(fields): Fields) -> Validity {
+    fn from_parts(fields: Fields) -> Validity {
         let (not_before, not_after, ()) = fields;
         Validity {
             not_before,
@@ -40,13 +40,13 @@ impl Alike for Validity {
 }
 
 impl Deserialize for Validity {
-    ghost shape = { ⟦<Fields as Deserialize>⟧.shape };
+    ghost shape = { ⟦<Row<Fields> as Deserialize>⟧.shape };
 
-    ghost known_by_tree = { told ⟦<Fields as Deserialize>⟧.shape (Prim.search tells depth 99) };
+    ghost known_by_tree = { told ⟦<Row<Fields> as Deserialize>⟧.shape (Prim.search tells depth 99) };
 
     ghost sound = { Prim.search rules depth 99 };
 
     fn deserialize<R: ReadExt>(deserializer: &mut Deserializer<R>) -> Result<Validity> {
-        de::deserialize_as(deserializer)
+        de::deserialize_record_as(deserializer)
     }
 }
