@@ -1,10 +1,7 @@
 //! Types written by hand over the public calls alone, as a user of the crates writes them.
 #![tactic(auto)]
 
-mod algorithm_identifier;
-pub mod certificate;
 mod encrypted_data;
-mod extension;
 mod first_steps;
 mod general_name;
 mod gust;
@@ -24,12 +21,8 @@ mod stay;
 mod tagged;
 mod ticket;
 mod track;
-mod version;
 
-pub use algorithm_identifier::AlgorithmIdentifier;
-pub use certificate::Certificate;
 pub use encrypted_data::EncryptedData;
-pub use extension::Extension;
 pub use first_steps::{number, octets, small_number, text};
 pub use general_name::{GeneralName, Name};
 pub use gust::Gust;
@@ -49,4 +42,3 @@ pub use stay::Stay;
 pub use tagged::Tagged;
 pub use ticket::{Ticket, TicketBody};
 pub use track::Track;
-pub use version::Version;

@@ -5,7 +5,7 @@ ghost use Rattle.picky_der_core.specs.Tree.{ListKind, Tree};
 ghost use Rattle.picky_der_de.specs.Telling.{told, tells};
 ghost use Rattle.picky_asn1_der.specs.RawLaws.{raw_is_last};
 
-use crate::AlgorithmIdentifier;
+use der_x509::AlgorithmIdentifier;
 use picky_asn1_der::asn1::{ByteBuf, TaggedBytes};
 use picky_asn1_der::de::{DeserializeLayout, Struct, deserialize_struct_as};
 use picky_asn1_der::misc::{ReadExt, WriteExt};

@@ -5,11 +5,11 @@ use crate::kept::Kept;
 use crate::nested_tags::{FourTags, SixteenTags};
 use crate::seen::Seen;
 use der_examples::{
-    Certificate, EncryptedData, Extension, GeneralName, Gust, Host, Marker, Moment, Named,
-    NumberOrFlag, Place, Point, PrincipalName, PrivateKeyInfo, Report, RsaPublicKey, Setting, Stay,
-    Tagged, Ticket, Track, Version,
+    EncryptedData, GeneralName, Gust, Host, Marker, Moment, Named, NumberOrFlag, Place, Point,
+    PrincipalName, PrivateKeyInfo, Report, RsaPublicKey, Setting, Stay, Tagged, Ticket, Track,
 };
 use der_tool_lib::{AlgorithmIdentifier, SubjectPublicKeyInfo, TestStruct};
+use der_x509::{Extension, TbsCertificate, Version};
 use picky_asn1_der::asn1::{ExplicitContextTag0, ImplicitContextTag1};
 use std::alloc::{AllocError, Global};
 
@@ -32,10 +32,10 @@ pub(crate) fn answer(alloc: Global, name: &str, input: &Input) -> Result<String,
         "Stay" => read_as::<Stay>(alloc, input),
         "Gust" => read_as::<Gust>(alloc, input),
         "Report" => read_as::<Report>(alloc, input),
-        "Certificate" => read_as::<Certificate>(alloc, input),
+        "TbsCertificate" => read_as::<TbsCertificate>(alloc, input),
         "Extension" => read_as::<Extension>(alloc, input),
-        "der_examples::AlgorithmIdentifier" => {
-            read_as::<der_examples::AlgorithmIdentifier>(alloc, input)
+        "der_x509::AlgorithmIdentifier" => {
+            read_as::<der_x509::AlgorithmIdentifier>(alloc, input)
         }
         "PrivateKeyInfo" => read_as::<PrivateKeyInfo>(alloc, input),
         "RsaPublicKey" => read_as::<RsaPublicKey>(alloc, input),

@@ -1,7 +1,7 @@
 //! A member that is left out where it has its default, in extensions of real certificates.
 
-use der_examples::Extension;
 use der_fixtures::bytes_of;
+use der_x509::Extension;
 use picky_asn1_der::Asn1DerError::{InvalidData, TruncatedData};
 use picky_asn1_der::{Asn1DerError, Result as DerResult, from_bytes, to_vec};
 use std::alloc::Global;
