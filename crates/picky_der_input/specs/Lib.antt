@@ -4,6 +4,7 @@ pub mod Order
 pub mod Reading
 pub mod Headers
 pub mod Refusing
+pub mod TagNumbers
 pub mod LookAhead
 pub mod Elements
 pub mod Ends

@@ -1,11 +1,11 @@
 //! Application tags, as a deserializer reads them (X.690, 8.14).
-ghost use Rattle.std.specs.Prelude.{◌≡◌, ◌<◌, None, Err, IfOk, IfErr};
+ghost use Rattle.std.specs.Prelude.{◌<◌, IfOk, IfErr};
 ghost use Rattle.picky_der_core.specs.Tree.{Tree};
 ghost use Rattle.picky_der_core.specs.Shape.{Shape};
 ghost use Rattle.picky_der_input.specs.declared.enclosure.Enclosure.TheVariants as enclosure;
-ghost use Rattle.picky_der_input.specs.Steps.{failed_with};
 ghost use Rattle.picky_der_input.specs.Reading.{Reads, Refuses, AreNotRefused};
 ghost use Rattle.picky_der_input.specs.Enclosures.{opening_refusal, RefusesEnclosed};
+ghost use Rattle.picky_der_input.specs.TagNumbers.{RefusesNumber};
 
 use super::Deserializer;
 use crate::{Deserialize, Enclosure};
@@ -29,9 +29,7 @@ impl<R: ReadExt> Deserializer<R> {
             (opening_refusal (enclosure.Application number) self.old) self.old) }
         ensures refused { IfErr result (RefusesEnclosed T.meaning T.shape
             (enclosure.Application number) self.old self.new) }
-        ensures unsupported { 30 < number → self.old.failed ≡ None
-            → (result ≡ Err Asn1DerError.UnsupportedValue)
-            × (self.new ≡ failed_with self.old Asn1DerError.UnsupportedValue) }
+        ensures unsupported { 30 < number → RefusesNumber self.old result self.new }
     {
         self.read_enclosed(Enclosure::Application(number))
     }

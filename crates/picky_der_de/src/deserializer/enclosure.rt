@@ -1,7 +1,7 @@
 //! Values in wrappers and application tags.
-ghost use Rattle.std.specs.Prelude.{◌≡◌, None, Err, IfOk, IfErr};
-ghost use Rattle.picky_der_input.specs.Steps.{failed_with};
+ghost use Rattle.std.specs.Prelude.{IfOk, IfErr};
 ghost use Rattle.picky_der_input.specs.Enclosures.{HasNumber, ReadsEnclosed, RefusesEnclosed};
+ghost use Rattle.picky_der_input.specs.TagNumbers.{RefusesNumber};
 
 use super::Deserializer;
 use crate::{Deserialize, Enclosure};
@@ -14,9 +14,7 @@ impl<R: ReadExt> Deserializer<R> {
         ensures ok { IfOk result (λ value. ReadsEnclosed enclosure T.shape self.old self.new
             (T.meaning value)) }
         ensures err { IfErr result (RefusesEnclosed T.meaning T.shape enclosure self.old self.new) }
-        ensures unsupported { (HasNumber enclosure → ⊥) → self.old.failed ≡ None
-            → (result ≡ Err Asn1DerError.UnsupportedValue)
-            × (self.new ≡ failed_with self.old Asn1DerError.UnsupportedValue) }
+        ensures unsupported { (HasNumber enclosure → ⊥) → RefusesNumber self.old result self.new }
     {
         let outer = self.input.open_enclosure(enclosure)?;
         let value = T::deserialize(self)?;

@@ -1,13 +1,13 @@
 //! Contents that aren't looked at.
-ghost use Rattle.std.specs.Prelude.{◌≡◌, ◌<◌, None, Err, IfOk, IfErr};
+ghost use Rattle.std.specs.Prelude.{◌<◌, IfOk, IfErr};
 ghost use Rattle.std.specs.Borrow.{sem};
 ghost use Rattle.std.specs.Io.BufRead.{Rests};
 ghost use Rattle.picky_der_de.specs.contracts.deserializer.Deserializer.{the_row};
 ghost use Rattle.picky_der_input.specs.State.{State};
 ghost use Rattle.picky_der_de.specs.Lending.{LendsBytes};
 ghost use Rattle.picky_der_core.specs.Tag.{number_of};
-ghost use Rattle.picky_der_input.specs.Steps.{failed_with};
 ghost use Rattle.picky_der_input.specs.Reading.{ReadsBytes, RefusesBytes};
+ghost use Rattle.picky_der_input.specs.TagNumbers.{RefusesNumber};
 
 use super::Deserializer;
 use picky_der_core::asn1::Tag;
@@ -24,9 +24,7 @@ impl<R: ReadExt> Deserializer<R> {
     pub fn deserialize_tagged_bytes(&mut self, tag: Tag) -> Result<Vec<u8>>
         ensures ok { IfOk result (λ content. ReadsBytes tag self.old self.new content.items) }
         ensures err { IfErr result (RefusesBytes tag self.old self.new) }
-        ensures unsupported { 30 < number_of tag → self.old.failed ≡ None
-            → (result ≡ Err Asn1DerError.UnsupportedValue)
-            × (self.new ≡ failed_with self.old Asn1DerError.UnsupportedValue) }
+        ensures unsupported { 30 < number_of tag → RefusesNumber self.old result self.new }
     {
         self.input.read_tagged_bytes(tag)
     }

@@ -1,11 +1,11 @@
 //! Wrappers, as a deserializer reads them.
-ghost use Rattle.std.specs.Prelude.{◌≡◌, None, Some, Err, IfOk, IfErr};
+ghost use Rattle.std.specs.Prelude.{◌≡◌, Some, IfOk, IfErr};
 ghost use Rattle.picky_der_core.specs.Wrapper.{wrapper_of, wrap_if, HasTagNumberIfAny};
 ghost use Rattle.picky_der_core.specs.declared.asn1.wrapper.Wrapper.{Wrapper as WrapperOf};
 ghost use Rattle.picky_der_input.specs.declared.enclosure.Enclosure.TheVariants as enclosure;
-ghost use Rattle.picky_der_input.specs.Steps.{failed_with};
 ghost use Rattle.picky_der_input.specs.Reading.{Reads, Refuses, AreNotRefused};
 ghost use Rattle.picky_der_input.specs.Enclosures.{wrap_shape_if, opening_refusal, RefusesEnclosed};
+ghost use Rattle.picky_der_input.specs.TagNumbers.{RefusesNumber};
 
 use super::Deserializer;
 use crate::{Deserialize, Enclosure};
@@ -29,9 +29,8 @@ impl<R: ReadExt> Deserializer<R> {
             → AreNotRefused (opening_refusal (enclosure.Wrapper w) self.old) self.old) }
         ensures refused { IfErr result (λ e. (w : WrapperOf) → wrapper_of kind ≡ Some w
             → RefusesEnclosed T.meaning T.shape (enclosure.Wrapper w) self.old self.new e) }
-        ensures unsupported { (HasTagNumberIfAny (wrapper_of kind) → ⊥) → self.old.failed ≡ None
-            → (result ≡ Err Asn1DerError.UnsupportedValue)
-            × (self.new ≡ failed_with self.old Asn1DerError.UnsupportedValue) }
+        ensures unsupported { (HasTagNumberIfAny (wrapper_of kind) → ⊥)
+            → RefusesNumber self.old result self.new }
     {
         match kind.wrapper() {
             Some(wrapper) => self.read_enclosed(Enclosure::Wrapper(wrapper)),

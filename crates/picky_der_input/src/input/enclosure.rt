@@ -1,7 +1,8 @@
 //! Wrappers and application tags, opened.
-ghost use Rattle.std.specs.Prelude.{◌≡◌, ◌≤◌, ◌∷◌, [], None, Err, IfNone, IfSome, IfOk, IfErr, OnOk};
-ghost use Rattle.picky_der_input.specs.Steps.{Takes, failed_with};
+ghost use Rattle.std.specs.Prelude.{◌≡◌, ◌≤◌, ◌∷◌, [], None, IfNone, IfSome, IfOk, IfErr, OnOk};
+ghost use Rattle.picky_der_input.specs.Steps.{Takes};
 ghost use Rattle.picky_der_input.specs.Enclosures.{enclosure_tag, HasNumber, counts_unused_bits, implicit_number, BeginsEnclosure, OpensEnclosure, RefusesOpening, RefusesUnusedBits};
+ghost use Rattle.picky_der_input.specs.TagNumbers.{RefusesNumber};
 
 use super::{Input, Outer};
 use crate::{Enclosure, End};
@@ -67,9 +68,7 @@ impl<R: ReadExt> Input<R> {
         ensures ok { IfOk result (BeginsEnclosure enclosure self.old self.new) }
         ensures bounded { IfOk result (λ outer. outer.place ≤ self.new.limit) }
         ensures err { IfErr result (RefusesOpening enclosure self.old self.new) }
-        ensures unsupported { (HasNumber enclosure → ⊥) → self.old.failed ≡ None
-            → (result ≡ Err Asn1DerError.UnsupportedValue)
-            × (self.new ≡ failed_with self.old Asn1DerError.UnsupportedValue) }
+        ensures unsupported { (HasNumber enclosure → ⊥) → RefusesNumber self.old result self.new }
     {
         if let Some(error) = self.earlier() {
             return Err(error);
@@ -98,9 +97,7 @@ impl<R: ReadExt> Input<R> {
         ensures ok { IfOk result (OpensEnclosure enclosure self.old self.new) }
         ensures bounded { IfOk result (λ outer. outer.place ≤ self.new.limit) }
         ensures err { IfErr result (RefusesOpening enclosure self.old self.new) }
-        ensures unsupported { (HasNumber enclosure → ⊥) → self.old.failed ≡ None
-            → (result ≡ Err Asn1DerError.UnsupportedValue)
-            × (self.new ≡ failed_with self.old Asn1DerError.UnsupportedValue) }
+        ensures unsupported { (HasNumber enclosure → ⊥) → RefusesNumber self.old result self.new }
     {
         let outer = self.begin_enclosure(enclosure)?;
         if has_unused_bits(enclosure) {
