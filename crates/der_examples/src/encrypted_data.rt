@@ -58,7 +58,7 @@ impl Struct for EncryptedData {
 impl Deserialize for EncryptedData {
     ghost shape = { Shape.struct_of ListKind.sequence ⟦<Members as DeserializeLayout>⟧.layout };
 
-    ghost known_by_tree = { told (Shape.struct_of ListKind.sequence ⟦<Members as DeserializeLayout>⟧.layout) (Prim.search (rules, tells) depth 99) };
+    ghost injective = { told (Shape.struct_of ListKind.sequence ⟦<Members as DeserializeLayout>⟧.layout) (Prim.search (rules, tells) depth 99) };
 
     ghost sound = { Prim.search rules depth 99 };
 

@@ -39,7 +39,7 @@ impl<T: Deserialize> Record for Named<T> {
 impl<T: Deserialize> Deserialize for Named<T> {
     ghost shape = { ⟦<Row<Fields<T>> as Deserialize>⟧.shape };
 
-    ghost known_by_tree = { told ⟦<Row<Fields<T>> as Deserialize>⟧.shape (Prim.search (tells, by_law T.shape T.known_by_tree) depth 99) };
+    ghost injective = { told ⟦<Row<Fields<T>> as Deserialize>⟧.shape (Prim.search (tells, by_law T.shape T.injective) depth 99) };
 
     ghost sound = { Prim.search (rules, T.sound) depth 99 };
 

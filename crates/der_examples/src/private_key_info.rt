@@ -69,7 +69,7 @@ impl Struct for PrivateKeyInfo {
 impl Deserialize for PrivateKeyInfo {
     ghost shape = { Shape.struct_of ListKind.sequence ⟦<Members as DeserializeLayout>⟧.layout };
 
-    ghost known_by_tree = { told (Shape.struct_of ListKind.sequence ⟦<Members as DeserializeLayout>⟧.layout) (Prim.search (rules, tells, raw_is_last) depth 99) };
+    ghost injective = { told (Shape.struct_of ListKind.sequence ⟦<Members as DeserializeLayout>⟧.layout) (Prim.search (rules, tells, raw_is_last) depth 99) };
 
     ghost sound = { Prim.search (rules, raw_is_last) depth 99 };
 

@@ -42,7 +42,7 @@ impl Record for RsaPublicKey {
 impl Deserialize for RsaPublicKey {
     ghost shape = { ⟦<Row<Fields> as Deserialize>⟧.shape };
 
-    ghost known_by_tree = { told ⟦<Row<Fields> as Deserialize>⟧.shape (Prim.search tells depth 99) };
+    ghost injective = { told ⟦<Row<Fields> as Deserialize>⟧.shape (Prim.search tells depth 99) };
 
     ghost sound = { Prim.search rules depth 99 };
 

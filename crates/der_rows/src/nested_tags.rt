@@ -45,7 +45,7 @@ impl Alike for LastEight {
 impl Deserialize for LastEight {
     ghost shape = { ⟦<Eight as Deserialize>⟧.shape };
 
-    ghost known_by_tree = { told ⟦<Eight as Deserialize>⟧.shape (Prim.search tells depth 99) };
+    ghost injective = { told ⟦<Eight as Deserialize>⟧.shape (Prim.search tells depth 99) };
 
     ghost sound = { tt };
 

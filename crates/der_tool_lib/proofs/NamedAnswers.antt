@@ -34,7 +34,7 @@ answers_read {type} {old} {new} {bytes} {answer} {digits} {taken} {t} v is r sam
     let u = (described type).meaning v in
     let h = subst (λ o. ReadsNamed type o new v) is r in
     let front = known_front new.input bytes (der u) h.takes.input in
-    let stands : StandsAt Place.whole (described type).shape bytes (length bytes) u = record { of_shape = h.of_shape; readable = h.readable; may_stand = tt; within = omega (arith, h.takes.room); front = front } in
+    let stands : StandsAt Place.whole (described type).shape bytes (length bytes) u = record { of_shape = h.of_shape; readable = h.readable; may_stand = tt; within = omega (arith, h.takes.until_end); front = front } in
     let size : taken ≡ length (der u) = n ∙ omega (arith, h.takes.taken) in
     let text : digits ≡ encode_lower (der u) = d ∙ ap (λ x. encode_lower (der x)) (sym same) in
     read v stands (a ∙ ap (λ m. codes "ok " ++ (decimal m ++ (codes " " ++ digits))) size ∙ ap (λ x. codes "ok " ++ (decimal (length (der u)) ++ (codes " " ++ x))) text)

@@ -6,7 +6,7 @@ use Rattle.picky_der_core.specs.Element.{tlv}
 use Rattle.picky_der_core.specs.ElementLaws.{tlv-same}
 use Rattle.picky_der_core.specs.Tree.{ListKind, Tree, trees}
 use Rattle.picky_der_ser.specs.Meaning.{list_meaning}
-use Rattle.picky_der_de.specs.KnownLaws.{both, raw_known, bytes_known, row_members, first_member, other_members}
+use Rattle.picky_der_de.specs.InjectiveLaws.{both, raw_known, bytes_known, row_members, first_member, other_members}
 use Rattle.picky_asn1_der.specs.declared.raw_der.Asn1RawDer.{Asn1RawDer}
 use Rattle.picky_asn1_der.specs.contracts.raw_der.Asn1RawDerPartialEq.TheImpl as compared_raw
 use Rattle.der_tool_lib.specs.declared.algorithm_identifier.AlgorithmIdentifier.{AlgorithmIdentifier}

@@ -33,7 +33,7 @@ impl Serialize for AlgorithmIdentifier {
 impl Deserialize for AlgorithmIdentifier {
     ghost shape = { Shape.list_of ListKind.sequence Shape.raw };
 
-    ghost known_by_tree = { λ x y p q r e. algorithm_known x y e };
+    ghost injective = { λ x y p q r e. algorithm_known x y e };
 
     ghost sound = { tt };
 

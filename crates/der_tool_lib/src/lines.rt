@@ -37,14 +37,14 @@ pub fn run<R: ReadExt, W: WriteExt>(alloc: Global, input: &mut R, output: &mut W
     ensures text { OnOk result (WritesText (R.remaining input.old) (W.told output.old)
         (W.told output.new)) }
     ensures at_end { OnOk result (IsAtEnd (R.remaining input.new)) }
-    ensures stops { IfErr result (Stops W.WriteExt.own (R.remaining input.old) (R.remaining input.new)
-        (R.faults input.old) (R.faults input.new) output.old output.new) }
+    ensures stops { IfErr result (Stops W.WriteExt.own (R.remaining input.old)
+        (R.remaining input.new) (R.faults input.old) (R.faults input.new) output.old output.new) }
     ensures reads { IfErr result (TellsFault (R.faults input.old) (R.faults input.new)
         (R.remaining input.new)) }
     ensures writes_counted { IsOnceAtMost (W.faults output.old) (W.faults output.new) }
     ensures no_read_fault { OnOk result (R.faults input.new ≡ R.faults input.old) }
     ensures no_write_fault { OnOk result (W.faults output.new ≡ W.faults output.old) }
-    ensures same_references { R.through input.new ≡ R.through input.old }
+    ensures same_references { R.references input.new ≡ R.references input.old }
     ensures goes_on { W.later output.old output.new }
 {
     let mut line = Vec::new(alloc);

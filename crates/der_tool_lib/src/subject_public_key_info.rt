@@ -1,7 +1,7 @@
 //! Public keys, as certificates hold them.
 ghost use Rattle.std.proofs.Common.{rules};
 ghost use Rattle.picky_der_de.specs.Telling.{by_law, told, tells};
-ghost use Rattle.der_tool_lib.specs.contracts.algorithm_identifier.AlgorithmIdentifierDeserialize.TheImpl.Laws.{known_by_tree-law};
+ghost use Rattle.der_tool_lib.specs.contracts.algorithm_identifier.AlgorithmIdentifierDeserialize.TheImpl.Laws.{injective-law};
 
 use crate::AlgorithmIdentifier;
 use picky_asn1_der::asn1::BitStringAsn1;
@@ -46,7 +46,7 @@ impl Record for SubjectPublicKeyInfo {
 impl Deserialize for SubjectPublicKeyInfo {
     ghost shape = { ⟦<Row<Fields> as Deserialize>⟧.shape };
 
-    ghost known_by_tree = { told ⟦<Row<Fields> as Deserialize>⟧.shape (Prim.search (tells, by_law ⟦<AlgorithmIdentifier as Deserialize>⟧.shape known_by_tree-law) depth 99) };
+    ghost injective = { told ⟦<Row<Fields> as Deserialize>⟧.shape (Prim.search (tells, by_law ⟦<AlgorithmIdentifier as Deserialize>⟧.shape injective-law) depth 99) };
 
     ghost sound = { Prim.search rules depth 99 };
 

@@ -51,7 +51,7 @@ impl Struct for AlgorithmIdentifier {
 impl Deserialize for AlgorithmIdentifier {
     ghost shape = { Shape.struct_of ListKind.sequence ⟦<Members as DeserializeLayout>⟧.layout };
 
-    ghost known_by_tree = { told (Shape.struct_of ListKind.sequence ⟦<Members as DeserializeLayout>⟧.layout) (Prim.search (rules, tells, raw_is_last) depth 99) };
+    ghost injective = { told (Shape.struct_of ListKind.sequence ⟦<Members as DeserializeLayout>⟧.layout) (Prim.search (rules, tells, raw_is_last) depth 99) };
 
     ghost sound = { Prim.search (rules, raw_is_last) depth 99 };
 

@@ -4,7 +4,7 @@ ghost use Rattle.picky_der_de.specs.Entry.{IsFront, HasNoFront};
 ghost use Rattle.std.proofs.Common.{rules};
 ghost use Rattle.picky_asn1_der.specs.RawLaws.{raw_is_last};
 ghost use Rattle.picky_der_de.specs.Telling.{by_law, told, tells};
-ghost use Rattle.der_x509.specs.contracts.algorithm_identifier.AlgorithmIdentifierDeserialize.TheImpl.Laws.{known_by_tree-law};
+ghost use Rattle.der_x509.specs.contracts.algorithm_identifier.AlgorithmIdentifierDeserialize.TheImpl.Laws.{injective-law};
 
 use crate::{AlgorithmIdentifier, TbsCertificate};
 use picky_asn1_der::asn1::BitStringAsn1;
@@ -30,8 +30,12 @@ impl Certificate {
     /// What is signed, member by member. It is refused as `from_bytes` refuses its bytes, of which those behind the value are
     /// left alone: a certificate that was read has none.
     pub fn read_tbs_certificate(&self, alloc: Global) -> Result<TbsCertificate>
-        ensures ok { IfOk result (IsFront ⟦<TbsCertificate as Serialize>⟧.meaning ⟦<TbsCertificate as Deserialize>⟧.shape ⟦<TbsCertificate as PartialEq>⟧.eq self.now.tbs_certificate.0.items (length self.now.tbs_certificate.0.items)) }
-        ensures err { IfErr result (HasNoFront ⟦<TbsCertificate as Serialize>⟧.meaning ⟦<TbsCertificate as Deserialize>⟧.shape self.now.tbs_certificate.0.items (length self.now.tbs_certificate.0.items)) }
+        ensures ok { IfOk result (IsFront ⟦<TbsCertificate as Serialize>⟧.meaning
+            ⟦<TbsCertificate as Deserialize>⟧.shape ⟦<TbsCertificate as PartialEq>⟧.eq
+            self.now.tbs_certificate.0.items (length self.now.tbs_certificate.0.items)) }
+        ensures err { IfErr result (HasNoFront ⟦<TbsCertificate as Serialize>⟧.meaning
+            ⟦<TbsCertificate as Deserialize>⟧.shape self.now.tbs_certificate.0.items
+            (length self.now.tbs_certificate.0.items)) }
     {
         from_bytes(alloc, &self.tbs_certificate.0)
     }
@@ -70,7 +74,7 @@ impl Record for Certificate {
 impl Deserialize for Certificate {
     ghost shape = { ⟦<Row<Fields> as Deserialize>⟧.shape };
 
-    ghost known_by_tree = { told ⟦<Row<Fields> as Deserialize>⟧.shape (Prim.search (tells, by_law ⟦<AlgorithmIdentifier as Deserialize>⟧.shape known_by_tree-law) depth 99) };
+    ghost injective = { told ⟦<Row<Fields> as Deserialize>⟧.shape (Prim.search (tells, by_law ⟦<AlgorithmIdentifier as Deserialize>⟧.shape injective-law) depth 99) };
 
     ghost sound = { Prim.search (rules, raw_is_last) depth 99 };
 

@@ -5,12 +5,12 @@ ghost use Rattle.picky_der_core.specs.Tree.{ListKind, Tree, Trees};
 ghost use Rattle.picky_der_de.specs.LayoutLaws.{maybe_begun};
 ghost use Rattle.picky_der_de.specs.Telling.{by_law, told, tells_struct, tells_list, tells_explicit, tells_implicit, tells_bytes, tell_default, tell_required, tell_maybe, tell_last_maybe};
 ghost use Rattle.picky_asn1_der.specs.RawLaws.{raw_is_last};
-ghost use Rattle.der_x509.specs.contracts.algorithm_identifier.AlgorithmIdentifierDeserialize.TheImpl.Laws.{known_by_tree-law as algorithm_known};
-ghost use Rattle.der_x509.specs.contracts.attribute.AttributeDeserialize.TheImpl.Laws.{known_by_tree-law as attribute_known};
-ghost use Rattle.der_x509.specs.contracts.extension.ExtensionDeserialize.TheImpl.Laws.{known_by_tree-law as extension_known};
-ghost use Rattle.der_x509.specs.contracts.subject_public_key_info.SubjectPublicKeyInfoDeserialize.TheImpl.Laws.{known_by_tree-law as key_known};
-ghost use Rattle.der_x509.specs.contracts.validity.ValidityDeserialize.TheImpl.Laws.{known_by_tree-law as validity_known};
-ghost use Rattle.der_x509.specs.contracts.version.VersionDeserialize.TheImpl.Laws.{known_by_tree-law as version_known};
+ghost use Rattle.der_x509.specs.contracts.algorithm_identifier.AlgorithmIdentifierDeserialize.TheImpl.Laws.{injective-law as algorithm_known};
+ghost use Rattle.der_x509.specs.contracts.attribute.AttributeDeserialize.TheImpl.Laws.{injective-law as attribute_known};
+ghost use Rattle.der_x509.specs.contracts.extension.ExtensionDeserialize.TheImpl.Laws.{injective-law as extension_known};
+ghost use Rattle.der_x509.specs.contracts.subject_public_key_info.SubjectPublicKeyInfoDeserialize.TheImpl.Laws.{injective-law as key_known};
+ghost use Rattle.der_x509.specs.contracts.validity.ValidityDeserialize.TheImpl.Laws.{injective-law as validity_known};
+ghost use Rattle.der_x509.specs.contracts.version.VersionDeserialize.TheImpl.Laws.{injective-law as version_known};
 ghost use Rattle.der_x509.specs.contracts.version.V1DefaultOfVersion.TheImpl.Laws.{one-law};
 
 use crate::{
@@ -128,7 +128,7 @@ impl Struct for TbsCertificate {
 impl Deserialize for TbsCertificate {
     ghost shape = { Shape.struct_of ListKind.sequence ⟦<Members as DeserializeLayout>⟧.layout };
 
-    ghost known_by_tree = { let begun_by_extensions = maybe_begun ⟦<ExplicitContextTag3<Extensions> as Serialize>⟧.meaning ⟦<ExplicitContextTag3<Extensions> as Deserialize>⟧.shape Layout.empty (λ v b h. h) in
+    ghost injective = { let begun_by_extensions = maybe_begun ⟦<ExplicitContextTag3<Extensions> as Serialize>⟧.meaning ⟦<ExplicitContextTag3<Extensions> as Deserialize>⟧.shape Layout.empty (λ v b h. h) in
         let begun_by_subject = maybe_begun ⟦<ImplicitContextTag2<BitStringAsn1> as Serialize>⟧.meaning ⟦<ImplicitContextTag2<BitStringAsn1> as Deserialize>⟧.shape (Layout.maybe ⟦<ExplicitContextTag3<Extensions> as Deserialize>⟧.shape Layout.empty) (λ v b h. h) in
         let told_attributes = tells_list ⟦<Attribute as Serialize>⟧.meaning ⟦<Attribute as Deserialize>⟧.shape ⟦<Attribute as PartialEq>⟧.eq (by_law ⟦<Attribute as Deserialize>⟧.shape attribute_known) ListKind.set in
         let told_names = tells_list ⟦<RelativeName as Serialize>⟧.meaning ⟦<RelativeName as Deserialize>⟧.shape ⟦<RelativeName as PartialEq>⟧.eq (λ v w. told_attributes v.0.items w.0.items) ListKind.sequence in

@@ -51,7 +51,7 @@ impl Serialize for Version {
 impl Deserialize for Version {
     ghost shape = { ⟦<u8 as Deserialize>⟧.shape };
 
-    ghost known_by_tree = { Prim.search rules };
+    ghost injective = { Prim.search rules };
 
     ghost sound = { Prim.search rules };
 

@@ -14,7 +14,7 @@ use Rattle.picky_der_core.specs.Shape.{Shape, IsSound}
 use Rattle.picky_der_de.specs.State.{State, fresh}
 use Rattle.picky_der_de.specs.Steps.{IsWithin}
 use Rattle.picky_der_de.specs.Reading.{Reads, Refuses}
-use Rattle.picky_der_de.specs.KnownLaws.{IsKnownByTree}
+use Rattle.picky_der_de.specs.InjectiveLaws.{IsInjective}
 use Rattle.picky_der_de.specs.Entry.{Reader, IsFront, HasNoFront}
 use Rattle.picky_der_de.proofs.EntryReads.{reads_front, refuses_front, slice_refused}
 
@@ -24,7 +24,7 @@ abbrev whole : List ℕ → Reader
 whole bytes = record { input = Some bytes; faults = [] }
 
 module _ {V : Type 0} (meaning : V → Tree) (s : Shape) {old new : State} {bytes : List ℕ} (left : Option (List ℕ)) (after : List Fault) (is : old ≡ fresh (Some bytes) (length bytes) [] []) (input : new.input ≡ in_front new.peeked left) (faults : after ≡ new.faults) where
-  pub front_read : (eq : V → V → Bool) → IsSound s → IsKnownByTree meaning s eq → (v : V) → Reads s old new (meaning v) → IsFront meaning s eq bytes (length bytes) v
+  pub front_read : (eq : V → V → Bool) → IsSound s → IsInjective meaning s eq → (v : V) → Reads s old new (meaning v) → IsFront meaning s eq bytes (length bytes) v
   front_read eq sound known v r = (reads_front meaning s (whole bytes) (record { input = left; faults = after }) is input faults eq sound known v r).front bytes refl
 
   pub front_refused : {e : Asn1DerError} → after ≡ [] → Refuses meaning s old new e → HasNoFront meaning s bytes (length bytes) e

@@ -52,7 +52,7 @@ impl<V: Serialize + Debug + PartialEq, const T: u8> Serialize for ApplicationTag
 impl<V: Deserialize + Debug, const T: u8> Deserialize for ApplicationTag<V, T> {
     ghost shape = { Shape.application T V.shape };
 
-    ghost known_by_tree = { λ x y. enclosed_known (enclosure.Application T) V.meaning V.shape V.eq V.known_by_tree x.0 y.0 };
+    ghost injective = { λ x y. enclosed_known (enclosure.Application T) V.meaning V.shape V.eq V.injective x.0 y.0 };
 
     ghost sound = { V.sound };
 

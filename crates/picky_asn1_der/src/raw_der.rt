@@ -6,7 +6,7 @@ ghost use Rattle.std.specs.Hash as fed;
 ghost use Rattle.picky_der_core.specs.Equality.{IsEqualityOf, IsThatOf};
 ghost use Rattle.picky_der_core.specs.Tree.{Tree};
 ghost use Rattle.picky_der_core.specs.Shape.{Shape};
-ghost use Rattle.picky_der_de.specs.KnownLaws.{raw_known};
+ghost use Rattle.picky_der_de.specs.InjectiveLaws.{raw_known};
 
 use picky_der_core::asn1::Tag;
 use picky_der_core::misc::{ReadExt, WriteExt};
@@ -74,7 +74,7 @@ impl Serialize for Asn1RawDer {
 impl Deserialize for Asn1RawDer {
     ghost shape = { Shape.raw };
 
-    ghost known_by_tree = { λ x y s t r e. raw_known x.0.items y.0.items e };
+    ghost injective = { λ x y s t r e. raw_known x.0.items y.0.items e };
 
     ghost sound = { tt };
 

@@ -46,16 +46,16 @@ pub record ReadsFirst {V : Type 0} (meaning : V → Tree) (s : Shape) (old new :
   pub readable : AreReadable (trees (map meaning vs))
   pub leads : LeadOn meaning old new vs
   pub takes : Takes (unordered old) (unordered new) (bytes_of (trees (map meaning vs)))
-  pub direct : new.direct ≡ None
+  pub implicit_tag : new.implicit_tag ≡ None
   pub refuses : (n : ℕ) (d : State) (e : Asn1DerError) → RefusesTimes meaning n s new d e → RefusesTimes meaning (length vs + n) s old d e
 
-pub first_none : {V : Type 0} (meaning : V → Tree) (s : Shape) (a : State) → a.failed ≡ None → a.peeked ≡ None → a.direct ≡ None → ReadsFirst meaning s a a []
+pub first_none : {V : Type 0} (meaning : V → Tree) (s : Shape) (a : State) → a.failed ≡ None → a.peeked ≡ None → a.implicit_tag ≡ None → ReadsFirst meaning s a a []
 first_none meaning s a h p d = record {
   of_shape = tt;
   readable = tt;
   leads = leads-none meaning a;
   takes = subst (Takes (unordered a) (unordered a)) (sym bytes_of-none) (takes_none (unordered a) h p);
-  direct = d;
+  implicit_tag = d;
   refuses = λ n d e r. subst (λ m. RefusesTimes meaning m s a d e) (omega arith) r;
 }
 
@@ -65,7 +65,7 @@ first_more meaning s {a} {b} {c} vs v h r = record {
   readable = readable-push meaning vs v h.readable r.reads.readable;
   leads = leads-push meaning a vs v h.leads r;
   takes = subst (Takes (unordered a) (unordered c)) (sym (bytes_of-push meaning vs v)) (takes_then h.takes (takes_member r));
-  direct = member_direct r;
+  implicit_tag = member_direct r;
   refuses = λ n d e w. subst (λ m. RefusesTimes meaning m s a d e) (omega (arith, length-append vs (v ∷ []))) (h.refuses (suc n) d e (times_next n r w));
 }
 
@@ -79,7 +79,7 @@ first_all meaning s {a} {b} n vs same h = record {
   readable = h.readable;
   order = leads-all meaning a b vs h.leads;
   takes = h.takes;
-  direct = h.direct;
+  implicit_tag = h.implicit_tag;
 }
 
 -- the next member was refused

@@ -41,7 +41,7 @@ stands_begun {ss} {bs} {left} {end} {x} {u} fs f st e =
 nothing_stands : {s : Shape} {a c : State} {e : Asn1DerError} {end : ℕ} {bs : List ℕ} (u : Tree) → HidesChoice a e → Concerns a c e end bs → StandsAt (place_of a) s bs end (Tree.choice u) → ⊥
 nothing_stands u (no_byte d m) w st = nothing_whole d m w st
 nothing_stands {s} {a} {c} {e} {end} {bs} u (implicit number d is) w st =
-    let place : place_of a ≡ Place.under_implicit a.room = ap (λ z. place_in z a.room) d in
+    let place : place_of a ≡ Place.under_implicit a.until_end = ap (λ z. place_in z a.until_end) d in
     let may = subst (λ z. MayStand z (Tree.choice u)) place st.may_stand in
     may.no_choice
 
@@ -52,7 +52,7 @@ refuses_hidden {V} {m} {s} {a} {c} {e} h = record {
   none = λ j end bs w v st. nothing_stands (m v) (h.hidden j) w st;
   first = λ j k d l b left q. foreign (h.hidden j) d l q;
 } where
-  foreign : {P : Type 0} → HidesChoice a e → a.direct ≡ None → 0 < a.room → {b : ℕ} {left : List ℕ} → a.input ≡ Some (b ∷ left) → P
+  foreign : {P : Type 0} → HidesChoice a e → a.implicit_tag ≡ None → 0 < a.until_end → {b : ℕ} {left : List ℕ} → a.input ≡ Some (b ∷ left) → P
   foreign (no_byte whole m) d l q = absurd (missing_first a m l q)
   foreign (implicit number i is) d l q = absurd (let z : Some number ≡ None = sym i ∙ d in cc)
 
@@ -62,13 +62,13 @@ pub reads_this : {s : Shape} {ss : Shapes} {x : ℕ} {b c : State} {t : Tree} �
 reads_this {b = b} {c = c} {t = t} h a p = record {
   of_shape = inl h.of_shape;
   readable = h.readable;
-  may_stand = subst (λ z. MayStand z (Tree.choice t)) (sym (is_whole a p.direct)) tt;
-  takes = subst (λ z. Takes a c (written_at z (Tree.choice t))) (sym (is_whole a p.direct)) (subst (Takes a c) (ap (λ z. written_at z t) (is_whole b (not_direct p)) ∙ sym (der-choice t)) (peeks_takes p h.takes));
-  direct = h.direct;
+  may_stand = subst (λ z. MayStand z (Tree.choice t)) (sym (is_whole a p.implicit_tag)) tt;
+  takes = subst (λ z. Takes a c (written_at z (Tree.choice t))) (sym (is_whole a p.implicit_tag)) (subst (Takes a c) (ap (λ z. written_at z t) (is_whole b (not_direct p)) ∙ sym (der-choice t)) (peeks_takes p h.takes));
+  implicit_tag = h.implicit_tag;
 }
 
 pub reads_other : {s : Shape} {ss : Shapes} {x : ℕ} {b c : State} {t : Tree} → ReadsBehind ss x b c t → ReadsBehind (Shapes.more s ss) x b c t
-reads_other h a p = let r = h a p in record { of_shape = inr r.of_shape; readable = r.readable; may_stand = r.may_stand; takes = r.takes; direct = r.direct }
+reads_other h a p = let r = h a p in record { of_shape = inr r.of_shape; readable = r.readable; may_stand = r.may_stand; takes = r.takes; implicit_tag = r.implicit_tag }
 
 module _ {A B : Type 0} {m : A → Tree} {n : B → Tree} {s : Shape} {ss : Shapes} {x : ℕ} {b c : State} {e : Asn1DerError} (this : (v : A) → IsBegunBy (firsts s) (m v)) (other : (v : B) → IsBegunBy (firsts_of ss) (n v)) where
   -- this alternative was chosen, and refused
@@ -77,7 +77,7 @@ module _ {A B : Type 0} {m : A → Tree} {n : B → Tree} {s : Shape} {ss : Shap
     fails = h.fails;
     refuses = λ told a p. record {
       fails = peeks_fails p h.fails;
-      none = λ j end bs k v st. none told p (peeks_judged p j) (peeks_concerns p k) (peeks_front p h.fails k).1 v (subst (λ z. StandsAt z (Shape.choice (Shapes.more s ss)) bs end (Tree.choice (chosen_of m n v))) (is_whole a p.direct) st);
+      none = λ j end bs k v st. none told p (peeks_judged p j) (peeks_concerns p k) (peeks_front p h.fails k).1 v (subst (λ z. StandsAt z (Shape.choice (Shapes.more s ss)) bs end (Tree.choice (chosen_of m n v))) (is_whole a p.implicit_tag) st);
       first = λ j k d l y left i. subst (IsFirst (Shape.choice (Shapes.more s ss))) (sym (peeked_first p y left i)) (has-append_left x (firsts s) (firsts_of ss) g);
     };
   } where
@@ -93,7 +93,7 @@ module _ {A B : Type 0} {m : A → Tree} {n : B → Tree} {s : Shape} {ss : Shap
     fails = h.fails;
     refuses = λ told a p. let r = h.refuses told.1 a p in record {
       fails = r.fails;
-      none = λ j end bs k v st. none told p r j k (peeks_front p h.fails k).1 v (subst (λ z. StandsAt z (Shape.choice (Shapes.more s ss)) bs end (Tree.choice (chosen_of m n v))) (is_whole a p.direct) st);
+      none = λ j end bs k v st. none told p r j k (peeks_front p h.fails k).1 v (subst (λ z. StandsAt z (Shape.choice (Shapes.more s ss)) bs end (Tree.choice (chosen_of m n v))) (is_whole a p.implicit_tag) st);
       first = λ j k d l y left i. has-append_right y (firsts s) (firsts_of ss) (r.first j k d l y left i);
     };
   } where
@@ -102,7 +102,7 @@ module _ {A B : Type 0} {m : A → Tree} {n : B → Tree} {s : Shape} {ss : Shap
     none told p r j k f (This v) st = g (stands_begun (firsts s) (this v) st f)
     none {a} told p r j {end} {bs} k f (Other v) st =
         let own : StandsAt Place.whole (Shape.choice ss) bs end (Tree.choice (n v)) = record { of_shape = of_other m n s ss this other told.0 v st.readable st.of_shape; readable = st.readable; may_stand = tt; within = st.within; front = st.front } in
-        r.none j end bs k v (subst (λ z. StandsAt z (Shape.choice ss) bs end (Tree.choice (n v))) (sym (is_whole a p.direct)) own)
+        r.none j end bs k v (subst (λ z. StandsAt z (Shape.choice ss) bs end (Tree.choice (n v))) (sym (is_whole a p.implicit_tag)) own)
 
 -- ---- of a type that means the choice
 

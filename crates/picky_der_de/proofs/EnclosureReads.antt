@@ -30,7 +30,7 @@ restored_takes : {b c : State} {x : List ℕ} (outer : Outer) → c.taken ≤ ou
 restored_takes outer l t = record {
   input = t.input;
   taken = t.taken;
-  room = omega (arith, t.taken, l);
+  until_end = omega (arith, t.taken, l);
   end = refl;
   limit = t.limit;
   sets = ap (λ (s : OpenSets). cut_at outer.last s.around) t.sets;
@@ -39,10 +39,10 @@ restored_takes outer l t = record {
   had_not_failed = t.had_not_failed;
   not_failed = t.not_failed;
   faults = t.faults;
-  through = t.through;
+  references = t.references;
 }
 
-restored_fails : {b c : State} {e : Asn1DerError} (outer : Outer) → b.taken + b.room ≤ outer.place → Fails b c e → Fails (restored outer b) c e
+restored_fails : {b c : State} {e : Asn1DerError} (outer : Outer) → b.taken + b.until_end ≤ outer.place → Fails b c e → Fails (restored outer b) c e
 restored_fails {b} {c} {e} outer l f = record {
   failed = f.failed;
   again = λ k w. let q = f.again k w in (q.0, record { input = q.1.input; taken = q.1.taken; peeked = q.1.peeked; faults = q.1.faults });
@@ -55,7 +55,7 @@ restored_fails {b} {c} {e} outer l f = record {
   limit = f.limit;
   within = λ w. f.within (record { end = omega (arith, w.end, l); drawn = w.drawn });
   there = f.there;
-  through = f.through;
+  references = f.references;
 }
 
 restored_judged : {b c : State} {e : Asn1DerError} (outer : Outer) → IsJudged (restored outer b) c e → IsJudged b c e
@@ -72,59 +72,59 @@ opened_judged {outer = outer} o j = restored_judged outer (judged_after o.takes 
 -- bytes of which a refusal speaks begin with what is written of the tree, which fills what is left before the enclosure's end
 record Holds (w : Enclosure) (b c : State) (e : Asn1DerError) (s : Shape) (u : Tree) : Type 0 where
   pub seen : List ℕ
-  pub concerns : Concerns b c e b.room seen
-  pub stands : StandsAt (place_of b) s seen b.room u
-  pub fills : length (written_at (place_of b) u) ≡ b.room
+  pub concerns : Concerns b c e b.until_end seen
+  pub stands : StandsAt (place_of b) s seen b.until_end u
+  pub fills : length (written_at (place_of b) u) ≡ b.until_end
 
 holds : {w : Enclosure} {a b c : State} {outer : Outer} {e : Asn1DerError} {end : ℕ} {bs : List ℕ} (s : Shape) (u : Tree) → OpensEnclosure w a b outer → Fails b c e → Concerns a c e end bs → StandsAt (place_of a) (enclose_shape w s) bs end (enclose w u) → Holds w b c e s u
 holds {w} {a} {b} {c} {outer} {e} {end} {bs} s u o f k st =
     let readable = readable_held w u st.readable in
     let unused = unused_bits w in
-    let part = written_at (place_in (implicit_number w) b.room) u in
+    let part = written_at (place_in (implicit_number w) b.until_end) u in
     let v = behind o.takes (failed_grows f) k in
     let header = enclosure_tag w ∷ len o.size in
-    let whole : written_at (place_of a) (enclose w u) ≡ tlv (enclosure_tag w) (unused ++ part) = written_enclosed a.direct a.room b.room w u readable in
+    let whole : written_at (place_of a) (enclose w u) ≡ tlv (enclosure_tag w) (unused ++ part) = written_enclosed a.implicit_tag a.until_end b.until_end w u readable in
     let same : header ++ (unused ++ v.rest) ≡ tlv (enclosure_tag w) (unused ++ part) ++ st.front.rest =
     sym (append_assoc header unused v.rest) ∙ sym v.begins ∙ st.front.is ∙ ap (λ z. z ++ st.front.rest) whole in
     let q = header_length (enclosure_tag w) o.size (unused ++ part) (unused ++ v.rest) st.front.rest same in
     let front : v.rest ≡ part ++ st.front.rest = (same_front unused unused v.rest (part ++ st.front.rest) refl (q.1 ∙ append_assoc unused part st.front.rest)).1 in
-    let fills : length part ≡ b.room = omega (arith, q.0, length-append unused part, o.room) in
-    let stands : StandsAt (place_in (implicit_number w) b.room) s v.rest b.room u = record {
+    let fills : length part ≡ b.until_end = omega (arith, q.0, length-append unused part, o.until_end) in
+    let stands : StandsAt (place_in (implicit_number w) b.until_end) s v.rest b.until_end u = record {
       of_shape = is_of_held w s u st.of_shape;
       readable = readable;
-      may_stand = may_stand_held w u b.room st.readable fills;
+      may_stand = may_stand_held w u b.until_end st.readable fills;
       within = omega (arith, fills);
       front = record { rest = st.front.rest; is = front };
     } in
     record {
       seen = v.rest;
       concerns = own_concerns outer o.end v.concerns;
-      stands = subst (λ d. StandsAt (place_in d b.room) s v.rest b.room u) (sym o.direct) stands;
-      fills = ap (λ d. length (written_at (place_in d b.room) u)) o.direct ∙ fills;
+      stands = subst (λ d. StandsAt (place_in d b.until_end) s v.rest b.until_end u) (sym o.implicit_tag) stands;
+      fills = ap (λ d. length (written_at (place_in d b.until_end) u)) o.implicit_tag ∙ fills;
     }
 
 -- what was read is as long as a value that would fill the enclosure
-same_inside : (plain : Bool) (room : ℕ) (t u : Tree) (x y : List ℕ) → is_plain t ≡ plain → is_plain u ≡ plain → IsReadable t → IsReadable u → MayStand (Place.under_implicit room) t → MayStand (Place.under_implicit room) u
-    → inside t ++ x ≡ inside u ++ y → length (inside u) ≡ room → length (inside t) ≡ room
-same_inside true room t u x y p q r v f g e l = f.filled p
-same_inside false room t u x y p q r v f g e l =
+same_inside : (plain : Bool) (until_end : ℕ) (t u : Tree) (x y : List ℕ) → is_plain t ≡ plain → is_plain u ≡ plain → IsReadable t → IsReadable u → MayStand (Place.under_implicit until_end) t → MayStand (Place.under_implicit until_end) u
+    → inside t ++ x ≡ inside u ++ y → length (inside u) ≡ until_end → length (inside t) ≡ until_end
+same_inside true until_end t u x y p q r v f g e l = f.filled p
+same_inside false until_end t u x y p q r v f g e l =
     let h : inside t ≡ der t = inside-other t p f.no_choice in
     let k : inside u ≡ der u = inside-other u q g.no_choice in
     let i : der t ++ x ≡ der u ++ y = sym (ap (λ c. c ++ x) h) ∙ e ∙ ap (λ c. c ++ y) k in
     ap length (h ∙ (same_encoding t u x y r v i).0 ∙ sym k) ∙ l
 
-same_size : (d : Option ℕ) (room : ℕ) (s : Shape) (t u : Tree) (x y : List ℕ) → IsOf s t → IsOf s u → IsReadable t → IsReadable u → MayStand (place_in d room) t → MayStand (place_in d room) u
-    → written_at (place_in d room) t ++ x ≡ written_at (place_in d room) u ++ y → length (written_at (place_in d room) u) ≡ room → length (written_at (place_in d room) t) ≡ room
-same_size None room s t u x y o p r v f g e l = ap length (same_encoding t u x y r v e).0 ∙ l
-same_size (Some n) room s t u x y o p r v f g e l =
-    same_inside (is_plain_shape s) room t u x y (plain_by_shape s t o r f.no_choice) (plain_by_shape s u p v g.no_choice) r v f g e l
+same_size : (d : Option ℕ) (until_end : ℕ) (s : Shape) (t u : Tree) (x y : List ℕ) → IsOf s t → IsOf s u → IsReadable t → IsReadable u → MayStand (place_in d until_end) t → MayStand (place_in d until_end) u
+    → written_at (place_in d until_end) t ++ x ≡ written_at (place_in d until_end) u ++ y → length (written_at (place_in d until_end) u) ≡ until_end → length (written_at (place_in d until_end) t) ≡ until_end
+same_size None until_end s t u x y o p r v f g e l = ap length (same_encoding t u x y r v e).0 ∙ l
+same_size (Some n) until_end s t u x y o p r v f g e l =
+    same_inside (is_plain_shape s) until_end t u x y (plain_by_shape s t o r f.no_choice) (plain_by_shape s u p v g.no_choice) r v f g e l
 
 -- ---- refused values
 
 not_opened : {V : Type 0} (meaning : V → Tree) (s : Shape) {w : Enclosure} {a c : State} {e : Asn1DerError} {end : ℕ} {bs : List ℕ} → RefusesOpening w a c e → IsJudged a c e → Concerns a c e end bs → (v : V) → StandsAt (place_of a) (enclose_shape w s) bs end (enclose w (meaning v)) → ⊥
 not_opened meaning s {w} {a} {c} {e} {end} {bs} r j k v st =
     let part = written_at (place_in (implicit_number w) 0) (meaning v) in
-    let whole : written_at (place_of a) (enclose w (meaning v)) ≡ tlv (enclosure_tag w) (unused_bits w ++ part) = written_enclosed a.direct a.room 0 w (meaning v) (readable_held w (meaning v) st.readable) in
+    let whole : written_at (place_of a) (enclose w (meaning v)) ≡ tlv (enclosure_tag w) (unused_bits w ++ part) = written_enclosed a.implicit_tag a.until_end 0 w (meaning v) (readable_held w (meaning v) st.readable) in
     let size : length (written_at (place_of a) (enclose w (meaning v))) ≡ length (tlv (enclosure_tag w) (unused_bits w ++ part)) = ap length whole in
     let small = end_below (r.bounded j.had_not_failed) k in
     r.none j end bs k part st.front.rest (readable_number w (meaning v) st.readable) (omega (arith, st.within, size, length_tlv (enclosure_tag w) (unused_bits w ++ part), small))
@@ -134,11 +134,11 @@ first_opened : {w : Enclosure} {a b : State} {outer : Outer} (s : Shape) → Ope
 first_opened {w} {a} {b} s o x left q = subst (IsFirst (enclose_shape w s)) (sym (taken_first a.input b.input (enclosure_tag w) x (len o.size ++ unused_bits w) left o.takes.input q)) (first_enclosed w s o.number)
 
 -- bytes are left over behind a value that was read, so no value fills the enclosure
-not_filled : {s : Shape} {w : Enclosure} {b last c : State} {e : Asn1DerError} {t u : Tree} → Reads s b last t → Fails last c e → 0 < last.room → Holds w b c e s u → ⊥
+not_filled : {s : Shape} {w : Enclosure} {b last c : State} {e : Asn1DerError} {t u : Tree} → Reads s b last t → Fails last c e → 0 < last.until_end → Holds w b c e s u → ⊥
 not_filled {s} {w} {b} {last} {c} {e} {t} {u} r f l z =
     let y = behind r.takes (failed_grows f) z.concerns in
-    let full = same_size b.direct b.room s t u y.rest z.stands.front.rest r.of_shape z.stands.of_shape r.readable z.stands.readable r.may_stand z.stands.may_stand (sym y.begins ∙ z.stands.front.is) z.fills in
-    omega (arith, full, r.takes.room, l)
+    let full = same_size b.implicit_tag b.until_end s t u y.rest z.stands.front.rest r.of_shape z.stands.of_shape r.readable z.stands.readable r.may_stand z.stands.may_stand (sym y.begins ∙ z.stands.front.is) z.fills in
+    omega (arith, full, r.takes.until_end, l)
 
 -- no value was read in this enclosure, and none stands there
 pub refuses_enclosed : {V : Type 0} {meaning : V → Tree} {s : Shape} {w : Enclosure} {a c : State} {e : Asn1DerError} → RefusesEnclosed meaning s w a c e → Refuses (λ v. enclose w (meaning v)) (enclose_shape w s) a c e
@@ -174,23 +174,23 @@ whole_enclosed tag n unused part l =
 -- a value was read up to the enclosure's end
 pub reads_enclosed : {s : Shape} {w : Enclosure} {a b c d : State} {outer closed : Outer} {t : Tree} → OpensEnclosure w a b outer → Reads s b c t → Closes closed c d → closed ≡ outer → ReadsEnclosed w s a d t
 reads_enclosed {s} {w} {a} {b} {c} {d} {outer} {closed} {t} o r k same =
-    let part = written_at (place_in (implicit_number w) b.room) t in
-    let is : written_at (place_of b) t ≡ part = ap (λ n. written_at (place_in n b.room) t) o.direct in
-    let full : length part ≡ b.room = omega (arith, r.takes.room, k.reached, ap length is) in
+    let part = written_at (place_in (implicit_number w) b.until_end) t in
+    let is : written_at (place_of b) t ≡ part = ap (λ n. written_at (place_in n b.until_end) t) o.implicit_tag in
+    let full : length part ≡ b.until_end = omega (arith, r.takes.until_end, k.reached, ap length is) in
     let inside : Takes b c part = subst (Takes b c) is r.takes in
     let within : c.taken ≤ outer.place = omega (arith, inside.taken, full, o.within) in
     let all = takes_then o.takes (restored_takes outer within inside) in
     let bytes : opening w o.size ++ part ≡ written_at (place_of a) (enclose w t) =
-    whole_enclosed (enclosure_tag w) o.size (unused_bits w) part (omega (arith, o.room, full)) ∙ sym (written_enclosed a.direct a.room b.room w t r.readable) in
+    whole_enclosed (enclosure_tag w) o.size (unused_bits w) part (omega (arith, o.until_end, full)) ∙ sym (written_enclosed a.implicit_tag a.until_end b.until_end w t r.readable) in
     let end : d ≡ restored outer c = k.same ∙ ap (λ z. restored z c) same in
-    let stands : MayStand (place_in (implicit_number w) b.room) t = subst (λ n. MayStand (place_in n b.room) t) o.direct r.may_stand in
+    let stands : MayStand (place_in (implicit_number w) b.until_end) t = subst (λ n. MayStand (place_in n b.until_end) t) o.implicit_tag r.may_stand in
     record {
       reads = record {
         of_shape = is_of_enclosed w s t r.of_shape;
-        readable = readable_enclosed w t b.room o.number r.readable stands;
-        may_stand = may_stand_enclosed a.direct a.room w t;
+        readable = readable_enclosed w t b.until_end o.number r.readable stands;
+        may_stand = may_stand_enclosed a.implicit_tag a.until_end w t;
         takes = subst (λ z. Takes a z (written_at (place_of a) (enclose w t))) (sym end) (subst (Takes a (restored outer c)) bytes all);
-        direct = ap (λ (z : State). z.direct) end ∙ r.direct;
+        implicit_tag = ap (λ (z : State). z.implicit_tag) end ∙ r.implicit_tag;
       };
       no_refusal = o.no_refusal;
     }

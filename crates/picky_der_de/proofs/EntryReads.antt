@@ -16,7 +16,7 @@ use Rattle.picky_der_input.specs.State.{State, fresh}
 use Rattle.picky_der_core.specs.Peeking.{in_front, count_of_any}
 use Rattle.picky_der_input.specs.Steps.{IsJudged}
 use Rattle.picky_der_input.specs.Reading.{Reads, Refuses, now, ever}
-use Rattle.picky_der_de.specs.KnownLaws.{IsKnownByTree}
+use Rattle.picky_der_de.specs.InjectiveLaws.{IsInjective}
 use Rattle.picky_der_de.specs.Entry.{any_length, HasNoFront, Reader, ReadsFront, Draws, RefusesFront, RefusesNextValue}
 use Rattle.picky_der_input.proofs.Refusals.{consumed}
 
@@ -62,7 +62,7 @@ comparable (c ∷ a) (d ∷ b) x y e =
     elim (comparable a b x y tail) [ inl h ↦ inl (record { rest = h.rest; is = rw head (ap (λ z. d ∷ z) h.is) }) | inr h ↦ inr (record { rest = h.rest; is = rw head (ap (λ z. d ∷ z) h.is) }) ]
 
 -- what more bytes behind some could mend, more bytes behind their beginning could
-mends_beginning : {V : Type 0} {meaning : V → Tree} {s : Shape} {room : ℕ} (d left : List ℕ) → IsMendable meaning s Place.whole (d ++ left) room → IsMendable meaning s Place.whole d room
+mends_beginning : {V : Type 0} {meaning : V → Tree} {s : Shape} {until_end : ℕ} (d left : List ℕ) → IsMendable meaning s Place.whole (d ++ left) until_end → IsMendable meaning s Place.whole d until_end
 mends_beginning {meaning = meaning} d left m = record {
   value = m.value;
   of_shape = m.of_shape;
@@ -87,22 +87,22 @@ one_tree : (s : Shape) → IsSound s → {bytes : List ℕ} {limit : ℕ} (t u :
 one_tree s sound t u a b = (same_tree s sound t u a.of_shape b.of_shape a.readable b.readable a.front.rest b.front.rest (sym a.front.is ∙ b.front.is)).0
 
 abbrev begun : Reader → ℕ → List ℕ → State
-begun r limit through = fresh r.input limit r.faults through
+begun r limit references = fresh r.input limit r.faults references
 
-module _ {V : Type 0} (meaning : V → Tree) (s : Shape) {old new : State} {through : List ℕ} {limit : ℕ} (before after : Reader) (is : old ≡ begun before limit through) (left : new.input ≡ in_front new.peeked after.input) (faults : after.faults ≡ new.faults) where
-  stands_of : (bytes : List ℕ) (t : Tree) → before.input ≡ Some bytes → Reads s (begun before limit through) new t → StandsAt Place.whole s bytes limit t
+module _ {V : Type 0} (meaning : V → Tree) (s : Shape) {old new : State} {references : List ℕ} {limit : ℕ} (before after : Reader) (is : old ≡ begun before limit references) (left : new.input ≡ in_front new.peeked after.input) (faults : after.faults ≡ new.faults) where
+  stands_of : (bytes : List ℕ) (t : Tree) → before.input ≡ Some bytes → Reads s (begun before limit references) new t → StandsAt Place.whole s bytes limit t
   stands_of bytes t k r =
       let front = consumed before.input new.input (der t) bytes r.takes.input k in
-      record { of_shape = r.of_shape; readable = r.readable; may_stand = tt; within = omega (arith, r.takes.room); front = record { rest = front.0; is = front.2 } }
+      record { of_shape = r.of_shape; readable = r.readable; may_stand = tt; within = omega (arith, r.takes.until_end); front = record { rest = front.0; is = front.2 } }
 
   -- the value that was read is the one at the front
-  pub reads_front : (eq : V → V → Bool) → IsSound s → IsKnownByTree meaning s eq → (v : V) → Reads s old new (meaning v) → ReadsFront meaning s eq limit before after v
+  pub reads_front : (eq : V → V → Bool) → IsSound s → IsInjective meaning s eq → (v : V) → Reads s old new (meaning v) → ReadsFront meaning s eq limit before after v
   reads_front eq sound known v read =
-      let r : Reads s (begun before limit through) new (meaning v) = subst (λ o. Reads s o new (meaning v)) is read in
+      let r : Reads s (begun before limit references) new (meaning v) = subst (λ o. Reads s o new (meaning v)) is read in
       record {
         of_shape = r.of_shape;
         readable = r.readable;
-        within = omega (arith, r.takes.room);
+        within = omega (arith, r.takes.until_end);
         drawn = subst (λ i. Consumes before.input i (der (meaning v))) (left ∙ left_of new.peeked after.input r.takes.unpeeked) r.takes.input;
         front = λ bytes k. let stands = stands_of bytes (meaning v) k r in record {
           reads = stands;
@@ -112,7 +112,7 @@ module _ {V : Type 0} (meaning : V → Tree) (s : Shape) {old new : State} {thro
         faults = faults ∙ r.takes.faults;
       }
 
-  draws : {e : Asn1DerError} → Refuses meaning s (begun before limit through) new e → Draws limit before.input after.input
+  draws : {e : Asn1DerError} → Refuses meaning s (begun before limit references) new e → Draws limit before.input after.input
   draws h =
       let took = h.fails.took in
       let d = drawn_in_front before.input after.input new.peeked took.bytes (subst (λ i. Consumes before.input i took.bytes) left took.input) in
@@ -120,7 +120,7 @@ module _ {V : Type 0} (meaning : V → Tree) (s : Shape) {old new : State} {thro
       record { bytes = d.0; are = d.2; within = omega (arith, d.1, took.count, all.drawn, h.fails.limit) }
 
   -- as many bytes were drawn as are gone from the reader
-  gone : {e : Asn1DerError} → Refuses meaning s (begun before limit through) new e → (d rest : List ℕ) → before.input ≡ Some (d ++ rest) → after.input ≡ Some rest → length d + 0 ≡ new.taken + count_of_any new.peeked
+  gone : {e : Asn1DerError} → Refuses meaning s (begun before limit references) new e → (d rest : List ℕ) → before.input ≡ Some (d ++ rest) → after.input ≡ Some rest → length d + 0 ≡ new.taken + count_of_any new.peeked
   gone h d rest k still =
       let took = h.fails.took in
       let x = drawn_in_front before.input after.input new.peeked took.bytes (subst (λ i. Consumes before.input i took.bytes) left took.input) in
@@ -128,11 +128,11 @@ module _ {V : Type 0} (meaning : V → Tree) (s : Shape) {old new : State} {thro
       omega (arith, x.1, took.count, length-append d rest, length-append x.0 rest, ap length same)
 
   -- no bytes behind those that were drawn make a value, unless more bytes are asked for
-  final : {e : Asn1DerError} → Refuses meaning s (begun before limit through) new e → new.faults ≡ before.faults → e ≢ OutOfMemory → (d rest : List ℕ) → before.input ≡ Some (d ++ rest) → after.input ≡ Some rest → IsMendable meaning s Place.whole d any_length → e ≡ TruncatedData
+  final : {e : Asn1DerError} → Refuses meaning s (begun before limit references) new e → new.faults ≡ before.faults → e ≢ OutOfMemory → (d rest : List ℕ) → before.input ≡ Some (d ++ rest) → after.input ≡ Some rest → IsMendable meaning s Place.whole d any_length → e ≡ TruncatedData
   final {e} h same memory d rest k still m =
       let t = meaning m.value in
       let drawn = gone h d rest k still in
-      let judged : IsJudged (begun before limit through) new e = record { had_not_failed = refl; faults = same; memory = memory } in
+      let judged : IsJudged (begun before limit references) new e = record { had_not_failed = refl; faults = same; memory = memory } in
       unless_truncated e (λ other. elim m.agrees [
         | inl p ↦ h.none judged any_length d (ever other refl d [] rest k drawn (sym (append-nil d))) m.value (record { of_shape = m.of_shape; readable = m.readable; may_stand = tt; within = m.within; front = p })
         | inr p ↦ h.none judged any_length (der t) (ever other refl d p.rest rest k drawn p.is) m.value (record { of_shape = m.of_shape; readable = m.readable; may_stand = tt; within = m.within; front = record { rest = []; is = sym (append-nil (der t)) } })
@@ -141,7 +141,7 @@ module _ {V : Type 0} (meaning : V → Tree) (s : Shape) {old new : State} {thro
   -- where none was read, none stands
   pub refuses_front : {e : Asn1DerError} → Refuses meaning s old new e → RefusesFront meaning s limit before after e
   refuses_front {e} refused =
-      let h : Refuses meaning s (begun before limit through) new e = subst (λ o. Refuses meaning s o new e) is refused in
+      let h : Refuses meaning s (begun before limit references) new e = subst (λ o. Refuses meaning s o new e) is refused in
       record {
         none = λ same memory bytes k v stands. h.none (record { had_not_failed = refl; faults = sym faults ∙ same; memory = memory }) limit bytes (now k refl) v stands;
         final = λ same memory d rest k still m. final h (sym faults ∙ same) memory d rest k still m;
@@ -152,12 +152,12 @@ module _ {V : Type 0} (meaning : V → Tree) (s : Shape) {old new : State} {thro
       }
 
   -- where a refusal means that something is left, there was
-  pub refuses_next_value : {e : Asn1DerError} → Refuses meaning s old new e → (IsJudged old new e → 0 < old.room → IfSome old.input (λ bytes. 0 < length bytes)) → RefusesNextValue meaning s limit before after e
+  pub refuses_next_value : {e : Asn1DerError} → Refuses meaning s old new e → (IsJudged old new e → 0 < old.until_end → IfSome old.input (λ bytes. 0 < length bytes)) → RefusesNextValue meaning s limit before after e
   refuses_next_value {e} refused ahead = record {
     refuses = refuses_front refused;
-    ahead = λ room same memory none.
-        let some : IsJudged (begun before limit through) new e → 0 < limit → IfSome before.input (λ bytes. 0 < length bytes) = subst (λ (o : State). IsJudged o new e → 0 < o.room → IfSome o.input (λ bytes. 0 < length bytes)) is ahead in
-        let bytes : IfSome (Some []) (λ (bytes : List ℕ). 0 < length bytes) = subst (λ i. IfSome i (λ bytes. 0 < length bytes)) none (some (record { had_not_failed = refl; faults = sym faults ∙ same; memory = memory }) room) in
+    ahead = λ until_end same memory none.
+        let some : IsJudged (begun before limit references) new e → 0 < limit → IfSome before.input (λ bytes. 0 < length bytes) = subst (λ (o : State). IsJudged o new e → 0 < o.until_end → IfSome o.input (λ bytes. 0 < length bytes)) is ahead in
+        let bytes : IfSome (Some []) (λ (bytes : List ℕ). 0 < length bytes) = subst (λ i. IfSome i (λ bytes. 0 < length bytes)) none (some (record { had_not_failed = refl; faults = sym faults ∙ same; memory = memory }) until_end) in
         omega (arith, bytes);
   }
 

@@ -39,7 +39,7 @@ look_again {a} {b} {c} {x} {y} p q =
     let now : c ≡ record b { input = c.input; peeked = Some x } = q.same ∙ ap (λ z. record b { input = c.input; peeked = Some z }) one in
     record {
       had_not_failed = p.had_not_failed;
-      direct = p.direct;
+      implicit_tag = p.implicit_tag;
       ahead = p.ahead;
       byte = p.byte;
       next = p.next;
@@ -55,9 +55,9 @@ look_again {a} {b} {c} {x} {y} p q =
     keeps (Some xs) (Some ys) (Some zs) h g = g ∙ h
 
 peeks_unordered : {a b : State} {x : ℕ} → Peeks a b x → Peeks (unordered a) (unordered b) x
-peeks_unordered p = record { had_not_failed = p.had_not_failed; direct = p.direct; ahead = p.ahead; byte = p.byte; next = p.next; again = p.again; input = p.input; same = ap unordered p.same }
+peeks_unordered p = record { had_not_failed = p.had_not_failed; implicit_tag = p.implicit_tag; ahead = p.ahead; byte = p.byte; next = p.next; again = p.again; input = p.input; same = ap unordered p.same }
 
-as_look : {b c : State} {tag : ℕ} → b.direct ≡ None → Identifies b c tag → Peeks b c tag
+as_look : {b c : State} {tag : ℕ} → b.implicit_tag ≡ None → Identifies b c tag → Peeks b c tag
 as_look {b} {c} {tag} d h = subst (λ o. IdentifiesIn o b c tag) d h.is
 
 rests_here : {a : State} → a.failed ≡ None → a.peeked ≡ None → Rests a a
@@ -76,26 +76,26 @@ rests_not_failed (same e f g) = ap (λ (s : State). s.failed) e ∙ f
 rests_not_failed (looked x g p) = ap (λ (s : State). s.failed) p.same ∙ p.had_not_failed
 
 -- the end was reached, so no look was taken
-rested : {a b : State} → Rests a b → b.room ≡ 0 → b ≡ a
+rested : {a b : State} → Rests a b → b.until_end ≡ 0 → b ≡ a
 rested (same e f g) z = e
-rested (looked x g p) z = absurd (let q : _ = ap (λ (s : State). s.room) p.same in omega (arith, q, z, p.ahead))
+rested (looked x g p) z = absurd (let q : _ = ap (λ (s : State). s.until_end) p.same in omega (arith, q, z, p.ahead))
 
 -- ---- bytes behind a look
 
 module _ {b c : State} {x : ℕ} (p : Peeks b c x) where
   stands_looked : {d : State} {e : Asn1DerError} {bytes : List ℕ} → StandUpToEnd b d e bytes → StandUpToEnd c d e bytes
   stands_looked {d} {e} {bytes} w =
-      let room : b.room ≡ c.room = sym (ap (λ (s : State). s.room) p.same) in
+      let until_end : b.until_end ≡ c.until_end = sym (ap (λ (s : State). s.until_end) p.same) in
       record {
         stand = record {
           soft = ap (λ (s : State). s.end) p.same ∙ w.stand.soft;
           seen = w.stand.seen;
-          concerns = subst (λ n. Concerns c d e n w.stand.seen) room (peeks_concerns p w.stand.concerns);
+          concerns = subst (λ n. Concerns c d e n w.stand.seen) until_end (peeks_concerns p w.stand.concerns);
           rest = w.stand.rest;
           begins = w.stand.begins;
-          within = omega (arith, w.stand.within, room);
+          within = omega (arith, w.stand.within, until_end);
         };
-        fills = w.fills ∙ room;
+        fills = w.fills ∙ until_end;
       }
 
   order_looked : (ms : List (List ℕ)) → AreInOrder b.sets ms → AreInOrder c.sets ms
@@ -134,18 +134,18 @@ not_missing_read s l {t = t} (Trees.more u us) apart r f are readable w =
     apart_has k.first (firsts s) (next_firsts l) apart k.listed (subst (λ z. has (next_firsts l) z ≡ true) first h.listed)
 
 -- no member stands at the end
-nothing_there : {b d : State} {e : Asn1DerError} (u : Tree) (us : Trees) → b.room ≡ 0 → IsReadable u → StandUpToEnd b d e (bytes_of (Trees.more u us)) → ⊥
+nothing_there : {b d : State} {e : Asn1DerError} (u : Tree) (us : Trees) → b.until_end ≡ 0 → IsReadable u → StandUpToEnd b d e (bytes_of (Trees.more u us)) → ⊥
 nothing_there u us z r w = omega (arith, z, w.fills, ap length (bytes_of-more u us), length-append (der u) (bytes_of us), length-der u r)
 
 -- ---- no members
 
-pub layout_none : {b : State} → b.direct ≡ None → ReadsLayout Layout.empty b b Trees.none
+pub layout_none : {b : State} → b.implicit_tag ≡ None → ReadsLayout Layout.empty b b Trees.none
 layout_none {b} d = record {
   are = tt;
   readable = tt;
   order = no_members_in_order b.sets;
   passes = λ a q. record { mid = a; takes = subst (Takes (unordered a) (unordered a)) (sym bytes_of-none) (nothing q); rests = q };
-  direct = d;
+  implicit_tag = d;
   fails = λ last e f. f;
   full = λ told last e f left us are r w. full us are left w;
 } where
@@ -153,7 +153,7 @@ layout_none {b} d = record {
   nothing {a} (same e f g) = takes_none (unordered a) f g
   nothing {a} (looked x g p) = takes_none (unordered a) p.had_not_failed g
 
-  full : {last : State} {e : Asn1DerError} (us : Trees) → AreMembersOf Layout.empty us → 0 < b.room → StandUpToEnd b last e (bytes_of us) → ⊥
+  full : {last : State} {e : Asn1DerError} (us : Trees) → AreMembersOf Layout.empty us → 0 < b.until_end → StandUpToEnd b last e (bytes_of us) → ⊥
   full Trees.none are left w = none_left left w
   full (Trees.more t ts) are left w = absurd are
 
@@ -190,11 +190,11 @@ required_read {s} {l} {b} {c} {d} {t} {ts} r h = record {
   readable = (r.reads.readable, h.readable);
   order = members_lead ts r h.order;
   passes = λ a q. member_then q r h;
-  direct = h.direct;
+  implicit_tag = h.implicit_tag;
   fails = λ last e f. fails_behind (takes_member r) (h.fails last e f);
   full = λ told last e f left us are readable w. full told f left us are readable w;
 } where
-  full : AreMembersTold l → {last : State} {e : Asn1DerError} → Fails d last e → 0 < d.room → (us : Trees) → AreMembersOf (Layout.required s l) us → AreReadable us → StandUpToEnd b last e (bytes_of us) → ⊥
+  full : AreMembersTold l → {last : State} {e : Asn1DerError} → Fails d last e → 0 < d.until_end → (us : Trees) → AreMembersOf (Layout.required s l) us → AreReadable us → StandUpToEnd b last e (bytes_of us) → ⊥
   full told f left Trees.none are readable w = absurd are
   full told {last} {e} f left (Trees.more u us) are readable w =
       h.full told last e f left us are.1 readable.1 (next_up_to_end u us readable.0 r (h.fails last e f) w)
@@ -227,12 +227,12 @@ module _ {V W U : Type 0} (meaning : W → Tree) (others : U → Trees) (s : Sha
   }
 
   -- no tag was there, or the member was refused
-  maybe_head : {b d : State} {e : Asn1DerError} → b.direct ≡ None → RefusesOptional meaning s b d e → RefusesLayout (λ v. maybe_more meaning (part v) (others (rest v))) (Layout.maybe s l) b d e
+  maybe_head : {b d : State} {e : Asn1DerError} → b.implicit_tag ≡ None → RefusesOptional meaning s b d e → RefusesLayout (λ v. maybe_more meaning (part v) (others (rest v))) (Layout.maybe s l) b d e
   maybe_head {b} {d} {e} whole (no_tag h ahead) = record {
     fails = h.refuses.fails;
     none = λ told j v are readable order w. no_bytes (ahead j.had_not_failed) w (missing_here (h.missing j).1 w.stand.concerns);
   } where
-    no_bytes : {bytes : List ℕ} → 0 < b.room → (w : StandUpToEnd b d e bytes) → (b.room ≡ 0) ⊎ (w.stand.seen ≡ []) → ⊥
+    no_bytes : {bytes : List ℕ} → 0 < b.until_end → (w : StandUpToEnd b d e bytes) → (b.until_end ≡ 0) ⊎ (w.stand.seen ≡ []) → ⊥
     no_bytes ahead w (inl z) = omega (arith, ahead, z)
     no_bytes {bytes} ahead w (inr z) = omega (arith, ahead, w.fills, ap length (sym w.stand.begins ∙ z), length-append bytes w.stand.rest)
   maybe_head whole (no_member mid tag i own r) =
@@ -257,7 +257,7 @@ record Skips (s : Shape) (b c : State) : Type 0 where
   rests : (a : State) → Rests a b → Rests a c
   not : (d : State) (e : Asn1DerError) (u : Tree) (us : Trees) → Fails c d e → IsOf s u → IsReadable u → StandUpToEnd b d e (bytes_of (Trees.more u us)) → ⊥
 
-skips : {s : Shape} {b c : State} → b.direct ≡ None → Lacks s b c → Skips s b c
+skips : {s : Shape} {b c : State} → b.implicit_tag ≡ None → Lacks s b c → Skips s b c
 skips {b = b} whole (no_more h) = record {
   fails = λ d e f. subst (λ x. Fails x d e) h.same f;
   judged = λ d e j. subst (λ x. IsJudged x d e) (sym h.same) j;
@@ -279,7 +279,7 @@ skips {s = s} whole (begins_otherwise tag i other) =
 
 -- it is missing, and those behind it were refused
 missing_next : {V W U : Type 0} (meaning : W → Tree) (others : U → Trees) (s : Shape) (l : Layout) (part : V → Option W) (rest : V → U) → ((w : W) → IsBegunBy (firsts s) (meaning w)) → ((u : U) → AreBegunBy (next_firsts l) (others u))
-    → {b c d : State} {e : Asn1DerError} → b.direct ≡ None → Lacks s b c → RefusesLayout others l c d e → RefusesLayout (λ v. maybe_more meaning (part v) (others (rest v))) (Layout.maybe s l) b d e
+    → {b c d : State} {e : Asn1DerError} → b.implicit_tag ≡ None → Lacks s b c → RefusesLayout others l c d e → RefusesLayout (λ v. maybe_more meaning (part v) (others (rest v))) (Layout.maybe s l) b d e
 missing_next meaning others s l part rest begins begin {b} {c} {d} {e} whole h n =
     let k : Skips s b c = skips whole h in
     refused_by meaning others s l part rest begins begin (k.fails d e n.fails)
@@ -293,18 +293,18 @@ there_read {s} {l} {b} {c} {d} {t} {ts} r h = record {
   readable = (r.reads.readable, h.readable);
   order = members_lead ts r h.order;
   passes = λ a q. member_then q r h;
-  direct = h.direct;
+  implicit_tag = h.implicit_tag;
   fails = λ last e f. fails_behind (takes_member r) (h.fails last e f);
   full = λ told last e f left us are readable w. full told f left us are readable w;
 } where
-  full : AreMembersTold (Layout.maybe s l) → {last : State} {e : Asn1DerError} → Fails d last e → 0 < d.room → (us : Trees) → AreMembersOf (Layout.maybe s l) us → AreReadable us → StandUpToEnd b last e (bytes_of us) → ⊥
+  full : AreMembersTold (Layout.maybe s l) → {last : State} {e : Asn1DerError} → Fails d last e → 0 < d.until_end → (us : Trees) → AreMembersOf (Layout.maybe s l) us → AreReadable us → StandUpToEnd b last e (bytes_of us) → ⊥
   full told {last} {e} f left us (inr are) readable w = not_missing_read s l us told.0 r (h.fails last e f) are readable w
   full told f left Trees.none (inl are) readable w = absurd are
   full told {last} {e} f left (Trees.more u us) (inl are) readable w =
       h.full told.1 last e f left us are.1 readable.1 (next_up_to_end u us readable.0 r (h.fails last e f) w)
 
 -- it is missing, and those behind it were read
-missing_read : {s : Shape} {l : Layout} {b c d : State} {ts : Trees} → b.direct ≡ None → Lacks s b c → ReadsLayout l c d ts → ReadsLayout (Layout.maybe s l) b d ts
+missing_read : {s : Shape} {l : Layout} {b c d : State} {ts : Trees} → b.implicit_tag ≡ None → Lacks s b c → ReadsLayout l c d ts → ReadsLayout (Layout.maybe s l) b d ts
 missing_read {s} {l} {b} {c} {d} {ts} whole h n =
     let k : Skips s b c = skips whole h in
     record {
@@ -312,24 +312,24 @@ missing_read {s} {l} {b} {c} {d} {ts} whole h n =
       readable = n.readable;
       order = subst (λ x. AreInOrder x (encodings ts)) k.sets n.order;
       passes = λ a q. n.passes a (k.rests a q);
-      direct = n.direct;
+      implicit_tag = n.implicit_tag;
       fails = λ last e f. k.fails last e (n.fails last e f);
       full = λ told last e f left us are readable w. full k told f left us are readable w;
     }
   where
-    full : Skips s b c → AreMembersTold (Layout.maybe s l) → {last : State} {e : Asn1DerError} → Fails d last e → 0 < d.room → (us : Trees) → AreMembersOf (Layout.maybe s l) us → AreReadable us → StandUpToEnd b last e (bytes_of us) → ⊥
+    full : Skips s b c → AreMembersTold (Layout.maybe s l) → {last : State} {e : Asn1DerError} → Fails d last e → 0 < d.until_end → (us : Trees) → AreMembersOf (Layout.maybe s l) us → AreReadable us → StandUpToEnd b last e (bytes_of us) → ⊥
     full k told {last} {e} f left us (inr are) readable w = n.full told.1 last e f left us are readable (k.stands last e (bytes_of us) w)
     full k told f left Trees.none (inl are) readable w = absurd are
     full k told {last} {e} f left (Trees.more u us) (inl are) readable w = k.not last e u us (n.fails last e f) are.0 readable.0 w
 
 -- by whether it was read
-maybe_read : {W : Type 0} (meaning : W → Tree) {s : Shape} {l : Layout} {b c d : State} {ts : Trees} (o : Option W) → b.direct ≡ None → IfSome o (λ w. ReadsMember s b c (meaning w)) → IfNone o (Lacks s b c) → ReadsLayout l c d ts
+maybe_read : {W : Type 0} (meaning : W → Tree) {s : Shape} {l : Layout} {b c d : State} {ts : Trees} (o : Option W) → b.implicit_tag ≡ None → IfSome o (λ w. ReadsMember s b c (meaning w)) → IfNone o (Lacks s b c) → ReadsLayout l c d ts
     → ReadsLayout (Layout.maybe s l) b d (maybe_more meaning o ts)
 maybe_read meaning None whole r h n = missing_read whole h n
 maybe_read meaning (Some w) whole r h n = there_read r n
 
 maybe_next : {V W U : Type 0} (meaning : W → Tree) (others : U → Trees) (s : Shape) (l : Layout) (part : V → Option W) (rest : V → U) → ((w : W) → IsBegunBy (firsts s) (meaning w)) → ((u : U) → AreBegunBy (next_firsts l) (others u))
-    → {b c d : State} {e : Asn1DerError} (o : Option W) → b.direct ≡ None → IfSome o (λ w. ReadsMember s b c (meaning w)) → IfNone o (Lacks s b c) → RefusesLayout others l c d e
+    → {b c d : State} {e : Asn1DerError} (o : Option W) → b.implicit_tag ≡ None → IfSome o (λ w. ReadsMember s b c (meaning w)) → IfNone o (Lacks s b c) → RefusesLayout others l c d e
     → RefusesLayout (λ v. maybe_more meaning (part v) (others (rest v))) (Layout.maybe s l) b d e
 maybe_next meaning others s l part rest begins begin None whole r h n = missing_next meaning others s l part rest begins begin whole h n
 maybe_next meaning others s l part rest begins begin (Some w) whole r h n = there_next meaning others s l part rest begins begin r n
@@ -350,7 +350,7 @@ module _ {V W U : Type 0} (meaning : W → Tree) (left_out : W → Bool) (others
       let never : false ≡ true = sym q ∙ out in
       cc
 
-  default_head : {b d : State} {e : Asn1DerError} → b.direct ≡ None → RefusesDefault meaning left_out s b d e → RefusesLayout (λ v. maybe_more meaning (item v) (others (rest v))) (Layout.maybe s l) b d e
+  default_head : {b d : State} {e : Asn1DerError} → b.implicit_tag ≡ None → RefusesDefault meaning left_out s b d e → RefusesLayout (λ v. maybe_more meaning (item v) (others (rest v))) (Layout.maybe s l) b d e
   default_head whole (as_optional h) = maybe_head meaning others s l item rest begins begin whole h
   default_head whole (written_out c x is r _ f) = record {
     fails = fails_behind (takes_member r) f;
@@ -368,7 +368,7 @@ refuses_alike {l = l} {b = b} {d = d} {e = e} is h = record {
 
 module _ {W X : Type 0} {presence : Presence} {in_front : X → Trees → Trees} {eq : X → X → Bool} {meaning : W → Tree} {s : Shape} {eq_item : W → W → Bool} {item : X → Option W} {left_out : W → Bool}
     (c : IsComponent presence in_front eq meaning s eq_item item left_out) where
-  pub component_read : {l : Layout} {b m d : State} {ts : Trees} (x : X) → b.direct ≡ None → IfSome (item x) (λ w. ReadsMember s b m (meaning w)) → IfNone (item x) (Lacks s b m) → ReadsLayout l m d ts → ReadsLayout (placed presence s l) b d (in_front x ts)
+  pub component_read : {l : Layout} {b m d : State} {ts : Trees} (x : X) → b.implicit_tag ≡ None → IfSome (item x) (λ w. ReadsMember s b m (meaning w)) → IfNone (item x) (Lacks s b m) → ReadsLayout l m d ts → ReadsLayout (placed presence s l) b d (in_front x ts)
   component_read {l} {b} {m} {d} {ts} x whole r h n = subst (ReadsLayout (placed presence s l) b d) (sym (c.stands x ts)) (by_presence presence (item x) (c.there x) r h)
     where
       by_presence : (p : Presence) (o : Option W) → IsThere p o → IfSome o (λ w. ReadsMember s b m (meaning w)) → IfNone o (Lacks s b m) → ReadsLayout (placed p s l) b d (maybe_more meaning o ts)
@@ -376,7 +376,7 @@ module _ {W X : Type 0} {presence : Presence} {in_front : X → Trees → Trees}
       by_presence always (Some w) t r h = required_read r n
       by_presence perhaps o t r h = maybe_read meaning o whole r h n
 
-  pub component_head : {V : Type 0} {others : V → Trees} {l : Layout} {AreEqual : V → V → Type 0} (first : V → X) → AreComponents others l AreEqual → {b d : State} {e : Asn1DerError} → b.direct ≡ None → RefusesComponent presence meaning left_out s b d e
+  pub component_head : {V : Type 0} {others : V → Trees} {l : Layout} {AreEqual : V → V → Type 0} (first : V → X) → AreComponents others l AreEqual → {b d : State} {e : Asn1DerError} → b.implicit_tag ≡ None → RefusesComponent presence meaning left_out s b d e
       → RefusesLayout (λ v. in_front (first v) (others v)) (placed presence s l) b d e
   component_head {V} {others} {l} first cs {b} {d} {e} whole h = refuses_alike (λ v. c.stands (first v) (others v)) (by_presence presence c.there h)
     where
@@ -384,7 +384,7 @@ module _ {W X : Type 0} {presence : Presence} {in_front : X → Trees → Trees}
       by_presence always there h = required_head meaning (λ v. item (first v)) (λ v. there (first v)) others h
       by_presence perhaps there h = default_head meaning left_out others s l (λ v. item (first v)) (λ v. v) (λ v. c.written (first v)) c.by_tree c.sound c.begins cs.begins whole h
 
-  pub component_next : {V U : Type 0} {others : U → Trees} {l : Layout} {AreEqual : U → U → Type 0} (first : V → X) (rest : V → U) → AreComponents others l AreEqual → {b m d : State} {e : Asn1DerError} (x : X) → b.direct ≡ None → IfSome (item x) (λ w. ReadsMember s b m (meaning w)) → IfNone (item x) (Lacks s b m)
+  pub component_next : {V U : Type 0} {others : U → Trees} {l : Layout} {AreEqual : U → U → Type 0} (first : V → X) (rest : V → U) → AreComponents others l AreEqual → {b m d : State} {e : Asn1DerError} (x : X) → b.implicit_tag ≡ None → IfSome (item x) (λ w. ReadsMember s b m (meaning w)) → IfNone (item x) (Lacks s b m)
       → RefusesLayout others l m d e → RefusesLayout (λ v. in_front (first v) (others (rest v))) (placed presence s l) b d e
   component_next {V} {U} {others} {l} first rest cs {b} {m} {d} {e} x whole r h n = refuses_alike (λ v. c.stands (first v) (others (rest v))) (by_presence presence (item x) (c.there x) c.there r h)
     where
@@ -423,4 +423,4 @@ pub layout_reads : {l : Layout} {kind : ListKind} {a b c d : State} {outer close
 layout_reads {kind = kind} {b = b} {ts = ts} o r k back =
     let q = r.passes b (opened_rests kind o) in
     let takes = subst (λ z. Takes (unordered b) (unordered z) (bytes_of ts)) (sym (rested q.rests k.reached)) q.takes in
-    list_reads ts o r.order takes r.direct k back (refl, r.are) r.readable
+    list_reads ts o r.order takes r.implicit_tag k back (refl, r.are) r.readable

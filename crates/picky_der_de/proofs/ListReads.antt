@@ -56,7 +56,7 @@ leads-all meaning a b vs h = subst (AreInOrder a.sets) (append-nil (encodings (t
 -- ---- refused
 
 -- the next member was refused
-pub all_refused : {V : Type 0} {meaning : V → Tree} {s : Shape} {c d : State} {e : Asn1DerError} → RefusesMember meaning s c d e → (c.failed ≡ None → 0 < c.room) → RefusesAll meaning s c d e
+pub all_refused : {V : Type 0} {meaning : V → Tree} {s : Shape} {c d : State} {e : Asn1DerError} → RefusesMember meaning s c d e → (c.failed ≡ None → 0 < c.until_end) → RefusesAll meaning s c d e
 all_refused {V} {meaning} {s} {c} {d} {e} r ahead = record { fails = r.fails; none = none }
   where
     none : IsJudged c d e → (vs : List V) → EachIs (IsOf s) (trees (map meaning vs)) → AreReadable (trees (map meaning vs)) → AreInOrder c.sets (encodings (trees (map meaning vs))) → StandUpToEnd c d e (bytes_of (trees (map meaning vs))) → ⊥
@@ -84,16 +84,16 @@ pub record ReadsSome {V : Type 0} (meaning : V → Tree) (s : Shape) (old new : 
   pub readable : AreReadable (trees (map meaning vs))
   pub leads : LeadOn meaning old new vs
   pub takes : Takes (unordered old) (unordered new) (bytes_of (trees (map meaning vs)))
-  pub direct : new.direct ≡ None
+  pub implicit_tag : new.implicit_tag ≡ None
   pub refuses : (d : State) (e : Asn1DerError) → RefusesAll meaning s new d e → RefusesAll meaning s old d e
 
-pub some_none : {V : Type 0} (meaning : V → Tree) (s : Shape) (a : State) → a.failed ≡ None → a.peeked ≡ None → a.direct ≡ None → ReadsSome meaning s a a []
+pub some_none : {V : Type 0} (meaning : V → Tree) (s : Shape) (a : State) → a.failed ≡ None → a.peeked ≡ None → a.implicit_tag ≡ None → ReadsSome meaning s a a []
 some_none meaning s a h p d = record {
   of_shape = tt;
   readable = tt;
   leads = leads-none meaning a;
   takes = subst (Takes (unordered a) (unordered a)) (sym bytes_of-none) (takes_none (unordered a) h p);
-  direct = d;
+  implicit_tag = d;
   refuses = λ d e r. r;
 }
 
@@ -103,7 +103,7 @@ some_more meaning s {a} {b} {c} vs v h r = record {
   readable = readable-push meaning vs v h.readable r.reads.readable;
   leads = leads-push meaning a vs v h.leads r;
   takes = subst (Takes (unordered a) (unordered c)) (sym (bytes_of-push meaning vs v)) (takes_then h.takes (takes_member r));
-  direct = member_direct r;
+  implicit_tag = member_direct r;
   refuses = λ d e w. h.refuses d e (all_next r w);
 }
 
@@ -113,8 +113,8 @@ some_all {meaning = meaning} {a = a} {b = b} {vs = vs} h n = record {
   of_shape = h.of_shape;
   readable = h.readable;
   takes = subst (λ z. Takes (unordered a) (unordered z) (bytes_of (trees (map meaning vs)))) (sym n.same) h.takes;
-  direct = ap (λ (z : State). z.direct) n.same ∙ h.direct;
-  reached = ap (λ (z : State). z.room) n.same ∙ n.reached;
+  implicit_tag = ap (λ (z : State). z.implicit_tag) n.same ∙ h.implicit_tag;
+  reached = ap (λ (z : State). z.until_end) n.same ∙ n.reached;
 }
 
 -- ---- whole lists
@@ -139,4 +139,4 @@ all_closed r k = omega (arith, r.reached, (k.left r.takes.not_failed).0)
 -- all were read
 pub list_of_reads : {V : Type 0} (meaning : V → Tree) (s : Shape) (kind : ListKind) {a b c d : State} {outer closed : Outer} (vs : List V) → OpensList (list_tag kind) a b outer → ReadsAll meaning s b c vs → Closes closed c d → closed ≡ outer
     → Reads (Shape.list_of kind s) a d (Tree.list kind (trees (map meaning vs)))
-list_of_reads meaning s kind vs h r k same = list_reads (trees (map meaning vs)) h r.order r.takes r.direct k same (refl, r.of_shape) r.readable
+list_of_reads meaning s kind vs h r k same = list_reads (trees (map meaning vs)) h r.order r.takes r.implicit_tag k same (refl, r.of_shape) r.readable

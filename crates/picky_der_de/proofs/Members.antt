@@ -53,14 +53,14 @@ next_in_order l t ts h = order_next l (der t) (encodings ts) (subst (AreInOrder 
 -- ---- one member
 
 -- a value that doesn't stand directly under an implicit tag
-takes_whole : {s : Shape} {b c : State} {t : Tree} → Reads s b c t → b.direct ≡ None → Takes b c (der t)
-takes_whole {b = b} {c = c} {t = t} r direct = subst (λ d. Takes b c (written_at (place_in d b.room) t)) direct r.takes
+takes_whole : {s : Shape} {b c : State} {t : Tree} → Reads s b c t → b.implicit_tag ≡ None → Takes b c (der t)
+takes_whole {b = b} {c = c} {t = t} r implicit_tag = subst (λ d. Takes b c (written_at (place_in d b.until_end) t)) implicit_tag r.takes
 
 pub takes_member : {s : Shape} {b c : State} {t : Tree} → ReadsMember s b c t → Takes (unordered b) (unordered c) (der t)
-takes_member {b = b} {t = t} r = subst (λ z. Takes (unordered b) (unordered z) (der t)) (sym r.follows.same) (takes_unordered (takes_whole r.reads r.direct))
+takes_member {b = b} {t = t} r = subst (λ z. Takes (unordered b) (unordered z) (der t)) (sym r.follows.same) (takes_unordered (takes_whole r.reads r.implicit_tag))
 
-pub member_direct : {s : Shape} {b c : State} {t : Tree} → ReadsMember s b c t → c.direct ≡ None
-member_direct r = ap (λ (z : State). z.direct) r.follows.same ∙ r.reads.direct
+pub member_direct : {s : Shape} {b c : State} {t : Tree} → ReadsMember s b c t → c.implicit_tag ≡ None
+member_direct r = ap (λ (z : State). z.implicit_tag) r.follows.same ∙ r.reads.implicit_tag
 
 -- it is the last one from here on
 last_member : {s : Shape} {b c : State} {t : Tree} → ReadsMember s b c t → c.sets ≡ with_last b.sets (der t)
@@ -76,8 +76,8 @@ pub members_lead : {s : Shape} {b c : State} {t : Tree} (ts : Trees) → ReadsMe
 members_lead {b = b} {t = t} ts r h = subst (AreInOrder b.sets) (sym (encodings-more t ts)) (member_leads r (encodings ts) h)
 
 -- a member isn't read at the end
-pub member_ahead : {s : Shape} {b c : State} {t : Tree} → ReadsMember s b c t → 0 < b.room
-member_ahead {t = t} r = omega (arith, (takes_member r).room, length-der t r.reads.readable)
+pub member_ahead : {s : Shape} {b c : State} {t : Tree} → ReadsMember s b c t → 0 < b.until_end
+member_ahead {t = t} r = omega (arith, (takes_member r).until_end, length-der t r.reads.readable)
 
 -- it had failed before
 pub member_again : {V : Type 0} {meaning : V → Tree} {s : Shape} {a : State} {e : Asn1DerError} → a.failed ≡ Some (failure_of e) → RefusesMember meaning s a a e
@@ -86,31 +86,31 @@ member_again {a = a} {e = e} h =
     record {
       fails = fails_again a h;
       refuses = no_value (record { fails = fails_again a h; none = λ j. absurd (no j.had_not_failed); first = λ j. absurd (no j.had_not_failed) });
-      direct = λ w. absurd (no w);
+      implicit_tag = λ w. absurd (no w);
     }
 
 -- its type refused it
-pub member_unread : {V : Type 0} {meaning : V → Tree} {s : Shape} {a c : State} {e : Asn1DerError} → Refuses meaning s a c e → (a.failed ≡ None → a.direct ≡ None) → RefusesMember meaning s a c e
-member_unread r d = record { fails = r.fails; refuses = no_value r; direct = d }
+pub member_unread : {V : Type 0} {meaning : V → Tree} {s : Shape} {a c : State} {e : Asn1DerError} → Refuses meaning s a c e → (a.failed ≡ None → a.implicit_tag ≡ None) → RefusesMember meaning s a c e
+member_unread r d = record { fails = r.fails; refuses = no_value r; implicit_tag = d }
 
 test_fails : {m : List ℕ} {b c : State} {e : Asn1DerError} → RefusesTest m b c e → Fails b c e
 test_fails (out_of_order h) = h.fails
 test_fails (without_memory n f is same) = f
 
 -- it was read, and then refused
-pub member_untested : {V : Type 0} {meaning : V → Tree} {s : Shape} {a b c : State} {t : Tree} {e : Asn1DerError} → Reads s a b t → RefusesTest (der t) b c e → (a.failed ≡ None → a.direct ≡ None) → RefusesMember meaning s a c e
-member_untested {b = b} {t = t} r h d = record { fails = fails_after r.takes (test_fails h); refuses = behind_value b t r h; direct = d }
+pub member_untested : {V : Type 0} {meaning : V → Tree} {s : Shape} {a b c : State} {t : Tree} {e : Asn1DerError} → Reads s a b t → RefusesTest (der t) b c e → (a.failed ≡ None → a.implicit_tag ≡ None) → RefusesMember meaning s a c e
+member_untested {b = b} {t = t} r h d = record { fails = fails_after r.takes (test_fails h); refuses = behind_value b t r h; implicit_tag = d }
 
 -- nothing stands whole at the end
-nothing_here : {V : Type 0} (meaning : V → Tree) {s : Shape} {a c : State} {e : Asn1DerError} {end : ℕ} {bs : List ℕ} (v : V) → a.room ≡ 0 → e ≡ TruncatedData → Concerns a c e end bs → StandsAt Place.whole s bs end (meaning v) → ⊥
+nothing_here : {V : Type 0} (meaning : V → Tree) {s : Shape} {a c : State} {e : Asn1DerError} {end : ℕ} {bs : List ℕ} (v : V) → a.until_end ≡ 0 → e ≡ TruncatedData → Concerns a c e end bs → StandsAt Place.whole s bs end (meaning v) → ⊥
 nothing_here meaning v z is (now i r) st = omega (arith, st.within, length-der (meaning v) st.readable)
 nothing_here meaning v z is (ever n r d y left i q f) st = n is
 
 -- a member was wanted at the end
-pub member_missing : {V : Type 0} {meaning : V → Tree} {s : Shape} {a b c : State} {e : Asn1DerError} → HasNoMore a b → a.direct ≡ None → Fails b c e → e ≡ TruncatedData → RefusesMember meaning s a c e
+pub member_missing : {V : Type 0} {meaning : V → Tree} {s : Shape} {a b c : State} {e : Asn1DerError} → HasNoMore a b → a.implicit_tag ≡ None → Fails b c e → e ≡ TruncatedData → RefusesMember meaning s a c e
 member_missing {meaning = meaning} {s = s} {a = a} {b = b} {c = c} {e = e} h d f is = member_unread (record {
   fails = subst (λ z. Fails z c e) h.same f;
-  none = λ j end bs w v st. nothing_here meaning v h.reached is w (subst (λ x. StandsAt (place_in x a.room) s bs end (meaning v)) d st);
+  none = λ j end bs w v st. nothing_here meaning v h.reached is w (subst (λ x. StandsAt (place_in x a.until_end) s bs end (meaning v)) d st);
   first = λ j k x l. absurd (omega (arith, h.reached));
 }) (λ w. d)
 
@@ -135,14 +135,14 @@ module _ {s : Shape} {b c d : State} {e : Asn1DerError} {t : Tree} (u : Tree) (u
       let m = takes_member r in
       let v = behind m (failed_grows f) (concerns_unordered w.concerns) in
       let soft : c.end ≡ Soft = m.end ∙ w.soft in
-      let left : v.left ≡ c.room = concerns_room soft v.concerns in
+      let left : v.left ≡ c.until_end = concerns_room soft v.concerns in
       record {
         soft = soft;
         seen = v.rest;
         concerns = subst (λ n. Concerns c d e n v.rest) left (concerns_alike c.sets v.concerns);
         rest = w.rest;
         begins = sym same_member.1;
-        within = omega (arith, w.within, ap length (bytes_of-more u us), length-append (der u) (bytes_of us), ap length same_member.0, m.room);
+        within = omega (arith, w.within, ap length (bytes_of-more u us), length-append (der u) (bytes_of us), ap length same_member.0, m.until_end);
       }
 
   pub next_order : AreInOrder b.sets (encodings (Trees.more u us)) → AreInOrder c.sets (encodings us)
@@ -155,29 +155,29 @@ next_up_to_end u us readable r f w =
     let p = same_member u us readable r f w.stand in
     record {
       stand = next_member u us readable r f w.stand;
-      fills = omega (arith, w.fills, ap length (bytes_of-more u us), length-append (der u) (bytes_of us), ap length p.0, (takes_member r).room);
+      fills = omega (arith, w.fills, ap length (bytes_of-more u us), length-append (der u) (bytes_of us), ap length p.0, (takes_member r).until_end);
     }
 
 -- the next member was refused, so no value of its type stands there in order
-module _ {V : Type 0} (meaning : V → Tree) {s : Shape} {c d : State} {e : Asn1DerError} (v : V) (us : Trees) (direct : c.direct ≡ None) (j : IsJudged c d e) (of_shape : IsOf s (meaning v)) (readable : IsReadable (meaning v))
+module _ {V : Type 0} (meaning : V → Tree) {s : Shape} {c d : State} {e : Asn1DerError} (v : V) (us : Trees) (implicit_tag : c.implicit_tag ≡ None) (j : IsJudged c d e) (of_shape : IsOf s (meaning v)) (readable : IsReadable (meaning v))
     (order : AreInOrder c.sets (encodings (Trees.more (meaning v) us))) (w : StandBefore c d e (bytes_of (Trees.more (meaning v) us))) where
   unread : Refuses meaning s c d e → ⊥
   unread r =
       let parts : bytes_of (Trees.more (meaning v) us) ≡ der (meaning v) ++ bytes_of us = bytes_of-more (meaning v) us in
-      let stands : StandsAt Place.whole s w.seen c.room (meaning v) = record {
+      let stands : StandsAt Place.whole s w.seen c.until_end (meaning v) = record {
         of_shape = of_shape;
         readable = readable;
         may_stand = tt;
         within = omega (arith, w.within, ap length parts, length-append (der (meaning v)) (bytes_of us));
         front = record { rest = bytes_of us ++ w.rest; is = w.begins ∙ ap (λ x. x ++ w.rest) parts ∙ append_assoc (der (meaning v)) (bytes_of us) w.rest };
       } in
-      r.none j c.room w.seen w.concerns v (subst (λ x. StandsAt (place_in x c.room) s w.seen c.room (meaning v)) (sym direct) stands)
+      r.none j c.until_end w.seen w.concerns v (subst (λ x. StandsAt (place_in x c.until_end) s w.seen c.until_end (meaning v)) (sym implicit_tag) stands)
 
   -- it is the value that was read, and is less than the last one
   untested : (t : Tree) {b : State} → Reads s c b t → RefusesTest (der t) b d e → ⊥
   untested t r (without_memory n f is same) = j.memory is
   untested t r (out_of_order h) =
-      let m = takes_whole r direct in
+      let m = takes_whole r implicit_tag in
       let same = (same_first t (meaning v) us readable r.readable m (failed_grows h.fails) w.concerns w.rest w.begins).0 in
       true≢false (sym h.less ∙ ap₂ is_out_of_order m.sets (sym same) ∙ first_in_order c.sets (meaning v) us order)
 
@@ -187,10 +187,10 @@ module _ {V : Type 0} (meaning : V → Tree) {s : Shape} {c d : State} {e : Asn1
 
 pub no_member : {V : Type 0} {meaning : V → Tree} {s : Shape} {c d : State} {e : Asn1DerError} (v : V) (us : Trees) → RefusesMember meaning s c d e → IsJudged c d e → IsOf s (meaning v) → IsReadable (meaning v) → AreInOrder c.sets (encodings (Trees.more (meaning v) us))
     → StandBefore c d e (bytes_of (Trees.more (meaning v) us)) → ⊥
-no_member {meaning = meaning} v us r j of_shape readable order w = unrefused meaning v us (r.direct j.had_not_failed) j of_shape readable order w r.refuses
+no_member {meaning = meaning} v us r j of_shape readable order w = unrefused meaning v us (r.implicit_tag j.had_not_failed) j of_shape readable order w r.refuses
 
 -- something is left, so no member is missing
-pub none_left : {c d : State} {e : Asn1DerError} → 0 < c.room → StandUpToEnd c d e (bytes_of Trees.none) → ⊥
+pub none_left : {c d : State} {e : Asn1DerError} → 0 < c.until_end → StandUpToEnd c d e (bytes_of Trees.none) → ⊥
 none_left l w = omega (arith, w.fills, ap length bytes_of-none)
 
 -- ---- whole lists
@@ -209,7 +209,7 @@ members_stand kind s {b = b} {c = c} {e = e} ts h f w st =
     let o = begun h.begins grows refl refl w st in
     let content_is = bytes_of-content kind ts st.readable.0 in
     let opened : State = record (narrowed h.mid h.len Soft) { sets = entered (order_of (list_tag kind)) h.mid.sets } in
-    let size : length (bytes_of ts) ≡ opened.room = sym (ap length content_is) ∙ o.size in
+    let size : length (bytes_of ts) ≡ opened.until_end = sym (ap length content_is) ∙ o.size in
     let stand : StandBefore opened c e (bytes_of ts) = record {
       soft = refl;
       seen = o.seen;
@@ -230,7 +230,7 @@ list_refused kind members s first {a} {b} {c} {outer} {e} h f none =
     record {
       fails = fails_after h.begins.takes fails;
       none = λ j end bs w v st. none (judged j) v st.of_shape st.readable.1 (opened_in_order kind (members v) h st.readable.0) (members_stand kind s (members v) h f w st);
-      first = λ j k d x left l q. first_of_header s a.direct a.input h.mid.input (list_tag kind) h.len first h.begins.takes.input d left l q;
+      first = λ j k d x left l q. first_of_header s a.implicit_tag a.input h.mid.input (list_tag kind) h.len first h.begins.takes.input d left l q;
     }
 
 -- a list whose header was refused
@@ -239,12 +239,12 @@ list_unopened kind members s first {a} h =
     let r = h.begin in
     record {
       fails = r.fails;
-      none = λ j end bs w v st. let q = r.header j in no_plain a.direct (list_tag kind) a.room end s bs (Tree.list kind (members v)) q.0 (end_below (r.bounded j.had_not_failed) w) refl refl (q.1.none j end bs w) st;
+      none = λ j end bs w v st. let q = r.header j in no_plain a.implicit_tag (list_tag kind) a.until_end end s bs (Tree.list kind (members v)) q.0 (end_below (r.bounded j.had_not_failed) w) refl refl (q.1.none j end bs w) st;
       first = λ j k d l b left q. subst (IsFirst s) (sym ((r.header j).1.first j k l b left q)) first;
     }
 
 -- the members of a list that was opened and closed were read
-pub list_reads : {s : Shape} {a b c d : State} {kind : ListKind} {outer closed : Outer} (ts : Trees) → OpensList (list_tag kind) a b outer → AreInOrder b.sets (encodings ts) → Takes (unordered b) (unordered c) (bytes_of ts) → c.direct ≡ None → Closes closed c d → closed ≡ outer
+pub list_reads : {s : Shape} {a b c d : State} {kind : ListKind} {outer closed : Outer} (ts : Trees) → OpensList (list_tag kind) a b outer → AreInOrder b.sets (encodings ts) → Takes (unordered b) (unordered c) (bytes_of ts) → c.implicit_tag ≡ None → Closes closed c d → closed ≡ outer
     → IsOf s (Tree.list kind ts) → AreReadable ts → Reads s a d (Tree.list kind ts)
 list_reads {s} {a} {b} {c} {d} {kind} {outer} {closed} ts h o t none k same of_shape readable =
     let order = whole_in_order kind ts h o in
@@ -256,7 +256,7 @@ list_reads {s} {a} {b} {c} {d} {kind} {outer} {closed} ts h o t none k same of_s
     record {
       of_shape = of_shape;
       readable = (order, readable);
-      may_stand = may_stand a.direct (list_tag kind) h.len a.room h.mid.room (Tree.list kind ts) refl h.begins.takes.room h.begins.all p.1 tt;
-      takes = takes_plain a.direct a.room (Tree.list kind ts) refl refl h.begins.takes p.0 p.1;
-      direct = ap (λ (z : State). z.direct) k.same ∙ none;
+      may_stand = may_stand a.implicit_tag (list_tag kind) h.len a.until_end h.mid.until_end (Tree.list kind ts) refl h.begins.takes.until_end h.begins.all p.1 tt;
+      takes = takes_plain a.implicit_tag a.until_end (Tree.list kind ts) refl refl h.begins.takes p.0 p.1;
+      implicit_tag = ap (λ (z : State). z.implicit_tag) k.same ∙ none;
     }

@@ -10,7 +10,7 @@ use Rattle.picky_der_input.specs.State.{State}
 use Rattle.picky_der_input.specs.Reading.{Reads, Refuses}
 
 pub reads_optional : {s : Shape} {a c : State} {t : Tree} → Reads s a c t → Reads (Shape.optional s) a c t
-reads_optional h = record { of_shape = inr h.of_shape; readable = h.readable; may_stand = h.may_stand; takes = h.takes; direct = h.direct }
+reads_optional h = record { of_shape = inr h.of_shape; readable = h.readable; may_stand = h.may_stand; takes = h.takes; implicit_tag = h.implicit_tag }
 
 stands_there : {place : Place} {s : Shape} {bs : List ℕ} {end : ℕ} {t : Tree} → StandsAt place (Shape.optional s) bs end t → StandsAt place s bs end t
 stands_there {s = s} {t = t} st = record {

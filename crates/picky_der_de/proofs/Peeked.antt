@@ -29,8 +29,8 @@ module _ {a b : State} {x : ℕ} (p : Peeks a b x) where
   still_taken : b.taken ≡ a.taken
   still_taken = ap (λ (s : State). s.taken) p.same
 
-  still_room : b.room ≡ a.room
-  still_room = ap (λ (s : State). s.room) p.same
+  still_room : b.until_end ≡ a.until_end
+  still_room = ap (λ (s : State). s.until_end) p.same
 
   still_faults : b.faults ≡ a.faults
   still_faults = ap (λ (s : State). s.faults) p.same
@@ -41,8 +41,8 @@ module _ {a b : State} {x : ℕ} (p : Peeks a b x) where
   not_failed : b.failed ≡ None
   not_failed = ap (λ (s : State). s.failed) p.same ∙ p.had_not_failed
 
-  pub not_direct : b.direct ≡ None
-  not_direct = ap (λ (s : State). s.direct) p.same ∙ p.direct
+  pub not_direct : b.implicit_tag ≡ None
+  not_direct = ap (λ (s : State). s.implicit_tag) p.same ∙ p.implicit_tag
 
   one_peeked : count_of_any b.peeked ≡ 1
   one_peeked = ap (λ (s : State). count_of_any s.peeked) p.same
@@ -57,7 +57,7 @@ module _ {a b : State} {x : ℕ} (p : Peeks a b x) where
   peeks_takes {c} {bytes} t = record {
     input = consumes_behind c.input bytes t.input;
     taken = omega (arith, t.taken, still_taken);
-    room = omega (arith, t.room, still_room);
+    until_end = omega (arith, t.until_end, still_room);
     end = t.end ∙ ap (λ (s : State). s.end) p.same;
     limit = t.limit ∙ still_limit;
     sets = t.sets ∙ ap (λ (s : State). s.sets) p.same;
@@ -66,7 +66,7 @@ module _ {a b : State} {x : ℕ} (p : Peeks a b x) where
     had_not_failed = p.had_not_failed;
     not_failed = t.not_failed;
     faults = t.faults ∙ still_faults;
-    through = t.through ∙ ap (λ (s : State). s.through) p.same;
+    references = t.references ∙ ap (λ (s : State). s.references) p.same;
   }
 
   pub peeks_fails : {c : State} {e : Asn1DerError} → Fails b c e → Fails a c e
@@ -82,7 +82,7 @@ module _ {a b : State} {x : ℕ} (p : Peeks a b x) where
     limit = f.limit ∙ still_limit;
     within = λ w. f.within (record { end = omega (arith, w.end, still_taken, still_room, still_limit); drawn = omega (arith, w.end, p.ahead, one_peeked, still_taken, still_limit) });
     there = λ w. there_after a.input b.input [] a.taken b.taken (drawn c) (keeps_consumes a.input b.input p.input) (omega (arith, still_taken)) (f.there not_failed);
-    through = f.through ∙ ap (λ (s : State). s.through) p.same;
+    references = f.references ∙ ap (λ (s : State). s.references) p.same;
   }
 
   pub peeks_judged : {c : State} {e : Asn1DerError} → IsJudged a c e → IsJudged b c e
@@ -121,11 +121,11 @@ module _ {a b : State} {x : ℕ} (p : Peeks a b x) where
 
 -- ---- where a value stands
 
-pub is_whole : (s : State) → s.direct ≡ None → place_of s ≡ Place.whole
-is_whole s d = ap (λ z. place_in z s.room) d
+pub is_whole : (s : State) → s.implicit_tag ≡ None → place_of s ≡ Place.whole
+is_whole s d = ap (λ z. place_in z s.until_end) d
 
 -- none stands where a byte is missing
-pub nothing_whole : {a c : State} {e : Asn1DerError} {s : Shape} {end : ℕ} {bs : List ℕ} {t : Tree} → a.direct ≡ None → IsMissing a e → Concerns a c e end bs → StandsAt (place_of a) s bs end t → ⊥
+pub nothing_whole : {a c : State} {e : Asn1DerError} {s : Shape} {end : ℕ} {bs : List ℕ} {t : Tree} → a.implicit_tag ≡ None → IsMissing a e → Concerns a c e end bs → StandsAt (place_of a) s bs end t → ⊥
 nothing_whole {a} {s = s} {end = end} {bs = bs} {t = t} d m w st =
     let st' = subst (λ z. StandsAt z s bs end t) (is_whole a d) st in
     let some = length-der t st'.readable in
@@ -141,7 +141,7 @@ identified P None h f k = f h k
 identified P (Some number) h f k = subst P h.2 k
 
 pub identified_refuses : {V : Type 0} {meaning : V → Tree} {s : Shape} {a b c : State} {tag : ℕ} {e : Asn1DerError} → Identifies a b tag → Refuses meaning s b c e → Refuses meaning s a c e
-identified_refuses {meaning = meaning} {s = s} {a = a} {c = c} {e = e} h r = identified (λ x. Refuses meaning s x c e) a.direct h.is (λ p k. peeks_refuses p k) r
+identified_refuses {meaning = meaning} {s = s} {a = a} {c = c} {e = e} h r = identified (λ x. Refuses meaning s x c e) a.implicit_tag h.is (λ p k. peeks_refuses p k) r
 
 -- no value stands where no tag does
 pub refuses_identifier : {V : Type 0} {meaning : V → Tree} {s : Shape} {a c : State} {e : Asn1DerError} → RefusesIdentifier a c e → Refuses meaning s a c e

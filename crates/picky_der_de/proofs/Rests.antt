@@ -37,7 +37,7 @@ pub data Unread {W : Type 0} (meaning : W → Tree) (s : Shape) (Ahead : Type 0)
 
 -- something is left, unless the deserializer had failed
 abbrev pub IsAhead : State → Type 0
-IsAhead c = c.failed ≡ None → 0 < c.room
+IsAhead c = c.failed ≡ None → 0 < c.until_end
 
 module _ {V : Type 0} {members : V → Trees} {kind : ListKind} {s : Shape} {a : State} (starts : IsFirst s (list_tag kind)) where
   -- there is no header
@@ -92,7 +92,7 @@ module _ {V : Type 0} {P : V → Type 0} {members : V → Trees} where
 
 -- nothing is left where there is no more member
 pub rest_closed : {b c d : State} {e : Asn1DerError} → HasNoMore b c → RefusesClose c d e → ⊥
-rest_closed n k = omega (arith, n.reached, (k.left (ap (λ (z : State). z.failed) n.same ∙ n.had_not_failed)).0, ap (λ (z : State). z.room) n.same)
+rest_closed n k = omega (arith, n.reached, (k.left (ap (λ (z : State). z.failed) n.same ∙ n.had_not_failed)).0, ap (λ (z : State). z.until_end) n.same)
 
 -- ---- read
 
@@ -103,11 +103,11 @@ member_as {b = b} {c = c} {t = t} u of_shape readable same r = record {
   reads = record {
     of_shape = of_shape;
     readable = readable;
-    may_stand = subst (λ d. MayStand (place_in d b.room) u) (sym r.direct) tt;
-    takes = subst (λ d. Takes b r.mid (written_at (place_in d b.room) u)) (sym r.direct) (subst (Takes b r.mid) same (subst (λ d. Takes b r.mid (written_at (place_in d b.room) t)) r.direct r.reads.takes));
-    direct = r.reads.direct;
+    may_stand = subst (λ d. MayStand (place_in d b.until_end) u) (sym r.implicit_tag) tt;
+    takes = subst (λ d. Takes b r.mid (written_at (place_in d b.until_end) u)) (sym r.implicit_tag) (subst (Takes b r.mid) same (subst (λ d. Takes b r.mid (written_at (place_in d b.until_end) t)) r.implicit_tag r.reads.takes));
+    implicit_tag = r.reads.implicit_tag;
   };
-  direct = r.direct;
+  implicit_tag = r.implicit_tag;
   follows = subst (λ m. Follows m r.mid c) same r.follows;
 }
 
@@ -121,4 +121,4 @@ row_ended {s = s} {b = b} {t = t} r n = subst (λ z. ReadsRow (Shapes.more s Sha
 
 -- what was read is of another shape too
 pub reads_as : {s as_shape : Shape} {a b : State} {t : Tree} → IsOf as_shape t → Reads s a b t → Reads as_shape a b t
-reads_as of_shape h = record { of_shape = of_shape; readable = h.readable; may_stand = h.may_stand; takes = h.takes; direct = h.direct }
+reads_as of_shape h = record { of_shape = of_shape; readable = h.readable; may_stand = h.may_stand; takes = h.takes; implicit_tag = h.implicit_tag }

@@ -66,7 +66,7 @@ pub row_left : {V : Type 0} {members : V → Trees} {ss : Shapes} {kind : ListKi
 row_left {members = members} {ss = ss} {kind = kind} {ts = ts} o r h = list_refused kind members (Shape.fields kind ss) (row_first kind ss) o (fails_behind r.takes h.fails) (λ j v of_shape readable order w.
     let u = behind r.takes (failed_grows h.fails) (concerns_unordered w.stand.concerns) in
     let same = same_rows ss (members v) ts w.stand.rest u.rest of_shape.1 r.of_shape readable r.readable (sym w.stand.begins ∙ u.begins) in
-    omega (arith, w.fills, r.takes.room, (h.left r.takes.not_failed).0, ap length same))
+    omega (arith, w.fills, r.takes.until_end, (h.left r.takes.not_failed).0, ap length same))
 
 -- the row is a part of the value
 pub row_through : {V W : Type 0} {members : W → Trees} {ss : Shapes} {c d : State} {e : Asn1DerError} (part : V → W) → RefusesRow members ss c d e → RefusesRow (λ v. members (part v)) ss c d e
@@ -75,13 +75,13 @@ row_through part h = record { fails = h.fails; none = λ j v. h.none j (part v) 
 -- ---- read
 
 -- no member was read
-pub row_none : {c : State} → c.failed ≡ None → c.peeked ≡ None → c.direct ≡ None → ReadsRow Shapes.none c c Trees.none
+pub row_none : {c : State} → c.failed ≡ None → c.peeked ≡ None → c.implicit_tag ≡ None → ReadsRow Shapes.none c c Trees.none
 row_none {c = c} f p d = record {
   of_shape = tt;
   readable = tt;
   order = no_members_in_order c.sets;
   takes = subst (Takes (unordered c) (unordered c)) (sym bytes_of-none) (takes_none (unordered c) f p);
-  direct = d;
+  implicit_tag = d;
 }
 
 -- a member was read, and those behind it
@@ -91,9 +91,9 @@ row_read {b = b} {d = d} {t = t} {ts = ts} r h = record {
   readable = (r.reads.readable, h.readable);
   order = members_lead ts r h.order;
   takes = subst (Takes (unordered b) (unordered d)) (sym (bytes_of-more t ts)) (takes_then (takes_member r) h.takes);
-  direct = h.direct;
+  implicit_tag = h.implicit_tag;
 }
 
 -- the members were read, and the sequence was closed
 pub row_reads : {ss : Shapes} {kind : ListKind} {a b c d : State} {outer closed : Outer} {ts : Trees} → OpensList (list_tag kind) a b outer → ReadsRow ss b c ts → Closes closed c d → closed ≡ outer → Reads (Shape.fields kind ss) a d (Tree.list kind ts)
-row_reads {ts = ts} h r k same = list_reads ts h r.order r.takes r.direct k same (refl, r.of_shape) r.readable
+row_reads {ts = ts} h r k same = list_reads ts h r.order r.takes r.implicit_tag k same (refl, r.of_shape) r.readable

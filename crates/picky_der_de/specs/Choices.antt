@@ -13,7 +13,7 @@ use Rattle.picky_der_input.specs.LookAhead.{Peeks}
 use Rattle.picky_der_de.specs.declared.alternatives.OneOf.{OneOf}
 use Rattle.picky_der_de.specs.declared.alternatives.OneOf.TheVariants.{This, Other}
 use Rattle.picky_der_de.specs.Firsts.{IsBegunBy, BytesIn, begins_in_own, bytes_in, bytes_in_one}
-use Rattle.picky_der_de.specs.KnownLaws.{IsKnownByTree}
+use Rattle.picky_der_de.specs.InjectiveLaws.{IsInjective}
 
 -- what a value of one alternative, or of those behind it, means
 abbrev pub chosen_of : {A B : Type 0} → (A → Tree) → (B → Tree) → OneOf A B → Tree
@@ -71,7 +71,7 @@ module _ {A B : Type 0} (m : A → Tree) (n : B → Tree) (s : Shape) (ss : Shap
     differ a b r p e = no_other a r (subst (IsOneOf ss) (sym e) (of_other b (subst IsReadable e r) p))
 
   pub known_this_or_other : {p : A → A → Bool} {q : B → B → Bool} (eq : OneOf A B → OneOf A B → Bool) → ((a c : A) → p a c ≡ true → eq (This a) (This c) ≡ true) → ((b d : B) → q b d ≡ true → eq (Other b) (Other d) ≡ true)
-      → IsKnownByTree m s p → AreKnownApart n ss q → AreKnownApart (chosen_of m n) (Shapes.more s ss) eq
+      → IsInjective m s p → AreKnownApart n ss q → AreKnownApart (chosen_of m n) (Shapes.more s ss) eq
   known_this_or_other eq f g k l told (This a) (This c) o p r e =
       let r' = subst IsReadable e r in
       f a c (k a c (of_this told.0 a r o) (of_this told.0 c r' p) r e)

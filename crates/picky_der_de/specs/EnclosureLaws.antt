@@ -5,7 +5,7 @@ use Rattle.picky_der_core.specs.Tree.{Tree}
 use Rattle.picky_der_core.specs.Shape.{Shape}
 use Rattle.picky_der_input.specs.declared.enclosure.Enclosure.{Enclosure}
 use Rattle.picky_der_input.specs.declared.enclosure.Enclosure.TheVariants as enclosure
-use Rattle.picky_der_de.specs.KnownLaws.{IsKnownByTree}
+use Rattle.picky_der_de.specs.InjectiveLaws.{IsInjective}
 use Rattle.picky_der_input.specs.Enclosures.{enclose, enclose_shape}
 
 enclose_same : (w : Enclosure) (t u : Tree) → enclose w t ≡ enclose w u → t ≡ u
@@ -16,7 +16,7 @@ enclose_same (enclosure.Wrapper (Implicit n)) t u e = cc
 enclose_same (enclosure.Application n) t u e = cc
 
 -- readable values with one tree in an enclosure are equal
-pub enclosed_known : (w : Enclosure) {V : Type 0} (meaning : V → Tree) (s : Shape) (eq : V → V → Bool) → IsKnownByTree meaning s eq → IsKnownByTree (λ v. enclose w (meaning v)) (enclose_shape w s) eq
+pub enclosed_known : (w : Enclosure) {V : Type 0} (meaning : V → Tree) (s : Shape) (eq : V → V → Bool) → IsInjective meaning s eq → IsInjective (λ v. enclose w (meaning v)) (enclose_shape w s) eq
 enclosed_known (enclosure.Wrapper OctetContainer) meaning s eq known x y p q r e = known x y p q r (enclose_same (enclosure.Wrapper OctetContainer) (meaning x) (meaning y) e)
 enclosed_known (enclosure.Wrapper BitContainer) meaning s eq known x y p q r e = known x y p q r (enclose_same (enclosure.Wrapper BitContainer) (meaning x) (meaning y) e)
 enclosed_known (enclosure.Wrapper (Explicit n)) meaning s eq known x y p q r e = known x y p.1 q.1 r.1 (enclose_same (enclosure.Wrapper (Explicit n)) (meaning x) (meaning y) e)

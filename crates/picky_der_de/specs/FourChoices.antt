@@ -7,7 +7,7 @@ use Rattle.picky_der_de.specs.declared.alternatives.OneOf.TheVariants.{This, Oth
 use Rattle.picky_der_de.specs.declared.alternatives4.OneOf4.{OneOf4}
 use Rattle.picky_der_de.specs.declared.alternatives4.OneOf4.TheVariants.{First, Second, Third, Fourth, Later}
 use Rattle.picky_der_de.specs.Firsts.{IsBegunBy}
-use Rattle.picky_der_de.specs.KnownLaws.{IsKnownByTree}
+use Rattle.picky_der_de.specs.InjectiveLaws.{IsInjective}
 use Rattle.picky_der_de.specs.Choices.{chosen_of, AreKnownApart, begins_this_or_other, known_this_or_other}
 
 module _ {A B C D E : Type 0} where
@@ -53,7 +53,7 @@ module _ {A B C D E : Type 0} where
     pub known_one_of4 : (eq : OneOf4 A B C D E → OneOf4 A B C D E → Bool) {p : A → A → Bool} {q : B → B → Bool} {x : C → C → Bool} {y : D → D → Bool} {z : E → E → Bool}
         → ((v m : A) → p v m ≡ true → eq (First v) (First m) ≡ true) → ((v m : B) → q v m ≡ true → eq (Second v) (Second m) ≡ true) → ((v m : C) → x v m ≡ true → eq (Third v) (Third m) ≡ true)
         → ((v m : D) → y v m ≡ true → eq (Fourth v) (Fourth m) ≡ true) → ((v m : E) → z v m ≡ true → eq (Later v) (Later m) ≡ true)
-        → IsKnownByTree a s p → IsKnownByTree b t q → IsKnownByTree c u x → IsKnownByTree d w y → AreKnownApart e ss z
+        → IsInjective a s p → IsInjective b t q → IsInjective c u x → IsInjective d w y → AreKnownApart e ss z
         → AreKnownApart (chosen_of4 a b c d e) (Shapes.more s (Shapes.more t (Shapes.more u (Shapes.more w ss)))) eq
     known_one_of4 eq ga gb gc gd ge ka kb kc kd ke told v m o k r h =
         let k4 = known_this_or_other d e w ss fd fe (λ i j. eq (four (Other (Other (Other i)))) (four (Other (Other (Other j))))) gd ge kd ke in

@@ -9,7 +9,7 @@ use Rattle.picky_der_core.specs.FirstLaws.{BeginsIn, begins_in, begins_next, apa
 use Rattle.picky_der_ser.specs.Meaning.{maybe_more, unless_default}
 use Rattle.picky_der_ser.specs.Defaults.{IsByTree, IsOne}
 use Rattle.picky_der_de.specs.Firsts.{IsBegunBy, BytesIn, bytes_in, begins_in_own}
-use Rattle.picky_der_de.specs.KnownLaws.{IsKnownByTree, first_member, other_members}
+use Rattle.picky_der_de.specs.InjectiveLaws.{IsInjective, first_member, other_members}
 use Rattle.picky_der_de.specs.Layouts.{Presence, always, perhaps, placed, AreBegunBy}
 
 begun : (fs : List ℕ) (t : Tree) → IsBegunBy fs t → IsReadable t → BytesIn t → BeginsIn fs t
@@ -66,7 +66,7 @@ module _ {V : Type 0} (meaning : V → Tree) (s : Shape) (l : Layout) (begins : 
       begins_apart (firsts s) (next_firsts l) (meaning v) told.0 (begins_in s (meaning v) there.0 r.0) (begins_next l (meaning v) ts (subst (AreMembersOf l) (sym e) behind) r.0)
 
   -- the first may be missing, and of those behind it `Others` holds where they are the same
-  pub maybe_told : (eq : V → V → Bool) (Others : Type 0) → IsKnownByTree meaning s eq → (ts us : Trees) → AreBegunBy (next_firsts l) ts → AreBegunBy (next_firsts l) us → (AreMembersOf l ts → AreMembersOf l us → AreReadable ts → ts ≡ us → Others)
+  pub maybe_told : (eq : V → V → Bool) (Others : Type 0) → IsInjective meaning s eq → (ts us : Trees) → AreBegunBy (next_firsts l) ts → AreBegunBy (next_firsts l) us → (AreMembersOf l ts → AreMembersOf l us → AreReadable ts → ts ≡ us → Others)
       → (x y : Option V) → AreMembersOf (Layout.maybe s l) (maybe_more meaning x ts) → AreMembersOf (Layout.maybe s l) (maybe_more meaning y us) → AreReadable (maybe_more meaning x ts) → maybe_more meaning x ts ≡ maybe_more meaning y us → (option_eq eq x y ≡ true) × Others
   maybe_told eq Others known ts us f g k None None p q r e = (refl, k (is_missing s l told.0 ts f r p) (is_missing s l told.0 us g (subst AreReadable e r) q) r e)
   maybe_told eq Others known ts us f g k None (Some y) p q r e = absurd (other_place y us ts f q p (subst AreReadable e r) (sym e))
@@ -103,14 +103,14 @@ pub record IsComponent {V W : Type 0} (presence : Presence) (in_front : V → Tr
   pub written : (v : V) → IfSome (item v) (λ w. left_out w ≡ false)
   pub equal : (x y : V) → option_eq eq_item (item x) (item y) ≡ true → eq x y ≡ true
   pub begins : (w : W) → IsBegunBy (firsts s) (meaning w)
-  pub known : IsKnownByTree meaning s eq_item
+  pub known : IsInjective meaning s eq_item
   pub by_tree : IsByTree meaning left_out
   pub sound : IsSound s
 
 none_by_tree : {W : Type 0} (meaning : W → Tree) → IsByTree meaning (λ _. false)
 none_by_tree meaning x y h = cc
 
-module _ {W : Type 0} (meaning : W → Tree) (s : Shape) (eq : W → W → Bool) (begins : (w : W) → IsBegunBy (firsts s) (meaning w)) (known : IsKnownByTree meaning s eq) (sound : IsSound s) where
+module _ {W : Type 0} (meaning : W → Tree) (s : Shape) (eq : W → W → Bool) (begins : (w : W) → IsBegunBy (firsts s) (meaning w)) (known : IsInjective meaning s eq) (sound : IsSound s) where
   -- a value
   pub always_there : IsComponent always (λ w. Trees.more (meaning w)) eq meaning s eq (λ w. Some w) (λ _. false)
   always_there = record {

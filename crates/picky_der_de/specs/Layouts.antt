@@ -23,7 +23,7 @@ pub data Lacks (s : Shape) (old new : State) : Type 0 where
 
 -- No tag could be looked at, though the end isn't here; or a value begins there as those of the type do, and was refused.
 pub data RefusesOptional {V : Type 0} (meaning : V → Tree) (s : Shape) (old new : State) (e : Asn1DerError) : Type 0 where
-  no_tag : RefusesIdentifier old new e → (old.failed ≡ None → 0 < old.room) → RefusesOptional meaning s old new e
+  no_tag : RefusesIdentifier old new e → (old.failed ≡ None → 0 < old.until_end) → RefusesOptional meaning s old new e
   no_member : (mid : State) (tag : ℕ) → Identifies old mid tag → IsFirst s tag → RefusesMember meaning s mid new e → RefusesOptional meaning s old new e
 
 -- It was refused as one that may be missing is, or the default stands there and was read, and none is written out: this is `InvalidData`.
@@ -67,10 +67,10 @@ pub record ReadsLayout (l : Layout) (old new : State) (ts : Trees) : Type 0 wher
   pub order : AreInOrder old.sets (encodings ts)
   -- whether the first byte was looked at or not
   pub passes : (a : State) → Rests a old → Passes a new (bytes_of ts)
-  pub direct : new.direct ≡ None
+  pub implicit_tag : new.implicit_tag ≡ None
   -- what fails behind them has failed from before them
   pub fails : (last : State) (e : Asn1DerError) → Fails new last e → Fails old last e
-  pub full : AreMembersTold l → (last : State) (e : Asn1DerError) → Fails new last e → 0 < new.room → (us : Trees) → AreMembersOf l us → AreReadable us → StandUpToEnd old last e (bytes_of us) → ⊥
+  pub full : AreMembersTold l → (last : State) (e : Asn1DerError) → Fails new last e → 0 < new.until_end → (us : Trees) → AreMembersOf l us → AreReadable us → StandUpToEnd old last e (bytes_of us) → ⊥
 
 -- no values stand there as members up to the end
 pub record RefusesLayout {V : Type 0} (members : V → Trees) (l : Layout) (old new : State) (e : Asn1DerError) : Type 0 where

@@ -10,7 +10,7 @@ pub use Rattle.picky_der_input.specs.Enclosures
 pub mod Members
 pub mod Layouts
 pub mod LayoutLaws
-pub mod KnownLaws
+pub mod InjectiveLaws
 pub mod EnclosureLaws
 pub mod Firsts
 pub mod Telling

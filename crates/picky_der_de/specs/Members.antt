@@ -18,7 +18,7 @@ use Rattle.picky_der_input.specs.Reading.{Reads, Refuses, Concerns}
 pub record ReadsMember (s : Shape) (old new : State) (t : Tree) : Type 0 where
   pub mid : State
   pub reads : Reads s old mid t
-  pub direct : old.direct ≡ None
+  pub implicit_tag : old.implicit_tag ≡ None
   pub follows : Follows (der t) mid new
 
 -- why none may come next: no value of the type stands there, or one does that was read and then refused
@@ -30,11 +30,11 @@ pub data RefusesNext {V : Type 0} (meaning : V → Tree) (s : Shape) (old new : 
 pub record RefusesMember {V : Type 0} (meaning : V → Tree) (s : Shape) (old new : State) (e : Asn1DerError) : Type 0 where
   pub fails : Fails old new e
   pub refuses : RefusesNext meaning s old new e
-  pub direct : old.failed ≡ None → old.direct ≡ None
+  pub implicit_tag : old.failed ≡ None → old.implicit_tag ≡ None
 
 -- the end is here, and nothing was done
 pub record HasNoMore (old new : State) : Type 0 where
-  pub reached : old.room ≡ 0
+  pub reached : old.until_end ≡ 0
   pub had_not_failed : old.failed ≡ None
   pub same : new ≡ old
 
@@ -48,15 +48,15 @@ bytes_of ts = concat (encodings ts)
 pub record StandBefore (old new : State) (e : Asn1DerError) (bytes : List ℕ) : Type 0 where
   pub soft : old.end ≡ Soft
   pub seen : List ℕ
-  pub concerns : Concerns old new e old.room seen
+  pub concerns : Concerns old new e old.until_end seen
   pub rest : List ℕ
   pub begins : seen ≡ bytes ++ rest
-  pub within : length bytes ≤ old.room
+  pub within : length bytes ≤ old.until_end
 
 -- they reach up to the end
 pub record StandUpToEnd (old new : State) (e : Asn1DerError) (bytes : List ℕ) : Type 0 where
   pub stand : StandBefore old new e bytes
-  pub fills : length bytes ≡ old.room
+  pub fills : length bytes ≡ old.until_end
 
 -- these members were read, one for each shape
 pub record ReadsRow (ss : Shapes) (old new : State) (ts : Trees) : Type 0 where
@@ -64,7 +64,7 @@ pub record ReadsRow (ss : Shapes) (old new : State) (ts : Trees) : Type 0 where
   pub readable : AreReadable ts
   pub order : AreInOrder old.sets (encodings ts)
   pub takes : Takes (unordered old) (unordered new) (bytes_of ts)
-  pub direct : new.direct ≡ None
+  pub implicit_tag : new.implicit_tag ≡ None
 
 -- no values stand there as members, whatever is behind them
 pub record RefusesRow {V : Type 0} (members : V → Trees) (ss : Shapes) (old new : State) (e : Asn1DerError) : Type 0 where
@@ -78,8 +78,8 @@ pub record ReadsAll {V : Type 0} (meaning : V → Tree) (s : Shape) (old new : S
   pub readable : AreReadable (trees (map meaning vs))
   pub order : AreInOrder old.sets (encodings (trees (map meaning vs)))
   pub takes : Takes (unordered old) (unordered new) (bytes_of (trees (map meaning vs)))
-  pub direct : new.direct ≡ None
-  pub reached : new.room ≡ 0
+  pub implicit_tag : new.implicit_tag ≡ None
+  pub reached : new.until_end ≡ 0
 
 -- no values stand there as members up to the end, as many as there may be
 pub record RefusesAll {V : Type 0} (meaning : V → Tree) (s : Shape) (old new : State) (e : Asn1DerError) : Type 0 where

@@ -13,7 +13,7 @@ use Rattle.picky_der_de.specs.ArrayLaws.{times, array_known}
 use Rattle.picky_der_de.specs.Firsts.{IsBegunBy, firsts_in}
 use Rattle.picky_der_de.specs.Layouts.{AreBegunBy}
 use Rattle.picky_der_de.specs.LayoutLaws.{maybe_begun, maybe_told, same_unless_default}
-use Rattle.picky_der_de.specs.KnownLaws.{IsKnownByTree, boolean_known, unsigned_known, bytes_known, text_known, character_known, raw_known, option_known, list_known, both, row_members, first_member, other_members}
+use Rattle.picky_der_de.specs.InjectiveLaws.{IsInjective, boolean_known, unsigned_known, bytes_known, text_known, character_known, raw_known, option_known, list_known, both, row_members, first_member, other_members}
 
 -- where the two are one readable tree of the shape, the two values that mean them are equal
 pub record Tells (s : Shape) (t u : Tree) (equal : Bool) : Type 0 where
@@ -22,10 +22,10 @@ pub record Tells (s : Shape) (t u : Tree) (equal : Bool) : Type 0 where
 pub record TellAll (ss : Shapes) (ts us : Trees) (equal : Bool) : Type 0 where
   pub tell : AreOf ss ts → AreOf ss us → AreReadable ts → ts ≡ us → equal ≡ true
 
-pub told : {V : Type 0} {meaning : V → Tree} (s : Shape) {eq : V → V → Bool} → ((x y : V) → Tells s (meaning x) (meaning y) (eq x y)) → IsKnownByTree meaning s eq
+pub told : {V : Type 0} {meaning : V → Tree} (s : Shape) {eq : V → V → Bool} → ((x y : V) → Tells s (meaning x) (meaning y) (eq x y)) → IsInjective meaning s eq
 told s h x y = (h x y).tells
 
-pub by_law : {V : Type 0} {meaning : V → Tree} (s : Shape) {eq : V → V → Bool} → IsKnownByTree meaning s eq → (x y : V) → Tells s (meaning x) (meaning y) (eq x y)
+pub by_law : {V : Type 0} {meaning : V → Tree} (s : Shape) {eq : V → V → Bool} → IsInjective meaning s eq → (x y : V) → Tells s (meaning x) (meaning y) (eq x y)
 by_law s h x y = record { tells = h x y }
 
 pub tells_boolean : (x y : Bool) → Tells Shape.boolean (Tree.boolean x) (Tree.boolean y) (beq x y)

@@ -101,7 +101,7 @@ impl<A: Begins, B: Alternatives> Alternatives for OneOf<A, B> {
 
     ghost begins = { begins_this_or_other A.meaning B.chosen A.shape B.shapes A.begins B.begins };
 
-    ghost known = { known_this_or_other A.meaning B.chosen A.shape B.shapes A.begins B.begins ⟦<OneOf<A, B> as PartialEq>⟧.eq (λ _ _ h. h) (λ _ _ h. h) A.known_by_tree B.known };
+    ghost known = { known_this_or_other A.meaning B.chosen A.shape B.shapes A.begins B.begins ⟦<OneOf<A, B> as PartialEq>⟧.eq (λ _ _ h. h) (λ _ _ h. h) A.injective B.known };
 
     ghost sound = { (A.sound, B.sound) };
 }

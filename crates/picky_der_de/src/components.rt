@@ -1,6 +1,6 @@
 //! Up to eight members of a struct at a time, as they are read, and those behind them.
 ghost use Rattle.picky_der_de.specs.Layouts.{placed};
-ghost use Rattle.picky_der_de.specs.KnownLaws.{both};
+ghost use Rattle.picky_der_de.specs.InjectiveLaws.{both};
 ghost use Rattle.picky_der_de.specs.LayoutLaws.{equal_so, lead, behind};
 
 use crate::{DeserializeLayout, DeserializeMember, Sequence};

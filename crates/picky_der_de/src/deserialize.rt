@@ -2,7 +2,7 @@
 ghost use Rattle.std.specs.Prelude.{IfOk, IfErr};
 ghost use Rattle.picky_der_core.specs.Shape.{Shape, IsSound};
 ghost use Rattle.picky_der_input.specs.Reading.{Reads, Refuses};
-ghost use Rattle.picky_der_de.specs.KnownLaws.{IsKnownByTree};
+ghost use Rattle.picky_der_de.specs.InjectiveLaws.{IsInjective};
 
 use crate::Deserializer;
 use picky_der_core::Result;
@@ -24,7 +24,7 @@ pub trait Deserialize: Serialize + PartialEq + Drop + Sized {
         ensures err { IfErr result (Refuses Self.meaning shape de.old de.new) };
 
     // Two readable values with one tree are equal.
-    ghost known_by_tree: { IsKnownByTree Self.meaning shape Self.eq };
+    ghost injective: { IsInjective Self.meaning shape Self.eq };
 
     // The choices in the shape are told by their first byte.
     ghost sound: { IsSound shape };

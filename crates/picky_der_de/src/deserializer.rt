@@ -53,7 +53,8 @@ impl<'a> Deserializer<&'a [u8]> {
 impl<R: ReadExt> Deserializer<R> {
     /// Reads from a reader. At most `max_len` bytes are drawn in all.
     pub fn new_from_reader(alloc: Global, reader: R, max_len: usize) -> Deserializer<R>
-        ensures { result ≡ fresh (R.remaining reader) max_len (R.faults reader) (R.through reader) }
+        ensures { result ≡ fresh (R.remaining reader) max_len (R.faults reader)
+            (R.references reader) }
     {
         Deserializer {
             input: Input::new(alloc, reader, max_len),
@@ -66,7 +67,7 @@ impl<R: ReadExt> Deserializer<R> {
     pub fn into_reader(self) -> R
         ensures input { self.input ≡ in_front self.peeked (R.remaining result) }
         ensures faults { R.faults result ≡ self.faults }
-        ensures same_references { R.through result ≡ self.through }
+        ensures same_references { R.references result ≡ self.references }
     {
         let Deserializer {
             input,

@@ -16,7 +16,7 @@ fn read_from<T: Deserialize, R: ReadExt>(alloc: Global, reader: R, max_len: usiz
         (told R.remaining R.faults reader) (told R.remaining R.faults result.1)) }
     ensures err { IfErr result.0 (RefusesFront T.meaning T.shape max_len
         (told R.remaining R.faults reader) (told R.remaining R.faults result.1)) }
-    ensures same_references { R.through result.1 ≡ R.through reader }
+    ensures same_references { R.references result.1 ≡ R.references reader }
 {
     let mut de = Deserializer::new_from_reader(alloc, reader, max_len);
     let result = T::deserialize(&mut de);
@@ -46,7 +46,7 @@ pub fn from_reader<T: Deserialize, R: ReadExt>(alloc: Global, reader: &mut R) ->
         (told R.remaining R.faults reader.old) (told R.remaining R.faults reader.new)) }
     ensures err { IfErr result (RefusesFront T.meaning T.shape 10240
         (told R.remaining R.faults reader.old) (told R.remaining R.faults reader.new)) }
-    ensures same_references { R.through reader.new ≡ R.through reader.old }
+    ensures same_references { R.references reader.new ≡ R.references reader.old }
 {
     from_reader_with_max_len(alloc, reader, DEFAULT_MAX_LEN)
 }
@@ -61,7 +61,7 @@ pub fn from_reader_with_max_len<T: Deserialize, R: ReadExt>(
         (told R.remaining R.faults reader.old) (told R.remaining R.faults reader.new)) }
     ensures err { IfErr result (RefusesFront T.meaning T.shape max_len
         (told R.remaining R.faults reader.old) (told R.remaining R.faults reader.new)) }
-    ensures same_references { R.through reader.new ≡ R.through reader.old }
+    ensures same_references { R.references reader.new ≡ R.references reader.old }
 {
     let (result, _reader) = read_from::<T, &mut R>(alloc, reader, max_len);
     result

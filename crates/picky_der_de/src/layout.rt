@@ -24,12 +24,13 @@ pub trait DeserializeLayout: SerializeMembers + PartialEq + Drop + Sized {
     /// behind the last one may be looked at, and isn't read.
     fn deserialize_layout<R: ReadExt>(sequence: &mut Sequence<'_, R>) -> Result<Self>
         requires had_not_failed { (state_of sequence.old).failed ≡ None }
-        requires direct { (state_of sequence.old).direct ≡ None }
+        requires implicit_tag { (state_of sequence.old).implicit_tag ≡ None }
         ensures same_reference { borrowed_by sequence.new ≡ borrowed_by sequence.old }
         ensures outer { outer_of sequence.new ≡ outer_of sequence.old }
         ensures ok { IfOk result (λ row. ReadsLayout layout (state_of sequence.old)
             (state_of sequence.new) (Self.members row)) }
-        ensures err { IfErr result (RefusesLayout Self.members layout (state_of sequence.old) (state_of sequence.new)) };
+        ensures err { IfErr result (RefusesLayout Self.members layout (state_of sequence.old)
+            (state_of sequence.new)) };
 
     // The first that is there begins with no other byte than its layout says, and they are known by their trees.
     ghost are_components: { AreComponents Self.members layout (λ x y. IsTrue (Self.eq x y)) };

@@ -47,7 +47,8 @@ pub trait DeserializeMember: SerializeMember + PartialEq + Drop + Sized {
             (item_meaning value))) }
         ensures none { IfOk result (λ place. IfNone (item place)
             (Lacks shape (state_of sequence.old) (state_of sequence.new))) }
-        ensures err { IfErr result (RefusesComponent presence item_meaning left_out shape (state_of sequence.old) (state_of sequence.new)) };
+        ensures err { IfErr result (RefusesComponent presence item_meaning left_out shape
+            (state_of sequence.old) (state_of sequence.new)) };
 
     // What is written of it is what stands there, and it is known by that.
     ghost is_component: { IsComponent presence Self.in_front Self.eq item_meaning shape item_eq item left_out };
@@ -72,7 +73,7 @@ impl<T: Begins> DeserializeMember for T {
         sequence.next_field::<T>()
     }
 
-    ghost is_component = { always_there T.meaning T.shape T.eq T.begins T.known_by_tree T.sound };
+    ghost is_component = { always_there T.meaning T.shape T.eq T.begins T.injective T.sound };
 }
 
 impl<T: Begins> DeserializeMember for Optional<T> {
@@ -95,7 +96,7 @@ impl<T: Begins> DeserializeMember for Optional<T> {
         Ok(Optional(value))
     }
 
-    ghost is_component = { perhaps_there T.meaning T.shape T.eq T.begins T.known_by_tree T.sound (λ member. member.0) };
+    ghost is_component = { perhaps_there T.meaning T.shape T.eq T.begins T.injective T.sound (λ member. member.0) };
 }
 
 impl<T: Begins, D: DefaultOf<T>> DeserializeMember for Defaulted<T, D> {
@@ -118,5 +119,5 @@ impl<T: Begins, D: DefaultOf<T>> DeserializeMember for Defaulted<T, D> {
         Ok(Defaulted::new(value))
     }
 
-    ghost is_component = { with_default T.meaning T.shape T.eq T.begins T.known_by_tree T.sound D.left_out D.by_tree D.one (λ member. member.value) };
+    ghost is_component = { with_default T.meaning T.shape T.eq T.begins T.injective T.sound D.left_out D.by_tree D.one (λ member. member.value) };
 }

@@ -4,7 +4,7 @@ ghost use Rattle.std.proofs.Common.{refl};
 ghost use Rattle.picky_der_core.specs.Tree.{ListKind};
 ghost use Rattle.picky_der_core.specs.Shape.{Shape, Shapes, AreSound};
 ghost use Rattle.picky_der_de.specs.Members.{ReadsRow, RefusesRow};
-ghost use Rattle.picky_der_de.specs.KnownLaws.{AreKnownByTrees, both, row_members, first_member, other_members};
+ghost use Rattle.picky_der_de.specs.InjectiveLaws.{AreInjective, both, row_members, first_member, other_members};
 
 use crate::{Deserialize, Deserializer, Sequence};
 use picky_der_core::Result;
@@ -23,15 +23,16 @@ pub trait DeserializeMembers: SerializeMembers + PartialEq + Drop + Sized {
     fn deserialize_members<R: ReadExt>(sequence: &mut Sequence<'_, R>) -> Result<Self>
         requires had_not_failed { (state_of sequence.old).failed ≡ None }
         requires unpeeked { (state_of sequence.old).peeked ≡ None }
-        requires direct { (state_of sequence.old).direct ≡ None }
+        requires implicit_tag { (state_of sequence.old).implicit_tag ≡ None }
         ensures same_reference { borrowed_by sequence.new ≡ borrowed_by sequence.old }
         ensures outer { outer_of sequence.new ≡ outer_of sequence.old }
         ensures ok { IfOk result (λ row. ReadsRow shapes (state_of sequence.old)
             (state_of sequence.new) (Self.members row)) }
-        ensures err { IfErr result (RefusesRow Self.members shapes (state_of sequence.old) (state_of sequence.new)) };
+        ensures err { IfErr result (RefusesRow Self.members shapes (state_of sequence.old)
+            (state_of sequence.new)) };
 
     // Two rows of readable members with the same trees are equal.
-    ghost known_by_trees: { AreKnownByTrees Self.members shapes Self.eq };
+    ghost injective: { AreInjective Self.members shapes Self.eq };
 
     // The choices in the shapes are told by their first byte.
     ghost sound: { AreSound shapes };
@@ -44,7 +45,7 @@ impl DeserializeMembers for () {
         Ok(())
     }
 
-    ghost known_by_trees = { λ _ _ _ _ _ _. refl };
+    ghost injective = { λ _ _ _ _ _ _. refl };
 
     ghost sound = { tt };
 }
@@ -52,7 +53,7 @@ impl DeserializeMembers for () {
 impl<M: DeserializeMembers> Deserialize for Row<M> {
     ghost shape = { Shape.fields ListKind.sequence M.shapes };
 
-    ghost known_by_tree = { λ x y p q r e. M.known_by_trees x.0 y.0 p.1 q.1 r.1 (row_members e) };
+    ghost injective = { λ x y p q r e. M.injective x.0 y.0 p.1 q.1 r.1 (row_members e) };
 
     ghost sound = { M.sound };
 

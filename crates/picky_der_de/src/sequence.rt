@@ -15,9 +15,9 @@ pub struct Sequence<'a, R: ReadExt> {
     de: &'a mut Deserializer<R>,
     // The end around its own.
     outer: Outer,
-    ghost within: { de.now.taken + de.now.room ≤ outer.place },
+    ghost within: { de.now.taken + de.now.until_end ≤ outer.place },
     ghost bounded: { outer.place ≤ de.now.limit },
-    ghost whole: { de.now.failed ≡ None → de.now.direct ≡ None },
+    ghost whole: { de.now.failed ≡ None → de.now.implicit_tag ≡ None },
 }
 
 impl<'a, R: ReadExt> Sequence<'a, R> {
@@ -57,7 +57,7 @@ impl<'a, R: ReadExt> Sequence<'a, R> {
         ensures err { IfErr result (RefusesMember T.meaning T.shape (state_of self.old)
             (state_of self.new)) }
         ensures ahead { IfErr result (λ e. (state_of self.old).failed ≡ None
-            → 0 < (state_of self.old).room) }
+            → 0 < (state_of self.old).until_end) }
     {
         if self.de.is_at_end()? {
             return Ok(None);
@@ -77,8 +77,9 @@ impl<'a, R: ReadExt> Sequence<'a, R> {
             (state_of self.new) (T.meaning value)) }
         ensures err { IfErr result (RefusesMember T.meaning T.shape (state_of self.old)
             (state_of self.new)) }
-        ensures at_end { (state_of self.old).failed ≡ None → (state_of self.old).room ≡ 0
-            → (result ≡ Err Asn1DerError.TruncatedData) × ((state_of self.new) ≡ failed_with (state_of self.old) Asn1DerError.TruncatedData) }
+        ensures at_end { (state_of self.old).failed ≡ None → (state_of self.old).until_end ≡ 0
+            → (result ≡ Err Asn1DerError.TruncatedData)
+            × ((state_of self.new) ≡ failed_with (state_of self.old) Asn1DerError.TruncatedData) }
     {
         match self.next_element::<T>()? {
             Some(value) => Ok(value),
@@ -98,7 +99,7 @@ impl<'a, R: ReadExt> Sequence<'a, R> {
             (HasNoMore (state_of self.old) (state_of self.new))) }
         ensures err { IfErr result (RefusesIdentifier (state_of self.old) (state_of self.new)) }
         ensures ahead { IfErr result (λ e. (state_of self.old).failed ≡ None
-            → 0 < (state_of self.old).room) }
+            → 0 < (state_of self.old).until_end) }
     {
         if self.de.is_at_end()? {
             return Ok(None);
@@ -166,7 +167,7 @@ impl<'a, R: ReadExt> Sequence<'a, R> {
     pub(crate) fn collect<T: Deserialize>(&mut self) -> Result<Vec<T>>
         requires had_not_failed { (state_of self.old).failed ≡ None }
         requires unpeeked { (state_of self.old).peeked ≡ None }
-        requires direct { (state_of self.old).direct ≡ None }
+        requires implicit_tag { (state_of self.old).implicit_tag ≡ None }
         ensures same_reference { borrowed_by self.new ≡ borrowed_by self.old }
         ensures outer { outer_of self.new ≡ outer_of self.old }
         ensures ok { IfOk result (λ values. ReadsAll T.meaning T.shape (state_of self.old)

@@ -1,6 +1,6 @@
 //! Up to eight members of a row at a time, as they are read, and those behind them.
 ghost use Rattle.picky_der_core.specs.Shape.{Shapes};
-ghost use Rattle.picky_der_de.specs.KnownLaws.{both, first_member, other_members};
+ghost use Rattle.picky_der_de.specs.InjectiveLaws.{both, first_member, other_members};
 
 use crate::{Deserialize, DeserializeMembers, Sequence};
 use picky_der_core::Result;
@@ -15,7 +15,7 @@ impl<A: Deserialize, Z: DeserializeMembers> DeserializeMembers for (A, Z) {
         Ok((first, others))
     }
 
-    ghost known_by_trees = { λ x y p q r e. both (A.known_by_tree x.0 y.0 p.0 q.0 r.0 (first_member e)) (Z.known_by_trees x.1 y.1 p.1 q.1 r.1 (other_members e)) };
+    ghost injective = { λ x y p q r e. both (A.injective x.0 y.0 p.0 q.0 r.0 (first_member e)) (Z.injective x.1 y.1 p.1 q.1 r.1 (other_members e)) };
 
     ghost sound = { (A.sound, Z.sound) };
 }
@@ -30,7 +30,7 @@ impl<A: Deserialize, B: Deserialize, Z: DeserializeMembers> DeserializeMembers f
         Ok((first, second, behind))
     }
 
-    ghost known_by_trees = { λ x y p q r e. both (both (A.known_by_tree x.0 y.0 p.0 q.0 r.0 (first_member e)) (B.known_by_tree x.1 y.1 p.1.0 q.1.0 r.1.0 (first_member (other_members e)))) (Z.known_by_trees x.2 y.2 p.1.1 q.1.1 r.1.1 (other_members (other_members e))) };
+    ghost injective = { λ x y p q r e. both (both (A.injective x.0 y.0 p.0 q.0 r.0 (first_member e)) (B.injective x.1 y.1 p.1.0 q.1.0 r.1.0 (first_member (other_members e)))) (Z.injective x.2 y.2 p.1.1 q.1.1 r.1.1 (other_members (other_members e))) };
 
     ghost sound = { (A.sound, (B.sound, Z.sound)) };
 }
@@ -46,7 +46,7 @@ impl<A: Deserialize, B: Deserialize, C: Deserialize, Z: DeserializeMembers> Dese
         Ok((first, second, third, behind))
     }
 
-    ghost known_by_trees = { λ x y p q r e. both (both (both (A.known_by_tree x.0 y.0 p.0 q.0 r.0 (first_member e)) (B.known_by_tree x.1 y.1 p.1.0 q.1.0 r.1.0 (first_member (other_members e)))) (C.known_by_tree x.2 y.2 p.1.1.0 q.1.1.0 r.1.1.0 (first_member (other_members (other_members e))))) (Z.known_by_trees x.3 y.3 p.1.1.1 q.1.1.1 r.1.1.1 (other_members (other_members (other_members e)))) };
+    ghost injective = { λ x y p q r e. both (both (both (A.injective x.0 y.0 p.0 q.0 r.0 (first_member e)) (B.injective x.1 y.1 p.1.0 q.1.0 r.1.0 (first_member (other_members e)))) (C.injective x.2 y.2 p.1.1.0 q.1.1.0 r.1.1.0 (first_member (other_members (other_members e))))) (Z.injective x.3 y.3 p.1.1.1 q.1.1.1 r.1.1.1 (other_members (other_members (other_members e)))) };
 
     ghost sound = { (A.sound, (B.sound, (C.sound, Z.sound))) };
 }
@@ -67,7 +67,7 @@ impl<
         Ok((first, second, third, fourth, behind))
     }
 
-    ghost known_by_trees = { λ x y p q r e. both (both (both (both (A.known_by_tree x.0 y.0 p.0 q.0 r.0 (first_member e)) (B.known_by_tree x.1 y.1 p.1.0 q.1.0 r.1.0 (first_member (other_members e)))) (C.known_by_tree x.2 y.2 p.1.1.0 q.1.1.0 r.1.1.0 (first_member (other_members (other_members e))))) (D.known_by_tree x.3 y.3 p.1.1.1.0 q.1.1.1.0 r.1.1.1.0 (first_member (other_members (other_members (other_members e)))))) (Z.known_by_trees x.4 y.4 p.1.1.1.1 q.1.1.1.1 r.1.1.1.1 (other_members (other_members (other_members (other_members e))))) };
+    ghost injective = { λ x y p q r e. both (both (both (both (A.injective x.0 y.0 p.0 q.0 r.0 (first_member e)) (B.injective x.1 y.1 p.1.0 q.1.0 r.1.0 (first_member (other_members e)))) (C.injective x.2 y.2 p.1.1.0 q.1.1.0 r.1.1.0 (first_member (other_members (other_members e))))) (D.injective x.3 y.3 p.1.1.1.0 q.1.1.1.0 r.1.1.1.0 (first_member (other_members (other_members (other_members e)))))) (Z.injective x.4 y.4 p.1.1.1.1 q.1.1.1.1 r.1.1.1.1 (other_members (other_members (other_members (other_members e))))) };
 
     ghost sound = { (A.sound, (B.sound, (C.sound, (D.sound, Z.sound)))) };
 }
@@ -91,7 +91,7 @@ impl<
         Ok((first, second, third, fourth, fifth, behind))
     }
 
-    ghost known_by_trees = { λ x y p q r e. both (both (both (both (both (A.known_by_tree x.0 y.0 p.0 q.0 r.0 (first_member e)) (B.known_by_tree x.1 y.1 p.1.0 q.1.0 r.1.0 (first_member (other_members e)))) (C.known_by_tree x.2 y.2 p.1.1.0 q.1.1.0 r.1.1.0 (first_member (other_members (other_members e))))) (D.known_by_tree x.3 y.3 p.1.1.1.0 q.1.1.1.0 r.1.1.1.0 (first_member (other_members (other_members (other_members e)))))) (E.known_by_tree x.4 y.4 p.1.1.1.1.0 q.1.1.1.1.0 r.1.1.1.1.0 (first_member (other_members (other_members (other_members (other_members e))))))) (Z.known_by_trees x.5 y.5 p.1.1.1.1.1 q.1.1.1.1.1 r.1.1.1.1.1 (other_members (other_members (other_members (other_members (other_members e)))))) };
+    ghost injective = { λ x y p q r e. both (both (both (both (both (A.injective x.0 y.0 p.0 q.0 r.0 (first_member e)) (B.injective x.1 y.1 p.1.0 q.1.0 r.1.0 (first_member (other_members e)))) (C.injective x.2 y.2 p.1.1.0 q.1.1.0 r.1.1.0 (first_member (other_members (other_members e))))) (D.injective x.3 y.3 p.1.1.1.0 q.1.1.1.0 r.1.1.1.0 (first_member (other_members (other_members (other_members e)))))) (E.injective x.4 y.4 p.1.1.1.1.0 q.1.1.1.1.0 r.1.1.1.1.0 (first_member (other_members (other_members (other_members (other_members e))))))) (Z.injective x.5 y.5 p.1.1.1.1.1 q.1.1.1.1.1 r.1.1.1.1.1 (other_members (other_members (other_members (other_members (other_members e)))))) };
 
     ghost sound = { (A.sound, (B.sound, (C.sound, (D.sound, (E.sound, Z.sound))))) };
 }
@@ -116,7 +116,7 @@ impl<
         Ok((first, second, third, fourth, fifth, sixth, behind))
     }
 
-    ghost known_by_trees = { λ x y p q r e. both (both (both (both (both (both (A.known_by_tree x.0 y.0 p.0 q.0 r.0 (first_member e)) (B.known_by_tree x.1 y.1 p.1.0 q.1.0 r.1.0 (first_member (other_members e)))) (C.known_by_tree x.2 y.2 p.1.1.0 q.1.1.0 r.1.1.0 (first_member (other_members (other_members e))))) (D.known_by_tree x.3 y.3 p.1.1.1.0 q.1.1.1.0 r.1.1.1.0 (first_member (other_members (other_members (other_members e)))))) (E.known_by_tree x.4 y.4 p.1.1.1.1.0 q.1.1.1.1.0 r.1.1.1.1.0 (first_member (other_members (other_members (other_members (other_members e))))))) (F.known_by_tree x.5 y.5 p.1.1.1.1.1.0 q.1.1.1.1.1.0 r.1.1.1.1.1.0 (first_member (other_members (other_members (other_members (other_members (other_members e)))))))) (Z.known_by_trees x.6 y.6 p.1.1.1.1.1.1 q.1.1.1.1.1.1 r.1.1.1.1.1.1 (other_members (other_members (other_members (other_members (other_members (other_members e))))))) };
+    ghost injective = { λ x y p q r e. both (both (both (both (both (both (A.injective x.0 y.0 p.0 q.0 r.0 (first_member e)) (B.injective x.1 y.1 p.1.0 q.1.0 r.1.0 (first_member (other_members e)))) (C.injective x.2 y.2 p.1.1.0 q.1.1.0 r.1.1.0 (first_member (other_members (other_members e))))) (D.injective x.3 y.3 p.1.1.1.0 q.1.1.1.0 r.1.1.1.0 (first_member (other_members (other_members (other_members e)))))) (E.injective x.4 y.4 p.1.1.1.1.0 q.1.1.1.1.0 r.1.1.1.1.0 (first_member (other_members (other_members (other_members (other_members e))))))) (F.injective x.5 y.5 p.1.1.1.1.1.0 q.1.1.1.1.1.0 r.1.1.1.1.1.0 (first_member (other_members (other_members (other_members (other_members (other_members e)))))))) (Z.injective x.6 y.6 p.1.1.1.1.1.1 q.1.1.1.1.1.1 r.1.1.1.1.1.1 (other_members (other_members (other_members (other_members (other_members (other_members e))))))) };
 
     ghost sound = { (A.sound, (B.sound, (C.sound, (D.sound, (E.sound, (F.sound, Z.sound)))))) };
 }
@@ -142,7 +142,7 @@ impl<
         Ok((first, second, third, fourth, fifth, sixth, seventh, behind))
     }
 
-    ghost known_by_trees = { λ x y p q r e. both (both (both (both (both (both (both (A.known_by_tree x.0 y.0 p.0 q.0 r.0 (first_member e)) (B.known_by_tree x.1 y.1 p.1.0 q.1.0 r.1.0 (first_member (other_members e)))) (C.known_by_tree x.2 y.2 p.1.1.0 q.1.1.0 r.1.1.0 (first_member (other_members (other_members e))))) (D.known_by_tree x.3 y.3 p.1.1.1.0 q.1.1.1.0 r.1.1.1.0 (first_member (other_members (other_members (other_members e)))))) (E.known_by_tree x.4 y.4 p.1.1.1.1.0 q.1.1.1.1.0 r.1.1.1.1.0 (first_member (other_members (other_members (other_members (other_members e))))))) (F.known_by_tree x.5 y.5 p.1.1.1.1.1.0 q.1.1.1.1.1.0 r.1.1.1.1.1.0 (first_member (other_members (other_members (other_members (other_members (other_members e)))))))) (G.known_by_tree x.6 y.6 p.1.1.1.1.1.1.0 q.1.1.1.1.1.1.0 r.1.1.1.1.1.1.0 (first_member (other_members (other_members (other_members (other_members (other_members (other_members e))))))))) (Z.known_by_trees x.7 y.7 p.1.1.1.1.1.1.1 q.1.1.1.1.1.1.1 r.1.1.1.1.1.1.1 (other_members (other_members (other_members (other_members (other_members (other_members (other_members e)))))))) };
+    ghost injective = { λ x y p q r e. both (both (both (both (both (both (both (A.injective x.0 y.0 p.0 q.0 r.0 (first_member e)) (B.injective x.1 y.1 p.1.0 q.1.0 r.1.0 (first_member (other_members e)))) (C.injective x.2 y.2 p.1.1.0 q.1.1.0 r.1.1.0 (first_member (other_members (other_members e))))) (D.injective x.3 y.3 p.1.1.1.0 q.1.1.1.0 r.1.1.1.0 (first_member (other_members (other_members (other_members e)))))) (E.injective x.4 y.4 p.1.1.1.1.0 q.1.1.1.1.0 r.1.1.1.1.0 (first_member (other_members (other_members (other_members (other_members e))))))) (F.injective x.5 y.5 p.1.1.1.1.1.0 q.1.1.1.1.1.0 r.1.1.1.1.1.0 (first_member (other_members (other_members (other_members (other_members (other_members e)))))))) (G.injective x.6 y.6 p.1.1.1.1.1.1.0 q.1.1.1.1.1.1.0 r.1.1.1.1.1.1.0 (first_member (other_members (other_members (other_members (other_members (other_members (other_members e))))))))) (Z.injective x.7 y.7 p.1.1.1.1.1.1.1 q.1.1.1.1.1.1.1 r.1.1.1.1.1.1.1 (other_members (other_members (other_members (other_members (other_members (other_members (other_members e)))))))) };
 
     ghost sound = { (A.sound, (B.sound, (C.sound, (D.sound, (E.sound, (F.sound, (G.sound, Z.sound))))))) };
 }
@@ -173,7 +173,7 @@ impl<
         ))
     }
 
-    ghost known_by_trees = { λ x y p q r e. both (both (both (both (both (both (both (both (A.known_by_tree x.0 y.0 p.0 q.0 r.0 (first_member e)) (B.known_by_tree x.1 y.1 p.1.0 q.1.0 r.1.0 (first_member (other_members e)))) (C.known_by_tree x.2 y.2 p.1.1.0 q.1.1.0 r.1.1.0 (first_member (other_members (other_members e))))) (D.known_by_tree x.3 y.3 p.1.1.1.0 q.1.1.1.0 r.1.1.1.0 (first_member (other_members (other_members (other_members e)))))) (E.known_by_tree x.4 y.4 p.1.1.1.1.0 q.1.1.1.1.0 r.1.1.1.1.0 (first_member (other_members (other_members (other_members (other_members e))))))) (F.known_by_tree x.5 y.5 p.1.1.1.1.1.0 q.1.1.1.1.1.0 r.1.1.1.1.1.0 (first_member (other_members (other_members (other_members (other_members (other_members e)))))))) (G.known_by_tree x.6 y.6 p.1.1.1.1.1.1.0 q.1.1.1.1.1.1.0 r.1.1.1.1.1.1.0 (first_member (other_members (other_members (other_members (other_members (other_members (other_members e))))))))) (H.known_by_tree x.7 y.7 p.1.1.1.1.1.1.1.0 q.1.1.1.1.1.1.1.0 r.1.1.1.1.1.1.1.0 (first_member (other_members (other_members (other_members (other_members (other_members (other_members (other_members e)))))))))) (Z.known_by_trees x.8 y.8 p.1.1.1.1.1.1.1.1 q.1.1.1.1.1.1.1.1 r.1.1.1.1.1.1.1.1 (other_members (other_members (other_members (other_members (other_members (other_members (other_members (other_members e))))))))) };
+    ghost injective = { λ x y p q r e. both (both (both (both (both (both (both (both (A.injective x.0 y.0 p.0 q.0 r.0 (first_member e)) (B.injective x.1 y.1 p.1.0 q.1.0 r.1.0 (first_member (other_members e)))) (C.injective x.2 y.2 p.1.1.0 q.1.1.0 r.1.1.0 (first_member (other_members (other_members e))))) (D.injective x.3 y.3 p.1.1.1.0 q.1.1.1.0 r.1.1.1.0 (first_member (other_members (other_members (other_members e)))))) (E.injective x.4 y.4 p.1.1.1.1.0 q.1.1.1.1.0 r.1.1.1.1.0 (first_member (other_members (other_members (other_members (other_members e))))))) (F.injective x.5 y.5 p.1.1.1.1.1.0 q.1.1.1.1.1.0 r.1.1.1.1.1.0 (first_member (other_members (other_members (other_members (other_members (other_members e)))))))) (G.injective x.6 y.6 p.1.1.1.1.1.1.0 q.1.1.1.1.1.1.0 r.1.1.1.1.1.1.0 (first_member (other_members (other_members (other_members (other_members (other_members (other_members e))))))))) (H.injective x.7 y.7 p.1.1.1.1.1.1.1.0 q.1.1.1.1.1.1.1.0 r.1.1.1.1.1.1.1.0 (first_member (other_members (other_members (other_members (other_members (other_members (other_members (other_members e)))))))))) (Z.injective x.8 y.8 p.1.1.1.1.1.1.1.1 q.1.1.1.1.1.1.1.1 r.1.1.1.1.1.1.1.1 (other_members (other_members (other_members (other_members (other_members (other_members (other_members (other_members e))))))))) };
 
     ghost sound = { (A.sound, (B.sound, (C.sound, (D.sound, (E.sound, (F.sound, (G.sound, (H.sound, Z.sound)))))))) };
 }

@@ -30,12 +30,12 @@ impl<R: ReadExt> Deserializer<R> {
     // The next value, and `None` where the input has ended.
     fn next_value<T: Deserialize>(&mut self) -> Result<Option<T>>
         requires had_not_failed { self.old.failed ≡ None }
-        requires whole { self.old.direct ≡ None }
+        requires whole { self.old.implicit_tag ≡ None }
         ensures value { IfOk result (λ next. IfSome next
             (λ value. Reads T.shape self.old self.new (T.meaning value))) }
         ensures ended { IfOk result (λ next. IfNone next (HasEnded self.old self.new)) }
         ensures err { IfErr result (Refuses T.meaning T.shape self.old self.new) }
-        ensures ahead { IfErr result (λ e. IsJudged self.old self.new e → 0 < self.old.room
+        ensures ahead { IfErr result (λ e. IsJudged self.old self.new e → 0 < self.old.until_end
             → IfSome self.old.input (λ bytes. 0 < length bytes)) }
     {
         match self.identify_next() {
@@ -63,7 +63,7 @@ fn read_next_from<T: Deserialize, R: ReadExt>(
         (told R.remaining R.faults result.1))) }
     ensures err { IfErr result.0 (RefusesNextValue T.meaning T.shape max_len
         (told R.remaining R.faults reader) (told R.remaining R.faults result.1)) }
-    ensures same_references { R.through result.1 ≡ R.through reader }
+    ensures same_references { R.references result.1 ≡ R.references reader }
 {
     let mut de = Deserializer::new_from_reader(alloc, reader, max_len);
     let next = de.next_value::<T>();
@@ -87,7 +87,7 @@ pub fn next_from_reader<T: Deserialize, R: ReadExt>(
         (told R.remaining R.faults reader.new))) }
     ensures err { IfErr result (RefusesNextValue T.meaning T.shape max_len
         (told R.remaining R.faults reader.old) (told R.remaining R.faults reader.new)) }
-    ensures same_references { R.through reader.new ≡ R.through reader.old }
+    ensures same_references { R.references reader.new ≡ R.references reader.old }
 {
     let (next, _reader) = read_next_from::<T, &mut R>(alloc, reader, max_len);
     next

@@ -32,7 +32,7 @@ given_up_takes : {a c : State} {bs : List ℕ} → Takes (given_up a) c bs → T
 given_up_takes t = record {
   input = t.input;
   taken = t.taken;
-  room = t.room;
+  until_end = t.until_end;
   end = t.end;
   limit = t.limit;
   sets = t.sets;
@@ -41,7 +41,7 @@ given_up_takes t = record {
   had_not_failed = t.had_not_failed;
   not_failed = t.not_failed;
   faults = t.faults;
-  through = t.through;
+  references = t.references;
 }
 
 given_up_fails : {a c : State} {e : Asn1DerError} → Fails (given_up a) c e → Fails a c e
@@ -57,7 +57,7 @@ given_up_fails f = record {
   limit = f.limit;
   within = λ w. f.within (record { end = w.end; drawn = w.drawn });
   there = f.there;
-  through = f.through;
+  references = f.references;
 }
 
 given_up_judged : {a c : State} {e : Asn1DerError} → IsJudged a c e → IsJudged (given_up a) c e
@@ -134,7 +134,7 @@ refuses_tagged {a} {b} {c} {e} {tag} {x} t g n byte h = record {
       let f = front_of t k in
       record {
         left = q.left;
-        refused = ap (raw_refusal a) f.before ∙ element_plain tag (is_hard a.end) a.room (x ++ take b.room f.rest) n ∙ ap (refusal_at tag bytes_fault (given_up a)) (sym f.before) ∙ q.refused;
+        refused = ap (raw_refusal a) f.before ∙ element_plain tag (is_hard a.end) a.until_end (x ++ take b.until_end f.rest) n ∙ ap (refusal_at tag bytes_fault (given_up a)) (sym f.before) ∙ q.refused;
         input = q.input;
         kept = q.kept;
         used = q.used;
@@ -172,17 +172,17 @@ raw_long_form {a} {first = first} t past f is same = record {
         omega (arith, q.0, past);
     first = λ j k d l b left q. absurd (let r : UnsupportedValue ≡ TruncatedData = sym is ∙ k in cc);
   };
-  just = λ j bs k. given_up_just (just_taken (raw_refusal a) t same k (λ y. element_long_form first (is_hard a.end) a.room y past ∙ ap (λ x. Some (x, y)) (sym is)));
+  just = λ j bs k. given_up_just (just_taken (raw_refusal a) t same k (λ y. element_long_form first (is_hard a.end) a.until_end y past ∙ ap (λ x. Some (x, y)) (sym is)));
 }
 
 -- the length behind the tag was refused
-pub raw_no_length : {a b c : State} {e : Asn1DerError} {tag : ℕ} → Takes (given_up a) b (tag ∷ []) → IsTagNumber (number_of tag) → tag < 256 → a.room < 2 ^ 64 → RefusesContentLength b c e → RefusesRaw a c e
+pub raw_no_length : {a b c : State} {e : Asn1DerError} {tag : ℕ} → Takes (given_up a) b (tag ∷ []) → IsTagNumber (number_of tag) → tag < 256 → a.until_end < 2 ^ 64 → RefusesContentLength b c e → RefusesRaw a c e
 raw_no_length {tag = tag} t n byte bounded r =
     let h = header_unread tag n t r in
     refuses_tagged t (failed_grows r.fails) n byte (refuses_header (bytes_kind tag n) (record { fails = h.fails; header = λ j. (refl, h); bounded = λ w. bounded }))
 
 begins_tagged : {a b : State} {tag n : ℕ} → BeginsElement a b tag n → Begins tag (given_up a) b n
-begins_tagged h = record { takes = h.takes; direct = h.direct; fits = h.fits; all = tt; bounded = h.bounded }
+begins_tagged h = record { takes = h.takes; implicit_tag = h.implicit_tag; fits = h.fits; all = tt; bounded = h.bounded }
 
 -- the content ended before it was whole
 pub raw_cut : {a b c : State} {e : Asn1DerError} {tag n : ℕ} → BeginsElement a b tag n → StopsShort b c n e → RefusesRaw a c e
@@ -190,28 +190,28 @@ raw_cut {tag = tag} h s = refuses_tagged h.takes (failed_grows s.fails) h.number
 
 -- ---- read
 
-raw_may_stand : (d : Option ℕ) (room : ℕ) (s : List ℕ) → MayStand (place_in d room) (Tree.raw s)
-raw_may_stand None room s = tt
-raw_may_stand (Some number) room s = record { no_choice = tt; filled = λ plain. absurd (let q : false ≡ true = plain in cc) }
+raw_may_stand : (d : Option ℕ) (until_end : ℕ) (s : List ℕ) → MayStand (place_in d until_end) (Tree.raw s)
+raw_may_stand None until_end s = tt
+raw_may_stand (Some number) until_end s = record { no_choice = tt; filled = λ plain. absurd (let q : false ≡ true = plain in cc) }
 
 is_tlv : (tag n : ℕ) (content : List ℕ) → length content ≡ n → tlv tag content ≡ (tag ∷ len n) ++ content
 unfolding tlv
 is_tlv tag n content size = rw size refl
 
-pub reads_raw : {a b c : State} {tag n : ℕ} {content all : List ℕ} → BeginsElement a b tag n → TakesBytes b c n content → c.direct ≡ None → all ≡ (tag ∷ len n) ++ content → ReadsRaw a c all
+pub reads_raw : {a b c : State} {tag n : ℕ} {content all : List ℕ} → BeginsElement a b tag n → TakesBytes b c n content → c.implicit_tag ≡ None → all ≡ (tag ∷ len n) ++ content → ReadsRaw a c all
 reads_raw {a} {b} {c} {tag} {n} {content} {all} h t d is =
     let plain = reads_plain (bytes_kind tag h.number) content (refl, t.bytes) h.number (begins_tagged h) t.takes t.count d in
     let whole : tlv tag content ≡ all = is_tlv tag n content t.count ∙ sym is in
-    let small : n < 2 ^ 64 = omega (arith, h.fits, h.takes.room, h.bounded) in
+    let small : n < 2 ^ 64 = omega (arith, h.fits, h.takes.until_end, h.bounded) in
     record {
       reads = record {
         of_shape = subst AreBytes (sym is) (h.byte, bytes_then (len n) content (length_bytes n small) t.bytes);
         readable = record { tag = tag; content = content; number = h.number; is = sym whole };
-        may_stand = raw_may_stand a.direct a.room all;
+        may_stand = raw_may_stand a.implicit_tag a.until_end all;
         takes = subst (Takes a c) (der-bytes tag content ∙ whole ∙ sym (written_raw (place_of a) all)) (given_up_takes plain.reads.takes);
-        direct = d;
+        implicit_tag = d;
       };
       no_refusal = λ bs k.
           let f = front_of h.takes k in
-          ap (raw_refusal a) f.before ∙ element_plain tag (is_hard a.end) a.room (len n ++ take b.room f.rest) h.number ∙ ap (refusal_at tag bytes_fault (given_up a)) (sym f.before) ∙ plain.no_refusal bs k;
+          ap (raw_refusal a) f.before ∙ element_plain tag (is_hard a.end) a.until_end (len n ++ take b.until_end f.rest) h.number ∙ ap (refusal_at tag bytes_fault (given_up a)) (sym f.before) ∙ plain.no_refusal bs k;
     }

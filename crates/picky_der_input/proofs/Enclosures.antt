@@ -53,52 +53,52 @@ readable_number (enclosure.Wrapper (Explicit n)) t r = r.0
 readable_number (enclosure.Wrapper (Implicit n)) t r = r.0
 readable_number (enclosure.Application n) t r = r.0
 
-pub readable_enclosed : (w : Enclosure) (t : Tree) (room : ℕ) → HasNumber w → IsReadable t → MayStand (place_in (implicit_number w) room) t → IsReadable (enclose w t)
-readable_enclosed (enclosure.Wrapper OctetContainer) t room n r m = r
-readable_enclosed (enclosure.Wrapper BitContainer) t room n r m = r
-readable_enclosed (enclosure.Wrapper (Explicit k)) t room n r m = (n, r)
-readable_enclosed (enclosure.Wrapper (Implicit k)) t room n r m = (n, m.no_choice, r)
-readable_enclosed (enclosure.Application k) t room n r m = (n, r)
+pub readable_enclosed : (w : Enclosure) (t : Tree) (until_end : ℕ) → HasNumber w → IsReadable t → MayStand (place_in (implicit_number w) until_end) t → IsReadable (enclose w t)
+readable_enclosed (enclosure.Wrapper OctetContainer) t until_end n r m = r
+readable_enclosed (enclosure.Wrapper BitContainer) t until_end n r m = r
+readable_enclosed (enclosure.Wrapper (Explicit k)) t until_end n r m = (n, r)
+readable_enclosed (enclosure.Wrapper (Implicit k)) t until_end n r m = (n, m.no_choice, r)
+readable_enclosed (enclosure.Application k) t until_end n r m = (n, r)
 
-pub may_stand_held : (w : Enclosure) (t : Tree) (room : ℕ) → IsReadable (enclose w t) → length (written_at (place_in (implicit_number w) room) t) ≡ room → MayStand (place_in (implicit_number w) room) t
-may_stand_held (enclosure.Wrapper OctetContainer) t room r l = tt
-may_stand_held (enclosure.Wrapper BitContainer) t room r l = tt
-may_stand_held (enclosure.Wrapper (Explicit n)) t room r l = tt
-may_stand_held (enclosure.Wrapper (Implicit n)) t room r l = record { no_choice = r.1; filled = λ p. l }
-may_stand_held (enclosure.Application n) t room r l = tt
+pub may_stand_held : (w : Enclosure) (t : Tree) (until_end : ℕ) → IsReadable (enclose w t) → length (written_at (place_in (implicit_number w) until_end) t) ≡ until_end → MayStand (place_in (implicit_number w) until_end) t
+may_stand_held (enclosure.Wrapper OctetContainer) t until_end r l = tt
+may_stand_held (enclosure.Wrapper BitContainer) t until_end r l = tt
+may_stand_held (enclosure.Wrapper (Explicit n)) t until_end r l = tt
+may_stand_held (enclosure.Wrapper (Implicit n)) t until_end r l = record { no_choice = r.1; filled = λ p. l }
+may_stand_held (enclosure.Application n) t until_end r l = tt
 
 -- an enclosure is no plain value and no choice
-pub may_stand_enclosed : (d : Option ℕ) (room : ℕ) (w : Enclosure) (t : Tree) → MayStand (place_in d room) (enclose w t)
-may_stand_enclosed None room w t = tt
-may_stand_enclosed (Some k) room (enclosure.Wrapper OctetContainer) t = record { no_choice = tt; filled = λ p. absurd (let q : false ≡ true = p in cc) }
-may_stand_enclosed (Some k) room (enclosure.Wrapper BitContainer) t = record { no_choice = tt; filled = λ p. absurd (let q : false ≡ true = p in cc) }
-may_stand_enclosed (Some k) room (enclosure.Wrapper (Explicit n)) t = record { no_choice = tt; filled = λ p. absurd (let q : false ≡ true = p in cc) }
-may_stand_enclosed (Some k) room (enclosure.Wrapper (Implicit n)) t = record { no_choice = tt; filled = λ p. absurd (let q : false ≡ true = p in cc) }
-may_stand_enclosed (Some k) room (enclosure.Application n) t = record { no_choice = tt; filled = λ p. absurd (let q : false ≡ true = p in cc) }
+pub may_stand_enclosed : (d : Option ℕ) (until_end : ℕ) (w : Enclosure) (t : Tree) → MayStand (place_in d until_end) (enclose w t)
+may_stand_enclosed None until_end w t = tt
+may_stand_enclosed (Some k) until_end (enclosure.Wrapper OctetContainer) t = record { no_choice = tt; filled = λ p. absurd (let q : false ≡ true = p in cc) }
+may_stand_enclosed (Some k) until_end (enclosure.Wrapper BitContainer) t = record { no_choice = tt; filled = λ p. absurd (let q : false ≡ true = p in cc) }
+may_stand_enclosed (Some k) until_end (enclosure.Wrapper (Explicit n)) t = record { no_choice = tt; filled = λ p. absurd (let q : false ≡ true = p in cc) }
+may_stand_enclosed (Some k) until_end (enclosure.Wrapper (Implicit n)) t = record { no_choice = tt; filled = λ p. absurd (let q : false ≡ true = p in cc) }
+may_stand_enclosed (Some k) until_end (enclosure.Application n) t = record { no_choice = tt; filled = λ p. absurd (let q : false ≡ true = p in cc) }
 
 -- it keeps its header directly under an implicit tag
-written_whole : (d : Option ℕ) (room : ℕ) (w : Enclosure) (t : Tree) → written_at (place_in d room) (enclose w t) ≡ der (enclose w t)
-written_whole None room w t = refl
-written_whole (Some k) room (enclosure.Wrapper OctetContainer) t = inside-other (Tree.octet_container t) refl tt
-written_whole (Some k) room (enclosure.Wrapper BitContainer) t = inside-other (Tree.bit_container t) refl tt
-written_whole (Some k) room (enclosure.Wrapper (Explicit n)) t = inside-other (Tree.explicit n t) refl tt
-written_whole (Some k) room (enclosure.Wrapper (Implicit n)) t = inside-other (Tree.implicit n t) refl tt
-written_whole (Some k) room (enclosure.Application n) t = inside-other (Tree.application n t) refl tt
+written_whole : (d : Option ℕ) (until_end : ℕ) (w : Enclosure) (t : Tree) → written_at (place_in d until_end) (enclose w t) ≡ der (enclose w t)
+written_whole None until_end w t = refl
+written_whole (Some k) until_end (enclosure.Wrapper OctetContainer) t = inside-other (Tree.octet_container t) refl tt
+written_whole (Some k) until_end (enclosure.Wrapper BitContainer) t = inside-other (Tree.bit_container t) refl tt
+written_whole (Some k) until_end (enclosure.Wrapper (Explicit n)) t = inside-other (Tree.explicit n t) refl tt
+written_whole (Some k) until_end (enclosure.Wrapper (Implicit n)) t = inside-other (Tree.implicit n t) refl tt
+written_whole (Some k) until_end (enclosure.Application n) t = inside-other (Tree.application n t) refl tt
 
-held_is : (w : Wrapper) (t : Tree) (room : ℕ) → held w t ≡ unused_bits (enclosure.Wrapper w) ++ written_at (place_in (implicit_number (enclosure.Wrapper w)) room) t
-held_is OctetContainer t room = refl
-held_is BitContainer t room = refl
-held_is (Explicit n) t room = refl
-held_is (Implicit n) t room = refl
+held_is : (w : Wrapper) (t : Tree) (until_end : ℕ) → held w t ≡ unused_bits (enclosure.Wrapper w) ++ written_at (place_in (implicit_number (enclosure.Wrapper w)) until_end) t
+held_is OctetContainer t until_end = refl
+held_is BitContainer t until_end = refl
+held_is (Explicit n) t until_end = refl
+held_is (Implicit n) t until_end = refl
 
-der-enclose : (w : Enclosure) (t : Tree) (room : ℕ) → IsReadable t → der (enclose w t) ≡ tlv (enclosure_tag w) (unused_bits w ++ written_at (place_in (implicit_number w) room) t)
-der-enclose (enclosure.Wrapper w) t room r = der-wrap w t (is_absent-readable t r) ∙ ap (tlv (enclosure_tag (enclosure.Wrapper w))) (held_is w t room)
-der-enclose (enclosure.Application n) t room r = der-application n t
+der-enclose : (w : Enclosure) (t : Tree) (until_end : ℕ) → IsReadable t → der (enclose w t) ≡ tlv (enclosure_tag w) (unused_bits w ++ written_at (place_in (implicit_number w) until_end) t)
+der-enclose (enclosure.Wrapper w) t until_end r = der-wrap w t (is_absent-readable t r) ∙ ap (tlv (enclosure_tag (enclosure.Wrapper w))) (held_is w t until_end)
+der-enclose (enclosure.Application n) t until_end r = der-application n t
 
 -- what is written of an enclosure, wherever it stands
-pub written_enclosed : (d : Option ℕ) (ahead room : ℕ) (w : Enclosure) (t : Tree) → IsReadable t
-    → written_at (place_in d ahead) (enclose w t) ≡ tlv (enclosure_tag w) (unused_bits w ++ written_at (place_in (implicit_number w) room) t)
-written_enclosed d ahead room w t r = written_whole d ahead w t ∙ der-enclose w t room r
+pub written_enclosed : (d : Option ℕ) (ahead until_end : ℕ) (w : Enclosure) (t : Tree) → IsReadable t
+    → written_at (place_in d ahead) (enclose w t) ≡ tlv (enclosure_tag w) (unused_bits w ++ written_at (place_in (implicit_number w) until_end) t)
+written_enclosed d ahead until_end w t r = written_whole d ahead w t ∙ der-enclose w t until_end r
 
 numbered_first : (n tag : ℕ) → IsTagNumber n → has (tag_with_number n tag) tag ≡ true
 numbered_first n tag h = rw (is_number h, same_byte tag) refl
@@ -134,18 +134,18 @@ pub unused_other : (n x : ℕ) (y : List ℕ) (e : Asn1DerError) → 0 < n → x
 unused_other zero x y e l d is = absurd (omega arith)
 unused_other (suc n) x y e l d is = rw (ne_eqb x 0x00 d, is) refl
 
-unused_read : (n room : ℕ) (rest : List ℕ) → 1 ≤ n → n ≤ room → unused_bits_refusal n (take room (0x00 ∷ rest)) ≡ None
-unused_read zero room rest l m = absurd (omega arith)
+unused_read : (n until_end : ℕ) (rest : List ℕ) → 1 ≤ n → n ≤ until_end → unused_bits_refusal n (take until_end (0x00 ∷ rest)) ≡ None
+unused_read zero until_end rest l m = absurd (omega arith)
 unused_read (suc n) zero rest l m = absurd (omega arith)
-unused_read (suc n) (suc room) rest l m = refl
+unused_read (suc n) (suc until_end) rest l m = refl
 
 -- nothing is refused where it stands behind the header
-pub behind_read : (w : Enclosure) (n room : ℕ) (rest left : List ℕ) → rest ≡ unused_bits w ++ left → length (unused_bits w) ≤ n → n ≤ room → refusal_behind (counts_unused_bits w) (Ok (n, take room rest)) ≡ None
-behind_read (enclosure.Wrapper OctetContainer) n room rest left e l m = refl
-behind_read (enclosure.Wrapper BitContainer) n room rest left e l m = ap (λ z. unused_bits_refusal n (take room z)) e ∙ unused_read n room left l m
-behind_read (enclosure.Wrapper (Explicit k)) n room rest left e l m = refl
-behind_read (enclosure.Wrapper (Implicit k)) n room rest left e l m = refl
-behind_read (enclosure.Application k) n room rest left e l m = refl
+pub behind_read : (w : Enclosure) (n until_end : ℕ) (rest left : List ℕ) → rest ≡ unused_bits w ++ left → length (unused_bits w) ≤ n → n ≤ until_end → refusal_behind (counts_unused_bits w) (Ok (n, take until_end rest)) ≡ None
+behind_read (enclosure.Wrapper OctetContainer) n until_end rest left e l m = refl
+behind_read (enclosure.Wrapper BitContainer) n until_end rest left e l m = ap (λ z. unused_bits_refusal n (take until_end z)) e ∙ unused_read n until_end left l m
+behind_read (enclosure.Wrapper (Explicit k)) n until_end rest left e l m = refl
+behind_read (enclosure.Wrapper (Implicit k)) n until_end rest left e l m = refl
+behind_read (enclosure.Application k) n until_end rest left e l m = refl
 
 -- ---- the header
 
@@ -161,15 +161,15 @@ enclosure_header_is (enclosure.Wrapper (Implicit n)) hard ahead rest h = rw (is_
 enclosure_header_is (enclosure.Application n) hard ahead rest h = rw (is_number h, is_number (tag_number (enclosure.Application n) h)) refl
 
 -- known bytes with a header in front
-pub opening_read : (w : Enclosure) (s : State) (n q : ℕ) (y : List ℕ) → HasNumber w → n < 2 ^ 64 → s.room ≡ length (enclosure_tag w ∷ len n) + q → n ≤ q
+pub opening_read : (w : Enclosure) (s : State) (n q : ℕ) (y : List ℕ) → HasNumber w → n < 2 ^ 64 → s.until_end ≡ length (enclosure_tag w ∷ len n) + q → n ≤ q
     → opening_refusal w s ((enclosure_tag w ∷ len n) ++ y) ≡ refusal_behind (counts_unused_bits w) (Ok (n, y))
 opening_read w s n q y h small r l =
-    ap (refusal_behind (counts_unused_bits w)) (enclosure_header_is w (is_hard s.end) s.room ((enclosure_tag w ∷ len n) ++ y) h ∙ header-read (enclosure_tag w) (is_hard s.end) s.room n q y (tag_number w h) small r l)
+    ap (refusal_behind (counts_unused_bits w)) (enclosure_header_is w (is_hard s.end) s.until_end ((enclosure_tag w ∷ len n) ++ y) h ∙ header-read (enclosure_tag w) (is_hard s.end) s.until_end n q y (tag_number w h) small r l)
 
 -- a refused header
-pub opening_refused : (w : Enclosure) (s : State) (rest : List ℕ) (r : Refusal) → HasNumber w → header_refusal (enclosure_tag w) (is_hard s.end) s.room rest ≡ Some r → opening_refusal w s rest ≡ Some r
+pub opening_refused : (w : Enclosure) (s : State) (rest : List ℕ) (r : Refusal) → HasNumber w → header_refusal (enclosure_tag w) (is_hard s.end) s.until_end rest ≡ Some r → opening_refusal w s rest ≡ Some r
 opening_refused w s rest r h e =
-    ap (refusal_behind (counts_unused_bits w)) (enclosure_header_is w (is_hard s.end) s.room rest h) ∙ refused (counts_unused_bits w) (header (enclosure_tag w) (is_hard s.end) s.room rest) e
+    ap (refusal_behind (counts_unused_bits w)) (enclosure_header_is w (is_hard s.end) s.until_end rest h) ∙ refused (counts_unused_bits w) (header (enclosure_tag w) (is_hard s.end) s.until_end rest) e
   where
     refused : (b : Bool) (o : Outcome ℕ) → refusal_of o ≡ Some r → refusal_behind b o ≡ Some r
     refused true (Ok read) h = absurd (let q : None ≡ Some r = h in cc)

@@ -19,14 +19,14 @@ use Rattle.picky_der_input.proofs.PlainReads.{fits_below}
 -- ---- an end that was opened
 
 -- known bytes with a header in front aren't refused
-header_not_refused : (d : Option ℕ) (tag n q : ℕ) (s : State) (y : List ℕ) → IsTagNumber (number_of tag) → n < 2 ^ 64 → s.room ≡ length (header_bytes d tag n) + q → n ≤ q → list_refusal_in d tag s (header_bytes d tag n ++ y) ≡ None
-header_not_refused None tag n q s y i small r l = ap refusal_of (header-read tag (is_hard s.end) s.room n q y i small r l)
+header_not_refused : (d : Option ℕ) (tag n q : ℕ) (s : State) (y : List ℕ) → IsTagNumber (number_of tag) → n < 2 ^ 64 → s.until_end ≡ length (header_bytes d tag n) + q → n ≤ q → list_refusal_in d tag s (header_bytes d tag n ++ y) ≡ None
+header_not_refused None tag n q s y i small r l = ap refusal_of (header-read tag (is_hard s.end) s.until_end n q y i small r l)
 header_not_refused (Some number) tag n q s y i small r l = refl
 
-not_refused : {tag n : ℕ} {a b : State} {bs : List ℕ} → IsTagNumber (number_of tag) → Begins tag a b n → a.input ≡ Some bs → list_refusal tag a (take a.room bs) ≡ None
+not_refused : {tag n : ℕ} {a b : State} {bs : List ℕ} → IsTagNumber (number_of tag) → Begins tag a b n → a.input ≡ Some bs → list_refusal tag a (take a.until_end bs) ≡ None
 not_refused {tag} {n} {a} {b} i h k =
     let f = front_of h.takes k in
-    ap (list_refusal tag a) f.before ∙ header_not_refused a.direct tag n b.room a (take b.room f.rest) i (fits_below h) h.takes.room h.fits
+    ap (list_refusal tag a) f.before ∙ header_not_refused a.implicit_tag tag n b.until_end a (take b.until_end f.rest) i (fits_below h) h.takes.until_end h.fits
 
 -- the end of a list was opened behind its header
 pub opens_list : {tag n : ℕ} {a b c : State} {outer : Outer} → IsTagNumber (number_of tag) → Begins tag a b n → c ≡ record (narrowed b n Soft) { sets = entered (order_of tag) b.sets } → outer ≡ innermost b → OpensList tag a c outer
@@ -46,15 +46,15 @@ pub narrowed_concerns : {b c : State} {e : Asn1DerError} {n left : ℕ} {seen : 
 narrowed_concerns (now i r) = now i refl
 narrowed_concerns (ever w r d y left i q f) = ever w refl d y left i q f
 
-pub concerns_room : {b c : State} {e : Asn1DerError} {left : ℕ} {seen : List ℕ} → b.end ≡ Soft → Concerns b c e left seen → left ≡ b.room
+pub concerns_room : {b c : State} {e : Asn1DerError} {left : ℕ} {seen : List ℕ} → b.end ≡ Soft → Concerns b c e left seen → left ≡ b.until_end
 concerns_room soft (now i r) = r
-concerns_room {b} soft (ever w r d y left i q f) = r ∙ ap (λ (z : End). far z b.room) soft
+concerns_room {b} soft (ever w r d y left i q f) = r ∙ ap (λ (z : End). far z b.until_end) soft
 
 pub narrowed_judged : {b c : State} {e : Asn1DerError} (n : ℕ) (kind : End) → IsJudged b c e → IsJudged (narrowed b n kind) c e
 narrowed_judged n kind j = record { had_not_failed = j.had_not_failed; faults = j.faults; memory = j.memory }
 
 -- a call that failed before a nearer end failed before the one around it
-pub widened_fails : {b c : State} {e : Asn1DerError} {n : ℕ} {kind : End} → n ≤ b.room → Fails (narrowed b n kind) c e → Fails b c e
+pub widened_fails : {b c : State} {e : Asn1DerError} {n : ℕ} {kind : End} → n ≤ b.until_end → Fails (narrowed b n kind) c e → Fails b c e
 widened_fails {b} {c} {e} {n} {kind} l f = record {
   failed = f.failed;
   again = λ k w. let q = f.again k w in (q.0, record { input = q.1.input; taken = q.1.taken; peeked = q.1.peeked; faults = q.1.faults });
@@ -67,19 +67,19 @@ widened_fails {b} {c} {e} {n} {kind} l f = record {
   limit = f.limit;
   within = λ w. f.within (record { end = omega (arith, w.end); drawn = w.drawn });
   there = f.there;
-  through = f.through;
+  references = f.references;
 }
 
 -- what was taken up to an end that is closed was taken before the one around it
-pub closes_behind : {b c d : State} {n : ℕ} {kind : End} {outer : Outer} {bytes : List ℕ} → n ≤ b.room → outer ≡ innermost b → Takes (narrowed b n kind) c bytes → Closes outer c d → Takes b d bytes × (length bytes ≡ n)
+pub closes_behind : {b c d : State} {n : ℕ} {kind : End} {outer : Outer} {bytes : List ℕ} → n ≤ b.until_end → outer ≡ innermost b → Takes (narrowed b n kind) c bytes → Closes outer c d → Takes b d bytes × (length bytes ≡ n)
 closes_behind {b} {c} {d} {n} {kind} {outer} {bytes} l back t k =
-    let size : length bytes ≡ n = omega (arith, t.room, k.reached) in
-    let place : outer.place ≡ b.taken + b.room = ap (λ (o : Outer). o.place) back in
-    let new : State = record c { room = outer.place - c.taken; end = outer.kind; sets = cut_at outer.last c.sets.around } in
+    let size : length bytes ≡ n = omega (arith, t.until_end, k.reached) in
+    let place : outer.place ≡ b.taken + b.until_end = ap (λ (o : Outer). o.place) back in
+    let new : State = record c { until_end = outer.place - c.taken; end = outer.kind; sets = cut_at outer.last c.sets.around } in
     let takes : Takes b new bytes = record {
       input = t.input;
       taken = t.taken;
-      room = omega (arith, t.taken, place, size);
+      until_end = omega (arith, t.taken, place, size);
       end = ap (λ (o : Outer). o.kind) back;
       limit = t.limit;
       sets = put_back b back t.sets;
@@ -88,5 +88,5 @@ closes_behind {b} {c} {d} {n} {kind} {outer} {bytes} l back t k =
       had_not_failed = t.had_not_failed;
       not_failed = t.not_failed;
       faults = t.faults;
-      through = t.through;
+      references = t.references;
     } in (subst (λ z. Takes b z bytes) (sym k.same) takes, size)

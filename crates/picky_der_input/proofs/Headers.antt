@@ -98,7 +98,7 @@ header_missing tag {a} {c} {e} n f m i t p = record {
   fails = f;
   none = λ j end bs w content rest small q l. no_room tag end bs content rest (missing_here (m j) w) q l;
   first = λ j k l b left q. absurd (missing_first a (m j) l q);
-  just = λ j bs k. just_missing (header_refusal tag (is_hard a.end) a.room) (m j) i t p k (λ is. ap refusal_of (header-none tag (is_hard a.end) a.room n) ∙ ap (λ x. Some (x, [])) is);
+  just = λ j bs k. just_missing (header_refusal tag (is_hard a.end) a.until_end) (m j) i t p k (λ is. ap refusal_of (header-none tag (is_hard a.end) a.until_end n) ∙ ap (λ x. Some (x, [])) is);
 }
 
 other_tag : (tag first : ℕ) (rest content z : List ℕ) → first ≢ tag → first ∷ rest ≡ tlv tag content ++ z → ⊥
@@ -111,7 +111,7 @@ header_foreign tag {a} {b} {c} {e} {first} n t f d is same = record {
   fails = fails_after t f;
   none = tells_after (NoElement tag) t f (λ j end left rest l w content z small q k. other_tag tag first rest content z d q);
   first = λ j k l x left q. absurd (let r : InvalidData ≡ TruncatedData = sym is ∙ k in cc);
-  just = λ j bs k. just_taken (header_refusal tag (is_hard a.end) a.room) t same k (λ y. ap refusal_of (header-foreign tag first (is_hard a.end) a.room y n d) ∙ ap (λ x. Some (x, y)) (sym is));
+  just = λ j bs k. just_taken (header_refusal tag (is_hard a.end) a.until_end) t same k (λ y. ap refusal_of (header-foreign tag first (is_hard a.end) a.until_end y n d) ∙ ap (λ x. Some (x, y)) (sym is));
 }
 
 -- no length stands behind the tag
@@ -129,31 +129,31 @@ no_length_there tag {c = c} {e = e} t (bad mid bytes d same h) w content z small
     bad_length_no_element tag bytes v.rest content z e h small (sym v.begins ∙ q)
 
 just_no_length : (tag : ℕ) {a b c : State} {e : Asn1DerError} {bs : List ℕ} → IsTagNumber (number_of tag) → Takes a b (tag ∷ []) → StopsLength b c e → a.input ≡ Some bs
-    → IsJustRefused (header_refusal tag (is_hard a.end) a.room) a c e bs
+    → IsJustRefused (header_refusal tag (is_hard a.end) a.until_end) a c e bs
 unfolding cut_after
 just_no_length tag {a} {e = e} i t (cut n m h) k =
-    just_cut (header_refusal tag (is_hard a.end) a.room) (cut_after t refl m) k
-    (λ is. ap refusal_of (header-behind tag (is_hard a.end) a.room m.bytes i ∙ ap (within_end (is_hard a.end) a.room (tag ∷ m.bytes)) (h (missing (is_hard a.end) a.room (tag ∷ m.bytes)))) ∙ ap (λ x. Some (x, [])) is)
+    just_cut (header_refusal tag (is_hard a.end) a.until_end) (cut_after t refl m) k
+    (λ is. ap refusal_of (header-behind tag (is_hard a.end) a.until_end m.bytes i ∙ ap (within_end (is_hard a.end) a.until_end (tag ∷ m.bytes)) (h (missing (is_hard a.end) a.until_end (tag ∷ m.bytes)))) ∙ ap (λ x. Some (x, [])) is)
 just_no_length tag {a} {e = e} i t (bad mid bytes d same h) k =
-    just_taken (header_refusal tag (is_hard a.end) a.room) (takes_then t d) same k
-    (λ y. ap refusal_of (header-behind tag (is_hard a.end) a.room (bytes ++ y) i ∙ ap (within_end (is_hard a.end) a.room (tag ∷ (bytes ++ y))) (h (missing (is_hard a.end) a.room (tag ∷ (bytes ++ y))) y)))
+    just_taken (header_refusal tag (is_hard a.end) a.until_end) (takes_then t d) same k
+    (λ y. ap refusal_of (header-behind tag (is_hard a.end) a.until_end (bytes ++ y) i ∙ ap (within_end (is_hard a.end) a.until_end (tag ∷ (bytes ++ y))) (h (missing (is_hard a.end) a.until_end (tag ∷ (bytes ++ y))) y)))
 
 pub length_tlv : (tag : ℕ) (content : List ℕ) → length (tlv tag content) ≡ length (tag ∷ len (length content)) + length content
 unfolding tlv
 length_tlv tag content = omega (arith, length-append (len (length content)) content)
 
 -- the length behind the tag reaches past the end
-too_long_there : (tag : ℕ) {a b c : State} {e : Asn1DerError} {n end : ℕ} {bs : List ℕ} → Takes a b (tag ∷ len n) → b.taken ≤ drawn c → b.room < n → e ≡ at_end b.end → Concerns a c e end bs → NoElement tag end bs
+too_long_there : (tag : ℕ) {a b c : State} {e : Asn1DerError} {n end : ℕ} {bs : List ℕ} → Takes a b (tag ∷ len n) → b.taken ≤ drawn c → b.until_end < n → e ≡ at_end b.end → Concerns a c e end bs → NoElement tag end bs
 too_long_there tag {n = n} t f more is w content z small q l =
     let v = behind t f w in
     let r = header_length tag n content v.rest z (sym v.begins ∙ q) in
     let same_size : length (len (length content)) ≡ length (len n) = ap (λ m. length (len m)) (sym r.0) in
     omega (arith, past_end is more v.concerns, v.ends, length_tlv tag content, same_size, r.0)
 
-just_too_long : (tag : ℕ) {a b c : State} {e : Asn1DerError} {n : ℕ} {bs : List ℕ} → IsTagNumber (number_of tag) → Takes a b (tag ∷ len n) → n < 2 ^ 64 → b.room < n → e ≡ at_end b.end → c ≡ failed_with b e → a.input ≡ Some bs
-    → IsJustRefused (header_refusal tag (is_hard a.end) a.room) a c e bs
-just_too_long tag {a} {b} {n = n} i t small more is same k = just_taken (header_refusal tag (is_hard a.end) a.room) t same k (λ y.
-    ap refusal_of (header-past_end tag (is_hard a.end) a.room n b.room y i small t.room more)
+just_too_long : (tag : ℕ) {a b c : State} {e : Asn1DerError} {n : ℕ} {bs : List ℕ} → IsTagNumber (number_of tag) → Takes a b (tag ∷ len n) → n < 2 ^ 64 → b.until_end < n → e ≡ at_end b.end → c ≡ failed_with b e → a.input ≡ Some bs
+    → IsJustRefused (header_refusal tag (is_hard a.end) a.until_end) a c e bs
+just_too_long tag {a} {b} {n = n} i t small more is same k = just_taken (header_refusal tag (is_hard a.end) a.until_end) t same k (λ y.
+    ap refusal_of (header-past_end tag (is_hard a.end) a.until_end n b.until_end y i small t.until_end more)
     ∙ ap (λ x. Some (x, y)) (ap at_end (sym t.end) ∙ sym is))
 
 -- no element with this tag stands where its length was refused
@@ -163,7 +163,7 @@ no_element_there tag {c = c} t (too_long mid n d small more is same) w =
     too_long_there tag (takes_then t d) (omega (arith, ap (λ (s : State). s.taken) same)) more is w
 
 just_no_element : (tag : ℕ) {a b c : State} {e : Asn1DerError} {bs : List ℕ} → IsTagNumber (number_of tag) → Takes a b (tag ∷ []) → StopsContentLength b c e → a.input ≡ Some bs
-    → IsJustRefused (header_refusal tag (is_hard a.end) a.room) a c e bs
+    → IsJustRefused (header_refusal tag (is_hard a.end) a.until_end) a c e bs
 just_no_element tag i t (no_length s) k = just_no_length tag i t s k
 just_no_element tag i t (too_long mid n d small more is same) k = just_too_long tag i (takes_then t d) small more is same k
 
@@ -181,5 +181,5 @@ pub content_no_length : {b c : State} {e : Asn1DerError} → RefusesLength b c e
 content_no_length r = record { fails = r.fails; stops = λ j. no_length (r.stops j) }
 
 -- the length that was read reaches past the end
-pub content_too_long : {b m c : State} {e : Asn1DerError} {n : ℕ} → Takes b m (len n) → Fails m c e → n < 2 ^ 64 → m.room < n → e ≡ at_end m.end → c ≡ failed_with m e → RefusesContentLength b c e
+pub content_too_long : {b m c : State} {e : Asn1DerError} {n : ℕ} → Takes b m (len n) → Fails m c e → n < 2 ^ 64 → m.until_end < n → e ≡ at_end m.end → c ≡ failed_with m e → RefusesContentLength b c e
 content_too_long {m = m} {n = n} t f small more is same = record { fails = fails_after t f; stops = λ j. too_long m n t small more is same }

@@ -36,8 +36,8 @@ front i j {r} {q} {h} {bs} c e k =
       past = ap (drop r) p.2 ∙ ap (λ n. drop n (h ++ p.0)) e ∙ drop-append-add h p.0 q;
     }
 
-pub front_of : {a b : State} {h bs : List ℕ} → Takes a b h → a.input ≡ Some bs → Front b.input a.room b.room h bs
-front_of {a} {b} t k = front a.input b.input t.input t.room k
+pub front_of : {a b : State} {h bs : List ℕ} → Takes a b h → a.input ≡ Some bs → Front b.input a.until_end b.until_end h bs
+front_of {a} {b} t k = front a.input b.input t.input t.until_end k
 
 -- ---- where a byte is missing
 
@@ -57,10 +57,10 @@ missing_before Limit r h l = refl
 missing_before Soft r h l = refl
 missing_before Hard r h l = rw (ne_eqb (length h) r (λ e. omega arith)) refl
 
-pub missing_of : {mid : State} {e : Asn1DerError} (r : ℕ) (h bs : List ℕ) → IsMissing mid e → r ≡ length h + mid.room → Front mid.input r mid.room h bs → Missing mid.end mid.input r h bs e
+pub missing_of : {mid : State} {e : Asn1DerError} (r : ℕ) (h bs : List ℕ) → IsMissing mid e → r ≡ length h + mid.until_end → Front mid.input r mid.until_end h bs → Missing mid.end mid.input r h bs e
 missing_of {mid} {e} r h bs (end_is_here z is) l f =
-    let none : take mid.room f.rest ≡ [] = ap (λ n. take n f.rest) z in
-    let all : drop mid.room f.rest ≡ f.rest = ap (λ n. drop n f.rest) z in
+    let none : take mid.until_end f.rest ≡ [] = ap (λ n. take n f.rest) z in
+    let all : drop mid.until_end f.rest ≡ f.rest = ap (λ n. drop n f.rest) z in
     record {
       is = missing_at_end mid.end r h (omega arith) ∙ sym is;
       before = f.before ∙ ap (λ x. h ++ x) none ∙ append-nil h;
@@ -68,8 +68,8 @@ missing_of {mid} {e} r h bs (end_is_here z is) l f =
     }
 missing_of {mid} {e} r h bs (input_ended some ended is) l f =
     let nothing : f.rest ≡ [] = at_end_of mid.input f.rest ended f.known in
-    let none : take mid.room f.rest ≡ [] = ap (λ x. take mid.room x) nothing ∙ take_nothing mid.room in
-    let all : drop mid.room f.rest ≡ f.rest = ap (λ x. drop mid.room x) nothing ∙ drop_nothing mid.room ∙ sym nothing in
+    let none : take mid.until_end f.rest ≡ [] = ap (λ x. take mid.until_end x) nothing ∙ take_nothing mid.until_end in
+    let all : drop mid.until_end f.rest ≡ f.rest = ap (λ x. drop mid.until_end x) nothing ∙ drop_nothing mid.until_end ∙ sym nothing in
     record {
       is = missing_before mid.end r h (omega arith) ∙ sym is;
       before = f.before ∙ ap (λ x. h ++ x) none ∙ append-nil h;
@@ -100,14 +100,14 @@ peeked_kept {a} {b} c t n p same = p ∙ t.unpeeked ∙ sym (none_peeked a.peeke
 
 -- a byte was missing behind those that were taken
 pub just_cut : (refusal : List ℕ → Option Refusal) {a c : State} {n : ℕ} {bs : List ℕ} {e : Asn1DerError} → (m : IsCut a c n e) → a.input ≡ Some bs
-    → (missing (is_hard a.end) a.room m.bytes ≡ e → refusal m.bytes ≡ Some (e, [])) → IsJustRefused refusal a c e bs
+    → (missing (is_hard a.end) a.until_end m.bytes ≡ e → refusal m.bytes ≡ Some (e, [])) → IsJustRefused refusal a c e bs
 just_cut refusal {a} {c} {n} {bs} {e} m k w =
-    let q = missing_of a.room m.bytes bs m.missing m.takes.room (front_of m.takes k) in
-    let hard : missing (is_hard m.mid.end) a.room m.bytes ≡ missing (is_hard a.end) a.room m.bytes = ap (λ (z : End). missing (is_hard z) a.room m.bytes) m.takes.end in
+    let q = missing_of a.until_end m.bytes bs m.missing m.takes.until_end (front_of m.takes k) in
+    let hard : missing (is_hard m.mid.end) a.until_end m.bytes ≡ missing (is_hard a.end) a.until_end m.bytes = ap (λ (z : End). missing (is_hard z) a.until_end m.bytes) m.takes.end in
     record {
       left = [];
       refused = ap refusal q.before ∙ w (sym hard ∙ q.is);
-      input = kept_known m.mid.input c.input (drop a.room bs) m.input q.known;
+      input = kept_known m.mid.input c.input (drop a.until_end bs) m.input q.known;
       kept = peeked_kept c m.takes m.taken m.peeked;
       used = λ more. m.peeked ∙ m.takes.unpeeked;
     }
@@ -117,10 +117,10 @@ pub just_taken : (refusal : List ℕ → Option Refusal) {a b c : State} {h bs :
     → ((y : List ℕ) → refusal (h ++ y) ≡ Some (e, y)) → IsJustRefused refusal a c e bs
 just_taken refusal {a} {b} {c} {h} {bs} {e} t same k w =
     let f = front_of t k in
-    let parts : f.rest ≡ take b.room f.rest ++ drop a.room bs = sym (take-append-drop b.room f.rest) ∙ ap (λ x. take b.room f.rest ++ x) (sym f.past) in
+    let parts : f.rest ≡ take b.until_end f.rest ++ drop a.until_end bs = sym (take-append-drop b.until_end f.rest) ∙ ap (λ x. take b.until_end f.rest ++ x) (sym f.past) in
     record {
-      left = take b.room f.rest;
-      refused = ap refusal f.before ∙ w (take b.room f.rest);
+      left = take b.until_end f.rest;
+      refused = ap refusal f.before ∙ w (take b.until_end f.rest);
       input = ap (λ (s : State). s.input) same ∙ f.known ∙ ap (λ x. Some x) parts;
       kept = peeked_kept c t (ap (λ (s : State). s.taken) same) (ap (λ (s : State). s.peeked) same);
       used = λ more. ap (λ (s : State). s.peeked) same ∙ t.unpeeked;
@@ -128,14 +128,14 @@ just_taken refusal {a} {b} {c} {h} {bs} {e} t same k w =
 
 -- nothing was taken
 pub just_missing : (refusal : List ℕ → Option Refusal) {a c : State} {bs : List ℕ} {e : Asn1DerError} → IsMissing a e → Keeps a.input c.input → c.taken ≡ a.taken → c.peeked ≡ a.peeked → a.input ≡ Some bs
-    → (missing (is_hard a.end) a.room [] ≡ e → refusal [] ≡ Some (e, [])) → IsJustRefused refusal a c e bs
+    → (missing (is_hard a.end) a.until_end [] ≡ e → refusal [] ≡ Some (e, [])) → IsJustRefused refusal a c e bs
 just_missing refusal {a} {c} {bs} {e} m i n p k w =
-    let r : a.room ≡ length {A = ℕ} [] + a.room = omega arith in
-    let q = missing_of a.room [] bs m r (front a.input a.input (Consumes-nil a.input) r k) in
+    let r : a.until_end ≡ length {A = ℕ} [] + a.until_end = omega arith in
+    let q = missing_of a.until_end [] bs m r (front a.input a.input (Consumes-nil a.input) r k) in
     record {
       left = [];
       refused = ap refusal q.before ∙ w q.is;
-      input = kept_known a.input c.input (drop a.room bs) i q.known;
+      input = kept_known a.input c.input (drop a.until_end bs) i q.known;
       kept = λ same. p;
       used = λ more. absurd (omega arith);
     }

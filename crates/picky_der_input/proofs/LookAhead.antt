@@ -25,16 +25,16 @@ pub missing_no_want : {s : State} {e : Asn1DerError} → IsMissing s e → e ≢
 missing_no_want {s} (end_is_here z is) h = no_want_at_end s.end (sym is ∙ h)
 missing_no_want (input_ended l z is) h = let q : TruncatedData ≡ OutOfMemory = sym is ∙ h in cc
 
-nothing_there : (d : Option ℕ) (s : State) → d ≡ None → choice_refusal_in d s [] ≡ Some (missing (is_hard s.end) s.room [], [])
+nothing_there : (d : Option ℕ) (s : State) → d ≡ None → choice_refusal_in d s [] ≡ Some (missing (is_hard s.end) s.until_end [], [])
 nothing_there None s h = refl
 nothing_there (Some number) s h = absurd (let q : Some number ≡ None = h in cc)
 
 -- the reader gave no byte
-pub choice_unread : {old new : State} {e : Asn1DerError} → StopsAt old new e → 0 < old.room → old.direct ≡ None → RefusesChoice old new e
+pub choice_unread : {old new : State} {e : Asn1DerError} → StopsAt old new e → 0 < old.until_end → old.implicit_tag ≡ None → RefusesChoice old new e
 choice_unread {old} {new} {e} s ahead whole = record {
   refuses = record {
     fails = read_fails s;
-    just = λ j bs k. just_missing (choice_refusal old) (read_missing s ahead j.faults) s.input (ap (λ (x : State). x.taken) s.same) (ap (λ (x : State). x.peeked) s.same) k (λ h. nothing_there old.direct old whole ∙ ap (λ x. Some (x, [])) h);
+    just = λ j bs k. just_missing (choice_refusal old) (read_missing s ahead j.faults) s.input (ap (λ (x : State). x.taken) s.same) (ap (λ (x : State). x.peeked) s.same) k (λ h. nothing_there old.implicit_tag old whole ∙ ap (λ x. Some (x, [])) h);
     memory = λ n same. missing_no_want (read_missing s ahead same);
     same = s.same;
   };
@@ -46,14 +46,14 @@ stands_implicit None number s rest h = absurd (let q : None ≡ Some number = h 
 stands_implicit (Some n) number s rest h = refl
 
 -- the implicit tag stands in its place
-pub choice_under_implicit : {a c : State} {e : Asn1DerError} {number : ℕ} → a.direct ≡ Some number → Fails a c e → e ≡ InvalidData → c ≡ failed_with a e → RefusesChoice a c e
+pub choice_under_implicit : {a c : State} {e : Asn1DerError} {number : ℕ} → a.implicit_tag ≡ Some number → Fails a c e → e ≡ InvalidData → c ≡ failed_with a e → RefusesChoice a c e
 choice_under_implicit {a} {c} {e} {number} d f is same = record {
   refuses = record {
     fails = f;
     just = λ j bs k. record {
-      left = take a.room bs;
-      refused = stands_implicit a.direct number a (take a.room bs) d ∙ ap (λ x. Some (x, take a.room bs)) (sym is);
-      input = ap (λ (s : State). s.input) same ∙ k ∙ ap (λ x. Some x) (sym (take-append-drop a.room bs));
+      left = take a.until_end bs;
+      refused = stands_implicit a.implicit_tag number a (take a.until_end bs) d ∙ ap (λ x. Some (x, take a.until_end bs)) (sym is);
+      input = ap (λ (s : State). s.input) same ∙ k ∙ ap (λ x. Some x) (sym (take-append-drop a.until_end bs));
       kept = λ q. ap (λ (s : State). s.peeked) same;
       used = λ more. absurd (omega (arith, ap (λ (s : State). s.taken) same));
     };
@@ -67,16 +67,16 @@ next_of_either : (d : Option ℕ) (s : State) (rest : List ℕ) (r : Refusal) �
 next_of_either None s rest r d h = h
 next_of_either (Some number) s rest r d h = absurd (let q : Some number ≡ None = d in cc)
 
-hidden_whole : {s : State} {e : Asn1DerError} → s.direct ≡ None → HidesChoice s e → IsMissing s e
+hidden_whole : {s : State} {e : Asn1DerError} → s.implicit_tag ≡ None → HidesChoice s e → IsMissing s e
 hidden_whole d (no_byte whole m) = m
 hidden_whole d (implicit number h is) = absurd (let q : Some number ≡ None = sym h ∙ d in cc)
 
 -- outside implicit tags an identifier is refused as the byte is that tells a choice
-pub identifier_unread : {a c : State} {e : Asn1DerError} → a.direct ≡ None → RefusesChoice a c e → RefusesIdentifier a c e
+pub identifier_unread : {a c : State} {e : Asn1DerError} → a.implicit_tag ≡ None → RefusesChoice a c e → RefusesIdentifier a c e
 identifier_unread {a} whole h = record {
   refuses = record {
     fails = h.refuses.fails;
-    just = λ j bs k. just_map (λ rest r. next_of_either a.direct a rest r whole) (h.refuses.just j bs k);
+    just = λ j bs k. just_map (λ rest r. next_of_either a.implicit_tag a rest r whole) (h.refuses.just j bs k);
     memory = h.refuses.memory;
     same = h.refuses.same;
   };

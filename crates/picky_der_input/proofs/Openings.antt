@@ -26,15 +26,15 @@ use Rattle.picky_der_input.proofs.Enclosures.{some_unused, no_unused, unused_cut
 -- ---- refused headers
 
 -- a tag of the long form was asked for, and nothing was taken
-pub opening_past : {w : Enclosure} {a c : State} {e : Asn1DerError} → (HasNumber w → ⊥) → Fails a c e → e ≡ UnsupportedValue → c ≡ failed_with a e → a.room < 2 ^ 64 → RefusesOpening w a c e
+pub opening_past : {w : Enclosure} {a c : State} {e : Asn1DerError} → (HasNumber w → ⊥) → Fails a c e → e ≡ UnsupportedValue → c ≡ failed_with a e → a.until_end < 2 ^ 64 → RefusesOpening w a c e
 opening_past {w} {a} {c} {e} n f is same small = record {
   fails = f;
   none = λ j end bs k content rest number. absurd (n number);
   first = λ j k. absurd (let r : UnsupportedValue ≡ TruncatedData = sym is ∙ k in cc);
   just = λ j bs k. record {
-    left = take a.room bs;
-    refused = opening_unsupported w a (take a.room bs) n ∙ ap (λ x. Some (x, take a.room bs)) (sym is);
-    input = ap (λ (s : State). s.input) same ∙ k ∙ ap (λ x. Some x) (sym (take-append-drop a.room bs));
+    left = take a.until_end bs;
+    refused = opening_unsupported w a (take a.until_end bs) n ∙ ap (λ x. Some (x, take a.until_end bs)) (sym is);
+    input = ap (λ (s : State). s.input) same ∙ k ∙ ap (λ x. Some x) (sym (take-append-drop a.until_end bs));
     kept = λ q. ap (λ (s : State). s.peeked) same;
     used = λ more. absurd (omega (arith, ap (λ (s : State). s.taken) same));
   };
@@ -43,7 +43,7 @@ opening_past {w} {a} {c} {e} n f is same small = record {
 }
 
 -- the header was refused
-pub opening_header : {w : Enclosure} {a c : State} {e : Asn1DerError} → HasNumber w → RefusesHeader (enclosure_tag w) a c e → TakesNoMemory a c e → a.room < 2 ^ 64 → RefusesOpening w a c e
+pub opening_header : {w : Enclosure} {a c : State} {e : Asn1DerError} → HasNumber w → RefusesHeader (enclosure_tag w) a c e → TakesNoMemory a c e → a.until_end < 2 ^ 64 → RefusesOpening w a c e
 opening_header {w} {a} {c} {e} number h m small = record {
   fails = h.fails;
   none = λ j end bs k content rest n below is fits. h.none j end bs k (unused_bits w ++ content) rest below is fits;
@@ -61,9 +61,9 @@ hard_concerns (now i r) = now i refl
 hard_concerns (ever w r d y left i q f) = ever w refl d y left i q f
 
 -- the same of the end that is open
-pub own_concerns : {b c : State} (outer : Outer) {e : Asn1DerError} {left : ℕ} {seen : List ℕ} → b.end ≡ Hard → Concerns (restored outer b) c e left seen → Concerns b c e b.room seen
+pub own_concerns : {b c : State} (outer : Outer) {e : Asn1DerError} {left : ℕ} {seen : List ℕ} → b.end ≡ Hard → Concerns (restored outer b) c e left seen → Concerns b c e b.until_end seen
 own_concerns outer hard (now i r) = now i refl
-own_concerns {b} outer hard (ever w r d y left i q f) = ever w (sym (ap (λ z. far z b.room) hard)) d y left i q f
+own_concerns {b} outer hard (ever w r d y left i q f) = ever w (sym (ap (λ z. far z b.until_end) hard)) d y left i q f
 
 first_byte : (x y : ℕ) (a b : List ℕ) → x ∷ a ≡ y ∷ b → x ≡ y
 first_byte x y a b e = cc
@@ -84,11 +84,11 @@ just_alike : {refusal : List ℕ → Option Refusal} {a c d : State} {e : Asn1De
 just_alike i t p h = record { left = h.left; refused = h.refused; input = i ∙ h.input; kept = λ q. p ∙ h.kept (sym t ∙ q); used = λ more. p ∙ h.used (omega (arith, more, t)) }
 
 -- what was taken before an opened end was taken before the one around it
-widened_takes : {b c : State} {n : ℕ} {x : List ℕ} → n ≤ b.room → Takes (narrowed b n Hard) c x → Takes b (record c { room = b.room - length x; end = b.end; sets = b.sets }) x
+widened_takes : {b c : State} {n : ℕ} {x : List ℕ} → n ≤ b.until_end → Takes (narrowed b n Hard) c x → Takes b (record c { until_end = b.until_end - length x; end = b.end; sets = b.sets }) x
 widened_takes l t = record {
   input = t.input;
   taken = t.taken;
-  room = omega (arith, t.room, l);
+  until_end = omega (arith, t.until_end, l);
   end = refl;
   limit = t.limit;
   sets = refl;
@@ -97,41 +97,41 @@ widened_takes l t = record {
   had_not_failed = t.had_not_failed;
   not_failed = t.not_failed;
   faults = t.faults;
-  through = t.through;
+  references = t.references;
 }
 
-unused_missing : (n room : ℕ) (rest : List ℕ) (b : State) {e : Asn1DerError} → IsMissing (narrowed b n Hard) e → b.input ≡ Some rest → unused_bits_refusal n (take room rest) ≡ Some (e, take room rest)
-unused_missing n room rest b (end_is_here z is) k = ap (λ m. unused_bits_refusal m (take room rest)) z ∙ ap (λ x. Some (x, take room rest)) (sym is)
-unused_missing n room rest b (input_ended some ended is) k =
-    let nothing : take room rest ≡ [] = ap (take room) (at_end_of b.input rest ended k) ∙ take_nothing room in
-    unused_cut n (take room rest) some nothing ∙ ap (λ x. Some (x, take room rest)) (sym is)
+unused_missing : (n until_end : ℕ) (rest : List ℕ) (b : State) {e : Asn1DerError} → IsMissing (narrowed b n Hard) e → b.input ≡ Some rest → unused_bits_refusal n (take until_end rest) ≡ Some (e, take until_end rest)
+unused_missing n until_end rest b (end_is_here z is) k = ap (λ m. unused_bits_refusal m (take until_end rest)) z ∙ ap (λ x. Some (x, take until_end rest)) (sym is)
+unused_missing n until_end rest b (input_ended some ended is) k =
+    let nothing : take until_end rest ≡ [] = ap (take until_end) (at_end_of b.input rest ended k) ∙ take_nothing until_end in
+    unused_cut n (take until_end rest) some nothing ∙ ap (λ x. Some (x, take until_end rest)) (sym is)
   where
     take_nothing : (m : ℕ) → take {A = ℕ} m [] ≡ []
     take_nothing m = grind (arith, common_steps)
 
 below : {w : Enclosure} {a b : State} {outer : Outer} → (h : BeginsEnclosure w a b outer) → h.size < 2 ^ 64
-below h = omega (arith, h.fits, h.takes.room, h.bounded)
+below h = omega (arith, h.fits, h.takes.until_end, h.bounded)
 
 -- known bytes behind the header
 counted : {w : Enclosure} {a b : State} {outer : Outer} (h : BeginsEnclosure w a b outer) (y : List ℕ) → counts_unused_bits w ≡ true → opening_refusal w a ((enclosure_tag w ∷ len h.size) ++ y) ≡ unused_bits_refusal h.size y
-counted {w} {a} h y e = opening_read w a h.size h.mid.room y h.number (below h) h.takes.room h.fits ∙ ap (λ counts. refusal_behind counts (Ok (h.size, y))) e
+counted {w} {a} h y e = opening_read w a h.size h.mid.until_end y h.number (below h) h.takes.until_end h.fits ∙ ap (λ counts. refusal_behind counts (Ok (h.size, y))) e
 
 just_unused : {w : Enclosure} {a b c : State} {outer : Outer} {e : Asn1DerError} {bs : List ℕ} (h : BeginsEnclosure w a b outer) → counts_unused_bits w ≡ true → StopsUnusedBits (narrowed h.mid h.size Hard) c e → a.input ≡ Some bs → IsJustRefused (opening_refusal w a) a c e bs
 just_unused {w} {a} {c = c} {bs = bs} h counts (count_missing m i t p) k =
     let f = front_of h.takes k in
-    let room = h.mid.room in
-    let parts : f.rest ≡ take room f.rest ++ drop a.room bs = sym (take-append-drop room f.rest) ∙ ap (λ x. take room f.rest ++ x) (sym f.past) in
+    let until_end = h.mid.until_end in
+    let parts : f.rest ≡ take until_end f.rest ++ drop a.until_end bs = sym (take-append-drop until_end f.rest) ∙ ap (λ x. take until_end f.rest ++ x) (sym f.past) in
     record {
-      left = take room f.rest;
-      refused = ap (opening_refusal w a) f.before ∙ counted h (take room f.rest) counts ∙ unused_missing h.size room f.rest h.mid m f.known;
+      left = take until_end f.rest;
+      refused = ap (opening_refusal w a) f.before ∙ counted h (take until_end f.rest) counts ∙ unused_missing h.size until_end f.rest h.mid m f.known;
       input = kept_known h.mid.input c.input f.rest i f.known ∙ ap (λ x. Some x) parts;
       kept = peeked_kept c h.takes t p;
       used = λ more. p ∙ h.takes.unpeeked;
     }
 just_unused {w} {a} {c = c} {e = e} h counts (count_other mid x t d is same) k =
     let header = enclosure_tag w ∷ len h.size in
-    let end = record mid { room = h.mid.room - 1; end = h.mid.end; sets = h.mid.sets } in
-    let some : 0 < h.size = omega (arith, t.room) in
+    let end = record mid { until_end = h.mid.until_end - 1; end = h.mid.end; sets = h.mid.sets } in
+    let some : 0 < h.size = omega (arith, t.until_end) in
     just_alike (ap (λ (s : State). s.input) same) (ap (λ (s : State). s.taken) same) (ap (λ (s : State). s.peeked) same)
     (just_taken (opening_refusal w a) {c = failed_with end e} (takes_then h.takes (widened_takes h.fits t)) refl k (λ y.
     ap (opening_refusal w a) (append_assoc header (x ∷ []) y) ∙ counted h (x ∷ y) counts ∙ unused_other h.size x y e some d is))
@@ -160,26 +160,26 @@ opening_unused {w} {a} {b} {c} {outer} {e} h counts r =
 
 same_innermost : {a b : State} {x : List ℕ} → Takes a b x → innermost b ≡ innermost a
 same_innermost {a} {b} t =
-    let place : b.taken + b.room ≡ a.taken + a.room = omega (arith, t.taken, t.room) in
+    let place : b.taken + b.until_end ≡ a.taken + a.until_end = omega (arith, t.taken, t.until_end) in
     rw (place, t.end, t.sets) refl
 
-not_refused : {w : Enclosure} {a b c : State} {outer : Outer} {bs : List ℕ} (h : BeginsEnclosure w a b outer) → Takes (narrowed h.mid h.size Hard) c (unused_bits w) → a.input ≡ Some bs → opening_refusal w a (take a.room bs) ≡ None
+not_refused : {w : Enclosure} {a b c : State} {outer : Outer} {bs : List ℕ} (h : BeginsEnclosure w a b outer) → Takes (narrowed h.mid h.size Hard) c (unused_bits w) → a.input ≡ Some bs → opening_refusal w a (take a.until_end bs) ≡ None
 not_refused {w} {a} {c = c} h t k =
     let f = front_of h.takes k in
     let p = consumed h.mid.input c.input (unused_bits w) f.rest t.input f.known in
-    ap (opening_refusal w a) f.before ∙ opening_read w a h.size h.mid.room (take h.mid.room f.rest) h.number (below h) h.takes.room h.fits
-    ∙ behind_read w h.size h.mid.room f.rest p.0 p.2 (omega (arith, t.room)) h.fits
+    ap (opening_refusal w a) f.before ∙ opening_read w a h.size h.mid.until_end (take h.mid.until_end f.rest) h.number (below h) h.takes.until_end h.fits
+    ∙ behind_read w h.size h.mid.until_end f.rest p.0 p.2 (omega (arith, t.until_end)) h.fits
 
 -- what stands before the value was taken
-pub opens_enclosure : {w : Enclosure} {a b c d : State} {outer : Outer} → BeginsEnclosure w a b outer → Takes b c (unused_bits w) → d ≡ record c { direct = implicit_number w } → OpensEnclosure w a d outer
+pub opens_enclosure : {w : Enclosure} {a b c d : State} {outer : Outer} → BeginsEnclosure w a b outer → Takes b c (unused_bits w) → d ≡ record c { implicit_tag = implicit_number w } → OpensEnclosure w a d outer
 opens_enclosure {w} {a} {b} {c} {d} {outer} h taken is =
     let t : Takes (narrowed h.mid h.size Hard) c (unused_bits w) = subst (λ z. Takes z c (unused_bits w)) h.opened taken in
-    let place : outer.place ≡ h.mid.taken + h.mid.room = ap (λ (o : Outer). o.place) h.around in
-    let new : State = record c { direct = implicit_number w } in
+    let place : outer.place ≡ h.mid.taken + h.mid.until_end = ap (λ (o : Outer). o.place) h.around in
+    let new : State = record c { implicit_tag = implicit_number w } in
     let behind : Takes h.mid (restored outer new) (unused_bits w) = record {
       input = t.input;
       taken = t.taken;
-      room = omega (arith, t.taken, t.room, place, h.fits);
+      until_end = omega (arith, t.taken, t.until_end, place, h.fits);
       end = ap (λ (o : Outer). o.kind) h.around;
       limit = t.limit;
       sets = put_back h.mid h.around t.sets;
@@ -188,27 +188,27 @@ opens_enclosure {w} {a} {b} {c} {d} {outer} h taken is =
       had_not_failed = t.had_not_failed;
       not_failed = t.not_failed;
       faults = t.faults;
-      through = t.through;
+      references = t.references;
     } in
     subst (λ z. OpensEnclosure w a z outer) (sym is) (record {
       size = h.size;
       number = h.number;
       around = h.around ∙ same_innermost h.takes;
       takes = takes_then h.takes behind;
-      room = t.room;
-      within = omega (arith, t.taken, t.room, place, h.fits);
+      until_end = t.until_end;
+      within = omega (arith, t.taken, t.until_end, place, h.fits);
       end = t.end;
-      direct = refl;
+      implicit_tag = refl;
       bounded = h.bounded;
       no_refusal = λ bs k. not_refused h t k;
     })
 
 -- an enclosure that has no count of unused bits
-pub opens_at_once : {w : Enclosure} {a b d : State} {outer : Outer} → BeginsEnclosure w a b outer → counts_unused_bits w ≡ false → d ≡ record b { direct = implicit_number w } → OpensEnclosure w a d outer
+pub opens_at_once : {w : Enclosure} {a b d : State} {outer : Outer} → BeginsEnclosure w a b outer → counts_unused_bits w ≡ false → d ≡ record b { implicit_tag = implicit_number w } → OpensEnclosure w a d outer
 opens_at_once {w} {a} {b} {d} h none is =
     let nothing : Takes b b [] = takes_none b (ap (λ (s : State). s.failed) h.opened ∙ h.takes.not_failed) (ap (λ (s : State). s.peeked) h.opened ∙ h.takes.unpeeked) in
     opens_enclosure h (subst (Takes b b) (sym (no_unused w none)) nothing) is
 
 -- one that has
-pub opens_behind_count : {w : Enclosure} {a b c d : State} {outer : Outer} → BeginsEnclosure w a b outer → counts_unused_bits w ≡ true → Takes b c (0x00 ∷ []) → d ≡ record c { direct = implicit_number w } → OpensEnclosure w a d outer
+pub opens_behind_count : {w : Enclosure} {a b c d : State} {outer : Outer} → BeginsEnclosure w a b outer → counts_unused_bits w ≡ true → Takes b c (0x00 ∷ []) → d ≡ record c { implicit_tag = implicit_number w } → OpensEnclosure w a d outer
 opens_behind_count {w} {a} {b} {c} h some t is = opens_enclosure h (subst (Takes b c) (sym (some_unused w some)) t) is

@@ -54,7 +54,7 @@ fails_alike s f = record {
   limit = f.limit;
   within = λ w. f.within (record { end = w.end; drawn = w.drawn });
   there = f.there;
-  through = f.through;
+  references = f.references;
 }
 
 pub concerns_unordered : {b c : State} {e : Asn1DerError} {end : ℕ} {bs : List ℕ} → Concerns b c e end bs → Concerns (unordered b) c e end bs
@@ -64,7 +64,7 @@ pub takes_unordered : {a b : State} {x : List ℕ} → Takes a b x → Takes (un
 takes_unordered t = record {
   input = t.input;
   taken = t.taken;
-  room = t.room;
+  until_end = t.until_end;
   end = t.end;
   limit = t.limit;
   sets = ap (λ (s : OpenSets). record s { last = None }) t.sets;
@@ -73,7 +73,7 @@ takes_unordered t = record {
   had_not_failed = t.had_not_failed;
   not_failed = t.not_failed;
   faults = t.faults;
-  through = t.through;
+  references = t.references;
 }
 
 -- a call failed behind bytes that were taken

@@ -34,10 +34,10 @@ moved_few pos (suc n) h = omega arith
 pub record Gives (old new : State) (n : ℕ) (bytes : List ℕ) : Type 0 where
   pub input : Consumes old.input new.input bytes
   pub count : length bytes ≡ n
-  pub fits : n ≤ old.room
-  pub small : old.taken + old.room < 2 ^ 64
+  pub fits : n ≤ old.until_end
+  pub small : old.taken + old.until_end < 2 ^ 64
   pub taken : new.taken ≡ moved old.taken n
-  pub room : new.room ≡ old.room - n
+  pub until_end : new.until_end ≡ old.until_end - n
   pub end : new.end ≡ old.end
   pub limit : new.limit ≡ old.limit
   pub sets : new.sets ≡ old.sets
@@ -46,7 +46,7 @@ pub record Gives (old new : State) (n : ℕ) (bytes : List ℕ) : Type 0 where
   pub had_not_failed : old.failed ≡ None
   pub not_failed : new.failed ≡ None
   pub faults : new.faults ≡ old.faults
-  pub through : new.through ≡ old.through
+  pub references : new.references ≡ old.references
 
 -- so they were taken
 pub given_taken : {old new : State} {n : ℕ} {bytes : List ℕ} → Gives old new n bytes → Takes old new bytes
@@ -56,7 +56,7 @@ given_taken {old} {new} {n} {bytes} h =
     record {
       input = h.input;
       taken = omega (arith, place, h.count);
-      room = omega (arith, h.room, h.count, h.fits);
+      until_end = omega (arith, h.until_end, h.count, h.fits);
       end = h.end;
       limit = h.limit;
       sets = h.sets;
@@ -65,7 +65,7 @@ given_taken {old} {new} {n} {bytes} h =
       had_not_failed = h.had_not_failed;
       not_failed = h.not_failed;
       faults = h.faults;
-      through = h.through;
+      references = h.references;
     }
 
 -- the bytes that were given stand at the front of the piece

@@ -130,7 +130,7 @@ kept_whole kept c e h = e ∙ take_all 18 c (omega (arith, ap length e))
 -- ---- read from the first bytes
 
 pub reads_kept : {V : Type 0} {meaning : V → Tree} {s : Shape} {tag n : ℕ} {judge : Judge} {a b c : State} {kept : List ℕ} → IsPlainKind meaning s tag judge → (v : V) → IsOf s (meaning v) → IsReadable (meaning v)
-    → Begins tag a b n → TakesKept b c n kept → kept ≡ content (meaning v) → length (content (meaning v)) < 18 → c.direct ≡ None → ReadsPlain tag judge s a c (meaning v)
+    → Begins tag a b n → TakesKept b c n kept → kept ≡ content (meaning v) → length (content (meaning v)) < 18 → c.implicit_tag ≡ None → ReadsPlain tag judge s a c (meaning v)
 reads_kept {meaning = meaning} {b = b} {c = c} {kept = kept} kind v o r h k e short d =
     let whole : k.content ≡ content (meaning v) = sym (kept_whole kept k.content k.first (omega (arith, ap length e))) ∙ e in
     reads_plain kind v o r h (subst (Takes b c) whole k.takes) (ap length (sym whole) ∙ k.count) d

@@ -47,22 +47,22 @@ pub record Standing (d : Option ℕ) (tag n end : ℕ) (rest : List ℕ) (t : Tr
   pub is : rest ≡ content t ++ behind
   pub within : length (header_bytes d tag n) + n ≤ end
 
-standing : (d : Option ℕ) (tag n room end : ℕ) (s : Shape) (rest : List ℕ) (t : Tree) → is_plain t ≡ true → plain_tag t ≡ tag → IfSome d (λ number. n ≡ room)
-    → StandsAt (place_in d room) s (header_bytes d tag n ++ rest) end t → Standing d tag n end rest t
-standing None tag n room end s rest t p e a st =
+standing : (d : Option ℕ) (tag n until_end end : ℕ) (s : Shape) (rest : List ℕ) (t : Tree) → is_plain t ≡ true → plain_tag t ≡ tag → IfSome d (λ number. n ≡ until_end)
+    → StandsAt (place_in d until_end) s (header_bytes d tag n ++ rest) end t → Standing d tag n end rest t
+standing None tag n until_end end s rest t p e a st =
     let is : (tag ∷ len n) ++ rest ≡ tlv tag (content t) ++ st.front.rest = st.front.is ∙ ap (λ z. z ++ st.front.rest) (der_of t tag p e) in
     let q = header_length tag n (content t) rest st.front.rest is in
     let size : length (der t) ≡ length (tlv tag (content t)) = ap length (der_of t tag p e) in
     let same : length (len n) ≡ length (len (length (content t))) = ap (λ m. length (len m)) q.0 in
     record { size = sym q.0; behind = st.front.rest; is = q.1; within = omega (arith, st.within, size, length_tlv tag (content t), same, q.0) }
-standing (Some number) tag n room end s rest t p e a st =
+standing (Some number) tag n until_end end s rest t p e a st =
     let is : inside t ≡ content t = inside-plain t p in
-    let size : length (content t) ≡ room = ap length (sym is) ∙ st.may_stand.filled p in
+    let size : length (content t) ≡ until_end = ap length (sym is) ∙ st.may_stand.filled p in
     record { size = size ∙ sym a; behind = st.front.rest; is = st.front.is ∙ ap (λ z. z ++ st.front.rest) is; within = omega (arith, st.within, size, ap length is) }
 
-all_of : (d : Option ℕ) (tag n room left : ℕ) → room ≡ length (header_bytes d tag n) + left → IfSome d (λ number. n ≡ left) → IfSome d (λ number. n ≡ room)
-all_of None tag n room left r a = tt
-all_of (Some number) tag n room left r a = omega arith
+all_of : (d : Option ℕ) (tag n until_end left : ℕ) → until_end ≡ length (header_bytes d tag n) + left → IfSome d (λ number. n ≡ left) → IfSome d (λ number. n ≡ until_end)
+all_of None tag n until_end left r a = tt
+all_of (Some number) tag n until_end left r a = omega arith
 
 -- the content of a value that stands, behind its header
 pub record Content (mid new : State) (e : Asn1DerError) (n : ℕ) (t : Tree) : Type 0 where
@@ -78,20 +78,20 @@ pub begun : {a b c : State} {s : Shape} {e : Asn1DerError} {tag n end : ℕ} {bs
     → Concerns a c e end bs → StandsAt (place_of a) s bs end t → Content b c e n t
 begun {a} {b} {c} {s} {e} {tag} {n} {end} {bs} {t} h g p k w st =
     let v = behind h.takes g w in
-    let st' : StandsAt (place_of a) s (header_bytes a.direct tag n ++ v.rest) end t = subst (λ x. StandsAt (place_of a) s x end t) v.begins st in
-    let q = standing a.direct tag n a.room end s v.rest t p k (all_of a.direct tag n a.room b.room h.takes.room h.all) st' in
+    let st' : StandsAt (place_of a) s (header_bytes a.implicit_tag tag n ++ v.rest) end t = subst (λ x. StandsAt (place_of a) s x end t) v.begins st in
+    let q = standing a.implicit_tag tag n a.until_end end s v.rest t p k (all_of a.implicit_tag tag n a.until_end b.until_end h.takes.until_end h.all) st' in
     record { left = v.left; seen = v.rest; concerns = v.concerns; fits = omega (arith, v.ends, q.within); rest = q.behind; begins = q.is; size = q.size }
 
 -- ---- refused headers
 
-pub no_plain : (d : Option ℕ) (tag room end : ℕ) (s : Shape) (bs : List ℕ) (t : Tree) → d ≡ None → end < 2 ^ 64 → is_plain t ≡ true → plain_tag t ≡ tag → NoElement tag end bs → StandsAt (place_in d room) s bs end t → ⊥
-no_plain None tag room end s bs t e small p k h st =
+pub no_plain : (d : Option ℕ) (tag until_end end : ℕ) (s : Shape) (bs : List ℕ) (t : Tree) → d ≡ None → end < 2 ^ 64 → is_plain t ≡ true → plain_tag t ≡ tag → NoElement tag end bs → StandsAt (place_in d until_end) s bs end t → ⊥
+no_plain None tag until_end end s bs t e small p k h st =
     let size : length (der t) ≡ length (tlv tag (content t)) = ap length (der_of t tag p k) in
     h (content t) st.front.rest (omega (arith, st.within, size, length_tlv tag (content t), small)) (st.front.is ∙ ap (λ z. z ++ st.front.rest) (der_of t tag p k)) (omega (arith, st.within, size))
-no_plain (Some number) tag room end s bs t e small p k h st = absurd (let q : Some number ≡ None = e in cc)
+no_plain (Some number) tag until_end end s bs t e small p k h st = absurd (let q : Some number ≡ None = e in cc)
 
-refused_in : (d : Option ℕ) (tag : ℕ) (judge : Judge) (s : State) (rest : List ℕ) (r : Refusal) → d ≡ None → header_refusal tag (is_hard s.end) s.room rest ≡ Some r → refusal_in d tag judge s rest ≡ Some r
-refused_in None tag judge s rest r e h = refused (header tag (is_hard s.end) s.room rest) h
+refused_in : (d : Option ℕ) (tag : ℕ) (judge : Judge) (s : State) (rest : List ℕ) (r : Refusal) → d ≡ None → header_refusal tag (is_hard s.end) s.until_end rest ≡ Some r → refusal_in d tag judge s rest ≡ Some r
+refused_in None tag judge s rest r e h = refused (header tag (is_hard s.end) s.until_end rest) h
   where
     refused : (o : Outcome ℕ) → refusal_of o ≡ Some r → content_refusal judge o ≡ Some r
     refused (Ok read) h = absurd (let q : None ≡ Some r = h in cc)
@@ -99,17 +99,17 @@ refused_in None tag judge s rest r e h = refused (header tag (is_hard s.end) s.r
 refused_in (Some number) tag judge s rest r e h = absurd (let q : Some number ≡ None = e in cc)
 
 pub just_map : {p q : List ℕ → Option Refusal} {a c : State} {e : Asn1DerError} {bs : List ℕ} → ((rest : List ℕ) (r : Refusal) → p rest ≡ Some r → q rest ≡ Some r) → IsJustRefused p a c e bs → IsJustRefused q a c e bs
-just_map {a = a} {e = e} {bs = bs} f h = record { left = h.left; refused = f (take a.room bs) (e, h.left) h.refused; input = h.input; kept = h.kept; used = h.used }
+just_map {a = a} {e = e} {bs = bs} f h = record { left = h.left; refused = f (take a.until_end bs) (e, h.left) h.refused; input = h.input; kept = h.kept; used = h.used }
 
 -- a plain value whose header was refused
 pub refuses_header : {V : Type 0} {meaning : V → Tree} {s : Shape} {tag : ℕ} {judge : Judge} {a c : State} {e : Asn1DerError} → IsPlainKind meaning s tag judge → RefusesBegin tag a c e → RefusesPlain meaning tag judge s a c e
 refuses_header {s = s} {tag = tag} {judge = judge} {a = a} kind h = record {
   refuses = record {
     fails = h.fails;
-    none = λ j end bs w v st. let r = h.header j in no_plain a.direct tag a.room end s bs _ r.0 (end_below (h.bounded j.had_not_failed) w) (kind.plain v) (kind.tagged v) (r.1.none j end bs w) st;
+    none = λ j end bs w v st. let r = h.header j in no_plain a.implicit_tag tag a.until_end end s bs _ r.0 (end_below (h.bounded j.had_not_failed) w) (kind.plain v) (kind.tagged v) (r.1.none j end bs w) st;
     first = λ j k d l b left q. subst (IsFirst s) (sym ((h.header j).1.first j k l b left q)) kind.first;
   };
-  just = λ j bs k. let r = h.header j in just_map (λ rest x. refused_in a.direct tag judge a rest x r.0) (r.1.just j bs k);
+  just = λ j bs k. let r = h.header j in just_map (λ rest x. refused_in a.implicit_tag tag judge a rest x r.0) (r.1.just j bs k);
 }
 
 -- ---- tags that aren't read
@@ -128,9 +128,9 @@ refuses_number {tag = tag} {judge = judge} {a = a} n none f is same = record {
     first = λ j k l b left q. absurd (let r : UnsupportedValue ≡ TruncatedData = sym is ∙ k in cc);
   };
   just = λ j bs k. record {
-    left = take a.room bs;
-    refused = unsupported_in a.direct tag judge a (take a.room bs) n ∙ ap (λ x. Some (x, take a.room bs)) (sym is);
-    input = ap (λ (s : State). s.input) same ∙ k ∙ ap (λ x. Some x) (sym (take-append-drop a.room bs));
+    left = take a.until_end bs;
+    refused = unsupported_in a.implicit_tag tag judge a (take a.until_end bs) n ∙ ap (λ x. Some (x, take a.until_end bs)) (sym is);
+    input = ap (λ (s : State). s.input) same ∙ k ∙ ap (λ x. Some x) (sym (take-append-drop a.until_end bs));
     kept = λ q. ap (λ (s : State). s.peeked) same;
     used = λ more. absurd (omega (arith, ap (λ (s : State). s.taken) same));
   };
@@ -143,12 +143,12 @@ first_of_header s None i j tag n f t e b left k = subst (IsFirst s) (sym (taken_
 first_of_header s (Some number) i j tag n f t e b left k = absurd (let q : Some number ≡ None = e in cc)
 
 -- known bytes behind the header are judged
-content_at : (d : Option ℕ) (tag n q : ℕ) (judge : Judge) (s : State) (y : List ℕ) → IsTagNumber (number_of tag) → n < 2 ^ 64 → s.room ≡ length (header_bytes d tag n) + q → n ≤ q → IfSome d (λ number. n ≡ q)
+content_at : (d : Option ℕ) (tag n q : ℕ) (judge : Judge) (s : State) (y : List ℕ) → IsTagNumber (number_of tag) → n < 2 ^ 64 → s.until_end ≡ length (header_bytes d tag n) + q → n ≤ q → IfSome d (λ number. n ≡ q)
     → refusal_in d tag judge s (header_bytes d tag n ++ y) ≡ content_refusal judge (Ok (n, y))
-content_at None tag n q judge s y i small r l a = ap (content_refusal judge) (header-read tag (is_hard s.end) s.room n q y i small r l)
+content_at None tag n q judge s y i small r l a = ap (content_refusal judge) (header-read tag (is_hard s.end) s.until_end n q y i small r l)
 content_at (Some number) tag n q judge s y i small r l a =
     let in_range : is_tag_number (number_of tag) ≡ true = grind (arith, nat_tests) in
-    let all : s.room ≡ n = omega arith in
+    let all : s.until_end ≡ n = omega arith in
     rw (in_range, all) refl
 
 content_cut : (judge : Judge) (n : ℕ) (y : List ℕ) → length y < n → content_refusal judge (Ok (n, y)) ≡ Some (TruncatedData, [])
@@ -158,7 +158,7 @@ content_judged : (judge : Judge) (x y : List ℕ) → content_refusal judge (Ok 
 content_judged judge x y = rw (le-ltb (length (x ++ y)) (length x) (omega (arith, length-append x y)), take-append_seam x y, drop-append_seam x y) refl
 
 pub fits_below : {a b : State} {tag n : ℕ} → Begins tag a b n → n < 2 ^ 64
-fits_below h = omega (arith, h.fits, h.takes.room, h.bounded)
+fits_below h = omega (arith, h.fits, h.takes.until_end, h.bounded)
 
 -- a plain value whose header was taken
 behind_header : {V : Type 0} {meaning : V → Tree} {s : Shape} {tag n : ℕ} {judge : Judge} {a b c : State} {e : Asn1DerError} → IsPlainKind meaning s tag judge → Begins tag a b n → Fails b c e
@@ -168,7 +168,7 @@ behind_header {s = s} {tag = tag} {n = n} {a = a} {b = b} kind h f none just = r
   refuses = record {
     fails = fails_after h.takes f;
     none = λ j end bs w v st. none (judged_after h.takes j) v st.of_shape (begun h (failed_grows f) (kind.plain v) (kind.tagged v) w st);
-    first = λ j k d x left l q. first_of_header s a.direct a.input b.input tag n kind.first h.takes.input d left l q;
+    first = λ j k d x left l q. first_of_header s a.implicit_tag a.input b.input tag n kind.first h.takes.input d left l q;
   };
   just = λ j. just (judged_after h.takes j);
 }
@@ -186,11 +186,11 @@ content_missing {t = t} m w =
 just_content_cut : (tag n : ℕ) (judge : Judge) {a b c : State} {e : Asn1DerError} {bs : List ℕ} → IsTagNumber (number_of tag) → Begins tag a b n → IsCut b c n e → a.input ≡ Some bs → IsJustRefused (refusal_at tag judge a) a c e bs
 unfolding cut_after
 just_content_cut tag n judge {a} {b} {c} {e} i h m k =
-    let header = header_bytes a.direct tag n in
-    let few : length (header ++ m.bytes) < a.room = omega (arith, length-append header m.bytes, h.takes.room, h.fits, m.short) in
+    let header = header_bytes a.implicit_tag tag n in
+    let few : length (header ++ m.bytes) < a.until_end = omega (arith, length-append header m.bytes, h.takes.until_end, h.fits, m.short) in
     just_cut (refusal_at tag judge a) (cut_after h.takes refl m) k (λ is.
-    let error : e ≡ TruncatedData = sym is ∙ missing_before a.end a.room (header ++ m.bytes) few in
-    content_at a.direct tag n b.room judge a m.bytes i (fits_below h) h.takes.room h.fits h.all ∙ content_cut judge n m.bytes m.short ∙ ap (λ x. Some (x, [])) (sym error))
+    let error : e ≡ TruncatedData = sym is ∙ missing_before a.end a.until_end (header ++ m.bytes) few in
+    content_at a.implicit_tag tag n b.until_end judge a m.bytes i (fits_below h) h.takes.until_end h.fits h.all ∙ content_cut judge n m.bytes m.short ∙ ap (λ x. Some (x, [])) (sym error))
 
 -- the content ended before it was whole
 pub refuses_cut : {V : Type 0} {meaning : V → Tree} {s : Shape} {tag n : ℕ} {judge : Judge} {a b c : State} {e : Asn1DerError} → IsPlainKind meaning s tag judge → Begins tag a b n → StopsShort b c n e → RefusesPlain meaning tag judge s a c e
@@ -207,10 +207,10 @@ judged_none judge {e = e} {t = t} {x = x} h l g bad good w =
 just_judged : (tag n : ℕ) (judge : Judge) {a b c d : State} {e : Asn1DerError} {x bs : List ℕ} → IsTagNumber (number_of tag) → Begins tag a b n → Takes b c x → length x ≡ n → judge x ≡ Some e → d ≡ failed_with c e → a.input ≡ Some bs
     → IsJustRefused (refusal_at tag judge a) a d e bs
 just_judged tag n judge {a} {b} {c} {d} {e} {x} i h t l bad same k =
-    let header = header_bytes a.direct tag n in
+    let header = header_bytes a.implicit_tag tag n in
     just_taken (refusal_at tag judge a) (takes_then h.takes t) same k (λ y.
     ap (refusal_at tag judge a) (append_assoc header x y)
-    ∙ content_at a.direct tag n b.room judge a (x ++ y) i (fits_below h) h.takes.room h.fits h.all
+    ∙ content_at a.implicit_tag tag n b.until_end judge a (x ++ y) i (fits_below h) h.takes.until_end h.fits h.all
     ∙ ap (λ m. content_refusal judge (Ok (m, x ++ y))) (sym l)
     ∙ content_judged judge x y ∙ ap (λ r. judged r y) bad)
 
@@ -222,37 +222,37 @@ refuses_content {meaning = meaning} {tag = tag} {n = n} {judge = judge} kind h t
 
 -- ---- what was read
 
-pub takes_plain : (d : Option ℕ) (room : ℕ) {a b c : State} {tag n : ℕ} (t : Tree) → is_plain t ≡ true → plain_tag t ≡ tag → Takes a b (header_bytes d tag n) → Takes b c (content t) → length (content t) ≡ n → Takes a c (written_at (place_in d room) t)
+pub takes_plain : (d : Option ℕ) (until_end : ℕ) {a b c : State} {tag n : ℕ} (t : Tree) → is_plain t ≡ true → plain_tag t ≡ tag → Takes a b (header_bytes d tag n) → Takes b c (content t) → length (content t) ≡ n → Takes a c (written_at (place_in d until_end) t)
 unfolding tlv
-takes_plain None room {a} {b} {c} {tag} {n} t p k h x l =
+takes_plain None until_end {a} {b} {c} {tag} {n} t p k h x l =
     let is : (tag ∷ len n) ++ content t ≡ der t = rw (der_of t tag p k, l) refl in
     subst (Takes a c) is (takes_then h x)
-takes_plain (Some number) room {a} {b} {c} t p k h x l = subst (Takes a c) (sym (inside-plain t p)) (takes_then h x)
+takes_plain (Some number) until_end {a} {b} {c} t p k h x l = subst (Takes a c) (sym (inside-plain t p)) (takes_then h x)
 
-pub may_stand : (d : Option ℕ) (tag n room left : ℕ) (t : Tree) → is_plain t ≡ true → room ≡ length (header_bytes d tag n) + left → IfSome d (λ number. n ≡ left) → length (content t) ≡ n → IsNoChoice t → MayStand (place_in d room) t
-may_stand None tag n room left t p r a l c = tt
-may_stand (Some number) tag n room left t p r a l c = record { no_choice = c; filled = λ q. omega (arith, ap length (inside-plain t p)) }
+pub may_stand : (d : Option ℕ) (tag n until_end left : ℕ) (t : Tree) → is_plain t ≡ true → until_end ≡ length (header_bytes d tag n) + left → IfSome d (λ number. n ≡ left) → length (content t) ≡ n → IsNoChoice t → MayStand (place_in d until_end) t
+may_stand None tag n until_end left t p r a l c = tt
+may_stand (Some number) tag n until_end left t p r a l c = record { no_choice = c; filled = λ q. omega (arith, ap length (inside-plain t p)) }
 
-not_refused : (tag n : ℕ) (judge : Judge) {a b c : State} {x bs : List ℕ} → IsTagNumber (number_of tag) → Begins tag a b n → Takes b c x → length x ≡ n → judge x ≡ None → a.input ≡ Some bs → refusal_at tag judge a (take a.room bs) ≡ None
+not_refused : (tag n : ℕ) (judge : Judge) {a b c : State} {x bs : List ℕ} → IsTagNumber (number_of tag) → Begins tag a b n → Takes b c x → length x ≡ n → judge x ≡ None → a.input ≡ Some bs → refusal_at tag judge a (take a.until_end bs) ≡ None
 not_refused tag n judge {a} {b} {c} {x} {bs} i h t l good k =
-    let header = header_bytes a.direct tag n in
+    let header = header_bytes a.implicit_tag tag n in
     let f = front_of (takes_then h.takes t) k in
-    let y = take c.room f.rest in
+    let y = take c.until_end f.rest in
     ap (refusal_at tag judge a) (f.before ∙ append_assoc header x y)
-    ∙ content_at a.direct tag n b.room judge a (x ++ y) i (fits_below h) h.takes.room h.fits h.all
+    ∙ content_at a.implicit_tag tag n b.until_end judge a (x ++ y) i (fits_below h) h.takes.until_end h.fits h.all
     ∙ ap (λ m. content_refusal judge (Ok (m, x ++ y))) (sym l)
     ∙ content_judged judge x y ∙ ap (λ r. judged r y) good
 
 -- a plain value was read
 pub reads_plain : {V : Type 0} {meaning : V → Tree} {s : Shape} {tag n : ℕ} {judge : Judge} {a b c : State} → IsPlainKind meaning s tag judge → (v : V) → IsOf s (meaning v) → IsReadable (meaning v)
-    → Begins tag a b n → Takes b c (content (meaning v)) → length (content (meaning v)) ≡ n → c.direct ≡ None → ReadsPlain tag judge s a c (meaning v)
+    → Begins tag a b n → Takes b c (content (meaning v)) → length (content (meaning v)) ≡ n → c.implicit_tag ≡ None → ReadsPlain tag judge s a c (meaning v)
 reads_plain {meaning = meaning} {tag = tag} {n = n} {judge = judge} {a = a} {b = b} kind v o r h t l d = record {
   reads = record {
     of_shape = o;
     readable = r;
-    may_stand = may_stand a.direct tag n a.room b.room (meaning v) (kind.plain v) h.takes.room h.all l (kind.no_choice v);
-    takes = takes_plain a.direct a.room (meaning v) (kind.plain v) (kind.tagged v) h.takes t l;
-    direct = d;
+    may_stand = may_stand a.implicit_tag tag n a.until_end b.until_end (meaning v) (kind.plain v) h.takes.until_end h.all l (kind.no_choice v);
+    takes = takes_plain a.implicit_tag a.until_end (meaning v) (kind.plain v) (kind.tagged v) h.takes t l;
+    implicit_tag = d;
   };
   no_refusal = λ bs k. not_refused tag n judge kind.number h t l (kind.judged v o) k;
 }

@@ -57,7 +57,7 @@ module _ {old new : State} {e : Asn1DerError} (s : StopsAt old new e) where
   read_fails =
       let peeked : new.peeked ≡ old.peeked = ap (λ (x : State). x.peeked) s.same in
       let taken : new.taken ≡ old.taken = ap (λ (x : State). x.taken) s.same in
-      let room : new.room ≡ old.room = ap (λ (x : State). x.room) s.same in
+      let until_end : new.until_end ≡ old.until_end = ap (λ (x : State). x.until_end) s.same in
       let limit : new.limit ≡ old.limit = ap (λ (x : State). x.limit) s.same in
       let p = same_drawn new.peeked old.peeked peeked in
       let z = same_drawn old.peeked None s.unpeeked in
@@ -69,14 +69,14 @@ module _ {old new : State} {e : Asn1DerError} (s : StopsAt old new e) where
         other = λ w. no_other s.why;
         took = record { bytes = []; input = keeps_consumes old.input new.input s.input; count = omega (arith, taken) };
         grows = omega (arith, p, taken);
-        end = omega (arith, taken, room);
+        end = omega (arith, taken, until_end);
         limit = limit;
-        within = λ w. record { end = omega (arith, w.end, taken, room, limit); drawn = omega (arith, w.drawn, p, taken, limit) };
+        within = λ w. record { end = omega (arith, w.end, taken, until_end, limit); drawn = omega (arith, w.drawn, p, taken, limit) };
         there = λ w. drawn_none old.input old.taken _ (omega (arith, p, z, taken));
-        through = ap (λ (x : State). x.through) s.same;
+        references = ap (λ (x : State). x.references) s.same;
       }
 
-  pub read_missing : 0 < old.room → new.faults ≡ old.faults → IsMissing old e
+  pub read_missing : 0 < old.until_end → new.faults ≡ old.faults → IsMissing old e
   read_missing r same = by_case s.why
     where
       by_case : GivesNone old new e → IsMissing old e

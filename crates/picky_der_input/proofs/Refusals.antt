@@ -45,8 +45,8 @@ far_takes Hard r s n h = omega arith
 
 reach_takes : {a b : State} {h : List ℕ} → Takes a b h → reach a ≤ length h + reach b
 reach_takes {a} {b} {h} t =
-    let same : reach b ≡ far a.end b.room = ap (λ (z : End). far z b.room) t.end in
-    omega (arith, far_takes a.end a.room b.room (length h) t.room, same)
+    let same : reach b ≡ far a.end b.until_end = ap (λ (z : End). far z b.until_end) t.end in
+    omega (arith, far_takes a.end a.until_end b.until_end (length h) t.until_end, same)
 
 -- what was taken was drawn
 pub failed_grows : {b c : State} {k : Asn1DerError} → Fails b c k → b.taken ≤ drawn c
@@ -58,7 +58,7 @@ cut_grows m = omega (arith, m.taken)
 pub behind : {a b c : State} {k : Asn1DerError} {h : List ℕ} {end : ℕ} {bs : List ℕ} → Takes a b h → b.taken ≤ drawn c → Concerns a c k end bs → Behind a b c k h end bs
 behind {a} {b} {c} {k} {h} {end} {bs} t f (now e r) =
     let q = consumed a.input b.input h bs t.input e in
-    record { left = b.room; rest = q.0; begins = q.2; concerns = now q.1 refl; ends = omega (arith, t.room) }
+    record { left = b.until_end; rest = q.0; begins = q.2; concerns = now q.1 refl; ends = omega (arith, t.until_end) }
 behind {a} {b} {c} {k} {h} {end} {bs} t f (ever n r d y left e m g) =
     let q = consumed a.input b.input h (d ++ left) t.input e in
     let p = parted d h q.0 left q.2 (omega (arith, f, t.taken)) in
@@ -74,10 +74,10 @@ tells_after P t f p = λ j end bs k. let w = behind t (failed_grows f) k in rw w
 
 -- ---- ends
 
-at_end_final : (e : End) (room : ℕ) (k : Asn1DerError) → k ≡ at_end e → k ≢ TruncatedData → far e room ≡ room
-at_end_final Limit room k e n = absurd (n e)
-at_end_final Soft room k e n = absurd (n e)
-at_end_final Hard room k e n = refl
+at_end_final : (e : End) (until_end : ℕ) (k : Asn1DerError) → k ≡ at_end e → k ≢ TruncatedData → far e until_end ≡ until_end
+at_end_final Limit until_end k e n = absurd (n e)
+at_end_final Soft until_end k e n = absurd (n e)
+at_end_final Hard until_end k e n = refl
 
 pub at_end_of : (i : Option (List ℕ)) (bs : List ℕ) → IsAtEnd i → i ≡ Some bs → bs ≡ []
 at_end_of None bs h e = absurd (let q : None ≡ Some bs = e in cc)
@@ -87,29 +87,29 @@ at_end_of (Some xs) bs h e = let p : xs ≡ bs = cc in sym p ∙ h
 pub missing_here : {b c : State} {k : Asn1DerError} {end : ℕ} {bs : List ℕ} → IsMissing b k → Concerns b c k end bs → (end ≡ 0) ⊎ (bs ≡ [])
 missing_here {b} {c} {k} {end} {bs} (end_is_here z m) (now e r) = inl (r ∙ z)
 missing_here {b} {c} {k} {end} {bs} (input_ended l z m) (now e r) = inr (at_end_of b.input bs z e)
-missing_here {b} {c} {k} {end} {bs} (end_is_here z m) (ever n r d y left e q f) = inl (r ∙ at_end_final b.end b.room k m n ∙ z)
+missing_here {b} {c} {k} {end} {bs} (end_is_here z m) (ever n r d y left e q f) = inl (r ∙ at_end_final b.end b.until_end k m n ∙ z)
 missing_here {b} {c} {k} {end} {bs} (input_ended l z m) (ever n r d y left e q f) = absurd (n m)
 
 -- a length that reaches past the end
-pub past_end : {b c : State} {k : Asn1DerError} {end : ℕ} {bs : List ℕ} {n : ℕ} → k ≡ at_end b.end → b.room < n → Concerns b c k end bs → end < n
+pub past_end : {b c : State} {k : Asn1DerError} {end : ℕ} {bs : List ℕ} {n : ℕ} → k ≡ at_end b.end → b.until_end < n → Concerns b c k end bs → end < n
 past_end {b} {c} {k} {end} {bs} {n} h l (now e r) = omega arith
 past_end {b} {c} {k} {end} {bs} {n} h l (ever w r d y left e q f) =
-    let g : end ≡ b.room = r ∙ at_end_final b.end b.room k h w in
+    let g : end ≡ b.until_end = r ∙ at_end_final b.end b.until_end k h w in
     omega arith
 
-far_below : (e : End) (room : ℕ) → room < 2 ^ 64 → far e room < 2 ^ 64
-far_below Limit room h = omega arith
-far_below Soft room h = h
-far_below Hard room h = h
+far_below : (e : End) (until_end : ℕ) → until_end < 2 ^ 64 → far e until_end < 2 ^ 64
+far_below Limit until_end h = omega arith
+far_below Soft until_end h = h
+far_below Hard until_end h = h
 
 -- ends are 64-bit numbers
-pub end_below : {a c : State} {k : Asn1DerError} {end : ℕ} {bs : List ℕ} → a.room < 2 ^ 64 → Concerns a c k end bs → end < 2 ^ 64
+pub end_below : {a c : State} {k : Asn1DerError} {end : ℕ} {bs : List ℕ} → a.until_end < 2 ^ 64 → Concerns a c k end bs → end < 2 ^ 64
 end_below {a} h (now e r) = omega arith
-end_below {a} h (ever n r d y left e q f) = omega (arith, far_below a.end a.room h)
+end_below {a} h (ever n r d y left e q f) = omega (arith, far_below a.end a.until_end h)
 
 -- ---- first bytes
 
-pub missing_first : (s : State) {k : Asn1DerError} {b : ℕ} {left : List ℕ} → IsMissing s k → 0 < s.room → s.input ≡ Some (b ∷ left) → ⊥
+pub missing_first : (s : State) {k : Asn1DerError} {b : ℕ} {left : List ℕ} → IsMissing s k → 0 < s.until_end → s.input ≡ Some (b ∷ left) → ⊥
 missing_first s {k} {b} {left} (end_is_here z m) l e = omega arith
 missing_first s {k} {b} {left} (input_ended r z m) l e = let q : b ∷ left ≡ [] = at_end_of s.input (b ∷ left) z e in cc
 

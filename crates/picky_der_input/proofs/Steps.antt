@@ -13,7 +13,7 @@ pub takes_then : {a b c : State} {x y : List ℕ} → Takes a b x → Takes b c 
 takes_then {a} {b} {c} {x} {y} h k = record {
   input = Consumes-trans a.input b.input c.input x y h.input k.input;
   taken = omega (arith, length-append x y);
-  room = omega (arith, length-append x y);
+  until_end = omega (arith, length-append x y);
   end = k.end ∙ h.end;
   limit = k.limit ∙ h.limit;
   sets = k.sets ∙ h.sets;
@@ -22,7 +22,7 @@ takes_then {a} {b} {c} {x} {y} h k = record {
   had_not_failed = h.had_not_failed;
   not_failed = k.not_failed;
   faults = k.faults ∙ h.faults;
-  through = k.through ∙ h.through;
+  references = k.references ∙ h.references;
 }
 
 -- nothing is taken
@@ -30,7 +30,7 @@ pub takes_none : (a : State) → a.failed ≡ None → a.peeked ≡ None → Tak
 takes_none a h p = record {
   input = Consumes-nil a.input;
   taken = omega arith;
-  room = omega arith;
+  until_end = omega arith;
   end = refl;
   limit = refl;
   sets = refl;
@@ -39,7 +39,7 @@ takes_none a h p = record {
   had_not_failed = h;
   not_failed = h;
   faults = refl;
-  through = refl;
+  references = refl;
 }
 
 pub there_after : (i j : Option (List ℕ)) (h : List ℕ) (s t n : ℕ) → Consumes i j h → t ≡ s + length h → HasDrawn j t n → HasDrawn i s n
@@ -50,7 +50,7 @@ there_after (Some xs) (Some ys) h s t n c e f = omega (arith, ap length c, lengt
 pub takes_within : {a b : State} {x : List ℕ} → Takes a b x → IsWithin a → IsWithin b
 takes_within {a} {b} {x} h w =
     let e : count_of_any b.peeked ≡ 0 = ap count_of_any h.unpeeked in
-    record { end = omega (arith, w.end, h.taken, h.room, h.limit); drawn = omega (arith, w.end, h.taken, h.room, h.limit, e) }
+    record { end = omega (arith, w.end, h.taken, h.until_end, h.limit); drawn = omega (arith, w.end, h.taken, h.until_end, h.limit, e) }
 
 took_after : {a b c : State} {x : List ℕ} → Takes a b x → Took b c → Took a c
 took_after {a} {b} {c} {x} h t = record {
@@ -71,11 +71,11 @@ fails_after {a} {b} {c} {x} {e} h f =
       other = λ w same. f.other h.not_failed (same ∙ sym h.faults);
       took = took_after h f.took;
       grows = omega (arith, f.grows, h.drawn, p);
-      end = omega (arith, f.end, h.taken, h.room);
+      end = omega (arith, f.end, h.taken, h.until_end);
       limit = f.limit ∙ h.limit;
       within = λ w. f.within (takes_within h w);
       there = λ w. there_after a.input b.input x a.taken b.taken (drawn c) h.input h.taken (f.there h.not_failed);
-      through = f.through ∙ h.through;
+      references = f.references ∙ h.references;
     }
 
 pub judged_after : {a b c : State} {x : List ℕ} {e : Asn1DerError} → Takes a b x → IsJudged a c e → IsJudged b c e
@@ -105,5 +105,5 @@ fails_again a {e} h = record {
   limit = refl;
   within = λ w. w;
   there = λ w. absurd (let q : None ≡ Some (failure_of e) = sym w ∙ h in cc);
-  through = refl;
+  references = refl;
 }

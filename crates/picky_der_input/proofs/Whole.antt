@@ -26,7 +26,7 @@ pub record Parts (a c : State) (x y : List ℕ) : Type 0 where
   pub mid : State
   pub first : Takes a mid x
   pub rest : Takes mid c y
-  pub direct : mid.direct ≡ c.direct
+  pub implicit_tag : mid.implicit_tag ≡ c.implicit_tag
 
 first_part : (i j : Option (List ℕ)) (x y : List ℕ) → Consumes i j (x ++ y) → Consumes i (prepend_known y j) x
 first_part None j x y h = tt
@@ -43,11 +43,11 @@ parts {a} {c} x y t p =
     let size = length-append x y in
     let no_byte : count_of_any c.peeked ≡ 0 = ap count_of_any t.unpeeked in
     record {
-      mid = record c { input = prepend_known y c.input; taken = a.taken + length x; room = length y + c.room };
+      mid = record c { input = prepend_known y c.input; taken = a.taken + length x; until_end = length y + c.until_end };
       first = record {
         input = first_part a.input c.input x y t.input;
         taken = refl;
-        room = omega (arith, t.room, size);
+        until_end = omega (arith, t.until_end, size);
         end = t.end;
         limit = t.limit;
         sets = t.sets;
@@ -56,12 +56,12 @@ parts {a} {c} x y t p =
         had_not_failed = t.had_not_failed;
         not_failed = t.not_failed;
         faults = t.faults;
-        through = t.through;
+        references = t.references;
       };
       rest = record {
         input = rest_part c.input y;
         taken = omega (arith, t.taken, size);
-        room = refl;
+        until_end = refl;
         end = refl;
         limit = refl;
         sets = refl;
@@ -70,9 +70,9 @@ parts {a} {c} x y t p =
         had_not_failed = t.not_failed;
         not_failed = t.not_failed;
         faults = refl;
-        through = refl;
+        references = refl;
       };
-      direct = refl;
+      implicit_tag = refl;
     }
 
 -- ---- plain values
@@ -87,18 +87,18 @@ none_directly P (Some number) e = absurd (let q : Some number ≡ None = e in cc
 
 -- a plain value of which tag, length and content were taken
 pub reads_short : {V : Type 0} {meaning : V → Tree} {s : Shape} {tag : ℕ} {judge : Judge} {a c : State} {bytes : List ℕ} → IsPlainKind meaning s tag judge → (v : V) → IsOf s (meaning v) → IsReadable (meaning v)
-    → bytes ≡ content (meaning v) → ShowsShort a tag bytes → TakesShown a c (length bytes + 2) → a.peeked ≡ None → c.direct ≡ a.direct → ReadsPlain tag judge s a c (meaning v)
+    → bytes ≡ content (meaning v) → ShowsShort a tag bytes → TakesShown a c (length bytes + 2) → a.peeked ≡ None → c.implicit_tag ≡ a.implicit_tag → ReadsPlain tag judge s a c (meaning v)
 reads_short {meaning = meaning} {tag = tag} {a = a} {c = c} {bytes = bytes} kind v o r is h t p d =
     let n = length bytes in
     let taken : Takes a c (tag ∷ (n ∷ bytes)) = t (tag ∷ (n ∷ bytes)) (omega arith) h.shows in
-    let header : header_bytes a.direct tag n ≡ tag ∷ (n ∷ []) = whole_header a.direct tag n h.whole ∙ ap (λ z. tag ∷ z) (len-short n h.short) in
+    let header : header_bytes a.implicit_tag tag n ≡ tag ∷ (n ∷ []) = whole_header a.implicit_tag tag n h.whole ∙ ap (λ z. tag ∷ z) (len-short n h.short) in
     let q = parts (tag ∷ (n ∷ [])) bytes taken p in
-    let none : c.direct ≡ None = d ∙ h.whole in
+    let none : c.implicit_tag ≡ None = d ∙ h.whole in
     let begins : Begins tag a q.mid n = record {
       takes = rw header q.first;
-      direct = q.direct ∙ none;
-      fits = omega (arith, q.rest.room);
-      all = none_directly _ a.direct h.whole;
+      implicit_tag = q.implicit_tag ∙ none;
+      fits = omega (arith, q.rest.until_end);
+      all = none_directly _ a.implicit_tag h.whole;
       bounded = h.bounded;
     } in
     reads_plain kind v o r begins (subst (Takes q.mid c) is q.rest) (ap length (sym is)) none
@@ -109,7 +109,7 @@ takes_given_up : {a b : State} {x : List ℕ} → Takes a b x → Takes (given_u
 takes_given_up t = record {
   input = t.input;
   taken = t.taken;
-  room = t.room;
+  until_end = t.until_end;
   end = t.end;
   limit = t.limit;
   sets = t.sets;
@@ -118,7 +118,7 @@ takes_given_up t = record {
   had_not_failed = t.had_not_failed;
   not_failed = t.not_failed;
   faults = t.faults;
-  through = t.through;
+  references = t.references;
 }
 
 part_bytes : (x y : List ℕ) → AreBytes (x ++ y) → AreBytes y
@@ -126,20 +126,20 @@ part_bytes [] y h = h
 part_bytes (b ∷ x) y h = part_bytes x y h.1
 
 -- an element that was taken whole
-pub reads_whole : {a c : State} {all : List ℕ} → ShowsElement a all → TakesShown a c (length all) → AreBytes all → a.peeked ≡ None → c.direct ≡ a.direct → ReadsRaw a c all
+pub reads_whole : {a c : State} {all : List ℕ} → ShowsElement a all → TakesShown a c (length all) → AreBytes all → a.peeked ≡ None → c.implicit_tag ≡ a.implicit_tag → ReadsRaw a c all
 reads_whole {a} {c} {all} h t b p d =
     let e = h.element in
     let n = length e.content in
     let is : all ≡ (e.tag ∷ len n) ++ e.content = sym (take_whole all) ∙ e.is in
     let taken : Takes a c ((e.tag ∷ len n) ++ e.content) = subst (Takes a c) is (t all refl h.shows) in
     let q = parts (e.tag ∷ len n) e.content taken p in
-    let none : c.direct ≡ None = d ∙ h.whole in
+    let none : c.implicit_tag ≡ None = d ∙ h.whole in
     let begins : BeginsElement a q.mid e.tag n = record {
       takes = takes_given_up q.first;
       number = e.number;
       byte = e.byte;
-      direct = q.direct ∙ none;
-      fits = omega (arith, q.rest.room);
+      implicit_tag = q.implicit_tag ∙ none;
+      fits = omega (arith, q.rest.until_end);
       bounded = h.bounded;
     } in
     reads_raw begins (record { takes = q.rest; count = refl; bytes = part_bytes (e.tag ∷ len n) e.content (subst AreBytes is b) }) none is

@@ -18,16 +18,16 @@ TakesShown old new count = (bytes : List ℕ) → length bytes ≡ count → Sho
 pub record ShowsHeader (s : State) (tag n count : ℕ) : Type 0 where
   pub shows : Shows s (tag ∷ len n)
   pub size : count ≡ length (tag ∷ len n)
-  pub fits : count + n ≤ s.room
+  pub fits : count + n ≤ s.until_end
 
 -- an element with this tag and content is next, before the innermost end, and its length is one byte
 pub record ShowsShort (s : State) (tag : ℕ) (content : List ℕ) : Type 0 where
   pub had_not_failed : s.failed ≡ None
-  pub whole : s.direct ≡ None
+  pub whole : s.implicit_tag ≡ None
   pub shows : Shows s (tag ∷ (length content ∷ content))
   pub short : length content < 128
-  pub fits : length content + 2 ≤ s.room
-  pub bounded : s.room < 2 ^ 64
+  pub fits : length content + 2 ≤ s.until_end
+  pub bounded : s.until_end < 2 ^ 64
 
 -- the first bytes, so many, are one element
 pub record IsElementInFront (bytes : List ℕ) (count : ℕ) : Type 0 where
@@ -41,8 +41,8 @@ pub record IsElementInFront (bytes : List ℕ) (count : ℕ) : Type 0 where
 -- an element is next, before the innermost end: these bytes
 pub record ShowsElement (s : State) (all : List ℕ) : Type 0 where
   pub had_not_failed : s.failed ≡ None
-  pub whole : s.direct ≡ None
+  pub whole : s.implicit_tag ≡ None
   pub shows : Shows s all
   pub element : IsElementInFront all (length all)
-  pub fits : length all ≤ s.room
-  pub bounded : s.room < 2 ^ 64
+  pub fits : length all ≤ s.until_end
+  pub bounded : s.until_end < 2 ^ 64

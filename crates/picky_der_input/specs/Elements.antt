@@ -12,20 +12,20 @@ use Rattle.picky_der_input.specs.Reading.{Reads, Refuses, AreNotRefused, AreJust
 
 -- how an element is refused there, if it is; it keeps its header directly under an implicit tag
 abbrev pub raw_refusal : State → List ℕ → Option Refusal
-raw_refusal s rest = element_refusal (is_hard s.end) s.room rest
+raw_refusal s rest = element_refusal (is_hard s.end) s.until_end rest
 
 -- directly under an implicit tag that tag's special reading was given up
 abbrev pub given_up : State → State
-given_up s = record s { direct = None }
+given_up s = record s { implicit_tag = None }
 
 -- the header of an element was taken, and its content is next, n bytes of it
 pub record BeginsElement (old new : State) (tag n : ℕ) : Type 0 where
   pub takes : Takes (given_up old) new (tag ∷ len n)
   pub number : IsTagNumber (number_of tag)
   pub byte : tag < 256
-  pub direct : new.direct ≡ None
-  pub fits : n ≤ new.room
-  pub bounded : old.room < 2 ^ 64
+  pub implicit_tag : new.implicit_tag ≡ None
+  pub fits : n ≤ new.until_end
+  pub bounded : old.until_end < 2 ^ 64
 
 -- these bytes were taken, which are one element, and nothing speaks against it
 pub record ReadsRaw (old new : State) (bytes : List ℕ) : Type 0 where

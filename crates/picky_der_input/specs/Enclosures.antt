@@ -97,13 +97,13 @@ refusal_behind false (Ok (n, rest)) = None
 
 -- how what stands before the value is refused, if it is
 abbrev pub opening_refusal : Enclosure → State → List ℕ → Option Refusal
-opening_refusal w s rest = refusal_behind (counts_unused_bits w) (enclosure_header w (is_hard s.end) s.room rest)
+opening_refusal w s rest = refusal_behind (counts_unused_bits w) (enclosure_header w (is_hard s.end) s.until_end rest)
 
 -- ---- openings
 
 -- the end around the innermost one was put back
 abbrev pub restored : Outer → State → State
-restored outer s = record s { room = outer.place - s.taken; end = outer.kind; sets = cut_at outer.last s.sets.around }
+restored outer s = record s { until_end = outer.place - s.taken; end = outer.kind; sets = cut_at outer.last s.sets.around }
 
 -- the header, and the count of unused bits
 abbrev pub opening : Enclosure → ℕ → List ℕ
@@ -115,11 +115,11 @@ pub record OpensEnclosure (w : Enclosure) (old new : State) (outer : Outer) : Ty
   pub number : HasNumber w
   pub around : outer ≡ innermost old
   pub takes : Takes old (restored outer new) (opening w size)
-  pub room : size ≡ length (unused_bits w) + new.room
-  pub within : new.taken + new.room ≤ outer.place
+  pub until_end : size ≡ length (unused_bits w) + new.until_end
+  pub within : new.taken + new.until_end ≤ outer.place
   pub end : new.end ≡ Hard
-  pub direct : new.direct ≡ implicit_number w
-  pub bounded : old.room < 2 ^ 64
+  pub implicit_tag : new.implicit_tag ≡ implicit_number w
+  pub bounded : old.until_end < 2 ^ 64
   pub no_refusal : AreNotRefused (opening_refusal w old) old
 
 -- no such enclosure stands there
@@ -130,10 +130,10 @@ NoEnclosure w end bs = (content rest : List ℕ) → HasNumber w → length (unu
 pub record RefusesOpening (w : Enclosure) (old new : State) (e : Asn1DerError) : Type 0 where
   pub fails : Fails old new e
   pub none : Tells old new e (NoEnclosure w)
-  pub first : IsJudged old new e → e ≡ TruncatedData → 0 < old.room → (b : ℕ) (left : List ℕ) → old.input ≡ Some (b ∷ left) → (b ≡ enclosure_tag w) × HasNumber w
+  pub first : IsJudged old new e → e ≡ TruncatedData → 0 < old.until_end → (b : ℕ) (left : List ℕ) → old.input ≡ Some (b ∷ left) → (b ≡ enclosure_tag w) × HasNumber w
   pub just : AreJustRefused (opening_refusal w old) old new e
   pub memory : TakesNoMemory old new e
-  pub bounded : old.failed ≡ None → old.room < 2 ^ 64
+  pub bounded : old.failed ≡ None → old.until_end < 2 ^ 64
 
 -- the header was taken, and the end was opened
 pub record BeginsEnclosure (w : Enclosure) (old new : State) (outer : Outer) : Type 0 where
@@ -141,10 +141,10 @@ pub record BeginsEnclosure (w : Enclosure) (old new : State) (outer : Outer) : T
   pub size : ℕ
   pub number : HasNumber w
   pub takes : Takes old mid (enclosure_tag w ∷ len size)
-  pub fits : size ≤ mid.room
+  pub fits : size ≤ mid.until_end
   pub opened : new ≡ narrowed mid size Hard
   pub around : outer ≡ innermost mid
-  pub bounded : old.room < 2 ^ 64
+  pub bounded : old.until_end < 2 ^ 64
 
 -- why the count of unused bits isn't 00: it is missing, or another byte was taken
 pub data StopsUnusedBits (old new : State) (e : Asn1DerError) : Type 0 where

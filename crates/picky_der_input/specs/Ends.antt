@@ -21,32 +21,32 @@ pub record Outer : Type 0 where
 
 -- the innermost end, to be put back
 abbrev pub innermost : State → Outer
-innermost s = record { place = s.taken + s.room; kind = s.end; last = place_of s.sets }
+innermost s = record { place = s.taken + s.until_end; kind = s.end; last = place_of s.sets }
 
 -- an end of this kind was opened this many bytes from here
 abbrev pub narrowed : State → ℕ → End → State
-narrowed s n kind = record s { room = n; end = kind; sets = entered None s.sets }
+narrowed s n kind = record s { until_end = n; end = kind; sets = entered None s.sets }
 
 -- the end was reached, and the one around it is the innermost again
 pub record Closes (outer : Outer) (old new : State) : Type 0 where
-  pub reached : old.room ≡ 0
+  pub reached : old.until_end ≡ 0
   pub had_not_failed : old.failed ≡ None
-  pub same : new ≡ record old { room = outer.place - old.taken; end = outer.kind; sets = cut_at outer.last old.sets.around }
+  pub same : new ≡ record old { until_end = outer.place - old.taken; end = outer.kind; sets = cut_at outer.last old.sets.around }
 
 -- bytes are left before the end, and none of them was drawn
 pub record RefusesClose (old new : State) (e : Asn1DerError) : Type 0 where
   pub fails : Fails old new e
-  pub left : old.failed ≡ None → (0 < old.room) × (e ≡ InvalidData) × (new ≡ failed_with old e)
+  pub left : old.failed ≡ None → (0 < old.until_end) × (e ≡ InvalidData) × (new ≡ failed_with old e)
 
 -- ---- sequences and sets
 
 -- how the header of a sequence or set is refused there, if it is; directly under an implicit tag there is none
 abbrev pub list_refusal_in : Option ℕ → ℕ → State → List ℕ → Option Refusal
-list_refusal_in None tag s rest = header_refusal tag (is_hard s.end) s.room rest
+list_refusal_in None tag s rest = header_refusal tag (is_hard s.end) s.until_end rest
 list_refusal_in (Some number) tag s rest = None
 
 abbrev pub list_refusal : ℕ → State → List ℕ → Option Refusal
-list_refusal tag s rest = list_refusal_in s.direct tag s rest
+list_refusal tag s rest = list_refusal_in s.implicit_tag tag s rest
 
 -- the header under this tag was taken, if one stands there, and a soft end was opened where the content ends
 pub record OpensList (tag : ℕ) (old new : State) (outer : Outer) : Type 0 where
@@ -66,7 +66,7 @@ pub record RefusesList (tag : ℕ) (old new : State) (e : Asn1DerError) : Type 0
 -- failed. One that had failed is as it was. No order of members is tested before that end.
 pub record OpensLazily (len : ℕ) (old new : State) (outer : Outer) : Type 0 where
   pub again : (f : Failure) → old.failed ≡ Some f → new ≡ old
-  pub past : old.failed ≡ None → old.room < len → new ≡ failed_with old (at_end old.end)
-  pub opened : old.failed ≡ None → len ≤ old.room → new ≡ record (narrowed old len Soft) { direct = None }
-  pub around : old.failed ≡ None → len ≤ old.room → outer ≡ innermost old
-  pub place : outer.place ≡ old.taken + old.room
+  pub past : old.failed ≡ None → old.until_end < len → new ≡ failed_with old (at_end old.end)
+  pub opened : old.failed ≡ None → len ≤ old.until_end → new ≡ record (narrowed old len Soft) { implicit_tag = None }
+  pub around : old.failed ≡ None → len ≤ old.until_end → outer ≡ innermost old
+  pub place : outer.place ≡ old.taken + old.until_end

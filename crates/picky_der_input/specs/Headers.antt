@@ -22,7 +22,7 @@ pub record RefusesLength (old new : State) (e : Asn1DerError) : Type 0 where
 -- why no length of a content was read: there is no length, or it reaches past the innermost end
 pub data StopsContentLength (old new : State) (e : Asn1DerError) : Type 0 where
   no_length : StopsLength old new e → StopsContentLength old new e
-  too_long : (mid : State) (n : ℕ) → Takes old mid (len n) → n < 2 ^ 64 → mid.room < n → e ≡ at_end mid.end → new ≡ failed_with mid e → StopsContentLength old new e
+  too_long : (mid : State) (n : ℕ) → Takes old mid (len n) → n < 2 ^ 64 → mid.until_end < n → e ≡ at_end mid.end → new ≡ failed_with mid e → StopsContentLength old new e
 
 -- no length of a content that ends before the innermost end was read
 pub record RefusesContentLength (old new : State) (e : Asn1DerError) : Type 0 where
@@ -37,8 +37,8 @@ NoElement tag end bs = (c rest : List ℕ) → length c < 2 ^ 64 → bs ≡ tlv 
 pub record RefusesHeader (tag : ℕ) (old new : State) (e : Asn1DerError) : Type 0 where
   pub fails : Fails old new e
   pub none : Tells old new e (NoElement tag)
-  pub first : IsJudged old new e → e ≡ TruncatedData → 0 < old.room → (b : ℕ) (left : List ℕ) → old.input ≡ Some (b ∷ left) → b ≡ tag
-  pub just : AreJustRefused (header_refusal tag (is_hard old.end) old.room) old new e
+  pub first : IsJudged old new e → e ≡ TruncatedData → 0 < old.until_end → (b : ℕ) (left : List ℕ) → old.input ≡ Some (b ∷ left) → b ≡ tag
+  pub just : AreJustRefused (header_refusal tag (is_hard old.end) old.until_end) old new e
 
 -- the header, which was taken before directly under an implicit tag
 abbrev pub header_bytes : Option ℕ → ℕ → ℕ → List ℕ
@@ -47,17 +47,17 @@ header_bytes (Some number) tag n = []
 
 -- the content of an element with this tag is next, n bytes of it
 pub record Begins (tag : ℕ) (old new : State) (n : ℕ) : Type 0 where
-  pub takes : Takes old new (header_bytes old.direct tag n)
-  pub direct : new.direct ≡ None
-  pub fits : n ≤ new.room
-  pub all : IfSome old.direct (λ number. n ≡ new.room)
-  pub bounded : old.room < 2 ^ 64
+  pub takes : Takes old new (header_bytes old.implicit_tag tag n)
+  pub implicit_tag : new.implicit_tag ≡ None
+  pub fits : n ≤ new.until_end
+  pub all : IfSome old.implicit_tag (λ number. n ≡ new.until_end)
+  pub bounded : old.until_end < 2 ^ 64
 
 -- there is none; directly under an implicit tag there is no header to refuse
 pub record RefusesBegin (tag : ℕ) (old new : State) (e : Asn1DerError) : Type 0 where
   pub fails : Fails old new e
-  pub header : IsJudged old new e → (old.direct ≡ None) × RefusesHeader tag old new e
-  pub bounded : old.failed ≡ None → old.room < 2 ^ 64
+  pub header : IsJudged old new e → (old.implicit_tag ≡ None) × RefusesHeader tag old new e
+  pub bounded : old.failed ≡ None → old.until_end < 2 ^ 64
 
 -- a number was read from this many bytes
 pub record ReadsDigits (old new : State) (count n : ℕ) : Type 0 where

@@ -14,7 +14,7 @@ use Rattle.picky_der_input.specs.Reading.{AreNotRefused, AreJustRefused}
 
 -- none of these bytes is there
 abbrev pub next_refusal : State → List ℕ → Option Refusal
-next_refusal s [] = Some (missing (is_hard s.end) s.room [], [])
+next_refusal s [] = Some (missing (is_hard s.end) s.until_end [], [])
 next_refusal s (b ∷ bs) = None
 
 -- directly under an implicit tag the tag was taken, and is known
@@ -23,7 +23,7 @@ identifier_refusal_in None s rest = next_refusal s rest
 identifier_refusal_in (Some number) s rest = None
 
 abbrev pub identifier_refusal : State → List ℕ → Option Refusal
-identifier_refusal s rest = identifier_refusal_in s.direct s rest
+identifier_refusal s rest = identifier_refusal_in s.implicit_tag s rest
 
 -- directly under an implicit tag no byte is there that would tell a choice
 abbrev pub choice_refusal_in : Option ℕ → State → List ℕ → Option Refusal
@@ -31,15 +31,15 @@ choice_refusal_in None s rest = next_refusal s rest
 choice_refusal_in (Some number) s rest = Some (InvalidData, rest)
 
 abbrev pub choice_refusal : State → List ℕ → Option Refusal
-choice_refusal s rest = choice_refusal_in s.direct s rest
+choice_refusal s rest = choice_refusal_in s.implicit_tag s rest
 
 -- ---- the next byte
 
 -- this byte is next, and stands peeked; nothing was taken, and nothing else changed
 pub record Peeks (old new : State) (b : ℕ) : Type 0 where
   pub had_not_failed : old.failed ≡ None
-  pub direct : old.direct ≡ None
-  pub ahead : 0 < old.room
+  pub implicit_tag : old.implicit_tag ≡ None
+  pub ahead : 0 < old.until_end
   pub byte : b < 256
   pub next : IfSome old.input (Begins (b ∷ []))
   pub again : IfSome old.peeked (λ p. b ≡ p)
@@ -61,20 +61,20 @@ IdentifiesIn None old new tag = Peeks old new tag
 IdentifiesIn (Some number) old new tag = (old.failed ≡ None) × (tag ≡ 0x80 + number) × (new ≡ old)
 
 pub record Identifies (old new : State) (tag : ℕ) : Type 0 where
-  pub is : IdentifiesIn old.direct old new tag
+  pub is : IdentifiesIn old.implicit_tag old new tag
   pub no_refusal : AreNotRefused (identifier_refusal old) old
 
 -- no tag is next
 pub record RefusesIdentifier (old new : State) (e : Asn1DerError) : Type 0 where
   pub refuses : RefusesPeek identifier_refusal old new e
-  pub missing : IsJudged old new e → (old.direct ≡ None) × IsMissing old e
+  pub missing : IsJudged old new e → (old.implicit_tag ≡ None) × IsMissing old e
 
 -- no byte is next, since the input ended before the innermost end; nothing changed
 pub record HasEnded (old new : State) : Type 0 where
   pub had_not_failed : old.failed ≡ None
   pub unpeeked : old.peeked ≡ None
-  pub direct : old.direct ≡ None
-  pub ahead : 0 < old.room
+  pub implicit_tag : old.implicit_tag ≡ None
+  pub ahead : 0 < old.until_end
   pub ended : IsAtEnd old.input
   pub input : Keeps old.input new.input
   pub same : new ≡ record old { input = new.input }
@@ -88,8 +88,8 @@ pub record TellsChoice (old new : State) (tag : ℕ) : Type 0 where
 
 -- why there is no such byte: it is missing, or the implicit tag stands in its place
 pub data HidesChoice (old : State) (e : Asn1DerError) : Type 0 where
-  no_byte : old.direct ≡ None → IsMissing old e → HidesChoice old e
-  implicit : (number : ℕ) → old.direct ≡ Some number → e ≡ InvalidData → HidesChoice old e
+  no_byte : old.implicit_tag ≡ None → IsMissing old e → HidesChoice old e
+  implicit : (number : ℕ) → old.implicit_tag ≡ Some number → e ≡ InvalidData → HidesChoice old e
 
 pub record RefusesChoice (old new : State) (e : Asn1DerError) : Type 0 where
   pub refuses : RefusesPeek choice_refusal old new e

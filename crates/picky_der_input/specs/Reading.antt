@@ -16,12 +16,12 @@ pub record Reads (s : Shape) (old new : State) (t : Tree) : Type 0 where
   pub readable : IsReadable t
   pub may_stand : MayStand (place_of old) t
   pub takes : Takes old new (written_at (place_of old) t)
-  pub direct : new.direct ≡ None
+  pub implicit_tag : new.implicit_tag ≡ None
 
 -- The bytes of which a refusal speaks, and the end before which they stand: what the reader has, and, where the refusal is
 -- final, what was drawn with any bytes behind it.
 pub data Concerns (old new : State) (e : Asn1DerError) (end : ℕ) (bs : List ℕ) : Type 0 where
-  now : old.input ≡ Some bs → end ≡ old.room → Concerns old new e end bs
+  now : old.input ≡ Some bs → end ≡ old.until_end → Concerns old new e end bs
   ever : e ≢ TruncatedData → end ≡ reach old → (d y left : List ℕ) → old.input ≡ Some (d ++ left) → length d + old.taken ≡ drawn new → bs ≡ d ++ y → Concerns old new e end bs
 
 -- P of all bytes of which the refusal speaks
@@ -35,7 +35,7 @@ NoValue {V} meaning s old end bs = (v : V) → StandsAt (place_of old) s bs end 
 -- a refusal that more bytes may mend comes at no byte that is foreign to the shape
 abbrev pub IsNoForeign : Shape → State → State → Asn1DerError → Type 0
 IsNoForeign s old new e =
-    IsJudged old new e → e ≡ TruncatedData → old.direct ≡ None → 0 < old.room → (b : ℕ) (left : List ℕ) → old.input ≡ Some (b ∷ left) → IsFirst s b
+    IsJudged old new e → e ≡ TruncatedData → old.implicit_tag ≡ None → 0 < old.until_end → (b : ℕ) (left : List ℕ) → old.input ≡ Some (b ∷ left) → IsFirst s b
 
 -- no value of the type was read, and none stands there
 pub record Refuses {V : Type 0} (meaning : V → Tree) (s : Shape) (old new : State) (e : Asn1DerError) : Type 0 where
@@ -47,17 +47,17 @@ pub record Refuses {V : Type 0} (meaning : V → Tree) (s : Shape) (old new : St
 
 -- how a plain value with this tag is refused there, if it is, where the reader has `rest` of the bytes before the innermost end
 abbrev pub refusal_in : Option ℕ → ℕ → Judge → State → List ℕ → Option Refusal
-refusal_in None tag judge s rest = plain_refusal tag judge (is_hard s.end) s.room rest
-refusal_in (Some number) tag judge s rest = inside_refusal tag judge s.room rest
+refusal_in None tag judge s rest = plain_refusal tag judge (is_hard s.end) s.until_end rest
+refusal_in (Some number) tag judge s rest = inside_refusal tag judge s.until_end rest
 
 abbrev pub refusal_at : ℕ → Judge → State → List ℕ → Option Refusal
-refusal_at tag judge s rest = refusal_in s.direct tag judge s rest
+refusal_at tag judge s rest = refusal_in s.implicit_tag tag judge s rest
 
 -- known bytes were refused just so: with this error, and what is left is left
 pub record IsJustRefused (refusal : List ℕ → Option Refusal) (old new : State) (e : Asn1DerError) (bs : List ℕ) : Type 0 where
   pub left : List ℕ
-  pub refused : refusal (take old.room bs) ≡ Some (e, left)
-  pub input : new.input ≡ Some (left ++ drop old.room bs)
+  pub refused : refusal (take old.until_end bs) ≡ Some (e, left)
+  pub input : new.input ≡ Some (left ++ drop old.until_end bs)
   -- a peeked byte stays where nothing was drawn, and else was the first
   pub kept : new.taken ≡ old.taken → new.peeked ≡ old.peeked
   pub used : old.taken < new.taken → new.peeked ≡ None
@@ -67,7 +67,7 @@ AreJustRefused refusal old new e = IsJudged old new e → (bs : List ℕ) → ol
 
 -- known bytes aren't refused
 abbrev pub AreNotRefused : (List ℕ → Option Refusal) → State → Type 0
-AreNotRefused refusal old = (bs : List ℕ) → old.input ≡ Some bs → refusal (take old.room bs) ≡ None
+AreNotRefused refusal old = (bs : List ℕ) → old.input ≡ Some bs → refusal (take old.until_end bs) ≡ None
 
 -- a plain value was read, and nothing speaks against it
 pub record ReadsPlain (tag : ℕ) (judge : Judge) (s : Shape) (old new : State) (t : Tree) : Type 0 where

@@ -22,31 +22,31 @@ pub record State : Type 0 where
   -- this many bytes may be drawn in all
   pub limit : ℕ
   -- how far ahead the innermost end is, and what it is
-  pub room : ℕ
+  pub until_end : ℕ
   pub end : End
   -- the last members of the sets that are open
   pub sets : OpenSets
   -- the number of the implicit tag directly under which it stands
-  pub direct : Option ℕ
+  pub implicit_tag : Option ℕ
   -- the kind of the error that it has failed with
   pub failed : Option Failure
   -- how the reader failed so far, the last fault first
   pub faults : List Fault
   -- the references that it reads through, outermost first
-  pub through : List ℕ
+  pub references : List ℕ
 
 -- a deserializer that has taken nothing
 abbrev pub fresh : Option (List ℕ) → ℕ → List Fault → List ℕ → State
-fresh input limit faults through = record {
+fresh input limit faults references = record {
   input = input;
   peeked = None;
   taken = 0;
   limit = limit;
-  room = limit;
+  until_end = limit;
   end = Limit;
   sets = record { last = None; around = [] };
-  direct = None;
+  implicit_tag = None;
   failed = None;
   faults = faults;
-  through = through;
+  references = references;
 }

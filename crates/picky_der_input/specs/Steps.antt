@@ -32,30 +32,30 @@ at_end end = past (is_hard end)
 
 -- how far ahead the innermost end is that is neither the limit nor that of the input
 abbrev pub far : End → ℕ → ℕ
-far Limit room = 2 ^ 64 - 1
-far Soft room = room
-far Hard room = room
+far Limit until_end = 2 ^ 64 - 1
+far Soft until_end = until_end
+far Hard until_end = until_end
 
 abbrev pub reach : State → ℕ
-reach s = far s.end s.room
+reach s = far s.end s.until_end
 
 -- where the next value stands
 abbrev pub place_in : Option ℕ → ℕ → Place
-place_in None room = Place.whole
-place_in (Some tag) room = Place.under_implicit room
+place_in None until_end = Place.whole
+place_in (Some tag) until_end = Place.under_implicit until_end
 
 abbrev pub place_of : State → Place
-place_of s = place_in s.direct s.room
+place_of s = place_in s.implicit_tag s.until_end
 
 -- no more was drawn than the limit allows, and the innermost end isn't past the limit
 pub record IsWithin (s : State) : Type 0 where
-  pub end : s.taken + s.room ≤ s.limit
+  pub end : s.taken + s.until_end ≤ s.limit
   pub drawn : drawn s ≤ s.limit
 
 -- no byte stands peeked directly under an implicit tag
-abbrev pub IsUnpeekedIfDirect : Option ℕ → Option ℕ → Type 0
-IsUnpeekedIfDirect None peeked = ⊤
-IsUnpeekedIfDirect (Some tag) peeked = peeked ≡ None
+abbrev pub IsUnpeekedIfImplicit : Option ℕ → Option ℕ → Type 0
+IsUnpeekedIfImplicit None peeked = ⊤
+IsUnpeekedIfImplicit (Some tag) peeked = peeked ≡ None
 
 -- an implicit tag has a tag number
 abbrev pub IsTagNumberIfAny : Option ℕ → Type 0
@@ -67,7 +67,7 @@ IsTagNumberIfAny number = IfSome number IsTagNumber
 pub record Takes (old new : State) (bytes : List ℕ) : Type 0 where
   pub input : Consumes old.input new.input bytes
   pub taken : new.taken ≡ old.taken + length bytes
-  pub room : old.room ≡ length bytes + new.room
+  pub until_end : old.until_end ≡ length bytes + new.until_end
   pub end : new.end ≡ old.end
   pub limit : new.limit ≡ old.limit
   pub sets : new.sets ≡ old.sets
@@ -77,7 +77,7 @@ pub record Takes (old new : State) (bytes : List ℕ) : Type 0 where
   pub had_not_failed : old.failed ≡ None
   pub not_failed : new.failed ≡ None
   pub faults : new.faults ≡ old.faults
-  pub through : new.through ≡ old.through
+  pub references : new.references ≡ old.references
 
 -- the bytes that a failed call took
 pub record Took (old new : State) : Type 0 where
@@ -118,11 +118,11 @@ pub record Fails (old new : State) (e : Asn1DerError) : Type 0 where
   -- a peeked byte stays, or was taken
   pub grows : drawn old ≤ drawn new
   -- the innermost end doesn't move away
-  pub end : new.taken + new.room ≤ old.taken + old.room
+  pub end : new.taken + new.until_end ≤ old.taken + old.until_end
   pub limit : new.limit ≡ old.limit
   pub within : IsWithin old → IsWithin new
   pub there : old.failed ≡ None → HasDrawn old.input old.taken (drawn new)
-  pub through : new.through ≡ old.through
+  pub references : new.references ≡ old.references
 
 -- neither a fault nor out of memory
 pub record IsJudged (old new : State) (e : Asn1DerError) : Type 0 where
@@ -136,8 +136,8 @@ TakesNoMemory old new e = old.failed ≡ None → new.faults ≡ old.faults → 
 
 -- why no byte came: the end is here, or the input ended before it
 pub data IsMissing (s : State) (e : Asn1DerError) : Type 0 where
-  end_is_here : s.room ≡ 0 → e ≡ at_end s.end → IsMissing s e
-  input_ended : 0 < s.room → IsAtEnd s.input → e ≡ TruncatedData → IsMissing s e
+  end_is_here : s.until_end ≡ 0 → e ≡ at_end s.end → IsMissing s e
+  input_ended : 0 < s.until_end → IsAtEnd s.input → e ≡ TruncatedData → IsMissing s e
 
 -- ---- contents
 

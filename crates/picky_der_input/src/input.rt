@@ -39,13 +39,13 @@ pub struct Input<R: ReadExt> {
     alloc: Global,
     reader: PeekableReader<R>,
     limit: usize,
-    room: usize,
+    until_end: usize,
     end: End,
     // The encodings of the last members of the sets that are open, one behind the other.
     kept: Vec<u8>,
     // Where the innermost end is that of a set, how many of these bytes are before its own.
     last: Option<usize>,
-    direct: Option<u8>,
+    implicit_tag: Option<u8>,
     failed: Option<Failure>,
 }
 
@@ -54,7 +54,7 @@ impl<R: ReadExt> Model for Input<R> {
     ghost use Rattle.picky_der_input.specs.State.{State};
     ghost use Rattle.picky_der_input.specs.Order.{cut_at};
     ghost use Rattle.picky_der_core.specs.Peeking.{count_of_any, left_in};
-    ghost use Rattle.picky_der_input.specs.Steps.{IsUnpeekedIfDirect, IsTagNumberIfAny};
+    ghost use Rattle.picky_der_input.specs.Steps.{IsUnpeekedIfImplicit, IsTagNumberIfAny};
 
     ghost Value = { State };
 
@@ -63,35 +63,36 @@ impl<R: ReadExt> Model for Input<R> {
       peeked = d.reader.peeked;
       taken = d.reader.pos;
       limit = d.limit;
-      room = d.room;
+      until_end = d.until_end;
       end = d.end;
       sets = cut_at d.last d.kept.items;
-      direct = d.direct;
+      implicit_tag = d.implicit_tag;
       failed = d.failed;
       faults = R.faults d.reader.reader;
-      through = R.through d.reader.reader;
+      references = R.references d.reader.reader;
     } };
 
     // No more is drawn than the limit allows, and no end is past it.
-    ghost invariant = { λ d. (d.reader.pos + d.room < 2 ^ 64) × IsUnpeekedIfDirect d.direct d.reader.peeked × IsTagNumberIfAny d.direct
-        × (d.reader.pos + d.room ≤ d.limit) × (d.reader.pos + count_of_any d.reader.peeked ≤ d.limit)
+    ghost invariant = { λ d. (d.reader.pos + d.until_end < 2 ^ 64) × IsUnpeekedIfImplicit d.implicit_tag d.reader.peeked × IsTagNumberIfAny d.implicit_tag
+        × (d.reader.pos + d.until_end ≤ d.limit) × (d.reader.pos + count_of_any d.reader.peeked ≤ d.limit)
         × IfSome d.last (λ place. place ≤ length d.kept.items) };
 }
 
 impl<R: ReadExt> Input<R> {
     /// Reads from a reader. At most `max_len` bytes are drawn in all.
     pub fn new(alloc: Global, reader: R, max_len: usize) -> Input<R>
-        ensures { result ≡ fresh (R.remaining reader) max_len (R.faults reader) (R.through reader) }
+        ensures { result ≡ fresh (R.remaining reader) max_len (R.faults reader)
+            (R.references reader) }
     {
         Input {
             alloc,
             reader: PeekableReader::new(reader),
             limit: max_len,
-            room: max_len,
+            until_end: max_len,
             end: End::Limit,
             kept: Vec::new(alloc),
             last: None,
-            direct: None,
+            implicit_tag: None,
             failed: None,
         }
     }
@@ -100,17 +101,17 @@ impl<R: ReadExt> Input<R> {
     pub fn into_reader(self) -> R
         ensures input { self.input ≡ in_front self.peeked (R.remaining result) }
         ensures faults { R.faults result ≡ self.faults }
-        ensures same_references { R.through result ≡ self.through }
+        ensures same_references { R.references result ≡ self.references }
     {
         let Input {
             alloc: _,
             reader,
             limit: _,
-            room: _,
+            until_end: _,
             end: _,
             kept: _,
             last: _,
-            direct: _,
+            implicit_tag: _,
             failed: _,
         } = self;
         reader.into_inner()
@@ -133,7 +134,7 @@ impl<R: ReadExt> Input<R> {
     pub(crate) fn earlier(&self) -> Option<Asn1DerError>
         ensures again { IfSome result (λ e. self.now.failed ≡ Some (failure_of e)) }
         ensures not_failed { IfNone result (self.now.failed ≡ None) }
-        ensures bounded { self.now.room < 2 ^ 64 }
+        ensures bounded { self.now.until_end < 2 ^ 64 }
     {
         match self.failed {
             Some(failure) => Some(failure.error()),
@@ -167,7 +168,7 @@ impl<R: ReadExt> Input<R> {
     pub(crate) fn next_byte(&mut self) -> Result<u8>
         ensures ok { IfOk result (λ b. Takes self.old self.new (b ∷ [])) }
         ensures byte { IfOk result (λ b. b < 256) }
-        ensures direct { OnOk result (self.new.direct ≡ self.old.direct) }
+        ensures implicit_tag { OnOk result (self.new.implicit_tag ≡ self.old.implicit_tag) }
         ensures err { IfErr result (Fails self.old self.new) }
         ensures missing { IfErr result (λ e. self.old.failed ≡ None
             → self.new.faults ≡ self.old.faults → IsMissing self.old e) }
@@ -181,13 +182,13 @@ impl<R: ReadExt> Input<R> {
         if let Some(error) = self.earlier() {
             return Err(error);
         }
-        if self.room == 0 {
+        if self.until_end == 0 {
             let error = self.end.missing();
             return Err(self.fail(error));
         }
         match self.reader.read_next() {
             Ok(Some(byte)) => {
-                self.room -= 1;
+                self.until_end -= 1;
                 Ok(byte)
             }
             Ok(None) => Err(self.fail(Asn1DerError::TruncatedData)),
@@ -200,7 +201,7 @@ impl<R: ReadExt> Input<R> {
         requires had_not_failed { self.old.failed ≡ None }
         requires unpeeked { self.old.peeked ≡ None }
         ensures ok { IfOk result (λ kept. TakesKept self.old self.new len kept.items) }
-        ensures direct { OnOk result (self.new.direct ≡ self.old.direct) }
+        ensures implicit_tag { OnOk result (self.new.implicit_tag ≡ self.old.implicit_tag) }
         ensures err { IfErr result (StopsShort self.old self.new len) }
         ensures memory { IfErr result (TakesNoMemory self.old self.new) }
     {

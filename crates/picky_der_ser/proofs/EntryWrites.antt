@@ -34,25 +34,25 @@ full_kind = refl
 -- ---- a writer, through a reference
 
 module _ {V W : Type 0} (h : Ghosts V) (g : Ghosts W) (now : V → W) (told : (v : V) → h.told v ≡ g.told (now v)) (faults : (v : V) → h.faults v ≡ g.faults (now v)) (answers : (k : ErrorKind) → h.answers k → g.answers k) where
-  excuse-through : (t : Tree) (rest : List ℕ) (old new : V) (e : Asn1DerError) → Excuse h t rest old e new → Excuse g t rest (now old) e (now new)
-  excuse-through t rest old new e (no_memory m) = no_memory m
-  excuse-through t rest old new e (unwritable m n s) = unwritable m n (ap now s)
-  excuse-through t rest old new e (no_sink w some f) =
+  excuse-references : (t : Tree) (rest : List ℕ) (old new : V) (e : Asn1DerError) → Excuse h t rest old e new → Excuse g t rest (now old) e (now new)
+  excuse-references t rest old new e (no_memory m) = no_memory m
+  excuse-references t rest old new e (unwritable m n s) = unwritable m n (ap now s)
+  excuse-references t rest old new e (no_sink w some f) =
       no_sink w some (record { rose = omega (arith, f.rose, faults old, faults new); kind = f.kind; answered = answers f.kind f.answered; is = f.is })
 
-  refused-through : (t : Tree) (old new : V) (e : Asn1DerError) → Refused h t old e new → Refused g t (now old) e (now new)
-  refused-through t old new e r =
+  refused-references : (t : Tree) (old new : V) (e : Asn1DerError) → Refused h t old e new → Refused g t (now old) e (now new)
+  refused-references t old new e r =
       let b = r.begins in
       let first : Appends (g.told (now old)) (h.told new) b.front = subst (λ a. Appends a (h.told new) b.front) (told old) b.appends in
       let both : Appends (g.told (now old)) (g.told (now new)) b.front = subst (λ c. Appends (g.told (now old)) c b.front) (told new) first in
-      record { begins = record { front = b.front; rest = b.rest; is = b.is; appends = both }; excuse = excuse-through t b.rest old new e r.excuse }
+      record { begins = record { front = b.front; rest = b.rest; is = b.is; appends = both }; excuse = excuse-references t b.rest old new e r.excuse }
 
   -- a serializer that began with nothing open, and hadn't failed
   pub refused-fresh : (t : Tree) (old new : State V) (e : Asn1DerError) → old.failed ≡ None → old.inside ≡ [] → old.around ≡ [] → RefusesWrite h t old e new → Refused g t (now old.sink) e (now new.sink)
   refused-fresh t old new e f i a k =
       let first : RefusedIn h old.inside (under old.around t) old.sink e new.sink = subst (λ o. IfNone o (RefusedIn h old.inside (under old.around t) old.sink e new.sink)) f k.first in
       let outside : Refused h (under old.around t) old.sink e new.sink = subst (λ ls. RefusedIn h ls (under old.around t) old.sink e new.sink) i first in
-      refused-through t old.sink new.sink e (subst (λ ws. Refused h (under ws t) old.sink e new.sink) a outside)
+      refused-references t old.sink new.sink e (subst (λ ws. Refused h (under ws t) old.sink e new.sink) a outside)
 
 -- ---- a vector
 

@@ -36,7 +36,7 @@ impl Length {
         ensures device { IfErr result (λ e. R.faults reader.new ≡ R.faults reader.old
             → IsOfDevice e → ⊥) }
         ensures no_fault { OnOk result (R.faults reader.new ≡ R.faults reader.old) }
-        ensures same_references { R.through reader.new ≡ R.through reader.old }
+        ensures same_references { R.references reader.new ≡ R.references reader.old }
     {
         let first = reader.read_one()?;
         if first < 0x80 {

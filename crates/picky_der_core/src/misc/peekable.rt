@@ -58,7 +58,7 @@ impl<R: ReadExt> PeekableReader<R> {
         ensures fault { IfErr result (FailsOnce (R.faults self.old.reader)
             (R.faults self.new.reader) (left_in R.remaining self.new)) }
         ensures no_fault { OnOk result (R.faults self.new.reader ≡ R.faults self.old.reader) }
-        ensures same_references { R.through self.new.reader ≡ R.through self.old.reader }
+        ensures same_references { R.references self.new.reader ≡ R.references self.old.reader }
     {
         if self.peeked.is_none() {
             self.peeked = self.reader.read_next()?;
@@ -78,7 +78,7 @@ impl<R: ReadExt> PeekableReader<R> {
         ensures pos { self.new.pos ≡ self.old.pos }
         ensures fault { CountsFault (left_in R.remaining self.old) (left_in R.remaining self.new)
             (R.faults self.old.reader) (R.faults self.new.reader) result }
-        ensures same_references { R.through self.new.reader ≡ R.through self.old.reader }
+        ensures same_references { R.references self.new.reader ≡ R.references self.old.reader }
     {
         if let Some(byte) = self.peeked {
             return Ok(byte);
@@ -140,7 +140,7 @@ impl<R: ReadExt> Read for PeekableReader<R> {
         ensures fault { IfErr result (FailsOnce (R.faults self.old.reader)
             (R.faults self.new.reader) (left_in R.remaining self.new)) }
         ensures no_fault { OnOk result (R.faults self.new.reader ≡ R.faults self.old.reader) }
-        ensures same_references { R.through self.new.reader ≡ R.through self.old.reader }
+        ensures same_references { R.references self.new.reader ≡ R.references self.old.reader }
     {
         self.read_some(buf)
     }
@@ -149,7 +149,7 @@ impl<R: ReadExt> Read for PeekableReader<R> {
 impl<R: ReadExt> ReadExt for PeekableReader<R> {
     ghost faults = { λ p. R.faults p.reader };
 
-    ghost through = { λ p. R.through p.reader };
+    ghost references = { λ p. R.references p.reader };
 
     fn read_next(&mut self) -> io::Result<Option<u8>>
         ensures byte { GivesNext (left_in R.remaining self.old)
@@ -164,7 +164,7 @@ impl<R: ReadExt> ReadExt for PeekableReader<R> {
         ensures fault { IfErr result (FailsOnce (R.faults self.old.reader)
             (R.faults self.new.reader) (left_in R.remaining self.new)) }
         ensures no_fault { OnOk result (R.faults self.new.reader ≡ R.faults self.old.reader) }
-        ensures same_references { R.through self.new.reader ≡ R.through self.old.reader }
+        ensures same_references { R.references self.new.reader ≡ R.references self.old.reader }
     {
         if let Some(byte) = self.take_peeked() {
             return Ok(Some(byte));
@@ -191,7 +191,7 @@ impl<R: ReadExt> ReadExt for PeekableReader<R> {
         ensures fault { IfErr result (FailsOnce (R.faults self.old.reader)
             (R.faults self.new.reader) (left_in R.remaining self.new)) }
         ensures no_fault { OnOk result (R.faults self.new.reader ≡ R.faults self.old.reader) }
-        ensures same_references { R.through self.new.reader ≡ R.through self.old.reader }
+        ensures same_references { R.references self.new.reader ≡ R.references self.old.reader }
     {
         if buf.is_empty() {
             Ok(0)
@@ -226,7 +226,7 @@ impl<R: ReadExt> ReadExt for PeekableReader<R> {
         ensures pos { result ≡ true → self.new.pos ≡ moved self.old.pos count }
         ensures fewer { result ≡ false → self.new ≡ self.old }
         ensures no_fault { R.faults self.new.reader ≡ R.faults self.old.reader }
-        ensures same_references { R.through self.new.reader ≡ R.through self.old.reader }
+        ensures same_references { R.references self.new.reader ≡ R.references self.old.reader }
     {
         if self.peeked.is_some() || !self.reader.take_ahead(count) {
             return false;
@@ -247,7 +247,7 @@ impl<R: ReadExt> ReadExt for PeekableReader<R> {
         ensures same_pos { OnErr result (self.new.pos ≡ self.old.pos) }
         ensures fault { CountsFault (left_in R.remaining self.old) (left_in R.remaining self.new)
             (R.faults self.old.reader) (R.faults self.new.reader) result }
-        ensures same_references { R.through self.new.reader ≡ R.through self.old.reader }
+        ensures same_references { R.references self.new.reader ≡ R.references self.old.reader }
     {
         match self.read_next() {
             Ok(Some(byte)) => Ok(byte),

@@ -14,7 +14,7 @@ pub trait ReadExt: Read {
     ghost faults: { Self → List Fault };
 
     // The references that it reads through, outermost first.
-    ghost through: { Self → List ℕ };
+    ghost references: { Self → List ℕ };
 
     /// The next byte, and `None` at the end of the input. Each error is the device's, and takes no byte.
     fn read_next(&mut self) -> io::Result<Option<u8>>
@@ -22,7 +22,7 @@ pub trait ReadExt: Read {
         ensures fault { IfErr result (FailsOnce (faults self.old) (faults self.new)
             (Self.remaining self.new)) }
         ensures no_fault { OnOk result (faults self.new ≡ faults self.old) }
-        ensures same_references { through self.new ≡ through self.old };
+        ensures same_references { references self.new ≡ references self.old };
 
     /// Puts the next bytes into the front of the buffer, and answers how many: as many as one read gives, and none only
     /// where the buffer has no room or at the end of the input. Each error is the device's, and takes no byte.
@@ -33,7 +33,7 @@ pub trait ReadExt: Read {
         ensures fault { IfErr result (FailsOnce (faults self.old) (faults self.new)
             (Self.remaining self.new)) }
         ensures no_fault { OnOk result (faults self.new ≡ faults self.old) }
-        ensures same_references { through self.new ≡ through self.old };
+        ensures same_references { references self.new ≡ references self.old };
 
     /// Bytes that are next and are here already, so that no device has to be asked for them. A reader that has none to
     /// show shows none, also before its end.
@@ -49,7 +49,7 @@ pub trait ReadExt: Read {
             (Self.remaining self.new) count }
         ensures fewer { result ≡ false → self.new ≡ self.old }
         ensures no_fault { faults self.new ≡ faults self.old }
-        ensures same_references { through self.new ≡ through self.old }
+        ensures same_references { references self.new ≡ references self.old }
     {
         let _ = count;
         false
@@ -60,7 +60,7 @@ pub trait ReadExt: Read {
         ensures byte { GivesByte (Self.remaining self.old) (Self.remaining self.new) result }
         ensures fault { CountsFault (Self.remaining self.old) (Self.remaining self.new)
             (faults self.old) (faults self.new) result }
-        ensures same_references { through self.new ≡ through self.old }
+        ensures same_references { references self.new ≡ references self.old }
     {
         match self.read_next() {
             Ok(Some(byte)) => Ok(byte),
@@ -73,7 +73,7 @@ pub trait ReadExt: Read {
 impl ReadExt for &[u8] {
     ghost faults = { λ _. [] };
 
-    ghost through = { λ _. [] };
+    ghost references = { λ _. [] };
 
     fn read_next(&mut self) -> io::Result<Option<u8>> {
         let bytes = *self;
@@ -107,7 +107,7 @@ impl ReadExt for &[u8] {
 impl<R: ReadExt> ReadExt for &mut R {
     ghost faults = { λ r. R.faults r.now };
 
-    ghost through = { λ r. r.ghost_name ∷ R.through r.now };
+    ghost references = { λ r. r.ghost_name ∷ R.references r.now };
 
     fn read_next(&mut self) -> io::Result<Option<u8>> {
         ReadExt::read_next(&mut **self)

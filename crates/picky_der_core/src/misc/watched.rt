@@ -82,7 +82,7 @@ impl<T: Read> Read for Watched<T> {
 impl<T: Read> ReadExt for Watched<T> {
     ghost faults = { λ w. faults_told T.remaining w.faults };
 
-    ghost through = { λ _. [] };
+    ghost references = { λ _. [] };
 
     fn read_next(&mut self) -> io::Result<Option<u8>> {
         let mut byte = [0];

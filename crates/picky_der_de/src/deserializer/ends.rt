@@ -32,7 +32,7 @@ impl<R: ReadExt> Deserializer<R> {
 
     // Closes the innermost end, if it was reached, and puts the one around it back.
     pub(crate) fn close_end(&mut self, outer: Outer) -> Result<()>
-        requires within { self.old.taken + self.old.room ≤ outer.place }
+        requires within { self.old.taken + self.old.until_end ≤ outer.place }
         requires bounded { outer.place ≤ self.old.limit }
         ensures ok { OnOk result (Closes outer self.old self.new) }
         ensures err { IfErr result (RefusesClose self.old self.new) }
@@ -43,7 +43,7 @@ impl<R: ReadExt> Deserializer<R> {
     // Whether the innermost end is here.
     pub(crate) fn is_at_end(&self) -> Result<bool>
         ensures ok { IfOk result (λ here. (self.now.failed ≡ None)
-            × (IsTrue here ↔ (self.now.room ≡ 0))) }
+            × (IsTrue here ↔ (self.now.until_end ≡ 0))) }
         ensures err { IfErr result (λ e. self.now.failed ≡ Some (failure_of e)) }
     {
         self.input.is_at_end()

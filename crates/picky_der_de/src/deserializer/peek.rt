@@ -27,7 +27,7 @@ impl<R: ReadExt> Deserializer<R> {
         ensures tag { IfOk result (λ next. IfSome next (Identifies self.old self.new)) }
         ensures ended { IfOk result (λ next. IfNone next (HasEnded self.old self.new)) }
         ensures err { IfErr result (RefusesIdentifier self.old self.new) }
-        ensures at_end { IfErr result (λ e. IsJudged self.old self.new e → self.old.room ≡ 0) }
+        ensures at_end { IfErr result (λ e. IsJudged self.old self.new e → self.old.until_end ≡ 0) }
     {
         self.input.identify_next()
     }

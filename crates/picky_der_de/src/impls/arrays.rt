@@ -71,7 +71,7 @@ impl<T: Deserialize + Copy + Default, const N: usize> Fill for [T; N] {
 impl<T: Deserialize + Copy + Default, const N: usize> Deserialize for [T; N] {
     ghost shape = { Shape.fields ListKind.sequence (times N T.shape) };
 
-    ghost known_by_tree = { λ x y p q r e. array_known T.meaning T.shape T.eq T.known_by_tree N x y p.1 q.1 r.1 e };
+    ghost injective = { λ x y p q r e. array_known T.meaning T.shape T.eq T.injective N x y p.1 q.1 r.1 e };
 
     ghost sound = { times_sound N T.shape T.sound };
 

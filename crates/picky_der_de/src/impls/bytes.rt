@@ -1,6 +1,6 @@
 //! Octet strings and bytes under tags of their own, as they are read.
 ghost use Rattle.picky_der_core.specs.Shape.{Shape};
-ghost use Rattle.picky_der_de.specs.KnownLaws.{bytes_known};
+ghost use Rattle.picky_der_de.specs.InjectiveLaws.{bytes_known};
 
 use crate::{Deserialize, Deserializer};
 use picky_der_core::Result;
@@ -10,7 +10,7 @@ use picky_der_core::misc::ReadExt;
 impl Deserialize for ByteBuf {
     ghost shape = { Shape.bytes 0x04 };
 
-    ghost known_by_tree = { λ x y s t r e. bytes_known x.0.items y.0.items e };
+    ghost injective = { λ x y s t r e. bytes_known x.0.items y.0.items e };
 
     ghost sound = { tt };
 
@@ -22,7 +22,7 @@ impl Deserialize for ByteBuf {
 impl<const TAG: u8> Deserialize for TaggedBytes<TAG> {
     ghost shape = { Shape.bytes TAG };
 
-    ghost known_by_tree = { λ x y s t r e. bytes_known x.0.items y.0.items e };
+    ghost injective = { λ x y s t r e. bytes_known x.0.items y.0.items e };
 
     ghost sound = { tt };
 

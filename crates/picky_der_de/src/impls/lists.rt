@@ -1,7 +1,7 @@
 //! Lists of values of one type, as they are read.
 ghost use Rattle.picky_der_core.specs.Tree.{ListKind};
 ghost use Rattle.picky_der_core.specs.Shape.{Shape};
-ghost use Rattle.picky_der_de.specs.KnownLaws.{list_known};
+ghost use Rattle.picky_der_de.specs.InjectiveLaws.{list_known};
 
 use crate::{Deserialize, Deserializer};
 use picky_der_core::Result;
@@ -11,7 +11,7 @@ use picky_der_core::misc::ReadExt;
 impl<T: Deserialize> Deserialize for Vec<T> {
     ghost shape = { Shape.list_of ListKind.sequence T.shape };
 
-    ghost known_by_tree = { λ x y p q r e. list_known T.meaning T.shape T.eq T.known_by_tree x.items y.items p.1 q.1 r.1 e };
+    ghost injective = { λ x y p q r e. list_known T.meaning T.shape T.eq T.injective x.items y.items p.1 q.1 r.1 e };
 
     ghost sound = { T.sound };
 
@@ -23,7 +23,7 @@ impl<T: Deserialize> Deserialize for Vec<T> {
 impl<T: Deserialize> Deserialize for Asn1SequenceOf<T> {
     ghost shape = { Shape.list_of ListKind.sequence T.shape };
 
-    ghost known_by_tree = { λ x y p q r e. list_known T.meaning T.shape T.eq T.known_by_tree x.0.items y.0.items p.1 q.1 r.1 e };
+    ghost injective = { λ x y p q r e. list_known T.meaning T.shape T.eq T.injective x.0.items y.0.items p.1 q.1 r.1 e };
 
     ghost sound = { T.sound };
 
@@ -35,7 +35,7 @@ impl<T: Deserialize> Deserialize for Asn1SequenceOf<T> {
 impl<T: Deserialize> Deserialize for Asn1SetOf<T> {
     ghost shape = { Shape.list_of ListKind.set T.shape };
 
-    ghost known_by_tree = { λ x y p q r e. list_known T.meaning T.shape T.eq T.known_by_tree x.0.items y.0.items p.1 q.1 r.1 e };
+    ghost injective = { λ x y p q r e. list_known T.meaning T.shape T.eq T.injective x.0.items y.0.items p.1 q.1 r.1 e };
 
     ghost sound = { T.sound };
 

@@ -4,7 +4,7 @@ ghost use Rattle.picky_der_core.specs.Tree.{Tree};
 ghost use Rattle.picky_der_core.specs.Shape.{Shape};
 ghost use Rattle.picky_der_input.specs.Steps.{TakesNoMemory};
 ghost use Rattle.picky_der_input.specs.Reading.{Reads, Refuses, ReadsUnsigned, RefusesUnsigned};
-ghost use Rattle.picky_der_de.specs.KnownLaws.{boolean_known, unsigned_known};
+ghost use Rattle.picky_der_de.specs.InjectiveLaws.{boolean_known, unsigned_known};
 
 use crate::{Deserialize, Deserializer};
 use picky_der_core::Result;
@@ -13,7 +13,7 @@ use picky_der_core::misc::ReadExt;
 impl Deserialize for bool {
     ghost shape = { Shape.boolean };
 
-    ghost known_by_tree = { λ x y s t r e. boolean_known x y e };
+    ghost injective = { λ x y s t r e. boolean_known x y e };
 
     ghost sound = { tt };
 
@@ -25,7 +25,7 @@ impl Deserialize for bool {
 impl Deserialize for u8 {
     ghost shape = { Shape.unsigned (2 ^ 8 - 1) };
 
-    ghost known_by_tree = { λ x y s t r e. unsigned_known x y e };
+    ghost injective = { λ x y s t r e. unsigned_known x y e };
 
     ghost sound = { tt };
 
@@ -37,7 +37,7 @@ impl Deserialize for u8 {
 impl Deserialize for u16 {
     ghost shape = { Shape.unsigned (2 ^ 16 - 1) };
 
-    ghost known_by_tree = { λ x y s t r e. unsigned_known x y e };
+    ghost injective = { λ x y s t r e. unsigned_known x y e };
 
     ghost sound = { tt };
 
@@ -49,7 +49,7 @@ impl Deserialize for u16 {
 impl Deserialize for u32 {
     ghost shape = { Shape.unsigned (2 ^ 32 - 1) };
 
-    ghost known_by_tree = { λ x y s t r e. unsigned_known x y e };
+    ghost injective = { λ x y s t r e. unsigned_known x y e };
 
     ghost sound = { tt };
 
@@ -61,7 +61,7 @@ impl Deserialize for u32 {
 impl Deserialize for u64 {
     ghost shape = { Shape.unsigned (2 ^ 64 - 1) };
 
-    ghost known_by_tree = { λ x y s t r e. unsigned_known x y e };
+    ghost injective = { λ x y s t r e. unsigned_known x y e };
 
     ghost sound = { tt };
 
@@ -73,7 +73,7 @@ impl Deserialize for u64 {
 impl Deserialize for u128 {
     ghost shape = { Shape.unsigned (2 ^ 128 - 1) };
 
-    ghost known_by_tree = { λ x y s t r e. unsigned_known x y e };
+    ghost injective = { λ x y s t r e. unsigned_known x y e };
 
     ghost sound = { tt };
 
@@ -85,7 +85,7 @@ impl Deserialize for u128 {
 impl Deserialize for usize {
     ghost shape = { Shape.unsigned (2 ^ 64 - 1) };
 
-    ghost known_by_tree = { λ x y s t r e. unsigned_known x y e };
+    ghost injective = { λ x y s t r e. unsigned_known x y e };
 
     ghost sound = { tt };
 

@@ -1,7 +1,7 @@
 //! Null, as it is read, and values that may be missing.
 ghost use Rattle.std.specs.Prelude.{refl};
 ghost use Rattle.picky_der_core.specs.Shape.{Shape};
-ghost use Rattle.picky_der_de.specs.KnownLaws.{option_known};
+ghost use Rattle.picky_der_de.specs.InjectiveLaws.{option_known};
 
 use crate::{Deserialize, Deserializer};
 use picky_der_core::Result;
@@ -10,7 +10,7 @@ use picky_der_core::misc::ReadExt;
 impl Deserialize for () {
     ghost shape = { Shape.null };
 
-    ghost known_by_tree = { λ x y s t r e. refl };
+    ghost injective = { λ x y s t r e. refl };
 
     ghost sound = { tt };
 
@@ -22,7 +22,7 @@ impl Deserialize for () {
 impl<T: Deserialize> Deserialize for Option<T> {
     ghost shape = { Shape.optional T.shape };
 
-    ghost known_by_tree = { option_known T.meaning T.shape T.eq T.known_by_tree };
+    ghost injective = { option_known T.meaning T.shape T.eq T.injective };
 
     ghost sound = { T.sound };
 

@@ -1,7 +1,7 @@
 //! Characters and texts, as they are read.
 ghost use Rattle.std.specs.Prelude.{string_bytes};
 ghost use Rattle.picky_der_core.specs.Shape.{Shape};
-ghost use Rattle.picky_der_de.specs.KnownLaws.{character_known, text_known};
+ghost use Rattle.picky_der_de.specs.InjectiveLaws.{character_known, text_known};
 
 use crate::{Deserialize, Deserializer};
 use picky_der_core::Result;
@@ -10,7 +10,7 @@ use picky_der_core::misc::ReadExt;
 impl Deserialize for char {
     ghost shape = { Shape.character };
 
-    ghost known_by_tree = { λ x y s t r e. character_known x y e };
+    ghost injective = { λ x y s t r e. character_known x y e };
 
     ghost sound = { tt };
 
@@ -22,7 +22,7 @@ impl Deserialize for char {
 impl Deserialize for String {
     ghost shape = { Shape.text };
 
-    ghost known_by_tree = { λ x y s t r e. text_known (string_bytes x) (string_bytes y) e };
+    ghost injective = { λ x y s t r e. text_known (string_bytes x) (string_bytes y) e };
 
     ghost sound = { tt };
 

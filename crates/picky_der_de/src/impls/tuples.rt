@@ -1,7 +1,7 @@
 //! Tuples, as they are read: each as the row of its members.
 ghost use Rattle.picky_der_core.specs.Tree.{ListKind};
 ghost use Rattle.picky_der_core.specs.Shape.{Shape, Shapes};
-ghost use Rattle.picky_der_de.specs.KnownLaws.{both, row_members, first_member, other_members};
+ghost use Rattle.picky_der_de.specs.InjectiveLaws.{both, row_members, first_member, other_members};
 
 use crate::{Alike, Deserialize, Deserializer, deserialize_as};
 use picky_der_core::Result;
@@ -21,7 +21,7 @@ impl<A: Deserialize> Alike for (A,) {
 impl<A: Deserialize> Deserialize for (A,) {
     ghost shape = { Shape.fields ListKind.sequence (Shapes.more A.shape Shapes.none) };
 
-    ghost known_by_tree = { λ x y p q r e. let m = row_members e in A.known_by_tree x.0 y.0 p.1.0 q.1.0 r.1.0 (first_member m) };
+    ghost injective = { λ x y p q r e. let m = row_members e in A.injective x.0 y.0 p.1.0 q.1.0 r.1.0 (first_member m) };
 
     ghost sound = { (A.sound, tt) };
 
@@ -43,7 +43,7 @@ impl<A: Deserialize, B: Deserialize> Alike for (A, B) {
 impl<A: Deserialize, B: Deserialize> Deserialize for (A, B) {
     ghost shape = { Shape.fields ListKind.sequence (Shapes.more A.shape (Shapes.more B.shape Shapes.none)) };
 
-    ghost known_by_tree = { λ x y p q r e. let m = row_members e in both (A.known_by_tree x.0 y.0 p.1.0 q.1.0 r.1.0 (first_member m)) (B.known_by_tree x.1 y.1 p.1.1.0 q.1.1.0 r.1.1.0 (first_member (other_members m))) };
+    ghost injective = { λ x y p q r e. let m = row_members e in both (A.injective x.0 y.0 p.1.0 q.1.0 r.1.0 (first_member m)) (B.injective x.1 y.1 p.1.1.0 q.1.1.0 r.1.1.0 (first_member (other_members m))) };
 
     ghost sound = { (A.sound, (B.sound, tt)) };
 
@@ -65,7 +65,7 @@ impl<A: Deserialize, B: Deserialize, C: Deserialize> Alike for (A, B, C) {
 impl<A: Deserialize, B: Deserialize, C: Deserialize> Deserialize for (A, B, C) {
     ghost shape = { Shape.fields ListKind.sequence (Shapes.more A.shape (Shapes.more B.shape (Shapes.more C.shape Shapes.none))) };
 
-    ghost known_by_tree = { λ x y p q r e. let m = row_members e in both (both (A.known_by_tree x.0 y.0 p.1.0 q.1.0 r.1.0 (first_member m)) (B.known_by_tree x.1 y.1 p.1.1.0 q.1.1.0 r.1.1.0 (first_member (other_members m)))) (C.known_by_tree x.2 y.2 p.1.1.1.0 q.1.1.1.0 r.1.1.1.0 (first_member (other_members (other_members m)))) };
+    ghost injective = { λ x y p q r e. let m = row_members e in both (both (A.injective x.0 y.0 p.1.0 q.1.0 r.1.0 (first_member m)) (B.injective x.1 y.1 p.1.1.0 q.1.1.0 r.1.1.0 (first_member (other_members m)))) (C.injective x.2 y.2 p.1.1.1.0 q.1.1.1.0 r.1.1.1.0 (first_member (other_members (other_members m)))) };
 
     ghost sound = { (A.sound, (B.sound, (C.sound, tt))) };
 
@@ -87,7 +87,7 @@ impl<A: Deserialize, B: Deserialize, C: Deserialize, D: Deserialize> Alike for (
 impl<A: Deserialize, B: Deserialize, C: Deserialize, D: Deserialize> Deserialize for (A, B, C, D) {
     ghost shape = { Shape.fields ListKind.sequence (Shapes.more A.shape (Shapes.more B.shape (Shapes.more C.shape (Shapes.more D.shape Shapes.none)))) };
 
-    ghost known_by_tree = { λ x y p q r e. let m = row_members e in both (both (both (A.known_by_tree x.0 y.0 p.1.0 q.1.0 r.1.0 (first_member m)) (B.known_by_tree x.1 y.1 p.1.1.0 q.1.1.0 r.1.1.0 (first_member (other_members m)))) (C.known_by_tree x.2 y.2 p.1.1.1.0 q.1.1.1.0 r.1.1.1.0 (first_member (other_members (other_members m))))) (D.known_by_tree x.3 y.3 p.1.1.1.1.0 q.1.1.1.1.0 r.1.1.1.1.0 (first_member (other_members (other_members (other_members m))))) };
+    ghost injective = { λ x y p q r e. let m = row_members e in both (both (both (A.injective x.0 y.0 p.1.0 q.1.0 r.1.0 (first_member m)) (B.injective x.1 y.1 p.1.1.0 q.1.1.0 r.1.1.0 (first_member (other_members m)))) (C.injective x.2 y.2 p.1.1.1.0 q.1.1.1.0 r.1.1.1.0 (first_member (other_members (other_members m))))) (D.injective x.3 y.3 p.1.1.1.1.0 q.1.1.1.1.0 r.1.1.1.1.0 (first_member (other_members (other_members (other_members m))))) };
 
     ghost sound = { (A.sound, (B.sound, (C.sound, (D.sound, tt)))) };
 
@@ -111,7 +111,7 @@ impl<A: Deserialize, B: Deserialize, C: Deserialize, D: Deserialize, E: Deserial
     for (A, B, C, D, E) {
     ghost shape = { Shape.fields ListKind.sequence (Shapes.more A.shape (Shapes.more B.shape (Shapes.more C.shape (Shapes.more D.shape (Shapes.more E.shape Shapes.none))))) };
 
-    ghost known_by_tree = { λ x y p q r e. let m = row_members e in both (both (both (both (A.known_by_tree x.0 y.0 p.1.0 q.1.0 r.1.0 (first_member m)) (B.known_by_tree x.1 y.1 p.1.1.0 q.1.1.0 r.1.1.0 (first_member (other_members m)))) (C.known_by_tree x.2 y.2 p.1.1.1.0 q.1.1.1.0 r.1.1.1.0 (first_member (other_members (other_members m))))) (D.known_by_tree x.3 y.3 p.1.1.1.1.0 q.1.1.1.1.0 r.1.1.1.1.0 (first_member (other_members (other_members (other_members m)))))) (E.known_by_tree x.4 y.4 p.1.1.1.1.1.0 q.1.1.1.1.1.0 r.1.1.1.1.1.0 (first_member (other_members (other_members (other_members (other_members m)))))) };
+    ghost injective = { λ x y p q r e. let m = row_members e in both (both (both (both (A.injective x.0 y.0 p.1.0 q.1.0 r.1.0 (first_member m)) (B.injective x.1 y.1 p.1.1.0 q.1.1.0 r.1.1.0 (first_member (other_members m)))) (C.injective x.2 y.2 p.1.1.1.0 q.1.1.1.0 r.1.1.1.0 (first_member (other_members (other_members m))))) (D.injective x.3 y.3 p.1.1.1.1.0 q.1.1.1.1.0 r.1.1.1.1.0 (first_member (other_members (other_members (other_members m)))))) (E.injective x.4 y.4 p.1.1.1.1.1.0 q.1.1.1.1.1.0 r.1.1.1.1.1.0 (first_member (other_members (other_members (other_members (other_members m)))))) };
 
     ghost sound = { (A.sound, (B.sound, (C.sound, (D.sound, (E.sound, tt))))) };
 
@@ -149,7 +149,7 @@ impl<
 > Deserialize for (A, B, C, D, E, F) {
     ghost shape = { Shape.fields ListKind.sequence (Shapes.more A.shape (Shapes.more B.shape (Shapes.more C.shape (Shapes.more D.shape (Shapes.more E.shape (Shapes.more F.shape Shapes.none)))))) };
 
-    ghost known_by_tree = { λ x y p q r e. let m = row_members e in both (both (both (both (both (A.known_by_tree x.0 y.0 p.1.0 q.1.0 r.1.0 (first_member m)) (B.known_by_tree x.1 y.1 p.1.1.0 q.1.1.0 r.1.1.0 (first_member (other_members m)))) (C.known_by_tree x.2 y.2 p.1.1.1.0 q.1.1.1.0 r.1.1.1.0 (first_member (other_members (other_members m))))) (D.known_by_tree x.3 y.3 p.1.1.1.1.0 q.1.1.1.1.0 r.1.1.1.1.0 (first_member (other_members (other_members (other_members m)))))) (E.known_by_tree x.4 y.4 p.1.1.1.1.1.0 q.1.1.1.1.1.0 r.1.1.1.1.1.0 (first_member (other_members (other_members (other_members (other_members m))))))) (F.known_by_tree x.5 y.5 p.1.1.1.1.1.1.0 q.1.1.1.1.1.1.0 r.1.1.1.1.1.1.0 (first_member (other_members (other_members (other_members (other_members (other_members m))))))) };
+    ghost injective = { λ x y p q r e. let m = row_members e in both (both (both (both (both (A.injective x.0 y.0 p.1.0 q.1.0 r.1.0 (first_member m)) (B.injective x.1 y.1 p.1.1.0 q.1.1.0 r.1.1.0 (first_member (other_members m)))) (C.injective x.2 y.2 p.1.1.1.0 q.1.1.1.0 r.1.1.1.0 (first_member (other_members (other_members m))))) (D.injective x.3 y.3 p.1.1.1.1.0 q.1.1.1.1.0 r.1.1.1.1.0 (first_member (other_members (other_members (other_members m)))))) (E.injective x.4 y.4 p.1.1.1.1.1.0 q.1.1.1.1.1.0 r.1.1.1.1.1.0 (first_member (other_members (other_members (other_members (other_members m))))))) (F.injective x.5 y.5 p.1.1.1.1.1.1.0 q.1.1.1.1.1.1.0 r.1.1.1.1.1.1.0 (first_member (other_members (other_members (other_members (other_members (other_members m))))))) };
 
     ghost sound = { (A.sound, (B.sound, (C.sound, (D.sound, (E.sound, (F.sound, tt)))))) };
 
@@ -189,7 +189,7 @@ impl<
 > Deserialize for (A, B, C, D, E, F, G) {
     ghost shape = { Shape.fields ListKind.sequence (Shapes.more A.shape (Shapes.more B.shape (Shapes.more C.shape (Shapes.more D.shape (Shapes.more E.shape (Shapes.more F.shape (Shapes.more G.shape Shapes.none))))))) };
 
-    ghost known_by_tree = { λ x y p q r e. let m = row_members e in both (both (both (both (both (both (A.known_by_tree x.0 y.0 p.1.0 q.1.0 r.1.0 (first_member m)) (B.known_by_tree x.1 y.1 p.1.1.0 q.1.1.0 r.1.1.0 (first_member (other_members m)))) (C.known_by_tree x.2 y.2 p.1.1.1.0 q.1.1.1.0 r.1.1.1.0 (first_member (other_members (other_members m))))) (D.known_by_tree x.3 y.3 p.1.1.1.1.0 q.1.1.1.1.0 r.1.1.1.1.0 (first_member (other_members (other_members (other_members m)))))) (E.known_by_tree x.4 y.4 p.1.1.1.1.1.0 q.1.1.1.1.1.0 r.1.1.1.1.1.0 (first_member (other_members (other_members (other_members (other_members m))))))) (F.known_by_tree x.5 y.5 p.1.1.1.1.1.1.0 q.1.1.1.1.1.1.0 r.1.1.1.1.1.1.0 (first_member (other_members (other_members (other_members (other_members (other_members m)))))))) (G.known_by_tree x.6 y.6 p.1.1.1.1.1.1.1.0 q.1.1.1.1.1.1.1.0 r.1.1.1.1.1.1.1.0 (first_member (other_members (other_members (other_members (other_members (other_members (other_members m)))))))) };
+    ghost injective = { λ x y p q r e. let m = row_members e in both (both (both (both (both (both (A.injective x.0 y.0 p.1.0 q.1.0 r.1.0 (first_member m)) (B.injective x.1 y.1 p.1.1.0 q.1.1.0 r.1.1.0 (first_member (other_members m)))) (C.injective x.2 y.2 p.1.1.1.0 q.1.1.1.0 r.1.1.1.0 (first_member (other_members (other_members m))))) (D.injective x.3 y.3 p.1.1.1.1.0 q.1.1.1.1.0 r.1.1.1.1.0 (first_member (other_members (other_members (other_members m)))))) (E.injective x.4 y.4 p.1.1.1.1.1.0 q.1.1.1.1.1.0 r.1.1.1.1.1.0 (first_member (other_members (other_members (other_members (other_members m))))))) (F.injective x.5 y.5 p.1.1.1.1.1.1.0 q.1.1.1.1.1.1.0 r.1.1.1.1.1.1.0 (first_member (other_members (other_members (other_members (other_members (other_members m)))))))) (G.injective x.6 y.6 p.1.1.1.1.1.1.1.0 q.1.1.1.1.1.1.1.0 r.1.1.1.1.1.1.1.0 (first_member (other_members (other_members (other_members (other_members (other_members (other_members m)))))))) };
 
     ghost sound = { (A.sound, (B.sound, (C.sound, (D.sound, (E.sound, (F.sound, (G.sound, tt))))))) };
 
@@ -231,7 +231,7 @@ impl<
 > Deserialize for (A, B, C, D, E, F, G, H) {
     ghost shape = { Shape.fields ListKind.sequence (Shapes.more A.shape (Shapes.more B.shape (Shapes.more C.shape (Shapes.more D.shape (Shapes.more E.shape (Shapes.more F.shape (Shapes.more G.shape (Shapes.more H.shape Shapes.none)))))))) };
 
-    ghost known_by_tree = { λ x y p q r e. let m = row_members e in both (both (both (both (both (both (both (A.known_by_tree x.0 y.0 p.1.0 q.1.0 r.1.0 (first_member m)) (B.known_by_tree x.1 y.1 p.1.1.0 q.1.1.0 r.1.1.0 (first_member (other_members m)))) (C.known_by_tree x.2 y.2 p.1.1.1.0 q.1.1.1.0 r.1.1.1.0 (first_member (other_members (other_members m))))) (D.known_by_tree x.3 y.3 p.1.1.1.1.0 q.1.1.1.1.0 r.1.1.1.1.0 (first_member (other_members (other_members (other_members m)))))) (E.known_by_tree x.4 y.4 p.1.1.1.1.1.0 q.1.1.1.1.1.0 r.1.1.1.1.1.0 (first_member (other_members (other_members (other_members (other_members m))))))) (F.known_by_tree x.5 y.5 p.1.1.1.1.1.1.0 q.1.1.1.1.1.1.0 r.1.1.1.1.1.1.0 (first_member (other_members (other_members (other_members (other_members (other_members m)))))))) (G.known_by_tree x.6 y.6 p.1.1.1.1.1.1.1.0 q.1.1.1.1.1.1.1.0 r.1.1.1.1.1.1.1.0 (first_member (other_members (other_members (other_members (other_members (other_members (other_members m))))))))) (H.known_by_tree x.7 y.7 p.1.1.1.1.1.1.1.1.0 q.1.1.1.1.1.1.1.1.0 r.1.1.1.1.1.1.1.1.0 (first_member (other_members (other_members (other_members (other_members (other_members (other_members (other_members m))))))))) };
+    ghost injective = { λ x y p q r e. let m = row_members e in both (both (both (both (both (both (both (A.injective x.0 y.0 p.1.0 q.1.0 r.1.0 (first_member m)) (B.injective x.1 y.1 p.1.1.0 q.1.1.0 r.1.1.0 (first_member (other_members m)))) (C.injective x.2 y.2 p.1.1.1.0 q.1.1.1.0 r.1.1.1.0 (first_member (other_members (other_members m))))) (D.injective x.3 y.3 p.1.1.1.1.0 q.1.1.1.1.0 r.1.1.1.1.0 (first_member (other_members (other_members (other_members m)))))) (E.injective x.4 y.4 p.1.1.1.1.1.0 q.1.1.1.1.1.0 r.1.1.1.1.1.0 (first_member (other_members (other_members (other_members (other_members m))))))) (F.injective x.5 y.5 p.1.1.1.1.1.1.0 q.1.1.1.1.1.1.0 r.1.1.1.1.1.1.0 (first_member (other_members (other_members (other_members (other_members (other_members m)))))))) (G.injective x.6 y.6 p.1.1.1.1.1.1.1.0 q.1.1.1.1.1.1.1.0 r.1.1.1.1.1.1.1.0 (first_member (other_members (other_members (other_members (other_members (other_members (other_members m))))))))) (H.injective x.7 y.7 p.1.1.1.1.1.1.1.1.0 q.1.1.1.1.1.1.1.1.0 r.1.1.1.1.1.1.1.1.0 (first_member (other_members (other_members (other_members (other_members (other_members (other_members (other_members m))))))))) };
 
     ghost sound = { (A.sound, (B.sound, (C.sound, (D.sound, (E.sound, (F.sound, (G.sound, (H.sound, tt)))))))) };
 

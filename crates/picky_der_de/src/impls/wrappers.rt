@@ -15,7 +15,7 @@ use picky_der_core::misc::ReadExt;
 impl<T: Deserialize> Deserialize for OctetStringAsn1Container<T> {
     ghost shape = { Shape.octet_container T.shape };
 
-    ghost known_by_tree = { λ x y. enclosed_known (enclosure.Wrapper wrapper.OctetContainer) T.meaning T.shape T.eq T.known_by_tree x.0 y.0 };
+    ghost injective = { λ x y. enclosed_known (enclosure.Wrapper wrapper.OctetContainer) T.meaning T.shape T.eq T.injective x.0 y.0 };
 
     ghost sound = { T.sound };
 
@@ -28,7 +28,7 @@ impl<T: Deserialize> Deserialize for OctetStringAsn1Container<T> {
 impl<T: Deserialize> Deserialize for BitStringAsn1Container<T> {
     ghost shape = { Shape.bit_container T.shape };
 
-    ghost known_by_tree = { λ x y. enclosed_known (enclosure.Wrapper wrapper.BitContainer) T.meaning T.shape T.eq T.known_by_tree x.0 y.0 };
+    ghost injective = { λ x y. enclosed_known (enclosure.Wrapper wrapper.BitContainer) T.meaning T.shape T.eq T.injective x.0 y.0 };
 
     ghost sound = { T.sound };
 
@@ -41,7 +41,7 @@ impl<T: Deserialize> Deserialize for BitStringAsn1Container<T> {
 impl<T: Deserialize, const N: u8> Deserialize for ExplicitContextTag<T, N> {
     ghost shape = { Shape.explicit N T.shape };
 
-    ghost known_by_tree = { λ x y. enclosed_known (enclosure.Wrapper (wrapper.Explicit N)) T.meaning T.shape T.eq T.known_by_tree x.0 y.0 };
+    ghost injective = { λ x y. enclosed_known (enclosure.Wrapper (wrapper.Explicit N)) T.meaning T.shape T.eq T.injective x.0 y.0 };
 
     ghost sound = { T.sound };
 
@@ -54,7 +54,7 @@ impl<T: Deserialize, const N: u8> Deserialize for ExplicitContextTag<T, N> {
 impl<T: Deserialize, const N: u8> Deserialize for ImplicitContextTag<T, N> {
     ghost shape = { Shape.implicit N T.shape };
 
-    ghost known_by_tree = { λ x y. enclosed_known (enclosure.Wrapper (wrapper.Implicit N)) T.meaning T.shape T.eq T.known_by_tree x.0 y.0 };
+    ghost injective = { λ x y. enclosed_known (enclosure.Wrapper (wrapper.Implicit N)) T.meaning T.shape T.eq T.injective x.0 y.0 };
 
     ghost sound = { T.sound };
 

@@ -64,16 +64,16 @@ impl<R: ReadExt> Input<R> {
     // Takes so many bytes, where the reader has as many ahead, and answers whether it has.
     pub(crate) fn take_ahead(&mut self, count: usize) -> bool
         requires had_not_failed { self.old.failed ≡ None }
-        requires fits { count ≤ self.old.room }
+        requires fits { count ≤ self.old.until_end }
         ensures taken { result ≡ true → TakesShown self.old self.new count }
-        ensures direct { self.new.direct ≡ self.old.direct }
+        ensures implicit_tag { self.new.implicit_tag ≡ self.old.implicit_tag }
         ensures unpeeked { result ≡ true → self.old.peeked ≡ None }
         ensures fewer { result ≡ false → self.new ≡ self.old }
     {
         if !self.reader.take_ahead(count) {
             return false;
         }
-        self.room -= count;
+        self.until_end -= count;
         true
     }
 
@@ -87,7 +87,7 @@ impl<R: ReadExt> Input<R> {
             return None;
         }
         let (len, digits) = length_in_front(&ahead[1..])?;
-        if len + digits + 1 > self.room {
+        if len + digits + 1 > self.until_end {
             return None;
         }
         Some((len, digits + 1))
@@ -97,8 +97,8 @@ impl<R: ReadExt> Input<R> {
     pub(crate) fn take_header_ahead(&mut self, tag: Tag) -> Option<usize>
         requires had_not_failed { self.old.failed ≡ None }
         ensures taken { IfSome result (λ n. Takes self.old self.new (tag ∷ bytes_of n)
-            × (n ≤ self.new.room)) }
-        ensures direct { self.new.direct ≡ self.old.direct }
+            × (n ≤ self.new.until_end)) }
+        ensures implicit_tag { self.new.implicit_tag ≡ self.old.implicit_tag }
         ensures none { IfNone result (self.new ≡ self.old) }
     {
         let (len, size) = self.header_ahead(tag)?;
@@ -111,9 +111,9 @@ impl<R: ReadExt> Input<R> {
     // Whether it hasn't failed and a value stands whole here, with its header.
     fn wants_header(&self) -> bool
         ensures not_failed { result ≡ true → self.now.failed ≡ None }
-        ensures whole { result ≡ true → self.now.direct ≡ None }
+        ensures whole { result ≡ true → self.now.implicit_tag ≡ None }
     {
-        self.failed.is_none() && self.direct.is_none()
+        self.failed.is_none() && self.implicit_tag.is_none()
     }
 
     // The content of an element with this tag that is ahead, where its length is one byte.
@@ -128,7 +128,7 @@ impl<R: ReadExt> Input<R> {
             return None;
         }
         let end = usize::from(ahead[1]) + 2;
-        if end > ahead.len() || end > self.room {
+        if end > ahead.len() || end > self.until_end {
             return None;
         }
         Some(&ahead[2..end])
@@ -143,7 +143,7 @@ impl<R: ReadExt> Input<R> {
         }
         let ahead = self.reader.ahead();
         let count = element_in_front(ahead)?;
-        if count > self.room {
+        if count > self.until_end {
             return None;
         }
         Some(&ahead[..count])
@@ -155,12 +155,12 @@ impl<R: ReadExt> Input<R> {
         ensures taken { IfOk result (λ some. IfSome some
             (λ bytes. TakesBytes self.old self.new count bytes.items)) }
         ensures none { IfOk result (λ some. IfNone some (self.new ≡ self.old)) }
-        ensures direct { OnOk result (self.new.direct ≡ self.old.direct) }
+        ensures implicit_tag { OnOk result (self.new.implicit_tag ≡ self.old.implicit_tag) }
         ensures err { IfErr result (λ e. (e ≡ Asn1DerError.OutOfMemory)
             × Fails self.old self.new e) }
     {
         let ahead = self.reader.ahead();
-        if count > ahead.len() || count > self.room {
+        if count > ahead.len() || count > self.until_end {
             return Ok(None);
         }
         let Ok(bytes) = copied(self.alloc, &ahead[..count]) else {

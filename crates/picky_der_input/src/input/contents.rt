@@ -18,7 +18,7 @@ impl<R: ReadExt> Input<R> {
         requires unpeeked { self.old.peeked ≡ None }
         ensures ok { IfOk result (λ bytes. Takes self.old self.new bytes.items
             × (length bytes.items ≡ len) × AreBytes bytes.items) }
-        ensures direct { OnOk result (self.new.direct ≡ self.old.direct) }
+        ensures implicit_tag { OnOk result (self.new.implicit_tag ≡ self.old.implicit_tag) }
         ensures err { IfErr result (StopsShort self.old self.new len) }
     {
         match self.copy_ahead(len) {
@@ -36,7 +36,7 @@ impl<R: ReadExt> Input<R> {
         requires unpeeked { self.old.peeked ≡ None }
         ensures ok { IfOk result (λ bytes. Takes self.old self.new bytes.items
             × (length bytes.items ≡ len) × AreBytes bytes.items) }
-        ensures direct { OnOk result (self.new.direct ≡ self.old.direct) }
+        ensures implicit_tag { OnOk result (self.new.implicit_tag ≡ self.old.implicit_tag) }
         ensures err { IfErr result (StopsShort self.old self.new len) }
     {
         let mut content = Vec::new(self.alloc);
@@ -51,7 +51,7 @@ impl<R: ReadExt> Input<R> {
         requires unpeeked { self.old.peeked ≡ None }
         ensures ok { OnOk result (TakesBehind bytes.old.items self.old self.new len
             bytes.new.items) }
-        ensures direct { OnOk result (self.new.direct ≡ self.old.direct) }
+        ensures implicit_tag { OnOk result (self.new.implicit_tag ≡ self.old.implicit_tag) }
         ensures err { IfErr result (StopsShort self.old self.new len) }
         ensures no_longer { GrowsByTaken bytes.old.items bytes.new.items self.old self.new }
     {
@@ -75,7 +75,7 @@ impl<R: ReadExt> Input<R> {
         requires some_left { 0 < left }
         ensures ok { IfOk result (λ n. TakesBehind bytes.old.items self.old self.new n
             bytes.new.items × (0 < n) × (n ≤ left)) }
-        ensures direct { OnOk result (self.new.direct ≡ self.old.direct) }
+        ensures implicit_tag { OnOk result (self.new.implicit_tag ≡ self.old.implicit_tag) }
         ensures err { IfErr result (StopsShort self.old self.new left) }
         ensures no_longer { GrowsByTaken bytes.old.items bytes.new.items self.old self.new }
     {
@@ -91,7 +91,7 @@ impl<R: ReadExt> Input<R> {
         requires had_not_failed { self.old.failed ≡ None }
         requires unpeeked { self.old.peeked ≡ None }
         ensures ok { OnOk result ((content : List ℕ) × TakesBytes self.old self.new len content) }
-        ensures direct { OnOk result (self.new.direct ≡ self.old.direct) }
+        ensures implicit_tag { OnOk result (self.new.implicit_tag ≡ self.old.implicit_tag) }
         ensures err { IfErr result (StopsShort self.old self.new len) }
         ensures memory { IfErr result (TakesNoMemory self.old self.new) }
     {
@@ -111,7 +111,7 @@ impl<R: ReadExt> Input<R> {
         requires some_left { 0 < left }
         requires place { 0 < length piece.old }
         ensures ok { IfOk result (λ n. TakesPiece self.old self.new left n piece.new) }
-        ensures direct { OnOk result (self.new.direct ≡ self.old.direct) }
+        ensures implicit_tag { OnOk result (self.new.implicit_tag ≡ self.old.implicit_tag) }
         ensures err { IfErr result (Fails self.old self.new) }
         ensures missing { IfErr result (λ e. self.old.failed ≡ None
             → self.new.faults ≡ self.old.faults → IsMissing self.old e) }
@@ -122,15 +122,15 @@ impl<R: ReadExt> Input<R> {
               input = self.new.input;
             }) }
     {
-        if self.room == 0 {
+        if self.until_end == 0 {
             let error = self.end.missing();
             return Err(self.fail(error));
         }
-        let most = left.min(self.room).min(piece.len());
+        let most = left.min(self.until_end).min(piece.len());
         match self.reader.read_some(&mut piece[..most]) {
             Ok(0) => Err(self.fail(Asn1DerError::TruncatedData)),
             Ok(count) => {
-                self.room -= count;
+                self.until_end -= count;
                 Ok(count)
             }
             Err(error) => Err(self.fault(error)),

@@ -103,7 +103,7 @@ impl<R: ReadExt> Input<R> {
         if has_unused_bits(enclosure) {
             self.take_unused_bits()?;
         }
-        self.direct = number_within(enclosure);
+        self.implicit_tag = number_within(enclosure);
         Ok(outer)
     }
 }

@@ -32,17 +32,17 @@ impl Model for Outer {
 impl<R: ReadExt> Input<R> {
     // Opens an end `len` bytes from here, and answers the one that was the innermost.
     pub(crate) fn open_end(&mut self, len: usize, kind: End) -> Outer
-        requires { len ≤ self.old.room }
+        requires { len ≤ self.old.until_end }
         ensures opened { self.new ≡ narrowed self.old len kind }
         ensures around { result ≡ innermost self.old }
         ensures bounded { result.place ≤ self.new.limit }
     {
         let outer = Outer {
-            place: self.reader.pos() + self.room,
+            place: self.reader.pos() + self.until_end,
             kind: self.end,
             last: self.last.take(),
         };
-        self.room = len;
+        self.until_end = len;
         self.end = kind;
         outer
     }
@@ -67,15 +67,15 @@ impl<R: ReadExt> Input<R> {
         ensures opened { OpensLazily len self.old self.new result }
         ensures bounded { result.place ≤ self.new.limit }
     {
-        if self.failed.is_none() && len <= self.room {
-            self.direct = None;
+        if self.failed.is_none() && len <= self.until_end {
+            self.implicit_tag = None;
             return self.open_end(len, End::Soft);
         }
         if self.failed.is_none() {
             self.failed = Some(Failure::of(self.end.missing()));
         }
         Outer {
-            place: self.reader.pos() + self.room,
+            place: self.reader.pos() + self.until_end,
             kind: self.end,
             last: self.last,
         }
@@ -83,7 +83,7 @@ impl<R: ReadExt> Input<R> {
 
     /// Closes the innermost end, if it was reached, and puts the one around it back.
     pub fn close_end(&mut self, outer: Outer) -> Result<()>
-        requires within { self.old.taken + self.old.room ≤ outer.place }
+        requires within { self.old.taken + self.old.until_end ≤ outer.place }
         requires bounded { outer.place ≤ self.old.limit }
         ensures ok { OnOk result (Closes outer self.old self.new) }
         ensures err { IfErr result (RefusesClose self.old self.new) }
@@ -91,10 +91,10 @@ impl<R: ReadExt> Input<R> {
         if let Some(error) = self.earlier() {
             return Err(error);
         }
-        if self.room > 0 {
+        if self.until_end > 0 {
             return Err(self.fail(Asn1DerError::InvalidData));
         }
-        self.room = outer.place - self.reader.pos();
+        self.until_end = outer.place - self.reader.pos();
         self.end = outer.kind;
         self.leave_set(outer.last);
         Ok(())
@@ -103,12 +103,12 @@ impl<R: ReadExt> Input<R> {
     /// Whether the innermost end is here.
     pub fn is_at_end(&self) -> Result<bool>
         ensures ok { IfOk result (λ here. (self.now.failed ≡ None)
-            × (IsTrue here ↔ (self.now.room ≡ 0))) }
+            × (IsTrue here ↔ (self.now.until_end ≡ 0))) }
         ensures err { IfErr result (λ e. self.now.failed ≡ Some (failure_of e)) }
     {
         match self.earlier() {
             Some(error) => Err(error),
-            None => Ok(self.room == 0),
+            None => Ok(self.until_end == 0),
         }
     }
 }

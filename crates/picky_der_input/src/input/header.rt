@@ -18,7 +18,7 @@ impl<R: ReadExt> Input<R> {
         requires unpeeked { self.old.peeked ≡ None }
         ensures ok { IfOk result (ReadsDigits self.old self.new count) }
         ensures fits { IfOk result (λ n. n < 2 ^ 64) }
-        ensures direct { OnOk result (self.new.direct ≡ self.old.direct) }
+        ensures implicit_tag { OnOk result (self.new.implicit_tag ≡ self.old.implicit_tag) }
         ensures err { IfErr result (StopsShort self.old self.new count) }
         ensures memory { IfErr result (TakesNoMemory self.old self.new) }
     {
@@ -35,7 +35,7 @@ impl<R: ReadExt> Input<R> {
         requires unpeeked { self.old.peeked ≡ None }
         ensures ok { IfOk result (λ n. Takes self.old self.new (bytes_of n)) }
         ensures fits { IfOk result (λ n. n < 2 ^ 64) }
-        ensures direct { OnOk result (self.new.direct ≡ self.old.direct) }
+        ensures implicit_tag { OnOk result (self.new.implicit_tag ≡ self.old.implicit_tag) }
         ensures err { IfErr result (RefusesLength self.old self.new) }
         ensures memory { IfErr result (TakesNoMemory self.old self.new) }
     {
@@ -58,13 +58,14 @@ impl<R: ReadExt> Input<R> {
     pub(crate) fn read_content_length(&mut self) -> Result<usize>
         requires had_not_failed { self.old.failed ≡ None }
         requires unpeeked { self.old.peeked ≡ None }
-        ensures ok { IfOk result (λ n. Takes self.old self.new (bytes_of n) × (n ≤ self.new.room)) }
-        ensures direct { OnOk result (self.new.direct ≡ self.old.direct) }
+        ensures ok { IfOk result (λ n. Takes self.old self.new (bytes_of n)
+            × (n ≤ self.new.until_end)) }
+        ensures implicit_tag { OnOk result (self.new.implicit_tag ≡ self.old.implicit_tag) }
         ensures err { IfErr result (RefusesContentLength self.old self.new) }
         ensures memory { IfErr result (TakesNoMemory self.old self.new) }
     {
         let len = self.read_length()?;
-        if len > self.room {
+        if len > self.until_end {
             let error = self.end.missing();
             return Err(self.fail(error));
         }
@@ -76,8 +77,8 @@ impl<R: ReadExt> Input<R> {
         requires number { IsTagNumber (number_of tag) }
         requires had_not_failed { self.old.failed ≡ None }
         ensures ok { IfOk result (λ n. Takes self.old self.new (tag ∷ bytes_of n)
-            × (n ≤ self.new.room)) }
-        ensures direct { OnOk result (self.new.direct ≡ self.old.direct) }
+            × (n ≤ self.new.until_end)) }
+        ensures implicit_tag { OnOk result (self.new.implicit_tag ≡ self.old.implicit_tag) }
         ensures err { IfErr result (RefusesHeader tag self.old self.new) }
         ensures memory { IfErr result (TakesNoMemory self.old self.new) }
     {
@@ -94,8 +95,8 @@ impl<R: ReadExt> Input<R> {
         requires number { IsTagNumber (number_of tag) }
         requires had_not_failed { self.old.failed ≡ None }
         ensures ok { IfOk result (λ n. Takes self.old self.new (tag ∷ bytes_of n)
-            × (n ≤ self.new.room)) }
-        ensures direct { OnOk result (self.new.direct ≡ self.old.direct) }
+            × (n ≤ self.new.until_end)) }
+        ensures implicit_tag { OnOk result (self.new.implicit_tag ≡ self.old.implicit_tag) }
         ensures err { IfErr result (RefusesHeader tag self.old self.new) }
         ensures memory { IfErr result (TakesNoMemory self.old self.new) }
     {
@@ -117,9 +118,9 @@ impl<R: ReadExt> Input<R> {
         if let Some(error) = self.earlier() {
             return Err(error);
         }
-        if self.direct.is_some() {
-            self.direct = None;
-            return Ok(self.room);
+        if self.implicit_tag.is_some() {
+            self.implicit_tag = None;
+            return Ok(self.until_end);
         }
         self.read_header(tag)
     }

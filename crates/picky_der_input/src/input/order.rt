@@ -19,7 +19,9 @@ impl<R: ReadExt> Input<R> {
     // Before the members of a list under this tag: only those of a set have an order that is tested.
     pub(super) fn order_members(&mut self, tag: Tag)
         requires { self.old.sets.last ≡ None }
-        ensures { self.new ≡ record self.old { sets = record self.old.sets { last = order_of tag } } }
+        ensures { self.new ≡ record self.old {
+          sets = record self.old.sets { last = order_of tag };
+        } }
     {
         if tag == Tag::SET {
             self.last = Some(self.kept.len());

@@ -12,13 +12,13 @@ impl<R: ReadExt> Input<R> {
     // The next byte before the innermost end, which is left, and `None` where the input ended here, before that end.
     fn peek_next(&mut self) -> Result<Option<Tag>>
         requires had_not_failed { self.old.failed ≡ None }
-        requires whole { self.old.direct ≡ None }
+        requires whole { self.old.implicit_tag ≡ None }
         ensures tag { IfOk result (λ next. IfSome next (TellsChoice self.old self.new)) }
         ensures ended { IfOk result (λ next. IfNone next (HasEnded self.old self.new)) }
         ensures err { IfErr result (RefusesChoice self.old self.new) }
-        ensures at_end { IfErr result (λ e. IsJudged self.old self.new e → self.old.room ≡ 0) }
+        ensures at_end { IfErr result (λ e. IsJudged self.old self.new e → self.old.until_end ≡ 0) }
     {
-        if self.room == 0 {
+        if self.until_end == 0 {
             let error = self.end.missing();
             return Err(self.fail(error));
         }
@@ -32,7 +32,7 @@ impl<R: ReadExt> Input<R> {
     // The next byte before the innermost end, which is left.
     fn peek_tag(&mut self) -> Result<Tag>
         requires had_not_failed { self.old.failed ≡ None }
-        requires whole { self.old.direct ≡ None }
+        requires whole { self.old.implicit_tag ≡ None }
         ensures ok { IfOk result (TellsChoice self.old self.new) }
         ensures err { IfErr result (RefusesChoice self.old self.new) }
     {
@@ -55,7 +55,7 @@ impl<R: ReadExt> Input<R> {
         if let Some(error) = self.earlier() {
             return Err(error);
         }
-        match self.direct {
+        match self.implicit_tag {
             Some(number) => Ok(Tag::context_specific_primitive(number)),
             None => self.peek_tag(),
         }
@@ -70,12 +70,12 @@ impl<R: ReadExt> Input<R> {
         ensures tag { IfOk result (λ next. IfSome next (Identifies self.old self.new)) }
         ensures ended { IfOk result (λ next. IfNone next (HasEnded self.old self.new)) }
         ensures err { IfErr result (RefusesIdentifier self.old self.new) }
-        ensures at_end { IfErr result (λ e. IsJudged self.old self.new e → self.old.room ≡ 0) }
+        ensures at_end { IfErr result (λ e. IsJudged self.old self.new e → self.old.until_end ≡ 0) }
     {
         if let Some(error) = self.earlier() {
             return Err(error);
         }
-        match self.direct {
+        match self.implicit_tag {
             Some(number) => Ok(Some(Tag::context_specific_primitive(number))),
             None => self.peek_next(),
         }
@@ -93,7 +93,7 @@ impl<R: ReadExt> Input<R> {
         if let Some(error) = self.earlier() {
             return Err(error);
         }
-        match self.direct {
+        match self.implicit_tag {
             Some(_) => Err(self.fail(Asn1DerError::InvalidData)),
             None => self.peek_tag(),
         }

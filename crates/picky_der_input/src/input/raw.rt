@@ -32,7 +32,7 @@ impl<R: ReadExt> Input<R> {
         if let Some(error) = self.earlier() {
             return Err(error);
         }
-        self.direct = None;
+        self.implicit_tag = None;
         let tag = Tag::from(self.next_byte()?);
         if tag.number() > Tag::MAX_NUMBER {
             return Err(self.fail(Asn1DerError::UnsupportedValue));

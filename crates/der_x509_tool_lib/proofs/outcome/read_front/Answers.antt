@@ -3,7 +3,7 @@ use Rattle.der_x509_tool_lib.proofs.Fronts.{front_read, front_refused}
 use Rattle.der_x509_tool_lib.proofs.outcome.read_front.Goals as goal
 
 pub returns-in-Ok-clause-front : goal.returns-in-Ok-clause-front
-returns-in-Ok-clause-front g c = front_read g.T.Serialize.meaning g.T.Deserialize.shape _ _ c.new_from_bytes-de.ensures c.into_reader.ensures.input c.into_reader.ensures.faults g.T.PartialEq.eq g.met.T.Deserialize.sound g.met.T.Deserialize.known_by_tree _ c.in-Ok.ensures.ok
+returns-in-Ok-clause-front g c = front_read g.T.Serialize.meaning g.T.Deserialize.shape _ _ c.new_from_bytes-de.ensures c.into_reader.ensures.input c.into_reader.ensures.faults g.T.PartialEq.eq g.met.T.Deserialize.sound g.met.T.Deserialize.injective _ c.in-Ok.ensures.ok
 
 pub returns-in-Err-clause-err : goal.returns-in-Err-clause-err
 returns-in-Err-clause-err g c = front_refused g.T.Serialize.meaning g.T.Deserialize.shape _ _ c.new_from_bytes-de.ensures c.into_reader.ensures.input c.into_reader.ensures.faults refl c.in-Err.ensures.err

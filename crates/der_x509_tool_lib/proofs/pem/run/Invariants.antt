@@ -7,6 +7,6 @@ invariant-loop-drawn g l = record {
   lines : WritesLines (g.W.WriteExt.told l.initial.output) (g.W.WriteExt.told l.output);
   reads : g.R.ReadExt.faults l.input ≡ g.R.ReadExt.faults l.initial.input;
   writes : g.W.WriteExt.faults l.output ≡ g.W.WriteExt.faults l.initial.output;
-  same_references : g.R.ReadExt.through l.input ≡ g.R.ReadExt.through l.initial.input;
+  same_references : g.R.ReadExt.references l.input ≡ g.R.ReadExt.references l.initial.input;
   goes_on : g.W.WriteExt.later l.initial.output l.output;
 }

@@ -14,7 +14,7 @@ returns-in_err-value-clause-err g c =
 pub loop-values-smaller : goal.loop-values-smaller
 loop-values-smaller g c =
     let r = rw c.in-Some.is at c.in_ok-value.ensures.member in
-    omega (arith, (takes_member r).room, length-der (g.T.Serialize.meaning c.in-Some.value) r.reads.readable)
+    omega (arith, (takes_member r).until_end, length-der (g.T.Serialize.meaning c.in-Some.value) r.reads.readable)
 
 pub loop-values-preserved : goal.loop-values-preserved
 loop-values-preserved g c =
@@ -27,7 +27,7 @@ loop-values-preserved g c =
 pub loop-values-init : goal.loop-values-init
 loop-values-init g c =
     let r = c.requires in
-    record { some = rw c.new-values.ensures.items (some_none g.T.Serialize.meaning g.T.Deserialize.shape _ r.had_not_failed r.unpeeked r.direct); same_reference = refl; outer = refl }
+    record { some = rw c.new-values.ensures.items (some_none g.T.Serialize.meaning g.T.Deserialize.shape _ r.had_not_failed r.unpeeked r.implicit_tag); same_reference = refl; outer = refl }
 
 pub returns-then-is_err-clause-err : goal.returns-then-is_err-clause-err
 returns-then-is_err-clause-err g c =

@@ -10,4 +10,4 @@ invariant-loop-values g l = record {
 }
 
 abbrev pub decreases-loop-values : goal.decreases-loop-values
-decreases-loop-values g l = l.self.de.now.room
+decreases-loop-values g l = l.self.de.now.until_end

@@ -4,7 +4,7 @@ use Rattle.picky_der_input.proofs.input.Input.draw_behind.Given as goal
 
 abbrev pub invariant-loop-left : goal.invariant-loop-left
 invariant-loop-left g l =
-    TakesBehind l.initial.bytes.items l.initial.self l.self (l.len - l.left) l.bytes.items × (l.self.direct ≡ l.initial.self.direct) × (l.left ≤ l.len)
+    TakesBehind l.initial.bytes.items l.initial.self l.self (l.len - l.left) l.bytes.items × (l.self.implicit_tag ≡ l.initial.self.implicit_tag) × (l.left ≤ l.len)
 
 abbrev pub decreases-loop-left : goal.decreases-loop-left
 decreases-loop-left g l = l.left

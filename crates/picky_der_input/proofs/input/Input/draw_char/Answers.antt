@@ -22,7 +22,7 @@ returns-in-Ok-clause-ok g c =
     let h = c.in_ok-len.ensures.ok in
     let k = c.in_ok-content.ensures in
     let x = c.in-Ok.character in
-    reads_kept character_kind x (of_character x c.in-Ok.ensures.ok.1) tt h k.ok (sym c.deref.ensures.0 ∙ c.in-Ok.ensures.ok.0) (length_character x) (k.direct ∙ h.direct)
+    reads_kept character_kind x (of_character x c.in-Ok.ensures.ok.1) tt h k.ok (sym c.deref.ensures.0 ∙ c.in-Ok.ensures.ok.0) (length_character x) (k.implicit_tag ∙ h.implicit_tag)
 
 pub returns-in-Err-clause-err : goal.returns-in-Err-clause-err
 returns-in-Err-clause-err g c =

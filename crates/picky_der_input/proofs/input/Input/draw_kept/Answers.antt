@@ -9,7 +9,7 @@ loop-i-preserved g c =
     let p = c.try_push.ensures in
     let e = c.in_ok-byte.ensures in
     let kept = kept_push (λ v. v.items) c.try_push.result _ c.try_push.new.self i.0.content c.in_ok-byte.byte i.0.first p.ok p.variant.0 p.err p.full in
-    (takes_kept-more i.0 e.ok kept, e.direct ∙ i.1)
+    (takes_kept-more i.0 e.ok kept, e.implicit_tag ∙ i.1)
 
 pub returns-in_err-byte-clause-err : goal.returns-in_err-byte-clause-err
 returns-in_err-byte-clause-err g c =

@@ -8,7 +8,7 @@ returns-in_ok-draw_behind-in-Ok-header-clause-ok g c =
     let h = c.in-Ok.ensures.ok in
     let front = c.in-Ok-header.ensures.ok in
     let k = c.in_ok-draw_behind-in-Ok-header.ensures in
-    reads_raw h k.ok.takes (k.direct ∙ h.direct) (k.ok.is ∙ ap (λ x. x ++ k.ok.content) front)
+    reads_raw h k.ok.takes (k.implicit_tag ∙ h.implicit_tag) (k.ok.is ∙ ap (λ x. x ++ k.ok.content) front)
 
 pub returns-in_err-draw_behind-in-Ok-header-clause-err : goal.returns-in_err-draw_behind-in-Ok-header-clause-err
 returns-in_err-draw_behind-in-Ok-header-clause-err g c =

@@ -20,7 +20,7 @@ pub returns-in-Ok-clause-ok : goal.returns-in-Ok-clause-ok
 returns-in-Ok-clause-ok g c =
     let h = c.in_ok-len.ensures.ok in
     let k = c.in_ok-content.ensures in
-    reads_kept null_kind tt tt tt h k.ok (sym c.deref.ensures.0 ∙ c.in-Ok.ensures.ok) (omega arith) (k.direct ∙ h.direct)
+    reads_kept null_kind tt tt tt h k.ok (sym c.deref.ensures.0 ∙ c.in-Ok.ensures.ok) (omega arith) (k.implicit_tag ∙ h.implicit_tag)
 
 pub returns-in-Err-clause-err : goal.returns-in-Err-clause-err
 returns-in-Err-clause-err g c =

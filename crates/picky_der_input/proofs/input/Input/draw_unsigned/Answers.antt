@@ -26,7 +26,7 @@ returns-in-Ok-clause-ok g c =
     let e = sym c.deref.ensures.0 ∙ c.in-Ok.ensures.ok in
     let o = unsigned_read g.T.UInt.greatest n c.deref.result.now c.in-Ok.ensures.ok c.in-Ok.ensures.no_fault in
     let short : length (unsigned_content n) < 18 = omega (arith, length-unsigned_content n o.1) in
-    reads_kept (unsigned_kind g.T.UInt.greatest) n o tt h k.ok e short (k.direct ∙ h.direct)
+    reads_kept (unsigned_kind g.T.UInt.greatest) n o tt h k.ok e short (k.implicit_tag ∙ h.implicit_tag)
 
 pub returns-in-Err-clause-err : goal.returns-in-Err-clause-err
 returns-in-Err-clause-err g c =

@@ -8,7 +8,7 @@ returns g c =
     let all = c.ahead-ahead.result.now in
     let n = c.in_ok-count.count in
     let h = c.in_ok-count.ensures.is in
-    let fits : n ≤ c.self.inside.room = omega arith in
+    let fits : n ≤ c.self.inside.until_end = omega arith in
     record {
       shown = rw (← c.self.view_is) (record {
         had_not_failed = search rules;

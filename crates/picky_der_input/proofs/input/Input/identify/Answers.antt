@@ -6,5 +6,5 @@ use Rattle.picky_der_input.proofs.input.Input.identify.Goals as goal
 
 pub returns-in-None-clause-err : goal.returns-in-None-clause-err
 returns-in-None-clause-err g c =
-    let whole = sym (ap (λ (s : State). s.direct) c.self.view_is) ∙ c.in-None.is in
+    let whole = sym (ap (λ (s : State). s.implicit_tag) c.self.view_is) ∙ c.in-None.is in
     MatchResult-weaker c.peek_tag.result c.peek_tag.ensures.err (λ tag k. tt) (λ e k. identifier_unread whole k)

@@ -16,7 +16,7 @@ returns-clause-ok g c =
     let n = c.number_within-self-inside in
     let counts = sym c.has_unused_bits.ensures in
     let marked = λ (before : State) (same : c.if-has_unused_bits.self ≡ before).
-    ap (λ (s : State). record s { direct = n.result }) (c.self.view_is ∙ same) ∙ ap (λ number. record before { direct = number }) n.ensures in
+    ap (λ (s : State). record s { implicit_tag = n.result }) (c.self.view_is ∙ same) ∙ ap (λ number. record before { implicit_tag = number }) n.ensures in
     elim c.if-has_unused_bits.branch [
       | then-has_unused_bits+in_ok-take_unused_bits w ↦ opens_behind_count h (counts ∙ w.if-has_unused_bits.true) w.in_ok-take_unused_bits.ensures.ok (marked w.take_unused_bits.new.self w.self-is)
       | else-has_unused_bits w ↦ opens_at_once h (counts ∙ w.if-has_unused_bits.false) (marked c.begin_enclosure.new.self w.self-is)

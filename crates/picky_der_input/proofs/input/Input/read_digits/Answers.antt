@@ -23,7 +23,7 @@ loop-i-preserved g c =
     let e = c.in_ok-next_byte.ensures in
     let more = digits_more i.0 e.ok e.byte in
     let same : c.loop-i.len * 256 + c.in_ok-next_byte.field-0 ≡ c.loop-i.len * 256 + c.from.result = ap (λ b. c.loop-i.len * 256 + b) (sym c.from.ensures) in
-    (rw same at more, more_bytes c.loop-i._i c.loop-i.len c.from.result i.1 d, e.direct ∙ i.2)
+    (rw same at more, more_bytes c.loop-i._i c.loop-i.len c.from.result i.1 d, e.implicit_tag ∙ i.2)
 
 pub returns-in_err-next_byte-clause-err : goal.returns-in_err-next_byte-clause-err
 returns-in_err-next_byte-clause-err g c =

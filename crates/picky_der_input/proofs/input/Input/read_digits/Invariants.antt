@@ -4,4 +4,4 @@ use Rattle.picky_der_input.proofs.input.Input.read_digits.Given as goal
 
 abbrev pub invariant-loop-i : goal.invariant-loop-i
 invariant-loop-i g l =
-    ReadsDigits l.initial.self l.self l._i l.len × (l.len < 256 ^ l._i) × (l.self.direct ≡ l.initial.self.direct)
+    ReadsDigits l.initial.self l.self l._i l.len × (l.len < 256 ^ l._i) × (l.self.implicit_tag ≡ l.initial.self.implicit_tag)

@@ -6,4 +6,4 @@ use Rattle.picky_der_input.proofs.input.Input.short_char.Goals as goal
 pub returns-clause-read : goal.returns-clause-read
 returns-clause-read g c =
     let x = c.in-Ok.value in
-    reads_short character_kind x (of_character x c.in-Ok.ensures.ok.1) tt c.in-Ok.ensures.ok.0 c.in_ok-content.ensures.shown (c.take_ahead.ensures.taken c.if-not-take_ahead.false) (c.take_ahead.ensures.unpeeked c.if-not-take_ahead.false) c.take_ahead.ensures.direct
+    reads_short character_kind x (of_character x c.in-Ok.ensures.ok.1) tt c.in-Ok.ensures.ok.0 c.in_ok-content.ensures.shown (c.take_ahead.ensures.taken c.if-not-take_ahead.false) (c.take_ahead.ensures.unpeeked c.if-not-take_ahead.false) c.take_ahead.ensures.implicit_tag

@@ -10,7 +10,7 @@ loop-left-preserved g c =
     let e = c.in_ok-left.ensures in
     let n = c.in_ok-left.field-0 in
     let count : c.args.len - (c.loop-left.left - n) ≡ (c.args.len - c.loop-left.left) + n = omega (arith, i.3, e.ok.fits) in
-    (i.0 ++ take n c.draw_piece.new.piece, takes_bytes-piece i.1 e.ok count, e.direct ∙ i.2, omega (arith, i.3))
+    (i.0 ++ take n c.draw_piece.new.piece, takes_bytes-piece i.1 e.ok count, e.implicit_tag ∙ i.2, omega (arith, i.3))
 
 pub returns-in_err-left-clause-err : goal.returns-in_err-left-clause-err
 returns-in_err-left-clause-err g c =

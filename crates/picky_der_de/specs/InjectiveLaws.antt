@@ -13,12 +13,12 @@ use Rattle.picky_der_core.specs.FirstLaws.{is_of-optional}
 use Rattle.picky_der_ser.specs.Meaning.{option_meaning}
 
 -- two readable values of the type with one tree are equal
-abbrev pub IsKnownByTree : {V : Type 0} → (V → Tree) → Shape → (V → V → Bool) → Type 0
-IsKnownByTree {V} meaning s eq = (x y : V) → IsOf s (meaning x) → IsOf s (meaning y) → IsReadable (meaning x) → meaning x ≡ meaning y → eq x y ≡ true
+abbrev pub IsInjective : {V : Type 0} → (V → Tree) → Shape → (V → V → Bool) → Type 0
+IsInjective {V} meaning s eq = (x y : V) → IsOf s (meaning x) → IsOf s (meaning y) → IsReadable (meaning x) → meaning x ≡ meaning y → eq x y ≡ true
 
 -- two rows of readable members with the same trees are equal
-abbrev pub AreKnownByTrees : {V : Type 0} → (V → Trees) → Shapes → (V → V → Bool) → Type 0
-AreKnownByTrees {V} members ss eq = (x y : V) → AreOf ss (members x) → AreOf ss (members y) → AreReadable (members x) → members x ≡ members y → eq x y ≡ true
+abbrev pub AreInjective : {V : Type 0} → (V → Trees) → Shapes → (V → V → Bool) → Type 0
+AreInjective {V} members ss eq = (x y : V) → AreOf ss (members x) → AreOf ss (members y) → AreReadable (members x) → members x ≡ members y → eq x y ≡ true
 
 pub boolean_known : (x y : Bool) → Tree.boolean x ≡ Tree.boolean y → beq x y ≡ true
 boolean_known true true e = refl
@@ -53,7 +53,7 @@ character_known x y e =
     eq-eqb x y (encode_same x y [] [] (ap (λ bs. bs ++ []) q)).0
 
 -- what is read isn't missing
-pub option_known : {V : Type 0} (meaning : V → Tree) (s : Shape) (eq : V → V → Bool) → IsKnownByTree meaning s eq → IsKnownByTree (option_meaning meaning) (Shape.optional s) (option_eq eq)
+pub option_known : {V : Type 0} (meaning : V → Tree) (s : Shape) (eq : V → V → Bool) → IsInjective meaning s eq → IsInjective (option_meaning meaning) (Shape.optional s) (option_eq eq)
 option_known meaning s eq known None y p q r e = absurd r
 option_known meaning s eq known (Some x) None p q r e = absurd (subst IsReadable e r)
 option_known meaning s eq known (Some x) (Some y) p q r e =
@@ -75,7 +75,7 @@ module _ {V : Type 0} (meaning : V → Tree) (eq : V → V → Bool) (P : V → 
       rw (known x y h.0 k.0 f, same_items xs ys h.1 k.1 g) refl
 
 -- lists of values that are known by their trees
-pub list_known : {V : Type 0} (meaning : V → Tree) (s : Shape) (eq : V → V → Bool) → IsKnownByTree meaning s eq → {k l : ListKind} (xs ys : List V) → EachIs (IsOf s) (trees (map meaning xs)) → EachIs (IsOf s) (trees (map meaning ys)) → AreReadable (trees (map meaning xs))
+pub list_known : {V : Type 0} (meaning : V → Tree) (s : Shape) (eq : V → V → Bool) → IsInjective meaning s eq → {k l : ListKind} (xs ys : List V) → EachIs (IsOf s) (trees (map meaning xs)) → EachIs (IsOf s) (trees (map meaning ys)) → AreReadable (trees (map meaning xs))
     → Tree.list k (trees (map meaning xs)) ≡ Tree.list l (trees (map meaning ys)) → pointwise eq xs ys ≡ true
 list_known {V} meaning s eq known xs ys p q r e =
     let f : trees (map meaning xs) ≡ trees (map meaning ys) = cc in
