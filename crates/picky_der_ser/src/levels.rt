@@ -314,6 +314,7 @@ impl Levels {
 
     // Puts the headers of the level that was opened last in front of its content, and adds all this to the level around it.
     // Answers how many bytes these are.
+    #[inline(always)]
     pub(crate) fn merge(&mut self) -> Result<usize, AllocError>
         requires { IsSome self.old.pending }
         ensures numbers { IfSome self.old.pending
@@ -332,6 +333,19 @@ impl Levels {
         self.innermost = None;
         outcome?;
         Ok(self.scratch.len() - at)
+    }
+
+    // Whether the level that was opened last ends inside another by two bytes in the room for its header, as most do. Nothing rests on
+    // this but time: where it is known, the other ways of ending one fall away.
+    #[inline(always)]
+    pub(crate) fn ends_short(&self) -> bool {
+        let Some(mark) = &self.innermost else {
+            return false;
+        };
+        let len = self.scratch.len() - mark.start;
+        let is_short = short_identifier(&mark.around, &mark.header, len).is_some();
+        let has_seams = mark.first_seam < self.seams.len();
+        is_short && !has_seams && mark.start - mark.at == 2 && self.is_inside()
     }
 
     // Adds the headers of a content of `len` bytes to the level that was opened last.
