@@ -1,10 +1,9 @@
 -- The levels in one list of bytes.
 use Rattle.std.proofs.Common.{◌≡◌, ◌≢◌, ℕ, ◌<◌, ◌≤◌, ◌-◌, Bool, true, false, List, [], ◌∷◌, ◌++◌, length, take, drop, Option, None, Some, IfSome, IsSome, refl, sym, ap, ap₂, ◌∙◌, arith, subst}
-use Rattle.std.specs.Prelude.{reverse}
 use Rattle.std.proofs.lemmas.Grind.{common_steps}
 use Rattle.std.proofs.Math.Seq.{take-append_seam, drop-append_seam}
 use Rattle.std.proofs.lemmas.List.{take-take, drop-append-le, drop_all, length-drop, take-append-le, length-take-le}
-use Rattle.picky_der_ser.specs.declared.levels.Mark.{Mark}
+use Rattle.picky_der_ser.specs.Places.{Place}
 use Rattle.picky_der_ser.specs.State.{Level, Stack, with_bytes, begun, in_order}
 use Rattle.picky_der_core.specs.Encoding.{der}
 use Rattle.picky_der_core.specs.Wrapper.{under}
@@ -19,15 +18,15 @@ use Rattle.picky_der_ser.proofs.SetBytes.{in_order-uncut}
 
 -- ---- marks within more bytes, and fewer marks
 
-pub mark-more : {m : Mark} {a b : ℕ} {q : List ℕ} → a ≤ b → IsMark m a q → IsMark m b q
+pub mark-more : {m : Place} {a b : ℕ} {q : List ℕ} → a ≤ b → IsMark m a q → IsMark m b q
 mark-more h k = record { numbers = k.numbers; number = k.number; room = k.room; first = k.first; within = omega (arith, h, k.within); ascending = k.ascending; least = k.least }
 
-pub marks-more : (ms : List Mark) {a b : ℕ} (q : List ℕ) → a ≤ b → AreMarks ms a q → AreMarks ms b q
+pub marks-more : (ms : List Place) {a b : ℕ} (q : List ℕ) → a ≤ b → AreMarks ms a q → AreMarks ms b q
 marks-more [] q h k = tt
 marks-more (m ∷ ms) q h k = (mark-more h k.0, k.1)
 
 -- another member of the innermost begins where it ends
-marks-next : (m : Mark) (ms : List Mark) (n : ℕ) (q : List ℕ) → AreMarks (m ∷ ms) n q → AreMarks (m ∷ ms) n (next_seams m.header q (n - m.start))
+marks-next : (m : Place) (ms : List Place) (n : ℕ) (q : List ℕ) → AreMarks (m ∷ ms) n q → AreMarks (m ∷ ms) n (next_seams m.header q (n - m.start))
 marks-next m ms n q k =
     let within = k.0.within in
     let own = drop m.first_seam q in
@@ -45,7 +44,7 @@ marks-next m ms n q k =
     } in
     (first, subst (AreMarks ms m.at) (sym (take-next_seams m.header m.first_seam q (n - m.start) k.0.first)) k.1)
 
-pub marks-begun : {p : Option Mark} {m : Mark} (ms : List Mark) (n : ℕ) (q r : List ℕ) → p ≡ Some m → AreMarks (with_pending p ms) n q → r ≡ next_seams m.header q (n - m.start)
+pub marks-begun : {p : Option Place} {m : Place} (ms : List Place) (n : ℕ) (q r : List ℕ) → p ≡ Some m → AreMarks (with_pending p ms) n q → r ≡ next_seams m.header q (n - m.start)
     → AreMarks (with_pending p ms) n r
 marks-begun {p} {m} ms n q r was k e =
     let before : AreMarks (m ∷ ms) n q = subst (λ o. AreMarks (with_pending o ms) n q) was k in
@@ -53,18 +52,25 @@ marks-begun {p} {m} ms n q r was k e =
 
 -- ---- whether there is one
 
-some_level : (ms : List Mark) (s q : List ℕ) → 0 < length ms → levels_of ms s q ≢ []
-some_level [] s q h = absurd (omega arith)
+some_level : (ms : List Place) (s q : List ℕ) → ms ≢ [] → levels_of ms s q ≢ []
+some_level [] s q h = absurd (h refl)
 some_level (m ∷ ms) s q h = λ e. cc
 
-pub some_inside : (entered : Bool) (p : Option Mark) (ms : List Mark) (s q : List ℕ) → 0 < length ms → inside_of entered p (reverse ms) s q ≢ []
-some_inside true None ms s q h = let some : 0 < length (reverse ms) = grind (arith, common_steps) in some_level (reverse ms) s q some
+-- a member is being written
+pub some_entered : (entered : Bool) (p : Option Place) (ms : List Place) (s q : List ℕ) (spare : ℕ) → entered ≡ true → HasRoom entered p ms spare → inside_of entered p ms s q ≢ []
+some_entered false p ms s q spare e h = cc
+some_entered true None ms s q spare e h = some_level ms s q h
+some_entered true (Some m) ms s q spare e h = λ none. cc
+
+-- there are levels around the innermost one
+pub some_inside : (entered : Bool) (p : Option Place) (ms : List Place) (s q : List ℕ) → ms ≢ [] → inside_of entered p ms s q ≢ []
+some_inside true None ms s q h = some_level ms s q h
 some_inside true (Some m) ms s q h = λ e. cc
-some_inside false p ms s q h = let some : 0 < length (reverse ms) = grind (arith, common_steps) in some_level (reverse ms) (below p s) (seams_below p q) some
+some_inside false p ms s q h = some_level ms (below p s) (seams_below p q) h
 
 -- ---- what is added to the innermost
 
-pub levels-grown : (ms : List Mark) (s q bs : List ℕ) (l : Level) (ls : List Level) → AreMarks ms (length s) q → levels_of ms s q ≡ l ∷ ls → levels_of ms (s ++ bs) q ≡ with_bytes l bs ∷ ls
+pub levels-grown : (ms : List Place) (s q bs : List ℕ) (l : Level) (ls : List Level) → AreMarks ms (length s) q → levels_of ms s q ≡ l ∷ ls → levels_of ms (s ++ bs) q ≡ with_bytes l bs ∷ ls
 levels-grown [] s q bs l ls h e = cc
 levels-grown (m ∷ ms) s q bs l ls h e =
     let last = h.0.within in
@@ -83,17 +89,17 @@ levels-grown (m ∷ ms) s q bs l ls h e =
 -- ---- room for one more mark
 
 -- none is needed once what was pending is gone
-pub room-ended : (entered : Bool) (p : Option Mark) (s q : List ℕ) (count capacity : ℕ) → IsSome (pending_of entered p s q) → HasRoom entered None count capacity
-room-ended true p s q count capacity some = cc
-room-ended false p s q count capacity some = tt
+pub room-ended : (entered : Bool) (p : Option Place) (s q : List ℕ) (ms : List Place) (spare : ℕ) → IsSome (pending_of entered p s q) → HasRoom entered None ms spare
+room-ended true p s q ms spare some = cc
+room-ended false p s q ms spare some = tt
 
 -- ---- the stack
 
-abbrev pub stack_at : Bool → Option Mark → List Mark → List ℕ → List ℕ → Stack
+abbrev pub stack_at : Bool → Option Place → List Place → List ℕ → List ℕ → Stack
 stack_at e p ms s q = record { inside = inside_of e p ms s q; pending = pending_of e p s q }
 
 -- another member of what is pending begins
-pub stack-begun : (entered : Bool) {p : Option Mark} {m : Mark} (ms : List Mark) (s q r : List ℕ) → p ≡ Some m → AreMarks (with_pending p ms) (length s) q → r ≡ next_seams m.header q (length s - m.start)
+pub stack-begun : (entered : Bool) {p : Option Place} {m : Place} (ms : List Place) (s q r : List ℕ) → p ≡ Some m → AreMarks (with_pending p ms) (length s) q → r ≡ next_seams m.header q (length s - m.start)
     → IfSome (pending_of entered p s q) (λ l. stack_at entered p ms s r ≡ record (stack_at entered p ms s q) { pending = Some (begun l) })
 stack-begun true {p} {m} ms s q r was k e = tt
 stack-begun false {p} {m} ms s q r was k e =
@@ -103,10 +109,10 @@ stack-begun false {p} {m} ms s q r was k e =
     let own : drop m.first_seam (next_seams m.header q n) ≡ next_seams m.header (drop m.first_seam q) (length (drop m.start s)) =
     drop-next_seams m.header m.first_seam q n first ∙ ap (next_seams m.header (drop m.first_seam q)) (sym (length-drop m.start s)) in
     let others = take-next_seams m.header m.first_seam q n first in
-    rw (was, e) (ap₂ (λ x y. record { inside = levels_of ms (take m.at s) x; pending = Some (record { header = m.header; around = m.around.items; content = drop m.start s; seams = y }) }) others own)
+    rw (was, e) (ap₂ (λ x y. record { inside = levels_of ms (take m.at s) x; pending = Some (record { header = m.header; around = m.around; content = drop m.start s; seams = y }) }) others own)
 
 -- what is pending and has no seams is in order
-pub stack-uncut : (entered : Bool) {p : Option Mark} {m : Mark} (ms : List Mark) (s q : List ℕ) → p ≡ Some m → length q ≤ m.first_seam
+pub stack-uncut : (entered : Bool) {p : Option Place} {m : Place} (ms : List Place) (s q : List ℕ) → p ≡ Some m → length q ≤ m.first_seam
     → IfSome (pending_of entered p s q) (λ l. stack_at entered p ms s q ≡ record (stack_at entered p ms s q) { pending = Some (in_order l) })
 stack-uncut true {p} {m} ms s q was h = tt
 stack-uncut false {p} {m} ms s q was h =
@@ -115,15 +121,15 @@ stack-uncut false {p} {m} ms s q was h =
     rw was (ap (λ l. record { inside = levels_of ms (take m.at s) (take m.first_seam q); pending = Some l }) order)
 
 -- what is pending holds its whole encoding
-pub stack-sealed : (entered : Bool) {p : Option Mark} {m : Mark} (n : Mark) (ms : List Mark) (s t q r : List ℕ) → p ≡ Some m → n.header ≡ Raw → n.around.items ≡ [] → n.at ≡ m.at → n.start ≡ m.at → n.first_seam ≡ m.first_seam
-    → AreMarks (with_pending p ms) (length s) q → t ≡ take m.at s ++ der (under m.around.items (tree_of m.header (drop m.start s))) → r ≡ take m.first_seam q
+pub stack-sealed : (entered : Bool) {p : Option Place} {m : Place} (n : Place) (ms : List Place) (s t q r : List ℕ) → p ≡ Some m → n.header ≡ Raw → n.around ≡ [] → n.at ≡ m.at → n.start ≡ m.at → n.first_seam ≡ m.first_seam
+    → AreMarks (with_pending p ms) (length s) q → t ≡ take m.at s ++ der (under m.around (tree_of m.header (drop m.start s))) → r ≡ take m.first_seam q
     → IfSome (pending_of entered p s q) (λ l. stack_at entered (Some n) ms t r ≡ record (stack_at entered p ms s q) { pending = Some (sealed l) })
 stack-sealed true {p} {m} n ms s t q r was header around at start first marks e f = tt
 stack-sealed false {p} {m} n ms s t q r was header around at start first marks e f =
     let before : AreMarks (m ∷ ms) (length s) q = subst (λ o. AreMarks (with_pending o ms) (length s) q) was marks in
     let within = before.0.within in
     let room = before.0.room in
-    let whole = der (under m.around.items (tree_of m.header (drop m.start s))) in
+    let whole = der (under m.around (tree_of m.header (drop m.start s))) in
     let front = take m.at s in
     let size : length front ≡ m.at = length-take-le m.at s (omega (arith, within, room)) in
     let count : length (take m.first_seam q) ≡ m.first_seam = length-take-le m.first_seam q before.0.first in
@@ -135,27 +141,27 @@ stack-sealed false {p} {m} n ms s t q r was header around at start first marks e
     rw was (cc)
 
 -- where nothing is pending, what is added goes to the innermost level
-pub stack-grown : (entered : Bool) (p : Option Mark) (ms : List Mark) (s q bs : List ℕ) (l : Level) (ls : List Level) → AreMarks (with_pending p ms) (length s) q → pending_of entered p s q ≡ None
+pub stack-grown : (entered : Bool) (p : Option Place) (ms : List Place) (s q bs : List ℕ) (l : Level) (ls : List Level) → AreMarks (with_pending p ms) (length s) q → pending_of entered p s q ≡ None
     → inside_of entered p ms s q ≡ l ∷ ls → stack_at entered p ms (s ++ bs) q ≡ record { inside = with_bytes l bs ∷ ls; pending = None }
 stack-grown true p ms s q bs l ls h n e = let f = levels-grown (with_pending p ms) s q bs l ls h e in cc
 stack-grown false None ms s q bs l ls h n e = let f = levels-grown ms s q bs l ls h e in cc
 stack-grown false (Some m) ms s q bs l ls h n e = cc
 
 -- what is pending gets its headers
-pub stack-headed : (entered : Bool) {p : Option Mark} {m : Mark} (ms : List Mark) (s t q : List ℕ) (n : ℕ) → p ≡ Some m → AreMarks (with_pending p ms) (length s) q → t ≡ s ++ headers m.around.items m.header n
+pub stack-headed : (entered : Bool) {p : Option Place} {m : Place} (ms : List Place) (s t q : List ℕ) (n : ℕ) → p ≡ Some m → AreMarks (with_pending p ms) (length s) q → t ≡ s ++ headers m.around m.header n
     → IfSome (pending_of entered p s q) (λ l. stack_at entered p ms t q ≡ record (stack_at entered p ms s q) { pending = Some (with_bytes l (headers l.around l.header n)) })
 stack-headed true {p} {m} ms s t q n was k e = tt
 stack-headed false {p} {m} ms s t q n was k e =
     let before : AreMarks (m ∷ ms) (length s) q = subst (λ o. AreMarks (with_pending o ms) (length s) q) was k in
     let within = before.0.within in
     let room = before.0.room in
-    let hs = headers m.around.items m.header n in
+    let hs = headers m.around m.header n in
     let a = drop-append-le m.start s hs (omega (arith, within)) in
     let b = take-append-le m.at s hs (omega (arith, room, within)) in
     rw (was, e, a, b) refl
 
 -- the room for its headers is made
-pub stack-roomed : (entered : Bool) {p : Option Mark} {m : Mark} (n : Mark) (ms : List Mark) (s t q hs : List ℕ) → p ≡ Some m → n.header ≡ m.header → n.around ≡ m.around → n.at ≡ m.at → n.start ≡ length t → n.first_seam ≡ m.first_seam
+pub stack-roomed : (entered : Bool) {p : Option Place} {m : Place} (n : Place) (ms : List Place) (s t q hs : List ℕ) → p ≡ Some m → n.header ≡ m.header → n.around ≡ m.around → n.at ≡ m.at → n.start ≡ length t → n.first_seam ≡ m.first_seam
     → AreMarks (with_pending p ms) (length s) q → length s ≡ m.at → t ≡ s ++ hs → stack_at entered (Some n) ms t q ≡ stack_at entered p ms s q
 stack-roomed entered {p} {m} n ms s t q hs was header around at start first k size e =
     let before : AreMarks (m ∷ ms) (length s) q = subst (λ o. AreMarks (with_pending o ms) (length s) q) was k in
@@ -174,7 +180,7 @@ stack-roomed entered {p} {m} n ms s t q hs was header around at start first k si
     by_entered false x y z = ap₂ (λ l ls. record { inside = ls; pending = Some l }) y z
 
 -- the bytes from the last mark on are replaced, and go to the level around it
-stack-merged : (m : Mark) (ms : List Mark) (s q bs : List ℕ) (l : Level) (ls : List Level) → AreMarks (m ∷ ms) (length s) q → levels_of ms (take m.at s) (take m.first_seam q) ≡ l ∷ ls
+stack-merged : (m : Place) (ms : List Place) (s q bs : List ℕ) (l : Level) (ls : List Level) → AreMarks (m ∷ ms) (length s) q → levels_of ms (take m.at s) (take m.first_seam q) ≡ l ∷ ls
     → stack_at false None ms (take m.at s ++ bs) (take m.first_seam q) ≡ record { inside = with_bytes l bs ∷ ls; pending = None }
 stack-merged m ms s q bs l ls h e =
     let within = h.0.within in
@@ -183,7 +189,7 @@ stack-merged m ms s q bs l ls h e =
     let f = levels-grown ms (take m.at s) (take m.first_seam q) bs l ls (subst (λ k. AreMarks ms k (take m.first_seam q)) (sym size) h.1) e in
     cc
 
-module _ {p q : Option Mark} {m : Mark} (ms : List Mark) (seams : List ℕ) (was : p ≡ Some m) (now : q ≡ None) where
+module _ {p q : Option Place} {m : Place} (ms : List Place) (seams : List ℕ) (was : p ≡ Some m) (now : q ≡ None) where
   pub marks-taken : (n k : ℕ) → m.at ≤ k → AreMarks (with_pending p ms) n seams → AreMarks (with_pending q ms) k (take m.first_seam seams)
   marks-taken n k h marks =
       let before : AreMarks (m ∷ ms) n seams = subst (λ o. AreMarks (with_pending o ms) n seams) was marks in
@@ -191,7 +197,7 @@ module _ {p q : Option Mark} {m : Mark} (ms : List Mark) (seams : List ℕ) (was
 
   -- what was pending is enclosed, and goes to the level around it
   pub stack-enclosed : (entered : Bool) (s t : List ℕ) (o l : Level) (ls : List Level) → AreMarks (with_pending p ms) (length s) seams → pending_of entered p s seams ≡ Some o → inside_of entered p ms s seams ≡ l ∷ ls
-      → t ≡ take m.at s ++ der (under m.around.items (tree_of m.header (drop m.start s)))
+      → t ≡ take m.at s ++ der (under m.around (tree_of m.header (drop m.start s)))
       → stack_at entered q ms t (take m.first_seam seams) ≡ record { inside = with_bytes l (der (under o.around (tree_of o.header o.content))) ∷ ls; pending = None }
   stack-enclosed true s t o l ls marks e f g = cc
   stack-enclosed false s t o l ls marks e f g =

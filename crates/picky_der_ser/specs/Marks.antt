@@ -1,64 +1,66 @@
 -- How marks divide one list of bytes, and one of seams, among the levels.
-use Rattle.std.specs.Prelude.{ℕ, ◌+◌, ◌<◌, ◌≤◌, ⊤, Bool, true, false, List, [], ◌∷◌, length, take, drop, Option, None, Some, IsSome}
-use Rattle.picky_der_ser.specs.declared.levels.Mark.{Mark}
+use Rattle.std.specs.Prelude.{ℕ, ◌≢◌, ◌+◌, ◌<◌, ◌≤◌, ⊤, Bool, true, false, List, [], ◌∷◌, length, take, drop, Option, None, Some}
+use Rattle.picky_der_ser.specs.Places.{Place}
 use Rattle.picky_der_ser.specs.State.{Level}
 use Rattle.picky_der_ser.specs.Headers.{headers, HasNumber, HaveTagNumbers}
 use Rattle.picky_der_ser.specs.Parts.{AreSeams, last_seam}
 
 -- the level of a mark, which is the last one, where these are all bytes and seams
-abbrev pub level_at : Mark → List ℕ → List ℕ → Level
-level_at m s seams = record { header = m.header; around = m.around.items; content = drop m.start s; seams = drop m.first_seam seams }
+abbrev pub level_at : Place → List ℕ → List ℕ → Level
+level_at m s seams = record { header = m.header; around = m.around; content = drop m.start s; seams = drop m.first_seam seams }
 
 -- the levels of these marks, innermost first
-abbrev pub levels_of : List Mark → List ℕ → List ℕ → List Level
+abbrev pub levels_of : List Place → List ℕ → List ℕ → List Level
 levels_of [] s seams = []
 levels_of (m ∷ ms) s seams = level_at m s seams ∷ levels_of ms (take m.at s) (take m.first_seam seams)
 
 -- the bytes before the mark
-abbrev pub below : Option Mark → List ℕ → List ℕ
+abbrev pub below : Option Place → List ℕ → List ℕ
 below None s = s
 below (Some m) s = take m.at s
 
 -- the seams before it
-abbrev pub seams_below : Option Mark → List ℕ → List ℕ
+abbrev pub seams_below : Option Place → List ℕ → List ℕ
 seams_below None seams = seams
 seams_below (Some m) seams = take m.first_seam seams
 
-abbrev pub level_of : Option Mark → List ℕ → List ℕ → Option Level
+abbrev pub level_of : Option Place → List ℕ → List ℕ → Option Level
 level_of None s seams = None
 level_of (Some m) s seams = Some (level_at m s seams)
 
-abbrev pub with_pending : Option Mark → List Mark → List Mark
+abbrev pub with_pending : Option Place → List Place → List Place
 with_pending None ms = ms
 with_pending (Some m) ms = m ∷ ms
 
 -- the levels of which a member is being written: the innermost one too, if it was entered
-abbrev pub inside_of : Bool → Option Mark → List Mark → List ℕ → List ℕ → List Level
+abbrev pub inside_of : Bool → Option Place → List Place → List ℕ → List ℕ → List Level
 inside_of true p ms s seams = levels_of (with_pending p ms) s seams
 inside_of false p ms s seams = levels_of ms (below p s) (seams_below p seams)
 
 -- the innermost one, if it wasn't
-abbrev pub pending_of : Bool → Option Mark → List ℕ → List ℕ → Option Level
+abbrev pub pending_of : Bool → Option Place → List ℕ → List ℕ → Option Level
 pending_of true p s seams = None
 pending_of false p s seams = level_of p s seams
 
 -- Each tag number is at most 30, the room for the headers stands in front of the content, and the last member begins in it.
-pub record IsMark (m : Mark) (n : ℕ) (seams : List ℕ) : Type 0 where
-  pub numbers : HaveTagNumbers m.around.items
+pub record IsMark (m : Place) (n : ℕ) (seams : List ℕ) : Type 0 where
+  pub numbers : HaveTagNumbers m.around
   pub number : HasNumber m.header
   pub room : m.at ≤ m.start
   pub first : m.first_seam ≤ length seams
   pub within : m.start + last_seam 0 (drop m.first_seam seams) ≤ n
   pub ascending : AreSeams 0 (drop m.first_seam seams)
   -- the room isn't larger than the headers will be
-  pub least : m.start ≤ m.at + length (headers m.around.items m.header 0)
+  pub least : m.start ≤ m.at + length (headers m.around m.header 0)
 
 -- the marks stand within n bytes, each before the one further in
-abbrev pub AreMarks : List Mark → ℕ → List ℕ → Type 0
+abbrev pub AreMarks : List Place → ℕ → List ℕ → Type 0
 AreMarks [] n seams = ⊤
 AreMarks (m ∷ ms) n seams = IsMark m n seams × AreMarks ms m.at (take m.first_seam seams)
 
--- Where a member of the innermost level is being written, there is one, and room for its mark behind the others: the next level that is opened takes its place.
-abbrev pub HasRoom : Bool → Option Mark → ℕ → ℕ → Type 0
-HasRoom true p count capacity = IsSome p × (count < capacity)
-HasRoom false p count capacity = ⊤
+-- Where a member is being written, there is a level that it is of. If that is the innermost one, there is room for its mark with the others: the next level
+-- that is opened takes its place.
+abbrev pub HasRoom : Bool → Option Place → List Place → ℕ → Type 0
+HasRoom true None ms spare = ms ≢ []
+HasRoom true (Some m) ms spare = 0 < spare
+HasRoom false p ms spare = ⊤

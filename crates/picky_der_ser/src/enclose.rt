@@ -150,6 +150,7 @@ fn enclose_nested(
 
 // Puts the headers of the content from `start` on in front of it. The room from `at` to `start` isn't larger than they are;
 // one header with a short length just fills it.
+#[inline(always)]
 pub(crate) fn enclose(
     out: &mut Vec<u8>,
     at: usize,

@@ -11,6 +11,7 @@ ghost use Rattle.picky_der_ser.specs.Sealed.{sealed};
 use crate::Header;
 use crate::enclose::{enclose, fill_short, push_enclosed, push_short};
 use crate::headers::{push_headers, short_identifier};
+use crate::marks::{Mark, Marks};
 use crate::sets::{arrange, begin_member};
 use picky_der_core::asn1::{Tag, Wrapper};
 use std::alloc::{AllocError, Global};
@@ -19,17 +20,6 @@ use std::marker::Model;
 // How many bytes are asked for when the first member of an outermost level comes: as many as public keys of RSA with 2048 bits take
 // to be written, so that the vector grows for none of them.
 const FIRST_ROOM: usize = 376;
-
-// Where a level begins: the room for its headers, and behind it its content; and how many seams those around it have.
-#[derive(Drop)]
-struct Mark {
-    around: Vec<Wrapper>,
-    at: usize,
-    start: usize,
-    first_seam: usize,
-    // Last, since each move of a mark would copy the gap behind it.
-    header: Header,
-}
 
 // The contents of the levels stand one behind the other, the innermost last, and so do their seams: of a set, how many bytes
 // of its content stand in front of each member but the first. A vector in each mark would be copied and dropped with those of
@@ -41,15 +31,16 @@ pub(crate) struct Levels {
     scratch: Vec<u8>,
     seams: Vec<usize>,
     // The levels around the innermost one.
-    marks: Vec<Mark>,
+    marks: Marks,
     innermost: Option<Mark>,
-    // Whether a member of the innermost level is being written. Else it was opened last.
+    // Whether a member of the innermost level is being written, or of the one around where there is none. Else it was opened last.
     entered: bool,
 }
 
 impl Model for Levels {
-    ghost use Rattle.std.specs.Prelude.{reverse, length, vec_len, vec_capacity};
+    ghost use Rattle.std.specs.Prelude.{length};
     ghost use Rattle.picky_der_ser.specs.State.{Stack, stack_code};
+    ghost use Rattle.picky_der_ser.specs.Places.{placed};
     ghost use Rattle.picky_der_ser.specs.Marks.{inside_of, pending_of, with_pending, AreMarks, HasRoom};
 
     ghost Value = { Stack };
@@ -57,11 +48,11 @@ impl Model for Levels {
     ghost coded = { stack_code };
 
     ghost view = { λ s. record {
-      inside = inside_of s.entered s.innermost (reverse s.marks.items) s.scratch.items s.seams.items;
-      pending = pending_of s.entered s.innermost s.scratch.items s.seams.items;
+      inside = inside_of s.entered (placed s.innermost) s.marks.places s.scratch.items s.seams.items;
+      pending = pending_of s.entered (placed s.innermost) s.scratch.items s.seams.items;
     } };
 
-    ghost invariant = { λ s. AreMarks (with_pending s.innermost (reverse s.marks.items)) (length s.scratch.items) s.seams.items × HasRoom s.entered s.innermost (vec_len s.marks) (vec_capacity s.marks) };
+    ghost invariant = { λ s. AreMarks (with_pending (placed s.innermost) s.marks.places) (length s.scratch.items) s.seams.items × HasRoom s.entered (placed s.innermost) s.marks.places s.marks.spare };
 }
 
 // Drops the bytes in front of this place.
@@ -81,40 +72,48 @@ impl Levels {
         Levels {
             scratch: Vec::new(alloc),
             seams: Vec::new(alloc),
-            marks: Vec::new(alloc),
+            marks: Marks::new(alloc),
             innermost: None,
             entered: false,
         }
     }
 
-    // Levels inside of one that stands around all. The request for room is that of `make_room`. In line, so that they are made
-    // where they will stand.
+    // Levels inside of one that stands around all. In line, so that they are made where they will stand.
     #[inline(always)]
-    pub(crate) fn new_in_root(alloc: Global) -> Result<Levels, AllocError>
-        ensures { IfOk result (λ levels. levels ≡ record { inside = root ∷ []; pending = None }) }
+    pub(crate) fn new_in_root(alloc: Global) -> Levels
+        ensures { result ≡ record { inside = root ∷ []; pending = None } }
     {
-        let mut scratch = Vec::new(alloc);
-        scratch.reserve(FIRST_ROOM)?;
-        let mut marks = Vec::new(alloc);
-        marks.reserve(1)?;
-        Ok(Levels {
-            scratch,
+        Levels {
+            scratch: Vec::new(alloc),
             seams: Vec::new(alloc),
-            marks,
-            innermost: Some(Mark {
-                header: Header::Raw,
-                around: Vec::new(alloc),
-                at: 0,
-                start: 0,
-                first_seam: 0,
-            }),
+            marks: Marks::new_in_root(alloc),
+            innermost: None,
             entered: true,
-        })
+        }
     }
 
     // Gives out what the level holds of which a member was being written. In line, so that the levels aren't copied to be taken apart.
     #[inline(always)]
-    pub(crate) fn into_content(mut self) -> Vec<u8>
+    pub(crate) fn into_content(self) -> Vec<u8>
+        ensures { (l : Level) (ls : List Level) → self.inside ≡ l ∷ ls → result.items ≡ l.content }
+    {
+        if self.innermost.is_some() || !self.marks.is_only_root() {
+            return self.into_inner_content();
+        }
+        let Levels {
+            scratch,
+            seams: _,
+            marks: _,
+            innermost: _,
+            entered: _,
+        } = self;
+        scratch
+    }
+
+    // The same where other levels stand in it, or in front of what it holds.
+    #[cold]
+    #[inline(never)]
+    fn into_inner_content(mut self) -> Vec<u8>
         ensures { (l : Level) (ls : List Level) → self.inside ≡ l ∷ ls → result.items ≡ l.content }
     {
         self.leave();
@@ -126,10 +125,7 @@ impl Levels {
             entered: _,
         } = self;
         if let Some(mark) = &innermost {
-            // Nothing stands in front of what a root holds.
-            if mark.start > 0 {
-                drop_front(&mut scratch, mark.start);
-            }
+            drop_front(&mut scratch, mark.start);
         }
         scratch
     }
@@ -174,8 +170,8 @@ impl Levels {
     {
         self.give_up();
         if self.entered {
-            if let Some(mark) = self.innermost.take() {
-                self.marks.push_reserved(mark);
+            if self.innermost.is_some() {
+                self.marks.set_aside(&mut self.innermost);
             }
             self.entered = false;
         }
@@ -227,7 +223,7 @@ impl Levels {
     {
         self.make_room()?;
         self.begin_member()?;
-        self.marks.reserve(1)?;
+        self.marks.reserve_one()?;
         self.entered = self.innermost.is_some();
         Ok(())
     }
@@ -242,7 +238,7 @@ impl Levels {
             return false;
         };
         let begins = self.scratch.len() == mark.at || mark.header.is_set();
-        if begins || self.entered || self.marks.len() == self.marks.capacity() {
+        if begins || self.entered || !self.marks.has_room() {
             return false;
         }
         self.entered = true;
@@ -255,11 +251,10 @@ impl Levels {
             → self.new ≡ record { inside = ls; pending = Some l } }
     {
         self.give_up();
-        if self.entered {
-            self.entered = false;
-        } else if let Some(mark) = self.marks.pop() {
-            self.innermost = Some(mark);
+        if self.innermost.is_none() {
+            self.marks.bring_back(&mut self.innermost);
         }
+        self.entered = false;
     }
 
     // Adds an element with a length of one byte to the level of which a member is being written, where no level was opened in it
@@ -319,6 +314,7 @@ impl Levels {
 
     // Puts the headers of the level that was opened last in front of its content, and adds all this to the level around it.
     // Answers how many bytes these are.
+    #[inline(always)]
     pub(crate) fn merge(&mut self) -> Result<usize, AllocError>
         requires { IsSome self.old.pending }
         ensures numbers { IfSome self.old.pending
@@ -337,6 +333,19 @@ impl Levels {
         self.innermost = None;
         outcome?;
         Ok(self.scratch.len() - at)
+    }
+
+    // Whether the level that was opened last ends inside another by two bytes in the room for its header, as most do. Nothing rests on
+    // this but time: where it is known, the other ways of ending one fall away.
+    #[inline(always)]
+    pub(crate) fn ends_short(&self) -> bool {
+        let Some(mark) = &self.innermost else {
+            return false;
+        };
+        let len = self.scratch.len() - mark.start;
+        let is_short = short_identifier(&mark.around, &mark.header, len).is_some();
+        let has_seams = mark.first_seam < self.seams.len();
+        is_short && !has_seams && mark.start - mark.at == 2 && self.is_inside()
     }
 
     // Adds the headers of a content of `len` bytes to the level that was opened last.

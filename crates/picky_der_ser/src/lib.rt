@@ -11,6 +11,7 @@ mod impls;
 mod integer;
 mod lent;
 mod levels;
+mod marks;
 mod member;
 mod null;
 mod optional;

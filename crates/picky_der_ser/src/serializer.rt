@@ -95,18 +95,13 @@ impl<'a> Serializer<SliceSink<'a>> {
 
     // Keeps what is written in a level around all, and leaves the slice alone.
     #[inline(always)]
-    pub(crate) fn new_in_root(
-        alloc: Global,
-        untouched: &'a mut [u8],
-    ) -> Result<Serializer<SliceSink<'a>>>
-        ensures around { IfOk result (λ ser. ser.around ≡ []) }
-        ensures failed { IfOk result (λ ser. ser.failed ≡ None) }
-        ensures inside { IfOk result (λ ser. ser.inside ≡ root ∷ []) }
-        ensures err { IfErr result (λ e. e ≡ OutOfMemory) }
+    pub(crate) fn new_in_root(alloc: Global, untouched: &'a mut [u8]) -> Serializer<SliceSink<'a>>
+        ensures around { result.around ≡ [] }
+        ensures failed { result.failed ≡ None }
+        ensures inside { result.inside ≡ root ∷ [] }
     {
-        let mut ser = Serializer::new_to_bytes(alloc, untouched);
-        ser.levels = Levels::new_in_root(alloc)?;
-        Ok(ser)
+        let sink = SliceSink::new(untouched);
+        Serializer::with_levels(alloc, sink, Levels::new_in_root(alloc))
     }
 
     // Gives out what the level holds of which a member was being written.
@@ -153,11 +148,23 @@ impl<W: WriteExt> Serializer<W> {
         ensures outside { result.inside ≡ [] }
         ensures pending { result.pending ≡ None }
     {
+        Serializer::with_levels(alloc, writer, Levels::new(alloc))
+    }
+
+    // In line, so that the levels aren't copied.
+    #[inline(always)]
+    fn with_levels(alloc: Global, sink: W, levels: Levels) -> Serializer<W>
+        ensures same { result.sink ≡ sink }
+        ensures around { result.around ≡ [] }
+        ensures failed { result.failed ≡ None }
+        ensures inside { result.inside ≡ levels.inside }
+        ensures pending { result.pending ≡ levels.pending }
+    {
         Serializer {
-            sink: writer,
+            sink,
             around: Vec::new(alloc),
             failed: None,
-            levels: Levels::new(alloc),
+            levels,
             alloc,
         }
     }

@@ -82,6 +82,7 @@ impl<W: WriteExt> Serializer<W> {
     }
 
     // Ends the level that was opened last, where a member of another is being written.
+    #[inline(always)]
     fn close_inside(&mut self) -> Result<usize>
         requires had_not_failed { self.old.failed ≡ None }
         requires opened { IsSome self.old.pending }
@@ -99,6 +100,8 @@ impl<W: WriteExt> Serializer<W> {
     }
 
     // Ends the level that was opened last, outside others.
+    #[cold]
+    #[inline(never)]
     fn close_outside(&mut self) -> Result<usize>
         requires had_not_failed { self.old.failed ≡ None }
         requires opened { IsSome self.old.pending }
@@ -113,6 +116,28 @@ impl<W: WriteExt> Serializer<W> {
     // Writes the level that was opened last, in its wrappers, with the members of a set in order. Where memory is refused for
     // this order, nothing of the set is written.
     pub(crate) fn close(&mut self) -> Result<usize>
+        requires { IfNone self.old.failed (IsSome self.old.pending) }
+        ensures { EndsLevel W.WriteExt.own self.old result self.new }
+    {
+        if self.failed.is_none() && self.levels.ends_short() {
+            return self.close_this();
+        }
+        self.close_any()
+    }
+
+    // The same out of line, for the other ways of ending one.
+    #[cold]
+    #[inline(never)]
+    fn close_any(&mut self) -> Result<usize>
+        requires { IfNone self.old.failed (IsSome self.old.pending) }
+        ensures { EndsLevel W.WriteExt.own self.old result self.new }
+    {
+        self.close_this()
+    }
+
+    // The same in line.
+    #[inline(always)]
+    fn close_this(&mut self) -> Result<usize>
         requires { IfNone self.old.failed (IsSome self.old.pending) }
         ensures { EndsLevel W.WriteExt.own self.old result self.new }
     {

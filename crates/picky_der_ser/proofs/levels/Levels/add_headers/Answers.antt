@@ -1,5 +1,6 @@
 use Rattle.std.proofs.Common.{◌++◌, ap, ◌∙◌}
 use Rattle.picky_der_ser.specs.Headers.{headers}
+use Rattle.picky_der_ser.specs.Places.{placed}
 use Rattle.picky_der_ser.proofs.LevelMarks.{stack-headed}
 use Rattle.picky_der_ser.proofs.levels.Levels.add_headers.Goals as goal
 
@@ -8,4 +9,4 @@ returns-in_ok-push_headers-clause-ok c =
     let m = c.in-Some.mark in
     let s = c.self.inside.scratch.items in
     let more = c.in_ok-push_headers.ensures.ok ∙ ap (λ ws. s ++ headers ws m.header c.args.len) c.deref.ensures.value in
-    rw (← c.self.view_is) (stack-headed _ _ s _ _ c.args.len c.in-Some.is c.self.invariant.0 more)
+    rw (← c.self.view_is) (stack-headed _ _ s _ _ c.args.len (ap placed c.in-Some.is) c.self.invariant.0 more)

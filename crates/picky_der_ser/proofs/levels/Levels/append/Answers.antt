@@ -1,7 +1,7 @@
 use Rattle.std.proofs.Common.{◌≡◌, ◌≤◌, ◌∷◌, length, None, ap, ◌∙◌, arith}
-use Rattle.std.specs.Prelude.{reverse}
 use Rattle.picky_der_ser.specs.State.{Stack}
 use Rattle.picky_der_ser.specs.Marks.{inside_of, pending_of}
+use Rattle.picky_der_ser.specs.Places.{placed}
 use Rattle.picky_der_ser.proofs.LevelMarks.{marks-more, stack_at, stack-grown}
 use Rattle.picky_der_ser.proofs.levels.Levels.append.Goals as goal
 
@@ -17,9 +17,9 @@ invariant_of-self-2 c =
 
 pub returns-clause-ok : goal.returns-clause-ok
 returns-clause-ok c = λ l ls f.
-    let ms = reverse c.self.inside.marks.items in
+    let ms = c.self.inside.marks.places in
     let e = c.self.inside.entered in
-    let p = c.self.inside.innermost in
+    let p = placed c.self.inside.innermost in
     let s = c.self.inside.scratch.items in
     let q = c.self.inside.seams.items in
     let none : pending_of e p s q ≡ None = ap (λ (x : Stack). x.pending) c.self.view_is ∙ ap (λ (x : Stack). x.pending) c.give_up.ensures in

@@ -1,16 +1,27 @@
-use Rattle.std.proofs.Common.{◌≡◌, true, ◌∷◌, None, ap, ◌∙◌, arith}
-use Rattle.std.specs.Prelude.{reverse}
+use Rattle.std.proofs.Common.{◌≡◌, ◌≤◌, ℕ, true, ◌∷◌, length, length-append, None, ap, ◌∙◌, arith}
 use Rattle.std.proofs.lemmas.Bool.Decides.{nat_tests}
 use Rattle.picky_der_ser.specs.State.{Stack}
 use Rattle.picky_der_ser.specs.Marks.{inside_of, pending_of}
-use Rattle.picky_der_ser.proofs.LevelMarks.{stack_at, stack-grown}
+use Rattle.picky_der_ser.specs.Places.{placed}
+use Rattle.picky_der_ser.proofs.LevelMarks.{marks-more, some_entered, stack_at, stack-grown}
 use Rattle.picky_der_ser.proofs.levels.Levels.append_short.Goals as goal
+
+pub invariant_of-self : goal.invariant_of-self
+invariant_of-self c =
+    let more : length c.self.inside.scratch.items ≤ length c.push_short.new.out.items = omega (arith, ap length c.push_short.ensures.items, length-append {A = ℕ}) in
+    (marks-more _ _ more c.self.invariant.0, c.self.invariant.1)
+
+pub returns-clause-inside : goal.returns-clause-inside
+returns-clause-inside c = λ t e.
+    let s = c.self.inside.scratch.items in
+    let q = c.self.inside.seams.items in
+    some_entered c.self.inside.entered (placed c.self.inside.innermost) c.self.inside.marks.places s q c.self.inside.marks.spare c.if-not-self.false c.self.invariant.1 (ap (λ (x : Stack). x.inside) c.self.view_is ∙ e)
 
 pub returns-clause-yes : goal.returns-clause-yes
 returns-clause-yes c = λ t l ls f.
     let e = c.self.inside.entered in
-    let ms = reverse c.self.inside.marks.items in
-    let p = c.self.inside.innermost in
+    let ms = c.self.inside.marks.places in
+    let p = placed c.self.inside.innermost in
     let s = c.self.inside.scratch.items in
     let q = c.self.inside.seams.items in
     let entered : e ≡ true = grind (arith, nat_tests) in

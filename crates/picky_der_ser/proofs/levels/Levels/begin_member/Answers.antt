@@ -1,5 +1,6 @@
 use Rattle.std.proofs.Common.{◌≡◌, ◌-◌, length, ap, ◌∙◌, arith}
 use Rattle.picky_der_ser.specs.Parts.{next_seams}
+use Rattle.picky_der_ser.specs.Places.{placed}
 use Rattle.picky_der_ser.proofs.LevelMarks.{marks-begun, stack-begun}
 use Rattle.picky_der_ser.proofs.levels.Levels.begin_member.Goals as goal
 
@@ -10,7 +11,7 @@ invariant_of-self c =
     let n = length c.self.inside.scratch.items in
     let count : c.len.result ≡ n = omega arith in
     let seams = c.in_ok-begin_member.ensures.ok ∙ ap (λ k. next_seams m.header q (k - m.start)) count in
-    (marks-begun _ n q _ c.in-Some.is c.self.invariant.0 seams, c.self.invariant.1)
+    (marks-begun _ n q _ (ap placed c.in-Some.is) c.self.invariant.0 seams, c.self.invariant.1)
 
 pub returns-in_ok-begin_member : goal.returns-in_ok-begin_member
 returns-in_ok-begin_member c =
@@ -19,4 +20,4 @@ returns-in_ok-begin_member c =
     let q = c.self.inside.seams.items in
     let count : c.len.result ≡ length s = omega arith in
     let seams = c.in_ok-begin_member.ensures.ok ∙ ap (λ k. next_seams m.header q (k - m.start)) count in
-    rw (← c.self.view_is) (stack-begun _ _ s q _ c.in-Some.is c.self.invariant.0 seams)
+    rw (← c.self.view_is) (stack-begun _ _ s q _ (ap placed c.in-Some.is) c.self.invariant.0 seams)

@@ -1,10 +1,22 @@
-use Rattle.std.proofs.Common.{◌<◌, length, arith, ap, ◌∙◌}
-use Rattle.std.proofs.lemmas.Bool.Decides.{nat_tests}
+use Rattle.std.proofs.Common.{◌≡◌, Bool, true, false, refl, not, ap, ◌∙◌}
 use Rattle.picky_der_ser.specs.State.{Stack}
-use Rattle.picky_der_ser.proofs.LevelMarks.{some_inside}
+use Rattle.picky_der_ser.specs.Places.{placed}
+use Rattle.picky_der_ser.proofs.LevelMarks.{some_entered, some_inside}
 use Rattle.picky_der_ser.proofs.levels.Levels.is_inside.Goals as goal
+
+pub returns-then-self-clause-yes : goal.returns-then-self-clause-yes
+returns-then-self-clause-yes c = λ t e.
+    let s = c.self.inside.scratch.items in
+    let q = c.self.inside.seams.items in
+    some_entered c.self.inside.entered (placed c.self.inside.innermost) c.self.inside.marks.places s q c.self.inside.marks.spare c.if-self.true c.self.invariant.1 (ap (λ (x : Stack). x.inside) c.self.view_is ∙ e)
+
+is_false : (b : Bool) → not b ≡ true → b ≡ false
+is_false false h = refl
+is_false true h = cc
 
 pub returns-else-self-clause-yes : goal.returns-else-self-clause-yes
 returns-else-self-clause-yes c = λ t e.
-    let some : 0 < length c.self.inside.marks.items = grind (arith, nat_tests) in
-    some_inside _ _ c.self.inside.marks.items c.self.inside.scratch.items c.self.inside.seams.items some (ap (λ (s : Stack). s.inside) c.self.view_is ∙ e)
+    let s = c.self.inside.scratch.items in
+    let q = c.self.inside.seams.items in
+    let some = c.is_empty.ensures.no (is_false c.is_empty.result t) in
+    some_inside c.self.inside.entered (placed c.self.inside.innermost) c.self.inside.marks.places s q some (ap (λ (x : Stack). x.inside) c.self.view_is ∙ e)

@@ -1,0 +1,75 @@
+-- What marks tell, and how the marks around a level are kept.
+use Rattle.std.specs.Prelude.{ℕ, ◌+◌, ◌-◌, ⊤, Bool, true, false, List, [], ◌∷◌, ◌++◌, map, reverse, length, Option, None, Some, vec_len, vec_capacity, refl}
+use Rattle.std.specs.Coded.{Coded, code_by, coded×, coded_list, coded_ℕ}
+use Rattle.picky_der_core.specs.declared.asn1.wrapper.Wrapper.{Wrapper}
+use Rattle.picky_der_core.specs.contracts.asn1.wrapper.Wrapper as wrapper
+use Rattle.picky_der_ser.specs.declared.header.Header.{Header}
+use Rattle.picky_der_ser.specs.declared.header.Header.TheVariants.{Raw}
+use Rattle.picky_der_ser.specs.contracts.header.Header as header
+use Rattle.picky_der_ser.specs.declared.marks.Mark.{Mark}
+
+-- what a mark tells of its level: its header, the wrappers around it, and where it begins
+pub record Place : Type 0 where
+  pub header : Header
+  -- outermost first
+  pub around : List Wrapper
+  -- where the room for the headers begins, and the content behind it
+  pub at : ℕ
+  pub start : ℕ
+  -- how many seams the levels around it have
+  pub first_seam : ℕ
+
+abbrev pub place_code : Coded Place
+place_code =
+    code_by (Header × (List Wrapper × (ℕ × (ℕ × ℕ))))
+    (coded× header.the_row.coded (coded× (coded_list wrapper.the_row.coded) (coded× coded_ℕ (coded× coded_ℕ coded_ℕ))))
+    (λ p. (p.header, (p.around, (p.at, (p.start, p.first_seam)))))
+    (λ p. record { header = p.0; around = p.1.0; at = p.1.1.0; start = p.1.1.1.0; first_seam = p.1.1.1.1 })
+    (λ _. refl)
+
+-- the marks around a level: what they tell, innermost first, and for how many more there is room
+pub record Outer : Type 0 where
+  pub places : List Place
+  pub spare : ℕ
+
+abbrev pub outer_code : Coded Outer
+outer_code = code_by (List Place × ℕ) (coded× (coded_list place_code) coded_ℕ) (λ o. (o.places, o.spare)) (λ p. record { places = p.0; spare = p.1 }) (λ _. refl)
+
+-- the root's place: nothing stands in front of what it holds
+abbrev pub root_place : Place
+root_place = record { header = Raw; around = []; at = 0; start = 0; first_seam = 0 }
+
+abbrev pub place_of : Mark → Place
+place_of m = record { header = m.header; around = m.around.items; at = m.at; start = m.start; first_seam = m.first_seam }
+
+abbrev pub placed : Option Mark → Option Place
+placed None = None
+placed (Some m) = Some (place_of m)
+
+-- this mark inside of the others, if there is one
+abbrev pub inside_places : Option Mark → List Place → List Place
+inside_places None ps = ps
+inside_places (Some m) ps = place_of m ∷ ps
+
+-- the root's place, if it is around them all
+abbrev pub root_places : Bool → List Place
+root_places true = root_place ∷ []
+root_places false = []
+
+-- All marks, innermost first: the others are given outermost first.
+abbrev pub places_of : Bool → Option Mark → Option Mark → List Mark → List Place
+places_of rooted first second others = map place_of (reverse others) ++ inside_places second (inside_places first (root_places rooted))
+
+-- for how many there is room where this one may stand
+abbrev pub spare_slot : Option Mark → ℕ
+spare_slot None = 1
+spare_slot (Some m) = 0
+
+-- A mark takes the first place that is free: where a place is taken, those before it are.
+abbrev pub IsFilled : Option Mark → Option Mark → List Mark → Type 0
+IsFilled None None [] = ⊤
+IsFilled None None (m ∷ ms) = ⊥
+IsFilled None (Some s) others = ⊥
+IsFilled (Some f) None [] = ⊤
+IsFilled (Some f) None (m ∷ ms) = ⊥
+IsFilled (Some f) (Some s) others = ⊤

@@ -1,0 +1,159 @@
+//! The marks of the levels around the innermost one.
+ghost use Rattle.std.specs.Prelude.{◌≡◌, ◌≢◌, ◌<◌, ◌≤◌, List, [], ◌∷◌, true, false, None, IfSome, IfNone, OnOk};
+ghost use Rattle.picky_der_ser.specs.Places.{place_of, placed, root_place};
+ghost use Rattle.picky_der_ser.specs.Marks.{with_pending};
+
+use crate::Header;
+use picky_der_core::asn1::Wrapper;
+use std::alloc::{AllocError, Global};
+use std::marker::Model;
+use std::mem;
+
+// Where a level begins: the room for its headers, and behind it its content; and how many seams those around it have.
+#[derive(Drop)]
+pub(crate) struct Mark {
+    pub(crate) around: Vec<Wrapper>,
+    pub(crate) at: usize,
+    pub(crate) start: usize,
+    pub(crate) first_seam: usize,
+    // Last, since each move of a mark would copy the gap behind it.
+    pub(crate) header: Header,
+}
+
+// The first two marks stand here, so that what is nested no deeper takes no memory for them, and so does the root's, as a flag.
+#[derive(Drop)]
+pub(crate) struct Marks {
+    // Whether the root is around all of them.
+    rooted: bool,
+    first: Option<Mark>,
+    second: Option<Mark>,
+    others: Vec<Mark>,
+}
+
+impl Model for Marks {
+    ghost use Rattle.std.specs.Prelude.{◌+◌, ◌-◌, vec_len, vec_capacity};
+    ghost use Rattle.picky_der_ser.specs.Places.{Outer, outer_code, places_of, spare_slot, IsFilled};
+
+    ghost Value = { Outer };
+
+    ghost coded = { outer_code };
+
+    ghost view = { λ s. record {
+      places = places_of s.rooted s.first s.second s.others.items;
+      spare = spare_slot s.first + spare_slot s.second + (vec_capacity s.others - vec_len s.others);
+    } };
+
+    ghost invariant = { λ s. IsFilled s.first s.second s.others.items };
+}
+
+// That of a root, in front of whose content nothing stands.
+fn root_mark(alloc: Global) -> Mark
+    ensures { place_of result ≡ root_place }
+{
+    Mark {
+        header: Header::Raw,
+        around: Vec::new(alloc),
+        at: 0,
+        start: 0,
+        first_seam: 0,
+    }
+}
+
+impl Marks {
+    pub(crate) fn new(alloc: Global) -> Marks
+        ensures { result.places ≡ [] }
+    {
+        Marks {
+            rooted: false,
+            first: None,
+            second: None,
+            others: Vec::new(alloc),
+        }
+    }
+
+    // That of a root, around all others. In line, so that they are made where they will stand.
+    #[inline(always)]
+    pub(crate) fn new_in_root(alloc: Global) -> Marks
+        ensures { result.places ≡ root_place ∷ [] }
+    {
+        Marks {
+            rooted: true,
+            first: None,
+            second: None,
+            others: Vec::new(alloc),
+        }
+    }
+
+    pub(crate) fn is_empty(&self) -> bool
+        ensures yes { result ≡ true → self.now.places ≡ [] }
+        ensures no { result ≡ false → self.now.places ≢ [] }
+    {
+        !self.rooted && self.first.is_none()
+    }
+
+    // Whether there is no mark but a root's.
+    pub(crate) fn is_only_root(&self) -> bool
+        ensures { result ≡ true → self.now.places ≡ root_place ∷ [] }
+    {
+        self.rooted && self.first.is_none()
+    }
+
+    // Whether there is room for one more.
+    pub(crate) fn has_room(&self) -> bool
+        ensures { result ≡ true → 0 < self.now.spare }
+    {
+        self.second.is_none() || self.others.len() < self.others.capacity()
+    }
+
+    // Makes room for one more.
+    pub(crate) fn reserve_one(&mut self) -> Result<(), AllocError>
+        ensures same { self.new.places ≡ self.old.places }
+        ensures ok { OnOk result (0 < self.new.spare) }
+        ensures grows { self.old.spare ≤ self.new.spare }
+    {
+        if self.second.is_some() {
+            self.others.reserve(1)?;
+        }
+        Ok(())
+    }
+
+    // Puts the mark behind the others, if there is one.
+    #[cold]
+    #[inline(never)]
+    pub(crate) fn set_aside(&mut self, innermost: &mut Option<Mark>)
+        requires { 0 < self.old.spare }
+        ensures places { self.new.places ≡ with_pending (placed innermost.old) self.old.places }
+        ensures taken { innermost.new ≡ None }
+    {
+        if let Some(mark) = innermost.take() {
+            if self.first.is_none() {
+                self.first = Some(mark);
+            } else if self.second.is_none() {
+                self.second = Some(mark);
+            } else {
+                self.others.push_reserved(mark);
+            }
+        }
+    }
+
+    // Takes the last mark out, to where none is.
+    #[cold]
+    #[inline(never)]
+    pub(crate) fn bring_back(&mut self, innermost: &mut Option<Mark>)
+        requires { innermost.old ≡ None }
+        ensures some { IfSome innermost.new (λ mark. self.old.places
+            ≡ place_of mark ∷ self.new.places) }
+        ensures none { IfNone innermost.new ((self.old.places ≡ []) × (self.new.places ≡ [])) }
+    {
+        if !self.others.is_empty() {
+            *innermost = self.others.pop();
+        } else if self.second.is_some() {
+            mem::swap(&mut self.second, innermost);
+        } else if self.first.is_some() {
+            mem::swap(&mut self.first, innermost);
+        } else if self.rooted {
+            self.rooted = false;
+            *innermost = Some(root_mark(*self.others.allocator()));
+        }
+    }
+}
