@@ -7,7 +7,6 @@ use crate::Header;
 use picky_der_core::asn1::Wrapper;
 use std::alloc::{AllocError, Global};
 use std::marker::Model;
-use std::mem;
 
 // Where a level begins: the room for its headers, and behind it its content; and how many seams those around it have.
 #[derive(Drop)]
@@ -148,9 +147,9 @@ impl Marks {
         if !self.others.is_empty() {
             *innermost = self.others.pop();
         } else if self.second.is_some() {
-            mem::swap(&mut self.second, innermost);
+            *innermost = self.second.take();
         } else if self.first.is_some() {
-            mem::swap(&mut self.first, innermost);
+            *innermost = self.first.take();
         } else if self.rooted {
             self.rooted = false;
             *innermost = Some(root_mark(*self.others.allocator()));
