@@ -70,7 +70,7 @@ impl Marks {
         }
     }
 
-    // That of a root, around all others. In line, so that they are made where they will stand.
+    // With that of a root alone. In line, so that they are made where they will stand.
     #[inline(always)]
     pub(crate) fn new_in_root(alloc: Global) -> Marks
         ensures { result.places ≡ root_place ∷ [] }
@@ -117,8 +117,6 @@ impl Marks {
     }
 
     // Puts the mark behind the others, if there is one.
-    #[cold]
-    #[inline(never)]
     pub(crate) fn set_aside(&mut self, innermost: &mut Option<Mark>)
         requires { 0 < self.old.spare }
         ensures places { self.new.places ≡ with_pending (placed innermost.old) self.old.places }
@@ -136,8 +134,6 @@ impl Marks {
     }
 
     // Takes the last mark out, to where none is.
-    #[cold]
-    #[inline(never)]
     pub(crate) fn bring_back(&mut self, innermost: &mut Option<Mark>)
         requires { innermost.old ≡ None }
         ensures some { IfSome innermost.new (λ mark. self.old.places
