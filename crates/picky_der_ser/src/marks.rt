@@ -7,7 +7,6 @@ use crate::Header;
 use picky_der_core::asn1::Wrapper;
 use std::alloc::{AllocError, Global};
 use std::marker::Model;
-use std::mem;
 
 // Where a level begins: the room for its headers, and behind it its content; and how many seams those around it have.
 #[derive(Drop)]
@@ -71,7 +70,7 @@ impl Marks {
         }
     }
 
-    // That of a root, around all others. In line, so that they are made where they will stand.
+    // With that of a root alone. In line, so that they are made where they will stand.
     #[inline(always)]
     pub(crate) fn new_in_root(alloc: Global) -> Marks
         ensures { result.places ≡ root_place ∷ [] }
@@ -118,8 +117,6 @@ impl Marks {
     }
 
     // Puts the mark behind the others, if there is one.
-    #[cold]
-    #[inline(never)]
     pub(crate) fn set_aside(&mut self, innermost: &mut Option<Mark>)
         requires { 0 < self.old.spare }
         ensures places { self.new.places ≡ with_pending (placed innermost.old) self.old.places }
@@ -137,8 +134,6 @@ impl Marks {
     }
 
     // Takes the last mark out, to where none is.
-    #[cold]
-    #[inline(never)]
     pub(crate) fn bring_back(&mut self, innermost: &mut Option<Mark>)
         requires { innermost.old ≡ None }
         ensures some { IfSome innermost.new (λ mark. self.old.places
@@ -148,9 +143,9 @@ impl Marks {
         if !self.others.is_empty() {
             *innermost = self.others.pop();
         } else if self.second.is_some() {
-            mem::swap(&mut self.second, innermost);
+            *innermost = self.second.take();
         } else if self.first.is_some() {
-            mem::swap(&mut self.first, innermost);
+            *innermost = self.first.take();
         } else if self.rooted {
             self.rooted = false;
             *innermost = Some(root_mark(*self.others.allocator()));
