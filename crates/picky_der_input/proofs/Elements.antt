@@ -24,7 +24,7 @@ use Rattle.picky_der_input.proofs.Refusals.{behind, failed_grows, missing_here, 
 use Rattle.picky_der_input.proofs.Known.{front_of, just_taken, just_missing}
 use Rattle.picky_der_input.proofs.Headers.{is_number, same_byte, length_tlv, header_unread}
 use Rattle.picky_der_input.proofs.PlainReads.{refuses_header, refuses_cut, reads_plain}
-use Rattle.picky_der_input.proofs.PlainKinds.{bytes_kind}
+use Rattle.picky_der_input.specs.PlainKindLaws.{bytes_kind}
 
 -- ---- the special reading is given up
 

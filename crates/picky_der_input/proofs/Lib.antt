@@ -3,13 +3,11 @@ pub mod Order
 pub mod ReaderFaults
 pub mod Numbers
 pub mod Contents
-pub mod Texts
 pub mod Lengths
 pub mod Refusals
 pub mod Known
 pub mod Headers
 pub mod PlainReads
-pub mod PlainKinds
 pub mod LookAhead
 pub mod Elements
 pub mod Ends

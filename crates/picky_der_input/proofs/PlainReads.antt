@@ -3,6 +3,7 @@ use Rattle.std.proofs.Common.{◌≡◌, ℕ, ◌+◌, ◌<◌, ◌≤◌, ◌^�
 use Rattle.std.specs.Io.KnownBytes.{Consumes}
 use Rattle.std.proofs.Math.Seq.{take-append_seam, drop-append_seam}
 use Rattle.std.proofs.lemmas.Bool.Decides.{nat_tests}
+use Rattle.std.proofs.lemmas.Grind.{common_steps}
 use Rattle.std.proofs.lemmas.List.{take-append-drop}
 use Rattle.picky_der_core.specs.declared.error.Asn1DerError.{Asn1DerError}
 use Rattle.picky_der_core.specs.declared.error.Asn1DerError.TheVariants.{TruncatedData, UnsupportedValue}
@@ -17,7 +18,8 @@ use Rattle.picky_der_core.specs.Shape.{Shape, IsOf, IsFirst}
 use Rattle.picky_der_core.specs.Reading.{written_at, MayStand, StandsAt}
 use Rattle.picky_der_core.specs.Refusal.{Judge, Refusal, judged, header, header_refusal, refusal_of, content_refusal, Outcome}
 use Rattle.picky_der_input.specs.State.{State}
-use Rattle.picky_der_input.specs.Steps.{Takes, Fails, IsCut, StopsShort, IsJudged, failed_with, is_hard, place_in, place_of, drawn}
+use Rattle.picky_der_input.specs.Steps.{Takes, TakesKept, Fails, IsCut, StopsShort, IsJudged, failed_with, is_hard, place_in, place_of, drawn}
+use Rattle.picky_der_input.specs.PlainKinds.{IsPlainKind, IsShortKind}
 use Rattle.picky_der_input.specs.Reading.{Concerns, Refuses, refusal_in, refusal_at, IsJustRefused, ReadsPlain, RefusesPlain}
 use Rattle.picky_der_input.specs.Headers.{header_bytes, Begins, RefusesBegin, NoElement}
 use Rattle.picky_der_input.proofs.Steps.{takes_then, fails_after, judged_after}
@@ -25,15 +27,6 @@ use Rattle.picky_der_input.proofs.Refusals.{behind, failed_grows, cut_grows, mis
 use Rattle.picky_der_input.proofs.Lengths.{cut_after}
 use Rattle.picky_der_input.proofs.Known.{front_of, just_cut, just_taken, missing_before}
 use Rattle.picky_der_input.proofs.Headers.{header_length, length_tlv, header-read}
-
--- a kind of plain values: with one tag, and told by their contents
-pub record IsPlainKind {V : Type 0} (meaning : V → Tree) (s : Shape) (tag : ℕ) (judge : Judge) : Type 0 where
-  pub number : IsTagNumber (number_of tag)
-  pub first : IsFirst s tag
-  pub plain : (v : V) → is_plain (meaning v) ≡ true
-  pub tagged : (v : V) → plain_tag (meaning v) ≡ tag
-  pub no_choice : (v : V) → IsNoChoice (meaning v)
-  pub judged : (v : V) → IsOf s (meaning v) → judge (content (meaning v)) ≡ None
 
 -- ---- what stands behind the header
 
@@ -256,6 +249,26 @@ reads_plain {meaning = meaning} {tag = tag} {n = n} {judge = judge} {a = a} {b =
   };
   no_refusal = λ bs k. not_refused tag n judge kind.number h t l (kind.judged v o) k;
 }
+
+-- ---- read from the first bytes
+
+-- a content that is shorter than what is kept is kept whole
+kept_whole : (kept c : List ℕ) → kept ≡ take 18 c → length kept < 18 → kept ≡ c
+kept_whole kept c e h = grind (arith, common_steps)
+
+-- a plain value was read from what is kept of its content
+pub reads_kept : {V : Type 0} {meaning : V → Tree} {s : Shape} {tag n : ℕ} {judge : Judge} {a b c : State} {kept : List ℕ} → IsShortKind meaning s tag judge → (v : V) → Begins tag a b n → TakesKept b c n kept
+    → kept ≡ content (meaning v) → judge kept ≡ None → c.implicit_tag ≡ None → ReadsPlain tag judge s a c (meaning v)
+reads_kept {meaning = meaning} {judge = judge} {b = b} {c = c} {kept = kept} kind v h k is good d =
+    let w = kind.short v (ap judge (sym is) ∙ good) in
+    let whole : k.content ≡ content (meaning v) = sym (kept_whole kept k.content k.first (omega (arith, ap length is, w.short))) ∙ is in
+    reads_plain kind.plain v w.of_shape w.readable h (subst (Takes b c) whole k.takes) (ap length (sym whole) ∙ k.count) d
+
+-- what is kept of the content isn't one of the kind
+pub refuses_kept : {V : Type 0} {meaning : V → Tree} {s : Shape} {tag n : ℕ} {judge : Judge} {a b c d : State} {e : Asn1DerError} {kept : List ℕ} → IsShortKind meaning s tag judge → Begins tag a b n → TakesKept b c n kept
+    → Fails c d e → judge kept ≡ Some e → d ≡ failed_with c e → RefusesPlain meaning tag judge s a d e
+refuses_kept {judge = judge} kind h k f bad same =
+    refuses_content kind.plain h k.takes k.count f (sym (kind.told k.content) ∙ ap judge (sym k.first) ∙ bad) same
 
 -- the same of values that hold such a value
 pub refuses_of : {V W : Type 0} {meaning : V → Tree} {s : Shape} {a c : State} {e : Asn1DerError} (part : W → V) → Refuses meaning s a c e → Refuses (λ w. meaning (part w)) s a c e

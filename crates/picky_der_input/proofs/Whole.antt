@@ -6,17 +6,17 @@ use Rattle.picky_der_core.specs.Element.{len}
 use Rattle.picky_der_core.specs.ElementLaws.{len-short}
 use Rattle.picky_der_core.specs.Tree.{Tree}
 use Rattle.picky_der_core.specs.Encoding.{content}
-use Rattle.picky_der_core.specs.Shape.{Shape, IsOf, AreBytes}
-use Rattle.picky_der_core.specs.Readable.{IsReadable}
+use Rattle.picky_der_core.specs.Shape.{Shape, AreBytes}
 use Rattle.picky_der_core.specs.Peeking.{count_of_any}
 use Rattle.picky_der_core.specs.Refusal.{Judge}
 use Rattle.picky_der_input.specs.State.{State}
 use Rattle.picky_der_input.specs.Steps.{Takes}
+use Rattle.picky_der_input.specs.PlainKinds.{IsShortKind}
 use Rattle.picky_der_input.specs.Reading.{ReadsPlain}
 use Rattle.picky_der_input.specs.Headers.{header_bytes, Begins}
 use Rattle.picky_der_input.specs.Elements.{given_up, BeginsElement, ReadsRaw}
 use Rattle.picky_der_input.specs.Ahead.{ShowsShort, ShowsElement, TakesShown}
-use Rattle.picky_der_input.proofs.PlainReads.{IsPlainKind, reads_plain}
+use Rattle.picky_der_input.proofs.PlainReads.{reads_plain}
 use Rattle.picky_der_input.proofs.Elements.{reads_raw}
 
 -- ---- two steps in place of one
@@ -86,9 +86,9 @@ none_directly P None e = tt
 none_directly P (Some number) e = absurd (let q : Some number ≡ None = e in cc)
 
 -- a plain value of which tag, length and content were taken
-pub reads_short : {V : Type 0} {meaning : V → Tree} {s : Shape} {tag : ℕ} {judge : Judge} {a c : State} {bytes : List ℕ} → IsPlainKind meaning s tag judge → (v : V) → IsOf s (meaning v) → IsReadable (meaning v)
-    → bytes ≡ content (meaning v) → ShowsShort a tag bytes → TakesShown a c (length bytes + 2) → a.peeked ≡ None → c.implicit_tag ≡ a.implicit_tag → ReadsPlain tag judge s a c (meaning v)
-reads_short {meaning = meaning} {tag = tag} {a = a} {c = c} {bytes = bytes} kind v o r is h t p d =
+pub reads_short : {V : Type 0} {meaning : V → Tree} {s : Shape} {tag : ℕ} {judge : Judge} {a c : State} {bytes : List ℕ} → IsShortKind meaning s tag judge → (v : V)
+    → bytes ≡ content (meaning v) → judge bytes ≡ None → ShowsShort a tag bytes → TakesShown a c (length bytes + 2) → a.peeked ≡ None → c.implicit_tag ≡ a.implicit_tag → ReadsPlain tag judge s a c (meaning v)
+reads_short {meaning = meaning} {tag = tag} {judge = judge} {a = a} {c = c} {bytes = bytes} kind v is good h t p d =
     let n = length bytes in
     let taken : Takes a c (tag ∷ (n ∷ bytes)) = t (tag ∷ (n ∷ bytes)) (omega arith) h.shows in
     let header : header_bytes a.implicit_tag tag n ≡ tag ∷ (n ∷ []) = whole_header a.implicit_tag tag n h.whole ∙ ap (λ z. tag ∷ z) (len-short n h.short) in
@@ -101,7 +101,8 @@ reads_short {meaning = meaning} {tag = tag} {a = a} {c = c} {bytes = bytes} kind
       all = none_directly _ a.implicit_tag h.whole;
       bounded = h.bounded;
     } in
-    reads_plain kind v o r begins (subst (Takes q.mid c) is q.rest) (ap length (sym is)) none
+    let w = kind.short v (ap judge (sym is) ∙ good) in
+    reads_plain kind.plain v w.of_shape w.readable begins (subst (Takes q.mid c) is q.rest) (ap length (sym is)) none
 
 -- ---- elements
 

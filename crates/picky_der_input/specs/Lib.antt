@@ -2,6 +2,9 @@ pub mod State
 pub mod Steps
 pub mod Order
 pub mod Reading
+pub mod PlainKinds
+pub mod PlainKindLaws
+pub mod TextLaws
 pub mod Headers
 pub mod Refusing
 pub mod TagNumbers

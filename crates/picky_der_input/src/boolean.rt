@@ -1,9 +1,14 @@
 //! Bools (X.690, 8.2 and 11.1).
-ghost use Rattle.std.specs.Prelude.{◌≡◌, None, Some, IfOk, OnOk, IfErr};
+ghost use Rattle.std.specs.Prelude.{◌≡◌, Bool, None, Some, IfOk, OnOk, IfErr};
+ghost use Rattle.picky_der_core.specs.Tree.{Tree};
+ghost use Rattle.picky_der_core.specs.Shape.{Shape};
 ghost use Rattle.picky_der_core.specs.Encoding.{boolean_content};
 ghost use Rattle.picky_der_core.specs.Refusal.{boolean_fault};
 ghost use Rattle.picky_der_input.specs.Steps.{IsOfContent};
+ghost use Rattle.picky_der_input.specs.PlainKindLaws.{short_boolean};
 
+use crate::plain_kind::PlainKind;
+use picky_der_core::asn1::Tag;
 use picky_der_core::{Asn1DerError, Result};
 
 /// Reads contents of bools.
@@ -25,4 +30,26 @@ impl Boolean {
             _ => Err(Asn1DerError::InvalidData),
         }
     }
+}
+
+impl PlainKind<bool> for Boolean {
+    ghost Value = { Bool };
+
+    ghost view = { λ b. b };
+
+    ghost meaning = { Tree.boolean };
+
+    ghost shape = { Shape.boolean };
+
+    ghost TAG = { 0x01 };
+
+    ghost judge = { boolean_fault };
+
+    const TAG: Tag = Tag::BOOLEAN;
+
+    fn of_content(content: &[u8]) -> Result<bool> {
+        Boolean::deserialize(content)
+    }
+
+    ghost kind = { short_boolean };
 }

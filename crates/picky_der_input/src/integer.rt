@@ -1,10 +1,15 @@
 //! Unsigned integers (X.690, 8.3).
 ghost use Rattle.std.specs.Prelude.{◌≡◌, ◌≤◌, ℕ, length, None, Some, IfOk, OnOk, IfErr};
 ghost use Rattle.std.specs.Int.Digits.{number_from_digits};
+ghost use Rattle.picky_der_core.specs.Tree.{Tree};
+ghost use Rattle.picky_der_core.specs.Shape.{Shape};
 ghost use Rattle.picky_der_core.specs.Encoding.{unsigned_content};
 ghost use Rattle.picky_der_core.specs.Refusal.{unsigned_fault, number_fault};
 ghost use Rattle.picky_der_input.specs.Steps.{IsOfContent};
+ghost use Rattle.picky_der_input.specs.PlainKindLaws.{short_unsigned};
 
+use crate::plain_kind::PlainKind;
+use picky_der_core::asn1::Tag;
 use picky_der_core::{Asn1DerError, Result, UInt};
 
 // The bytes of a number behind a 00 that keeps it from being negative.
@@ -57,4 +62,26 @@ impl UnsignedInteger {
         }
         T::from_u128(number_of(digits))
     }
+}
+
+impl<T: UInt> PlainKind<T> for UnsignedInteger {
+    ghost Value = { ℕ };
+
+    ghost view = { T.number };
+
+    ghost meaning = { Tree.unsigned };
+
+    ghost shape = { Shape.unsigned T.greatest };
+
+    ghost TAG = { 0x02 };
+
+    ghost judge = { unsigned_fault T.greatest };
+
+    const TAG: Tag = Tag::INTEGER;
+
+    fn of_content(content: &[u8]) -> Result<T> {
+        UnsignedInteger::deserialize(content)
+    }
+
+    ghost kind = { short_unsigned T.greatest };
 }

@@ -8,6 +8,7 @@ mod end;
 mod input;
 mod integer;
 mod null;
+mod plain_kind;
 mod utf8_string;
 
 pub use boolean::Boolean;

@@ -1,8 +1,13 @@
 //! Null (X.690, 8.8).
 ghost use Rattle.std.specs.Prelude.{◌≡◌, [], None, Some, OnOk, IfErr};
+ghost use Rattle.picky_der_core.specs.Tree.{Tree};
+ghost use Rattle.picky_der_core.specs.Shape.{Shape};
 ghost use Rattle.picky_der_core.specs.Refusal.{null_fault};
 ghost use Rattle.picky_der_input.specs.Steps.{IsOfContent};
+ghost use Rattle.picky_der_input.specs.PlainKindLaws.{short_null};
 
+use crate::plain_kind::PlainKind;
+use picky_der_core::asn1::Tag;
 use picky_der_core::{Asn1DerError, Result};
 
 /// Reads contents of nulls.
@@ -21,4 +26,26 @@ impl Null {
             _ => Err(Asn1DerError::InvalidData),
         }
     }
+}
+
+impl PlainKind<()> for Null {
+    ghost Value = { Unit {0} };
+
+    ghost view = { λ v. v };
+
+    ghost meaning = { λ _. Tree.null };
+
+    ghost shape = { Shape.null };
+
+    ghost TAG = { 0x05 };
+
+    ghost judge = { null_fault };
+
+    const TAG: Tag = Tag::NULL;
+
+    fn of_content(content: &[u8]) -> Result<()> {
+        Null::deserialize(content)
+    }
+
+    ghost kind = { short_null };
 }

@@ -1,9 +1,13 @@
 //! Texts in UTF-8 (X.690, 8.23).
-ghost use Rattle.std.specs.Prelude.{◌≡◌, None, Some, IfOk, OnOk, IfErr, IsUtf8, encode_utf8};
-ghost use Rattle.std.specs.Char.{IsScalar};
+ghost use Rattle.std.specs.Prelude.{◌≡◌, ℕ, None, Some, IfOk, OnOk, IfErr, IsUtf8, encode_utf8};
+ghost use Rattle.picky_der_core.specs.Tree.{Tree};
+ghost use Rattle.picky_der_core.specs.Shape.{Shape};
 ghost use Rattle.picky_der_core.specs.Refusal.{text_fault, character_fault};
 ghost use Rattle.picky_der_input.specs.Steps.{IsOfContent};
+ghost use Rattle.picky_der_input.specs.PlainKindLaws.{short_character};
 
+use crate::plain_kind::PlainKind;
+use picky_der_core::asn1::Tag;
 use picky_der_core::{Asn1DerError, Result};
 
 /// Reads contents of texts.
@@ -25,7 +29,7 @@ impl Utf8String {
 
     // The character that is the whole text.
     pub(crate) fn character(content: &[u8]) -> Result<char>
-        ensures ok { IfOk result (λ c. (content.now ≡ encode_utf8 c) × IsScalar c) }
+        ensures ok { IfOk result (λ c. content.now ≡ encode_utf8 c) }
         ensures no_fault { OnOk result (character_fault content.now ≡ None) }
         ensures fault { IfErr result (λ e. character_fault content.now ≡ Some e) }
         ensures no_device { IfErr result IsOfContent }
@@ -39,4 +43,26 @@ impl Utf8String {
             Some(_) => Err(Asn1DerError::InvalidData),
         }
     }
+}
+
+impl PlainKind<char> for Utf8String {
+    ghost Value = { ℕ };
+
+    ghost view = { λ c. c };
+
+    ghost meaning = { λ c. Tree.text (encode_utf8 c) };
+
+    ghost shape = { Shape.character };
+
+    ghost TAG = { 0x0C };
+
+    ghost judge = { character_fault };
+
+    const TAG: Tag = Tag::UTF8_STRING;
+
+    fn of_content(content: &[u8]) -> Result<char> {
+        Utf8String::character(content)
+    }
+
+    ghost kind = { short_character };
 }

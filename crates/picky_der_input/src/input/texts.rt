@@ -1,5 +1,5 @@
 //! Texts and characters.
-ghost use Rattle.std.specs.Prelude.{◌≡◌, None, IfNone, IfSome, IfOk, IfErr, string_bytes};
+ghost use Rattle.std.specs.Prelude.{IfOk, IfErr, string_bytes};
 ghost use Rattle.picky_der_input.specs.Steps.{TakesNoMemory};
 ghost use Rattle.picky_der_input.specs.Reading.{ReadsText, RefusesText, ReadsCharacter, RefusesCharacter};
 
@@ -19,42 +19,7 @@ impl<R: ReadExt> Input<R> {
         ensures err { IfErr result (RefusesCharacter self.old self.new) }
         ensures memory { IfErr result (TakesNoMemory self.old self.new) }
     {
-        match self.short_char() {
-            Some(value) => Ok(value),
-            None => self.draw_char(),
-        }
-    }
-
-    // Reads a character that is ahead whole.
-    fn short_char(&mut self) -> Option<char>
-        ensures read { IfSome result (ReadsCharacter self.old self.new) }
-        ensures none { IfNone result (self.new ≡ self.old) }
-    {
-        let content = self.short_ahead(Tag::UTF8_STRING)?;
-        let count = content.len() + 2;
-        let Ok(value) = Utf8String::character(content) else {
-            return None;
-        };
-        if !self.take_ahead(count) {
-            return None;
-        }
-        Some(value)
-    }
-
-    // Reads a character byte by byte.
-    #[cold]
-    #[inline(never)]
-    fn draw_char(&mut self) -> Result<char>
-        ensures ok { IfOk result (ReadsCharacter self.old self.new) }
-        ensures err { IfErr result (RefusesCharacter self.old self.new) }
-        ensures memory { IfErr result (TakesNoMemory self.old self.new) }
-    {
-        let len = self.begin(Tag::UTF8_STRING)?;
-        let content = self.draw_kept(len)?;
-        match Utf8String::character(&content) {
-            Ok(character) => Ok(character),
-            Err(error) => Err(self.fail(error)),
-        }
+        self.read_plain::<Utf8String, char>()
     }
 
     /// Reads a text (X.690, 8.23) into one string, of which nothing is grown before a byte came for it.

@@ -2,9 +2,9 @@ use Rattle.std.proofs.Common.{◌≡◌, ℕ, Some, true, false, Vec, Global, Is
 use Rattle.std.proofs.lemmas.Result.{err_from_is_err_and}
 use Rattle.std.proofs.lemmas.Str.{IsUtf8-string_bytes}
 use Rattle.picky_der_input.proofs.Contents.{failed_same}
-use Rattle.picky_der_input.proofs.Texts.{text_bad}
+use Rattle.picky_der_input.specs.TextLaws.{text_bad}
 use Rattle.picky_der_input.proofs.PlainReads.{refuses_header, refuses_cut, refuses_content, reads_plain}
-use Rattle.picky_der_input.proofs.PlainKinds.{text_kind}
+use Rattle.picky_der_input.specs.PlainKindLaws.{text_kind}
 use Rattle.picky_der_input.proofs.input.Input.read_string.Goals as goal
 
 pub returns-in_err-len-clause-err : goal.returns-in_err-len-clause-err

@@ -3,7 +3,7 @@ use Rattle.std.proofs.lemmas.Result.{err_from_is_err_and, MatchResult-weaker}
 use Rattle.picky_der_core.specs.Tag.{number_of}
 use Rattle.picky_der_input.proofs.Contents.{failed_same, IfOk-both}
 use Rattle.picky_der_input.proofs.PlainReads.{refuses_header, refuses_cut, reads_plain, refuses_number}
-use Rattle.picky_der_input.proofs.PlainKinds.{bytes_kind}
+use Rattle.picky_der_input.specs.PlainKindLaws.{bytes_kind}
 use Rattle.picky_der_input.proofs.input.Input.read_tagged_bytes.Goals as goal
 
 pub returns-in_err-len-clause-err : goal.returns-in_err-len-clause-err

@@ -1,4 +1,4 @@
-use Rattle.picky_der_input.proofs.Texts.{text_good, text_bad}
+use Rattle.picky_der_input.specs.TextLaws.{text_good, text_bad}
 use Rattle.picky_der_input.proofs.utf8_string.Utf8String.deserialize.Goals as goal
 
 pub returns-in-Ok-clause-no_fault : goal.returns-in-Ok-clause-no_fault

@@ -1,12 +1,11 @@
 -- Texts, and their characters.
-use Rattle.std.proofs.Common.{◌≡◌, ℕ, ◌*◌, ◌<◌, ◌≤◌, inl, inr, Bool, true, false, List, [], ◌∷◌, ◌++◌, length, take, Some, None, ◌==◌, refl, sym, ◌∙◌, ap, arith, length-append, append-nil, IsUtf8, chars, encode_utf8, encode_utf8_all}
-use Rattle.std.specs.Char.{IsScalar}
+use Rattle.std.proofs.Common.{◌≡◌, ℕ, ◌*◌, ◌<◌, ◌≤◌, inl, inr, Bool, true, false, List, [], ◌∷◌, ◌++◌, length, take, Some, None, ◌==◌, cond, eqb-true, refl, sym, ◌∙◌, ap, arith, length-append, append-nil, IsUtf8, chars, encode_utf8, encode_utf8_all}
 use Rattle.std.specs.Str.{is_utf8}
 use Rattle.std.proofs.lemmas.Bool.{cases_lt}
 use Rattle.std.proofs.lemmas.Bool.Decides.{nat_tests}
 use Rattle.std.proofs.lemmas.Grind.{common_steps}
-use Rattle.std.proofs.lemmas.Str.{IsUtf8-from_is_utf8, is_utf8-from_IsUtf8, chars-nil, chars_past_char, IsUtf8-past_char, encodes-chars, length-encode, len_utf8_bounds, IsUtf8-encode}
-use Rattle.picky_der_core.specs.declared.error.Asn1DerError.TheVariants.{InvalidData}
+use Rattle.std.proofs.lemmas.Str.{IsUtf8-from_is_utf8, is_utf8-from_IsUtf8, chars-nil, chars_past_char, IsUtf8-past_char, encodes-chars, length-encode, len_utf8_bounds}
+use Rattle.picky_der_core.specs.declared.error.Asn1DerError.TheVariants.{InvalidData, UnsupportedValue}
 use Rattle.picky_der_core.specs.Refusal.{text_fault, character_fault, character_count_fault}
 
 -- ---- texts
@@ -29,6 +28,16 @@ text_bad s n = by_test s (λ u. absurd (n u)) (λ e. rw e refl)
 pub character_good : (s : List ℕ) → IsUtf8 s → length (chars s) ≡ 1 → character_fault s ≡ None
 character_good s u l = rw (is_utf8-from_IsUtf8 s u, l) refl
 
+-- what isn't refused is a text of one character
+pub one_character : (s : List ℕ) → character_fault s ≡ None → IsUtf8 s × (length (chars s) ≡ 1)
+one_character s e = by_tests (is_utf8 s) (length (chars s) == 0) (length (chars s) == 1) refl refl e
+  where
+    by_tests : (text none one : Bool) → is_utf8 s ≡ text → (length (chars s) == 1) ≡ one → cond text (cond none (Some UnsupportedValue) (cond one None (Some InvalidData))) (Some InvalidData) ≡ None → IsUtf8 s × (length (chars s) ≡ 1)
+    by_tests true false true f g h = (IsUtf8-from_is_utf8 s f, eqb-true (length (chars s)) 1 g)
+    by_tests true false false f g h = cc
+    by_tests true true one f g h = cc
+    by_tests false none one f g h = cc
+
 two_or_more : (n : ℕ) → 1 < n → character_count_fault n ≡ Some InvalidData
 two_or_more n h =
     let a : (n == 0) ≡ false = grind (arith, nat_tests) in
@@ -38,9 +47,9 @@ two_or_more n h =
 pub character_more : (s : List ℕ) → IsUtf8 s → 1 < length (chars s) → character_fault s ≡ Some InvalidData
 character_more s u l = rw (is_utf8-from_IsUtf8 s u) (two_or_more (length (chars s)) l)
 
-pub one_character : (s rest : List ℕ) (c : ℕ) → IsUtf8 s → s ≡ encode_utf8 c ++ rest → length rest ≡ 0 → (s ≡ encode_utf8 c) × (length (chars s) ≡ 1)
-one_character s [] c u e l = (e ∙ append-nil (encode_utf8 c), ap length (chars_past_char s [] c u e) ∙ ap (λ (cs : List ℕ). length (c ∷ cs)) chars-nil)
-one_character s (b ∷ bs) c u e l = absurd (omega arith)
+pub last_character : (s rest : List ℕ) (c : ℕ) → IsUtf8 s → s ≡ encode_utf8 c ++ rest → length rest ≡ 0 → (s ≡ encode_utf8 c) × (length (chars s) ≡ 1)
+last_character s [] c u e l = (e ∙ append-nil (encode_utf8 c), ap length (chars_past_char s [] c u e) ∙ ap (λ (cs : List ℕ). length (c ∷ cs)) chars-nil)
+last_character s (b ∷ bs) c u e l = absurd (omega arith)
 
 pub two_characters : (s rest last : List ℕ) (c d : ℕ) → IsUtf8 s → s ≡ encode_utf8 c ++ rest → rest ≡ encode_utf8 d ++ last → 1 < length (chars s)
 two_characters s rest last c d u e f =
@@ -67,9 +76,3 @@ character_told c = elim (cases_lt (length c) 18) [
 -- the bytes of one character
 pub length_character : (c : ℕ) → length (encode_utf8 c) < 18
 length_character c = omega (arith, length-encode c, len_utf8_bounds c)
-
--- a character is a text of one
-pub of_character : (c : ℕ) → IsScalar c → IsUtf8 (encode_utf8 c) × (length (chars (encode_utf8 c)) ≡ 1)
-of_character c h =
-    let u = IsUtf8-encode c h in
-    (u, (one_character (encode_utf8 c) [] c u (sym (append-nil (encode_utf8 c))) refl).1)

@@ -1,0 +1,136 @@
+-- The kinds of plain values.
+use Rattle.std.proofs.Common.{◌≡◌, ℕ, ◌^◌, ◌<◌, Bool, inl, inr, List, [], ◌∷◌, length, take, Some, None, true, false, ◌==◌, encode_utf8, refl, sym, ◌∙◌, ap, arith, lt-ltb}
+use Rattle.std.proofs.lemmas.Bool.{cases_lt}
+use Rattle.std.proofs.lemmas.Bool.Decides.{nat_tests}
+use Rattle.std.proofs.lemmas.Grind.{common_steps}
+use Rattle.picky_der_core.specs.declared.error.Asn1DerError.TheVariants.{UnsupportedValue}
+use Rattle.picky_der_core.specs.Tree.{Tree}
+use Rattle.picky_der_core.specs.Shape.{Shape, IsFirst}
+use Rattle.picky_der_core.specs.Encoding.{boolean_content, unsigned_content}
+use Rattle.picky_der_core.specs.EncodingLaws.{number-unsigned_content}
+use Rattle.picky_der_core.specs.Tag.{number_of, is_tag_number, IsTagNumber}
+use Rattle.picky_der_core.specs.Refusal.{boolean_fault, number_fault, unsigned_fault, null_fault, text_fault, character_fault, bytes_fault}
+use Rattle.picky_der_core.specs.BooleanLaws.{boolean_fault-content}
+use Rattle.picky_der_core.specs.UnsignedLaws.{unsigned_fault-content, content-unsigned_fault, AreBytes-unsigned_content, length-unsigned_content}
+use Rattle.picky_der_input.specs.PlainKinds.{IsPlainKind, IsShort, IsShortKind}
+use Rattle.picky_der_input.specs.TextLaws.{text_good, character_good, character_told, length_character, one_character}
+
+boolean_kind : IsPlainKind Tree.boolean Shape.boolean 0x01 boolean_fault
+boolean_kind = record {
+  number = omega arith;
+  first = refl;
+  plain = λ b. refl;
+  tagged = λ b. refl;
+  no_choice = λ b. tt;
+  judged = λ b o. boolean_fault-content b;
+}
+
+unsigned_kind : (most : ℕ) → IsPlainKind Tree.unsigned (Shape.unsigned most) 0x02 (unsigned_fault most)
+unsigned_kind most = record {
+  number = omega arith;
+  first = refl;
+  plain = λ n. refl;
+  tagged = λ n. refl;
+  no_choice = λ n. tt;
+  judged = λ n o. unsigned_fault-content most n o.0 o.1;
+}
+
+null_kind : IsPlainKind (λ (_ : Unit {0}). Tree.null) Shape.null 0x05 null_fault
+null_kind = record {
+  number = omega arith;
+  first = refl;
+  plain = λ _. refl;
+  tagged = λ _. refl;
+  no_choice = λ _. tt;
+  judged = λ _ o. refl;
+}
+
+pub text_kind : IsPlainKind Tree.text Shape.text 0x0C text_fault
+text_kind = record {
+  number = omega arith;
+  first = refl;
+  plain = λ s. refl;
+  tagged = λ s. refl;
+  no_choice = λ s. tt;
+  judged = λ s o. text_good s o;
+}
+
+character_kind : IsPlainKind (λ c. Tree.text (encode_utf8 c)) Shape.character 0x0C character_fault
+character_kind = record {
+  number = omega arith;
+  first = refl;
+  plain = λ c. refl;
+  tagged = λ c. refl;
+  no_choice = λ c. tt;
+  judged = λ c o. character_good (encode_utf8 c) o.0 o.1;
+}
+
+first_of_bytes : (tag : ℕ) → IsTagNumber (number_of tag) → IsFirst (Shape.bytes tag) tag
+first_of_bytes tag n =
+    let in_range : is_tag_number (number_of tag) ≡ true = grind (arith, nat_tests) in
+    let same : (tag == tag) ≡ true = grind (arith, nat_tests) in
+    rw (in_range, same) refl
+
+pub bytes_kind : (tag : ℕ) → IsTagNumber (number_of tag) → IsPlainKind (Tree.bytes tag) (Shape.bytes tag) tag bytes_fault
+bytes_kind tag n = record {
+  number = n;
+  first = first_of_bytes tag n;
+  plain = λ s. refl;
+  tagged = λ s. refl;
+  no_choice = λ s. tt;
+  judged = λ s o. refl;
+}
+
+-- ---- the first bytes tell
+
+boolean_told : (c : List ℕ) → boolean_fault (take 18 c) ≡ boolean_fault c
+boolean_told [] = refl
+boolean_told (b ∷ []) = refl
+boolean_told (b ∷ d ∷ bs) = refl
+
+null_told : (c : List ℕ) → null_fault (take 18 c) ≡ null_fault c
+null_told [] = refl
+null_told (b ∷ bs) = refl
+
+number_too_long : (most : ℕ) (bs : List ℕ) → 16 < length bs → number_fault most bs ≡ Some UnsupportedValue
+number_too_long most bs h = rw (lt-ltb 16 (length bs) h) refl
+
+number_told : (most d : ℕ) (bs : List ℕ) → (number_fault most (d ∷ take 16 bs) ≡ number_fault most (d ∷ bs)) × ((b : ℕ) → number_fault most (b ∷ d ∷ take 16 bs) ≡ number_fault most (b ∷ d ∷ bs))
+number_told most d bs = elim (cases_lt (length bs) 16) [
+  | inl few ↦ let all : take 16 bs ≡ bs = grind (arith, common_steps) in (ap (λ x. number_fault most (d ∷ x)) all, λ b. ap (λ x. number_fault most (b ∷ d ∷ x)) all)
+  | inr many ↦
+      let long : length (take 16 bs) ≡ 16 = grind (arith, common_steps) in (
+        number_too_long most (d ∷ take 16 bs) (omega arith) ∙ sym (number_too_long most (d ∷ bs) (omega arith)),
+        λ b. number_too_long most (b ∷ d ∷ take 16 bs) (omega arith) ∙ sym (number_too_long most (b ∷ d ∷ bs) (omega arith)),
+      )
+]
+
+unsigned_told : (most : ℕ) (c : List ℕ) → unsigned_fault most (take 18 c) ≡ unsigned_fault most c
+unsigned_told most [] = refl
+unsigned_told most (b ∷ []) = refl
+unsigned_told most (b ∷ d ∷ bs) = let told = number_told most d bs in rw (told.0, told.1 b) refl
+
+-- ---- kinds that are read from their first bytes
+
+pub short_boolean : IsShortKind Tree.boolean Shape.boolean 0x01 boolean_fault
+short_boolean = record { plain = boolean_kind; told = boolean_told; short = λ b e. record { of_shape = tt; readable = tt; short = size b } }
+  where
+    size : (b : Bool) → length (boolean_content b) < 18
+    size false = omega arith
+    size true = omega arith
+
+-- a content that is read is that of a number of the type
+unsigned_short : (most n : ℕ) → unsigned_fault most (unsigned_content n) ≡ None → IsShort (Shape.unsigned most) (Tree.unsigned n)
+unsigned_short most n e =
+    let h = content-unsigned_fault most (unsigned_content n) (AreBytes-unsigned_content n) e in
+    let few : n < 2 ^ 128 = omega (arith, h.2, number-unsigned_content n) in
+    record { of_shape = (omega (arith, h.1, number-unsigned_content n), few); readable = tt; short = omega (arith, length-unsigned_content n few) }
+
+pub short_unsigned : (most : ℕ) → IsShortKind Tree.unsigned (Shape.unsigned most) 0x02 (unsigned_fault most)
+short_unsigned most = record { plain = unsigned_kind most; told = unsigned_told most; short = unsigned_short most }
+
+pub short_null : IsShortKind (λ (_ : Unit {0}). Tree.null) Shape.null 0x05 null_fault
+short_null = record { plain = null_kind; told = null_told; short = λ _ e. record { of_shape = tt; readable = tt; short = omega arith } }
+
+pub short_character : IsShortKind (λ c. Tree.text (encode_utf8 c)) Shape.character 0x0C character_fault
+short_character = record { plain = character_kind; told = character_told; short = λ c e. record { of_shape = one_character (encode_utf8 c) e; readable = tt; short = length_character c } }
