@@ -1,4 +1,4 @@
-//! Bools, numbers and nulls, and what reads each kind of plain values: a header, a content, and its judge.
+//! Bools, numbers and nulls: a header, a content, and its judge.
 ghost use Rattle.std.specs.Prelude.{◌≡◌, None, IfNone, IfSome, IfOk, IfErr, OnOk};
 ghost use Rattle.picky_der_input.specs.Steps.{TakesNoMemory};
 ghost use Rattle.picky_der_input.specs.Reading.{ReadsPlain, RefusesPlain, ReadsBoolean, RefusesBoolean, ReadsUnsigned, RefusesUnsigned, ReadsNull, RefusesNull};
