@@ -26,23 +26,6 @@ impl Utf8String {
             Err(_) => Err(Asn1DerError::InvalidData),
         }
     }
-
-    // The character that is the whole text.
-    pub(crate) fn character(content: &[u8]) -> Result<char>
-        ensures ok { IfOk result (λ c. content.now ≡ encode_utf8 c) }
-        ensures no_fault { OnOk result (character_fault content.now ≡ None) }
-        ensures fault { IfErr result (λ e. character_fault content.now ≡ Some e) }
-        ensures no_device { IfErr result IsOfContent }
-    {
-        let mut characters = Utf8String::deserialize(content)?.chars();
-        let Some(first) = characters.next() else {
-            return Err(Asn1DerError::UnsupportedValue);
-        };
-        match characters.next() {
-            None => Ok(first),
-            Some(_) => Err(Asn1DerError::InvalidData),
-        }
-    }
 }
 
 impl PlainKind<char> for Utf8String {
@@ -60,8 +43,16 @@ impl PlainKind<char> for Utf8String {
 
     const TAG: Tag = Tag::UTF8_STRING;
 
+    // The character that is the whole text.
     fn of_content(content: &[u8]) -> Result<char> {
-        Utf8String::character(content)
+        let mut characters = Utf8String::deserialize(content)?.chars();
+        let Some(first) = characters.next() else {
+            return Err(Asn1DerError::UnsupportedValue);
+        };
+        match characters.next() {
+            None => Ok(first),
+            Some(_) => Err(Asn1DerError::InvalidData),
+        }
     }
 
     ghost kind = { short_character };

@@ -1,6 +1,6 @@
 use Rattle.std.proofs.Common.{sym, ◌∙◌}
 use Rattle.picky_der_input.specs.TextLaws.{character_good, character_more, last_character, two_characters}
-use Rattle.picky_der_input.proofs.utf8_string.Utf8String.character.Goals as goal
+use Rattle.picky_der_input.proofs.utf8_string.Utf8StringPlainKindChar.of_content.Goals as goal
 
 pub returns-in-None-clause-no_fault : goal.returns-in-None-clause-no_fault
 returns-in-None-clause-no_fault c =
