@@ -1,5 +1,5 @@
 -- What marks tell, and how the marks around a level are kept.
-use Rattle.std.specs.Prelude.{ℕ, ◌+◌, ◌-◌, ⊤, Bool, true, false, List, [], ◌∷◌, ◌++◌, map, reverse, length, Option, None, Some, vec_len, vec_capacity, refl}
+use Rattle.std.specs.Prelude.{ℕ, ⊤, Bool, true, false, List, [], ◌∷◌, ◌++◌, map, reverse, Option, None, Some, refl}
 use Rattle.std.specs.Coded.{Coded, code_by, coded×, coded_list, coded_ℕ}
 use Rattle.picky_der_core.specs.declared.asn1.wrapper.Wrapper.{Wrapper}
 use Rattle.picky_der_core.specs.contracts.asn1.wrapper.Wrapper as wrapper
