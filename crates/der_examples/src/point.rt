@@ -8,8 +8,11 @@ use picky_asn1_der::{Deserialize, Deserializer, Record, Result, Row, Serialize, 
 /// A point so far east and north, which may be hidden: a SEQUENCE of two INTEGERs and a BOOLEAN.
 #[derive(Debug, Drop, PartialEq, Eq)]
 pub struct Point {
+    /// How far east.
     pub x: u32,
+    /// How far north.
     pub y: u32,
+    /// Whether it is hidden.
     pub hidden: bool,
 }
 

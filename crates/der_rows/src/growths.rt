@@ -7,8 +7,8 @@ use der_fixtures::SlowReader;
 use picky_asn1_der::Asn1DerError::OutOfMemory;
 use picky_asn1_der::misc::{SliceSink, Watched};
 use picky_asn1_der::{
-    Deserialize, Deserializer, Result as DerResult, Serialize, Serializer, from_bytes, from_reader,
-    to_byte_buf, to_bytes, to_vec, to_writer,
+    Asn1DerError, Deserialize, Deserializer, Result as DerResult, Serialize, Serializer, from_bytes,
+    from_reader, to_byte_buf, to_bytes, to_vec, to_writer,
 };
 use std::alloc::{AllocError, Global};
 
@@ -44,7 +44,8 @@ pub(crate) fn spend(alloc: Global, times: &str) -> Result<String, AllocError> {
     answer(alloc, outcome)
 }
 
-/// Reads the value at the front of the bytes by each call that reads, and writes it by each call that writes.
+/// Reads the value at the front of the bytes by each call that reads, and writes it by each call that writes. Where there is
+/// none, each call that reads has to refuse them with one error.
 pub(crate) fn read<T: Deserialize>(alloc: Global, bytes: &[u8]) -> Result<String, AllocError> {
     let mut room = vec![in alloc; OLD; 2]?;
     answer(alloc, read_and_written::<T>(alloc, bytes, &mut room))
@@ -55,7 +56,10 @@ fn read_and_written<T: Deserialize>(
     bytes: &[u8],
     room: &mut Vec<u8>,
 ) -> Result<(), Stop> {
-    let (value, taken) = deserialized::<T>(alloc, bytes)?;
+    let (value, taken) = match deserialized::<T>(alloc, bytes)? {
+        Ok(read) => read,
+        Err(error) => return are_refused::<T>(alloc, bytes, error),
+    };
     is("from_bytes", from_bytes(alloc, bytes), &value)?;
     let mut reader = Watched::new(SlowReader::new(bytes));
     is("from_reader", from_reader(alloc, &mut reader), &value)?;
@@ -65,6 +69,25 @@ fn read_and_written<T: Deserialize>(
         outcome: Ok(taken),
     };
     wanted.write(alloc, &value, room)
+}
+
+// Whether the other calls that read refuse the bytes so.
+fn are_refused<T: Deserialize>(alloc: Global, bytes: &[u8], error: Asn1DerError) -> Result<(), Stop> {
+    is_refused("from_bytes", from_bytes::<T>(alloc, bytes), error)?;
+    let mut reader = Watched::new(SlowReader::new(bytes));
+    is_refused("from_reader", from_reader::<T, _>(alloc, &mut reader), error)
+}
+
+fn is_refused<T: Drop>(
+    call: &'static str,
+    came: DerResult<T>,
+    error: Asn1DerError,
+) -> Result<(), Stop> {
+    match came {
+        Err(came) if came == error => Ok(()),
+        Err(OutOfMemory) => Err(Stop::Refused(call)),
+        _ => Err(Stop::Wrong(call)),
+    }
 }
 
 /// Whether this call answered a value that is equal to this one.
@@ -80,13 +103,17 @@ pub(crate) fn is<T: PartialEq + Drop>(
     }
 }
 
-// The value, and how many bytes were taken. A deserializer that was refused memory answers so again, and takes nothing.
-fn deserialized<T: Deserialize>(alloc: Global, bytes: &[u8]) -> Result<(T, usize), Stop> {
+// The value, and how many bytes were taken; or why the bytes are refused, unless it is for want of memory. A deserializer that
+// was refused memory answers so again, and takes nothing.
+fn deserialized<T: Deserialize>(
+    alloc: Global,
+    bytes: &[u8],
+) -> Result<DerResult<(T, usize)>, Stop> {
     let mut de = Deserializer::new_from_bytes(alloc, bytes);
     let outcome = T::deserialize(&mut de);
     let taken = de.taken();
     match outcome {
-        Ok(value) => Ok((value, taken)),
+        Ok(value) => Ok(Ok((value, taken))),
         Err(OutOfMemory) => {
             let again = de.deserialize_bool();
             if again == Err(OutOfMemory) && de.taken() == taken {
@@ -94,7 +121,7 @@ fn deserialized<T: Deserialize>(alloc: Global, bytes: &[u8]) -> Result<(T, usize
             }
             Err(Stop::Wrong("deserialize_bool"))
         }
-        Err(_) => Err(Stop::Wrong("deserialize")),
+        Err(error) => Ok(Err(error)),
     }
 }
 

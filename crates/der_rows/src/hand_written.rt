@@ -19,7 +19,7 @@ impl Serialize for Untouched {
     }
 }
 
-/// Writes 7, then begins a sequence with 1 in it and drops it.
+/// Writes 7, and then begins a sequence that it leaves open.
 #[derive(Drop)]
 pub(crate) struct Littering;
 
@@ -30,8 +30,7 @@ impl Serialize for Littering {
 
     fn serialize<W: WriteExt>(&self, serializer: &mut Serializer<W>) -> Result<usize> {
         let count = serializer.serialize_u8(7)?;
-        let mut members = ser::Sequence::serialize_lazy(serializer, Tag::SEQUENCE);
-        members.serialize_element(&1u8)?;
+        ser::Sequence::serialize_lazy(serializer, Tag::SEQUENCE);
         Ok(count)
     }
 }

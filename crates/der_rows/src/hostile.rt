@@ -166,11 +166,11 @@ fn with_others_behind(alloc: Global, front: &[u8], len: usize) -> Result<Vec<u8>
     Ok(bytes)
 }
 
-// Of an encoding of over 100 bytes only the first 16 are changed. All would take long, and behind these the rows have
+// Of an encoding of over 200 bytes only the first 16 are changed. All would take long, and behind these such a row has
 // nothing but the content of one octet string.
 fn try_changes<T: Deserialize>(alloc: Global, encoding: &[u8]) -> Result<Tally, Wrong> {
     let mut tally = Tally::NOTHING;
-    let places = if encoding.len() > 100 {
+    let places = if encoding.len() > 200 {
         16
     } else {
         encoding.len()

@@ -12,22 +12,46 @@ use picky_asn1_der::{Asn1DerError, Asn1RawDer, Deserializer, Result};
 use std::alloc::Global;
 use texts::{hexadecimal, read_text, refused_text, wants_memory};
 
-/// A type that lines name, by the word that the variant has in lower case: `null` is `()`, `text` a `String`, `octets` a
-/// `ByteBuf`, `raw` an `Asn1RawDer`, `test` a `TestStruct` and `spki` a `SubjectPublicKeyInfo`.
+/// A type that lines name, by the word that the variant is in lower case, as `null`.
 #[derive(Debug, Clone, Copy, PartialEq, Eq)]
 pub enum ValueType {
+    /// A `bool`.
     Bool,
+
+    /// A `u8`.
     U8,
+
+    /// A `u16`.
     U16,
+
+    /// A `u32`.
     U32,
+
+    /// A `u64`.
     U64,
+
+    /// A `u128`.
     U128,
+
+    /// A `()`.
     Null,
+
+    /// A `char`.
     Char,
+
+    /// A `String`.
     Text,
+
+    /// A `ByteBuf`.
     Octets,
+
+    /// An `Asn1RawDer`.
     Raw,
+
+    /// A `TestStruct`.
     Test,
+
+    /// A `SubjectPublicKeyInfo`.
     Spki,
 }
 

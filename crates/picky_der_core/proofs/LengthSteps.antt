@@ -10,6 +10,7 @@ use Rattle.std.proofs.Math.Nat.{pow-le-pow_right}
 use Rattle.picky_der_core.specs.declared.error.Asn1DerError.{Asn1DerError}
 use Rattle.picky_der_core.specs.declared.error.Asn1DerError.TheVariants.{TruncatedData, InvalidData}
 use Rattle.picky_der_core.specs.Element.{len, Begins}
+use Rattle.picky_der_core.specs.ElementLaws.{bytes_then}
 use Rattle.picky_der_core.specs.Error.{kind_of}
 use Rattle.picky_der_core.specs.Shape.{AreBytes}
 use Rattle.picky_der_core.specs.Faults.{Fault}
@@ -88,16 +89,12 @@ pub record Taken (old new : Option (List ℕ)) (first count number : ℕ) : Type
 pub Taken-first : {a b : Option (List ℕ)} {first : ℕ} → Consumes a b (first ∷ []) → Taken a b first 0 0
 Taken-first h = record { digits = []; consumed = h; size = refl; bytes = tt; is = refl }
 
-one_byte_more : (ds : List ℕ) (d : ℕ) → AreBytes ds → d < 256 → AreBytes (ds ++ (d ∷ []))
-one_byte_more [] d h below = (below, tt)
-one_byte_more (x ∷ ds) d h below = (h.0, one_byte_more ds d h.1 below)
-
 pub Taken-more : {a b c : Option (List ℕ)} {first count number d : ℕ} → Taken a b first count number → Consumes b c (d ∷ []) → d < 256 → Taken a c first (count + 1) (number * 256 + d)
 Taken-more {a} {b} {c} {first} {count} {number} {d} t h below = record {
   digits = t.digits ++ (d ∷ []);
   consumed = Consumes-trans a b c (first ∷ t.digits) (d ∷ []) t.consumed h;
   size = length-append t.digits (d ∷ []) ∙ ap (λ n. n + 1) t.size;
-  bytes = one_byte_more t.digits d t.bytes below;
+  bytes = bytes_then t.digits (d ∷ []) t.bytes (below, tt);
   is = ap (λ n. n * 256 + d) t.is ∙ sym (number_push 256 t.digits d);
 }
 

@@ -1,14 +1,14 @@
 -- Two readable trees of one sound shape that are written alike are the same tree.
-use Rattle.std.proofs.Common.{◌≡◌, ℕ, Bool, true, false, List, [], ◌∷◌, ◌++◌, length, ◌<◌, ◌⊎◌, inl, inr, refl, sym, ap, ◌∙◌, subst, arith}
+use Rattle.std.proofs.Common.{◌≡◌, ℕ, Bool, true, false, List, [], ◌∷◌, ◌++◌, length, ◌<◌, ◌⊎◌, inl, inr, refl, sym, ap, ◌∙◌, arith}
 use Rattle.std.specs.Prelude.{⊤}
 use Rattle.std.specs.List.{concat}
 use Rattle.picky_der_core.specs.Tree.{ListKind, Tree, Trees}
 use Rattle.picky_der_core.specs.Encoding.{headed, around, written, encodings, der, boolean_content, list_content}
 use Rattle.picky_der_core.specs.Readable.{IsReadable, AreReadable, IsNoChoice}
-use Rattle.picky_der_core.specs.Shape.{Shape, Shapes, Layout, IsOf, AreOf, IsOneOf, AreMembersOf, firsts, firsts_of, next_firsts, has, are_apart, IsBoolean, IsUnsigned, IsNull, IsText, IsCharacter, IsBytes, IsRaw, IsList, IsOptional, IsOctetContainer, IsBitContainer, IsExplicit, IsImplicit, IsApplication, IsChoice, EachIs, FirstAndRest, FirstOrNone, IsEmpty, IsSound, AreSound, AreTold, AreMembersSound, AreMembersTold}
+use Rattle.picky_der_core.specs.Shape.{Shape, Shapes, Layout, IsOf, AreOf, IsOneOf, AreMembersOf, firsts, firsts_of, next_firsts, are_apart, IsBoolean, IsUnsigned, IsNull, IsText, IsCharacter, IsBytes, IsRaw, IsList, IsOptional, IsOctetContainer, IsBitContainer, IsExplicit, IsImplicit, IsApplication, IsChoice, EachIs, FirstAndRest, FirstOrNone, IsEmpty, IsSound, AreSound, AreTold, AreMembersSound, AreMembersTold}
 use Rattle.picky_der_core.specs.ElementLaws.{tlv-same}
 use Rattle.picky_der_core.specs.EncodingLaws.{is_absent-readable, list_content-in_order, same_encoding, length-der, unsigned_content-same}
-use Rattle.picky_der_core.specs.FirstLaws.{BeginsIn, begins_in, begins_in_one, begins_next, apart_has, is_of-optional}
+use Rattle.picky_der_core.specs.FirstLaws.{begins_in, begins_in_one, begins_next, apart_differ, is_of-optional}
 
 -- directly under an implicit tag stands no choice
 abbrev pub MayStand : Bool → Tree → Type 0
@@ -195,19 +195,12 @@ first_and_rest_known P Q known others _ _ p q r s e = absurd p
 
 -- ---- alternatives
 
--- trees that begin with bytes of two lists apart aren't written alike
-told : (fs gs : List ℕ) (t u : Tree) → are_apart fs gs ≡ true → BeginsIn fs t → BeginsIn gs u → der t ≡ der u → ⊥
-told fs gs t u a b c e =
-    let same : b.first ∷ b.others ≡ c.first ∷ c.others = sym b.is ∙ e ∙ c.is in
-    let first : b.first ≡ c.first = cc in
-    apart_has c.first fs gs a (subst (λ x. has fs x ≡ true) first b.listed) c.listed
-
 one_known : (s : Shape) (ss : Shapes) → are_apart (firsts s) (firsts_of ss) ≡ true → IsKnown true (IsOf s) → IsKnown true (IsOneOf ss) → IsKnown true (λ t. IsOf s t ⊎ IsOneOf ss t)
 unfolding der
 one_known s ss a known others t u (inl p) (inl q) r v m n e = known t u p q r v tt tt e
 one_known s ss a known others t u (inr p) (inr q) r v m n e = others t u p q r v tt tt e
-one_known s ss a known others t u (inl p) (inr q) r v m n e = absurd (told (firsts s) (firsts_of ss) t u a (begins_in s t p r) (begins_in_one ss u q v) e)
-one_known s ss a known others t u (inr p) (inl q) r v m n e = absurd (told (firsts s) (firsts_of ss) u t a (begins_in s u q v) (begins_in_one ss t p r) (sym e))
+one_known s ss a known others t u (inl p) (inr q) r v m n e = absurd (apart_differ (firsts s) (firsts_of ss) t u a (begins_in s t p r) (begins_in_one ss u q v) e)
+one_known s ss a known others t u (inr p) (inl q) r v m n e = absurd (apart_differ (firsts s) (firsts_of ss) u t a (begins_in s u q v) (begins_in_one ss t p r) (sym e))
 
 -- ---- members that may be missing
 
@@ -218,7 +211,7 @@ unfolding written der
 missing_told s l apart (Trees.more t ts) Trees.none p q r v e = not_empty t (concat (encodings ts)) r.0 e
 missing_told s l apart (Trees.more t ts) (Trees.more u us) p q r v e =
     let same = (same_encoding t u (concat (encodings ts)) (concat (encodings us)) r.0 v.0 e).0 in
-    told (firsts s) (next_firsts l) t u apart (begins_in s t p.0 r.0) (begins_next l u us q v.0) same
+    apart_differ (firsts s) (next_firsts l) t u apart (begins_in s t p.0 r.0) (begins_next l u us q v.0) same
 missing_told s l apart Trees.none _ p q r v e = absurd p
 
 first_or_none_known : (s : Shape) (l : Layout) → are_apart (firsts s) (next_firsts l) ≡ true → IsKnown true (IsOf s) → AreKnown (AreMembersOf l) → AreKnown (FirstOrNone (IsOf s) (AreMembersOf l))

@@ -82,7 +82,7 @@ pub bytes_then : (xs ys : List ℕ) → AreBytes xs → AreBytes ys → AreBytes
 bytes_then [] ys h k = k
 bytes_then (x ∷ xs) ys h k = (h.0, bytes_then xs ys h.1 k)
 
-second_bytes : (xs ys : List ℕ) → AreBytes (xs ++ ys) → AreBytes ys
+pub second_bytes : (xs ys : List ℕ) → AreBytes (xs ++ ys) → AreBytes ys
 second_bytes [] ys h = h
 second_bytes (x ∷ xs) ys h = second_bytes xs ys h.1
 

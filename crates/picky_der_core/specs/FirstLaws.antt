@@ -1,5 +1,5 @@
 -- With which byte the encoding of a readable tree begins.
-use Rattle.std.proofs.Common.{◌≡◌, ℕ, zero, suc, ◌+◌, ◌<◌, Bool, true, false, ◌||◌, ◌&&◌, not, List, [], ◌∷◌, ◌++◌, ◌==◌, ◌⊎◌, inl, inr, refl, sym, subst, arith, eq-eqb, eqb-true, false-eqb, le-leb}
+use Rattle.std.proofs.Common.{◌≡◌, ℕ, zero, suc, ◌+◌, ◌<◌, Bool, true, false, ◌||◌, ◌&&◌, not, List, [], ◌∷◌, ◌++◌, ◌==◌, ◌⊎◌, inl, inr, refl, sym, ◌∙◌, subst, arith, eq-eqb, eqb-true, false-eqb, le-leb}
 use Rattle.picky_der_core.specs.Tag.{number_of, IsTagNumber}
 use Rattle.picky_der_core.specs.Element.{tlv}
 use Rattle.picky_der_core.specs.Tree.{ListKind, Tree, Trees}
@@ -17,7 +17,7 @@ pub record BeginsIn (fs : List ℕ) (t : Tree) : Type 0 where
 
 -- ---- lists of bytes
 
-has_itself : (x : ℕ) (ys : List ℕ) → has (x ∷ ys) x ≡ true
+pub has_itself : (x : ℕ) (ys : List ℕ) → has (x ∷ ys) x ≡ true
 has_itself x ys = rw eq-eqb refl
 
 or_left : (a b : Bool) → a ≡ true → (a || b) ≡ true
@@ -62,7 +62,7 @@ apart_has x (y ∷ xs) ys a h k =
         not_both (has ys y) fresh.0 (subst (λ z. has ys z ≡ true) same k)
     by_first false e h next = next h
 
-has_numbered : (number tag : ℕ) → IsTagNumber number → has (tag_with_number number tag) tag ≡ true
+pub has_numbered : (number tag : ℕ) → IsTagNumber number → has (tag_with_number number tag) tag ≡ true
 has_numbered number tag h = rw (le-leb number 30 h) (has_itself tag [])
 
 -- each byte that isn't a tag of the long form
@@ -79,13 +79,20 @@ has-tags_below x (suc n) l h = by_last (x == n) refl (λ k. has-tags_below x n k
         let less : x < n = omega (arith, false-eqb x n (sym e)) in
         has-append_right x (tag_with_number (number_of n) n) (tags_below n) (next less)
 
+-- trees that begin with bytes of two lists apart aren't written alike
+pub apart_differ : (fs gs : List ℕ) (t u : Tree) → are_apart fs gs ≡ true → BeginsIn fs t → BeginsIn gs u → der t ≡ der u → ⊥
+apart_differ fs gs t u a b c e =
+    let same : b.first ∷ b.others ≡ c.first ∷ c.others = sym b.is ∙ e ∙ c.is in
+    let first : b.first ≡ c.first = cc in
+    apart_has c.first fs gs a (subst (λ x. has fs x ≡ true) first b.listed) c.listed
+
 -- ---- each kind of shape
 
-begins_headed : (tag : ℕ) (c fs : List ℕ) (t : Tree) → der t ≡ headed true tag c → has fs tag ≡ true → BeginsIn fs t
+pub begins_headed : (tag : ℕ) (c fs : List ℕ) (t : Tree) → der t ≡ headed true tag c → has fs tag ≡ true → BeginsIn fs t
 unfolding headed tlv
 begins_headed tag c fs t e h = record { first = tag; others = _; is = e; listed = h }
 
-begins_tlv : (tag : ℕ) (c fs : List ℕ) (t : Tree) → der t ≡ tlv tag c → has fs tag ≡ true → BeginsIn fs t
+pub begins_tlv : (tag : ℕ) (c fs : List ℕ) (t : Tree) → der t ≡ tlv tag c → has fs tag ≡ true → BeginsIn fs t
 unfolding tlv
 begins_tlv tag c fs t e h = record { first = tag; others = _; is = e; listed = h }
 

@@ -9,13 +9,28 @@ use std::io::ErrorKind;
 /// of its message.
 #[derive(Debug, Clone, Copy, PartialEq, Eq)]
 pub enum Failure {
+    /// Of `Asn1DerError::TruncatedData`.
     TruncatedData,
+
+    /// Of `Asn1DerError::InvalidData`.
     InvalidData,
+
+    /// Of `Asn1DerError::UnsupportedValue`.
     UnsupportedValue,
+
+    /// Of `Asn1DerError::UnsupportedType`.
     UnsupportedType,
+
+    /// Of `Asn1DerError::InvalidSink`.
     InvalidSink,
+
+    /// Of `Asn1DerError::Message` with any text.
     Message,
+
+    /// Of `Asn1DerError::Other` with the same kind.
     Other(ErrorKind),
+
+    /// Of `Asn1DerError::OutOfMemory`.
     OutOfMemory,
 }
 

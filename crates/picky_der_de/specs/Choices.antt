@@ -5,14 +5,14 @@ use Rattle.picky_der_core.specs.declared.error.Asn1DerError.{Asn1DerError}
 use Rattle.picky_der_core.specs.Tree.{Tree}
 use Rattle.picky_der_core.specs.Readable.{IsReadable}
 use Rattle.picky_der_core.specs.Shape.{Shape, Shapes, IsOf, IsOneOf, AreTold, firsts, firsts_of, has, are_apart}
-use Rattle.picky_der_core.specs.FirstLaws.{BeginsIn, begins_in, begins_in_one, apart_has, has-append_left, has-append_right}
+use Rattle.picky_der_core.specs.FirstLaws.{begins_in, begins_in_one, apart_differ, has-append_left, has-append_right}
 use Rattle.picky_der_input.specs.State.{State}
 use Rattle.picky_der_input.specs.Steps.{Fails}
 use Rattle.picky_der_input.specs.Reading.{Reads, Refuses}
 use Rattle.picky_der_input.specs.LookAhead.{Peeks}
 use Rattle.picky_der_de.specs.declared.alternatives.OneOf.{OneOf}
 use Rattle.picky_der_de.specs.declared.alternatives.OneOf.TheVariants.{This, Other}
-use Rattle.picky_der_de.specs.Firsts.{IsBegunBy, BytesIn, begins_in_own, bytes_in, bytes_in_one}
+use Rattle.picky_der_de.specs.Firsts.{IsBegunBy, begins_among, bytes_in, bytes_in_one}
 use Rattle.picky_der_de.specs.InjectiveLaws.{IsInjective}
 
 -- what a value of one alternative, or of those behind it, means
@@ -37,14 +37,6 @@ pub record RefusesBehind {V : Type 0} (meaning : V → Tree) (ss : Shapes) (byte
 abbrev pub AreKnownApart : {V : Type 0} → (V → Tree) → Shapes → (V → V → Bool) → Type 0
 AreKnownApart {V} meaning ss eq = AreTold ss → (v w : V) → IsOneOf ss (meaning v) → IsOneOf ss (meaning w) → IsReadable (meaning v) → meaning v ≡ meaning w → eq v w ≡ true
 
-pub begun : (fs : List ℕ) (t : Tree) → IsBegunBy fs t → IsReadable t → BytesIn t → BeginsIn fs t
-begun fs t f r k = let b = begins_in_own t r k in record { first = b.first; others = b.others; is = b.is; listed = f b.first b.listed }
-
-begins_once : (fs gs : List ℕ) (t : Tree) → are_apart fs gs ≡ true → BeginsIn fs t → BeginsIn gs t → ⊥
-begins_once fs gs t w h k =
-    let same : k.first ≡ h.first = let q : k.first ∷ k.others ≡ h.first ∷ h.others = sym k.is ∙ h.is in cc in
-    apart_has h.first fs gs w h.listed (subst (λ x. has gs x ≡ true) same k.listed)
-
 module _ {A B : Type 0} (m : A → Tree) (n : B → Tree) (s : Shape) (ss : Shapes) (this : (a : A) → IsBegunBy (firsts s) (m a)) (other : (b : B) → IsBegunBy (firsts_of ss) (n b)) where
   pub begins_this_or_other : (v : OneOf A B) → IsBegunBy (firsts s ++ firsts_of ss) (chosen_of m n v)
   begins_this_or_other (This a) = λ b h. has-append_left b (firsts s) (firsts_of ss) (this a b h)
@@ -53,7 +45,7 @@ module _ {A B : Type 0} (m : A → Tree) (n : B → Tree) (s : Shape) (ss : Shap
   module _ (w : IsTrue (are_apart (firsts s) (firsts_of ss))) where
     -- a value of this alternative is of no other's shape
     no_other : (a : A) → IsReadable (m a) → IsOneOf ss (m a) → ⊥
-    no_other a r o = begins_once (firsts s) (firsts_of ss) (m a) w (begun (firsts s) (m a) (this a) r (bytes_in_one ss (m a) o)) (begins_in_one ss (m a) o r)
+    no_other a r o = apart_differ (firsts s) (firsts_of ss) (m a) (m a) w (begins_among (firsts s) (m a) (this a) r (bytes_in_one ss (m a) o)) (begins_in_one ss (m a) o r) refl
 
     pub of_this : (a : A) → IsReadable (m a) → IsOf s (m a) ⊎ IsOneOf ss (m a) → IsOf s (m a)
     of_this a r (inl o) = o
@@ -61,7 +53,7 @@ module _ {A B : Type 0} (m : A → Tree) (n : B → Tree) (s : Shape) (ss : Shap
 
     -- one of another isn't of this one's
     no_this : (b : B) → IsReadable (n b) → IsOf s (n b) → ⊥
-    no_this b r o = begins_once (firsts s) (firsts_of ss) (n b) w (begins_in s (n b) o r) (begun (firsts_of ss) (n b) (other b) r (bytes_in s (n b) o))
+    no_this b r o = apart_differ (firsts s) (firsts_of ss) (n b) (n b) w (begins_in s (n b) o r) (begins_among (firsts_of ss) (n b) (other b) r (bytes_in s (n b) o)) refl
 
     pub of_other : (b : B) → IsReadable (n b) → IsOf s (n b) ⊎ IsOneOf ss (n b) → IsOneOf ss (n b)
     of_other b r (inl o) = absurd (no_this b r o)

@@ -8,7 +8,7 @@ use Rattle.picky_der_core.specs.Encoding.{headed, written, der, list_tag}
 use Rattle.picky_der_core.specs.EncodingLaws.{is_absent-readable, around-present}
 use Rattle.picky_der_core.specs.Readable.{IsReadable}
 use Rattle.picky_der_core.specs.Shape.{Shape, Shapes, IsOf, IsOneOf, firsts, has, tags_below, tag_with_number, AreBytes, IsBoolean, IsUnsigned, IsNull, IsText, IsCharacter, IsBytes, IsRaw, IsList, IsOptional, IsOctetContainer, IsBitContainer, IsExplicit, IsImplicit, IsApplication, IsChoice}
-use Rattle.picky_der_core.specs.FirstLaws.{BeginsIn, has-tags_below}
+use Rattle.picky_der_core.specs.FirstLaws.{BeginsIn, has_itself, has_numbered, has-tags_below, begins_headed, begins_tlv}
 use Rattle.picky_der_ser.specs.Meaning.{option_meaning}
 
 -- the bytes with which an encoding of a tree of this kind, and with these tags, can begin
@@ -40,20 +40,6 @@ BytesIn (Tree.raw s) = AreBytes s
 BytesIn (Tree.choice t) = BytesIn t
 BytesIn _ = ⊤
 
-has_itself : (x : ℕ) → has (x ∷ []) x ≡ true
-has_itself x = rw eq-eqb refl
-
-has_numbered : (number tag : ℕ) → IsTagNumber number → has (tag_with_number number tag) tag ≡ true
-has_numbered number tag h = rw (le-leb number 30 h) (has_itself tag)
-
-begins_headed : (tag : ℕ) (c fs : List ℕ) (t : Tree) → der t ≡ headed true tag c → has fs tag ≡ true → BeginsIn fs t
-unfolding headed tlv
-begins_headed tag c fs t e h = record { first = tag; others = _; is = e; listed = h }
-
-begins_tlv : (tag : ℕ) (c fs : List ℕ) (t : Tree) → der t ≡ tlv tag c → has fs tag ≡ true → BeginsIn fs t
-unfolding tlv
-begins_tlv tag c fs t e h = record { first = tag; others = _; is = e; listed = h }
-
 pub begins_in_own : (t : Tree) → IsReadable t → BytesIn t → BeginsIn (firsts_in t) t
 unfolding der written tlv
 begins_in_own (Tree.boolean b) r k = begins_headed _ _ _ (Tree.boolean b) refl refl
@@ -61,7 +47,7 @@ begins_in_own (Tree.unsigned n) r k = begins_headed _ _ _ (Tree.unsigned n) refl
 begins_in_own Tree.null r k = begins_headed _ _ _ Tree.null refl refl
 begins_in_own (Tree.text s) r k = begins_headed _ _ _ (Tree.text s) refl refl
 begins_in_own (Tree.bytes tag s) r k = begins_headed tag _ _ (Tree.bytes tag s) refl (has_numbered (number_of tag) tag r)
-begins_in_own (Tree.list kind ts) r k = begins_headed _ _ _ (Tree.list kind ts) refl (has_itself (list_tag kind))
+begins_in_own (Tree.list kind ts) r k = begins_headed _ _ _ (Tree.list kind ts) refl (has_itself (list_tag kind) [])
 begins_in_own (Tree.octet_container t) r k = begins_tlv _ (der t) _ (Tree.octet_container t) (around-present _ _ _ (is_absent-readable t r)) refl
 begins_in_own (Tree.bit_container t) r k = begins_tlv _ (0x00 ∷ der t) _ (Tree.bit_container t) (around-present _ _ _ (is_absent-readable t r)) refl
 begins_in_own (Tree.explicit n t) r k = begins_tlv _ (der t) _ (Tree.explicit n t) (around-present _ _ _ (is_absent-readable t r.1)) (has_numbered n (0xA0 + n) r.0)
@@ -72,6 +58,10 @@ begins_in_own (Tree.raw s) r k =
     begins_tlv _ _ _ (Tree.raw s) r.is (has-tags_below r.tag 256 bytes.0 r.number)
 begins_in_own (Tree.choice t) r k = let b = begins_in_own t r k in record { first = b.first; others = b.others; is = b.is; listed = b.listed }
 begins_in_own Tree.absent r k = absurd r
+
+-- so it does with bytes among which these are
+pub begins_among : (fs : List ℕ) (t : Tree) → IsBegunBy fs t → IsReadable t → BytesIn t → BeginsIn fs t
+begins_among fs t f r k = let b = begins_in_own t r k in record { first = b.first; others = b.others; is = b.is; listed = f b.first b.listed }
 
 -- ---- of a shape
 

@@ -5,23 +5,12 @@ use Rattle.std.specs.Option.{option_eq}
 use Rattle.picky_der_core.specs.Tree.{Tree, Trees}
 use Rattle.picky_der_core.specs.Readable.{IsReadable, AreReadable}
 use Rattle.picky_der_core.specs.Shape.{Shape, Layout, IsOf, IsSound, AreMembersOf, AreMembersTold, AreMembersSound, FirstAndRest, FirstOrNone, firsts, next_firsts, has, are_apart}
-use Rattle.picky_der_core.specs.FirstLaws.{BeginsIn, begins_in, begins_next, apart_has, has-append_left, has-append_right}
+use Rattle.picky_der_core.specs.FirstLaws.{begins_in, begins_next, apart_differ, has-append_left, has-append_right}
 use Rattle.picky_der_ser.specs.Meaning.{maybe_more, unless_default}
 use Rattle.picky_der_ser.specs.Defaults.{IsByTree, IsOne}
-use Rattle.picky_der_de.specs.Firsts.{IsBegunBy, BytesIn, bytes_in, begins_in_own}
+use Rattle.picky_der_de.specs.Firsts.{IsBegunBy, BytesIn, bytes_in, begins_among}
 use Rattle.picky_der_de.specs.InjectiveLaws.{IsInjective, first_member, other_members}
 use Rattle.picky_der_de.specs.Layouts.{Presence, always, perhaps, placed, AreBegunBy}
-
-begun : (fs : List ℕ) (t : Tree) → IsBegunBy fs t → IsReadable t → BytesIn t → BeginsIn fs t
-begun fs t f r k =
-    let b = begins_in_own t r k in
-    record { first = b.first; others = b.others; is = b.is; listed = f b.first b.listed }
-
-begins_apart : (fs gs : List ℕ) (t : Tree) → are_apart fs gs ≡ true → BeginsIn fs t → BeginsIn gs t → ⊥
-begins_apart fs gs t a b c =
-    let same : b.first ∷ b.others ≡ c.first ∷ c.others = sym b.is ∙ c.is in
-    let first : b.first ≡ c.first = cc in
-    apart_has c.first fs gs a (subst (λ x. has fs x ≡ true) first b.listed) c.listed
 
 -- the first member that is there is made of bytes, where it is a raw part
 bytes_next : (l : Layout) (t : Tree) (ts : Trees) → AreMembersOf l (Trees.more t ts) → BytesIn t
@@ -34,11 +23,11 @@ module _ (s : Shape) (l : Layout) (apart : are_apart (firsts s) (next_firsts l) 
   -- a member that begins as the one that may be missing is that one
   pub is_there : (t : Tree) (ts : Trees) → IsBegunBy (firsts s) t → IsReadable t → FirstOrNone (IsOf s) (AreMembersOf l) (Trees.more t ts) → IsOf s t × AreMembersOf l ts
   is_there t ts f r (inl p) = p
-  is_there t ts f r (inr q) = absurd (begins_apart (firsts s) (next_firsts l) t apart (begun (firsts s) t f r (bytes_next l t ts q)) (begins_next l t ts q r))
+  is_there t ts f r (inr q) = absurd (apart_differ (firsts s) (next_firsts l) t t apart (begins_among (firsts s) t f r (bytes_next l t ts q)) (begins_next l t ts q r) refl)
 
   not_first : (ts : Trees) → AreBegunBy (next_firsts l) ts → AreReadable ts → FirstAndRest (IsOf s) (AreMembersOf l) ts → ⊥
   not_first Trees.none f r p = absurd p
-  not_first (Trees.more t ts) f r p = begins_apart (firsts s) (next_firsts l) t apart (begins_in s t p.0 r.0) (begun (next_firsts l) t f r.0 (bytes_in s t p.0))
+  not_first (Trees.more t ts) f r p = apart_differ (firsts s) (next_firsts l) t t apart (begins_in s t p.0 r.0) (begins_among (next_firsts l) t f r.0 (bytes_in s t p.0)) refl
 
   -- members that begin as those behind it are these
   pub is_missing : (ts : Trees) → AreBegunBy (next_firsts l) ts → AreReadable ts → FirstOrNone (IsOf s) (AreMembersOf l) ts → AreMembersOf l ts
@@ -63,7 +52,7 @@ module _ {V : Type 0} (meaning : V → Tree) (s : Shape) (l : Layout) (begins : 
   other_place v ts us f p q r e =
       let there = is_there s l told.0 (meaning v) ts (begins v) r.0 p in
       let behind = is_missing s l told.0 us f (subst AreReadable e r) q in
-      begins_apart (firsts s) (next_firsts l) (meaning v) told.0 (begins_in s (meaning v) there.0 r.0) (begins_next l (meaning v) ts (subst (AreMembersOf l) (sym e) behind) r.0)
+      apart_differ (firsts s) (next_firsts l) (meaning v) (meaning v) told.0 (begins_in s (meaning v) there.0 r.0) (begins_next l (meaning v) ts (subst (AreMembersOf l) (sym e) behind) r.0) refl
 
   -- the first may be missing, and of those behind it `Others` holds where they are the same
   pub maybe_told : (eq : V → V → Bool) (Others : Type 0) → IsInjective meaning s eq → (ts us : Trees) → AreBegunBy (next_firsts l) ts → AreBegunBy (next_firsts l) us → (AreMembersOf l ts → AreMembersOf l us → AreReadable ts → ts ≡ us → Others)

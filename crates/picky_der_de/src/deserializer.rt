@@ -1,4 +1,4 @@
-//! The deserializer.
+//! What reads values of any type from an input, and the trait of these types.
 ghost use Rattle.std.specs.Prelude.{◌≡◌, [], length, false, None, Some};
 ghost use Rattle.picky_der_core.specs.Failure.{failure_of};
 ghost use Rattle.picky_der_core.specs.Peeking.{in_front};

@@ -1,4 +1,4 @@
-//! Whole values.
+//! Whole values, read from slices and readers.
 ghost use Rattle.std.specs.Prelude.{◌≡◌, length, IfOk, IfErr};
 ghost use Rattle.picky_der_de.specs.Entry.{IsFront, HasNoFront, ReadsFront, RefusesFront, told};
 
@@ -51,7 +51,7 @@ pub fn from_reader<T: Deserialize, R: ReadExt>(alloc: Global, reader: &mut R) ->
     from_reader_with_max_len(alloc, reader, DEFAULT_MAX_LEN)
 }
 
-/// The same in at most `max_len` bytes.
+/// The value at the front of what a reader has left, in at most `max_len` bytes. It is refused as by `from_reader`.
 pub fn from_reader_with_max_len<T: Deserialize, R: ReadExt>(
     alloc: Global,
     reader: &mut R,

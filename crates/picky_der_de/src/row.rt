@@ -11,15 +11,16 @@ use picky_der_core::Result;
 use picky_der_core::misc::ReadExt;
 use picky_der_ser::{Row, SerializeMembers};
 
-/// Members of a sequence that are read back: none, as `()`, or one and those behind it, as `(A, B)`.
+/// Members of a sequence that are read back: none, as `()`, or up to eight and those behind them, as `(A, B, C, ())`.
 pub trait DeserializeMembers: SerializeMembers + PartialEq + Drop + Sized {
     ghost use Rattle.picky_der_de.specs.SequenceState.{borrowed_by, outer_of, state_of};
 
     // A shape for each member.
     ghost shapes: { Shapes };
 
-    /// Reads the members, from a sequence that hasn't failed and in which none is awaited directly under an implicit tag.
-    /// A missing one is refused as `next_field` refuses it, and what is left behind the last one isn't looked at.
+    /// Reads the members, from a sequence that hasn't failed, whose next tag wasn't looked at, and in which none is awaited
+    /// directly under an implicit tag. A missing one is refused as `next_field` refuses it, and what is left behind the last
+    /// one isn't looked at.
     fn deserialize_members<R: ReadExt>(sequence: &mut Sequence<'_, R>) -> Result<Self>
         requires had_not_failed { (state_of sequence.old).failed ≡ None }
         requires unpeeked { (state_of sequence.old).peeked ≡ None }

@@ -248,8 +248,8 @@ impl<R: ReadExt> Deserializer<R> {
         Ok(values)
     }
 
-    /// Begins to read a sequence. Directly under an implicit tag the header was that tag's, and its end is a soft one
-    /// until the sequence is closed.
+    /// Begins to read a sequence (X.690, 8.9 and 8.10). Directly under an implicit tag the header was that tag's, and its end
+    /// is a soft one until the sequence is closed.
     ///
     /// `InvalidData` for another tag; else the refusals of a header and of an end, and the reader's fault.
     pub fn deserialize_seq(&mut self) -> Result<Sequence<'_, R>>
@@ -261,7 +261,8 @@ impl<R: ReadExt> Deserializer<R> {
         self.open(Tag::SEQUENCE)
     }
 
-    /// Begins to read a set, as a sequence is begun. The order of its members is tested as each is read.
+    /// Begins to read a set (X.690, 8.11 and 8.12), as a sequence is begun and refused, with the tag 31. The order of its
+    /// members is tested as each is read (11.6).
     pub fn deserialize_set(&mut self) -> Result<Sequence<'_, R>>
         ensures* rests { sem 𝓛 (RestsIfErr (the_row R.row R.ReadExt.own R.Read) self.entry
             borrowed_by result (λ new. IfErr result (RefusesList 0x31 self.old new))) }
@@ -271,7 +272,7 @@ impl<R: ReadExt> Deserializer<R> {
         self.open(Tag::SET)
     }
 
-    /// Begins to read a tuple as a sequence. The length isn't looked at.
+    /// Begins to read a tuple as a sequence, and is refused so. The length isn't looked at.
     pub fn deserialize_tuple(&mut self, _len: usize) -> Result<Sequence<'_, R>>
         ensures* rests { sem 𝓛 (RestsIfErr (the_row R.row R.ReadExt.own R.Read) self.entry
             borrowed_by result (λ new. IfErr result (RefusesList 0x30 self.old new))) }
@@ -281,7 +282,7 @@ impl<R: ReadExt> Deserializer<R> {
         self.deserialize_seq()
     }
 
-    /// Begins to read a tuple with a name as a sequence. The name and the length aren't looked at.
+    /// Begins to read a tuple with a name as a sequence, and is refused so. The name and the length aren't looked at.
     pub fn deserialize_tuple_struct(
         &mut self,
         _name: &'static str,
@@ -295,7 +296,7 @@ impl<R: ReadExt> Deserializer<R> {
         self.deserialize_seq()
     }
 
-    /// Begins to read a struct as a sequence. The names aren't looked at.
+    /// Begins to read a struct as a sequence, and is refused so. The names aren't looked at.
     pub fn deserialize_struct(
         &mut self,
         _name: &'static str,

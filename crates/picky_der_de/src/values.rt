@@ -13,7 +13,8 @@ use std::alloc::Global;
 
 /// The value at the front of a slice, and how many bytes its encoding has. The next value stands behind these.
 ///
-/// It is refused as `from_bytes` refuses it. An empty slice is `TruncatedData`.
+/// It is refused as `from_bytes` refuses it. An empty slice is `TruncatedData` for each type that needs a byte and asks for
+/// no tag number past 30.
 pub fn next_from_bytes<T: Deserialize>(alloc: Global, bytes: &[u8]) -> Result<(T, usize)>
     ensures ok { IfOk result (λ next. IsFront T.meaning T.shape T.eq bytes.now
         (length bytes.now) next.0) }
@@ -73,7 +74,8 @@ fn read_next_from<T: Deserialize, R: ReadExt>(
 /// The next of several values that a reader has left, in at most `max_len` bytes, and `None` where it has none left. Bytes
 /// behind the value are left in the reader.
 ///
-/// It is refused as `from_reader_with_max_len` refuses it. So `TruncatedData` is a value that is cut short, or a limit of 0.
+/// It is refused as `from_reader_with_max_len` refuses it. So a value that is cut short is `TruncatedData`, and so is a limit
+/// of 0.
 pub fn next_from_reader<T: Deserialize, R: ReadExt>(
     alloc: Global,
     reader: &mut R,

@@ -2,6 +2,7 @@
 use Rattle.std.proofs.Common.{◌≡◌, ℕ, ◌+◌, ◌<◌, ◌≤◌, List, [], ◌∷◌, ◌++◌, length, take, Option, Some, None, Result, Ok, Err, IsOk, IfOk, OnOk, OnErr, refl, sym, ◌∙◌, ap, arith, length-append}
 use Rattle.std.proofs.lemmas.Grind.{common_steps}
 use Rattle.picky_der_core.specs.declared.error.Asn1DerError.{Asn1DerError}
+use Rattle.picky_der_core.specs.ElementLaws.{bytes_then}
 use Rattle.picky_der_core.specs.Failure.{failure_of}
 use Rattle.picky_der_core.specs.Shape.{AreBytes}
 use Rattle.picky_der_input.specs.State.{State}
@@ -35,16 +36,12 @@ consumes-keeps (Some xs) (Some ys) (b ∷ bs) l c = absurd (omega arith)
 pub kept_input : {a b : State} → Took a b → b.taken ≡ a.taken → Keeps a.input b.input
 kept_input {a} {b} t e = consumes-keeps a.input b.input t.bytes (omega (arith, t.count)) t.input
 
-bytes_push : (bs : List ℕ) (b : ℕ) → AreBytes bs → b < 256 → AreBytes (bs ++ (b ∷ []))
-bytes_push [] b h l = (l, tt)
-bytes_push (x ∷ bs) b h l = (h.0, bytes_push bs b h.1 l)
-
 -- one byte more was taken
 pub takes_bytes-more : {a b c : State} {n x : ℕ} {content : List ℕ} → TakesBytes a b n content → Takes b c (x ∷ []) → x < 256 → TakesBytes a c (n + 1) (content ++ (x ∷ []))
 takes_bytes-more {x = x} {content = content} h t l = record {
   takes = takes_then h.takes t;
   count = omega (arith, length-append content (x ∷ []), h.count);
-  bytes = bytes_push content x h.bytes l;
+  bytes = bytes_then content (x ∷ []) h.bytes (l, tt);
 }
 
 -- what is unmoved behind an error

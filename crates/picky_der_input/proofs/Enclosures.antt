@@ -10,6 +10,7 @@ use Rattle.picky_der_core.specs.Tag.{number_of, is_tag_number, IsTagNumber}
 use Rattle.picky_der_core.specs.Tree.{Tree}
 use Rattle.picky_der_core.specs.Encoding.{der}
 use Rattle.picky_der_core.specs.EncodingLaws.{inside-other, is_absent-readable, der-application}
+use Rattle.picky_der_core.specs.FirstLaws.{has_numbered}
 use Rattle.picky_der_core.specs.Readable.{IsReadable}
 use Rattle.picky_der_core.specs.Reading.{written_at, MayStand}
 use Rattle.picky_der_core.specs.Refusal.{Refusal, Outcome, header, header_refusal, refusal_of}
@@ -100,15 +101,12 @@ pub written_enclosed : (d : Option ℕ) (ahead until_end : ℕ) (w : Enclosure) 
     → written_at (place_in d ahead) (enclose w t) ≡ tlv (enclosure_tag w) (unused_bits w ++ written_at (place_in (implicit_number w) until_end) t)
 written_enclosed d ahead until_end w t r = written_whole d ahead w t ∙ der-enclose w t until_end r
 
-numbered_first : (n tag : ℕ) → IsTagNumber n → has (tag_with_number n tag) tag ≡ true
-numbered_first n tag h = rw (is_number h, same_byte tag) refl
-
 pub first_enclosed : (w : Enclosure) (s : Shape) → HasNumber w → IsFirst (enclose_shape w s) (enclosure_tag w)
 first_enclosed (enclosure.Wrapper OctetContainer) s h = refl
 first_enclosed (enclosure.Wrapper BitContainer) s h = refl
-first_enclosed (enclosure.Wrapper (Explicit n)) s h = numbered_first n (0xA0 + n) h
-first_enclosed (enclosure.Wrapper (Implicit n)) s h = numbered_first n (0x80 + n) h
-first_enclosed (enclosure.Application n) s h = numbered_first n (0x60 + n) h
+first_enclosed (enclosure.Wrapper (Explicit n)) s h = has_numbered n (0xA0 + n) h
+first_enclosed (enclosure.Wrapper (Implicit n)) s h = has_numbered n (0x80 + n) h
+first_enclosed (enclosure.Application n) s h = has_numbered n (0x60 + n) h
 
 -- ---- the count of unused bits
 

@@ -3,7 +3,7 @@ use Rattle.std.proofs.Common.{◌≡◌, ℕ, ◌+◌, List, [], ◌∷◌, ◌+
 use Rattle.std.proofs.lemmas.Grind.{common_steps}
 use Rattle.std.specs.Io.KnownBytes.{Consumes, prepend_known}
 use Rattle.picky_der_core.specs.Element.{len}
-use Rattle.picky_der_core.specs.ElementLaws.{len-short}
+use Rattle.picky_der_core.specs.ElementLaws.{len-short, second_bytes}
 use Rattle.picky_der_core.specs.Tree.{Tree}
 use Rattle.picky_der_core.specs.Encoding.{content}
 use Rattle.picky_der_core.specs.Shape.{Shape, AreBytes}
@@ -122,10 +122,6 @@ takes_given_up t = record {
   references = t.references;
 }
 
-part_bytes : (x y : List ℕ) → AreBytes (x ++ y) → AreBytes y
-part_bytes [] y h = h
-part_bytes (b ∷ x) y h = part_bytes x y h.1
-
 -- an element that was taken whole
 pub reads_whole : {a c : State} {all : List ℕ} → ShowsElement a all → TakesShown a c (length all) → AreBytes all → a.peeked ≡ None → c.implicit_tag ≡ a.implicit_tag → ReadsRaw a c all
 reads_whole {a} {c} {all} h t b p d =
@@ -143,7 +139,7 @@ reads_whole {a} {c} {all} h t b p d =
       fits = omega (arith, q.rest.until_end);
       bounded = h.bounded;
     } in
-    reads_raw begins (record { takes = q.rest; count = refl; bytes = part_bytes (e.tag ∷ len n) e.content (subst AreBytes is b) }) none is
+    reads_raw begins (record { takes = q.rest; count = refl; bytes = second_bytes (e.tag ∷ len n) e.content (subst AreBytes is b) }) none is
   where
     take_whole : (xs : List ℕ) → take (length xs) xs ≡ xs
     take_whole xs = grind (arith, common_steps)

@@ -2,15 +2,10 @@
 use Rattle.std.specs.Prelude.{◌≡◌, Option, None, Some, Result, Err}
 use Rattle.picky_der_core.specs.declared.error.Asn1DerError.{Asn1DerError}
 use Rattle.picky_der_core.specs.declared.failure.Failure.{Failure}
-use Rattle.picky_der_core.specs.Failure.{failure_of}
+use Rattle.picky_der_core.specs.Failure.{failure_of, IsAnswer}
 use Rattle.picky_der_core.specs.declared.error.Asn1DerError.TheVariants.{UnsupportedType}
 use Rattle.picky_der_input.specs.State.{State}
 use Rattle.picky_der_input.specs.Steps.{failed_with}
-
--- this error, unless it had failed before, and then one of the kind that it has failed with
-abbrev pub IsAnswer : Option Failure → Asn1DerError → Asn1DerError → Type 0
-IsAnswer None kind e = e ≡ kind
-IsAnswer (Some f) kind e = failure_of e ≡ f
 
 -- it has failed with this error, unless it had failed before, and answers what it has failed with; nothing else changed
 abbrev pub FailsAs : Asn1DerError → State → Asn1DerError → State → Type 0

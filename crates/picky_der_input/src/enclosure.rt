@@ -1,4 +1,4 @@
-//! Enclosures.
+//! What stands around one value that is read.
 
 use picky_der_core::asn1::Wrapper;
 

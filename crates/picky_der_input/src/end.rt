@@ -1,4 +1,4 @@
-//! Ends.
+//! What kinds of ends there are before which a value has to be complete.
 ghost use Rattle.std.specs.Prelude.{◌≡◌};
 ghost use Rattle.picky_der_input.specs.Steps.{at_end};
 

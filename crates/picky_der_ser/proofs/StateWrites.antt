@@ -46,7 +46,7 @@ module _ {W : Type 0} (g : Ghosts W) where
 
   -- anywhere: out of memory
   pub refused_memory : (inside : List Level) (t : Tree) (sink : W) → RefusedIn g inside t sink OutOfMemory sink
-  refused_memory [] t sink = record { begins = beginning_none (g.told sink) (der t); excuse = no_memory refl }
+  refused_memory [] t sink = record { begins = beginning_none (g.told sink) (der t); excuse = no_memory refl refl }
   refused_memory (l ∷ ls) t sink = (no_room refl, refl)
 
   pub fails_memory : (t : Tree) (old new : State W) (e : Asn1DerError) → old.failed ≡ None → e ≡ OutOfMemory → new.failed ≡ Some (failure_of e) → new.sink ≡ old.sink → RefusesWrite g t old e new

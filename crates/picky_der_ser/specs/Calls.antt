@@ -1,5 +1,5 @@
 -- What the calls of a serializer do.
-use Rattle.std.specs.Prelude.{◌≡◌, ℕ, List, [], ◌∷◌, length, None, Some, IfSome, IfNone, Option, Result, Err, IfOk, IfErr, ⊤, ◌<◌}
+use Rattle.std.specs.Prelude.{◌≡◌, ℕ, List, [], ◌∷◌, length, None, Some, IfSome, IfNone, Result, Err, IfOk, IfErr, ⊤, ◌<◌}
 use Rattle.picky_der_core.specs.declared.asn1.wrapper.Wrapper.{Wrapper}
 use Rattle.std.specs.Io.KnownBytes.{Appends}
 use Rattle.picky_der_core.specs.Writer.{AppendsBeginning}
@@ -7,7 +7,7 @@ use Rattle.picky_der_core.specs.WriterFaults.{Faulted, IsOnceAtMost}
 use Rattle.picky_der_core.specs.declared.misc.writer.WriteExt.{Ghosts}
 use Rattle.picky_der_core.specs.declared.error.Asn1DerError.{Asn1DerError}
 use Rattle.picky_der_core.specs.declared.failure.Failure.{Failure}
-use Rattle.picky_der_core.specs.Failure.{failure_of}
+use Rattle.picky_der_core.specs.Failure.{failure_of, IsAnswer}
 use Rattle.picky_der_core.specs.declared.error.Asn1DerError.TheVariants.{UnsupportedValue, UnsupportedType, OutOfMemory}
 use Rattle.picky_der_core.specs.Tree.{Tree, Trees}
 use Rattle.picky_der_core.specs.Encoding.{encodings, der}
@@ -27,11 +27,6 @@ pub data MemoryExcuse (Possible : Type 0) (e : Asn1DerError) : Type 0 where
   no_room : e ≡ OutOfMemory → MemoryExcuse Possible e
   no_way : e ≡ UnsupportedValue → ¬ Possible → MemoryExcuse Possible e
 
--- this error, unless it had failed before, and then one of the kind that it has failed with
-abbrev pub IsAnswer : Option Failure → Asn1DerError → Asn1DerError → Type 0
-IsAnswer None kind e = e ≡ kind
-IsAnswer (Some f) kind e = failure_of e ≡ f
-
 -- the call refuses what isn't supported, whatever the value, and nothing but that becomes of the serializer
 abbrev pub IsUnsupported : {W : Type 0} → State W → Result ℕ Asn1DerError → State W → Type 0
 IsUnsupported old r new = (e : Asn1DerError) × (r ≡ Err e) × IsAnswer old.failed UnsupportedType e × (new ≡ record old { failed = Some (failure_of e) })
@@ -50,9 +45,9 @@ module _ {W : Type 0} (g : Ghosts W) where
   abbrev pub Adds : State W → State W → List ℕ → Type 0
   Adds old new bs = AddsIn old.inside new.inside old.sink new.sink bs
 
-  -- Why a serializer that hadn't failed may refuse to write a tree to its sink. `rest` is what of the encoding wasn't written: at least a byte after a fault of the sink.
+  -- Why a serializer that hadn't failed may refuse to write a tree to its sink. Only where the sink failed it was touched. `rest` is what of the encoding wasn't written: at least a byte after a fault of the sink.
   pub data Excuse (t : Tree) (rest : List ℕ) (old : W) (e : Asn1DerError) (new : W) : Type 0 where
-    no_memory : e ≡ OutOfMemory → Excuse t rest old e new
+    no_memory : e ≡ OutOfMemory → new ≡ old → Excuse t rest old e new
     unwritable : e ≡ UnsupportedValue → ¬ IsWritable t → new ≡ old → Excuse t rest old e new
     no_sink : IsWritable t → 0 < length rest → Faulted g old e new → Excuse t rest old e new
 

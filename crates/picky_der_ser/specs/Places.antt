@@ -28,12 +28,12 @@ place_code =
     (λ _. refl)
 
 -- the marks around a level: what they tell, innermost first, and for how many more there is room
-pub record Outer : Type 0 where
+pub record MarksAround : Type 0 where
   pub places : List Place
   pub spare : ℕ
 
-abbrev pub outer_code : Coded Outer
-outer_code = code_by (List Place × ℕ) (coded× (coded_list place_code) coded_ℕ) (λ o. (o.places, o.spare)) (λ p. record { places = p.0; spare = p.1 }) (λ _. refl)
+abbrev pub marks_around_code : Coded MarksAround
+marks_around_code = code_by (List Place × ℕ) (coded× (coded_list place_code) coded_ℕ) (λ m. (m.places, m.spare)) (λ p. record { places = p.0; spare = p.1 }) (λ _. refl)
 
 -- the root's place: nothing stands in front of what it holds
 abbrev pub root_place : Place

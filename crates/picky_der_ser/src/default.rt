@@ -65,7 +65,8 @@ impl<T: PartialEq, D> Defaulted<T, D> {
 /// The same by reference, as a struct writes its field.
 #[derive(Drop)]
 pub struct DefaultedRef<'a, T, D> {
-    value: &'a T,
+    /// The value, which isn't written where it is the default.
+    pub value: &'a T,
     default: PhantomData<D>,
 }
 
@@ -161,11 +162,11 @@ impl<const N: u8> DefaultOf<u16> for Number<N> {
     ghost left_out = { λ number. nat_eq number N };
 
     fn is_default(value: &u16) -> bool {
-        *value == N as u16
+        *value == u16::from(N)
     }
 
     fn default() -> u16 {
-        N as u16
+        u16::from(N)
     }
 
     ghost by_tree = { numbers_by_tree N };
@@ -177,11 +178,11 @@ impl<const N: u8> DefaultOf<u32> for Number<N> {
     ghost left_out = { λ number. nat_eq number N };
 
     fn is_default(value: &u32) -> bool {
-        *value == N as u32
+        *value == u32::from(N)
     }
 
     fn default() -> u32 {
-        N as u32
+        u32::from(N)
     }
 
     ghost by_tree = { numbers_by_tree N };
@@ -193,11 +194,11 @@ impl<const N: u8> DefaultOf<u64> for Number<N> {
     ghost left_out = { λ number. nat_eq number N };
 
     fn is_default(value: &u64) -> bool {
-        *value == N as u64
+        *value == u64::from(N)
     }
 
     fn default() -> u64 {
-        N as u64
+        u64::from(N)
     }
 
     ghost by_tree = { numbers_by_tree N };
@@ -209,11 +210,11 @@ impl<const N: u8> DefaultOf<u128> for Number<N> {
     ghost left_out = { λ number. nat_eq number N };
 
     fn is_default(value: &u128) -> bool {
-        *value == N as u128
+        *value == u128::from(N)
     }
 
     fn default() -> u128 {
-        N as u128
+        u128::from(N)
     }
 
     ghost by_tree = { numbers_by_tree N };

@@ -1,4 +1,4 @@
-//! Whole values.
+//! Whole values, written to vectors, slices and writers.
 ghost use Rattle.std.specs.Prelude.{◌≡◌, ◌≤◌, length, IfOk, OnOk, IfErr};
 ghost use Rattle.picky_der_core.specs.WriterFaults.{IsOnceAtMost};
 ghost use Rattle.picky_der_core.specs.Encoding.{der};

@@ -31,11 +31,11 @@ pub(crate) struct Marks {
 
 impl Model for Marks {
     ghost use Rattle.std.specs.Prelude.{◌+◌, ◌-◌, vec_len, vec_capacity};
-    ghost use Rattle.picky_der_ser.specs.Places.{Outer, outer_code, places_of, spare_slot, IsFilled};
+    ghost use Rattle.picky_der_ser.specs.Places.{MarksAround, marks_around_code, places_of, spare_slot, IsFilled};
 
-    ghost Value = { Outer };
+    ghost Value = { MarksAround };
 
-    ghost coded = { outer_code };
+    ghost coded = { marks_around_code };
 
     ghost view = { λ s. record {
       places = places_of s.rooted s.first s.second s.others.items;

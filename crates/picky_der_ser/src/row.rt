@@ -10,7 +10,7 @@ use picky_der_core::Result;
 use picky_der_core::asn1::Tag;
 use picky_der_core::misc::WriteExt;
 
-/// Members of a sequence: none, as `()`, or one and those behind it, as `(A, B)`.
+/// Members of a sequence: none, as `()`, or up to eight and those behind them, as `(A, B, C, ())`.
 pub trait SerializeMembers {
     ghost use Rattle.picky_der_ser.specs.SequenceState.{borrowed_by, state_of};
 
@@ -47,8 +47,8 @@ impl SerializeMembers for () {
     }
 }
 
-/// A sequence of members of any types: that of `a`, `b` and `c` is `Row((a, (b, (c, ()))))`. A struct of any length can
-/// be read as one.
+/// A sequence of members of any types: that of `a`, `b` and `c` is `Row((a, b, c, ()))`. A struct of any length can be read
+/// as one.
 #[derive(Debug, Clone, Drop, PartialEq, Eq)]
 pub struct Row<M>(pub M);
 

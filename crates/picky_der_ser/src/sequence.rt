@@ -92,8 +92,8 @@ impl<W: WriteExt> Serializer<W> {
         Ok(Sequence::serialize_lazy(self, tag))
     }
 
-    /// Begins a sequence in the open wrappers. The length isn't looked at: what is added is written. Only an earlier
-    /// error is answered, as by all calls below.
+    /// Begins a sequence in the open wrappers (X.690, 8.9 and 8.10). The length isn't looked at: what is added is written.
+    /// Only an earlier error is answered, as by all calls below.
     pub fn serialize_seq(&mut self, len: Option<usize>) -> Result<Sequence<'_, W>>
         ensures* rests { sem 𝓛 (RestsIfErr (the_row W.row W.WriteExt.own W.Write) self.entry
             borrowed_by result (λ new. IfErr result (λ e. HadFailed self.old e new))) }

@@ -1,4 +1,4 @@
-//! The serializer.
+//! What writes values of any type to a sink, and the trait of these types.
 ghost use Rattle.std.specs.Prelude.{◌≡◌, ◌<◌, ◌≤◌, List, [], ◌∷◌, None, Some, false, IfOk, IfErr, OnOk};
 ghost use Rattle.std.specs.Io.KnownBytes.{Appends};
 ghost use Rattle.picky_der_core.specs.WriterFaults.{IsOnceAtMost};
@@ -32,7 +32,8 @@ pub trait Serialize {
     /// those of the wrappers included.
     ///
     /// An implementation passes on the errors of the calls that it makes, and makes none of its own: the serializer
-    /// has failed with what is answered. `UnsupportedValue` where the value can't be written, and then nothing is.
+    /// has failed with what is answered. `UnsupportedValue` where the value can't be written, `OutOfMemory` where memory was
+    /// refused, and in both cases nothing is written; and else the sink's fault.
     fn serialize<W: WriteExt>(&self, ser: &mut Serializer<W>) -> Result<usize>
         ensures wrote { IfOk result (λ n. Writes W.WriteExt.own
             (meaning self.now) ser.old n ser.new) }
@@ -46,7 +47,8 @@ pub trait Serialize {
 ///
 /// A call that writes a value answers `UnsupportedValue` for one that can't be written; `OutOfMemory` where memory is
 /// refused, which only wrappers, sequences and application tags take; and else the sink's fault: `InvalidSink` where it
-/// took too few bytes, or the kind that it told. Before a fault a beginning of the encoding may have been written.
+/// took too few bytes, or the kind that it told. Only before a fault of the sink a beginning of the encoding may have been
+/// written, and else nothing was.
 #[derive(Drop)]
 pub struct Serializer<W: WriteExt> {
     sink: W,

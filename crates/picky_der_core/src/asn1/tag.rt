@@ -57,25 +57,25 @@ impl Tag {
     /// A text in UTF-8 (8.23).
     pub const UTF8_STRING: Tag = Tag(0x0C);
 
-    /// A text of digits and spaces.
+    /// A text of digits and spaces (8.23).
     pub const NUMERIC_STRING: Tag = Tag(0x12);
 
-    /// A text of letters, digits and a few signs.
+    /// A text of letters, digits and a few signs (8.23).
     pub const PRINTABLE_STRING: Tag = Tag(0x13);
 
-    /// A text in ASCII.
+    /// A text in ASCII (8.23).
     pub const IA5_STRING: Tag = Tag(0x16);
 
-    /// A time with a year of two digits.
+    /// A time with a year of two digits (8.25).
     pub const UTC_TIME: Tag = Tag(0x17);
 
-    /// A time with a year of four digits.
+    /// A time with a year of four digits (8.25).
     pub const GENERALIZED_TIME: Tag = Tag(0x18);
 
-    /// A text of any registered character sets.
+    /// A text of any registered character sets (8.23).
     pub const GENERAL_STRING: Tag = Tag(0x1B);
 
-    /// A text in UTF-16 without surrogates.
+    /// A text in UTF-16 without surrogates (8.23).
     pub const BMP_STRING: Tag = Tag(0x1E);
 
     /// A sequence (8.9), which is constructed.

@@ -92,8 +92,9 @@ impl Length {
         1 + size_of::<usize>() - zeros
     }
 
-    /// How many length bytes stand behind a first byte of the long form, which is `80` or more. `InvalidData` for `80`,
-    /// `UnsupportedValue` past `88`.
+    /// How many length bytes stand behind a first byte of the long form, which is `80` or more (X.690, 8.1.3.5).
+    ///
+    /// `InvalidData` for `80`, which announces the indefinite form; `UnsupportedValue` past `88`.
     pub fn long_count(first: u8) -> Result<usize>
         requires { 0x80 ≤ first }
         ensures ok { IfOk result (IsLongCount first) }
@@ -106,7 +107,7 @@ impl Length {
         }
     }
 
-    /// The number that stands in so many length bytes, if no shorter length gives it, and else `InvalidData`.
+    /// The number that stands in so many length bytes, if no shorter length gives it, and else `InvalidData` (X.690, 10.1).
     pub fn shortest(count: usize, len: usize) -> Result<usize>
         requires { 1 + count < 2 ^ 64 }
         ensures ok { IfOk result (λ n. (n ≡ len) × (length (bytes_of len) ≡ 1 + count)) }

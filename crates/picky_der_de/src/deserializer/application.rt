@@ -13,8 +13,8 @@ use picky_der_core::misc::ReadExt;
 use picky_der_core::{Asn1DerError, Result};
 
 impl<R: ReadExt> Deserializer<R> {
-    /// Reads the value under the application tag with this number. Directly under an implicit tag the application tag has
-    /// its header too.
+    /// Reads the value under the explicit application tag with this number (X.690, 8.14). Directly under an implicit tag the
+    /// application tag has its header too.
     ///
     /// `UnsupportedValue` for a number past 30: nothing is drawn then, and no memory is taken. `InvalidData` for a tag of
     /// another class or number, and for bytes left over before the tag's end, none of which is drawn; the refusals of a

@@ -93,6 +93,9 @@ impl<R: ReadExt> Input<R> {
     }
 
     /// Takes what stands before the value, and opens the enclosure's end.
+    ///
+    /// `UnsupportedValue` for a tag number past 30: nothing is drawn then. `InvalidData` for another tag and for unused bits
+    /// (X.690, 8.6.2); the refusals of a header and of an end; else the reader's fault.
     pub fn open_enclosure(&mut self, enclosure: Enclosure) -> Result<Outer>
         ensures ok { IfOk result (OpensEnclosure enclosure self.old self.new) }
         ensures bounded { IfOk result (λ outer. outer.place ≤ self.new.limit) }

@@ -48,7 +48,9 @@ impl<R: ReadExt> Input<R> {
     }
 
     /// Takes the header of a sequence or set under this tag, and opens its end. Directly under an implicit tag the header
-    /// was that tag's. Of a set the order of the members is tested from here on.
+    /// was that tag's. Of a set the order of the members is tested from here on (X.690, 11.6).
+    ///
+    /// `InvalidData` for another tag; the refusals of a header and of an end; else the reader's fault.
     pub fn open_list(&mut self, tag: Tag) -> Result<Outer>
         requires number { IsTagNumber (number_of tag) }
         ensures ok { IfOk result (λ outer. OpensList tag self.old self.new outer) }
@@ -62,7 +64,7 @@ impl<R: ReadExt> Input<R> {
     }
 
     /// Opens a soft end `len` bytes from here, before which no order is tested. Where that is past the innermost end, it
-    /// has failed.
+    /// has failed: with `InvalidData` if that one is hard, and else with `TruncatedData`.
     pub fn open_lazily(&mut self, len: usize) -> Outer
         ensures opened { OpensLazily len self.old self.new result }
         ensures bounded { result.place ≤ self.new.limit }
@@ -82,6 +84,8 @@ impl<R: ReadExt> Input<R> {
     }
 
     /// Closes the innermost end, if it was reached, and puts the one around it back.
+    ///
+    /// `InvalidData` where bytes are left before it, of which none is drawn.
     pub fn close_end(&mut self, outer: Outer) -> Result<()>
         requires within { self.old.taken + self.old.until_end ≤ outer.place }
         requires bounded { outer.place ≤ self.old.limit }
@@ -100,7 +104,7 @@ impl<R: ReadExt> Input<R> {
         Ok(())
     }
 
-    /// Whether the innermost end is here.
+    /// Whether the innermost end is here. Only an earlier error is answered.
     pub fn is_at_end(&self) -> Result<bool>
         ensures ok { IfOk result (λ here. (self.now.failed ≡ None)
             × (IsTrue here ↔ (self.now.until_end ≡ 0))) }

@@ -23,6 +23,10 @@ impl<R: ReadExt> Input<R> {
     }
 
     /// Reads a number (X.690, 8.3).
+    ///
+    /// `InvalidData` for another tag and for a needless 00 in front; `UnsupportedValue` for a negative number and past
+    /// the greatest one; `TruncatedData` for an empty content; the refusals of a header and of an end; else the
+    /// reader's fault.
     pub fn read_unsigned<T: UInt>(&mut self) -> Result<T>
         ensures ok { IfOk result (λ value. ReadsUnsigned T.greatest self.old self.new
             (T.number value)) }

@@ -11,8 +11,8 @@ use picky_der_core::misc::WriteExt;
 use picky_der_core::{Asn1DerError, Result};
 
 impl<W: WriteExt> Serializer<W> {
-    /// Writes the value under the application tag with this number, in the open wrappers. Around a value of which
-    /// nothing is written stands the tag with the length 0.
+    /// Writes the value under the explicit application tag with this number (X.690, 8.14), in the open wrappers. Around a
+    /// value of which nothing is written stands the tag with the length 0.
     ///
     /// `UnsupportedValue` for a number past 30, which is tested before the value is looked at: nothing is written, and
     /// no memory is taken.

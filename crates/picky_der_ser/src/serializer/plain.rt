@@ -88,15 +88,15 @@ impl<W: WriteExt> Serializer<W> {
         self.settle(outcome)
     }
 
-    /// Writes a bool. Outside wrappers, sequences and application tags no memory is taken, and only the sink
-    /// can refuse; the same holds for the other calls of plain values.
+    /// Writes a bool (X.690, 8.2 and 11.1). Outside wrappers, sequences and application tags no memory is taken, and only
+    /// the sink can refuse; the same holds for the other calls of plain values.
     pub fn serialize_bool(&mut self, value: bool) -> Result<usize>
         ensures { WritesPlain W.WriteExt.own (Tree.boolean value) self.old result self.new }
     {
         Boolean::serialize(value, self)
     }
 
-    /// Writes a number of 8 bits.
+    /// Writes a number of 8 bits (X.690, 8.3).
     pub fn serialize_u8(&mut self, value: u8) -> Result<usize>
         ensures { WritesPlain W.WriteExt.own (Tree.unsigned value) self.old result self.new }
     {
@@ -131,14 +131,14 @@ impl<W: WriteExt> Serializer<W> {
         UnsignedInteger::serialize(value, self)
     }
 
-    /// Writes an octet string.
+    /// Writes an octet string (X.690, 8.7).
     pub fn serialize_bytes(&mut self, bytes: &[u8]) -> Result<usize>
         ensures { WritesPlain W.WriteExt.own (Tree.bytes 0x04 bytes.now) self.old result self.new }
     {
         self.write_plain(Tag::OCTET_STRING, bytes)
     }
 
-    /// Writes a null.
+    /// Writes a null (X.690, 8.8).
     pub fn serialize_unit(&mut self) -> Result<usize>
         ensures { WritesPlain W.WriteExt.own Tree.null self.old result self.new }
     {
@@ -162,7 +162,7 @@ impl<W: WriteExt> Serializer<W> {
         Utf8String::serialize(value.encode_utf8(&mut room), self)
     }
 
-    /// Writes a text.
+    /// Writes a text in UTF-8 (X.690, 8.23).
     pub fn serialize_str(&mut self, value: &str) -> Result<usize>
         ensures { WritesPlain W.WriteExt.own (Tree.text value.now) self.old result self.new }
     {

@@ -60,7 +60,7 @@ impl<W: WriteExt> Serializer<W> {
         value.serialize(self)
     }
 
-    /// Writes the value in a wrapper, which is opened inside the open ones.
+    /// Writes the value in a wrapper (X.690, 8.6.2, 8.7 and 8.14), which is opened inside the open ones.
     ///
     /// `UnsupportedValue` for a tag number past 30, which is tested before the value is looked at: nothing is written,
     /// and no memory is taken.
