@@ -7,6 +7,7 @@ use Rattle.picky_der_core.specs.Shape.{Shape, IsOf, IsSound}
 use Rattle.picky_der_core.proofs.UniqueAt.{same_tree_at}
 use Rattle.picky_der_input.specs.State.{State}
 use Rattle.picky_der_input.specs.Steps.{Fails, place_of}
+use Rattle.picky_der_core.specs.Failure.{IsAnswer}
 use Rattle.picky_der_input.specs.Refusing.{FailsAs}
 use Rattle.picky_der_input.specs.Reading.{Reads, Refuses, NoValue}
 use Rattle.picky_der_input.proofs.Steps.{fails_after}

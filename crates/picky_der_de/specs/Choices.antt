@@ -1,10 +1,10 @@
 -- Choices, whose alternatives are told by their first bytes.
-use Rattle.std.specs.Prelude.{◌≡◌, ℕ, Bool, true, ◌⊎◌, List, ◌∷◌, ◌++◌, IsTrue}
-use Rattle.std.proofs.Common.{inl, inr, sym, ◌∙◌, subst}
+use Rattle.std.specs.Prelude.{◌≡◌, ℕ, Bool, true, ◌⊎◌, ◌++◌, IsTrue, refl}
+use Rattle.std.proofs.Common.{inl, inr, sym, subst}
 use Rattle.picky_der_core.specs.declared.error.Asn1DerError.{Asn1DerError}
 use Rattle.picky_der_core.specs.Tree.{Tree}
 use Rattle.picky_der_core.specs.Readable.{IsReadable}
-use Rattle.picky_der_core.specs.Shape.{Shape, Shapes, IsOf, IsOneOf, AreTold, firsts, firsts_of, has, are_apart}
+use Rattle.picky_der_core.specs.Shape.{Shape, Shapes, IsOf, IsOneOf, AreTold, firsts, firsts_of, are_apart}
 use Rattle.picky_der_core.specs.FirstLaws.{begins_in, begins_in_one, apart_differ, has-append_left, has-append_right}
 use Rattle.picky_der_input.specs.State.{State}
 use Rattle.picky_der_input.specs.Steps.{Fails}

@@ -1,10 +1,10 @@
 -- With which bytes the encodings of a tree's kind begin.
-use Rattle.std.specs.Prelude.{◌≡◌, ℕ, ◌+◌, true, ◌⊎◌, Option, Some, None, List, [], ◌∷◌, ⊤, IsTrue, refl}
-use Rattle.std.proofs.Common.{inl, inr, subst, sym, eq-eqb, le-leb}
-use Rattle.picky_der_core.specs.Tag.{number_of, IsTagNumber}
+use Rattle.std.specs.Prelude.{ℕ, ◌+◌, ◌⊎◌, Option, Some, None, List, [], ◌∷◌, ⊤, IsTrue, refl}
+use Rattle.std.proofs.Common.{inl, inr, subst, sym}
+use Rattle.picky_der_core.specs.Tag.{number_of}
 use Rattle.picky_der_core.specs.Element.{tlv}
 use Rattle.picky_der_core.specs.Tree.{Tree}
-use Rattle.picky_der_core.specs.Encoding.{headed, written, der, list_tag}
+use Rattle.picky_der_core.specs.Encoding.{written, der, list_tag}
 use Rattle.picky_der_core.specs.EncodingLaws.{is_absent-readable, around-present}
 use Rattle.picky_der_core.specs.Readable.{IsReadable}
 use Rattle.picky_der_core.specs.Shape.{Shape, Shapes, IsOf, IsOneOf, firsts, has, tags_below, tag_with_number, AreBytes, IsBoolean, IsUnsigned, IsNull, IsText, IsCharacter, IsBytes, IsRaw, IsList, IsOptional, IsOctetContainer, IsBitContainer, IsExplicit, IsImplicit, IsApplication, IsChoice}

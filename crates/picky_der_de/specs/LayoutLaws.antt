@@ -1,10 +1,10 @@
 -- What members owe of which some may be missing: the first byte tells them.
-use Rattle.std.proofs.Common.{◌≡◌, ℕ, Bool, true, false, refl, if◌then◌else◌, List, ◌∷◌, ◌++◌, Option, None, Some, IfSome, IfNone, inl, inr, sym, ◌∙◌, subst}
+use Rattle.std.proofs.Common.{◌≡◌, ℕ, Bool, true, false, refl, if◌then◌else◌, List, ◌++◌, Option, None, Some, IfSome, IfNone, inl, inr, sym, ◌∙◌, subst}
 use Rattle.std.specs.Prelude.{⊤}
 use Rattle.std.specs.Option.{option_eq}
 use Rattle.picky_der_core.specs.Tree.{Tree, Trees}
 use Rattle.picky_der_core.specs.Readable.{IsReadable, AreReadable}
-use Rattle.picky_der_core.specs.Shape.{Shape, Layout, IsOf, IsSound, AreMembersOf, AreMembersTold, AreMembersSound, FirstAndRest, FirstOrNone, firsts, next_firsts, has, are_apart}
+use Rattle.picky_der_core.specs.Shape.{Shape, Layout, IsOf, IsSound, AreMembersOf, AreMembersTold, AreMembersSound, FirstAndRest, FirstOrNone, firsts, next_firsts, are_apart}
 use Rattle.picky_der_core.specs.FirstLaws.{begins_in, begins_next, apart_differ, has-append_left, has-append_right}
 use Rattle.picky_der_ser.specs.Meaning.{maybe_more, unless_default}
 use Rattle.picky_der_ser.specs.Defaults.{IsByTree, IsOne}

@@ -4,7 +4,6 @@ use Rattle.std.proofs.lemmas.Grind.{common_steps}
 use Rattle.picky_der_core.specs.declared.error.Asn1DerError.{Asn1DerError}
 use Rattle.picky_der_core.specs.ElementLaws.{bytes_then}
 use Rattle.picky_der_core.specs.Failure.{failure_of}
-use Rattle.picky_der_core.specs.Shape.{AreBytes}
 use Rattle.picky_der_input.specs.State.{State}
 use Rattle.std.specs.Io.KnownBytes.{Consumes, Keeps}
 use Rattle.picky_der_input.specs.Steps.{failed_with, Takes, TakesBytes, Took, TakesKept, StopsShort, Fails, IsMissing}

@@ -14,7 +14,7 @@ use Rattle.picky_der_core.specs.FirstLaws.{has_numbered}
 use Rattle.picky_der_core.specs.Readable.{IsReadable}
 use Rattle.picky_der_core.specs.Reading.{written_at, MayStand}
 use Rattle.picky_der_core.specs.Refusal.{Refusal, Outcome, header, header_refusal, refusal_of}
-use Rattle.picky_der_core.specs.Shape.{Shape, IsOf, IsFirst, has, tag_with_number}
+use Rattle.picky_der_core.specs.Shape.{Shape, IsOf, IsFirst}
 use Rattle.picky_der_core.specs.Wrapper.{held}
 use Rattle.picky_der_core.specs.WrapperLaws.{der-wrap, wrapper_tag_number}
 use Rattle.picky_der_input.specs.declared.enclosure.Enclosure.{Enclosure}
@@ -22,7 +22,7 @@ use Rattle.picky_der_input.specs.declared.enclosure.Enclosure.TheVariants as enc
 use Rattle.picky_der_input.specs.State.{State}
 use Rattle.picky_der_input.specs.Steps.{place_in, is_hard}
 use Rattle.picky_der_input.specs.Enclosures.{enclose, enclosure_tag, HasNumber, enclose_shape, counts_unused_bits, unused_bits, implicit_number, unused_bits_refusal, enclosure_header, refusal_behind, opening_refusal}
-use Rattle.picky_der_input.proofs.Headers.{is_number, same_byte, header-read}
+use Rattle.picky_der_input.proofs.Headers.{is_number, header-read}
 
 -- ---- the tree in an enclosure
 

@@ -1,8 +1,7 @@
 -- Refusals that no byte decides.
-use Rattle.std.specs.Prelude.{◌≡◌, Option, None, Some, Result, Err}
+use Rattle.std.specs.Prelude.{◌≡◌, Result, Err}
 use Rattle.picky_der_core.specs.declared.error.Asn1DerError.{Asn1DerError}
-use Rattle.picky_der_core.specs.declared.failure.Failure.{Failure}
-use Rattle.picky_der_core.specs.Failure.{failure_of, IsAnswer}
+use Rattle.picky_der_core.specs.Failure.{IsAnswer}
 use Rattle.picky_der_core.specs.declared.error.Asn1DerError.TheVariants.{UnsupportedType}
 use Rattle.picky_der_input.specs.State.{State}
 use Rattle.picky_der_input.specs.Steps.{failed_with}

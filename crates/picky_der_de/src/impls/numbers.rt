@@ -3,7 +3,7 @@ ghost use Rattle.std.specs.Prelude.{◌^◌, ◌-◌, IfOk, IfErr};
 ghost use Rattle.picky_der_core.specs.Tree.{Tree};
 ghost use Rattle.picky_der_core.specs.Shape.{Shape};
 ghost use Rattle.picky_der_input.specs.Steps.{TakesNoMemory};
-ghost use Rattle.picky_der_input.specs.Reading.{Reads, Refuses, ReadsUnsigned, RefusesUnsigned};
+ghost use Rattle.picky_der_input.specs.Reading.{Reads, Refuses, RefusesBoolean, ReadsUnsigned, RefusesUnsigned};
 ghost use Rattle.picky_der_de.specs.InjectiveLaws.{boolean_known, unsigned_known};
 
 use crate::{Deserialize, Deserializer};
@@ -17,7 +17,14 @@ impl Deserialize for bool {
 
     ghost sound = { tt };
 
-    fn deserialize<R: ReadExt>(de: &mut Deserializer<R>) -> Result<bool> {
+    fn deserialize<R: ReadExt>(de: &mut Deserializer<R>) -> Result<bool>
+        ensures ok { IfOk result (λ value. Reads Shape.boolean de.old de.new
+            (Tree.boolean value)) }
+        ensures err { IfErr result (Refuses (λ value. Tree.boolean value)
+            Shape.boolean de.old de.new) }
+        ensures refused { IfErr result (RefusesBoolean de.old de.new) }
+        ensures memory { IfErr result (TakesNoMemory de.old de.new) }
+    {
         de.deserialize_bool()
     }
 }
@@ -29,7 +36,14 @@ impl Deserialize for u8 {
 
     ghost sound = { tt };
 
-    fn deserialize<R: ReadExt>(de: &mut Deserializer<R>) -> Result<u8> {
+    fn deserialize<R: ReadExt>(de: &mut Deserializer<R>) -> Result<u8>
+        ensures ok { IfOk result (λ value. Reads (Shape.unsigned (2 ^ 8 - 1)) de.old de.new
+            (Tree.unsigned value)) }
+        ensures err { IfErr result (Refuses (λ value. Tree.unsigned value)
+            (Shape.unsigned (2 ^ 8 - 1)) de.old de.new) }
+        ensures refused { IfErr result (RefusesUnsigned (2 ^ 8 - 1) de.old de.new) }
+        ensures memory { IfErr result (TakesNoMemory de.old de.new) }
+    {
         de.deserialize_u8()
     }
 }
@@ -41,7 +55,14 @@ impl Deserialize for u16 {
 
     ghost sound = { tt };
 
-    fn deserialize<R: ReadExt>(de: &mut Deserializer<R>) -> Result<u16> {
+    fn deserialize<R: ReadExt>(de: &mut Deserializer<R>) -> Result<u16>
+        ensures ok { IfOk result (λ value. Reads (Shape.unsigned (2 ^ 16 - 1)) de.old de.new
+            (Tree.unsigned value)) }
+        ensures err { IfErr result (Refuses (λ value. Tree.unsigned value)
+            (Shape.unsigned (2 ^ 16 - 1)) de.old de.new) }
+        ensures refused { IfErr result (RefusesUnsigned (2 ^ 16 - 1) de.old de.new) }
+        ensures memory { IfErr result (TakesNoMemory de.old de.new) }
+    {
         de.deserialize_u16()
     }
 }
@@ -53,7 +74,14 @@ impl Deserialize for u32 {
 
     ghost sound = { tt };
 
-    fn deserialize<R: ReadExt>(de: &mut Deserializer<R>) -> Result<u32> {
+    fn deserialize<R: ReadExt>(de: &mut Deserializer<R>) -> Result<u32>
+        ensures ok { IfOk result (λ value. Reads (Shape.unsigned (2 ^ 32 - 1)) de.old de.new
+            (Tree.unsigned value)) }
+        ensures err { IfErr result (Refuses (λ value. Tree.unsigned value)
+            (Shape.unsigned (2 ^ 32 - 1)) de.old de.new) }
+        ensures refused { IfErr result (RefusesUnsigned (2 ^ 32 - 1) de.old de.new) }
+        ensures memory { IfErr result (TakesNoMemory de.old de.new) }
+    {
         de.deserialize_u32()
     }
 }
@@ -65,7 +93,14 @@ impl Deserialize for u64 {
 
     ghost sound = { tt };
 
-    fn deserialize<R: ReadExt>(de: &mut Deserializer<R>) -> Result<u64> {
+    fn deserialize<R: ReadExt>(de: &mut Deserializer<R>) -> Result<u64>
+        ensures ok { IfOk result (λ value. Reads (Shape.unsigned (2 ^ 64 - 1)) de.old de.new
+            (Tree.unsigned value)) }
+        ensures err { IfErr result (Refuses (λ value. Tree.unsigned value)
+            (Shape.unsigned (2 ^ 64 - 1)) de.old de.new) }
+        ensures refused { IfErr result (RefusesUnsigned (2 ^ 64 - 1) de.old de.new) }
+        ensures memory { IfErr result (TakesNoMemory de.old de.new) }
+    {
         de.deserialize_u64()
     }
 }
@@ -77,7 +112,14 @@ impl Deserialize for u128 {
 
     ghost sound = { tt };
 
-    fn deserialize<R: ReadExt>(de: &mut Deserializer<R>) -> Result<u128> {
+    fn deserialize<R: ReadExt>(de: &mut Deserializer<R>) -> Result<u128>
+        ensures ok { IfOk result (λ value. Reads (Shape.unsigned (2 ^ 128 - 1)) de.old de.new
+            (Tree.unsigned value)) }
+        ensures err { IfErr result (Refuses (λ value. Tree.unsigned value)
+            (Shape.unsigned (2 ^ 128 - 1)) de.old de.new) }
+        ensures refused { IfErr result (RefusesUnsigned (2 ^ 128 - 1) de.old de.new) }
+        ensures memory { IfErr result (TakesNoMemory de.old de.new) }
+    {
         de.deserialize_u128()
     }
 }

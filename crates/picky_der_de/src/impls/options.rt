@@ -1,6 +1,9 @@
 //! Null, as it is read, and values that may be missing.
-ghost use Rattle.std.specs.Prelude.{refl};
+ghost use Rattle.std.specs.Prelude.{refl, IfOk, IfErr};
+ghost use Rattle.picky_der_core.specs.Tree.{Tree};
 ghost use Rattle.picky_der_core.specs.Shape.{Shape};
+ghost use Rattle.picky_der_input.specs.Steps.{TakesNoMemory};
+ghost use Rattle.picky_der_input.specs.Reading.{Reads, Refuses, RefusesNull};
 ghost use Rattle.picky_der_de.specs.InjectiveLaws.{option_known};
 
 use crate::{Deserialize, Deserializer};
@@ -14,7 +17,14 @@ impl Deserialize for () {
 
     ghost sound = { tt };
 
-    fn deserialize<R: ReadExt>(de: &mut Deserializer<R>) -> Result<()> {
+    fn deserialize<R: ReadExt>(de: &mut Deserializer<R>) -> Result<()>
+        ensures ok { IfOk result (λ value. Reads Shape.null de.old de.new
+            (Tree.null)) }
+        ensures err { IfErr result (Refuses (λ (_ : Unit {0}). Tree.null)
+            Shape.null de.old de.new) }
+        ensures refused { IfErr result (RefusesNull de.old de.new) }
+        ensures memory { IfErr result (TakesNoMemory de.old de.new) }
+    {
         de.deserialize_unit()
     }
 }

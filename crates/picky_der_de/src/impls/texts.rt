@@ -1,6 +1,10 @@
 //! Characters and texts, as they are read.
-ghost use Rattle.std.specs.Prelude.{string_bytes};
+ghost use Rattle.std.specs.Prelude.{encode_utf8, string_bytes, IfOk, IfErr};
+ghost use Rattle.std.proofs.Common.{String, Global};
+ghost use Rattle.picky_der_core.specs.Tree.{Tree};
 ghost use Rattle.picky_der_core.specs.Shape.{Shape};
+ghost use Rattle.picky_der_input.specs.Steps.{TakesNoMemory};
+ghost use Rattle.picky_der_input.specs.Reading.{Reads, Refuses, RefusesText, RefusesCharacter};
 ghost use Rattle.picky_der_de.specs.InjectiveLaws.{character_known, text_known};
 
 use crate::{Deserialize, Deserializer};
@@ -14,7 +18,14 @@ impl Deserialize for char {
 
     ghost sound = { tt };
 
-    fn deserialize<R: ReadExt>(de: &mut Deserializer<R>) -> Result<char> {
+    fn deserialize<R: ReadExt>(de: &mut Deserializer<R>) -> Result<char>
+        ensures ok { IfOk result (λ value. Reads Shape.character de.old de.new
+            (Tree.text (encode_utf8 value))) }
+        ensures err { IfErr result (Refuses (λ value. Tree.text (encode_utf8 value))
+            Shape.character de.old de.new) }
+        ensures refused { IfErr result (RefusesCharacter de.old de.new) }
+        ensures memory { IfErr result (TakesNoMemory de.old de.new) }
+    {
         de.deserialize_char()
     }
 }
@@ -26,7 +37,13 @@ impl Deserialize for String {
 
     ghost sound = { tt };
 
-    fn deserialize<R: ReadExt>(de: &mut Deserializer<R>) -> Result<String> {
+    fn deserialize<R: ReadExt>(de: &mut Deserializer<R>) -> Result<String>
+        ensures ok { IfOk result (λ value. Reads Shape.text de.old de.new
+            (Tree.text (string_bytes value))) }
+        ensures err { IfErr result (Refuses (λ (value : String Global). Tree.text (string_bytes value))
+            Shape.text de.old de.new) }
+        ensures refused { IfErr result (RefusesText de.old de.new) }
+    {
         de.deserialize_string()
     }
 }
