@@ -42,7 +42,7 @@ fn refuse_line(alloc: Global) -> Result<String>
     ensures ok { IfOk result (λ text. string_bytes text ≡ codes "refused Line") }
     ensures err { IfErr result (λ e. e ≡ Asn1DerError.OutOfMemory) }
 {
-    String::from_str(alloc, "refused Line").map_err(|_| Asn1DerError::OutOfMemory)
+    Ok(String::from_str(alloc, "refused Line")?)
 }
 
 // The bytes of a length in hexadecimal.
@@ -57,7 +57,7 @@ fn length_in_hex(alloc: Global, n: usize) -> Result<String>
     // No effect at run time. The proof reads what `bytes` holds from this use.
     let _ = &*written;
     match outcome {
-        Ok(_) => hex::encode(alloc, bytes).map_err(|_| Asn1DerError::OutOfMemory),
+        Ok(_) => Ok(hex::encode(alloc, bytes)?),
         Err(error) => Err(error),
     }
 }

@@ -48,7 +48,7 @@ fn joined(alloc: Global, front: &str, middle: &str, back: &str) -> Result<String
     ensures ok { IfOk result (λ line. string_bytes line ≡ front.now ++ (middle.now ++ back.now)) }
     ensures err { IfErr result (λ e. e ≡ Asn1DerError.OutOfMemory) }
 {
-    format!(in alloc; "{front}{middle}{back}").map_err(|_| Asn1DerError::OutOfMemory)
+    Ok(format!(in alloc; "{front}{middle}{back}")?)
 }
 
 // The end of the line of a certificate that was read.

@@ -57,10 +57,7 @@ fn keep(line: &mut Vec<u8>, byte: u8, is_inside: bool) -> Result<()> {
     if !is_inside && line.len() >= LONGEST_KEPT {
         return Ok(());
     }
-    match line.push(byte) {
-        Ok(()) => Ok(()),
-        Err(_) => Err(Asn1DerError::OutOfMemory),
-    }
+    Ok(line.push(byte)?)
 }
 
 // Takes what stands behind the last line that has an end. A block that is still open has none.
@@ -109,10 +106,8 @@ fn take_line<W: WriteExt>(
         text.clear();
         return Ok(Some(text));
     }
-    match text.extend_from_slice(line) {
-        Ok(()) => Ok(Some(text)),
-        Err(_) => Err(Asn1DerError::OutOfMemory),
-    }
+    text.extend_from_slice(line)?;
+    Ok(Some(text))
 }
 
 // Writes the line of a block with this text.

@@ -24,7 +24,7 @@ pub(super) fn hexadecimal<T: Serialize>(alloc: Global, value: &T) -> Result<Stri
     ensures err { IfErr result (λ e. e ≡ Asn1DerError.OutOfMemory) }
 {
     let encoding = to_vec(alloc, value)?;
-    hex::encode(alloc, encoding).map_err(|_| Asn1DerError::OutOfMemory)
+    Ok(hex::encode(alloc, encoding)?)
 }
 
 pub(super) fn read_text(alloc: Global, taken: usize, digits: &str) -> Result<String>
@@ -32,7 +32,7 @@ pub(super) fn read_text(alloc: Global, taken: usize, digits: &str) -> Result<Str
         (decimal taken ++ (codes " " ++ digits.now))) }
     ensures err { IfErr result (λ e. e ≡ Asn1DerError.OutOfMemory) }
 {
-    format!(in alloc; "ok {taken} {digits}").map_err(|_| Asn1DerError::OutOfMemory)
+    Ok(format!(in alloc; "ok {taken} {digits}")?)
 }
 
 pub(super) fn refused_text(alloc: Global, error: Asn1DerError) -> Result<String>
@@ -40,5 +40,5 @@ pub(super) fn refused_text(alloc: Global, error: Asn1DerError) -> Result<String>
     ensures err { IfErr result (λ e. e ≡ Asn1DerError.OutOfMemory) }
 {
     let word = kind_word(error);
-    format!(in alloc; "refused {word}").map_err(|_| Asn1DerError::OutOfMemory)
+    Ok(format!(in alloc; "refused {word}")?)
 }
