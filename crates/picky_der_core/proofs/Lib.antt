@@ -1,8 +1,8 @@
 pub mod Unique
 pub mod UniqueAt
 pub mod OnLiterals
-pub mod EncodingRows
-pub mod RefusalRows
-pub mod ShapeRows
+pub mod EncodingExamples
+pub mod RefusalExamples
+pub mod ShapeExamples
 pub mod LengthSteps
 pub mod PeekedBytes

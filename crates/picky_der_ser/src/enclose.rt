@@ -9,7 +9,7 @@ ghost use Rattle.picky_der_ser.specs.Headers.{headers, HasNumber, HaveTagNumbers
 ghost use Rattle.picky_der_ser.specs.Overwrite.{overwritten};
 
 use crate::Header;
-use crate::headers::{push_headers, short_identifier};
+use crate::header::{push_headers, short_identifier};
 use picky_der_core::asn1::{Tag, Wrapper};
 use std::alloc::AllocError;
 

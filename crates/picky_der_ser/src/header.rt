@@ -1,8 +1,13 @@
-//! Headers of contents that are being written.
-ghost use Rattle.std.specs.Prelude.{◌≡◌};
+//! What stands in front of a content that is being written: the headers of the wrappers around it, and its own.
+ghost use Rattle.std.specs.Prelude.{◌≡◌, ◌+◌, ◌^◌, ◌<◌, ◌≤◌, ◌∷◌, ◌++◌, reverse, take, drop, vec_len, [], IfSome, IsSome, OnOk};
+ghost use Rattle.picky_der_core.specs.Element.{len as bytes_of};
+ghost use Rattle.picky_der_core.specs.Wrapper.{HasTagNumber};
 ghost use Rattle.picky_der_ser.specs.Heading.{is_set};
+ghost use Rattle.picky_der_ser.specs.Headers.{opening, own_header, headers, joined as joined_in, joined_last, HasNumber, HaveTagNumbers};
 
-use picky_der_core::asn1::Tag;
+use picky_der_core::asn1::{Tag, Wrapper};
+use picky_der_core::misc::Length;
+use std::alloc::AllocError;
 
 /// What will stand in front of a content that is being written. Directly under an implicit tag the header of a plain
 /// value falls away, and that of an application tag stays.
@@ -28,4 +33,188 @@ impl Header {
             Header::Application(_) | Header::Raw => false,
         }
     }
+}
+
+// Adds a tag and a length, the last byte first.
+fn push_back_to_front(out: &mut Vec<u8>, tag: Tag, len: usize) -> Result<(), AllocError>
+    ensures ok { OnOk result (out.new.items ≡ out.old.items ++ reverse (tag ∷ bytes_of len)) }
+    ensures grows { vec_len out.old ≤ vec_len out.new }
+{
+    let mut bytes = Length::bytes(len);
+    bytes.as_mut_slice().reverse();
+    out.extend_from_slice(&bytes)?;
+    out.push(tag.inner())?;
+    Ok(())
+}
+
+// Adds a tag and a length.
+fn push_tag_and_length(out: &mut Vec<u8>, tag: Tag, len: usize) -> Result<(), AllocError>
+    ensures ok { OnOk result (out.new.items ≡ out.old.items ++ (tag ∷ bytes_of len)) }
+    ensures grows { vec_len out.old ≤ vec_len out.new }
+{
+    out.push(tag.inner())?;
+    out.extend_from_slice(&Length::bytes(len))?;
+    Ok(())
+}
+
+// Turns around the bytes from there on.
+fn reverse_from(out: &mut Vec<u8>, start: usize)
+    requires { start ≤ vec_len out.old }
+    ensures items { out.new.items ≡ take start out.old.items ++ reverse (drop start out.old.items) }
+    ensures len { vec_len out.new ≡ vec_len out.old }
+{
+    out[start..].reverse();
+}
+
+// Adds what the wrapper puts in front of `len` bytes, the last byte first.
+fn push_opening(out: &mut Vec<u8>, wrapper: Wrapper, len: usize) -> Result<(), AllocError>
+    requires number { HasTagNumber wrapper }
+    requires fits { len + 1 < 2 ^ 64 }
+    ensures ok { OnOk result (out.new.items ≡ out.old.items ++ reverse (opening wrapper len)) }
+    ensures grows { vec_len out.old ≤ vec_len out.new }
+{
+    match wrapper {
+        Wrapper::OctetContainer => push_back_to_front(out, Tag::OCTET_STRING, len),
+        Wrapper::BitContainer => {
+            out.push(0x00)?;
+            push_back_to_front(out, Tag::BIT_STRING, len + 1)
+        }
+        Wrapper::Explicit(number) => push_back_to_front(
+            out,
+            Tag::context_specific_constructed(number),
+            len,
+        ),
+        Wrapper::Implicit(number) => push_back_to_front(
+            out,
+            Tag::context_specific_primitive(number),
+            len,
+        ),
+    }
+}
+
+// Adds the header of a content of `len` bytes, the last byte first.
+fn push_own_header(out: &mut Vec<u8>, header: Header, len: usize) -> Result<(), AllocError>
+    requires { HasNumber header }
+    ensures ok { OnOk result (out.new.items ≡ out.old.items ++ reverse (own_header header len)) }
+    ensures grows { vec_len out.old ≤ vec_len out.new }
+{
+    match header {
+        Header::Tagged(tag) => push_back_to_front(out, tag, len),
+        Header::Application(number) => push_back_to_front(
+            out,
+            Tag::application_constructed(number),
+            len,
+        ),
+        Header::Raw => Ok(()),
+    }
+}
+
+// Adds the header of a content of `len` bytes that stands in no wrapper.
+#[cold]
+#[inline(never)]
+fn push_lone_header(out: &mut Vec<u8>, header: Header, len: usize) -> Result<(), AllocError>
+    requires { HasNumber header }
+    ensures ok { OnOk result (out.new.items ≡ out.old.items ++ own_header header len) }
+    ensures grows { vec_len out.old ≤ vec_len out.new }
+{
+    match header {
+        Header::Tagged(tag) => push_tag_and_length(out, tag, len),
+        Header::Application(number) => push_tag_and_length(
+            out,
+            Tag::application_constructed(number),
+            len,
+        ),
+        Header::Raw => Ok(()),
+    }
+}
+
+// The header of an implicit tag directly around a tagged content, which stands in place of that content's own.
+fn joined(wrapper: Wrapper, header: &Header) -> Option<Header>
+    requires { HasTagNumber wrapper }
+    ensures { result ≡ joined_in wrapper header.now }
+{
+    match (wrapper, header) {
+        (Wrapper::Implicit(number), Header::Tagged(_)) => Some(Header::Tagged(
+            Tag::context_specific_primitive(number),
+        )),
+        _ => None,
+    }
+}
+
+// The header that stands in place of the innermost wrapper's and the content's own, if one does.
+fn innermost(around: &[Wrapper], header: &Header) -> Option<Header>
+    requires { HaveTagNumbers around.now }
+    ensures { result ≡ joined_last around.now header.now }
+{
+    match around.split_last() {
+        Some((wrapper, _)) => joined(*wrapper, header),
+        None => None,
+    }
+}
+
+// The identifier byte in front of a content of `len` bytes, where nothing but it and a length of one byte stands there
+// (X.690, 8.1.3.4), as nearly always.
+pub(crate) fn short_identifier(around: &[Wrapper], header: &Header, len: usize) -> Option<u8>
+    requires { HasNumber header.now }
+    ensures header { IfSome result (λ identifier.
+        headers around.now header.now len ≡ identifier ∷ len ∷ []) }
+    ensures short { IsSome result → len < 0x80 }
+{
+    if !around.is_empty() || len >= 0x80 {
+        return None;
+    }
+    match header {
+        Header::Tagged(tag) => Some(tag.inner()),
+        Header::Application(number) => Some(Tag::application_constructed(*number).inner()),
+        Header::Raw => None,
+    }
+}
+
+// Adds all that stands in front of a content of `len` bytes, the innermost header first.
+#[cold]
+#[inline(never)]
+fn push_nested_headers(
+    out: &mut Vec<u8>,
+    around: &[Wrapper],
+    header: Header,
+    len: usize,
+) -> Result<(), AllocError>
+    requires numbers { HaveTagNumbers around.now × HasNumber header }
+    requires fits { len < 2 ^ 63 }
+    ensures ok { OnOk result (out.new.items ≡ out.old.items ++ headers around.now header len) }
+    ensures grows { vec_len out.old ≤ vec_len out.new }
+{
+    let start = out.len();
+    let joined = innermost(around, &header);
+    let written = usize::from(joined.is_some());
+    push_own_header(out, joined.unwrap_or(header), len)?;
+    let mut rest = &around[..around.len() - written];
+    while let Some((wrapper, outer)) = rest.split_last() {
+        push_opening(out, *wrapper, len + (out.len() - start))?;
+        rest = outer;
+    }
+    reverse_from(out, start);
+    Ok(())
+}
+
+// Adds all that stands in front of a content of `len` bytes.
+pub(crate) fn push_headers(
+    out: &mut Vec<u8>,
+    around: &[Wrapper],
+    header: Header,
+    len: usize,
+) -> Result<(), AllocError>
+    requires numbers { HaveTagNumbers around.now × HasNumber header }
+    requires fits { len < 2 ^ 63 }
+    ensures ok { OnOk result (out.new.items ≡ out.old.items ++ headers around.now header len) }
+    ensures grows { vec_len out.old ≤ vec_len out.new }
+{
+    if let Some(identifier) = short_identifier(around, &header, len) {
+        out.extend_from_slice(&[identifier, len as u8])?;
+        return Ok(());
+    }
+    if around.is_empty() {
+        return push_lone_header(out, header, len);
+    }
+    push_nested_headers(out, around, header, len)
 }

@@ -10,7 +10,7 @@ ghost use Rattle.picky_der_ser.specs.Sealed.{sealed};
 
 use crate::Header;
 use crate::enclose::{enclose, fill_short, push_enclosed, push_short};
-use crate::headers::{push_headers, short_identifier};
+use crate::header::{push_headers, short_identifier};
 use crate::marks::{Mark, Marks};
 use crate::sets::{arrange, begin_member};
 use picky_der_core::asn1::{Tag, Wrapper};

@@ -10,7 +10,7 @@ ghost use Rattle.picky_der_ser.specs.Calls.{Writes, RefusesWrite, WritesAbsent};
 
 mod application;
 mod choice;
-mod level;
+mod nesting;
 mod plain;
 mod raw;
 mod unsupported;

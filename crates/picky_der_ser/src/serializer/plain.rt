@@ -7,7 +7,7 @@ ghost use Rattle.picky_der_ser.specs.Headers.{HasNumber};
 ghost use Rattle.picky_der_ser.specs.Calls.{WritesPlain};
 
 use super::Serializer;
-use crate::plain::put_element;
+use crate::sink::put_element;
 use crate::{Boolean, Header, Null, UnsignedInteger, Utf8String};
 use picky_der_core::asn1::Tag;
 use picky_der_core::misc::WriteExt;

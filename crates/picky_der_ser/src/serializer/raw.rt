@@ -5,7 +5,7 @@ ghost use Rattle.picky_der_ser.specs.Calls.{WritesPlain};
 
 use super::Serializer;
 use crate::Header;
-use crate::plain::put_headed;
+use crate::sink::put_headed;
 use picky_der_core::Result;
 use picky_der_core::misc::WriteExt;
 

@@ -1,0 +1,213 @@
+//! Levels, as a serializer opens and ends them.
+ghost use Rattle.std.specs.Prelude.{◌≡◌, ◌≢◌, ◌≤◌, List, [], ◌∷◌, None, Some, IfSome, IfNone, IsSome, IfOk, IfErr, OnOk};
+ghost use Rattle.picky_der_core.specs.WriterFaults.{IsOnceAtMost};
+ghost use Rattle.picky_der_core.specs.Failure.{failure_of};
+ghost use Rattle.picky_der_core.specs.Wrapper.{under};
+ghost use Rattle.picky_der_ser.specs.Heading.{tree_of};
+ghost use Rattle.picky_der_ser.specs.Headers.{HasNumber};
+ghost use Rattle.picky_der_ser.specs.State.{Level, begun};
+ghost use Rattle.picky_der_ser.specs.Calls.{Wrote, Refused, RefusesToEnter, OpensLevel, AddsMember, RefusesToAdd, WritesContent, EndsLevel};
+
+use super::Serializer;
+use crate::sink::put_headed;
+use crate::{Header, Serialize};
+use picky_der_core::misc::WriteExt;
+use picky_der_core::{Asn1DerError, Result};
+use std::mem;
+
+impl<W: WriteExt> Serializer<W> {
+    // Opens a level in the open wrappers.
+    pub(crate) fn open(&mut self, header: Header)
+        requires { HasNumber header }
+        ensures { OpensLevel W.WriteExt.own header self.old self.new }
+    {
+        let around = mem::replace(&mut self.around, Vec::new(self.alloc));
+        self.levels.open(header, around);
+    }
+
+    // Writes the headers of the level that was opened last, and this content, to the sink.
+    pub(crate) fn put_behind_headers(&mut self, content: &[u8]) -> Result<usize>
+        requires opened { IsSome self.old.pending }
+        requires empty { IfSome self.old.pending (λ l. l.content ≡ []) }
+        requires outside { self.old.inside ≡ [] }
+        ensures kept { (self.new.around ≡ self.old.around) × (self.new.failed ≡ self.old.failed) }
+        ensures still_outside { OnOk result (self.new.inside ≡ []) }
+        ensures wrote { IfOk result (λ n. IfSome self.old.pending
+            (λ l. Wrote W.WriteExt.own (under l.around (tree_of l.header content.now)) self.old.sink
+            n self.new.sink)) }
+        ensures refused { IfErr result (λ e. IfSome self.old.pending
+            (λ l. Refused W.WriteExt.own (under l.around (tree_of l.header content.now))
+            self.old.sink e self.new.sink)) }
+        ensures counted { IsOnceAtMost (W.faults self.old.sink) (W.faults self.new.sink) }
+        ensures no_fault { OnOk result (W.faults self.new.sink ≡ W.faults self.old.sink) }
+        ensures goes_on { W.later self.old.sink self.new.sink }
+    {
+        let Ok(()) = self.levels.add_headers(content.len()) else {
+            return Err(Asn1DerError::OutOfMemory);
+        };
+        let outcome = put_headed(&mut self.sink, self.levels.content(), content);
+        self.levels.give_up();
+        outcome
+    }
+
+    // Writes the level that was opened last to the sink.
+    fn end_outside(&mut self) -> Result<usize>
+        requires opened { IsSome self.old.pending }
+        requires outside { self.old.inside ≡ [] }
+        ensures kept { (self.new.around ≡ self.old.around) × (self.new.failed ≡ self.old.failed) }
+        ensures still_outside { OnOk result (self.new.inside ≡ []) }
+        ensures wrote { IfOk result (λ n. IfSome self.old.pending
+            (λ l. Wrote W.WriteExt.own (under l.around (tree_of l.header l.content)) self.old.sink n
+            self.new.sink)) }
+        ensures refused { IfErr result (λ e. IfSome self.old.pending
+            (λ l. Refused W.WriteExt.own (under l.around (tree_of l.header l.content)) self.old.sink
+            e self.new.sink)) }
+        ensures counted { IsOnceAtMost (W.faults self.old.sink) (W.faults self.new.sink) }
+        ensures no_fault { OnOk result (W.faults self.new.sink ≡ W.faults self.old.sink) }
+        ensures goes_on { W.later self.old.sink self.new.sink }
+    {
+        if self.levels.seal() {
+            let outcome = put_headed(&mut self.sink, &[], self.levels.content());
+            self.levels.give_up();
+            return outcome;
+        }
+        let held = self.levels.content().len();
+        let Ok(()) = self.levels.add_headers(held) else {
+            return Err(Asn1DerError::OutOfMemory);
+        };
+        let (content, headers) = self.levels.content().split_at(held);
+        let outcome = put_headed(&mut self.sink, headers, content);
+        self.levels.give_up();
+        outcome
+    }
+
+    // Ends the level that was opened last, where a member of another is being written.
+    #[inline(always)]
+    fn close_inside(&mut self) -> Result<usize>
+        requires had_not_failed { self.old.failed ≡ None }
+        requires opened { IsSome self.old.pending }
+        requires inside { self.old.inside ≢ [] }
+        ensures { IfSome self.old.pending (λ l. WritesContent W.WriteExt.own l.header l.content
+            (record self.old { around = l.around }) result self.new) }
+    {
+        match self.levels.merge() {
+            Ok(count) => {
+                self.around.clear();
+                Ok(count)
+            }
+            Err(_) => Err(self.fail(Asn1DerError::OutOfMemory)),
+        }
+    }
+
+    // Ends the level that was opened last, outside others.
+    #[cold]
+    #[inline(never)]
+    fn close_outside(&mut self) -> Result<usize>
+        requires had_not_failed { self.old.failed ≡ None }
+        requires opened { IsSome self.old.pending }
+        requires outside { self.old.inside ≡ [] }
+        ensures { IfSome self.old.pending (λ l. WritesContent W.WriteExt.own l.header l.content
+            (record self.old { around = l.around }) result self.new) }
+    {
+        let outcome = self.end_outside();
+        self.settle(outcome)
+    }
+
+    // Writes the level that was opened last, in its wrappers, with the members of a set in order. Where memory is refused for
+    // this order, nothing of the set is written.
+    pub(crate) fn close(&mut self) -> Result<usize>
+        requires { IfNone self.old.failed (IsSome self.old.pending) }
+        ensures { EndsLevel W.WriteExt.own self.old result self.new }
+    {
+        if self.failed.is_none() && self.levels.ends_short() {
+            return self.close_this();
+        }
+        self.close_any()
+    }
+
+    // The same out of line, for the other ways of ending one.
+    #[cold]
+    #[inline(never)]
+    fn close_any(&mut self) -> Result<usize>
+        requires { IfNone self.old.failed (IsSome self.old.pending) }
+        ensures { EndsLevel W.WriteExt.own self.old result self.new }
+    {
+        self.close_this()
+    }
+
+    // The same in line.
+    #[inline(always)]
+    fn close_this(&mut self) -> Result<usize>
+        requires { IfNone self.old.failed (IsSome self.old.pending) }
+        ensures { EndsLevel W.WriteExt.own self.old result self.new }
+    {
+        if let Some(error) = self.earlier() {
+            return Err(error);
+        }
+        let Ok(()) = self.levels.arrange(self.alloc) else {
+            return Err(self.fail(Asn1DerError::OutOfMemory));
+        };
+        if self.levels.is_inside() {
+            return self.close_inside();
+        }
+        self.close_outside()
+    }
+
+    // A member of the level that was opened last is written from here on.
+    fn enter(&mut self) -> Result<()>
+        requires { IfNone self.old.failed (IsSome self.old.pending) }
+        ensures ok { OnOk result (IfSome self.old.pending
+            (λ l. self.new ≡ record self.old {
+              around = [];
+              inside = begun l ∷ self.old.inside;
+              pending = None;
+            })) }
+        ensures had_not_failed { OnOk result (self.old.failed ≡ None) }
+        ensures err { IfErr result (λ e. RefusesToEnter W.WriteExt.own self.old e self.new) }
+    {
+        if let Some(error) = self.earlier() {
+            return Err(error);
+        }
+        if !self.levels.enter_again() {
+            let Ok(()) = self.levels.enter() else {
+                return Err(self.fail(Asn1DerError::OutOfMemory));
+            };
+        }
+        self.around.clear();
+        Ok(())
+    }
+
+    // The member has been written.
+    fn leave(&mut self)
+        ensures { (l : Level) (ls : List Level) → self.old.inside ≡ l ∷ ls
+            → self.new ≡ record self.old { inside = ls; pending = Some l } }
+    {
+        self.levels.leave();
+    }
+
+    // Writes the value as a member of the level that was opened last.
+    pub(crate) fn write_member<T: Serialize>(&mut self, value: &T) -> Result<()>
+        requires { IfNone self.old.failed (IsSome self.old.pending) }
+        ensures added { OnOk result (AddsMember W.WriteExt.own
+            (T.meaning value.now) self.old self.new) }
+        ensures still_open { IfNone self.new.failed (IsSome self.new.pending) }
+        ensures err { IfErr result (λ e. RefusesToAdd W.WriteExt.own
+            (T.meaning value.now) self.old e self.new) }
+    {
+        self.enter()?;
+        value.serialize(self)?;
+        self.leave();
+        Ok(())
+    }
+
+    // What it answers again where it has failed.
+    pub(crate) fn earlier(&self) -> Option<Asn1DerError>
+        ensures again { IfSome result (λ e. self.now.failed ≡ Some (failure_of e)) }
+        ensures not_failed { IfNone result (self.now.failed ≡ None) }
+    {
+        match self.failed {
+            Some(failure) => Some(failure.error()),
+            None => None,
+        }
+    }
+}
