@@ -57,7 +57,10 @@ fn keep(line: &mut Vec<u8>, byte: u8, is_inside: bool) -> Result<()> {
     if !is_inside && line.len() >= LONGEST_KEPT {
         return Ok(());
     }
-    Ok(line.push(byte)?)
+    match line.push(byte) {
+        Ok(()) => Ok(()),
+        Err(_) => Err(Asn1DerError::OutOfMemory),
+    }
 }
 
 // Takes what stands behind the last line that has an end. A block that is still open has none.
