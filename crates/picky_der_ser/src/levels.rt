@@ -321,8 +321,11 @@ impl Levels {
             (λ p. HaveTagNumbers p.around × HasNumber p.header) }
         ensures count { IfOk result (λ n. IfSome self.old.pending
             (λ p. n ≡ length (der (under p.around (tree_of p.header p.content))))) }
-        ensures ok { OnOk result ((p l : Level) (ls : List Level) → self.old.pending ≡ Some p → self.old.inside ≡ l ∷ ls
-            → self.new ≡ record { inside = with_bytes l (der (under p.around (tree_of p.header p.content))) ∷ ls; pending = None }) }
+        ensures ok { OnOk result ((p l : Level) (ls : List Level)
+            → self.old.pending ≡ Some p → self.old.inside ≡ l ∷ ls → self.new ≡ record {
+              inside = with_bytes l (der (under p.around (tree_of p.header p.content))) ∷ ls;
+              pending = None;
+            }) }
     {
         let Some(mark) = &self.innermost else {
             return Ok(0);

@@ -14,12 +14,12 @@ mod marks;
 mod member;
 mod null;
 mod optional;
-mod sink;
 mod row;
 mod sequence;
 mod serializer;
 mod sets;
 mod several;
+mod sink;
 mod utf8_string;
 mod wide;
 

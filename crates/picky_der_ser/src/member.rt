@@ -19,7 +19,8 @@ pub trait SerializeMember {
         ensures same_reference { borrowed_by sequence.new ≡ borrowed_by sequence.old }
         ensures added { OnOk result (AddsInFront W.WriteExt.own (in_front self.now)
             (state_of sequence.old) (state_of sequence.new)) }
-        ensures err { IfErr result (λ e. RefusesInFront W.WriteExt.own (in_front self.now) (state_of sequence.old) e (state_of sequence.new)) };
+        ensures err { IfErr result (λ e. RefusesInFront W.WriteExt.own (in_front self.now)
+            (state_of sequence.old) e (state_of sequence.new)) };
 }
 
 impl<T: Serialize> SerializeMember for T {

@@ -22,7 +22,8 @@ pub trait SerializeMembers {
         ensures same_reference { borrowed_by sequence.new ≡ borrowed_by sequence.old }
         ensures added { OnOk result (AddsRow W.WriteExt.own (members self.now)
             (state_of sequence.old) (state_of sequence.new)) }
-        ensures err { IfErr result (λ e. RefusesToAddRow W.WriteExt.own (members self.now) (state_of sequence.old) e (state_of sequence.new)) };
+        ensures err { IfErr result (λ e. RefusesToAddRow W.WriteExt.own (members self.now)
+            (state_of sequence.old) e (state_of sequence.new)) };
 
     /// Writes the members as a sequence, as the whole body of `Serialize::serialize` of a struct. It is refused as that is.
     fn serialize_sequence<W: WriteExt>(&self, ser: &mut Serializer<W>) -> Result<usize>
