@@ -7,8 +7,8 @@ use der_fixtures::SlowReader;
 use picky_asn1_der::Asn1DerError::OutOfMemory;
 use picky_asn1_der::misc::{SliceSink, Watched};
 use picky_asn1_der::{
-    Asn1DerError, Deserialize, Deserializer, Result as DerResult, Serialize, Serializer, from_bytes,
-    from_reader, to_byte_buf, to_bytes, to_vec, to_writer,
+    Asn1DerError, Deserialize, Deserializer, Result as DerResult, Serialize, Serializer,
+    from_bytes, from_reader, to_byte_buf, to_bytes, to_vec, to_writer,
 };
 use std::alloc::{AllocError, Global};
 
@@ -72,10 +72,18 @@ fn read_and_written<T: Deserialize>(
 }
 
 // Whether the other calls that read refuse the bytes so.
-fn are_refused<T: Deserialize>(alloc: Global, bytes: &[u8], error: Asn1DerError) -> Result<(), Stop> {
+fn are_refused<T: Deserialize>(
+    alloc: Global,
+    bytes: &[u8],
+    error: Asn1DerError,
+) -> Result<(), Stop> {
     is_refused("from_bytes", from_bytes::<T>(alloc, bytes), error)?;
     let mut reader = Watched::new(SlowReader::new(bytes));
-    is_refused("from_reader", from_reader::<T, _>(alloc, &mut reader), error)
+    is_refused(
+        "from_reader",
+        from_reader::<T, _>(alloc, &mut reader),
+        error,
+    )
 }
 
 fn is_refused<T: Drop>(

@@ -18,8 +18,7 @@ impl Deserialize for () {
     ghost sound = { tt };
 
     fn deserialize<R: ReadExt>(de: &mut Deserializer<R>) -> Result<()>
-        ensures ok { IfOk result (λ value. Reads Shape.null de.old de.new
-            (Tree.null)) }
+        ensures ok { IfOk result (λ _. Reads Shape.null de.old de.new Tree.null) }
         ensures err { IfErr result (Refuses (λ (_ : Unit {0}). Tree.null)
             Shape.null de.old de.new) }
         ensures refused { IfErr result (RefusesNull de.old de.new) }
