@@ -94,10 +94,10 @@ def block_of(header):
             end = behind(header.replace("->", "  "), 0, "<", ">")
             parameters = [it.split(":")[0].strip() for it in split(header[1 : end - 1])]
             header = header[end:].strip()
-        trait, found, own = header.partition(" for ")
-        if own.strip() in parameters:
+        trait, found, implementer = header.partition(" for ")
+        if implementer.strip() in parameters:
             return "Any" + words_of(trait)
-        return words_of(own) + words_of(trait) + arguments_of(trait, parameters) if found else words_of(header)
+        return words_of(implementer) + words_of(trait) + arguments_of(trait, parameters) if found else words_of(header)
     return re.match(r"trait\s+(\w+)", header)[1]
 
 
