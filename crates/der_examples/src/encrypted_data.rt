@@ -31,7 +31,8 @@ type Members = (
 );
 
 impl Serialize for EncryptedData {
-    ghost meaning = { λ it. Tree.list ListKind.sequence (⟦<Members as SerializeMembers>⟧.members (⟦<EncryptedData as Struct>⟧.parts it)) };
+    ghost meaning = { λ it. Tree.list ListKind.sequence (⟦<Members as SerializeMembers>⟧.members
+        (⟦<EncryptedData as Struct>⟧.parts it)) };
 
     fn serialize<W: WriteExt>(&self, serializer: &mut Serializer<W>) -> Result<usize> {
         (&self.etype, OptionalRef(&self.kvno), &self.cipher, ()).serialize_sequence(serializer)
@@ -58,7 +59,8 @@ impl Struct for EncryptedData {
 impl Deserialize for EncryptedData {
     ghost shape = { Shape.struct_of ListKind.sequence ⟦<Members as DeserializeLayout>⟧.layout };
 
-    ghost injective = { told (Shape.struct_of ListKind.sequence ⟦<Members as DeserializeLayout>⟧.layout) (Prim.search (rules, tells) depth 99) };
+    ghost injective = { told (Shape.struct_of ListKind.sequence ⟦<Members as DeserializeLayout>⟧.layout)
+        (Prim.search (rules, tells) depth 99) };
 
     ghost sound = { Prim.search rules depth 99 };
 

@@ -2,8 +2,10 @@
 ghost use Rattle.std.proofs.Common.{rules};
 ghost use Rattle.picky_der_de.specs.declared.alternatives.OneOf.TheVariants.{This};
 ghost use Rattle.picky_der_de.specs.declared.alternatives4.OneOf4.TheVariants.{First, Second, Third, Fourth, Later};
-ghost use Rattle.der_examples.specs.declared.general_name.GeneralName.TheVariants.{OtherName, Rfc822Name, DnsName, X400Address, DirectoryName};
-ghost use Rattle.der_examples.specs.declared.general_name.GeneralName.TheVariants.{EdiPartyName, UniformResourceIdentifier, IpAddress, RegisteredId};
+ghost use Rattle.der_examples.specs.declared.general_name.GeneralName.TheVariants.{OtherName, Rfc822Name, DnsName, X400Address};
+ghost use Rattle.der_examples.specs.declared.general_name.GeneralName.TheVariants.{DirectoryName};
+ghost use Rattle.der_examples.specs.declared.general_name.GeneralName.TheVariants.{EdiPartyName, UniformResourceIdentifier, IpAddress};
+ghost use Rattle.der_examples.specs.declared.general_name.GeneralName.TheVariants.{RegisteredId};
 
 use picky_asn1_der::OneOf::This;
 use picky_asn1_der::OneOf4::{First, Fourth, Later, Second, Third};

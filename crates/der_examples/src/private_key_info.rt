@@ -34,7 +34,8 @@ type Members = (
 );
 
 impl Serialize for PrivateKeyInfo {
-    ghost meaning = { λ it. Tree.list ListKind.sequence (⟦<Members as SerializeMembers>⟧.members (⟦<PrivateKeyInfo as Struct>⟧.parts it)) };
+    ghost meaning = { λ it. Tree.list ListKind.sequence (⟦<Members as SerializeMembers>⟧.members
+        (⟦<PrivateKeyInfo as Struct>⟧.parts it)) };
 
     fn serialize<W: WriteExt>(&self, serializer: &mut Serializer<W>) -> Result<usize> {
         (
@@ -69,7 +70,8 @@ impl Struct for PrivateKeyInfo {
 impl Deserialize for PrivateKeyInfo {
     ghost shape = { Shape.struct_of ListKind.sequence ⟦<Members as DeserializeLayout>⟧.layout };
 
-    ghost injective = { told (Shape.struct_of ListKind.sequence ⟦<Members as DeserializeLayout>⟧.layout) (Prim.search (rules, tells, raw_is_last) depth 99) };
+    ghost injective = { told (Shape.struct_of ListKind.sequence ⟦<Members as DeserializeLayout>⟧.layout)
+        (Prim.search (rules, tells, raw_is_last) depth 99) };
 
     ghost sound = { Prim.search (rules, raw_is_last) depth 99 };
 

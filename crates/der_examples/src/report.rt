@@ -95,7 +95,17 @@ impl Serialize for Report {
 impl Record for Report {
     type Fields = Fields;
 
-    ghost parts = { λ it. (it.station, it.number, it.moment, it.automatic, it.height, it.pressure, it.humidity, it.serial, (it.seal, it.grade, it.reserved, it.days, it.offsets, it.authors, it.sealed, it.gusts, tt)) };
+    ghost parts = { λ it. (
+      it.station,
+      it.number,
+      it.moment,
+      it.automatic,
+      it.height,
+      it.pressure,
+      it.humidity,
+      it.serial,
+      (it.seal, it.grade, it.reserved, it.days, it.offsets, it.authors, it.sealed, it.gusts, tt),
+    ) };
 
     fn from_parts(fields: Fields) -> Report {
         let (station, number, moment, automatic, height, pressure, humidity, serial, others) =

@@ -33,7 +33,7 @@ use std::alloc::{AllocError, Global};
 /// | `fill LENGTH CALLS` | the same of a writer over a slice of LENGTH bytes EE, and what the slice holds |
 /// | `tool "LINE"` | the answer of `der_tool` to that line |
 /// | `copy [BYTES] as TYPE` | `whole`, where the copy of the value is equal to it |
-/// | `grow read [BYTES] as TYPE` | `whole`, where each call that reads takes the same value, and each call that writes gives its encoding; or where each call that reads refuses them with the same error |
+/// | `grow read [BYTES] as TYPE` | `whole`, where all calls agree: on a value and its encoding, or on the error |
 /// | `grow write VALUE` | `whole`, where each call that writes does the same |
 /// | `grow tool "LINE", .. as "ANSWER", ..` | `whole`, where these are the answers of `der_tool` to these lines |
 /// | `spend TIMES` | `whole`, after memory was asked for so many times, and given back |

@@ -25,7 +25,8 @@ pub struct AlgorithmIdentifier {
 type Members = (ObjectIdentifierAsn1, Optional<Asn1RawDer>, ());
 
 impl Serialize for AlgorithmIdentifier {
-    ghost meaning = { λ it. Tree.list ListKind.sequence (⟦<Members as SerializeMembers>⟧.members (⟦<AlgorithmIdentifier as Struct>⟧.parts it)) };
+    ghost meaning = { λ it. Tree.list ListKind.sequence (⟦<Members as SerializeMembers>⟧.members
+        (⟦<AlgorithmIdentifier as Struct>⟧.parts it)) };
 
     fn serialize<W: WriteExt>(&self, serializer: &mut Serializer<W>) -> Result<usize> {
         (&self.algorithm, OptionalRef(&self.parameters), ()).serialize_sequence(serializer)
@@ -51,7 +52,8 @@ impl Struct for AlgorithmIdentifier {
 impl Deserialize for AlgorithmIdentifier {
     ghost shape = { Shape.struct_of ListKind.sequence ⟦<Members as DeserializeLayout>⟧.layout };
 
-    ghost injective = { told (Shape.struct_of ListKind.sequence ⟦<Members as DeserializeLayout>⟧.layout) (Prim.search (rules, tells, raw_is_last) depth 99) };
+    ghost injective = { told (Shape.struct_of ListKind.sequence ⟦<Members as DeserializeLayout>⟧.layout)
+        (Prim.search (rules, tells, raw_is_last) depth 99) };
 
     ghost sound = { Prim.search (rules, raw_is_last) depth 99 };
 

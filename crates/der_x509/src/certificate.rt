@@ -74,7 +74,8 @@ impl Record for Certificate {
 impl Deserialize for Certificate {
     ghost shape = { ⟦<Row<Fields> as Deserialize>⟧.shape };
 
-    ghost injective = { told ⟦<Row<Fields> as Deserialize>⟧.shape (Prim.search (tells, by_law ⟦<AlgorithmIdentifier as Deserialize>⟧.shape injective-law) depth 99) };
+    ghost injective = { told ⟦<Row<Fields> as Deserialize>⟧.shape
+        (Prim.search (tells, by_law ⟦<AlgorithmIdentifier as Deserialize>⟧.shape injective-law) depth 99) };
 
     ghost sound = { Prim.search (rules, raw_is_last) depth 99 };
 

@@ -24,7 +24,8 @@ pub struct Extension {
 type Members = (ObjectIdentifierAsn1, Defaulted<bool, False>, ByteBuf, ());
 
 impl Serialize for Extension {
-    ghost meaning = { λ it. Tree.list ListKind.sequence (⟦<Members as SerializeMembers>⟧.members (⟦<Extension as Struct>⟧.parts it)) };
+    ghost meaning = { λ it. Tree.list ListKind.sequence (⟦<Members as SerializeMembers>⟧.members
+        (⟦<Extension as Struct>⟧.parts it)) };
 
     fn serialize<W: WriteExt>(&self, serializer: &mut Serializer<W>) -> Result<usize> {
         (
@@ -57,7 +58,8 @@ impl Struct for Extension {
 impl Deserialize for Extension {
     ghost shape = { Shape.struct_of ListKind.sequence ⟦<Members as DeserializeLayout>⟧.layout };
 
-    ghost injective = { told (Shape.struct_of ListKind.sequence ⟦<Members as DeserializeLayout>⟧.layout) (Prim.search (rules, tells) depth 99) };
+    ghost injective = { told (Shape.struct_of ListKind.sequence ⟦<Members as DeserializeLayout>⟧.layout)
+        (Prim.search (rules, tells) depth 99) };
 
     ghost sound = { Prim.search rules depth 99 };
 

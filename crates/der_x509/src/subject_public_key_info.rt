@@ -46,7 +46,8 @@ impl Record for SubjectPublicKeyInfo {
 impl Deserialize for SubjectPublicKeyInfo {
     ghost shape = { ⟦<Row<Fields> as Deserialize>⟧.shape };
 
-    ghost injective = { told ⟦<Row<Fields> as Deserialize>⟧.shape (Prim.search (tells, by_law ⟦<AlgorithmIdentifier as Deserialize>⟧.shape injective-law) depth 99) };
+    ghost injective = { told ⟦<Row<Fields> as Deserialize>⟧.shape
+        (Prim.search (tells, by_law ⟦<AlgorithmIdentifier as Deserialize>⟧.shape injective-law) depth 99) };
 
     ghost sound = { Prim.search (rules, raw_is_last) depth 99 };
 

@@ -3,9 +3,10 @@ ghost use Rattle.std.proofs.Common.{rules};
 ghost use Rattle.picky_der_core.specs.Shape.{Shape, Layout};
 ghost use Rattle.picky_der_core.specs.Tree.{ListKind, Tree, Trees};
 ghost use Rattle.picky_der_de.specs.LayoutLaws.{maybe_begun};
-ghost use Rattle.picky_der_de.specs.Telling.{by_law, told, tells_struct, tells_list, tells_explicit, tells_implicit, tells_bytes, tell_default, tell_required, tell_maybe, tell_last_maybe};
+ghost use Rattle.picky_der_de.specs.Telling.{by_law, told, tells_struct, tells_list, tells_explicit, tells_implicit, tells_bytes};
+ghost use Rattle.picky_der_de.specs.Telling.{tell_default, tell_required, tell_maybe, tell_last_maybe};
 ghost use Rattle.picky_asn1_der.specs.RawLaws.{raw_is_last};
-ghost use Rattle.der_x509.specs.contracts.algorithm_identifier.AlgorithmIdentifierDeserialize.TheImpl.Laws.{injective-law as algorithm_known};
+ghost use Rattle.der_x509.specs.contracts.algorithm_identifier.AlgorithmIdentifierDeserialize.TheImpl.Laws.{injective-law as algorithm_law};
 ghost use Rattle.der_x509.specs.contracts.attribute.AttributeDeserialize.TheImpl.Laws.{injective-law as attribute_known};
 ghost use Rattle.der_x509.specs.contracts.extension.ExtensionDeserialize.TheImpl.Laws.{injective-law as extension_known};
 ghost use Rattle.der_x509.specs.contracts.subject_public_key_info.SubjectPublicKeyInfoDeserialize.TheImpl.Laws.{injective-law as key_known};
@@ -70,7 +71,8 @@ type OtherMembers = (
 );
 
 impl Serialize for TbsCertificate {
-    ghost meaning = { λ it. Tree.list ListKind.sequence (⟦<Members as SerializeMembers>⟧.members (⟦<TbsCertificate as Struct>⟧.parts it)) };
+    ghost meaning = { λ it. Tree.list ListKind.sequence (⟦<Members as SerializeMembers>⟧.members
+        (⟦<TbsCertificate as Struct>⟧.parts it)) };
 
     fn serialize<W: WriteExt>(&self, serializer: &mut Serializer<W>) -> Result<usize> {
         (
@@ -93,7 +95,17 @@ impl Serialize for TbsCertificate {
 impl Struct for TbsCertificate {
     type Members = Members;
 
-    ghost parts = { λ it. (record { value = it.version; default = record {} }, it.serial_number, it.signature, it.issuer, it.validity, it.subject, it.subject_public_key_info, record { 0 = it.issuer_unique_id }, (record { 0 = it.subject_unique_id }, record { 0 = it.extensions }, tt)) };
+    ghost parts = { λ it. (
+      record { value = it.version; default = record {} },
+      it.serial_number,
+      it.signature,
+      it.issuer,
+      it.validity,
+      it.subject,
+      it.subject_public_key_info,
+      record { 0 = it.issuer_unique_id },
+      (record { 0 = it.subject_unique_id }, record { 0 = it.extensions }, tt),
+    ) };
 
     fn from_parts(members: Members) -> TbsCertificate {
         let (
@@ -128,21 +140,32 @@ impl Struct for TbsCertificate {
 impl Deserialize for TbsCertificate {
     ghost shape = { Shape.struct_of ListKind.sequence ⟦<Members as DeserializeLayout>⟧.layout };
 
-    ghost injective = { let begun_by_extensions = maybe_begun ⟦<ExplicitContextTag3<Extensions> as Serialize>⟧.meaning ⟦<ExplicitContextTag3<Extensions> as Deserialize>⟧.shape Layout.empty (λ v b h. h) in
-        let begun_by_subject = maybe_begun ⟦<ImplicitContextTag2<BitStringAsn1> as Serialize>⟧.meaning ⟦<ImplicitContextTag2<BitStringAsn1> as Deserialize>⟧.shape (Layout.maybe ⟦<ExplicitContextTag3<Extensions> as Deserialize>⟧.shape Layout.empty) (λ v b h. h) in
-        let told_attributes = tells_list ⟦<Attribute as Serialize>⟧.meaning ⟦<Attribute as Deserialize>⟧.shape ⟦<Attribute as PartialEq>⟧.eq (by_law ⟦<Attribute as Deserialize>⟧.shape attribute_known) ListKind.set in
-        let told_names = tells_list ⟦<RelativeName as Serialize>⟧.meaning ⟦<RelativeName as Deserialize>⟧.shape ⟦<RelativeName as PartialEq>⟧.eq (λ v w. told_attributes v.0.items w.0.items) ListKind.sequence in
-        let told_extensions = tells_list ⟦<Extension as Serialize>⟧.meaning ⟦<Extension as Deserialize>⟧.shape ⟦<Extension as PartialEq>⟧.eq (by_law ⟦<Extension as Deserialize>⟧.shape extension_known) ListKind.sequence in
+    ghost injective = { let begun_by_extensions = maybe_begun ⟦<ExplicitContextTag3<Extensions> as Serialize>⟧.meaning
+        ⟦<ExplicitContextTag3<Extensions> as Deserialize>⟧.shape Layout.empty (λ v b h. h) in
+        let begun_by_subject = maybe_begun ⟦<ImplicitContextTag2<BitStringAsn1> as Serialize>⟧.meaning
+        ⟦<ImplicitContextTag2<BitStringAsn1> as Deserialize>⟧.shape
+        (Layout.maybe ⟦<ExplicitContextTag3<Extensions> as Deserialize>⟧.shape Layout.empty) (λ v b h. h) in
+        let told_attributes = tells_list ⟦<Attribute as Serialize>⟧.meaning ⟦<Attribute as Deserialize>⟧.shape
+        ⟦<Attribute as PartialEq>⟧.eq (by_law ⟦<Attribute as Deserialize>⟧.shape attribute_known) ListKind.set in
+        let told_names = tells_list ⟦<RelativeName as Serialize>⟧.meaning ⟦<RelativeName as Deserialize>⟧.shape
+        ⟦<RelativeName as PartialEq>⟧.eq (λ v w. told_attributes v.0.items w.0.items) ListKind.sequence in
+        let told_extensions = tells_list ⟦<Extension as Serialize>⟧.meaning ⟦<Extension as Deserialize>⟧.shape
+        ⟦<Extension as PartialEq>⟧.eq (by_law ⟦<Extension as Deserialize>⟧.shape extension_known) ListKind.sequence in
         told (Shape.struct_of ListKind.sequence ⟦<Members as DeserializeLayout>⟧.layout) (λ x y. tells_struct (Prim.search rules) (
-        tell_default (λ v w. one-law v.0 w.0) (λ v b h. h) (λ v w. tells_explicit (by_law ⟦<Version as Deserialize>⟧.shape version_known v.0 w.0)) (λ b h. h) (λ b h. h) (
+        tell_default (λ v w. one-law v.0 w.0) (λ v b h. h)
+        (λ v w. tells_explicit (by_law ⟦<Version as Deserialize>⟧.shape version_known v.0 w.0)) (λ b h. h) (λ b h. h) (
         tell_required tells_bytes (
-        tell_required (by_law ⟦<AlgorithmIdentifier as Deserialize>⟧.shape algorithm_known x.signature y.signature) (
+        tell_required (by_law ⟦<AlgorithmIdentifier as Deserialize>⟧.shape algorithm_law x.signature y.signature) (
         tell_required (told_names x.issuer.items y.issuer.items) (
         tell_required (by_law ⟦<Validity as Deserialize>⟧.shape validity_known x.validity y.validity) (
         tell_required (told_names x.subject.items y.subject.items) (
-        tell_required (by_law ⟦<SubjectPublicKeyInfo as Deserialize>⟧.shape key_known x.subject_public_key_info y.subject_public_key_info) (
-        tell_maybe (λ v b h. h) (λ v w. tells_implicit tells_bytes) (begun_by_subject x.subject_unique_id _ (begun_by_extensions x.extensions Trees.none tt)) (begun_by_subject y.subject_unique_id _ (begun_by_extensions y.extensions Trees.none tt)) (
-        tell_maybe (λ v b h. h) (λ v w. tells_implicit tells_bytes) (begun_by_extensions x.extensions Trees.none tt) (begun_by_extensions y.extensions Trees.none tt) (
+        tell_required (by_law ⟦<SubjectPublicKeyInfo as Deserialize>⟧.shape key_known x.subject_public_key_info
+        y.subject_public_key_info) (
+        tell_maybe (λ v b h. h) (λ v w. tells_implicit tells_bytes)
+        (begun_by_subject x.subject_unique_id _ (begun_by_extensions x.extensions Trees.none tt))
+        (begun_by_subject y.subject_unique_id _ (begun_by_extensions y.extensions Trees.none tt)) (
+        tell_maybe (λ v b h. h) (λ v w. tells_implicit tells_bytes) (begun_by_extensions x.extensions Trees.none tt)
+        (begun_by_extensions y.extensions Trees.none tt) (
         tell_last_maybe (λ v b h. h) (λ v w. tells_explicit (told_extensions v.0.items w.0.items)) x.extensions y.extensions)
         x.subject_unique_id y.subject_unique_id) x.issuer_unique_id y.issuer_unique_id))))))) x.version y.version)) };
 

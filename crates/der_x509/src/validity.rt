@@ -45,7 +45,8 @@ impl Record for Validity {
 impl Deserialize for Validity {
     ghost shape = { ⟦<Row<Fields> as Deserialize>⟧.shape };
 
-    ghost injective = { told ⟦<Row<Fields> as Deserialize>⟧.shape (Prim.search (tells, by_law ⟦<Time as Deserialize>⟧.shape time_known) depth 99) };
+    ghost injective = { told ⟦<Row<Fields> as Deserialize>⟧.shape
+        (Prim.search (tells, by_law ⟦<Time as Deserialize>⟧.shape time_known) depth 99) };
 
     ghost sound = { Prim.search rules depth 99 };
 

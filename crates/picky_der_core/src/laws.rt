@@ -1,6 +1,7 @@
 //! The laws of canonical DER: each is the contract of a function without arguments, over the definitions alone.
 //! Beside them stand those of `==`.
-ghost use Rattle.picky_der_core.specs.Laws.{LengthBothWays, WrapperLengths, FirstsTell, UniqueReadability, OneValue, RoundTrip, SameBytes, OneInside, SetOrder};
+ghost use Rattle.picky_der_core.specs.Laws.{LengthBothWays, WrapperLengths, FirstsTell, UniqueReadability, OneValue, RoundTrip};
+ghost use Rattle.picky_der_core.specs.Laws.{SameBytes, OneInside, SetOrder};
 
 pub mod equality;
 

@@ -3,7 +3,8 @@ ghost use Rattle.std.specs.Prelude.{◌↔◌, IsTrue, IfOk, IfErr};
 ghost use Rattle.picky_der_core.specs.Tree.{Tree};
 ghost use Rattle.picky_der_core.specs.Shape.{Shapes, AreSound, firsts_of, has};
 ghost use Rattle.picky_der_de.specs.Firsts.{IsBegunBy};
-ghost use Rattle.picky_der_de.specs.Choices.{ReadsBehind, RefusesBehind, AreKnownApart, chosen_of, begins_this_or_other, known_this_or_other};
+ghost use Rattle.picky_der_de.specs.Choices.{ReadsBehind, RefusesBehind, AreKnownApart, chosen_of, begins_this_or_other};
+ghost use Rattle.picky_der_de.specs.Choices.{known_this_or_other};
 
 use crate::{Begins, Deserializer};
 use picky_der_core::asn1::Tag;
@@ -101,7 +102,8 @@ impl<A: Begins, B: Alternatives> Alternatives for OneOf<A, B> {
 
     ghost begins = { begins_this_or_other A.meaning B.chosen A.shape B.shapes A.begins B.begins };
 
-    ghost known = { known_this_or_other A.meaning B.chosen A.shape B.shapes A.begins B.begins ⟦<OneOf<A, B> as PartialEq>⟧.eq (λ _ _ h. h) (λ _ _ h. h) A.injective B.known };
+    ghost known = { known_this_or_other A.meaning B.chosen A.shape B.shapes A.begins B.begins ⟦<OneOf<A, B> as PartialEq>⟧.eq
+        (λ _ _ h. h) (λ _ _ h. h) A.injective B.known };
 
     ghost sound = { (A.sound, B.sound) };
 }

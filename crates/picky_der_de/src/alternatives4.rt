@@ -51,9 +51,12 @@ impl<A: Begins, B: Begins, C: Begins, D: Begins, E: Alternatives> Alternatives
         })
     }
 
-    ghost begins = { begins_one_of4 A.meaning B.meaning C.meaning D.meaning E.chosen A.shape B.shape C.shape D.shape E.shapes A.begins B.begins C.begins D.begins E.begins };
+    ghost begins = { begins_one_of4 A.meaning B.meaning C.meaning D.meaning E.chosen A.shape B.shape C.shape D.shape E.shapes
+        A.begins B.begins C.begins D.begins E.begins };
 
-    ghost known = { known_one_of4 A.meaning B.meaning C.meaning D.meaning E.chosen A.shape B.shape C.shape D.shape E.shapes A.begins B.begins C.begins D.begins E.begins ⟦<OneOf4<A, B, C, D, E> as PartialEq>⟧.eq (λ _ _ h. h) (λ _ _ h. h) (λ _ _ h. h) (λ _ _ h. h) (λ _ _ h. h) A.injective B.injective C.injective D.injective E.known };
+    ghost known = { known_one_of4 A.meaning B.meaning C.meaning D.meaning E.chosen A.shape B.shape C.shape D.shape E.shapes
+        A.begins B.begins C.begins D.begins E.begins ⟦<OneOf4<A, B, C, D, E> as PartialEq>⟧.eq (λ _ _ h. h) (λ _ _ h. h)
+        (λ _ _ h. h) (λ _ _ h. h) (λ _ _ h. h) A.injective B.injective C.injective D.injective E.known };
 
     ghost sound = { (A.sound, (B.sound, (C.sound, (D.sound, E.sound)))) };
 }

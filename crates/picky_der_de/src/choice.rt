@@ -41,7 +41,8 @@ pub trait Told: Choice + Serialize + PartialEq + Drop {
 impl<T: Told> Deserialize for T {
     ghost shape = { Shape.choice T.Alternatives.shapes };
 
-    ghost injective = { λ v w. choice_known T.Alternatives.chosen T.Alternatives.shapes T.Alternatives.eq T.told T.Alternatives.known (T.parts v) (T.parts w) (T.meant v) (T.meant w) (T.equal v w) };
+    ghost injective = { λ v w. choice_known T.Alternatives.chosen T.Alternatives.shapes T.Alternatives.eq T.told
+        T.Alternatives.known (T.parts v) (T.parts w) (T.meant v) (T.meant w) (T.equal v w) };
 
     ghost sound = { (T.Alternatives.sound, T.told) };
 

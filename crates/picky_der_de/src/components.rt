@@ -16,7 +16,8 @@ impl<A: DeserializeMember, Z: DeserializeLayout> DeserializeLayout for (A, Z) {
         Ok((first, others))
     }
 
-    ghost are_components = { equal_so (λ x y h. both h.0 h.1) (lead (λ row. row.0) A.is_component (behind (λ row. row.1) Z.are_components)) };
+    ghost are_components = { equal_so (λ x y h. both h.0 h.1)
+        (lead (λ row. row.0) A.is_component (behind (λ row. row.1) Z.are_components)) };
 }
 
 impl<A: DeserializeMember, B: DeserializeMember, Z: DeserializeLayout> DeserializeLayout
@@ -30,7 +31,8 @@ impl<A: DeserializeMember, B: DeserializeMember, Z: DeserializeLayout> Deseriali
         Ok((first, second, behind))
     }
 
-    ghost are_components = { equal_so (λ x y h. both (both h.0 h.1.0) h.1.1) (lead (λ row. row.0) A.is_component (lead (λ row. row.1) B.is_component (behind (λ row. row.2) Z.are_components))) };
+    ghost are_components = { equal_so (λ x y h. both (both h.0 h.1.0) h.1.1)
+        (lead (λ row. row.0) A.is_component (lead (λ row. row.1) B.is_component (behind (λ row. row.2) Z.are_components))) };
 }
 
 impl<
@@ -48,7 +50,9 @@ impl<
         Ok((first, second, third, behind))
     }
 
-    ghost are_components = { equal_so (λ x y h. both (both (both h.0 h.1.0) h.1.1.0) h.1.1.1) (lead (λ row. row.0) A.is_component (lead (λ row. row.1) B.is_component (lead (λ row. row.2) C.is_component (behind (λ row. row.3) Z.are_components)))) };
+    ghost are_components = { equal_so (λ x y h. both (both (both h.0 h.1.0) h.1.1.0) h.1.1.1)
+        (lead (λ row. row.0) A.is_component (lead (λ row. row.1) B.is_component
+        (lead (λ row. row.2) C.is_component (behind (λ row. row.3) Z.are_components)))) };
 }
 
 impl<
@@ -58,7 +62,8 @@ impl<
     D: DeserializeMember,
     Z: DeserializeLayout,
 > DeserializeLayout for (A, B, C, D, Z) {
-    ghost layout = { placed A.presence A.shape (placed B.presence B.shape (placed C.presence C.shape (placed D.presence D.shape Z.layout))) };
+    ghost layout = { placed A.presence A.shape (placed B.presence B.shape
+        (placed C.presence C.shape (placed D.presence D.shape Z.layout))) };
 
     fn deserialize_layout<R: ReadExt>(sequence: &mut Sequence<'_, R>) -> Result<(A, B, C, D, Z)> {
         let first = A::deserialize_member(sequence)?;
@@ -67,7 +72,9 @@ impl<
         Ok((first, second, third, fourth, behind))
     }
 
-    ghost are_components = { equal_so (λ x y h. both (both (both (both h.0 h.1.0) h.1.1.0) h.1.1.1.0) h.1.1.1.1) (lead (λ row. row.0) A.is_component (lead (λ row. row.1) B.is_component (lead (λ row. row.2) C.is_component (lead (λ row. row.3) D.is_component (behind (λ row. row.4) Z.are_components))))) };
+    ghost are_components = { equal_so (λ x y h. both (both (both (both h.0 h.1.0) h.1.1.0) h.1.1.1.0) h.1.1.1.1)
+        (lead (λ row. row.0) A.is_component (lead (λ row. row.1) B.is_component
+        (lead (λ row. row.2) C.is_component (lead (λ row. row.3) D.is_component (behind (λ row. row.4) Z.are_components))))) };
 }
 
 impl<
@@ -78,7 +85,8 @@ impl<
     E: DeserializeMember,
     Z: DeserializeLayout,
 > DeserializeLayout for (A, B, C, D, E, Z) {
-    ghost layout = { placed A.presence A.shape (placed B.presence B.shape (placed C.presence C.shape (placed D.presence D.shape (placed E.presence E.shape Z.layout)))) };
+    ghost layout = { placed A.presence A.shape (placed B.presence B.shape
+        (placed C.presence C.shape (placed D.presence D.shape (placed E.presence E.shape Z.layout)))) };
 
     fn deserialize_layout<R: ReadExt>(
         sequence: &mut Sequence<'_, R>,
@@ -89,7 +97,10 @@ impl<
         Ok((first, second, third, fourth, fifth, behind))
     }
 
-    ghost are_components = { equal_so (λ x y h. both (both (both (both (both h.0 h.1.0) h.1.1.0) h.1.1.1.0) h.1.1.1.1.0) h.1.1.1.1.1) (lead (λ row. row.0) A.is_component (lead (λ row. row.1) B.is_component (lead (λ row. row.2) C.is_component (lead (λ row. row.3) D.is_component (lead (λ row. row.4) E.is_component (behind (λ row. row.5) Z.are_components)))))) };
+    ghost are_components = { equal_so (λ x y h. both (both (both (both (both h.0 h.1.0) h.1.1.0) h.1.1.1.0) h.1.1.1.1.0) h.1.1.1.1.1)
+        (lead (λ row. row.0) A.is_component (lead (λ row. row.1) B.is_component
+        (lead (λ row. row.2) C.is_component (lead (λ row. row.3) D.is_component
+        (lead (λ row. row.4) E.is_component (behind (λ row. row.5) Z.are_components)))))) };
 }
 
 impl<
@@ -101,7 +112,8 @@ impl<
     F: DeserializeMember,
     Z: DeserializeLayout,
 > DeserializeLayout for (A, B, C, D, E, F, Z) {
-    ghost layout = { placed A.presence A.shape (placed B.presence B.shape (placed C.presence C.shape (placed D.presence D.shape (placed E.presence E.shape (placed F.presence F.shape Z.layout))))) };
+    ghost layout = { placed A.presence A.shape (placed B.presence B.shape
+        (placed C.presence C.shape (placed D.presence D.shape (placed E.presence E.shape (placed F.presence F.shape Z.layout))))) };
 
     fn deserialize_layout<R: ReadExt>(
         sequence: &mut Sequence<'_, R>,
@@ -112,7 +124,11 @@ impl<
         Ok((first, second, third, fourth, fifth, sixth, behind))
     }
 
-    ghost are_components = { equal_so (λ x y h. both (both (both (both (both (both h.0 h.1.0) h.1.1.0) h.1.1.1.0) h.1.1.1.1.0) h.1.1.1.1.1.0) h.1.1.1.1.1.1) (lead (λ row. row.0) A.is_component (lead (λ row. row.1) B.is_component (lead (λ row. row.2) C.is_component (lead (λ row. row.3) D.is_component (lead (λ row. row.4) E.is_component (lead (λ row. row.5) F.is_component (behind (λ row. row.6) Z.are_components))))))) };
+    ghost are_components = { equal_so (λ x y h. both (both (both
+        (both (both (both h.0 h.1.0) h.1.1.0) h.1.1.1.0) h.1.1.1.1.0) h.1.1.1.1.1.0) h.1.1.1.1.1.1)
+        (lead (λ row. row.0) A.is_component (lead (λ row. row.1) B.is_component
+        (lead (λ row. row.2) C.is_component (lead (λ row. row.3) D.is_component
+        (lead (λ row. row.4) E.is_component (lead (λ row. row.5) F.is_component (behind (λ row. row.6) Z.are_components))))))) };
 }
 
 impl<
@@ -125,7 +141,9 @@ impl<
     G: DeserializeMember,
     Z: DeserializeLayout,
 > DeserializeLayout for (A, B, C, D, E, F, G, Z) {
-    ghost layout = { placed A.presence A.shape (placed B.presence B.shape (placed C.presence C.shape (placed D.presence D.shape (placed E.presence E.shape (placed F.presence F.shape (placed G.presence G.shape Z.layout)))))) };
+    ghost layout = { placed A.presence A.shape (placed B.presence B.shape
+        (placed C.presence C.shape (placed D.presence D.shape
+        (placed E.presence E.shape (placed F.presence F.shape (placed G.presence G.shape Z.layout)))))) };
 
     fn deserialize_layout<R: ReadExt>(
         sequence: &mut Sequence<'_, R>,
@@ -136,7 +154,12 @@ impl<
         Ok((first, second, third, fourth, fifth, sixth, seventh, behind))
     }
 
-    ghost are_components = { equal_so (λ x y h. both (both (both (both (both (both (both h.0 h.1.0) h.1.1.0) h.1.1.1.0) h.1.1.1.1.0) h.1.1.1.1.1.0) h.1.1.1.1.1.1.0) h.1.1.1.1.1.1.1) (lead (λ row. row.0) A.is_component (lead (λ row. row.1) B.is_component (lead (λ row. row.2) C.is_component (lead (λ row. row.3) D.is_component (lead (λ row. row.4) E.is_component (lead (λ row. row.5) F.is_component (lead (λ row. row.6) G.is_component (behind (λ row. row.7) Z.are_components)))))))) };
+    ghost are_components = { equal_so (λ x y h. both (both (both
+        (both (both (both (both h.0 h.1.0) h.1.1.0) h.1.1.1.0) h.1.1.1.1.0) h.1.1.1.1.1.0) h.1.1.1.1.1.1.0) h.1.1.1.1.1.1.1)
+        (lead (λ row. row.0) A.is_component (lead (λ row. row.1) B.is_component
+        (lead (λ row. row.2) C.is_component (lead (λ row. row.3) D.is_component
+        (lead (λ row. row.4) E.is_component (lead (λ row. row.5) F.is_component
+        (lead (λ row. row.6) G.is_component (behind (λ row. row.7) Z.are_components)))))))) };
 }
 
 impl<
@@ -150,7 +173,9 @@ impl<
     H: DeserializeMember,
     Z: DeserializeLayout,
 > DeserializeLayout for (A, B, C, D, E, F, G, H, Z) {
-    ghost layout = { placed A.presence A.shape (placed B.presence B.shape (placed C.presence C.shape (placed D.presence D.shape (placed E.presence E.shape (placed F.presence F.shape (placed G.presence G.shape (placed H.presence H.shape Z.layout))))))) };
+    ghost layout = { placed A.presence A.shape (placed B.presence B.shape
+        (placed C.presence C.shape (placed D.presence D.shape
+        (placed E.presence E.shape (placed F.presence F.shape (placed G.presence G.shape (placed H.presence H.shape Z.layout))))))) };
 
     fn deserialize_layout<R: ReadExt>(
         sequence: &mut Sequence<'_, R>,
@@ -163,5 +188,11 @@ impl<
         ))
     }
 
-    ghost are_components = { equal_so (λ x y h. both (both (both (both (both (both (both (both h.0 h.1.0) h.1.1.0) h.1.1.1.0) h.1.1.1.1.0) h.1.1.1.1.1.0) h.1.1.1.1.1.1.0) h.1.1.1.1.1.1.1.0) h.1.1.1.1.1.1.1.1) (lead (λ row. row.0) A.is_component (lead (λ row. row.1) B.is_component (lead (λ row. row.2) C.is_component (lead (λ row. row.3) D.is_component (lead (λ row. row.4) E.is_component (lead (λ row. row.5) F.is_component (lead (λ row. row.6) G.is_component (lead (λ row. row.7) H.is_component (behind (λ row. row.8) Z.are_components))))))))) };
+    ghost are_components = { equal_so (λ x y h. both (both (both
+        (both (both (both (both (both h.0 h.1.0) h.1.1.0) h.1.1.1.0) h.1.1.1.1.0) h.1.1.1.1.1.0)
+        h.1.1.1.1.1.1.0) h.1.1.1.1.1.1.1.0) h.1.1.1.1.1.1.1.1)
+        (lead (λ row. row.0) A.is_component (lead (λ row. row.1) B.is_component
+        (lead (λ row. row.2) C.is_component (lead (λ row. row.3) D.is_component
+        (lead (λ row. row.4) E.is_component (lead (λ row. row.5) F.is_component
+        (lead (λ row. row.6) G.is_component (lead (λ row. row.7) H.is_component (behind (λ row. row.8) Z.are_components))))))))) };
 }

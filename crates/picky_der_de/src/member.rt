@@ -119,5 +119,6 @@ impl<T: Begins, D: DefaultOf<T>> DeserializeMember for Defaulted<T, D> {
         Ok(Defaulted::new(value))
     }
 
-    ghost is_component = { with_default T.meaning T.shape T.eq T.begins T.injective T.sound D.left_out D.by_tree D.one (λ member. member.value) };
+    ghost is_component = { with_default T.meaning T.shape T.eq T.begins T.injective T.sound D.left_out D.by_tree D.one
+        (λ member. member.value) };
 }

@@ -15,7 +15,8 @@ impl<A: Deserialize, Z: DeserializeMembers> DeserializeMembers for (A, Z) {
         Ok((first, others))
     }
 
-    ghost injective = { λ x y p q r e. both (A.injective x.0 y.0 p.0 q.0 r.0 (first_member e)) (Z.injective x.1 y.1 p.1 q.1 r.1 (other_members e)) };
+    ghost injective = { λ x y p q r e. both (A.injective x.0 y.0 p.0 q.0 r.0 (first_member e))
+        (Z.injective x.1 y.1 p.1 q.1 r.1 (other_members e)) };
 
     ghost sound = { (A.sound, Z.sound) };
 }
@@ -30,7 +31,9 @@ impl<A: Deserialize, B: Deserialize, Z: DeserializeMembers> DeserializeMembers f
         Ok((first, second, behind))
     }
 
-    ghost injective = { λ x y p q r e. both (both (A.injective x.0 y.0 p.0 q.0 r.0 (first_member e)) (B.injective x.1 y.1 p.1.0 q.1.0 r.1.0 (first_member (other_members e)))) (Z.injective x.2 y.2 p.1.1 q.1.1 r.1.1 (other_members (other_members e))) };
+    ghost injective = { λ x y p q r e. both (both (A.injective x.0 y.0 p.0 q.0 r.0 (first_member e))
+        (B.injective x.1 y.1 p.1.0 q.1.0 r.1.0 (first_member (other_members e))))
+        (Z.injective x.2 y.2 p.1.1 q.1.1 r.1.1 (other_members (other_members e))) };
 
     ghost sound = { (A.sound, (B.sound, Z.sound)) };
 }
@@ -46,7 +49,10 @@ impl<A: Deserialize, B: Deserialize, C: Deserialize, Z: DeserializeMembers> Dese
         Ok((first, second, third, behind))
     }
 
-    ghost injective = { λ x y p q r e. both (both (both (A.injective x.0 y.0 p.0 q.0 r.0 (first_member e)) (B.injective x.1 y.1 p.1.0 q.1.0 r.1.0 (first_member (other_members e)))) (C.injective x.2 y.2 p.1.1.0 q.1.1.0 r.1.1.0 (first_member (other_members (other_members e))))) (Z.injective x.3 y.3 p.1.1.1 q.1.1.1 r.1.1.1 (other_members (other_members (other_members e)))) };
+    ghost injective = { λ x y p q r e. both (both (both (A.injective x.0 y.0 p.0 q.0 r.0 (first_member e))
+        (B.injective x.1 y.1 p.1.0 q.1.0 r.1.0 (first_member (other_members e))))
+        (C.injective x.2 y.2 p.1.1.0 q.1.1.0 r.1.1.0 (first_member (other_members (other_members e)))))
+        (Z.injective x.3 y.3 p.1.1.1 q.1.1.1 r.1.1.1 (other_members (other_members (other_members e)))) };
 
     ghost sound = { (A.sound, (B.sound, (C.sound, Z.sound))) };
 }
@@ -67,7 +73,11 @@ impl<
         Ok((first, second, third, fourth, behind))
     }
 
-    ghost injective = { λ x y p q r e. both (both (both (both (A.injective x.0 y.0 p.0 q.0 r.0 (first_member e)) (B.injective x.1 y.1 p.1.0 q.1.0 r.1.0 (first_member (other_members e)))) (C.injective x.2 y.2 p.1.1.0 q.1.1.0 r.1.1.0 (first_member (other_members (other_members e))))) (D.injective x.3 y.3 p.1.1.1.0 q.1.1.1.0 r.1.1.1.0 (first_member (other_members (other_members (other_members e)))))) (Z.injective x.4 y.4 p.1.1.1.1 q.1.1.1.1 r.1.1.1.1 (other_members (other_members (other_members (other_members e))))) };
+    ghost injective = { λ x y p q r e. both (both (both (both (A.injective x.0 y.0 p.0 q.0 r.0 (first_member e))
+        (B.injective x.1 y.1 p.1.0 q.1.0 r.1.0 (first_member (other_members e))))
+        (C.injective x.2 y.2 p.1.1.0 q.1.1.0 r.1.1.0 (first_member (other_members (other_members e)))))
+        (D.injective x.3 y.3 p.1.1.1.0 q.1.1.1.0 r.1.1.1.0 (first_member (other_members (other_members (other_members e))))))
+        (Z.injective x.4 y.4 p.1.1.1.1 q.1.1.1.1 r.1.1.1.1 (other_members (other_members (other_members (other_members e))))) };
 
     ghost sound = { (A.sound, (B.sound, (C.sound, (D.sound, Z.sound)))) };
 }
@@ -91,7 +101,14 @@ impl<
         Ok((first, second, third, fourth, fifth, behind))
     }
 
-    ghost injective = { λ x y p q r e. both (both (both (both (both (A.injective x.0 y.0 p.0 q.0 r.0 (first_member e)) (B.injective x.1 y.1 p.1.0 q.1.0 r.1.0 (first_member (other_members e)))) (C.injective x.2 y.2 p.1.1.0 q.1.1.0 r.1.1.0 (first_member (other_members (other_members e))))) (D.injective x.3 y.3 p.1.1.1.0 q.1.1.1.0 r.1.1.1.0 (first_member (other_members (other_members (other_members e)))))) (E.injective x.4 y.4 p.1.1.1.1.0 q.1.1.1.1.0 r.1.1.1.1.0 (first_member (other_members (other_members (other_members (other_members e))))))) (Z.injective x.5 y.5 p.1.1.1.1.1 q.1.1.1.1.1 r.1.1.1.1.1 (other_members (other_members (other_members (other_members (other_members e)))))) };
+    ghost injective = { λ x y p q r e. both (both (both (both (both (A.injective x.0 y.0 p.0 q.0 r.0 (first_member e))
+        (B.injective x.1 y.1 p.1.0 q.1.0 r.1.0 (first_member (other_members e))))
+        (C.injective x.2 y.2 p.1.1.0 q.1.1.0 r.1.1.0 (first_member (other_members (other_members e)))))
+        (D.injective x.3 y.3 p.1.1.1.0 q.1.1.1.0 r.1.1.1.0 (first_member (other_members (other_members (other_members e))))))
+        (E.injective x.4 y.4 p.1.1.1.1.0 q.1.1.1.1.0 r.1.1.1.1.0
+        (first_member (other_members (other_members (other_members (other_members e)))))))
+        (Z.injective x.5 y.5 p.1.1.1.1.1 q.1.1.1.1.1 r.1.1.1.1.1
+        (other_members (other_members (other_members (other_members (other_members e)))))) };
 
     ghost sound = { (A.sound, (B.sound, (C.sound, (D.sound, (E.sound, Z.sound))))) };
 }
@@ -105,7 +122,8 @@ impl<
     F: Deserialize,
     Z: DeserializeMembers,
 > DeserializeMembers for (A, B, C, D, E, F, Z) {
-    ghost shapes = { Shapes.more A.shape (Shapes.more B.shape (Shapes.more C.shape (Shapes.more D.shape (Shapes.more E.shape (Shapes.more F.shape Z.shapes))))) };
+    ghost shapes = { Shapes.more A.shape (Shapes.more B.shape
+        (Shapes.more C.shape (Shapes.more D.shape (Shapes.more E.shape (Shapes.more F.shape Z.shapes))))) };
 
     fn deserialize_members<R: ReadExt>(
         sequence: &mut Sequence<'_, R>,
@@ -116,7 +134,16 @@ impl<
         Ok((first, second, third, fourth, fifth, sixth, behind))
     }
 
-    ghost injective = { λ x y p q r e. both (both (both (both (both (both (A.injective x.0 y.0 p.0 q.0 r.0 (first_member e)) (B.injective x.1 y.1 p.1.0 q.1.0 r.1.0 (first_member (other_members e)))) (C.injective x.2 y.2 p.1.1.0 q.1.1.0 r.1.1.0 (first_member (other_members (other_members e))))) (D.injective x.3 y.3 p.1.1.1.0 q.1.1.1.0 r.1.1.1.0 (first_member (other_members (other_members (other_members e)))))) (E.injective x.4 y.4 p.1.1.1.1.0 q.1.1.1.1.0 r.1.1.1.1.0 (first_member (other_members (other_members (other_members (other_members e))))))) (F.injective x.5 y.5 p.1.1.1.1.1.0 q.1.1.1.1.1.0 r.1.1.1.1.1.0 (first_member (other_members (other_members (other_members (other_members (other_members e)))))))) (Z.injective x.6 y.6 p.1.1.1.1.1.1 q.1.1.1.1.1.1 r.1.1.1.1.1.1 (other_members (other_members (other_members (other_members (other_members (other_members e))))))) };
+    ghost injective = { λ x y p q r e. both (both (both (both (both (both (A.injective x.0 y.0 p.0 q.0 r.0 (first_member e))
+        (B.injective x.1 y.1 p.1.0 q.1.0 r.1.0 (first_member (other_members e))))
+        (C.injective x.2 y.2 p.1.1.0 q.1.1.0 r.1.1.0 (first_member (other_members (other_members e)))))
+        (D.injective x.3 y.3 p.1.1.1.0 q.1.1.1.0 r.1.1.1.0 (first_member (other_members (other_members (other_members e))))))
+        (E.injective x.4 y.4 p.1.1.1.1.0 q.1.1.1.1.0 r.1.1.1.1.0
+        (first_member (other_members (other_members (other_members (other_members e)))))))
+        (F.injective x.5 y.5 p.1.1.1.1.1.0 q.1.1.1.1.1.0 r.1.1.1.1.1.0
+        (first_member (other_members (other_members (other_members (other_members (other_members e))))))))
+        (Z.injective x.6 y.6 p.1.1.1.1.1.1 q.1.1.1.1.1.1 r.1.1.1.1.1.1
+        (other_members (other_members (other_members (other_members (other_members (other_members e))))))) };
 
     ghost sound = { (A.sound, (B.sound, (C.sound, (D.sound, (E.sound, (F.sound, Z.sound)))))) };
 }
@@ -131,7 +158,8 @@ impl<
     G: Deserialize,
     Z: DeserializeMembers,
 > DeserializeMembers for (A, B, C, D, E, F, G, Z) {
-    ghost shapes = { Shapes.more A.shape (Shapes.more B.shape (Shapes.more C.shape (Shapes.more D.shape (Shapes.more E.shape (Shapes.more F.shape (Shapes.more G.shape Z.shapes)))))) };
+    ghost shapes = { Shapes.more A.shape (Shapes.more B.shape
+        (Shapes.more C.shape (Shapes.more D.shape (Shapes.more E.shape (Shapes.more F.shape (Shapes.more G.shape Z.shapes)))))) };
 
     fn deserialize_members<R: ReadExt>(
         sequence: &mut Sequence<'_, R>,
@@ -142,7 +170,18 @@ impl<
         Ok((first, second, third, fourth, fifth, sixth, seventh, behind))
     }
 
-    ghost injective = { λ x y p q r e. both (both (both (both (both (both (both (A.injective x.0 y.0 p.0 q.0 r.0 (first_member e)) (B.injective x.1 y.1 p.1.0 q.1.0 r.1.0 (first_member (other_members e)))) (C.injective x.2 y.2 p.1.1.0 q.1.1.0 r.1.1.0 (first_member (other_members (other_members e))))) (D.injective x.3 y.3 p.1.1.1.0 q.1.1.1.0 r.1.1.1.0 (first_member (other_members (other_members (other_members e)))))) (E.injective x.4 y.4 p.1.1.1.1.0 q.1.1.1.1.0 r.1.1.1.1.0 (first_member (other_members (other_members (other_members (other_members e))))))) (F.injective x.5 y.5 p.1.1.1.1.1.0 q.1.1.1.1.1.0 r.1.1.1.1.1.0 (first_member (other_members (other_members (other_members (other_members (other_members e)))))))) (G.injective x.6 y.6 p.1.1.1.1.1.1.0 q.1.1.1.1.1.1.0 r.1.1.1.1.1.1.0 (first_member (other_members (other_members (other_members (other_members (other_members (other_members e))))))))) (Z.injective x.7 y.7 p.1.1.1.1.1.1.1 q.1.1.1.1.1.1.1 r.1.1.1.1.1.1.1 (other_members (other_members (other_members (other_members (other_members (other_members (other_members e)))))))) };
+    ghost injective = { λ x y p q r e. both (both (both (both (both (both (both (A.injective x.0 y.0 p.0 q.0 r.0 (first_member e))
+        (B.injective x.1 y.1 p.1.0 q.1.0 r.1.0 (first_member (other_members e))))
+        (C.injective x.2 y.2 p.1.1.0 q.1.1.0 r.1.1.0 (first_member (other_members (other_members e)))))
+        (D.injective x.3 y.3 p.1.1.1.0 q.1.1.1.0 r.1.1.1.0 (first_member (other_members (other_members (other_members e))))))
+        (E.injective x.4 y.4 p.1.1.1.1.0 q.1.1.1.1.0 r.1.1.1.1.0
+        (first_member (other_members (other_members (other_members (other_members e)))))))
+        (F.injective x.5 y.5 p.1.1.1.1.1.0 q.1.1.1.1.1.0 r.1.1.1.1.1.0
+        (first_member (other_members (other_members (other_members (other_members (other_members e))))))))
+        (G.injective x.6 y.6 p.1.1.1.1.1.1.0 q.1.1.1.1.1.1.0 r.1.1.1.1.1.1.0
+        (first_member (other_members (other_members (other_members (other_members (other_members (other_members e)))))))))
+        (Z.injective x.7 y.7 p.1.1.1.1.1.1.1 q.1.1.1.1.1.1.1 r.1.1.1.1.1.1.1
+        (other_members (other_members (other_members (other_members (other_members (other_members (other_members e)))))))) };
 
     ghost sound = { (A.sound, (B.sound, (C.sound, (D.sound, (E.sound, (F.sound, (G.sound, Z.sound))))))) };
 }
@@ -158,7 +197,9 @@ impl<
     H: Deserialize,
     Z: DeserializeMembers,
 > DeserializeMembers for (A, B, C, D, E, F, G, H, Z) {
-    ghost shapes = { Shapes.more A.shape (Shapes.more B.shape (Shapes.more C.shape (Shapes.more D.shape (Shapes.more E.shape (Shapes.more F.shape (Shapes.more G.shape (Shapes.more H.shape Z.shapes))))))) };
+    ghost shapes = { Shapes.more A.shape (Shapes.more B.shape
+        (Shapes.more C.shape (Shapes.more D.shape (Shapes.more E.shape
+        (Shapes.more F.shape (Shapes.more G.shape (Shapes.more H.shape Z.shapes))))))) };
 
     fn deserialize_members<R: ReadExt>(
         sequence: &mut Sequence<'_, R>,
@@ -173,7 +214,22 @@ impl<
         ))
     }
 
-    ghost injective = { λ x y p q r e. both (both (both (both (both (both (both (both (A.injective x.0 y.0 p.0 q.0 r.0 (first_member e)) (B.injective x.1 y.1 p.1.0 q.1.0 r.1.0 (first_member (other_members e)))) (C.injective x.2 y.2 p.1.1.0 q.1.1.0 r.1.1.0 (first_member (other_members (other_members e))))) (D.injective x.3 y.3 p.1.1.1.0 q.1.1.1.0 r.1.1.1.0 (first_member (other_members (other_members (other_members e)))))) (E.injective x.4 y.4 p.1.1.1.1.0 q.1.1.1.1.0 r.1.1.1.1.0 (first_member (other_members (other_members (other_members (other_members e))))))) (F.injective x.5 y.5 p.1.1.1.1.1.0 q.1.1.1.1.1.0 r.1.1.1.1.1.0 (first_member (other_members (other_members (other_members (other_members (other_members e)))))))) (G.injective x.6 y.6 p.1.1.1.1.1.1.0 q.1.1.1.1.1.1.0 r.1.1.1.1.1.1.0 (first_member (other_members (other_members (other_members (other_members (other_members (other_members e))))))))) (H.injective x.7 y.7 p.1.1.1.1.1.1.1.0 q.1.1.1.1.1.1.1.0 r.1.1.1.1.1.1.1.0 (first_member (other_members (other_members (other_members (other_members (other_members (other_members (other_members e)))))))))) (Z.injective x.8 y.8 p.1.1.1.1.1.1.1.1 q.1.1.1.1.1.1.1.1 r.1.1.1.1.1.1.1.1 (other_members (other_members (other_members (other_members (other_members (other_members (other_members (other_members e))))))))) };
+    ghost injective = { λ x y p q r e. both (both (both (both (both (both (both (both (A.injective x.0 y.0 p.0 q.0 r.0 (first_member e))
+        (B.injective x.1 y.1 p.1.0 q.1.0 r.1.0 (first_member (other_members e))))
+        (C.injective x.2 y.2 p.1.1.0 q.1.1.0 r.1.1.0 (first_member (other_members (other_members e)))))
+        (D.injective x.3 y.3 p.1.1.1.0 q.1.1.1.0 r.1.1.1.0 (first_member (other_members (other_members (other_members e))))))
+        (E.injective x.4 y.4 p.1.1.1.1.0 q.1.1.1.1.0 r.1.1.1.1.0
+        (first_member (other_members (other_members (other_members (other_members e)))))))
+        (F.injective x.5 y.5 p.1.1.1.1.1.0 q.1.1.1.1.1.0 r.1.1.1.1.1.0
+        (first_member (other_members (other_members (other_members (other_members (other_members e))))))))
+        (G.injective x.6 y.6 p.1.1.1.1.1.1.0 q.1.1.1.1.1.1.0 r.1.1.1.1.1.1.0
+        (first_member (other_members (other_members (other_members (other_members (other_members (other_members e)))))))))
+        (H.injective x.7 y.7 p.1.1.1.1.1.1.1.0 q.1.1.1.1.1.1.1.0 r.1.1.1.1.1.1.1.0
+        (first_member (other_members (other_members (other_members
+        (other_members (other_members (other_members (other_members e))))))))))
+        (Z.injective x.8 y.8 p.1.1.1.1.1.1.1.1 q.1.1.1.1.1.1.1.1 r.1.1.1.1.1.1.1.1
+        (other_members (other_members (other_members (other_members
+        (other_members (other_members (other_members (other_members e))))))))) };
 
     ghost sound = { (A.sound, (B.sound, (C.sound, (D.sound, (E.sound, (F.sound, (G.sound, (H.sound, Z.sound)))))))) };
 }

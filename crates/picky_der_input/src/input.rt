@@ -1,11 +1,13 @@
 //! The input, and how far it may be read.
-ghost use Rattle.std.specs.Prelude.{◌≡◌, ◌<◌, ◌^◌, ◌∷◌, [], length, false, None, Some, IfNone, IfSome, IfOk, IfErr, OnOk};
+ghost use Rattle.std.specs.Prelude.{◌≡◌, ◌<◌, ◌^◌, ◌∷◌, [], length, false, None, Some, IfNone, IfSome, IfOk, IfErr};
+ghost use Rattle.std.specs.Prelude.{OnOk};
 ghost use Rattle.picky_der_input.specs.State.{fresh};
 ghost use Rattle.std.specs.IoError.{error_kind};
 ghost use Rattle.picky_der_core.specs.Error.{kind_of};
 ghost use Rattle.picky_der_core.specs.Failure.{failure_of};
 ghost use Rattle.picky_der_core.specs.Peeking.{in_front};
-ghost use Rattle.picky_der_input.specs.Steps.{IsWithin, Takes, TakesKept, StopsShort, Fails, IsMissing, IsOther, TakesNoMemory, failed_with};
+ghost use Rattle.picky_der_input.specs.Steps.{IsWithin, Takes, TakesKept, StopsShort, Fails, IsMissing, IsOther, TakesNoMemory};
+ghost use Rattle.picky_der_input.specs.Steps.{failed_with};
 
 mod ahead;
 mod contents;
@@ -73,7 +75,8 @@ impl<R: ReadExt> Model for Input<R> {
     } };
 
     // No more is drawn than the limit allows, and no end is past it.
-    ghost invariant = { λ d. (d.reader.pos + d.until_end < 2 ^ 64) × IsUnpeekedIfImplicit d.implicit_tag d.reader.peeked × IsTagNumberIfAny d.implicit_tag
+    ghost invariant = { λ d. (d.reader.pos + d.until_end < 2 ^ 64) × IsUnpeekedIfImplicit d.implicit_tag d.reader.peeked ×
+        IsTagNumberIfAny d.implicit_tag
         × (d.reader.pos + d.until_end ≤ d.limit) × (d.reader.pos + count_of_any d.reader.peeked ≤ d.limit)
         × IfSome d.last (λ place. place ≤ length d.kept.items) };
 }

@@ -1,5 +1,6 @@
 //! What stands in front of a content that is being written: the headers of the wrappers around it, and its own.
-ghost use Rattle.std.specs.Prelude.{◌≡◌, ◌+◌, ◌^◌, ◌<◌, ◌≤◌, ◌∷◌, ◌++◌, reverse, take, drop, vec_len, [], IfSome, IsSome, OnOk};
+ghost use Rattle.std.specs.Prelude.{◌≡◌, ◌+◌, ◌^◌, ◌<◌, ◌≤◌, ◌∷◌, ◌++◌, reverse, take, drop, vec_len};
+ghost use Rattle.std.specs.Prelude.{[], IfSome, IsSome, OnOk};
 ghost use Rattle.picky_der_core.specs.Element.{len as bytes_of};
 ghost use Rattle.picky_der_core.specs.Wrapper.{HasTagNumber};
 ghost use Rattle.picky_der_ser.specs.Heading.{is_set};

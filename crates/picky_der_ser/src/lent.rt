@@ -115,7 +115,8 @@ impl<
     D: SerializeMember,
     Z: SerializeMembers,
 > SerializeMembers for Four<'_, A, B, C, D, Z> {
-    ghost members = { λ row. A.in_front row.0.now (B.in_front row.1.now (C.in_front row.2.now (D.in_front row.3.now (Z.members row.4.now)))) };
+    ghost members = { λ row. A.in_front row.0.now (B.in_front row.1.now
+        (C.in_front row.2.now (D.in_front row.3.now (Z.members row.4.now)))) };
 
     fn serialize_members<W: WriteExt>(&self, sequence: &mut Sequence<'_, W>) -> Result<()> {
         self.0.serialize_member(sequence)?;
@@ -131,7 +132,8 @@ impl<
     E: SerializeMember,
     Z: SerializeMembers,
 > SerializeMembers for Five<'_, A, B, C, D, E, Z> {
-    ghost members = { λ row. A.in_front row.0.now (B.in_front row.1.now (C.in_front row.2.now (D.in_front row.3.now (E.in_front row.4.now (Z.members row.5.now))))) };
+    ghost members = { λ row. A.in_front row.0.now (B.in_front row.1.now
+        (C.in_front row.2.now (D.in_front row.3.now (E.in_front row.4.now (Z.members row.5.now))))) };
 
     fn serialize_members<W: WriteExt>(&self, sequence: &mut Sequence<'_, W>) -> Result<()> {
         self.0.serialize_member(sequence)?;
@@ -148,7 +150,8 @@ impl<
     F: SerializeMember,
     Z: SerializeMembers,
 > SerializeMembers for Six<'_, A, B, C, D, E, F, Z> {
-    ghost members = { λ row. A.in_front row.0.now (B.in_front row.1.now (C.in_front row.2.now (D.in_front row.3.now (E.in_front row.4.now (F.in_front row.5.now (Z.members row.6.now)))))) };
+    ghost members = { λ row. A.in_front row.0.now (B.in_front row.1.now
+        (C.in_front row.2.now (D.in_front row.3.now (E.in_front row.4.now (F.in_front row.5.now (Z.members row.6.now)))))) };
 
     fn serialize_members<W: WriteExt>(&self, sequence: &mut Sequence<'_, W>) -> Result<()> {
         self.0.serialize_member(sequence)?;
@@ -166,7 +169,9 @@ impl<
     G: SerializeMember,
     Z: SerializeMembers,
 > SerializeMembers for Seven<'_, A, B, C, D, E, F, G, Z> {
-    ghost members = { λ row. A.in_front row.0.now (B.in_front row.1.now (C.in_front row.2.now (D.in_front row.3.now (E.in_front row.4.now (F.in_front row.5.now (G.in_front row.6.now (Z.members row.7.now))))))) };
+    ghost members = { λ row. A.in_front row.0.now (B.in_front row.1.now
+        (C.in_front row.2.now (D.in_front row.3.now (E.in_front row.4.now
+        (F.in_front row.5.now (G.in_front row.6.now (Z.members row.7.now))))))) };
 
     fn serialize_members<W: WriteExt>(&self, sequence: &mut Sequence<'_, W>) -> Result<()> {
         self.0.serialize_member(sequence)?;
@@ -185,7 +190,9 @@ impl<
     H: SerializeMember,
     Z: SerializeMembers,
 > SerializeMembers for Eight<'_, A, B, C, D, E, F, G, H, Z> {
-    ghost members = { λ row. A.in_front row.0.now (B.in_front row.1.now (C.in_front row.2.now (D.in_front row.3.now (E.in_front row.4.now (F.in_front row.5.now (G.in_front row.6.now (H.in_front row.7.now (Z.members row.8.now)))))))) };
+    ghost members = { λ row. A.in_front row.0.now (B.in_front row.1.now
+        (C.in_front row.2.now (D.in_front row.3.now (E.in_front row.4.now
+        (F.in_front row.5.now (G.in_front row.6.now (H.in_front row.7.now (Z.members row.8.now)))))))) };
 
     fn serialize_members<W: WriteExt>(&self, sequence: &mut Sequence<'_, W>) -> Result<()> {
         self.0.serialize_member(sequence)?;

@@ -1,5 +1,6 @@
 //! The levels of a serializer, in one vector.
-ghost use Rattle.std.specs.Prelude.{◌≡◌, ◌≢◌, ◌<◌, ◌≤◌, ◌^◌, ◌+◌, List, [], ◌∷◌, true, false, length, take, drop, vec_len, None, Some, IfSome, IsSome, IfOk, OnOk};
+ghost use Rattle.std.specs.Prelude.{◌≡◌, ◌≢◌, ◌<◌, ◌≤◌, ◌^◌, ◌+◌, List, [], ◌∷◌, true, false, length};
+ghost use Rattle.std.specs.Prelude.{take, drop, vec_len, None, Some, IfSome, IsSome, IfOk, OnOk};
 ghost use Rattle.picky_der_core.specs.Encoding.{der};
 ghost use Rattle.picky_der_core.specs.Tree.{Tree};
 ghost use Rattle.picky_der_core.specs.Wrapper.{under};
@@ -52,7 +53,8 @@ impl Model for Levels {
       pending = pending_of s.entered (placed s.innermost) s.scratch.items s.seams.items;
     } };
 
-    ghost invariant = { λ s. AreMarks (with_pending (placed s.innermost) s.marks.places) (length s.scratch.items) s.seams.items × HasRoom s.entered (placed s.innermost) s.marks.places s.marks.spare };
+    ghost invariant = { λ s. AreMarks (with_pending (placed s.innermost) s.marks.places)
+        (length s.scratch.items) s.seams.items × HasRoom s.entered (placed s.innermost) s.marks.places s.marks.spare };
 }
 
 // Drops the bytes in front of this place.
@@ -289,7 +291,11 @@ impl Levels {
         ensures count { IfOk result (λ n. n ≡ length
             (der (under around.now (tree_of header content.now)))) }
         ensures ok { OnOk result ((l : Level) (ls : List Level) → self.old.inside ≡ l ∷ ls
-            → self.new ≡ record { inside = with_bytes l (der (under around.now (tree_of header content.now))) ∷ ls; pending = None }) }
+            → self.new ≡ record {
+              inside = with_bytes l (der (under around.now (tree_of header content.now)))
+                  ∷ ls;
+              pending = None;
+            }) }
     {
         self.give_up();
         let start = self.scratch.len();

@@ -56,7 +56,8 @@ impl<
     E: SerializeMember,
     Z: SerializeMembers,
 > SerializeMembers for (A, B, C, D, E, Z) {
-    ghost members = { λ row. A.in_front row.0 (B.in_front row.1 (C.in_front row.2 (D.in_front row.3 (E.in_front row.4 (Z.members row.5))))) };
+    ghost members = { λ row. A.in_front row.0 (B.in_front row.1
+        (C.in_front row.2 (D.in_front row.3 (E.in_front row.4 (Z.members row.5))))) };
 
     fn serialize_members<W: WriteExt>(&self, sequence: &mut Sequence<'_, W>) -> Result<()> {
         Five(&self.0, &self.1, &self.2, &self.3, &self.4, &self.5).serialize_members(sequence)
@@ -72,7 +73,8 @@ impl<
     F: SerializeMember,
     Z: SerializeMembers,
 > SerializeMembers for (A, B, C, D, E, F, Z) {
-    ghost members = { λ row. A.in_front row.0 (B.in_front row.1 (C.in_front row.2 (D.in_front row.3 (E.in_front row.4 (F.in_front row.5 (Z.members row.6)))))) };
+    ghost members = { λ row. A.in_front row.0 (B.in_front row.1
+        (C.in_front row.2 (D.in_front row.3 (E.in_front row.4 (F.in_front row.5 (Z.members row.6)))))) };
 
     fn serialize_members<W: WriteExt>(&self, sequence: &mut Sequence<'_, W>) -> Result<()> {
         Six(
@@ -92,7 +94,8 @@ impl<
     G: SerializeMember,
     Z: SerializeMembers,
 > SerializeMembers for (A, B, C, D, E, F, G, Z) {
-    ghost members = { λ row. A.in_front row.0 (B.in_front row.1 (C.in_front row.2 (D.in_front row.3 (E.in_front row.4 (F.in_front row.5 (G.in_front row.6 (Z.members row.7))))))) };
+    ghost members = { λ row. A.in_front row.0 (B.in_front row.1
+        (C.in_front row.2 (D.in_front row.3 (E.in_front row.4 (F.in_front row.5 (G.in_front row.6 (Z.members row.7))))))) };
 
     fn serialize_members<W: WriteExt>(&self, sequence: &mut Sequence<'_, W>) -> Result<()> {
         Seven(
@@ -113,7 +116,9 @@ impl<
     H: SerializeMember,
     Z: SerializeMembers,
 > SerializeMembers for (A, B, C, D, E, F, G, H, Z) {
-    ghost members = { λ row. A.in_front row.0 (B.in_front row.1 (C.in_front row.2 (D.in_front row.3 (E.in_front row.4 (F.in_front row.5 (G.in_front row.6 (H.in_front row.7 (Z.members row.8)))))))) };
+    ghost members = { λ row. A.in_front row.0 (B.in_front row.1
+        (C.in_front row.2 (D.in_front row.3 (E.in_front row.4
+        (F.in_front row.5 (G.in_front row.6 (H.in_front row.7 (Z.members row.8)))))))) };
 
     fn serialize_members<W: WriteExt>(&self, sequence: &mut Sequence<'_, W>) -> Result<()> {
         Eight(

@@ -17,7 +17,9 @@ impl<
     I: SerializeMember,
     Z: SerializeMembers,
 > SerializeMembers for (A, B, C, D, E, F, G, H, I, Z) {
-    ghost members = { λ row. A.in_front row.0 (B.in_front row.1 (C.in_front row.2 (D.in_front row.3 (E.in_front row.4 (F.in_front row.5 (G.in_front row.6 (H.in_front row.7 (I.in_front row.8 (Z.members row.9))))))))) };
+    ghost members = { λ row. A.in_front row.0 (B.in_front row.1
+        (C.in_front row.2 (D.in_front row.3 (E.in_front row.4
+        (F.in_front row.5 (G.in_front row.6 (H.in_front row.7 (I.in_front row.8 (Z.members row.9))))))))) };
 
     fn serialize_members<W: WriteExt>(&self, sequence: &mut Sequence<'_, W>) -> Result<()> {
         let others = One(&self.8, &self.9);
@@ -41,7 +43,9 @@ impl<
     J: SerializeMember,
     Z: SerializeMembers,
 > SerializeMembers for (A, B, C, D, E, F, G, H, I, J, Z) {
-    ghost members = { λ row. A.in_front row.0 (B.in_front row.1 (C.in_front row.2 (D.in_front row.3 (E.in_front row.4 (F.in_front row.5 (G.in_front row.6 (H.in_front row.7 (I.in_front row.8 (J.in_front row.9 (Z.members row.10)))))))))) };
+    ghost members = { λ row. A.in_front row.0 (B.in_front row.1
+        (C.in_front row.2 (D.in_front row.3 (E.in_front row.4
+        (F.in_front row.5 (G.in_front row.6 (H.in_front row.7 (I.in_front row.8 (J.in_front row.9 (Z.members row.10)))))))))) };
 
     fn serialize_members<W: WriteExt>(&self, sequence: &mut Sequence<'_, W>) -> Result<()> {
         let others = Two(&self.8, &self.9, &self.10);
@@ -66,7 +70,10 @@ impl<
     K: SerializeMember,
     Z: SerializeMembers,
 > SerializeMembers for (A, B, C, D, E, F, G, H, I, J, K, Z) {
-    ghost members = { λ row. A.in_front row.0 (B.in_front row.1 (C.in_front row.2 (D.in_front row.3 (E.in_front row.4 (F.in_front row.5 (G.in_front row.6 (H.in_front row.7 (I.in_front row.8 (J.in_front row.9 (K.in_front row.10 (Z.members row.11))))))))))) };
+    ghost members = { λ row. A.in_front row.0 (B.in_front row.1
+        (C.in_front row.2 (D.in_front row.3 (E.in_front row.4
+        (F.in_front row.5 (G.in_front row.6 (H.in_front row.7
+        (I.in_front row.8 (J.in_front row.9 (K.in_front row.10 (Z.members row.11))))))))))) };
 
     fn serialize_members<W: WriteExt>(&self, sequence: &mut Sequence<'_, W>) -> Result<()> {
         let others = Three(&self.8, &self.9, &self.10, &self.11);
@@ -92,7 +99,12 @@ impl<
     L: SerializeMember,
     Z: SerializeMembers,
 > SerializeMembers for (A, B, C, D, E, F, G, H, I, J, K, L, Z) {
-    ghost members = { λ row. A.in_front row.0 (B.in_front row.1.0 (C.in_front row.1.1.0 (D.in_front row.1.1.1.0 (E.in_front row.1.1.1.1.0 (F.in_front row.1.1.1.1.1.0 (G.in_front row.1.1.1.1.1.1.0 (H.in_front row.1.1.1.1.1.1.1.0 (I.in_front row.1.1.1.1.1.1.1.1.0 (J.in_front row.1.1.1.1.1.1.1.1.1.0 (K.in_front row.1.1.1.1.1.1.1.1.1.1.0 (L.in_front row.1.1.1.1.1.1.1.1.1.1.1.0 (Z.members row.1.1.1.1.1.1.1.1.1.1.1.1.0)))))))))))) };
+    ghost members = { λ row. A.in_front row.0 (B.in_front row.1.0
+        (C.in_front row.1.1.0 (D.in_front row.1.1.1.0 (E.in_front row.1.1.1.1.0
+        (F.in_front row.1.1.1.1.1.0 (G.in_front row.1.1.1.1.1.1.0
+        (H.in_front row.1.1.1.1.1.1.1.0 (I.in_front row.1.1.1.1.1.1.1.1.0
+        (J.in_front row.1.1.1.1.1.1.1.1.1.0 (K.in_front row.1.1.1.1.1.1.1.1.1.1.0
+        (L.in_front row.1.1.1.1.1.1.1.1.1.1.1.0 (Z.members row.1.1.1.1.1.1.1.1.1.1.1.1.0)))))))))))) };
 
     fn serialize_members<W: WriteExt>(&self, sequence: &mut Sequence<'_, W>) -> Result<()> {
         let others = Four(&self.8, &self.9, &self.10, &self.11, &self.12);
@@ -119,7 +131,13 @@ impl<
     M: SerializeMember,
     Z: SerializeMembers,
 > SerializeMembers for (A, B, C, D, E, F, G, H, I, J, K, L, M, Z) {
-    ghost members = { λ row. A.in_front row.0 (B.in_front row.1.0 (C.in_front row.1.1.0 (D.in_front row.1.1.1.0 (E.in_front row.1.1.1.1.0 (F.in_front row.1.1.1.1.1.0 (G.in_front row.1.1.1.1.1.1.0 (H.in_front row.1.1.1.1.1.1.1.0 (I.in_front row.1.1.1.1.1.1.1.1.0 (J.in_front row.1.1.1.1.1.1.1.1.1.0 (K.in_front row.1.1.1.1.1.1.1.1.1.1.0 (L.in_front row.1.1.1.1.1.1.1.1.1.1.1.0 (M.in_front row.1.1.1.1.1.1.1.1.1.1.1.1.0 (Z.members row.1.1.1.1.1.1.1.1.1.1.1.1.1.0))))))))))))) };
+    ghost members = { λ row. A.in_front row.0 (B.in_front row.1.0
+        (C.in_front row.1.1.0 (D.in_front row.1.1.1.0 (E.in_front row.1.1.1.1.0
+        (F.in_front row.1.1.1.1.1.0 (G.in_front row.1.1.1.1.1.1.0
+        (H.in_front row.1.1.1.1.1.1.1.0 (I.in_front row.1.1.1.1.1.1.1.1.0
+        (J.in_front row.1.1.1.1.1.1.1.1.1.0 (K.in_front row.1.1.1.1.1.1.1.1.1.1.0
+        (L.in_front row.1.1.1.1.1.1.1.1.1.1.1.0 (M.in_front row.1.1.1.1.1.1.1.1.1.1.1.1.0
+        (Z.members row.1.1.1.1.1.1.1.1.1.1.1.1.1.0))))))))))))) };
 
     fn serialize_members<W: WriteExt>(&self, sequence: &mut Sequence<'_, W>) -> Result<()> {
         let others = Five(&self.8, &self.9, &self.10, &self.11, &self.12, &self.13);
@@ -147,7 +165,13 @@ impl<
     N: SerializeMember,
     Z: SerializeMembers,
 > SerializeMembers for (A, B, C, D, E, F, G, H, I, J, K, L, M, N, Z) {
-    ghost members = { λ row. A.in_front row.0 (B.in_front row.1.0 (C.in_front row.1.1.0 (D.in_front row.1.1.1.0 (E.in_front row.1.1.1.1.0 (F.in_front row.1.1.1.1.1.0 (G.in_front row.1.1.1.1.1.1.0 (H.in_front row.1.1.1.1.1.1.1.0 (I.in_front row.1.1.1.1.1.1.1.1.0 (J.in_front row.1.1.1.1.1.1.1.1.1.0 (K.in_front row.1.1.1.1.1.1.1.1.1.1.0 (L.in_front row.1.1.1.1.1.1.1.1.1.1.1.0 (M.in_front row.1.1.1.1.1.1.1.1.1.1.1.1.0 (N.in_front row.1.1.1.1.1.1.1.1.1.1.1.1.1.0 (Z.members row.1.1.1.1.1.1.1.1.1.1.1.1.1.1.0)))))))))))))) };
+    ghost members = { λ row. A.in_front row.0 (B.in_front row.1.0
+        (C.in_front row.1.1.0 (D.in_front row.1.1.1.0 (E.in_front row.1.1.1.1.0
+        (F.in_front row.1.1.1.1.1.0 (G.in_front row.1.1.1.1.1.1.0
+        (H.in_front row.1.1.1.1.1.1.1.0 (I.in_front row.1.1.1.1.1.1.1.1.0
+        (J.in_front row.1.1.1.1.1.1.1.1.1.0 (K.in_front row.1.1.1.1.1.1.1.1.1.1.0
+        (L.in_front row.1.1.1.1.1.1.1.1.1.1.1.0 (M.in_front row.1.1.1.1.1.1.1.1.1.1.1.1.0
+        (N.in_front row.1.1.1.1.1.1.1.1.1.1.1.1.1.0 (Z.members row.1.1.1.1.1.1.1.1.1.1.1.1.1.1.0)))))))))))))) };
 
     fn serialize_members<W: WriteExt>(&self, sequence: &mut Sequence<'_, W>) -> Result<()> {
         let others = Six(
@@ -178,7 +202,14 @@ impl<
     O: SerializeMember,
     Z: SerializeMembers,
 > SerializeMembers for (A, B, C, D, E, F, G, H, I, J, K, L, M, N, O, Z) {
-    ghost members = { λ row. A.in_front row.0 (B.in_front row.1.0 (C.in_front row.1.1.0 (D.in_front row.1.1.1.0 (E.in_front row.1.1.1.1.0 (F.in_front row.1.1.1.1.1.0 (G.in_front row.1.1.1.1.1.1.0 (H.in_front row.1.1.1.1.1.1.1.0 (I.in_front row.1.1.1.1.1.1.1.1.0 (J.in_front row.1.1.1.1.1.1.1.1.1.0 (K.in_front row.1.1.1.1.1.1.1.1.1.1.0 (L.in_front row.1.1.1.1.1.1.1.1.1.1.1.0 (M.in_front row.1.1.1.1.1.1.1.1.1.1.1.1.0 (N.in_front row.1.1.1.1.1.1.1.1.1.1.1.1.1.0 (O.in_front row.1.1.1.1.1.1.1.1.1.1.1.1.1.1.0 (Z.members row.1.1.1.1.1.1.1.1.1.1.1.1.1.1.1.0))))))))))))))) };
+    ghost members = { λ row. A.in_front row.0 (B.in_front row.1.0
+        (C.in_front row.1.1.0 (D.in_front row.1.1.1.0 (E.in_front row.1.1.1.1.0
+        (F.in_front row.1.1.1.1.1.0 (G.in_front row.1.1.1.1.1.1.0
+        (H.in_front row.1.1.1.1.1.1.1.0 (I.in_front row.1.1.1.1.1.1.1.1.0
+        (J.in_front row.1.1.1.1.1.1.1.1.1.0 (K.in_front row.1.1.1.1.1.1.1.1.1.1.0
+        (L.in_front row.1.1.1.1.1.1.1.1.1.1.1.0 (M.in_front row.1.1.1.1.1.1.1.1.1.1.1.1.0
+        (N.in_front row.1.1.1.1.1.1.1.1.1.1.1.1.1.0 (O.in_front row.1.1.1.1.1.1.1.1.1.1.1.1.1.1.0
+        (Z.members row.1.1.1.1.1.1.1.1.1.1.1.1.1.1.1.0))))))))))))))) };
 
     fn serialize_members<W: WriteExt>(&self, sequence: &mut Sequence<'_, W>) -> Result<()> {
         let others = Seven(
@@ -210,7 +241,14 @@ impl<
     P: SerializeMember,
     Z: SerializeMembers,
 > SerializeMembers for (A, B, C, D, E, F, G, H, I, J, K, L, M, N, O, P, Z) {
-    ghost members = { λ row. A.in_front row.0 (B.in_front row.1.0 (C.in_front row.1.1.0 (D.in_front row.1.1.1.0 (E.in_front row.1.1.1.1.0 (F.in_front row.1.1.1.1.1.0 (G.in_front row.1.1.1.1.1.1.0 (H.in_front row.1.1.1.1.1.1.1.0 (I.in_front row.1.1.1.1.1.1.1.1.0 (J.in_front row.1.1.1.1.1.1.1.1.1.0 (K.in_front row.1.1.1.1.1.1.1.1.1.1.0 (L.in_front row.1.1.1.1.1.1.1.1.1.1.1.0 (M.in_front row.1.1.1.1.1.1.1.1.1.1.1.1.0 (N.in_front row.1.1.1.1.1.1.1.1.1.1.1.1.1.0 (O.in_front row.1.1.1.1.1.1.1.1.1.1.1.1.1.1.0 (P.in_front row.1.1.1.1.1.1.1.1.1.1.1.1.1.1.1.0 (Z.members row.1.1.1.1.1.1.1.1.1.1.1.1.1.1.1.1.0)))))))))))))))) };
+    ghost members = { λ row. A.in_front row.0 (B.in_front row.1.0
+        (C.in_front row.1.1.0 (D.in_front row.1.1.1.0 (E.in_front row.1.1.1.1.0
+        (F.in_front row.1.1.1.1.1.0 (G.in_front row.1.1.1.1.1.1.0
+        (H.in_front row.1.1.1.1.1.1.1.0 (I.in_front row.1.1.1.1.1.1.1.1.0
+        (J.in_front row.1.1.1.1.1.1.1.1.1.0 (K.in_front row.1.1.1.1.1.1.1.1.1.1.0
+        (L.in_front row.1.1.1.1.1.1.1.1.1.1.1.0 (M.in_front row.1.1.1.1.1.1.1.1.1.1.1.1.0
+        (N.in_front row.1.1.1.1.1.1.1.1.1.1.1.1.1.0 (O.in_front row.1.1.1.1.1.1.1.1.1.1.1.1.1.1.0
+        (P.in_front row.1.1.1.1.1.1.1.1.1.1.1.1.1.1.1.0 (Z.members row.1.1.1.1.1.1.1.1.1.1.1.1.1.1.1.1.0)))))))))))))))) };
 
     fn serialize_members<W: WriteExt>(&self, sequence: &mut Sequence<'_, W>) -> Result<()> {
         let others = Eight(

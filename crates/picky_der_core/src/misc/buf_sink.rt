@@ -1,5 +1,6 @@
 //! A vector as a sink.
-ghost use Rattle.std.specs.Prelude.{◌≡◌, suc, ◌+◌, ◌<◌, ◌≤◌, ◌++◌, length, take, drop, Some, IsOk, IfOk, OnOk, IfErr, OnErr, vec_len};
+ghost use Rattle.std.specs.Prelude.{◌≡◌, suc, ◌+◌, ◌<◌, ◌≤◌, ◌++◌, length, take, drop, Some, IsOk, IfOk, OnOk};
+ghost use Rattle.std.specs.Prelude.{IfErr, OnErr, vec_len};
 ghost use Rattle.std.specs.IoError.{error_kind};
 ghost use Rattle.std.specs.Io.KnownBytes.{Keeps, WriteAppends};
 ghost use Rattle.std.specs.Io.{WritesAtMost};
@@ -147,5 +148,10 @@ impl WriteExt for BufSink<'_> {
 
     ghost later_refl = { λ s. (refl, at_least (place_of s), refl) };
 
-    ghost later_trans = { λ s t u a b. (b.0 ∙ a.0, at_least_trans (place_of s) (place_of t) (place_of u) a.1 b.1, later_drop (place_of t) (place_of u) _ _ _ b.1 a.2 b.2) };
+    ghost later_trans = { λ s t u a b. (
+      b.0 ∙ a.0,
+      at_least_trans (place_of s) (place_of t) (place_of u) a.1 b.1,
+      later_drop
+          (place_of t) (place_of u) _ _ _ b.1 a.2 b.2,
+    ) };
 }

@@ -1,5 +1,6 @@
 //! A slice as a sink.
-ghost use Rattle.std.specs.Prelude.{◌≡◌, suc, ◌+◌, ◌-◌, ◌<◌, ◌≤◌, ◌++◌, ◌↔◌, min, length, take, drop, Ok, Some, IsOk, IfOk, OnOk, IfErr, OnErr};
+ghost use Rattle.std.specs.Prelude.{◌≡◌, suc, ◌+◌, ◌-◌, ◌<◌, ◌≤◌, ◌++◌, ◌↔◌, min, length, take, drop};
+ghost use Rattle.std.specs.Prelude.{Ok, Some, IsOk, IfOk, OnOk, IfErr, OnErr};
 ghost use Rattle.std.specs.IoError.{error_kind};
 ghost use Rattle.std.specs.declared.io.ErrorKind.{ErrorKind};
 ghost use Rattle.std.specs.declared.io.ErrorKind.TheVariants.{WriteZero};
@@ -143,5 +144,11 @@ impl WriteExt for SliceSink<'_> {
 
     ghost later_refl = { λ s. (refl, refl, at_least (filled_of s), refl) };
 
-    ghost later_trans = { λ s t u a b. (b.0 ∙ a.0, b.1 ∙ a.1, at_least_trans (filled_of s) (filled_of t) (filled_of u) a.2 b.2, later_drop (filled_of t) (filled_of u) _ _ _ b.2 a.3 b.3) };
+    ghost later_trans = { λ s t u a b. (
+      b.0 ∙ a.0,
+      b.1 ∙ a.1,
+      at_least_trans (filled_of s) (filled_of t)
+          (filled_of u) a.2 b.2,
+      later_drop (filled_of t) (filled_of u) _ _ _ b.2 a.3 b.3,
+    ) };
 }

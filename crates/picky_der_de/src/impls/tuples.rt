@@ -43,7 +43,8 @@ impl<A: Deserialize, B: Deserialize> Alike for (A, B) {
 impl<A: Deserialize, B: Deserialize> Deserialize for (A, B) {
     ghost shape = { Shape.fields ListKind.sequence (Shapes.more A.shape (Shapes.more B.shape Shapes.none)) };
 
-    ghost injective = { λ x y p q r e. let m = row_members e in both (A.injective x.0 y.0 p.1.0 q.1.0 r.1.0 (first_member m)) (B.injective x.1 y.1 p.1.1.0 q.1.1.0 r.1.1.0 (first_member (other_members m))) };
+    ghost injective = { λ x y p q r e. let m = row_members e in both (A.injective x.0 y.0 p.1.0 q.1.0 r.1.0 (first_member m))
+        (B.injective x.1 y.1 p.1.1.0 q.1.1.0 r.1.1.0 (first_member (other_members m))) };
 
     ghost sound = { (A.sound, (B.sound, tt)) };
 
@@ -65,7 +66,9 @@ impl<A: Deserialize, B: Deserialize, C: Deserialize> Alike for (A, B, C) {
 impl<A: Deserialize, B: Deserialize, C: Deserialize> Deserialize for (A, B, C) {
     ghost shape = { Shape.fields ListKind.sequence (Shapes.more A.shape (Shapes.more B.shape (Shapes.more C.shape Shapes.none))) };
 
-    ghost injective = { λ x y p q r e. let m = row_members e in both (both (A.injective x.0 y.0 p.1.0 q.1.0 r.1.0 (first_member m)) (B.injective x.1 y.1 p.1.1.0 q.1.1.0 r.1.1.0 (first_member (other_members m)))) (C.injective x.2 y.2 p.1.1.1.0 q.1.1.1.0 r.1.1.1.0 (first_member (other_members (other_members m)))) };
+    ghost injective = { λ x y p q r e. let m = row_members e in both (both (A.injective x.0 y.0 p.1.0 q.1.0 r.1.0 (first_member m))
+        (B.injective x.1 y.1 p.1.1.0 q.1.1.0 r.1.1.0 (first_member (other_members m))))
+        (C.injective x.2 y.2 p.1.1.1.0 q.1.1.1.0 r.1.1.1.0 (first_member (other_members (other_members m)))) };
 
     ghost sound = { (A.sound, (B.sound, (C.sound, tt))) };
 
@@ -85,9 +88,13 @@ impl<A: Deserialize, B: Deserialize, C: Deserialize, D: Deserialize> Alike for (
 }
 
 impl<A: Deserialize, B: Deserialize, C: Deserialize, D: Deserialize> Deserialize for (A, B, C, D) {
-    ghost shape = { Shape.fields ListKind.sequence (Shapes.more A.shape (Shapes.more B.shape (Shapes.more C.shape (Shapes.more D.shape Shapes.none)))) };
+    ghost shape = { Shape.fields ListKind.sequence (Shapes.more A.shape
+        (Shapes.more B.shape (Shapes.more C.shape (Shapes.more D.shape Shapes.none)))) };
 
-    ghost injective = { λ x y p q r e. let m = row_members e in both (both (both (A.injective x.0 y.0 p.1.0 q.1.0 r.1.0 (first_member m)) (B.injective x.1 y.1 p.1.1.0 q.1.1.0 r.1.1.0 (first_member (other_members m)))) (C.injective x.2 y.2 p.1.1.1.0 q.1.1.1.0 r.1.1.1.0 (first_member (other_members (other_members m))))) (D.injective x.3 y.3 p.1.1.1.1.0 q.1.1.1.1.0 r.1.1.1.1.0 (first_member (other_members (other_members (other_members m))))) };
+    ghost injective = { λ x y p q r e. let m = row_members e in both (both (both (A.injective x.0 y.0 p.1.0 q.1.0 r.1.0 (first_member m))
+        (B.injective x.1 y.1 p.1.1.0 q.1.1.0 r.1.1.0 (first_member (other_members m))))
+        (C.injective x.2 y.2 p.1.1.1.0 q.1.1.1.0 r.1.1.1.0 (first_member (other_members (other_members m)))))
+        (D.injective x.3 y.3 p.1.1.1.1.0 q.1.1.1.1.0 r.1.1.1.1.0 (first_member (other_members (other_members (other_members m))))) };
 
     ghost sound = { (A.sound, (B.sound, (C.sound, (D.sound, tt)))) };
 
@@ -109,9 +116,16 @@ impl<A: Deserialize, B: Deserialize, C: Deserialize, D: Deserialize, E: Deserial
 
 impl<A: Deserialize, B: Deserialize, C: Deserialize, D: Deserialize, E: Deserialize> Deserialize
     for (A, B, C, D, E) {
-    ghost shape = { Shape.fields ListKind.sequence (Shapes.more A.shape (Shapes.more B.shape (Shapes.more C.shape (Shapes.more D.shape (Shapes.more E.shape Shapes.none))))) };
+    ghost shape = { Shape.fields ListKind.sequence (Shapes.more A.shape
+        (Shapes.more B.shape (Shapes.more C.shape (Shapes.more D.shape (Shapes.more E.shape Shapes.none))))) };
 
-    ghost injective = { λ x y p q r e. let m = row_members e in both (both (both (both (A.injective x.0 y.0 p.1.0 q.1.0 r.1.0 (first_member m)) (B.injective x.1 y.1 p.1.1.0 q.1.1.0 r.1.1.0 (first_member (other_members m)))) (C.injective x.2 y.2 p.1.1.1.0 q.1.1.1.0 r.1.1.1.0 (first_member (other_members (other_members m))))) (D.injective x.3 y.3 p.1.1.1.1.0 q.1.1.1.1.0 r.1.1.1.1.0 (first_member (other_members (other_members (other_members m)))))) (E.injective x.4 y.4 p.1.1.1.1.1.0 q.1.1.1.1.1.0 r.1.1.1.1.1.0 (first_member (other_members (other_members (other_members (other_members m)))))) };
+    ghost injective = { λ x y p q r e. let m = row_members e in both
+        (both (both (both (A.injective x.0 y.0 p.1.0 q.1.0 r.1.0 (first_member m))
+        (B.injective x.1 y.1 p.1.1.0 q.1.1.0 r.1.1.0 (first_member (other_members m))))
+        (C.injective x.2 y.2 p.1.1.1.0 q.1.1.1.0 r.1.1.1.0 (first_member (other_members (other_members m)))))
+        (D.injective x.3 y.3 p.1.1.1.1.0 q.1.1.1.1.0 r.1.1.1.1.0 (first_member (other_members (other_members (other_members m))))))
+        (E.injective x.4 y.4 p.1.1.1.1.1.0 q.1.1.1.1.1.0 r.1.1.1.1.1.0
+        (first_member (other_members (other_members (other_members (other_members m)))))) };
 
     ghost sound = { (A.sound, (B.sound, (C.sound, (D.sound, (E.sound, tt))))) };
 
@@ -147,9 +161,18 @@ impl<
     E: Deserialize,
     F: Deserialize,
 > Deserialize for (A, B, C, D, E, F) {
-    ghost shape = { Shape.fields ListKind.sequence (Shapes.more A.shape (Shapes.more B.shape (Shapes.more C.shape (Shapes.more D.shape (Shapes.more E.shape (Shapes.more F.shape Shapes.none)))))) };
+    ghost shape = { Shape.fields ListKind.sequence (Shapes.more A.shape
+        (Shapes.more B.shape (Shapes.more C.shape (Shapes.more D.shape (Shapes.more E.shape (Shapes.more F.shape Shapes.none)))))) };
 
-    ghost injective = { λ x y p q r e. let m = row_members e in both (both (both (both (both (A.injective x.0 y.0 p.1.0 q.1.0 r.1.0 (first_member m)) (B.injective x.1 y.1 p.1.1.0 q.1.1.0 r.1.1.0 (first_member (other_members m)))) (C.injective x.2 y.2 p.1.1.1.0 q.1.1.1.0 r.1.1.1.0 (first_member (other_members (other_members m))))) (D.injective x.3 y.3 p.1.1.1.1.0 q.1.1.1.1.0 r.1.1.1.1.0 (first_member (other_members (other_members (other_members m)))))) (E.injective x.4 y.4 p.1.1.1.1.1.0 q.1.1.1.1.1.0 r.1.1.1.1.1.0 (first_member (other_members (other_members (other_members (other_members m))))))) (F.injective x.5 y.5 p.1.1.1.1.1.1.0 q.1.1.1.1.1.1.0 r.1.1.1.1.1.1.0 (first_member (other_members (other_members (other_members (other_members (other_members m))))))) };
+    ghost injective = { λ x y p q r e. let m = row_members e in both
+        (both (both (both (both (A.injective x.0 y.0 p.1.0 q.1.0 r.1.0 (first_member m))
+        (B.injective x.1 y.1 p.1.1.0 q.1.1.0 r.1.1.0 (first_member (other_members m))))
+        (C.injective x.2 y.2 p.1.1.1.0 q.1.1.1.0 r.1.1.1.0 (first_member (other_members (other_members m)))))
+        (D.injective x.3 y.3 p.1.1.1.1.0 q.1.1.1.1.0 r.1.1.1.1.0 (first_member (other_members (other_members (other_members m))))))
+        (E.injective x.4 y.4 p.1.1.1.1.1.0 q.1.1.1.1.1.0 r.1.1.1.1.1.0
+        (first_member (other_members (other_members (other_members (other_members m)))))))
+        (F.injective x.5 y.5 p.1.1.1.1.1.1.0 q.1.1.1.1.1.1.0 r.1.1.1.1.1.1.0
+        (first_member (other_members (other_members (other_members (other_members (other_members m))))))) };
 
     ghost sound = { (A.sound, (B.sound, (C.sound, (D.sound, (E.sound, (F.sound, tt)))))) };
 
@@ -187,9 +210,21 @@ impl<
     F: Deserialize,
     G: Deserialize,
 > Deserialize for (A, B, C, D, E, F, G) {
-    ghost shape = { Shape.fields ListKind.sequence (Shapes.more A.shape (Shapes.more B.shape (Shapes.more C.shape (Shapes.more D.shape (Shapes.more E.shape (Shapes.more F.shape (Shapes.more G.shape Shapes.none))))))) };
+    ghost shape = { Shape.fields ListKind.sequence (Shapes.more A.shape
+        (Shapes.more B.shape (Shapes.more C.shape (Shapes.more D.shape
+        (Shapes.more E.shape (Shapes.more F.shape (Shapes.more G.shape Shapes.none))))))) };
 
-    ghost injective = { λ x y p q r e. let m = row_members e in both (both (both (both (both (both (A.injective x.0 y.0 p.1.0 q.1.0 r.1.0 (first_member m)) (B.injective x.1 y.1 p.1.1.0 q.1.1.0 r.1.1.0 (first_member (other_members m)))) (C.injective x.2 y.2 p.1.1.1.0 q.1.1.1.0 r.1.1.1.0 (first_member (other_members (other_members m))))) (D.injective x.3 y.3 p.1.1.1.1.0 q.1.1.1.1.0 r.1.1.1.1.0 (first_member (other_members (other_members (other_members m)))))) (E.injective x.4 y.4 p.1.1.1.1.1.0 q.1.1.1.1.1.0 r.1.1.1.1.1.0 (first_member (other_members (other_members (other_members (other_members m))))))) (F.injective x.5 y.5 p.1.1.1.1.1.1.0 q.1.1.1.1.1.1.0 r.1.1.1.1.1.1.0 (first_member (other_members (other_members (other_members (other_members (other_members m)))))))) (G.injective x.6 y.6 p.1.1.1.1.1.1.1.0 q.1.1.1.1.1.1.1.0 r.1.1.1.1.1.1.1.0 (first_member (other_members (other_members (other_members (other_members (other_members (other_members m)))))))) };
+    ghost injective = { λ x y p q r e. let m = row_members e in both
+        (both (both (both (both (both (A.injective x.0 y.0 p.1.0 q.1.0 r.1.0 (first_member m))
+        (B.injective x.1 y.1 p.1.1.0 q.1.1.0 r.1.1.0 (first_member (other_members m))))
+        (C.injective x.2 y.2 p.1.1.1.0 q.1.1.1.0 r.1.1.1.0 (first_member (other_members (other_members m)))))
+        (D.injective x.3 y.3 p.1.1.1.1.0 q.1.1.1.1.0 r.1.1.1.1.0 (first_member (other_members (other_members (other_members m))))))
+        (E.injective x.4 y.4 p.1.1.1.1.1.0 q.1.1.1.1.1.0 r.1.1.1.1.1.0
+        (first_member (other_members (other_members (other_members (other_members m)))))))
+        (F.injective x.5 y.5 p.1.1.1.1.1.1.0 q.1.1.1.1.1.1.0 r.1.1.1.1.1.1.0
+        (first_member (other_members (other_members (other_members (other_members (other_members m))))))))
+        (G.injective x.6 y.6 p.1.1.1.1.1.1.1.0 q.1.1.1.1.1.1.1.0 r.1.1.1.1.1.1.1.0
+        (first_member (other_members (other_members (other_members (other_members (other_members (other_members m)))))))) };
 
     ghost sound = { (A.sound, (B.sound, (C.sound, (D.sound, (E.sound, (F.sound, (G.sound, tt))))))) };
 
@@ -229,9 +264,24 @@ impl<
     G: Deserialize,
     H: Deserialize,
 > Deserialize for (A, B, C, D, E, F, G, H) {
-    ghost shape = { Shape.fields ListKind.sequence (Shapes.more A.shape (Shapes.more B.shape (Shapes.more C.shape (Shapes.more D.shape (Shapes.more E.shape (Shapes.more F.shape (Shapes.more G.shape (Shapes.more H.shape Shapes.none)))))))) };
+    ghost shape = { Shape.fields ListKind.sequence (Shapes.more A.shape
+        (Shapes.more B.shape (Shapes.more C.shape (Shapes.more D.shape
+        (Shapes.more E.shape (Shapes.more F.shape (Shapes.more G.shape (Shapes.more H.shape Shapes.none)))))))) };
 
-    ghost injective = { λ x y p q r e. let m = row_members e in both (both (both (both (both (both (both (A.injective x.0 y.0 p.1.0 q.1.0 r.1.0 (first_member m)) (B.injective x.1 y.1 p.1.1.0 q.1.1.0 r.1.1.0 (first_member (other_members m)))) (C.injective x.2 y.2 p.1.1.1.0 q.1.1.1.0 r.1.1.1.0 (first_member (other_members (other_members m))))) (D.injective x.3 y.3 p.1.1.1.1.0 q.1.1.1.1.0 r.1.1.1.1.0 (first_member (other_members (other_members (other_members m)))))) (E.injective x.4 y.4 p.1.1.1.1.1.0 q.1.1.1.1.1.0 r.1.1.1.1.1.0 (first_member (other_members (other_members (other_members (other_members m))))))) (F.injective x.5 y.5 p.1.1.1.1.1.1.0 q.1.1.1.1.1.1.0 r.1.1.1.1.1.1.0 (first_member (other_members (other_members (other_members (other_members (other_members m)))))))) (G.injective x.6 y.6 p.1.1.1.1.1.1.1.0 q.1.1.1.1.1.1.1.0 r.1.1.1.1.1.1.1.0 (first_member (other_members (other_members (other_members (other_members (other_members (other_members m))))))))) (H.injective x.7 y.7 p.1.1.1.1.1.1.1.1.0 q.1.1.1.1.1.1.1.1.0 r.1.1.1.1.1.1.1.1.0 (first_member (other_members (other_members (other_members (other_members (other_members (other_members (other_members m))))))))) };
+    ghost injective = { λ x y p q r e. let m = row_members e in both
+        (both (both (both (both (both (both (A.injective x.0 y.0 p.1.0 q.1.0 r.1.0 (first_member m))
+        (B.injective x.1 y.1 p.1.1.0 q.1.1.0 r.1.1.0 (first_member (other_members m))))
+        (C.injective x.2 y.2 p.1.1.1.0 q.1.1.1.0 r.1.1.1.0 (first_member (other_members (other_members m)))))
+        (D.injective x.3 y.3 p.1.1.1.1.0 q.1.1.1.1.0 r.1.1.1.1.0 (first_member (other_members (other_members (other_members m))))))
+        (E.injective x.4 y.4 p.1.1.1.1.1.0 q.1.1.1.1.1.0 r.1.1.1.1.1.0
+        (first_member (other_members (other_members (other_members (other_members m)))))))
+        (F.injective x.5 y.5 p.1.1.1.1.1.1.0 q.1.1.1.1.1.1.0 r.1.1.1.1.1.1.0
+        (first_member (other_members (other_members (other_members (other_members (other_members m))))))))
+        (G.injective x.6 y.6 p.1.1.1.1.1.1.1.0 q.1.1.1.1.1.1.1.0 r.1.1.1.1.1.1.1.0
+        (first_member (other_members (other_members (other_members (other_members (other_members (other_members m)))))))))
+        (H.injective x.7 y.7 p.1.1.1.1.1.1.1.1.0 q.1.1.1.1.1.1.1.1.0 r.1.1.1.1.1.1.1.1.0
+        (first_member (other_members (other_members (other_members
+        (other_members (other_members (other_members (other_members m))))))))) };
 
     ghost sound = { (A.sound, (B.sound, (C.sound, (D.sound, (E.sound, (F.sound, (G.sound, (H.sound, tt)))))))) };
 

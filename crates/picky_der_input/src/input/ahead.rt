@@ -1,6 +1,7 @@
 //! Bytes that the reader has ahead, taken at once. Where it hasn't those that are wanted, nothing is taken, and the caller
 //! draws them one by one: so no refusal but that of memory is made here.
-ghost use Rattle.std.specs.Prelude.{◌≡◌, ◌+◌, ◌≤◌, ◌<◌, ◌∷◌, length, true, false, None, IfNone, IfSome, IfOk, IfErr, OnOk};
+ghost use Rattle.std.specs.Prelude.{◌≡◌, ◌+◌, ◌≤◌, ◌<◌, ◌∷◌, length, true, false, None, IfNone, IfSome, IfOk};
+ghost use Rattle.std.specs.Prelude.{IfErr, OnOk};
 ghost use Rattle.picky_der_core.specs.Element.{len as bytes_of, Begins};
 ghost use Rattle.picky_der_core.specs.Shape.{AreBytes};
 ghost use Rattle.picky_der_input.specs.Steps.{Takes, TakesBytes, Fails};

@@ -2,7 +2,8 @@
 ghost use Rattle.picky_der_core.specs.Failure.{failure_of};
 ghost use Rattle.std.specs.Prelude.{◌≡◌, ◌<◌, ◌≤◌, ℕ, List, length, None, Some, IfOk, IfErr, OnOk};
 ghost use Rattle.picky_der_core.specs.Shape.{AreBytes};
-ghost use Rattle.picky_der_input.specs.Steps.{Takes, TakesBytes, TakesBehind, GrowsByTaken, TakesPiece, StopsShort, Fails, IsMissing, TakesNoMemory};
+ghost use Rattle.picky_der_input.specs.Steps.{Takes, TakesBytes, TakesBehind, GrowsByTaken, TakesPiece, StopsShort, Fails, IsMissing};
+ghost use Rattle.picky_der_input.specs.Steps.{TakesNoMemory};
 
 use super::Input;
 use picky_der_core::misc::ReadExt;

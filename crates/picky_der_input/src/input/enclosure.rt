@@ -1,7 +1,8 @@
 //! Wrappers and application tags, opened.
 ghost use Rattle.std.specs.Prelude.{◌≡◌, ◌≤◌, ◌∷◌, [], None, IfNone, IfSome, IfOk, IfErr, OnOk};
 ghost use Rattle.picky_der_input.specs.Steps.{Takes};
-ghost use Rattle.picky_der_input.specs.Enclosures.{enclosure_tag, HasNumber, counts_unused_bits, implicit_number, BeginsEnclosure, OpensEnclosure, RefusesOpening, RefusesUnusedBits};
+ghost use Rattle.picky_der_input.specs.Enclosures.{enclosure_tag, HasNumber, counts_unused_bits, implicit_number, BeginsEnclosure};
+ghost use Rattle.picky_der_input.specs.Enclosures.{OpensEnclosure, RefusesOpening, RefusesUnusedBits};
 ghost use Rattle.picky_der_input.specs.TagNumbers.{RefusesNumber};
 
 use super::{Input, Outer};

@@ -1,7 +1,8 @@
 //! Bools, numbers and nulls: a header, a content, and its judge.
 ghost use Rattle.std.specs.Prelude.{◌≡◌, None, IfNone, IfSome, IfOk, IfErr, OnOk};
 ghost use Rattle.picky_der_input.specs.Steps.{TakesNoMemory};
-ghost use Rattle.picky_der_input.specs.Reading.{ReadsPlain, RefusesPlain, ReadsBoolean, RefusesBoolean, ReadsUnsigned, RefusesUnsigned, ReadsNull, RefusesNull};
+ghost use Rattle.picky_der_input.specs.Reading.{ReadsPlain, RefusesPlain, ReadsBoolean, RefusesBoolean, ReadsUnsigned, RefusesUnsigned};
+ghost use Rattle.picky_der_input.specs.Reading.{ReadsNull, RefusesNull};
 
 use super::Input;
 use crate::plain_kind::PlainKind;

@@ -32,7 +32,8 @@ impl<A: Serialize, B: Serialize, C: Serialize> Serialize for (A, B, C) {
 }
 
 impl<A: Serialize, B: Serialize, C: Serialize, D: Serialize> Serialize for (A, B, C, D) {
-    ghost meaning = { λ t. Tree.list ListKind.sequence (trees (A.meaning t.0 ∷ B.meaning t.1 ∷ C.meaning t.2 ∷ D.meaning t.3 ∷ [])) };
+    ghost meaning = { λ t. Tree.list ListKind.sequence (trees
+        (A.meaning t.0 ∷ B.meaning t.1 ∷ C.meaning t.2 ∷ D.meaning t.3 ∷ [])) };
 
     fn serialize<W: WriteExt>(&self, ser: &mut Serializer<W>) -> Result<usize> {
         Four(&self.0, &self.1, &self.2, &self.3, &()).serialize_sequence(ser)
@@ -41,7 +42,8 @@ impl<A: Serialize, B: Serialize, C: Serialize, D: Serialize> Serialize for (A, B
 
 impl<A: Serialize, B: Serialize, C: Serialize, D: Serialize, E: Serialize> Serialize
     for (A, B, C, D, E) {
-    ghost meaning = { λ t. Tree.list ListKind.sequence (trees (A.meaning t.0 ∷ B.meaning t.1 ∷ C.meaning t.2 ∷ D.meaning t.3 ∷ E.meaning t.4 ∷ [])) };
+    ghost meaning = { λ t. Tree.list ListKind.sequence (trees
+        (A.meaning t.0 ∷ B.meaning t.1 ∷ C.meaning t.2 ∷ D.meaning t.3 ∷ E.meaning t.4 ∷ [])) };
 
     fn serialize<W: WriteExt>(&self, ser: &mut Serializer<W>) -> Result<usize> {
         Five(&self.0, &self.1, &self.2, &self.3, &self.4, &()).serialize_sequence(ser)
@@ -50,7 +52,8 @@ impl<A: Serialize, B: Serialize, C: Serialize, D: Serialize, E: Serialize> Seria
 
 impl<A: Serialize, B: Serialize, C: Serialize, D: Serialize, E: Serialize, F: Serialize> Serialize
     for (A, B, C, D, E, F) {
-    ghost meaning = { λ t. Tree.list ListKind.sequence (trees (A.meaning t.0 ∷ B.meaning t.1 ∷ C.meaning t.2 ∷ D.meaning t.3 ∷ E.meaning t.4 ∷ F.meaning t.5 ∷ [])) };
+    ghost meaning = { λ t. Tree.list ListKind.sequence (trees
+        (A.meaning t.0 ∷ B.meaning t.1 ∷ C.meaning t.2 ∷ D.meaning t.3 ∷ E.meaning t.4 ∷ F.meaning t.5 ∷ [])) };
 
     fn serialize<W: WriteExt>(&self, ser: &mut Serializer<W>) -> Result<usize> {
         Six(&self.0, &self.1, &self.2, &self.3, &self.4, &self.5, &()).serialize_sequence(ser)
@@ -66,7 +69,9 @@ impl<
     F: Serialize,
     G: Serialize,
 > Serialize for (A, B, C, D, E, F, G) {
-    ghost meaning = { λ t. Tree.list ListKind.sequence (trees (A.meaning t.0 ∷ B.meaning t.1 ∷ C.meaning t.2 ∷ D.meaning t.3 ∷ E.meaning t.4 ∷ F.meaning t.5 ∷ G.meaning t.6 ∷ [])) };
+    ghost meaning = { λ t. Tree.list ListKind.sequence (trees
+        (A.meaning t.0 ∷ B.meaning t.1 ∷ C.meaning t.2 ∷ D.meaning t.3 ∷ E.meaning t.4 ∷ F.meaning t.5
+        ∷ G.meaning t.6 ∷ [])) };
 
     fn serialize<W: WriteExt>(&self, ser: &mut Serializer<W>) -> Result<usize> {
         Seven(
@@ -93,7 +98,9 @@ impl<
     G: Serialize,
     H: Serialize,
 > Serialize for (A, B, C, D, E, F, G, H) {
-    ghost meaning = { λ t. Tree.list ListKind.sequence (trees (A.meaning t.0 ∷ B.meaning t.1 ∷ C.meaning t.2 ∷ D.meaning t.3 ∷ E.meaning t.4 ∷ F.meaning t.5 ∷ G.meaning t.6 ∷ H.meaning t.7 ∷ [])) };
+    ghost meaning = { λ t. Tree.list ListKind.sequence (trees
+        (A.meaning t.0 ∷ B.meaning t.1 ∷ C.meaning t.2 ∷ D.meaning t.3 ∷ E.meaning t.4 ∷ F.meaning t.5
+        ∷ G.meaning t.6 ∷ H.meaning t.7 ∷ [])) };
 
     fn serialize<W: WriteExt>(&self, ser: &mut Serializer<W>) -> Result<usize> {
         Eight(
@@ -122,7 +129,9 @@ impl<
     H: Serialize,
     I: Serialize,
 > Serialize for (A, B, C, D, E, F, G, H, I) {
-    ghost meaning = { λ t. Tree.list ListKind.sequence (trees (A.meaning t.0 ∷ B.meaning t.1 ∷ C.meaning t.2 ∷ D.meaning t.3 ∷ E.meaning t.4 ∷ F.meaning t.5 ∷ G.meaning t.6 ∷ H.meaning t.7 ∷ I.meaning t.8 ∷ [])) };
+    ghost meaning = { λ t. Tree.list ListKind.sequence (trees
+        (A.meaning t.0 ∷ B.meaning t.1 ∷ C.meaning t.2 ∷ D.meaning t.3 ∷ E.meaning t.4 ∷ F.meaning t.5
+        ∷ G.meaning t.6 ∷ H.meaning t.7 ∷ I.meaning t.8 ∷ [])) };
 
     fn serialize<W: WriteExt>(&self, ser: &mut Serializer<W>) -> Result<usize> {
         let others = One(&self.8, &());
@@ -145,7 +154,9 @@ impl<
     I: Serialize,
     J: Serialize,
 > Serialize for (A, B, C, D, E, F, G, H, I, J) {
-    ghost meaning = { λ t. Tree.list ListKind.sequence (trees (A.meaning t.0 ∷ B.meaning t.1 ∷ C.meaning t.2 ∷ D.meaning t.3 ∷ E.meaning t.4 ∷ F.meaning t.5 ∷ G.meaning t.6 ∷ H.meaning t.7 ∷ I.meaning t.8 ∷ J.meaning t.9 ∷ [])) };
+    ghost meaning = { λ t. Tree.list ListKind.sequence (trees
+        (A.meaning t.0 ∷ B.meaning t.1 ∷ C.meaning t.2 ∷ D.meaning t.3 ∷ E.meaning t.4 ∷ F.meaning t.5
+        ∷ G.meaning t.6 ∷ H.meaning t.7 ∷ I.meaning t.8 ∷ J.meaning t.9 ∷ [])) };
 
     fn serialize<W: WriteExt>(&self, ser: &mut Serializer<W>) -> Result<usize> {
         let others = Two(&self.8, &self.9, &());
@@ -169,7 +180,9 @@ impl<
     J: Serialize,
     K: Serialize,
 > Serialize for (A, B, C, D, E, F, G, H, I, J, K) {
-    ghost meaning = { λ t. Tree.list ListKind.sequence (trees (A.meaning t.0 ∷ B.meaning t.1 ∷ C.meaning t.2 ∷ D.meaning t.3 ∷ E.meaning t.4 ∷ F.meaning t.5 ∷ G.meaning t.6 ∷ H.meaning t.7 ∷ I.meaning t.8 ∷ J.meaning t.9 ∷ K.meaning t.10 ∷ [])) };
+    ghost meaning = { λ t. Tree.list ListKind.sequence (trees
+        (A.meaning t.0 ∷ B.meaning t.1 ∷ C.meaning t.2 ∷ D.meaning t.3 ∷ E.meaning t.4 ∷ F.meaning t.5
+        ∷ G.meaning t.6 ∷ H.meaning t.7 ∷ I.meaning t.8 ∷ J.meaning t.9 ∷ K.meaning t.10 ∷ [])) };
 
     fn serialize<W: WriteExt>(&self, ser: &mut Serializer<W>) -> Result<usize> {
         let others = Three(&self.8, &self.9, &self.10, &());
@@ -194,7 +207,9 @@ impl<
     K: Serialize,
     L: Serialize,
 > Serialize for (A, B, C, D, E, F, G, H, I, J, K, L) {
-    ghost meaning = { λ t. Tree.list ListKind.sequence (trees (A.meaning t.0 ∷ B.meaning t.1 ∷ C.meaning t.2 ∷ D.meaning t.3 ∷ E.meaning t.4 ∷ F.meaning t.5 ∷ G.meaning t.6 ∷ H.meaning t.7 ∷ I.meaning t.8 ∷ J.meaning t.9 ∷ K.meaning t.10 ∷ L.meaning t.11 ∷ [])) };
+    ghost meaning = { λ t. Tree.list ListKind.sequence (trees
+        (A.meaning t.0 ∷ B.meaning t.1 ∷ C.meaning t.2 ∷ D.meaning t.3 ∷ E.meaning t.4 ∷ F.meaning t.5
+        ∷ G.meaning t.6 ∷ H.meaning t.7 ∷ I.meaning t.8 ∷ J.meaning t.9 ∷ K.meaning t.10 ∷ L.meaning t.11 ∷ [])) };
 
     fn serialize<W: WriteExt>(&self, ser: &mut Serializer<W>) -> Result<usize> {
         let others = Four(&self.8, &self.9, &self.10, &self.11, &());
@@ -220,7 +235,11 @@ impl<
     L: Serialize,
     M: Serialize,
 > Serialize for (A, B, C, D, E, F, G, H, I, J, K, L, M) {
-    ghost meaning = { λ t. Tree.list ListKind.sequence (trees (A.meaning t.0 ∷ B.meaning t.1.0 ∷ C.meaning t.1.1.0 ∷ D.meaning t.1.1.1.0 ∷ E.meaning t.1.1.1.1.0 ∷ F.meaning t.1.1.1.1.1.0 ∷ G.meaning t.1.1.1.1.1.1.0 ∷ H.meaning t.1.1.1.1.1.1.1.0 ∷ I.meaning t.1.1.1.1.1.1.1.1.0 ∷ J.meaning t.1.1.1.1.1.1.1.1.1.0 ∷ K.meaning t.1.1.1.1.1.1.1.1.1.1.0 ∷ L.meaning t.1.1.1.1.1.1.1.1.1.1.1.0 ∷ M.meaning t.1.1.1.1.1.1.1.1.1.1.1.1.0 ∷ [])) };
+    ghost meaning = { λ t. Tree.list ListKind.sequence (trees
+        (A.meaning t.0 ∷ B.meaning t.1.0 ∷ C.meaning t.1.1.0 ∷ D.meaning t.1.1.1.0 ∷ E.meaning t.1.1.1.1.0
+        ∷ F.meaning t.1.1.1.1.1.0 ∷ G.meaning t.1.1.1.1.1.1.0 ∷ H.meaning t.1.1.1.1.1.1.1.0
+        ∷ I.meaning t.1.1.1.1.1.1.1.1.0 ∷ J.meaning t.1.1.1.1.1.1.1.1.1.0 ∷ K.meaning t.1.1.1.1.1.1.1.1.1.1.0
+        ∷ L.meaning t.1.1.1.1.1.1.1.1.1.1.1.0 ∷ M.meaning t.1.1.1.1.1.1.1.1.1.1.1.1.0 ∷ [])) };
 
     fn serialize<W: WriteExt>(&self, ser: &mut Serializer<W>) -> Result<usize> {
         let others = Five(&self.8, &self.9, &self.10, &self.11, &self.12, &());
@@ -247,7 +266,12 @@ impl<
     M: Serialize,
     N: Serialize,
 > Serialize for (A, B, C, D, E, F, G, H, I, J, K, L, M, N) {
-    ghost meaning = { λ t. Tree.list ListKind.sequence (trees (A.meaning t.0 ∷ B.meaning t.1.0 ∷ C.meaning t.1.1.0 ∷ D.meaning t.1.1.1.0 ∷ E.meaning t.1.1.1.1.0 ∷ F.meaning t.1.1.1.1.1.0 ∷ G.meaning t.1.1.1.1.1.1.0 ∷ H.meaning t.1.1.1.1.1.1.1.0 ∷ I.meaning t.1.1.1.1.1.1.1.1.0 ∷ J.meaning t.1.1.1.1.1.1.1.1.1.0 ∷ K.meaning t.1.1.1.1.1.1.1.1.1.1.0 ∷ L.meaning t.1.1.1.1.1.1.1.1.1.1.1.0 ∷ M.meaning t.1.1.1.1.1.1.1.1.1.1.1.1.0 ∷ N.meaning t.1.1.1.1.1.1.1.1.1.1.1.1.1.0 ∷ [])) };
+    ghost meaning = { λ t. Tree.list ListKind.sequence (trees
+        (A.meaning t.0 ∷ B.meaning t.1.0 ∷ C.meaning t.1.1.0 ∷ D.meaning t.1.1.1.0 ∷ E.meaning t.1.1.1.1.0
+        ∷ F.meaning t.1.1.1.1.1.0 ∷ G.meaning t.1.1.1.1.1.1.0 ∷ H.meaning t.1.1.1.1.1.1.1.0
+        ∷ I.meaning t.1.1.1.1.1.1.1.1.0 ∷ J.meaning t.1.1.1.1.1.1.1.1.1.0 ∷ K.meaning t.1.1.1.1.1.1.1.1.1.1.0
+        ∷ L.meaning t.1.1.1.1.1.1.1.1.1.1.1.0 ∷ M.meaning t.1.1.1.1.1.1.1.1.1.1.1.1.0
+        ∷ N.meaning t.1.1.1.1.1.1.1.1.1.1.1.1.1.0 ∷ [])) };
 
     fn serialize<W: WriteExt>(&self, ser: &mut Serializer<W>) -> Result<usize> {
         let others = Six(
@@ -283,7 +307,12 @@ impl<
     N: Serialize,
     O: Serialize,
 > Serialize for (A, B, C, D, E, F, G, H, I, J, K, L, M, N, O) {
-    ghost meaning = { λ t. Tree.list ListKind.sequence (trees (A.meaning t.0 ∷ B.meaning t.1.0 ∷ C.meaning t.1.1.0 ∷ D.meaning t.1.1.1.0 ∷ E.meaning t.1.1.1.1.0 ∷ F.meaning t.1.1.1.1.1.0 ∷ G.meaning t.1.1.1.1.1.1.0 ∷ H.meaning t.1.1.1.1.1.1.1.0 ∷ I.meaning t.1.1.1.1.1.1.1.1.0 ∷ J.meaning t.1.1.1.1.1.1.1.1.1.0 ∷ K.meaning t.1.1.1.1.1.1.1.1.1.1.0 ∷ L.meaning t.1.1.1.1.1.1.1.1.1.1.1.0 ∷ M.meaning t.1.1.1.1.1.1.1.1.1.1.1.1.0 ∷ N.meaning t.1.1.1.1.1.1.1.1.1.1.1.1.1.0 ∷ O.meaning t.1.1.1.1.1.1.1.1.1.1.1.1.1.1.0 ∷ [])) };
+    ghost meaning = { λ t. Tree.list ListKind.sequence (trees
+        (A.meaning t.0 ∷ B.meaning t.1.0 ∷ C.meaning t.1.1.0 ∷ D.meaning t.1.1.1.0 ∷ E.meaning t.1.1.1.1.0
+        ∷ F.meaning t.1.1.1.1.1.0 ∷ G.meaning t.1.1.1.1.1.1.0 ∷ H.meaning t.1.1.1.1.1.1.1.0
+        ∷ I.meaning t.1.1.1.1.1.1.1.1.0 ∷ J.meaning t.1.1.1.1.1.1.1.1.1.0 ∷ K.meaning t.1.1.1.1.1.1.1.1.1.1.0
+        ∷ L.meaning t.1.1.1.1.1.1.1.1.1.1.1.0 ∷ M.meaning t.1.1.1.1.1.1.1.1.1.1.1.1.0
+        ∷ N.meaning t.1.1.1.1.1.1.1.1.1.1.1.1.1.0 ∷ O.meaning t.1.1.1.1.1.1.1.1.1.1.1.1.1.1.0 ∷ [])) };
 
     fn serialize<W: WriteExt>(&self, ser: &mut Serializer<W>) -> Result<usize> {
         let others = Seven(
@@ -321,7 +350,13 @@ impl<
     O: Serialize,
     P: Serialize,
 > Serialize for (A, B, C, D, E, F, G, H, I, J, K, L, M, N, O, P) {
-    ghost meaning = { λ t. Tree.list ListKind.sequence (trees (A.meaning t.0 ∷ B.meaning t.1.0 ∷ C.meaning t.1.1.0 ∷ D.meaning t.1.1.1.0 ∷ E.meaning t.1.1.1.1.0 ∷ F.meaning t.1.1.1.1.1.0 ∷ G.meaning t.1.1.1.1.1.1.0 ∷ H.meaning t.1.1.1.1.1.1.1.0 ∷ I.meaning t.1.1.1.1.1.1.1.1.0 ∷ J.meaning t.1.1.1.1.1.1.1.1.1.0 ∷ K.meaning t.1.1.1.1.1.1.1.1.1.1.0 ∷ L.meaning t.1.1.1.1.1.1.1.1.1.1.1.0 ∷ M.meaning t.1.1.1.1.1.1.1.1.1.1.1.1.0 ∷ N.meaning t.1.1.1.1.1.1.1.1.1.1.1.1.1.0 ∷ O.meaning t.1.1.1.1.1.1.1.1.1.1.1.1.1.1.0 ∷ P.meaning t.1.1.1.1.1.1.1.1.1.1.1.1.1.1.1.0 ∷ [])) };
+    ghost meaning = { λ t. Tree.list ListKind.sequence (trees
+        (A.meaning t.0 ∷ B.meaning t.1.0 ∷ C.meaning t.1.1.0 ∷ D.meaning t.1.1.1.0 ∷ E.meaning t.1.1.1.1.0
+        ∷ F.meaning t.1.1.1.1.1.0 ∷ G.meaning t.1.1.1.1.1.1.0 ∷ H.meaning t.1.1.1.1.1.1.1.0
+        ∷ I.meaning t.1.1.1.1.1.1.1.1.0 ∷ J.meaning t.1.1.1.1.1.1.1.1.1.0 ∷ K.meaning t.1.1.1.1.1.1.1.1.1.1.0
+        ∷ L.meaning t.1.1.1.1.1.1.1.1.1.1.1.0 ∷ M.meaning t.1.1.1.1.1.1.1.1.1.1.1.1.0
+        ∷ N.meaning t.1.1.1.1.1.1.1.1.1.1.1.1.1.0 ∷ O.meaning t.1.1.1.1.1.1.1.1.1.1.1.1.1.1.0
+        ∷ P.meaning t.1.1.1.1.1.1.1.1.1.1.1.1.1.1.1.0 ∷ [])) };
 
     fn serialize<W: WriteExt>(&self, ser: &mut Serializer<W>) -> Result<usize> {
         let others = Eight(
