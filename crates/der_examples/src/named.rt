@@ -1,6 +1,6 @@
 //! A struct with a field of any type.
 ghost use Rattle.std.proofs.Common.{rules};
-ghost use Rattle.picky_der_de.specs.Telling.{by_law, told, tells};
+ghost use Rattle.picky_der_de.specs.Telling.{by_law, by_parts, tells};
 
 use picky_asn1_der::asn1::ByteBuf;
 use picky_asn1_der::misc::{ReadExt, WriteExt};
@@ -39,7 +39,7 @@ impl<T: Deserialize> Record for Named<T> {
 impl<T: Deserialize> Deserialize for Named<T> {
     ghost shape = { ⟦<Row<Fields<T>> as Deserialize>⟧.shape };
 
-    ghost injective = { told ⟦<Row<Fields<T>> as Deserialize>⟧.shape (Prim.search (tells, by_law T.shape T.injective) depth 99) };
+    ghost injective = { by_parts ⟦<Row<Fields<T>> as Deserialize>⟧.shape (Prim.search (tells, by_law T.shape T.injective) depth 99) };
 
     ghost sound = { Prim.search (rules, T.sound) depth 99 };
 

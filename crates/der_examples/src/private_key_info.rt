@@ -2,7 +2,7 @@
 ghost use Rattle.std.proofs.Common.{rules};
 ghost use Rattle.picky_der_core.specs.Shape.{Shape};
 ghost use Rattle.picky_der_core.specs.Tree.{ListKind, Tree};
-ghost use Rattle.picky_der_de.specs.Telling.{told, tells};
+ghost use Rattle.picky_der_de.specs.Telling.{by_parts, tells};
 ghost use Rattle.picky_asn1_der.specs.RawLaws.{raw_is_last};
 
 use der_x509::AlgorithmIdentifier;
@@ -70,7 +70,7 @@ impl Struct for PrivateKeyInfo {
 impl Deserialize for PrivateKeyInfo {
     ghost shape = { Shape.struct_of ListKind.sequence ⟦<Members as DeserializeLayout>⟧.layout };
 
-    ghost injective = { told (Shape.struct_of ListKind.sequence ⟦<Members as DeserializeLayout>⟧.layout)
+    ghost injective = { by_parts (Shape.struct_of ListKind.sequence ⟦<Members as DeserializeLayout>⟧.layout)
         (Prim.search (rules, tells, raw_is_last) depth 99) };
 
     ghost sound = { Prim.search (rules, raw_is_last) depth 99 };

@@ -1,6 +1,6 @@
 //! A struct of sixteen fields.
 ghost use Rattle.std.proofs.Common.{rules};
-ghost use Rattle.picky_der_de.specs.Telling.{told, tells};
+ghost use Rattle.picky_der_de.specs.Telling.{by_parts, tells};
 
 use crate::{Gust, Moment};
 use picky_asn1_der::asn1::{Asn1SetOf, ByteBuf, ExplicitContextTag, OctetStringAsn1Container};
@@ -135,7 +135,7 @@ impl Record for Report {
 impl Deserialize for Report {
     ghost shape = { ⟦<Row<Fields> as Deserialize>⟧.shape };
 
-    ghost injective = { told ⟦<Row<Fields> as Deserialize>⟧.shape (Prim.search tells depth 99) };
+    ghost injective = { by_parts ⟦<Row<Fields> as Deserialize>⟧.shape (Prim.search tells depth 99) };
 
     ghost sound = { Prim.search rules depth 99 };
 

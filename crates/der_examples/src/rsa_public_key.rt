@@ -1,6 +1,6 @@
 //! The numbers of a public key.
 ghost use Rattle.std.proofs.Common.{rules};
-ghost use Rattle.picky_der_de.specs.Telling.{told, tells};
+ghost use Rattle.picky_der_de.specs.Telling.{by_parts, tells};
 
 use picky_asn1_der::asn1::IntegerAsn1;
 use picky_asn1_der::misc::{ReadExt, WriteExt};
@@ -42,7 +42,7 @@ impl Record for RsaPublicKey {
 impl Deserialize for RsaPublicKey {
     ghost shape = { ⟦<Row<Fields> as Deserialize>⟧.shape };
 
-    ghost injective = { told ⟦<Row<Fields> as Deserialize>⟧.shape (Prim.search tells depth 99) };
+    ghost injective = { by_parts ⟦<Row<Fields> as Deserialize>⟧.shape (Prim.search tells depth 99) };
 
     ghost sound = { Prim.search rules depth 99 };
 

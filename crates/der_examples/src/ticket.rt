@@ -1,6 +1,6 @@
 //! A ticket, under its application tag.
 ghost use Rattle.std.proofs.Common.{rules};
-ghost use Rattle.picky_der_de.specs.Telling.{told, tells};
+ghost use Rattle.picky_der_de.specs.Telling.{by_parts, tells};
 
 use crate::{EncryptedData, PrincipalName};
 use picky_asn1_der::application_tag::ApplicationTag;
@@ -62,7 +62,7 @@ impl Record for TicketBody {
 impl Deserialize for TicketBody {
     ghost shape = { ⟦<Row<Fields> as Deserialize>⟧.shape };
 
-    ghost injective = { told ⟦<Row<Fields> as Deserialize>⟧.shape (Prim.search tells depth 99) };
+    ghost injective = { by_parts ⟦<Row<Fields> as Deserialize>⟧.shape (Prim.search tells depth 99) };
 
     ghost sound = { Prim.search rules depth 99 };
 

@@ -1,6 +1,6 @@
 //! A struct with lists.
 ghost use Rattle.std.proofs.Common.{rules};
-ghost use Rattle.picky_der_de.specs.Telling.{told, tells};
+ghost use Rattle.picky_der_de.specs.Telling.{by_parts, tells};
 
 use crate::Point;
 use picky_asn1_der::asn1::{Asn1SetOf, ByteBuf, ExplicitContextTag};
@@ -55,7 +55,7 @@ impl Record for Track {
 impl Deserialize for Track {
     ghost shape = { ⟦<Row<Fields> as Deserialize>⟧.shape };
 
-    ghost injective = { told ⟦<Row<Fields> as Deserialize>⟧.shape (Prim.search tells depth 99) };
+    ghost injective = { by_parts ⟦<Row<Fields> as Deserialize>⟧.shape (Prim.search tells depth 99) };
 
     ghost sound = { Prim.search rules depth 99 };
 

@@ -13,10 +13,12 @@ pub struct SlowReader<'a> {
 }
 
 impl<'a> SlowReader<'a> {
+    ghost use Rattle.der_fixtures.specs.Devices.{left_of, total_of};
+
     /// A reader of these bytes.
     pub fn new(bytes: &'a [u8]) -> SlowReader<'a>
-        ensures left { result.rest.now ≡ bytes.now }
-        ensures total { result.total ≡ length bytes.now }
+        ensures left { left_of result ≡ bytes.now }
+        ensures total { total_of result ≡ length bytes.now }
     {
         SlowReader {
             rest: bytes,
@@ -26,14 +28,16 @@ impl<'a> SlowReader<'a> {
 
     /// How many bytes it has given.
     pub fn given(&self) -> usize
-        ensures { result + length self.now.rest.now ≡ self.now.total }
+        ensures { result + length (left_of self.now) ≡ total_of self.now }
     {
         self.total - self.rest.len()
     }
 }
 
 impl Read for SlowReader<'_> {
-    ghost remaining = { λ r. Some r.rest.now };
+    ghost use Rattle.der_fixtures.specs.Devices.{left_of};
+
+    ghost remaining = { λ r. Some (left_of r) };
 
     fn read(&mut self, buf: &mut [u8]) -> io::Result<usize> {
         if buf.is_empty() {
@@ -59,11 +63,13 @@ pub struct FailingReader<'a> {
 }
 
 impl<'a> FailingReader<'a> {
+    ghost use Rattle.der_fixtures.specs.Devices.{left_of, total_of, inner_of};
+
     /// A reader of these bytes whose call number `call` fails with an error of this kind. Calls are counted from 1, and at
     /// 0 none fails.
     pub fn new(bytes: &'a [u8], call: usize, kind: ErrorKind) -> FailingReader<'a>
-        ensures left { result.reader.rest.now ≡ bytes.now }
-        ensures total { result.reader.total ≡ length bytes.now }
+        ensures left { left_of (inner_of result) ≡ bytes.now }
+        ensures total { total_of (inner_of result) ≡ length bytes.now }
     {
         FailingReader {
             reader: SlowReader::new(bytes),
@@ -74,14 +80,16 @@ impl<'a> FailingReader<'a> {
 
     /// How many bytes it has given.
     pub fn given(&self) -> usize
-        ensures { result + length self.now.reader.rest.now ≡ self.now.reader.total }
+        ensures { result + length (left_of (inner_of self.now)) ≡ total_of (inner_of self.now) }
     {
         self.reader.given()
     }
 }
 
 impl Read for FailingReader<'_> {
-    ghost remaining = { λ r. Some r.reader.rest.now };
+    ghost use Rattle.der_fixtures.specs.Devices.{left_of, inner_of};
+
+    ghost remaining = { λ r. Some (left_of (inner_of r)) };
 
     fn read(&mut self, buf: &mut [u8]) -> io::Result<usize> {
         match self.before {

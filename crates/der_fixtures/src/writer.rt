@@ -1,5 +1,6 @@
 //! Writers into a vector of their own.
 ghost use Rattle.std.specs.Prelude.{◌≡◌, [], Some};
+ghost use Rattle.der_fixtures.specs.Devices.{taken_by, writer_of};
 
 use std::alloc::Global;
 use std::io;
@@ -14,7 +15,7 @@ pub struct SlowWriter {
 impl SlowWriter {
     /// A writer that has taken nothing yet.
     pub fn new(alloc: Global) -> SlowWriter
-        ensures { result.taken.items ≡ [] }
+        ensures { taken_by result ≡ [] }
     {
         SlowWriter {
             taken: Vec::new(alloc),
@@ -23,14 +24,14 @@ impl SlowWriter {
 
     /// The bytes that it has taken.
     pub fn taken(&self) -> &[u8]
-        ensures { result.now ≡ self.now.taken.items }
+        ensures { result.now ≡ taken_by self.now }
     {
         &self.taken
     }
 }
 
 impl Write for SlowWriter {
-    ghost contents = { λ w. Some w.taken.items };
+    ghost contents = { λ w. Some (taken_by w) };
 
     fn write(&mut self, bytes: &[u8]) -> io::Result<usize> {
         match bytes.first() {
@@ -68,7 +69,7 @@ pub struct FailingWriter {
 impl FailingWriter {
     /// A writer whose call number `call` is refused so. Calls are counted from 1, and at 0 none is refused.
     pub fn new(alloc: Global, call: usize, refusal: Refusal) -> FailingWriter
-        ensures { result.writer.taken.items ≡ [] }
+        ensures { taken_by (writer_of result) ≡ [] }
     {
         FailingWriter {
             writer: SlowWriter::new(alloc),
@@ -79,14 +80,14 @@ impl FailingWriter {
 
     /// The bytes that it has taken.
     pub fn taken(&self) -> &[u8]
-        ensures { result.now ≡ self.now.writer.taken.items }
+        ensures { result.now ≡ taken_by (writer_of self.now) }
     {
         self.writer.taken()
     }
 }
 
 impl Write for FailingWriter {
-    ghost contents = { λ w. Some w.writer.taken.items };
+    ghost contents = { λ w. Some (taken_by (writer_of w)) };
 
     fn write(&mut self, bytes: &[u8]) -> io::Result<usize> {
         match self.before {

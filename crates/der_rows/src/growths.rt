@@ -111,7 +111,7 @@ pub(crate) fn is<T: PartialEq + Drop>(
     }
 }
 
-// The value, and how many bytes were taken; or why the bytes are refused, unless it is for want of memory. A deserializer that
+// The value, and how many bytes were taken; or why the bytes are refused, unless memory was refused. A deserializer that
 // was refused memory answers so again, and takes nothing.
 fn deserialized<T: Deserialize>(
     alloc: Global,

@@ -1,6 +1,6 @@
 //! A struct with an element that is kept as it is.
 ghost use Rattle.std.proofs.Common.{rules};
-ghost use Rattle.picky_der_de.specs.Telling.{told, tells};
+ghost use Rattle.picky_der_de.specs.Telling.{by_parts, tells};
 
 use picky_asn1_der::misc::{ReadExt, WriteExt};
 use picky_asn1_der::{
@@ -38,7 +38,7 @@ impl Record for Kept {
 impl Deserialize for Kept {
     ghost shape = { ⟦<Row<Fields> as Deserialize>⟧.shape };
 
-    ghost injective = { told ⟦<Row<Fields> as Deserialize>⟧.shape (Prim.search tells depth 99) };
+    ghost injective = { by_parts ⟦<Row<Fields> as Deserialize>⟧.shape (Prim.search tells depth 99) };
 
     ghost sound = { Prim.search rules depth 99 };
 

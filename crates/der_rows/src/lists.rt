@@ -2,7 +2,9 @@
 
 use crate::answers::{Input, read_as};
 use crate::wrappers;
-use picky_asn1_der::asn1::{Asn1SequenceOf, Asn1SetOf, ByteBuf, ObjectIdentifierAsn1};
+use picky_asn1_der::asn1::{
+    Asn1SequenceOf, Asn1SetOf, ByteBuf, ExplicitContextTag0, ObjectIdentifierAsn1,
+};
 use picky_asn1_der::{Asn1RawDer, Row};
 use std::alloc::{AllocError, Global};
 
@@ -20,6 +22,9 @@ pub(crate) fn answer(alloc: Global, name: &str, input: &Input) -> Result<String,
         "Asn1SetOf<u16>" => read_as::<Asn1SetOf<u16>>(alloc, input),
         "Asn1SetOf<ByteBuf>" => read_as::<Asn1SetOf<ByteBuf>>(alloc, input),
         "Asn1SetOf<Asn1SetOf<u8>>" => read_as::<Asn1SetOf<Asn1SetOf<u8>>>(alloc, input),
+        "Asn1SetOf<ExplicitContextTag0<Asn1SetOf<u8>>>" => read_as::<
+            Asn1SetOf<ExplicitContextTag0<Asn1SetOf<u8>>>,
+        >(alloc, input),
         "[u8; 0]" => read_as::<[u8; 0]>(alloc, input),
         "[u8; 1]" => read_as::<[u8; 1]>(alloc, input),
         "[u8; 2]" => read_as::<[u8; 2]>(alloc, input),

@@ -28,6 +28,7 @@ mod growths;
 mod hand_written;
 mod hostile;
 mod kept;
+mod lamp;
 mod lists;
 mod members;
 mod nested_tags;

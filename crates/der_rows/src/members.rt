@@ -6,7 +6,7 @@ use picky_asn1_der::misc::ReadExt;
 use picky_asn1_der::{Deserializer, de};
 use std::alloc::{AllocError, Global};
 
-/// What a call answers. Behind one that opens a sequence stand the calls of the sequence, in parentheses and with `; `
+/// What a call answers. Behind one that opens a sequence stand the calls of the sequence, in braces and with `; `
 /// between any two. Where the last of them isn't `end` the sequence is dropped.
 pub(crate) fn answer<R: ReadExt>(
     alloc: Global,

@@ -1,5 +1,5 @@
 //! Explicit tags in one another.
-ghost use Rattle.picky_der_de.specs.Telling.{told, tells};
+ghost use Rattle.picky_der_de.specs.Telling.{by_parts, tells};
 
 use picky_asn1_der::asn1::ExplicitContextTag;
 use picky_asn1_der::misc::{ReadExt, WriteExt};
@@ -45,7 +45,7 @@ impl Alike for LastEight {
 impl Deserialize for LastEight {
     ghost shape = { ⟦<Eight as Deserialize>⟧.shape };
 
-    ghost injective = { told ⟦<Eight as Deserialize>⟧.shape (Prim.search tells depth 99) };
+    ghost injective = { by_parts ⟦<Eight as Deserialize>⟧.shape (Prim.search tells depth 99) };
 
     ghost sound = { tt };
 

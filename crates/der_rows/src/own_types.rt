@@ -2,6 +2,7 @@
 
 use crate::answers::{Input, read_as};
 use crate::kept::Kept;
+use crate::lamp::Lamp;
 use crate::nested_tags::{FourTags, SixteenTags};
 use crate::seen::Seen;
 use der_examples::{
@@ -34,6 +35,8 @@ pub(crate) fn answer(alloc: Global, name: &str, input: &Input) -> Result<String,
         "Report" => read_as::<Report>(alloc, input),
         "TbsCertificate" => read_as::<TbsCertificate>(alloc, input),
         "Extension" => read_as::<Extension>(alloc, input),
+        "ImplicitContextTag1<Extension>" => read_as::<ImplicitContextTag1<Extension>>(alloc, input),
+        "Lamp" => read_as::<Lamp>(alloc, input),
         "der_x509::AlgorithmIdentifier" => {
             read_as::<der_x509::AlgorithmIdentifier>(alloc, input)
         }

@@ -50,7 +50,7 @@ fn answer_wide_number<R: ReadExt>(
     }
 }
 
-// Truth values and nulls.
+// Bools and nulls.
 fn answer_plain<R: ReadExt>(
     alloc: Global,
     de: &mut Deserializer<R>,

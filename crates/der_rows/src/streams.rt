@@ -91,7 +91,7 @@ fn peek_answers<R: ReadExt>(
 ) -> Result<String, AllocError> {
     Ok(answer_each!(alloc; name in names, ", ", {
         let answer = match name {
-            "peek_one" => shown(alloc, &kind_of(reader.peek_one()))?,
+            "peek_one" => shown(alloc, &with_kind(reader.peek_one()))?,
             _ => answer_read(alloc, reader, name)?,
         };
         let pos = reader.pos();
@@ -107,14 +107,14 @@ fn answer_read<R: ReadExt>(
     match name.split_once(" ") {
         Some((call, room)) => answer_piece(alloc, reader, call, room),
         None => match name {
-            "read_next" => shown(alloc, &kind_of(reader.read_next())),
-            "read_one" => shown(alloc, &kind_of(reader.read_one())),
+            "read_next" => shown(alloc, &with_kind(reader.read_next())),
+            "read_one" => shown(alloc, &with_kind(reader.read_one())),
             _ => String::from_str(alloc, "unknown call"),
         },
     }
 }
 
-// The calls that are given room for `len` bytes.
+// The calls that are given room for so many bytes.
 fn answer_piece<R: ReadExt>(
     alloc: Global,
     reader: &mut R,
@@ -130,7 +130,7 @@ fn answer_piece<R: ReadExt>(
         "read_some" => reader.read_some(&mut buf),
         _ => return String::from_str(alloc, "unknown call"),
     };
-    match kind_of(outcome) {
+    match with_kind(outcome) {
         Ok(count) => {
             buf.truncate(count);
             format!(in alloc; "Ok({buf:?})")
@@ -185,7 +185,7 @@ fn answer_write<W: WriteExt>(
     name: &str,
 ) -> Result<String, AllocError> {
     if name == "flush" {
-        return shown(alloc, &kind_of(writer.flush()));
+        return shown(alloc, &with_kind(writer.flush()));
     }
     let Some((call, bytes)) = with_bytes(alloc, name) else {
         return String::from_str(alloc, "unknown bytes");
@@ -196,7 +196,7 @@ fn answer_write<W: WriteExt>(
         ("write_one", [byte]) => writer.write_one(*byte),
         _ => return String::from_str(alloc, "unknown call"),
     };
-    shown(alloc, &kind_of(outcome))
+    shown(alloc, &with_kind(outcome))
 }
 
 // A call and the bytes that it writes: `write [02 01 07]`.
@@ -206,6 +206,6 @@ fn with_bytes(alloc: Global, name: &str) -> Option<(&str, Vec<u8>)> {
 }
 
 // The answer, with the kind of the error.
-fn kind_of<T>(answer: io::Result<T>) -> Result<T, ErrorKind> {
+fn with_kind<T>(answer: io::Result<T>) -> Result<T, ErrorKind> {
     answer.map_err(|error| error.kind())
 }

@@ -6,6 +6,7 @@ use crate::runs::in_runs;
 use der_examples::{Host, NumberOrFlag};
 use der_fixtures::{FailingReader, FailingWriter, Refusal, text_of};
 use der_tool_lib::{SubjectPublicKeyInfo, TestStruct};
+use der_x509::Extension;
 use picky_asn1_der::asn1::{Asn1SetOf, BitStringAsn1Container, ByteBuf, ExplicitContextTag0};
 use picky_asn1_der::de::DEFAULT_MAX_LEN;
 use picky_asn1_der::misc::Watched;
@@ -66,6 +67,7 @@ pub(crate) fn answer(
         "Host" => answer_as::<Host>(alloc, sweep, encoding),
         "TestStruct" => answer_as::<TestStruct>(alloc, sweep, encoding),
         "SubjectPublicKeyInfo" => answer_as::<SubjectPublicKeyInfo>(alloc, sweep, encoding),
+        "Extension" => answer_as::<Extension>(alloc, sweep, encoding),
         _ => String::from_str(alloc, "unknown type"),
     }
 }

@@ -114,7 +114,13 @@ fn set(alloc: Global, how: Writing, name: &str) -> Result<String, AllocError> {
     match name {
         "Asn1SetOf([256u16, 5, 5])" => numbers(alloc, how),
         "Asn1SetOf([ByteBuf([0, 0]), ByteBuf([0xFF])])" => octets(alloc, how),
-        "Asn1SetOf([Asn1SetOf([2u8, 1]), Asn1SetOf([1u8])])" => sets(alloc, how),
+        "Asn1SetOf([5u8, 3])" => written(alloc, how, &five_and_three(alloc)?),
+        "Asn1SetOf([Asn1SetOf([2u8, 1]), Asn1SetOf([1u8])])" => written(alloc, how, &sets(alloc)?),
+        "Asn1SetOf([ExplicitContextTag0(Asn1SetOf([2u8, 1])), ExplicitContextTag0(Asn1SetOf([1u8]))])" =>
+            { tagged_sets(alloc, how) }
+        "ImplicitContextTag1(Asn1SetOf([Asn1SetOf([2u8, 1]), Asn1SetOf([1u8])]))" => {
+            written(alloc, how, &ImplicitContextTag1::from(sets(alloc)?))
+        }
         "Asn1SetOf([Some(7u8), None, Some(5)])" => options(alloc, how),
         "(Asn1SetOf([5u8, 3]), 1u8)" => set_and_number(alloc, how),
         "ImplicitContextTag1(Asn1SetOf([5u8, 3]))" => tagged_set(alloc, how),
@@ -133,9 +139,19 @@ fn octets(alloc: Global, how: Writing) -> Result<String, AllocError> {
     written(alloc, how, &Asn1SetOf(vec![in alloc; zeros, one]?))
 }
 
-fn sets(alloc: Global, how: Writing) -> Result<String, AllocError> {
-    let two = Asn1SetOf(Vec::from_slice(alloc, &[2u8, 1])?);
-    let one = Asn1SetOf(Vec::from_slice(alloc, &[1u8])?);
+fn five_and_three(alloc: Global) -> Result<Asn1SetOf<u8>, AllocError> {
+    Ok(Asn1SetOf(Vec::from_slice(alloc, &[5, 3])?))
+}
+
+fn sets(alloc: Global) -> Result<Asn1SetOf<Asn1SetOf<u8>>, AllocError> {
+    let two = Asn1SetOf(Vec::from_slice(alloc, &[2, 1])?);
+    let one = Asn1SetOf(Vec::from_slice(alloc, &[1])?);
+    Ok(Asn1SetOf(vec![in alloc; two, one]?))
+}
+
+fn tagged_sets(alloc: Global, how: Writing) -> Result<String, AllocError> {
+    let two = ExplicitContextTag0::from(Asn1SetOf(Vec::from_slice(alloc, &[2u8, 1])?));
+    let one = ExplicitContextTag0::from(Asn1SetOf(Vec::from_slice(alloc, &[1u8])?));
     written(alloc, how, &Asn1SetOf(vec![in alloc; two, one]?))
 }
 
@@ -145,13 +161,15 @@ fn options(alloc: Global, how: Writing) -> Result<String, AllocError> {
 }
 
 fn set_and_number(alloc: Global, how: Writing) -> Result<String, AllocError> {
-    let numbers = Vec::from_slice(alloc, &[5u8, 3])?;
-    written(alloc, how, &(Asn1SetOf(numbers), 1u8))
+    written(alloc, how, &(five_and_three(alloc)?, 1u8))
 }
 
 fn tagged_set(alloc: Global, how: Writing) -> Result<String, AllocError> {
-    let numbers = Vec::from_slice(alloc, &[5u8, 3])?;
-    written(alloc, how, &ImplicitContextTag1::from(Asn1SetOf(numbers)))
+    written(
+        alloc,
+        how,
+        &ImplicitContextTag1::from(five_and_three(alloc)?),
+    )
 }
 
 // Values in explicit context tags.

@@ -55,6 +55,9 @@ pub(crate) fn answer(alloc: Global, name: &str, input: &Input) -> Result<String,
         "ImplicitContextTag1<Asn1SetOf<u8>>" => read_as::<ImplicitContextTag1<Asn1SetOf<u8>>>(
             alloc, input,
         ),
+        "ImplicitContextTag1<Asn1SetOf<Asn1SetOf<u8>>>" => read_as::<
+            ImplicitContextTag1<Asn1SetOf<Asn1SetOf<u8>>>,
+        >(alloc, input),
         "ImplicitContextTag1<Asn1RawDer>" => read_as::<ImplicitContextTag1<Asn1RawDer>>(
             alloc, input,
         ),

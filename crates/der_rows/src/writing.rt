@@ -35,7 +35,7 @@ fn answer_call<W: WriteExt>(
     }
 }
 
-// Truth values and small numbers.
+// Bools and small numbers.
 fn answer_plain<W: WriteExt>(
     alloc: Global,
     ser: &mut Serializer<W>,

@@ -5,7 +5,7 @@ use Rattle.std.specs.declared.io.ErrorKind.{ErrorKind}
 use Rattle.picky_der_core.specs.declared.error.Asn1DerError.{Asn1DerError}
 use Rattle.picky_der_core.specs.declared.error.Asn1DerError.TheVariants.{UnsupportedValue, OutOfMemory}
 use Rattle.picky_der_core.specs.declared.misc.writer.WriteExt.{Ghosts}
-use Rattle.picky_der_core.specs.Error.{kind_of}
+use Rattle.picky_der_core.specs.Error.{error_of_kind}
 use Rattle.picky_der_core.specs.Faults.{Fault}
 use Rattle.picky_der_core.specs.Writer.{AppendsBeginning}
 use Rattle.picky_der_core.specs.WriterFaults.{Faulted}
@@ -57,7 +57,7 @@ pub data IsLastLine (bytes : List ℕ) : Type 0 where
 pub record ReaderFaulted (old new : List Fault) (left : Option (List ℕ)) (e : Asn1DerError) : Type 0 where
   pub kind : ErrorKind
   pub once : new ≡ record { kind = kind; told = left } ∷ old
-  pub is : e ≡ kind_of kind
+  pub is : e ≡ error_of_kind kind
 
 -- no end came within as many bytes as are read
 abbrev pub IsTooLong : Option (List ℕ) → Type 0

@@ -10,7 +10,7 @@ use named::Named;
 use picky_asn1_der::asn1::ByteBuf;
 use picky_asn1_der::{Asn1DerError, Asn1RawDer, Deserializer, Result};
 use std::alloc::Global;
-use texts::{hexadecimal, read_text, refused_text, wants_memory};
+use texts::{hexadecimal, is_out_of_memory, read_text, refused_text};
 
 /// A type that lines name, by the word that the variant is in lower case, as `null`.
 #[derive(Debug, Clone, Copy, PartialEq, Eq)]
@@ -89,7 +89,7 @@ fn answer_as<T: Named>(alloc: Global, bytes: &[u8]) -> Result<String>
     let _ = de.into_reader();
     match outcome {
         Ok(value) => read_text(alloc, taken, &hexadecimal(alloc, &value)?),
-        Err(error) if wants_memory(error) => Err(Asn1DerError::OutOfMemory),
+        Err(error) if is_out_of_memory(error) => Err(Asn1DerError::OutOfMemory),
         Err(error) => refused_text(alloc, error),
     }
 }

@@ -1,6 +1,6 @@
 //! Attributes of names.
 ghost use Rattle.std.proofs.Common.{rules};
-ghost use Rattle.picky_der_de.specs.Telling.{told, tells};
+ghost use Rattle.picky_der_de.specs.Telling.{by_parts, tells};
 
 use picky_asn1_der::asn1::ObjectIdentifierAsn1;
 use picky_asn1_der::misc::{ReadExt, WriteExt};
@@ -41,7 +41,7 @@ impl Record for Attribute {
 impl Deserialize for Attribute {
     ghost shape = { ⟦<Row<Fields> as Deserialize>⟧.shape };
 
-    ghost injective = { told ⟦<Row<Fields> as Deserialize>⟧.shape (Prim.search tells depth 99) };
+    ghost injective = { by_parts ⟦<Row<Fields> as Deserialize>⟧.shape (Prim.search tells depth 99) };
 
     ghost sound = { Prim.search rules depth 99 };
 

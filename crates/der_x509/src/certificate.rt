@@ -3,7 +3,7 @@ ghost use Rattle.std.specs.Prelude.{length, IfOk, IfErr};
 ghost use Rattle.picky_der_de.specs.Entry.{IsFront, HasNoFront};
 ghost use Rattle.std.proofs.Common.{rules};
 ghost use Rattle.picky_asn1_der.specs.RawLaws.{raw_is_last};
-ghost use Rattle.picky_der_de.specs.Telling.{by_law, told, tells};
+ghost use Rattle.picky_der_de.specs.Telling.{by_law, by_parts, tells};
 ghost use Rattle.der_x509.specs.contracts.algorithm_identifier.AlgorithmIdentifierDeserialize.TheImpl.Laws.{injective-law};
 
 use crate::{AlgorithmIdentifier, TbsCertificate};
@@ -74,7 +74,7 @@ impl Record for Certificate {
 impl Deserialize for Certificate {
     ghost shape = { ⟦<Row<Fields> as Deserialize>⟧.shape };
 
-    ghost injective = { told ⟦<Row<Fields> as Deserialize>⟧.shape
+    ghost injective = { by_parts ⟦<Row<Fields> as Deserialize>⟧.shape
         (Prim.search (tells, by_law ⟦<AlgorithmIdentifier as Deserialize>⟧.shape injective-law) depth 99) };
 
     ghost sound = { Prim.search (rules, raw_is_last) depth 99 };

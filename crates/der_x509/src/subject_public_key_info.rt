@@ -1,7 +1,7 @@
 //! Public keys.
 ghost use Rattle.std.proofs.Common.{rules};
 ghost use Rattle.picky_asn1_der.specs.RawLaws.{raw_is_last};
-ghost use Rattle.picky_der_de.specs.Telling.{by_law, told, tells};
+ghost use Rattle.picky_der_de.specs.Telling.{by_law, by_parts, tells};
 ghost use Rattle.der_x509.specs.contracts.algorithm_identifier.AlgorithmIdentifierDeserialize.TheImpl.Laws.{injective-law};
 
 use crate::AlgorithmIdentifier;
@@ -46,7 +46,7 @@ impl Record for SubjectPublicKeyInfo {
 impl Deserialize for SubjectPublicKeyInfo {
     ghost shape = { ⟦<Row<Fields> as Deserialize>⟧.shape };
 
-    ghost injective = { told ⟦<Row<Fields> as Deserialize>⟧.shape
+    ghost injective = { by_parts ⟦<Row<Fields> as Deserialize>⟧.shape
         (Prim.search (tells, by_law ⟦<AlgorithmIdentifier as Deserialize>⟧.shape injective-law) depth 99) };
 
     ghost sound = { Prim.search (rules, raw_is_last) depth 99 };

@@ -3,7 +3,7 @@ ghost use Rattle.std.proofs.Common.{rules};
 ghost use Rattle.picky_der_core.specs.Shape.{Shape, Layout};
 ghost use Rattle.picky_der_core.specs.Tree.{ListKind, Tree, Trees};
 ghost use Rattle.picky_der_de.specs.LayoutLaws.{maybe_begun};
-ghost use Rattle.picky_der_de.specs.Telling.{by_law, told, tells_struct, tells_list, tells_explicit, tells_implicit, tells_bytes};
+ghost use Rattle.picky_der_de.specs.Telling.{by_law, by_parts, tells_struct, tells_list, tells_explicit, tells_implicit, tells_bytes};
 ghost use Rattle.picky_der_de.specs.Telling.{tell_default, tell_required, tell_maybe, tell_last_maybe};
 ghost use Rattle.picky_asn1_der.specs.RawLaws.{raw_is_last};
 ghost use Rattle.der_x509.specs.contracts.algorithm_identifier.AlgorithmIdentifierDeserialize.TheImpl.Laws.{injective-law as algorithm_law};
@@ -151,7 +151,7 @@ impl Deserialize for TbsCertificate {
         ⟦<RelativeName as PartialEq>⟧.eq (λ v w. told_attributes v.0.items w.0.items) ListKind.sequence in
         let told_extensions = tells_list ⟦<Extension as Serialize>⟧.meaning ⟦<Extension as Deserialize>⟧.shape
         ⟦<Extension as PartialEq>⟧.eq (by_law ⟦<Extension as Deserialize>⟧.shape extension_known) ListKind.sequence in
-        told (Shape.struct_of ListKind.sequence ⟦<Members as DeserializeLayout>⟧.layout) (λ x y. tells_struct (Prim.search rules) (
+        by_parts (Shape.struct_of ListKind.sequence ⟦<Members as DeserializeLayout>⟧.layout) (λ x y. tells_struct (Prim.search rules) (
         tell_default (λ v w. one-law v.0 w.0) (λ v b h. h)
         (λ v w. tells_explicit (by_law ⟦<Version as Deserialize>⟧.shape version_known v.0 w.0)) (λ b h. h) (λ b h. h) (
         tell_required tells_bytes (

@@ -1,6 +1,6 @@
 //! Periods of validity.
 ghost use Rattle.std.proofs.Common.{rules};
-ghost use Rattle.picky_der_de.specs.Telling.{by_law, told, tells};
+ghost use Rattle.picky_der_de.specs.Telling.{by_law, by_parts, tells};
 ghost use Rattle.der_x509.specs.Time.{time_known};
 
 use crate::Time;
@@ -45,7 +45,7 @@ impl Record for Validity {
 impl Deserialize for Validity {
     ghost shape = { ⟦<Row<Fields> as Deserialize>⟧.shape };
 
-    ghost injective = { told ⟦<Row<Fields> as Deserialize>⟧.shape
+    ghost injective = { by_parts ⟦<Row<Fields> as Deserialize>⟧.shape
         (Prim.search (tells, by_law ⟦<Time as Deserialize>⟧.shape time_known) depth 99) };
 
     ghost sound = { Prim.search rules depth 99 };

@@ -10,7 +10,8 @@ use picky_asn1_der::misc::{ReadExt, WriteExt};
 use picky_asn1_der::ser::DefaultOf;
 use picky_asn1_der::{Asn1DerError, Deserialize, Deserializer, Result, Serialize, Serializer};
 
-/// The version of a certificate, as an INTEGER from 0 to 2 (RFC 5280, 4.1.2.1). Any other is `InvalidData`.
+/// The version of a certificate, as an INTEGER from 0 to 2 (RFC 5280, 4.1.2.1). Another number up to 255 is `InvalidData`,
+/// and a greater or a negative one is `UnsupportedValue`.
 #[derive(Debug, Clone, Copy, PartialEq, Eq)]
 pub enum Version {
     /// Without extensions, the number 0.

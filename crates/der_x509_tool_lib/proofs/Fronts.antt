@@ -1,18 +1,16 @@
 -- What is known of a value at the front of some bytes.
-use Rattle.std.proofs.Common.{◌≡◌, ℕ, ◌^◌, ◌<◌, ◌≤◌, Bool, true, List, [], ◌++◌, length, Option, Some, refl, sym, ◌∙◌, subst, arith, le-leb, append-nil}
+use Rattle.std.proofs.Common.{◌≡◌, ℕ, ◌^◌, ◌<◌, Bool, true, List, [], ◌++◌, length, Option, Some, refl, sym, ◌∙◌, arith, le-leb, append-nil}
 use Rattle.std.specs.Prelude.{IsTrue}
 use Rattle.picky_der_core.specs.declared.error.Asn1DerError.{Asn1DerError}
 use Rattle.picky_der_core.specs.Faults.{Fault}
 use Rattle.picky_der_core.specs.Peeking.{in_front}
 use Rattle.picky_der_core.specs.Tag.{number_of, is_tag_number}
 use Rattle.picky_der_core.specs.Tree.{Tree, Trees}
-use Rattle.picky_der_core.specs.ElementLaws.{same_front}
 use Rattle.picky_der_core.specs.Encoding.{der}
 use Rattle.picky_der_core.specs.EncodingLaws.{der-raw, same_encoding}
 use Rattle.picky_der_core.specs.Readable.{IsReadable, AreReadable, IsWritable, has_tag_numbers, have_tag_numbers}
 use Rattle.picky_der_core.specs.Shape.{Shape, IsSound}
 use Rattle.picky_der_de.specs.State.{State, fresh}
-use Rattle.picky_der_de.specs.Steps.{IsWithin}
 use Rattle.picky_der_de.specs.Reading.{Reads, Refuses}
 use Rattle.picky_der_de.specs.InjectiveLaws.{IsInjective}
 use Rattle.picky_der_de.specs.Entry.{Reader, IsFront, HasNoFront}
@@ -29,13 +27,6 @@ module _ {V : Type 0} (meaning : V → Tree) (s : Shape) {old new : State} {byte
 
   pub front_refused : {e : Asn1DerError} → after ≡ [] → Refuses meaning s old new e → HasNoFront meaning s bytes (length bytes) e
   front_refused none r = slice_refused meaning s {before = whole bytes} {after = record { input = left; faults = after }} refl refl none (refuses_front meaning s (whole bytes) (record { input = left; faults = after }) is input faults r)
-
-pub front_taken : {s : Shape} {old new : State} {bytes : List ℕ} (t : Tree) → old ≡ fresh (Some bytes) (length bytes) [] [] → Reads s old new t → new.taken ≡ length (der t)
-front_taken {s} {new = new} t is r = let h = subst (λ o. Reads s o new t) is r in omega (arith, h.takes.taken)
-
--- no more was taken than there is
-pub refused_within : {V : Type 0} {meaning : V → Tree} {s : Shape} {old new : State} {bytes : List ℕ} {e : Asn1DerError} → old ≡ fresh (Some bytes) (length bytes) [] [] → IsWithin new → Refuses meaning s old new e → new.taken ≤ length bytes
-refused_within {meaning = meaning} {s} {new = new} {e = e} is within r = let h = subst (λ o. Refuses meaning s o new e) is r in omega (arith, h.fails.limit, within.end)
 
 -- ---- writing again
 
@@ -65,11 +56,7 @@ module _ {V : Type 0} {meaning : V → Tree} {s : Shape} {eq : V → V → Bool}
   pub front_writable : length bytes < 2 ^ 64 → IsWritable (meaning v)
   front_writable small = record { numbers = numbers (meaning v) f.reads.readable; fits = omega (arith, f.reads.within, small) }
 
-  -- what takes as many bytes as there are is just these
-  pub front_whole : length (der (meaning v)) ≡ length bytes → der (meaning v) ≡ bytes
-  front_whole n = (same_front (der (meaning v)) bytes f.reads.front.rest [] n (sym f.reads.front.is ∙ sym (append-nil bytes))).0
-
-  -- and so is what was read of one element
+  -- what was read of one element is just these bytes
   pub front_element : IsReadable (Tree.raw bytes) → der (meaning v) ≡ bytes
   front_element element =
       let t = Tree.raw bytes in

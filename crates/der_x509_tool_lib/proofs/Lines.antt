@@ -2,7 +2,7 @@
 use Rattle.std.proofs.Common.{◌≡◌, ℕ, List, [], ◌∷◌, ◌++◌, Option, refl, sym, ◌∙◌, ap, subst, append_assoc}
 use Rattle.std.specs.Prelude.{codes}
 use Rattle.std.specs.Io.KnownBytes.{Appends}
-use Rattle.std.proofs.KnownBytes.{Appends-nil, Appends-trans}
+use Rattle.std.proofs.KnownBytes.{Appends-trans}
 use Rattle.der_x509_tool_lib.specs.declared.outcome.Reading.{Reading}
 use Rattle.der_x509_tool_lib.specs.declared.outcome.Outcome.TheVariants.{Read}
 use Rattle.der_x509_tool_lib.specs.Outcome.{IsReading}
@@ -22,9 +22,6 @@ ended-append (x ∷ xs) ys = ap (λ t. x ++ (0x0A ∷ t)) (ended-append xs ys) �
 lines_append : (xs ys : List (List ℕ)) → AreBlockLines xs → AreBlockLines ys → AreBlockLines (xs ++ ys)
 lines_append [] ys h k = k
 lines_append (x ∷ xs) ys h k = (h.0, lines_append xs ys h.1 k)
-
-pub writes_none : (a : Option (List ℕ)) → WritesLines a a
-writes_none a = record { lines = []; are_lines = tt; written = Appends-nil a }
 
 pub writes_one : (a b : Option (List ℕ)) (line : List ℕ) → IsBlockLine line → Appends a b (line ++ (0x0A ∷ [])) → WritesLines a b
 writes_one a b line h w = record { lines = line ∷ []; are_lines = (h, tt); written = w }

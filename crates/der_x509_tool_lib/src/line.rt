@@ -1,5 +1,5 @@
 //! The line of a certificate.
-ghost use Rattle.std.specs.Prelude.{◌≡◌, ◌++◌, codes, IfOk, IfErr, string_bytes};
+ghost use Rattle.std.specs.Prelude.{◌≡◌, ◌++◌, IfOk, IfErr, string_bytes};
 ghost use Rattle.der_x509_tool_lib.specs.Line.{IsLineOf, sameness_of};
 
 use crate::names::push_name;

@@ -16,7 +16,7 @@ const BEGIN: &[u8] = b"-----BEGIN CERTIFICATE-----";
 
 const END: &[u8] = b"-----END CERTIFICATE-----";
 
-// Outside of blocks no more of a line is kept, since a longer one begins no block.
+// Outside of blocks no more of a line is kept, since one that is so long begins no block.
 const LONGEST_KEPT: usize = 64;
 
 /// Answers each block of the input by a line of output, in order. Lines outside of blocks are skipped.
@@ -95,11 +95,11 @@ fn take_line<W: WriteExt>(
     ensures no_fault { OnOk result (W.faults output.new ≡ W.faults output.old) }
     ensures goes_on { W.later output.old output.new }
 {
-    let line = line.trim_ascii();
     let Some(mut text) = block else {
-        let begins = *line == *BEGIN;
+        let begins = line.len() < LONGEST_KEPT && *line.trim_ascii() == *BEGIN;
         return Ok(if begins { Some(Vec::new(alloc)) } else { None });
     };
+    let line = line.trim_ascii();
     if *line == *END {
         answer_block(alloc, &text, output)?;
         return Ok(None);

@@ -3,9 +3,11 @@ ghost use Rattle.std.specs.Prelude.{◌≡◌, IfOk, IfErr};
 ghost use Rattle.std.specs.Cmp.Lexicographic.{slice_cmp};
 ghost use Rattle.std.specs.Ordering.{nat_cmp};
 ghost use Rattle.std.specs.Hash as fed;
-ghost use Rattle.picky_der_core.specs.Equality.{IsEqualityOf, IsThatOf};
+ghost use Rattle.picky_der_core.specs.Equality.{IsEqualityOf, IsThatOf, IsKept};
 ghost use Rattle.picky_der_core.specs.Tree.{Tree};
 ghost use Rattle.picky_der_core.specs.Shape.{Shape};
+ghost use Rattle.picky_der_input.specs.Reading.{Reads, Refuses};
+ghost use Rattle.picky_der_input.specs.Elements.{RefusesRaw};
 ghost use Rattle.picky_der_de.specs.InjectiveLaws.{raw_known};
 
 use picky_der_core::asn1::Tag;
@@ -22,13 +24,14 @@ use std::hash::Hash;
 pub struct Asn1RawDer(pub Vec<u8>);
 
 /// Raw elements are equal just where their bytes are the same. They are ordered as their bytes are, at the first place
-/// where these differ, and hashed as a list of these.
+/// where these differ, and hashed as a list of these. A copy has the same bytes.
 pub fn comparisons()
     ensures equal { IsEqualityOf ⟦<Asn1RawDer as PartialEq>⟧.eq (λ raw. raw.0.items) }
     ensures order { IsThatOf ⟦<Asn1RawDer as PartialOrd>⟧.partial_cmp (λ raw. raw.0.items)
         (λ x y. Some (slice_cmp nat_cmp x y)) }
     ensures hash { (raw : _) → ⟦<Asn1RawDer as Hash>⟧.hash_input raw
         ≡ fed.slice fed.u8 raw.0.items }
+    ensures copy { IsKept ⟦<Asn1RawDer as Clone>⟧.is_clone (λ raw. raw.0.items) }
 {}
 
 impl Asn1RawDer {
@@ -78,7 +81,12 @@ impl Deserialize for Asn1RawDer {
 
     ghost sound = { tt };
 
-    fn deserialize<R: ReadExt>(de: &mut Deserializer<R>) -> Result<Asn1RawDer> {
+    fn deserialize<R: ReadExt>(de: &mut Deserializer<R>) -> Result<Asn1RawDer>
+        ensures ok { IfOk result (λ value. Reads Shape.raw de.old de.new (Tree.raw value.0.items)) }
+        ensures err { IfErr result (Refuses ⟦<Asn1RawDer as Serialize>⟧.meaning Shape.raw
+            de.old de.new) }
+        ensures refused { IfErr result (RefusesRaw de.old de.new) }
+    {
         Ok(Asn1RawDer(de.deserialize_raw()?))
     }
 }

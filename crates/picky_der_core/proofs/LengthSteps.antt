@@ -11,7 +11,7 @@ use Rattle.picky_der_core.specs.declared.error.Asn1DerError.{Asn1DerError}
 use Rattle.picky_der_core.specs.declared.error.Asn1DerError.TheVariants.{TruncatedData, InvalidData}
 use Rattle.picky_der_core.specs.Element.{len, Begins}
 use Rattle.picky_der_core.specs.ElementLaws.{bytes_then}
-use Rattle.picky_der_core.specs.Error.{kind_of}
+use Rattle.picky_der_core.specs.Error.{error_of_kind}
 use Rattle.picky_der_core.specs.Shape.{AreBytes}
 use Rattle.picky_der_core.specs.Faults.{Fault}
 use Rattle.picky_der_core.specs.Reader.{IsFaultOrEnd}
@@ -59,13 +59,13 @@ none_from_refused (Err e) P a b h = λ p. IsNoLength-from_refused a b e (h p)
 module _ {before left : Option (List ℕ)} {old new : List Fault} {e : Error} where
   -- it is missing, unless the device failed
   pub refused_missing : (a c : Option (List ℕ)) (bs : List ℕ) → length_of TruncatedData bs ≡ Err (TruncatedData, []) → Consumes a before bs → Keeps before c → IsFaultOrEnd before left old new e → new ≡ old
-      → IsRefusedAs (length_of TruncatedData) a c (kind_of (error_kind e))
-  unfolding kind_of
+      → IsRefusedAs (length_of TruncatedData) a c (error_of_kind (error_kind e))
+  unfolding error_of_kind
   refused_missing a c bs is h kept (IsFaultOrEnd.fault once) same = absurd (not_more (sym once ∙ same))
   refused_missing a c bs is h kept (IsFaultOrEnd.end stays kind end) same = rw kind (refused_at_end a before c bs h end kept is)
 
-  pub no_device : IsFaultOrEnd before left old new e → new ≡ old → IsOfDevice (kind_of (error_kind e)) → ⊥
-  unfolding kind_of
+  pub no_device : IsFaultOrEnd before left old new e → new ≡ old → IsOfDevice (error_of_kind (error_kind e)) → ⊥
+  unfolding error_of_kind
   no_device (IsFaultOrEnd.fault once) same device = not_more (sym once ∙ same)
   no_device (IsFaultOrEnd.end stays kind end) same device = absurd (rw kind at device)
 
@@ -106,7 +106,7 @@ module _ {a b : Option (List ℕ)} {first k count number : ℕ} (t : Taken a b f
       omega (arith, t.is, number_lt 256 t.digits t.bytes)
 
   -- and it isn't given
-  pub refused_cut : (c : Option (List ℕ)) {left : Option (List ℕ)} {old new : List Fault} {e : Error} → k < count → Keeps b c → IsFaultOrEnd b left old new e → new ≡ old → IsRefusedAs (length_of TruncatedData) a c (kind_of (error_kind e))
+  pub refused_cut : (c : Option (List ℕ)) {left : Option (List ℕ)} {old new : List Fault} {e : Error} → k < count → Keeps b c → IsFaultOrEnd b left old new e → new ≡ old → IsRefusedAs (length_of TruncatedData) a c (error_of_kind (error_kind e))
   refused_cut c fewer = refused_missing a c (first ∷ t.digits) (length_of-cut TruncatedData first count t.digits long (omega (arith, t.size))) t.consumed
 
   -- all came, and are as few as can be

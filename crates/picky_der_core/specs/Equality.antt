@@ -1,11 +1,11 @@
--- When two values are equal by `==`.
+-- When two values are equal by `==`, and what a copy of one is.
 use Rattle.std.specs.Prelude.{◌≡◌, ◌↔◌, ℕ, List, Bool, IsTrue, Option, Some, None}
 use Rattle.picky_der_core.specs.declared.error.Asn1DerError.{Asn1DerError}
 use Rattle.picky_der_core.specs.declared.error.Asn1DerError.TheVariants as error
 use Rattle.picky_der_core.specs.declared.failure.Failure.{Failure}
 use Rattle.picky_der_core.specs.Failure.{failure_of}
 
--- they are just where this part of them is the same
+-- two values are equal just where this part of them is the same
 abbrev pub IsEqualityOf : {V P : Type 0} → (V → V → Bool) → (V → P) → Type 0
 IsEqualityOf {V} eq part = (x y : V) → IsTrue (eq x y) ↔ (part x ≡ part y)
 
@@ -21,3 +21,13 @@ text_of other = None
 -- what is compared of an error
 abbrev pub compared : Asn1DerError → Failure × Option (List ℕ)
 compared e = (failure_of e, text_of e)
+
+-- ---- copies
+
+-- this part of a copy is the same
+abbrev pub IsKept : {V P : Type 0} → (V → V → Type 0) → (V → P) → Type 0
+IsKept {V} is_clone part = (x y : V) → is_clone x y → part y ≡ part x
+
+-- this part of a copy is a copy of it
+abbrev pub IsCopied : {V P : Type 0} → (V → V → Type 0) → (V → P) → (P → P → Type 0) → Type 0
+IsCopied {V} is_clone part own = (x y : V) → is_clone x y → own (part x) (part y)

@@ -6,7 +6,7 @@ use Rattle.std.specs.declared.io.Error.{Error}
 use Rattle.std.specs.declared.io.ErrorKind.{ErrorKind}
 use Rattle.std.specs.declared.io.ErrorKind.TheVariants.{UnexpectedEof}
 use Rattle.picky_der_core.specs.declared.error.Asn1DerError.{Asn1DerError}
-use Rattle.picky_der_core.specs.Error.{kind_of}
+use Rattle.picky_der_core.specs.Error.{error_of_kind}
 use Rattle.picky_der_core.specs.Faults.{Fault}
 
 -- the next byte was taken, or none
@@ -36,5 +36,5 @@ CountsFault before left old new r = MatchResult r (λ _. new ≡ old) (IsFaultOr
 
 -- the reader failed just once, the error is what that fault becomes, and nothing was drawn behind it; or it didn't fail
 pub data TellsFault (old new : List Fault) (left : Option (List ℕ)) (e : Asn1DerError) : Type 0 where
-  fault : (kind : ErrorKind) → new ≡ record { kind = kind; told = left } ∷ old → e ≡ kind_of kind → TellsFault old new left e
+  fault : (kind : ErrorKind) → new ≡ record { kind = kind; told = left } ∷ old → e ≡ error_of_kind kind → TellsFault old new left e
   no_fault : new ≡ old → TellsFault old new left e

@@ -2,7 +2,7 @@
 use Rattle.std.proofs.Common.{◌≡◌, ℕ, List, ◌∷◌, length, Option, refl, ap, ◌∙◌, arith}
 use Rattle.std.specs.IoError.{error_kind}
 use Rattle.std.specs.declared.io.Error.{Error}
-use Rattle.picky_der_core.specs.Error.{kind_of}
+use Rattle.picky_der_core.specs.Error.{error_of_kind}
 use Rattle.picky_der_core.specs.Faults.{Fault}
 use Rattle.picky_der_core.specs.Reader.{IsFaultOrEnd, fault, end, TellsFault}
 
@@ -11,6 +11,6 @@ pub not_more : {A : Type 0} {x : A} {xs : List A} → x ∷ xs ≡ xs → ⊥
 not_more same = let e = ap length same in omega (arith, e)
 
 -- the end of the input is no fault, and an error tells just the fault that it is
-pub tells_fault : {before left : Option (List ℕ)} {first old new : List Fault} {e : Error} → old ≡ first → IsFaultOrEnd before left old new e → TellsFault first new left (kind_of (error_kind e))
+pub tells_fault : {before left : Option (List ℕ)} {first old new : List Fault} {e : Error} → old ≡ first → IsFaultOrEnd before left old new e → TellsFault first new left (error_of_kind (error_kind e))
 tells_fault {left = left} {e = e} since (fault once) = TellsFault.fault (error_kind e) (once ∙ ap (λ l. record { kind = error_kind e; told = left } ∷ l) since) refl
 tells_fault since (end stays kind none) = TellsFault.no_fault (stays ∙ since)

@@ -8,12 +8,12 @@ abbrev pub vector_of : BufSink → MutBor (Vec ℕ Global)
 vector_of s = s.buf
 
 -- how many bytes were written
-abbrev pub place_of : BufSink → ℕ
-place_of s = s.at
+abbrev pub position_of : BufSink → ℕ
+position_of s = s.at
 
 -- the bytes that were written
 abbrev pub written_of : BufSink → List ℕ
-written_of s = take (place_of s) (vector_of s).now.items
+written_of s = take (position_of s) (vector_of s).now.items
 
 -- how often memory was refused
 abbrev pub faults_of : BufSink → ℕ
@@ -22,4 +22,4 @@ faults_of s = count_of s.faults
 -- it writes to the same vector, and what lies past its bytes stays
 abbrev pub IsLater : BufSink → BufSink → Type 0
 IsLater s t =
-    ((vector_of t).ghost_name ≡ (vector_of s).ghost_name) × (place_of s ≤ place_of t) × (drop (place_of t) (vector_of t).now.items ≡ drop (place_of t) (vector_of s).now.items)
+    ((vector_of t).ghost_name ≡ (vector_of s).ghost_name) × (position_of s ≤ position_of t) × (drop (position_of t) (vector_of t).now.items ≡ drop (position_of t) (vector_of s).now.items)

@@ -3,7 +3,7 @@ use Rattle.std.proofs.Common.{◌≡◌, ◌≤◌, ℕ, suc, Result, Ok, Err, O
 use Rattle.std.specs.declared.io.ErrorKind.{ErrorKind}
 use Rattle.picky_der_core.specs.declared.error.Asn1DerError.{Asn1DerError}
 use Rattle.picky_der_core.specs.declared.misc.writer.WriteExt.{Ghosts}
-use Rattle.picky_der_core.specs.Error.{kind_of}
+use Rattle.picky_der_core.specs.Error.{error_of_kind}
 
 -- of two counts of faults, the later one is the same or one more
 abbrev pub IsOnceAtMost : ℕ → ℕ → Type 0
@@ -15,7 +15,7 @@ module _ {W : Type 0} (g : Ghosts W) where
     pub rose : g.faults new ≡ suc (g.faults old)
     pub kind : ErrorKind
     pub answered : g.answers kind
-    pub is : e ≡ kind_of kind
+    pub is : e ≡ error_of_kind kind
 
   -- an answer that tells of each fault
   pub once_at_most : {A : Type 0} (old new : W) (r : Result A Asn1DerError) → OnOk r (g.faults new ≡ g.faults old) → IfErr r (λ e. Faulted old e new) → IsOnceAtMost (g.faults old) (g.faults new)

@@ -1,7 +1,7 @@
 //! The error of the workspace.
 ghost use Rattle.std.specs.Prelude.{◌≡◌};
 ghost use Rattle.std.specs.IoError.{error_kind};
-ghost use Rattle.picky_der_core.specs.Error.{kind_of};
+ghost use Rattle.picky_der_core.specs.Error.{error_of_kind};
 
 use std::alloc::AllocError;
 use std::io::{self, ErrorKind};
@@ -33,7 +33,8 @@ pub enum Asn1DerError {
     #[error("InvalidSink")]
     InvalidSink,
 
-    /// A message of an implementation by hand. The text is shown as it is.
+    /// A message of an implementation by hand, and `failed before` where an earlier call was refused with one. The text is
+    /// shown as it is.
     #[error("Message(\"{0}\")")]
     Message(&'static str),
 
@@ -58,9 +59,9 @@ impl Asn1DerError {
 /// An early end of the input is `TruncatedData`, a sink that takes no more is `InvalidSink`, out of memory stays
 /// out of memory, and any other kind is `Other`.
 impl From<io::Error> for Asn1DerError {
-    ghost from_gives = { λ e k. k ≡ kind_of (error_kind e) };
+    ghost from_gives = { λ e k. k ≡ error_of_kind (error_kind e) };
 
-    #[tactic(auto, unfolding(crate::specs::Error::kind_of))]
+    #[tactic(auto, unfolding(crate::specs::Error::error_of_kind))]
     fn from(error: io::Error) -> Self {
         match error.kind() {
             ErrorKind::UnexpectedEof => Self::TruncatedData,

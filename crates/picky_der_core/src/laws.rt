@@ -1,8 +1,9 @@
 //! The laws of canonical DER: each is the contract of a function without arguments, over the definitions alone.
-//! Beside them stand those of `==`.
+//! Beside them stand those of `==` and of copies.
 ghost use Rattle.picky_der_core.specs.Laws.{LengthBothWays, WrapperLengths, FirstsTell, UniqueReadability, OneValue, RoundTrip};
 ghost use Rattle.picky_der_core.specs.Laws.{SameBytes, OneInside, SetOrder};
 
+pub mod copies;
 pub mod equality;
 
 /// A length that begins another length, followed by any bytes, is that length (X.690, 8.1.3 and 10.1).

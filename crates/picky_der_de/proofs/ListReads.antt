@@ -1,11 +1,13 @@
 -- Lists of values of one type, read and refused.
-use Rattle.std.proofs.Common.{◌≡◌, ◌<◌, ℕ, List, [], ◌∷◌, ◌++◌, map, None, refl, sym, ◌∙◌, ap, subst, arith, append_assoc, append-nil}
+use Rattle.std.proofs.Common.{◌≡◌, ◌<◌, ℕ, List, [], ◌∷◌, ◌++◌, map, None, inl, inr, refl, sym, ◌∙◌, ap, subst, arith, append_assoc, append-nil}
 use Rattle.picky_der_core.specs.declared.error.Asn1DerError.{Asn1DerError}
 use Rattle.picky_der_core.specs.declared.error.Asn1DerError.TheVariants.{OutOfMemory}
+use Rattle.picky_der_core.specs.Tag.{number_of, IsTagNumber}
 use Rattle.picky_der_core.specs.Tree.{ListKind, Tree, Trees, trees}
 use Rattle.picky_der_core.specs.Encoding.{written, der, encodings, list_tag}
 use Rattle.picky_der_core.specs.Readable.{IsReadable, AreReadable}
 use Rattle.picky_der_core.specs.Shape.{Shape, IsOf, IsFirst, EachIs}
+use Rattle.picky_der_ser.specs.Sequences.{IsListTag, list_kind}
 use Rattle.picky_der_input.specs.State.{State}
 use Rattle.picky_der_input.specs.Steps.{Takes, Fails, IsJudged}
 use Rattle.picky_der_input.specs.Order.{AreInOrder, unordered}
@@ -123,20 +125,32 @@ list_first : (kind : ListKind) (s : Shape) → IsFirst (Shape.list_of kind s) (l
 list_first ListKind.sequence s = refl
 list_first ListKind.set s = refl
 
-module _ {V W : Type 0} (meaning : W → Tree) (s : Shape) (kind : ListKind) (items : V → List W) {a : State} where
+pub list_tagged : {tag : ℕ} → IsListTag tag → list_tag (list_kind tag) ≡ tag
+list_tagged (inl is) = rw is refl
+list_tagged (inr is) = rw is refl
+
+pub list_numbered : {tag : ℕ} → IsListTag tag → IsTagNumber (number_of tag)
+list_numbered (inl is) = rw is (omega arith)
+list_numbered (inr is) = rw is (omega arith)
+
+module _ {V W : Type 0} (meaning : W → Tree) (s : Shape) {tag : ℕ} (is : IsListTag tag) (items : V → List W) {a : State} where
   -- there is no header
-  pub list_of_unopened : {c : State} {e : Asn1DerError} → RefusesList (list_tag kind) a c e → Refuses (λ v. Tree.list kind (trees (map meaning (items v)))) (Shape.list_of kind s) a c e
-  list_of_unopened h = list_unopened kind (λ v. trees (map meaning (items v))) (Shape.list_of kind s) (list_first kind s) h
+  pub list_of_unopened : {c : State} {e : Asn1DerError} → RefusesList tag a c e → Refuses (λ v. Tree.list (list_kind tag) (trees (map meaning (items v)))) (Shape.list_of (list_kind tag) s) a c e
+  list_of_unopened {c} {e} h =
+      list_unopened (list_kind tag) (λ v. trees (map meaning (items v))) (Shape.list_of (list_kind tag) s) (list_first (list_kind tag) s) (subst (λ t. RefusesList t a c e) (sym (list_tagged is)) h)
 
   -- a member was refused
-  pub list_of_refused : {b c : State} {outer : Outer} {e : Asn1DerError} → OpensList (list_tag kind) a b outer → RefusesAll meaning s b c e → Refuses (λ v. Tree.list kind (trees (map meaning (items v)))) (Shape.list_of kind s) a c e
-  list_of_refused h r = list_refused kind (λ v. trees (map meaning (items v))) (Shape.list_of kind s) (list_first kind s) h r.fails (λ j v of_shape readable order w. r.none j (items v) of_shape.1 readable order w)
+  pub list_of_refused : {b c : State} {outer : Outer} {e : Asn1DerError} → OpensList tag a b outer → RefusesAll meaning s b c e → Refuses (λ v. Tree.list (list_kind tag) (trees (map meaning (items v)))) (Shape.list_of (list_kind tag) s) a c e
+  list_of_refused {b} {outer = outer} h r =
+      list_refused (list_kind tag) (λ v. trees (map meaning (items v))) (Shape.list_of (list_kind tag) s) (list_first (list_kind tag) s) (subst (λ t. OpensList t a b outer) (sym (list_tagged is)) h) r.fails
+      (λ j v of_shape readable order w. r.none j (items v) of_shape.1 readable order w)
 
 -- nothing is left behind the last member
 pub all_closed : {V : Type 0} {meaning : V → Tree} {s : Shape} {b c d : State} {vs : List V} {e : Asn1DerError} → ReadsAll meaning s b c vs → RefusesClose c d e → ⊥
 all_closed r k = omega (arith, r.reached, (k.left r.takes.not_failed).0)
 
 -- all were read
-pub list_of_reads : {V : Type 0} (meaning : V → Tree) (s : Shape) (kind : ListKind) {a b c d : State} {outer closed : Outer} (vs : List V) → OpensList (list_tag kind) a b outer → ReadsAll meaning s b c vs → Closes closed c d → closed ≡ outer
-    → Reads (Shape.list_of kind s) a d (Tree.list kind (trees (map meaning vs)))
-list_of_reads meaning s kind vs h r k same = list_reads (trees (map meaning vs)) h r.order r.takes r.implicit_tag k same (refl, r.of_shape) r.readable
+pub list_of_reads : {V : Type 0} (meaning : V → Tree) (s : Shape) {tag : ℕ} → IsListTag tag → {a b c d : State} {outer closed : Outer} (vs : List V) → OpensList tag a b outer → ReadsAll meaning s b c vs → Closes closed c d → closed ≡ outer
+    → Reads (Shape.list_of (list_kind tag) s) a d (Tree.list (list_kind tag) (trees (map meaning vs)))
+list_of_reads meaning s is {a} {b} {outer = outer} vs h r k same =
+    list_reads (trees (map meaning vs)) (subst (λ t. OpensList t a b outer) (sym (list_tagged is)) h) r.order r.takes r.implicit_tag k same (refl, r.of_shape) r.readable

@@ -1,5 +1,5 @@
 -- Choices, whose alternatives are told by their first bytes.
-use Rattle.std.specs.Prelude.{◌≡◌, ℕ, Bool, true, ◌⊎◌, ◌++◌, IsTrue, refl}
+use Rattle.std.specs.Prelude.{◌≡◌, ℕ, Bool, true, false, ◌⊎◌, ◌++◌, IsTrue, refl}
 use Rattle.std.proofs.Common.{inl, inr, sym, subst}
 use Rattle.picky_der_core.specs.declared.error.Asn1DerError.{Asn1DerError}
 use Rattle.picky_der_core.specs.Tree.{Tree}
@@ -19,6 +19,12 @@ use Rattle.picky_der_de.specs.InjectiveLaws.{IsInjective}
 abbrev pub chosen_of : {A B : Type 0} → (A → Tree) → (B → Tree) → OneOf A B → Tree
 chosen_of m n (This a) = m a
 chosen_of m n (Other b) = n b
+
+-- the same alternative was chosen, and its values are equal by its own test
+abbrev pub equal_this_or_other : {A B : Type 0} → (A → A → Bool) → (B → B → Bool) → OneOf A B → OneOf A B → Bool
+equal_this_or_other p q (This a) (This c) = p a c
+equal_this_or_other p q (Other b) (Other d) = q b d
+equal_this_or_other p q _ _ = false
 
 -- ---- behind a look at the first byte
 

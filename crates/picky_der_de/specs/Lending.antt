@@ -1,13 +1,24 @@
--- What a deserializer lends. While it is lent there is some state in which the call left the deserializer; once the borrow is
--- over, the deserializer's own state is one.
-use Rattle.std.specs.Prelude.{ℕ, List, Result, MatchResult}
-use Rattle.std.specs.Borrow.{Bor}
+-- What a deserializer lends. While bytes of it are lent there is some state in which the call left the deserializer; once the
+-- borrow is over, the deserializer's own state is one.
+use Rattle.std.specs.Prelude.{ℕ, List, Result, MatchResult, IfErr}
+use Rattle.std.specs.Borrow.{Bor, MutBor, RattleType, Fml, RestsIfErr}
+use Rattle.std.specs.declared.io.Read as read
 use Rattle.picky_der_core.specs.declared.error.Asn1DerError.{Asn1DerError}
+use Rattle.picky_der_core.specs.declared.misc.reader.ReadExt as reader
 use Rattle.picky_der_input.specs.State.{State}
 use Rattle.picky_der_input.specs.Reading.{ReadsBytes, RefusesBytes, ReadsText, RefusesText}
+use Rattle.picky_der_input.specs.Ends.{RefusesList}
+use Rattle.picky_der_de.specs.contracts.deserializer.Deserializer.{the_row}
+use Rattle.picky_der_de.specs.declared.sequence.Sequence.{Sequence}
+use Rattle.picky_der_de.specs.SequenceState.{borrowed_by}
 
 abbrev pub LendsBytes : State → State → Result (Bor (List ℕ)) Asn1DerError → Type 0
 LendsBytes old new r = MatchResult r (λ content. ReadsBytes 0x04 old new content.now) (RefusesBytes 0x04 old new)
 
 abbrev pub LendsText : State → State → Result (Bor (List ℕ)) Asn1DerError → Type 0
 LendsText old new r = MatchResult r (λ text. ReadsText old new text.now) (RefusesText old new)
+
+module _ (R : RattleType) (g : reader.Ghosts R.Denot) (h : read.Ghosts R.Denot) where
+  -- the deserializer is lent to the sequence, or has refused a list under this tag
+  abbrev pub LendsList : ℕ → MutBor State → Result (Sequence R.Denot g h) Asn1DerError → Fml
+  LendsList tag de r = RestsIfErr (the_row R g h) de borrowed_by r (λ new. IfErr r (RefusesList tag de.now new))

@@ -22,8 +22,8 @@ pub record Tells (s : Shape) (t u : Tree) (equal : Bool) : Type 0 where
 pub record TellAll (ss : Shapes) (ts us : Trees) (equal : Bool) : Type 0 where
   pub tell : AreOf ss ts → AreOf ss us → AreReadable ts → ts ≡ us → equal ≡ true
 
-pub told : {V : Type 0} {meaning : V → Tree} (s : Shape) {eq : V → V → Bool} → ((x y : V) → Tells s (meaning x) (meaning y) (eq x y)) → IsInjective meaning s eq
-told s h x y = (h x y).tells
+pub by_parts : {V : Type 0} {meaning : V → Tree} (s : Shape) {eq : V → V → Bool} → ((x y : V) → Tells s (meaning x) (meaning y) (eq x y)) → IsInjective meaning s eq
+by_parts s h x y = (h x y).tells
 
 pub by_law : {V : Type 0} {meaning : V → Tree} (s : Shape) {eq : V → V → Bool} → IsInjective meaning s eq → (x y : V) → Tells s (meaning x) (meaning y) (eq x y)
 by_law s h x y = record { tells = h x y }

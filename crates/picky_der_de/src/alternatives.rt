@@ -4,7 +4,8 @@ ghost use Rattle.picky_der_core.specs.Tree.{Tree};
 ghost use Rattle.picky_der_core.specs.Shape.{Shapes, AreSound, firsts_of, has};
 ghost use Rattle.picky_der_de.specs.Firsts.{IsBegunBy};
 ghost use Rattle.picky_der_de.specs.Choices.{ReadsBehind, RefusesBehind, AreKnownApart, chosen_of, begins_this_or_other};
-ghost use Rattle.picky_der_de.specs.Choices.{known_this_or_other};
+ghost use Rattle.picky_der_de.specs.Choices.{known_this_or_other, equal_this_or_other};
+ghost use Rattle.picky_der_core.specs.Equality.{IsThatOf};
 
 use crate::{Begins, Deserializer};
 use picky_der_core::asn1::Tag;
@@ -20,6 +21,14 @@ pub enum OneOf<A, B> {
     This(A),
     /// Another was.
     Other(B),
+}
+
+impl<A: PartialEq, B: PartialEq> OneOf<A, B> {
+    /// Two are equal just where the same alternative was chosen, and its values are equal.
+    pub fn equality()
+        ensures { IsThatOf ⟦<OneOf<A, B> as PartialEq>⟧.eq (λ value. value)
+            (equal_this_or_other A.eq B.eq) }
+    {}
 }
 
 /// No alternative: what stands behind the last one. There is no value of it.

@@ -1,7 +1,9 @@
 //! Alternatives of a choice, four at a time.
 ghost use Rattle.picky_der_core.specs.Tree.{Tree};
 ghost use Rattle.picky_der_core.specs.Shape.{Shapes};
-ghost use Rattle.picky_der_de.specs.FourChoices.{chosen_of4, begins_one_of4, known_one_of4};
+ghost use Rattle.picky_der_core.specs.Equality.{IsThatOf};
+ghost use Rattle.picky_der_de.specs.Choices.{equal_this_or_other};
+ghost use Rattle.picky_der_de.specs.FourChoices.{one_by_one, chosen_of4, begins_one_of4, known_one_of4};
 
 use crate::{Alternatives, Begins, Deserializer, OneOf};
 use picky_der_core::Result;
@@ -21,6 +23,15 @@ pub enum OneOf4<A, B, C, D, E> {
     Fourth(D),
     /// Another was.
     Later(E),
+}
+
+impl<A: PartialEq, B: PartialEq, C: PartialEq, D: PartialEq, E: PartialEq> OneOf4<A, B, C, D, E> {
+    /// Two are equal just where the same alternative was chosen, and its values are equal.
+    pub fn equality()
+        ensures { IsThatOf ⟦<OneOf4<A, B, C, D, E> as PartialEq>⟧.eq one_by_one
+            (equal_this_or_other A.eq (equal_this_or_other B.eq (equal_this_or_other C.eq
+            (equal_this_or_other D.eq E.eq)))) }
+    {}
 }
 
 impl<A: Begins, B: Begins, C: Begins, D: Begins, E: Alternatives> Alternatives

@@ -1,4 +1,4 @@
-//! What reads values of any type from an input, and the trait of these types.
+//! What reads values of any type from an input.
 ghost use Rattle.std.specs.Prelude.{◌≡◌, [], length, false, None, Some};
 ghost use Rattle.picky_der_core.specs.Failure.{failure_of};
 ghost use Rattle.picky_der_core.specs.Peeking.{in_front};
@@ -6,14 +6,15 @@ ghost use Rattle.picky_der_input.specs.State.{fresh};
 ghost use Rattle.picky_der_input.specs.Steps.{Fails, IsOther, IsWithin};
 
 mod application;
-mod enclosure;
-mod ends;
+mod lists;
+mod nesting;
 mod octets;
 mod options;
 mod order;
 mod peek;
 mod plain;
 mod raw;
+mod refusals;
 mod texts;
 mod unsupported;
 mod wrapper;

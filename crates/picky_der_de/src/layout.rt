@@ -20,8 +20,8 @@ pub trait DeserializeLayout: SerializeMembers + PartialEq + Drop + Sized {
     ghost layout: { Layout };
 
     /// Reads the members, from a sequence that hasn't failed and in which none is awaited directly under an implicit tag.
-    /// One that is always there is refused as `next_field` refuses it, and another as `next_optional` does. What is left
-    /// behind the last one may be looked at, and isn't read.
+    /// One that is always there is refused as `next_field` refuses it, one that may be absent as `next_optional` does, and one
+    /// with a default as `next_or_default` does. What is left behind the last one may be looked at, and isn't read.
     fn deserialize_layout<R: ReadExt>(sequence: &mut Sequence<'_, R>) -> Result<Self>
         requires had_not_failed { (state_of sequence.old).failed ≡ None }
         requires implicit_tag { (state_of sequence.old).implicit_tag ≡ None }
@@ -65,7 +65,8 @@ pub trait Struct: Sized {
 
 /// Reads a sequence of which some members may be absent, which is the whole body of `Deserialize::deserialize` of such a type.
 ///
-/// `InvalidData` for what is left behind the members; else as `deserialize_seq`, `next_field` and `next_optional` refuse them.
+/// `InvalidData` for what is left behind the members, and for a default that is written out (X.690, 11.5); else as
+/// `deserialize_seq`, `next_field` and `next_optional` refuse them.
 pub fn deserialize_struct_as<T: Struct, R: ReadExt>(de: &mut Deserializer<R>) -> Result<T>
     ensures ok { IfOk result (λ value. Reads
         (Shape.struct_of ListKind.sequence T.Members.layout) de.old de.new

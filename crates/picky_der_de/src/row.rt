@@ -4,7 +4,7 @@ ghost use Rattle.std.proofs.Common.{refl};
 ghost use Rattle.picky_der_core.specs.Tree.{ListKind};
 ghost use Rattle.picky_der_core.specs.Shape.{Shape, Shapes, AreSound};
 ghost use Rattle.picky_der_de.specs.Members.{ReadsRow, RefusesRow};
-ghost use Rattle.picky_der_de.specs.InjectiveLaws.{AreInjective, both, row_members, first_member, other_members};
+ghost use Rattle.picky_der_de.specs.InjectiveLaws.{AreInjective, row_members};
 
 use crate::{Deserialize, Deserializer, Sequence};
 use picky_der_core::Result;

@@ -197,116 +197,20 @@ impl<'a, R: ReadExt> Sequence<'a, R> {
 
 impl<R: ReadExt> Deserializer<R> {
     ghost use Rattle.picky_der_de.specs.SequenceState.{borrowed_by, outer_of, state_of};
-    ghost use Rattle.std.specs.Prelude.{◌≡◌, map, IfOk, IfErr};
-    ghost use Rattle.std.specs.Borrow.{sem, RestsIfErr};
-    ghost use Rattle.picky_der_core.specs.Tree.{ListKind, Tree, trees};
-    ghost use Rattle.picky_der_core.specs.Shape.{Shape};
-    ghost use Rattle.picky_der_input.specs.Reading.{Reads, Refuses};
+    ghost use Rattle.std.specs.Prelude.{◌≡◌, IfOk};
+    ghost use Rattle.std.specs.Borrow.{sem};
     ghost use Rattle.picky_der_core.specs.Tag.{number_of, IsTagNumber};
-    ghost use Rattle.picky_der_de.specs.contracts.deserializer.Deserializer.{the_row};
-    ghost use Rattle.picky_der_input.specs.Ends.{OpensList, RefusesList};
+    ghost use Rattle.picky_der_input.specs.Ends.{OpensList};
+    ghost use Rattle.picky_der_de.specs.Lending.{LendsList};
 
     // Begins a sequence or set under this tag.
-    fn open(&mut self, tag: Tag) -> Result<Sequence<'_, R>>
+    pub(crate) fn begin_list(&mut self, tag: Tag) -> Result<Sequence<'_, R>>
         requires { IsTagNumber (number_of tag) }
-        ensures* rests { sem 𝓛 (RestsIfErr (the_row R.row R.ReadExt.own R.Read) self.entry
-            borrowed_by result (λ new. IfErr result (RefusesList tag self.old new))) }
+        ensures* rests { sem 𝓛 (LendsList R.row R.ReadExt.own R.Read tag self.entry result) }
         ensures same_reference { IfOk result (λ q. borrowed_by q ≡ self.entry.ghost_name) }
         ensures ok { IfOk result (λ q. OpensList tag self.old (state_of q) (outer_of q)) }
     {
         let outer = self.open_list(tag)?;
         Ok(Sequence { de: self, outer })
-    }
-
-    // A sequence of values of one type.
-    pub(crate) fn read_sequence<T: Deserialize>(&mut self) -> Result<Vec<T>>
-        ensures ok { IfOk result (λ values. Reads
-            (Shape.list_of ListKind.sequence T.shape) self.old self.new
-            (Tree.list ListKind.sequence (trees (map T.meaning values.items)))) }
-        ensures err { IfErr result (Refuses (λ values. Tree.list ListKind.sequence
-            (trees (map T.meaning values))) (Shape.list_of ListKind.sequence T.shape) self.old
-            self.new) }
-    {
-        let mut members = self.deserialize_seq()?;
-        let values = members.collect::<T>()?;
-        members.end()?;
-        Ok(values)
-    }
-
-    // A set of values of one type.
-    pub(crate) fn read_set<T: Deserialize>(&mut self) -> Result<Vec<T>>
-        ensures ok { IfOk result (λ values. Reads
-            (Shape.list_of ListKind.set T.shape) self.old self.new
-            (Tree.list ListKind.set (trees (map T.meaning values.items)))) }
-        ensures err { IfErr result (Refuses (λ values. Tree.list ListKind.set
-            (trees (map T.meaning values))) (Shape.list_of ListKind.set T.shape) self.old
-            self.new) }
-    {
-        let mut members = self.deserialize_set()?;
-        let values = members.collect::<T>()?;
-        members.end()?;
-        Ok(values)
-    }
-
-    /// Begins to read a sequence (X.690, 8.9 and 8.10). Directly under an implicit tag the header was that tag's, and its end
-    /// is a soft one until the sequence is closed.
-    ///
-    /// `InvalidData` for another tag; else the refusals of a header and of an end, and the reader's fault.
-    pub fn deserialize_seq(&mut self) -> Result<Sequence<'_, R>>
-        ensures* rests { sem 𝓛 (RestsIfErr (the_row R.row R.ReadExt.own R.Read) self.entry
-            borrowed_by result (λ new. IfErr result (RefusesList 0x30 self.old new))) }
-        ensures same_reference { IfOk result (λ q. borrowed_by q ≡ self.entry.ghost_name) }
-        ensures ok { IfOk result (λ q. OpensList 0x30 self.old (state_of q) (outer_of q)) }
-    {
-        self.open(Tag::SEQUENCE)
-    }
-
-    /// Begins to read a set (X.690, 8.11 and 8.12), as a sequence is begun and refused, with the tag 31. The order of its
-    /// members is tested as each is read (11.6).
-    pub fn deserialize_set(&mut self) -> Result<Sequence<'_, R>>
-        ensures* rests { sem 𝓛 (RestsIfErr (the_row R.row R.ReadExt.own R.Read) self.entry
-            borrowed_by result (λ new. IfErr result (RefusesList 0x31 self.old new))) }
-        ensures same_reference { IfOk result (λ q. borrowed_by q ≡ self.entry.ghost_name) }
-        ensures ok { IfOk result (λ q. OpensList 0x31 self.old (state_of q) (outer_of q)) }
-    {
-        self.open(Tag::SET)
-    }
-
-    /// Begins to read a tuple as a sequence, and is refused so. The length isn't looked at.
-    pub fn deserialize_tuple(&mut self, _len: usize) -> Result<Sequence<'_, R>>
-        ensures* rests { sem 𝓛 (RestsIfErr (the_row R.row R.ReadExt.own R.Read) self.entry
-            borrowed_by result (λ new. IfErr result (RefusesList 0x30 self.old new))) }
-        ensures same_reference { IfOk result (λ q. borrowed_by q ≡ self.entry.ghost_name) }
-        ensures ok { IfOk result (λ q. OpensList 0x30 self.old (state_of q) (outer_of q)) }
-    {
-        self.deserialize_seq()
-    }
-
-    /// Begins to read a tuple with a name as a sequence, and is refused so. The name and the length aren't looked at.
-    pub fn deserialize_tuple_struct(
-        &mut self,
-        _name: &'static str,
-        _len: usize,
-    ) -> Result<Sequence<'_, R>>
-        ensures* rests { sem 𝓛 (RestsIfErr (the_row R.row R.ReadExt.own R.Read) self.entry
-            borrowed_by result (λ new. IfErr result (RefusesList 0x30 self.old new))) }
-        ensures same_reference { IfOk result (λ q. borrowed_by q ≡ self.entry.ghost_name) }
-        ensures ok { IfOk result (λ q. OpensList 0x30 self.old (state_of q) (outer_of q)) }
-    {
-        self.deserialize_seq()
-    }
-
-    /// Begins to read a struct as a sequence, and is refused so. The names aren't looked at.
-    pub fn deserialize_struct(
-        &mut self,
-        _name: &'static str,
-        _fields: &'static [&'static str],
-    ) -> Result<Sequence<'_, R>>
-        ensures* rests { sem 𝓛 (RestsIfErr (the_row R.row R.ReadExt.own R.Read) self.entry
-            borrowed_by result (λ new. IfErr result (RefusesList 0x30 self.old new))) }
-        ensures same_reference { IfOk result (λ q. borrowed_by q ≡ self.entry.ghost_name) }
-        ensures ok { IfOk result (λ q. OpensList 0x30 self.old (state_of q) (outer_of q)) }
-    {
-        self.deserialize_seq()
     }
 }

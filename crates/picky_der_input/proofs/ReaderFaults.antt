@@ -6,7 +6,7 @@ use Rattle.std.specs.declared.io.Error.{Error}
 use Rattle.picky_der_core.specs.declared.error.Asn1DerError.{Asn1DerError}
 use Rattle.picky_der_core.specs.Failure.{failure_of}
 use Rattle.picky_der_core.specs.declared.error.Asn1DerError.TheVariants.{TruncatedData}
-use Rattle.picky_der_core.specs.Error.{kind_of}
+use Rattle.picky_der_core.specs.Error.{error_of_kind}
 use Rattle.picky_der_core.specs.Reader.{FailsOnce, TellsFault}
 use Rattle.picky_der_core.specs.ReaderLaws.{not_more}
 use Rattle.picky_der_core.specs.Peeking.{count_of_any}
@@ -30,7 +30,7 @@ ended_before (Some xs) (Some ys) k h = sym k ∙ h
 
 -- why no byte came: the reader failed, and this is what that fault becomes; or the input has ended
 pub data GivesNone (old new : State) (e : Asn1DerError) : Type 0 where
-  fault : (error : Error) → e ≡ kind_of (error_kind error) → FailsOnce old.faults new.faults new.input error → GivesNone old new e
+  fault : (error : Error) → e ≡ error_of_kind (error_kind error) → FailsOnce old.faults new.faults new.input error → GivesNone old new e
   end : new.faults ≡ old.faults → e ≡ TruncatedData → IsAtEnd old.input → GivesNone old new e
 
 -- so it has failed, and nothing else changed

@@ -8,7 +8,7 @@ use Rattle.picky_der_input.specs.declared.end.End.{End}
 use Rattle.picky_der_input.specs.declared.end.End.TheVariants.{Soft}
 use Rattle.picky_der_input.specs.State.{State}
 use Rattle.picky_der_input.specs.Steps.{Fails, TakesNoMemory, failed_with, at_end, is_hard}
-use Rattle.picky_der_input.specs.Order.{order_of, entered, place_of, cut_at}
+use Rattle.picky_der_input.specs.Order.{order_of, entered, last_start, cut_at}
 use Rattle.picky_der_input.specs.Reading.{AreNotRefused}
 use Rattle.picky_der_input.specs.Headers.{Begins, RefusesBegin}
 
@@ -21,7 +21,7 @@ pub record Outer : Type 0 where
 
 -- the innermost end, to be put back
 abbrev pub innermost : State → Outer
-innermost s = record { place = s.taken + s.until_end; kind = s.end; last = place_of s.sets }
+innermost s = record { place = s.taken + s.until_end; kind = s.end; last = last_start s.sets }
 
 -- an end of this kind was opened this many bytes from here
 abbrev pub narrowed : State → ℕ → End → State

@@ -22,8 +22,8 @@ abbrev pub entered : Option (List ℕ) → OpenSets → OpenSets
 entered first s = record { last = first; around = kept_in s.last s.around }
 
 -- where the encoding begins that is kept for the innermost end, where that is a set's
-abbrev pub place_of : OpenSets → Option ℕ
-place_of s = option_map (λ last. length s.around) s.last
+abbrev pub last_start : OpenSets → Option ℕ
+last_start s = option_map (λ last. length s.around) s.last
 
 -- these encodings, that of the innermost end from there on
 abbrev pub cut_at : Option ℕ → List ℕ → OpenSets

@@ -1,6 +1,8 @@
 //! What stands around one value that is read.
+ghost use Rattle.std.specs.Prelude.{◌≡◌, IfNone, IfSome};
+ghost use Rattle.picky_der_input.specs.Enclosures.{enclosure_tag, HasNumber, counts_unused_bits, implicit_number};
 
-use picky_der_core::asn1::Wrapper;
+use picky_der_core::asn1::{Tag, Wrapper};
 
 /// What stands around a value that is being read: a header, and an end that the value has to reach.
 #[derive(Debug, Clone, Copy, PartialEq, Eq)]
@@ -10,4 +12,62 @@ pub enum Enclosure {
 
     /// The application tag with this number.
     Application(u8),
+}
+
+impl Enclosure {
+    // Its tag, and `None` where the tag number is past 30.
+    pub(crate) fn tag(self) -> Option<Tag>
+        ensures tag { IfSome result (λ tag. tag ≡ enclosure_tag self) }
+        ensures number { IfSome result (λ tag. HasNumber self) }
+        ensures none { IfNone result (HasNumber self → ⊥) }
+    {
+        match self {
+            Enclosure::Wrapper(Wrapper::OctetContainer) => Some(Tag::OCTET_STRING),
+            Enclosure::Wrapper(Wrapper::BitContainer) => Some(Tag::BIT_STRING),
+            Enclosure::Wrapper(Wrapper::Explicit(number)) => {
+                if number > Tag::MAX_NUMBER {
+                    return None;
+                }
+                Some(Tag::context_specific_constructed(number))
+            }
+            Enclosure::Wrapper(Wrapper::Implicit(number)) => {
+                if number > Tag::MAX_NUMBER {
+                    return None;
+                }
+                Some(Tag::context_specific_primitive(number))
+            }
+            Enclosure::Application(number) => {
+                if number > Tag::MAX_NUMBER {
+                    return None;
+                }
+                Some(Tag::application_constructed(number))
+            }
+        }
+    }
+
+    // Whether a byte behind the header counts unused bits.
+    pub(crate) fn has_unused_bits(self) -> bool
+        ensures { result ≡ counts_unused_bits self }
+    {
+        match self {
+            Enclosure::Wrapper(Wrapper::BitContainer) => true,
+            Enclosure::Wrapper(
+                Wrapper::OctetContainer | Wrapper::Explicit(_) | Wrapper::Implicit(_),
+            )
+            | Enclosure::Application(_) => false,
+        }
+    }
+
+    // The number of the implicit tag directly under which the value stands.
+    pub(crate) fn implicit_number(self) -> Option<u8>
+        ensures { result ≡ implicit_number self }
+    {
+        match self {
+            Enclosure::Wrapper(Wrapper::Implicit(number)) => Some(number),
+            Enclosure::Wrapper(
+                Wrapper::OctetContainer | Wrapper::BitContainer | Wrapper::Explicit(_),
+            )
+            | Enclosure::Application(_) => None,
+        }
+    }
 }

@@ -18,7 +18,7 @@ pub enum End {
 }
 
 impl End {
-    // What a byte that is missing there is, and a length that reaches past it.
+    // The error of a byte that is missing there, and of a length that reaches past it.
     pub(crate) fn missing(self) -> Asn1DerError
         ensures { result ≡ at_end self }
     {

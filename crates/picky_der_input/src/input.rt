@@ -1,19 +1,16 @@
 //! The input, and how far it may be read.
-ghost use Rattle.std.specs.Prelude.{◌≡◌, ◌<◌, ◌^◌, ◌∷◌, [], length, false, None, Some, IfNone, IfSome, IfOk, IfErr};
-ghost use Rattle.std.specs.Prelude.{OnOk};
+ghost use Rattle.std.specs.Prelude.{◌≡◌, ◌<◌, ◌^◌, length, None, Some, IfNone, IfSome};
 ghost use Rattle.picky_der_input.specs.State.{fresh};
 ghost use Rattle.std.specs.IoError.{error_kind};
-ghost use Rattle.picky_der_core.specs.Error.{kind_of};
+ghost use Rattle.picky_der_core.specs.Error.{error_of_kind};
 ghost use Rattle.picky_der_core.specs.Failure.{failure_of};
 ghost use Rattle.picky_der_core.specs.Peeking.{in_front};
-ghost use Rattle.picky_der_input.specs.Steps.{IsWithin, Takes, TakesKept, StopsShort, Fails, IsMissing, IsOther, TakesNoMemory};
-ghost use Rattle.picky_der_input.specs.Steps.{failed_with};
+ghost use Rattle.picky_der_input.specs.Steps.{IsWithin, Fails, IsOther, failed_with};
 
 mod ahead;
-mod contents;
-mod enclosure;
-mod ends;
+mod draw;
 mod header;
+mod nesting;
 mod octets;
 mod order;
 mod peek;
@@ -23,16 +20,12 @@ mod refusals;
 mod texts;
 
 use crate::End;
-use arrayvec::ArrayVec;
-pub use ends::Outer;
+pub use nesting::Outer;
 use picky_der_core::misc::{PeekableReader, ReadExt};
 use picky_der_core::{Asn1DerError, Failure, Result};
 use std::alloc::Global;
 use std::io;
 use std::marker::Model;
-
-// How many bytes of a number or bool are kept: one more than the longest content of a number has.
-const KEPT: usize = 18;
 
 /// What a reader has left, up to the innermost end. After an error it has failed: each later call answers an error of its kind
 /// and takes nothing.
@@ -145,7 +138,7 @@ impl<R: ReadExt> Input<R> {
         }
     }
 
-    /// Has failed from here on with an error that is no fault of the reader.
+    /// Has failed from here on with this error, which is no fault of the reader, and answers it.
     pub fn fail(&mut self, error: Asn1DerError) -> Asn1DerError
         requires had_not_failed { self.old.failed ≡ None }
         requires no_fault { IsOther error → ⊥ }
@@ -159,60 +152,11 @@ impl<R: ReadExt> Input<R> {
 
     // Has failed from here on with a fault of the reader.
     pub(crate) fn fault(&mut self, error: io::Error) -> Asn1DerError
-        ensures error { result ≡ kind_of (error_kind error) }
+        ensures error { result ≡ error_of_kind (error_kind error) }
         ensures same { self.new ≡ failed_with self.old result }
     {
         let error = Asn1DerError::from(error);
         self.failed = Some(Failure::of(error));
         error
-    }
-
-    // The next byte before the innermost end.
-    pub(crate) fn next_byte(&mut self) -> Result<u8>
-        ensures ok { IfOk result (λ b. Takes self.old self.new (b ∷ [])) }
-        ensures byte { IfOk result (λ b. b < 256) }
-        ensures implicit_tag { OnOk result (self.new.implicit_tag ≡ self.old.implicit_tag) }
-        ensures err { IfErr result (Fails self.old self.new) }
-        ensures missing { IfErr result (λ e. self.old.failed ≡ None
-            → self.new.faults ≡ self.old.faults → IsMissing self.old e) }
-        ensures unmoved { IfErr result (λ e. self.new
-            ≡ record self.old {
-              failed = Some (failure_of e);
-              faults = self.new.faults;
-              input = self.new.input;
-            }) }
-    {
-        if let Some(error) = self.earlier() {
-            return Err(error);
-        }
-        if self.until_end == 0 {
-            let error = self.end.missing();
-            return Err(self.fail(error));
-        }
-        match self.reader.read_next() {
-            Ok(Some(byte)) => {
-                self.until_end -= 1;
-                Ok(byte)
-            }
-            Ok(None) => Err(self.fail(Asn1DerError::TruncatedData)),
-            Err(error) => Err(self.fault(error)),
-        }
-    }
-
-    // Takes the content, and keeps its first bytes: one more than the longest content of a number has.
-    pub(crate) fn draw_kept(&mut self, len: usize) -> Result<ArrayVec<u8, KEPT>>
-        requires had_not_failed { self.old.failed ≡ None }
-        requires unpeeked { self.old.peeked ≡ None }
-        ensures ok { IfOk result (λ kept. TakesKept self.old self.new len kept.items) }
-        ensures implicit_tag { OnOk result (self.new.implicit_tag ≡ self.old.implicit_tag) }
-        ensures err { IfErr result (StopsShort self.old self.new len) }
-        ensures memory { IfErr result (TakesNoMemory self.old self.new) }
-    {
-        let mut kept = ArrayVec::new();
-        for _i in 0..len {
-            let byte = self.next_byte()?;
-            let _ = kept.try_push(byte);
-        }
-        Ok(kept)
     }
 }

@@ -31,7 +31,7 @@ fn digits_of(content: &[u8]) -> Result<&[u8]>
 }
 
 // The number of at most sixteen bytes.
-fn number_of(digits: &[u8]) -> u128
+fn value_of(digits: &[u8]) -> u128
     requires { length digits.now ≤ 16 }
     ensures { result ≡ number_from_digits 256 digits.now }
 {
@@ -60,7 +60,7 @@ impl UnsignedInteger {
         if digits.len() > 16 {
             return Err(Asn1DerError::UnsupportedValue);
         }
-        T::from_u128(number_of(digits))
+        T::from_u128(value_of(digits))
     }
 }
 

@@ -5,7 +5,7 @@ use Rattle.std.specs.Prelude.{IfNone}
 use Rattle.std.specs.Io.KnownBytes.{Appends}
 use Rattle.std.specs.declared.io.ErrorKind.{ErrorKind}
 use Rattle.std.specs.declared.io.ErrorKind.TheVariants as kind
-use Rattle.picky_der_core.specs.Error.{kind_of}
+use Rattle.picky_der_core.specs.Error.{error_of_kind}
 use Rattle.picky_der_core.specs.declared.misc.writer.WriteExt.{Ghosts}
 use Rattle.picky_der_core.specs.declared.misc.buf_sink.BufSink.{BufSink}
 use Rattle.picky_der_core.specs.declared.misc.slice_sink.SliceSink.{SliceSink}
@@ -16,19 +16,19 @@ use Rattle.picky_der_core.specs.Tree.{Tree}
 use Rattle.picky_der_core.specs.Encoding.{der}
 use Rattle.picky_der_core.specs.Readable.{IsWritable}
 use Rattle.picky_der_core.specs.Wrapper.{under}
-use Rattle.picky_der_core.specs.Sink.{vector_of, place_of}
+use Rattle.picky_der_core.specs.Sink.{vector_of, position_of}
 use Rattle.picky_der_core.specs.SliceSink.{slice_of, filled_of, written_of, faults_of, IsLater}
 use Rattle.picky_der_core.specs.SliceSinkLaws.{holds_all, holds_beginning, holds_first}
 use Rattle.picky_der_ser.specs.State.{State}
 use Rattle.picky_der_ser.specs.Calls.{Excuse, no_memory, unwritable, no_sink, MemoryExcuse, no_room, no_way, Wrote, Refused, RefusedIn, RefusesWrite}
 use Rattle.picky_der_ser.specs.Entry.{Overwrites, RefusedVec, SliceExcuse, without_memory, without_form, without_room, RefusedSlice}
 
-memory_kind : kind_of kind.OutOfMemory ≡ OutOfMemory
-unfolding kind_of
+memory_kind : error_of_kind kind.OutOfMemory ≡ OutOfMemory
+unfolding error_of_kind
 memory_kind = refl
 
-full_kind : kind_of kind.WriteZero ≡ InvalidSink
-unfolding kind_of
+full_kind : error_of_kind kind.WriteZero ≡ InvalidSink
+unfolding error_of_kind
 full_kind = refl
 
 -- ---- a writer, through a reference
@@ -61,33 +61,33 @@ over j front old new e h f =
     let n : length front ≡ j = sym (ap length e) ∙ grind (arith, common_steps) in
     sym (take-append-drop j new) ∙ ap (λ l. l ++ drop j new) e ∙ ap (λ l. front ++ l) f ∙ ap (λ k. front ++ drop k old) (sym n)
 
-module _ (g : Ghosts BufSink) (told : (s : BufSink) → g.told s ≡ Some (take (place_of s) (vector_of s).now.items)) (only : (k : ErrorKind) → g.answers k → k ≡ kind.OutOfMemory) where
+module _ (g : Ghosts BufSink) (told : (s : BufSink) → g.told s ≡ Some (take (position_of s) (vector_of s).now.items)) (only : (k : ErrorKind) → g.answers k → k ≡ kind.OutOfMemory) where
   vec_excuse : (t : Tree) (old new : BufSink) (e : Asn1DerError) (rest : List ℕ) → Excuse g t rest old e new → MemoryExcuse (IsWritable t) e
   vec_excuse t old new e rest (no_memory m s) = no_room m
   vec_excuse t old new e rest (unwritable m n s) = no_way m n
-  vec_excuse t old new e rest (no_sink h some f) = no_room (f.is ∙ ap kind_of (only f.kind f.answered) ∙ memory_kind)
+  vec_excuse t old new e rest (no_sink h some f) = no_room (f.is ∙ ap error_of_kind (only f.kind f.answered) ∙ memory_kind)
 
-  vec_nothing : (t : Tree) (old new : BufSink) (e : Asn1DerError) (front rest : List ℕ) → place_of old ≡ 0 → take (place_of new) (vector_of new).now.items ≡ front → Excuse g t rest old e new → e ≡ UnsupportedValue → front ≡ []
+  vec_nothing : (t : Tree) (old new : BufSink) (e : Asn1DerError) (front rest : List ℕ) → position_of old ≡ 0 → take (position_of new) (vector_of new).now.items ≡ front → Excuse g t rest old e new → e ≡ UnsupportedValue → front ≡ []
   vec_nothing t old new e front rest start is (no_memory m s) u = cc
-  vec_nothing t old new e front rest start is (unwritable m n s) u = sym is ∙ ap (λ k. take k (vector_of new).now.items) (ap place_of s ∙ start)
+  vec_nothing t old new e front rest start is (unwritable m n s) u = sym is ∙ ap (λ k. take k (vector_of new).now.items) (ap position_of s ∙ start)
   vec_nothing t old new e front rest start is (no_sink h some f) u =
-      let m : e ≡ OutOfMemory = f.is ∙ ap kind_of (only f.kind f.answered) ∙ memory_kind in
+      let m : e ≡ OutOfMemory = f.is ∙ ap error_of_kind (only f.kind f.answered) ∙ memory_kind in
       cc
 
   -- a vector holds a beginning of the encoding, and behind it what stood there before
-  pub refused-vec : (t : Tree) (old new : BufSink) (e : Asn1DerError) → place_of old ≡ 0 → drop (place_of new) (vector_of new).now.items ≡ drop (place_of new) (vector_of old).now.items
+  pub refused-vec : (t : Tree) (old new : BufSink) (e : Asn1DerError) → position_of old ≡ 0 → drop (position_of new) (vector_of new).now.items ≡ drop (position_of new) (vector_of old).now.items
       → Refused g t old e new → RefusedVec t (vector_of old).now.items e (vector_of new).now.items
   refused-vec t old new e start past h =
       let front = h.begins.front in
-      let first : Appends (Some (take (place_of old) (vector_of old).now.items)) (g.told new) front = subst (λ a. Appends a (g.told new) front) (told old) h.begins.appends in
-      let both : take (place_of new) (vector_of new).now.items ≡ take (place_of old) (vector_of old).now.items ++ front =
-      subst (λ b. Appends (Some (take (place_of old) (vector_of old).now.items)) b front) (told new) first in
-      let is : take (place_of new) (vector_of new).now.items ≡ front = both ∙ ap (λ k. take k (vector_of old).now.items ++ front) start in
-      let within : place_of new ≤ length (vector_of new).now.items = omega (arith, new.within, new.buf.now.ok.0) in
+      let first : Appends (Some (take (position_of old) (vector_of old).now.items)) (g.told new) front = subst (λ a. Appends a (g.told new) front) (told old) h.begins.appends in
+      let both : take (position_of new) (vector_of new).now.items ≡ take (position_of old) (vector_of old).now.items ++ front =
+      subst (λ b. Appends (Some (take (position_of old) (vector_of old).now.items)) b front) (told new) first in
+      let is : take (position_of new) (vector_of new).now.items ≡ front = both ∙ ap (λ k. take k (vector_of old).now.items ++ front) start in
+      let within : position_of new ≤ length (vector_of new).now.items = omega (arith, new.within, new.buf.now.ok.0) in
       record {
         front = front;
         begins = record { rest = h.begins.rest; is = h.begins.is };
-        holds = over (place_of new) front (vector_of old).now.items (vector_of new).now.items is within past;
+        holds = over (position_of new) front (vector_of old).now.items (vector_of new).now.items is within past;
         nothing = vec_nothing t old new e front h.begins.rest start is h.excuse;
         excuse = vec_excuse t old new e h.begins.rest h.excuse;
       }
@@ -114,7 +114,7 @@ module _ (g : Ghosts SliceSink) (told : (s : SliceSink) → g.told s ≡ Some (w
   slice_excuse t old new e start later b (no_sink h some f) =
       let rose : faults_of old < faults_of new = omega (arith, f.rose, faults old, faults new) in
       let first = holds_first old new (der t) start later (record { begins = b; missing = some }) rose in
-      without_room (f.is ∙ ap kind_of (only f.kind f.answered) ∙ full_kind) h first.0 first.1
+      without_room (f.is ∙ ap error_of_kind (only f.kind f.answered) ∙ full_kind) h first.0 first.1
 
   -- it holds a beginning of the encoding, and behind it what stood there before
   pub refused-slice : (t : Tree) (old new : SliceSink) (e : Asn1DerError) → filled_of old ≡ 0 → IsLater old new → Refused g t old e new → RefusedSlice t (slice_of old).now e (slice_of new).now

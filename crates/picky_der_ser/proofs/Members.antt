@@ -12,7 +12,7 @@ use Rattle.picky_der_core.specs.Wrapper.{under}
 use Rattle.picky_der_core.specs.WrapperLaws.{AreAlike}
 use Rattle.picky_der_ser.specs.declared.header.Header.TheVariants.{Tagged}
 use Rattle.picky_der_ser.specs.State.{State, Level, with_member, with_members, settled}
-use Rattle.picky_der_ser.specs.Sequences.{IsListTag, kind_of}
+use Rattle.picky_der_ser.specs.Sequences.{IsListTag, list_kind}
 use Rattle.picky_der_ser.specs.Calls.{MemoryExcuse, no_room, no_way, RefusedIn, Writes, RefusesWrite, OpensLevel, RefusesBefore, AddsMember, RefusesToAdd, WritesContent, EndsLevel}
 use Rattle.picky_der_ser.proofs.Alike.{writes-alike, fails-alike}
 use Rattle.picky_der_ser.proofs.PlainWrites.{refused_unwritable}
@@ -39,7 +39,7 @@ module _ {W : Type 0} (g : Ghosts W) where
   pub list_opened : (kind : ListKind) (all : Trees) (old now : State W) → OpensLevel g (Tagged (list_tag kind)) old now → Awaits kind all all old now
   list_opened kind all old now h = record { done = []; split = refl; numbers = refl; is = h.opened }
 
-  pub list_opened_by : (tag : ℕ) (all : Trees) (old now : State W) → IsListTag tag → OpensLevel g (Tagged tag) old now → Awaits (kind_of tag) all all old now
+  pub list_opened_by : (tag : ℕ) (all : Trees) (old now : State W) → IsListTag tag → OpensLevel g (Tagged tag) old now → Awaits (list_kind tag) all all old now
   list_opened_by tag all old now (inl e) h = rw e (list_opened ListKind.sequence all old now (subst (λ t. OpensLevel g (Tagged t) old now) e h))
   list_opened_by tag all old now (inr e) h = rw e (list_opened ListKind.set all old now (subst (λ t. OpensLevel g (Tagged t) old now) e h))
 

@@ -11,5 +11,6 @@ pub mod Integer
 pub mod Meaning
 pub mod Sequences
 pub mod SequenceState
+pub mod Lending
 pub mod Defaults
 pub mod Sealed

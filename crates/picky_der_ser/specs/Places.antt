@@ -39,17 +39,17 @@ marks_around_code = code_by (List Place × ℕ) (coded× (coded_list place_code)
 abbrev pub root_place : Place
 root_place = record { header = Raw; around = []; at = 0; start = 0; first_seam = 0 }
 
-abbrev pub place_of : Mark → Place
-place_of m = record { header = m.header; around = m.around.items; at = m.at; start = m.start; first_seam = m.first_seam }
+abbrev pub mark_place : Mark → Place
+mark_place m = record { header = m.header; around = m.around.items; at = m.at; start = m.start; first_seam = m.first_seam }
 
 abbrev pub placed : Option Mark → Option Place
 placed None = None
-placed (Some m) = Some (place_of m)
+placed (Some m) = Some (mark_place m)
 
 -- this mark inside of the others, if there is one
 abbrev pub inside_places : Option Mark → List Place → List Place
 inside_places None ps = ps
-inside_places (Some m) ps = place_of m ∷ ps
+inside_places (Some m) ps = mark_place m ∷ ps
 
 -- the root's place, if it is around them all
 abbrev pub root_places : Bool → List Place
@@ -58,7 +58,7 @@ root_places false = []
 
 -- All marks, innermost first: the others are given outermost first.
 abbrev pub places_of : Bool → Option Mark → Option Mark → List Mark → List Place
-places_of rooted first second others = map place_of (reverse others) ++ inside_places second (inside_places first (root_places rooted))
+places_of rooted first second others = map mark_place (reverse others) ++ inside_places second (inside_places first (root_places rooted))
 
 -- for how many there is room where this one may stand
 abbrev pub spare_slot : Option Mark → ℕ

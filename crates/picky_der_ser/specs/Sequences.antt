@@ -11,8 +11,8 @@ abbrev pub IsListTag : ℕ → Type 0
 IsListTag tag = (tag ≡ 0x30) ⊎ (tag ≡ 0x31)
 
 -- the list that has this tag
-abbrev pub kind_of : ℕ → ListKind
-kind_of tag = if nat_eq tag 0x31 then ListKind.set else ListKind.sequence
+abbrev pub list_kind : ℕ → ListKind
+list_kind tag = if nat_eq tag 0x31 then ListKind.set else ListKind.sequence
 
 -- unless the serializer has failed, a level is open
 abbrev pub IsOpen : Option Failure → Option Level → Type 0

@@ -1,6 +1,6 @@
 //! Members of a sequence that are left out where they have the default value.
 ghost use Rattle.std.proofs.Common.{rules};
-ghost use Rattle.std.specs.Prelude.{◌≡◌, ◌↔◌, Bool, IsTrue, not, nat_eq};
+ghost use Rattle.std.specs.Prelude.{◌≡◌, Bool, IsTrue, not, nat_eq};
 ghost use Rattle.picky_der_core.specs.Equality.{IsThatOf};
 ghost use Rattle.picky_der_ser.specs.Meaning.{maybe_more, unless_default};
 ghost use Rattle.picky_der_ser.specs.Defaults.{IsByTree, IsOne, numbers_by_tree, one_number, explicit_by_tree};
@@ -62,7 +62,7 @@ impl<T: PartialEq, D> Defaulted<T, D> {
     {}
 }
 
-/// The same by reference, as a struct writes its field.
+/// A member of a row with the default `D`, by reference, as a struct writes its field.
 #[derive(Drop)]
 pub struct DefaultedRef<'a, T, D> {
     /// The value, which isn't written where it is the default.
@@ -107,7 +107,7 @@ pub struct False;
 /// The default `TRUE` of a BOOLEAN.
 pub struct True;
 
-/// A default of an INTEGER, with or without explicit tags around it.
+/// The default `N` of an INTEGER, 255 at most.
 pub struct Number<const N: u8>;
 
 impl DefaultOf<bool> for False {
@@ -238,6 +238,7 @@ impl<const N: u8> DefaultOf<usize> for Number<N> {
     ghost one = { one_number N };
 }
 
+/// A default is one under an explicit tag, too.
 impl<T: Serialize + PartialEq, D: DefaultOf<T>, const N: u8> DefaultOf<ExplicitContextTag<T, N>>
     for D {
     ghost left_out = { λ tagged. D.left_out tagged.0 };

@@ -15,8 +15,8 @@ use std::alloc::Global;
 /// Fills the slice with the value's canonical encoding, and answers its length. Bytes past the encoding stay.
 ///
 /// A slice that is too short is filled with the encoding's first bytes, and the answer is `InvalidSink`.
-/// `UnsupportedValue` where the value can't be written, and then the slice stays as it was. `OutOfMemory` where a growth
-/// was refused; what was written by then is a beginning of the encoding.
+/// `UnsupportedValue` where the value can't be written, and `OutOfMemory` where memory was refused: then the slice stays as
+/// it was.
 pub fn to_bytes<T: Serialize>(alloc: Global, value: &T, buf: &mut [u8]) -> Result<usize>
     ensures ok { IfOk result (λ n. Overwrites (T.meaning value.now) buf.old n buf.new) }
     ensures fits { OnOk result (length (der (T.meaning value.now)) ≤ length buf.old) }
@@ -60,9 +60,10 @@ pub fn to_vec<T: Serialize>(alloc: Global, value: &T) -> Result<Vec<u8>>
     Ok(ser.into_content())
 }
 
-/// Appends the value's canonical encoding to what the writer has taken, and answers its length. At an error a beginning
-/// of the encoding was appended: `OutOfMemory` where memory was refused, `UnsupportedValue` where the value can't be
-/// written, and then nothing is; else the error of the writer, and then at least one byte is missing.
+/// Appends the value's canonical encoding to what the writer has taken, and answers its length.
+///
+/// `OutOfMemory` where memory was refused, and `UnsupportedValue` where the value can't be written: then nothing was
+/// appended. Else the error of the writer: then a beginning of the encoding was, and at least one byte is missing.
 pub fn to_writer<T: Serialize, W: WriteExt>(
     alloc: Global,
     value: &T,

@@ -143,7 +143,7 @@ fn joined(wrapper: Wrapper, header: &Header) -> Option<Header>
 }
 
 // The header that stands in place of the innermost wrapper's and the content's own, if one does.
-fn innermost(around: &[Wrapper], header: &Header) -> Option<Header>
+fn innermost_joined(around: &[Wrapper], header: &Header) -> Option<Header>
     requires { HaveTagNumbers around.now }
     ensures { result ≡ joined_last around.now header.now }
 {
@@ -186,7 +186,7 @@ fn push_nested_headers(
     ensures grows { vec_len out.old ≤ vec_len out.new }
 {
     let start = out.len();
-    let joined = innermost(around, &header);
+    let joined = innermost_joined(around, &header);
     let written = usize::from(joined.is_some());
     push_own_header(out, joined.unwrap_or(header), len)?;
     let mut rest = &around[..around.len() - written];

@@ -1,6 +1,6 @@
 //! The levels of a serializer, in one vector.
 ghost use Rattle.std.specs.Prelude.{◌≡◌, ◌≢◌, ◌<◌, ◌≤◌, ◌^◌, ◌+◌, List, [], ◌∷◌, true, false, length};
-ghost use Rattle.std.specs.Prelude.{take, drop, vec_len, None, Some, IfSome, IsSome, IfOk, OnOk};
+ghost use Rattle.std.specs.Prelude.{drop, vec_len, None, Some, IfSome, IsSome, IfOk, OnOk};
 ghost use Rattle.picky_der_core.specs.Encoding.{der};
 ghost use Rattle.picky_der_core.specs.Tree.{Tree};
 ghost use Rattle.picky_der_core.specs.Wrapper.{under};
@@ -267,7 +267,10 @@ impl Levels {
         ensures count { result ≡ true → length
             (der (Tree.bytes tag content.now)) ≡ 2 + length content.now }
         ensures yes { result ≡ true → (l : Level) (ls : List Level) → self.old.inside ≡ l ∷ ls
-            → self.new ≡ record { inside = with_bytes l (der (Tree.bytes tag content.now)) ∷ ls; pending = None } }
+            → self.new ≡ record {
+              inside = with_bytes l (der (Tree.bytes tag content.now)) ∷ ls;
+              pending = None;
+            } }
         ensures no { result ≡ false → self.new ≡ self.old }
     {
         let len = content.len();

@@ -1,6 +1,6 @@
 //! The marks of the levels around the innermost one.
-ghost use Rattle.std.specs.Prelude.{◌≡◌, ◌≢◌, ◌<◌, ◌≤◌, List, [], ◌∷◌, true, false, None, IfSome, IfNone, OnOk};
-ghost use Rattle.picky_der_ser.specs.Places.{place_of, placed, root_place};
+ghost use Rattle.std.specs.Prelude.{◌≡◌, ◌≢◌, ◌<◌, ◌≤◌, [], ◌∷◌, true, false, None, IfSome, IfNone, OnOk};
+ghost use Rattle.picky_der_ser.specs.Places.{mark_place, placed, root_place};
 ghost use Rattle.picky_der_ser.specs.Marks.{with_pending};
 
 use crate::Header;
@@ -47,7 +47,7 @@ impl Model for Marks {
 
 // That of a root, in front of whose content nothing stands.
 fn root_mark(alloc: Global) -> Mark
-    ensures { place_of result ≡ root_place }
+    ensures { mark_place result ≡ root_place }
 {
     Mark {
         header: Header::Raw,
@@ -137,7 +137,7 @@ impl Marks {
     pub(crate) fn bring_back(&mut self, innermost: &mut Option<Mark>)
         requires { innermost.old ≡ None }
         ensures some { IfSome innermost.new (λ mark. self.old.places
-            ≡ place_of mark ∷ self.new.places) }
+            ≡ mark_place mark ∷ self.new.places) }
         ensures none { IfNone innermost.new ((self.old.places ≡ []) × (self.new.places ≡ [])) }
     {
         if !self.others.is_empty() {

@@ -19,7 +19,7 @@ impl<T: PartialEq> Optional<T> {
     {}
 }
 
-/// The same by reference, as a struct writes its field.
+/// A member of a row that may be absent, by reference, as a struct writes its field.
 #[derive(Drop)]
 pub struct OptionalRef<'a, T>(pub &'a Option<T>);
 

@@ -10,7 +10,7 @@ use picky_der_core::Result;
 use picky_der_core::asn1::Tag;
 use picky_der_core::misc::WriteExt;
 
-/// Members of a sequence: none, as `()`, or up to eight and those behind them, as `(A, B, C, ())`.
+/// Members of a sequence: none, as `()`, or up to sixteen and those behind them, as `(A, B, C, ())`.
 pub trait SerializeMembers {
     ghost use Rattle.picky_der_ser.specs.SequenceState.{borrowed_by, state_of};
 

@@ -1,8 +1,6 @@
 //! Sequences and sets that are being written (X.690, 8.9 to 8.12).
-ghost use Rattle.std.specs.Prelude.{◌≡◌, None, IfOk, IfErr, OnOk};
-ghost use Rattle.std.specs.Borrow.{sem, RestsIfErr};
-ghost use Rattle.picky_der_ser.specs.contracts.serializer.Serializer.{the_row};
-ghost use Rattle.picky_der_ser.specs.Calls.{HadFailed, OpensLevel, AddsMember, RefusesToAdd, EndsLevel};
+ghost use Rattle.std.specs.Prelude.{◌≡◌, IfErr, OnOk};
+ghost use Rattle.picky_der_ser.specs.Calls.{OpensLevel, AddsMember, RefusesToAdd, EndsLevel};
 ghost use Rattle.picky_der_ser.specs.Sequences.{IsListTag, IsOpen, IsOpen-prop};
 
 use crate::{Header, Serialize, Serializer};
@@ -39,8 +37,8 @@ impl<'a, W: WriteExt> Sequence<'a, W> {
     /// where memory is refused. The sink isn't touched.
     pub fn serialize_element<T: Serialize>(&mut self, value: &T) -> Result<()>
         ensures same_reference { borrowed_by self.new ≡ borrowed_by self.old }
-        ensures added { OnOk result (AddsMember W.WriteExt.own (T.meaning value.now) (state_of self.old)
-            (state_of self.new)) }
+        ensures added { OnOk result (AddsMember W.WriteExt.own (T.meaning value.now)
+            (state_of self.old) (state_of self.new)) }
         ensures err { IfErr result (λ e. RefusesToAdd W.WriteExt.own (T.meaning value.now)
             (state_of self.old) e (state_of self.new)) }
     {
@@ -48,14 +46,13 @@ impl<'a, W: WriteExt> Sequence<'a, W> {
     }
 
     /// Adds a member, as `serialize_element` does. The key isn't written.
-    pub fn serialize_field<T: Serialize>(&mut self, key: &'static str, value: &T) -> Result<()>
+    pub fn serialize_field<T: Serialize>(&mut self, _key: &'static str, value: &T) -> Result<()>
         ensures same_reference { borrowed_by self.new ≡ borrowed_by self.old }
-        ensures added { OnOk result (AddsMember W.WriteExt.own (T.meaning value.now) (state_of self.old)
-            (state_of self.new)) }
+        ensures added { OnOk result (AddsMember W.WriteExt.own (T.meaning value.now)
+            (state_of self.old) (state_of self.new)) }
         ensures err { IfErr result (λ e. RefusesToAdd W.WriteExt.own (T.meaning value.now)
             (state_of self.old) e (state_of self.new)) }
     {
-        let _ = key;
         self.serialize_element(value)
     }
 
@@ -70,97 +67,5 @@ impl<'a, W: WriteExt> Sequence<'a, W> {
     {
         let ser: &mut Serializer<W> = self.ser;
         ser.close()
-    }
-}
-
-impl<W: WriteExt> Serializer<W> {
-    ghost use Rattle.picky_der_ser.specs.SequenceState.{borrowed_by, state_of};
-
-    // Begins a sequence or set in the open wrappers, unless it has failed.
-    fn begin(&mut self, tag: Tag) -> Result<Sequence<'_, W>>
-        requires { IsListTag tag }
-        ensures* rests { sem 𝓛 (RestsIfErr (the_row W.row W.WriteExt.own W.Write) self.entry
-            borrowed_by result (λ new. IfErr result (λ e. HadFailed self.old e new))) }
-        ensures same_reference { IfOk result (λ q. borrowed_by q ≡ self.entry.ghost_name) }
-        ensures had_not_failed { OnOk result (self.old.failed ≡ None) }
-        ensures opened { IfOk result (λ q. OpensLevel W.WriteExt.own (Header.Tagged tag) self.old
-            (state_of q)) }
-    {
-        if let Some(error) = self.earlier() {
-            return Err(error);
-        }
-        Ok(Sequence::serialize_lazy(self, tag))
-    }
-
-    /// Begins a sequence in the open wrappers (X.690, 8.9 and 8.10). The length isn't looked at: what is added is written.
-    /// Only an earlier error is answered, as by all calls below.
-    pub fn serialize_seq(&mut self, len: Option<usize>) -> Result<Sequence<'_, W>>
-        ensures* rests { sem 𝓛 (RestsIfErr (the_row W.row W.WriteExt.own W.Write) self.entry
-            borrowed_by result (λ new. IfErr result (λ e. HadFailed self.old e new))) }
-        ensures same_reference { IfOk result (λ q. borrowed_by q ≡ self.entry.ghost_name) }
-        ensures had_not_failed { OnOk result (self.old.failed ≡ None) }
-        ensures opened { IfOk result (λ q. OpensLevel W.WriteExt.own (Header.Tagged 0x30) self.old
-            (state_of q)) }
-    {
-        let _ = len;
-        self.begin(Tag::SEQUENCE)
-    }
-
-    /// Begins a sequence, as `serialize_seq` does.
-    pub fn serialize_tuple(&mut self, len: usize) -> Result<Sequence<'_, W>>
-        ensures* rests { sem 𝓛 (RestsIfErr (the_row W.row W.WriteExt.own W.Write) self.entry
-            borrowed_by result (λ new. IfErr result (λ e. HadFailed self.old e new))) }
-        ensures same_reference { IfOk result (λ q. borrowed_by q ≡ self.entry.ghost_name) }
-        ensures had_not_failed { OnOk result (self.old.failed ≡ None) }
-        ensures opened { IfOk result (λ q. OpensLevel W.WriteExt.own (Header.Tagged 0x30) self.old
-            (state_of q)) }
-    {
-        let _ = len;
-        self.begin(Tag::SEQUENCE)
-    }
-
-    /// Begins a sequence, as `serialize_seq` does. The name isn't written.
-    pub fn serialize_tuple_struct(
-        &mut self,
-        name: &'static str,
-        len: usize,
-    ) -> Result<Sequence<'_, W>>
-        ensures* rests { sem 𝓛 (RestsIfErr (the_row W.row W.WriteExt.own W.Write) self.entry
-            borrowed_by result (λ new. IfErr result (λ e. HadFailed self.old e new))) }
-        ensures same_reference { IfOk result (λ q. borrowed_by q ≡ self.entry.ghost_name) }
-        ensures had_not_failed { OnOk result (self.old.failed ≡ None) }
-        ensures opened { IfOk result (λ q. OpensLevel W.WriteExt.own (Header.Tagged 0x30) self.old
-            (state_of q)) }
-    {
-        let _ = name;
-        let _ = len;
-        self.begin(Tag::SEQUENCE)
-    }
-
-    /// Begins a sequence, as `serialize_seq` does. The name isn't written.
-    pub fn serialize_struct(&mut self, name: &'static str, len: usize) -> Result<Sequence<'_, W>>
-        ensures* rests { sem 𝓛 (RestsIfErr (the_row W.row W.WriteExt.own W.Write) self.entry
-            borrowed_by result (λ new. IfErr result (λ e. HadFailed self.old e new))) }
-        ensures same_reference { IfOk result (λ q. borrowed_by q ≡ self.entry.ghost_name) }
-        ensures had_not_failed { OnOk result (self.old.failed ≡ None) }
-        ensures opened { IfOk result (λ q. OpensLevel W.WriteExt.own (Header.Tagged 0x30) self.old
-            (state_of q)) }
-    {
-        let _ = name;
-        let _ = len;
-        self.begin(Tag::SEQUENCE)
-    }
-
-    /// Begins a set in the open wrappers (X.690, 8.11 and 8.12). In whatever order its members are added, they are written
-    /// in ascending order of their encodings (11.6).
-    pub fn serialize_set(&mut self) -> Result<Sequence<'_, W>>
-        ensures* rests { sem 𝓛 (RestsIfErr (the_row W.row W.WriteExt.own W.Write) self.entry
-            borrowed_by result (λ new. IfErr result (λ e. HadFailed self.old e new))) }
-        ensures same_reference { IfOk result (λ q. borrowed_by q ≡ self.entry.ghost_name) }
-        ensures had_not_failed { OnOk result (self.old.failed ≡ None) }
-        ensures opened { IfOk result (λ q. OpensLevel W.WriteExt.own (Header.Tagged 0x31) self.old
-            (state_of q)) }
-    {
-        self.begin(Tag::SET)
     }
 }

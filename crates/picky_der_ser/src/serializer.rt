@@ -1,16 +1,16 @@
 //! What writes values of any type to a sink, and the trait of these types.
-ghost use Rattle.std.specs.Prelude.{◌≡◌, ◌<◌, ◌≤◌, List, [], ◌∷◌, None, Some, false, IfOk, IfErr, OnOk};
-ghost use Rattle.std.specs.Io.KnownBytes.{Appends};
+ghost use Rattle.std.specs.Prelude.{◌≡◌, List, [], ◌∷◌, None, Some, false, IfNone, IfSome, IfOk, IfErr, OnOk};
 ghost use Rattle.picky_der_core.specs.WriterFaults.{IsOnceAtMost};
 ghost use Rattle.picky_der_core.specs.Failure.{failure_of};
 ghost use Rattle.picky_der_core.specs.Tree.{Tree};
-ghost use Rattle.picky_der_core.specs.declared.error.Asn1DerError.TheVariants.{OutOfMemory};
 ghost use Rattle.picky_der_ser.specs.State.{Level, root};
-ghost use Rattle.picky_der_ser.specs.Calls.{Writes, RefusesWrite, WritesAbsent};
+ghost use Rattle.picky_der_ser.specs.Calls.{Writes, RefusesWrite};
 
 mod application;
 mod choice;
+mod lists;
 mod nesting;
+mod options;
 mod plain;
 mod raw;
 mod unsupported;
@@ -32,8 +32,9 @@ pub trait Serialize {
     /// those of the wrappers included.
     ///
     /// An implementation passes on the errors of the calls that it makes, and makes none of its own: the serializer
-    /// has failed with what is answered. `UnsupportedValue` where the value can't be written, `OutOfMemory` where memory was
-    /// refused, and in both cases nothing is written; and else the sink's fault.
+    /// has failed with what is answered. `UnsupportedValue` where the value can't be written, and `OutOfMemory` where the
+    /// serializer was refused memory: then nothing is written. Else the sink's fault, which of a vector is `OutOfMemory`
+    /// too: then a beginning of the encoding may be written.
     fn serialize<W: WriteExt>(&self, ser: &mut Serializer<W>) -> Result<usize>
         ensures wrote { IfOk result (λ n. Writes W.WriteExt.own
             (meaning self.now) ser.old n ser.new) }
@@ -124,13 +125,13 @@ impl<'a> Serializer<SliceSink<'a>> {
 }
 
 impl<'a> Serializer<BufSink<'a>> {
-    ghost use Rattle.picky_der_core.specs.Sink.{vector_of, place_of, faults_of};
+    ghost use Rattle.picky_der_core.specs.Sink.{vector_of, position_of, faults_of};
 
     /// Writes over a vector from its first place on, and then appends to it.
     pub fn new_to_byte_buf(alloc: Global, buf: &'a mut Vec<u8>) -> Serializer<BufSink<'a>>
         ensures same_reference { (vector_of result.sink).ghost_name ≡ buf.entry.ghost_name }
         ensures same { (vector_of result.sink).now ≡ buf.old }
-        ensures start { place_of result.sink ≡ 0 }
+        ensures start { position_of result.sink ≡ 0 }
         ensures no_fault { faults_of result.sink ≡ 0 }
         ensures around { result.around ≡ [] }
         ensures failed { result.failed ≡ None }
@@ -185,35 +186,22 @@ impl<W: WriteExt> Serializer<W> {
         sink
     }
 
-    /// Drops the open wrappers, writes nothing and answers 0. No memory is taken: only an earlier error is answered.
-    pub fn serialize_none(&mut self) -> Result<usize>
-        ensures { WritesAbsent W.WriteExt.own self.old result self.new }
-    {
-        if let Some(error) = self.earlier() {
-            return Err(error);
-        }
-        self.levels.give_up();
-        self.around.clear();
-        Ok(0)
-    }
-
-    /// Writes the value as it is.
-    pub fn serialize_some<T: Serialize>(&mut self, value: &T) -> Result<usize>
-        ensures wrote { IfOk result (λ n. Writes W.WriteExt.own
-            (T.meaning value.now) self.old n self.new) }
-        ensures failed { IfErr result (λ e. RefusesWrite W.WriteExt.own
-            (T.meaning value.now) self.old e self.new) }
-        ensures counted { IsOnceAtMost (W.faults self.old.sink) (W.faults self.new.sink) }
-        ensures goes_on { W.later self.old.sink self.new.sink }
-    {
-        value.serialize(self)
-    }
-
     /// False: DER is no form for people to read.
     pub fn is_human_readable(&self) -> bool
         ensures { result ≡ false }
     {
         false
+    }
+
+    // What it answers again where it has failed.
+    pub(crate) fn earlier(&self) -> Option<Asn1DerError>
+        ensures again { IfSome result (λ e. self.now.failed ≡ Some (failure_of e)) }
+        ensures not_failed { IfNone result (self.now.failed ≡ None) }
+    {
+        match self.failed {
+            Some(failure) => Some(failure.error()),
+            None => None,
+        }
     }
 
     // Has failed from here on.

@@ -40,7 +40,7 @@ fn cut<'a>(content: &'a [u8], seams: &[usize], alloc: Global) -> Result<Vec<&'a 
 }
 
 // The parts of the content in ascending order, one behind the other.
-fn joined(content: &[u8], seams: &[usize], alloc: Global) -> Result<Vec<u8>, AllocError>
+fn sorted_content(content: &[u8], seams: &[usize], alloc: Global) -> Result<Vec<u8>, AllocError>
     requires ascending { AreSeams 0 seams.now }
     requires within { last_seam 0 seams.now ≤ length content.now }
     ensures { IfOk result (λ all. all.items ≡ concat (arranged (parts seams.now content.now))) }
@@ -65,7 +65,7 @@ pub(crate) fn arrange(
         (arranged (parts seams.now (drop start out.old.items)))) }
     ensures len { vec_len out.new ≡ vec_len out.old }
 {
-    let members = joined(&out[start..], seams, alloc)?;
+    let members = sorted_content(&out[start..], seams, alloc)?;
     out[start..].copy_from_slice(&members);
     Ok(())
 }

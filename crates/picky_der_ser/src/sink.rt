@@ -1,5 +1,5 @@
 //! Elements as a sink takes them.
-ghost use Rattle.std.specs.Prelude.{◌≡◌, ◌≤◌, ◌++◌, length, IfOk, IfErr, OnOk, OnErr};
+ghost use Rattle.std.specs.Prelude.{◌≡◌, ◌++◌, length, IfOk, IfErr, OnOk, OnErr};
 ghost use Rattle.std.specs.Io.KnownBytes.{Appends};
 ghost use Rattle.picky_der_core.specs.Element.{tlv};
 ghost use Rattle.picky_der_core.specs.Writer.{AppendsTooFew};

@@ -10,7 +10,7 @@ use crate::kind_word;
 use picky_asn1_der::{Asn1DerError, Result, Serialize, to_vec};
 use std::alloc::Global;
 
-pub(super) fn wants_memory(error: Asn1DerError) -> bool
+pub(super) fn is_out_of_memory(error: Asn1DerError) -> bool
     ensures { result ≡ is_memory error }
 {
     matches!(error, Asn1DerError::OutOfMemory)

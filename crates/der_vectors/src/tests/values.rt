@@ -1,5 +1,6 @@
 //! Values that stand behind each other, in a slice and in a reader.
 
+use der_examples::{next_text, number_and_text};
 use der_fixtures::{FailingReader, SlowReader, bytes_of};
 use picky_asn1_der::Asn1DerError::{InvalidData, Other, TruncatedData};
 use picky_asn1_der::misc::Watched;
@@ -72,5 +73,18 @@ fn a_fault_is_no_end(rt: HostRuntime) -> Result<(), Fail> {
         same!(rt; next_from_reader::<u8, _>(alloc, &mut reader, 3), Err(error));
         same!(rt; next_from_reader::<u8, _>(alloc, &mut reader, 3), Ok(Some(7)));
     }
+    Ok(())
+}
+
+#[test]
+fn values_of_two_types_stand_behind_each_other(rt: HostRuntime) -> Result<(), Fail> {
+    let alloc = rt.alloc();
+    let bytes = bytes_of(alloc, "02 01 07 0C 02 68 69")?;
+    let text = String::from_str(alloc, "hi")?;
+    same!(rt; number_and_text(alloc, &bytes), Ok((7, text)));
+    let mut reader = bytes.as_slice();
+    same!(rt; next_text(alloc, &mut reader), Err(InvalidData));
+    let mut reader: &[u8] = &[];
+    same!(rt; next_text(alloc, &mut reader), Ok(None));
     Ok(())
 }

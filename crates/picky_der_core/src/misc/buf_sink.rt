@@ -45,13 +45,13 @@ pub struct BufSink<'a> {
 }
 
 impl<'a> BufSink<'a> {
-    ghost use Rattle.picky_der_core.specs.Sink.{vector_of, place_of, faults_of};
+    ghost use Rattle.picky_der_core.specs.Sink.{vector_of, position_of, faults_of};
 
     /// Writes over the vector from its first place on.
     pub fn new(buf: &'a mut Vec<u8>) -> BufSink<'a>
         ensures same_reference { (vector_of result).ghost_name ≡ buf.entry.ghost_name }
         ensures same { (vector_of result).now ≡ buf.old }
-        ensures start { place_of result ≡ 0 }
+        ensures start { position_of result ≡ 0 }
         ensures no_fault { faults_of result ≡ 0 }
     {
         BufSink {
@@ -130,7 +130,7 @@ impl Write for BufSink<'_> {
 }
 
 impl WriteExt for BufSink<'_> {
-    ghost use Rattle.picky_der_core.specs.Sink.{place_of, written_of, faults_of, IsLater};
+    ghost use Rattle.picky_der_core.specs.Sink.{position_of, written_of, faults_of, IsLater};
 
     ghost told = { λ s. Some (written_of s) };
 
@@ -146,12 +146,12 @@ impl WriteExt for BufSink<'_> {
 
     ghost tells = { λ _. refl };
 
-    ghost later_refl = { λ s. (refl, at_least (place_of s), refl) };
+    ghost later_refl = { λ s. (refl, at_least (position_of s), refl) };
 
     ghost later_trans = { λ s t u a b. (
       b.0 ∙ a.0,
-      at_least_trans (place_of s) (place_of t) (place_of u) a.1 b.1,
+      at_least_trans (position_of s) (position_of t) (position_of u) a.1 b.1,
       later_drop
-          (place_of t) (place_of u) _ _ _ b.1 a.2 b.2,
+          (position_of t) (position_of u) _ _ _ b.1 a.2 b.2,
     ) };
 }

@@ -1,5 +1,5 @@
 //! The faults of a device, which only clauses read.
-ghost use Rattle.std.specs.Prelude.{◌≡◌, ◌+◌, [], ◌∷◌};
+ghost use Rattle.std.specs.Prelude.{◌≡◌, [], ◌∷◌};
 ghost use Rattle.picky_der_core.specs.Faults.{faults_in};
 
 use std::io::ErrorKind;

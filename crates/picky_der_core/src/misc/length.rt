@@ -21,17 +21,19 @@ impl Length {
     /// Reads a length.
     ///
     /// `TruncatedData` where a byte is missing; `InvalidData` for `80`, a first length byte 00 and a number below 128
-    /// in the long form; `UnsupportedValue` for a first byte past `88`; else the reader's fault. No byte is drawn
-    /// past the one that shows the refusal.
+    /// in the long form; `UnsupportedValue` for a first byte past `88`; else the reader's fault. A first byte that announces
+    /// no length is drawn alone; else all length bytes are drawn before they are refused.
     pub fn deserialized<R: ReadExt>(reader: &mut R) -> Result<usize>
         ensures ok { IfOk result (λ n. Consumes (R.remaining reader.old) (R.remaining reader.new)
             (bytes_of n)) }
         ensures read { IfOk result (IsReadAs (length_of Asn1DerError.TruncatedData)
             (R.remaining reader.old) (R.remaining reader.new)) }
         ensures refused { IfErr result (λ e. R.faults reader.new ≡ R.faults reader.old
-            → IsRefusedAs (length_of Asn1DerError.TruncatedData) (R.remaining reader.old) (R.remaining reader.new) e) }
+            → IsRefusedAs (length_of Asn1DerError.TruncatedData) (R.remaining reader.old)
+            (R.remaining reader.new) e) }
         ensures none { OnErr result (R.faults reader.new ≡ R.faults reader.old
-            → IfSome (R.remaining reader.old) (λ bs. (n : ℕ) → n < 2 ^ 64 → Begins (bytes_of n) bs → ⊥)) }
+            → IfSome (R.remaining reader.old)
+            (λ bs. (n : ℕ) → n < 2 ^ 64 → Begins (bytes_of n) bs → ⊥)) }
         ensures fault { IfErr result (TellsFault (R.faults reader.old) (R.faults reader.new)
             (R.remaining reader.new)) }
         ensures device { IfErr result (λ e. R.faults reader.new ≡ R.faults reader.old

@@ -133,7 +133,8 @@ impl<R: ReadExt> Read for PeekableReader<R> {
             (left_in R.remaining self.new) result buf.new }
         ensures empty { length buf.old ≡ 0 → (result ≡ Ok 0) × (self.new ≡ self.old) }
         ensures peeked { 0 < length buf.old → IfSome self.old.peeked (λ b.
-            (result ≡ Ok 1) × (buf.new ≡ b ∷ drop 1 buf.old) × (self.new.reader ≡ self.old.reader)) }
+            (result ≡ Ok 1) × (buf.new ≡ b ∷ drop 1 buf.old)
+            × (self.new.reader ≡ self.old.reader)) }
         ensures unpeeked { 0 < length buf.old → OnOk result (self.new.peeked ≡ None) }
         ensures kept { OnErr result (self.new.peeked ≡ self.old.peeked) }
         ensures pos { IfOk result (λ n. self.new.pos ≡ moved self.old.pos n) }
@@ -184,7 +185,8 @@ impl<R: ReadExt> ReadExt for PeekableReader<R> {
             (left_in R.remaining self.new) result buf.new }
         ensures empty { length buf.old ≡ 0 → (result ≡ Ok 0) × (self.new ≡ self.old) }
         ensures peeked { 0 < length buf.old → IfSome self.old.peeked (λ b.
-            (result ≡ Ok 1) × (buf.new ≡ b ∷ drop 1 buf.old) × (self.new.reader ≡ self.old.reader)) }
+            (result ≡ Ok 1) × (buf.new ≡ b ∷ drop 1 buf.old)
+            × (self.new.reader ≡ self.old.reader)) }
         ensures unpeeked { 0 < length buf.old → OnOk result (self.new.peeked ≡ None) }
         ensures kept { OnErr result (self.new.peeked ≡ self.old.peeked) }
         ensures pos { IfOk result (λ n. self.new.pos ≡ moved self.old.pos n) }

@@ -61,7 +61,8 @@ impl<'a> SliceSink<'a> {
         ensures count { result ≡ min (length bytes.now) (length self.old.buf.now - self.old.at) }
         ensures moves { self.new.at ≡ self.old.at + result }
         ensures writes { self.new.buf.now
-            ≡ take self.old.at self.old.buf.now ++ take result bytes.now ++ drop (self.old.at + result) self.old.buf.now }
+            ≡ take self.old.at self.old.buf.now ++ take result bytes.now
+            ++ drop (self.old.at + result) self.old.buf.now }
         ensures same_length { length self.new.buf.now ≡ length self.old.buf.now }
         ensures no_fault { count_of self.new.faults ≡ count_of self.old.faults }
         ensures same_reference { self.new.buf.ghost_name ≡ self.old.buf.ghost_name }

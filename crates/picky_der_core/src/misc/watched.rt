@@ -1,11 +1,12 @@
 //! Readers and writers whose faults are told.
-ghost use Rattle.std.specs.Prelude.{◌≡◌, ◌<◌, [], ◌∷◌, length, IfOk, IfErr, OnOk};
+ghost use Rattle.std.specs.Prelude.{◌≡◌, ◌<◌, [], ◌∷◌, length, IfOk, IfErr, OnOk, OnErr};
 ghost use Rattle.std.specs.IoError.{error_kind};
 ghost use Rattle.std.specs.declared.io.ErrorKind.TheVariants.{WriteZero};
-ghost use Rattle.std.specs.Io.KnownBytes.{WriteAppends, ReadConsumes};
+ghost use Rattle.std.specs.Io.KnownBytes.{Appends, WriteAppends, ReadConsumes};
 ghost use Rattle.std.specs.Io.{WritesAtMost, ReadsAtMost};
 ghost use Rattle.std.proofs.Common.{refl};
 ghost use Rattle.picky_der_core.specs.Faults.{faults_told};
+ghost use Rattle.picky_der_core.specs.Writer.{AppendsTooFew};
 
 use super::{Faults, ReadExt, WriteExt};
 use std::io;
@@ -107,8 +108,8 @@ impl<T: Write> Write for Watched<T> {
             (T.contents self.new.inner) result buf.now }
         ensures fault { IfErr result (λ e. self.new.faults
             ≡ record { kind = error_kind e; device = self.new.inner } ∷ self.old.faults) }
-        ensures nothing { IfOk result (λ n. n ≡ 0 → 0 < length buf.now
-            → self.new.faults ≡ record { kind = WriteZero; device = self.new.inner } ∷ self.old.faults) }
+        ensures nothing { IfOk result (λ n. n ≡ 0 → 0 < length buf.now → self.new.faults
+            ≡ record { kind = WriteZero; device = self.new.inner } ∷ self.old.faults) }
         ensures no_fault { IfOk result (λ n. 0 < n → self.new.faults ≡ self.old.faults) }
         ensures no_bytes { length buf.now ≡ 0 → OnOk result (self.new.faults ≡ self.old.faults) }
     {
@@ -140,7 +141,16 @@ impl<T: Write> WriteExt for Watched<T> {
 
     ghost later = { λ _ _. Unit {0} };
 
-    fn write_exact(&mut self, bytes: &[u8]) -> io::Result<usize> {
+    fn write_exact(&mut self, bytes: &[u8]) -> io::Result<usize>
+        ensures count { IfOk result (λ n. n ≡ length bytes.now) }
+        ensures appends { OnOk result (Appends (T.contents self.old.inner)
+            (T.contents self.new.inner) bytes.now) }
+        ensures beginning { OnErr result (AppendsTooFew (T.contents self.old.inner)
+            (T.contents self.new.inner) bytes.now) }
+        ensures fault { IfErr result (λ e. self.new.faults
+            ≡ record { kind = error_kind e; device = self.new.inner } ∷ self.old.faults) }
+        ensures no_fault { OnOk result (self.new.faults ≡ self.old.faults) }
+    {
         let mut rest = bytes;
         while !rest.is_empty() {
             match self.write(rest) {

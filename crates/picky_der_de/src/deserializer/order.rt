@@ -27,7 +27,7 @@ impl<R: ReadExt> Deserializer<R> {
         ensures err { IfErr result (RefusesTest (der (T.meaning value.now)) self.old self.new) }
     {
         match to_vec(self.alloc(), value) {
-            Ok(member) => self.input.follow(&member),
+            Ok(member) => self.input.test_member(&member),
             Err(_) => Err(self.fail(Asn1DerError::OutOfMemory)),
         }
     }

@@ -81,7 +81,7 @@ impl<R: ReadExt> Deserializer<R> {
         self.input.read_unit()
     }
 
-    /// Reads a struct without fields as a null. The name isn't used.
+    /// Reads a struct without fields as a null, and is refused so. The name isn't used.
     pub fn deserialize_unit_struct(&mut self, _name: &'static str) -> Result<()>
         ensures ok { OnOk result (ReadsNull self.old self.new) }
         ensures err { IfErr result (RefusesNull self.old self.new) }

@@ -14,7 +14,8 @@ use picky_der_core::misc::ReadExt;
 use picky_der_core::{Asn1DerError, Result};
 
 impl<R: ReadExt> Deserializer<R> {
-    /// Reads the value of a newtype, in the wrapper that stands around it (X.690, 8.6.2, 8.7 and 8.14).
+    /// Reads the value of a newtype, in the wrapper that stands around it (X.690, 8.6.2, 8.7 and 8.14). `Newtype::Plain` has
+    /// none.
     ///
     /// `UnsupportedValue` for a tag number past 30: nothing is drawn then, and no memory is taken. `InvalidData` for
     /// another tag, for a bit string with unused bits, and for bytes left over before the wrapper's end, none of which

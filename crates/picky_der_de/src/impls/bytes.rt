@@ -1,11 +1,17 @@
 //! Octet strings and bytes under tags of their own, as they are read.
+ghost use Rattle.std.specs.Prelude.{◌<◌, IfOk, IfErr};
+ghost use Rattle.picky_der_core.specs.Tag.{number_of};
+ghost use Rattle.picky_der_core.specs.Tree.{Tree};
 ghost use Rattle.picky_der_core.specs.Shape.{Shape};
+ghost use Rattle.picky_der_input.specs.Reading.{Reads, Refuses, RefusesBytes};
+ghost use Rattle.picky_der_input.specs.TagNumbers.{RefusesNumber};
 ghost use Rattle.picky_der_de.specs.InjectiveLaws.{bytes_known};
 
 use crate::{Deserialize, Deserializer};
 use picky_der_core::Result;
 use picky_der_core::asn1::{ByteBuf, Tag, TaggedBytes};
 use picky_der_core::misc::ReadExt;
+use picky_der_ser::Serialize;
 
 impl Deserialize for ByteBuf {
     ghost shape = { Shape.bytes 0x04 };
@@ -14,7 +20,13 @@ impl Deserialize for ByteBuf {
 
     ghost sound = { tt };
 
-    fn deserialize<R: ReadExt>(de: &mut Deserializer<R>) -> Result<ByteBuf> {
+    fn deserialize<R: ReadExt>(de: &mut Deserializer<R>) -> Result<ByteBuf>
+        ensures ok { IfOk result (λ value. Reads (Shape.bytes 0x04) de.old de.new
+            (Tree.bytes 0x04 value.0.items)) }
+        ensures err { IfErr result (Refuses ⟦<ByteBuf as Serialize>⟧.meaning (Shape.bytes 0x04)
+            de.old de.new) }
+        ensures refused { IfErr result (RefusesBytes 0x04 de.old de.new) }
+    {
         Ok(ByteBuf(de.deserialize_byte_buf()?))
     }
 }
@@ -26,7 +38,14 @@ impl<const TAG: u8> Deserialize for TaggedBytes<TAG> {
 
     ghost sound = { tt };
 
-    fn deserialize<R: ReadExt>(de: &mut Deserializer<R>) -> Result<TaggedBytes<TAG>> {
+    fn deserialize<R: ReadExt>(de: &mut Deserializer<R>) -> Result<TaggedBytes<TAG>>
+        ensures ok { IfOk result (λ value. Reads (Shape.bytes TAG) de.old de.new
+            (Tree.bytes TAG value.0.items)) }
+        ensures err { IfErr result (Refuses ⟦<TaggedBytes<TAG> as Serialize>⟧.meaning
+            (Shape.bytes TAG) de.old de.new) }
+        ensures refused { IfErr result (RefusesBytes TAG de.old de.new) }
+        ensures unsupported { 30 < number_of TAG → RefusesNumber de.old result de.new }
+    {
         Ok(TaggedBytes(de.deserialize_tagged_bytes(Tag::from(TAG))?))
     }
 }

@@ -5,7 +5,7 @@ ghost use Rattle.picky_der_de.specs.InjectiveLaws.{list_known};
 
 use crate::{Deserialize, Deserializer};
 use picky_der_core::Result;
-use picky_der_core::asn1::{Asn1SequenceOf, Asn1SetOf};
+use picky_der_core::asn1::{Asn1SequenceOf, Asn1SetOf, Tag};
 use picky_der_core::misc::ReadExt;
 
 impl<T: Deserialize> Deserialize for Vec<T> {
@@ -16,7 +16,7 @@ impl<T: Deserialize> Deserialize for Vec<T> {
     ghost sound = { T.sound };
 
     fn deserialize<R: ReadExt>(de: &mut Deserializer<R>) -> Result<Vec<T>> {
-        de.read_sequence()
+        de.read_list(Tag::SEQUENCE)
     }
 }
 
@@ -28,7 +28,7 @@ impl<T: Deserialize> Deserialize for Asn1SequenceOf<T> {
     ghost sound = { T.sound };
 
     fn deserialize<R: ReadExt>(de: &mut Deserializer<R>) -> Result<Asn1SequenceOf<T>> {
-        Ok(Asn1SequenceOf(de.read_sequence()?))
+        Ok(Asn1SequenceOf(de.read_list(Tag::SEQUENCE)?))
     }
 }
 
@@ -40,6 +40,6 @@ impl<T: Deserialize> Deserialize for Asn1SetOf<T> {
     ghost sound = { T.sound };
 
     fn deserialize<R: ReadExt>(de: &mut Deserializer<R>) -> Result<Asn1SetOf<T>> {
-        Ok(Asn1SetOf(de.read_set()?))
+        Ok(Asn1SetOf(de.read_list(Tag::SET)?))
     }
 }

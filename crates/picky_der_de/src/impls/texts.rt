@@ -40,8 +40,8 @@ impl Deserialize for String {
     fn deserialize<R: ReadExt>(de: &mut Deserializer<R>) -> Result<String>
         ensures ok { IfOk result (λ value. Reads Shape.text de.old de.new
             (Tree.text (string_bytes value))) }
-        ensures err { IfErr result (Refuses (λ (value : String Global). Tree.text (string_bytes value))
-            Shape.text de.old de.new) }
+        ensures err { IfErr result (Refuses (λ (value : String Global). Tree.text
+            (string_bytes value)) Shape.text de.old de.new) }
         ensures refused { IfErr result (RefusesText de.old de.new) }
     {
         de.deserialize_string()

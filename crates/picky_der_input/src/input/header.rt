@@ -1,4 +1,4 @@
-//! Lengths and headers, as a deserializer reads them.
+//! Lengths and headers.
 ghost use Rattle.std.specs.Prelude.{◌≡◌, ◌≤◌, ◌∷◌, ◌<◌, ◌^◌, None, IfOk, IfErr, OnOk};
 ghost use Rattle.picky_der_core.specs.Element.{len as bytes_of};
 ghost use Rattle.picky_der_core.specs.Tag.{number_of, IsTagNumber};

@@ -1,5 +1,5 @@
 //! The order of the members of a set (X.690, 11.6).
-ghost use Rattle.std.specs.Prelude.{◌≡◌, ◌≢◌, ◌≤◌, length, None, ◌↔◌, IsTrue, OnOk, OnErr, IfErr};
+ghost use Rattle.std.specs.Prelude.{◌≡◌, ◌≢◌, None, ◌↔◌, IsTrue, OnOk, OnErr, IfErr};
 ghost use Rattle.picky_der_input.specs.Order.{order_of, cut_at, with_last, is_out_of_order, Follows, RefusesTest};
 
 use super::Input;
@@ -68,8 +68,8 @@ impl<R: ReadExt> Input<R> {
 
     /// Keeps the encoding of a member that was read, where the order is tested.
     ///
-    /// `InvalidData` where it is less than the one before it; else `OutOfMemory`.
-    pub fn follow(&mut self, member: &[u8]) -> Result<()>
+    /// `InvalidData` where it is less than the one before it, and `OutOfMemory` where memory is refused.
+    pub fn test_member(&mut self, member: &[u8]) -> Result<()>
         requires { self.old.failed ≡ None }
         ensures ok { OnOk result (Follows member.now self.old self.new) }
         ensures err { IfErr result (RefusesTest member.now self.old self.new) }

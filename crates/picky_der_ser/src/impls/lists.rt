@@ -1,10 +1,10 @@
 //! What lists of values of one type mean.
-ghost use Rattle.std.specs.Prelude.{◌≤◌, IfOk, IfErr};
+ghost use Rattle.std.specs.Prelude.{IfOk, IfErr};
 ghost use Rattle.picky_der_core.specs.WriterFaults.{IsOnceAtMost};
 ghost use Rattle.picky_der_core.specs.Tree.{ListKind};
 ghost use Rattle.picky_der_ser.specs.Calls.{Writes, RefusesWrite};
 ghost use Rattle.picky_der_ser.specs.Meaning.{list_meaning};
-ghost use Rattle.picky_der_ser.specs.Sequences.{IsListTag, kind_of};
+ghost use Rattle.picky_der_ser.specs.Sequences.{IsListTag, list_kind};
 
 use crate::{Sequence, Serialize, Serializer};
 use picky_der_core::Result;
@@ -12,16 +12,16 @@ use picky_der_core::asn1::{Asn1SequenceOf, Asn1SetOf, Tag};
 use picky_der_core::misc::WriteExt;
 
 // Writes the items as members of a list with this tag.
-fn serialize_items<T: Serialize, W: WriteExt>(
+fn write_items<T: Serialize, W: WriteExt>(
     items: &[T],
     tag: Tag,
     ser: &mut Serializer<W>,
 ) -> Result<usize>
     requires { IsListTag tag }
     ensures wrote { IfOk result (λ n. Writes W.WriteExt.own
-        (list_meaning (kind_of tag) T.meaning items.now) ser.old n ser.new) }
+        (list_meaning (list_kind tag) T.meaning items.now) ser.old n ser.new) }
     ensures failed { IfErr result (λ e. RefusesWrite W.WriteExt.own
-        (list_meaning (kind_of tag) T.meaning items.now) ser.old e ser.new) }
+        (list_meaning (list_kind tag) T.meaning items.now) ser.old e ser.new) }
     ensures counted { IsOnceAtMost (W.faults ser.old.sink) (W.faults ser.new.sink) }
     ensures goes_on { W.later ser.old.sink ser.new.sink }
 {
@@ -36,7 +36,7 @@ impl<T: Serialize> Serialize for &[T] {
     ghost meaning = { λ list. list_meaning ListKind.sequence T.meaning list.now };
 
     fn serialize<W: WriteExt>(&self, ser: &mut Serializer<W>) -> Result<usize> {
-        serialize_items(self, Tag::SEQUENCE, ser)
+        write_items(self, Tag::SEQUENCE, ser)
     }
 }
 
@@ -44,7 +44,7 @@ impl<T: Serialize> Serialize for Vec<T> {
     ghost meaning = { λ list. list_meaning ListKind.sequence T.meaning list.items };
 
     fn serialize<W: WriteExt>(&self, ser: &mut Serializer<W>) -> Result<usize> {
-        serialize_items(self, Tag::SEQUENCE, ser)
+        write_items(self, Tag::SEQUENCE, ser)
     }
 }
 
@@ -52,7 +52,7 @@ impl<T: Serialize, const N: usize> Serialize for [T; N] {
     ghost meaning = { λ list. list_meaning ListKind.sequence T.meaning list };
 
     fn serialize<W: WriteExt>(&self, ser: &mut Serializer<W>) -> Result<usize> {
-        serialize_items(self.as_slice(), Tag::SEQUENCE, ser)
+        write_items(self.as_slice(), Tag::SEQUENCE, ser)
     }
 }
 
@@ -60,7 +60,7 @@ impl<T: Serialize> Serialize for Asn1SequenceOf<T> {
     ghost meaning = { λ list. list_meaning ListKind.sequence T.meaning list.0.items };
 
     fn serialize<W: WriteExt>(&self, ser: &mut Serializer<W>) -> Result<usize> {
-        serialize_items(&self.0, Tag::SEQUENCE, ser)
+        write_items(&self.0, Tag::SEQUENCE, ser)
     }
 }
 
@@ -68,6 +68,6 @@ impl<T: Serialize> Serialize for Asn1SetOf<T> {
     ghost meaning = { λ list. list_meaning ListKind.set T.meaning list.0.items };
 
     fn serialize<W: WriteExt>(&self, ser: &mut Serializer<W>) -> Result<usize> {
-        serialize_items(&self.0, Tag::SET, ser)
+        write_items(&self.0, Tag::SET, ser)
     }
 }

@@ -1,8 +1,7 @@
 //! Levels, as a serializer opens and ends them.
-ghost use Rattle.std.specs.Prelude.{◌≡◌, ◌≢◌, ◌≤◌, List, [], ◌∷◌, None, Some, IfSome, IfNone, IsSome, IfOk};
+ghost use Rattle.std.specs.Prelude.{◌≡◌, ◌≢◌, List, [], ◌∷◌, None, Some, IfSome, IfNone, IsSome, IfOk};
 ghost use Rattle.std.specs.Prelude.{IfErr, OnOk};
 ghost use Rattle.picky_der_core.specs.WriterFaults.{IsOnceAtMost};
-ghost use Rattle.picky_der_core.specs.Failure.{failure_of};
 ghost use Rattle.picky_der_core.specs.Wrapper.{under};
 ghost use Rattle.picky_der_ser.specs.Heading.{tree_of};
 ghost use Rattle.picky_der_ser.specs.Headers.{HasNumber};
@@ -121,24 +120,24 @@ impl<W: WriteExt> Serializer<W> {
         ensures { EndsLevel W.WriteExt.own self.old result self.new }
     {
         if self.failed.is_none() && self.levels.ends_short() {
-            return self.close_this();
+            return self.close_in_line();
         }
-        self.close_any()
+        self.close_out_of_line()
     }
 
     // The same out of line, for the other ways of ending one.
     #[cold]
     #[inline(never)]
-    fn close_any(&mut self) -> Result<usize>
+    fn close_out_of_line(&mut self) -> Result<usize>
         requires { IfNone self.old.failed (IsSome self.old.pending) }
         ensures { EndsLevel W.WriteExt.own self.old result self.new }
     {
-        self.close_this()
+        self.close_in_line()
     }
 
     // The same in line.
     #[inline(always)]
-    fn close_this(&mut self) -> Result<usize>
+    fn close_in_line(&mut self) -> Result<usize>
         requires { IfNone self.old.failed (IsSome self.old.pending) }
         ensures { EndsLevel W.WriteExt.own self.old result self.new }
     {
@@ -199,16 +198,5 @@ impl<W: WriteExt> Serializer<W> {
         value.serialize(self)?;
         self.leave();
         Ok(())
-    }
-
-    // What it answers again where it has failed.
-    pub(crate) fn earlier(&self) -> Option<Asn1DerError>
-        ensures again { IfSome result (λ e. self.now.failed ≡ Some (failure_of e)) }
-        ensures not_failed { IfNone result (self.now.failed ≡ None) }
-    {
-        match self.failed {
-            Some(failure) => Some(failure.error()),
-            None => None,
-        }
     }
 }

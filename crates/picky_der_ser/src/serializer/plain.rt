@@ -146,10 +146,9 @@ impl<W: WriteExt> Serializer<W> {
     }
 
     /// Writes a null for a struct without fields. The name isn't written.
-    pub fn serialize_unit_struct(&mut self, name: &'static str) -> Result<usize>
+    pub fn serialize_unit_struct(&mut self, _name: &'static str) -> Result<usize>
         ensures { WritesPlain W.WriteExt.own Tree.null self.old result self.new }
     {
-        let _ = name;
         Null::serialize(self)
     }
 

@@ -1,5 +1,5 @@
 //! Wrappers, as a serializer opens them.
-ghost use Rattle.std.specs.Prelude.{◌≡◌, ◌≤◌, true, false, [], ◌∷◌, ◌++◌, None, Err, IfOk, IfErr, OnOk};
+ghost use Rattle.std.specs.Prelude.{◌≡◌, true, false, [], ◌∷◌, ◌++◌, None, Err, IfOk, IfErr, OnOk};
 ghost use Rattle.picky_der_core.specs.WriterFaults.{IsOnceAtMost};
 ghost use Rattle.picky_der_core.specs.Wrapper.{wrap, wrapper_of, wrap_if, HasTagNumber, HasTagNumberIfAny};
 ghost use Rattle.picky_der_ser.specs.Calls.{Writes, RefusesWrite, RefusesWrapper};
@@ -46,7 +46,7 @@ impl<W: WriteExt> Serializer<W> {
     }
 
     // Writes the value in this wrapper, inside the open ones.
-    fn serialize_wrapped<T: Serialize>(&mut self, wrapper: Wrapper, value: &T) -> Result<usize>
+    fn write_wrapped<T: Serialize>(&mut self, wrapper: Wrapper, value: &T) -> Result<usize>
         ensures wrote { IfOk result (λ n. Writes W.WriteExt.own
             (wrap wrapper (T.meaning value.now)) self.old n self.new) }
         ensures failed { IfErr result (λ e. RefusesWrite W.WriteExt.own
@@ -60,7 +60,8 @@ impl<W: WriteExt> Serializer<W> {
         value.serialize(self)
     }
 
-    /// Writes the value in a wrapper (X.690, 8.6.2, 8.7 and 8.14), which is opened inside the open ones.
+    /// Writes the value in a wrapper (X.690, 8.6.2, 8.7 and 8.14), which is opened inside the open ones. `Newtype::Plain` has
+    /// none.
     ///
     /// `UnsupportedValue` for a tag number past 30, which is tested before the value is looked at: nothing is written,
     /// and no memory is taken.
@@ -79,7 +80,7 @@ impl<W: WriteExt> Serializer<W> {
         ensures goes_on { W.later self.old.sink self.new.sink }
     {
         match kind.wrapper() {
-            Some(wrapper) => self.serialize_wrapped(wrapper, value),
+            Some(wrapper) => self.write_wrapped(wrapper, value),
             None => value.serialize(self),
         }
     }

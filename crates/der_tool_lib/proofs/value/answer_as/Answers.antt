@@ -17,7 +17,7 @@ returns-in_ok-hexadecimal-in-Ok-clause-ok g c =
 pub returns-in-Err-2-clause-ok : goal.returns-in-Err-2-clause-ok
 returns-in-Err-2-clause-ok g c =
     let same : c.in-Err.error ≡ c.in-Err-2.error = let e = sym c.in-Err.is ∙ c.in-Err-2.is in cc in
-    let told : is_memory c.in-Err.error ≡ false = sym c.wants_memory.ensures ∙ c.if-wants_memory.false in
+    let told : is_memory c.in-Err.error ≡ false = sym c.is_out_of_memory.ensures ∙ c.if-is_out_of_memory.false in
     let memory : c.in-Err-2.error ≢ OutOfMemory = λ q. let yes : is_memory c.in-Err.error ≡ true = ap is_memory (same ∙ q) in let no : true ≡ false = sym yes ∙ told in cc in
     MatchResult-weaker c.refused_text.result c.refused_text.ensures.ok
     (λ text h. answers_refused _ c.new_from_bytes-de.ensures (sym c.into_reader.ensures.faults) memory c.in-Err-2.ensures.err h)

@@ -2,7 +2,7 @@ use Rattle.std.proofs.Common.{rules, ◌≡◌, ℕ, List, ◌∷◌, Option, ap
 use Rattle.std.proofs.lemmas.Result.{err_from_is_err_and, MatchResult-weaker}
 use Rattle.std.specs.declared.io.ErrorKind.{ErrorKind}
 use Rattle.picky_der_core.specs.declared.error.Asn1DerError.{Asn1DerError}
-use Rattle.picky_der_core.specs.Error.{kind_of}
+use Rattle.picky_der_core.specs.Error.{error_of_kind}
 use Rattle.picky_der_core.specs.Faults.{Fault}
 use Rattle.picky_der_core.specs.Reader.{TellsFault}
 use Rattle.der_x509_tool_lib.proofs.Lines.{writes_more}
@@ -10,7 +10,7 @@ use Rattle.der_x509_tool_lib.proofs.pem.run.Goals as goal
 use Rattle.der_x509_tool_lib.proofs.pem.run.Goals.{then-byte-eq10+in_ok-block, else-byte-eq10+in_ok-keep}
 
 -- the reader failed once, behind no other fault
-fault_told : {before between after : List Fault} {left : Option (List ℕ)} {e : Asn1DerError} {k : ErrorKind} → between ≡ before → after ≡ record { kind = k; told = left } ∷ between → e ≡ kind_of k → TellsFault before after left e
+fault_told : {before between after : List Fault} {left : Option (List ℕ)} {e : Asn1DerError} {k : ErrorKind} → between ≡ before → after ≡ record { kind = k; told = left } ∷ between → e ≡ error_of_kind k → TellsFault before after left e
 fault_told {left = left} {k = k} kept once is = TellsFault.fault k (once ∙ ap (λ l. record { kind = k; told = left } ∷ l) kept) is
 
 pub returns-in_err-byte-clause-reads : goal.returns-in_err-byte-clause-reads

@@ -7,13 +7,13 @@ use Rattle.picky_der_ser.proofs.header.push_nested_headers.Goals as goal
 
 pub push_own_header-requires : goal.push_own_header-requires
 push_own_header-requires c =
-    subst HasNumber (ap (λ j. unwrap_or j c.args.header) (sym c.innermost-joined.ensures) ∙ sym c.unwrap_or.ensures) (innermost_number c.args.around.now c.args.header c.requires.numbers.0 c.requires.numbers.1)
+    subst HasNumber (ap (λ j. unwrap_or j c.args.header) (sym c.innermost_joined-joined.ensures) ∙ sym c.unwrap_or.ensures) (innermost_number c.args.around.now c.args.header c.requires.numbers.0 c.requires.numbers.1)
 
 pub loop-wrapper-init : goal.loop-wrapper-init
 loop-wrapper-init c =
     let j = joined_last c.args.around.now c.args.header in
-    let all = kept_first c.args.around.now j c.from-written.result (c.from-written.ensures ∙ ap bool_byte (c.is_some.ensures ∙ ap is_some c.innermost-joined.ensures)) in
-    record { all = all; numbers = subst HaveTagNumbers (sym all) (kept_numbers c.args.around.now j c.requires.numbers.0); pushed = pushed_first _ _ _ _ _ (c.in_ok-push_own_header.ensures.ok ∙ ap (λ h. c.args.out.now.items ++ reverse (own_header h c.args.len)) (c.unwrap_or.ensures ∙ ap (λ o. unwrap_or o c.args.header) c.innermost-joined.ensures)) }
+    let all = kept_first c.args.around.now j c.from-written.result (c.from-written.ensures ∙ ap bool_byte (c.is_some.ensures ∙ ap is_some c.innermost_joined-joined.ensures)) in
+    record { all = all; numbers = subst HaveTagNumbers (sym all) (kept_numbers c.args.around.now j c.requires.numbers.0); pushed = pushed_first _ _ _ _ _ (c.in_ok-push_own_header.ensures.ok ∙ ap (λ h. c.args.out.now.items ++ reverse (own_header h c.args.len)) (c.unwrap_or.ensures ∙ ap (λ o. unwrap_or o c.args.header) c.innermost_joined-joined.ensures)) }
 
 pub overflow_sub-len : goal.overflow_sub-len
 overflow_sub-len c = let p = pushed_count c.loop-wrapper.invariant.pushed in omega (arith, p)

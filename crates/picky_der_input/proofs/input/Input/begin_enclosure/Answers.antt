@@ -5,17 +5,17 @@ use Rattle.picky_der_input.proofs.Contents.{failed_same}
 use Rattle.picky_der_input.proofs.Openings.{opening_past, opening_header}
 use Rattle.picky_der_input.proofs.input.Input.begin_enclosure.Goals as goal
 
-pub returns-in_default-tag_of-clause-err : goal.returns-in_default-tag_of-clause-err
-returns-in_default-tag_of-clause-err g c =
+pub returns-in_default-tag-clause-err : goal.returns-in_default-tag-clause-err
+returns-in_default-tag-clause-err g c =
     let f = c.fail.ensures in
     let small : c.args.self.now.until_end < 2 ^ 64 = c.earlier.ensures.bounded in
-    opening_past c.in_default-tag_of.ensures.none f.fails f.error (failed_same c.args.self.now f.error f.same) small
+    opening_past c.in_default-tag.ensures.none f.fails f.error (failed_same c.args.self.now f.error f.same) small
 
 pub returns-in_err-len-clause-err : goal.returns-in_err-len-clause-err
 returns-in_err-len-clause-err g c =
     let p = err_from_is_err_and c.from_residual.result c.from_residual.ensures.1 in
     let e = c.in_err-len.ensures in
     let small : c.args.self.now.until_end < 2 ^ 64 = c.earlier.ensures.bounded in
-    let n = c.in-Some-tag_of.ensures in
+    let n = c.in-Some-tag.ensures in
     let refused = subst (λ tag. RefusesHeader tag c.args.self.now c.read_header.new.self c.in_err-len.field-0.0) n.tag e.err in
     rw (p.1, p.2) (opening_header n.number refused e.memory small)

@@ -13,7 +13,7 @@ returns-in_err-take_unused_bits-clause-err g c =
 pub returns-clause-ok : goal.returns-clause-ok
 returns-clause-ok g c =
     let h = c.in_ok-outer.ensures.ok in
-    let n = c.number_within-self-inside in
+    let n = c.implicit_number-self-inside in
     let counts = sym c.has_unused_bits.ensures in
     let marked = λ (before : State) (same : c.if-has_unused_bits.self ≡ before).
     ap (λ (s : State). record s { implicit_tag = n.result }) (c.self.view_is ∙ same) ∙ ap (λ number. record before { implicit_tag = number }) n.ensures in

@@ -1,6 +1,6 @@
 use Rattle.std.proofs.Common.{◌≡◌, ◌++◌, length, refl, ap, ◌∙◌, arith}
 use Rattle.picky_der_ser.specs.Headers.{headers}
-use Rattle.picky_der_ser.specs.Places.{place_of, placed}
+use Rattle.picky_der_ser.specs.Places.{mark_place, placed}
 use Rattle.picky_der_ser.proofs.LevelMarks.{stack-roomed}
 use Rattle.picky_der_ser.proofs.levels.Levels.make_room.Goals as goal
 use Rattle.picky_der_ser.proofs.levels.Levels.make_room.Goals.{then-mark-eq0+in_ok-reserve, else-mark-eq0}
@@ -13,4 +13,4 @@ returns-in_ok-push_headers c =
     let more = c.in_ok-push_headers.ensures.ok ∙ ap (λ x. x ++ headers c.deref.result.now m.header 0) same in
     let size : length s ≡ m.at = grind (arith) in
     let start : c.len-mark.result ≡ length c.push_headers.new.out.items = omega arith in
-    stack-roomed _ (place_of (record m { start = c.len-mark.result })) _ s _ _ _ (ap placed c.in-Some.is) refl refl refl start refl c.self.invariant.0 size more ∙ c.self.view_is
+    stack-roomed _ (mark_place (record m { start = c.len-mark.result })) _ s _ _ _ (ap placed c.in-Some.is) refl refl refl start refl c.self.invariant.0 size more ∙ c.self.view_is

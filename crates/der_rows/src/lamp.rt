@@ -1,0 +1,79 @@
+//! A struct all of whose members have defaults.
+ghost use Rattle.std.proofs.Common.{rules};
+ghost use Rattle.picky_der_core.specs.Shape.{Shape};
+ghost use Rattle.picky_der_core.specs.Tree.{ListKind, Tree};
+ghost use Rattle.picky_der_de.specs.Telling.{by_parts, tells};
+
+use picky_asn1_der::asn1::ExplicitContextTag0;
+use picky_asn1_der::de::{DeserializeLayout, Struct, deserialize_struct_as};
+use picky_asn1_der::misc::{ReadExt, WriteExt};
+use picky_asn1_der::ser::{Defaulted, DefaultedRef, Number, SerializeMembers, True};
+use picky_asn1_der::{Deserialize, Deserializer, Result, Serialize, Serializer};
+
+/// How a lamp shines, as a SEQUENCE.
+#[derive(Debug, Drop, PartialEq, Eq)]
+pub(crate) struct Lamp {
+    /// How bright it is: 5 by default.
+    pub(crate) brightness: u8,
+    /// Whether it is on: TRUE by default.
+    pub(crate) is_on: bool,
+    /// After how many seconds it goes out, `[0] EXPLICIT`: 7 by default.
+    pub(crate) delay: ExplicitContextTag0<u16>,
+}
+
+type Members = (
+    Defaulted<u8, Number<5>>,
+    Defaulted<bool, True>,
+    Defaulted<ExplicitContextTag0<u16>, Number<7>>,
+    (),
+);
+
+impl Serialize for Lamp {
+    ghost meaning = { λ it. Tree.list ListKind.sequence (⟦<Members as SerializeMembers>⟧.members
+        (⟦<Lamp as Struct>⟧.parts it)) };
+
+    fn serialize<W: WriteExt>(&self, serializer: &mut Serializer<W>) -> Result<usize> {
+        (
+            DefaultedRef::<u8, Number<5>>::new(&self.brightness),
+            DefaultedRef::<bool, True>::new(&self.is_on),
+            DefaultedRef::<ExplicitContextTag0<u16>, Number<7>>::new(&self.delay),
+            (),
+        )
+            .serialize_sequence(serializer)
+    }
+}
+
+impl Struct for Lamp {
+    type Members = Members;
+
+    ghost parts = { λ it. (
+      record { value = it.brightness; default = record {} },
+      record { value = it.is_on; default = record {} },
+      record { value = it.delay; default = record {} },
+      tt,
+    ) };
+
+    fn from_parts(members: Members) -> Lamp {
+        let (brightness, is_on, delay, ()) = members;
+        Lamp {
+            brightness: brightness.value,
+            is_on: is_on.value,
+            delay: delay.value,
+        }
+    }
+
+    ghost told = { Prim.search rules };
+}
+
+impl Deserialize for Lamp {
+    ghost shape = { Shape.struct_of ListKind.sequence ⟦<Members as DeserializeLayout>⟧.layout };
+
+    ghost injective = { by_parts (Shape.struct_of ListKind.sequence ⟦<Members as DeserializeLayout>⟧.layout)
+        (Prim.search (rules, tells) depth 99) };
+
+    ghost sound = { Prim.search rules depth 99 };
+
+    fn deserialize<R: ReadExt>(deserializer: &mut Deserializer<R>) -> Result<Lamp> {
+        deserialize_struct_as(deserializer)
+    }
+}

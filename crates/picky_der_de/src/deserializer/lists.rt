@@ -1,0 +1,92 @@
+//! Sequences and sets, begun and read.
+ghost use Rattle.std.specs.Prelude.{◌≡◌, map, IfOk, IfErr};
+ghost use Rattle.std.specs.Borrow.{sem};
+ghost use Rattle.picky_der_core.specs.Tree.{Tree, trees};
+ghost use Rattle.picky_der_core.specs.Shape.{Shape};
+ghost use Rattle.picky_der_ser.specs.Sequences.{IsListTag, list_kind};
+ghost use Rattle.picky_der_input.specs.Reading.{Reads, Refuses};
+ghost use Rattle.picky_der_input.specs.Ends.{OpensList};
+ghost use Rattle.picky_der_de.specs.Lending.{LendsList};
+ghost use Rattle.picky_der_de.specs.SequenceState.{borrowed_by, outer_of, state_of};
+
+use super::Deserializer;
+use crate::{Deserialize, Sequence};
+use picky_der_core::Result;
+use picky_der_core::asn1::Tag;
+use picky_der_core::misc::ReadExt;
+
+impl<R: ReadExt> Deserializer<R> {
+    /// Begins to read a sequence (X.690, 8.9 and 8.10). Directly under an implicit tag the header was that tag's, and its end
+    /// is a soft one until the sequence is closed.
+    ///
+    /// `InvalidData` for another tag; else the refusals of a header and of an end, and the reader's fault.
+    pub fn deserialize_seq(&mut self) -> Result<Sequence<'_, R>>
+        ensures* rests { sem 𝓛 (LendsList R.row R.ReadExt.own R.Read 0x30 self.entry result) }
+        ensures same_reference { IfOk result (λ q. borrowed_by q ≡ self.entry.ghost_name) }
+        ensures ok { IfOk result (λ q. OpensList 0x30 self.old (state_of q) (outer_of q)) }
+    {
+        self.begin_list(Tag::SEQUENCE)
+    }
+
+    /// Begins to read a set (X.690, 8.11 and 8.12), as a sequence is begun and refused, with the tag `31`. The order of its
+    /// members is tested as each is read (11.6). Of a SET with members of several types, which 10.3 orders by their tags,
+    /// this order is the port's own.
+    pub fn deserialize_set(&mut self) -> Result<Sequence<'_, R>>
+        ensures* rests { sem 𝓛 (LendsList R.row R.ReadExt.own R.Read 0x31 self.entry result) }
+        ensures same_reference { IfOk result (λ q. borrowed_by q ≡ self.entry.ghost_name) }
+        ensures ok { IfOk result (λ q. OpensList 0x31 self.old (state_of q) (outer_of q)) }
+    {
+        self.begin_list(Tag::SET)
+    }
+
+    /// Begins to read a tuple as a sequence, and is refused so. The length isn't looked at.
+    pub fn deserialize_tuple(&mut self, _len: usize) -> Result<Sequence<'_, R>>
+        ensures* rests { sem 𝓛 (LendsList R.row R.ReadExt.own R.Read 0x30 self.entry result) }
+        ensures same_reference { IfOk result (λ q. borrowed_by q ≡ self.entry.ghost_name) }
+        ensures ok { IfOk result (λ q. OpensList 0x30 self.old (state_of q) (outer_of q)) }
+    {
+        self.deserialize_seq()
+    }
+
+    /// Begins to read a tuple with a name as a sequence, and is refused so. The name and the length aren't looked at.
+    pub fn deserialize_tuple_struct(
+        &mut self,
+        _name: &'static str,
+        _len: usize,
+    ) -> Result<Sequence<'_, R>>
+        ensures* rests { sem 𝓛 (LendsList R.row R.ReadExt.own R.Read 0x30 self.entry result) }
+        ensures same_reference { IfOk result (λ q. borrowed_by q ≡ self.entry.ghost_name) }
+        ensures ok { IfOk result (λ q. OpensList 0x30 self.old (state_of q) (outer_of q)) }
+    {
+        self.deserialize_seq()
+    }
+
+    /// Begins to read a struct as a sequence, and is refused so. The names aren't looked at.
+    pub fn deserialize_struct(
+        &mut self,
+        _name: &'static str,
+        _fields: &'static [&'static str],
+    ) -> Result<Sequence<'_, R>>
+        ensures* rests { sem 𝓛 (LendsList R.row R.ReadExt.own R.Read 0x30 self.entry result) }
+        ensures same_reference { IfOk result (λ q. borrowed_by q ≡ self.entry.ghost_name) }
+        ensures ok { IfOk result (λ q. OpensList 0x30 self.old (state_of q) (outer_of q)) }
+    {
+        self.deserialize_seq()
+    }
+
+    // The members of a sequence or set of values of one type, which stands under this tag.
+    pub(crate) fn read_list<T: Deserialize>(&mut self, tag: Tag) -> Result<Vec<T>>
+        requires { IsListTag tag }
+        ensures ok { IfOk result (λ values. Reads
+            (Shape.list_of (list_kind tag) T.shape) self.old self.new
+            (Tree.list (list_kind tag) (trees (map T.meaning values.items)))) }
+        ensures err { IfErr result (Refuses (λ values. Tree.list (list_kind tag)
+            (trees (map T.meaning values))) (Shape.list_of (list_kind tag) T.shape) self.old
+            self.new) }
+    {
+        let mut members = self.begin_list(tag)?;
+        let values = members.collect::<T>()?;
+        members.end()?;
+        Ok(values)
+    }
+}

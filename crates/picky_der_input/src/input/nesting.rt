@@ -1,0 +1,172 @@
+//! Ends, opened and closed: those of sequences, sets, wrappers and application tags, with the headers in front of them.
+ghost use Rattle.picky_der_core.specs.Failure.{failure_of};
+ghost use Rattle.std.specs.Prelude.{◌≡◌, ◌+◌, ◌≤◌, ◌<◌, ◌↔◌, ◌∷◌, [], None, Some};
+ghost use Rattle.std.specs.Prelude.{IsTrue, IfOk, IfErr, OnOk};
+ghost use Rattle.picky_der_core.specs.Tag.{number_of, IsTagNumber};
+ghost use Rattle.picky_der_input.specs.Steps.{Takes};
+ghost use Rattle.picky_der_input.specs.Ends.{innermost, narrowed, Closes, RefusesClose, OpensList, RefusesList, OpensLazily};
+ghost use Rattle.picky_der_input.specs.Enclosures.{HasNumber, BeginsEnclosure, OpensEnclosure, RefusesOpening, RefusesUnusedBits};
+ghost use Rattle.picky_der_input.specs.TagNumbers.{RefusesNumber};
+
+use super::Input;
+use crate::{Enclosure, End};
+use picky_der_core::asn1::Tag;
+use picky_der_core::misc::ReadExt;
+use picky_der_core::{Asn1DerError, Failure, Result};
+use std::marker::Model;
+
+/// The end around an open one, which is put back where that is closed.
+#[derive(Drop)]
+pub struct Outer {
+    // How many bytes are taken before it.
+    place: usize,
+    kind: End,
+    // Where it is a set's, how many bytes are kept before the encoding of its last member.
+    last: Option<usize>,
+}
+
+impl Model for Outer {
+    ghost use Rattle.picky_der_input.specs.Ends.{Outer as OuterEnd};
+
+    ghost Value = { OuterEnd };
+
+    ghost view = { λ o. record { place = o.place; kind = o.kind; last = o.last } };
+}
+
+impl<R: ReadExt> Input<R> {
+    // Opens an end `len` bytes from here, and answers the one that was the innermost.
+    pub(crate) fn open_end(&mut self, len: usize, kind: End) -> Outer
+        requires { len ≤ self.old.until_end }
+        ensures opened { self.new ≡ narrowed self.old len kind }
+        ensures around { result ≡ innermost self.old }
+        ensures bounded { result.place ≤ self.new.limit }
+    {
+        let outer = Outer {
+            place: self.reader.pos() + self.until_end,
+            kind: self.end,
+            last: self.last.take(),
+        };
+        self.until_end = len;
+        self.end = kind;
+        outer
+    }
+
+    /// Takes the header of a sequence or set under this tag, and opens its end. Directly under an implicit tag the header
+    /// was that tag's. Of a set the order of the members is tested from here on (X.690, 11.6).
+    ///
+    /// `InvalidData` for another tag; the refusals of a header and of an end; else the reader's fault.
+    pub fn open_list(&mut self, tag: Tag) -> Result<Outer>
+        requires number { IsTagNumber (number_of tag) }
+        ensures ok { IfOk result (λ outer. OpensList tag self.old self.new outer) }
+        ensures bounded { IfOk result (λ outer. outer.place ≤ self.new.limit) }
+        ensures err { IfErr result (RefusesList tag self.old self.new) }
+    {
+        let len = self.begin(tag)?;
+        let outer = self.open_end(len, End::Soft);
+        self.order_members(tag);
+        Ok(outer)
+    }
+
+    /// Opens a soft end `len` bytes from here, before which no order is tested. Directly under an implicit tag that tag's
+    /// special reading is given up.
+    ///
+    /// Where these bytes reach past the innermost end, the input has failed: with `InvalidData` at a hard end, and else with
+    /// `TruncatedData`. One that had failed stays as it is.
+    pub fn open_lazily(&mut self, len: usize) -> Outer
+        ensures opened { OpensLazily len self.old self.new result }
+        ensures bounded { result.place ≤ self.new.limit }
+    {
+        if self.failed.is_none() && len <= self.until_end {
+            self.implicit_tag = None;
+            return self.open_end(len, End::Soft);
+        }
+        if self.failed.is_none() {
+            self.failed = Some(Failure::of(self.end.missing()));
+        }
+        Outer {
+            place: self.reader.pos() + self.until_end,
+            kind: self.end,
+            last: self.last,
+        }
+    }
+
+    // Takes the header of an enclosure, and opens its end. Directly under an implicit tag it has its own header too.
+    fn begin_enclosure(&mut self, enclosure: Enclosure) -> Result<Outer>
+        ensures ok { IfOk result (BeginsEnclosure enclosure self.old self.new) }
+        ensures bounded { IfOk result (λ outer. outer.place ≤ self.new.limit) }
+        ensures err { IfErr result (RefusesOpening enclosure self.old self.new) }
+        ensures unsupported { (HasNumber enclosure → ⊥) → RefusesNumber self.old result self.new }
+    {
+        if let Some(error) = self.earlier() {
+            return Err(error);
+        }
+        let Some(tag) = enclosure.tag() else {
+            return Err(self.fail(Asn1DerError::UnsupportedValue));
+        };
+        let len = self.read_header(tag)?;
+        Ok(self.open_end(len, End::Hard))
+    }
+
+    // Takes the byte that counts the unused bits of a bit string, which must be 00.
+    fn take_unused_bits(&mut self) -> Result<()>
+        requires had_not_failed { self.old.failed ≡ None }
+        ensures ok { OnOk result (Takes self.old self.new (0x00 ∷ [])) }
+        ensures err { IfErr result (RefusesUnusedBits self.old self.new) }
+    {
+        if self.next_byte()? != 0x00 {
+            return Err(self.fail(Asn1DerError::InvalidData));
+        }
+        Ok(())
+    }
+
+    /// Takes what stands before the value, and opens the enclosure's end.
+    ///
+    /// `UnsupportedValue` for a tag number past 30: nothing is drawn then. `InvalidData` for another tag and for unused bits
+    /// (X.690, 8.6.2); the refusals of a header and of an end; else the reader's fault.
+    pub fn open_enclosure(&mut self, enclosure: Enclosure) -> Result<Outer>
+        ensures ok { IfOk result (OpensEnclosure enclosure self.old self.new) }
+        ensures bounded { IfOk result (λ outer. outer.place ≤ self.new.limit) }
+        ensures err { IfErr result (RefusesOpening enclosure self.old self.new) }
+        ensures unsupported { (HasNumber enclosure → ⊥) → RefusesNumber self.old result self.new }
+    {
+        let outer = self.begin_enclosure(enclosure)?;
+        if enclosure.has_unused_bits() {
+            self.take_unused_bits()?;
+        }
+        self.implicit_tag = enclosure.implicit_number();
+        Ok(outer)
+    }
+
+    /// Closes the innermost end, if it was reached, and puts the one around it back.
+    ///
+    /// `InvalidData` where bytes are left before it, of which none is drawn.
+    pub fn close_end(&mut self, outer: Outer) -> Result<()>
+        requires within { self.old.taken + self.old.until_end ≤ outer.place }
+        requires bounded { outer.place ≤ self.old.limit }
+        ensures ok { OnOk result (Closes outer self.old self.new) }
+        ensures err { IfErr result (RefusesClose self.old self.new) }
+    {
+        if let Some(error) = self.earlier() {
+            return Err(error);
+        }
+        if self.until_end > 0 {
+            return Err(self.fail(Asn1DerError::InvalidData));
+        }
+        self.until_end = outer.place - self.reader.pos();
+        self.end = outer.kind;
+        self.leave_set(outer.last);
+        Ok(())
+    }
+
+    /// Whether the innermost end is here. Only an earlier error is answered.
+    pub fn is_at_end(&self) -> Result<bool>
+        ensures ok { IfOk result (λ here. (self.now.failed ≡ None)
+            × (IsTrue here ↔ (self.now.until_end ≡ 0))) }
+        ensures err { IfErr result (λ e. self.now.failed ≡ Some (failure_of e)) }
+    {
+        match self.earlier() {
+            Some(error) => Err(error),
+            None => Ok(self.until_end == 0),
+        }
+    }
+}
