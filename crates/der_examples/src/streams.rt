@@ -1,12 +1,19 @@
 //! Values that stand behind each other.
+ghost use Rattle.std.specs.Prelude.{length, IfNone, IfSome, IfOk, IfErr};
+ghost use Rattle.picky_der_de.specs.Entry.{IsFront, ReadsFront, HasNoneLeft, RefusesNextValue, seen};
 
 use picky_asn1_der::misc::ReadExt;
-use picky_asn1_der::{Result, from_bytes, next_from_bytes, next_from_reader};
+use picky_asn1_der::{
+    Deserialize, Result, Serialize, from_bytes, next_from_bytes, next_from_reader,
+};
 use std::alloc::Global;
 
 /// A number and the text behind it: 7 and `hi` of `02 01 07 0C 02 68 69`. They are refused as `next_from_bytes` and
 /// `from_bytes` refuse them.
-pub fn number_and_text(alloc: Global, bytes: &[u8]) -> Result<(u8, String)> {
+pub fn number_and_text(alloc: Global, bytes: &[u8]) -> Result<(u8, String)>
+    ensures number { IfOk result (λ pair. IsFront ⟦<u8 as Serialize>⟧.meaning
+        ⟦<u8 as Deserialize>⟧.shape ⟦<u8 as PartialEq>⟧.eq bytes.now (length bytes.now) pair.0) }
+{
     let (number, taken) = next_from_bytes(alloc, bytes)?;
     let text = from_bytes(alloc, &bytes[taken..])?;
     Ok((number, text))
@@ -14,6 +21,17 @@ pub fn number_and_text(alloc: Global, bytes: &[u8]) -> Result<(u8, String)> {
 
 /// The next text of a reader, in at most 4096 bytes, and `None` where nothing is left. One that is cut short is
 /// `TruncatedData`.
-pub fn next_text<R: ReadExt>(alloc: Global, reader: &mut R) -> Result<Option<String>> {
+pub fn next_text<R: ReadExt>(alloc: Global, reader: &mut R) -> Result<Option<String>>
+    ensures value { IfOk result (λ next. IfSome next
+        (ReadsFront ⟦<String as Serialize>⟧.meaning ⟦<String as Deserialize>⟧.shape
+        ⟦<String as PartialEq>⟧.eq 4096 (seen R.remaining R.faults reader.old)
+        (seen R.remaining R.faults reader.new))) }
+    ensures ended { IfOk result (λ next. IfNone next
+        (HasNoneLeft 4096 (seen R.remaining R.faults reader.old)
+        (seen R.remaining R.faults reader.new))) }
+    ensures err { IfErr result (RefusesNextValue ⟦<String as Serialize>⟧.meaning
+        ⟦<String as Deserialize>⟧.shape 4096 (seen R.remaining R.faults reader.old)
+        (seen R.remaining R.faults reader.new)) }
+{
     next_from_reader(alloc, reader, 4096)
 }
