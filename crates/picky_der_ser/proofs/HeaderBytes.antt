@@ -88,3 +88,7 @@ der-headers (w ∷ []) h c = one w h c
 der-headers (w ∷ v ∷ ws) h c =
     one_more w (headers (v ∷ ws) h (length c)) c (under (v ∷ ws) (tree_of h c)) (is_absent-under (v ∷ ws) (tree_of h c) ∙ present h c) (whole v (under ws (tree_of h c))) (der-headers (v ∷ ws) h c)
     ∙ ap (λ b. b ++ c) (sym (more w v ws (own_header (unwrap_or (joined_last (v ∷ ws) h) h) (length c)) (length c) (joined_last (v ∷ ws) h)))
+
+-- where it is one header with a length of one byte
+pub der-short : (ws vs : List Wrapper) (h : Header) (c : List ℕ) (identifier n : ℕ) → vs ≡ ws → n ≡ length c → headers vs h n ≡ identifier ∷ n ∷ [] → identifier ∷ n ∷ c ≡ der (under ws (tree_of h c))
+der-short ws vs h c identifier n same size front = ap (λ x. x ++ c) (sym front ∙ ap (λ us. headers us h n) same ∙ ap (headers ws h) size) ∙ sym (der-headers ws h c)

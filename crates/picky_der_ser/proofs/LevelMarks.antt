@@ -1,9 +1,9 @@
 -- The levels in one list of bytes.
 use Rattle.std.proofs.Common.{◌≡◌, ◌≢◌, ℕ, ◌≤◌, ◌-◌, Bool, true, false, List, [], ◌∷◌, ◌++◌, length, take, drop, Option, None, Some, IfSome, IsSome, refl, sym, ap, ap₂, ◌∙◌, arith, subst}
 use Rattle.std.proofs.Math.Seq.{take-append_seam, drop-append_seam}
-use Rattle.std.proofs.lemmas.List.{take-take, drop-append-le, drop_all, length-drop, take-append-le, length-take-le}
+use Rattle.std.proofs.lemmas.List.{take-take, drop-append-le, drop_all, take_all, length-drop, take-append-le, length-take-le}
 use Rattle.picky_der_ser.specs.Places.{Place}
-use Rattle.picky_der_ser.specs.State.{Level, Stack, with_bytes, begun, in_order}
+use Rattle.picky_der_ser.specs.State.{Level, Stack, with_bytes, begun, in_order, settled}
 use Rattle.picky_der_core.specs.Encoding.{der}
 use Rattle.picky_der_core.specs.Wrapper.{under}
 use Rattle.picky_der_ser.specs.Heading.{tree_of}
@@ -13,7 +13,7 @@ use Rattle.picky_der_ser.specs.Sealed.{sealed}
 use Rattle.picky_der_ser.specs.Marks.{level_at, levels_of, below, seams_below, level_of, inside_of, pending_of, with_pending, IsMark, AreMarks, HasRoom}
 use Rattle.picky_der_ser.specs.Parts.{AreSeams, last_seam, next_seams}
 use Rattle.picky_der_ser.proofs.Seams.{seams-next, last_seam-next, drop-next_seams, take-next_seams, length-next_seams}
-use Rattle.picky_der_ser.proofs.SetBytes.{in_order-uncut}
+use Rattle.picky_der_ser.proofs.SetBytes.{settled-uncut, in_order-uncut}
 
 -- ---- marks within more bytes, and fewer marks
 
@@ -207,3 +207,23 @@ module _ {p q : Option Place} {m : Place} (ms : List Place) (seams : List ℕ) (
       ap (λ x. stack_at false None ms x (take m.first_seam seams)) g ∙ stack-merged m ms s seams _ l ls before inside
       ∙ ap (λ (x : Level). record { inside = with_bytes l (der (under x.around (tree_of x.header x.content))) ∷ ls; pending = None }) level
       )
+
+  -- the same of one that has no seams
+  pub stack-enclosed_uncut : (entered : Bool) (s t : List ℕ) (o l : Level) (ls : List Level) → AreMarks (with_pending p ms) (length s) seams → length seams ≤ m.first_seam → pending_of entered p s seams ≡ Some o
+      → inside_of entered p ms s seams ≡ l ∷ ls → t ≡ take m.at s ++ der (under m.around (tree_of m.header (drop m.start s)))
+      → stack_at entered q ms t seams ≡ record { inside = with_bytes l (der (under o.around (tree_of o.header (settled o)))) ∷ ls; pending = None }
+  stack-enclosed_uncut true s t o l ls marks none e f g = cc
+  stack-enclosed_uncut false s t o l ls marks none e f g =
+      let level : level_at m s seams ≡ o = let a : Some (level_at m s seams) ≡ Some o = ap (λ x. level_of x s seams) (sym was) ∙ e in cc in
+      let uncut : o.seams ≡ [] = ap (λ (x : Level). x.seams) (sym level) ∙ drop_all m.first_seam seams none in
+      let all : seams ≡ take m.first_seam seams = sym (take_all m.first_seam seams none) in
+      ap (stack_at false q ms t) all ∙ stack-enclosed false s t o l ls marks e f g
+      ∙ ap (λ c. record { inside = with_bytes l (der (under o.around (tree_of o.header c))) ∷ ls; pending = None }) (sym (settled-uncut o uncut))
+
+-- how long it is then
+pub count-uncut : (entered : Bool) {p : Option Place} {m : Place} (s q : List ℕ) (n : ℕ) → p ≡ Some m → length q ≤ m.first_seam → n ≡ length (der (under m.around (tree_of m.header (drop m.start s))))
+    → IfSome (pending_of entered p s q) (λ l. n ≡ length (der (under l.around (tree_of l.header (settled l)))))
+count-uncut true s q n was none count = tt
+count-uncut false {p} {m} s q n was none count =
+    let own : settled (level_at m s q) ≡ drop m.start s = settled-uncut (level_at m s q) (drop_all m.first_seam q none) in
+    rw was (count ∙ ap (λ c. length (der (under m.around (tree_of m.header c)))) (sym own))

@@ -16,7 +16,7 @@ use Rattle.picky_der_ser.specs.Heading.{tree_of}
 use Rattle.picky_der_ser.specs.Headers.{HasNumber, HaveTagNumbers}
 use Rattle.picky_der_ser.specs.State.{State, Level, with_bytes}
 use Rattle.picky_der_ser.specs.Calls.{AddsIn, Wrote, Refused, RefusedIn, no_memory, no_room, Writes, RefusesWrite, WritesPlain, WritesContent}
-use Rattle.picky_der_ser.proofs.LevelWrites.{wrote_by, refused_by, as_it_is, writable_counted}
+use Rattle.picky_der_ser.proofs.LevelWrites.{wrote_by, refused_by, writable_counted}
 
 module _ {W : Type 0} (g : Ghosts W) where
   adds_outside : (inside levels : List Level) (old new : W) (bs : List ℕ) → inside ≡ [] → levels ≡ [] → Appends (g.told old) (g.told new) bs → AddsIn g inside levels old new bs
@@ -101,24 +101,28 @@ module _ {W : Type 0} (g : Ghosts W) where
 
   -- ---- levels
 
-  -- the level that was opened last was added to the one around it
-  pub ends_inside : (old new : State W) (n : ℕ) → n < 2 ^ 64 → old.failed ≡ None → old.inside ≢ [] → IfSome old.pending (λ l. HaveTagNumbers l.around × HasNumber l.header) → IfSome old.pending (λ l. n ≡ length (der (as_it_is l)))
-      → ((p l : Level) (ls : List Level) → old.pending ≡ Some p → old.inside ≡ l ∷ ls → new.inside ≡ with_bytes l (der (as_it_is p)) ∷ ls) → new.sink ≡ old.sink → new.around ≡ [] → new.failed ≡ None → g.later old.sink old.sink
-      → IfSome old.pending (λ l. WritesContent g l.header l.content (record old { around = l.around }) (Ok n) new)
-  ends_inside old new n small f some numbers count added s a b later = by_level old.pending numbers count (λ l k ks. added l k ks)
-    where
-      by_level : (p : Option Level) → IfSome p (λ l. HaveTagNumbers l.around × HasNumber l.header) → IfSome p (λ l. n ≡ length (der (as_it_is l)))
-          → ((l k : Level) (ks : List Level) → p ≡ Some l → old.inside ≡ k ∷ ks → new.inside ≡ with_bytes k (der (as_it_is l)) ∷ ks) → IfSome p (λ l. WritesContent g l.header l.content (record old { around = l.around }) (Ok n) new)
-      by_level None x y z = tt
-      by_level (Some l) x y z =
-          let fits : length (der (as_it_is l)) < 2 ^ 64 = omega (arith, y) in
-          let writable = writable_counted l.around l.header l.content x fits in
-          record {
-            wrote = writes_inside (tree_of l.header l.content) (record old { around = l.around }) new n f some (λ k ks e. z l k ks refl e) s a b writable y;
-            failed = tt;
-            counted = let same = ap g.faults s in (omega (arith, same), omega (arith, same));
-            goes_on = subst (g.later old.sink) (sym s) later;
-          }
+  -- the level that was opened last was added to the one around it, with this content
+  module _ (content : Level → List ℕ) where
+    abbrev ended : Level → List ℕ
+    ended l = der (under l.around (tree_of l.header (content l)))
+
+    pub ends_inside : (old new : State W) (n : ℕ) → n < 2 ^ 64 → old.failed ≡ None → old.inside ≢ [] → IfSome old.pending (λ l. HaveTagNumbers l.around × HasNumber l.header) → IfSome old.pending (λ l. n ≡ length (ended l))
+        → ((p l : Level) (ls : List Level) → old.pending ≡ Some p → old.inside ≡ l ∷ ls → new.inside ≡ with_bytes l (ended p) ∷ ls) → new.sink ≡ old.sink → new.around ≡ [] → new.failed ≡ None → g.later old.sink old.sink
+        → IfSome old.pending (λ l. WritesContent g l.header (content l) (record old { around = l.around }) (Ok n) new)
+    ends_inside old new n small f some numbers count added s a b later = by_level old.pending numbers count (λ l k ks. added l k ks)
+      where
+        by_level : (p : Option Level) → IfSome p (λ l. HaveTagNumbers l.around × HasNumber l.header) → IfSome p (λ l. n ≡ length (ended l)) → ((l k : Level) (ks : List Level) → p ≡ Some l → old.inside ≡ k ∷ ks → new.inside ≡ with_bytes k (ended l) ∷ ks)
+            → IfSome p (λ l. WritesContent g l.header (content l) (record old { around = l.around }) (Ok n) new)
+        by_level None x y z = tt
+        by_level (Some l) x y z =
+            let fits : length (ended l) < 2 ^ 64 = omega (arith, y) in
+            let writable = writable_counted l.around l.header (content l) x fits in
+            record {
+              wrote = writes_inside (tree_of l.header (content l)) (record old { around = l.around }) new n f some (λ k ks e. z l k ks refl e) s a b writable y;
+              failed = tt;
+              counted = let same = ap g.faults s in (omega (arith, same), omega (arith, same));
+              goes_on = subst (g.later old.sink) (sym s) later;
+            }
 
 pub on_ok : {A E : Type 0} {P : Type 0} (r : Result A E) → P → OnOk r P
 on_ok (Ok v) h = h

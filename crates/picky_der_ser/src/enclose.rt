@@ -1,6 +1,6 @@
 //! Contents with their headers in front.
 ghost use Rattle.std.specs.Prelude.{◌≡◌, ◌≤◌, ◌<◌, ◌+◌, ◌-◌, ◌∷◌, ◌++◌, length, take, drop, vec_len};
-ghost use Rattle.std.specs.Prelude.{vec_capacity, OnOk};
+ghost use Rattle.std.specs.Prelude.{[], vec_capacity, OnOk};
 ghost use Rattle.std.specs.List.{slice_rotate_right};
 ghost use Rattle.picky_der_core.specs.Encoding.{der};
 ghost use Rattle.picky_der_core.specs.Tree.{Tree};
@@ -102,6 +102,16 @@ pub(crate) fn push_enclosed(
     out.extend_from_slice(&[identifier, len as u8])?;
     out.extend_from_slice(content)?;
     Ok(())
+}
+
+// Adds a header of two bytes, for which there is room.
+#[inline(always)]
+pub(crate) fn push_short_header(out: &mut Vec<u8>, identifier: u8, len: u8)
+    requires { vec_len out.old + 2 ≤ vec_capacity out.old }
+    ensures { out.new.items ≡ out.old.items ++ (identifier ∷ len ∷ []) }
+{
+    // There is room, so it isn't refused.
+    let _ = out.extend_from_slice(&[identifier, len]);
 }
 
 // Adds an element whose length is one byte, for which there is room.

@@ -1,16 +1,16 @@
 //! The levels of a serializer, in one vector.
 ghost use Rattle.std.specs.Prelude.{◌≡◌, ◌≢◌, ◌<◌, ◌≤◌, ◌^◌, ◌+◌, List, [], ◌∷◌, true, false, length};
-ghost use Rattle.std.specs.Prelude.{drop, vec_len, None, Some, IfSome, IsSome, IfOk, OnOk};
+ghost use Rattle.std.specs.Prelude.{drop, vec_len, None, Some, IfSome, IfNone, IsSome, IfOk, OnOk};
 ghost use Rattle.picky_der_core.specs.Encoding.{der};
 ghost use Rattle.picky_der_core.specs.Tree.{Tree};
 ghost use Rattle.picky_der_core.specs.Wrapper.{under};
 ghost use Rattle.picky_der_ser.specs.Heading.{tree_of};
 ghost use Rattle.picky_der_ser.specs.Headers.{headers, HasNumber, HaveTagNumbers};
-ghost use Rattle.picky_der_ser.specs.State.{Level, root, with_bytes, begun, in_order};
+ghost use Rattle.picky_der_ser.specs.State.{Level, root, with_bytes, begun, in_order, settled};
 ghost use Rattle.picky_der_ser.specs.Sealed.{sealed};
 
 use crate::Header;
-use crate::enclose::{enclose, fill_short, push_enclosed, push_short};
+use crate::enclose::{enclose, fill_short, push_enclosed, push_short, push_short_header};
 use crate::header::{push_headers, short_identifier};
 use crate::marks::{Mark, Marks};
 use crate::sets::{arrange, begin_member};
@@ -185,18 +185,32 @@ impl Levels {
             start: at,
             first_seam: self.seams.len(),
         });
+        self.make_short_room();
     }
 
-    // Makes room for the headers of a level without members, as much as those of an empty content take. The first level asks
-    // for some bytes more, so that what is small needs no other room.
+    // Makes the room for the header of a level without members, where this is two bytes for which the vector has room. Else nothing
+    // is done.
+    #[inline(always)]
+    fn make_short_room(&mut self)
+        ensures { self.new ≡ self.old }
+    {
+        if let Some(mark) = &mut self.innermost {
+            let at = self.scratch.len();
+            if at == mark.at && self.scratch.capacity() - at >= 2 {
+                if let Some(identifier) = short_identifier(&mark.around, &mark.header, 0) {
+                    push_short_header(&mut self.scratch, identifier, 0);
+                    mark.start = at + 2;
+                }
+            }
+        }
+    }
+
+    // Makes room for the headers of a level without members, as much as those of an empty content take.
     fn make_room(&mut self) -> Result<(), AllocError>
         ensures { OnOk result (self.new ≡ self.old) }
     {
         if let Some(mark) = &mut self.innermost {
             if self.scratch.len() == mark.at {
-                if mark.at == 0 {
-                    self.scratch.reserve(FIRST_ROOM)?;
-                }
                 push_headers(&mut self.scratch, &mark.around, mark.header, 0)?;
                 mark.start = self.scratch.len();
             }
@@ -216,10 +230,28 @@ impl Levels {
         Ok(())
     }
 
-    // A member of the level that was opened last is written from here on.
+    // A member of the level that was opened last is written from here on. The first one of all asks for some bytes at once, so that
+    // what is small needs no other room.
     #[cold]
     #[inline(never)]
     pub(crate) fn enter(&mut self) -> Result<(), AllocError>
+        ensures { OnOk result (IfSome self.old.pending
+            (λ l. self.new ≡ record { inside = begun l ∷ self.old.inside; pending = None })) }
+    {
+        if self.scratch.is_empty() {
+            self.scratch.reserve(FIRST_ROOM)?;
+        }
+        self.make_short_room();
+        if self.enter_again() {
+            return Ok(());
+        }
+        self.enter_slowly()
+    }
+
+    // The same, whatever the header of the level and wherever it stands.
+    #[cold]
+    #[inline(never)]
+    fn enter_slowly(&mut self) -> Result<(), AllocError>
         ensures { OnOk result (IfSome self.old.pending
             (λ l. self.new ≡ record { inside = begun l ∷ self.old.inside; pending = None })) }
     {
@@ -347,17 +379,40 @@ impl Levels {
         Ok(self.scratch.len() - at)
     }
 
-    // Whether the level that was opened last ends inside another by two bytes in the room for its header, as most do. Nothing rests on
-    // this but time: where it is known, the other ways of ending one fall away.
+    // Ends the level that was opened last as `arrange` and `merge` do, where it stands in another, has no seams, and its header fits
+    // the two bytes in front of it, as most do. Else nothing is done, and none is answered.
     #[inline(always)]
-    pub(crate) fn ends_short(&self) -> bool {
+    pub(crate) fn merge_short(&mut self) -> Option<usize>
+        requires { IsSome self.old.pending }
+        ensures numbers { IfSome self.old.pending
+            (λ p. HaveTagNumbers p.around × HasNumber p.header) }
+        ensures inside { IsSome result → self.old.inside ≢ [] }
+        ensures count { IfSome result (λ n. IfSome self.old.pending
+            (λ p. n ≡ length (der (under p.around (tree_of p.header (settled p)))))) }
+        ensures some { IsSome result → (p l : Level) (ls : List Level)
+            → self.old.pending ≡ Some p → self.old.inside ≡ l ∷ ls → self.new ≡ record {
+              inside = with_bytes l (der (under p.around (tree_of p.header (settled p)))) ∷ ls;
+              pending = None;
+            } }
+        ensures none { IfNone result (self.new ≡ self.old) }
+    {
+        if !self.is_inside() {
+            return None;
+        }
         let Some(mark) = &self.innermost else {
-            return false;
+            return None;
         };
         let len = self.scratch.len() - mark.start;
-        let is_short = short_identifier(&mark.around, &mark.header, len).is_some();
+        let Some(identifier) = short_identifier(&mark.around, &mark.header, len) else {
+            return None;
+        };
         let has_seams = mark.first_seam < self.seams.len();
-        is_short && !has_seams && mark.start - mark.at == 2 && self.is_inside()
+        if has_seams || mark.start - mark.at != 2 {
+            return None;
+        }
+        fill_short(&mut self.scratch, mark.at, identifier, len as u8);
+        self.innermost = None;
+        Some(2 + len)
     }
 
     // Adds the headers of a content of `len` bytes to the level that was opened last.

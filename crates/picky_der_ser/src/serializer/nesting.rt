@@ -119,25 +119,19 @@ impl<W: WriteExt> Serializer<W> {
         requires { IfNone self.old.failed (IsSome self.old.pending) }
         ensures { EndsLevel W.WriteExt.own self.old result self.new }
     {
-        if self.failed.is_none() && self.levels.ends_short() {
-            return self.close_in_line();
+        if self.failed.is_none() {
+            if let Some(count) = self.levels.merge_short() {
+                self.around.clear();
+                return Ok(count);
+            }
         }
-        self.close_out_of_line()
+        self.close_slowly()
     }
 
-    // The same out of line, for the other ways of ending one.
+    // The same for all ways of ending one.
     #[cold]
     #[inline(never)]
-    fn close_out_of_line(&mut self) -> Result<usize>
-        requires { IfNone self.old.failed (IsSome self.old.pending) }
-        ensures { EndsLevel W.WriteExt.own self.old result self.new }
-    {
-        self.close_in_line()
-    }
-
-    // The same in line.
-    #[inline(always)]
-    fn close_in_line(&mut self) -> Result<usize>
+    fn close_slowly(&mut self) -> Result<usize>
         requires { IfNone self.old.failed (IsSome self.old.pending) }
         ensures { EndsLevel W.WriteExt.own self.old result self.new }
     {
