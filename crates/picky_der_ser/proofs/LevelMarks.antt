@@ -1,229 +1,270 @@
 -- The levels in one list of bytes.
-use Rattle.std.proofs.Common.{◌≡◌, ◌≢◌, ℕ, ◌≤◌, ◌-◌, Bool, true, false, List, [], ◌∷◌, ◌++◌, length, take, drop, Option, None, Some, IfSome, IsSome, refl, sym, ap, ap₂, ◌∙◌, arith, subst}
+use Rattle.std.proofs.Common.{◌≡◌, ◌≢◌, ℕ, ◌≤◌, ◌-◌, Bool, true, false, List, [], ◌∷◌, ◌++◌, length, length-append, take, drop, Option, None, Some, IfSome, IsSome, refl, sym, ap, ap₂, ◌∙◌, arith, subst}
 use Rattle.std.proofs.Math.Seq.{take-append_seam, drop-append_seam}
 use Rattle.std.proofs.lemmas.List.{take-take, drop-append-le, drop_all, take_all, length-drop, take-append-le, length-take-le}
+use Rattle.picky_der_core.specs.declared.asn1.wrapper.Wrapper.{Wrapper}
 use Rattle.picky_der_ser.specs.Places.{Place}
 use Rattle.picky_der_ser.specs.State.{Level, Stack, with_bytes, begun, in_order, settled}
 use Rattle.picky_der_core.specs.Encoding.{der}
 use Rattle.picky_der_core.specs.Wrapper.{under}
 use Rattle.picky_der_ser.specs.Heading.{tree_of}
 use Rattle.picky_der_ser.specs.declared.header.Header.TheVariants.{Raw}
-use Rattle.picky_der_ser.specs.Headers.{headers}
+use Rattle.picky_der_ser.specs.Headers.{headers, HasNumber, HaveTagNumbers}
 use Rattle.picky_der_ser.specs.Sealed.{sealed}
-use Rattle.picky_der_ser.specs.Marks.{level_at, levels_of, below, seams_below, level_of, inside_of, pending_of, with_pending, IsMark, AreMarks, HasRoom}
+use Rattle.picky_der_ser.specs.Marks.{level_at, levels_of, below, seams_below, wrappers_below, level_of, inside_of, pending_of, with_pending, IsMark, AreMarks, HasRoom}
 use Rattle.picky_der_ser.specs.Parts.{AreSeams, last_seam, next_seams}
 use Rattle.picky_der_ser.proofs.Seams.{seams-next, last_seam-next, drop-next_seams, take-next_seams, length-next_seams}
 use Rattle.picky_der_ser.proofs.SetBytes.{settled-uncut, in_order-uncut}
 
 -- ---- marks within more bytes, and fewer marks
 
-pub mark-more : {m : Place} {a b : ℕ} {q : List ℕ} → a ≤ b → IsMark m a q → IsMark m b q
-mark-more h k = record { numbers = k.numbers; number = k.number; room = k.room; first = k.first; within = omega (arith, h, k.within); ascending = k.ascending; least = k.least }
+pub mark-more : {m : Place} {a b : ℕ} {q : List ℕ} {w : List Wrapper} → a ≤ b → IsMark m a q w → IsMark m b q w
+mark-more h k = record { numbers = k.numbers; number = k.number; room = k.room; outer = k.outer; first = k.first; within = omega (arith, h, k.within); ascending = k.ascending; least = k.least }
 
-pub marks-more : (ms : List Place) {a b : ℕ} (q : List ℕ) → a ≤ b → AreMarks ms a q → AreMarks ms b q
-marks-more [] q h k = tt
-marks-more (m ∷ ms) q h k = (mark-more h k.0, k.1)
+pub marks-more : (ms : List Place) {a b : ℕ} (q : List ℕ) (w : List Wrapper) → a ≤ b → AreMarks ms a q w → AreMarks ms b q w
+marks-more [] q w h k = tt
+marks-more (m ∷ ms) q w h k = (mark-more h k.0, k.1)
+
+-- the wrappers of the innermost level stand within those of all
+pub mark-outer : {p : Option Place} {m : Place} (ms : List Place) (n : ℕ) (q : List ℕ) (w : List Wrapper) → p ≡ Some m → AreMarks (with_pending p ms) n q w → m.first_wrapper ≤ length w
+mark-outer {p} {m} ms n q w was k = let before : AreMarks (m ∷ ms) n q w = subst (λ o. AreMarks (with_pending o ms) n q w) was k in before.0.outer
+
+-- a level is opened in these wrappers, behind all that was there
+pub marks-opened : (m : Place) (ms : List Place) (n : ℕ) (q : List ℕ) (w around : List Wrapper) → m.at ≡ n → m.start ≡ n → m.first_seam ≡ length q → m.first_wrapper ≡ length w → HasNumber m.header → HaveTagNumbers around → AreMarks ms n q w
+    → AreMarks (m ∷ ms) n q (w ++ around)
+marks-opened m ms n q w around at start first outer number numbers k =
+    let own : drop m.first_wrapper (w ++ around) ≡ around = ap (λ j. drop j (w ++ around)) outer ∙ drop-append_seam w around in
+    let others : take m.first_wrapper (w ++ around) ≡ w = ap (λ j. take j (w ++ around)) outer ∙ take-append_seam w around in
+    let none : drop m.first_seam q ≡ [] = drop_all m.first_seam q (omega (arith, first)) in
+    let all : take m.first_seam q ≡ q = take_all m.first_seam q (omega (arith, first)) in
+    let mark : IsMark m n q (w ++ around) = record {
+      numbers = subst HaveTagNumbers (sym own) numbers;
+      number = number;
+      room = omega (arith, at, start);
+      outer = omega (arith, outer, length-append w around);
+      first = omega (arith, first);
+      within = rw none (omega (arith, start));
+      ascending = rw none tt;
+      least = omega (arith, at, start);
+    } in
+    (mark, rw (at, all, others) k)
 
 -- another member of the innermost begins where it ends
-marks-next : (m : Place) (ms : List Place) (n : ℕ) (q : List ℕ) → AreMarks (m ∷ ms) n q → AreMarks (m ∷ ms) n (next_seams m.header q (n - m.start))
-marks-next m ms n q k =
+marks-next : (m : Place) (ms : List Place) (n : ℕ) (q : List ℕ) (w : List Wrapper) → AreMarks (m ∷ ms) n q w → AreMarks (m ∷ ms) n (next_seams m.header q (n - m.start)) w
+marks-next m ms n q w k =
     let within = k.0.within in
     let own = drop m.first_seam q in
     let held : last_seam 0 own ≤ n - m.start = omega (arith, within) in
     let last = last_seam-next m.header own (n - m.start) held in
     let is = drop-next_seams m.header m.first_seam q (n - m.start) k.0.first in
-    let first : IsMark m n (next_seams m.header q (n - m.start)) = record {
+    let first : IsMark m n (next_seams m.header q (n - m.start)) w = record {
       numbers = k.0.numbers;
       number = k.0.number;
       room = k.0.room;
+      outer = k.0.outer;
       first = omega (arith, k.0.first, length-next_seams m.header q (n - m.start));
       within = omega (arith, within, last, ap (last_seam 0) is);
       ascending = subst (AreSeams 0) (sym is) (seams-next m.header own (n - m.start) held k.0.ascending);
       least = k.0.least;
     } in
-    (first, subst (AreMarks ms m.at) (sym (take-next_seams m.header m.first_seam q (n - m.start) k.0.first)) k.1)
+    (first, subst (λ r. AreMarks ms m.at r (take m.first_wrapper w)) (sym (take-next_seams m.header m.first_seam q (n - m.start) k.0.first)) k.1)
 
-pub marks-begun : {p : Option Place} {m : Place} (ms : List Place) (n : ℕ) (q r : List ℕ) → p ≡ Some m → AreMarks (with_pending p ms) n q → r ≡ next_seams m.header q (n - m.start)
-    → AreMarks (with_pending p ms) n r
-marks-begun {p} {m} ms n q r was k e =
-    let before : AreMarks (m ∷ ms) n q = subst (λ o. AreMarks (with_pending o ms) n q) was k in
-    rw (was, e) (marks-next m ms n q before)
+pub marks-begun : {p : Option Place} {m : Place} (ms : List Place) (n : ℕ) (q r : List ℕ) (w : List Wrapper) → p ≡ Some m → AreMarks (with_pending p ms) n q w → r ≡ next_seams m.header q (n - m.start)
+    → AreMarks (with_pending p ms) n r w
+marks-begun {p} {m} ms n q r w was k e =
+    let before : AreMarks (m ∷ ms) n q w = subst (λ o. AreMarks (with_pending o ms) n q w) was k in
+    rw (was, e) (marks-next m ms n q w before)
 
 -- ---- whether there is one
 
-some_level : (ms : List Place) (s q : List ℕ) → ms ≢ [] → levels_of ms s q ≢ []
-some_level [] s q h = absurd (h refl)
-some_level (m ∷ ms) s q h = λ e. cc
+some_level : (ms : List Place) (s q : List ℕ) (w : List Wrapper) → ms ≢ [] → levels_of ms s q w ≢ []
+some_level [] s q w h = absurd (h refl)
+some_level (m ∷ ms) s q w h = λ e. cc
 
 -- a member is being written
-pub some_entered : (entered : Bool) (p : Option Place) (ms : List Place) (s q : List ℕ) (spare : ℕ) → entered ≡ true → HasRoom entered p ms spare → inside_of entered p ms s q ≢ []
-some_entered false p ms s q spare e h = cc
-some_entered true None ms s q spare e h = some_level ms s q h
-some_entered true (Some m) ms s q spare e h = λ none. cc
+pub some_entered : (entered : Bool) (p : Option Place) (ms : List Place) (s q : List ℕ) (w : List Wrapper) (spare : ℕ) → entered ≡ true → HasRoom entered p ms spare → inside_of entered p ms s q w ≢ []
+some_entered false p ms s q w spare e h = cc
+some_entered true None ms s q w spare e h = some_level ms s q w h
+some_entered true (Some m) ms s q w spare e h = λ none. cc
 
 -- there are levels around the innermost one
-pub some_inside : (entered : Bool) (p : Option Place) (ms : List Place) (s q : List ℕ) → ms ≢ [] → inside_of entered p ms s q ≢ []
-some_inside true None ms s q h = some_level ms s q h
-some_inside true (Some m) ms s q h = λ e. cc
-some_inside false p ms s q h = some_level ms (below p s) (seams_below p q) h
+pub some_inside : (entered : Bool) (p : Option Place) (ms : List Place) (s q : List ℕ) (w : List Wrapper) → ms ≢ [] → inside_of entered p ms s q w ≢ []
+some_inside true None ms s q w h = some_level ms s q w h
+some_inside true (Some m) ms s q w h = λ e. cc
+some_inside false p ms s q w h = some_level ms (below p s) (seams_below p q) (wrappers_below p w) h
 
 -- ---- what is added to the innermost
 
-pub levels-grown : (ms : List Place) (s q bs : List ℕ) (l : Level) (ls : List Level) → AreMarks ms (length s) q → levels_of ms s q ≡ l ∷ ls → levels_of ms (s ++ bs) q ≡ with_bytes l bs ∷ ls
-levels-grown [] s q bs l ls h e = cc
-levels-grown (m ∷ ms) s q bs l ls h e =
+pub levels-grown : (ms : List Place) (s q bs : List ℕ) (w : List Wrapper) (l : Level) (ls : List Level) → AreMarks ms (length s) q w → levels_of ms s q w ≡ l ∷ ls → levels_of ms (s ++ bs) q w ≡ with_bytes l bs ∷ ls
+levels-grown [] s q bs w l ls h e = cc
+levels-grown (m ∷ ms) s q bs w l ls h e =
     let last = h.0.within in
     let within : m.start ≤ length s = omega (arith, last) in
     let room = h.0.room in
-    let first : level_at m s q ≡ l = cc in
-    let others : levels_of ms (take m.at s) (take m.first_seam q) ≡ ls = cc in
+    let outer = take m.first_wrapper w in
+    let first : level_at m s q w ≡ l = cc in
+    let others : levels_of ms (take m.at s) (take m.first_seam q) outer ≡ ls = cc in
     let header = ap (λ (o : Level). o.header) first in
     let around = ap (λ (o : Level). o.around) first in
     let content = ap (λ (o : Level). o.content) first in
     let seams = ap (λ (o : Level). o.seams) first in
     let a = drop-append-le m.start s bs within in
-    let b = ap (λ x. levels_of ms x (take m.first_seam q)) (take-append-le m.at s bs (omega (arith, room, within))) in
+    let b = ap (λ x. levels_of ms x (take m.first_seam q) outer) (take-append-le m.at s bs (omega (arith, room, within))) in
     cc
 
 -- ---- room for one more mark
 
 -- none is needed once what was pending is gone
-pub room-ended : (entered : Bool) (p : Option Place) (s q : List ℕ) (ms : List Place) (spare : ℕ) → IsSome (pending_of entered p s q) → HasRoom entered None ms spare
-room-ended true p s q ms spare some = cc
-room-ended false p s q ms spare some = tt
+pub room-ended : (entered : Bool) (p : Option Place) (s q : List ℕ) (w : List Wrapper) (ms : List Place) (spare : ℕ) → IsSome (pending_of entered p s q w) → HasRoom entered None ms spare
+room-ended true p s q w ms spare some = cc
+room-ended false p s q w ms spare some = tt
 
 -- ---- the stack
 
-abbrev pub stack_at : Bool → Option Place → List Place → List ℕ → List ℕ → Stack
-stack_at e p ms s q = record { inside = inside_of e p ms s q; pending = pending_of e p s q }
+abbrev pub stack_at : Bool → Option Place → List Place → List ℕ → List ℕ → List Wrapper → List Wrapper → Stack
+stack_at e p ms s q w a = record { inside = inside_of e p ms s q w; pending = pending_of e p s q w; around = a }
+
+-- a level is opened in the open wrappers
+pub stack-opened : (m : Place) (ms : List Place) (s q : List ℕ) (w around : List Wrapper) → m.at ≡ length s → m.start ≡ length s → m.first_seam ≡ length q → m.first_wrapper ≡ length w
+    → stack_at false (Some m) ms s q (w ++ around) [] ≡ record { inside = levels_of ms s q w; pending = Some (record { header = m.header; around = around; content = []; seams = [] }); around = [] }
+stack-opened m ms s q w around at start first outer =
+    let own : drop m.first_wrapper (w ++ around) ≡ around = ap (λ j. drop j (w ++ around)) outer ∙ drop-append_seam w around in
+    let others : take m.first_wrapper (w ++ around) ≡ w = ap (λ j. take j (w ++ around)) outer ∙ take-append_seam w around in
+    let none : drop m.first_seam q ≡ [] = drop_all m.first_seam q (omega (arith, first)) in
+    let all : take m.first_seam q ≡ q = take_all m.first_seam q (omega (arith, first)) in
+    let empty : drop m.start s ≡ [] = drop_all m.start s (omega (arith, start)) in
+    let whole : take m.at s ≡ s = take_all m.at s (omega (arith, at)) in
+    rw (own, others, none, all, empty, whole) refl
 
 -- another member of what is pending begins
-pub stack-begun : (entered : Bool) {p : Option Place} {m : Place} (ms : List Place) (s q r : List ℕ) → p ≡ Some m → AreMarks (with_pending p ms) (length s) q → r ≡ next_seams m.header q (length s - m.start)
-    → IfSome (pending_of entered p s q) (λ l. stack_at entered p ms s r ≡ record (stack_at entered p ms s q) { pending = Some (begun l) })
-stack-begun true {p} {m} ms s q r was k e = tt
-stack-begun false {p} {m} ms s q r was k e =
-    let before : AreMarks (m ∷ ms) (length s) q = subst (λ o. AreMarks (with_pending o ms) (length s) q) was k in
+pub stack-begun : (entered : Bool) {p : Option Place} {m : Place} (ms : List Place) (s q r : List ℕ) (w a : List Wrapper) → p ≡ Some m → AreMarks (with_pending p ms) (length s) q w → r ≡ next_seams m.header q (length s - m.start)
+    → IfSome (pending_of entered p s q w) (λ l. stack_at entered p ms s r w a ≡ record (stack_at entered p ms s q w a) { pending = Some (begun l) })
+stack-begun true {p} {m} ms s q r w a was k e = tt
+stack-begun false {p} {m} ms s q r w a was k e =
+    let before : AreMarks (m ∷ ms) (length s) q w = subst (λ o. AreMarks (with_pending o ms) (length s) q w) was k in
     let first = before.0.first in
     let n = length s - m.start in
     let own : drop m.first_seam (next_seams m.header q n) ≡ next_seams m.header (drop m.first_seam q) (length (drop m.start s)) =
     drop-next_seams m.header m.first_seam q n first ∙ ap (next_seams m.header (drop m.first_seam q)) (sym (length-drop m.start s)) in
     let others = take-next_seams m.header m.first_seam q n first in
-    rw (was, e) (ap₂ (λ x y. record { inside = levels_of ms (take m.at s) x; pending = Some (record { header = m.header; around = m.around; content = drop m.start s; seams = y }) }) others own)
+    rw (was, e) (ap₂ (λ x y. record { inside = levels_of ms (take m.at s) x (take m.first_wrapper w); pending = Some (record { header = m.header; around = drop m.first_wrapper w; content = drop m.start s; seams = y }); around = a }) others own)
 
 -- what is pending and has no seams is in order
-pub stack-uncut : (entered : Bool) {p : Option Place} {m : Place} (ms : List Place) (s q : List ℕ) → p ≡ Some m → length q ≤ m.first_seam
-    → IfSome (pending_of entered p s q) (λ l. stack_at entered p ms s q ≡ record (stack_at entered p ms s q) { pending = Some (in_order l) })
-stack-uncut true {p} {m} ms s q was h = tt
-stack-uncut false {p} {m} ms s q was h =
+pub stack-uncut : (entered : Bool) {p : Option Place} {m : Place} (ms : List Place) (s q : List ℕ) (w a : List Wrapper) → p ≡ Some m → length q ≤ m.first_seam
+    → IfSome (pending_of entered p s q w) (λ l. stack_at entered p ms s q w a ≡ record (stack_at entered p ms s q w a) { pending = Some (in_order l) })
+stack-uncut true {p} {m} ms s q w a was h = tt
+stack-uncut false {p} {m} ms s q w a was h =
     let none : drop m.first_seam q ≡ [] = drop_all m.first_seam q h in
-    let order : level_at m s q ≡ in_order (level_at m s q) = in_order-uncut (level_at m s q) none in
-    rw was (ap (λ l. record { inside = levels_of ms (take m.at s) (take m.first_seam q); pending = Some l }) order)
+    let order : level_at m s q w ≡ in_order (level_at m s q w) = in_order-uncut (level_at m s q w) none in
+    rw was (ap (λ l. record { inside = levels_of ms (take m.at s) (take m.first_seam q) (take m.first_wrapper w); pending = Some l; around = a }) order)
 
 -- what is pending holds its whole encoding
-pub stack-sealed : (entered : Bool) {p : Option Place} {m : Place} (n : Place) (ms : List Place) (s t q r : List ℕ) → p ≡ Some m → n.header ≡ Raw → n.around ≡ [] → n.at ≡ m.at → n.start ≡ m.at → n.first_seam ≡ m.first_seam
-    → AreMarks (with_pending p ms) (length s) q → t ≡ take m.at s ++ der (under m.around (tree_of m.header (drop m.start s))) → r ≡ take m.first_seam q
-    → IfSome (pending_of entered p s q) (λ l. stack_at entered (Some n) ms t r ≡ record (stack_at entered p ms s q) { pending = Some (sealed l) })
-stack-sealed true {p} {m} n ms s t q r was header around at start first marks e f = tt
-stack-sealed false {p} {m} n ms s t q r was header around at start first marks e f =
-    let before : AreMarks (m ∷ ms) (length s) q = subst (λ o. AreMarks (with_pending o ms) (length s) q) was marks in
+pub stack-sealed : (entered : Bool) {p : Option Place} {m : Place} (n : Place) (ms : List Place) (s t q r : List ℕ) (w a : List Wrapper) → p ≡ Some m → n.header ≡ Raw → n.at ≡ m.at → n.start ≡ m.at → n.first_seam ≡ m.first_seam
+    → n.first_wrapper ≡ m.first_wrapper → drop m.first_wrapper w ≡ [] → AreMarks (with_pending p ms) (length s) q w → t ≡ take m.at s ++ der (under (drop m.first_wrapper w) (tree_of m.header (drop m.start s))) → r ≡ take m.first_seam q
+    → IfSome (pending_of entered p s q w) (λ l. stack_at entered (Some n) ms t r w a ≡ record (stack_at entered p ms s q w a) { pending = Some (sealed l) })
+stack-sealed true {p} {m} n ms s t q r w a was header at start first outer bare marks e f = tt
+stack-sealed false {p} {m} n ms s t q r w a was header at start first outer bare marks e f =
+    let before : AreMarks (m ∷ ms) (length s) q w = subst (λ o. AreMarks (with_pending o ms) (length s) q w) was marks in
     let within = before.0.within in
     let room = before.0.room in
-    let whole = der (under m.around (tree_of m.header (drop m.start s))) in
+    let whole = der (under (drop m.first_wrapper w) (tree_of m.header (drop m.start s))) in
     let front = take m.at s in
     let size : length front ≡ m.at = length-take-le m.at s (omega (arith, within, room)) in
     let count : length (take m.first_seam q) ≡ m.first_seam = length-take-le m.first_seam q before.0.first in
     let all : drop n.start t ≡ whole = ap (λ k. drop k t) (start ∙ sym size) ∙ ap (drop (length front)) e ∙ drop-append_seam front whole in
     let none : drop n.first_seam r ≡ [] = ap (λ k. drop k r) first ∙ ap (drop m.first_seam) f ∙ drop_all m.first_seam (take m.first_seam q) (omega (arith, count)) in
+    let unwrapped : drop n.first_wrapper w ≡ [] = ap (λ k. drop k w) outer ∙ bare in
     let bytes : take n.at t ≡ front = ap (λ k. take k t) (at ∙ sym size) ∙ ap (take (length front)) e ∙ take-append_seam front whole in
     let seams : take n.first_seam r ≡ take m.first_seam q = ap (λ k. take k r) first ∙ ap (take m.first_seam) f ∙ take-take m.first_seam m.first_seam q (omega arith) in
-    let inside : levels_of ms (take n.at t) (take n.first_seam r) ≡ levels_of ms front (take m.first_seam q) = ap₂ (λ x y. levels_of ms x y) bytes seams in
+    let inside : levels_of ms (take n.at t) (take n.first_seam r) (take n.first_wrapper w) ≡ levels_of ms front (take m.first_seam q) (take m.first_wrapper w) = rw (bytes, seams, outer) refl in
     rw was (cc)
 
 -- where nothing is pending, what is added goes to the innermost level
-pub stack-grown : (entered : Bool) (p : Option Place) (ms : List Place) (s q bs : List ℕ) (l : Level) (ls : List Level) → AreMarks (with_pending p ms) (length s) q → pending_of entered p s q ≡ None
-    → inside_of entered p ms s q ≡ l ∷ ls → stack_at entered p ms (s ++ bs) q ≡ record { inside = with_bytes l bs ∷ ls; pending = None }
-stack-grown true p ms s q bs l ls h n e = let f = levels-grown (with_pending p ms) s q bs l ls h e in cc
-stack-grown false None ms s q bs l ls h n e = let f = levels-grown ms s q bs l ls h e in cc
-stack-grown false (Some m) ms s q bs l ls h n e = cc
+pub stack-grown : (entered : Bool) (p : Option Place) (ms : List Place) (s q bs : List ℕ) (w a : List Wrapper) (l : Level) (ls : List Level) → AreMarks (with_pending p ms) (length s) q w → pending_of entered p s q w ≡ None
+    → inside_of entered p ms s q w ≡ l ∷ ls → stack_at entered p ms (s ++ bs) q w a ≡ record { inside = with_bytes l bs ∷ ls; pending = None; around = a }
+stack-grown true p ms s q bs w a l ls h n e = let f = levels-grown (with_pending p ms) s q bs w l ls h e in cc
+stack-grown false None ms s q bs w a l ls h n e = let f = levels-grown ms s q bs w l ls h e in cc
+stack-grown false (Some m) ms s q bs w a l ls h n e = cc
 
 -- what is pending gets its headers
-pub stack-headed : (entered : Bool) {p : Option Place} {m : Place} (ms : List Place) (s t q : List ℕ) (n : ℕ) → p ≡ Some m → AreMarks (with_pending p ms) (length s) q → t ≡ s ++ headers m.around m.header n
-    → IfSome (pending_of entered p s q) (λ l. stack_at entered p ms t q ≡ record (stack_at entered p ms s q) { pending = Some (with_bytes l (headers l.around l.header n)) })
-stack-headed true {p} {m} ms s t q n was k e = tt
-stack-headed false {p} {m} ms s t q n was k e =
-    let before : AreMarks (m ∷ ms) (length s) q = subst (λ o. AreMarks (with_pending o ms) (length s) q) was k in
+pub stack-headed : (entered : Bool) {p : Option Place} {m : Place} (ms : List Place) (s t q : List ℕ) (w a : List Wrapper) (n : ℕ) → p ≡ Some m → AreMarks (with_pending p ms) (length s) q w → t ≡ s ++ headers (drop m.first_wrapper w) m.header n
+    → IfSome (pending_of entered p s q w) (λ l. stack_at entered p ms t q w a ≡ record (stack_at entered p ms s q w a) { pending = Some (with_bytes l (headers l.around l.header n)) })
+stack-headed true {p} {m} ms s t q w a n was k e = tt
+stack-headed false {p} {m} ms s t q w a n was k e =
+    let before : AreMarks (m ∷ ms) (length s) q w = subst (λ o. AreMarks (with_pending o ms) (length s) q w) was k in
     let within = before.0.within in
     let room = before.0.room in
-    let hs = headers m.around m.header n in
-    let a = drop-append-le m.start s hs (omega (arith, within)) in
-    let b = take-append-le m.at s hs (omega (arith, room, within)) in
-    rw (was, e, a, b) refl
+    let hs = headers (drop m.first_wrapper w) m.header n in
+    let own = drop-append-le m.start s hs (omega (arith, within)) in
+    let front = take-append-le m.at s hs (omega (arith, room, within)) in
+    rw (was, e, own, front) refl
 
 -- the room for its headers is made
-pub stack-roomed : (entered : Bool) {p : Option Place} {m : Place} (n : Place) (ms : List Place) (s t q hs : List ℕ) → p ≡ Some m → n.header ≡ m.header → n.around ≡ m.around → n.at ≡ m.at → n.start ≡ length t → n.first_seam ≡ m.first_seam
-    → AreMarks (with_pending p ms) (length s) q → length s ≡ m.at → t ≡ s ++ hs → stack_at entered (Some n) ms t q ≡ stack_at entered p ms s q
-stack-roomed entered {p} {m} n ms s t q hs was header around at start first k size e =
-    let before : AreMarks (m ∷ ms) (length s) q = subst (λ o. AreMarks (with_pending o ms) (length s) q) was k in
+pub stack-roomed : (entered : Bool) {p : Option Place} {m : Place} (n : Place) (ms : List Place) (s t q hs : List ℕ) (w a : List Wrapper) → p ≡ Some m → n.header ≡ m.header → n.at ≡ m.at → n.start ≡ length t → n.first_seam ≡ m.first_seam
+    → n.first_wrapper ≡ m.first_wrapper → AreMarks (with_pending p ms) (length s) q w → length s ≡ m.at → t ≡ s ++ hs → stack_at entered (Some n) ms t q w a ≡ stack_at entered p ms s q w a
+stack-roomed entered {p} {m} n ms s t q hs w a was header at start first outer k size e =
+    let before : AreMarks (m ∷ ms) (length s) q w = subst (λ o. AreMarks (with_pending o ms) (length s) q w) was k in
     let room = before.0.room in
     let none : drop n.start t ≡ [] = drop_all n.start t (omega (arith, start)) in
     let was_none : drop m.start s ≡ [] = drop_all m.start s (omega (arith, size, room)) in
     let bytes : take n.at t ≡ take m.at s = ap (λ k. take k t) at ∙ ap (take m.at) e ∙ take-append-le m.at s hs (omega (arith, size)) in
-    let level : level_at n t q ≡ level_at m s q = cc in
-    let others : levels_of ms (take n.at t) (take n.first_seam q) ≡ levels_of ms (take m.at s) (take m.first_seam q) = ap₂ (λ x y. levels_of ms x y) bytes (ap (λ k. take k q) first) in
-    let all : levels_of (n ∷ ms) t q ≡ levels_of (m ∷ ms) s q = ap₂ (λ x y. x ∷ y) level others in
+    let level : level_at n t q w ≡ level_at m s q w = rw (none, was_none, header, first, outer) refl in
+    let others : levels_of ms (take n.at t) (take n.first_seam q) (take n.first_wrapper w) ≡ levels_of ms (take m.at s) (take m.first_seam q) (take m.first_wrapper w) = rw (bytes, first, outer) refl in
+    let all : levels_of (n ∷ ms) t q w ≡ levels_of (m ∷ ms) s q w = ap₂ (λ x y. x ∷ y) level others in
     rw was (by_entered entered all level others)
   where
-    by_entered : (k : Bool) → levels_of (n ∷ ms) t q ≡ levels_of (m ∷ ms) s q → level_at n t q ≡ level_at m s q → levels_of ms (take n.at t) (take n.first_seam q) ≡ levels_of ms (take m.at s) (take m.first_seam q)
-        → stack_at k (Some n) ms t q ≡ stack_at k (Some m) ms s q
-    by_entered true x y z = ap (λ ls. record { inside = ls; pending = None }) x
-    by_entered false x y z = ap₂ (λ l ls. record { inside = ls; pending = Some l }) y z
+    by_entered : (k : Bool) → levels_of (n ∷ ms) t q w ≡ levels_of (m ∷ ms) s q w → level_at n t q w ≡ level_at m s q w
+        → levels_of ms (take n.at t) (take n.first_seam q) (take n.first_wrapper w) ≡ levels_of ms (take m.at s) (take m.first_seam q) (take m.first_wrapper w) → stack_at k (Some n) ms t q w a ≡ stack_at k (Some m) ms s q w a
+    by_entered true x y z = ap (λ ls. record { inside = ls; pending = None; around = a }) x
+    by_entered false x y z = ap₂ (λ l ls. record { inside = ls; pending = Some l; around = a }) y z
 
 -- the bytes from the last mark on are replaced, and go to the level around it
-stack-merged : (m : Place) (ms : List Place) (s q bs : List ℕ) (l : Level) (ls : List Level) → AreMarks (m ∷ ms) (length s) q → levels_of ms (take m.at s) (take m.first_seam q) ≡ l ∷ ls
-    → stack_at false None ms (take m.at s ++ bs) (take m.first_seam q) ≡ record { inside = with_bytes l bs ∷ ls; pending = None }
-stack-merged m ms s q bs l ls h e =
+stack-merged : (m : Place) (ms : List Place) (s q bs : List ℕ) (w a : List Wrapper) (l : Level) (ls : List Level) → AreMarks (m ∷ ms) (length s) q w → levels_of ms (take m.at s) (take m.first_seam q) (take m.first_wrapper w) ≡ l ∷ ls
+    → stack_at false None ms (take m.at s ++ bs) (take m.first_seam q) (take m.first_wrapper w) a ≡ record { inside = with_bytes l bs ∷ ls; pending = None; around = a }
+stack-merged m ms s q bs w a l ls h e =
     let within = h.0.within in
     let room = h.0.room in
+    let outer = take m.first_wrapper w in
     let size : length (take m.at s) ≡ m.at = length-take-le m.at s (omega (arith, within, room)) in
-    let f = levels-grown ms (take m.at s) (take m.first_seam q) bs l ls (subst (λ k. AreMarks ms k (take m.first_seam q)) (sym size) h.1) e in
+    let f = levels-grown ms (take m.at s) (take m.first_seam q) bs outer l ls (subst (λ k. AreMarks ms k (take m.first_seam q) outer) (sym size) h.1) e in
     cc
 
-module _ {p q : Option Place} {m : Place} (ms : List Place) (seams : List ℕ) (was : p ≡ Some m) (now : q ≡ None) where
-  pub marks-taken : (n k : ℕ) → m.at ≤ k → AreMarks (with_pending p ms) n seams → AreMarks (with_pending q ms) k (take m.first_seam seams)
+module _ {p q : Option Place} {m : Place} (ms : List Place) (seams : List ℕ) (w : List Wrapper) (was : p ≡ Some m) (now : q ≡ None) where
+  pub marks-taken : (n k : ℕ) → m.at ≤ k → AreMarks (with_pending p ms) n seams w → AreMarks (with_pending q ms) k (take m.first_seam seams) (take m.first_wrapper w)
   marks-taken n k h marks =
-      let before : AreMarks (m ∷ ms) n seams = subst (λ o. AreMarks (with_pending o ms) n seams) was marks in
-      rw now (marks-more ms (take m.first_seam seams) h before.1)
+      let before : AreMarks (m ∷ ms) n seams w = subst (λ o. AreMarks (with_pending o ms) n seams w) was marks in
+      rw now (marks-more ms (take m.first_seam seams) (take m.first_wrapper w) h before.1)
 
   -- what was pending is enclosed, and goes to the level around it
-  pub stack-enclosed : (entered : Bool) (s t : List ℕ) (o l : Level) (ls : List Level) → AreMarks (with_pending p ms) (length s) seams → pending_of entered p s seams ≡ Some o → inside_of entered p ms s seams ≡ l ∷ ls
-      → t ≡ take m.at s ++ der (under m.around (tree_of m.header (drop m.start s)))
-      → stack_at entered q ms t (take m.first_seam seams) ≡ record { inside = with_bytes l (der (under o.around (tree_of o.header o.content))) ∷ ls; pending = None }
-  stack-enclosed true s t o l ls marks e f g = cc
-  stack-enclosed false s t o l ls marks e f g =
-      let before : AreMarks (m ∷ ms) (length s) seams = subst (λ x. AreMarks (with_pending x ms) (length s) seams) was marks in
-      let level : level_at m s seams ≡ o = let a : Some (level_at m s seams) ≡ Some o = ap (λ x. level_of x s seams) (sym was) ∙ e in cc in
-      let inside : levels_of ms (take m.at s) (take m.first_seam seams) ≡ l ∷ ls = ap (λ x. levels_of ms (below x s) (seams_below x seams)) (sym was) ∙ f in
+  pub stack-enclosed : (entered : Bool) (s t : List ℕ) (a : List Wrapper) (o l : Level) (ls : List Level) → AreMarks (with_pending p ms) (length s) seams w → pending_of entered p s seams w ≡ Some o → inside_of entered p ms s seams w ≡ l ∷ ls
+      → t ≡ take m.at s ++ der (under (drop m.first_wrapper w) (tree_of m.header (drop m.start s)))
+      → stack_at entered q ms t (take m.first_seam seams) (take m.first_wrapper w) a ≡ record { inside = with_bytes l (der (under o.around (tree_of o.header o.content))) ∷ ls; pending = None; around = a }
+  stack-enclosed true s t a o l ls marks e f g = cc
+  stack-enclosed false s t a o l ls marks e f g =
+      let before : AreMarks (m ∷ ms) (length s) seams w = subst (λ x. AreMarks (with_pending x ms) (length s) seams w) was marks in
+      let level : level_at m s seams w ≡ o = let some : Some (level_at m s seams w) ≡ Some o = ap (λ x. level_of x s seams w) (sym was) ∙ e in cc in
+      let inside : levels_of ms (take m.at s) (take m.first_seam seams) (take m.first_wrapper w) ≡ l ∷ ls = ap (λ x. levels_of ms (below x s) (seams_below x seams) (wrappers_below x w)) (sym was) ∙ f in
       rw now (
-      ap (λ x. stack_at false None ms x (take m.first_seam seams)) g ∙ stack-merged m ms s seams _ l ls before inside
-      ∙ ap (λ (x : Level). record { inside = with_bytes l (der (under x.around (tree_of x.header x.content))) ∷ ls; pending = None }) level
+      ap (λ x. stack_at false None ms x (take m.first_seam seams) (take m.first_wrapper w) a) g ∙ stack-merged m ms s seams _ w a l ls before inside
+      ∙ ap (λ (x : Level). record { inside = with_bytes l (der (under x.around (tree_of x.header x.content))) ∷ ls; pending = None; around = a }) level
       )
 
   -- the same of one that has no seams
-  pub stack-enclosed_uncut : (entered : Bool) (s t : List ℕ) (o l : Level) (ls : List Level) → AreMarks (with_pending p ms) (length s) seams → length seams ≤ m.first_seam → pending_of entered p s seams ≡ Some o
-      → inside_of entered p ms s seams ≡ l ∷ ls → t ≡ take m.at s ++ der (under m.around (tree_of m.header (drop m.start s)))
-      → stack_at entered q ms t seams ≡ record { inside = with_bytes l (der (under o.around (tree_of o.header (settled o)))) ∷ ls; pending = None }
-  stack-enclosed_uncut true s t o l ls marks none e f g = cc
-  stack-enclosed_uncut false s t o l ls marks none e f g =
-      let level : level_at m s seams ≡ o = let a : Some (level_at m s seams) ≡ Some o = ap (λ x. level_of x s seams) (sym was) ∙ e in cc in
+  pub stack-enclosed_uncut : (entered : Bool) (s t : List ℕ) (a : List Wrapper) (o l : Level) (ls : List Level) → AreMarks (with_pending p ms) (length s) seams w → length seams ≤ m.first_seam → pending_of entered p s seams w ≡ Some o
+      → inside_of entered p ms s seams w ≡ l ∷ ls → t ≡ take m.at s ++ der (under (drop m.first_wrapper w) (tree_of m.header (drop m.start s)))
+      → stack_at entered q ms t seams (take m.first_wrapper w) a ≡ record { inside = with_bytes l (der (under o.around (tree_of o.header (settled o)))) ∷ ls; pending = None; around = a }
+  stack-enclosed_uncut true s t a o l ls marks none e f g = cc
+  stack-enclosed_uncut false s t a o l ls marks none e f g =
+      let level : level_at m s seams w ≡ o = let some : Some (level_at m s seams w) ≡ Some o = ap (λ x. level_of x s seams w) (sym was) ∙ e in cc in
       let uncut : o.seams ≡ [] = ap (λ (x : Level). x.seams) (sym level) ∙ drop_all m.first_seam seams none in
       let all : seams ≡ take m.first_seam seams = sym (take_all m.first_seam seams none) in
-      ap (stack_at false q ms t) all ∙ stack-enclosed false s t o l ls marks e f g
-      ∙ ap (λ c. record { inside = with_bytes l (der (under o.around (tree_of o.header c))) ∷ ls; pending = None }) (sym (settled-uncut o uncut))
+      ap (λ r. stack_at false q ms t r (take m.first_wrapper w) a) all ∙ stack-enclosed false s t a o l ls marks e f g
+      ∙ ap (λ c. record { inside = with_bytes l (der (under o.around (tree_of o.header c))) ∷ ls; pending = None; around = a }) (sym (settled-uncut o uncut))
 
 -- how long it is then
-pub count-uncut : (entered : Bool) {p : Option Place} {m : Place} (s q : List ℕ) (n : ℕ) → p ≡ Some m → length q ≤ m.first_seam → n ≡ length (der (under m.around (tree_of m.header (drop m.start s))))
-    → IfSome (pending_of entered p s q) (λ l. n ≡ length (der (under l.around (tree_of l.header (settled l)))))
-count-uncut true s q n was none count = tt
-count-uncut false {p} {m} s q n was none count =
-    let own : settled (level_at m s q) ≡ drop m.start s = settled-uncut (level_at m s q) (drop_all m.first_seam q none) in
-    rw was (count ∙ ap (λ c. length (der (under m.around (tree_of m.header c)))) (sym own))
+pub count-uncut : (entered : Bool) {p : Option Place} {m : Place} (s q : List ℕ) (w : List Wrapper) (n : ℕ) → p ≡ Some m → length q ≤ m.first_seam → n ≡ length (der (under (drop m.first_wrapper w) (tree_of m.header (drop m.start s))))
+    → IfSome (pending_of entered p s q w) (λ l. n ≡ length (der (under l.around (tree_of l.header (settled l)))))
+count-uncut true s q w n was none count = tt
+count-uncut false {p} {m} s q w n was none count =
+    let own : settled (level_at m s q w) ≡ drop m.start s = settled-uncut (level_at m s q w) (drop_all m.first_seam q none) in
+    rw was (count ∙ ap (λ c. length (der (under (drop m.first_wrapper w) (tree_of m.header c)))) (sym own))

@@ -1,6 +1,7 @@
 pub mod Heading
 pub mod Headers
 pub mod Parts
+pub mod Wrappers
 pub mod Places
 pub mod Marks
 pub mod Overwrite

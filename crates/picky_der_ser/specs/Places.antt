@@ -1,30 +1,27 @@
 -- What marks tell, and how the marks around a level are kept.
 use Rattle.std.specs.Prelude.{ℕ, ⊤, Bool, true, false, List, [], ◌∷◌, ◌++◌, map, reverse, Option, None, Some, refl}
 use Rattle.std.specs.Coded.{Coded, code_by, coded×, coded_list, coded_ℕ}
-use Rattle.picky_der_core.specs.declared.asn1.wrapper.Wrapper.{Wrapper}
-use Rattle.picky_der_core.specs.contracts.asn1.wrapper.Wrapper as wrapper
 use Rattle.picky_der_ser.specs.declared.header.Header.{Header}
 use Rattle.picky_der_ser.specs.declared.header.Header.TheVariants.{Raw}
 use Rattle.picky_der_ser.specs.contracts.header.Header as header
 use Rattle.picky_der_ser.specs.declared.marks.Mark.{Mark}
 
--- what a mark tells of its level: its header, the wrappers around it, and where it begins
+-- what a mark tells of its level: its header, and where it begins
 pub record Place : Type 0 where
   pub header : Header
-  -- outermost first
-  pub around : List Wrapper
   -- where the room for the headers begins, and the content behind it
   pub at : ℕ
   pub start : ℕ
-  -- how many seams the levels around it have
+  -- how many seams the levels around it have, and how many wrappers stand around those
   pub first_seam : ℕ
+  pub first_wrapper : ℕ
 
 abbrev pub place_code : Coded Place
 place_code =
-    code_by (Header × (List Wrapper × (ℕ × (ℕ × ℕ))))
-    (coded× header.the_row.coded (coded× (coded_list wrapper.the_row.coded) (coded× coded_ℕ (coded× coded_ℕ coded_ℕ))))
-    (λ p. (p.header, (p.around, (p.at, (p.start, p.first_seam)))))
-    (λ p. record { header = p.0; around = p.1.0; at = p.1.1.0; start = p.1.1.1.0; first_seam = p.1.1.1.1 })
+    code_by (Header × (ℕ × (ℕ × (ℕ × ℕ))))
+    (coded× header.the_row.coded (coded× coded_ℕ (coded× coded_ℕ (coded× coded_ℕ coded_ℕ))))
+    (λ p. (p.header, (p.at, (p.start, (p.first_seam, p.first_wrapper)))))
+    (λ p. record { header = p.0; at = p.1.0; start = p.1.1.0; first_seam = p.1.1.1.0; first_wrapper = p.1.1.1.1 })
     (λ _. refl)
 
 -- the marks around a level: what they tell, innermost first, and for how many more there is room
@@ -37,10 +34,10 @@ marks_around_code = code_by (List Place × ℕ) (coded× (coded_list place_code)
 
 -- the root's place: nothing stands in front of what it holds
 abbrev pub root_place : Place
-root_place = record { header = Raw; around = []; at = 0; start = 0; first_seam = 0 }
+root_place = record { header = Raw; at = 0; start = 0; first_seam = 0; first_wrapper = 0 }
 
 abbrev pub mark_place : Mark → Place
-mark_place m = record { header = m.header; around = m.around.items; at = m.at; start = m.start; first_seam = m.first_seam }
+mark_place m = record { header = m.header; at = m.at; start = m.start; first_seam = m.first_seam; first_wrapper = m.first_wrapper }
 
 abbrev pub placed : Option Mark → Option Place
 placed None = None

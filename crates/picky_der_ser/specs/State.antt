@@ -60,13 +60,19 @@ abbrev pub in_order : Level → Level
 in_order l = record l { content = settled l; seams = [] }
 
 -- the levels of a serializer: those of which a member is being written, innermost first, and the one that was opened last, until
--- it ends or another call is made
+-- it ends or another call is made; and the open wrappers, outermost first
 pub record Stack : Type 0 where
   pub inside : List Level
   pub pending : Option Level
+  pub around : List Wrapper
 
 abbrev pub stack_code : Coded Stack
-stack_code = code_by (List Level × Option Level) (coded× (coded_list level_code) (coded_option level_code)) (λ s. (s.inside, s.pending)) (λ p. record { inside = p.0; pending = p.1 }) (λ _. refl)
+stack_code =
+    code_by (List Level × (Option Level × List Wrapper))
+    (coded× (coded_list level_code) (coded× (coded_option level_code) (coded_list wrapper.the_row.coded)))
+    (λ s. (s.inside, (s.pending, s.around)))
+    (λ p. record { inside = p.0; pending = p.1.0; around = p.1.1 })
+    (λ _. refl)
 
 pub record State (W : Type 0) : Type 0 where
   pub sink : W

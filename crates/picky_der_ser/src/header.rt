@@ -160,6 +160,7 @@ pub(crate) fn short_identifier(around: &[Wrapper], header: &Header, len: usize) 
     ensures header { IfSome result (λ identifier.
         headers around.now header.now len ≡ identifier ∷ len ∷ []) }
     ensures short { IsSome result → len < 0x80 }
+    ensures bare { IsSome result → around.now ≡ [] }
 {
     if !around.is_empty() || len >= 0x80 {
         return None;

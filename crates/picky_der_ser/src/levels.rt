@@ -1,9 +1,9 @@
 //! The levels of a serializer, in one vector.
-ghost use Rattle.std.specs.Prelude.{◌≡◌, ◌≢◌, ◌<◌, ◌≤◌, ◌^◌, ◌+◌, List, [], ◌∷◌, true, false, length};
+ghost use Rattle.std.specs.Prelude.{◌≡◌, ◌≢◌, ◌<◌, ◌≤◌, ◌^◌, ◌+◌, List, [], ◌∷◌, ◌++◌, true, false, length};
 ghost use Rattle.std.specs.Prelude.{drop, vec_len, None, Some, IfSome, IfNone, IsSome, IfOk, OnOk};
 ghost use Rattle.picky_der_core.specs.Encoding.{der};
 ghost use Rattle.picky_der_core.specs.Tree.{Tree};
-ghost use Rattle.picky_der_core.specs.Wrapper.{under};
+ghost use Rattle.picky_der_core.specs.Wrapper.{under, HasTagNumber};
 ghost use Rattle.picky_der_ser.specs.Heading.{tree_of};
 ghost use Rattle.picky_der_ser.specs.Headers.{headers, HasNumber, HaveTagNumbers};
 ghost use Rattle.picky_der_ser.specs.State.{Level, root, with_bytes, begun, in_order, settled};
@@ -14,6 +14,7 @@ use crate::enclose::{enclose, fill_short, push_enclosed, push_short, push_short_
 use crate::header::{push_headers, short_identifier};
 use crate::marks::{Mark, Marks};
 use crate::sets::{arrange, begin_member};
+use crate::wrappers::Wrappers;
 use picky_der_core::asn1::{Tag, Wrapper};
 use std::alloc::{AllocError, Global};
 use std::marker::Model;
@@ -22,15 +23,16 @@ use std::marker::Model;
 // to be written, so that the vector grows for none of them.
 const FIRST_ROOM: usize = 376;
 
-// The contents of the levels stand one behind the other, the innermost last, and so do their seams: of a set, how many bytes
-// of its content stand in front of each member but the first. A vector in each mark would be copied and dropped with those of
-// sequences too, which have no seams.
+// The contents of the levels stand one behind the other, the innermost last, and so do the wrappers around them, and their seams: of a
+// set, how many bytes of its content stand in front of each member but the first. Vectors in each mark would be copied and dropped with
+// those of most levels too, which have no seams and stand in no wrapper.
 //
 // Where a member of the innermost level is being written or not is told by a flag alone, so that nothing moves at a member.
 #[derive(Drop)]
 pub(crate) struct Levels {
     scratch: Vec<u8>,
     seams: Vec<usize>,
+    wrappers: Wrappers,
     // The levels around the innermost one.
     marks: Marks,
     innermost: Option<Mark>,
@@ -49,12 +51,13 @@ impl Model for Levels {
     ghost coded = { stack_code };
 
     ghost view = { λ s. record {
-      inside = inside_of s.entered (placed s.innermost) s.marks.places s.scratch.items s.seams.items;
-      pending = pending_of s.entered (placed s.innermost) s.scratch.items s.seams.items;
+      inside = inside_of s.entered (placed s.innermost) s.marks.places s.scratch.items s.seams.items s.wrappers.of_levels;
+      pending = pending_of s.entered (placed s.innermost) s.scratch.items s.seams.items s.wrappers.of_levels;
+      around = s.wrappers.around;
     } };
 
     ghost invariant = { λ s. AreMarks (with_pending (placed s.innermost) s.marks.places)
-        (length s.scratch.items) s.seams.items × HasRoom s.entered (placed s.innermost) s.marks.places s.marks.spare };
+        (length s.scratch.items) s.seams.items s.wrappers.of_levels × HasRoom s.entered (placed s.innermost) s.marks.places s.marks.spare };
 }
 
 // Drops the bytes in front of this place.
@@ -69,11 +72,12 @@ fn drop_front(out: &mut Vec<u8>, start: usize)
 
 impl Levels {
     pub(crate) fn new(alloc: Global) -> Levels
-        ensures { result ≡ record { inside = []; pending = None } }
+        ensures { result ≡ record { inside = []; pending = None; around = [] } }
     {
         Levels {
             scratch: Vec::new(alloc),
             seams: Vec::new(alloc),
+            wrappers: Wrappers::new(alloc),
             marks: Marks::new(alloc),
             innermost: None,
             entered: false,
@@ -83,11 +87,12 @@ impl Levels {
     // Levels inside of one that stands around all. In line, so that they are made where they will stand.
     #[inline(always)]
     pub(crate) fn new_in_root(alloc: Global) -> Levels
-        ensures { result ≡ record { inside = root ∷ []; pending = None } }
+        ensures { result ≡ record { inside = root ∷ []; pending = None; around = [] } }
     {
         Levels {
             scratch: Vec::new(alloc),
             seams: Vec::new(alloc),
+            wrappers: Wrappers::new(alloc),
             marks: Marks::new_in_root(alloc),
             innermost: None,
             entered: true,
@@ -105,6 +110,7 @@ impl Levels {
         let Levels {
             scratch,
             seams: _,
+            wrappers: _,
             marks: _,
             innermost: _,
             entered: _,
@@ -122,6 +128,7 @@ impl Levels {
         let Levels {
             mut scratch,
             seams: _,
+            wrappers: _,
             marks: _,
             innermost,
             entered: _,
@@ -158,16 +165,18 @@ impl Levels {
         if let Some(mark) = &self.innermost {
             self.scratch.truncate(mark.at);
             self.seams.truncate(mark.first_seam);
+            self.wrappers.drop_from(mark.first_wrapper);
             self.innermost = None;
         }
     }
 
-    // Opens a level, in place of one that was opened and hasn't ended.
-    pub(crate) fn open(&mut self, header: Header, around: Vec<Wrapper>)
-        requires numbers { HaveTagNumbers around.items × HasNumber header }
+    // Opens a level in the open wrappers, in place of one that was opened and hasn't ended.
+    pub(crate) fn open(&mut self, header: Header)
+        requires { HasNumber header }
         ensures { self.new ≡ record self.old {
           pending = Some
-              (record { header = header; around = around.items; content = []; seams = [] });
+              (record { header = header; around = self.old.around; content = []; seams = [] });
+          around = [];
         } }
     {
         self.give_up();
@@ -180,10 +189,10 @@ impl Levels {
         let at = self.scratch.len();
         self.innermost = Some(Mark {
             header,
-            around,
             at,
             start: at,
             first_seam: self.seams.len(),
+            first_wrapper: self.wrappers.take(),
         });
         self.make_short_room();
     }
@@ -197,7 +206,8 @@ impl Levels {
         if let Some(mark) = &mut self.innermost {
             let at = self.scratch.len();
             if at == mark.at && self.scratch.capacity() - at >= 2 {
-                if let Some(identifier) = short_identifier(&mark.around, &mark.header, 0) {
+                let around = self.wrappers.around_from(mark.first_wrapper);
+                if let Some(identifier) = short_identifier(around, &mark.header, 0) {
                     push_short_header(&mut self.scratch, identifier, 0);
                     mark.start = at + 2;
                 }
@@ -211,7 +221,8 @@ impl Levels {
     {
         if let Some(mark) = &mut self.innermost {
             if self.scratch.len() == mark.at {
-                push_headers(&mut self.scratch, &mark.around, mark.header, 0)?;
+                let around = self.wrappers.around_from(mark.first_wrapper);
+                push_headers(&mut self.scratch, around, mark.header, 0)?;
                 mark.start = self.scratch.len();
             }
         }
@@ -236,7 +247,7 @@ impl Levels {
     #[inline(never)]
     pub(crate) fn enter(&mut self) -> Result<(), AllocError>
         ensures { OnOk result (IfSome self.old.pending
-            (λ l. self.new ≡ record { inside = begun l ∷ self.old.inside; pending = None })) }
+            (λ l. self.new ≡ record self.old { inside = begun l ∷ self.old.inside; pending = None })) }
     {
         if self.scratch.is_empty() {
             self.scratch.reserve(FIRST_ROOM)?;
@@ -253,7 +264,7 @@ impl Levels {
     #[inline(never)]
     fn enter_slowly(&mut self) -> Result<(), AllocError>
         ensures { OnOk result (IfSome self.old.pending
-            (λ l. self.new ≡ record { inside = begun l ∷ self.old.inside; pending = None })) }
+            (λ l. self.new ≡ record self.old { inside = begun l ∷ self.old.inside; pending = None })) }
     {
         self.make_room()?;
         self.begin_member()?;
@@ -265,7 +276,7 @@ impl Levels {
     // The same behind a member of a level that is no set, where there is nothing to make ready. Else nothing is done.
     pub(crate) fn enter_again(&mut self) -> bool
         ensures yes { result ≡ true → IfSome self.old.pending
-            (λ l. self.new ≡ record { inside = begun l ∷ self.old.inside; pending = None }) }
+            (λ l. self.new ≡ record self.old { inside = begun l ∷ self.old.inside; pending = None }) }
         ensures no { result ≡ false → self.new ≡ self.old }
     {
         let Some(mark) = &self.innermost else {
@@ -282,7 +293,7 @@ impl Levels {
     // The member has been written.
     pub(crate) fn leave(&mut self)
         ensures { (l : Level) (ls : List Level) → self.old.inside ≡ l ∷ ls
-            → self.new ≡ record { inside = ls; pending = Some l } }
+            → self.new ≡ record self.old { inside = ls; pending = Some l } }
     {
         self.give_up();
         if self.innermost.is_none() {
@@ -299,10 +310,11 @@ impl Levels {
         ensures count { result ≡ true → length
             (der (Tree.bytes tag content.now)) ≡ 2 + length content.now }
         ensures yes { result ≡ true → (l : Level) (ls : List Level) → self.old.inside ≡ l ∷ ls
-            → self.new ≡ record {
+            → self.new ≡ record self.old {
               inside = with_bytes l (der (Tree.bytes tag content.now)) ∷ ls;
               pending = None;
             } }
+        ensures around { self.new.around ≡ self.old.around }
         ensures no { result ≡ false → self.new ≡ self.old }
     {
         let len = content.len();
@@ -314,28 +326,51 @@ impl Levels {
         true
     }
 
-    // Adds the encoding of a content under this header in these wrappers to the level of which a member is being written,
+    // Adds the encoding of a content under this header in the open wrappers to the level of which a member is being written,
     // and answers how long it is.
-    pub(crate) fn append(
-        &mut self,
-        around: &[Wrapper],
-        header: Header,
-        content: &[u8],
-    ) -> Result<usize, AllocError>
-        requires numbers { HaveTagNumbers around.now × HasNumber header }
+    pub(crate) fn append(&mut self, header: Header, content: &[u8]) -> Result<usize, AllocError>
+        requires { HasNumber header }
+        ensures numbers { HaveTagNumbers self.old.around }
         ensures count { IfOk result (λ n. n ≡ length
-            (der (under around.now (tree_of header content.now)))) }
+            (der (under self.old.around (tree_of header content.now)))) }
         ensures ok { OnOk result ((l : Level) (ls : List Level) → self.old.inside ≡ l ∷ ls
-            → self.new ≡ record {
-              inside = with_bytes l (der (under around.now (tree_of header content.now)))
+            → self.new ≡ record self.old {
+              inside = with_bytes l (der (under self.old.around (tree_of header content.now)))
                   ∷ ls;
               pending = None;
             }) }
     {
         self.give_up();
         let start = self.scratch.len();
-        push_enclosed(&mut self.scratch, around, header, content)?;
+        push_enclosed(&mut self.scratch, self.wrappers.open(), header, content)?;
         Ok(self.scratch.len() - start)
+    }
+
+    // Whether no wrapper is open.
+    pub(crate) fn is_bare(&self) -> bool
+        ensures yes { result ≡ true → self.now.around ≡ [] }
+        ensures no { result ≡ false → self.now.around ≢ [] }
+    {
+        self.wrappers.is_bare()
+    }
+
+    // Opens a wrapper inside the open ones.
+    pub(crate) fn wrap(&mut self, wrapper: Wrapper) -> Result<(), AllocError>
+        requires { HasTagNumber wrapper }
+        ensures { OnOk result (self.new ≡ record self.old {
+          around = self.old.around ++
+              (wrapper ∷ []);
+        }) }
+    {
+        self.wrappers.push(wrapper)
+    }
+
+    // Closes the open wrappers.
+    pub(crate) fn close_wrappers(&mut self)
+        ensures closed { self.new ≡ record self.old { around = [] } }
+        ensures numbers { HaveTagNumbers self.old.around }
+    {
+        self.wrappers.clear();
     }
 
     // Puts the members of the level that was opened last in ascending order, if it is a set.
@@ -362,18 +397,23 @@ impl Levels {
             (λ p. HaveTagNumbers p.around × HasNumber p.header) }
         ensures count { IfOk result (λ n. IfSome self.old.pending
             (λ p. n ≡ length (der (under p.around (tree_of p.header p.content))))) }
+        ensures bare { OnOk result (self.new.around ≡ []) }
         ensures ok { OnOk result ((p l : Level) (ls : List Level)
             → self.old.pending ≡ Some p → self.old.inside ≡ l ∷ ls → self.new ≡ record {
               inside = with_bytes l (der (under p.around (tree_of p.header p.content))) ∷ ls;
               pending = None;
+              around = [];
             }) }
     {
         let Some(mark) = &self.innermost else {
             return Ok(0);
         };
         let at = mark.at;
+        let first_wrapper = mark.first_wrapper;
         self.seams.truncate(mark.first_seam);
-        let outcome = enclose(&mut self.scratch, at, mark.start, &mark.around, mark.header);
+        let around = self.wrappers.around_from(first_wrapper);
+        let outcome = enclose(&mut self.scratch, at, mark.start, around, mark.header);
+        self.wrappers.truncate(first_wrapper);
         self.innermost = None;
         outcome?;
         Ok(self.scratch.len() - at)
@@ -389,10 +429,12 @@ impl Levels {
         ensures inside { IsSome result → self.old.inside ≢ [] }
         ensures count { IfSome result (λ n. IfSome self.old.pending
             (λ p. n ≡ length (der (under p.around (tree_of p.header (settled p)))))) }
+        ensures bare { IsSome result → self.new.around ≡ [] }
         ensures some { IsSome result → (p l : Level) (ls : List Level)
             → self.old.pending ≡ Some p → self.old.inside ≡ l ∷ ls → self.new ≡ record {
               inside = with_bytes l (der (under p.around (tree_of p.header (settled p)))) ∷ ls;
               pending = None;
+              around = [];
             } }
         ensures none { IfNone result (self.new ≡ self.old) }
     {
@@ -403,7 +445,8 @@ impl Levels {
             return None;
         };
         let len = self.scratch.len() - mark.start;
-        let Some(identifier) = short_identifier(&mark.around, &mark.header, len) else {
+        let around = self.wrappers.around_from(mark.first_wrapper);
+        let Some(identifier) = short_identifier(around, &mark.header, len) else {
             return None;
         };
         let has_seams = mark.first_seam < self.seams.len();
@@ -411,6 +454,7 @@ impl Levels {
             return None;
         }
         fill_short(&mut self.scratch, mark.at, identifier, len as u8);
+        self.wrappers.truncate(mark.first_wrapper);
         self.innermost = None;
         Some(2 + len)
     }
@@ -420,6 +464,7 @@ impl Levels {
         requires fits { len < 2 ^ 63 }
         ensures numbers { IfSome self.old.pending
             (λ p. HaveTagNumbers p.around × HasNumber p.header) }
+        ensures around { self.new.around ≡ self.old.around }
         ensures ok { OnOk result (IfSome self.old.pending
             (λ p. self.new ≡ record self.old {
               pending = Some
@@ -427,7 +472,8 @@ impl Levels {
             })) }
     {
         if let Some(mark) = &self.innermost {
-            push_headers(&mut self.scratch, &mark.around, mark.header, len)?;
+            let around = self.wrappers.around_from(mark.first_wrapper);
+            push_headers(&mut self.scratch, around, mark.header, len)?;
         }
         Ok(())
     }
@@ -443,11 +489,11 @@ impl Levels {
     {
         if let Some(mark) = &mut self.innermost {
             let len = self.scratch.len() - mark.start;
-            if let Some(identifier) = short_identifier(&mark.around, &mark.header, len) {
+            let around = self.wrappers.around_from(mark.first_wrapper);
+            if let Some(identifier) = short_identifier(around, &mark.header, len) {
                 if mark.start - mark.at == 2 {
                     fill_short(&mut self.scratch, mark.at, identifier, len as u8);
                     self.seams.truncate(mark.first_seam);
-                    mark.around.clear();
                     mark.header = Header::Raw;
                     mark.start = mark.at;
                     return true;

@@ -22,6 +22,7 @@ mod several;
 mod sink;
 mod utf8_string;
 mod wide;
+mod wrappers;
 
 pub use boolean::Boolean;
 pub use default::{DefaultOf, Defaulted, DefaultedRef, False, Number, True};

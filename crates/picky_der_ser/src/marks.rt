@@ -4,20 +4,28 @@ ghost use Rattle.picky_der_ser.specs.Places.{mark_place, placed, root_place};
 ghost use Rattle.picky_der_ser.specs.Marks.{with_pending};
 
 use crate::Header;
-use picky_der_core::asn1::Wrapper;
 use std::alloc::{AllocError, Global};
 use std::marker::Model;
 
-// Where a level begins: the room for its headers, and behind it its content; and how many seams those around it have.
-#[derive(Drop)]
+// Where a level begins: the room for its headers, and behind it its content; and how many seams those around it have, and how many
+// wrappers stand around those.
+#[derive(Clone, Copy)]
 pub(crate) struct Mark {
-    pub(crate) around: Vec<Wrapper>,
     pub(crate) at: usize,
     pub(crate) start: usize,
     pub(crate) first_seam: usize,
-    // Last, since each move of a mark would copy the gap behind it.
+    pub(crate) first_wrapper: usize,
     pub(crate) header: Header,
 }
+
+// That of a root, in front of whose content nothing stands.
+const ROOT: Mark = Mark {
+    at: 0,
+    start: 0,
+    first_seam: 0,
+    first_wrapper: 0,
+    header: Header::Raw,
+};
 
 // The first two marks stand here, so that what is nested no deeper takes no memory for them, and so does the root's, as a flag.
 #[derive(Drop)]
@@ -43,19 +51,6 @@ impl Model for Marks {
     } };
 
     ghost invariant = { λ s. IsFilled s.first s.second s.others.items };
-}
-
-// That of a root, in front of whose content nothing stands.
-fn root_mark(alloc: Global) -> Mark
-    ensures { mark_place result ≡ root_place }
-{
-    Mark {
-        header: Header::Raw,
-        around: Vec::new(alloc),
-        at: 0,
-        start: 0,
-        first_seam: 0,
-    }
 }
 
 impl Marks {
@@ -148,7 +143,7 @@ impl Marks {
             *innermost = self.first.take();
         } else if self.rooted {
             self.rooted = false;
-            *innermost = Some(root_mark(*self.others.allocator()));
+            *innermost = Some(ROOT);
         }
     }
 }

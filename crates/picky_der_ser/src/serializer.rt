@@ -17,7 +17,6 @@ mod unsupported;
 mod wrapper;
 
 use crate::levels::Levels;
-use picky_der_core::asn1::Wrapper;
 use picky_der_core::misc::{BufSink, SliceSink, WriteExt};
 use picky_der_core::{Asn1DerError, Failure, Result};
 use std::alloc::Global;
@@ -53,8 +52,6 @@ pub trait Serialize {
 #[derive(Drop)]
 pub struct Serializer<W: WriteExt> {
     sink: W,
-    // The open wrappers, the outermost first.
-    around: Vec<Wrapper>,
     failed: Option<Failure>,
     levels: Levels,
     alloc: Global,
@@ -62,7 +59,6 @@ pub struct Serializer<W: WriteExt> {
 
 impl<W: WriteExt> Model for Serializer<W> {
     ghost use Rattle.picky_der_ser.specs.State.{State, state_code};
-    ghost use Rattle.picky_der_ser.specs.Headers.{HaveTagNumbers};
 
     ghost Value = { State W };
 
@@ -70,13 +66,11 @@ impl<W: WriteExt> Model for Serializer<W> {
 
     ghost view = { λ s. record {
       sink = s.sink;
-      around = s.around.items;
+      around = s.levels.around;
       failed = s.failed;
       inside = s.levels.inside;
       pending = s.levels.pending;
     } };
-
-    ghost invariant = { λ s. HaveTagNumbers s.around.items };
 }
 
 impl<'a> Serializer<SliceSink<'a>> {
@@ -115,7 +109,6 @@ impl<'a> Serializer<SliceSink<'a>> {
     {
         let Serializer {
             sink: _,
-            around: _,
             failed: _,
             levels,
             alloc: _,
@@ -158,14 +151,13 @@ impl<W: WriteExt> Serializer<W> {
     #[inline(always)]
     fn with_levels(alloc: Global, sink: W, levels: Levels) -> Serializer<W>
         ensures same { result.sink ≡ sink }
-        ensures around { result.around ≡ [] }
+        ensures around { result.around ≡ levels.around }
         ensures failed { result.failed ≡ None }
         ensures inside { result.inside ≡ levels.inside }
         ensures pending { result.pending ≡ levels.pending }
     {
         Serializer {
             sink,
-            around: Vec::new(alloc),
             failed: None,
             levels,
             alloc,
@@ -178,7 +170,6 @@ impl<W: WriteExt> Serializer<W> {
     {
         let Serializer {
             sink,
-            around: _,
             failed: _,
             levels: _,
             alloc: _,
@@ -222,7 +213,7 @@ impl<W: WriteExt> Serializer<W> {
     {
         match outcome {
             Ok(count) => {
-                self.around.clear();
+                self.levels.close_wrappers();
                 Ok(count)
             }
             Err(error) => {

@@ -13,7 +13,6 @@ use crate::sink::put_headed;
 use crate::{Header, Serialize};
 use picky_der_core::misc::WriteExt;
 use picky_der_core::{Asn1DerError, Result};
-use std::mem;
 
 impl<W: WriteExt> Serializer<W> {
     // Opens a level in the open wrappers.
@@ -21,8 +20,7 @@ impl<W: WriteExt> Serializer<W> {
         requires { HasNumber header }
         ensures { OpensLevel W.WriteExt.own header self.old self.new }
     {
-        let around = mem::replace(&mut self.around, Vec::new(self.alloc));
-        self.levels.open(header, around);
+        self.levels.open(header);
     }
 
     // Writes the headers of the level that was opened last, and this content, to the sink.
@@ -91,10 +89,7 @@ impl<W: WriteExt> Serializer<W> {
             (record self.old { around = l.around }) result self.new) }
     {
         match self.levels.merge() {
-            Ok(count) => {
-                self.around.clear();
-                Ok(count)
-            }
+            Ok(count) => Ok(count),
             Err(_) => Err(self.fail(Asn1DerError::OutOfMemory)),
         }
     }
@@ -121,7 +116,6 @@ impl<W: WriteExt> Serializer<W> {
     {
         if self.failed.is_none() {
             if let Some(count) = self.levels.merge_short() {
-                self.around.clear();
                 return Ok(count);
             }
         }
@@ -167,7 +161,7 @@ impl<W: WriteExt> Serializer<W> {
                 return Err(self.fail(Asn1DerError::OutOfMemory));
             };
         }
-        self.around.clear();
+        self.levels.close_wrappers();
         Ok(())
     }
 

@@ -17,7 +17,7 @@ impl<W: WriteExt> Serializer<W> {
             return Err(error);
         }
         self.levels.give_up();
-        self.around.clear();
+        self.levels.close_wrappers();
         Ok(0)
     }
 

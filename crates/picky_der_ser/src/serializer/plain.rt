@@ -20,9 +20,10 @@ impl<W: WriteExt> Serializer<W> {
         requires { IsTagNumber (number_of tag) }
         ensures { WritesPlain W.WriteExt.own (Tree.bytes tag content.now) self.old result self.new }
     {
-        let is_bare = self.failed.is_none() && self.around.is_empty();
-        if is_bare && self.levels.append_short(tag, content) {
-            return Ok(2 + content.len());
+        if self.failed.is_none() && self.levels.is_bare() {
+            if self.levels.append_short(tag, content) {
+                return Ok(2 + content.len());
+            }
         }
         self.write_any_plain(tag, content)
     }
@@ -40,7 +41,7 @@ impl<W: WriteExt> Serializer<W> {
         if self.levels.is_inside() {
             return self.append_content(Header::Tagged(tag), content);
         }
-        if self.around.is_empty() {
+        if self.levels.is_bare() {
             return self.put_plain(tag, content);
         }
         self.put_wrapped(Header::Tagged(tag), content)
@@ -53,9 +54,9 @@ impl<W: WriteExt> Serializer<W> {
         requires inside { self.old.inside ≢ [] }
         ensures { WritesPlain W.WriteExt.own (tree_of header content.now) self.old result self.new }
     {
-        match self.levels.append(&self.around, header, content) {
+        match self.levels.append(header, content) {
             Ok(count) => {
-                self.around.clear();
+                self.levels.close_wrappers();
                 Ok(count)
             }
             Err(_) => Err(self.fail(Asn1DerError::OutOfMemory)),

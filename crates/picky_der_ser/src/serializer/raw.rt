@@ -33,7 +33,7 @@ impl<W: WriteExt> Serializer<W> {
         if self.levels.is_inside() {
             return self.append_content(Header::Raw, bytes);
         }
-        if self.around.is_empty() {
+        if self.levels.is_bare() {
             return self.put_raw(bytes);
         }
         self.put_wrapped(Header::Raw, bytes)

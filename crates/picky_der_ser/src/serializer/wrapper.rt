@@ -39,7 +39,7 @@ impl<W: WriteExt> Serializer<W> {
         if !has_tag_number(wrapper) {
             return Err(self.fail(Asn1DerError::UnsupportedValue));
         }
-        let Ok(()) = self.around.push(wrapper) else {
+        let Ok(()) = self.levels.wrap(wrapper) else {
             return Err(self.fail(Asn1DerError::OutOfMemory));
         };
         Ok(())

@@ -1,5 +1,8 @@
-use Rattle.std.proofs.Common.{◌≡◌, ◌≤◌, ◌∷◌, length, None, ap, ◌∙◌, arith}
-use Rattle.picky_der_ser.specs.State.{Stack}
+use Rattle.std.proofs.Common.{◌≡◌, ◌≤◌, ◌∷◌, ◌++◌, length, None, ap, ◌∙◌, arith}
+use Rattle.picky_der_core.specs.Encoding.{der}
+use Rattle.picky_der_core.specs.Wrapper.{under}
+use Rattle.picky_der_ser.specs.Heading.{tree_of}
+use Rattle.picky_der_ser.specs.State.{Stack, with_bytes}
 use Rattle.picky_der_ser.specs.Marks.{inside_of, pending_of}
 use Rattle.picky_der_ser.specs.Places.{placed}
 use Rattle.picky_der_ser.proofs.LevelMarks.{marks-more, stack_at, stack-grown}
@@ -8,12 +11,12 @@ use Rattle.picky_der_ser.proofs.levels.Levels.append.Goals as goal
 pub invariant_of-self : goal.invariant_of-self
 invariant_of-self c =
     let more : length c.self.inside.scratch.items ≤ length c.push_enclosed.new.out.items = omega (arith, c.in_err-push_enclosed.ensures.grows) in
-    (marks-more _ _ more c.self.invariant.0, c.self.invariant.1)
+    (marks-more _ _ _ more c.self.invariant.0, c.self.invariant.1)
 
 pub invariant_of-self-2 : goal.invariant_of-self-2
 invariant_of-self-2 c =
     let more : length c.self.inside.scratch.items ≤ length c.push_enclosed.new.out.items = omega (arith, c.in_ok-push_enclosed.ensures.grows) in
-    (marks-more _ _ more c.self.invariant.0, c.self.invariant.1)
+    (marks-more _ _ _ more c.self.invariant.0, c.self.invariant.1)
 
 pub returns-clause-ok : goal.returns-clause-ok
 returns-clause-ok c = λ l ls f.
@@ -22,6 +25,10 @@ returns-clause-ok c = λ l ls f.
     let p = placed c.self.inside.innermost in
     let s = c.self.inside.scratch.items in
     let q = c.self.inside.seams.items in
-    let none : pending_of e p s q ≡ None = ap (λ (x : Stack). x.pending) c.self.view_is ∙ ap (λ (x : Stack). x.pending) c.give_up.ensures in
-    let inside : inside_of e p ms s q ≡ l ∷ ls = ap (λ (x : Stack). x.inside) c.self.view_is ∙ ap (λ (x : Stack). x.inside) c.give_up.ensures ∙ f in
-    ap (λ x. stack_at e p ms x q) c.in_ok-push_enclosed.ensures.ok ∙ stack-grown e p ms s q _ l ls c.self.invariant.0 none inside
+    let w = c.self.inside.wrappers.of_levels in
+    let none : pending_of e p s q w ≡ None = ap (λ (x : Stack). x.pending) c.self.view_is ∙ ap (λ (x : Stack). x.pending) c.give_up.ensures in
+    let inside : inside_of e p ms s q w ≡ l ∷ ls = ap (λ (x : Stack). x.inside) c.self.view_is ∙ ap (λ (x : Stack). x.inside) c.give_up.ensures ∙ f in
+    let same = ap (λ (x : Stack). x.around) c.self.view_is ∙ ap (λ (x : Stack). x.around) c.give_up.ensures in
+    let more = c.in_ok-push_enclosed.ensures.ok ∙ ap (λ ws. s ++ der (under ws (tree_of c.args.header c.args.content.now))) (c.open.ensures.same ∙ same) in
+    ap (λ x. stack_at e p ms x q w c.self.inside.wrappers.around) more ∙ stack-grown e p ms s q _ w _ l ls c.self.invariant.0 none inside
+    ∙ ap (λ a. record { inside = with_bytes l (der (under c.args.self.now.around (tree_of c.args.header c.args.content.now))) ∷ ls; pending = None; around = a }) same

@@ -7,4 +7,4 @@ use Rattle.picky_der_ser.proofs.levels.Levels.arrange.Goals as goal
 pub returns-else-mark-len : goal.returns-else-mark-len
 returns-else-mark-len c =
     let none : length c.self.inside.seams.items ≤ c.in-Some.mark.first_seam = grind (arith, nat_tests) in
-    rw (← c.self.view_is) (stack-uncut _ _ c.self.inside.scratch.items c.self.inside.seams.items (ap placed c.in-Some.is) none)
+    rw (← c.self.view_is) (stack-uncut _ _ c.self.inside.scratch.items c.self.inside.seams.items _ _ (ap placed c.in-Some.is) none)

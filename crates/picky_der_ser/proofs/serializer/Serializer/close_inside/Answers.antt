@@ -10,5 +10,5 @@ returns-in-Ok g c =
     let e = c.in-Ok.ensures in
     let small : c.in-Ok.count < 2 ^ 64 = omega arith in
     let s = c.self.inside in
-    let old : State g.row.W.Denot = record { sink = s.sink; around = s.around.items; failed = s.failed; inside = s.levels.inside; pending = s.levels.pending } in
-    rw (← c.self.view_is) (ends_inside g.W.WriteExt (λ l. l.content) old _ c.in-Ok.count small failed inside c.merge.ensures.numbers e.count (λ p l ls x y. ap (λ (s : Stack). s.inside) (e.ok p l ls x y)) refl c.clear.ensures.items failed (g.met.W.WriteExt.later_refl _))
+    let old : State g.row.W.Denot = record { sink = s.sink; around = s.levels.around; failed = s.failed; inside = s.levels.inside; pending = s.levels.pending } in
+    rw (← c.self.view_is) (ends_inside g.W.WriteExt (λ l. l.content) old _ c.in-Ok.count small failed inside c.merge.ensures.numbers e.count (λ p l ls x y. ap (λ (s : Stack). s.inside) (e.ok p l ls x y)) refl e.bare failed (g.met.W.WriteExt.later_refl _))
