@@ -1,28 +1,48 @@
 //! First steps: values written and read by the entry calls.
+ghost use Rattle.std.specs.Prelude.{◌≡◌, [], ◌∷◌, length, IfOk, IfErr};
+ghost use Rattle.picky_der_core.specs.Encoding.{der};
+ghost use Rattle.picky_der_core.specs.Tree.{Tree};
+ghost use Rattle.picky_der_de.specs.Entry.{IsFront, HasNoFront, ReadsFront, RefusesFront, seen};
 
 use picky_asn1_der::asn1::ByteBuf;
 use picky_asn1_der::misc::ReadExt;
-use picky_asn1_der::{Result, from_bytes, from_reader, to_vec};
+use picky_asn1_der::{Deserialize, Result, Serialize, from_bytes, from_reader, to_vec};
 use std::alloc::Global;
 
 /// An octet string: the tag 04, the length, and these bytes. `AA BB` gives `04 02 AA BB`.
-pub fn octets(alloc: Global, content: Vec<u8>) -> Result<Vec<u8>> {
+pub fn octets(alloc: Global, content: Vec<u8>) -> Result<Vec<u8>>
+    ensures { IfOk result (λ bytes. bytes.items ≡ der (Tree.bytes 0x04 content.items)) }
+{
     to_vec(alloc, &ByteBuf::from(content))
 }
 
 /// A number, `02 02 00 80`: the tag, the length, and 128 behind the 00 that keeps it from being negative.
-pub fn number(alloc: Global) -> Result<Vec<u8>> {
+pub fn number(alloc: Global) -> Result<Vec<u8>>
+    ensures { IfOk result (λ bytes. bytes.items ≡ 0x02 ∷ 0x02 ∷ 0x00 ∷ 0x80 ∷ []) }
+{
     to_vec(alloc, &128u8)
 }
 
 /// The number of 8 bits at the front: 7 of `02 01 07 05 00`. `02 02 00 80` is read as 128, and `02 02 00 7F` is refused
 /// with `InvalidData`, since the shorter `02 01 7F` is the one encoding of 127.
-pub fn small_number(alloc: Global, bytes: &[u8]) -> Result<u8> {
+pub fn small_number(alloc: Global, bytes: &[u8]) -> Result<u8>
+    ensures value { IfOk result (IsFront ⟦<u8 as Serialize>⟧.meaning ⟦<u8 as Deserialize>⟧.shape
+        ⟦<u8 as PartialEq>⟧.eq bytes.now (length bytes.now)) }
+    ensures err { IfErr result (HasNoFront ⟦<u8 as Serialize>⟧.meaning
+        ⟦<u8 as Deserialize>⟧.shape bytes.now (length bytes.now)) }
+{
     from_bytes(alloc, bytes)
 }
 
 /// The text at the front of what a reader has left: `é` of `0C 02 C3 A9 05 00`, and `05 00` is left in the reader. At
 /// most 10240 bytes are drawn, whatever length the text announces.
-pub fn text<R: ReadExt>(alloc: Global, reader: &mut R) -> Result<String> {
+pub fn text<R: ReadExt>(alloc: Global, reader: &mut R) -> Result<String>
+    ensures value { IfOk result (ReadsFront ⟦<String as Serialize>⟧.meaning
+        ⟦<String as Deserialize>⟧.shape ⟦<String as PartialEq>⟧.eq 10240
+        (seen R.remaining R.faults reader.old) (seen R.remaining R.faults reader.new)) }
+    ensures err { IfErr result (RefusesFront ⟦<String as Serialize>⟧.meaning
+        ⟦<String as Deserialize>⟧.shape 10240
+        (seen R.remaining R.faults reader.old) (seen R.remaining R.faults reader.new)) }
+{
     from_reader(alloc, reader)
 }

@@ -1,4 +1,8 @@
 //! Bytes as hexadecimal text, and back.
+ghost use Rattle.std.specs.Prelude.{◌≡◌, ◌⊎◌, Ok, Err, IfOk, IfErr, string_bytes};
+ghost use Rattle.hex.specs.Hex.{decode_of};
+ghost use Rattle.hex.specs.declared.error.FromHexError.TheVariants.{OutOfMemory};
+ghost use Rattle.der_fixtures.specs.Hexadecimal.{unspaced, spaced};
 
 use hex::FromHexError;
 use std::alloc::{AllocError, Global};
@@ -7,7 +11,10 @@ use std::alloc::{AllocError, Global};
 ///
 /// `OutOfMemory` where memory is refused. The other errors are those of `hex::decode` of the text without its spaces: an
 /// odd number of digits, or a character that isn't one.
-pub fn bytes_of(alloc: Global, text: &str) -> Result<Vec<u8>, FromHexError> {
+pub fn bytes_of(alloc: Global, text: &str) -> Result<Vec<u8>, FromHexError>
+    ensures ok { IfOk result (λ bytes. decode_of (unspaced text.now) ≡ Ok bytes.items) }
+    ensures err { IfErr result (λ e. (e ≡ OutOfMemory) ⊎ (decode_of (unspaced text.now) ≡ Err e)) }
+{
     let mut digits = Vec::new(alloc);
     if digits.extend_from_slice(text.as_bytes()).is_err() {
         return Err(FromHexError::OutOfMemory);
@@ -17,14 +24,16 @@ pub fn bytes_of(alloc: Global, text: &str) -> Result<Vec<u8>, FromHexError> {
 }
 
 /// Two digits of upper case for each byte, with a space between any two bytes.
-pub fn text_of(alloc: Global, bytes: &[u8]) -> Result<String, AllocError> {
-    let digits = hex::encode_upper(alloc, bytes)?;
-    let mut text = String::new(alloc);
-    for (place, digit) in digits.chars().enumerate() {
-        if place > 0 && place % 2 == 0 {
-            text.push(' ')?;
-        }
-        text.push(digit)?;
+pub fn text_of(alloc: Global, bytes: &[u8]) -> Result<String, AllocError>
+    ensures { IfOk result (λ text. string_bytes text ≡ spaced bytes.now) }
+{
+    let Some((first, others)) = bytes.split_first() else {
+        return Ok(String::new(alloc));
+    };
+    let mut text = hex::encode_upper(alloc, [*first])?;
+    for byte in others {
+        text.push(' ')?;
+        text.push_str(&hex::encode_upper(alloc, [*byte])?)?;
     }
     Ok(text)
 }

@@ -7,8 +7,8 @@ use picky_asn1_der::asn1::{PrintableStringAsn1, Tag};
 use picky_asn1_der::{Asn1DerError, from_bytes};
 use std::alloc::{AllocError, Global};
 
-/// Appends a name: its steps from the root down, with `, ` between them, and between the attributes of one step ` + `.
-pub fn push_name(alloc: Global, line: &mut String, name: &Name) -> Result<(), AllocError> {
+// Appends a name: its steps from the root down, with `, ` between them, and between the attributes of one step ` + `.
+pub(crate) fn push_name(alloc: Global, line: &mut String, name: &Name) -> Result<(), AllocError> {
     for (place, step) in name.iter().enumerate() {
         if place != 0 {
             line.push_str(", ")?;

@@ -3,9 +3,9 @@
 use crate::text::push_bytes;
 use std::alloc::{AllocError, Global};
 
-/// Appends the object identifier with this content in dotted form, as `1.2.840.113549.1.1.1`. A content that is none, or
-/// one with a number of 2^64 or more, is appended as bytes.
-pub fn push_object_identifier(
+// Appends the object identifier with this content in dotted form, as `1.2.840.113549.1.1.1`. A content that is none, or
+// one with a number of 2^64 or more, is appended as bytes.
+pub(crate) fn push_object_identifier(
     alloc: Global,
     line: &mut String,
     content: &[u8],

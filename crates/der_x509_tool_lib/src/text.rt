@@ -2,9 +2,9 @@
 
 use std::alloc::AllocError;
 
-/// Appends the text, on one line: with a backslash before each character that divides names or begins bytes (RFC 4514, 2.4), and
-/// control characters by the bytes of their UTF-8, each as a backslash and two digits.
-pub fn push_text(line: &mut String, text: &str) -> Result<(), AllocError> {
+// Appends the text, on one line: with a backslash before each character that divides names or begins bytes (RFC 4514, 2.4), and
+// control characters by the bytes of their UTF-8, each as a backslash and two digits.
+pub(crate) fn push_text(line: &mut String, text: &str) -> Result<(), AllocError> {
     for character in text.chars() {
         match character {
             '"' | '#' | '+' | ',' | ';' | '<' | '=' | '>' | '\\' => {
@@ -26,8 +26,8 @@ fn push_control(line: &mut String, character: char) -> Result<(), AllocError> {
     Ok(())
 }
 
-/// Appends bytes, as `#` and their digits in hexadecimal.
-pub fn push_bytes(line: &mut String, bytes: &[u8]) -> Result<(), AllocError> {
+// Appends bytes, as `#` and their digits in hexadecimal.
+pub(crate) fn push_bytes(line: &mut String, bytes: &[u8]) -> Result<(), AllocError> {
     line.push('#')?;
     for byte in bytes {
         write!(line, "{byte:02X}")?;
@@ -35,8 +35,8 @@ pub fn push_bytes(line: &mut String, bytes: &[u8]) -> Result<(), AllocError> {
     Ok(())
 }
 
-/// Appends bytes as text where they are UTF-8, and else as bytes.
-pub fn push_text_or_bytes(line: &mut String, bytes: &[u8]) -> Result<(), AllocError> {
+// Appends bytes as text where they are UTF-8, and else as bytes.
+pub(crate) fn push_text_or_bytes(line: &mut String, bytes: &[u8]) -> Result<(), AllocError> {
     match str::from_utf8(bytes) {
         Ok(text) => push_text(line, text),
         Err(_) => push_bytes(line, bytes),

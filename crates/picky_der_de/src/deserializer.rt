@@ -95,7 +95,7 @@ impl<R: ReadExt> Deserializer<R> {
 
     // What vectors are grown on.
     pub(crate) fn alloc(&self) -> Global {
-        self.input.alloc()
+        *self.content.allocator()
     }
 
     // Has failed from here on with an error that is no fault of the reader.

@@ -121,11 +121,6 @@ impl<R: ReadExt> Input<R> {
         self.reader.pos()
     }
 
-    /// What vectors are grown on.
-    pub fn alloc(&self) -> Global {
-        self.alloc
-    }
-
     // What it answers again where it has failed.
     pub(crate) fn earlier(&self) -> Option<Asn1DerError>
         ensures again { IfSome result (λ e. self.now.failed ≡ Some (failure_of e)) }

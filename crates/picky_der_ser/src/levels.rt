@@ -1,6 +1,6 @@
 //! The levels of a serializer, in one vector.
-ghost use Rattle.std.specs.Prelude.{◌≡◌, ◌≢◌, ◌<◌, ◌≤◌, ◌^◌, ◌+◌, List, [], ◌∷◌, ◌++◌, true, false, length};
-ghost use Rattle.std.specs.Prelude.{drop, vec_len, None, Some, IfSome, IfNone, IsSome, IfOk, OnOk};
+ghost use Rattle.std.specs.Prelude.{◌≡◌, ◌≢◌, ◌<◌, ◌≤◌, ◌^◌, ◌+◌, List, [], ◌∷◌, ◌++◌};
+ghost use Rattle.std.specs.Prelude.{true, false, length, drop, vec_len, None, Some, IfSome, IfNone, IsSome, IfOk, OnOk};
 ghost use Rattle.picky_der_core.specs.Encoding.{der};
 ghost use Rattle.picky_der_core.specs.Tree.{Tree};
 ghost use Rattle.picky_der_core.specs.Wrapper.{under, HasTagNumber};
@@ -57,7 +57,8 @@ impl Model for Levels {
     } };
 
     ghost invariant = { λ s. AreMarks (with_pending (placed s.innermost) s.marks.places)
-        (length s.scratch.items) s.seams.items s.wrappers.of_levels × HasRoom s.entered (placed s.innermost) s.marks.places s.marks.spare };
+        (length s.scratch.items) s.seams.items s.wrappers.of_levels
+        × HasRoom s.entered (placed s.innermost) s.marks.places s.marks.spare };
 }
 
 // Drops the bytes in front of this place.
