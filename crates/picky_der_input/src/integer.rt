@@ -35,6 +35,10 @@ fn value_of(digits: &[u8]) -> u128
     requires { length digits.now ≤ 16 }
     ensures { result ≡ number_from_digits 256 digits.now }
 {
+    // Most numbers have one, and a loop takes longer.
+    if let [digit] = digits {
+        return u128::from(*digit);
+    }
     let mut number = 0;
     for digit in digits {
         number = number * 256 + u128::from(*digit);

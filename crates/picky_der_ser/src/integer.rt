@@ -37,6 +37,7 @@ pub struct UnsignedInteger;
 
 impl UnsignedInteger {
     /// Writes a number, as `Serializer::serialize_u128` does.
+    #[inline(always)]
     pub fn serialize<T: UInt, W: WriteExt>(value: T, ser: &mut Serializer<W>) -> Result<usize>
         ensures { WritesPlain W.WriteExt.own
             (Tree.unsigned (T.number value)) ser.old result ser.new }
@@ -45,6 +46,14 @@ impl UnsignedInteger {
         if number < 0x80 {
             return ser.write_plain(Tag::INTEGER, &[number as u8]);
         }
+        UnsignedInteger::serialize_wide(number, ser)
+    }
+
+    // The same of more than one byte.
+    #[inline(never)]
+    fn serialize_wide<W: WriteExt>(number: u128, ser: &mut Serializer<W>) -> Result<usize>
+        ensures { WritesPlain W.WriteExt.own (Tree.unsigned number) ser.old result ser.new }
+    {
         let content = Content::of(number);
         ser.write_plain(Tag::INTEGER, &content.bytes[content.start..])
     }

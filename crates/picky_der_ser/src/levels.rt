@@ -252,10 +252,10 @@ impl Levels {
     {
         if self.scratch.is_empty() {
             self.scratch.reserve(FIRST_ROOM)?;
-        }
-        self.make_short_room();
-        if self.enter_again() {
-            return Ok(());
+            self.make_short_room();
+            if self.enter_again() {
+                return Ok(());
+            }
         }
         self.enter_slowly()
     }

@@ -22,6 +22,7 @@ impl<'a, W: WriteExt> Sequence<'a, W> {
 
     /// Begins a sequence or set in the open wrappers, and takes these with it. The tag is `SEQUENCE` or `SET`. No memory
     /// is taken before the first member.
+    #[inline(always)]
     pub fn serialize_lazy(ser: &'a mut Serializer<W>, tag: Tag) -> Sequence<'a, W>
         requires { IsListTag tag }
         ensures same_reference { borrowed_by result ≡ ser.entry.ghost_name }
@@ -62,6 +63,7 @@ impl<'a, W: WriteExt> Sequence<'a, W> {
     ///
     /// An earlier error is answered again; else `OutOfMemory` where memory is refused, as that for the order of a set, of
     /// which nothing is written then; and the sink's fault.
+    #[inline(always)]
     pub fn end(self) -> Result<usize>
         ensures { EndsLevel W.WriteExt.own (state_of self.entry) result self.exit.0.now }
     {

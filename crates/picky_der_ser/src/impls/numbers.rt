@@ -11,6 +11,7 @@ use picky_der_core::misc::WriteExt;
 impl Serialize for bool {
     ghost meaning = { λ b. Tree.boolean b };
 
+    #[inline(always)]
     fn serialize<W: WriteExt>(&self, ser: &mut Serializer<W>) -> Result<usize>
         ensures wrote { IfOk result (λ n. Writes W.WriteExt.own (Tree.boolean self.now)
             ser.old n ser.new) }
@@ -27,6 +28,7 @@ impl Serialize for bool {
 impl Serialize for u8 {
     ghost meaning = { λ n. Tree.unsigned n };
 
+    #[inline(always)]
     fn serialize<W: WriteExt>(&self, ser: &mut Serializer<W>) -> Result<usize>
         ensures wrote { IfOk result (λ n. Writes W.WriteExt.own (Tree.unsigned self.now)
             ser.old n ser.new) }
@@ -43,6 +45,7 @@ impl Serialize for u8 {
 impl Serialize for u16 {
     ghost meaning = { λ n. Tree.unsigned n };
 
+    #[inline(always)]
     fn serialize<W: WriteExt>(&self, ser: &mut Serializer<W>) -> Result<usize>
         ensures wrote { IfOk result (λ n. Writes W.WriteExt.own (Tree.unsigned self.now)
             ser.old n ser.new) }
@@ -59,6 +62,7 @@ impl Serialize for u16 {
 impl Serialize for u32 {
     ghost meaning = { λ n. Tree.unsigned n };
 
+    #[inline(always)]
     fn serialize<W: WriteExt>(&self, ser: &mut Serializer<W>) -> Result<usize>
         ensures wrote { IfOk result (λ n. Writes W.WriteExt.own (Tree.unsigned self.now)
             ser.old n ser.new) }
@@ -75,6 +79,7 @@ impl Serialize for u32 {
 impl Serialize for u64 {
     ghost meaning = { λ n. Tree.unsigned n };
 
+    #[inline(always)]
     fn serialize<W: WriteExt>(&self, ser: &mut Serializer<W>) -> Result<usize>
         ensures wrote { IfOk result (λ n. Writes W.WriteExt.own (Tree.unsigned self.now)
             ser.old n ser.new) }
@@ -91,6 +96,7 @@ impl Serialize for u64 {
 impl Serialize for u128 {
     ghost meaning = { λ n. Tree.unsigned n };
 
+    #[inline(always)]
     fn serialize<W: WriteExt>(&self, ser: &mut Serializer<W>) -> Result<usize>
         ensures wrote { IfOk result (λ n. Writes W.WriteExt.own (Tree.unsigned self.now)
             ser.old n ser.new) }
@@ -107,6 +113,7 @@ impl Serialize for u128 {
 impl Serialize for usize {
     ghost meaning = { λ n. Tree.unsigned n };
 
+    #[inline(always)]
     fn serialize<W: WriteExt>(&self, ser: &mut Serializer<W>) -> Result<usize>
         ensures wrote { IfOk result (λ n. Writes W.WriteExt.own (Tree.unsigned self.now)
             ser.old n ser.new) }

@@ -91,6 +91,7 @@ impl<W: WriteExt> Serializer<W> {
 
     /// Writes a bool (X.690, 8.2 and 11.1). Outside wrappers, sequences and application tags no memory is taken, and only
     /// the sink can refuse; the same holds for the other calls of plain values.
+    #[inline(always)]
     pub fn serialize_bool(&mut self, value: bool) -> Result<usize>
         ensures { WritesPlain W.WriteExt.own (Tree.boolean value) self.old result self.new }
     {
@@ -98,6 +99,7 @@ impl<W: WriteExt> Serializer<W> {
     }
 
     /// Writes a number of 8 bits (X.690, 8.3).
+    #[inline(always)]
     pub fn serialize_u8(&mut self, value: u8) -> Result<usize>
         ensures { WritesPlain W.WriteExt.own (Tree.unsigned value) self.old result self.new }
     {
@@ -105,6 +107,7 @@ impl<W: WriteExt> Serializer<W> {
     }
 
     /// Writes a number of 16 bits.
+    #[inline(always)]
     pub fn serialize_u16(&mut self, value: u16) -> Result<usize>
         ensures { WritesPlain W.WriteExt.own (Tree.unsigned value) self.old result self.new }
     {
@@ -112,6 +115,7 @@ impl<W: WriteExt> Serializer<W> {
     }
 
     /// Writes a number of 32 bits.
+    #[inline(always)]
     pub fn serialize_u32(&mut self, value: u32) -> Result<usize>
         ensures { WritesPlain W.WriteExt.own (Tree.unsigned value) self.old result self.new }
     {
@@ -119,6 +123,7 @@ impl<W: WriteExt> Serializer<W> {
     }
 
     /// Writes a number of 64 bits.
+    #[inline(always)]
     pub fn serialize_u64(&mut self, value: u64) -> Result<usize>
         ensures { WritesPlain W.WriteExt.own (Tree.unsigned value) self.old result self.new }
     {
@@ -126,6 +131,7 @@ impl<W: WriteExt> Serializer<W> {
     }
 
     /// Writes a number of 128 bits.
+    #[inline(always)]
     pub fn serialize_u128(&mut self, value: u128) -> Result<usize>
         ensures { WritesPlain W.WriteExt.own (Tree.unsigned value) self.old result self.new }
     {
@@ -140,6 +146,7 @@ impl<W: WriteExt> Serializer<W> {
     }
 
     /// Writes a null (X.690, 8.8).
+    #[inline(always)]
     pub fn serialize_unit(&mut self) -> Result<usize>
         ensures { WritesPlain W.WriteExt.own Tree.null self.old result self.new }
     {

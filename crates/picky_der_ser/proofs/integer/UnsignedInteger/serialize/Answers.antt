@@ -1,5 +1,4 @@
 use Rattle.std.proofs.Common.{refl, sym, ap, ◌∙◌}
-use Rattle.std.proofs.lemmas.List.{take_rest}
 use Rattle.picky_der_core.specs.Tree.{Tree}
 use Rattle.picky_der_core.specs.Encoding.{unsigned_content}
 use Rattle.picky_der_ser.proofs.Alike.{writes_plain-as}
@@ -12,6 +11,4 @@ returns-then-number-lt128 g c =
     writes_plain-as g.W.WriteExt (Tree.unsigned (g.T.UInt.number c.args.value)) _ refl is _ _ _ c.write_plain.ensures
 
 pub returns : goal.returns
-returns g c =
-    let is = take_rest c.of-content.result.bytes c.of-content.result.start ∙ c.of-content.ensures ∙ ap unsigned_content c.into_u128-number.ensures in
-    writes_plain-as g.W.WriteExt (Tree.unsigned (g.T.UInt.number c.args.value)) _ refl is _ _ _ c.write_plain-2.ensures
+returns g c = rw (← c.into_u128-number.ensures) c.serialize_wide.ensures
