@@ -1,6 +1,7 @@
 //! Types written by hand over the public calls alone, as a user of the crates writes them.
 #![tactic(auto)]
 
+mod age_groups;
 mod encrypted_data;
 mod first_steps;
 mod general_name;
@@ -23,6 +24,7 @@ mod tagged;
 mod ticket;
 mod track;
 
+pub use age_groups::AgeGroups;
 pub use encrypted_data::EncryptedData;
 pub use first_steps::{number, octets, small_number, text};
 pub use general_name::{GeneralName, Name};
