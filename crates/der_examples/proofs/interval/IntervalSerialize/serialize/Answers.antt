@@ -1,0 +1,44 @@
+use Rattle.std.proofs.Common.{rules, refl, arith, [], ◌∷◌}
+use Rattle.std.proofs.lemmas.Result.{err_from_is_err_and}
+use Rattle.picky_der_core.specs.Tree.{ListKind, Tree, Trees, trees}
+use Rattle.picky_der_ser.proofs.Members.{list_opened, list_gained, list_refused, list_wrote, list_failed}
+use Rattle.der_examples.specs.declared.interval.Interval.{Interval}
+use Rattle.der_examples.proofs.interval.IntervalSerialize.serialize.Goals as goal
+
+abbrev members : Interval → Trees
+members it = trees (Tree.unsigned it.first ∷ Tree.unsigned it.last ∷ [])
+
+pub returns-in_err-serialize_field-clause-failed :
+    goal.returns-in_err-serialize_field-clause-failed
+returns-in_err-serialize_field-clause-failed g c =
+    let all = members c.args.self.now in
+    let opened = list_opened g.W.WriteExt ListKind.sequence all _ _ c.in_ok-members.ensures.opened in
+    let refused = list_refused g.W.WriteExt ListKind.sequence _ all _ _ _ _ _ _ c.in_err-serialize_field.ensures.err refl opened in
+    let error = err_from_is_err_and c.from_residual-in_err-serialize_field.result c.from_residual-in_err-serialize_field.ensures.1 in
+    rw (error.1, error.2) (search (rules, refused))
+
+pub returns-in_err-serialize_field-2-clause-failed :
+    goal.returns-in_err-serialize_field-2-clause-failed
+returns-in_err-serialize_field-2-clause-failed g c =
+    let all = members c.args.self.now in
+    let opened = list_opened g.W.WriteExt ListKind.sequence all _ _ c.in_ok-members.ensures.opened in
+    let gained = list_gained g.W.WriteExt ListKind.sequence _ all _ _ _ _ c.in_ok-serialize_field.ensures.added opened in
+    let refused = list_refused g.W.WriteExt ListKind.sequence _ all _ _ _ _ _ _ c.in_err-serialize_field-2.ensures.err refl gained in
+    let error = err_from_is_err_and c.from_residual-in_err-serialize_field-2.result c.from_residual-in_err-serialize_field-2.ensures.1 in
+    rw (error.1, error.2) (search (rules, refused))
+
+pub returns-clause-wrote : goal.returns-clause-wrote
+returns-clause-wrote g c =
+    let all = members c.args.self.now in
+    let opened = list_opened g.W.WriteExt ListKind.sequence all _ _ c.in_ok-members.ensures.opened in
+    let gained = list_gained g.W.WriteExt ListKind.sequence _ all _ _ _ _ c.in_ok-serialize_field.ensures.added opened in
+    let whole = list_gained g.W.WriteExt ListKind.sequence _ all _ _ _ _ c.in_ok-serialize_field-2.ensures.added gained in
+    grind (arith, list_wrote, whole)
+
+pub returns-clause-failed : goal.returns-clause-failed
+returns-clause-failed g c =
+    let all = members c.args.self.now in
+    let opened = list_opened g.W.WriteExt ListKind.sequence all _ _ c.in_ok-members.ensures.opened in
+    let gained = list_gained g.W.WriteExt ListKind.sequence _ all _ _ _ _ c.in_ok-serialize_field.ensures.added opened in
+    let whole = list_gained g.W.WriteExt ListKind.sequence _ all _ _ _ _ c.in_ok-serialize_field-2.ensures.added gained in
+    grind (arith, list_failed, whole)

@@ -1,0 +1,44 @@
+//! A struct that is written and read member by member.
+ghost use Rattle.std.proofs.Common.{rules};
+ghost use Rattle.picky_der_de.specs.Telling.{by_parts, tells};
+
+use picky_asn1_der::misc::{ReadExt, WriteExt};
+use picky_asn1_der::{Deserialize, Deserializer, Result, Row, Serialize, Serializer};
+
+/// The numbers from one to another, as a SEQUENCE of two INTEGERs.
+#[derive(Debug, Drop, PartialEq, Eq)]
+pub struct Interval {
+    /// The first of them.
+    pub first: u32,
+    /// The last of them.
+    pub last: u32,
+}
+
+type Fields = (u32, u32, ());
+
+impl Serialize for Interval {
+    ghost meaning = { λ it. ⟦<Row<Fields> as Serialize>⟧.meaning (record { 0 = (it.first, it.last, tt) }) };
+
+    fn serialize<W: WriteExt>(&self, serializer: &mut Serializer<W>) -> Result<usize> {
+        let mut members = serializer.serialize_struct("Interval", 2)?;
+        members.serialize_field("first", &self.first)?;
+        members.serialize_field("last", &self.last)?;
+        members.end()
+    }
+}
+
+impl Deserialize for Interval {
+    ghost shape = { ⟦<Row<Fields> as Deserialize>⟧.shape };
+
+    ghost injective = { by_parts ⟦<Row<Fields> as Deserialize>⟧.shape (Prim.search tells depth 99) };
+
+    ghost sound = { Prim.search rules depth 99 };
+
+    fn deserialize<R: ReadExt>(deserializer: &mut Deserializer<R>) -> Result<Interval> {
+        let mut members = deserializer.deserialize_seq()?;
+        let first = members.next_field()?;
+        let last = members.next_field()?;
+        members.end()?;
+        Ok(Interval { first, last })
+    }
+}
