@@ -6,8 +6,9 @@ use crate::lamp::Lamp;
 use crate::nested_tags::{FourTags, SixteenTags};
 use crate::seen::Seen;
 use der_examples::{
-    EncryptedData, GeneralName, Gust, Host, Marker, Moment, Named, NumberOrFlag, Place, Point,
-    PrincipalName, PrivateKeyInfo, Report, RsaPublicKey, Setting, Stay, Tagged, Ticket, Track,
+    AgeGroups, EncryptedData, GeneralName, Gust, Host, Interval, Marker, Moment, Named,
+    NumberOrFlag, Place, Point, PrincipalName, PrivateKeyInfo, Report, RsaPublicKey, Setting, Stay,
+    Tagged, Ticket, Track,
 };
 use der_tool_lib::{AlgorithmIdentifier, SubjectPublicKeyInfo, TestStruct};
 use der_x509::{Extension, TbsCertificate, Version};
@@ -29,6 +30,8 @@ pub(crate) fn answer(alloc: Global, name: &str, input: &Input) -> Result<String,
         "GeneralName" => read_as::<GeneralName>(alloc, input),
         "Vec<GeneralName>" => read_as::<Vec<GeneralName>>(alloc, input),
         "Point" => read_as::<Point>(alloc, input),
+        "Interval" => read_as::<Interval>(alloc, input),
+        "AgeGroups" => read_as::<AgeGroups>(alloc, input),
         "Moment" => read_as::<Moment>(alloc, input),
         "Stay" => read_as::<Stay>(alloc, input),
         "Gust" => read_as::<Gust>(alloc, input),
