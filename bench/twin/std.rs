@@ -104,7 +104,7 @@ pub mod prelude {
 
 mod vector {
     use crate::alloc::{AllocError, Global};
-    use std::ops::{Deref, DerefMut, RangeTo};
+    use std::ops::{Deref, DerefMut};
 
     #[derive(Debug, Clone, PartialEq, Eq, PartialOrd, Ord)]
     pub struct Vec<T>(pub(crate) std::vec::Vec<T>);
@@ -180,8 +180,8 @@ mod vector {
         }
 
         #[inline(always)]
-        pub fn drain(&mut self, front: RangeTo<usize>) {
-            self.0.drain(front);
+        pub fn drain(&mut self, range: impl std::ops::RangeBounds<usize>) {
+            self.0.drain(range);
         }
 
         #[inline(always)]

@@ -46,15 +46,16 @@ impl UnsignedInteger {
         if number < 0x80 {
             return ser.write_plain(Tag::INTEGER, &[number as u8]);
         }
-        UnsignedInteger::serialize_wide(number, ser)
+        UnsignedInteger::serialize_wide(value, ser)
     }
 
     // The same of more than one byte.
     #[inline(never)]
-    fn serialize_wide<W: WriteExt>(number: u128, ser: &mut Serializer<W>) -> Result<usize>
-        ensures { WritesPlain W.WriteExt.own (Tree.unsigned number) ser.old result ser.new }
+    fn serialize_wide<T: UInt, W: WriteExt>(value: T, ser: &mut Serializer<W>) -> Result<usize>
+        ensures { WritesPlain W.WriteExt.own
+            (Tree.unsigned (T.number value)) ser.old result ser.new }
     {
-        let content = Content::of(number);
+        let content = Content::of(value.into_u128());
         ser.write_plain(Tag::INTEGER, &content.bytes[content.start..])
     }
 }

@@ -9,6 +9,3 @@ pub returns-then-number-lt128 : goal.returns-then-number-lt128
 returns-then-number-lt128 g c =
     let is = sym (unsigned_content-short c.into_u128-number.result c.if-number-lt128.true) ∙ ap unsigned_content c.into_u128-number.ensures in
     writes_plain-as g.W.WriteExt (Tree.unsigned (g.T.UInt.number c.args.value)) _ refl is _ _ _ c.write_plain.ensures
-
-pub returns : goal.returns
-returns g c = rw (← c.into_u128-number.ensures) c.serialize_wide.ensures
