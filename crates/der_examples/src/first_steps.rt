@@ -1,24 +1,30 @@
 //! First steps: values written and read by the entry calls.
 ghost use Rattle.std.specs.Prelude.{◌≡◌, [], ◌∷◌, length, IfOk, IfErr};
 ghost use Rattle.picky_der_core.specs.Encoding.{der};
+ghost use Rattle.picky_der_core.specs.Readable.{IsWritable};
 ghost use Rattle.picky_der_core.specs.Tree.{Tree};
 ghost use Rattle.picky_der_de.specs.Entry.{IsFront, HasNoFront, ReadsFront, RefusesFront, seen};
+ghost use Rattle.picky_der_ser.specs.Calls.{MemoryExcuse};
 
 use picky_asn1_der::asn1::ByteBuf;
 use picky_asn1_der::misc::ReadExt;
-use picky_asn1_der::{Deserialize, Result, Serialize, from_bytes, from_reader, to_vec};
+use picky_asn1_der::{
+    Asn1DerError, Deserialize, Result, Serialize, from_bytes, from_reader, to_vec,
+};
 use std::alloc::Global;
 
 /// An octet string: the tag 04, the length, and these bytes. `AA BB` gives `04 02 AA BB`.
 pub fn octets(alloc: Global, content: Vec<u8>) -> Result<Vec<u8>>
-    ensures { IfOk result (λ bytes. bytes.items ≡ der (Tree.bytes 0x04 content.items)) }
+    ensures ok { IfOk result (λ bytes. bytes.items ≡ der (Tree.bytes 0x04 content.items)) }
+    ensures err { IfErr result (MemoryExcuse (IsWritable (Tree.bytes 0x04 content.items))) }
 {
     to_vec(alloc, &ByteBuf::from(content))
 }
 
 /// A number, `02 02 00 80`: the tag, the length, and 128 behind the 00 that keeps it from being negative.
 pub fn number(alloc: Global) -> Result<Vec<u8>>
-    ensures { IfOk result (λ bytes. bytes.items ≡ 0x02 ∷ 0x02 ∷ 0x00 ∷ 0x80 ∷ []) }
+    ensures ok { IfOk result (λ bytes. bytes.items ≡ 0x02 ∷ 0x02 ∷ 0x00 ∷ 0x80 ∷ []) }
+    ensures err { IfErr result (λ e. e ≡ Asn1DerError.OutOfMemory) }
 {
     to_vec(alloc, &128u8)
 }
@@ -43,6 +49,7 @@ pub fn text<R: ReadExt>(alloc: Global, reader: &mut R) -> Result<String>
     ensures err { IfErr result (RefusesFront ⟦<String as Serialize>⟧.meaning
         ⟦<String as Deserialize>⟧.shape 10240
         (seen R.remaining R.faults reader.old) (seen R.remaining R.faults reader.new)) }
+    ensures same_references { R.references reader.new ≡ R.references reader.old }
 {
     from_reader(alloc, reader)
 }

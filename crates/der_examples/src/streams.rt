@@ -1,5 +1,7 @@
 //! Values that stand behind each other.
-ghost use Rattle.std.specs.Prelude.{length, IfNone, IfSome, IfOk, IfErr};
+ghost use Rattle.std.specs.Prelude.{drop, length, IfNone, IfSome, IfOk, IfErr};
+ghost use Rattle.picky_der_core.specs.Encoding.{der};
+ghost use Rattle.picky_der_core.specs.Tree.{Tree};
 ghost use Rattle.picky_der_de.specs.Entry.{IsFront, ReadsFront, HasNoneLeft, RefusesNextValue, seen};
 
 use picky_asn1_der::misc::ReadExt;
@@ -13,6 +15,10 @@ use std::alloc::Global;
 pub fn number_and_text(alloc: Global, bytes: &[u8]) -> Result<(u8, String)>
     ensures number { IfOk result (λ pair. IsFront ⟦<u8 as Serialize>⟧.meaning
         ⟦<u8 as Deserialize>⟧.shape ⟦<u8 as PartialEq>⟧.eq bytes.now (length bytes.now) pair.0) }
+    ensures text { IfOk result (λ pair.
+        let behind = drop (length (der (Tree.unsigned pair.0))) bytes.now in
+        IsFront ⟦<String as Serialize>⟧.meaning ⟦<String as Deserialize>⟧.shape
+        ⟦<String as PartialEq>⟧.eq behind (length behind) pair.1) }
 {
     let (number, taken) = next_from_bytes(alloc, bytes)?;
     let text = from_bytes(alloc, &bytes[taken..])?;

@@ -1,10 +1,10 @@
 -- The steps of a run.
 use Rattle.std.proofs.Common.{◌≡◌, ◌≢◌, ℕ, ◌+◌, ◌-◌, ◌^◌, ◌<◌, List, [], ◌∷◌, ◌++◌, length, length-append, Option, Some, None, refl, sym, ap, ◌∙◌, subst, arith, append_assoc, append-nil}
 use Rattle.std.specs.Io.KnownBytes.{Appends, Consumes, Keeps, IsAtEnd}
-use Rattle.std.proofs.KnownBytes.{Appends-nil, Appends-trans, Consumes-nil, Consumes-trans, Consumes-kept}
+use Rattle.std.proofs.KnownBytes.{Appends-nil, Appends-trans, Consumes-nil, Consumes-trans, Consumes-kept, Consumes-whole}
 use Rattle.picky_der_core.specs.Writer.{AppendsBeginning, beginning_after}
-use Rattle.der_tool_lib.specs.Answer.{IsAnswer}
-use Rattle.der_tool_lib.specs.Text.{IsLine, AreLines, AreAnswers, ended, unless_empty, IsSplit, IsText, WritesText}
+use Rattle.der_tool_lib.specs.Answer.{IsAnswerTo}
+use Rattle.der_tool_lib.specs.Text.{IsLine, AreLines, AreAnswers, ended, unless_empty, IsSplit, IsTextOf, WritesText}
 use Rattle.der_tool_lib.specs.Run.{AnswersLine, WroteWhole, WroteBeginning, IsTooLong}
 
 -- ---- one more
@@ -13,17 +13,17 @@ pub line_push : (line : List ℕ) (b : ℕ) → IsLine line → b ≢ 0x0A → I
 line_push [] b h n = (n, tt)
 line_push (x ∷ xs) b h n = (h.0, line_push xs b h.1 n)
 
-lines_push : (lines : List (List ℕ)) (line : List ℕ) → AreLines lines → IsLine line → AreLines (lines ++ (line ∷ []))
+pub lines_push : (lines : List (List ℕ)) (line : List ℕ) → AreLines lines → IsLine line → AreLines (lines ++ (line ∷ []))
 lines_push [] line h k = (k, tt)
 lines_push (l ∷ ls) line h k = (h.0, lines_push ls line h.1 k)
 
-answers_push : (lines answers : List (List ℕ)) (line answer : List ℕ) → AreAnswers lines answers → IsAnswer line answer → AreAnswers (lines ++ (line ∷ [])) (answers ++ (answer ∷ []))
+answers_push : (lines answers : List (List ℕ)) (line answer : List ℕ) → AreAnswers lines answers → IsAnswerTo line answer → AreAnswers (lines ++ (line ∷ [])) (answers ++ (answer ∷ []))
 answers_push [] [] line answer h k = (k, tt)
 answers_push [] (a ∷ as') line answer h k = absurd h
 answers_push (l ∷ ls) [] line answer h k = absurd h
 answers_push (l ∷ ls) (a ∷ as') line answer h k = (h.0, answers_push ls as' line answer h.1 k)
 
-ended_push : (lines : List (List ℕ)) (line : List ℕ) → ended (lines ++ (line ∷ [])) ≡ ended lines ++ (line ++ (0x0A ∷ []))
+pub ended_push : (lines : List (List ℕ)) (line : List ℕ) → ended (lines ++ (line ∷ [])) ≡ ended lines ++ (line ++ (0x0A ∷ []))
 ended_push [] line = refl
 ended_push (l ∷ ls) line = ap (λ t. l ++ (0x0A ∷ t)) (ended_push ls line) ∙ sym (append_assoc l (0x0A ∷ ended ls) (line ++ (0x0A ∷ [])))
 
@@ -37,15 +37,11 @@ none_last [] n = refl
 none_last (x ∷ xs) n = absurd (omega (arith, n))
 
 -- all of the input was drawn
-whole_text : {bytes text : List ℕ} (a b c d : Option (List ℕ)) → Consumes a b bytes → IsAtEnd b → IsText bytes text → Appends c d text → WritesText a c d
-whole_text None b c d k e t w = tt
-whole_text (Some input) None c d k e t w = absurd k
-whole_text {bytes} {text} (Some input) (Some left) c d k e t w =
-    let all : bytes ≡ input = sym (append-nil bytes) ∙ ap (λ l. bytes ++ l) (sym e) ∙ sym k in
-    (text, subst (λ i. IsText i text) all t, w)
+whole_text : {bytes text : List ℕ} (a b c d : Option (List ℕ)) → Consumes a b bytes → IsAtEnd b → IsTextOf bytes text → Appends c d text → WritesText a c d
+whole_text {bytes} {text} a b c d k e t w = Consumes-whole a b bytes (λ input. (text : List ℕ) × IsTextOf input text × Appends c d text) k e (text, t, w)
 
 -- more was drawn than an input within the limit has
-longer : (a b : Option (List ℕ)) (bytes : List ℕ) → Consumes a b bytes → length bytes ≡ 2 ^ 64 - 1 → IsTooLong a
+pub longer : (a b : Option (List ℕ)) (bytes : List ℕ) → Consumes a b bytes → length bytes ≡ 2 ^ 64 - 1 → IsTooLong a
 longer None b bytes k n = tt
 longer (Some xs) None bytes k n = absurd k
 longer (Some xs) (Some ys) bytes k n = omega (arith, n, ap length k, length-append bytes ys)
@@ -129,7 +125,7 @@ module _ {a b c d : Option (List ℕ)} {line : List ℕ} {count : ℕ} (h : Runs
 
   -- ---- the text of what was drawn
 
-  text_of_ended : (answer : List ℕ) → IsAnswer line answer → IsText (ended (h.whole.lines ++ (line ∷ [])) ++ []) (ended (h.whole.answers ++ (answer ∷ [])))
+  text_of_ended : (answer : List ℕ) → IsAnswerTo line answer → IsTextOf (ended (h.whole.lines ++ (line ∷ [])) ++ []) (ended (h.whole.answers ++ (answer ∷ [])))
   text_of_ended answer k = record {
     lines = h.whole.lines ++ (line ∷ []);
     last = [];
@@ -140,7 +136,7 @@ module _ {a b c d : Option (List ℕ)} {line : List ℕ} {count : ℕ} (h : Runs
   }
 
   -- the writer failed in the answer to the line, whose end was drawn
-  pub begins : (b' d' : Option (List ℕ)) → Consumes b b' (0x0A ∷ []) → (answer : List ℕ) → IsAnswer line answer → AppendsBeginning d d' (answer ++ (0x0A ∷ [])) → WroteBeginning a b' c d'
+  pub begins : (b' d' : Option (List ℕ)) → Consumes b b' (0x0A ∷ []) → (answer : List ℕ) → IsAnswerTo line answer → AppendsBeginning d d' (answer ++ (0x0A ∷ [])) → WroteBeginning a b' c d'
   unfolding text_of_ended
   begins b' d' k answer n w = record {
     bytes = _;
@@ -154,7 +150,7 @@ module _ {a b c d : Option (List ℕ)} {line : List ℕ} {count : ℕ} (h : Runs
   split_of : IsSplit (ended h.whole.lines ++ line) h.whole.lines line
   split_of = record { are_lines = h.whole.are_lines; is_line = h.is_line; is = refl }
 
-  text_of_last : (answer : List ℕ) → 0 < length line → IsAnswer line answer → IsText (ended h.whole.lines ++ line) (ended (h.whole.answers ++ (answer ∷ [])))
+  text_of_last : (answer : List ℕ) → 0 < length line → IsAnswerTo line answer → IsTextOf (ended h.whole.lines ++ line) (ended (h.whole.answers ++ (answer ∷ [])))
   text_of_last answer some k = record {
     lines = h.whole.lines;
     last = line;
@@ -165,7 +161,7 @@ module _ {a b c d : Option (List ℕ)} {line : List ℕ} {count : ℕ} (h : Runs
   }
 
   -- the same with the end of the input in place of the line's
-  pub begins_last : (b' d' : Option (List ℕ)) → Keeps b b' → IsAtEnd b' → 0 < length line → (answer : List ℕ) → IsAnswer line answer → AppendsBeginning d d' (answer ++ (0x0A ∷ [])) → WroteBeginning a b' c d'
+  pub begins_last : (b' d' : Option (List ℕ)) → Keeps b b' → IsAtEnd b' → 0 < length line → (answer : List ℕ) → IsAnswerTo line answer → AppendsBeginning d d' (answer ++ (0x0A ∷ [])) → WroteBeginning a b' c d'
   begins_last b' d' k e some answer n w = record {
     bytes = _;
     drawn = drawn_still b' k;
@@ -177,7 +173,7 @@ module _ {a b c d : Option (List ℕ)} {line : List ℕ} {count : ℕ} (h : Runs
 
   -- ---- the end of the input
 
-  text_of_none : length line ≡ 0 → IsText (ended h.whole.lines ++ line) (ended h.whole.answers)
+  text_of_none : length line ≡ 0 → IsTextOf (ended h.whole.lines ++ line) (ended h.whole.answers)
   text_of_none none = record {
     lines = h.whole.lines;
     last = line;

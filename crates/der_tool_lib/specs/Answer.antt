@@ -19,7 +19,7 @@ Answers (read type digits) answer = AnswersDigits type (decode_of digits) answer
 Answers nothing answer = answer ≡ codes "refused Line"
 
 -- this is the answer to the line; neither has the byte that ends it
-pub record IsAnswer (line answer : List ℕ) : Type 0 where
+pub record IsAnswerTo (line answer : List ℕ) : Type 0 where
   pub query : Query
   pub asked : Asks line query
   pub answers : Answers query answer

@@ -9,22 +9,22 @@ use Rattle.picky_der_core.specs.Error.{error_of_kind}
 use Rattle.picky_der_core.specs.Faults.{Fault}
 use Rattle.picky_der_core.specs.Writer.{AppendsBeginning}
 use Rattle.picky_der_core.specs.WriterFaults.{Faulted}
-use Rattle.der_tool_lib.specs.Answer.{IsAnswer}
-use Rattle.der_tool_lib.specs.Text.{IsLine, AreLines, AreAnswers, ended, IsText}
+use Rattle.der_tool_lib.specs.Answer.{IsAnswerTo}
+use Rattle.der_tool_lib.specs.Text.{IsLine, AreLines, AreAnswers, ended, IsTextOf}
 
 -- ---- one line
 
 -- the answer to the line was written, with its end
 pub record AnswersLine (line : List ℕ) (old new : Option (List ℕ)) : Type 0 where
   pub answer : List ℕ
-  pub is_answer : IsAnswer line answer
+  pub is_answer : IsAnswerTo line answer
   pub written : Appends old new (answer ++ (0x0A ∷ []))
 
 module _ {W : Type 0} (g : Ghosts W) (line : List ℕ) (old new : W) where
   -- why no answer was written, or not all of it
   pub data StopsAt (e : Asn1DerError) : Type 0 where
     no_memory : e ≡ OutOfMemory → new ≡ old → StopsAt e
-    no_sink : Faulted g old e new → (answer : List ℕ) → IsAnswer line answer → AppendsBeginning (g.told old) (g.told new) (answer ++ (0x0A ∷ [])) → StopsAt e
+    no_sink : Faulted g old e new → (answer : List ℕ) → IsAnswerTo line answer → AppendsBeginning (g.told old) (g.told new) (answer ++ (0x0A ∷ [])) → StopsAt e
 
 -- ---- a run
 
@@ -44,7 +44,7 @@ pub record WroteBeginning (in_old in_new out_old out_new : Option (List ℕ)) : 
   pub bytes : List ℕ
   pub drawn : Consumes in_old in_new bytes
   pub text : List ℕ
-  pub is_text : IsText bytes text
+  pub is_text : IsTextOf bytes text
   pub at_end : 0 < length is_text.last → IsAtEnd in_new
   pub written : AppendsBeginning out_old out_new text
 

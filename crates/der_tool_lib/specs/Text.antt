@@ -1,7 +1,7 @@
 -- The text that answers an input.
-use Rattle.std.specs.Prelude.{◌≡◌, ◌≢◌, ℕ, List, [], ◌∷◌, ◌++◌, Option, Some, None, ⊤}
+use Rattle.std.specs.Prelude.{◌≡◌, ◌≢◌, ℕ, List, [], ◌∷◌, ◌++◌, Option, IfSome, ⊤}
 use Rattle.std.specs.Io.KnownBytes.{Appends}
-use Rattle.der_tool_lib.specs.Answer.{IsAnswer}
+use Rattle.der_tool_lib.specs.Answer.{IsAnswerTo}
 
 -- no byte ends a line
 abbrev pub IsLine : List ℕ → Type 0
@@ -33,10 +33,10 @@ abbrev pub AreAnswers : List (List ℕ) → List (List ℕ) → Type 0
 AreAnswers [] [] = ⊤
 AreAnswers [] (answer ∷ answers) = ⊥
 AreAnswers (line ∷ lines) [] = ⊥
-AreAnswers (line ∷ lines) (answer ∷ answers) = IsAnswer line answer × AreAnswers lines answers
+AreAnswers (line ∷ lines) (answer ∷ answers) = IsAnswerTo line answer × AreAnswers lines answers
 
 -- the text that answers an input: the answers to its lines, in order, each ended by the byte 0A
-pub record IsText (input text : List ℕ) : Type 0 where
+pub record IsTextOf (input text : List ℕ) : Type 0 where
   pub lines : List (List ℕ)
   pub last : List ℕ
   pub split : IsSplit input lines last
@@ -46,5 +46,4 @@ pub record IsText (input text : List ℕ) : Type 0 where
 
 -- the text of the known bytes of an input was written
 abbrev pub WritesText : Option (List ℕ) → Option (List ℕ) → Option (List ℕ) → Type 0
-WritesText None old new = ⊤
-WritesText (Some input) old new = (text : List ℕ) × IsText input text × Appends old new text
+WritesText in_old old new = IfSome in_old (λ input. (text : List ℕ) × IsTextOf input text × Appends old new text)

@@ -8,7 +8,7 @@ use Rattle.picky_der_core.specs.Tree.{Tree}
 use Rattle.picky_der_core.specs.Encoding.{der}
 use Rattle.picky_der_core.specs.Readable.{IsReadable, IsWritable}
 use Rattle.picky_der_core.specs.Shape.{Shape, IsOf}
-use Rattle.picky_der_core.specs.Reading.{Reads}
+use Rattle.picky_der_core.specs.Reading.{ReadsFrom}
 use Rattle.picky_der_core.specs.Refusal.{Judge, boolean_fault, unsigned_fault, null_fault, character_fault, text_fault, bytes_fault, plain_refusal, element_refusal, fault}
 use Rattle.picky_der_de.specs.Steps.{IsOfContent}
 use Rattle.der_tool_lib.specs.declared.test_struct.TestStruct.{TestStruct}
@@ -62,7 +62,7 @@ described named.Spki = record { Value = SubjectPublicKeyInfo; meaning = spki_wri
 module _ (d : Description) (bytes : List ℕ) where
   -- a value of the type stands at the front of the bytes
   abbrev pub StandsFirst : d.Value → Type 0
-  StandsFirst v = Reads d.meaning d.shape bytes (length bytes) v
+  StandsFirst v = ReadsFrom d.meaning d.shape bytes (length bytes) v
 
   -- with more bytes behind them the bytes would be the encoding of a value that is read and written
   pub record BeginsValue : Type 0 where

@@ -2,7 +2,7 @@
 ghost use Rattle.std.specs.Prelude.{◌≡◌, codes, IfOk, IfErr, string_bytes};
 ghost use Rattle.hex.specs.Hex.{encode_lower, decode_of};
 ghost use Rattle.picky_der_core.specs.Element.{len};
-ghost use Rattle.der_tool_lib.specs.Answer.{AnswersDigits, IsAnswer};
+ghost use Rattle.der_tool_lib.specs.Answer.{AnswersDigits, IsAnswerTo};
 ghost use Rattle.der_tool_lib.specs.Words.{word_of};
 
 use crate::{Request, ValueType, answer_read};
@@ -13,7 +13,7 @@ use std::alloc::Global;
 
 /// The answer to a line; neither has the byte that ends it. The only error is `OutOfMemory`.
 pub fn answer_to(alloc: Global, line: &[u8]) -> Result<String>
-    ensures ok { IfOk result (λ text. IsAnswer line.now (string_bytes text)) }
+    ensures ok { IfOk result (λ text. IsAnswerTo line.now (string_bytes text)) }
     ensures err { IfErr result (λ e. e ≡ Asn1DerError.OutOfMemory) }
 {
     match Request::of(line) {

@@ -1,2 +1,7 @@
-mod Fronts
-mod Lines
+pub mod Fronts
+pub mod Lines
+pub mod Trimming
+pub mod Gathering
+pub mod Writing
+pub mod RunSteps
+pub mod RunStops

@@ -1,27 +1,149 @@
--- What is written of the blocks of an input.
-use Rattle.std.specs.Prelude.{◌≡◌, ℕ, List, [], ◌∷◌, ◌++◌, Option, Ok, ⊤, codes}
+-- The blocks of an input, and the lines that answer them.
+use Rattle.std.specs.Prelude.{◌≡◌, ℕ, ◌-◌, ◌<◌, List, [], ◌∷◌, ◌++◌, length, take, drop, Option, Some, None, IfSome, Ok, Err, ⊤, codes}
 use Rattle.std.specs.Io.KnownBytes.{Appends}
+use Rattle.std.specs.Char.{is_ascii_whitespace}
+use Rattle.std.specs.List.{prefix_len, suffix_len}
+use Rattle.base64.specs.declared.DecodeError.{DecodeError}
 use Rattle.base64.specs.Engines.{standard}
 use Rattle.base64.specs.GeneralPurpose.{decode_of}
+use Rattle.der_tool_lib.specs.Text.{AreLines, ended}
 use Rattle.der_x509_tool_lib.specs.Line.{IsLineOf}
 
--- The line of a block: that of the bytes of its text, or one that says why it has none.
-pub data IsBlockLine (line : List ℕ) : Type 0 where
-  decoded : (text bytes : List ℕ) → decode_of standard text ≡ Ok bytes → IsLineOf bytes line → IsBlockLine line
-  no_base64 : line ≡ codes "refused: the block is no base64" → IsBlockLine line
-  no_end : line ≡ codes "refused: the block has no end" → IsBlockLine line
+-- ---- lines
 
-abbrev pub AreBlockLines : List (List ℕ) → Type 0
-AreBlockLines [] = ⊤
-AreBlockLines (line ∷ lines) = IsBlockLine line × AreBlockLines lines
+-- a line without the white space at its front
+abbrev pub without_front : List ℕ → List ℕ
+without_front line = drop (prefix_len is_ascii_whitespace line) line
 
--- the lines one after another, each ended by the byte 0A
-abbrev pub ended : List (List ℕ) → List ℕ
-ended [] = []
-ended (line ∷ lines) = line ++ (0x0A ∷ ended lines)
+-- a line without the white space at its ends
+unfoldable pub trimmed : List ℕ → List ℕ
+trimmed line = take (length (without_front line) - suffix_len is_ascii_whitespace (without_front line)) (without_front line)
 
--- whole lines of blocks were written, and nothing else
-pub record WritesLines (old new : Option (List ℕ)) : Type 0 where
+unfoldable pub begin_line : List ℕ
+begin_line = codes "-----BEGIN CERTIFICATE-----"
+
+unfoldable pub end_line : List ℕ
+end_line = codes "-----END CERTIFICATE-----"
+
+-- a line that begins a block; one of 64 bytes or more begins none
+pub record BeginsBlock (line : List ℕ) : Type 0 where
+  pub short : length line < 64
+  pub is : trimmed line ≡ begin_line
+
+abbrev pub EndsBlock : List ℕ → Type 0
+EndsBlock line = trimmed line ≡ end_line
+
+-- a line of a block's text neither begins a block nor ends one
+pub record IsInside (line : List ℕ) : Type 0 where
+  pub begins_none : BeginsBlock line → ⊥
+  pub ends_none : EndsBlock line → ⊥
+
+abbrev pub AreInside : List (List ℕ) → Type 0
+AreInside [] = ⊤
+AreInside (line ∷ lines) = IsInside line × AreInside lines
+
+-- the text of these lines of a block
+abbrev pub text_of : List (List ℕ) → List ℕ
+text_of [] = []
+text_of (line ∷ lines) = trimmed line ++ text_of lines
+
+-- ---- what lines are made of
+
+pub data Part : Type 0 where
+  -- a line outside of blocks
+  outside : List ℕ → Part
+  -- the line that begins a block, the lines of its text, and the line that ends it
+  block : List ℕ → List (List ℕ) → List ℕ → Part
+  -- a block without an end, since another begins behind it
+  cut : List ℕ → List (List ℕ) → Part
+
+abbrev pub lines_of : Part → List (List ℕ)
+lines_of (Part.outside line) = line ∷ []
+lines_of (Part.block begin texts end) = begin ∷ (texts ++ (end ∷ []))
+lines_of (Part.cut begin texts) = begin ∷ texts
+
+abbrev pub all_lines : List Part → List (List ℕ)
+all_lines [] = []
+all_lines (part ∷ parts) = lines_of part ++ all_lines parts
+
+-- ---- answers
+
+-- The line of a block with this text: that of the bytes that the text stands for, or one that says that there are none.
+pub data IsBlockLine (text line : List ℕ) : Type 0 where
+  decoded : (bytes : List ℕ) → decode_of standard text ≡ Ok bytes → IsLineOf bytes line → IsBlockLine text line
+  no_base64 : (e : DecodeError) → decode_of standard text ≡ Err e → line ≡ codes "refused: the block is no base64" → IsBlockLine text line
+
+-- the line of a block without an end
+unfoldable pub no_end : List ℕ
+no_end = codes "refused: the block has no end"
+
+pub record IsBlock (begin : List ℕ) (texts : List (List ℕ)) (end : List ℕ) : Type 0 where
+  pub begins : BeginsBlock begin
+  pub inside : AreInside texts
+  pub ends : EndsBlock end
+
+pub record IsOpenBlock (begin : List ℕ) (texts : List (List ℕ)) : Type 0 where
+  pub begins : BeginsBlock begin
+  pub inside : AreInside texts
+
+-- no line outside of blocks is first
+abbrev pub BeginInBlock : List Part → Type 0
+BeginInBlock [] = ⊤
+BeginInBlock (Part.outside line ∷ parts) = ⊥
+BeginInBlock (Part.block begin texts end ∷ parts) = ⊤
+BeginInBlock (Part.cut begin texts ∷ parts) = ⊤
+
+-- each block is answered by a line, in order, and nothing else is
+abbrev pub AreAnswered : List Part → List (List ℕ) → Type 0
+AreAnswered [] [] = ⊤
+AreAnswered [] (answer ∷ answers) = ⊥
+AreAnswered (Part.outside line ∷ parts) answers = (BeginsBlock line → ⊥) × AreAnswered parts answers
+AreAnswered (Part.block begin texts end ∷ parts) [] = ⊥
+AreAnswered (Part.block begin texts end ∷ parts) (answer ∷ answers) = IsBlock begin texts end × IsBlockLine (text_of texts) answer × AreAnswered parts answers
+AreAnswered (Part.cut begin texts ∷ parts) [] = ⊥
+AreAnswered (Part.cut begin texts ∷ parts) (answer ∷ answers) = IsOpenBlock begin texts × (answer ≡ no_end) × BeginInBlock parts × AreAnswered parts answers
+
+-- nothing else has to stand behind it
+abbrev pub IsWhole : Part → Type 0
+IsWhole (Part.outside line) = ⊤
+IsWhole (Part.block begin texts end) = ⊤
+IsWhole (Part.cut begin texts) = ⊥
+
+-- the last part isn't cut
+abbrev pub AreWhole : List Part → Type 0
+AreWhole [] = ⊤
+AreWhole (part ∷ []) = IsWhole part
+AreWhole (part ∷ next ∷ parts) = AreWhole (next ∷ parts)
+
+-- what stands behind these parts: nothing, or a block that hasn't ended, whose text so far this is
+pub data IsOpen (parts : List Part) (lines : List (List ℕ)) (open_text : Option (List ℕ)) : Type 0 where
+  none : AreWhole parts → lines ≡ [] → open_text ≡ None → IsOpen parts lines open_text
+  some : (begin : List ℕ) (texts : List (List ℕ)) → IsOpenBlock begin texts → lines ≡ begin ∷ texts → open_text ≡ Some (text_of texts) → IsOpen parts lines open_text
+
+-- of these lines the blocks that have an end or are cut are answered so, and one may be open
+pub record HasAnswers (lines : List (List ℕ)) (open_text : Option (List ℕ)) (answers : List (List ℕ)) : Type 0 where
+  pub parts : List Part
+  pub answered : AreAnswered parts answers
+  pub open_lines : List (List ℕ)
+  pub is_open : IsOpen parts open_lines open_text
+  pub is : lines ≡ all_lines parts ++ open_lines
+
+-- at the end of the input an open block has no end
+abbrev pub answers_at_end : Option (List ℕ) → List (List ℕ)
+answers_at_end None = []
+answers_at_end (Some text) = no_end ∷ []
+
+-- The text that answers an input: the lines of its blocks, in order, each ended by the byte 0A. What stands behind the last
+-- such byte of the input is a line, too.
+pub record IsTextOf (input text : List ℕ) : Type 0 where
   pub lines : List (List ℕ)
-  pub are_lines : AreBlockLines lines
-  pub written : Appends old new (ended lines)
+  pub are_lines : AreLines lines
+  pub is_input : input ++ (0x0A ∷ []) ≡ ended lines
+  pub open_text : Option (List ℕ)
+  pub answers : List (List ℕ)
+  pub has_answers : HasAnswers lines open_text answers
+  pub is : text ≡ ended (answers ++ answers_at_end open_text)
+
+-- the text of the known bytes of an input was written
+abbrev pub WritesText : Option (List ℕ) → Option (List ℕ) → Option (List ℕ) → Type 0
+WritesText in_old old new = IfSome in_old (λ input. (text : List ℕ) × IsTextOf input text × Appends old new text)

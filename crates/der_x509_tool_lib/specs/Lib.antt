@@ -1,3 +1,4 @@
 pub mod Outcome
 pub mod Line
 pub mod Blocks
+pub mod Run

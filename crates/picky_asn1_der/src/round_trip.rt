@@ -4,7 +4,7 @@ ghost use Rattle.picky_der_core.specs.Element.{Begins};
 ghost use Rattle.picky_der_core.specs.Encoding.{der};
 ghost use Rattle.picky_der_core.specs.Shape.{IsOf};
 ghost use Rattle.picky_der_core.specs.Readable.{IsReadable, IsWritable};
-ghost use Rattle.picky_der_core.specs.Reading.{Reads};
+ghost use Rattle.picky_der_core.specs.Reading.{ReadsFrom};
 ghost use Rattle.picky_der_ser.specs.Calls.{MemoryExcuse};
 
 use crate::{Asn1DerError, Deserialize, Result, from_bytes, to_vec};
@@ -29,11 +29,11 @@ pub fn read_back<T: Deserialize>(alloc: Global, value: &T) -> Result<T>
 /// `OutOfMemory` where memory was refused; any other error means that no value that can be written stands there.
 pub fn written_back<T: Deserialize>(alloc: Global, bytes: &[u8]) -> Result<Vec<u8>>
     ensures written { IfOk result (λ again. (v : T)
-        × Reads T.meaning T.shape bytes.now (length bytes.now) v
+        × ReadsFrom T.meaning T.shape bytes.now (length bytes.now) v
         × (again.items ≡ der (T.meaning v))) }
     ensures same { IfOk result (λ again. Begins again.items bytes.now) }
     ensures err { IfErr result (λ e. e ≢ Asn1DerError.OutOfMemory → (v : T)
-        → Reads T.meaning T.shape bytes.now (length bytes.now) v → IsWritable (T.meaning v) → ⊥) }
+        → ReadsFrom T.meaning T.shape bytes.now (length bytes.now) v → IsWritable (T.meaning v) → ⊥) }
 {
     let value: T = from_bytes(alloc, bytes)?;
     to_vec(alloc, &value)

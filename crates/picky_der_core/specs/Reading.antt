@@ -37,8 +37,8 @@ pub record StandsAt (place : Place) (s : Shape) (bs : List ℕ) (limit : ℕ) (t
   pub front : Begins (written_at place t) bs
 
 -- a value v of a type, known by what it means, is read from the input within the limit
-abbrev pub Reads : {V : Type 0} → (V → Tree) → Shape → List ℕ → ℕ → V → Type 0
-Reads meaning s input limit v = StandsAt Place.whole s input limit (meaning v)
+abbrev pub ReadsFrom : {V : Type 0} → (V → Tree) → Shape → List ℕ → ℕ → V → Type 0
+ReadsFrom meaning s input limit v = StandsAt Place.whole s input limit (meaning v)
 
 -- more bytes behind b could make a value of the type of it: of some value, of at most `room` bytes, b is the beginning, or
 -- it is the beginning of b

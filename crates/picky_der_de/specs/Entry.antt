@@ -9,14 +9,14 @@ use Rattle.picky_der_core.specs.Tree.{Tree}
 use Rattle.picky_der_core.specs.Encoding.{der}
 use Rattle.picky_der_core.specs.Readable.{IsReadable}
 use Rattle.picky_der_core.specs.Shape.{Shape, IsOf, IsFirst}
-use Rattle.picky_der_core.specs.Reading.{Place, Reads, IsMendable}
+use Rattle.picky_der_core.specs.Reading.{Place, ReadsFrom, IsMendable}
 use Rattle.picky_der_input.specs.Steps.{IsOther}
 
 -- the value at the front of the input, and the only one: any other there means the same tree, and is equal by `==`
 pub record IsFront {V : Type 0} (meaning : V → Tree) (s : Shape) (eq : V → V → Bool) (input : List ℕ) (limit : ℕ) (v : V) : Type 0 where
-  pub reads : Reads meaning s input limit v
-  pub only : (w : V) → Reads meaning s input limit w → eq v w ≡ true
-  pub same : (w : V) → Reads meaning s input limit w → meaning v ≡ meaning w
+  pub reads : ReadsFrom meaning s input limit v
+  pub only : (w : V) → ReadsFrom meaning s input limit w → eq v w ≡ true
+  pub same : (w : V) → ReadsFrom meaning s input limit w → meaning v ≡ meaning w
 
 -- how many bytes of input there may be
 abbrev pub any_length : ℕ
@@ -24,7 +24,7 @@ any_length = 2 ^ 64 - 1
 
 -- memory was refused, or no value stands at the front of the input
 pub record HasNoFront {V : Type 0} (meaning : V → Tree) (s : Shape) (input : List ℕ) (limit : ℕ) (e : Asn1DerError) : Type 0 where
-  pub none : e ≢ OutOfMemory → (v : V) → Reads meaning s input limit v → ⊥
+  pub none : e ≢ OutOfMemory → (v : V) → ReadsFrom meaning s input limit v → ⊥
   -- more bytes behind the input could make a value only where it was cut short
   pub final : e ≢ OutOfMemory → IsMendable meaning s Place.whole input any_length → e ≡ TruncatedData
   -- it isn't said to be cut short at a byte with which no value begins
@@ -56,7 +56,7 @@ pub record Draws (limit : ℕ) (old new : Option (List ℕ)) : Type 0 where
 
 -- the reader failed, memory was refused, or no value stands at the front of the input
 pub record RefusesFront {V : Type 0} (meaning : V → Tree) (s : Shape) (limit : ℕ) (old new : Reader) (e : Asn1DerError) : Type 0 where
-  pub none : new.faults ≡ old.faults → e ≢ OutOfMemory → (input : List ℕ) → old.input ≡ Some input → (v : V) → Reads meaning s input limit v → ⊥
+  pub none : new.faults ≡ old.faults → e ≢ OutOfMemory → (input : List ℕ) → old.input ≡ Some input → (v : V) → ReadsFrom meaning s input limit v → ⊥
   -- more bytes behind those that were drawn could make a value only where the input was cut short
   pub final : new.faults ≡ old.faults → e ≢ OutOfMemory → (d left : List ℕ) → old.input ≡ Some (d ++ left) → new.input ≡ Some left → IsMendable meaning s Place.whole d any_length → e ≡ TruncatedData
   -- it isn't said to be cut short at a byte with which no value begins

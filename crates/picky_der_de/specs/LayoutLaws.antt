@@ -10,7 +10,7 @@ use Rattle.picky_der_ser.specs.Meaning.{maybe_more, unless_default}
 use Rattle.picky_der_ser.specs.Defaults.{IsByTree, IsOne}
 use Rattle.picky_der_de.specs.Firsts.{IsBegunBy, BytesIn, bytes_in, begins_among}
 use Rattle.picky_der_de.specs.InjectiveLaws.{IsInjective, first_member, other_members}
-use Rattle.picky_der_de.specs.Layouts.{Presence, always, perhaps, placed, AreBegunBy}
+use Rattle.picky_der_de.specs.Layouts.{Presence, always, perhaps, place_then, AreBegunBy}
 
 -- the first member that is there is made of bytes, where it is a raw part
 bytes_next : (l : Layout) (t : Tree) (ts : Trees) → AreMembersOf l (Trees.more t ts) → BytesIn t
@@ -172,27 +172,27 @@ module _ {V W X : Type 0} {presence : Presence} {in_front : X → Trees → Tree
   stand : (v : V) → in_front (first v) (others v) ≡ maybe_more meaning (item (first v)) (others v)
   stand v = c.stands (first v) (others v)
 
-  begun_by : (p : Presence) (o : Option W) (v : V) → IsThere p o → AreBegunBy (next_firsts (placed p s l)) (maybe_more meaning o (others v))
+  begun_by : (p : Presence) (o : Option W) (v : V) → IsThere p o → AreBegunBy (next_firsts (place_then p s l)) (maybe_more meaning o (others v))
   begun_by always None v t = absurd t
   begun_by always (Some w) v t = c.begins w
   begun_by perhaps o v t = maybe_begun meaning s l c.begins o (others v) (cs.begins v)
 
-  known_by : (p : Presence) (a b : Option W) (x y : V) → IsThere p a → IsThere p b → AreMembersTold (placed p s l) → AreMembersOf (placed p s l) (maybe_more meaning a (others x)) → AreMembersOf (placed p s l) (maybe_more meaning b (others y)) → AreReadable (maybe_more meaning a (others x))
+  known_by : (p : Presence) (a b : Option W) (x y : V) → IsThere p a → IsThere p b → AreMembersTold (place_then p s l) → AreMembersOf (place_then p s l) (maybe_more meaning a (others x)) → AreMembersOf (place_then p s l) (maybe_more meaning b (others y)) → AreReadable (maybe_more meaning a (others x))
       → maybe_more meaning a (others x) ≡ maybe_more meaning b (others y) → (option_eq eq_item a b ≡ true) × AreEqual x y
   known_by always None b x y t k told p q r e = absurd t
   known_by always (Some v) None x y t k told p q r e = absurd k
   known_by always (Some v) (Some w) x y t k told p q r e = (c.known v w p.0 q.0 r.0 (first_member e), cs.known told x y p.1 q.1 r.1 (other_members e))
   known_by perhaps a b x y t k told p q r e = maybe_told meaning s l c.begins told eq_item (AreEqual x y) c.known (others x) (others y) (cs.begins x) (cs.begins y) (cs.known told.1 x y) a b p q r e
 
-  sound_by : (p : Presence) → AreMembersSound (placed p s l)
+  sound_by : (p : Presence) → AreMembersSound (place_then p s l)
   sound_by always = (c.sound, cs.sound)
   sound_by perhaps = (c.sound, cs.sound)
 
-  pub lead : AreComponents (λ v. in_front (first v) (others v)) (placed presence s l) (λ x y. (eq (first x) (first y) ≡ true) × AreEqual x y)
+  pub lead : AreComponents (λ v. in_front (first v) (others v)) (place_then presence s l) (λ x y. (eq (first x) (first y) ≡ true) × AreEqual x y)
   lead = record {
-    begins = λ v. subst (AreBegunBy (next_firsts (placed presence s l))) (sym (stand v)) (begun_by presence (item (first v)) v (c.there (first v)));
+    begins = λ v. subst (AreBegunBy (next_firsts (place_then presence s l))) (sym (stand v)) (begun_by presence (item (first v)) v (c.there (first v)));
     known = λ told x y p q r e.
-        let same = known_by presence (item (first x)) (item (first y)) x y (c.there (first x)) (c.there (first y)) told (subst (AreMembersOf (placed presence s l)) (stand x) p) (subst (AreMembersOf (placed presence s l)) (stand y) q) (subst AreReadable (stand x) r) (sym (stand x) ∙ e ∙ stand y) in
+        let same = known_by presence (item (first x)) (item (first y)) x y (c.there (first x)) (c.there (first y)) told (subst (AreMembersOf (place_then presence s l)) (stand x) p) (subst (AreMembersOf (place_then presence s l)) (stand y) q) (subst AreReadable (stand x) r) (sym (stand x) ∙ e ∙ stand y) in
         (c.equal (first x) (first y) same.0, same.1);
     sound = sound_by presence;
   }

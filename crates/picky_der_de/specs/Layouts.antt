@@ -38,9 +38,9 @@ pub data Presence : Type 0 where
   perhaps : Presence
 
 -- a member in front of others
-abbrev pub placed : Presence → Shape → Layout → Layout
-placed always = Layout.required
-placed perhaps = Layout.maybe
+abbrev pub place_then : Presence → Shape → Layout → Layout
+place_then always = Layout.required
+place_then perhaps = Layout.maybe
 
 -- why it wasn't read: one that is always there is no default
 abbrev pub RefusesComponent : {V : Type 0} → Presence → (V → Tree) → (V → Bool) → Shape → State → State → Asn1DerError → Type 0

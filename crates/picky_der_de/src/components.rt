@@ -1,5 +1,5 @@
 //! Up to eight members of a struct at a time, as they are read, and those behind them.
-ghost use Rattle.picky_der_de.specs.Layouts.{placed};
+ghost use Rattle.picky_der_de.specs.Layouts.{place_then};
 ghost use Rattle.picky_der_de.specs.InjectiveLaws.{both};
 ghost use Rattle.picky_der_de.specs.LayoutLaws.{equal_so, lead, behind};
 
@@ -8,7 +8,7 @@ use picky_der_core::Result;
 use picky_der_core::misc::ReadExt;
 
 impl<A: DeserializeMember, Z: DeserializeLayout> DeserializeLayout for (A, Z) {
-    ghost layout = { placed A.presence A.shape Z.layout };
+    ghost layout = { place_then A.presence A.shape Z.layout };
 
     fn deserialize_layout<R: ReadExt>(sequence: &mut Sequence<'_, R>) -> Result<(A, Z)> {
         let first = A::deserialize_member(sequence)?;
@@ -22,7 +22,7 @@ impl<A: DeserializeMember, Z: DeserializeLayout> DeserializeLayout for (A, Z) {
 
 impl<A: DeserializeMember, B: DeserializeMember, Z: DeserializeLayout> DeserializeLayout
     for (A, B, Z) {
-    ghost layout = { placed A.presence A.shape (placed B.presence B.shape Z.layout) };
+    ghost layout = { place_then A.presence A.shape (place_then B.presence B.shape Z.layout) };
 
     fn deserialize_layout<R: ReadExt>(sequence: &mut Sequence<'_, R>) -> Result<(A, B, Z)> {
         let first = A::deserialize_member(sequence)?;
@@ -41,7 +41,7 @@ impl<
     C: DeserializeMember,
     Z: DeserializeLayout,
 > DeserializeLayout for (A, B, C, Z) {
-    ghost layout = { placed A.presence A.shape (placed B.presence B.shape (placed C.presence C.shape Z.layout)) };
+    ghost layout = { place_then A.presence A.shape (place_then B.presence B.shape (place_then C.presence C.shape Z.layout)) };
 
     fn deserialize_layout<R: ReadExt>(sequence: &mut Sequence<'_, R>) -> Result<(A, B, C, Z)> {
         let first = A::deserialize_member(sequence)?;
@@ -62,8 +62,8 @@ impl<
     D: DeserializeMember,
     Z: DeserializeLayout,
 > DeserializeLayout for (A, B, C, D, Z) {
-    ghost layout = { placed A.presence A.shape (placed B.presence B.shape
-        (placed C.presence C.shape (placed D.presence D.shape Z.layout))) };
+    ghost layout = { place_then A.presence A.shape (place_then B.presence B.shape
+        (place_then C.presence C.shape (place_then D.presence D.shape Z.layout))) };
 
     fn deserialize_layout<R: ReadExt>(sequence: &mut Sequence<'_, R>) -> Result<(A, B, C, D, Z)> {
         let first = A::deserialize_member(sequence)?;
@@ -85,8 +85,8 @@ impl<
     E: DeserializeMember,
     Z: DeserializeLayout,
 > DeserializeLayout for (A, B, C, D, E, Z) {
-    ghost layout = { placed A.presence A.shape (placed B.presence B.shape
-        (placed C.presence C.shape (placed D.presence D.shape (placed E.presence E.shape Z.layout)))) };
+    ghost layout = { place_then A.presence A.shape (place_then B.presence B.shape
+        (place_then C.presence C.shape (place_then D.presence D.shape (place_then E.presence E.shape Z.layout)))) };
 
     fn deserialize_layout<R: ReadExt>(
         sequence: &mut Sequence<'_, R>,
@@ -112,8 +112,8 @@ impl<
     F: DeserializeMember,
     Z: DeserializeLayout,
 > DeserializeLayout for (A, B, C, D, E, F, Z) {
-    ghost layout = { placed A.presence A.shape (placed B.presence B.shape
-        (placed C.presence C.shape (placed D.presence D.shape (placed E.presence E.shape (placed F.presence F.shape Z.layout))))) };
+    ghost layout = { place_then A.presence A.shape (place_then B.presence B.shape
+        (place_then C.presence C.shape (place_then D.presence D.shape (place_then E.presence E.shape (place_then F.presence F.shape Z.layout))))) };
 
     fn deserialize_layout<R: ReadExt>(
         sequence: &mut Sequence<'_, R>,
@@ -141,9 +141,9 @@ impl<
     G: DeserializeMember,
     Z: DeserializeLayout,
 > DeserializeLayout for (A, B, C, D, E, F, G, Z) {
-    ghost layout = { placed A.presence A.shape (placed B.presence B.shape
-        (placed C.presence C.shape (placed D.presence D.shape
-        (placed E.presence E.shape (placed F.presence F.shape (placed G.presence G.shape Z.layout)))))) };
+    ghost layout = { place_then A.presence A.shape (place_then B.presence B.shape
+        (place_then C.presence C.shape (place_then D.presence D.shape
+        (place_then E.presence E.shape (place_then F.presence F.shape (place_then G.presence G.shape Z.layout)))))) };
 
     fn deserialize_layout<R: ReadExt>(
         sequence: &mut Sequence<'_, R>,
@@ -173,9 +173,9 @@ impl<
     H: DeserializeMember,
     Z: DeserializeLayout,
 > DeserializeLayout for (A, B, C, D, E, F, G, H, Z) {
-    ghost layout = { placed A.presence A.shape (placed B.presence B.shape
-        (placed C.presence C.shape (placed D.presence D.shape
-        (placed E.presence E.shape (placed F.presence F.shape (placed G.presence G.shape (placed H.presence H.shape Z.layout))))))) };
+    ghost layout = { place_then A.presence A.shape (place_then B.presence B.shape
+        (place_then C.presence C.shape (place_then D.presence D.shape
+        (place_then E.presence E.shape (place_then F.presence F.shape (place_then G.presence G.shape (place_then H.presence H.shape Z.layout))))))) };
 
     fn deserialize_layout<R: ReadExt>(
         sequence: &mut Sequence<'_, R>,

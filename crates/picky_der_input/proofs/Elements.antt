@@ -17,7 +17,7 @@ use Rattle.picky_der_core.specs.Refusal.{Refusal, bytes_fault, plain_refusal, el
 use Rattle.picky_der_input.specs.State.{State}
 use Rattle.picky_der_input.specs.Steps.{Takes, TakesBytes, Fails, StopsShort, IsMissing, IsJudged, failed_with, is_hard, place_in, place_of, drawn}
 use Rattle.picky_der_input.specs.Reading.{Concerns, now, ever, IsJustRefused, RefusesPlain, refusal_at}
-use Rattle.picky_der_input.specs.Headers.{Begins, RefusesContentLength}
+use Rattle.picky_der_input.specs.Headers.{BeginsContent, RefusesContentLength}
 use Rattle.picky_der_input.specs.Elements.{raw_refusal, given_up, BeginsElement, ReadsRaw, RefusesRaw}
 use Rattle.picky_der_input.proofs.Steps.{fails_after}
 use Rattle.picky_der_input.proofs.Refusals.{behind, failed_grows, missing_here, missing_first, taken_first}
@@ -181,7 +181,7 @@ raw_no_length {tag = tag} t n byte bounded r =
     let h = header_unread tag n t r in
     refuses_tagged t (failed_grows r.fails) n byte (refuses_header (bytes_kind tag n) (record { fails = h.fails; header = λ j. (refl, h); bounded = λ w. bounded }))
 
-begins_tagged : {a b : State} {tag n : ℕ} → BeginsElement a b tag n → Begins tag (given_up a) b n
+begins_tagged : {a b : State} {tag n : ℕ} → BeginsElement a b tag n → BeginsContent tag (given_up a) b n
 begins_tagged h = record { takes = h.takes; implicit_tag = h.implicit_tag; fits = h.fits; all = tt; bounded = h.bounded }
 
 -- the content ended before it was whole

@@ -21,7 +21,7 @@ use Rattle.picky_der_input.specs.declared.enclosure.Enclosure.{Enclosure}
 use Rattle.picky_der_input.specs.declared.enclosure.Enclosure.TheVariants as enclosure
 use Rattle.picky_der_input.specs.State.{State}
 use Rattle.picky_der_input.specs.Steps.{place_in, is_hard}
-use Rattle.picky_der_input.specs.Enclosures.{enclose, enclosure_tag, HasNumber, enclose_shape, counts_unused_bits, unused_bits, implicit_number, unused_bits_refusal, enclosure_header, refusal_behind, opening_refusal}
+use Rattle.picky_der_input.specs.Enclosures.{enclose, enclosure_tag, HasEnclosureNumber, enclose_shape, counts_unused_bits, unused_bits, implicit_number, unused_bits_refusal, enclosure_header, refusal_behind, opening_refusal}
 use Rattle.picky_der_input.proofs.Headers.{is_number, header-read}
 
 -- ---- the tree in an enclosure
@@ -47,14 +47,14 @@ readable_held (enclosure.Wrapper (Explicit n)) t r = r.1
 readable_held (enclosure.Wrapper (Implicit n)) t r = r.2
 readable_held (enclosure.Application n) t r = r.1
 
-pub readable_number : (w : Enclosure) (t : Tree) → IsReadable (enclose w t) → HasNumber w
+pub readable_number : (w : Enclosure) (t : Tree) → IsReadable (enclose w t) → HasEnclosureNumber w
 readable_number (enclosure.Wrapper OctetContainer) t r = tt
 readable_number (enclosure.Wrapper BitContainer) t r = tt
 readable_number (enclosure.Wrapper (Explicit n)) t r = r.0
 readable_number (enclosure.Wrapper (Implicit n)) t r = r.0
 readable_number (enclosure.Application n) t r = r.0
 
-pub readable_enclosed : (w : Enclosure) (t : Tree) (until_end : ℕ) → HasNumber w → IsReadable t → MayStand (place_in (implicit_number w) until_end) t → IsReadable (enclose w t)
+pub readable_enclosed : (w : Enclosure) (t : Tree) (until_end : ℕ) → HasEnclosureNumber w → IsReadable t → MayStand (place_in (implicit_number w) until_end) t → IsReadable (enclose w t)
 readable_enclosed (enclosure.Wrapper OctetContainer) t until_end n r m = r
 readable_enclosed (enclosure.Wrapper BitContainer) t until_end n r m = r
 readable_enclosed (enclosure.Wrapper (Explicit k)) t until_end n r m = (n, r)
@@ -101,7 +101,7 @@ pub written_enclosed : (d : Option ℕ) (ahead until_end : ℕ) (w : Enclosure) 
     → written_at (place_in d ahead) (enclose w t) ≡ tlv (enclosure_tag w) (unused_bits w ++ written_at (place_in (implicit_number w) until_end) t)
 written_enclosed d ahead until_end w t r = written_whole d ahead w t ∙ der-enclose w t until_end r
 
-pub first_enclosed : (w : Enclosure) (s : Shape) → HasNumber w → IsFirst (enclose_shape w s) (enclosure_tag w)
+pub first_enclosed : (w : Enclosure) (s : Shape) → HasEnclosureNumber w → IsFirst (enclose_shape w s) (enclosure_tag w)
 first_enclosed (enclosure.Wrapper OctetContainer) s h = refl
 first_enclosed (enclosure.Wrapper BitContainer) s h = refl
 first_enclosed (enclosure.Wrapper (Explicit n)) s h = has_numbered n (0xA0 + n) h
@@ -147,11 +147,11 @@ behind_read (enclosure.Application k) n until_end rest left e l m = refl
 
 -- ---- the header
 
-tag_number : (w : Enclosure) → HasNumber w → IsTagNumber (number_of (enclosure_tag w))
+tag_number : (w : Enclosure) → HasEnclosureNumber w → IsTagNumber (number_of (enclosure_tag w))
 tag_number (enclosure.Wrapper w) h = wrapper_tag_number w h
 tag_number (enclosure.Application n) h = omega arith
 
-enclosure_header_is : (w : Enclosure) (hard : Bool) (ahead : ℕ) (rest : List ℕ) → HasNumber w → enclosure_header w hard ahead rest ≡ header (enclosure_tag w) hard ahead rest
+enclosure_header_is : (w : Enclosure) (hard : Bool) (ahead : ℕ) (rest : List ℕ) → HasEnclosureNumber w → enclosure_header w hard ahead rest ≡ header (enclosure_tag w) hard ahead rest
 enclosure_header_is (enclosure.Wrapper OctetContainer) hard ahead rest h = refl
 enclosure_header_is (enclosure.Wrapper BitContainer) hard ahead rest h = refl
 enclosure_header_is (enclosure.Wrapper (Explicit n)) hard ahead rest h = rw (is_number h, is_number (tag_number (enclosure.Wrapper (Explicit n)) h)) refl
@@ -159,13 +159,13 @@ enclosure_header_is (enclosure.Wrapper (Implicit n)) hard ahead rest h = rw (is_
 enclosure_header_is (enclosure.Application n) hard ahead rest h = rw (is_number h, is_number (tag_number (enclosure.Application n) h)) refl
 
 -- known bytes with a header in front
-pub opening_read : (w : Enclosure) (s : State) (n q : ℕ) (y : List ℕ) → HasNumber w → n < 2 ^ 64 → s.until_end ≡ length (enclosure_tag w ∷ len n) + q → n ≤ q
+pub opening_read : (w : Enclosure) (s : State) (n q : ℕ) (y : List ℕ) → HasEnclosureNumber w → n < 2 ^ 64 → s.until_end ≡ length (enclosure_tag w ∷ len n) + q → n ≤ q
     → opening_refusal w s ((enclosure_tag w ∷ len n) ++ y) ≡ refusal_behind (counts_unused_bits w) (Ok (n, y))
 opening_read w s n q y h small r l =
     ap (refusal_behind (counts_unused_bits w)) (enclosure_header_is w (is_hard s.end) s.until_end ((enclosure_tag w ∷ len n) ++ y) h ∙ header-read (enclosure_tag w) (is_hard s.end) s.until_end n q y (tag_number w h) small r l)
 
 -- a refused header
-pub opening_refused : (w : Enclosure) (s : State) (rest : List ℕ) (r : Refusal) → HasNumber w → header_refusal (enclosure_tag w) (is_hard s.end) s.until_end rest ≡ Some r → opening_refusal w s rest ≡ Some r
+pub opening_refused : (w : Enclosure) (s : State) (rest : List ℕ) (r : Refusal) → HasEnclosureNumber w → header_refusal (enclosure_tag w) (is_hard s.end) s.until_end rest ≡ Some r → opening_refusal w s rest ≡ Some r
 opening_refused w s rest r h e =
     ap (refusal_behind (counts_unused_bits w)) (enclosure_header_is w (is_hard s.end) s.until_end rest h) ∙ refused (counts_unused_bits w) (header (enclosure_tag w) (is_hard s.end) s.until_end rest) e
   where
@@ -179,7 +179,7 @@ past_number : (n : ℕ) → (IsTagNumber n → ⊥) → is_tag_number n ≡ fals
 past_number n h = grind (arith, nat_tests)
 
 -- a tag of the long form is refused before any byte is looked at
-pub opening_unsupported : (w : Enclosure) (s : State) (rest : List ℕ) → (HasNumber w → ⊥) → opening_refusal w s rest ≡ Some (UnsupportedValue, rest)
+pub opening_unsupported : (w : Enclosure) (s : State) (rest : List ℕ) → (HasEnclosureNumber w → ⊥) → opening_refusal w s rest ≡ Some (UnsupportedValue, rest)
 opening_unsupported (enclosure.Wrapper OctetContainer) s rest h = absurd (h tt)
 opening_unsupported (enclosure.Wrapper BitContainer) s rest h = absurd (h tt)
 opening_unsupported (enclosure.Wrapper (Explicit n)) s rest h = rw (past_number n h) refl

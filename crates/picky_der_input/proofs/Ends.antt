@@ -10,7 +10,7 @@ use Rattle.picky_der_input.specs.Steps.{Takes, Fails, IsJudged, far, is_hard}
 use Rattle.picky_der_input.specs.Order.{order_of, entered, cut_at}
 use Rattle.picky_der_input.proofs.Order.{put_back}
 use Rattle.picky_der_input.specs.Reading.{Concerns, now, ever}
-use Rattle.picky_der_input.specs.Headers.{header_bytes, Begins}
+use Rattle.picky_der_input.specs.Headers.{header_bytes, BeginsContent}
 use Rattle.picky_der_input.specs.Ends.{Outer, innermost, narrowed, Closes, OpensList, list_refusal_in, list_refusal}
 use Rattle.picky_der_input.proofs.Known.{front_of}
 use Rattle.picky_der_input.proofs.Headers.{header-read}
@@ -23,13 +23,13 @@ header_not_refused : (d : Option ℕ) (tag n q : ℕ) (s : State) (y : List ℕ)
 header_not_refused None tag n q s y i small r l = ap refusal_of (header-read tag (is_hard s.end) s.until_end n q y i small r l)
 header_not_refused (Some number) tag n q s y i small r l = refl
 
-not_refused : {tag n : ℕ} {a b : State} {bs : List ℕ} → IsTagNumber (number_of tag) → Begins tag a b n → a.input ≡ Some bs → list_refusal tag a (take a.until_end bs) ≡ None
+not_refused : {tag n : ℕ} {a b : State} {bs : List ℕ} → IsTagNumber (number_of tag) → BeginsContent tag a b n → a.input ≡ Some bs → list_refusal tag a (take a.until_end bs) ≡ None
 not_refused {tag} {n} {a} {b} i h k =
     let f = front_of h.takes k in
     ap (list_refusal tag a) f.before ∙ header_not_refused a.implicit_tag tag n b.until_end a (take b.until_end f.rest) i (fits_below h) h.takes.until_end h.fits
 
 -- the end of a list was opened behind its header
-pub opens_list : {tag n : ℕ} {a b c : State} {outer : Outer} → IsTagNumber (number_of tag) → Begins tag a b n → c ≡ record (narrowed b n Soft) { sets = entered (order_of tag) b.sets } → outer ≡ innermost b → OpensList tag a c outer
+pub opens_list : {tag n : ℕ} {a b c : State} {outer : Outer} → IsTagNumber (number_of tag) → BeginsContent tag a b n → c ≡ record (narrowed b n Soft) { sets = entered (order_of tag) b.sets } → outer ≡ innermost b → OpensList tag a c outer
 opens_list {n = n} {b = b} i h opened back = record {
   mid = b;
   len = n;

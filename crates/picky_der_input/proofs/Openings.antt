@@ -13,7 +13,7 @@ use Rattle.picky_der_input.specs.Steps.{Takes, Fails, IsJudged, IsMissing, end_i
 use Rattle.picky_der_input.specs.Reading.{Concerns, now, ever, IsJustRefused}
 use Rattle.picky_der_input.specs.Headers.{RefusesHeader}
 use Rattle.picky_der_input.specs.Ends.{Outer, innermost, narrowed}
-use Rattle.picky_der_input.specs.Enclosures.{enclosure_tag, HasNumber, unused_bits, counts_unused_bits, implicit_number, unused_bits_refusal, refusal_behind, opening_refusal, restored, OpensEnclosure, RefusesOpening, BeginsEnclosure, StopsUnusedBits, count_missing, count_other, RefusesUnusedBits}
+use Rattle.picky_der_input.specs.Enclosures.{enclosure_tag, HasEnclosureNumber, unused_bits, counts_unused_bits, implicit_number, unused_bits_refusal, refusal_behind, opening_refusal, restored, OpensEnclosure, RefusesOpening, BeginsEnclosure, StopsUnusedBits, count_missing, count_other, RefusesUnusedBits}
 use Rattle.picky_der_input.proofs.Steps.{takes_then, takes_none, fails_after, judged_after}
 use Rattle.picky_der_input.proofs.Refusals.{consumed, behind, failed_grows, missing_here, taken_first, at_end_of}
 use Rattle.picky_der_input.proofs.Known.{front_of, just_taken, kept_known, peeked_kept}
@@ -26,7 +26,7 @@ use Rattle.picky_der_input.proofs.Enclosures.{some_unused, no_unused, unused_cut
 -- ---- refused headers
 
 -- a tag of the long form was asked for, and nothing was taken
-pub opening_past : {w : Enclosure} {a c : State} {e : Asn1DerError} → (HasNumber w → ⊥) → Fails a c e → e ≡ UnsupportedValue → c ≡ failed_with a e → a.until_end < 2 ^ 64 → RefusesOpening w a c e
+pub opening_past : {w : Enclosure} {a c : State} {e : Asn1DerError} → (HasEnclosureNumber w → ⊥) → Fails a c e → e ≡ UnsupportedValue → c ≡ failed_with a e → a.until_end < 2 ^ 64 → RefusesOpening w a c e
 opening_past {w} {a} {c} {e} n f is same small = record {
   fails = f;
   none = λ j end bs k content rest number. absurd (n number);
@@ -43,7 +43,7 @@ opening_past {w} {a} {c} {e} n f is same small = record {
 }
 
 -- the header was refused
-pub opening_header : {w : Enclosure} {a c : State} {e : Asn1DerError} → HasNumber w → RefusesHeader (enclosure_tag w) a c e → TakesNoMemory a c e → a.until_end < 2 ^ 64 → RefusesOpening w a c e
+pub opening_header : {w : Enclosure} {a c : State} {e : Asn1DerError} → HasEnclosureNumber w → RefusesHeader (enclosure_tag w) a c e → TakesNoMemory a c e → a.until_end < 2 ^ 64 → RefusesOpening w a c e
 opening_header {w} {a} {c} {e} number h m small = record {
   fails = h.fails;
   none = λ j end bs k content rest n below is fits. h.none j end bs k (unused_bits w ++ content) rest below is fits;

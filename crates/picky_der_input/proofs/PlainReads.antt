@@ -21,7 +21,7 @@ use Rattle.picky_der_input.specs.State.{State}
 use Rattle.picky_der_input.specs.Steps.{Takes, TakesKept, Fails, IsCut, StopsShort, IsJudged, failed_with, is_hard, place_in, place_of, drawn}
 use Rattle.picky_der_input.specs.PlainKinds.{IsPlainKind, IsShortKind}
 use Rattle.picky_der_input.specs.Reading.{Concerns, Refuses, refusal_in, refusal_at, IsJustRefused, ReadsPlain, RefusesPlain}
-use Rattle.picky_der_input.specs.Headers.{header_bytes, Begins, RefusesBegin, NoElement}
+use Rattle.picky_der_input.specs.Headers.{header_bytes, BeginsContent, RefusesBegin, NoElement}
 use Rattle.picky_der_input.proofs.Steps.{takes_then, fails_after, judged_after}
 use Rattle.picky_der_input.proofs.Refusals.{behind, failed_grows, cut_grows, missing_here, end_below, taken_first}
 use Rattle.picky_der_input.proofs.Lengths.{cut_after}
@@ -67,7 +67,7 @@ pub record Content (mid new : State) (e : Asn1DerError) (n : ℕ) (t : Tree) : T
   pub begins : seen ≡ content t ++ rest
   pub size : length (content t) ≡ n
 
-pub begun : {a b c : State} {s : Shape} {e : Asn1DerError} {tag n end : ℕ} {bs : List ℕ} {t : Tree} → Begins tag a b n → b.taken ≤ drawn c → is_plain t ≡ true → plain_tag t ≡ tag
+pub begun : {a b c : State} {s : Shape} {e : Asn1DerError} {tag n end : ℕ} {bs : List ℕ} {t : Tree} → BeginsContent tag a b n → b.taken ≤ drawn c → is_plain t ≡ true → plain_tag t ≡ tag
     → Concerns a c e end bs → StandsAt (place_of a) s bs end t → Content b c e n t
 begun {a} {b} {c} {s} {e} {tag} {n} {end} {bs} {t} h g p k w st =
     let v = behind h.takes g w in
@@ -150,11 +150,11 @@ content_cut judge n y l = rw (lt-ltb (length y) n l) refl
 content_judged : (judge : Judge) (x y : List ℕ) → content_refusal judge (Ok (length x, x ++ y)) ≡ judged (judge x) y
 content_judged judge x y = rw (le-ltb (length (x ++ y)) (length x) (omega (arith, length-append x y)), take-append_seam x y, drop-append_seam x y) refl
 
-pub fits_below : {a b : State} {tag n : ℕ} → Begins tag a b n → n < 2 ^ 64
+pub fits_below : {a b : State} {tag n : ℕ} → BeginsContent tag a b n → n < 2 ^ 64
 fits_below h = omega (arith, h.fits, h.takes.until_end, h.bounded)
 
 -- a plain value whose header was taken
-behind_header : {V : Type 0} {meaning : V → Tree} {s : Shape} {tag n : ℕ} {judge : Judge} {a b c : State} {e : Asn1DerError} → IsPlainKind meaning s tag judge → Begins tag a b n → Fails b c e
+behind_header : {V : Type 0} {meaning : V → Tree} {s : Shape} {tag n : ℕ} {judge : Judge} {a b c : State} {e : Asn1DerError} → IsPlainKind meaning s tag judge → BeginsContent tag a b n → Fails b c e
     → (IsJudged b c e → (v : V) → IsOf s (meaning v) → Content b c e n (meaning v) → ⊥) → (IsJudged b c e → (bs : List ℕ) → a.input ≡ Some bs → IsJustRefused (refusal_at tag judge a) a c e bs)
     → RefusesPlain meaning tag judge s a c e
 behind_header {s = s} {tag = tag} {n = n} {a = a} {b = b} kind h f none just = record {
@@ -176,7 +176,7 @@ content_missing {t = t} m w =
       | inr ended ↦ omega (arith, w.size, m.short, sizes, ap length ended)
     ]
 
-just_content_cut : (tag n : ℕ) (judge : Judge) {a b c : State} {e : Asn1DerError} {bs : List ℕ} → IsTagNumber (number_of tag) → Begins tag a b n → IsCut b c n e → a.input ≡ Some bs → IsJustRefused (refusal_at tag judge a) a c e bs
+just_content_cut : (tag n : ℕ) (judge : Judge) {a b c : State} {e : Asn1DerError} {bs : List ℕ} → IsTagNumber (number_of tag) → BeginsContent tag a b n → IsCut b c n e → a.input ≡ Some bs → IsJustRefused (refusal_at tag judge a) a c e bs
 unfolding cut_after
 just_content_cut tag n judge {a} {b} {c} {e} i h m k =
     let header = header_bytes a.implicit_tag tag n in
@@ -186,7 +186,7 @@ just_content_cut tag n judge {a} {b} {c} {e} i h m k =
     content_at a.implicit_tag tag n b.until_end judge a m.bytes i (fits_below h) h.takes.until_end h.fits h.all ∙ content_cut judge n m.bytes m.short ∙ ap (λ x. Some (x, [])) (sym error))
 
 -- the content ended before it was whole
-pub refuses_cut : {V : Type 0} {meaning : V → Tree} {s : Shape} {tag n : ℕ} {judge : Judge} {a b c : State} {e : Asn1DerError} → IsPlainKind meaning s tag judge → Begins tag a b n → StopsShort b c n e → RefusesPlain meaning tag judge s a c e
+pub refuses_cut : {V : Type 0} {meaning : V → Tree} {s : Shape} {tag n : ℕ} {judge : Judge} {a b c : State} {e : Asn1DerError} → IsPlainKind meaning s tag judge → BeginsContent tag a b n → StopsShort b c n e → RefusesPlain meaning tag judge s a c e
 refuses_cut {tag = tag} {n = n} {judge = judge} kind h f =
     behind_header kind h f.fails (λ j v o. content_missing (f.short j)) (λ j bs k. just_content_cut tag n judge kind.number h (f.short j) k)
 
@@ -197,7 +197,7 @@ judged_none judge {e = e} {t = t} {x = x} h l g bad good w =
     let q : Some e ≡ None = sym bad ∙ ap judge same ∙ good in
     cc
 
-just_judged : (tag n : ℕ) (judge : Judge) {a b c d : State} {e : Asn1DerError} {x bs : List ℕ} → IsTagNumber (number_of tag) → Begins tag a b n → Takes b c x → length x ≡ n → judge x ≡ Some e → d ≡ failed_with c e → a.input ≡ Some bs
+just_judged : (tag n : ℕ) (judge : Judge) {a b c d : State} {e : Asn1DerError} {x bs : List ℕ} → IsTagNumber (number_of tag) → BeginsContent tag a b n → Takes b c x → length x ≡ n → judge x ≡ Some e → d ≡ failed_with c e → a.input ≡ Some bs
     → IsJustRefused (refusal_at tag judge a) a d e bs
 just_judged tag n judge {a} {b} {c} {d} {e} {x} i h t l bad same k =
     let header = header_bytes a.implicit_tag tag n in
@@ -208,7 +208,7 @@ just_judged tag n judge {a} {b} {c} {d} {e} {x} i h t l bad same k =
     ∙ content_judged judge x y ∙ ap (λ r. judged r y) bad)
 
 -- the content isn't one of the kind
-pub refuses_content : {V : Type 0} {meaning : V → Tree} {s : Shape} {tag n : ℕ} {judge : Judge} {a b c d : State} {e : Asn1DerError} {x : List ℕ} → IsPlainKind meaning s tag judge → Begins tag a b n → Takes b c x → length x ≡ n
+pub refuses_content : {V : Type 0} {meaning : V → Tree} {s : Shape} {tag n : ℕ} {judge : Judge} {a b c d : State} {e : Asn1DerError} {x : List ℕ} → IsPlainKind meaning s tag judge → BeginsContent tag a b n → Takes b c x → length x ≡ n
     → Fails c d e → judge x ≡ Some e → d ≡ failed_with c e → RefusesPlain meaning tag judge s a d e
 refuses_content {meaning = meaning} {tag = tag} {n = n} {judge = judge} kind h t l f bad same =
     behind_header kind h (fails_after t f) (λ j v o. judged_none judge t l (failed_grows f) bad (kind.judged v o)) (λ j bs k. just_judged tag n judge kind.number h t l bad same k)
@@ -226,7 +226,7 @@ pub may_stand : (d : Option ℕ) (tag n until_end left : ℕ) (t : Tree) → is_
 may_stand None tag n until_end left t p r a l c = tt
 may_stand (Some number) tag n until_end left t p r a l c = record { no_choice = c; filled = λ q. omega (arith, ap length (inside-plain t p)) }
 
-not_refused : (tag n : ℕ) (judge : Judge) {a b c : State} {x bs : List ℕ} → IsTagNumber (number_of tag) → Begins tag a b n → Takes b c x → length x ≡ n → judge x ≡ None → a.input ≡ Some bs → refusal_at tag judge a (take a.until_end bs) ≡ None
+not_refused : (tag n : ℕ) (judge : Judge) {a b c : State} {x bs : List ℕ} → IsTagNumber (number_of tag) → BeginsContent tag a b n → Takes b c x → length x ≡ n → judge x ≡ None → a.input ≡ Some bs → refusal_at tag judge a (take a.until_end bs) ≡ None
 not_refused tag n judge {a} {b} {c} {x} {bs} i h t l good k =
     let header = header_bytes a.implicit_tag tag n in
     let f = front_of (takes_then h.takes t) k in
@@ -238,7 +238,7 @@ not_refused tag n judge {a} {b} {c} {x} {bs} i h t l good k =
 
 -- a plain value was read
 pub reads_plain : {V : Type 0} {meaning : V → Tree} {s : Shape} {tag n : ℕ} {judge : Judge} {a b c : State} → IsPlainKind meaning s tag judge → (v : V) → IsOf s (meaning v) → IsReadable (meaning v)
-    → Begins tag a b n → Takes b c (content (meaning v)) → length (content (meaning v)) ≡ n → c.implicit_tag ≡ None → ReadsPlain tag judge s a c (meaning v)
+    → BeginsContent tag a b n → Takes b c (content (meaning v)) → length (content (meaning v)) ≡ n → c.implicit_tag ≡ None → ReadsPlain tag judge s a c (meaning v)
 reads_plain {meaning = meaning} {tag = tag} {n = n} {judge = judge} {a = a} {b = b} kind v o r h t l d = record {
   reads = record {
     of_shape = o;
@@ -257,7 +257,7 @@ kept_whole : (kept c : List ℕ) → kept ≡ take 18 c → length kept < 18 →
 kept_whole kept c e h = grind (arith, common_steps)
 
 -- a plain value was read from what is kept of its content
-pub reads_kept : {V : Type 0} {meaning : V → Tree} {s : Shape} {tag n : ℕ} {judge : Judge} {a b c : State} {kept : List ℕ} → IsShortKind meaning s tag judge → (v : V) → Begins tag a b n → TakesKept b c n kept
+pub reads_kept : {V : Type 0} {meaning : V → Tree} {s : Shape} {tag n : ℕ} {judge : Judge} {a b c : State} {kept : List ℕ} → IsShortKind meaning s tag judge → (v : V) → BeginsContent tag a b n → TakesKept b c n kept
     → kept ≡ content (meaning v) → judge kept ≡ None → c.implicit_tag ≡ None → ReadsPlain tag judge s a c (meaning v)
 reads_kept {meaning = meaning} {judge = judge} {b = b} {c = c} {kept = kept} kind v h k is good d =
     let w = kind.short v (ap judge (sym is) ∙ good) in
@@ -265,7 +265,7 @@ reads_kept {meaning = meaning} {judge = judge} {b = b} {c = c} {kept = kept} kin
     reads_plain kind.plain v w.of_shape w.readable h (subst (Takes b c) whole k.takes) (ap length (sym whole) ∙ k.count) d
 
 -- what is kept of the content isn't one of the kind
-pub refuses_kept : {V : Type 0} {meaning : V → Tree} {s : Shape} {tag n : ℕ} {judge : Judge} {a b c d : State} {e : Asn1DerError} {kept : List ℕ} → IsShortKind meaning s tag judge → Begins tag a b n → TakesKept b c n kept
+pub refuses_kept : {V : Type 0} {meaning : V → Tree} {s : Shape} {tag n : ℕ} {judge : Judge} {a b c d : State} {e : Asn1DerError} {kept : List ℕ} → IsShortKind meaning s tag judge → BeginsContent tag a b n → TakesKept b c n kept
     → Fails c d e → judge kept ≡ Some e → d ≡ failed_with c e → RefusesPlain meaning tag judge s a d e
 refuses_kept {judge = judge} kind h k f bad same =
     refuses_content kind.plain h k.takes k.count f (sym (kind.told k.content) ∙ ap judge (sym k.first) ∙ bad) same

@@ -7,7 +7,7 @@ use Rattle.picky_der_input.specs.declared.end.End.{End}
 use Rattle.picky_der_input.specs.declared.end.End.TheVariants.{Limit, Soft, Hard}
 use Rattle.picky_der_input.specs.State.{State}
 use Rattle.picky_der_input.specs.Steps.{Takes, Fails, IsMissing, end_is_here, input_ended, IsJudged, IsCut, at_end, far, reach, drawn}
-use Rattle.picky_der_input.specs.Reading.{Concerns, now, ever, Tells}
+use Rattle.picky_der_input.specs.Reading.{Concerns, now, ever, AllConcerned}
 use Rattle.picky_der_input.proofs.Steps.{judged_after}
 
 -- ---- lists with a front
@@ -69,7 +69,7 @@ behind {a} {b} {c} {k} {h} {end} {bs} t f (ever n r d y left e m g) =
 
 -- what is told of the bytes behind is told of all
 pub tells_after : {a b c : State} {k : Asn1DerError} {h : List ℕ} (P : ℕ → List ℕ → Type 0) → Takes a b h → Fails b c k
-    → (IsJudged b c k → (end left : ℕ) (rest : List ℕ) → end ≤ length h + left → Concerns b c k left rest → P end (h ++ rest)) → Tells a c k P
+    → (IsJudged b c k → (end left : ℕ) (rest : List ℕ) → end ≤ length h + left → Concerns b c k left rest → P end (h ++ rest)) → AllConcerned a c k P
 tells_after P t f p = λ j end bs k. let w = behind t (failed_grows f) k in rw w.begins (p (judged_after t j) end w.left w.rest w.ends w.concerns)
 
 -- ---- ends

@@ -13,7 +13,7 @@ use Rattle.picky_der_input.specs.State.{State}
 use Rattle.picky_der_input.specs.Steps.{Takes}
 use Rattle.picky_der_input.specs.PlainKinds.{IsShortKind}
 use Rattle.picky_der_input.specs.Reading.{ReadsPlain}
-use Rattle.picky_der_input.specs.Headers.{header_bytes, Begins}
+use Rattle.picky_der_input.specs.Headers.{header_bytes, BeginsContent}
 use Rattle.picky_der_input.specs.Elements.{given_up, BeginsElement, ReadsRaw}
 use Rattle.picky_der_input.specs.Ahead.{ShowsShort, ShowsElement, TakesShown}
 use Rattle.picky_der_input.proofs.PlainReads.{reads_plain}
@@ -94,7 +94,7 @@ reads_short {meaning = meaning} {tag = tag} {judge = judge} {a = a} {c = c} {byt
     let header : header_bytes a.implicit_tag tag n ≡ tag ∷ (n ∷ []) = whole_header a.implicit_tag tag n h.whole ∙ ap (λ z. tag ∷ z) (len-short n h.short) in
     let q = parts (tag ∷ (n ∷ [])) bytes taken p in
     let none : c.implicit_tag ≡ None = d ∙ h.whole in
-    let begins : Begins tag a q.mid n = record {
+    let begins : BeginsContent tag a q.mid n = record {
       takes = rw header q.first;
       implicit_tag = q.implicit_tag ∙ none;
       fits = omega (arith, q.rest.until_end);

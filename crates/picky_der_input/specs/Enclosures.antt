@@ -16,7 +16,7 @@ use Rattle.picky_der_input.specs.declared.enclosure.Enclosure.TheVariants as enc
 use Rattle.picky_der_input.specs.declared.end.End.TheVariants.{Hard}
 use Rattle.picky_der_input.specs.State.{State}
 use Rattle.picky_der_input.specs.Steps.{Takes, Fails, IsJudged, IsMissing, TakesNoMemory, failed_with, is_hard}
-use Rattle.picky_der_input.specs.Reading.{Reads, Refuses, Tells, AreNotRefused, AreJustRefused}
+use Rattle.picky_der_input.specs.Reading.{Reads, Refuses, AllConcerned, AreNotRefused, AreJustRefused}
 use Rattle.picky_der_input.specs.Order.{cut_at}
 use Rattle.picky_der_input.specs.Ends.{Outer, innermost, narrowed, RefusesClose}
 
@@ -32,9 +32,9 @@ enclosure_tag (enclosure.Wrapper w) = wrapper_tag w
 enclosure_tag (enclosure.Application n) = 0x60 + n
 
 -- its tag number, if it has one, is at most 30
-abbrev pub HasNumber : Enclosure → Type 0
-HasNumber (enclosure.Wrapper w) = HasTagNumber w
-HasNumber (enclosure.Application n) = IsTagNumber n
+abbrev pub HasEnclosureNumber : Enclosure → Type 0
+HasEnclosureNumber (enclosure.Wrapper w) = HasTagNumber w
+HasEnclosureNumber (enclosure.Application n) = IsTagNumber n
 
 abbrev pub wrap_shape : Wrapper → Shape → Shape
 wrap_shape OctetContainer s = Shape.octet_container s
@@ -112,7 +112,7 @@ opening w n = (enclosure_tag w ∷ len n) ++ unused_bits w
 -- What stands before the value was taken, and nothing else changed but for a hard end that was opened where the length says.
 pub record OpensEnclosure (w : Enclosure) (old new : State) (outer : Outer) : Type 0 where
   pub size : ℕ
-  pub number : HasNumber w
+  pub number : HasEnclosureNumber w
   pub around : outer ≡ innermost old
   pub takes : Takes old (restored outer new) (opening w size)
   pub until_end : size ≡ length (unused_bits w) + new.until_end
@@ -124,13 +124,13 @@ pub record OpensEnclosure (w : Enclosure) (old new : State) (outer : Outer) : Ty
 
 -- no such enclosure stands there
 abbrev pub NoEnclosure : Enclosure → ℕ → List ℕ → Type 0
-NoEnclosure w end bs = (content rest : List ℕ) → HasNumber w → length (unused_bits w ++ content) < 2 ^ 64 → bs ≡ tlv (enclosure_tag w) (unused_bits w ++ content) ++ rest → length (tlv (enclosure_tag w) (unused_bits w ++ content)) ≤ end → ⊥
+NoEnclosure w end bs = (content rest : List ℕ) → HasEnclosureNumber w → length (unused_bits w ++ content) < 2 ^ 64 → bs ≡ tlv (enclosure_tag w) (unused_bits w ++ content) ++ rest → length (tlv (enclosure_tag w) (unused_bits w ++ content)) ≤ end → ⊥
 
 -- what stands before the value was refused, and just so; no memory was wanted
 pub record RefusesOpening (w : Enclosure) (old new : State) (e : Asn1DerError) : Type 0 where
   pub fails : Fails old new e
-  pub none : Tells old new e (NoEnclosure w)
-  pub first : IsJudged old new e → e ≡ TruncatedData → 0 < old.until_end → (b : ℕ) (left : List ℕ) → old.input ≡ Some (b ∷ left) → (b ≡ enclosure_tag w) × HasNumber w
+  pub none : AllConcerned old new e (NoEnclosure w)
+  pub first : IsJudged old new e → e ≡ TruncatedData → 0 < old.until_end → (b : ℕ) (left : List ℕ) → old.input ≡ Some (b ∷ left) → (b ≡ enclosure_tag w) × HasEnclosureNumber w
   pub just : AreJustRefused (opening_refusal w old) old new e
   pub memory : TakesNoMemory old new e
   pub bounded : old.failed ≡ None → old.until_end < 2 ^ 64
@@ -139,7 +139,7 @@ pub record RefusesOpening (w : Enclosure) (old new : State) (e : Asn1DerError) :
 pub record BeginsEnclosure (w : Enclosure) (old new : State) (outer : Outer) : Type 0 where
   pub mid : State
   pub size : ℕ
-  pub number : HasNumber w
+  pub number : HasEnclosureNumber w
   pub takes : Takes old mid (enclosure_tag w ∷ len size)
   pub fits : size ≤ mid.until_end
   pub opened : new ≡ narrowed mid size Hard

@@ -10,7 +10,7 @@ use Rattle.picky_der_input.specs.State.{State}
 use Rattle.picky_der_input.specs.Steps.{Fails, TakesNoMemory, failed_with, at_end, is_hard}
 use Rattle.picky_der_input.specs.Order.{order_of, entered, last_start, cut_at}
 use Rattle.picky_der_input.specs.Reading.{AreNotRefused}
-use Rattle.picky_der_input.specs.Headers.{Begins, RefusesBegin}
+use Rattle.picky_der_input.specs.Headers.{BeginsContent, RefusesBegin}
 
 -- What is put back where an end is closed: how many bytes are before the end around it, what this is, and, where it is that of
 -- a set, how many bytes are kept before the encoding of its last member.
@@ -52,7 +52,7 @@ list_refusal tag s rest = list_refusal_in s.implicit_tag tag s rest
 pub record OpensList (tag : ℕ) (old new : State) (outer : Outer) : Type 0 where
   pub mid : State
   pub len : ℕ
-  pub begins : Begins tag old mid len
+  pub begins : BeginsContent tag old mid len
   pub opened : new ≡ record (narrowed mid len Soft) { sets = entered (order_of tag) mid.sets }
   pub around : outer ≡ innermost mid
   pub no_refusal : AreNotRefused (list_refusal tag old) old

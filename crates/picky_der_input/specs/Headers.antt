@@ -7,7 +7,7 @@ use Rattle.picky_der_core.specs.Element.{len, tlv}
 use Rattle.picky_der_core.specs.Refusal.{length_of, header_refusal}
 use Rattle.picky_der_input.specs.State.{State}
 use Rattle.picky_der_input.specs.Steps.{Takes, TakesBytes, Fails, IsCut, IsJudged, failed_with, is_hard, at_end}
-use Rattle.picky_der_input.specs.Reading.{Tells, AreJustRefused}
+use Rattle.picky_der_input.specs.Reading.{AllConcerned, AreJustRefused}
 
 -- why no length was read: a byte was missing, or what was taken begins none
 pub data StopsLength (old new : State) (e : Asn1DerError) : Type 0 where
@@ -36,7 +36,7 @@ NoElement tag end bs = (c rest : List ℕ) → length c < 2 ^ 64 → bs ≡ tlv 
 -- no header of an element with this tag was read, and no such element stands there
 pub record RefusesHeader (tag : ℕ) (old new : State) (e : Asn1DerError) : Type 0 where
   pub fails : Fails old new e
-  pub none : Tells old new e (NoElement tag)
+  pub none : AllConcerned old new e (NoElement tag)
   pub first : IsJudged old new e → e ≡ TruncatedData → 0 < old.until_end → (b : ℕ) (left : List ℕ) → old.input ≡ Some (b ∷ left) → b ≡ tag
   pub just : AreJustRefused (header_refusal tag (is_hard old.end) old.until_end) old new e
 
@@ -46,7 +46,7 @@ header_bytes None tag n = tag ∷ len n
 header_bytes (Some number) tag n = []
 
 -- the content of an element with this tag is next, n bytes of it
-pub record Begins (tag : ℕ) (old new : State) (n : ℕ) : Type 0 where
+pub record BeginsContent (tag : ℕ) (old new : State) (n : ℕ) : Type 0 where
   pub takes : Takes old new (header_bytes old.implicit_tag tag n)
   pub implicit_tag : new.implicit_tag ≡ None
   pub fits : n ≤ new.until_end

@@ -25,8 +25,8 @@ pub data Concerns (old new : State) (e : Asn1DerError) (end : ℕ) (bs : List �
   ever : e ≢ TruncatedData → end ≡ reach old → (d y left : List ℕ) → old.input ≡ Some (d ++ left) → length d + old.taken ≡ drawn new → bs ≡ d ++ y → Concerns old new e end bs
 
 -- P of all bytes of which the refusal speaks
-abbrev pub Tells : State → State → Asn1DerError → (ℕ → List ℕ → Type 0) → Type 0
-Tells old new e P = IsJudged old new e → (end : ℕ) (bs : List ℕ) → Concerns old new e end bs → P end bs
+abbrev pub AllConcerned : State → State → Asn1DerError → (ℕ → List ℕ → Type 0) → Type 0
+AllConcerned old new e P = IsJudged old new e → (end : ℕ) (bs : List ℕ) → Concerns old new e end bs → P end bs
 
 -- no value of the type stands at the front of these bytes
 abbrev pub NoValue : {V : Type 0} → (V → Tree) → Shape → State → ℕ → List ℕ → Type 0
@@ -40,7 +40,7 @@ IsNoForeign s old new e =
 -- no value of the type was read, and none stands there
 pub record Refuses {V : Type 0} (meaning : V → Tree) (s : Shape) (old new : State) (e : Asn1DerError) : Type 0 where
   pub fails : Fails old new e
-  pub none : Tells old new e (NoValue meaning s old)
+  pub none : AllConcerned old new e (NoValue meaning s old)
   pub first : IsNoForeign s old new e
 
 -- ---- plain values

@@ -1,6 +1,6 @@
 //! What stands around one value that is read.
 ghost use Rattle.std.specs.Prelude.{◌≡◌, IfNone, IfSome};
-ghost use Rattle.picky_der_input.specs.Enclosures.{enclosure_tag, HasNumber, counts_unused_bits, implicit_number};
+ghost use Rattle.picky_der_input.specs.Enclosures.{enclosure_tag, HasEnclosureNumber, counts_unused_bits, implicit_number};
 
 use picky_der_core::asn1::{Tag, Wrapper};
 
@@ -18,8 +18,8 @@ impl Enclosure {
     // Its tag, and `None` where the tag number is past 30.
     pub(crate) fn tag(self) -> Option<Tag>
         ensures tag { IfSome result (λ tag. tag ≡ enclosure_tag self) }
-        ensures number { IfSome result (λ tag. HasNumber self) }
-        ensures none { IfNone result (HasNumber self → ⊥) }
+        ensures number { IfSome result (λ tag. HasEnclosureNumber self) }
+        ensures none { IfNone result (HasEnclosureNumber self → ⊥) }
     {
         match self {
             Enclosure::Wrapper(Wrapper::OctetContainer) => Some(Tag::OCTET_STRING),

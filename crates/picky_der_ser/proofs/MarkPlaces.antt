@@ -1,13 +1,13 @@
 -- The places of the marks around a level.
 use Rattle.std.proofs.Common.{◌≡◌, ◌≢◌, Bool, true, false, List, [], ◌∷◌, ◌++◌, Option, None, Some, is_some}
 use Rattle.picky_der_ser.specs.declared.marks.Mark.{Mark}
-use Rattle.picky_der_ser.specs.Places.{Place, inside_places, root_places, places_of}
+use Rattle.picky_der_ser.specs.Places.{MarkPlace, inside_places, root_places, places_of}
 
-some_behind : (ps rest : List Place) → rest ≢ [] → ps ++ rest ≢ []
+some_behind : (ps rest : List MarkPlace) → rest ≢ [] → ps ++ rest ≢ []
 some_behind [] rest h = h
 some_behind (p ∷ ps) rest h = λ e. cc
 
-some_within : (m : Option Mark) (ps : List Place) → ps ≢ [] → inside_places m ps ≢ []
+some_within : (m : Option Mark) (ps : List MarkPlace) → ps ≢ [] → inside_places m ps ≢ []
 some_within None ps h = h
 some_within (Some m) ps h = λ e. cc
 

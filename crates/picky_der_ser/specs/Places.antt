@@ -7,7 +7,7 @@ use Rattle.picky_der_ser.specs.contracts.header.Header as header
 use Rattle.picky_der_ser.specs.declared.marks.Mark.{Mark}
 
 -- what a mark tells of its level: its header, and where it begins
-pub record Place : Type 0 where
+pub record MarkPlace : Type 0 where
   pub header : Header
   -- where the room for the headers begins, and the content behind it
   pub at : ℕ
@@ -16,7 +16,7 @@ pub record Place : Type 0 where
   pub first_seam : ℕ
   pub first_wrapper : ℕ
 
-abbrev pub place_code : Coded Place
+abbrev pub place_code : Coded MarkPlace
 place_code =
     code_by (Header × (ℕ × (ℕ × (ℕ × ℕ))))
     (coded× header.the_row.coded (coded× coded_ℕ (coded× coded_ℕ (coded× coded_ℕ coded_ℕ))))
@@ -26,35 +26,35 @@ place_code =
 
 -- the marks around a level: what they tell, innermost first, and for how many more there is room
 pub record MarksAround : Type 0 where
-  pub places : List Place
+  pub places : List MarkPlace
   pub spare : ℕ
 
 abbrev pub marks_around_code : Coded MarksAround
-marks_around_code = code_by (List Place × ℕ) (coded× (coded_list place_code) coded_ℕ) (λ m. (m.places, m.spare)) (λ p. record { places = p.0; spare = p.1 }) (λ _. refl)
+marks_around_code = code_by (List MarkPlace × ℕ) (coded× (coded_list place_code) coded_ℕ) (λ m. (m.places, m.spare)) (λ p. record { places = p.0; spare = p.1 }) (λ _. refl)
 
 -- the root's place: nothing stands in front of what it holds
-abbrev pub root_place : Place
+abbrev pub root_place : MarkPlace
 root_place = record { header = Raw; at = 0; start = 0; first_seam = 0; first_wrapper = 0 }
 
-abbrev pub mark_place : Mark → Place
+abbrev pub mark_place : Mark → MarkPlace
 mark_place m = record { header = m.header; at = m.at; start = m.start; first_seam = m.first_seam; first_wrapper = m.first_wrapper }
 
-abbrev pub placed : Option Mark → Option Place
+abbrev pub placed : Option Mark → Option MarkPlace
 placed None = None
 placed (Some m) = Some (mark_place m)
 
 -- this mark inside of the others, if there is one
-abbrev pub inside_places : Option Mark → List Place → List Place
+abbrev pub inside_places : Option Mark → List MarkPlace → List MarkPlace
 inside_places None ps = ps
 inside_places (Some m) ps = mark_place m ∷ ps
 
 -- the root's place, if it is around them all
-abbrev pub root_places : Bool → List Place
+abbrev pub root_places : Bool → List MarkPlace
 root_places true = root_place ∷ []
 root_places false = []
 
 -- All marks, innermost first: the others are given outermost first.
-abbrev pub places_of : Bool → Option Mark → Option Mark → List Mark → List Place
+abbrev pub places_of : Bool → Option Mark → Option Mark → List Mark → List MarkPlace
 places_of rooted first second others = map mark_place (reverse others) ++ inside_places second (inside_places first (root_places rooted))
 
 -- for how many there is room where this one may stand

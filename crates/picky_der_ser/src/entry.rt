@@ -55,7 +55,7 @@ pub fn to_vec<T: Serialize>(alloc: Global, value: &T) -> Result<Vec<u8>>
     ensures err { IfErr result (MemoryExcuse (IsWritable (T.meaning value.now))) }
 {
     let mut untouched = [];
-    let mut ser = Serializer::new_in_root(alloc, &mut untouched);
+    let mut ser = Serializer::new_in_root(alloc, &mut untouched)?;
     value.serialize(&mut ser)?;
     Ok(ser.into_content())
 }

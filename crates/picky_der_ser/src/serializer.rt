@@ -92,13 +92,15 @@ impl<'a> Serializer<SliceSink<'a>> {
 
     // Keeps what is written in a level around all, and leaves the slice alone.
     #[inline(always)]
-    pub(crate) fn new_in_root(alloc: Global, untouched: &'a mut [u8]) -> Serializer<SliceSink<'a>>
-        ensures around { result.around ≡ [] }
-        ensures failed { result.failed ≡ None }
-        ensures inside { result.inside ≡ root ∷ [] }
+    pub(crate) fn new_in_root(
+        alloc: Global,
+        untouched: &'a mut [u8],
+    ) -> Result<Serializer<SliceSink<'a>>>
+        ensures ok { IfOk result (λ ser. (ser.around ≡ []) × (ser.failed ≡ None) × (ser.inside ≡ root ∷ [])) }
+        ensures err { IfErr result (λ e. e ≡ Asn1DerError.OutOfMemory) }
     {
-        let sink = SliceSink::new(untouched);
-        Serializer::with_levels(alloc, sink, Levels::new_in_root(alloc))
+        let levels = Levels::new_in_root(alloc)?;
+        Ok(Serializer::with_levels(alloc, SliceSink::new(untouched), levels))
     }
 
     // Gives out what the level holds of which a member was being written.

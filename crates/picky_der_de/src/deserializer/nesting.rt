@@ -3,7 +3,7 @@ ghost use Rattle.std.specs.Prelude.{◌≡◌, ◌+◌, ◌≤◌, ◌↔◌, No
 ghost use Rattle.picky_der_core.specs.Failure.{failure_of};
 ghost use Rattle.picky_der_core.specs.Tag.{number_of, IsTagNumber};
 ghost use Rattle.picky_der_input.specs.Ends.{Closes, RefusesClose, OpensList, RefusesList, OpensLazily};
-ghost use Rattle.picky_der_input.specs.Enclosures.{HasNumber, ReadsEnclosed, RefusesEnclosed};
+ghost use Rattle.picky_der_input.specs.Enclosures.{HasEnclosureNumber, ReadsEnclosed, RefusesEnclosed};
 ghost use Rattle.picky_der_input.specs.TagNumbers.{RefusesNumber};
 
 use super::Deserializer;
@@ -57,7 +57,7 @@ impl<R: ReadExt> Deserializer<R> {
         ensures ok { IfOk result (λ value. ReadsEnclosed enclosure T.shape self.old self.new
             (T.meaning value)) }
         ensures err { IfErr result (RefusesEnclosed T.meaning T.shape enclosure self.old self.new) }
-        ensures unsupported { (HasNumber enclosure → ⊥) → RefusesNumber self.old result self.new }
+        ensures unsupported { (HasEnclosureNumber enclosure → ⊥) → RefusesNumber self.old result self.new }
     {
         let outer = self.input.open_enclosure(enclosure)?;
         let value = T::deserialize(self)?;

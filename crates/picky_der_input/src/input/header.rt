@@ -3,7 +3,7 @@ ghost use Rattle.std.specs.Prelude.{◌≡◌, ◌≤◌, ◌∷◌, ◌<◌, �
 ghost use Rattle.picky_der_core.specs.Element.{len as bytes_of};
 ghost use Rattle.picky_der_core.specs.Tag.{number_of, IsTagNumber};
 ghost use Rattle.picky_der_input.specs.Steps.{Takes, StopsShort, TakesNoMemory};
-ghost use Rattle.picky_der_input.specs.Headers.{ReadsDigits, RefusesLength, RefusesContentLength, RefusesHeader, Begins, RefusesBegin};
+ghost use Rattle.picky_der_input.specs.Headers.{ReadsDigits, RefusesLength, RefusesContentLength, RefusesHeader, BeginsContent, RefusesBegin};
 
 use super::Input;
 use picky_der_core::asn1::Tag;
@@ -111,7 +111,7 @@ impl<R: ReadExt> Input<R> {
     // and all before its end is the content.
     pub(crate) fn begin(&mut self, tag: Tag) -> Result<usize>
         requires number { IsTagNumber (number_of tag) }
-        ensures ok { IfOk result (Begins tag self.old self.new) }
+        ensures ok { IfOk result (BeginsContent tag self.old self.new) }
         ensures err { IfErr result (RefusesBegin tag self.old self.new) }
         ensures memory { IfErr result (TakesNoMemory self.old self.new) }
     {

@@ -5,7 +5,7 @@ ghost use Rattle.std.specs.Prelude.{IsTrue, IfOk, IfErr, OnOk};
 ghost use Rattle.picky_der_core.specs.Tag.{number_of, IsTagNumber};
 ghost use Rattle.picky_der_input.specs.Steps.{Takes};
 ghost use Rattle.picky_der_input.specs.Ends.{innermost, narrowed, Closes, RefusesClose, OpensList, RefusesList, OpensLazily};
-ghost use Rattle.picky_der_input.specs.Enclosures.{HasNumber, BeginsEnclosure, OpensEnclosure, RefusesOpening, RefusesUnusedBits};
+ghost use Rattle.picky_der_input.specs.Enclosures.{HasEnclosureNumber, BeginsEnclosure, OpensEnclosure, RefusesOpening, RefusesUnusedBits};
 ghost use Rattle.picky_der_input.specs.TagNumbers.{RefusesNumber};
 
 use super::Input;
@@ -95,7 +95,7 @@ impl<R: ReadExt> Input<R> {
         ensures ok { IfOk result (BeginsEnclosure enclosure self.old self.new) }
         ensures bounded { IfOk result (λ outer. outer.place ≤ self.new.limit) }
         ensures err { IfErr result (RefusesOpening enclosure self.old self.new) }
-        ensures unsupported { (HasNumber enclosure → ⊥) → RefusesNumber self.old result self.new }
+        ensures unsupported { (HasEnclosureNumber enclosure → ⊥) → RefusesNumber self.old result self.new }
     {
         if let Some(error) = self.earlier() {
             return Err(error);
@@ -127,7 +127,7 @@ impl<R: ReadExt> Input<R> {
         ensures ok { IfOk result (OpensEnclosure enclosure self.old self.new) }
         ensures bounded { IfOk result (λ outer. outer.place ≤ self.new.limit) }
         ensures err { IfErr result (RefusesOpening enclosure self.old self.new) }
-        ensures unsupported { (HasNumber enclosure → ⊥) → RefusesNumber self.old result self.new }
+        ensures unsupported { (HasEnclosureNumber enclosure → ⊥) → RefusesNumber self.old result self.new }
     {
         let outer = self.begin_enclosure(enclosure)?;
         if enclosure.has_unused_bits() {

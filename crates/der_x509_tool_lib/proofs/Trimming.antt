@@ -1,0 +1,9 @@
+-- Lines without the white space at their ends.
+use Rattle.std.proofs.Common.{◌≡◌, ℕ, List, refl}
+use Rattle.std.specs.Str.{IsTrimAscii}
+use Rattle.std.proofs.lemmas.Str.Ascii.{trim_ascii_is}
+use Rattle.der_x509_tool_lib.specs.Blocks.{trimmed}
+
+pub trimmed_is : (line r : List ℕ) → IsTrimAscii line r → r ≡ trimmed line
+unfolding trimmed
+trimmed_is line r h = trim_ascii_is line r _ refl h
