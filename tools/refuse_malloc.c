@@ -1,0 +1,32 @@
+// A `malloc` in front of the C library's that refuses one request: that whose number stands in REFUSE, counted from the start of the
+// program. tools/refuse-growths builds it.
+#include <errno.h>
+#include <stdlib.h>
+
+void *__libc_malloc(size_t size);
+void *__libc_calloc(size_t count, size_t size);
+void *__libc_realloc(void *block, size_t size);
+void *__libc_memalign(size_t alignment, size_t size);
+
+static long requests, refused;
+
+__attribute__((constructor)) static void begin(void) {
+    const char *number = getenv("REFUSE");
+    refused = number ? atol(number) : 0;
+    requests = 0;
+}
+
+static int is_refused(void) { return ++requests == refused; }
+
+void *malloc(size_t size) { return is_refused() ? NULL : __libc_malloc(size); }
+
+void *calloc(size_t count, size_t size) { return is_refused() ? NULL : __libc_calloc(count, size); }
+
+void *realloc(void *block, size_t size) { return is_refused() ? NULL : __libc_realloc(block, size); }
+
+void *aligned_alloc(size_t alignment, size_t size) { return is_refused() ? NULL : __libc_memalign(alignment, size); }
+
+int posix_memalign(void **block, size_t alignment, size_t size) {
+    *block = aligned_alloc(alignment, size);
+    return *block ? 0 : ENOMEM;
+}
