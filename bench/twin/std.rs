@@ -132,6 +132,15 @@ mod vector {
         }
 
         #[inline(always)]
+        pub fn with_capacity(_alloc: Global, capacity: usize) -> Result<Vec<T>, AllocError> {
+            let mut v = std::vec::Vec::new();
+            match v.try_reserve_exact(capacity) {
+                Ok(()) => Ok(Vec(v)),
+                Err(_) => Err(AllocError),
+            }
+        }
+
+        #[inline(always)]
         pub fn allocator(&self) -> &Global {
             &Global
         }

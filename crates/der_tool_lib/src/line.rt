@@ -1,5 +1,6 @@
 //! What a line asks for.
-ghost use Rattle.der_tool_lib.specs.Line.{query_of, Asks, AsksTyped, IsBehind, IsNumberOf};
+ghost use Rattle.std.specs.Prelude.{◌≡◌, ◌≢◌, MatchOption};
+ghost use Rattle.der_tool_lib.specs.Line.{query_of, word_for, Asks, AsksTyped, IsBehind, IsNumberOf};
 
 use crate::ValueType;
 use itoa::Buffer;
@@ -48,46 +49,36 @@ fn behind<'a>(line: &'a [u8], word: &[u8]) -> Option<&'a [u8]>
 fn typed(words: &[u8]) -> Request<'_>
     ensures { AsksTyped words.now (query_of result) }
 {
-    if let Some(digits) = behind(words, b"bool ") {
-        return Request::Read(ValueType::Bool, digits);
+    let Some(end) = words.iter().position(|byte| *byte == b' ') else {
+        return Request::Refused;
+    };
+    match type_of(&words[..end]) {
+        Some(value_type) => Request::Read(value_type, &words[end + 1..]),
+        None => Request::Refused,
     }
-    if let Some(digits) = behind(words, b"u8 ") {
-        return Request::Read(ValueType::U8, digits);
+}
+
+// The type that this word is for.
+fn type_of(word: &[u8]) -> Option<ValueType>
+    ensures { MatchOption result ((type : ValueType) → word.now ≢ word_for type)
+        (λ type. word.now ≡ word_for type) }
+{
+    match word {
+        b"bool" => Some(ValueType::Bool),
+        b"u8" => Some(ValueType::U8),
+        b"u16" => Some(ValueType::U16),
+        b"u32" => Some(ValueType::U32),
+        b"u64" => Some(ValueType::U64),
+        b"u128" => Some(ValueType::U128),
+        b"null" => Some(ValueType::Null),
+        b"char" => Some(ValueType::Char),
+        b"text" => Some(ValueType::Text),
+        b"octets" => Some(ValueType::Octets),
+        b"raw" => Some(ValueType::Raw),
+        b"test" => Some(ValueType::Test),
+        b"spki" => Some(ValueType::Spki),
+        _ => None,
     }
-    if let Some(digits) = behind(words, b"u16 ") {
-        return Request::Read(ValueType::U16, digits);
-    }
-    if let Some(digits) = behind(words, b"u32 ") {
-        return Request::Read(ValueType::U32, digits);
-    }
-    if let Some(digits) = behind(words, b"u64 ") {
-        return Request::Read(ValueType::U64, digits);
-    }
-    if let Some(digits) = behind(words, b"u128 ") {
-        return Request::Read(ValueType::U128, digits);
-    }
-    if let Some(digits) = behind(words, b"null ") {
-        return Request::Read(ValueType::Null, digits);
-    }
-    if let Some(digits) = behind(words, b"char ") {
-        return Request::Read(ValueType::Char, digits);
-    }
-    if let Some(digits) = behind(words, b"text ") {
-        return Request::Read(ValueType::Text, digits);
-    }
-    if let Some(digits) = behind(words, b"octets ") {
-        return Request::Read(ValueType::Octets, digits);
-    }
-    if let Some(digits) = behind(words, b"raw ") {
-        return Request::Read(ValueType::Raw, digits);
-    }
-    if let Some(digits) = behind(words, b"test ") {
-        return Request::Read(ValueType::Test, digits);
-    }
-    if let Some(digits) = behind(words, b"spki ") {
-        return Request::Read(ValueType::Spki, digits);
-    }
-    Request::Refused
 }
 
 // The number of these digits. They are those that print it, and no others: with no sign and no 0 in front.

@@ -1,10 +1,12 @@
 //! Certificates in PEM: blocks of base64 between two lines (RFC 7468).
-ghost use Rattle.std.specs.Prelude.{◌≡◌, ◌↔◌, ◌<◌, ◌≤◌, [], ◌∷◌, ◌++◌, true, false, length, OnOk, IfOk, IfErr, IsTrue};
+ghost use Rattle.std.specs.Prelude.{◌≡◌, ◌↔◌, ◌<◌, ◌≤◌, [], ◌∷◌, ◌++◌, true, false, length};
+ghost use Rattle.std.specs.Prelude.{OnOk, IfOk, IfErr, IsTrue};
 ghost use Rattle.std.specs.Io.KnownBytes.{Appends, IsAtEnd};
 ghost use Rattle.picky_der_core.specs.Reader.{TellsFault};
 ghost use Rattle.picky_der_core.specs.WriterFaults.{IsOnceAtMost};
 ghost use Rattle.der_x509_tool_lib.specs.Blocks.{BeginsBlock, EndsBlock, WritesText};
-ghost use Rattle.der_x509_tool_lib.specs.Run.{Wrote, StopsWriting, AnswersBlock, AnswersLine, AnswersSomeLine, AnswersEnd, text_in, StopsAtEnd, Stops};
+ghost use Rattle.der_x509_tool_lib.specs.Run.{text_in, Wrote, AnswersBlock, AnswersLine, AnswersSomeLine, AnswersEnd};
+ghost use Rattle.der_x509_tool_lib.specs.Run.{StopsWriting, StopsAtEnd, Stops};
 
 use crate::line_of;
 use base64::DecodeAllocError;

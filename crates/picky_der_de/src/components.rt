@@ -113,7 +113,8 @@ impl<
     Z: DeserializeLayout,
 > DeserializeLayout for (A, B, C, D, E, F, Z) {
     ghost layout = { place_then A.presence A.shape (place_then B.presence B.shape
-        (place_then C.presence C.shape (place_then D.presence D.shape (place_then E.presence E.shape (place_then F.presence F.shape Z.layout))))) };
+        (place_then C.presence C.shape (place_then D.presence D.shape
+        (place_then E.presence E.shape (place_then F.presence F.shape Z.layout))))) };
 
     fn deserialize_layout<R: ReadExt>(
         sequence: &mut Sequence<'_, R>,
@@ -175,7 +176,8 @@ impl<
 > DeserializeLayout for (A, B, C, D, E, F, G, H, Z) {
     ghost layout = { place_then A.presence A.shape (place_then B.presence B.shape
         (place_then C.presence C.shape (place_then D.presence D.shape
-        (place_then E.presence E.shape (place_then F.presence F.shape (place_then G.presence G.shape (place_then H.presence H.shape Z.layout))))))) };
+        (place_then E.presence E.shape (place_then F.presence F.shape
+        (place_then G.presence G.shape (place_then H.presence H.shape Z.layout))))))) };
 
     fn deserialize_layout<R: ReadExt>(
         sequence: &mut Sequence<'_, R>,

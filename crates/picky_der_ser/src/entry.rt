@@ -7,6 +7,7 @@ ghost use Rattle.picky_der_core.specs.SliceSink.{slice_of};
 ghost use Rattle.picky_der_ser.specs.Calls.{MemoryExcuse, Wrote, Refused};
 ghost use Rattle.picky_der_ser.specs.Entry.{Overwrites, RefusedVec, RefusedSlice};
 
+use crate::levels::FIRST_ROOM;
 use crate::{Serialize, Serializer};
 use picky_der_core::Result;
 use picky_der_core::misc::{BufSink, SliceSink, WriteExt};
@@ -55,7 +56,8 @@ pub fn to_vec<T: Serialize>(alloc: Global, value: &T) -> Result<Vec<u8>>
     ensures err { IfErr result (MemoryExcuse (IsWritable (T.meaning value.now))) }
 {
     let mut untouched = [];
-    let mut ser = Serializer::new_in_root(alloc, &mut untouched)?;
+    let scratch = Vec::with_capacity(alloc, FIRST_ROOM)?;
+    let mut ser = Serializer::new_in_root(alloc, scratch, &mut untouched);
     value.serialize(&mut ser)?;
     Ok(ser.into_content())
 }

@@ -21,7 +21,7 @@ use std::marker::Model;
 
 // How many bytes are asked for at first, by `to_vec` at once and else when the first member of an outermost level comes: as many as
 // public keys of RSA with 2048 bits take to be written, so that the vector grows for none of them.
-const FIRST_ROOM: usize = 376;
+pub(crate) const FIRST_ROOM: usize = 376;
 
 // The contents of the levels stand one behind the other, the innermost last, and so do the wrappers around them, and their seams: of a
 // set, how many bytes of its content stand in front of each member but the first. Vectors in each mark would be copied and dropped with
@@ -85,23 +85,20 @@ impl Levels {
         }
     }
 
-    // Levels inside of one that stands around all, with the first room. In line, so that they are made where they will stand.
+    // Levels inside of one that stands around all, in this vector without bytes. In line, so that they are made where they will stand.
     #[inline(always)]
-    pub(crate) fn new_in_root(alloc: Global) -> Result<Levels, AllocError>
-        ensures { IfOk result (λ levels. levels ≡ record {
-          inside = root ∷ [];
-          pending = None;
-          around = [];
-        }) }
+    pub(crate) fn new_in_root(alloc: Global, scratch: Vec<u8>) -> Levels
+        requires { scratch.items ≡ [] }
+        ensures { result ≡ record { inside = root ∷ []; pending = None; around = [] } }
     {
-        Ok(Levels {
-            scratch: Vec::with_capacity(alloc, FIRST_ROOM)?,
+        Levels {
+            scratch,
             seams: Vec::new(alloc),
             wrappers: Wrappers::new(alloc),
             marks: Marks::new_in_root(alloc),
             innermost: None,
             entered: true,
-        })
+        }
     }
 
     // Gives out what the level holds of which a member was being written. In line, so that the levels aren't copied to be taken apart.

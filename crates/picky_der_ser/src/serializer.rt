@@ -90,17 +90,20 @@ impl<'a> Serializer<SliceSink<'a>> {
         Serializer::new_to_writer(alloc, SliceSink::new(buf))
     }
 
-    // Keeps what is written in a level around all, and leaves the slice alone.
+    // Keeps what is written in a level around all, in this vector without bytes, and leaves the slice alone.
     #[inline(always)]
     pub(crate) fn new_in_root(
         alloc: Global,
+        scratch: Vec<u8>,
         untouched: &'a mut [u8],
-    ) -> Result<Serializer<SliceSink<'a>>>
-        ensures ok { IfOk result (λ ser. (ser.around ≡ []) × (ser.failed ≡ None) × (ser.inside ≡ root ∷ [])) }
-        ensures err { IfErr result (λ e. e ≡ Asn1DerError.OutOfMemory) }
+    ) -> Serializer<SliceSink<'a>>
+        requires { scratch.items ≡ [] }
+        ensures around { result.around ≡ [] }
+        ensures failed { result.failed ≡ None }
+        ensures inside { result.inside ≡ root ∷ [] }
     {
-        let levels = Levels::new_in_root(alloc)?;
-        Ok(Serializer::with_levels(alloc, SliceSink::new(untouched), levels))
+        let sink = SliceSink::new(untouched);
+        Serializer::with_levels(alloc, sink, Levels::new_in_root(alloc, scratch))
     }
 
     // Gives out what the level holds of which a member was being written.

@@ -3,7 +3,8 @@ ghost use Rattle.std.specs.Prelude.{◌≡◌, ◌≤◌, ◌∷◌, ◌<◌, �
 ghost use Rattle.picky_der_core.specs.Element.{len as bytes_of};
 ghost use Rattle.picky_der_core.specs.Tag.{number_of, IsTagNumber};
 ghost use Rattle.picky_der_input.specs.Steps.{Takes, StopsShort, TakesNoMemory};
-ghost use Rattle.picky_der_input.specs.Headers.{ReadsDigits, RefusesLength, RefusesContentLength, RefusesHeader, BeginsContent, RefusesBegin};
+ghost use Rattle.picky_der_input.specs.Headers.{ReadsDigits, RefusesLength, RefusesContentLength, RefusesHeader};
+ghost use Rattle.picky_der_input.specs.Headers.{BeginsContent, RefusesBegin};
 
 use super::Input;
 use picky_der_core::asn1::Tag;

@@ -1,0 +1,47 @@
+-- The first space behind a type's word.
+use Rattle.std.proofs.Common.{rules, ◌≡◌, ◌≢◌, ℕ, ◌<◌, ◌≤◌, ◌==◌, not, true, false, List, ◌∷◌, ◌++◌, length, get_or, take, take_all, length-append, refl, sym, ap, subst, ◌∙◌, arith}
+use Rattle.std.proofs.lemmas.List.{take-append-le}
+use Rattle.std.proofs.lemmas.List.Sums.{prefix_len_is}
+use Rattle.std.specs.List.{prefix_len}
+use Rattle.der_tool_lib.specs.declared.value.ValueType.{ValueType}
+use Rattle.der_tool_lib.specs.declared.value.ValueType.TheVariants as named
+use Rattle.der_tool_lib.specs.Line.{word_for}
+
+-- no word for a type has a space
+first_space : (type : ValueType) (digits : List ℕ) → prefix_len (λ b. not (b == 32)) (word_for type ++ (32 ∷ digits)) ≡ length (word_for type)
+first_space named.Bool digits = refl
+first_space named.U8 digits = refl
+first_space named.U16 digits = refl
+first_space named.U32 digits = refl
+first_space named.U64 digits = refl
+first_space named.U128 digits = refl
+first_space named.Null digits = refl
+first_space named.Char digits = refl
+first_space named.Text digits = refl
+first_space named.Octets digits = refl
+first_space named.Raw digits = refl
+first_space named.Test digits = refl
+first_space named.Spki digits = refl
+
+is_no_space : (b : ℕ) → b ≢ 32 → not (b == 32) ≡ true
+is_no_space b n = search (rules, n)
+
+is_space : (b : ℕ) → b ≡ 32 → not (b == 32) ≡ false
+is_space b e = ap (λ c. not (c == 32)) e
+
+module _ (words : List ℕ) (type : ValueType) (digits : List ℕ) (e : words ≡ word_for type ++ (32 ∷ digits)) where
+  -- the first space stands right behind the word
+  space_at : (n : ℕ) → ((i : ℕ) → i < n → get_or words i 0 ≢ 32) → n ≤ length words → (n < length words → get_or words n 0 ≡ 32) → n ≡ length (word_for type)
+  space_at n before fits at =
+      sym (prefix_len_is (λ b. not (b == 32)) words n 0 fits (λ k l. is_no_space (get_or words k 0) (before k l)) (λ l. is_space (get_or words n 0) (at l)))
+      ∙ ap (prefix_len (λ b. not (b == 32))) e ∙ first_space type digits
+
+  pub has_space : ((i : ℕ) → i < length words → get_or words i 0 ≢ 32) → ⊥
+  has_space none =
+      let all : length words ≡ length (word_for type) = space_at (length words) none (omega arith) (λ l. absurd (omega (arith, l))) in
+      omega (arith, all, ap length e, length-append (word_for type) (32 ∷ digits))
+
+  pub word_before : (n : ℕ) → ((i : ℕ) → i < n → get_or words i 0 ≢ 32) → n < length words → get_or words n 0 ≡ 32 → take n words ≡ word_for type
+  word_before n before fits at =
+      let is : n ≡ length (word_for type) = space_at n before (omega (arith, fits)) (λ l. at) in
+      ap (λ m. take m words) is ∙ ap (take (length (word_for type))) e ∙ take-append-le (length (word_for type)) (word_for type) (32 ∷ digits) (omega arith) ∙ take_all (length (word_for type)) (word_for type) (omega arith)
