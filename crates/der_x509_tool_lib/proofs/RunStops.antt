@@ -1,6 +1,7 @@
 -- The ways in which a run ends with an error.
-use Rattle.std.proofs.Common.{◌≡◌, ℕ, suc, ◌-◌, ◌^◌, List, [], ◌∷◌, ◌++◌, Option, None, Some, refl, sym, ap, subst, ◌∙◌}
+use Rattle.std.proofs.Common.{◌≡◌, ℕ, suc, ◌-◌, ◌^◌, List, [], ◌∷◌, ◌++◌, Option, refl, sym, ap, subst, ◌∙◌}
 use Rattle.std.specs.Io.KnownBytes.{Consumes, Keeps, IsAtEnd}
+use Rattle.std.proofs.KnownBytes.{Keeps-refl}
 use Rattle.std.specs.declared.io.ErrorKind.{ErrorKind}
 use Rattle.picky_der_core.specs.declared.error.Asn1DerError.{Asn1DerError}
 use Rattle.picky_der_core.specs.declared.error.Asn1DerError.TheVariants.{UnsupportedValue, OutOfMemory}
@@ -40,8 +41,4 @@ module _ {W : Type 0} (g : Ghosts W) {a b : Option (List ℕ)} {w v : W} {kept :
 
   -- the input goes on past the limit
   pub limit_stops : count ≡ 2 ^ 64 - 1 → Stops g a b i j w v UnsupportedValue
-  limit_stops all = too_long refl (too_many h all) h.line h.is_line (stands h b (keeps b))
-    where
-      keeps : (o : Option (List ℕ)) → Keeps o o
-      keeps None = tt
-      keeps (Some xs) = refl
+  limit_stops all = too_long refl (too_many h all) h.line h.is_line (stands h b (Keeps-refl b))
