@@ -3,7 +3,7 @@ ghost use Rattle.std.specs.Prelude.{◌≡◌, [], ◌∷◌, length, IfOk, IfEr
 ghost use Rattle.picky_der_core.specs.Encoding.{der};
 ghost use Rattle.picky_der_core.specs.Readable.{IsWritable};
 ghost use Rattle.picky_der_core.specs.Tree.{Tree};
-ghost use Rattle.picky_der_de.specs.Entry.{IsFront, HasNoFront, ReadsFront, RefusesFront, seen};
+ghost use Rattle.picky_der_de.specs.Entry.{IsFront, HasNoFront, ReadsFront, RefusesFront, view_of};
 ghost use Rattle.picky_der_ser.specs.Calls.{MemoryExcuse};
 
 use picky_asn1_der::asn1::ByteBuf;
@@ -45,10 +45,10 @@ pub fn small_number(alloc: Global, bytes: &[u8]) -> Result<u8>
 pub fn text<R: ReadExt>(alloc: Global, reader: &mut R) -> Result<String>
     ensures value { IfOk result (ReadsFront ⟦<String as Serialize>⟧.meaning
         ⟦<String as Deserialize>⟧.shape ⟦<String as PartialEq>⟧.eq 10240
-        (seen R.remaining R.faults reader.old) (seen R.remaining R.faults reader.new)) }
+        (view_of R.remaining R.faults reader.old) (view_of R.remaining R.faults reader.new)) }
     ensures err { IfErr result (RefusesFront ⟦<String as Serialize>⟧.meaning
         ⟦<String as Deserialize>⟧.shape 10240
-        (seen R.remaining R.faults reader.old) (seen R.remaining R.faults reader.new)) }
+        (view_of R.remaining R.faults reader.old) (view_of R.remaining R.faults reader.new)) }
     ensures same_references { R.references reader.new ≡ R.references reader.old }
 {
     from_reader(alloc, reader)

@@ -2,7 +2,7 @@
 ghost use Rattle.std.specs.Prelude.{drop, length, IfNone, IfSome, IfOk, IfErr};
 ghost use Rattle.picky_der_core.specs.Encoding.{der};
 ghost use Rattle.picky_der_core.specs.Tree.{Tree};
-ghost use Rattle.picky_der_de.specs.Entry.{IsFront, ReadsFront, HasNoneLeft, RefusesNextValue, seen};
+ghost use Rattle.picky_der_de.specs.Entry.{IsFront, ReadsFront, HasNoneLeft, RefusesNextValue, view_of};
 
 use picky_asn1_der::misc::ReadExt;
 use picky_asn1_der::{
@@ -30,14 +30,14 @@ pub fn number_and_text(alloc: Global, bytes: &[u8]) -> Result<(u8, String)>
 pub fn next_text<R: ReadExt>(alloc: Global, reader: &mut R) -> Result<Option<String>>
     ensures value { IfOk result (λ next. IfSome next
         (ReadsFront ⟦<String as Serialize>⟧.meaning ⟦<String as Deserialize>⟧.shape
-        ⟦<String as PartialEq>⟧.eq 4096 (seen R.remaining R.faults reader.old)
-        (seen R.remaining R.faults reader.new))) }
+        ⟦<String as PartialEq>⟧.eq 4096 (view_of R.remaining R.faults reader.old)
+        (view_of R.remaining R.faults reader.new))) }
     ensures ended { IfOk result (λ next. IfNone next
-        (HasNoneLeft 4096 (seen R.remaining R.faults reader.old)
-        (seen R.remaining R.faults reader.new))) }
+        (HasNoneLeft 4096 (view_of R.remaining R.faults reader.old)
+        (view_of R.remaining R.faults reader.new))) }
     ensures err { IfErr result (RefusesNextValue ⟦<String as Serialize>⟧.meaning
-        ⟦<String as Deserialize>⟧.shape 4096 (seen R.remaining R.faults reader.old)
-        (seen R.remaining R.faults reader.new)) }
+        ⟦<String as Deserialize>⟧.shape 4096 (view_of R.remaining R.faults reader.old)
+        (view_of R.remaining R.faults reader.new)) }
 {
     next_from_reader(alloc, reader, 4096)
 }

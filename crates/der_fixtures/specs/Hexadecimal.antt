@@ -3,14 +3,14 @@ use Rattle.std.specs.Prelude.{ℕ, List, [], ◌∷◌, ◌++◌, ◌==◌, not,
 use Rattle.hex.specs.Hex.{encode_upper}
 
 -- a text without its spaces
-abbrev pub unspaced : List ℕ → List ℕ
-unspaced text = filter (λ c. not (c == 0x20)) text
+abbrev pub without_spaces : List ℕ → List ℕ
+without_spaces text = filter (λ c. not (c == 0x20)) text
 
 -- two digits for each byte, behind a space
 abbrev pub behind_spaces : List ℕ → List ℕ
 behind_spaces bytes = flat_map (λ b. 0x20 ∷ encode_upper (b ∷ [])) bytes
 
 -- two digits for each byte, with a space between any two bytes
-abbrev pub spaced : List ℕ → List ℕ
-spaced [] = []
-spaced (b ∷ bytes) = encode_upper (b ∷ []) ++ behind_spaces bytes
+abbrev pub with_spaces : List ℕ → List ℕ
+with_spaces [] = []
+with_spaces (b ∷ bytes) = encode_upper (b ∷ []) ++ behind_spaces bytes

@@ -2,7 +2,7 @@
 ghost use Rattle.std.specs.Prelude.{◌≡◌, ◌⊎◌, Ok, Err, IfOk, IfErr, string_bytes};
 ghost use Rattle.hex.specs.Hex.{decode_of};
 ghost use Rattle.hex.specs.declared.error.FromHexError.TheVariants.{OutOfMemory};
-ghost use Rattle.der_fixtures.specs.Hexadecimal.{unspaced, spaced};
+ghost use Rattle.der_fixtures.specs.Hexadecimal.{without_spaces, with_spaces};
 
 use hex::FromHexError;
 use std::alloc::{AllocError, Global};
@@ -12,8 +12,8 @@ use std::alloc::{AllocError, Global};
 /// `OutOfMemory` where memory is refused. The other errors are those of `hex::decode` of the text without its spaces: an
 /// odd number of digits, or a character that isn't one.
 pub fn bytes_of(alloc: Global, text: &str) -> Result<Vec<u8>, FromHexError>
-    ensures ok { IfOk result (λ bytes. decode_of (unspaced text.now) ≡ Ok bytes.items) }
-    ensures err { IfErr result (λ e. (e ≡ OutOfMemory) ⊎ (decode_of (unspaced text.now) ≡ Err e)) }
+    ensures ok { IfOk result (λ bytes. decode_of (without_spaces text.now) ≡ Ok bytes.items) }
+    ensures err { IfErr result (λ e. (e ≡ OutOfMemory) ⊎ (decode_of (without_spaces text.now) ≡ Err e)) }
 {
     let mut digits = Vec::new(alloc);
     if digits.extend_from_slice(text.as_bytes()).is_err() {
@@ -25,7 +25,7 @@ pub fn bytes_of(alloc: Global, text: &str) -> Result<Vec<u8>, FromHexError>
 
 /// Two digits of upper case for each byte, with a space between any two bytes.
 pub fn text_of(alloc: Global, bytes: &[u8]) -> Result<String, AllocError>
-    ensures { IfOk result (λ text. string_bytes text ≡ spaced bytes.now) }
+    ensures { IfOk result (λ text. string_bytes text ≡ with_spaces bytes.now) }
 {
     let Some((first, others)) = bytes.split_first() else {
         return Ok(String::new(alloc));

@@ -33,7 +33,7 @@ pub(crate) fn answer(alloc: Global, outcome: Result<(), Stop>) -> Result<String,
     }
 }
 
-/// Asks for memory so many times, and gives it back.
+/// Asks for memory this many times, and gives it back.
 pub(crate) fn spend(alloc: Global, times: &str) -> Result<String, AllocError> {
     let mut outcome = Ok(());
     for _ in 0..times.parse::<u32>().unwrap_or(0) {

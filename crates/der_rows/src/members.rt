@@ -3,6 +3,7 @@
 use crate::calls::shown;
 use crate::reading;
 use picky_asn1_der::misc::ReadExt;
+use picky_asn1_der::ser::Number;
 use picky_asn1_der::{Deserializer, de};
 use std::alloc::{AllocError, Global};
 
@@ -72,7 +73,7 @@ fn ended(
     format!(in alloc; "{answers}; {end:?}")
 }
 
-// The calls but for `end`, which takes the sequence.
+// The calls but for `end`, which takes the sequence. A member is a `u8`, and the default one is 0.
 fn member_answers<R: ReadExt>(
     alloc: Global,
     members: &mut de::Sequence<'_, R>,
@@ -82,6 +83,8 @@ fn member_answers<R: ReadExt>(
     Ok(answer_each!(alloc; name in calls, "; ", match name {
         "next_element" => shown(alloc, &members.next_element::<u8>()),
         "next_field" => shown(alloc, &members.next_field::<u8>()),
+        "next_optional" => shown(alloc, &members.next_optional::<u8>()),
+        "next_or_default" => shown(alloc, &members.next_or_default::<u8, Number<0>>()),
         "next_tag" => shown(alloc, &members.next_tag()),
         "drop" => String::from_str(alloc, "dropped"),
         _ => String::from_str(alloc, "unknown call"),

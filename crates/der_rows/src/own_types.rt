@@ -6,13 +6,16 @@ use crate::lamp::Lamp;
 use crate::nested_tags::{FourTags, SixteenTags};
 use crate::seen::Seen;
 use der_examples::{
-    AgeGroups, EncryptedData, GeneralName, Gust, Host, Interval, Marker, Moment, Named,
+    AgeGroups, EncryptedData, GeneralName, Gust, Host, Interval, Marker, Moment, Named, Noted,
     NumberOrFlag, Place, Point, PrincipalName, PrivateKeyInfo, Report, RsaPublicKey, Setting, Stay,
     Tagged, Ticket, Track,
 };
 use der_tool_lib::{AlgorithmIdentifier, SubjectPublicKeyInfo, TestStruct};
 use der_x509::{Extension, TbsCertificate, Version};
-use picky_asn1_der::asn1::{ExplicitContextTag0, ImplicitContextTag1};
+use picky_asn1_der::application_tag::ApplicationTag;
+use picky_asn1_der::asn1::{
+    BitStringAsn1Container, ExplicitContextTag0, ImplicitContextTag1, OctetStringAsn1Container,
+};
 use std::alloc::{AllocError, Global};
 
 /// The answer to a row that names one of these types.
@@ -48,6 +51,14 @@ pub(crate) fn answer(alloc: Global, name: &str, input: &Input) -> Result<String,
         "EncryptedData" => read_as::<EncryptedData>(alloc, input),
         "PrincipalName" => read_as::<PrincipalName>(alloc, input),
         "Ticket" => read_as::<Ticket>(alloc, input),
+        "Noted<u8>" => read_as::<Noted<u8>>(alloc, input),
+        "OctetStringAsn1Container<Noted<u8>>" => read_as::<OctetStringAsn1Container<Noted<u8>>>(
+            alloc, input,
+        ),
+        "BitStringAsn1Container<Noted<u8>>" => read_as::<BitStringAsn1Container<Noted<u8>>>(
+            alloc, input,
+        ),
+        "ApplicationTag<Noted<u8>, 10>" => read_as::<ApplicationTag<Noted<u8>, 10>>(alloc, input),
         "Named<bool>" => read_as::<Named<bool>>(alloc, input),
         "ImplicitContextTag1<Named<bool>>" => read_as::<ImplicitContextTag1<Named<bool>>>(
             alloc, input,

@@ -36,7 +36,7 @@ use std::alloc::{AllocError, Global};
 /// | `grow read [BYTES] as TYPE` | `whole`, where all calls agree: on a value and its encoding, or on the error |
 /// | `grow write VALUE` | `whole`, where each call that writes does the same |
 /// | `grow tool "LINE", .. as "ANSWER", ..` | `whole`, where these are the answers of `der_tool` to these lines |
-/// | `spend TIMES` | `whole`, after memory was asked for so many times, and given back |
+/// | `spend TIMES` | `whole`, after memory was asked for as many times, and given back |
 ///
 /// In the last five rows each call may be refused memory. The answer is `OutOfMemory of CALL` where one was, answered so
 /// and left what it should, and `wrong CALL` where one did anything else.

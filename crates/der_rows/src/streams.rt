@@ -4,7 +4,7 @@ use crate::calls::shown;
 use crate::devices::{Fault, refused_call};
 use crate::notation::bytes_in;
 use der_fixtures::{FailingWriter, text_of};
-use picky_asn1_der::misc::{PeekableReader, ReadExt, SliceSink, Watched, WriteExt};
+use picky_asn1_der::misc::{Length, PeekableReader, ReadExt, SliceSink, Watched, WriteExt};
 use std::alloc::{AllocError, Global};
 use std::io;
 use std::io::{ErrorKind, Read, Write};
@@ -109,12 +109,13 @@ fn answer_read<R: ReadExt>(
         None => match name {
             "read_next" => shown(alloc, &with_kind(reader.read_next())),
             "read_one" => shown(alloc, &with_kind(reader.read_one())),
+            "length" => shown(alloc, &Length::deserialized(reader)),
             _ => String::from_str(alloc, "unknown call"),
         },
     }
 }
 
-// The calls that are given room for so many bytes.
+// The calls that are given room for a number of bytes.
 fn answer_piece<R: ReadExt>(
     alloc: Global,
     reader: &mut R,

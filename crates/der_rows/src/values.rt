@@ -114,6 +114,7 @@ fn set(alloc: Global, how: Writing, name: &str) -> Result<String, AllocError> {
     match name {
         "Asn1SetOf([256u16, 5, 5])" => numbers(alloc, how),
         "Asn1SetOf([ByteBuf([0, 0]), ByteBuf([0xFF])])" => octets(alloc, how),
+        "Asn1SetOf([Asn1RawDer([2, 1, 5, 5, 0]), Asn1RawDer([2, 1, 5])])" => raw_set(alloc, how),
         "Asn1SetOf([5u8, 3])" => written(alloc, how, &five_and_three(alloc)?),
         "Asn1SetOf([Asn1SetOf([2u8, 1]), Asn1SetOf([1u8])])" => written(alloc, how, &sets(alloc)?),
         "Asn1SetOf([ExplicitContextTag0(Asn1SetOf([2u8, 1])), ExplicitContextTag0(Asn1SetOf([1u8]))])" =>
@@ -137,6 +138,12 @@ fn octets(alloc: Global, how: Writing) -> Result<String, AllocError> {
     let zeros = ByteBuf(Vec::from_slice(alloc, &[0, 0])?);
     let one = ByteBuf(Vec::from_slice(alloc, &[0xFF])?);
     written(alloc, how, &Asn1SetOf(vec![in alloc; zeros, one]?))
+}
+
+fn raw_set(alloc: Global, how: Writing) -> Result<String, AllocError> {
+    let longer = Asn1RawDer(Vec::from_slice(alloc, &[2, 1, 5, 5, 0])?);
+    let shorter = Asn1RawDer(Vec::from_slice(alloc, &[2, 1, 5])?);
+    written(alloc, how, &Asn1SetOf(vec![in alloc; longer, shorter]?))
 }
 
 fn five_and_three(alloc: Global) -> Result<Asn1SetOf<u8>, AllocError> {

@@ -2,7 +2,7 @@
 use Rattle.std.proofs.Common.{ℕ, List, [], ◌∷◌, Option, None, Some, refl}
 use Rattle.picky_der_core.specs.Element.{tlv}
 use Rattle.picky_der_core.specs.Tree.{ListKind, Tree, trees}
-use Rattle.picky_der_core.specs.Encoding.{written, headed}
+use Rattle.picky_der_core.specs.Encoding.{tree_bytes, plain_encoding}
 use Rattle.picky_der_core.specs.WrapperLaws.{AreAlike}
 use Rattle.picky_der_ser.specs.Meaning.{list_meaning, option_meaning}
 use Rattle.picky_asn1_der.specs.declared.raw_der.Asn1RawDer.{Asn1RawDer}
@@ -10,7 +10,7 @@ use Rattle.der_tool_lib.specs.declared.algorithm_identifier.AlgorithmIdentifier.
 use Rattle.der_tool_lib.specs.AlgorithmIdentifier.{of_parameters, elements}
 
 alike : (x : List ℕ) (p : Option Asn1RawDer) → AreAlike (Tree.list ListKind.sequence (trees (Tree.bytes 0x06 x ∷ option_meaning (λ (raw : Asn1RawDer). Tree.raw raw.0.items) p ∷ []))) (list_meaning ListKind.sequence Tree.raw (tlv 0x06 x ∷ of_parameters p))
-unfolding written headed
+unfolding tree_bytes plain_encoding
 alike x None = record { written_same = λ h. refl; absent_same = refl; numbers_same = refl }
 alike x (Some p) = record { written_same = λ h. refl; absent_same = refl; numbers_same = refl }
 

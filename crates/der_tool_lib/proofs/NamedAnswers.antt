@@ -13,13 +13,13 @@ use Rattle.picky_der_core.specs.Readable.{has_tag_numbers, have_tag_numbers, IsW
 use Rattle.picky_der_core.specs.Reading.{Place, StandsAt}
 use Rattle.picky_der_core.specs.Refusal.{plain_refusal, element_refusal, fault}
 use Rattle.picky_der_de.specs.State.{State, fresh}
-use Rattle.picky_der_de.specs.Steps.{IsJudged, IsOther, drawn}
+use Rattle.picky_der_de.specs.Steps.{IsJudged, IsOther, drawn_count}
 use Rattle.picky_der_de.specs.Reading.{Refuses, now, ever}
 use Rattle.der_tool_lib.specs.declared.value.ValueType.{ValueType}
 use Rattle.der_tool_lib.specs.declared.value.ValueType.TheVariants as named
 use Rattle.der_tool_lib.specs.AlgorithmIdentifier.{elements}
 use Rattle.der_tool_lib.specs.Words.{word_of}
-use Rattle.der_tool_lib.specs.Value.{Kinds, plain, element, mendable, Description, described, StandsFirst, BeginsValue, IsKind, AnswersRead, read, refused}
+use Rattle.der_tool_lib.specs.Value.{Kinds, plain, element, mendable, Description, description_of, StandsFirst, BeginsValue, IsKind, AnswersRead, read, refused}
 use Rattle.der_tool_lib.specs.Reads.{RefusesAs, ReadsNamed, RefusesNamed}
 
 -- ---- values
@@ -28,13 +28,13 @@ known_front : (left : Option (List ℕ)) (bytes front : List ℕ) → Consumes (
 known_front None bytes front c = absurd c
 known_front (Some rest) bytes front c = record { rest = rest; is = c }
 
-pub answers_read : {type : ValueType} {old new : State} {bytes answer digits : List ℕ} {taken : ℕ} {t : Tree} (v : (described type).Value) → old ≡ fresh (Some bytes) (length bytes) [] [] → ReadsNamed type old new v → (described type).meaning v ≡ t
+pub answers_read : {type : ValueType} {old new : State} {bytes answer digits : List ℕ} {taken : ℕ} {t : Tree} (v : (description_of type).Value) → old ≡ fresh (Some bytes) (length bytes) [] [] → ReadsNamed type old new v → (description_of type).meaning v ≡ t
     → taken ≡ new.taken → digits ≡ encode_lower (der t) → answer ≡ codes "ok " ++ (decimal taken ++ (codes " " ++ digits)) → AnswersRead type bytes answer
 answers_read {type} {old} {new} {bytes} {answer} {digits} {taken} {t} v is r same n d a =
-    let u = (described type).meaning v in
+    let u = (description_of type).meaning v in
     let h = subst (λ o. ReadsNamed type o new v) is r in
     let front = known_front new.input bytes (der u) h.takes.input in
-    let stands : StandsAt Place.whole (described type).shape bytes (length bytes) u = record { of_shape = h.of_shape; readable = h.readable; may_stand = tt; within = omega (arith, h.takes.until_end); front = front } in
+    let stands : StandsAt Place.whole (description_of type).shape bytes (length bytes) u = record { of_shape = h.of_shape; readable = h.readable; may_stand = tt; within = omega (arith, h.takes.until_end); front = front } in
     let size : taken ≡ length (der u) = n ∙ omega (arith, h.takes.taken) in
     let text : digits ≡ encode_lower (der u) = d ∙ ap (λ x. encode_lower (der x)) (sym same) in
     read v stands (a ∙ ap (λ m. codes "ok " ++ (decimal m ++ (codes " " ++ digits))) size ∙ ap (λ x. codes "ok " ++ (decimal (length (der u)) ++ (codes " " ++ x))) text)
@@ -44,7 +44,7 @@ raw_numbers : (ss : List (List ℕ)) → IsTrue (have_tag_numbers (trees (map Tr
 raw_numbers [] = refl
 raw_numbers (s ∷ ss) = raw_numbers ss
 
-numbers : (type : ValueType) (v : (described type).Value) → IsTrue (has_tag_numbers ((described type).meaning v))
+numbers : (type : ValueType) (v : (description_of type).Value) → IsTrue (has_tag_numbers ((description_of type).meaning v))
 numbers named.Bool v = refl
 numbers named.U8 v = refl
 numbers named.U16 v = refl
@@ -60,7 +60,7 @@ numbers named.Test v = refl
 numbers named.Spki v = rw (raw_numbers (elements v.algorithm)) refl
 
 -- what was read can be written
-pub writable_read : (type : ValueType) {old new : State} {bytes : List ℕ} {taken : ℕ} {t : Tree} (v : (described type).Value) → old ≡ fresh (Some bytes) (length bytes) [] [] → ReadsNamed type old new v → (described type).meaning v ≡ t
+pub writable_read : (type : ValueType) {old new : State} {bytes : List ℕ} {taken : ℕ} {t : Tree} (v : (description_of type).Value) → old ≡ fresh (Some bytes) (length bytes) [] [] → ReadsNamed type old new v → (description_of type).meaning v ≡ t
     → taken ≡ new.taken → taken < 2 ^ 64 → IsWritable t
 writable_read type {new = new} v is r same n small =
     let h = subst (λ o. ReadsNamed type o new v) is r in
@@ -88,7 +88,7 @@ module _ (d : Description) (bytes : List ℕ) {new : State} {e : Asn1DerError} (
   is_truncated h b = truncated_or_not e (λ final.
       let whole = der (d.meaning b.value) in
       let rest = b.begins.rest in
-      let n = drawn new in
+      let n = drawn_count new in
       let there : n ≤ length bytes = omega (arith, h.fails.there refl) in
       let cut : bytes ≡ take n bytes ++ drop n bytes = grind (arith, common_steps) in
       let size : length (take n bytes) + 0 ≡ n = grind (arith, common_steps) in
@@ -115,5 +115,5 @@ pub answers_refused : {type : ValueType} {old : State} (new : State) {bytes answ
     → answer ≡ codes "refused " ++ word_of e → AnswersRead type bytes answer
 answers_refused {type} {old} new {bytes} {answer} {e} is none memory r a =
     let judged : IsJudged (begun bytes) new e = record { had_not_failed = refl; faults = none; memory = memory } in
-    let told = refused_as (described type) bytes judged (described type).kinds (subst (λ o. RefusesNamed type o new e) is r) in
+    let told = refused_as (description_of type) bytes judged (description_of type).kinds (subst (λ o. RefusesNamed type o new e) is r) in
     refused e told.0 told.1 a

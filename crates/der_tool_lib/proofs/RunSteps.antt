@@ -4,7 +4,7 @@ use Rattle.std.specs.Io.KnownBytes.{Appends, Consumes, Keeps, IsAtEnd}
 use Rattle.std.proofs.KnownBytes.{Appends-nil, Appends-trans, Consumes-nil, Consumes-trans, Consumes-kept, Consumes-whole}
 use Rattle.picky_der_core.specs.Writer.{AppendsBeginning, beginning_after}
 use Rattle.der_tool_lib.specs.Answer.{IsAnswerTo}
-use Rattle.der_tool_lib.specs.Text.{IsLine, AreLines, AreAnswers, ended, unless_empty, IsSplit, IsTextOf, WritesText}
+use Rattle.der_tool_lib.specs.Text.{IsLine, AreLines, AreAnswers, text_of_lines, unless_empty, IsSplit, IsTextOf, WritesText}
 use Rattle.der_tool_lib.specs.Run.{AnswersLine, WroteWhole, WroteBeginning, IsTooLong}
 
 -- ---- one more
@@ -23,9 +23,9 @@ answers_push [] (a ∷ as') line answer h k = absurd h
 answers_push (l ∷ ls) [] line answer h k = absurd h
 answers_push (l ∷ ls) (a ∷ as') line answer h k = (h.0, answers_push ls as' line answer h.1 k)
 
-pub ended_push : (lines : List (List ℕ)) (line : List ℕ) → ended (lines ++ (line ∷ [])) ≡ ended lines ++ (line ++ (0x0A ∷ []))
+pub ended_push : (lines : List (List ℕ)) (line : List ℕ) → text_of_lines (lines ++ (line ∷ [])) ≡ text_of_lines lines ++ (line ++ (0x0A ∷ []))
 ended_push [] line = refl
-ended_push (l ∷ ls) line = ap (λ t. l ++ (0x0A ∷ t)) (ended_push ls line) ∙ sym (append_assoc l (0x0A ∷ ended ls) (line ++ (0x0A ∷ [])))
+ended_push (l ∷ ls) line = ap (λ t. l ++ (0x0A ∷ t)) (ended_push ls line) ∙ sym (append_assoc l (0x0A ∷ text_of_lines ls) (line ++ (0x0A ∷ [])))
 
 -- a line that isn't empty is a last line
 last_of : (line : List ℕ) → 0 < length line → unless_empty line ≡ line ∷ []
@@ -52,7 +52,7 @@ longer (Some xs) (Some ys) bytes k n = omega (arith, n, ap length k, length-appe
 pub record RunsOn (a b c d : Option (List ℕ)) (line : List ℕ) (count : ℕ) : Type 0 where
   pub whole : WroteWhole a b c d line
   pub is_line : IsLine line
-  pub counted : length (ended whole.lines ++ line) ≡ count
+  pub counted : length (text_of_lines whole.lines ++ line) ≡ count
 
 pub run_starts : (a c : Option (List ℕ)) → RunsOn a a c c [] 0
 run_starts a c = record {
@@ -62,9 +62,9 @@ run_starts a c = record {
 }
 
 module _ {a b c d : Option (List ℕ)} {line : List ℕ} {count : ℕ} (h : RunsOn a b c d line count) where
-  drawn_more : (b' : Option (List ℕ)) (x : ℕ) → Consumes b b' (x ∷ []) → Consumes a b' (ended h.whole.lines ++ (line ++ (x ∷ [])))
+  drawn_more : (b' : Option (List ℕ)) (x : ℕ) → Consumes b b' (x ∷ []) → Consumes a b' (text_of_lines h.whole.lines ++ (line ++ (x ∷ [])))
   drawn_more b' x k =
-      subst (Consumes a b') (append_assoc (ended h.whole.lines) line (x ∷ [])) (Consumes-trans a b b' (ended h.whole.lines ++ line) (x ∷ []) h.whole.drawn k)
+      subst (Consumes a b') (append_assoc (text_of_lines h.whole.lines) line (x ∷ [])) (Consumes-trans a b b' (text_of_lines h.whole.lines ++ line) (x ∷ []) h.whole.drawn k)
 
   -- one byte more was drawn
   pub draws : (b' : Option (List ℕ)) (x : ℕ) → Consumes b b' (x ∷ []) → WroteWhole a b' c d (line ++ (x ∷ []))
@@ -77,15 +77,15 @@ module _ {a b c d : Option (List ℕ)} {line : List ℕ} {count : ℕ} (h : Runs
     written = h.whole.written;
   }
 
-  more : (x : ℕ) → length (ended h.whole.lines ++ (line ++ (x ∷ []))) ≡ count + 1
+  more : (x : ℕ) → length (text_of_lines h.whole.lines ++ (line ++ (x ∷ []))) ≡ count + 1
   more x =
-      omega (arith, h.counted, length-append (ended h.whole.lines) line, length-append (ended h.whole.lines) (line ++ (x ∷ [])), length-append line (x ∷ []))
+      omega (arith, h.counted, length-append (text_of_lines h.whole.lines) line, length-append (text_of_lines h.whole.lines) (line ++ (x ∷ [])), length-append line (x ∷ []))
 
   pub byte_drawn : (b' : Option (List ℕ)) (x : ℕ) → Consumes b b' (x ∷ []) → x ≢ 0x0A → RunsOn a b' c d (line ++ (x ∷ [])) (count + 1)
   unfolding draws
   byte_drawn b' x k n = record { whole = draws b' x k; is_line = line_push line x h.is_line n; counted = more x }
 
-  drawn_still : (b' : Option (List ℕ)) → Keeps b b' → Consumes a b' (ended h.whole.lines ++ line)
+  drawn_still : (b' : Option (List ℕ)) → Keeps b b' → Consumes a b' (text_of_lines h.whole.lines ++ line)
   drawn_still b' k = Consumes-kept a b b' _ h.whole.drawn k
 
   -- nothing more was drawn
@@ -100,13 +100,13 @@ module _ {a b c d : Option (List ℕ)} {line : List ℕ} {count : ℕ} (h : Runs
   }
 
   -- the line was answered
-  answered_bytes : (b' : Option (List ℕ)) → Consumes b b' (0x0A ∷ []) → Consumes a b' (ended (h.whole.lines ++ (line ∷ [])) ++ [])
+  answered_bytes : (b' : Option (List ℕ)) → Consumes b b' (0x0A ∷ []) → Consumes a b' (text_of_lines (h.whole.lines ++ (line ∷ [])) ++ [])
   answered_bytes b' k = subst (Consumes a b') (sym (append-nil _ ∙ ended_push h.whole.lines line)) (drawn_more b' 0x0A k)
 
-  answered_text : (d' : Option (List ℕ)) (k : AnswersLine line d d') → Appends c d' (ended (h.whole.answers ++ (k.answer ∷ [])))
+  answered_text : (d' : Option (List ℕ)) (k : AnswersLine line d d') → Appends c d' (text_of_lines (h.whole.answers ++ (k.answer ∷ [])))
   answered_text d' k = subst (Appends c d') (sym (ended_push h.whole.answers k.answer)) (Appends-trans c d d' _ _ h.whole.written k.written)
 
-  begun_text : (d' : Option (List ℕ)) (answer : List ℕ) → AppendsBeginning d d' (answer ++ (0x0A ∷ [])) → AppendsBeginning c d' (ended (h.whole.answers ++ (answer ∷ [])))
+  begun_text : (d' : Option (List ℕ)) (answer : List ℕ) → AppendsBeginning d d' (answer ++ (0x0A ∷ [])) → AppendsBeginning c d' (text_of_lines (h.whole.answers ++ (answer ∷ [])))
   begun_text d' answer k = subst (AppendsBeginning c d') (sym (ended_push h.whole.answers answer)) (beginning_after c d d' _ _ h.whole.written k)
 
   pub line_answered : (b' d' : Option (List ℕ)) → Consumes b b' (0x0A ∷ []) → AnswersLine line d d' → RunsOn a b' c d' [] (count + 1)
@@ -125,7 +125,7 @@ module _ {a b c d : Option (List ℕ)} {line : List ℕ} {count : ℕ} (h : Runs
 
   -- ---- the text of what was drawn
 
-  text_of_ended : (answer : List ℕ) → IsAnswerTo line answer → IsTextOf (ended (h.whole.lines ++ (line ∷ [])) ++ []) (ended (h.whole.answers ++ (answer ∷ [])))
+  text_of_ended : (answer : List ℕ) → IsAnswerTo line answer → IsTextOf (text_of_lines (h.whole.lines ++ (line ∷ [])) ++ []) (text_of_lines (h.whole.answers ++ (answer ∷ [])))
   text_of_ended answer k = record {
     lines = h.whole.lines ++ (line ∷ []);
     last = [];
@@ -147,10 +147,10 @@ module _ {a b c d : Option (List ℕ)} {line : List ℕ} {count : ℕ} (h : Runs
     written = begun_text d' answer w;
   }
 
-  split_of : IsSplit (ended h.whole.lines ++ line) h.whole.lines line
+  split_of : IsSplit (text_of_lines h.whole.lines ++ line) h.whole.lines line
   split_of = record { are_lines = h.whole.are_lines; is_line = h.is_line; is = refl }
 
-  text_of_last : (answer : List ℕ) → 0 < length line → IsAnswerTo line answer → IsTextOf (ended h.whole.lines ++ line) (ended (h.whole.answers ++ (answer ∷ [])))
+  text_of_last : (answer : List ℕ) → 0 < length line → IsAnswerTo line answer → IsTextOf (text_of_lines h.whole.lines ++ line) (text_of_lines (h.whole.answers ++ (answer ∷ [])))
   text_of_last answer some k = record {
     lines = h.whole.lines;
     last = line;
@@ -173,7 +173,7 @@ module _ {a b c d : Option (List ℕ)} {line : List ℕ} {count : ℕ} (h : Runs
 
   -- ---- the end of the input
 
-  text_of_none : length line ≡ 0 → IsTextOf (ended h.whole.lines ++ line) (ended h.whole.answers)
+  text_of_none : length line ≡ 0 → IsTextOf (text_of_lines h.whole.lines ++ line) (text_of_lines h.whole.answers)
   text_of_none none = record {
     lines = h.whole.lines;
     last = line;

@@ -10,7 +10,7 @@ use Rattle.picky_der_core.specs.Faults.{Fault}
 use Rattle.picky_der_core.specs.Writer.{AppendsBeginning}
 use Rattle.picky_der_core.specs.WriterFaults.{Faulted}
 use Rattle.der_tool_lib.specs.Answer.{IsAnswerTo}
-use Rattle.der_tool_lib.specs.Text.{IsLine, AreLines, AreAnswers, ended, IsTextOf}
+use Rattle.der_tool_lib.specs.Text.{IsLine, AreLines, AreAnswers, text_of_lines, IsTextOf}
 
 -- ---- one line
 
@@ -34,9 +34,9 @@ pub record WroteWhole (in_old in_new out_old out_new : Option (List ℕ)) (rest 
   pub lines : List (List ℕ)
   pub answers : List (List ℕ)
   pub are_lines : AreLines lines
-  pub drawn : Consumes in_old in_new (ended lines ++ rest)
+  pub drawn : Consumes in_old in_new (text_of_lines lines ++ rest)
   pub answered : AreAnswers lines answers
-  pub written : Appends out_old out_new (ended answers)
+  pub written : Appends out_old out_new (text_of_lines answers)
 
 -- Lines were drawn, the last one up to its end or that of the input, and a beginning of the text that answers them was
 -- written.

@@ -13,9 +13,9 @@ AreLines [] = ⊤
 AreLines (line ∷ lines) = IsLine line × AreLines lines
 
 -- the lines one after another, each ended by the byte 0A
-abbrev pub ended : List (List ℕ) → List ℕ
-ended [] = []
-ended (line ∷ lines) = line ++ (0x0A ∷ ended lines)
+abbrev pub text_of_lines : List (List ℕ) → List ℕ
+text_of_lines [] = []
+text_of_lines (line ∷ lines) = line ++ (0x0A ∷ text_of_lines lines)
 
 -- a last line without an end counts if it isn't empty
 abbrev pub unless_empty : List ℕ → List (List ℕ)
@@ -26,7 +26,7 @@ unless_empty (byte ∷ bytes) = (byte ∷ bytes) ∷ []
 pub record IsSplit (input : List ℕ) (lines : List (List ℕ)) (last : List ℕ) : Type 0 where
   pub are_lines : AreLines lines
   pub is_line : IsLine last
-  pub is : input ≡ ended lines ++ last
+  pub is : input ≡ text_of_lines lines ++ last
 
 -- the answers to lines, in order
 abbrev pub AreAnswers : List (List ℕ) → List (List ℕ) → Type 0
@@ -42,7 +42,7 @@ pub record IsTextOf (input text : List ℕ) : Type 0 where
   pub split : IsSplit input lines last
   pub answers : List (List ℕ)
   pub answered : AreAnswers (lines ++ unless_empty last) answers
-  pub is : text ≡ ended answers
+  pub is : text ≡ text_of_lines answers
 
 -- the text of the known bytes of an input was written
 abbrev pub WritesText : Option (List ℕ) → Option (List ℕ) → Option (List ℕ) → Type 0

@@ -42,20 +42,20 @@ pub record Description : Type 1 where
 abbrev pub unsigned_of : ℕ → Description
 unsigned_of bits = record { Value = ℕ; meaning = Tree.unsigned; shape = Shape.unsigned (2 ^ bits - 1); kinds = plain 0x02 (unsigned_fault (2 ^ bits - 1)) }
 
-abbrev pub described : ValueType → Description
-described named.Bool = record { Value = Bool; meaning = Tree.boolean; shape = Shape.boolean; kinds = plain 0x01 boolean_fault }
-described named.U8 = unsigned_of 8
-described named.U16 = unsigned_of 16
-described named.U32 = unsigned_of 32
-described named.U64 = unsigned_of 64
-described named.U128 = unsigned_of 128
-described named.Null = record { Value = Unit {0}; meaning = λ _. Tree.null; shape = Shape.null; kinds = plain 0x05 null_fault }
-described named.Char = record { Value = ℕ; meaning = λ c. Tree.text (encode_utf8 c); shape = Shape.character; kinds = plain 0x0C character_fault }
-described named.Text = record { Value = List ℕ; meaning = Tree.text; shape = Shape.text; kinds = plain 0x0C text_fault }
-described named.Octets = record { Value = List ℕ; meaning = Tree.bytes 0x04; shape = Shape.bytes 0x04; kinds = plain 0x04 bytes_fault }
-described named.Raw = record { Value = List ℕ; meaning = Tree.raw; shape = Shape.raw; kinds = element }
-described named.Test = record { Value = TestStruct; meaning = test_written.ghosts.meaning; shape = test_read.ghosts.shape; kinds = mendable }
-described named.Spki = record { Value = SubjectPublicKeyInfo; meaning = spki_written.ghosts.meaning; shape = spki_read.ghosts.shape; kinds = mendable }
+abbrev pub description_of : ValueType → Description
+description_of named.Bool = record { Value = Bool; meaning = Tree.boolean; shape = Shape.boolean; kinds = plain 0x01 boolean_fault }
+description_of named.U8 = unsigned_of 8
+description_of named.U16 = unsigned_of 16
+description_of named.U32 = unsigned_of 32
+description_of named.U64 = unsigned_of 64
+description_of named.U128 = unsigned_of 128
+description_of named.Null = record { Value = Unit {0}; meaning = λ _. Tree.null; shape = Shape.null; kinds = plain 0x05 null_fault }
+description_of named.Char = record { Value = ℕ; meaning = λ c. Tree.text (encode_utf8 c); shape = Shape.character; kinds = plain 0x0C character_fault }
+description_of named.Text = record { Value = List ℕ; meaning = Tree.text; shape = Shape.text; kinds = plain 0x0C text_fault }
+description_of named.Octets = record { Value = List ℕ; meaning = Tree.bytes 0x04; shape = Shape.bytes 0x04; kinds = plain 0x04 bytes_fault }
+description_of named.Raw = record { Value = List ℕ; meaning = Tree.raw; shape = Shape.raw; kinds = element }
+description_of named.Test = record { Value = TestStruct; meaning = test_written.ghosts.meaning; shape = test_read.ghosts.shape; kinds = mendable }
+description_of named.Spki = record { Value = SubjectPublicKeyInfo; meaning = spki_written.ghosts.meaning; shape = spki_read.ghosts.shape; kinds = mendable }
 
 -- ---- the answers
 
@@ -84,7 +84,7 @@ is_memory _ = false
 
 -- the answer to bytes to be read as a value of the type
 pub data AnswersRead (type : ValueType) (bytes answer : List ℕ) : Type 0 where
-  read : (v : (described type).Value) → StandsFirst (described type) bytes v
-      → answer ≡ codes "ok " ++ (decimal (length (der ((described type).meaning v))) ++ (codes " " ++ encode_lower (der ((described type).meaning v)))) → AnswersRead type bytes answer
-  refused : (e : Asn1DerError) → ((v : (described type).Value) → StandsFirst (described type) bytes v → ⊥)
-      → IsKind (described type) bytes (described type).kinds e → answer ≡ codes "refused " ++ word_of e → AnswersRead type bytes answer
+  read : (v : (description_of type).Value) → StandsFirst (description_of type) bytes v
+      → answer ≡ codes "ok " ++ (decimal (length (der ((description_of type).meaning v))) ++ (codes " " ++ encode_lower (der ((description_of type).meaning v)))) → AnswersRead type bytes answer
+  refused : (e : Asn1DerError) → ((v : (description_of type).Value) → StandsFirst (description_of type) bytes v → ⊥)
+      → IsKind (description_of type) bytes (description_of type).kinds e → answer ≡ codes "refused " ++ word_of e → AnswersRead type bytes answer

@@ -1,23 +1,23 @@
 -- Lines that are taken one after another, and their answers.
 use Rattle.std.proofs.Common.{◌≡◌, ℕ, List, [], ◌∷◌, ◌++◌, Option, Some, None, refl, sym, ap, ◌∙◌, subst, append_assoc, append-nil}
 use Rattle.std.proofs.lemmas.Option.{none-some, same_Some}
-use Rattle.der_tool_lib.specs.Text.{ended}
-use Rattle.der_x509_tool_lib.specs.Blocks.{IsInside, AreInside, trimmed, text_of, Part, lines_of, all_lines, IsBlockLine, IsOpenBlock, BeginInBlock, AreAnswered, IsWhole, AreWhole, IsOpen, none, some, HasAnswers}
+use Rattle.der_tool_lib.specs.Text.{text_of_lines}
+use Rattle.der_x509_tool_lib.specs.Blocks.{IsInside, AreInside, without_outer_space, text_of, Part, lines_of, all_lines, IsBlockLine, IsOpenBlock, BeginInBlock, AreAnswered, IsWhole, AreWhole, IsOpen, none, some, HasAnswers}
 use Rattle.der_x509_tool_lib.specs.Run.{Takes, stays_outside, begins, begins_again, goes_on, ends}
 
 -- ---- one more
 
-pub ended_append : (xs ys : List (List ℕ)) → ended (xs ++ ys) ≡ ended xs ++ ended ys
+pub ended_append : (xs ys : List (List ℕ)) → text_of_lines (xs ++ ys) ≡ text_of_lines xs ++ text_of_lines ys
 ended_append [] ys = refl
-ended_append (x ∷ xs) ys = ap (λ t. x ++ (0x0A ∷ t)) (ended_append xs ys) ∙ sym (append_assoc x (0x0A ∷ ended xs) (ended ys))
+ended_append (x ∷ xs) ys = ap (λ t. x ++ (0x0A ∷ t)) (ended_append xs ys) ∙ sym (append_assoc x (0x0A ∷ text_of_lines xs) (text_of_lines ys))
 
 inside_push : (texts : List (List ℕ)) (line : List ℕ) → AreInside texts → IsInside line → AreInside (texts ++ (line ∷ []))
 inside_push [] line h k = (k, tt)
 inside_push (t ∷ ts) line h k = (h.0, inside_push ts line h.1 k)
 
-text_push : (texts : List (List ℕ)) (line : List ℕ) → text_of (texts ++ (line ∷ [])) ≡ text_of texts ++ trimmed line
-text_push [] line = append-nil (trimmed line)
-text_push (t ∷ ts) line = ap (λ x. trimmed t ++ x) (text_push ts line) ∙ sym (append_assoc (trimmed t) (text_of ts) (trimmed line))
+text_push : (texts : List (List ℕ)) (line : List ℕ) → text_of (texts ++ (line ∷ [])) ≡ text_of texts ++ without_outer_space line
+text_push [] line = append-nil (without_outer_space line)
+text_push (t ∷ ts) line = ap (λ x. without_outer_space t ++ x) (text_push ts line) ∙ sym (append_assoc (without_outer_space t) (text_of ts) (without_outer_space line))
 
 all_push : (parts : List Part) (part : Part) → all_lines (parts ++ (part ∷ [])) ≡ all_lines parts ++ lines_of part
 all_push [] part = append-nil (lines_of part)
@@ -104,7 +104,7 @@ take_more {lines} {answers} {more} {before} {after} {line} h t = by (h.is_open) 
         (inside answers h.parts begin (texts ++ (line ∷ [])) h.answered
         (record { begins = opened.begins; inside = inside_push texts line opened.inside b })
         (ap (λ l. l ++ (line ∷ [])) (h.is ∙ ap (λ l. all_lines h.parts ++ l) are) ∙ append_assoc (all_lines h.parts) (begin ∷ texts) (line ∷ []))
-        (n ∙ ap (λ x. Some (x ++ trimmed line)) same ∙ ap Some (sym (text_push texts line))))
+        (n ∙ ap (λ x. Some (x ++ without_outer_space line)) same ∙ ap Some (sym (text_push texts line))))
     by (some begin texts opened are is_text) (ends b text answer e n k m) =
         let same : text ≡ text_of texts = same_Some _ _ (sym e ∙ is_text) in
         let part = Part.block begin texts line in

@@ -6,7 +6,7 @@ use Rattle.std.proofs.lemmas.Option.{none-some}
 use Rattle.std.specs.Io.KnownBytes.{Appends, Consumes, Keeps, IsAtEnd}
 use Rattle.std.proofs.KnownBytes.{Appends-nil, Appends-trans, Consumes-nil, Consumes-trans, Consumes-kept, Consumes-whole}
 use Rattle.picky_der_core.specs.Writer.{AppendsBeginning, beginning_after}
-use Rattle.der_tool_lib.specs.Text.{IsLine, AreLines, ended}
+use Rattle.der_tool_lib.specs.Text.{IsLine, AreLines, text_of_lines}
 use Rattle.der_tool_lib.specs.Run.{IsTooLong}
 use Rattle.der_tool_lib.proofs.RunSteps.{line_push, lines_push, ended_push, longer}
 use Rattle.der_x509_tool_lib.specs.Blocks.{BeginsBlock, none, HasAnswers, answers_at_end, IsTextOf, WritesText}
@@ -73,10 +73,10 @@ pub record RunsOn (a b c d : Option (List ℕ)) (kept : List ℕ) (open_text : O
   pub are_lines : AreLines lines
   pub is_line : IsLine line
   pub has_answers : HasAnswers lines open_text answers
-  pub drawn : Consumes a b (ended lines ++ line)
-  pub written : Appends c d (ended answers)
+  pub drawn : Consumes a b (text_of_lines lines ++ line)
+  pub written : Appends c d (text_of_lines answers)
   pub is_kept : IsKept open_text line kept
-  pub counted : length (ended lines ++ line) ≡ count
+  pub counted : length (text_of_lines lines ++ line) ≡ count
 
 pub run_starts : (a c : Option (List ℕ)) → RunsOn a a c c [] None 0
 run_starts a c = record {
@@ -94,7 +94,7 @@ run_starts a c = record {
 
 module _ {a b c d : Option (List ℕ)} {kept : List ℕ} {open_text : Option (List ℕ)} {count : ℕ} (h : RunsOn a b c d kept open_text count) where
   -- what was written so far
-  whole : (b' : Option (List ℕ)) (rest : List ℕ) → Consumes a b' (ended h.lines ++ rest) → WroteWhole a b' c d rest
+  whole : (b' : Option (List ℕ)) (rest : List ℕ) → Consumes a b' (text_of_lines h.lines ++ rest) → WroteWhole a b' c d rest
   whole b' rest k = record {
     lines = h.lines;
     are_lines = h.are_lines;
@@ -105,10 +105,10 @@ module _ {a b c d : Option (List ℕ)} {kept : List ℕ} {open_text : Option (Li
     written = h.written;
   }
 
-  drawn_more : (b' : Option (List ℕ)) (x : ℕ) → Consumes b b' (x ∷ []) → Consumes a b' (ended h.lines ++ (h.line ++ (x ∷ [])))
-  drawn_more b' x k = subst (Consumes a b') (append_assoc (ended h.lines) h.line (x ∷ [])) (Consumes-trans a b b' (ended h.lines ++ h.line) (x ∷ []) h.drawn k)
+  drawn_more : (b' : Option (List ℕ)) (x : ℕ) → Consumes b b' (x ∷ []) → Consumes a b' (text_of_lines h.lines ++ (h.line ++ (x ∷ [])))
+  drawn_more b' x k = subst (Consumes a b') (append_assoc (text_of_lines h.lines) h.line (x ∷ [])) (Consumes-trans a b b' (text_of_lines h.lines ++ h.line) (x ∷ []) h.drawn k)
 
-  drawn_still : (b' : Option (List ℕ)) → Keeps b b' → Consumes a b' (ended h.lines ++ h.line)
+  drawn_still : (b' : Option (List ℕ)) → Keeps b b' → Consumes a b' (text_of_lines h.lines ++ h.line)
   drawn_still b' k = Consumes-kept a b b' _ h.drawn k
 
   -- one byte more was drawn
@@ -119,8 +119,8 @@ module _ {a b c d : Option (List ℕ)} {kept : List ℕ} {open_text : Option (Li
   pub stands : (b' : Option (List ℕ)) → Keeps b b' → WroteWhole a b' c d h.line
   stands b' k = whole b' h.line (drawn_still b' k)
 
-  more : (x : ℕ) → length (ended h.lines ++ (h.line ++ (x ∷ []))) ≡ count + 1
-  more x = omega (arith, h.counted, length-append (ended h.lines) h.line, length-append (ended h.lines) (h.line ++ (x ∷ [])), length-append h.line (x ∷ []))
+  more : (x : ℕ) → length (text_of_lines h.lines ++ (h.line ++ (x ∷ []))) ≡ count + 1
+  more x = omega (arith, h.counted, length-append (text_of_lines h.lines) h.line, length-append (text_of_lines h.lines) (h.line ++ (x ∷ [])), length-append h.line (x ∷ []))
 
   pub byte_drawn : (b' : Option (List ℕ)) (x : ℕ) (kept' : List ℕ) → Consumes b b' (x ∷ []) → x ≢ 0x0A → KeepsByte open_text kept kept' x → RunsOn a b' c d kept' open_text (count + 1)
   byte_drawn b' x kept' k n keeps = record {
@@ -138,17 +138,17 @@ module _ {a b c d : Option (List ℕ)} {kept : List ℕ} {open_text : Option (Li
 
   -- ---- the line was taken
 
-  all_drawn : (b' : Option (List ℕ)) → Consumes b b' (0x0A ∷ []) → Consumes a b' (ended (h.lines ++ (h.line ∷ [])))
+  all_drawn : (b' : Option (List ℕ)) → Consumes b b' (0x0A ∷ []) → Consumes a b' (text_of_lines (h.lines ++ (h.line ∷ [])))
   all_drawn b' k = subst (Consumes a b') (sym (ended_push h.lines h.line)) (drawn_more b' 0x0A k)
 
   all_answers : {after : Option (List ℕ)} {answers : List (List ℕ)} → Takes kept open_text after answers → HasAnswers (h.lines ++ (h.line ∷ [])) after (h.answers ++ answers)
   all_answers t = take_more h.has_answers (takes_whole h.is_kept t)
 
-  all_written : (d' : Option (List ℕ)) (answers : List (List ℕ)) (bytes : List ℕ) → bytes ≡ ended answers → Appends d d' bytes → Appends c d' (ended (h.answers ++ answers))
-  all_written d' answers bytes is k = subst (Appends c d') (ap (λ l. ended h.answers ++ l) is ∙ sym (ended_append h.answers answers)) (Appends-trans c d d' _ _ h.written k)
+  all_written : (d' : Option (List ℕ)) (answers : List (List ℕ)) (bytes : List ℕ) → bytes ≡ text_of_lines answers → Appends d d' bytes → Appends c d' (text_of_lines (h.answers ++ answers))
+  all_written d' answers bytes is k = subst (Appends c d') (ap (λ l. text_of_lines h.answers ++ l) is ∙ sym (ended_append h.answers answers)) (Appends-trans c d d' _ _ h.written k)
 
-  begun : (d' : Option (List ℕ)) (answers : List (List ℕ)) (bytes : List ℕ) → bytes ≡ ended answers → AppendsBeginning d d' bytes → AppendsBeginning c d' (ended (h.answers ++ answers))
-  begun d' answers bytes is k = subst (AppendsBeginning c d') (ap (λ l. ended h.answers ++ l) is ∙ sym (ended_append h.answers answers)) (beginning_after c d d' _ _ h.written k)
+  begun : (d' : Option (List ℕ)) (answers : List (List ℕ)) (bytes : List ℕ) → bytes ≡ text_of_lines answers → AppendsBeginning d d' bytes → AppendsBeginning c d' (text_of_lines (h.answers ++ answers))
+  begun d' answers bytes is k = subst (AppendsBeginning c d') (ap (λ l. text_of_lines h.answers ++ l) is ∙ sym (ended_append h.answers answers)) (beginning_after c d d' _ _ h.written k)
 
   kept_none : (after : Option (List ℕ)) → IsKept after [] []
   kept_none None = refl
@@ -174,15 +174,15 @@ module _ {a b c d : Option (List ℕ)} {kept : List ℕ} {open_text : Option (Li
 
   -- ---- the end of the input
 
-  is_text : {bytes : List ℕ} (e : AnswersEnd kept open_text bytes) → IsTextOf (ended h.lines ++ h.line) (ended (h.answers ++ (e.answers ++ answers_at_end e.after)))
+  is_text : {bytes : List ℕ} (e : AnswersEnd kept open_text bytes) → IsTextOf (text_of_lines h.lines ++ h.line) (text_of_lines (h.answers ++ (e.answers ++ answers_at_end e.after)))
   is_text e = record {
     lines = h.lines ++ (h.line ∷ []);
     are_lines = lines_push _ _ h.are_lines h.is_line;
-    is_input = append_assoc (ended h.lines) h.line (0x0A ∷ []) ∙ sym (ended_push h.lines h.line);
+    is_input = append_assoc (text_of_lines h.lines) h.line (0x0A ∷ []) ∙ sym (ended_push h.lines h.line);
     open_text = e.after;
     answers = h.answers ++ e.answers;
     has_answers = all_answers e.takes;
-    is = ap ended (sym (append_assoc h.answers e.answers (answers_at_end e.after)));
+    is = ap text_of_lines (sym (append_assoc h.answers e.answers (answers_at_end e.after)));
   }
 
   pub input_ends : (b' d' : Option (List ℕ)) → Keeps b b' → IsAtEnd b' → Wrote (AnswersEnd kept open_text) d d' → WritesText a c d'
@@ -192,17 +192,17 @@ module _ {a b c d : Option (List ℕ)} {kept : List ℕ} {open_text : Option (Li
   input_begun b' d' bytes k end e w = at_end _ _ (is_text e) (drawn_still b' k) end (begun d' _ bytes e.is w)
 
   -- but for the line of the last block
-  pub all_but_end : (b' d' : Option (List ℕ)) (text : List ℕ) (answers : List (List ℕ)) → Keeps b b' → IsAtEnd b' → Takes kept open_text (Some text) answers → Appends d d' (ended answers) → WroteAllButEnd a b' c d'
+  pub all_but_end : (b' d' : Option (List ℕ)) (text : List ℕ) (answers : List (List ℕ)) → Keeps b b' → IsAtEnd b' → Takes kept open_text (Some text) answers → Appends d d' (text_of_lines answers) → WroteAllButEnd a b' c d'
   all_but_end b' d' text answers k end t w = record {
     lines = h.lines ++ (h.line ∷ []);
     are_lines = lines_push _ _ h.are_lines h.is_line;
     text = text;
     answers = h.answers ++ answers;
     has_answers = all_answers t;
-    bytes = ended h.lines ++ h.line;
+    bytes = text_of_lines h.lines ++ h.line;
     drawn = drawn_still b' k;
     at_end = end;
-    is = append_assoc (ended h.lines) h.line (0x0A ∷ []) ∙ sym (ended_push h.lines h.line);
+    is = append_assoc (text_of_lines h.lines) h.line (0x0A ∷ []) ∙ sym (ended_push h.lines h.line);
     written = all_written d' answers _ refl w;
   }
 

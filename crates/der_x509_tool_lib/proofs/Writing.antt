@@ -7,8 +7,8 @@ use Rattle.picky_der_core.specs.declared.error.Asn1DerError.{Asn1DerError}
 use Rattle.picky_der_core.specs.declared.misc.writer.WriteExt.{Ghosts}
 use Rattle.picky_der_core.specs.Writer.{beginning_front, beginning_after}
 use Rattle.picky_der_core.specs.WriterFaults.{Faulted}
-use Rattle.der_tool_lib.specs.Text.{ended}
-use Rattle.der_x509_tool_lib.specs.Blocks.{BeginsBlock, EndsBlock, IsInside, trimmed, IsBlockLine, no_end, answers_at_end}
+use Rattle.der_tool_lib.specs.Text.{text_of_lines}
+use Rattle.der_x509_tool_lib.specs.Blocks.{BeginsBlock, EndsBlock, IsInside, without_outer_space, IsBlockLine, no_end, answers_at_end}
 use Rattle.der_x509_tool_lib.specs.Run.{Wrote, StopsWriting, no_memory, no_sink, AnswersBlock, Takes, begins_again, goes_on, ends, AnswersLine, AnswersSomeLine, AnswersEnd, text_in, StopsAtEnd, within, behind}
 use Rattle.der_x509_tool_lib.proofs.Gathering.{ended_append}
 
@@ -47,7 +47,7 @@ module _ {line text : List ℕ} {before : Option (List ℕ)} (open_text : before
   pub end_stopped : {W : Type 0} {g : Ghosts W} {old new : W} {e : Asn1DerError} → EndsBlock line → StopsWriting g (AnswersBlock text) old new e → StopsWriting g (AnswersSomeLine line before) old new e
   end_stopped e s = stops_also (λ bytes a. (None, end_answers e a)) s
 
-  pub gathered : {after : Option (List ℕ)} (a : Option (List ℕ)) → IsInside line → after ≡ Some (text ++ trimmed line) → Wrote (AnswersLine line before after) a a
+  pub gathered : {after : Option (List ℕ)} (a : Option (List ℕ)) → IsInside line → after ≡ Some (text ++ without_outer_space line) → Wrote (AnswersLine line before after) a a
   gathered a i n = record { bytes = []; of = record { answers = []; takes = goes_on i text open_text n refl; is = refl }; written = Appends-nil a }
 
 -- ---- what is written at the last line, and behind it
@@ -68,18 +68,18 @@ module _ {line : List ℕ} {before : Option (List ℕ)} where
       after = after;
       answers = w.of.answers;
       takes = w.of.takes;
-      is = w.of.is ∙ ap ended (sym (append-nil w.of.answers) ∙ ap (λ o. w.of.answers ++ answers_at_end o) (sym n));
+      is = w.of.is ∙ ap text_of_lines (sym (append-nil w.of.answers) ∙ ap (λ o. w.of.answers ++ answers_at_end o) (sym n));
     };
     written = w.written;
   }
 
-  end_of : (text : List ℕ) (answers : List (List ℕ)) {bytes more : List ℕ} → Takes line before (Some text) answers → bytes ≡ ended answers → more ≡ codes "refused: the block has no end" ++ (0x0A ∷ []) → AnswersEnd line before (bytes ++ more)
+  end_of : (text : List ℕ) (answers : List (List ℕ)) {bytes more : List ℕ} → Takes line before (Some text) answers → bytes ≡ text_of_lines answers → more ≡ codes "refused: the block has no end" ++ (0x0A ∷ []) → AnswersEnd line before (bytes ++ more)
   unfolding no_end
   end_of text answers {bytes} {more} t is also = record {
     after = Some text;
     answers = answers;
     takes = t;
-    is = ap (λ l. l ++ more) is ∙ ap (λ l. ended answers ++ l) also ∙ sym (ended_append answers (no_end ∷ []));
+    is = ap (λ l. l ++ more) is ∙ ap (λ l. text_of_lines answers ++ l) also ∙ sym (ended_append answers (no_end ∷ []));
   }
 
   pub open_written : {text : List ℕ} {after : Option (List ℕ)} {a b c : Option (List ℕ)} → after ≡ Some text → Wrote (AnswersLine line before after) a b → Appends b c (codes "refused: the block has no end" ++ (0x0A ∷ [])) → Wrote (AnswersEnd line before) a c
@@ -93,13 +93,13 @@ module _ {line : List ℕ} {before : Option (List ℕ)} where
     pub line_stopped_at_end : {old new : W} {e : Asn1DerError} → StopsWriting g (AnswersSomeLine line before) old new e → StopsAtEnd g line before old new e
     line_stopped_at_end (no_memory is same) = within (no_memory is same)
     line_stopped_at_end {old} {new} (no_sink f bytes a begun) =
-        within (no_sink f (bytes ++ ended (answers_at_end a.0))
-        (record { after = a.0; answers = a.1.answers; takes = a.1.takes; is = ap (λ l. l ++ ended (answers_at_end a.0)) a.1.is ∙ sym (ended_append a.1.answers (answers_at_end a.0)) })
-        (beginning_front (g.told old) (g.told new) bytes (ended (answers_at_end a.0)) begun))
+        within (no_sink f (bytes ++ text_of_lines (answers_at_end a.0))
+        (record { after = a.0; answers = a.1.answers; takes = a.1.takes; is = ap (λ l. l ++ text_of_lines (answers_at_end a.0)) a.1.is ∙ sym (ended_append a.1.answers (answers_at_end a.0)) })
+        (beginning_front (g.told old) (g.told new) bytes (text_of_lines (answers_at_end a.0)) begun))
 
     pub open_stopped : {text : List ℕ} {after : Option (List ℕ)} {old mid new : W} {e : Asn1DerError} → after ≡ Some text → Wrote (AnswersLine line before after) (g.told old) (g.told mid) → g.faults mid ≡ g.faults old → StopsWriting g (λ bytes. bytes ≡ codes "refused: the block has no end" ++ (0x0A ∷ [])) mid new e → StopsAtEnd g line before old new e
     open_stopped {text} {after} {old} {mid} {new} s w f (no_memory is same) =
-        behind is text w.of.answers (subst (λ o. Takes line before o w.of.answers) s w.of.takes) (subst (λ o. Appends (g.told old) (g.told o) (ended w.of.answers)) (sym same) (subst (Appends (g.told old) (g.told mid)) w.of.is w.written))
+        behind is text w.of.answers (subst (λ o. Takes line before o w.of.answers) s w.of.takes) (subst (λ o. Appends (g.told old) (g.told o) (text_of_lines w.of.answers)) (sym same) (subst (Appends (g.told old) (g.told mid)) w.of.is w.written))
     open_stopped {text} {after} {old} {mid} {new} {e} s w f (no_sink faulted bytes also begun) =
         let once : Faulted g old e new = record { rose = subst (λ n. g.faults new ≡ suc n) f faulted.rose; kind = faulted.kind; answered = faulted.answered; is = faulted.is } in
         within (no_sink once (w.bytes ++ bytes) (end_of text w.of.answers (subst (λ o. Takes line before o w.of.answers) s w.of.takes) w.of.is also) (beginning_after (g.told old) (g.told mid) (g.told new) w.bytes bytes w.written begun))

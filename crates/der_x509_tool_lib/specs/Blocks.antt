@@ -6,7 +6,7 @@ use Rattle.std.specs.List.{prefix_len, suffix_len}
 use Rattle.base64.specs.declared.DecodeError.{DecodeError}
 use Rattle.base64.specs.Engines.{standard}
 use Rattle.base64.specs.GeneralPurpose.{decode_of}
-use Rattle.der_tool_lib.specs.Text.{AreLines, ended}
+use Rattle.der_tool_lib.specs.Text.{AreLines, text_of_lines}
 use Rattle.der_x509_tool_lib.specs.Line.{IsLineOf}
 
 -- ---- lines
@@ -16,8 +16,8 @@ abbrev pub without_front : List ℕ → List ℕ
 without_front line = drop (prefix_len is_ascii_whitespace line) line
 
 -- a line without the white space at its ends
-unfoldable pub trimmed : List ℕ → List ℕ
-trimmed line = take (length (without_front line) - suffix_len is_ascii_whitespace (without_front line)) (without_front line)
+unfoldable pub without_outer_space : List ℕ → List ℕ
+without_outer_space line = take (length (without_front line) - suffix_len is_ascii_whitespace (without_front line)) (without_front line)
 
 unfoldable pub begin_line : List ℕ
 begin_line = codes "-----BEGIN CERTIFICATE-----"
@@ -28,10 +28,10 @@ end_line = codes "-----END CERTIFICATE-----"
 -- a line that begins a block; one of 64 bytes or more begins none
 pub record BeginsBlock (line : List ℕ) : Type 0 where
   pub short : length line < 64
-  pub is : trimmed line ≡ begin_line
+  pub is : without_outer_space line ≡ begin_line
 
 abbrev pub EndsBlock : List ℕ → Type 0
-EndsBlock line = trimmed line ≡ end_line
+EndsBlock line = without_outer_space line ≡ end_line
 
 -- a line of a block's text neither begins a block nor ends one
 pub record IsInside (line : List ℕ) : Type 0 where
@@ -45,7 +45,7 @@ AreInside (line ∷ lines) = IsInside line × AreInside lines
 -- the text of these lines of a block
 abbrev pub text_of : List (List ℕ) → List ℕ
 text_of [] = []
-text_of (line ∷ lines) = trimmed line ++ text_of lines
+text_of (line ∷ lines) = without_outer_space line ++ text_of lines
 
 -- ---- what lines are made of
 
@@ -138,11 +138,11 @@ answers_at_end (Some text) = no_end ∷ []
 pub record IsTextOf (input text : List ℕ) : Type 0 where
   pub lines : List (List ℕ)
   pub are_lines : AreLines lines
-  pub is_input : input ++ (0x0A ∷ []) ≡ ended lines
+  pub is_input : input ++ (0x0A ∷ []) ≡ text_of_lines lines
   pub open_text : Option (List ℕ)
   pub answers : List (List ℕ)
   pub has_answers : HasAnswers lines open_text answers
-  pub is : text ≡ ended (answers ++ answers_at_end open_text)
+  pub is : text ≡ text_of_lines (answers ++ answers_at_end open_text)
 
 -- the text of the known bytes of an input was written
 abbrev pub WritesText : Option (List ℕ) → Option (List ℕ) → Option (List ℕ) → Type 0

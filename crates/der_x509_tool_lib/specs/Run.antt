@@ -8,9 +8,9 @@ use Rattle.picky_der_core.specs.declared.misc.writer.WriteExt.{Ghosts}
 use Rattle.picky_der_core.specs.Faults.{Fault}
 use Rattle.picky_der_core.specs.Writer.{AppendsBeginning}
 use Rattle.picky_der_core.specs.WriterFaults.{Faulted}
-use Rattle.der_tool_lib.specs.Text.{IsLine, AreLines, ended}
+use Rattle.der_tool_lib.specs.Text.{IsLine, AreLines, text_of_lines}
 use Rattle.der_tool_lib.specs.Run.{IsLastLine, ReaderFaulted, IsTooLong}
-use Rattle.der_x509_tool_lib.specs.Blocks.{BeginsBlock, EndsBlock, IsInside, trimmed, IsBlockLine, no_end, HasAnswers, answers_at_end, IsTextOf}
+use Rattle.der_x509_tool_lib.specs.Blocks.{BeginsBlock, EndsBlock, IsInside, without_outer_space, IsBlockLine, no_end, HasAnswers, answers_at_end, IsTextOf}
 
 -- ---- what is written
 
@@ -43,14 +43,14 @@ pub data Takes (line : List ℕ) (before after : Option (List ℕ)) (answers : L
   stays_outside : (BeginsBlock line → ⊥) → before ≡ None → after ≡ None → answers ≡ [] → Takes line before after answers
   begins : BeginsBlock line → before ≡ None → after ≡ Some [] → answers ≡ [] → Takes line before after answers
   begins_again : BeginsBlock line → (text : List ℕ) → before ≡ Some text → after ≡ Some [] → answers ≡ no_end ∷ [] → Takes line before after answers
-  goes_on : IsInside line → (text : List ℕ) → before ≡ Some text → after ≡ Some (text ++ trimmed line) → answers ≡ [] → Takes line before after answers
+  goes_on : IsInside line → (text : List ℕ) → before ≡ Some text → after ≡ Some (text ++ without_outer_space line) → answers ≡ [] → Takes line before after answers
   ends : EndsBlock line → (text answer : List ℕ) → before ≡ Some text → after ≡ None → IsBlockLine text answer → answers ≡ answer ∷ [] → Takes line before after answers
 
 -- these bytes are the lines that are written at a line
 pub record AnswersLine (line : List ℕ) (before after : Option (List ℕ)) (bytes : List ℕ) : Type 0 where
   pub answers : List (List ℕ)
   pub takes : Takes line before after answers
-  pub is : bytes ≡ ended answers
+  pub is : bytes ≡ text_of_lines answers
 
 abbrev pub AnswersSomeLine : List ℕ → Option (List ℕ) → List ℕ → Type 0
 AnswersSomeLine line before bytes = (after : Option (List ℕ)) × AnswersLine line before after bytes
@@ -60,13 +60,13 @@ pub record AnswersEnd (line : List ℕ) (before : Option (List ℕ)) (bytes : Li
   pub after : Option (List ℕ)
   pub answers : List (List ℕ)
   pub takes : Takes line before after answers
-  pub is : bytes ≡ ended (answers ++ answers_at_end after)
+  pub is : bytes ≡ text_of_lines (answers ++ answers_at_end after)
 
 module _ {W : Type 0} (g : Ghosts W) (line : List ℕ) (before : Option (List ℕ)) (old new : W) where
   -- why these weren't written, or not all of them
   pub data StopsAtEnd (e : Asn1DerError) : Type 0 where
     within : StopsWriting g (AnswersEnd line before) old new e → StopsAtEnd e
-    behind : e ≡ OutOfMemory → (text : List ℕ) (answers : List (List ℕ)) → Takes line before (Some text) answers → Appends (g.told old) (g.told new) (ended answers) → StopsAtEnd e
+    behind : e ≡ OutOfMemory → (text : List ℕ) (answers : List (List ℕ)) → Takes line before (Some text) answers → Appends (g.told old) (g.told new) (text_of_lines answers) → StopsAtEnd e
 
 -- ---- a run
 
@@ -77,8 +77,8 @@ pub record WroteWhole (in_old in_new out_old out_new : Option (List ℕ)) (rest 
   pub open_text : Option (List ℕ)
   pub answers : List (List ℕ)
   pub has_answers : HasAnswers lines open_text answers
-  pub drawn : Consumes in_old in_new (ended lines ++ rest)
-  pub written : Appends out_old out_new (ended answers)
+  pub drawn : Consumes in_old in_new (text_of_lines lines ++ rest)
+  pub written : Appends out_old out_new (text_of_lines answers)
 
 -- All of the input was drawn, and what answers it was written but for the line of the last block, which has no end.
 pub record WroteAllButEnd (in_old in_new out_old out_new : Option (List ℕ)) : Type 0 where
@@ -90,12 +90,12 @@ pub record WroteAllButEnd (in_old in_new out_old out_new : Option (List ℕ)) : 
   pub bytes : List ℕ
   pub drawn : Consumes in_old in_new bytes
   pub at_end : IsAtEnd in_new
-  pub is : bytes ++ (0x0A ∷ []) ≡ ended lines
-  pub written : Appends out_old out_new (ended answers)
+  pub is : bytes ++ (0x0A ∷ []) ≡ text_of_lines lines
+  pub written : Appends out_old out_new (text_of_lines answers)
 
 -- A beginning of what answers the bytes that were drawn was written: lines up to their ends, or all of the input.
 pub data WroteBeginning (in_old in_new out_old out_new : Option (List ℕ)) : Type 0 where
-  at_line : (lines : List (List ℕ)) (open_text : Option (List ℕ)) (answers : List (List ℕ)) → AreLines lines → HasAnswers lines open_text answers → Consumes in_old in_new (ended lines) → AppendsBeginning out_old out_new (ended answers) → WroteBeginning in_old in_new out_old out_new
+  at_line : (lines : List (List ℕ)) (open_text : Option (List ℕ)) (answers : List (List ℕ)) → AreLines lines → HasAnswers lines open_text answers → Consumes in_old in_new (text_of_lines lines) → AppendsBeginning out_old out_new (text_of_lines answers) → WroteBeginning in_old in_new out_old out_new
   at_end : (bytes text : List ℕ) → IsTextOf bytes text → Consumes in_old in_new bytes → IsAtEnd in_new → AppendsBeginning out_old out_new text → WroteBeginning in_old in_new out_old out_new
 
 module _ {W : Type 0} (g : Ghosts W) (in_old in_new : Option (List ℕ)) (faults_old faults_new : List Fault) (out_old out_new : W) where

@@ -1,4 +1,5 @@
-//! What writing and reading promise of each other, as contracts of code that is nothing but their calls.
+//! What is written of a readable value is read back as an equal one, and nothing but its encoding is read as it: as contracts of code
+//! that is nothing but the calls of writing and reading.
 ghost use Rattle.std.specs.Prelude.{◌≡◌, ◌≢◌, length, true, IfOk, IfErr};
 ghost use Rattle.picky_der_core.specs.Element.{Begins};
 ghost use Rattle.picky_der_core.specs.Encoding.{der};
@@ -33,7 +34,8 @@ pub fn written_back<T: Deserialize>(alloc: Global, bytes: &[u8]) -> Result<Vec<u
         × (again.items ≡ der (T.meaning v))) }
     ensures same { IfOk result (λ again. Begins again.items bytes.now) }
     ensures err { IfErr result (λ e. e ≢ Asn1DerError.OutOfMemory → (v : T)
-        → ReadsFrom T.meaning T.shape bytes.now (length bytes.now) v → IsWritable (T.meaning v) → ⊥) }
+        → ReadsFrom T.meaning T.shape bytes.now (length bytes.now) v
+        → IsWritable (T.meaning v) → ⊥) }
 {
     let value: T = from_bytes(alloc, bytes)?;
     to_vec(alloc, &value)

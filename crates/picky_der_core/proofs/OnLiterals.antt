@@ -3,11 +3,11 @@ use Rattle.std.specs.Prelude.{⊤}
 use Rattle.std.specs.Str.{is_utf8, chars}
 use lib.Utf8.{encode}
 use Rattle.picky_der_core.specs.Element.{big_endian, len, tlv}
-use Rattle.picky_der_core.specs.Order.{arranged}
-use Rattle.picky_der_core.specs.Encoding.{unsigned_content, headed, around, written, der, inside}
+use Rattle.picky_der_core.specs.Order.{in_ascending_order}
+use Rattle.picky_der_core.specs.Encoding.{unsigned_content, plain_encoding, around, tree_bytes, der, inside}
 
 unfoldable pub der_on_literals : ⊤
-unfolding big_endian len tlv arranged unsigned_content headed around written der inside
+unfolding big_endian len tlv in_ascending_order unsigned_content plain_encoding around tree_bytes der inside
 der_on_literals = tt
 
 unfoldable pub text_on_literals : ⊤

@@ -3,7 +3,7 @@ use Rattle.std.proofs.Common.{◌≡◌, ℕ, Bool, true, false, List, [], ◌�
 use Rattle.std.specs.Prelude.{⊤}
 use Rattle.std.specs.List.{concat}
 use Rattle.picky_der_core.specs.Tree.{ListKind, Tree, Trees}
-use Rattle.picky_der_core.specs.Encoding.{headed, around, written, encodings, der, boolean_content, list_content}
+use Rattle.picky_der_core.specs.Encoding.{plain_encoding, around, tree_bytes, encodings, der, boolean_content, list_content}
 use Rattle.picky_der_core.specs.Readable.{IsReadable, AreReadable, IsNoChoice}
 use Rattle.picky_der_core.specs.Shape.{Shape, Shapes, Layout, IsOf, AreOf, IsOneOf, AreMembersOf, firsts, firsts_of, next_firsts, are_apart, IsBoolean, IsUnsigned, IsNull, IsText, IsCharacter, IsBytes, IsRaw, IsList, IsOptional, IsOctetContainer, IsBitContainer, IsExplicit, IsImplicit, IsApplication, IsChoice, EachIs, FirstAndRest, FirstOrNone, IsEmpty, IsSound, AreSound, AreTold, AreMembersSound, AreMembersTold}
 use Rattle.picky_der_core.specs.ElementLaws.{tlv-same}
@@ -17,17 +17,17 @@ MayStand false t = IsNoChoice t
 
 -- a readable tree with P is known by what is written of it
 abbrev pub IsKnown : Bool → (Tree → Type 0) → Type 0
-IsKnown header P = (t u : Tree) → P t → P u → IsReadable t → IsReadable u → MayStand header t → MayStand header u → written header t ≡ written header u → t ≡ u
+IsKnown header P = (t u : Tree) → P t → P u → IsReadable t → IsReadable u → MayStand header t → MayStand header u → tree_bytes header t ≡ tree_bytes header u → t ≡ u
 
 abbrev pub AreKnown : (Trees → Type 0) → Type 0
 AreKnown Q = (ts us : Trees) → Q ts → Q us → AreReadable ts → AreReadable us → concat (encodings ts) ≡ concat (encodings us) → ts ≡ us
 
 -- ---- what is written under a header
 
-headed-same : (header : Bool) (x y : ℕ) (c d : List ℕ) → headed header x c ≡ headed header y d → c ≡ d
-unfolding headed
-headed-same true x y c d e = (tlv-same x y c d e).1
-headed-same false x y c d e = e
+plain_encoding-same : (header : Bool) (x y : ℕ) (c d : List ℕ) → plain_encoding header x c ≡ plain_encoding header y d → c ≡ d
+unfolding plain_encoding
+plain_encoding-same true x y c d e = (tlv-same x y c d e).1
+plain_encoding-same false x y c d e = e
 
 around-same : (p q : Bool) (x y : ℕ) (c d : List ℕ) → p ≡ false → q ≡ false → around p x c ≡ around q y d → c ≡ d
 unfolding around
@@ -44,14 +44,14 @@ boolean_content-same false true e = cc
 -- ---- each kind of shape
 
 boolean_known : (header : Bool) → IsKnown header IsBoolean
-unfolding written
-boolean_known header (Tree.boolean b) (Tree.boolean c) p q r s m n e = ap Tree.boolean (boolean_content-same b c (headed-same header _ _ _ _ e))
+unfolding tree_bytes
+boolean_known header (Tree.boolean b) (Tree.boolean c) p q r s m n e = ap Tree.boolean (boolean_content-same b c (plain_encoding-same header _ _ _ _ e))
 boolean_known header (Tree.boolean b) _ p q r s m n e = absurd q
 boolean_known header _ _ p q r s m n e = absurd p
 
 unsigned_known : (most : ℕ) (header : Bool) → IsKnown header (IsUnsigned most)
-unfolding written
-unsigned_known most header (Tree.unsigned b) (Tree.unsigned c) p q r s m n e = ap Tree.unsigned (unsigned_content-same b c (headed-same header _ _ _ _ e))
+unfolding tree_bytes
+unsigned_known most header (Tree.unsigned b) (Tree.unsigned c) p q r s m n e = ap Tree.unsigned (unsigned_content-same b c (plain_encoding-same header _ _ _ _ e))
 unsigned_known most header (Tree.unsigned b) _ p q r s m n e = absurd q
 unsigned_known most header _ _ p q r s m n e = absurd p
 
@@ -61,31 +61,31 @@ null_known header Tree.null _ p q r s m n e = absurd q
 null_known header _ _ p q r s m n e = absurd p
 
 text_known : (header : Bool) → IsKnown header IsText
-unfolding written
-text_known header (Tree.text b) (Tree.text c) p q r s m n e = ap Tree.text (headed-same header _ _ _ _ e)
+unfolding tree_bytes
+text_known header (Tree.text b) (Tree.text c) p q r s m n e = ap Tree.text (plain_encoding-same header _ _ _ _ e)
 text_known header (Tree.text b) _ p q r s m n e = absurd q
 text_known header _ _ p q r s m n e = absurd p
 
 character_known : (header : Bool) → IsKnown header IsCharacter
-unfolding written
-character_known header (Tree.text b) (Tree.text c) p q r s m n e = ap Tree.text (headed-same header _ _ _ _ e)
+unfolding tree_bytes
+character_known header (Tree.text b) (Tree.text c) p q r s m n e = ap Tree.text (plain_encoding-same header _ _ _ _ e)
 character_known header (Tree.text b) _ p q r s m n e = absurd q
 character_known header _ _ p q r s m n e = absurd p
 
 bytes_known : (tag : ℕ) (header : Bool) → IsKnown header (IsBytes tag)
-unfolding written
+unfolding tree_bytes
 bytes_known tag header (Tree.bytes x b) (Tree.bytes y c) p q r s m n e =
     let f : x ≡ y = p.0 ∙ sym q.0 in
-    let g : b ≡ c = headed-same header _ _ _ _ e in
+    let g : b ≡ c = plain_encoding-same header _ _ _ _ e in
     cc
 bytes_known tag header (Tree.bytes x b) _ p q r s m n e = absurd q
 bytes_known tag header _ _ p q r s m n e = absurd p
 
 list_known : (kind : ListKind) (Q : Trees → Type 0) → AreKnown Q → (header : Bool) → IsKnown header (IsList kind Q)
-unfolding written
+unfolding tree_bytes
 list_known kind Q known header (Tree.list x ts) (Tree.list y us) p q r s m n e =
     let f : x ≡ y = p.0 ∙ sym q.0 in
-    let h : list_content x (encodings ts) ≡ list_content y (encodings us) = headed-same header _ _ _ _ e in
+    let h : list_content x (encodings ts) ≡ list_content y (encodings us) = plain_encoding-same header _ _ _ _ e in
     let k : concat (encodings ts) ≡ concat (encodings us) = sym (list_content-in_order x (encodings ts) r.0) ∙ h ∙ list_content-in_order y (encodings us) s.0 in
     let g : ts ≡ us = known ts us p.1 q.1 r.1 s.1 k in
     cc
@@ -96,22 +96,22 @@ optional_known : (P : Tree → Type 0) (header : Bool) → IsKnown header P → 
 optional_known P header known t u p q r s = known t u (is_of-optional P t p r) (is_of-optional P u q s) r s
 
 octet_container_known : (P : Tree → Type 0) → IsKnown true P → (header : Bool) → IsKnown header (IsOctetContainer P)
-unfolding written
+unfolding tree_bytes
 octet_container_known P known header (Tree.octet_container t) (Tree.octet_container u) p q r s m n e =
     ap Tree.octet_container (known t u p q r s tt tt (around-same _ _ _ _ _ _ (is_absent-readable t r) (is_absent-readable u s) e))
 octet_container_known P known header (Tree.octet_container t) _ p q r s m n e = absurd q
 octet_container_known P known header _ _ p q r s m n e = absurd p
 
 bit_container_known : (P : Tree → Type 0) → IsKnown true P → (header : Bool) → IsKnown header (IsBitContainer P)
-unfolding written
+unfolding tree_bytes
 bit_container_known P known header (Tree.bit_container t) (Tree.bit_container u) p q r s m n e =
-    let f : 0x00 ∷ written true t ≡ 0x00 ∷ written true u = around-same _ _ _ _ _ _ (is_absent-readable t r) (is_absent-readable u s) e in
+    let f : 0x00 ∷ tree_bytes true t ≡ 0x00 ∷ tree_bytes true u = around-same _ _ _ _ _ _ (is_absent-readable t r) (is_absent-readable u s) e in
     ap Tree.bit_container (known t u p q r s tt tt (cc))
 bit_container_known P known header (Tree.bit_container t) _ p q r s m n e = absurd q
 bit_container_known P known header _ _ p q r s m n e = absurd p
 
 explicit_known : (k : ℕ) (P : Tree → Type 0) → IsKnown true P → (header : Bool) → IsKnown header (IsExplicit k P)
-unfolding written
+unfolding tree_bytes
 explicit_known k P known header (Tree.explicit x t) (Tree.explicit y u) p q r s m n e =
     let f : x ≡ y = p.0 ∙ sym q.0 in
     let g : t ≡ u = known t u p.1 q.1 r.1 s.1 tt tt (around-same _ _ _ _ _ _ (is_absent-readable t r.1) (is_absent-readable u s.1) e) in
@@ -120,7 +120,7 @@ explicit_known k P known header (Tree.explicit x t) _ p q r s m n e = absurd q
 explicit_known k P known header _ _ p q r s m n e = absurd p
 
 implicit_known : (k : ℕ) (P : Tree → Type 0) → IsKnown false P → (header : Bool) → IsKnown header (IsImplicit k P)
-unfolding written
+unfolding tree_bytes
 implicit_known k P known header (Tree.implicit x t) (Tree.implicit y u) p q r s m n e =
     let f : x ≡ y = p.0 ∙ sym q.0 in
     let g : t ≡ u = known t u p.1 q.1 r.2 s.2 r.1 s.1 (around-same _ _ _ _ _ _ (is_absent-readable t r.2) (is_absent-readable u s.2) e) in
@@ -129,7 +129,7 @@ implicit_known k P known header (Tree.implicit x t) _ p q r s m n e = absurd q
 implicit_known k P known header _ _ p q r s m n e = absurd p
 
 application_known : (k : ℕ) (P : Tree → Type 0) → IsKnown true P → (header : Bool) → IsKnown header (IsApplication k P)
-unfolding written
+unfolding tree_bytes
 application_known k P known header (Tree.application x t) (Tree.application y u) p q r s m n e =
     let f : x ≡ y = p.0 ∙ sym q.0 in
     let g : t ≡ u = known t u p.1 q.1 r.1 s.1 tt tt (tlv-same _ _ _ _ e).1 in
@@ -138,13 +138,13 @@ application_known k P known header (Tree.application x t) _ p q r s m n e = absu
 application_known k P known header _ _ p q r s m n e = absurd p
 
 raw_known : (header : Bool) → IsKnown header IsRaw
-unfolding written
+unfolding tree_bytes
 raw_known header (Tree.raw b) (Tree.raw c) p q r s m n e = ap Tree.raw e
 raw_known header (Tree.raw b) _ p q r s m n e = absurd q
 raw_known header _ _ p q r s m n e = absurd p
 
 choice_known : (P : Tree → Type 0) → IsKnown true P → (header : Bool) → IsKnown header (IsChoice P)
-unfolding written
+unfolding tree_bytes
 choice_known P known true (Tree.choice t) (Tree.choice u) p q r s m n e = ap Tree.choice (known t u p q r s tt tt e)
 choice_known P known true (Tree.choice t) _ p q r s m n e = absurd q
 choice_known P known true _ _ p q r s m n e = absurd p
@@ -168,7 +168,7 @@ member_known P known t u a b p q r s e =
     (known t u p q r s tt tt parts.0, parts.1)
 
 each_known : (P : Tree → Type 0) → IsKnown true P → AreKnown (EachIs P)
-unfolding written der
+unfolding tree_bytes der
 each_known P known Trees.none Trees.none p q r s e = refl
 each_known P known Trees.none (Trees.more u us) p q r s e = absurd (not_empty u (concat (encodings us)) s.0 (sym e))
 each_known P known (Trees.more t ts) Trees.none p q r s e = absurd (not_empty t (concat (encodings ts)) r.0 e)
@@ -184,7 +184,7 @@ empty_known Trees.none _ p q r s e = absurd q
 empty_known _ _ p q r s e = absurd p
 
 first_and_rest_known : (P : Tree → Type 0) (Q : Trees → Type 0) → IsKnown true P → AreKnown Q → AreKnown (FirstAndRest P Q)
-unfolding written der
+unfolding tree_bytes der
 first_and_rest_known P Q known others (Trees.more t ts) (Trees.more u us) p q r s e =
     let first = member_known P known t u (concat (encodings ts)) (concat (encodings us)) p.0 q.0 r.0 s.0 e in
     let f : t ≡ u = first.0 in
@@ -207,7 +207,7 @@ one_known s ss a known others t u (inr p) (inl q) r v m n e = absurd (apart_diff
 -- a member, and what stands in its place where it is missing, aren't written alike
 missing_told : (s : Shape) (l : Layout) → are_apart (firsts s) (next_firsts l) ≡ true → (ts us : Trees) → FirstAndRest (IsOf s) (AreMembersOf l) ts → AreMembersOf l us → AreReadable ts → AreReadable us
     → concat (encodings ts) ≡ concat (encodings us) → ⊥
-unfolding written der
+unfolding tree_bytes der
 missing_told s l apart (Trees.more t ts) Trees.none p q r v e = not_empty t (concat (encodings ts)) r.0 e
 missing_told s l apart (Trees.more t ts) (Trees.more u us) p q r v e =
     let same = (same_encoding t u (concat (encodings ts)) (concat (encodings us)) r.0 v.0 e).0 in

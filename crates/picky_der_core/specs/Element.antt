@@ -2,7 +2,7 @@
 use Rattle.std.specs.Prelude.{◌≡◌, ℕ, zero, suc, ◌+◌, ◌/◌, ◌%◌, true, false, List, [], ◌∷◌, ◌++◌, length, nat_lt, ◌==◌, if◌then◌else◌}
 use Rattle.picky_der_core.specs.Tag.{number_of, IsTagNumber}
 
--- at most so many of the last bytes of a number
+-- at most `most` of the last bytes of a number
 abbrev pub big_endian_within : ℕ → ℕ → List ℕ
 big_endian_within zero n = []
 big_endian_within (suc most) n = elim (n == 0) [ true ↦ [] | false ↦ big_endian_within most (n / 256) ++ (n % 256 ∷ []) ]

@@ -3,7 +3,7 @@ use Rattle.std.specs.Prelude.{ℕ, ◌+◌, Bool, true, false, List, [], ◌∷�
 use Rattle.std.specs.List.{concat}
 use Rattle.picky_der_core.specs.Element.{big_endian, tlv}
 use Rattle.picky_der_core.specs.Tree.{ListKind, Tree, Trees, is_absent}
-use Rattle.picky_der_core.specs.Order.{arranged}
+use Rattle.picky_der_core.specs.Order.{in_ascending_order}
 
 -- ---- contents
 
@@ -25,7 +25,7 @@ unsigned_content n = positive (big_endian n)
 -- ascending order (8.11, 8.12, 11.6)
 abbrev pub list_content : ListKind → List (List ℕ) → List ℕ
 list_content ListKind.sequence members = concat members
-list_content ListKind.set members = concat (arranged members)
+list_content ListKind.set members = concat (in_ascending_order members)
 
 -- ---- headers
 
@@ -34,9 +34,9 @@ list_tag ListKind.sequence = 0x30
 list_tag ListKind.set = 0x31
 
 -- a plain value, with its header or without
-unfoldable pub headed : Bool → ℕ → List ℕ → List ℕ
-headed true tag content = tlv tag content
-headed false tag content = content
+unfoldable pub plain_encoding : Bool → ℕ → List ℕ → List ℕ
+plain_encoding true tag content = tlv tag content
+plain_encoding false tag content = content
 
 -- a wrapper, which is left out around nothing
 unfoldable pub around : Bool → ℕ → List ℕ → List ℕ
@@ -47,34 +47,34 @@ around false tag content = tlv tag content
 
 -- What is written of a tree. The header of a plain tree is left out directly under an implicit tag.
 unfoldable mutual
-  pub written : Bool → Tree → List ℕ
-  written header (Tree.boolean b) = headed header 0x01 (boolean_content b)
-  written header (Tree.unsigned n) = headed header 0x02 (unsigned_content n)
-  written header Tree.null = headed header 0x05 []
-  written header (Tree.text s) = headed header 0x0C s
-  written header (Tree.bytes tag s) = headed header tag s
-  written header (Tree.list kind ts) = headed header (list_tag kind) (list_content kind (encodings ts))
-  written header (Tree.octet_container t) = around (is_absent t) 0x04 (written true t)
-  written header (Tree.bit_container t) = around (is_absent t) 0x03 (0x00 ∷ written true t)
-  written header (Tree.explicit n t) = around (is_absent t) (0xA0 + n) (written true t)
-  written header (Tree.implicit n t) = around (is_absent t) (0x80 + n) (written false t)
-  written header (Tree.application n t) = tlv (0x60 + n) (written true t)
-  written header (Tree.raw s) = s
-  written header (Tree.choice t) = written header t
-  written header Tree.absent = []
+  pub tree_bytes : Bool → Tree → List ℕ
+  tree_bytes header (Tree.boolean b) = plain_encoding header 0x01 (boolean_content b)
+  tree_bytes header (Tree.unsigned n) = plain_encoding header 0x02 (unsigned_content n)
+  tree_bytes header Tree.null = plain_encoding header 0x05 []
+  tree_bytes header (Tree.text s) = plain_encoding header 0x0C s
+  tree_bytes header (Tree.bytes tag s) = plain_encoding header tag s
+  tree_bytes header (Tree.list kind ts) = plain_encoding header (list_tag kind) (list_content kind (encodings ts))
+  tree_bytes header (Tree.octet_container t) = around (is_absent t) 0x04 (tree_bytes true t)
+  tree_bytes header (Tree.bit_container t) = around (is_absent t) 0x03 (0x00 ∷ tree_bytes true t)
+  tree_bytes header (Tree.explicit n t) = around (is_absent t) (0xA0 + n) (tree_bytes true t)
+  tree_bytes header (Tree.implicit n t) = around (is_absent t) (0x80 + n) (tree_bytes false t)
+  tree_bytes header (Tree.application n t) = tlv (0x60 + n) (tree_bytes true t)
+  tree_bytes header (Tree.raw s) = s
+  tree_bytes header (Tree.choice t) = tree_bytes header t
+  tree_bytes header Tree.absent = []
 
   -- the encoding of each member
   pub encodings : Trees → List (List ℕ)
   encodings Trees.none = []
-  encodings (Trees.more t ts) = written true t ∷ encodings ts
+  encodings (Trees.more t ts) = tree_bytes true t ∷ encodings ts
 
 -- the encoding
 unfoldable pub der : Tree → List ℕ
-der t = written true t
+der t = tree_bytes true t
 
 -- what stands directly under an implicit tag: the content of a plain tree, and the whole encoding of any other
 unfoldable pub inside : Tree → List ℕ
-inside t = written false t
+inside t = tree_bytes false t
 
 -- the content of a plain tree, and its tag
 abbrev pub content : Tree → List ℕ

@@ -5,11 +5,11 @@ use Rattle.std.specs.List.{concat}
 use Rattle.picky_der_core.specs.Tag.{number_of, IsTagNumber}
 use Rattle.picky_der_core.specs.Element.{big_endian, tlv, IsElement}
 use Rattle.picky_der_core.specs.Tree.{ListKind, Tree, trees, is_plain, is_absent}
-use Rattle.picky_der_core.specs.Encoding.{boolean_content, positive, unsigned_content, list_content, list_tag, headed, around, written, encodings, der, inside, content, plain_tag}
+use Rattle.picky_der_core.specs.Encoding.{boolean_content, positive, unsigned_content, list_content, list_tag, plain_encoding, around, tree_bytes, encodings, der, inside, content, plain_tag}
 use Rattle.picky_der_core.specs.Readable.{IsReadable, IsInOrder, IsNoChoice}
 use Rattle.picky_der_core.specs.BigEndianLaws.{number-big_endian}
 use Rattle.picky_der_core.specs.ElementLaws.{tlv_prefix}
-use Rattle.picky_der_core.specs.OrderLaws.{arranged-same, length-arranged}
+use Rattle.picky_der_core.specs.OrderLaws.{in_ascending_order-same, length-in_ascending_order}
 
 -- ---- the encoding by its kinds
 
@@ -25,7 +25,7 @@ around-absent false x c e = cc
 
 -- a plain tree: its tag, and its content
 pub der-plain : (t : Tree) → is_plain t ≡ true → der t ≡ tlv (plain_tag t) (content t)
-unfolding der written headed
+unfolding der tree_bytes plain_encoding
 der-plain (Tree.boolean b) p = refl
 der-plain (Tree.unsigned n) p = refl
 der-plain Tree.null p = refl
@@ -36,7 +36,7 @@ der-plain _ p = cc
 
 -- nothing is written of what is absent
 pub der-absent : (t : Tree) → is_absent t ≡ true → der t ≡ []
-unfolding der written
+unfolding der tree_bytes
 der-absent Tree.absent h = refl
 der-absent (Tree.octet_container t) h = around-absent _ _ _ h
 der-absent (Tree.bit_container t) h = around-absent _ _ _ h
@@ -47,37 +47,37 @@ der-absent _ h = cc
 
 -- the containers and tags, around something
 pub der-octet_container : (t : Tree) → is_absent t ≡ false → der (Tree.octet_container t) ≡ tlv 0x04 (der t)
-unfolding der written
+unfolding der tree_bytes
 der-octet_container t h = around-present _ _ _ h
 
 pub der-bit_container : (t : Tree) → is_absent t ≡ false → der (Tree.bit_container t) ≡ tlv 0x03 (0x00 ∷ der t)
-unfolding der written
+unfolding der tree_bytes
 der-bit_container t h = around-present _ _ _ h
 
 pub der-explicit : (n : ℕ) (t : Tree) → is_absent t ≡ false → der (Tree.explicit n t) ≡ tlv (0xA0 + n) (der t)
-unfolding der written
+unfolding der tree_bytes
 der-explicit n t h = around-present _ _ _ h
 
 pub der-implicit : (n : ℕ) (t : Tree) → is_absent t ≡ false → der (Tree.implicit n t) ≡ tlv (0x80 + n) (inside t)
-unfolding der inside written
+unfolding der inside tree_bytes
 der-implicit n t h = around-present _ _ _ h
 
 pub der-application : (n : ℕ) (t : Tree) → der (Tree.application n t) ≡ tlv (0x60 + n) (der t)
-unfolding der written
+unfolding der tree_bytes
 der-application n t = refl
 
 pub der-raw : (s : List ℕ) → der (Tree.raw s) ≡ s
-unfolding der written
+unfolding der tree_bytes
 der-raw s = refl
 
 pub der-choice : (t : Tree) → der (Tree.choice t) ≡ der t
-unfolding der written
+unfolding der tree_bytes
 der-choice t = refl
 
 -- ---- directly under an implicit tag
 
 pub inside-plain : (t : Tree) → is_plain t ≡ true → inside t ≡ content t
-unfolding inside written headed
+unfolding inside tree_bytes plain_encoding
 inside-plain (Tree.boolean b) p = refl
 inside-plain (Tree.unsigned n) p = refl
 inside-plain Tree.null p = refl
@@ -87,12 +87,12 @@ inside-plain (Tree.list kind ts) p = refl
 inside-plain _ p = cc
 
 pub inside-choice : (t : Tree) → inside (Tree.choice t) ≡ inside t
-unfolding inside written
+unfolding inside tree_bytes
 inside-choice t = refl
 
 -- what is neither plain nor a choice keeps its header
 pub inside-other : (t : Tree) → is_plain t ≡ false → IsNoChoice t → inside t ≡ der t
-unfolding inside der written
+unfolding inside der tree_bytes
 inside-other (Tree.choice t) p n = absurd n
 inside-other (Tree.boolean b) p n = cc
 inside-other (Tree.unsigned b) p n = cc
@@ -105,32 +105,32 @@ inside-other _ p n = refl
 -- ---- plain trees
 
 pub der-boolean : (b : Bool) → der (Tree.boolean b) ≡ tlv 0x01 (boolean_content b)
-unfolding der written headed
+unfolding der tree_bytes plain_encoding
 der-boolean b = refl
 
 pub der-unsigned : (n : ℕ) → der (Tree.unsigned n) ≡ tlv 0x02 (unsigned_content n)
-unfolding der written headed
+unfolding der tree_bytes plain_encoding
 der-unsigned n = refl
 
 pub der-null : der Tree.null ≡ tlv 0x05 []
-unfolding der written headed
+unfolding der tree_bytes plain_encoding
 der-null = refl
 
 pub der-text : (s : List ℕ) → der (Tree.text s) ≡ tlv 0x0C s
-unfolding der written headed
+unfolding der tree_bytes plain_encoding
 der-text s = refl
 
 pub der-bytes : (tag : ℕ) (s : List ℕ) → der (Tree.bytes tag s) ≡ tlv tag s
-unfolding der written headed
+unfolding der tree_bytes plain_encoding
 der-bytes tag s = refl
 
 pub encodings-trees : (ts : List Tree) → encodings (trees ts) ≡ map der ts
-unfolding der written
+unfolding der tree_bytes
 encodings-trees [] = refl
 encodings-trees (t ∷ ts) = ap (λ l. der t ∷ l) (encodings-trees ts)
 
 pub der-list : (kind : ListKind) (ts : List Tree) → der (Tree.list kind (trees ts)) ≡ tlv (list_tag kind) (list_content kind (map der ts))
-unfolding der written headed
+unfolding der tree_bytes plain_encoding
 der-list kind ts = ap (λ l. tlv (list_tag kind) (list_content kind l)) (encodings-trees ts)
 
 -- a list of what values mean
@@ -147,12 +147,12 @@ der-list_of_meanings {V} meaning kind vs =
 -- members in order are written as they stand
 pub list_content-in_order : (kind : ListKind) (members : List (List ℕ)) → IsInOrder kind members → list_content kind members ≡ concat members
 list_content-in_order ListKind.sequence members h = refl
-list_content-in_order ListKind.set members h = ap concat (arranged-same members h)
+list_content-in_order ListKind.set members h = ap concat (in_ascending_order-same members h)
 
 -- it is as long as they are in all, in whatever order
 pub length-list_content : (kind : ListKind) (members : List (List ℕ)) → length (list_content kind members) ≡ length (concat members)
 length-list_content ListKind.sequence members = refl
-length-list_content ListKind.set members = length-arranged members
+length-list_content ListKind.set members = length-in_ascending_order members
 
 -- ---- readable trees
 
@@ -176,8 +176,8 @@ list_tag_number : (kind : ListKind) → IsTagNumber (number_of (list_tag kind))
 list_tag_number ListKind.sequence = omega arith
 list_tag_number ListKind.set = omega arith
 
-headed_element : (tag : ℕ) (c : List ℕ) → IsTagNumber (number_of tag) → IsElement (headed true tag c)
-unfolding headed
+headed_element : (tag : ℕ) (c : List ℕ) → IsTagNumber (number_of tag) → IsElement (plain_encoding true tag c)
+unfolding plain_encoding
 headed_element tag c h = record { tag = tag; content = c; number = h; is = refl }
 
 around_element : (t : Tree) (tag : ℕ) (c : List ℕ) → is_absent t ≡ false → IsTagNumber (number_of tag) → IsElement (around (is_absent t) tag c)
@@ -185,7 +185,7 @@ around_element t tag c p h = record { tag = tag; content = c; number = h; is = a
 
 -- the encoding of a readable tree is one element
 pub der-element : (t : Tree) → IsReadable t → IsElement (der t)
-unfolding der written
+unfolding der tree_bytes
 der-element (Tree.boolean b) r = headed_element _ _ (omega arith)
 der-element (Tree.unsigned n) r = headed_element _ _ (omega arith)
 der-element Tree.null r = headed_element _ _ (omega arith)

@@ -19,8 +19,8 @@ text_of (error.Message text) = Some text.now
 text_of other = None
 
 -- what is compared of an error
-abbrev pub compared : Asn1DerError → Failure × Option (List ℕ)
-compared e = (failure_of e, text_of e)
+abbrev pub comparison_of : Asn1DerError → Failure × Option (List ℕ)
+comparison_of e = (failure_of e, text_of e)
 
 -- ---- copies
 

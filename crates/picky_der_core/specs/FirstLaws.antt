@@ -3,7 +3,7 @@ use Rattle.std.proofs.Common.{◌≡◌, ℕ, zero, suc, ◌+◌, ◌<◌, Bool,
 use Rattle.picky_der_core.specs.Tag.{number_of, IsTagNumber}
 use Rattle.picky_der_core.specs.Element.{tlv}
 use Rattle.picky_der_core.specs.Tree.{ListKind, Tree, Trees}
-use Rattle.picky_der_core.specs.Encoding.{headed, written, der, list_tag}
+use Rattle.picky_der_core.specs.Encoding.{plain_encoding, tree_bytes, der, list_tag}
 use Rattle.picky_der_core.specs.Readable.{IsReadable}
 use Rattle.picky_der_core.specs.Shape.{Shape, Shapes, Layout, IsOf, IsOneOf, AreMembersOf, FirstOrNone, firsts, firsts_of, next_firsts, has, are_apart, tags_below, tag_with_number, AreBytes, IsBoolean, IsUnsigned, IsNull, IsText, IsCharacter, IsBytes, IsRaw, IsList, IsOptional, IsOctetContainer, IsBitContainer, IsExplicit, IsImplicit, IsApplication, IsChoice}
 use Rattle.picky_der_core.specs.EncodingLaws.{is_absent-readable, around-present}
@@ -88,8 +88,8 @@ apart_differ fs gs t u a b c e =
 
 -- ---- each kind of shape
 
-pub begins_headed : (tag : ℕ) (c fs : List ℕ) (t : Tree) → der t ≡ headed true tag c → has fs tag ≡ true → BeginsIn fs t
-unfolding headed tlv
+pub begins_headed : (tag : ℕ) (c fs : List ℕ) (t : Tree) → der t ≡ plain_encoding true tag c → has fs tag ≡ true → BeginsIn fs t
+unfolding plain_encoding tlv
 begins_headed tag c fs t e h = record { first = tag; others = _; is = e; listed = h }
 
 pub begins_tlv : (tag : ℕ) (c fs : List ℕ) (t : Tree) → der t ≡ tlv tag c → has fs tag ≡ true → BeginsIn fs t
@@ -97,72 +97,72 @@ unfolding tlv
 begins_tlv tag c fs t e h = record { first = tag; others = _; is = e; listed = h }
 
 boolean_first : (t : Tree) → IsBoolean t → IsReadable t → BeginsIn (0x01 ∷ []) t
-unfolding der written
+unfolding der tree_bytes
 boolean_first (Tree.boolean b) p r = begins_headed _ _ _ (Tree.boolean b) refl refl
 boolean_first _ p r = absurd p
 
 unsigned_first : (most : ℕ) (t : Tree) → IsUnsigned most t → IsReadable t → BeginsIn (0x02 ∷ []) t
-unfolding der written
+unfolding der tree_bytes
 unsigned_first most (Tree.unsigned n) p r = begins_headed _ _ _ (Tree.unsigned n) refl refl
 unsigned_first most _ p r = absurd p
 
 null_first : (t : Tree) → IsNull t → IsReadable t → BeginsIn (0x05 ∷ []) t
-unfolding der written
+unfolding der tree_bytes
 null_first Tree.null p r = begins_headed _ _ _ Tree.null refl refl
 null_first _ p r = absurd p
 
 text_first : (t : Tree) → IsText t → IsReadable t → BeginsIn (0x0C ∷ []) t
-unfolding der written
+unfolding der tree_bytes
 text_first (Tree.text s) p r = begins_headed _ _ _ (Tree.text s) refl refl
 text_first _ p r = absurd p
 
 character_first : (t : Tree) → IsCharacter t → IsReadable t → BeginsIn (0x0C ∷ []) t
-unfolding der written
+unfolding der tree_bytes
 character_first (Tree.text s) p r = begins_headed _ _ _ (Tree.text s) refl refl
 character_first _ p r = absurd p
 
 bytes_first : (tag : ℕ) (t : Tree) → IsBytes tag t → IsReadable t → BeginsIn (tag_with_number (number_of tag) tag) t
-unfolding der written
+unfolding der tree_bytes
 bytes_first tag (Tree.bytes x s) p r =
     subst (λ n. BeginsIn (tag_with_number (number_of n) n) (Tree.bytes x s)) p.0 (begins_headed x _ _ (Tree.bytes x s) refl (has_numbered (number_of x) x r))
 bytes_first tag _ p r = absurd p
 
 list_first : (kind : ListKind) (P : Trees → Type 0) (t : Tree) → IsList kind P t → IsReadable t → BeginsIn (list_tag kind ∷ []) t
-unfolding der written
+unfolding der tree_bytes
 list_first kind P (Tree.list x ts) p r =
     subst (λ n. BeginsIn (list_tag n ∷ []) (Tree.list x ts)) p.0 (begins_headed _ _ _ (Tree.list x ts) refl (has_itself (list_tag x) []))
 list_first kind P _ p r = absurd p
 
 octet_container_first : (P : Tree → Type 0) (t : Tree) → IsOctetContainer P t → IsReadable t → BeginsIn (0x04 ∷ []) t
-unfolding der written
+unfolding der tree_bytes
 octet_container_first P (Tree.octet_container t) p r = begins_tlv _ _ _ (Tree.octet_container t) (around-present _ _ _ (is_absent-readable t r)) refl
 octet_container_first P _ p r = absurd p
 
 bit_container_first : (P : Tree → Type 0) (t : Tree) → IsBitContainer P t → IsReadable t → BeginsIn (0x03 ∷ []) t
-unfolding der written
+unfolding der tree_bytes
 bit_container_first P (Tree.bit_container t) p r = begins_tlv _ _ _ (Tree.bit_container t) (around-present _ _ _ (is_absent-readable t r)) refl
 bit_container_first P _ p r = absurd p
 
 explicit_first : (n : ℕ) (P : Tree → Type 0) (t : Tree) → IsExplicit n P t → IsReadable t → BeginsIn (tag_with_number n (0xA0 + n)) t
-unfolding der written
+unfolding der tree_bytes
 explicit_first n P (Tree.explicit m t) p r =
     subst (λ k. BeginsIn (tag_with_number k (0xA0 + k)) (Tree.explicit m t)) p.0 (begins_tlv _ _ _ (Tree.explicit m t) (around-present _ _ _ (is_absent-readable t r.1)) (has_numbered m (0xA0 + m) r.0))
 explicit_first n P _ p r = absurd p
 
 implicit_first : (n : ℕ) (P : Tree → Type 0) (t : Tree) → IsImplicit n P t → IsReadable t → BeginsIn (tag_with_number n (0x80 + n)) t
-unfolding der written
+unfolding der tree_bytes
 implicit_first n P (Tree.implicit m t) p r =
     subst (λ k. BeginsIn (tag_with_number k (0x80 + k)) (Tree.implicit m t)) p.0 (begins_tlv _ _ _ (Tree.implicit m t) (around-present _ _ _ (is_absent-readable t r.2)) (has_numbered m (0x80 + m) r.0))
 implicit_first n P _ p r = absurd p
 
 application_first : (n : ℕ) (P : Tree → Type 0) (t : Tree) → IsApplication n P t → IsReadable t → BeginsIn (tag_with_number n (0x60 + n)) t
-unfolding der written
+unfolding der tree_bytes
 application_first n P (Tree.application m t) p r =
     subst (λ k. BeginsIn (tag_with_number k (0x60 + k)) (Tree.application m t)) p.0 (begins_tlv _ _ _ (Tree.application m t) refl (has_numbered m (0x60 + m) r.0))
 application_first n P _ p r = absurd p
 
 raw_first : (t : Tree) → IsRaw t → IsReadable t → BeginsIn (tags_below 256) t
-unfolding der written tlv
+unfolding der tree_bytes tlv
 raw_first (Tree.raw s) p r =
     let bytes : AreBytes (tlv r.tag r.content) = subst AreBytes r.is p in
     begins_tlv _ _ _ (Tree.raw s) r.is (has-tags_below r.tag 256 bytes.0 r.number)
@@ -174,7 +174,7 @@ is_of-optional P t (inl e) r = absurd (subst IsReadable e r)
 is_of-optional P t (inr p) r = p
 
 choice_first : (P : Tree → Type 0) (fs : List ℕ) → ((t : Tree) → P t → IsReadable t → BeginsIn fs t) → (t : Tree) → IsChoice P t → IsReadable t → BeginsIn fs t
-unfolding der written
+unfolding der tree_bytes
 choice_first P fs next (Tree.choice t) p r = let b = next t p r in record { first = b.first; others = b.others; is = b.is; listed = b.listed }
 choice_first P fs next _ p r = absurd p
 

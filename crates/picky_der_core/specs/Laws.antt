@@ -9,7 +9,7 @@ use Rattle.picky_der_core.specs.Tree.{ListKind, Tree, trees, is_absent}
 use Rattle.picky_der_core.specs.Encoding.{der}
 use Rattle.picky_der_core.specs.Readable.{IsReadable}
 use Rattle.picky_der_core.specs.Shape.{Shape, IsOf, IsSound, IsFirst}
-use Rattle.picky_der_core.specs.Wrapper.{wrap, wrapper_tag, held, HasTagNumber}
+use Rattle.picky_der_core.specs.Wrapper.{wrap, wrapper_tag, wrapped_content, HasTagNumber}
 use Rattle.picky_der_core.specs.Reading.{Place, StandsAt}
 
 -- a readable tree of the shape stands at the front of the input, within the limit
@@ -23,7 +23,7 @@ LengthBothWays = (n k : ℕ) (rest : List ℕ) → Begins (len n) (len k ++ rest
 -- around something, a wrapper or application tag of a number up to 30 is one element, which holds just what it should
 abbrev pub WrapperLengths : Type 0
 WrapperLengths =
-    ((w : Wrapper) (t : Tree) → HasTagNumber w → IsFalse (is_absent t) → IsTagNumber (number_of (wrapper_tag w)) × (der (wrap w t) ≡ tlv (wrapper_tag w) (held w t)))
+    ((w : Wrapper) (t : Tree) → HasTagNumber w → IsFalse (is_absent t) → IsTagNumber (number_of (wrapper_tag w)) × (der (wrap w t) ≡ tlv (wrapper_tag w) (wrapped_content w t)))
     × ((n : ℕ) (t : Tree) → IsTagNumber n → IsTagNumber (number_of (0x60 + n)) × (der (Tree.application n t) ≡ tlv (0x60 + n) (der t)))
 
 -- the encoding of a readable tree isn't empty, and its first byte is one of its shape's

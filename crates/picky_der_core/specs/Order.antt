@@ -13,11 +13,11 @@ abbrev pub IsAscending : List (List ℕ) → Type 0
 IsAscending = IsSorted (slice_cmp nat_cmp)
 
 -- with one more in front of the first that isn't less
-abbrev pub inserted : List ℕ → List (List ℕ) → List (List ℕ)
-inserted a [] = a ∷ []
-inserted a (b ∷ ys) = if is_less b a then b ∷ inserted a ys else a ∷ b ∷ ys
+abbrev pub in_order_with : List ℕ → List (List ℕ) → List (List ℕ)
+in_order_with a [] = a ∷ []
+in_order_with a (b ∷ ys) = if is_less b a then b ∷ in_order_with a ys else a ∷ b ∷ ys
 
 -- the same in ascending order, each as often
-unfoldable pub arranged : List (List ℕ) → List (List ℕ)
-arranged [] = []
-arranged (a ∷ ys) = inserted a (arranged ys)
+unfoldable pub in_ascending_order : List (List ℕ) → List (List ℕ)
+in_ascending_order [] = []
+in_ascending_order (a ∷ ys) = in_order_with a (in_ascending_order ys)

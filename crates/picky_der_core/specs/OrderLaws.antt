@@ -9,7 +9,7 @@ use Rattle.std.proofs.lemmas.List.Concat.{concat_is, length-flat_map}
 use Rattle.std.proofs.lemmas.List.Sorted.{ranks_by, sum_by-IsPermutation, IsPermutation-refl, IsPermutation-sym, IsPermutation-trans, IsPermutation-cons, IsPermutation-middle, IsPermutation-map}
 use Rattle.std.proofs.lemmas.List.Sums.{sum_by-cons}
 use Rattle.std.proofs.lemmas.Map.Lookups.{exact_bytes}
-use Rattle.picky_der_core.specs.Order.{is_less, IsAscending, inserted, arranged}
+use Rattle.picky_der_core.specs.Order.{is_less, IsAscending, in_order_with, in_ascending_order}
 
 -- ---- lists in any order, from left to right
 
@@ -155,66 +155,66 @@ only_ascending xs ys moved up on = same_ascending xs ys up on (λ c. sym (sum_by
 
 -- ---- the arrangement
 
-inserted_permutation : (a : List ℕ) (ys : List (List ℕ)) → IsPermutation (a ∷ ys) (inserted a ys)
+inserted_permutation : (a : List ℕ) (ys : List (List ℕ)) → IsPermutation (a ∷ ys) (in_order_with a ys)
 inserted_permutation a [] = IsPermutation-refl (a ∷ [])
 inserted_permutation a (b ∷ ys) = by_test (is_less b a) (inserted_permutation a ys)
   where
-    by_test : (t : Bool) → IsPermutation (a ∷ ys) (inserted a ys) → IsPermutation (a ∷ b ∷ ys) (cond t (b ∷ inserted a ys) (a ∷ b ∷ ys))
+    by_test : (t : Bool) → IsPermutation (a ∷ ys) (in_order_with a ys) → IsPermutation (a ∷ b ∷ ys) (cond t (b ∷ in_order_with a ys) (a ∷ b ∷ ys))
     by_test true moved =
         let swapped = IsPermutation-sym _ _ (IsPermutation-middle (b ∷ []) a ys) in
         IsPermutation-trans _ _ _ swapped (IsPermutation-cons b _ _ moved)
     by_test false moved = IsPermutation-refl (a ∷ b ∷ ys)
 
 -- behind b, which a isn't less than
-inserted_behind : (a b : List ℕ) (ys : List (List ℕ)) → is_less a b ≡ false → IsAscending (b ∷ ys) → IsAscending (inserted a ys)
-    → IsAscending (b ∷ inserted a ys)
+inserted_behind : (a b : List ℕ) (ys : List (List ℕ)) → is_less a b ≡ false → IsAscending (b ∷ ys) → IsAscending (in_order_with a ys)
+    → IsAscending (b ∷ in_order_with a ys)
 inserted_behind a b [] h up on = IsSortedBy-cons is_less b a [] h on
 inserted_behind a b (c ∷ ys) h up on = by_test (is_less c a) on
   where
-    by_test : (t : Bool) → IsAscending (cond t (c ∷ inserted a ys) (a ∷ c ∷ ys)) → IsAscending (b ∷ cond t (c ∷ inserted a ys) (a ∷ c ∷ ys))
-    by_test true next = IsSortedBy-cons is_less b c (inserted a ys) (IsSortedBy-first is_less b c ys up) next
+    by_test : (t : Bool) → IsAscending (cond t (c ∷ in_order_with a ys) (a ∷ c ∷ ys)) → IsAscending (b ∷ cond t (c ∷ in_order_with a ys) (a ∷ c ∷ ys))
+    by_test true next = IsSortedBy-cons is_less b c (in_order_with a ys) (IsSortedBy-first is_less b c ys up) next
     by_test false next = IsSortedBy-cons is_less b a (c ∷ ys) h next
 
-inserted_ascending : (a : List ℕ) (ys : List (List ℕ)) → IsAscending ys → IsAscending (inserted a ys)
+inserted_ascending : (a : List ℕ) (ys : List (List ℕ)) → IsAscending ys → IsAscending (in_order_with a ys)
 inserted_ascending a [] up = IsSortedBy-one is_less a
 inserted_ascending a (b ∷ ys) up = by_test (is_less b a) refl (inserted_ascending a ys (IsSortedBy-tail is_less b ys up))
   where
-    by_test : (t : Bool) → is_less b a ≡ t → IsAscending (inserted a ys) → IsAscending (cond t (b ∷ inserted a ys) (a ∷ b ∷ ys))
+    by_test : (t : Bool) → is_less b a ≡ t → IsAscending (in_order_with a ys) → IsAscending (cond t (b ∷ in_order_with a ys) (a ∷ b ∷ ys))
     by_test true e on = inserted_behind a b ys (less_one_way b a e) up on
     by_test false e on = IsSortedBy-cons is_less a b ys e up
 
-pub arranged-permutation : (xs : List (List ℕ)) → IsPermutation xs (arranged xs)
-unfolding arranged
-arranged-permutation [] = IsPermutation-refl []
-arranged-permutation (a ∷ xs) = IsPermutation-trans _ _ _ (IsPermutation-cons a _ _ (arranged-permutation xs)) (inserted_permutation a (arranged xs))
+pub in_ascending_order-permutation : (xs : List (List ℕ)) → IsPermutation xs (in_ascending_order xs)
+unfolding in_ascending_order
+in_ascending_order-permutation [] = IsPermutation-refl []
+in_ascending_order-permutation (a ∷ xs) = IsPermutation-trans _ _ _ (IsPermutation-cons a _ _ (in_ascending_order-permutation xs)) (inserted_permutation a (in_ascending_order xs))
 
-pub arranged-ascending : (xs : List (List ℕ)) → IsAscending (arranged xs)
-unfolding arranged
-arranged-ascending [] = IsSortedBy-nil is_less
-arranged-ascending (a ∷ xs) = inserted_ascending a (arranged xs) (arranged-ascending xs)
+pub in_ascending_order-ascending : (xs : List (List ℕ)) → IsAscending (in_ascending_order xs)
+unfolding in_ascending_order
+in_ascending_order-ascending [] = IsSortedBy-nil is_less
+in_ascending_order-ascending (a ∷ xs) = inserted_ascending a (in_ascending_order xs) (in_ascending_order-ascending xs)
 
 -- what is ascending stays as it is
-pub arranged-same : (xs : List (List ℕ)) → IsAscending xs → arranged xs ≡ xs
-arranged-same xs up = sym (only_ascending xs (arranged xs) (arranged-permutation xs) up (arranged-ascending xs))
+pub in_ascending_order-same : (xs : List (List ℕ)) → IsAscending xs → in_ascending_order xs ≡ xs
+in_ascending_order-same xs up = sym (only_ascending xs (in_ascending_order xs) (in_ascending_order-permutation xs) up (in_ascending_order-ascending xs))
 
 -- the order in which the elements are given doesn't matter
-pub arranged-permuted : (xs ys : List (List ℕ)) → IsPermutation xs ys → arranged xs ≡ arranged ys
-arranged-permuted xs ys moved =
-    let back = IsPermutation-sym _ _ (arranged-permutation xs) in
-    let on = IsPermutation-trans _ _ _ moved (arranged-permutation ys) in
+pub in_ascending_order-permuted : (xs ys : List (List ℕ)) → IsPermutation xs ys → in_ascending_order xs ≡ in_ascending_order ys
+in_ascending_order-permuted xs ys moved =
+    let back = IsPermutation-sym _ _ (in_ascending_order-permutation xs) in
+    let on = IsPermutation-trans _ _ _ moved (in_ascending_order-permutation ys) in
     let whole = IsPermutation-trans _ _ _ back on in
-    only_ascending (arranged xs) (arranged ys) whole (arranged-ascending xs) (arranged-ascending ys)
+    only_ascending (in_ascending_order xs) (in_ascending_order ys) whole (in_ascending_order-ascending xs) (in_ascending_order-ascending ys)
 
 -- it is what a sort by the bytes of each element gives
-pub arranged-sorted : {X : Type 0} (bytes : X → List ℕ) (xs ys : List X) → IsPermutation xs ys
-    → IsSortedByKey bytes (slice_cmp nat_cmp) ys → arranged (map bytes xs) ≡ map bytes ys
-arranged-sorted bytes xs ys moved up =
-    let same = arranged-permuted (map bytes xs) (map bytes ys) (IsPermutation-map bytes xs ys moved) in
-    same ∙ arranged-same (map bytes ys) (IsSortedBy-map is_less bytes ys up)
+pub in_ascending_order-sorted : {X : Type 0} (bytes : X → List ℕ) (xs ys : List X) → IsPermutation xs ys
+    → IsSortedByKey bytes (slice_cmp nat_cmp) ys → in_ascending_order (map bytes xs) ≡ map bytes ys
+in_ascending_order-sorted bytes xs ys moved up =
+    let same = in_ascending_order-permuted (map bytes xs) (map bytes ys) (IsPermutation-map bytes xs ys moved) in
+    same ∙ in_ascending_order-same (map bytes ys) (IsSortedBy-map is_less bytes ys up)
 
 -- as many bytes in all
-pub length-arranged : (xs : List (List ℕ)) → length (concat (arranged xs)) ≡ length (concat xs)
-length-arranged xs = total (arranged xs) ∙ sum_by-IsPermutation length xs (arranged xs) (arranged-permutation xs) ∙ sym (total xs)
+pub length-in_ascending_order : (xs : List (List ℕ)) → length (concat (in_ascending_order xs)) ≡ length (concat xs)
+length-in_ascending_order xs = total (in_ascending_order xs) ∙ sum_by-IsPermutation length xs (in_ascending_order xs) (in_ascending_order-permutation xs) ∙ sym (total xs)
   where
     total : (ys : List (List ℕ)) → length (concat ys) ≡ sum_by length ys
     total ys = ap length (concat_is ys) ∙ length-flat_map (λ b. b) ys
@@ -231,23 +231,23 @@ empty_ones [] = []
 empty_ones ([] ∷ xs) = [] ∷ empty_ones xs
 empty_ones ((b ∷ a) ∷ xs) = empty_ones xs
 
-inserted_nothing : (xs : List (List ℕ)) → inserted [] xs ≡ [] ∷ xs
+inserted_nothing : (xs : List (List ℕ)) → in_order_with [] xs ≡ [] ∷ xs
 inserted_nothing [] = refl
 inserted_nothing ([] ∷ xs) = refl
 inserted_nothing ((b ∷ a) ∷ xs) = refl
 
 inserted_behind_empty : (b : ℕ) (a : List ℕ) (xs ys : List (List ℕ))
-    → inserted (b ∷ a) (empty_ones xs ++ ys) ≡ empty_ones xs ++ inserted (b ∷ a) ys
+    → in_order_with (b ∷ a) (empty_ones xs ++ ys) ≡ empty_ones xs ++ in_order_with (b ∷ a) ys
 inserted_behind_empty b a [] ys = refl
 inserted_behind_empty b a ([] ∷ xs) ys = ap (λ l. [] ∷ l) (inserted_behind_empty b a xs ys)
 inserted_behind_empty b a ((d ∷ c) ∷ xs) ys = inserted_behind_empty b a xs ys
 
 -- they come first
-empty_first : (xs : List (List ℕ)) → arranged xs ≡ empty_ones xs ++ arranged (without_empty xs)
-unfolding arranged
+empty_first : (xs : List (List ℕ)) → in_ascending_order xs ≡ empty_ones xs ++ in_ascending_order (without_empty xs)
+unfolding in_ascending_order
 empty_first [] = refl
-empty_first ([] ∷ xs) = inserted_nothing (arranged xs) ∙ ap (λ l. [] ∷ l) (empty_first xs)
-empty_first ((b ∷ a) ∷ xs) = ap (inserted (b ∷ a)) (empty_first xs) ∙ inserted_behind_empty b a xs (arranged (without_empty xs))
+empty_first ([] ∷ xs) = inserted_nothing (in_ascending_order xs) ∙ ap (λ l. [] ∷ l) (empty_first xs)
+empty_first ((b ∷ a) ∷ xs) = ap (in_order_with (b ∷ a)) (empty_first xs) ∙ inserted_behind_empty b a xs (in_ascending_order (without_empty xs))
 
 concat-empty : (xs ys : List (List ℕ)) → concat (empty_ones xs ++ ys) ≡ concat ys
 concat-empty [] ys = refl
@@ -255,5 +255,5 @@ concat-empty ([] ∷ xs) ys = concat-empty xs ys
 concat-empty ((b ∷ a) ∷ xs) ys = concat-empty xs ys
 
 -- and add nothing
-pub arranged-without_empty : (xs : List (List ℕ)) → concat (arranged xs) ≡ concat (arranged (without_empty xs))
-arranged-without_empty xs = ap concat (empty_first xs) ∙ concat-empty xs (arranged (without_empty xs))
+pub in_ascending_order-without_empty : (xs : List (List ℕ)) → concat (in_ascending_order xs) ≡ concat (in_ascending_order (without_empty xs))
+in_ascending_order-without_empty xs = ap concat (empty_first xs) ∙ concat-empty xs (in_ascending_order (without_empty xs))

@@ -37,6 +37,6 @@ count_of_any None = 0
 count_of_any (Some b) = 1
 
 -- the position behind n bytes more; it stays at the greatest one
-abbrev pub moved : ℕ → ℕ → ℕ
-moved pos zero = pos
-moved pos (suc n) = min (pos + suc n) (2 ^ 64 - 1)
+abbrev pub position_behind : ℕ → ℕ → ℕ
+position_behind pos zero = pos
+position_behind pos (suc n) = min (pos + suc n) (2 ^ 64 - 1)

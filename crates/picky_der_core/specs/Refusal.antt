@@ -14,8 +14,8 @@ abbrev pub past : Bool → Asn1DerError
 past hard = if hard then InvalidData else TruncatedData
 
 -- a byte that isn't there, where the innermost end is `ahead` bytes away and the reader has `rest` of these
-abbrev pub missing : Bool → ℕ → List ℕ → Asn1DerError
-missing hard ahead rest = past (hard && (length rest == ahead))
+abbrev pub missing_byte : Bool → ℕ → List ℕ → Asn1DerError
+missing_byte hard ahead rest = past (hard && (length rest == ahead))
 
 -- ---- lengths
 
@@ -53,10 +53,10 @@ within_end hard ahead rest (Err e) = Err e
 within_end hard ahead rest (Ok (n, left)) = if nat_lt (ahead - (length rest - length left)) n then Err (past hard, left) else Ok (n, left)
 
 abbrev pub length_behind : Bool → ℕ → List ℕ → List ℕ → Outcome ℕ
-length_behind hard ahead rest behind = within_end hard ahead rest (length_of (missing hard ahead rest) behind)
+length_behind hard ahead rest behind = within_end hard ahead rest (length_of (missing_byte hard ahead rest) behind)
 
 abbrev pub header_with : ℕ → Bool → ℕ → List ℕ → Outcome ℕ
-header_with tag hard ahead [] = Err (missing hard ahead [], [])
+header_with tag hard ahead [] = Err (missing_byte hard ahead [], [])
 header_with tag hard ahead (b ∷ bs) = if b == tag then length_behind hard ahead (b ∷ bs) bs else Err (InvalidData, bs)
 
 -- the header of an element with this tag: the length of the content, and the bytes from there on
@@ -69,7 +69,7 @@ numbered_header base n hard ahead rest = if is_tag_number n then header_with (ba
 
 -- the header of any element
 abbrev pub any_header : Bool → ℕ → List ℕ → Outcome ℕ
-any_header hard ahead [] = Err (missing hard ahead [], [])
+any_header hard ahead [] = Err (missing_byte hard ahead [], [])
 any_header hard ahead (b ∷ bs) = if is_tag_number (number_of b) then length_behind hard ahead (b ∷ bs) bs else Err (UnsupportedValue, bs)
 
 abbrev pub refusal_of : Outcome ℕ → Option Refusal
@@ -116,14 +116,14 @@ bytes_fault bs = None
 
 -- ---- whole reads
 
-abbrev pub judged : Option Asn1DerError → List ℕ → Option Refusal
-judged None left = None
-judged (Some e) left = Some (e, left)
+abbrev pub refusal_leaving : Option Asn1DerError → List ℕ → Option Refusal
+refusal_leaving None left = None
+refusal_leaving (Some e) left = Some (e, left)
 
 -- the content, which is drawn whole before it is judged
 abbrev pub content_refusal : Judge → Outcome ℕ → Option Refusal
 content_refusal judge (Err e) = Some e
-content_refusal judge (Ok (n, rest)) = if nat_lt (length rest) n then Some (TruncatedData, []) else judged (judge (take n rest)) (drop n rest)
+content_refusal judge (Ok (n, rest)) = if nat_lt (length rest) n then Some (TruncatedData, []) else refusal_leaving (judge (take n rest)) (drop n rest)
 
 -- how a plain value with this tag is refused, if it is
 abbrev pub plain_refusal : ℕ → Judge → Bool → ℕ → List ℕ → Option Refusal
@@ -137,9 +137,6 @@ inside_refusal tag judge ahead rest =
 -- how the header of a wrapper, a sequence or a set is refused
 abbrev pub header_refusal : ℕ → Bool → ℕ → List ℕ → Option Refusal
 header_refusal tag hard ahead rest = refusal_of (header tag hard ahead rest)
-
-abbrev pub numbered_header_refusal : ℕ → ℕ → Bool → ℕ → List ℕ → Option Refusal
-numbered_header_refusal base n hard ahead rest = refusal_of (numbered_header base n hard ahead rest)
 
 -- how an element is refused that is taken whole, whatever its tag
 abbrev pub element_refusal : Bool → ℕ → List ℕ → Option Refusal

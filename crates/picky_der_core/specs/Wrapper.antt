@@ -26,11 +26,11 @@ wrapper_tag BitContainer = 0x03
 wrapper_tag (Explicit n) = 0xA0 + n
 wrapper_tag (Implicit n) = 0x80 + n
 
-abbrev pub held : Wrapper → Tree → List ℕ
-held OctetContainer t = der t
-held BitContainer t = 0x00 ∷ der t
-held (Explicit n) t = der t
-held (Implicit n) t = inside t
+abbrev pub wrapped_content : Wrapper → Tree → List ℕ
+wrapped_content OctetContainer t = der t
+wrapped_content BitContainer t = 0x00 ∷ der t
+wrapped_content (Explicit n) t = der t
+wrapped_content (Implicit n) t = inside t
 
 -- its tag number, if it has one, is at most 30
 abbrev pub HasTagNumber : Wrapper → Type 0

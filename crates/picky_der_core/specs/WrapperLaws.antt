@@ -5,14 +5,14 @@ use Rattle.picky_der_core.specs.declared.asn1.wrapper.Wrapper.TheVariants.{Octet
 use Rattle.picky_der_core.specs.Tag.{number_of, is_tag_number, IsTagNumber}
 use Rattle.picky_der_core.specs.Element.{tlv}
 use Rattle.picky_der_core.specs.Tree.{Tree, is_plain, is_absent}
-use Rattle.picky_der_core.specs.Encoding.{around, written, der, inside, content, plain_tag}
+use Rattle.picky_der_core.specs.Encoding.{around, tree_bytes, der, inside, content, plain_tag}
 use Rattle.picky_der_core.specs.Readable.{has_tag_numbers}
-use Rattle.picky_der_core.specs.Wrapper.{wrap, under, wrapper_tag, held, HasTagNumber}
+use Rattle.picky_der_core.specs.Wrapper.{wrap, under, wrapper_tag, wrapped_content, HasTagNumber}
 use Rattle.picky_der_core.specs.EncodingLaws.{around-present, der-absent}
 
 -- around something, a wrapper is one element with just what stands in it
-pub der-wrap : (w : Wrapper) (t : Tree) → is_absent t ≡ false → der (wrap w t) ≡ tlv (wrapper_tag w) (held w t)
-unfolding der inside written
+pub der-wrap : (w : Wrapper) (t : Tree) → is_absent t ≡ false → der (wrap w t) ≡ tlv (wrapper_tag w) (wrapped_content w t)
+unfolding der inside tree_bytes
 der-wrap OctetContainer t e = around-present (is_absent t) _ _ e
 der-wrap BitContainer t e = around-present (is_absent t) _ _ e
 der-wrap (Explicit n) t e = around-present (is_absent t) _ _ e
@@ -44,12 +44,12 @@ der-under_absent ws t h = der-absent (under ws t) (is_absent-under ws t ∙ h)
 
 -- with a header and without, and one is absent or has a tag number past 30 where the other does
 pub record AreAlike (t u : Tree) : Type 0 where
-  pub written_same : (header : Bool) → written header t ≡ written header u
+  pub written_same : (header : Bool) → tree_bytes header t ≡ tree_bytes header u
   pub absent_same : is_absent t ≡ is_absent u
   pub numbers_same : has_tag_numbers t ≡ has_tag_numbers u
 
 pub alike-wrap : (w : Wrapper) (t u : Tree) → AreAlike t u → AreAlike (wrap w t) (wrap w u)
-unfolding written
+unfolding tree_bytes
 alike-wrap OctetContainer t u a =
     record { written_same = λ h. ap₂ (λ b c. around b 0x04 c) a.absent_same (a.written_same true); absent_same = a.absent_same; numbers_same = a.numbers_same }
 alike-wrap BitContainer t u a =
@@ -73,7 +73,7 @@ der-alike t u a = a.written_same true
 
 -- a choice is written as the alternative that was made
 pub alike-choice : (t : Tree) → AreAlike (Tree.choice t) t
-unfolding written
+unfolding tree_bytes
 alike-choice t = record { written_same = λ h. refl; absent_same = refl; numbers_same = refl }
 
 -- a plain value, but a list, is written as bytes with its tag
@@ -82,7 +82,7 @@ is_simple (Tree.list kind ts) = false
 is_simple t = is_plain t
 
 pub alike-bytes : (t : Tree) → is_simple t ≡ true → AreAlike (Tree.bytes (plain_tag t) (content t)) t
-unfolding written
+unfolding tree_bytes
 alike-bytes (Tree.boolean b) p = record { written_same = λ h. refl; absent_same = refl; numbers_same = refl }
 alike-bytes (Tree.unsigned n) p = record { written_same = λ h. refl; absent_same = refl; numbers_same = refl }
 alike-bytes Tree.null p = record { written_same = λ h. refl; absent_same = refl; numbers_same = refl }

@@ -7,12 +7,12 @@ use Rattle.picky_der_core.specs.Encoding.{encodings}
 use Rattle.picky_der_core.specs.Shape.{Shape, IsOf, AreOf, EachIs}
 use Rattle.picky_der_input.specs.State.{State}
 use Rattle.picky_der_input.specs.Steps.{Takes, IsJudged}
-use Rattle.picky_der_input.specs.Order.{AreInOrder, unordered}
+use Rattle.picky_der_input.specs.Order.{AreInOrder, without_order}
 use Rattle.picky_der_de.specs.Members.{ReadsMember, RefusesMember, bytes_of, StandBefore, ReadsRow, RefusesRow}
 use Rattle.picky_der_de.specs.ArrayLaws.{times}
 use Rattle.picky_der_input.proofs.Steps.{takes_none, takes_then}
 use Rattle.picky_der_input.proofs.Order.{fails_behind, judged_behind}
-use Rattle.picky_der_de.proofs.Members.{bytes_of-none, takes_member, member_direct, next_order, next_member, no_member}
+use Rattle.picky_der_de.proofs.Members.{bytes_of-none, takes_member, member_not_implicit, next_order, next_member, no_member}
 use Rattle.picky_der_de.proofs.ListReads.{bytes_of-push, each-push, readable-push, LeadOn, leads-none, leads-push, leads-all}
 
 -- ---- refused
@@ -45,7 +45,7 @@ pub record ReadsFirst {V : Type 0} (meaning : V → Tree) (s : Shape) (old new :
   pub of_shape : EachIs (IsOf s) (trees (map meaning vs))
   pub readable : AreReadable (trees (map meaning vs))
   pub leads : LeadOn meaning old new vs
-  pub takes : Takes (unordered old) (unordered new) (bytes_of (trees (map meaning vs)))
+  pub takes : Takes (without_order old) (without_order new) (bytes_of (trees (map meaning vs)))
   pub implicit_tag : new.implicit_tag ≡ None
   pub refuses : (n : ℕ) (d : State) (e : Asn1DerError) → RefusesTimes meaning n s new d e → RefusesTimes meaning (length vs + n) s old d e
 
@@ -54,7 +54,7 @@ first_none meaning s a h p d = record {
   of_shape = tt;
   readable = tt;
   leads = leads-none meaning a;
-  takes = subst (Takes (unordered a) (unordered a)) (sym bytes_of-none) (takes_none (unordered a) h p);
+  takes = subst (Takes (without_order a) (without_order a)) (sym bytes_of-none) (takes_none (without_order a) h p);
   implicit_tag = d;
   refuses = λ n d e r. subst (λ m. RefusesTimes meaning m s a d e) (omega arith) r;
 }
@@ -64,8 +64,8 @@ first_more meaning s {a} {b} {c} vs v h r = record {
   of_shape = each-push meaning (IsOf s) vs v h.of_shape r.reads.of_shape;
   readable = readable-push meaning vs v h.readable r.reads.readable;
   leads = leads-push meaning a vs v h.leads r;
-  takes = subst (Takes (unordered a) (unordered c)) (sym (bytes_of-push meaning vs v)) (takes_then h.takes (takes_member r));
-  implicit_tag = member_direct r;
+  takes = subst (Takes (without_order a) (without_order c)) (sym (bytes_of-push meaning vs v)) (takes_then h.takes (takes_member r));
+  implicit_tag = member_not_implicit r;
   refuses = λ n d e w. subst (λ m. RefusesTimes meaning m s a d e) (omega (arith, length-append vs (v ∷ []))) (h.refuses (suc n) d e (times_next n r w));
 }
 

@@ -7,9 +7,12 @@ use Rattle.picky_der_input.specs.State.{State}
 use Rattle.picky_der_input.specs.Reading.{Reads, Refuses}
 
 -- the error that was passed on, and the state in which the last call left the deserializer
+pub asked_of : {T : Type 0} {x y : State} {e : Asn1DerError} (P : State → Asn1DerError → Type 0) (r : Result T Asn1DerError) → IsErrAnd r (λ error. error ≡ e) → x ≡ y → P y e → IfErr r (P x)
+asked_of P (Ok v) h same f = absurd h
+asked_of P (Err error) h same f = rw (h, same) f
+
 pub asked : {T V : Type 0} {meaning : V → Tree} {s : Shape} {a x y : State} {e : Asn1DerError} (r : Result T Asn1DerError) → IsErrAnd r (λ error. error ≡ e) → x ≡ y → Refuses meaning s a y e → IfErr r (Refuses meaning s a x)
-asked (Ok v) h same f = absurd h
-asked (Err error) h same f = rw (h, same) f
+asked {meaning = meaning} {s = s} {a = a} r h same f = asked_of (Refuses meaning s a) r h same f
 
 pub reads_at : {s : Shape} {a x y : State} {t : Tree} → Reads s a y t → x ≡ y → Reads s a x t
 reads_at h same = rw same h

@@ -17,7 +17,7 @@ use Rattle.picky_der_input.specs.Steps.{Takes, Fails, IsJudged, place_in, place_
 use Rattle.picky_der_input.specs.Reading.{Concerns, Reads, Refuses}
 use Rattle.picky_der_input.specs.Ends.{Outer, Closes}
 use Rattle.picky_der_input.specs.Order.{cut_at}
-use Rattle.picky_der_input.specs.Enclosures.{enclose, enclosure_tag, enclose_shape, unused_bits, implicit_number, restored, opening, OpensEnclosure, RefusesOpening, ReadsEnclosed, RefusesEnclosed, before_value, in_value, behind_value}
+use Rattle.picky_der_input.specs.Enclosures.{enclose, enclosure_tag, enclose_shape, unused_bits, implicit_number, with_outer_end, opening, OpensEnclosure, RefusesOpening, ReadsEnclosed, RefusesEnclosed, before_value, in_value, behind_value}
 use Rattle.picky_der_input.proofs.Steps.{takes_then, fails_after, judged_after}
 use Rattle.picky_der_input.proofs.Refusals.{behind, failed_grows, end_below, taken_first}
 use Rattle.picky_der_input.proofs.Headers.{header_length, length_tlv}
@@ -26,7 +26,7 @@ use Rattle.picky_der_input.proofs.Openings.{own_concerns}
 
 -- ---- the end around
 
-restored_takes : {b c : State} {x : List ℕ} (outer : Outer) → c.taken ≤ outer.place → Takes b c x → Takes (restored outer b) (restored outer c) x
+restored_takes : {b c : State} {x : List ℕ} (outer : Outer) → c.taken ≤ outer.place → Takes b c x → Takes (with_outer_end outer b) (with_outer_end outer c) x
 restored_takes outer l t = record {
   input = t.input;
   taken = t.taken;
@@ -42,7 +42,7 @@ restored_takes outer l t = record {
   references = t.references;
 }
 
-restored_fails : {b c : State} {e : Asn1DerError} (outer : Outer) → b.taken + b.until_end ≤ outer.place → Fails b c e → Fails (restored outer b) c e
+restored_fails : {b c : State} {e : Asn1DerError} (outer : Outer) → b.taken + b.until_end ≤ outer.place → Fails b c e → Fails (with_outer_end outer b) c e
 restored_fails {b} {c} {e} outer l f = record {
   failed = f.failed;
   again = λ k w. let q = f.again k w in (q.0, record { input = q.1.input; taken = q.1.taken; peeked = q.1.peeked; faults = q.1.faults });
@@ -58,7 +58,7 @@ restored_fails {b} {c} {e} outer l f = record {
   references = f.references;
 }
 
-restored_judged : {b c : State} {e : Asn1DerError} (outer : Outer) → IsJudged (restored outer b) c e → IsJudged b c e
+restored_judged : {b c : State} {e : Asn1DerError} (outer : Outer) → IsJudged (with_outer_end outer b) c e → IsJudged b c e
 restored_judged outer j = record { had_not_failed = j.had_not_failed; faults = j.faults; memory = j.memory }
 
 opened_fails : {w : Enclosure} {a b c : State} {outer : Outer} {e : Asn1DerError} → OpensEnclosure w a b outer → Fails b c e → Fails a c e
@@ -182,14 +182,14 @@ reads_enclosed {s} {w} {a} {b} {c} {d} {outer} {closed} {t} o r k same =
     let all = takes_then o.takes (restored_takes outer within inside) in
     let bytes : opening w o.size ++ part ≡ written_at (place_of a) (enclose w t) =
     whole_enclosed (enclosure_tag w) o.size (unused_bits w) part (omega (arith, o.until_end, full)) ∙ sym (written_enclosed a.implicit_tag a.until_end b.until_end w t r.readable) in
-    let end : d ≡ restored outer c = k.same ∙ ap (λ z. restored z c) same in
+    let end : d ≡ with_outer_end outer c = k.same ∙ ap (λ z. with_outer_end z c) same in
     let stands : MayStand (place_in (implicit_number w) b.until_end) t = subst (λ n. MayStand (place_in n b.until_end) t) o.implicit_tag r.may_stand in
     record {
       reads = record {
         of_shape = is_of_enclosed w s t r.of_shape;
         readable = readable_enclosed w t b.until_end o.number r.readable stands;
         may_stand = may_stand_enclosed a.implicit_tag a.until_end w t;
-        takes = subst (λ z. Takes a z (written_at (place_of a) (enclose w t))) (sym end) (subst (Takes a (restored outer c)) bytes all);
+        takes = subst (λ z. Takes a z (written_at (place_of a) (enclose w t))) (sym end) (subst (Takes a (with_outer_end outer c)) bytes all);
         implicit_tag = ap (λ (z : State). z.implicit_tag) end ∙ r.implicit_tag;
       };
       no_refusal = o.no_refusal;

@@ -12,7 +12,7 @@ use Rattle.picky_der_core.specs.FirstLaws.{begins_in, begins_next, apart_has}
 use Rattle.picky_der_core.proofs.Unique.{same_tree}
 use Rattle.picky_der_input.specs.State.{State}
 use Rattle.picky_der_input.specs.Steps.{Takes, Fails, IsJudged}
-use Rattle.picky_der_input.specs.Order.{AreInOrder, unordered}
+use Rattle.picky_der_input.specs.Order.{AreInOrder, without_order}
 use Rattle.picky_der_input.specs.Reading.{Concerns, Reads, Refuses}
 use Rattle.picky_der_input.specs.Ends.{Outer, Closes, RefusesClose, OpensList, RefusesList}
 use Rattle.picky_der_input.specs.LookAhead.{Peeks, IdentifiesIn, Identifies}
@@ -54,8 +54,8 @@ look_again {a} {b} {c} {x} {y} p q =
     keeps (Some xs) (Some ys) None h g = absurd g
     keeps (Some xs) (Some ys) (Some zs) h g = g ∙ h
 
-peeks_unordered : {a b : State} {x : ℕ} → Peeks a b x → Peeks (unordered a) (unordered b) x
-peeks_unordered p = record { had_not_failed = p.had_not_failed; implicit_tag = p.implicit_tag; ahead = p.ahead; byte = p.byte; next = p.next; again = p.again; input = p.input; same = ap unordered p.same }
+peeks_unordered : {a b : State} {x : ℕ} → Peeks a b x → Peeks (without_order a) (without_order b) x
+peeks_unordered p = record { had_not_failed = p.had_not_failed; implicit_tag = p.implicit_tag; ahead = p.ahead; byte = p.byte; next = p.next; again = p.again; input = p.input; same = ap without_order p.same }
 
 as_look : {b c : State} {tag : ℕ} → b.implicit_tag ≡ None → Identifies b c tag → Peeks b c tag
 as_look {b} {c} {tag} d h = subst (λ o. IdentifiesIn o b c tag) d h.is
@@ -67,8 +67,8 @@ rests_look : {a b c : State} {x : ℕ} → Rests a b → Peeks b c x → Rests a
 rests_look {c = c} {x = x} (same e f g) p = looked x g (subst (λ z. Peeks z c x) e p)
 rests_look (looked y g q) p = looked y g (look_again q p)
 
-rests_takes : {a b : State} (c : State) {bytes : List ℕ} → Rests a b → Takes (unordered b) (unordered c) bytes → Takes (unordered a) (unordered c) bytes
-rests_takes c {bytes = bytes} (same e f g) t = subst (λ z. Takes (unordered z) (unordered c) bytes) e t
+rests_takes : {a b : State} (c : State) {bytes : List ℕ} → Rests a b → Takes (without_order b) (without_order c) bytes → Takes (without_order a) (without_order c) bytes
+rests_takes c {bytes = bytes} (same e f g) t = subst (λ z. Takes (without_order z) (without_order c) bytes) e t
 rests_takes c (looked x g p) t = peeks_takes (peeks_unordered p) t
 
 rests_not_failed : {a b : State} → Rests a b → b.failed ≡ None
@@ -144,14 +144,14 @@ layout_none {b} d = record {
   are = tt;
   readable = tt;
   order = no_members_in_order b.sets;
-  passes = λ a q. record { mid = a; takes = subst (Takes (unordered a) (unordered a)) (sym bytes_of-none) (nothing q); rests = q };
+  passes = λ a q. record { mid = a; takes = subst (Takes (without_order a) (without_order a)) (sym bytes_of-none) (nothing q); rests = q };
   implicit_tag = d;
   fails = λ last e f. f;
   full = λ told last e f left us are r w. full us are left w;
 } where
-  nothing : {a : State} → Rests a b → Takes (unordered a) (unordered a) []
-  nothing {a} (same e f g) = takes_none (unordered a) f g
-  nothing {a} (looked x g p) = takes_none (unordered a) p.had_not_failed g
+  nothing : {a : State} → Rests a b → Takes (without_order a) (without_order a) []
+  nothing {a} (same e f g) = takes_none (without_order a) f g
+  nothing {a} (looked x g p) = takes_none (without_order a) p.had_not_failed g
 
   full : {last : State} {e : Asn1DerError} (us : Trees) → AreMembersOf Layout.empty us → 0 < b.until_end → StandUpToEnd b last e (bytes_of us) → ⊥
   full Trees.none are left w = none_left left w
@@ -182,7 +182,7 @@ member_then : {s : Shape} {l : Layout} {a b c d : State} {t : Tree} {ts : Trees}
 member_then {a = a} {c = c} {d = d} {t = t} {ts = ts} q r h =
     let m = takes_member r in
     let p = h.passes c (rests_here m.not_failed m.unpeeked) in
-    record { mid = p.mid; takes = subst (Takes (unordered a) (unordered p.mid)) (sym (bytes_of-more t ts)) (takes_then (rests_takes c q m) p.takes); rests = p.rests }
+    record { mid = p.mid; takes = subst (Takes (without_order a) (without_order p.mid)) (sym (bytes_of-more t ts)) (takes_then (rests_takes c q m) p.takes); rests = p.rests }
 
 required_read : {s : Shape} {l : Layout} {b c d : State} {t : Tree} {ts : Trees} → ReadsMember s b c t → ReadsLayout l c d ts → ReadsLayout (Layout.required s l) b d (Trees.more t ts)
 required_read {s} {l} {b} {c} {d} {t} {ts} r h = record {
@@ -422,5 +422,5 @@ layout_left {members = members} {l = l} {kind = kind} {b = b} {d = d} {e = e} to
 pub layout_reads : {l : Layout} {kind : ListKind} {a b c d : State} {outer closed : Outer} {ts : Trees} → OpensList (list_tag kind) a b outer → ReadsLayout l b c ts → Closes closed c d → closed ≡ outer → Reads (Shape.struct_of kind l) a d (Tree.list kind ts)
 layout_reads {kind = kind} {b = b} {ts = ts} o r k back =
     let q = r.passes b (opened_rests kind o) in
-    let takes = subst (λ z. Takes (unordered b) (unordered z) (bytes_of ts)) (sym (rested q.rests k.reached)) q.takes in
+    let takes = subst (λ z. Takes (without_order b) (without_order z) (bytes_of ts)) (sym (rested q.rests k.reached)) q.takes in
     list_reads ts o r.order takes r.implicit_tag k back (refl, r.are) r.readable

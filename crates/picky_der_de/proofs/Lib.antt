@@ -10,5 +10,6 @@ pub mod Asked
 pub mod Rests
 pub mod LayoutReads
 pub mod ListReads
+pub mod SetOrder
 pub mod ArrayReads
 pub use Rattle.picky_der_input.proofs.PlainReads

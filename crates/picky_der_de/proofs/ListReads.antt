@@ -4,21 +4,24 @@ use Rattle.picky_der_core.specs.declared.error.Asn1DerError.{Asn1DerError}
 use Rattle.picky_der_core.specs.declared.error.Asn1DerError.TheVariants.{OutOfMemory}
 use Rattle.picky_der_core.specs.Tag.{number_of, IsTagNumber}
 use Rattle.picky_der_core.specs.Tree.{ListKind, Tree, Trees, trees}
-use Rattle.picky_der_core.specs.Encoding.{written, der, encodings, list_tag}
+use Rattle.picky_der_core.specs.Encoding.{tree_bytes, der, encodings, list_tag}
 use Rattle.picky_der_core.specs.Readable.{IsReadable, AreReadable}
 use Rattle.picky_der_core.specs.Shape.{Shape, IsOf, IsFirst, EachIs}
 use Rattle.picky_der_ser.specs.Sequences.{IsListTag, list_kind}
 use Rattle.picky_der_input.specs.State.{State}
 use Rattle.picky_der_input.specs.Steps.{Takes, Fails, IsJudged}
-use Rattle.picky_der_input.specs.Order.{AreInOrder, unordered}
+use Rattle.picky_der_input.specs.Order.{AreInOrder, without_order}
 use Rattle.picky_der_input.specs.Reading.{Reads, Refuses}
 use Rattle.picky_der_input.specs.Ends.{Outer, Closes, RefusesClose, OpensList, RefusesList}
-use Rattle.picky_der_de.specs.Members.{ReadsMember, RefusesMember, HasNoMore, bytes_of, StandUpToEnd, ReadsAll, RefusesAll}
+use Rattle.picky_der_de.specs.Members.{ReadsMember, RefusesMember, HasNoMore, bytes_of, StandBefore, StandUpToEnd, BreaksOrder, RefusesTaken, ReadsAll, RefusesAll}
 use Rattle.picky_der_input.proofs.Steps.{takes_none, takes_then}
 use Rattle.picky_der_input.proofs.Order.{fails_behind, judged_behind, order_none}
-use Rattle.picky_der_de.proofs.Members.{bytes_of-more, bytes_of-none, takes_member, member_direct, member_leads, member_ahead, next_order, next_up_to_end, no_member, none_left, list_refused, list_unopened, list_reads}
+use Rattle.picky_der_de.proofs.Members.{bytes_of-more, bytes_of-none, takes_member, member_not_implicit, member_leads, member_ahead, next_order, next_member, next_up_to_end, same_member, order_ahead, order_behind, no_members_in_order, no_member, no_member_in_order, member_refused_less, none_left, list_refused, list_unopened, list_reads}
 
 -- ---- one member more behind others
+
+bytes_of-one : (t : Tree) → bytes_of (Trees.more t Trees.none) ≡ der t
+bytes_of-one t = bytes_of-more t Trees.none ∙ ap (λ x. der t ++ x) bytes_of-none ∙ append-nil (der t)
 
 pub bytes_of-push : {V : Type 0} (meaning : V → Tree) (vs : List V) (v : V) → bytes_of (trees (map meaning (vs ++ v ∷ []))) ≡ bytes_of (trees (map meaning vs)) ++ der (meaning v)
 bytes_of-push meaning [] v = bytes_of-more (meaning v) Trees.none ∙ ap (λ x. der (meaning v) ++ x) bytes_of-none ∙ append-nil (der (meaning v)) ∙ ap (λ x. x ++ der (meaning v)) (sym bytes_of-none)
@@ -41,11 +44,11 @@ abbrev pub LeadOn : {V : Type 0} → (V → Tree) → State → State → List V
 LeadOn meaning old new vs = (ms : List (List ℕ)) → AreInOrder new.sets ms → AreInOrder old.sets (encodings (trees (map meaning vs)) ++ ms)
 
 pub leads-none : {V : Type 0} (meaning : V → Tree) (a : State) → LeadOn meaning a a []
-unfolding written
+unfolding tree_bytes
 leads-none meaning a ms h = h
 
 encodings-push : {V : Type 0} (meaning : V → Tree) (vs : List V) (v : V) (ms : List (List ℕ)) → encodings (trees (map meaning (vs ++ v ∷ []))) ++ ms ≡ encodings (trees (map meaning vs)) ++ der (meaning v) ∷ ms
-unfolding der written
+unfolding der tree_bytes
 encodings-push meaning [] v ms = refl
 encodings-push meaning (w ∷ vs) v ms = ap (λ l. der (meaning w) ∷ l) (encodings-push meaning vs v ms)
 
@@ -59,16 +62,37 @@ leads-all meaning a b vs h = subst (AreInOrder a.sets) (append-nil (encodings (t
 
 -- the next member was refused
 pub all_refused : {V : Type 0} {meaning : V → Tree} {s : Shape} {c d : State} {e : Asn1DerError} → RefusesMember meaning s c d e → (c.failed ≡ None → 0 < c.until_end) → RefusesAll meaning s c d e
-all_refused {V} {meaning} {s} {c} {d} {e} r ahead = record { fails = r.fails; none = none }
+all_refused {V} {meaning} {s} {c} {d} {e} r ahead = record { fails = r.fails; lesser = lesser; none = none }
   where
+    lesser : IsJudged c d e → (vs : List V) (v : V) → BreaksOrder meaning s (AreInOrder c.sets) vs v → StandBefore c d e (bytes_of (trees (map meaning (vs ++ v ∷ [])))) → RefusesTaken c d e (bytes_of (trees (map meaning (vs ++ v ∷ []))))
+    lesser j [] v h w = subst (RefusesTaken c d e) (sym (bytes_of-one (meaning v))) (member_refused_less v Trees.none r j h.of_shape.0 h.readable.0 w).taken
+    lesser j (u ∷ us) v h w = absurd (no_member_in_order u (trees (map meaning (us ++ v ∷ []))) (trees (map meaning us)) r j h.of_shape.0 h.readable.0 h.in_order w)
+
     none : IsJudged c d e → (vs : List V) → EachIs (IsOf s) (trees (map meaning vs)) → AreReadable (trees (map meaning vs)) → AreInOrder c.sets (encodings (trees (map meaning vs))) → StandUpToEnd c d e (bytes_of (trees (map meaning vs))) → ⊥
     none j [] of_shape readable order w = none_left (ahead j.had_not_failed) w
     none j (v ∷ vs) of_shape readable order w = no_member v (trees (map meaning vs)) r j of_shape.0 readable.0 order w.stand
 
 -- a member was read, and those behind it were refused
 pub all_next : {V : Type 0} {meaning : V → Tree} {s : Shape} {b c d : State} {t : Tree} {e : Asn1DerError} → ReadsMember s b c t → RefusesAll meaning s c d e → RefusesAll meaning s b d e
-all_next {V} {meaning} {s} {b} {c} {d} {t} {e} r h = record { fails = fails_behind (takes_member r) h.fails; none = none }
+all_next {V} {meaning} {s} {b} {c} {d} {t} {e} r h = record { fails = fails_behind (takes_member r) h.fails; lesser = lesser; none = none }
   where
+    lesser : IsJudged b d e → (vs : List V) (v : V) → BreaksOrder meaning s (AreInOrder b.sets) vs v → StandBefore b d e (bytes_of (trees (map meaning (vs ++ v ∷ [])))) → RefusesTaken b d e (bytes_of (trees (map meaning (vs ++ v ∷ []))))
+    lesser j [] v k w =
+        let same = (same_member (meaning v) Trees.none k.readable.0 r h.fails w).0 in
+        absurd (k.broken (order_ahead (meaning v) Trees.none same r (no_members_in_order c.sets)))
+    lesser j (u ∷ us) v k w =
+        let others = trees (map meaning (us ++ v ∷ [])) in
+        let same = (same_member (meaning u) others k.readable.0 r h.fails w).0 in
+        let rest : BreaksOrder meaning s (AreInOrder c.sets) us v = record {
+          of_shape = k.of_shape.1;
+          readable = k.readable.1;
+          in_order = order_behind (meaning u) (trees (map meaning us)) same r k.in_order;
+          broken = λ o. k.broken (order_ahead (meaning u) others same r o);
+        } in
+        let q = h.lesser (judged_behind (takes_member r) j) us v rest (next_member (meaning u) others k.readable.0 r h.fails w) in
+        let parts : bytes_of (Trees.more (meaning u) others) ≡ der t ++ bytes_of others = bytes_of-more (meaning u) others ∙ ap (λ x. x ++ bytes_of others) same in
+        record { mid = q.mid; takes = subst (Takes (without_order b) (without_order q.mid)) (sym parts) (takes_then (takes_member r) q.takes); error = q.error; same = q.same }
+
     none : IsJudged b d e → (vs : List V) → EachIs (IsOf s) (trees (map meaning vs)) → AreReadable (trees (map meaning vs)) → AreInOrder b.sets (encodings (trees (map meaning vs))) → StandUpToEnd b d e (bytes_of (trees (map meaning vs))) → ⊥
     none j [] of_shape readable order w = none_left (member_ahead r) w
     none j (v ∷ vs) of_shape readable order w =
@@ -77,7 +101,7 @@ all_next {V} {meaning} {s} {b} {c} {d} {t} {e} r h = record { fails = fails_behi
 
 -- memory was wanted
 pub all_for_memory : {V : Type 0} {meaning : V → Tree} {s : Shape} {c d : State} {e : Asn1DerError} → Fails c d e → e ≡ OutOfMemory → RefusesAll meaning s c d e
-all_for_memory f is = record { fails = f; none = λ j. absurd (j.memory is) }
+all_for_memory f is = record { fails = f; lesser = λ j. absurd (j.memory is); none = λ j. absurd (j.memory is) }
 
 -- ---- members so far
 
@@ -85,7 +109,7 @@ pub record ReadsSome {V : Type 0} (meaning : V → Tree) (s : Shape) (old new : 
   pub of_shape : EachIs (IsOf s) (trees (map meaning vs))
   pub readable : AreReadable (trees (map meaning vs))
   pub leads : LeadOn meaning old new vs
-  pub takes : Takes (unordered old) (unordered new) (bytes_of (trees (map meaning vs)))
+  pub takes : Takes (without_order old) (without_order new) (bytes_of (trees (map meaning vs)))
   pub implicit_tag : new.implicit_tag ≡ None
   pub refuses : (d : State) (e : Asn1DerError) → RefusesAll meaning s new d e → RefusesAll meaning s old d e
 
@@ -94,7 +118,7 @@ some_none meaning s a h p d = record {
   of_shape = tt;
   readable = tt;
   leads = leads-none meaning a;
-  takes = subst (Takes (unordered a) (unordered a)) (sym bytes_of-none) (takes_none (unordered a) h p);
+  takes = subst (Takes (without_order a) (without_order a)) (sym bytes_of-none) (takes_none (without_order a) h p);
   implicit_tag = d;
   refuses = λ d e r. r;
 }
@@ -104,8 +128,8 @@ some_more meaning s {a} {b} {c} vs v h r = record {
   of_shape = each-push meaning (IsOf s) vs v h.of_shape r.reads.of_shape;
   readable = readable-push meaning vs v h.readable r.reads.readable;
   leads = leads-push meaning a vs v h.leads r;
-  takes = subst (Takes (unordered a) (unordered c)) (sym (bytes_of-push meaning vs v)) (takes_then h.takes (takes_member r));
-  implicit_tag = member_direct r;
+  takes = subst (Takes (without_order a) (without_order c)) (sym (bytes_of-push meaning vs v)) (takes_then h.takes (takes_member r));
+  implicit_tag = member_not_implicit r;
   refuses = λ d e w. h.refuses d e (all_next r w);
 }
 
@@ -114,7 +138,7 @@ some_all {meaning = meaning} {a = a} {b = b} {vs = vs} h n = record {
   order = leads-all meaning a b vs h.leads;
   of_shape = h.of_shape;
   readable = h.readable;
-  takes = subst (λ z. Takes (unordered a) (unordered z) (bytes_of (trees (map meaning vs)))) (sym n.same) h.takes;
+  takes = subst (λ z. Takes (without_order a) (without_order z) (bytes_of (trees (map meaning vs)))) (sym n.same) h.takes;
   implicit_tag = ap (λ (z : State). z.implicit_tag) n.same ∙ h.implicit_tag;
   reached = ap (λ (z : State). z.until_end) n.same ∙ n.reached;
 }

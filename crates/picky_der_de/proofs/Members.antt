@@ -1,21 +1,21 @@
 -- Members of sequences and sets, read and refused.
-use Rattle.std.proofs.Common.{◌≡◌, ℕ, ◌<◌, ◌≤◌, false, List, [], ◌∷◌, ◌++◌, length, Some, None, refl, sym, ◌∙◌, ap, ap₂, subst, arith, append_assoc, length-append, true≢false}
+use Rattle.std.proofs.Common.{◌≡◌, ℕ, ◌<◌, ◌≤◌, false, true, List, [], ◌∷◌, ◌++◌, length, Some, None, refl, sym, ◌∙◌, ap, ap₂, subst, arith, append_assoc, length-append, true≢false}
 use Rattle.picky_der_core.specs.declared.error.Asn1DerError.{Asn1DerError}
 use Rattle.picky_der_core.specs.Failure.{failure_of}
 use Rattle.picky_der_core.specs.declared.error.Asn1DerError.TheVariants.{TruncatedData}
 use Rattle.picky_der_core.specs.Tree.{ListKind, Tree, Trees}
-use Rattle.picky_der_core.specs.Encoding.{written, der, encodings, list_tag, content}
+use Rattle.picky_der_core.specs.Encoding.{tree_bytes, der, encodings, list_tag, content}
 use Rattle.picky_der_core.specs.EncodingLaws.{same_encoding, length-der, list_content-in_order}
 use Rattle.picky_der_core.specs.Readable.{IsReadable, AreReadable, IsInOrder}
 use Rattle.picky_der_core.specs.Shape.{Shape, IsOf, IsFirst}
 use Rattle.picky_der_core.specs.Reading.{Place, written_at, StandsAt}
 use Rattle.picky_der_input.specs.declared.end.End.TheVariants.{Soft}
 use Rattle.picky_der_input.specs.State.{OpenSets, State}
-use Rattle.picky_der_input.specs.Steps.{Takes, Fails, IsJudged, place_in, place_of, drawn}
-use Rattle.picky_der_input.specs.Order.{order_of, entered, is_out_of_order, with_last, AreInOrder, unordered, RefusesTest, out_of_order, without_memory}
+use Rattle.picky_der_input.specs.Steps.{Takes, Fails, IsJudged, place_in, place_of, drawn_count}
+use Rattle.picky_der_input.specs.Order.{order_of, sets_inside, is_out_of_order, with_last, AreInOrder, without_order, RefusesTest, out_of_order, without_memory}
 use Rattle.picky_der_input.specs.Reading.{Concerns, now, ever, Reads, Refuses}
-use Rattle.picky_der_input.specs.Ends.{Outer, narrowed, Closes, OpensList, RefusesList}
-use Rattle.picky_der_de.specs.Members.{ReadsMember, RefusesNext, no_value, behind_value, RefusesMember, HasNoMore, bytes_of, StandBefore, StandUpToEnd}
+use Rattle.picky_der_input.specs.Ends.{Outer, with_inner_end, Closes, OpensList, RefusesList}
+use Rattle.picky_der_de.specs.Members.{ReadsMember, RefusesNext, no_value, behind_value, RefusesMember, HasNoMore, bytes_of, StandBefore, StandUpToEnd, RefusesTaken}
 use Rattle.picky_der_input.proofs.Steps.{fails_after, fails_again, judged_after}
 use Rattle.picky_der_input.proofs.Order.{concerns_alike, concerns_unordered, judged_alike, fails_alike, takes_unordered, order_none, order_first, order_next, order_more, order_begins, order_whole}
 use Rattle.picky_der_input.proofs.Refusals.{behind, failed_grows, end_below}
@@ -25,23 +25,23 @@ use Rattle.picky_der_input.proofs.Ends.{narrowed_concerns, concerns_room, narrow
 -- ---- the content of a list
 
 pub bytes_of-more : (t : Tree) (ts : Trees) → bytes_of (Trees.more t ts) ≡ der t ++ bytes_of ts
-unfolding der written
+unfolding der tree_bytes
 bytes_of-more t ts = refl
 
 pub bytes_of-none : bytes_of Trees.none ≡ []
-unfolding written
+unfolding tree_bytes
 bytes_of-none = refl
 
 pub bytes_of-content : (kind : ListKind) (ts : Trees) → IsInOrder kind (encodings ts) → content (Tree.list kind ts) ≡ bytes_of ts
 bytes_of-content kind ts h = list_content-in_order kind (encodings ts) h
 
 encodings-more : (t : Tree) (ts : Trees) → encodings (Trees.more t ts) ≡ der t ∷ encodings ts
-unfolding der written
+unfolding der tree_bytes
 encodings-more t ts = refl
 
 -- members in order, from left to right
 pub no_members_in_order : (l : OpenSets) → AreInOrder l (encodings Trees.none)
-unfolding written
+unfolding tree_bytes
 no_members_in_order l = order_none l
 
 first_in_order : (l : OpenSets) (t : Tree) (ts : Trees) → AreInOrder l (encodings (Trees.more t ts)) → is_out_of_order l (der t) ≡ false
@@ -56,11 +56,11 @@ next_in_order l t ts h = order_next l (der t) (encodings ts) (subst (AreInOrder 
 takes_whole : {s : Shape} {b c : State} {t : Tree} → Reads s b c t → b.implicit_tag ≡ None → Takes b c (der t)
 takes_whole {b = b} {c = c} {t = t} r implicit_tag = subst (λ d. Takes b c (written_at (place_in d b.until_end) t)) implicit_tag r.takes
 
-pub takes_member : {s : Shape} {b c : State} {t : Tree} → ReadsMember s b c t → Takes (unordered b) (unordered c) (der t)
-takes_member {b = b} {t = t} r = subst (λ z. Takes (unordered b) (unordered z) (der t)) (sym r.follows.same) (takes_unordered (takes_whole r.reads r.implicit_tag))
+pub takes_member : {s : Shape} {b c : State} {t : Tree} → ReadsMember s b c t → Takes (without_order b) (without_order c) (der t)
+takes_member {b = b} {t = t} r = subst (λ z. Takes (without_order b) (without_order z) (der t)) (sym r.follows.same) (takes_unordered (takes_whole r.reads r.implicit_tag))
 
-pub member_direct : {s : Shape} {b c : State} {t : Tree} → ReadsMember s b c t → c.implicit_tag ≡ None
-member_direct r = ap (λ (z : State). z.implicit_tag) r.follows.same ∙ r.reads.implicit_tag
+pub member_not_implicit : {s : Shape} {b c : State} {t : Tree} → ReadsMember s b c t → c.implicit_tag ≡ None
+member_not_implicit r = ap (λ (z : State). z.implicit_tag) r.follows.same ∙ r.reads.implicit_tag
 
 -- it is the last one from here on
 last_member : {s : Shape} {b c : State} {t : Tree} → ReadsMember s b c t → c.sets ≡ with_last b.sets (der t)
@@ -74,6 +74,16 @@ member_leads {b = b} {t = t} r ms h =
 
 pub members_lead : {s : Shape} {b c : State} {t : Tree} (ts : Trees) → ReadsMember s b c t → AreInOrder c.sets (encodings ts) → AreInOrder b.sets (encodings (Trees.more t ts))
 members_lead {b = b} {t = t} ts r h = subst (AreInOrder b.sets) (sym (encodings-more t ts)) (member_leads r (encodings ts) h)
+
+-- Members behind one that has the same encoding as what was read: they are in order with it in front just where they are so
+-- from there on.
+pub order_ahead : {s : Shape} {b c : State} {t : Tree} (u : Tree) (us : Trees) → der u ≡ der t → ReadsMember s b c t → AreInOrder c.sets (encodings us) → AreInOrder b.sets (encodings (Trees.more u us))
+order_ahead {b = b} u us same r h = subst (AreInOrder b.sets) (ap (λ x. x ∷ encodings us) (sym same) ∙ sym (encodings-more u us)) (member_leads r (encodings us) h)
+
+pub order_behind : {s : Shape} {b c : State} {t : Tree} (u : Tree) (us : Trees) → der u ≡ der t → ReadsMember s b c t → AreInOrder b.sets (encodings (Trees.more u us)) → AreInOrder c.sets (encodings us)
+order_behind {b = b} u us same r h =
+    let last = last_member r ∙ ap (with_last b.sets) (sym same) in
+    subst (λ l. AreInOrder l (encodings us)) (sym last) (next_in_order b.sets u us h)
 
 -- a member isn't read at the end
 pub member_ahead : {s : Shape} {b c : State} {t : Tree} → ReadsMember s b c t → 0 < b.until_end
@@ -116,8 +126,13 @@ member_missing {meaning = meaning} {s = s} {a = a} {b = b} {c = c} {e = e} h d f
 
 -- ---- members one after another
 
+-- a value with this encoding was read, and refused since it is less than the last one
+pub record IsRefusedLess (old new : State) (e : Asn1DerError) (encoding : List ℕ) : Type 0 where
+  pub taken : RefusesTaken old new e encoding
+  pub less : is_out_of_order old.sets encoding ≡ true
+
 -- the bytes of a value were taken: they are those of the first that stands, and the bytes of the others are those behind it
-same_first : {b c d : State} {e : Asn1DerError} (t u : Tree) (us : Trees) → IsReadable u → IsReadable t → (m : Takes b c (der t)) → (l : c.taken ≤ drawn d) → {end : ℕ} {seen : List ℕ} (w : Concerns b d e end seen) (rest : List ℕ) → seen ≡ bytes_of (Trees.more u us) ++ rest
+same_first : {b c d : State} {e : Asn1DerError} (t u : Tree) (us : Trees) → IsReadable u → IsReadable t → (m : Takes b c (der t)) → (l : c.taken ≤ drawn_count d) → {end : ℕ} {seen : List ℕ} (w : Concerns b d e end seen) (rest : List ℕ) → seen ≡ bytes_of (Trees.more u us) ++ rest
     → (der u ≡ der t) × (bytes_of us ++ rest ≡ (behind m l w).rest)
 same_first t u us readable read m l w rest begins =
     let v = behind m l w in
@@ -146,9 +161,7 @@ module _ {s : Shape} {b c d : State} {e : Asn1DerError} {t : Tree} (u : Tree) (u
       }
 
   pub next_order : AreInOrder b.sets (encodings (Trees.more u us)) → AreInOrder c.sets (encodings us)
-  next_order h =
-      let last : c.sets ≡ with_last b.sets (der u) = last_member r ∙ ap (with_last b.sets) (sym same_member.0) in
-      subst (λ l. AreInOrder l (encodings us)) (sym last) (next_in_order b.sets u us h)
+  next_order h = order_behind u us same_member.0 r h
 
 pub next_up_to_end : {s : Shape} {b c d : State} {e : Asn1DerError} {t : Tree} (u : Tree) (us : Trees) → IsReadable u → ReadsMember s b c t → Fails c d e → StandUpToEnd b d e (bytes_of (Trees.more u us)) → StandUpToEnd c d e (bytes_of us)
 next_up_to_end u us readable r f w =
@@ -158,9 +171,9 @@ next_up_to_end u us readable r f w =
       fills = omega (arith, w.fills, ap length (bytes_of-more u us), length-append (der u) (bytes_of us), ap length p.0, (takes_member r).until_end);
     }
 
--- the next member was refused, so no value of its type stands there in order
+-- The next member was refused. Where a value of its type stands there, it was read, and refused for its order.
 module _ {V : Type 0} (meaning : V → Tree) {s : Shape} {c d : State} {e : Asn1DerError} (v : V) (us : Trees) (implicit_tag : c.implicit_tag ≡ None) (j : IsJudged c d e) (of_shape : IsOf s (meaning v)) (readable : IsReadable (meaning v))
-    (order : AreInOrder c.sets (encodings (Trees.more (meaning v) us))) (w : StandBefore c d e (bytes_of (Trees.more (meaning v) us))) where
+    (w : StandBefore c d e (bytes_of (Trees.more (meaning v) us))) where
   unread : Refuses meaning s c d e → ⊥
   unread r =
       let parts : bytes_of (Trees.more (meaning v) us) ≡ der (meaning v) ++ bytes_of us = bytes_of-more (meaning v) us in
@@ -173,21 +186,32 @@ module _ {V : Type 0} (meaning : V → Tree) {s : Shape} {c d : State} {e : Asn1
       } in
       r.none j c.until_end w.seen w.concerns v (subst (λ x. StandsAt (place_in x c.until_end) s w.seen c.until_end (meaning v)) (sym implicit_tag) stands)
 
-  -- it is the value that was read, and is less than the last one
-  untested : (t : Tree) {b : State} → Reads s c b t → RefusesTest (der t) b d e → ⊥
-  untested t r (without_memory n f is same) = j.memory is
-  untested t r (out_of_order h) =
+  untested : (t : Tree) {b : State} → Reads s c b t → RefusesTest (der t) b d e → IsRefusedLess c d e (der (meaning v))
+  untested t r (without_memory n f is same) = absurd (j.memory is)
+  untested t {b} r (out_of_order h) =
       let m = takes_whole r implicit_tag in
       let same = (same_first t (meaning v) us readable r.readable m (failed_grows h.fails) w.concerns w.rest w.begins).0 in
-      true≢false (sym h.less ∙ ap₂ is_out_of_order m.sets (sym same) ∙ first_in_order c.sets (meaning v) us order)
+      record {
+        taken = record { mid = b; takes = subst (Takes (without_order c) (without_order b)) (sym same) (takes_unordered m); error = h.error; same = h.same };
+        less = ap₂ is_out_of_order (sym m.sets) same ∙ h.less;
+      }
 
-  unrefused : RefusesNext meaning s c d e → ⊥
-  unrefused (no_value r) = unread r
-  unrefused (behind_value b t r h) = untested t r h
+  refused_less : RefusesNext meaning s c d e → IsRefusedLess c d e (der (meaning v))
+  refused_less (no_value r) = absurd (unread r)
+  refused_less (behind_value b t r h) = untested t r h
+
+pub member_refused_less : {V : Type 0} {meaning : V → Tree} {s : Shape} {c d : State} {e : Asn1DerError} (v : V) (us : Trees) → RefusesMember meaning s c d e → IsJudged c d e → IsOf s (meaning v) → IsReadable (meaning v)
+    → StandBefore c d e (bytes_of (Trees.more (meaning v) us)) → IsRefusedLess c d e (der (meaning v))
+member_refused_less {meaning = meaning} v us r j of_shape readable w = refused_less meaning v us (r.implicit_tag j.had_not_failed) j of_shape readable w r.refuses
+
+-- so none stands there in order
+pub no_member_in_order : {V : Type 0} {meaning : V → Tree} {s : Shape} {c d : State} {e : Asn1DerError} (v : V) (us vs : Trees) → RefusesMember meaning s c d e → IsJudged c d e → IsOf s (meaning v) → IsReadable (meaning v) → AreInOrder c.sets (encodings (Trees.more (meaning v) vs))
+    → StandBefore c d e (bytes_of (Trees.more (meaning v) us)) → ⊥
+no_member_in_order {meaning = meaning} {c = c} v us vs r j of_shape readable order w = true≢false (sym (member_refused_less v us r j of_shape readable w).less ∙ first_in_order c.sets (meaning v) vs order)
 
 pub no_member : {V : Type 0} {meaning : V → Tree} {s : Shape} {c d : State} {e : Asn1DerError} (v : V) (us : Trees) → RefusesMember meaning s c d e → IsJudged c d e → IsOf s (meaning v) → IsReadable (meaning v) → AreInOrder c.sets (encodings (Trees.more (meaning v) us))
     → StandBefore c d e (bytes_of (Trees.more (meaning v) us)) → ⊥
-no_member {meaning = meaning} v us r j of_shape readable order w = unrefused meaning v us (r.implicit_tag j.had_not_failed) j of_shape readable order w r.refuses
+no_member v us r j of_shape readable order w = no_member_in_order v us us r j of_shape readable order w
 
 -- something is left, so no member is missing
 pub none_left : {c d : State} {e : Asn1DerError} → 0 < c.until_end → StandUpToEnd c d e (bytes_of Trees.none) → ⊥
@@ -196,24 +220,24 @@ none_left l w = omega (arith, w.fills, ap length bytes_of-none)
 -- ---- whole lists
 
 -- the members of a list that was opened, in order from its first one on
-opened_in_order : (kind : ListKind) {a b : State} {outer : Outer} (ts : Trees) → OpensList (list_tag kind) a b outer → IsInOrder kind (encodings ts) → AreInOrder b.sets (encodings ts)
+pub opened_in_order : (kind : ListKind) {a b : State} {outer : Outer} (ts : Trees) → OpensList (list_tag kind) a b outer → IsInOrder kind (encodings ts) → AreInOrder b.sets (encodings ts)
 opened_in_order kind ts h i = subst (λ l. AreInOrder l (encodings ts)) (sym (ap (λ (z : State). z.sets) h.opened)) (order_begins kind h.mid.sets (encodings ts) i)
 
-whole_in_order : (kind : ListKind) {a b : State} {outer : Outer} (ts : Trees) → OpensList (list_tag kind) a b outer → AreInOrder b.sets (encodings ts) → IsInOrder kind (encodings ts)
+pub whole_in_order : (kind : ListKind) {a b : State} {outer : Outer} (ts : Trees) → OpensList (list_tag kind) a b outer → AreInOrder b.sets (encodings ts) → IsInOrder kind (encodings ts)
 whole_in_order kind ts h i = order_whole kind h.mid.sets (encodings ts) (subst (λ l. AreInOrder l (encodings ts)) (ap (λ (z : State). z.sets) h.opened) i)
 
 -- the members of a list that stands, before the list's end
 members_stand : (kind : ListKind) (s : Shape) {a b c : State} {outer : Outer} {e : Asn1DerError} {end : ℕ} {bs : List ℕ} (ts : Trees) → OpensList (list_tag kind) a b outer → Fails b c e → Concerns a c e end bs → StandsAt (place_of a) s bs end (Tree.list kind ts) → StandUpToEnd b c e (bytes_of ts)
 members_stand kind s {b = b} {c = c} {e = e} ts h f w st =
-    let grows : h.mid.taken ≤ drawn c = omega (arith, failed_grows f, ap (λ (z : State). z.taken) h.opened) in
+    let grows : h.mid.taken ≤ drawn_count c = omega (arith, failed_grows f, ap (λ (z : State). z.taken) h.opened) in
     let o = begun h.begins grows refl refl w st in
     let content_is = bytes_of-content kind ts st.readable.0 in
-    let opened : State = record (narrowed h.mid h.len Soft) { sets = entered (order_of (list_tag kind)) h.mid.sets } in
+    let opened : State = record (with_inner_end h.mid h.len Soft) { sets = sets_inside (order_of (list_tag kind)) h.mid.sets } in
     let size : length (bytes_of ts) ≡ opened.until_end = sym (ap length content_is) ∙ o.size in
     let stand : StandBefore opened c e (bytes_of ts) = record {
       soft = refl;
       seen = o.seen;
-      concerns = concerns_alike (entered (order_of (list_tag kind)) h.mid.sets) (narrowed_concerns o.concerns);
+      concerns = concerns_alike (sets_inside (order_of (list_tag kind)) h.mid.sets) (narrowed_concerns o.concerns);
       rest = o.rest;
       begins = o.begins ∙ ap (λ x. x ++ o.rest) content_is;
       within = omega (arith, size);
@@ -224,9 +248,9 @@ members_stand kind s {b = b} {c = c} {e = e} ts h f w st =
 pub list_refused : {V : Type 0} (kind : ListKind) (members : V → Trees) (s : Shape) → IsFirst s (list_tag kind) → {a b c : State} {outer : Outer} {e : Asn1DerError} → OpensList (list_tag kind) a b outer → Fails b c e
     → (IsJudged b c e → (v : V) → IsOf s (Tree.list kind (members v)) → AreReadable (members v) → AreInOrder b.sets (encodings (members v)) → StandUpToEnd b c e (bytes_of (members v)) → ⊥) → Refuses (λ v. Tree.list kind (members v)) s a c e
 list_refused kind members s first {a} {b} {c} {outer} {e} h f none =
-    let before : Fails (narrowed h.mid h.len Soft) c e = fails_alike (entered None h.mid.sets) (subst (λ z. Fails z c e) h.opened f) in
+    let before : Fails (with_inner_end h.mid h.len Soft) c e = fails_alike (sets_inside None h.mid.sets) (subst (λ z. Fails z c e) h.opened f) in
     let fails : Fails h.mid c e = widened_fails h.begins.fits before in
-    let judged : IsJudged a c e → IsJudged b c e = λ j. subst (λ z. IsJudged z c e) (sym h.opened) (judged_alike (entered (order_of (list_tag kind)) h.mid.sets) (narrowed_judged h.len Soft (judged_after h.begins.takes j))) in
+    let judged : IsJudged a c e → IsJudged b c e = λ j. subst (λ z. IsJudged z c e) (sym h.opened) (judged_alike (sets_inside (order_of (list_tag kind)) h.mid.sets) (narrowed_judged h.len Soft (judged_after h.begins.takes j))) in
     record {
       fails = fails_after h.begins.takes fails;
       none = λ j end bs w v st. none (judged j) v st.of_shape st.readable.1 (opened_in_order kind (members v) h st.readable.0) (members_stand kind s (members v) h f w st);
@@ -244,14 +268,14 @@ list_unopened kind members s first {a} h =
     }
 
 -- the members of a list that was opened and closed were read
-pub list_reads : {s : Shape} {a b c d : State} {kind : ListKind} {outer closed : Outer} (ts : Trees) → OpensList (list_tag kind) a b outer → AreInOrder b.sets (encodings ts) → Takes (unordered b) (unordered c) (bytes_of ts) → c.implicit_tag ≡ None → Closes closed c d → closed ≡ outer
+pub list_reads : {s : Shape} {a b c d : State} {kind : ListKind} {outer closed : Outer} (ts : Trees) → OpensList (list_tag kind) a b outer → AreInOrder b.sets (encodings ts) → Takes (without_order b) (without_order c) (bytes_of ts) → c.implicit_tag ≡ None → Closes closed c d → closed ≡ outer
     → IsOf s (Tree.list kind ts) → AreReadable ts → Reads s a d (Tree.list kind ts)
 list_reads {s} {a} {b} {c} {d} {kind} {outer} {closed} ts h o t none k same of_shape readable =
     let order = whole_in_order kind ts h o in
     let all = content (Tree.list kind ts) in
-    let taken : Takes (unordered b) (unordered c) all = subst (Takes (unordered b) (unordered c)) (sym (bytes_of-content kind ts order)) t in
-    let within : Takes (narrowed h.mid h.len Soft) (unordered c) all = subst (λ z. Takes (unordered z) (unordered c) all) h.opened taken in
-    let closes : Closes closed (unordered c) d = record { reached = k.reached; had_not_failed = k.had_not_failed; same = k.same } in
+    let taken : Takes (without_order b) (without_order c) all = subst (Takes (without_order b) (without_order c)) (sym (bytes_of-content kind ts order)) t in
+    let within : Takes (with_inner_end h.mid h.len Soft) (without_order c) all = subst (λ z. Takes (without_order z) (without_order c) all) h.opened taken in
+    let closes : Closes closed (without_order c) d = record { reached = k.reached; had_not_failed = k.had_not_failed; same = k.same } in
     let p = closes_behind h.begins.fits (same ∙ h.around) within closes in
     record {
       of_shape = of_shape;

@@ -12,7 +12,7 @@ use Rattle.picky_der_core.specs.Reader.{TellsFault}
 use Rattle.picky_der_core.specs.Shape.{Shape}
 use Rattle.picky_der_core.specs.Reading.{Place, StandsAt}
 use Rattle.picky_der_input.specs.State.{State}
-use Rattle.picky_der_input.specs.Steps.{Takes, Fails, IsJudged, IsMissing, drawn, reach, place_in, place_of}
+use Rattle.picky_der_input.specs.Steps.{Takes, Fails, IsJudged, IsMissing, drawn_count, reach, place_in, place_of}
 use Rattle.picky_der_input.specs.Reading.{Concerns, now, ever, Refuses}
 use Rattle.picky_der_input.specs.LookAhead.{Peeks, IdentifiesIn, Identifies, RefusesIdentifier}
 use Rattle.picky_der_input.proofs.Steps.{there_after}
@@ -47,7 +47,7 @@ module _ {a b : State} {x : ℕ} (p : Peeks a b x) where
   one_peeked : count_of_any b.peeked ≡ 1
   one_peeked = ap (λ (s : State). count_of_any s.peeked) p.same
 
-  draws_more : drawn a ≤ drawn b
+  draws_more : drawn_count a ≤ drawn_count b
   draws_more = omega (arith, at_most_one a.peeked, one_peeked, still_taken)
 
   consumes_behind : (i : Option (List ℕ)) (bytes : List ℕ) → Consumes b.input i bytes → Consumes a.input i bytes
@@ -81,7 +81,7 @@ module _ {a b : State} {x : ℕ} (p : Peeks a b x) where
     end = omega (arith, f.end, still_taken, still_room);
     limit = f.limit ∙ still_limit;
     within = λ w. f.within (record { end = omega (arith, w.end, still_taken, still_room, still_limit); drawn = omega (arith, w.end, p.ahead, one_peeked, still_taken, still_limit) });
-    there = λ w. there_after a.input b.input [] a.taken b.taken (drawn c) (keeps_consumes a.input b.input p.input) (omega (arith, still_taken)) (f.there not_failed);
+    there = λ w. there_after a.input b.input [] a.taken b.taken (drawn_count c) (keeps_consumes a.input b.input p.input) (omega (arith, still_taken)) (f.there not_failed);
     references = f.references ∙ ap (λ (s : State). s.references) p.same;
   }
 

@@ -3,7 +3,7 @@
 use Rattle.std.proofs.Common.{◌≡◌, ◌<◌, ◌∷◌, ◌++◌, None, sym, ◌∙◌, ap, subst, arith}
 use Rattle.picky_der_core.specs.declared.error.Asn1DerError.{Asn1DerError}
 use Rattle.picky_der_core.specs.Tree.{ListKind, Tree, Trees}
-use Rattle.picky_der_core.specs.Encoding.{written, der, encodings, list_tag}
+use Rattle.picky_der_core.specs.Encoding.{tree_bytes, der, encodings, list_tag}
 use Rattle.picky_der_core.specs.Readable.{IsReadable, AreReadable}
 use Rattle.picky_der_core.specs.Shape.{Shape, Shapes, IsOf, IsFirst}
 use Rattle.picky_der_core.specs.Reading.{written_at, MayStand}
@@ -14,7 +14,7 @@ use Rattle.picky_der_input.specs.Reading.{Reads, Refuses}
 use Rattle.picky_der_input.specs.Ends.{Outer, RefusesClose, OpensList, RefusesList}
 use Rattle.picky_der_de.specs.Members.{ReadsMember, RefusesMember, HasNoMore, bytes_of, StandUpToEnd, ReadsRow}
 use Rattle.picky_der_input.proofs.Order.{fails_behind, judged_behind}
-use Rattle.picky_der_de.proofs.Members.{bytes_of-more, takes_member, member_direct, member_ahead, next_order, next_up_to_end, no_member, none_left, list_refused, list_unopened}
+use Rattle.picky_der_de.proofs.Members.{bytes_of-more, takes_member, member_not_implicit, member_ahead, next_order, next_up_to_end, no_member, none_left, list_refused, list_unopened}
 use Rattle.picky_der_de.proofs.Rows.{row_none, row_read}
 
 -- the members behind the first one
@@ -51,7 +51,7 @@ module _ {V : Type 0} {members : V → Trees} {kind : ListKind} {s : Shape} {a :
 
 -- the first member written as another is
 encodings-as : (t u : Tree) (ts : Trees) → der t ≡ der u → encodings (Trees.more t ts) ≡ encodings (Trees.more u ts)
-unfolding der written
+unfolding der tree_bytes
 encodings-as t u ts same = ap (λ m. m ∷ encodings ts) same
 
 first_refused : {W : Type 0} {meaning : W → Tree} {s : Shape} {c d : State} {e : Asn1DerError} (ts : Trees) → RefusesMember meaning s c d e → IsJudged c d e → Unread meaning s (IsAhead c) ts → AreInOrder c.sets (encodings ts) → StandUpToEnd c d e (bytes_of ts) → ⊥
@@ -113,7 +113,7 @@ member_as {b = b} {c = c} {t = t} u of_shape readable same r = record {
 
 -- a member was read, and it may be the last one
 pub row_last : {s : Shape} {b c : State} {t : Tree} → ReadsMember s b c t → ReadsRow (Shapes.more s Shapes.none) b c (Trees.more t Trees.none)
-row_last r = row_read r (row_none (takes_member r).not_failed (takes_member r).unpeeked (member_direct r))
+row_last r = row_read r (row_none (takes_member r).not_failed (takes_member r).unpeeked (member_not_implicit r))
 
 -- a member was read, and there was no more
 pub row_ended : {s : Shape} {b c d : State} {t : Tree} → ReadsMember s b c t → HasNoMore c d → ReadsRow (Shapes.more s Shapes.none) b d (Trees.more t Trees.none)

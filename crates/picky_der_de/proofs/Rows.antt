@@ -8,7 +8,7 @@ use Rattle.picky_der_core.specs.Readable.{AreReadable}
 use Rattle.picky_der_core.specs.Shape.{Shape, Shapes, IsFirst, AreOf}
 use Rattle.picky_der_input.specs.State.{State}
 use Rattle.picky_der_input.specs.Steps.{Takes}
-use Rattle.picky_der_input.specs.Order.{unordered}
+use Rattle.picky_der_input.specs.Order.{without_order}
 use Rattle.picky_der_input.specs.Reading.{Reads, Refuses}
 use Rattle.picky_der_input.specs.Ends.{Outer, Closes, RefusesClose, OpensList, RefusesList}
 use Rattle.picky_der_de.specs.Members.{ReadsMember, RefusesMember, bytes_of, ReadsRow, RefusesRow}
@@ -80,7 +80,7 @@ row_none {c = c} f p d = record {
   of_shape = tt;
   readable = tt;
   order = no_members_in_order c.sets;
-  takes = subst (Takes (unordered c) (unordered c)) (sym bytes_of-none) (takes_none (unordered c) f p);
+  takes = subst (Takes (without_order c) (without_order c)) (sym bytes_of-none) (takes_none (without_order c) f p);
   implicit_tag = d;
 }
 
@@ -90,7 +90,7 @@ row_read {b = b} {d = d} {t = t} {ts = ts} r h = record {
   of_shape = (r.reads.of_shape, h.of_shape);
   readable = (r.reads.readable, h.readable);
   order = members_lead ts r h.order;
-  takes = subst (Takes (unordered b) (unordered d)) (sym (bytes_of-more t ts)) (takes_then (takes_member r) h.takes);
+  takes = subst (Takes (without_order b) (without_order d)) (sym (bytes_of-more t ts)) (takes_then (takes_member r) h.takes);
   implicit_tag = h.implicit_tag;
 }
 

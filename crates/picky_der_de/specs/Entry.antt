@@ -36,8 +36,8 @@ pub record Reader : Type 0 where
   pub input : Option (List ℕ)
   pub faults : List Fault
 
-abbrev pub seen : {R : Type 0} → (R → Option (List ℕ)) → (R → List Fault) → R → Reader
-seen remaining faults r = record { input = remaining r; faults = faults r }
+abbrev pub view_of : {R : Type 0} → (R → Option (List ℕ)) → (R → List Fault) → R → Reader
+view_of remaining faults r = record { input = remaining r; faults = faults r }
 
 -- just the value's encoding was drawn, and of a known input it is the value at the front
 pub record ReadsFront {V : Type 0} (meaning : V → Tree) (s : Shape) (eq : V → V → Bool) (limit : ℕ) (old new : Reader) (v : V) : Type 0 where

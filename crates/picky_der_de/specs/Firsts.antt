@@ -4,7 +4,7 @@ use Rattle.std.proofs.Common.{inl, inr, subst, sym}
 use Rattle.picky_der_core.specs.Tag.{number_of}
 use Rattle.picky_der_core.specs.Element.{tlv}
 use Rattle.picky_der_core.specs.Tree.{Tree}
-use Rattle.picky_der_core.specs.Encoding.{written, der, list_tag}
+use Rattle.picky_der_core.specs.Encoding.{tree_bytes, der, list_tag}
 use Rattle.picky_der_core.specs.EncodingLaws.{is_absent-readable, around-present}
 use Rattle.picky_der_core.specs.Readable.{IsReadable}
 use Rattle.picky_der_core.specs.Shape.{Shape, Shapes, IsOf, IsOneOf, firsts, has, tags_below, tag_with_number, AreBytes, IsBoolean, IsUnsigned, IsNull, IsText, IsCharacter, IsBytes, IsRaw, IsList, IsOptional, IsOctetContainer, IsBitContainer, IsExplicit, IsImplicit, IsApplication, IsChoice}
@@ -41,7 +41,7 @@ BytesIn (Tree.choice t) = BytesIn t
 BytesIn _ = ⊤
 
 pub begins_in_own : (t : Tree) → IsReadable t → BytesIn t → BeginsIn (firsts_in t) t
-unfolding der written tlv
+unfolding der tree_bytes tlv
 begins_in_own (Tree.boolean b) r k = begins_headed _ _ _ (Tree.boolean b) refl refl
 begins_in_own (Tree.unsigned n) r k = begins_headed _ _ _ (Tree.unsigned n) refl refl
 begins_in_own Tree.null r k = begins_headed _ _ _ Tree.null refl refl

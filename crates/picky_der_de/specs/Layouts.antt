@@ -8,7 +8,7 @@ use Rattle.picky_der_core.specs.Readable.{AreReadable}
 use Rattle.picky_der_core.specs.Shape.{Shape, Layout, IsFirst, AreMembersOf, AreMembersTold}
 use Rattle.picky_der_input.specs.State.{State}
 use Rattle.picky_der_input.specs.Steps.{Takes, Fails, IsJudged}
-use Rattle.picky_der_input.specs.Order.{AreInOrder, unordered}
+use Rattle.picky_der_input.specs.Order.{AreInOrder, without_order}
 use Rattle.picky_der_input.specs.Refusing.{FailsAs}
 use Rattle.picky_der_input.specs.LookAhead.{Peeks, Identifies, RefusesIdentifier}
 use Rattle.picky_der_de.specs.Firsts.{IsBegunBy}
@@ -57,7 +57,7 @@ pub data Rests (old new : State) : Type 0 where
 -- these bytes were taken, and at most a look at the byte behind them
 pub record Passes (old new : State) (bytes : List ℕ) : Type 0 where
   pub mid : State
-  pub takes : Takes (unordered old) (unordered mid) bytes
+  pub takes : Takes (without_order old) (without_order mid) bytes
   pub rests : Rests mid new
 
 -- These members were read. Where something is left behind them, no members stand there that reach up to the end.

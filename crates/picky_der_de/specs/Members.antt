@@ -1,15 +1,18 @@
 -- What reading the members of a sequence or set does.
-use Rattle.std.specs.Prelude.{◌≡◌, ◌≤◌, ℕ, List, ◌++◌, length, map, None}
+use Rattle.std.specs.Prelude.{◌≡◌, ◌≤◌, ◌+◌, ℕ, List, [], ◌∷◌, ◌++◌, length, map, Some, None, IfSome}
 use Rattle.std.specs.List.{concat}
 use Rattle.picky_der_core.specs.declared.error.Asn1DerError.{Asn1DerError}
+use Rattle.picky_der_core.specs.declared.error.Asn1DerError.TheVariants.{InvalidData}
+use Rattle.picky_der_core.specs.Order.{IsAscending}
 use Rattle.picky_der_core.specs.Tree.{Tree, Trees, trees}
 use Rattle.picky_der_core.specs.Encoding.{der, encodings}
 use Rattle.picky_der_core.specs.Readable.{AreReadable}
 use Rattle.picky_der_core.specs.Shape.{Shape, Shapes, IsOf, AreOf, EachIs}
 use Rattle.picky_der_input.specs.declared.end.End.TheVariants.{Soft}
 use Rattle.picky_der_input.specs.State.{State}
-use Rattle.picky_der_input.specs.Steps.{Takes, Fails, IsJudged}
-use Rattle.picky_der_input.specs.Order.{AreInOrder, unordered, Follows, RefusesTest}
+use Rattle.picky_der_input.specs.Steps.{Takes, Fails, IsJudged, failed_with}
+use Rattle.picky_der_input.specs.Headers.{header_bytes}
+use Rattle.picky_der_input.specs.Order.{AreInOrder, without_order, Follows, RefusesTest}
 use Rattle.picky_der_input.specs.Reading.{Reads, Refuses, Concerns}
 
 -- ---- one member
@@ -63,7 +66,7 @@ pub record ReadsRow (ss : Shapes) (old new : State) (ts : Trees) : Type 0 where
   pub of_shape : AreOf ss ts
   pub readable : AreReadable ts
   pub order : AreInOrder old.sets (encodings ts)
-  pub takes : Takes (unordered old) (unordered new) (bytes_of ts)
+  pub takes : Takes (without_order old) (without_order new) (bytes_of ts)
   pub implicit_tag : new.implicit_tag ≡ None
 
 -- no values stand there as members, whatever is behind them
@@ -77,12 +80,52 @@ pub record ReadsAll {V : Type 0} (meaning : V → Tree) (s : Shape) (old new : S
   pub of_shape : EachIs (IsOf s) (trees (map meaning vs))
   pub readable : AreReadable (trees (map meaning vs))
   pub order : AreInOrder old.sets (encodings (trees (map meaning vs)))
-  pub takes : Takes (unordered old) (unordered new) (bytes_of (trees (map meaning vs)))
+  pub takes : Takes (without_order old) (without_order new) (bytes_of (trees (map meaning vs)))
   pub implicit_tag : new.implicit_tag ≡ None
   pub reached : new.until_end ≡ 0
 
--- no values stand there as members up to the end, as many as there may be
+-- these values are in this order, and with one more they aren't: its encoding is less than that of the one before it
+pub record BreaksOrder {V : Type 0} (meaning : V → Tree) (s : Shape) (order : List (List ℕ) → Type 0) (vs : List V) (v : V) : Type 0 where
+  pub of_shape : EachIs (IsOf s) (trees (map meaning (vs ++ v ∷ [])))
+  pub readable : AreReadable (trees (map meaning (vs ++ v ∷ [])))
+  pub in_order : order (encodings (trees (map meaning vs)))
+  pub broken : order (encodings (trees (map meaning (vs ++ v ∷ [])))) → ⊥
+
+-- these bytes were taken, and what stands in them was refused for its order
+pub record RefusesTaken (old new : State) (e : Asn1DerError) (bytes : List ℕ) : Type 0 where
+  pub mid : State
+  pub takes : Takes (without_order old) (without_order mid) bytes
+  pub error : e ≡ InvalidData
+  pub same : new ≡ failed_with mid e
+
+-- No values stand there as members up to the end, as many as there may be. Where one breaks the order of those before it, it
+-- was refused for that as soon as it was read.
 pub record RefusesAll {V : Type 0} (meaning : V → Tree) (s : Shape) (old new : State) (e : Asn1DerError) : Type 0 where
   pub fails : Fails old new e
+  pub lesser : IsJudged old new e → (vs : List V) (v : V) → BreaksOrder meaning s (AreInOrder old.sets) vs v → StandBefore old new e (bytes_of (trees (map meaning (vs ++ v ∷ []))))
+      → RefusesTaken old new e (bytes_of (trees (map meaning (vs ++ v ∷ []))))
   pub none : IsJudged old new e → (vs : List V) → EachIs (IsOf s) (trees (map meaning vs)) → AreReadable (trees (map meaning vs)) → AreInOrder old.sets (encodings (trees (map meaning vs)))
       → StandUpToEnd old new e (bytes_of (trees (map meaning vs))) → ⊥
+
+-- ---- sets out of order
+
+-- Known bytes begin with the header of a set, which directly under an implicit tag was that tag's, and behind it with these
+-- bytes of its content.
+pub record BeginsSet (old : State) (bs members rest : List ℕ) : Type 0 where
+  pub len : ℕ
+  pub begins : bs ≡ header_bytes old.implicit_tag 0x31 len ++ (members ++ rest)
+  pub all : IfSome old.implicit_tag (λ number. len ≡ old.until_end)
+  pub fits : length (header_bytes old.implicit_tag 0x31 len) + len ≤ old.until_end
+  pub within : length members ≤ len
+
+-- it was refused with `InvalidData`, and this is left behind what was drawn
+pub record IsRefusedBefore (rest : List ℕ) (new : State) (e : Asn1DerError) : Type 0 where
+  pub error : e ≡ InvalidData
+  pub input : new.input ≡ Some rest
+  pub unpeeked : new.peeked ≡ None
+
+-- the first member of a set whose encoding is less than that of the one before it is refused, and no byte behind it is drawn
+abbrev pub RefusesUnordered : {V : Type 0} → (V → Tree) → Shape → State → State → Asn1DerError → Type 0
+RefusesUnordered {V} meaning s old new e =
+    IsJudged old new e → (vs : List V) (v : V) → BreaksOrder meaning s IsAscending vs v
+    → (bs rest : List ℕ) → old.input ≡ Some bs → BeginsSet old bs (bytes_of (trees (map meaning (vs ++ v ∷ [])))) rest → IsRefusedBefore rest new e

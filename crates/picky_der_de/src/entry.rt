@@ -1,6 +1,6 @@
 //! Whole values, read from slices and readers.
 ghost use Rattle.std.specs.Prelude.{◌≡◌, length, IfOk, IfErr};
-ghost use Rattle.picky_der_de.specs.Entry.{IsFront, HasNoFront, ReadsFront, RefusesFront, seen};
+ghost use Rattle.picky_der_de.specs.Entry.{IsFront, HasNoFront, ReadsFront, RefusesFront, view_of};
 
 use crate::{Deserialize, Deserializer};
 use picky_der_core::Result;
@@ -13,9 +13,9 @@ pub const DEFAULT_MAX_LEN: usize = 10240;
 // The value at the front of what a reader has left, and the reader.
 fn read_from<T: Deserialize, R: ReadExt>(alloc: Global, reader: R, max_len: usize) -> (Result<T>, R)
     ensures ok { IfOk result.0 (ReadsFront T.meaning T.shape T.eq max_len
-        (seen R.remaining R.faults reader) (seen R.remaining R.faults result.1)) }
+        (view_of R.remaining R.faults reader) (view_of R.remaining R.faults result.1)) }
     ensures err { IfErr result.0 (RefusesFront T.meaning T.shape max_len
-        (seen R.remaining R.faults reader) (seen R.remaining R.faults result.1)) }
+        (view_of R.remaining R.faults reader) (view_of R.remaining R.faults result.1)) }
     ensures same_references { R.references result.1 ≡ R.references reader }
 {
     let mut de = Deserializer::new_from_reader(alloc, reader, max_len);
@@ -43,9 +43,9 @@ pub fn from_bytes<T: Deserialize>(alloc: Global, bytes: &[u8]) -> Result<T>
 /// What was drawn by then isn't given back.
 pub fn from_reader<T: Deserialize, R: ReadExt>(alloc: Global, reader: &mut R) -> Result<T>
     ensures ok { IfOk result (ReadsFront T.meaning T.shape T.eq 10240
-        (seen R.remaining R.faults reader.old) (seen R.remaining R.faults reader.new)) }
+        (view_of R.remaining R.faults reader.old) (view_of R.remaining R.faults reader.new)) }
     ensures err { IfErr result (RefusesFront T.meaning T.shape 10240
-        (seen R.remaining R.faults reader.old) (seen R.remaining R.faults reader.new)) }
+        (view_of R.remaining R.faults reader.old) (view_of R.remaining R.faults reader.new)) }
     ensures same_references { R.references reader.new ≡ R.references reader.old }
 {
     from_reader_with_max_len(alloc, reader, DEFAULT_MAX_LEN)
@@ -58,9 +58,9 @@ pub fn from_reader_with_max_len<T: Deserialize, R: ReadExt>(
     max_len: usize,
 ) -> Result<T>
     ensures ok { IfOk result (ReadsFront T.meaning T.shape T.eq max_len
-        (seen R.remaining R.faults reader.old) (seen R.remaining R.faults reader.new)) }
+        (view_of R.remaining R.faults reader.old) (view_of R.remaining R.faults reader.new)) }
     ensures err { IfErr result (RefusesFront T.meaning T.shape max_len
-        (seen R.remaining R.faults reader.old) (seen R.remaining R.faults reader.new)) }
+        (view_of R.remaining R.faults reader.old) (view_of R.remaining R.faults reader.new)) }
     ensures same_references { R.references reader.new ≡ R.references reader.old }
 {
     let (result, _reader) = read_from::<T, &mut R>(alloc, reader, max_len);

@@ -4,7 +4,7 @@ ghost use Rattle.picky_der_core.specs.Encoding.{der};
 ghost use Rattle.picky_der_input.specs.LookAhead.{HasEnded};
 ghost use Rattle.picky_der_input.specs.Reading.{Reads, Refuses};
 ghost use Rattle.picky_der_input.specs.Steps.{IsJudged};
-ghost use Rattle.picky_der_de.specs.Entry.{IsFront, HasNoFront, ReadsFront, HasNoneLeft, RefusesNextValue, seen};
+ghost use Rattle.picky_der_de.specs.Entry.{IsFront, HasNoFront, ReadsFront, HasNoneLeft, RefusesNextValue, view_of};
 
 use crate::{Deserialize, Deserializer, from_reader_with_max_len};
 use picky_der_core::Result;
@@ -57,13 +57,13 @@ fn read_next_from<T: Deserialize, R: ReadExt>(
     max_len: usize,
 ) -> (Result<Option<T>>, R)
     ensures value { IfOk result.0 (λ next. IfSome next
-        (ReadsFront T.meaning T.shape T.eq max_len (seen R.remaining R.faults reader)
-        (seen R.remaining R.faults result.1))) }
+        (ReadsFront T.meaning T.shape T.eq max_len (view_of R.remaining R.faults reader)
+        (view_of R.remaining R.faults result.1))) }
     ensures ended { IfOk result.0 (λ next. IfNone next
-        (HasNoneLeft max_len (seen R.remaining R.faults reader)
-        (seen R.remaining R.faults result.1))) }
+        (HasNoneLeft max_len (view_of R.remaining R.faults reader)
+        (view_of R.remaining R.faults result.1))) }
     ensures err { IfErr result.0 (RefusesNextValue T.meaning T.shape max_len
-        (seen R.remaining R.faults reader) (seen R.remaining R.faults result.1)) }
+        (view_of R.remaining R.faults reader) (view_of R.remaining R.faults result.1)) }
     ensures same_references { R.references result.1 ≡ R.references reader }
 {
     let mut de = Deserializer::new_from_reader(alloc, reader, max_len);
@@ -82,13 +82,13 @@ pub fn next_from_reader<T: Deserialize, R: ReadExt>(
     max_len: usize,
 ) -> Result<Option<T>>
     ensures value { IfOk result (λ next. IfSome next
-        (ReadsFront T.meaning T.shape T.eq max_len (seen R.remaining R.faults reader.old)
-        (seen R.remaining R.faults reader.new))) }
+        (ReadsFront T.meaning T.shape T.eq max_len (view_of R.remaining R.faults reader.old)
+        (view_of R.remaining R.faults reader.new))) }
     ensures ended { IfOk result (λ next. IfNone next
-        (HasNoneLeft max_len (seen R.remaining R.faults reader.old)
-        (seen R.remaining R.faults reader.new))) }
+        (HasNoneLeft max_len (view_of R.remaining R.faults reader.old)
+        (view_of R.remaining R.faults reader.new))) }
     ensures err { IfErr result (RefusesNextValue T.meaning T.shape max_len
-        (seen R.remaining R.faults reader.old) (seen R.remaining R.faults reader.new)) }
+        (view_of R.remaining R.faults reader.old) (view_of R.remaining R.faults reader.new)) }
     ensures same_references { R.references reader.new ≡ R.references reader.old }
 {
     let (next, _reader) = read_next_from::<T, &mut R>(alloc, reader, max_len);

@@ -15,10 +15,10 @@ use Rattle.picky_der_core.specs.FirstLaws.{has-tags_below}
 use Rattle.picky_der_core.specs.Reading.{Place, written_at, MayStand, StandsAt}
 use Rattle.picky_der_core.specs.Refusal.{Refusal, bytes_fault, plain_refusal, element_refusal}
 use Rattle.picky_der_input.specs.State.{State}
-use Rattle.picky_der_input.specs.Steps.{Takes, TakesBytes, Fails, StopsShort, IsMissing, IsJudged, failed_with, is_hard, place_in, place_of, drawn}
+use Rattle.picky_der_input.specs.Steps.{Takes, TakesBytes, Fails, StopsShort, IsMissing, IsJudged, failed_with, is_hard, place_in, place_of, drawn_count}
 use Rattle.picky_der_input.specs.Reading.{Concerns, now, ever, IsJustRefused, RefusesPlain, refusal_at}
 use Rattle.picky_der_input.specs.Headers.{BeginsContent, RefusesContentLength}
-use Rattle.picky_der_input.specs.Elements.{raw_refusal, given_up, BeginsElement, ReadsRaw, RefusesRaw}
+use Rattle.picky_der_input.specs.Elements.{raw_refusal, without_implicit_tag, BeginsElement, ReadsRaw, RefusesRaw}
 use Rattle.picky_der_input.proofs.Steps.{fails_after}
 use Rattle.picky_der_input.proofs.Refusals.{behind, failed_grows, missing_here, missing_first, taken_first}
 use Rattle.picky_der_input.proofs.Known.{front_of, just_taken, just_missing}
@@ -28,7 +28,7 @@ use Rattle.picky_der_input.specs.PlainKindLaws.{bytes_kind}
 
 -- ---- the special reading is given up
 
-given_up_takes : {a c : State} {bs : List ℕ} → Takes (given_up a) c bs → Takes a c bs
+given_up_takes : {a c : State} {bs : List ℕ} → Takes (without_implicit_tag a) c bs → Takes a c bs
 given_up_takes t = record {
   input = t.input;
   taken = t.taken;
@@ -44,7 +44,7 @@ given_up_takes t = record {
   references = t.references;
 }
 
-given_up_fails : {a c : State} {e : Asn1DerError} → Fails (given_up a) c e → Fails a c e
+given_up_fails : {a c : State} {e : Asn1DerError} → Fails (without_implicit_tag a) c e → Fails a c e
 given_up_fails f = record {
   failed = f.failed;
   again = λ k w. let q = f.again k w in (q.0, record { input = q.1.input; taken = q.1.taken; peeked = q.1.peeked; faults = q.1.faults });
@@ -60,14 +60,14 @@ given_up_fails f = record {
   references = f.references;
 }
 
-given_up_judged : {a c : State} {e : Asn1DerError} → IsJudged a c e → IsJudged (given_up a) c e
+given_up_judged : {a c : State} {e : Asn1DerError} → IsJudged a c e → IsJudged (without_implicit_tag a) c e
 given_up_judged j = record { had_not_failed = j.had_not_failed; faults = j.faults; memory = j.memory }
 
-given_up_concerns : {a c : State} {e : Asn1DerError} {end : ℕ} {bs : List ℕ} → Concerns a c e end bs → Concerns (given_up a) c e end bs
+given_up_concerns : {a c : State} {e : Asn1DerError} {end : ℕ} {bs : List ℕ} → Concerns a c e end bs → Concerns (without_implicit_tag a) c e end bs
 given_up_concerns (now i r) = now i r
 given_up_concerns (ever w r d y left i q f) = ever w r d y left i q f
 
-given_up_just : {refusal : List ℕ → Option Refusal} {a c : State} {e : Asn1DerError} {bs : List ℕ} → IsJustRefused refusal (given_up a) c e bs → IsJustRefused refusal a c e bs
+given_up_just : {refusal : List ℕ → Option Refusal} {a c : State} {e : Asn1DerError} {bs : List ℕ} → IsJustRefused refusal (without_implicit_tag a) c e bs → IsJustRefused refusal a c e bs
 given_up_just h = record { left = h.left; refused = h.refused; input = h.input; kept = h.kept; used = h.used }
 
 -- ---- elements and their tags
@@ -118,8 +118,8 @@ first_of_raw tag n l = has-tags_below tag 256 l n
 -- ---- refused
 
 -- bytes under the tag that was taken were refused
-refuses_tagged : {a b c : State} {e : Asn1DerError} {tag : ℕ} {x : List ℕ} → Takes (given_up a) b (tag ∷ x) → b.taken ≤ drawn c → IsTagNumber (number_of tag) → tag < 256
-    → RefusesPlain (Tree.bytes tag) tag bytes_fault (Shape.bytes tag) (given_up a) c e → RefusesRaw a c e
+refuses_tagged : {a b c : State} {e : Asn1DerError} {tag : ℕ} {x : List ℕ} → Takes (without_implicit_tag a) b (tag ∷ x) → b.taken ≤ drawn_count c → IsTagNumber (number_of tag) → tag < 256
+    → RefusesPlain (Tree.bytes tag) tag bytes_fault (Shape.bytes tag) (without_implicit_tag a) c e → RefusesRaw a c e
 refuses_tagged {a} {b} {c} {e} {tag} {x} t g n byte h = record {
   refuses = record {
     fails = given_up_fails h.refuses.fails;
@@ -134,7 +134,7 @@ refuses_tagged {a} {b} {c} {e} {tag} {x} t g n byte h = record {
       let f = front_of t k in
       record {
         left = q.left;
-        refused = ap (raw_refusal a) f.before ∙ element_plain tag (is_hard a.end) a.until_end (x ++ take b.until_end f.rest) n ∙ ap (refusal_at tag bytes_fault (given_up a)) (sym f.before) ∙ q.refused;
+        refused = ap (raw_refusal a) f.before ∙ element_plain tag (is_hard a.end) a.until_end (x ++ take b.until_end f.rest) n ∙ ap (refusal_at tag bytes_fault (without_implicit_tag a)) (sym f.before) ∙ q.refused;
         input = q.input;
         kept = q.kept;
         used = q.used;
@@ -142,12 +142,12 @@ refuses_tagged {a} {b} {c} {e} {tag} {x} t g n byte h = record {
 }
 
 -- no byte came
-pub raw_missing : {a c : State} {e : Asn1DerError} → Fails (given_up a) c e → (IsJudged a c e → IsMissing (given_up a) e) → Keeps a.input c.input → c.taken ≡ a.taken → c.peeked ≡ a.peeked → RefusesRaw a c e
+pub raw_missing : {a c : State} {e : Asn1DerError} → Fails (without_implicit_tag a) c e → (IsJudged a c e → IsMissing (without_implicit_tag a) e) → Keeps a.input c.input → c.taken ≡ a.taken → c.peeked ≡ a.peeked → RefusesRaw a c e
 raw_missing {a} {c} {e} f m i t p = record {
   refuses = record {
     fails = given_up_fails f;
     none = λ j end bs w s st. none j w s st;
-    first = λ j k d l b left q. absurd (missing_first (given_up a) (m j) l q);
+    first = λ j k d l b left q. absurd (missing_first (without_implicit_tag a) (m j) l q);
   };
   just = λ j bs k. given_up_just (just_missing (raw_refusal a) (m j) i t p k (λ is. ap (λ x. Some (x, [])) is));
 } where
@@ -162,7 +162,7 @@ raw_missing {a} {c} {e} f m i t p = record {
       ]
 
 -- a tag of the long form was taken
-pub raw_long_form : {a b c : State} {e : Asn1DerError} {first : ℕ} → Takes (given_up a) b (first ∷ []) → 30 < number_of first → Fails b c e → e ≡ UnsupportedValue → c ≡ failed_with b e → RefusesRaw a c e
+pub raw_long_form : {a b c : State} {e : Asn1DerError} {first : ℕ} → Takes (without_implicit_tag a) b (first ∷ []) → 30 < number_of first → Fails b c e → e ≡ UnsupportedValue → c ≡ failed_with b e → RefusesRaw a c e
 raw_long_form {a} {first = first} t past f is same = record {
   refuses = record {
     fails = given_up_fails (fails_after t f);
@@ -176,12 +176,12 @@ raw_long_form {a} {first = first} t past f is same = record {
 }
 
 -- the length behind the tag was refused
-pub raw_no_length : {a b c : State} {e : Asn1DerError} {tag : ℕ} → Takes (given_up a) b (tag ∷ []) → IsTagNumber (number_of tag) → tag < 256 → a.until_end < 2 ^ 64 → RefusesContentLength b c e → RefusesRaw a c e
+pub raw_no_length : {a b c : State} {e : Asn1DerError} {tag : ℕ} → Takes (without_implicit_tag a) b (tag ∷ []) → IsTagNumber (number_of tag) → tag < 256 → a.until_end < 2 ^ 64 → RefusesContentLength b c e → RefusesRaw a c e
 raw_no_length {tag = tag} t n byte bounded r =
     let h = header_unread tag n t r in
     refuses_tagged t (failed_grows r.fails) n byte (refuses_header (bytes_kind tag n) (record { fails = h.fails; header = λ j. (refl, h); bounded = λ w. bounded }))
 
-begins_tagged : {a b : State} {tag n : ℕ} → BeginsElement a b tag n → BeginsContent tag (given_up a) b n
+begins_tagged : {a b : State} {tag n : ℕ} → BeginsElement a b tag n → BeginsContent tag (without_implicit_tag a) b n
 begins_tagged h = record { takes = h.takes; implicit_tag = h.implicit_tag; fits = h.fits; all = tt; bounded = h.bounded }
 
 -- the content ended before it was whole
@@ -213,5 +213,5 @@ reads_raw {a} {b} {c} {tag} {n} {content} {all} h t d is =
       };
       no_refusal = λ bs k.
           let f = front_of h.takes k in
-          ap (raw_refusal a) f.before ∙ element_plain tag (is_hard a.end) a.until_end (len n ++ take b.until_end f.rest) h.number ∙ ap (refusal_at tag bytes_fault (given_up a)) (sym f.before) ∙ plain.no_refusal bs k;
+          ap (raw_refusal a) f.before ∙ element_plain tag (is_hard a.end) a.until_end (len n ++ take b.until_end f.rest) h.number ∙ ap (refusal_at tag bytes_fault (without_implicit_tag a)) (sym f.before) ∙ plain.no_refusal bs k;
     }

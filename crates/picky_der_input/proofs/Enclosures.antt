@@ -15,7 +15,7 @@ use Rattle.picky_der_core.specs.Readable.{IsReadable}
 use Rattle.picky_der_core.specs.Reading.{written_at, MayStand}
 use Rattle.picky_der_core.specs.Refusal.{Refusal, Outcome, header, header_refusal, refusal_of}
 use Rattle.picky_der_core.specs.Shape.{Shape, IsOf, IsFirst}
-use Rattle.picky_der_core.specs.Wrapper.{held}
+use Rattle.picky_der_core.specs.Wrapper.{wrapped_content}
 use Rattle.picky_der_core.specs.WrapperLaws.{der-wrap, wrapper_tag_number}
 use Rattle.picky_der_input.specs.declared.enclosure.Enclosure.{Enclosure}
 use Rattle.picky_der_input.specs.declared.enclosure.Enclosure.TheVariants as enclosure
@@ -86,7 +86,7 @@ written_whole (Some k) until_end (enclosure.Wrapper (Explicit n)) t = inside-oth
 written_whole (Some k) until_end (enclosure.Wrapper (Implicit n)) t = inside-other (Tree.implicit n t) refl tt
 written_whole (Some k) until_end (enclosure.Application n) t = inside-other (Tree.application n t) refl tt
 
-held_is : (w : Wrapper) (t : Tree) (until_end : ℕ) → held w t ≡ unused_bits (enclosure.Wrapper w) ++ written_at (place_in (implicit_number (enclosure.Wrapper w)) until_end) t
+held_is : (w : Wrapper) (t : Tree) (until_end : ℕ) → wrapped_content w t ≡ unused_bits (enclosure.Wrapper w) ++ written_at (place_in (implicit_number (enclosure.Wrapper w)) until_end) t
 held_is OctetContainer t until_end = refl
 held_is BitContainer t until_end = refl
 held_is (Explicit n) t until_end = refl

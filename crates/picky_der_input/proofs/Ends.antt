@@ -7,11 +7,11 @@ use Rattle.picky_der_input.specs.declared.end.End.{End}
 use Rattle.picky_der_input.specs.declared.end.End.TheVariants.{Soft}
 use Rattle.picky_der_input.specs.State.{State}
 use Rattle.picky_der_input.specs.Steps.{Takes, Fails, IsJudged, far, is_hard}
-use Rattle.picky_der_input.specs.Order.{order_of, entered, cut_at}
+use Rattle.picky_der_input.specs.Order.{order_of, sets_inside, cut_at}
 use Rattle.picky_der_input.proofs.Order.{put_back}
 use Rattle.picky_der_input.specs.Reading.{Concerns, now, ever}
 use Rattle.picky_der_input.specs.Headers.{header_bytes, BeginsContent}
-use Rattle.picky_der_input.specs.Ends.{Outer, innermost, narrowed, Closes, OpensList, list_refusal_in, list_refusal}
+use Rattle.picky_der_input.specs.Ends.{Outer, innermost, with_inner_end, Closes, OpensList, list_refusal_in, list_refusal}
 use Rattle.picky_der_input.proofs.Known.{front_of}
 use Rattle.picky_der_input.proofs.Headers.{header-read}
 use Rattle.picky_der_input.proofs.PlainReads.{fits_below}
@@ -29,7 +29,7 @@ not_refused {tag} {n} {a} {b} i h k =
     ap (list_refusal tag a) f.before ∙ header_not_refused a.implicit_tag tag n b.until_end a (take b.until_end f.rest) i (fits_below h) h.takes.until_end h.fits
 
 -- the end of a list was opened behind its header
-pub opens_list : {tag n : ℕ} {a b c : State} {outer : Outer} → IsTagNumber (number_of tag) → BeginsContent tag a b n → c ≡ record (narrowed b n Soft) { sets = entered (order_of tag) b.sets } → outer ≡ innermost b → OpensList tag a c outer
+pub opens_list : {tag n : ℕ} {a b c : State} {outer : Outer} → IsTagNumber (number_of tag) → BeginsContent tag a b n → c ≡ record (with_inner_end b n Soft) { sets = sets_inside (order_of tag) b.sets } → outer ≡ innermost b → OpensList tag a c outer
 opens_list {n = n} {b = b} i h opened back = record {
   mid = b;
   len = n;
@@ -42,7 +42,7 @@ opens_list {n = n} {b = b} i h opened back = record {
 -- ---- before an end that was opened
 
 -- bytes of which a refusal speaks, where the end is nearer
-pub narrowed_concerns : {b c : State} {e : Asn1DerError} {n left : ℕ} {seen : List ℕ} → Concerns b c e left seen → Concerns (narrowed b n Soft) c e n seen
+pub narrowed_concerns : {b c : State} {e : Asn1DerError} {n left : ℕ} {seen : List ℕ} → Concerns b c e left seen → Concerns (with_inner_end b n Soft) c e n seen
 narrowed_concerns (now i r) = now i refl
 narrowed_concerns (ever w r d y left i q f) = ever w refl d y left i q f
 
@@ -50,11 +50,11 @@ pub concerns_room : {b c : State} {e : Asn1DerError} {left : ℕ} {seen : List �
 concerns_room soft (now i r) = r
 concerns_room {b} soft (ever w r d y left i q f) = r ∙ ap (λ (z : End). far z b.until_end) soft
 
-pub narrowed_judged : {b c : State} {e : Asn1DerError} (n : ℕ) (kind : End) → IsJudged b c e → IsJudged (narrowed b n kind) c e
+pub narrowed_judged : {b c : State} {e : Asn1DerError} (n : ℕ) (kind : End) → IsJudged b c e → IsJudged (with_inner_end b n kind) c e
 narrowed_judged n kind j = record { had_not_failed = j.had_not_failed; faults = j.faults; memory = j.memory }
 
 -- a call that failed before a nearer end failed before the one around it
-pub widened_fails : {b c : State} {e : Asn1DerError} {n : ℕ} {kind : End} → n ≤ b.until_end → Fails (narrowed b n kind) c e → Fails b c e
+pub widened_fails : {b c : State} {e : Asn1DerError} {n : ℕ} {kind : End} → n ≤ b.until_end → Fails (with_inner_end b n kind) c e → Fails b c e
 widened_fails {b} {c} {e} {n} {kind} l f = record {
   failed = f.failed;
   again = λ k w. let q = f.again k w in (q.0, record { input = q.1.input; taken = q.1.taken; peeked = q.1.peeked; faults = q.1.faults });
@@ -71,7 +71,7 @@ widened_fails {b} {c} {e} {n} {kind} l f = record {
 }
 
 -- what was taken up to an end that is closed was taken before the one around it
-pub closes_behind : {b c d : State} {n : ℕ} {kind : End} {outer : Outer} {bytes : List ℕ} → n ≤ b.until_end → outer ≡ innermost b → Takes (narrowed b n kind) c bytes → Closes outer c d → Takes b d bytes × (length bytes ≡ n)
+pub closes_behind : {b c d : State} {n : ℕ} {kind : End} {outer : Outer} {bytes : List ℕ} → n ≤ b.until_end → outer ≡ innermost b → Takes (with_inner_end b n kind) c bytes → Closes outer c d → Takes b d bytes × (length bytes ≡ n)
 closes_behind {b} {c} {d} {n} {kind} {outer} {bytes} l back t k =
     let size : length bytes ≡ n = omega (arith, t.until_end, k.reached) in
     let place : outer.place ≡ b.taken + b.until_end = ap (λ (o : Outer). o.place) back in

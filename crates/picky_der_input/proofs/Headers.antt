@@ -8,9 +8,9 @@ use Rattle.picky_der_core.specs.Element.{len, tlv}
 use Rattle.picky_der_core.specs.ElementLaws.{len_prefix}
 use Rattle.picky_der_core.specs.LengthLaws.{length_of-len}
 use Rattle.picky_der_core.specs.Tag.{number_of, is_tag_number, IsTagNumber}
-use Rattle.picky_der_core.specs.Refusal.{past, missing, length_of, within_end, header, header_refusal, refusal_of}
+use Rattle.picky_der_core.specs.Refusal.{past, missing_byte, length_of, within_end, header, header_refusal, refusal_of}
 use Rattle.picky_der_input.specs.State.{State}
-use Rattle.picky_der_input.specs.Steps.{Takes, Fails, IsMissing, IsJudged, failed_with, is_hard, at_end, drawn}
+use Rattle.picky_der_input.specs.Steps.{Takes, Fails, IsMissing, IsJudged, failed_with, is_hard, at_end, drawn_count}
 use Rattle.picky_der_input.specs.Reading.{Concerns, IsJustRefused}
 use Rattle.picky_der_input.specs.Headers.{StopsLength, cut, bad, RefusesLength, StopsContentLength, no_length, too_long, RefusesContentLength, NoElement, RefusesHeader}
 use Rattle.picky_der_input.proofs.Steps.{takes_then, fails_after, judged_after}
@@ -26,14 +26,14 @@ is_number h = grind (arith, nat_tests)
 pub same_byte : (b : ℕ) → (b == b) ≡ true
 same_byte b = grind (arith, nat_tests)
 
-header-none : (tag : ℕ) (hard : Bool) (ahead : ℕ) → IsTagNumber (number_of tag) → header tag hard ahead [] ≡ Err (missing hard ahead [], [])
+header-none : (tag : ℕ) (hard : Bool) (ahead : ℕ) → IsTagNumber (number_of tag) → header tag hard ahead [] ≡ Err (missing_byte hard ahead [], [])
 header-none tag hard ahead n = rw (is_number n) refl
 
 header-foreign : (tag b : ℕ) (hard : Bool) (ahead : ℕ) (bs : List ℕ) → IsTagNumber (number_of tag) → b ≢ tag → header tag hard ahead (b ∷ bs) ≡ Err (InvalidData, bs)
 header-foreign tag b hard ahead bs n d = rw (is_number n, ne_eqb b tag d) refl
 
 header-behind : (tag : ℕ) (hard : Bool) (ahead : ℕ) (bs : List ℕ) → IsTagNumber (number_of tag)
-    → header tag hard ahead (tag ∷ bs) ≡ within_end hard ahead (tag ∷ bs) (length_of (missing hard ahead (tag ∷ bs)) bs)
+    → header tag hard ahead (tag ∷ bs) ≡ within_end hard ahead (tag ∷ bs) (length_of (missing_byte hard ahead (tag ∷ bs)) bs)
 header-behind tag hard ahead bs n = rw (is_number n, same_byte tag) refl
 
 -- what is ahead behind the header
@@ -43,13 +43,13 @@ ahead_behind tag n q y = omega (arith, length-append (len n) y)
 pub header-read : (tag : ℕ) (hard : Bool) (ahead n q : ℕ) (y : List ℕ) → IsTagNumber (number_of tag) → n < 2 ^ 64 → ahead ≡ length (tag ∷ len n) + q → n ≤ q → header tag hard ahead (tag ∷ (len n ++ y)) ≡ Ok (n, y)
 header-read tag hard ahead n q y i small e l =
     header-behind tag hard ahead (len n ++ y) i
-    ∙ ap (within_end hard ahead (tag ∷ (len n ++ y))) (length_of-len (missing hard ahead (tag ∷ (len n ++ y))) n y small)
+    ∙ ap (within_end hard ahead (tag ∷ (len n ++ y))) (length_of-len (missing_byte hard ahead (tag ∷ (len n ++ y))) n y small)
     ∙ rw (e, ahead_behind tag n q y, le-ltb q n l) refl
 
 header-past_end : (tag : ℕ) (hard : Bool) (ahead n q : ℕ) (y : List ℕ) → IsTagNumber (number_of tag) → n < 2 ^ 64 → ahead ≡ length (tag ∷ len n) + q → q < n → header tag hard ahead (tag ∷ (len n ++ y)) ≡ Err (past hard, y)
 header-past_end tag hard ahead n q y i small e l =
     header-behind tag hard ahead (len n ++ y) i
-    ∙ ap (within_end hard ahead (tag ∷ (len n ++ y))) (length_of-len (missing hard ahead (tag ∷ (len n ++ y))) n y small)
+    ∙ ap (within_end hard ahead (tag ∷ (len n ++ y))) (length_of-len (missing_byte hard ahead (tag ∷ (len n ++ y))) n y small)
     ∙ rw (e, ahead_behind tag n q y, lt-ltb q n l) refl
 
 -- ---- elements behind a header
@@ -124,7 +124,7 @@ no_length_there tag t (cut n m h) w content z small q l =
       | inr none ↦ no_length_no_element tag m.bytes content z h small (sym (append-nil (tag ∷ m.bytes)) ∙ ap (λ y. (tag ∷ m.bytes) ++ y) (sym none) ∙ e)
     ]
 no_length_there tag {c = c} {e = e} t (bad mid bytes d same h) w content z small q l =
-    let grows : mid.taken ≤ drawn c = omega (arith, ap (λ (s : State). s.taken) same) in
+    let grows : mid.taken ≤ drawn_count c = omega (arith, ap (λ (s : State). s.taken) same) in
     let v = behind (takes_then t d) grows w in
     bad_length_no_element tag bytes v.rest content z e h small (sym v.begins ∙ q)
 
@@ -133,17 +133,17 @@ just_no_length : (tag : ℕ) {a b c : State} {e : Asn1DerError} {bs : List ℕ} 
 unfolding cut_after
 just_no_length tag {a} {e = e} i t (cut n m h) k =
     just_cut (header_refusal tag (is_hard a.end) a.until_end) (cut_after t refl m) k
-    (λ is. ap refusal_of (header-behind tag (is_hard a.end) a.until_end m.bytes i ∙ ap (within_end (is_hard a.end) a.until_end (tag ∷ m.bytes)) (h (missing (is_hard a.end) a.until_end (tag ∷ m.bytes)))) ∙ ap (λ x. Some (x, [])) is)
+    (λ is. ap refusal_of (header-behind tag (is_hard a.end) a.until_end m.bytes i ∙ ap (within_end (is_hard a.end) a.until_end (tag ∷ m.bytes)) (h (missing_byte (is_hard a.end) a.until_end (tag ∷ m.bytes)))) ∙ ap (λ x. Some (x, [])) is)
 just_no_length tag {a} {e = e} i t (bad mid bytes d same h) k =
     just_taken (header_refusal tag (is_hard a.end) a.until_end) (takes_then t d) same k
-    (λ y. ap refusal_of (header-behind tag (is_hard a.end) a.until_end (bytes ++ y) i ∙ ap (within_end (is_hard a.end) a.until_end (tag ∷ (bytes ++ y))) (h (missing (is_hard a.end) a.until_end (tag ∷ (bytes ++ y))) y)))
+    (λ y. ap refusal_of (header-behind tag (is_hard a.end) a.until_end (bytes ++ y) i ∙ ap (within_end (is_hard a.end) a.until_end (tag ∷ (bytes ++ y))) (h (missing_byte (is_hard a.end) a.until_end (tag ∷ (bytes ++ y))) y)))
 
 pub length_tlv : (tag : ℕ) (content : List ℕ) → length (tlv tag content) ≡ length (tag ∷ len (length content)) + length content
 unfolding tlv
 length_tlv tag content = omega (arith, length-append (len (length content)) content)
 
 -- the length behind the tag reaches past the end
-too_long_there : (tag : ℕ) {a b c : State} {e : Asn1DerError} {n end : ℕ} {bs : List ℕ} → Takes a b (tag ∷ len n) → b.taken ≤ drawn c → b.until_end < n → e ≡ at_end b.end → Concerns a c e end bs → NoElement tag end bs
+too_long_there : (tag : ℕ) {a b c : State} {e : Asn1DerError} {n end : ℕ} {bs : List ℕ} → Takes a b (tag ∷ len n) → b.taken ≤ drawn_count c → b.until_end < n → e ≡ at_end b.end → Concerns a c e end bs → NoElement tag end bs
 too_long_there tag {n = n} t f more is w content z small q l =
     let v = behind t f w in
     let r = header_length tag n content v.rest z (sym v.begins ∙ q) in

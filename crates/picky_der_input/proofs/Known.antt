@@ -8,7 +8,7 @@ use Rattle.std.proofs.lemmas.List.{take-append-drop}
 use Rattle.std.proofs.Math.Seq.{take-append-add, drop-append-add}
 use Rattle.picky_der_core.specs.declared.error.Asn1DerError.{Asn1DerError}
 use Rattle.picky_der_core.specs.declared.error.Asn1DerError.TheVariants.{TruncatedData}
-use Rattle.picky_der_core.specs.Refusal.{missing, Refusal}
+use Rattle.picky_der_core.specs.Refusal.{missing_byte, Refusal}
 use Rattle.picky_der_input.specs.declared.end.End.{End}
 use Rattle.picky_der_input.specs.declared.end.End.TheVariants.{Limit, Soft, Hard}
 use Rattle.picky_der_core.specs.Peeking.{count_of_any}
@@ -43,16 +43,16 @@ front_of {a} {b} t k = front a.input b.input t.input t.until_end k
 
 -- all that stands before the end was taken, and the missing byte is refused so
 pub record Missing (end : End) (left : Option (List ℕ)) (r : ℕ) (h bs : List ℕ) (e : Asn1DerError) : Type 0 where
-  pub is : missing (is_hard end) r h ≡ e
+  pub is : missing_byte (is_hard end) r h ≡ e
   pub before : take r bs ≡ h
   pub known : left ≡ Some (drop r bs)
 
-missing_at_end : (end : End) (r : ℕ) (h : List ℕ) → r ≡ length h → missing (is_hard end) r h ≡ at_end end
+missing_at_end : (end : End) (r : ℕ) (h : List ℕ) → r ≡ length h → missing_byte (is_hard end) r h ≡ at_end end
 missing_at_end Limit r h e = refl
 missing_at_end Soft r h e = refl
 missing_at_end Hard r h e = let here : (length h == r) ≡ true = grind (arith, nat_tests) in rw here refl
 
-pub missing_before : (end : End) (r : ℕ) (h : List ℕ) → length h < r → missing (is_hard end) r h ≡ TruncatedData
+pub missing_before : (end : End) (r : ℕ) (h : List ℕ) → length h < r → missing_byte (is_hard end) r h ≡ TruncatedData
 missing_before Limit r h l = refl
 missing_before Soft r h l = refl
 missing_before Hard r h l = rw (ne_eqb (length h) r (λ e. omega arith)) refl
@@ -100,10 +100,10 @@ peeked_kept {a} {b} c t n p same = p ∙ t.unpeeked ∙ sym (none_peeked a.peeke
 
 -- a byte was missing behind those that were taken
 pub just_cut : (refusal : List ℕ → Option Refusal) {a c : State} {n : ℕ} {bs : List ℕ} {e : Asn1DerError} → (m : IsCut a c n e) → a.input ≡ Some bs
-    → (missing (is_hard a.end) a.until_end m.bytes ≡ e → refusal m.bytes ≡ Some (e, [])) → IsJustRefused refusal a c e bs
+    → (missing_byte (is_hard a.end) a.until_end m.bytes ≡ e → refusal m.bytes ≡ Some (e, [])) → IsJustRefused refusal a c e bs
 just_cut refusal {a} {c} {n} {bs} {e} m k w =
     let q = missing_of a.until_end m.bytes bs m.missing m.takes.until_end (front_of m.takes k) in
-    let hard : missing (is_hard m.mid.end) a.until_end m.bytes ≡ missing (is_hard a.end) a.until_end m.bytes = ap (λ (z : End). missing (is_hard z) a.until_end m.bytes) m.takes.end in
+    let hard : missing_byte (is_hard m.mid.end) a.until_end m.bytes ≡ missing_byte (is_hard a.end) a.until_end m.bytes = ap (λ (z : End). missing_byte (is_hard z) a.until_end m.bytes) m.takes.end in
     record {
       left = [];
       refused = ap refusal q.before ∙ w (sym hard ∙ q.is);
@@ -128,7 +128,7 @@ just_taken refusal {a} {b} {c} {h} {bs} {e} t same k w =
 
 -- nothing was taken
 pub just_missing : (refusal : List ℕ → Option Refusal) {a c : State} {bs : List ℕ} {e : Asn1DerError} → IsMissing a e → Keeps a.input c.input → c.taken ≡ a.taken → c.peeked ≡ a.peeked → a.input ≡ Some bs
-    → (missing (is_hard a.end) a.until_end [] ≡ e → refusal [] ≡ Some (e, [])) → IsJustRefused refusal a c e bs
+    → (missing_byte (is_hard a.end) a.until_end [] ≡ e → refusal [] ≡ Some (e, [])) → IsJustRefused refusal a c e bs
 just_missing refusal {a} {c} {bs} {e} m i n p k w =
     let r : a.until_end ≡ length {A = ℕ} [] + a.until_end = omega arith in
     let q = missing_of a.until_end [] bs m r (front a.input a.input (Consumes-nil a.input) r k) in

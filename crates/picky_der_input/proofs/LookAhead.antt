@@ -4,7 +4,7 @@ use Rattle.std.proofs.lemmas.List.{take-append-drop}
 use Rattle.picky_der_core.specs.declared.error.Asn1DerError.{Asn1DerError}
 use Rattle.picky_der_core.specs.Failure.{failure_of}
 use Rattle.picky_der_core.specs.declared.error.Asn1DerError.TheVariants.{TruncatedData, InvalidData, OutOfMemory}
-use Rattle.picky_der_core.specs.Refusal.{Refusal, missing}
+use Rattle.picky_der_core.specs.Refusal.{Refusal, missing_byte}
 use Rattle.picky_der_input.specs.declared.end.End.{End}
 use Rattle.picky_der_input.specs.declared.end.End.TheVariants.{Limit, Soft, Hard}
 use Rattle.picky_der_input.specs.State.{State}
@@ -15,17 +15,17 @@ use Rattle.picky_der_input.proofs.Known.{just_missing}
 use Rattle.picky_der_input.proofs.PlainReads.{just_map}
 use Rattle.picky_der_input.proofs.Steps.{fails_again}
 
-no_want_at_end : (end : End) → at_end end ≢ OutOfMemory
-no_want_at_end Limit h = cc
-no_want_at_end Soft h = cc
-no_want_at_end Hard h = cc
+memory_at_end : (end : End) → at_end end ≢ OutOfMemory
+memory_at_end Limit h = cc
+memory_at_end Soft h = cc
+memory_at_end Hard h = cc
 
 -- a byte that is missing isn't out of memory
-pub missing_no_want : {s : State} {e : Asn1DerError} → IsMissing s e → e ≢ OutOfMemory
-missing_no_want {s} (end_is_here z is) h = no_want_at_end s.end (sym is ∙ h)
-missing_no_want (input_ended l z is) h = let q : TruncatedData ≡ OutOfMemory = sym is ∙ h in cc
+pub missing_not_for_memory : {s : State} {e : Asn1DerError} → IsMissing s e → e ≢ OutOfMemory
+missing_not_for_memory {s} (end_is_here z is) h = memory_at_end s.end (sym is ∙ h)
+missing_not_for_memory (input_ended l z is) h = let q : TruncatedData ≡ OutOfMemory = sym is ∙ h in cc
 
-nothing_there : (d : Option ℕ) (s : State) → d ≡ None → choice_refusal_in d s [] ≡ Some (missing (is_hard s.end) s.until_end [], [])
+nothing_there : (d : Option ℕ) (s : State) → d ≡ None → choice_refusal_in d s [] ≡ Some (missing_byte (is_hard s.end) s.until_end [], [])
 nothing_there None s h = refl
 nothing_there (Some number) s h = absurd (let q : Some number ≡ None = h in cc)
 
@@ -35,7 +35,7 @@ choice_unread {old} {new} {e} s ahead whole = record {
   refuses = record {
     fails = read_fails s;
     just = λ j bs k. just_missing (choice_refusal old) (read_missing s ahead j.faults) s.input (ap (λ (x : State). x.taken) s.same) (ap (λ (x : State). x.peeked) s.same) k (λ h. nothing_there old.implicit_tag old whole ∙ ap (λ x. Some (x, [])) h);
-    memory = λ n same. missing_no_want (read_missing s ahead same);
+    memory = λ n same. missing_not_for_memory (read_missing s ahead same);
     same = s.same;
   };
   hidden = λ j. no_byte whole (read_missing s ahead j.faults);

@@ -9,11 +9,11 @@ use Rattle.picky_der_core.specs.Refusal.{Refusal}
 use Rattle.picky_der_input.specs.declared.enclosure.Enclosure.{Enclosure}
 use Rattle.picky_der_input.specs.declared.end.End.TheVariants.{Hard}
 use Rattle.picky_der_input.specs.State.{State}
-use Rattle.picky_der_input.specs.Steps.{Takes, Fails, IsJudged, IsMissing, end_is_here, input_ended, TakesNoMemory, failed_with, far, drawn}
+use Rattle.picky_der_input.specs.Steps.{Takes, Fails, IsJudged, IsMissing, end_is_here, input_ended, TakesNoMemory, failed_with, far, drawn_count}
 use Rattle.picky_der_input.specs.Reading.{Concerns, now, ever, IsJustRefused}
 use Rattle.picky_der_input.specs.Headers.{RefusesHeader}
-use Rattle.picky_der_input.specs.Ends.{Outer, innermost, narrowed}
-use Rattle.picky_der_input.specs.Enclosures.{enclosure_tag, HasEnclosureNumber, unused_bits, counts_unused_bits, implicit_number, unused_bits_refusal, refusal_behind, opening_refusal, restored, OpensEnclosure, RefusesOpening, BeginsEnclosure, StopsUnusedBits, count_missing, count_other, RefusesUnusedBits}
+use Rattle.picky_der_input.specs.Ends.{Outer, innermost, with_inner_end}
+use Rattle.picky_der_input.specs.Enclosures.{enclosure_tag, HasEnclosureNumber, unused_bits, counts_unused_bits, implicit_number, unused_bits_refusal, refusal_behind, opening_refusal, with_outer_end, OpensEnclosure, RefusesOpening, BeginsEnclosure, StopsUnusedBits, count_missing, count_other, RefusesUnusedBits}
 use Rattle.picky_der_input.proofs.Steps.{takes_then, takes_none, fails_after, judged_after}
 use Rattle.picky_der_input.proofs.Refusals.{consumed, behind, failed_grows, missing_here, taken_first, at_end_of}
 use Rattle.picky_der_input.proofs.Known.{front_of, just_taken, kept_known, peeked_kept}
@@ -56,12 +56,12 @@ opening_header {w} {a} {c} {e} number h m small = record {
 -- ---- the count of unused bits
 
 -- bytes of which a refusal speaks, where a hard end is nearer
-hard_concerns : {b c : State} {e : Asn1DerError} {n left : ℕ} {seen : List ℕ} → Concerns b c e left seen → Concerns (narrowed b n Hard) c e n seen
+hard_concerns : {b c : State} {e : Asn1DerError} {n left : ℕ} {seen : List ℕ} → Concerns b c e left seen → Concerns (with_inner_end b n Hard) c e n seen
 hard_concerns (now i r) = now i refl
 hard_concerns (ever w r d y left i q f) = ever w refl d y left i q f
 
 -- the same of the end that is open
-pub own_concerns : {b c : State} (outer : Outer) {e : Asn1DerError} {left : ℕ} {seen : List ℕ} → b.end ≡ Hard → Concerns (restored outer b) c e left seen → Concerns b c e b.until_end seen
+pub own_concerns : {b c : State} (outer : Outer) {e : Asn1DerError} {left : ℕ} {seen : List ℕ} → b.end ≡ Hard → Concerns (with_outer_end outer b) c e left seen → Concerns b c e b.until_end seen
 own_concerns outer hard (now i r) = now i refl
 own_concerns {b} outer hard (ever w r d y left i q f) = ever w (sym (ap (λ z. far z b.until_end) hard)) d y left i q f
 
@@ -69,13 +69,13 @@ first_byte : (x y : ℕ) (a b : List ℕ) → x ∷ a ≡ y ∷ b → x ≡ y
 first_byte x y a b e = cc
 
 -- where the count isn't 00, no container stands
-no_container : {b c : State} {e : Asn1DerError} {n left : ℕ} {seen : List ℕ} (content : List ℕ) → StopsUnusedBits (narrowed b n Hard) c e → Concerns b c e left seen → n ≡ length (0x00 ∷ content) → (rest : List ℕ) → seen ≡ (0x00 ∷ content) ++ rest → ⊥
+no_container : {b c : State} {e : Asn1DerError} {n left : ℕ} {seen : List ℕ} (content : List ℕ) → StopsUnusedBits (with_inner_end b n Hard) c e → Concerns b c e left seen → n ≡ length (0x00 ∷ content) → (rest : List ℕ) → seen ≡ (0x00 ∷ content) ++ rest → ⊥
 no_container content (count_missing m i t p) w size rest is = elim (missing_here m (hard_concerns w)) [
   | inl here ↦ omega (arith, here, size)
   | inr ended ↦ omega (arith, ap length (sym ended ∙ is))
 ]
 no_container {c = c} content (count_other mid x t d is same) w size rest q =
-    let grows : mid.taken ≤ drawn c = omega (arith, ap (λ (s : State). s.taken) same) in
+    let grows : mid.taken ≤ drawn_count c = omega (arith, ap (λ (s : State). s.taken) same) in
     let v = behind t grows (hard_concerns w) in
     d (first_byte x 0x00 v.rest (content ++ rest) (sym v.begins ∙ q))
 
@@ -84,7 +84,7 @@ just_alike : {refusal : List ℕ → Option Refusal} {a c d : State} {e : Asn1De
 just_alike i t p h = record { left = h.left; refused = h.refused; input = i ∙ h.input; kept = λ q. p ∙ h.kept (sym t ∙ q); used = λ more. p ∙ h.used (omega (arith, more, t)) }
 
 -- what was taken before an opened end was taken before the one around it
-widened_takes : {b c : State} {n : ℕ} {x : List ℕ} → n ≤ b.until_end → Takes (narrowed b n Hard) c x → Takes b (record c { until_end = b.until_end - length x; end = b.end; sets = b.sets }) x
+widened_takes : {b c : State} {n : ℕ} {x : List ℕ} → n ≤ b.until_end → Takes (with_inner_end b n Hard) c x → Takes b (record c { until_end = b.until_end - length x; end = b.end; sets = b.sets }) x
 widened_takes l t = record {
   input = t.input;
   taken = t.taken;
@@ -100,7 +100,7 @@ widened_takes l t = record {
   references = t.references;
 }
 
-unused_missing : (n until_end : ℕ) (rest : List ℕ) (b : State) {e : Asn1DerError} → IsMissing (narrowed b n Hard) e → b.input ≡ Some rest → unused_bits_refusal n (take until_end rest) ≡ Some (e, take until_end rest)
+unused_missing : (n until_end : ℕ) (rest : List ℕ) (b : State) {e : Asn1DerError} → IsMissing (with_inner_end b n Hard) e → b.input ≡ Some rest → unused_bits_refusal n (take until_end rest) ≡ Some (e, take until_end rest)
 unused_missing n until_end rest b (end_is_here z is) k = ap (λ m. unused_bits_refusal m (take until_end rest)) z ∙ ap (λ x. Some (x, take until_end rest)) (sym is)
 unused_missing n until_end rest b (input_ended some ended is) k =
     let nothing : take until_end rest ≡ [] = ap (take until_end) (at_end_of b.input rest ended k) ∙ take_nothing until_end in
@@ -116,7 +116,7 @@ below h = omega (arith, h.fits, h.takes.until_end, h.bounded)
 counted : {w : Enclosure} {a b : State} {outer : Outer} (h : BeginsEnclosure w a b outer) (y : List ℕ) → counts_unused_bits w ≡ true → opening_refusal w a ((enclosure_tag w ∷ len h.size) ++ y) ≡ unused_bits_refusal h.size y
 counted {w} {a} h y e = opening_read w a h.size h.mid.until_end y h.number (below h) h.takes.until_end h.fits ∙ ap (λ counts. refusal_behind counts (Ok (h.size, y))) e
 
-just_unused : {w : Enclosure} {a b c : State} {outer : Outer} {e : Asn1DerError} {bs : List ℕ} (h : BeginsEnclosure w a b outer) → counts_unused_bits w ≡ true → StopsUnusedBits (narrowed h.mid h.size Hard) c e → a.input ≡ Some bs → IsJustRefused (opening_refusal w a) a c e bs
+just_unused : {w : Enclosure} {a b c : State} {outer : Outer} {e : Asn1DerError} {bs : List ℕ} (h : BeginsEnclosure w a b outer) → counts_unused_bits w ≡ true → StopsUnusedBits (with_inner_end h.mid h.size Hard) c e → a.input ≡ Some bs → IsJustRefused (opening_refusal w a) a c e bs
 just_unused {w} {a} {c = c} {bs = bs} h counts (count_missing m i t p) k =
     let f = front_of h.takes k in
     let until_end = h.mid.until_end in
@@ -139,9 +139,9 @@ just_unused {w} {a} {c = c} {e = e} h counts (count_other mid x t d is same) k =
 -- the count of unused bits behind a header was refused
 pub opening_unused : {w : Enclosure} {a b c : State} {outer : Outer} {e : Asn1DerError} → BeginsEnclosure w a b outer → counts_unused_bits w ≡ true → RefusesUnusedBits b c e → RefusesOpening w a c e
 opening_unused {w} {a} {b} {c} {outer} {e} h counts r =
-    let r' : RefusesUnusedBits (narrowed h.mid h.size Hard) c e = subst (λ z. RefusesUnusedBits z c e) h.opened r in
+    let r' : RefusesUnusedBits (with_inner_end h.mid h.size Hard) c e = subst (λ z. RefusesUnusedBits z c e) h.opened r in
     let fails : Fails h.mid c e = widened_fails h.fits r'.fails in
-    let judged : IsJudged a c e → IsJudged (narrowed h.mid h.size Hard) c e = λ j. narrowed_judged h.size Hard (judged_after h.takes j) in
+    let judged : IsJudged a c e → IsJudged (with_inner_end h.mid h.size Hard) c e = λ j. narrowed_judged h.size Hard (judged_after h.takes j) in
     let zero : unused_bits w ≡ 0x00 ∷ [] = some_unused w counts in
     record {
       fails = fails_after h.takes fails;
@@ -163,7 +163,7 @@ same_innermost {a} {b} t =
     let place : b.taken + b.until_end ≡ a.taken + a.until_end = omega (arith, t.taken, t.until_end) in
     rw (place, t.end, t.sets) refl
 
-not_refused : {w : Enclosure} {a b c : State} {outer : Outer} {bs : List ℕ} (h : BeginsEnclosure w a b outer) → Takes (narrowed h.mid h.size Hard) c (unused_bits w) → a.input ≡ Some bs → opening_refusal w a (take a.until_end bs) ≡ None
+not_refused : {w : Enclosure} {a b c : State} {outer : Outer} {bs : List ℕ} (h : BeginsEnclosure w a b outer) → Takes (with_inner_end h.mid h.size Hard) c (unused_bits w) → a.input ≡ Some bs → opening_refusal w a (take a.until_end bs) ≡ None
 not_refused {w} {a} {c = c} h t k =
     let f = front_of h.takes k in
     let p = consumed h.mid.input c.input (unused_bits w) f.rest t.input f.known in
@@ -173,10 +173,10 @@ not_refused {w} {a} {c = c} h t k =
 -- what stands before the value was taken
 pub opens_enclosure : {w : Enclosure} {a b c d : State} {outer : Outer} → BeginsEnclosure w a b outer → Takes b c (unused_bits w) → d ≡ record c { implicit_tag = implicit_number w } → OpensEnclosure w a d outer
 opens_enclosure {w} {a} {b} {c} {d} {outer} h taken is =
-    let t : Takes (narrowed h.mid h.size Hard) c (unused_bits w) = subst (λ z. Takes z c (unused_bits w)) h.opened taken in
+    let t : Takes (with_inner_end h.mid h.size Hard) c (unused_bits w) = subst (λ z. Takes z c (unused_bits w)) h.opened taken in
     let place : outer.place ≡ h.mid.taken + h.mid.until_end = ap (λ (o : Outer). o.place) h.around in
     let new : State = record c { implicit_tag = implicit_number w } in
-    let behind : Takes h.mid (restored outer new) (unused_bits w) = record {
+    let behind : Takes h.mid (with_outer_end outer new) (unused_bits w) = record {
       input = t.input;
       taken = t.taken;
       until_end = omega (arith, t.taken, t.until_end, place, h.fits);

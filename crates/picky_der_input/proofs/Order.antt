@@ -10,7 +10,7 @@ use Rattle.picky_der_core.specs.Tree.{ListKind}
 use Rattle.picky_der_input.specs.State.{OpenSets, State}
 use Rattle.picky_der_input.specs.Steps.{Takes, Fails, IsJudged}
 use Rattle.picky_der_input.specs.Ends.{Outer, innermost}
-use Rattle.picky_der_input.specs.Order.{kept_in, order_of, entered, cut_at, is_less_than, is_out_of_order, with_last, AreBehind, AreInOrder, unordered}
+use Rattle.picky_der_input.specs.Order.{kept_in, order_of, sets_inside, cut_at, is_less_than, is_out_of_order, with_last, AreBehind, AreInOrder, without_order}
 use Rattle.picky_der_input.specs.Reading.{Concerns, now, ever}
 use Rattle.picky_der_input.proofs.Steps.{fails_after, judged_after}
 
@@ -29,7 +29,7 @@ cut_kept None around = refl
 cut_kept (Some last) around = cut_behind around last
 
 -- what was kept before an end was opened is kept again where it is closed
-pub put_back : {outer : Outer} {s : OpenSets} (b : State) → outer ≡ innermost b → s ≡ entered None b.sets → cut_at outer.last s.around ≡ b.sets
+pub put_back : {outer : Outer} {s : OpenSets} (b : State) → outer ≡ innermost b → s ≡ sets_inside None b.sets → cut_at outer.last s.around ≡ b.sets
 put_back b back is = ap₂ cut_at (ap (λ (o : Outer). o.last) back) (ap (λ (s : OpenSets). s.around) is) ∙ cut_kept b.sets.last b.sets.around
 
 -- ---- whatever is kept of the members before
@@ -57,10 +57,10 @@ fails_alike s f = record {
   references = f.references;
 }
 
-pub concerns_unordered : {b c : State} {e : Asn1DerError} {end : ℕ} {bs : List ℕ} → Concerns b c e end bs → Concerns (unordered b) c e end bs
+pub concerns_unordered : {b c : State} {e : Asn1DerError} {end : ℕ} {bs : List ℕ} → Concerns b c e end bs → Concerns (without_order b) c e end bs
 concerns_unordered {b = b} h = concerns_alike (record b.sets { last = None }) h
 
-pub takes_unordered : {a b : State} {x : List ℕ} → Takes a b x → Takes (unordered a) (unordered b) x
+pub takes_unordered : {a b : State} {x : List ℕ} → Takes a b x → Takes (without_order a) (without_order b) x
 takes_unordered t = record {
   input = t.input;
   taken = t.taken;
@@ -77,10 +77,10 @@ takes_unordered t = record {
 }
 
 -- a call failed behind bytes that were taken
-pub fails_behind : {a b c : State} {x : List ℕ} {e : Asn1DerError} → Takes (unordered a) (unordered b) x → Fails b c e → Fails a c e
+pub fails_behind : {a b c : State} {x : List ℕ} {e : Asn1DerError} → Takes (without_order a) (without_order b) x → Fails b c e → Fails a c e
 fails_behind {a = a} {b = b} t f = fails_alike a.sets (fails_after t (fails_alike (record b.sets { last = None }) f))
 
-pub judged_behind : {a b c : State} {x : List ℕ} {e : Asn1DerError} → Takes (unordered a) (unordered b) x → IsJudged a c e → IsJudged b c e
+pub judged_behind : {a b c : State} {x : List ℕ} {e : Asn1DerError} → Takes (without_order a) (without_order b) x → IsJudged a c e → IsJudged b c e
 judged_behind {a = a} {b = b} t j = judged_alike b.sets (judged_after t (judged_alike (record a.sets { last = None }) j))
 
 -- ---- members in order
@@ -116,10 +116,10 @@ pub order_more : (s : OpenSets) (a : List ℕ) (ms : List (List ℕ)) → is_out
 order_more s a ms f h = behind_more s.last a ms f h
 
 -- the members of a list in order, from its first one on
-pub order_begins : (kind : ListKind) (s : OpenSets) (ms : List (List ℕ)) → IsInOrder kind ms → AreInOrder (entered (order_of (list_tag kind)) s) ms
+pub order_begins : (kind : ListKind) (s : OpenSets) (ms : List (List ℕ)) → IsInOrder kind ms → AreInOrder (sets_inside (order_of (list_tag kind)) s) ms
 order_begins ListKind.sequence s ms h = tt
 order_begins ListKind.set s ms h = ascending_behind_nothing ms h
 
-pub order_whole : (kind : ListKind) (s : OpenSets) (ms : List (List ℕ)) → AreInOrder (entered (order_of (list_tag kind)) s) ms → IsInOrder kind ms
+pub order_whole : (kind : ListKind) (s : OpenSets) (ms : List (List ℕ)) → AreInOrder (sets_inside (order_of (list_tag kind)) s) ms → IsInOrder kind ms
 order_whole ListKind.sequence s ms h = tt
 order_whole ListKind.set s ms h = IsSortedBy-tail is_less [] ms h

@@ -3,7 +3,7 @@ use Rattle.std.proofs.Common.{◌≡◌, ℕ, zero, suc, ◌+◌, ◌-◌, ◌^�
 use Rattle.std.specs.Io.KnownBytes.{Consumes}
 use Rattle.std.proofs.lemmas.List.{take-append-le}
 use Rattle.picky_der_core.specs.ElementLaws.{bytes_then}
-use Rattle.picky_der_core.specs.Peeking.{moved, count_of_any}
+use Rattle.picky_der_core.specs.Peeking.{position_behind, count_of_any}
 use Rattle.picky_der_core.specs.Shape.{AreBytes}
 use Rattle.picky_der_input.specs.State.{State}
 use Rattle.picky_der_input.specs.Steps.{Takes, TakesBytes, TakesPiece}
@@ -26,7 +26,7 @@ bytes_in_front (suc n) [] h = tt
 bytes_in_front (suc n) (b ∷ bs) h = (h 0, bytes_in_front n bs (λ i. h (suc i)))
 
 -- the position behind them isn't the greatest
-moved_few : (pos n : ℕ) → pos + n < 2 ^ 64 → moved pos n ≡ pos + n
+moved_few : (pos n : ℕ) → pos + n < 2 ^ 64 → position_behind pos n ≡ pos + n
 moved_few pos zero h = omega arith
 moved_few pos (suc n) h = omega arith
 
@@ -36,7 +36,7 @@ pub record Gives (old new : State) (n : ℕ) (bytes : List ℕ) : Type 0 where
   pub count : length bytes ≡ n
   pub fits : n ≤ old.until_end
   pub small : old.taken + old.until_end < 2 ^ 64
-  pub taken : new.taken ≡ moved old.taken n
+  pub taken : new.taken ≡ position_behind old.taken n
   pub until_end : new.until_end ≡ old.until_end - n
   pub end : new.end ≡ old.end
   pub limit : new.limit ≡ old.limit

@@ -16,9 +16,9 @@ use Rattle.picky_der_core.specs.EncodingLaws.{der-plain, inside-plain}
 use Rattle.picky_der_core.specs.Readable.{IsReadable, IsNoChoice}
 use Rattle.picky_der_core.specs.Shape.{Shape, IsOf, IsFirst}
 use Rattle.picky_der_core.specs.Reading.{written_at, MayStand, StandsAt}
-use Rattle.picky_der_core.specs.Refusal.{Judge, Refusal, judged, header, header_refusal, refusal_of, content_refusal, Outcome}
+use Rattle.picky_der_core.specs.Refusal.{Judge, Refusal, refusal_leaving, header, header_refusal, refusal_of, content_refusal, Outcome}
 use Rattle.picky_der_input.specs.State.{State}
-use Rattle.picky_der_input.specs.Steps.{Takes, TakesKept, Fails, IsCut, StopsShort, IsJudged, failed_with, is_hard, place_in, place_of, drawn}
+use Rattle.picky_der_input.specs.Steps.{Takes, TakesKept, Fails, IsCut, StopsShort, IsJudged, failed_with, is_hard, place_in, place_of, drawn_count}
 use Rattle.picky_der_input.specs.PlainKinds.{IsPlainKind, IsShortKind}
 use Rattle.picky_der_input.specs.Reading.{Concerns, Refuses, refusal_in, refusal_at, IsJustRefused, ReadsPlain, RefusesPlain}
 use Rattle.picky_der_input.specs.Headers.{header_bytes, BeginsContent, RefusesBegin, NoElement}
@@ -67,7 +67,7 @@ pub record Content (mid new : State) (e : Asn1DerError) (n : ℕ) (t : Tree) : T
   pub begins : seen ≡ content t ++ rest
   pub size : length (content t) ≡ n
 
-pub begun : {a b c : State} {s : Shape} {e : Asn1DerError} {tag n end : ℕ} {bs : List ℕ} {t : Tree} → BeginsContent tag a b n → b.taken ≤ drawn c → is_plain t ≡ true → plain_tag t ≡ tag
+pub begun : {a b c : State} {s : Shape} {e : Asn1DerError} {tag n end : ℕ} {bs : List ℕ} {t : Tree} → BeginsContent tag a b n → b.taken ≤ drawn_count c → is_plain t ≡ true → plain_tag t ≡ tag
     → Concerns a c e end bs → StandsAt (place_of a) s bs end t → Content b c e n t
 begun {a} {b} {c} {s} {e} {tag} {n} {end} {bs} {t} h g p k w st =
     let v = behind h.takes g w in
@@ -147,7 +147,7 @@ content_at (Some number) tag n q judge s y i small r l a =
 content_cut : (judge : Judge) (n : ℕ) (y : List ℕ) → length y < n → content_refusal judge (Ok (n, y)) ≡ Some (TruncatedData, [])
 content_cut judge n y l = rw (lt-ltb (length y) n l) refl
 
-content_judged : (judge : Judge) (x y : List ℕ) → content_refusal judge (Ok (length x, x ++ y)) ≡ judged (judge x) y
+content_judged : (judge : Judge) (x y : List ℕ) → content_refusal judge (Ok (length x, x ++ y)) ≡ refusal_leaving (judge x) y
 content_judged judge x y = rw (le-ltb (length (x ++ y)) (length x) (omega (arith, length-append x y)), take-append_seam x y, drop-append_seam x y) refl
 
 pub fits_below : {a b : State} {tag n : ℕ} → BeginsContent tag a b n → n < 2 ^ 64
@@ -190,7 +190,7 @@ pub refuses_cut : {V : Type 0} {meaning : V → Tree} {s : Shape} {tag n : ℕ} 
 refuses_cut {tag = tag} {n = n} {judge = judge} kind h f =
     behind_header kind h f.fails (λ j v o. content_missing (f.short j)) (λ j bs k. just_content_cut tag n judge kind.number h (f.short j) k)
 
-judged_none : (judge : Judge) {b c d : State} {e : Asn1DerError} {n : ℕ} {t : Tree} {x : List ℕ} → Takes b c x → length x ≡ n → c.taken ≤ drawn d → judge x ≡ Some e → judge (content t) ≡ None → Content b d e n t → ⊥
+judged_none : (judge : Judge) {b c d : State} {e : Asn1DerError} {n : ℕ} {t : Tree} {x : List ℕ} → Takes b c x → length x ≡ n → c.taken ≤ drawn_count d → judge x ≡ Some e → judge (content t) ≡ None → Content b d e n t → ⊥
 judged_none judge {e = e} {t = t} {x = x} h l g bad good w =
     let v = behind h g w.concerns in
     let same : x ≡ content t = (same_front x (content t) v.rest w.rest (l ∙ sym w.size) (sym v.begins ∙ w.begins)).0 in
@@ -205,7 +205,7 @@ just_judged tag n judge {a} {b} {c} {d} {e} {x} i h t l bad same k =
     ap (refusal_at tag judge a) (append_assoc header x y)
     ∙ content_at a.implicit_tag tag n b.until_end judge a (x ++ y) i (fits_below h) h.takes.until_end h.fits h.all
     ∙ ap (λ m. content_refusal judge (Ok (m, x ++ y))) (sym l)
-    ∙ content_judged judge x y ∙ ap (λ r. judged r y) bad)
+    ∙ content_judged judge x y ∙ ap (λ r. refusal_leaving r y) bad)
 
 -- the content isn't one of the kind
 pub refuses_content : {V : Type 0} {meaning : V → Tree} {s : Shape} {tag n : ℕ} {judge : Judge} {a b c d : State} {e : Asn1DerError} {x : List ℕ} → IsPlainKind meaning s tag judge → BeginsContent tag a b n → Takes b c x → length x ≡ n
@@ -234,7 +234,7 @@ not_refused tag n judge {a} {b} {c} {x} {bs} i h t l good k =
     ap (refusal_at tag judge a) (f.before ∙ append_assoc header x y)
     ∙ content_at a.implicit_tag tag n b.until_end judge a (x ++ y) i (fits_below h) h.takes.until_end h.fits h.all
     ∙ ap (λ m. content_refusal judge (Ok (m, x ++ y))) (sym l)
-    ∙ content_judged judge x y ∙ ap (λ r. judged r y) good
+    ∙ content_judged judge x y ∙ ap (λ r. refusal_leaving r y) good
 
 -- a plain value was read
 pub reads_plain : {V : Type 0} {meaning : V → Tree} {s : Shape} {tag n : ℕ} {judge : Judge} {a b c : State} → IsPlainKind meaning s tag judge → (v : V) → IsOf s (meaning v) → IsReadable (meaning v)

@@ -6,7 +6,7 @@ use Rattle.picky_der_core.specs.declared.error.Asn1DerError.TheVariants.{Truncat
 use Rattle.picky_der_input.specs.declared.end.End.{End}
 use Rattle.picky_der_input.specs.declared.end.End.TheVariants.{Limit, Soft, Hard}
 use Rattle.picky_der_input.specs.State.{State}
-use Rattle.picky_der_input.specs.Steps.{Takes, Fails, IsMissing, end_is_here, input_ended, IsJudged, IsCut, at_end, far, reach, drawn}
+use Rattle.picky_der_input.specs.Steps.{Takes, Fails, IsMissing, end_is_here, input_ended, IsJudged, IsCut, at_end, far, reach, drawn_count}
 use Rattle.picky_der_input.specs.Reading.{Concerns, now, ever, AllConcerned}
 use Rattle.picky_der_input.proofs.Steps.{judged_after}
 
@@ -49,13 +49,13 @@ reach_takes {a} {b} {h} t =
     omega (arith, far_takes a.end a.until_end b.until_end (length h) t.until_end, same)
 
 -- what was taken was drawn
-pub failed_grows : {b c : State} {k : Asn1DerError} → Fails b c k → b.taken ≤ drawn c
+pub failed_grows : {b c : State} {k : Asn1DerError} → Fails b c k → b.taken ≤ drawn_count c
 failed_grows f = omega (arith, f.grows)
 
-pub cut_grows : {a c : State} {n : ℕ} {k : Asn1DerError} → (m : IsCut a c n k) → m.mid.taken ≤ drawn c
+pub cut_grows : {a c : State} {n : ℕ} {k : Asn1DerError} → (m : IsCut a c n k) → m.mid.taken ≤ drawn_count c
 cut_grows m = omega (arith, m.taken)
 
-pub behind : {a b c : State} {k : Asn1DerError} {h : List ℕ} {end : ℕ} {bs : List ℕ} → Takes a b h → b.taken ≤ drawn c → Concerns a c k end bs → Behind a b c k h end bs
+pub behind : {a b c : State} {k : Asn1DerError} {h : List ℕ} {end : ℕ} {bs : List ℕ} → Takes a b h → b.taken ≤ drawn_count c → Concerns a c k end bs → Behind a b c k h end bs
 behind {a} {b} {c} {k} {h} {end} {bs} t f (now e r) =
     let q = consumed a.input b.input h bs t.input e in
     record { left = b.until_end; rest = q.0; begins = q.2; concerns = now q.1 refl; ends = omega (arith, t.until_end) }

@@ -7,7 +7,7 @@ use Rattle.picky_der_core.specs.Failure.{failure_of}
 use Rattle.picky_der_core.specs.Peeking.{count_of_any}
 use Rattle.picky_der_core.specs.Reader.{TellsFault}
 use Rattle.picky_der_input.specs.State.{State}
-use Rattle.picky_der_input.specs.Steps.{Takes, Took, Fails, IsWithin, IsUnmoved, HasDrawn, IsJudged, drawn}
+use Rattle.picky_der_input.specs.Steps.{Takes, Took, Fails, IsWithin, IsUnmoved, HasDrawn, IsJudged, drawn_count}
 
 pub takes_then : {a b c : State} {x y : List ℕ} → Takes a b x → Takes b c y → Takes a c (x ++ y)
 takes_then {a} {b} {c} {x} {y} h k = record {
@@ -74,7 +74,7 @@ fails_after {a} {b} {c} {x} {e} h f =
       end = omega (arith, f.end, h.taken, h.until_end);
       limit = f.limit ∙ h.limit;
       within = λ w. f.within (takes_within h w);
-      there = λ w. there_after a.input b.input x a.taken b.taken (drawn c) h.input h.taken (f.there h.not_failed);
+      there = λ w. there_after a.input b.input x a.taken b.taken (drawn_count c) h.input h.taken (f.there h.not_failed);
       references = f.references ∙ h.references;
     }
 

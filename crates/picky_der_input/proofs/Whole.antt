@@ -14,7 +14,7 @@ use Rattle.picky_der_input.specs.Steps.{Takes}
 use Rattle.picky_der_input.specs.PlainKinds.{IsShortKind}
 use Rattle.picky_der_input.specs.Reading.{ReadsPlain}
 use Rattle.picky_der_input.specs.Headers.{header_bytes, BeginsContent}
-use Rattle.picky_der_input.specs.Elements.{given_up, BeginsElement, ReadsRaw}
+use Rattle.picky_der_input.specs.Elements.{without_implicit_tag, BeginsElement, ReadsRaw}
 use Rattle.picky_der_input.specs.Ahead.{ShowsShort, ShowsElement, TakesShown}
 use Rattle.picky_der_input.proofs.PlainReads.{reads_plain}
 use Rattle.picky_der_input.proofs.Elements.{reads_raw}
@@ -106,7 +106,7 @@ reads_short {meaning = meaning} {tag = tag} {judge = judge} {a = a} {c = c} {byt
 
 -- ---- elements
 
-takes_given_up : {a b : State} {x : List ℕ} → Takes a b x → Takes (given_up a) b x
+takes_given_up : {a b : State} {x : List ℕ} → Takes a b x → Takes (without_implicit_tag a) b x
 takes_given_up t = record {
   input = t.input;
   taken = t.taken;

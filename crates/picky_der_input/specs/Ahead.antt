@@ -10,7 +10,7 @@ use Rattle.picky_der_input.specs.Steps.{Takes}
 pub record Shows (s : State) (bytes : List ℕ) : Type 0 where
   pub front : IfSome s.input (λ left. StartsWith left bytes)
 
--- so many bytes were taken: those that the input begins with
+-- `count` bytes were taken: those that the input begins with
 abbrev pub TakesShown : State → State → ℕ → Type 0
 TakesShown old new count = (bytes : List ℕ) → length bytes ≡ count → Shows old bytes → Takes old new bytes
 
@@ -29,7 +29,7 @@ pub record ShowsShort (s : State) (tag : ℕ) (content : List ℕ) : Type 0 wher
   pub fits : length content + 2 ≤ s.until_end
   pub bounded : s.until_end < 2 ^ 64
 
--- the first bytes, so many, are one element
+-- the first `count` bytes are one element
 pub record IsElementInFront (bytes : List ℕ) (count : ℕ) : Type 0 where
   pub tag : ℕ
   pub number : IsTagNumber (number_of tag)

@@ -15,12 +15,12 @@ abbrev pub raw_refusal : State → List ℕ → Option Refusal
 raw_refusal s rest = element_refusal (is_hard s.end) s.until_end rest
 
 -- directly under an implicit tag that tag's special reading was given up
-abbrev pub given_up : State → State
-given_up s = record s { implicit_tag = None }
+abbrev pub without_implicit_tag : State → State
+without_implicit_tag s = record s { implicit_tag = None }
 
 -- the header of an element was taken, and its content is next, n bytes of it
 pub record BeginsElement (old new : State) (tag n : ℕ) : Type 0 where
-  pub takes : Takes (given_up old) new (tag ∷ len n)
+  pub takes : Takes (without_implicit_tag old) new (tag ∷ len n)
   pub number : IsTagNumber (number_of tag)
   pub byte : tag < 256
   pub implicit_tag : new.implicit_tag ≡ None

@@ -18,7 +18,7 @@ use Rattle.picky_der_input.specs.State.{State}
 use Rattle.picky_der_input.specs.Steps.{Takes, Fails, IsJudged, IsMissing, TakesNoMemory, failed_with, is_hard}
 use Rattle.picky_der_input.specs.Reading.{Reads, Refuses, AllConcerned, AreNotRefused, AreJustRefused}
 use Rattle.picky_der_input.specs.Order.{cut_at}
-use Rattle.picky_der_input.specs.Ends.{Outer, innermost, narrowed, RefusesClose}
+use Rattle.picky_der_input.specs.Ends.{Outer, innermost, with_inner_end, RefusesClose}
 
 -- ---- enclosures
 
@@ -102,8 +102,8 @@ opening_refusal w s rest = refusal_behind (counts_unused_bits w) (enclosure_head
 -- ---- openings
 
 -- the end around the innermost one was put back
-abbrev pub restored : Outer → State → State
-restored outer s = record s { until_end = outer.place - s.taken; end = outer.kind; sets = cut_at outer.last s.sets.around }
+abbrev pub with_outer_end : Outer → State → State
+with_outer_end outer s = record s { until_end = outer.place - s.taken; end = outer.kind; sets = cut_at outer.last s.sets.around }
 
 -- the header, and the count of unused bits
 abbrev pub opening : Enclosure → ℕ → List ℕ
@@ -114,7 +114,7 @@ pub record OpensEnclosure (w : Enclosure) (old new : State) (outer : Outer) : Ty
   pub size : ℕ
   pub number : HasEnclosureNumber w
   pub around : outer ≡ innermost old
-  pub takes : Takes old (restored outer new) (opening w size)
+  pub takes : Takes old (with_outer_end outer new) (opening w size)
   pub until_end : size ≡ length (unused_bits w) + new.until_end
   pub within : new.taken + new.until_end ≤ outer.place
   pub end : new.end ≡ Hard
@@ -142,7 +142,7 @@ pub record BeginsEnclosure (w : Enclosure) (old new : State) (outer : Outer) : T
   pub number : HasEnclosureNumber w
   pub takes : Takes old mid (enclosure_tag w ∷ len size)
   pub fits : size ≤ mid.until_end
-  pub opened : new ≡ narrowed mid size Hard
+  pub opened : new ≡ with_inner_end mid size Hard
   pub around : outer ≡ innermost mid
   pub bounded : old.until_end < 2 ^ 64
 

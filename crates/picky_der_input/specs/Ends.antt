@@ -8,7 +8,7 @@ use Rattle.picky_der_input.specs.declared.end.End.{End}
 use Rattle.picky_der_input.specs.declared.end.End.TheVariants.{Soft}
 use Rattle.picky_der_input.specs.State.{State}
 use Rattle.picky_der_input.specs.Steps.{Fails, TakesNoMemory, failed_with, at_end, is_hard}
-use Rattle.picky_der_input.specs.Order.{order_of, entered, last_start, cut_at}
+use Rattle.picky_der_input.specs.Order.{order_of, sets_inside, last_start, cut_at}
 use Rattle.picky_der_input.specs.Reading.{AreNotRefused}
 use Rattle.picky_der_input.specs.Headers.{BeginsContent, RefusesBegin}
 
@@ -24,8 +24,8 @@ abbrev pub innermost : State → Outer
 innermost s = record { place = s.taken + s.until_end; kind = s.end; last = last_start s.sets }
 
 -- an end of this kind was opened this many bytes from here
-abbrev pub narrowed : State → ℕ → End → State
-narrowed s n kind = record s { until_end = n; end = kind; sets = entered None s.sets }
+abbrev pub with_inner_end : State → ℕ → End → State
+with_inner_end s n kind = record s { until_end = n; end = kind; sets = sets_inside None s.sets }
 
 -- the end was reached, and the one around it is the innermost again
 pub record Closes (outer : Outer) (old new : State) : Type 0 where
@@ -53,7 +53,7 @@ pub record OpensList (tag : ℕ) (old new : State) (outer : Outer) : Type 0 wher
   pub mid : State
   pub len : ℕ
   pub begins : BeginsContent tag old mid len
-  pub opened : new ≡ record (narrowed mid len Soft) { sets = entered (order_of tag) mid.sets }
+  pub opened : new ≡ record (with_inner_end mid len Soft) { sets = sets_inside (order_of tag) mid.sets }
   pub around : outer ≡ innermost mid
   pub no_refusal : AreNotRefused (list_refusal tag old) old
 
@@ -67,6 +67,6 @@ pub record RefusesList (tag : ℕ) (old new : State) (e : Asn1DerError) : Type 0
 pub record OpensLazily (len : ℕ) (old new : State) (outer : Outer) : Type 0 where
   pub again : (f : Failure) → old.failed ≡ Some f → new ≡ old
   pub past : old.failed ≡ None → old.until_end < len → new ≡ failed_with old (at_end old.end)
-  pub opened : old.failed ≡ None → len ≤ old.until_end → new ≡ record (narrowed old len Soft) { implicit_tag = None }
+  pub opened : old.failed ≡ None → len ≤ old.until_end → new ≡ record (with_inner_end old len Soft) { implicit_tag = None }
   pub around : old.failed ≡ None → len ≤ old.until_end → outer ≡ innermost old
   pub place : outer.place ≡ old.taken + old.until_end

@@ -5,7 +5,7 @@ use Rattle.picky_der_core.specs.declared.error.Asn1DerError.{Asn1DerError}
 use Rattle.picky_der_core.specs.Failure.{failure_of}
 use Rattle.picky_der_core.specs.declared.error.Asn1DerError.TheVariants.{InvalidData}
 use Rattle.picky_der_core.specs.Element.{Begins}
-use Rattle.picky_der_core.specs.Refusal.{Refusal, missing}
+use Rattle.picky_der_core.specs.Refusal.{Refusal, missing_byte}
 use Rattle.picky_der_input.specs.State.{State}
 use Rattle.picky_der_input.specs.Steps.{Fails, IsJudged, IsMissing, TakesNoMemory, is_hard}
 use Rattle.picky_der_input.specs.Reading.{AreNotRefused, AreJustRefused}
@@ -14,7 +14,7 @@ use Rattle.picky_der_input.specs.Reading.{AreNotRefused, AreJustRefused}
 
 -- none of these bytes is there
 abbrev pub next_refusal : State → List ℕ → Option Refusal
-next_refusal s [] = Some (missing (is_hard s.end) s.until_end [], [])
+next_refusal s [] = Some (missing_byte (is_hard s.end) s.until_end [], [])
 next_refusal s (b ∷ bs) = None
 
 -- directly under an implicit tag the tag was taken, and is known

@@ -18,8 +18,8 @@ abbrev pub order_of : ℕ → Option (List ℕ)
 order_of tag = if tag == 0x31 then Some [] else None
 
 -- an end was opened among them, with this before its first member
-abbrev pub entered : Option (List ℕ) → OpenSets → OpenSets
-entered first s = record { last = first; around = kept_in s.last s.around }
+abbrev pub sets_inside : Option (List ℕ) → OpenSets → OpenSets
+sets_inside first s = record { last = first; around = kept_in s.last s.around }
 
 -- where the encoding begins that is kept for the innermost end, where that is a set's
 abbrev pub last_start : OpenSets → Option ℕ
@@ -53,8 +53,8 @@ abbrev pub AreInOrder : OpenSets → List (List ℕ) → Type 0
 AreInOrder s members = AreBehind s.last members
 
 -- the same, but no order is tested
-abbrev pub unordered : State → State
-unordered s = record s { sets = record s.sets { last = None } }
+abbrev pub without_order : State → State
+without_order s = record s { sets = record s.sets { last = None } }
 
 -- a member with this encoding may come next, and is the last one from here on
 pub record Follows (member : List ℕ) (old new : State) : Type 0 where

@@ -16,8 +16,8 @@ use Rattle.picky_der_input.specs.declared.end.End.TheVariants.{Limit, Soft, Hard
 use Rattle.picky_der_input.specs.State.{State}
 
 -- how many bytes were drawn from the reader
-abbrev pub drawn : State → ℕ
-drawn s = s.taken + count_of_any s.peeked
+abbrev pub drawn_count : State → ℕ
+drawn_count s = s.taken + count_of_any s.peeked
 
 -- ---- ends
 
@@ -50,7 +50,7 @@ place_of s = place_in s.implicit_tag s.until_end
 -- no more was drawn than the limit allows, and the innermost end isn't past the limit
 pub record IsWithin (s : State) : Type 0 where
   pub end : s.taken + s.until_end ≤ s.limit
-  pub drawn : drawn s ≤ s.limit
+  pub drawn : drawn_count s ≤ s.limit
 
 -- no byte stands peeked directly under an implicit tag
 abbrev pub IsUnpeekedIfImplicit : Option ℕ → Option ℕ → Type 0
@@ -73,7 +73,7 @@ pub record Takes (old new : State) (bytes : List ℕ) : Type 0 where
   pub sets : new.sets ≡ old.sets
   pub unpeeked : new.peeked ≡ None
   -- a peeked byte was the first of them
-  pub drawn : drawn old ≤ new.taken
+  pub drawn : drawn_count old ≤ new.taken
   pub had_not_failed : old.failed ≡ None
   pub not_failed : new.failed ≡ None
   pub faults : new.faults ≡ old.faults
@@ -116,12 +116,12 @@ pub record Fails (old new : State) (e : Asn1DerError) : Type 0 where
   pub other : old.failed ≡ None → new.faults ≡ old.faults → IsOther e → ⊥
   pub took : Took old new
   -- a peeked byte stays, or was taken
-  pub grows : drawn old ≤ drawn new
+  pub grows : drawn_count old ≤ drawn_count new
   -- the innermost end doesn't move away
   pub end : new.taken + new.until_end ≤ old.taken + old.until_end
   pub limit : new.limit ≡ old.limit
   pub within : IsWithin old → IsWithin new
-  pub there : old.failed ≡ None → HasDrawn old.input old.taken (drawn new)
+  pub there : old.failed ≡ None → HasDrawn old.input old.taken (drawn_count new)
   pub references : new.references ≡ old.references
 
 -- neither a fault nor out of memory

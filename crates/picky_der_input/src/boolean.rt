@@ -19,7 +19,7 @@ impl Boolean {
     /// `InvalidData` for more than one byte and for any other byte.
     pub fn deserialize(content: &[u8]) -> Result<bool>
         ensures ok { IfOk result (λ value. content.now ≡ boolean_content value) }
-        ensures no_fault { OnOk result (boolean_fault content.now ≡ None) }
+        ensures right { OnOk result (boolean_fault content.now ≡ None) }
         ensures fault { IfErr result (λ e. boolean_fault content.now ≡ Some e) }
         ensures no_device { IfErr result IsOfContent }
     {

@@ -1,5 +1,6 @@
 //! What stands around one value that is read.
 ghost use Rattle.std.specs.Prelude.{◌≡◌, IfNone, IfSome};
+ghost use Rattle.picky_der_core.specs.Equality.{IsEqualityOf};
 ghost use Rattle.picky_der_input.specs.Enclosures.{enclosure_tag, HasEnclosureNumber, counts_unused_bits, implicit_number};
 
 use picky_der_core::asn1::{Tag, Wrapper};
@@ -15,6 +16,11 @@ pub enum Enclosure {
 }
 
 impl Enclosure {
+    /// Two are equal just where they are one kind with one number.
+    pub fn equality()
+        ensures { IsEqualityOf ⟦<Enclosure as PartialEq>⟧.eq (λ enclosure. enclosure) }
+    {}
+
     // Its tag, and `None` where the tag number is past 30.
     pub(crate) fn tag(self) -> Option<Tag>
         ensures tag { IfSome result (λ tag. tag ≡ enclosure_tag self) }

@@ -1,5 +1,6 @@
 //! What kinds of ends there are before which a value has to be complete.
 ghost use Rattle.std.specs.Prelude.{◌≡◌};
+ghost use Rattle.picky_der_core.specs.Equality.{IsEqualityOf};
 ghost use Rattle.picky_der_input.specs.Steps.{at_end};
 
 use picky_der_core::Asn1DerError;
@@ -18,6 +19,11 @@ pub enum End {
 }
 
 impl End {
+    /// Two are equal just where they are one kind of end.
+    pub fn equality()
+        ensures { IsEqualityOf ⟦<End as PartialEq>⟧.eq (λ end. end) }
+    {}
+
     // The error of a byte that is missing there, and of a length that reaches past it.
     pub(crate) fn missing(self) -> Asn1DerError
         ensures { result ≡ at_end self }

@@ -56,7 +56,7 @@ impl UnsignedInteger {
     /// past the type's greatest; `InvalidData` for a needless 00 in front.
     pub fn deserialize<T: UInt>(content: &[u8]) -> Result<T>
         ensures ok { IfOk result (λ value. content.now ≡ unsigned_content (T.number value)) }
-        ensures no_fault { OnOk result (unsigned_fault T.greatest content.now ≡ None) }
+        ensures right { OnOk result (unsigned_fault T.greatest content.now ≡ None) }
         ensures fault { IfErr result (λ e. unsigned_fault T.greatest content.now ≡ Some e) }
         ensures no_device { IfErr result IsOfContent }
     {

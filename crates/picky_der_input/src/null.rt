@@ -17,7 +17,7 @@ impl Null {
     /// The null with this content, which is empty. `InvalidData` for any other.
     pub fn deserialize(content: &[u8]) -> Result<()>
         ensures ok { OnOk result (content.now ≡ []) }
-        ensures no_fault { OnOk result (null_fault content.now ≡ None) }
+        ensures right { OnOk result (null_fault content.now ≡ None) }
         ensures fault { IfErr result (λ e. null_fault content.now ≡ Some e) }
         ensures no_device { IfErr result IsOfContent }
     {

@@ -32,7 +32,7 @@ pub(crate) trait PlainKind<V> {
     // The value with this content.
     fn of_content(content: &[u8]) -> Result<V>
         ensures ok { IfOk result (λ value. content.now ≡ content_of (meaning (view value))) }
-        ensures no_fault { OnOk result (judge content.now ≡ None) }
+        ensures right { OnOk result (judge content.now ≡ None) }
         ensures fault { IfErr result (λ e. judge content.now ≡ Some e) }
         ensures no_device { IfErr result IsOfContent };
 

@@ -17,7 +17,7 @@ impl Utf8String {
     /// The text with this content, which stays where it is. `InvalidData` where it isn't UTF-8.
     pub fn deserialize(content: &[u8]) -> Result<&str>
         ensures ok { IfOk result (λ text. (text.now ≡ content.now) × IsUtf8 content.now) }
-        ensures no_fault { OnOk result (text_fault content.now ≡ None) }
+        ensures right { OnOk result (text_fault content.now ≡ None) }
         ensures fault { IfErr result (λ e. text_fault content.now ≡ Some e) }
         ensures no_device { IfErr result IsOfContent }
     {

@@ -9,7 +9,7 @@ use Rattle.picky_der_core.specs.Encoding.{content, plain_tag}
 use Rattle.picky_der_core.specs.Readable.{IsWritable}
 use Rattle.picky_der_core.specs.WrapperLaws.{AreAlike, alike-under, der-alike, alike-sym, is_simple, alike-bytes}
 use Rattle.picky_der_ser.specs.State.{State, Level}
-use Rattle.picky_der_ser.specs.Calls.{Adds, Excuse, no_memory, unwritable, no_sink, MemoryExcuse, no_room, no_way, Refused, RefusedIn, Writes, RefusesWrite, OnlySinkFails, RefusesUnwritable, WritesPlain}
+use Rattle.picky_der_ser.specs.Calls.{Adds, Excuse, no_memory, unwritable, no_sink, MemoryExcuse, no_room, no_way, SinkRefuses, RefusesIn, Writes, RefusesWrite, OnlySinkFails, RefusesUnwritable, WritesPlain}
 
 pub writable-alike : (t u : Tree) → AreAlike t u → IsWritable t → IsWritable u
 writable-alike t u a h = record { numbers = subst IsTrue a.numbers_same h.numbers; fits = subst (λ l. length l < 2 ^ 64) (der-alike t u a) h.fits }
@@ -25,7 +25,7 @@ module _ {W : Type 0} (g : Ghosts W) where
   excuse-alike t u rest old new e a (unwritable m n s) = unwritable m (λ h. n (writable-alike u t (alike-sym t u a) h)) s
   excuse-alike t u rest old new e a (no_sink h k f) = no_sink (writable-alike t u a h) k f
 
-  refused-alike : (t u : Tree) (old new : W) (e : Asn1DerError) → AreAlike t u → Refused g t old e new → Refused g u old e new
+  refused-alike : (t u : Tree) (old new : W) (e : Asn1DerError) → AreAlike t u → SinkRefuses g t old e new → SinkRefuses g u old e new
   refused-alike t u old new e a h =
       let b = h.begins in
       record {
@@ -33,11 +33,11 @@ module _ {W : Type 0} (g : Ghosts W) where
         excuse = excuse-alike t u b.rest old new e a h.excuse;
       }
 
-  refused_in-alike : (ls : List Level) (t u : Tree) (old new : W) (e : Asn1DerError) → AreAlike t u → RefusedIn g ls t old e new → RefusedIn g ls u old e new
+  refused_in-alike : (ls : List Level) (t u : Tree) (old new : W) (e : Asn1DerError) → AreAlike t u → RefusesIn g ls t old e new → RefusesIn g ls u old e new
   refused_in-alike [] t u old new e a h = refused-alike t u old new e a h
   refused_in-alike (l ∷ ls) t u old new e a h = (excuse_of_part (writable-alike u t (alike-sym t u a)) h.0, h.1)
 
-  refused_first-alike : (f : Option Failure) (ls : List Level) (t u : Tree) (old new : W) (e : Asn1DerError) → AreAlike t u → IfNone f (RefusedIn g ls t old e new) → IfNone f (RefusedIn g ls u old e new)
+  refused_first-alike : (f : Option Failure) (ls : List Level) (t u : Tree) (old new : W) (e : Asn1DerError) → AreAlike t u → IfNone f (RefusesIn g ls t old e new) → IfNone f (RefusesIn g ls u old e new)
   refused_first-alike None ls t u old new e a h = refused_in-alike ls t u old new e a h
   refused_first-alike (Some j) ls t u old new e a h = tt
 

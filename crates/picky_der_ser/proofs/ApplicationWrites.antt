@@ -9,24 +9,24 @@ use Rattle.picky_der_core.specs.declared.error.Asn1DerError.{Asn1DerError}
 use Rattle.picky_der_core.specs.declared.error.Asn1DerError.TheVariants.{UnsupportedValue}
 use Rattle.picky_der_core.specs.Tag.{is_tag_number}
 use Rattle.picky_der_core.specs.Tree.{Tree}
-use Rattle.picky_der_core.specs.Encoding.{written, der}
+use Rattle.picky_der_core.specs.Encoding.{tree_bytes, der}
 use Rattle.picky_der_core.specs.Readable.{has_tag_numbers, IsWritable}
 use Rattle.picky_der_core.specs.Wrapper.{under}
 use Rattle.picky_der_core.specs.WrapperLaws.{AreAlike, alike-under, der-alike}
 use Rattle.picky_der_ser.specs.declared.header.Header.TheVariants.{Application}
 use Rattle.picky_der_ser.specs.Headers.{headers}
-use Rattle.picky_der_ser.specs.State.{State, Level, with_member, settled}
+use Rattle.picky_der_ser.specs.State.{State, Level, with_member, final_content}
 use Rattle.picky_der_ser.specs.Calls.{MemoryExcuse, Writes, RefusesWrite, OpensLevel, AddsMember, RefusesToAdd, WritesContent, EndsLevel}
 use Rattle.picky_der_ser.proofs.Alike.{writes-alike, fails-alike}
 use Rattle.picky_der_ser.proofs.HeaderBytes.{der-headers}
 use Rattle.picky_der_ser.proofs.ListBytes.{numbers_inside, second_of}
-use Rattle.picky_der_ser.proofs.SetBytes.{settled-uncut}
+use Rattle.picky_der_ser.proofs.SetBytes.{final_content-uncut}
 use Rattle.picky_der_ser.proofs.Members.{refused_part, writes_whatever, fails_whatever}
 use Rattle.picky_der_ser.proofs.PlainWrites.{past_under, unwritable-by, refused_unwritable}
 
 -- around the bytes of a tree it is written as around the tree
-written_alike : (n : ℕ) (t : Tree) (header : _) → written header (Tree.application n (Tree.raw (der t))) ≡ written header (Tree.application n t)
-unfolding written der
+written_alike : (n : ℕ) (t : Tree) (header : _) → tree_bytes header (Tree.application n (Tree.raw (der t))) ≡ tree_bytes header (Tree.application n t)
+unfolding tree_bytes der
 written_alike n t header = refl
 
 alike_application : (n : ℕ) (t : Tree) → IsTrue (has_tag_numbers t) → AreAlike (Tree.application n (Tree.raw (der t))) (Tree.application n t)
@@ -65,9 +65,9 @@ module _ {W : Type 0} (g : Ghosts W) (n : ℕ) (t : Tree) (old now : State W) (o
   ended : (d new : State W) (r : Result ℕ Asn1DerError) → AddsMember g t now d → EndsLevel g d r new → WritesContent g (Application n) (der t) (record old { pending = Some full }) r new
   ended d new r h f =
       let none : old.failed ≡ None = sym failed_at ∙ h.had_not_failed in
-      let at : WritesContent g (Application n) (settled full) (record { sink = old.sink; around = old.around; failed = None; inside = old.inside; pending = Some full }) r new =
-      subst (λ s. IfSome s.pending (λ l. WritesContent g l.header (settled l) (record s { around = l.around }) r new)) (gained d h) f.ended in
-      subst (λ e. WritesContent g (Application n) (der t) (record { sink = old.sink; around = old.around; failed = e; inside = old.inside; pending = Some full }) r new) (sym none) (subst (λ c. WritesContent g (Application n) c (record { sink = old.sink; around = old.around; failed = None; inside = old.inside; pending = Some full }) r new) (settled-uncut full refl) at)
+      let at : WritesContent g (Application n) (final_content full) (record { sink = old.sink; around = old.around; failed = None; inside = old.inside; pending = Some full }) r new =
+      subst (λ s. IfSome s.pending (λ l. WritesContent g l.header (final_content l) (record s { around = l.around }) r new)) (gained d h) f.ended in
+      subst (λ e. WritesContent g (Application n) (der t) (record { sink = old.sink; around = old.around; failed = e; inside = old.inside; pending = Some full }) r new) (sym none) (subst (λ c. WritesContent g (Application n) c (record { sink = old.sink; around = old.around; failed = None; inside = old.inside; pending = Some full }) r new) (final_content-uncut full refl) at)
 
   pub application_wrote : (d new : State W) (r : Result ℕ Asn1DerError) (k : ℕ) → AddsMember g t now d → EndsLevel g d r new → r ≡ Ok k → Writes g (Tree.application n t) old k new
   application_wrote d new r k h f e =

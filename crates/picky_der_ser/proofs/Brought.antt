@@ -3,7 +3,7 @@ use Rattle.std.proofs.Common.{◌≡◌, ℕ, ◌+◌, ◌-◌, ◌≤◌, List,
 use Rattle.std.proofs.Math.Seq.{take-append_seam, drop-append_seam, take-append-add, drop-append-add}
 use Rattle.std.proofs.lemmas.List.{drop-append-le, take-append-le, take-take, length-drop}
 use Rattle.std.specs.List.{slice_rotate_right}
-use Rattle.picky_der_ser.specs.Overwrite.{overwritten}
+use Rattle.picky_der_ser.specs.Overwrite.{with_overwrite}
 
 -- the last bytes of a list, in front of the others
 rotated : (c h : List ℕ) (room more : ℕ) → length h ≡ room + more → slice_rotate_right (c ++ h) more ≡ drop room h ++ (c ++ take room h)
@@ -28,7 +28,7 @@ turned bs i j h =
 
 -- the last `count` of these bytes in the place of those behind `a`
 filled : (a r x f : List ℕ) (at count n : ℕ) → length a ≡ at → length r ≡ count → length f ≡ count → n ≡ at + count + length x
-    → overwritten at count n (((a ++ r) ++ x) ++ f) ≡ a ++ (f ++ x)
+    → with_overwrite at count n (((a ++ r) ++ x) ++ f) ≡ a ++ (f ++ x)
 filled a r x f at count n i j k l =
     let all = ((a ++ r) ++ x) ++ f in
     let before : ((a ++ r) ++ x) ++ f ≡ a ++ (r ++ (x ++ f)) = append_assoc (a ++ r) x f ∙ append_assoc a r (x ++ f) in
@@ -42,7 +42,7 @@ filled a r x f at count n i j k l =
 
 -- bytes behind a list, brought in front of its content: the first of them in the place of the room
 pub brought : (s h : List ℕ) (at start more : ℕ) → at ≤ start → start ≤ length s → length h ≡ (start - at) + more
-    → overwritten at (start - at) (length (take start (s ++ h) ++ slice_rotate_right (drop start (s ++ h)) more) - (start - at)) (take start (s ++ h) ++ slice_rotate_right (drop start (s ++ h)) more) ≡ take at s ++ (h ++ drop start s)
+    → with_overwrite at (start - at) (length (take start (s ++ h) ++ slice_rotate_right (drop start (s ++ h)) more) - (start - at)) (take start (s ++ h) ++ slice_rotate_right (drop start (s ++ h)) more) ≡ take at s ++ (h ++ drop start s)
 brought s h at start more room within count =
     let c = drop start s in
     let width = start - at in
@@ -61,5 +61,5 @@ brought s h at start more room within count =
     let j : length r ≡ width = omega (arith, ap length outer, length-append a r, size, i) in
     let k : length first ≡ width = length-take-le width h (omega (arith, count)) in
     let l : length (((a ++ r) ++ (rest ++ c)) ++ first) - width ≡ at + width + length (rest ++ c) = omega (arith, length-append ((a ++ r) ++ (rest ++ c)) first, length-append (a ++ r) (rest ++ c), length-append a r, i, j, k) in
-    ap (λ w. overwritten at width (length w - width) w) is ∙ filled a r (rest ++ c) first at width _ i j k l
+    ap (λ w. with_overwrite at width (length w - width) w) is ∙ filled a r (rest ++ c) first at width _ i j k l
     ∙ ap (λ x. a ++ x) (sym (append_assoc first rest c) ∙ ap (λ x. x ++ c) (take-append-drop width h))

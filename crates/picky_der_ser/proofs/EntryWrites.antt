@@ -20,8 +20,8 @@ use Rattle.picky_der_core.specs.Sink.{vector_of, position_of}
 use Rattle.picky_der_core.specs.SliceSink.{slice_of, filled_of, written_of, faults_of, IsLater}
 use Rattle.picky_der_core.specs.SliceSinkLaws.{holds_all, holds_beginning, holds_first}
 use Rattle.picky_der_ser.specs.State.{State}
-use Rattle.picky_der_ser.specs.Calls.{Excuse, no_memory, unwritable, no_sink, MemoryExcuse, no_room, no_way, Wrote, Refused, RefusedIn, RefusesWrite}
-use Rattle.picky_der_ser.specs.Entry.{Overwrites, RefusedVec, SliceExcuse, without_memory, without_form, without_room, RefusedSlice}
+use Rattle.picky_der_ser.specs.Calls.{Excuse, no_memory, unwritable, no_sink, MemoryExcuse, no_room, no_way, SinkWrites, SinkRefuses, RefusesIn, RefusesWrite}
+use Rattle.picky_der_ser.specs.Entry.{Overwrites, VecRefuses, SliceExcuse, without_memory, without_form, without_room, SliceRefuses}
 
 memory_kind : error_of_kind kind.OutOfMemory ≡ OutOfMemory
 unfolding error_of_kind
@@ -40,7 +40,7 @@ module _ {V W : Type 0} (h : Ghosts V) (g : Ghosts W) (now : V → W) (told : (v
   excuse-references t rest old new e (no_sink w some f) =
       no_sink w some (record { rose = omega (arith, f.rose, faults old, faults new); kind = f.kind; answered = answers f.kind f.answered; is = f.is })
 
-  refused-references : (t : Tree) (old new : V) (e : Asn1DerError) → Refused h t old e new → Refused g t (now old) e (now new)
+  refused-references : (t : Tree) (old new : V) (e : Asn1DerError) → SinkRefuses h t old e new → SinkRefuses g t (now old) e (now new)
   refused-references t old new e r =
       let b = r.begins in
       let first : Appends (g.told (now old)) (h.told new) b.front = subst (λ a. Appends a (h.told new) b.front) (told old) b.appends in
@@ -48,11 +48,11 @@ module _ {V W : Type 0} (h : Ghosts V) (g : Ghosts W) (now : V → W) (told : (v
       record { begins = record { front = b.front; rest = b.rest; is = b.is; appends = both }; excuse = excuse-references t b.rest old new e r.excuse }
 
   -- a serializer that began with nothing open, and hadn't failed
-  pub refused-fresh : (t : Tree) (old new : State V) (e : Asn1DerError) → old.failed ≡ None → old.inside ≡ [] → old.around ≡ [] → RefusesWrite h t old e new → Refused g t (now old.sink) e (now new.sink)
+  pub refused-fresh : (t : Tree) (old new : State V) (e : Asn1DerError) → old.failed ≡ None → old.inside ≡ [] → old.around ≡ [] → RefusesWrite h t old e new → SinkRefuses g t (now old.sink) e (now new.sink)
   refused-fresh t old new e f i a k =
-      let first : RefusedIn h old.inside (under old.around t) old.sink e new.sink = subst (λ o. IfNone o (RefusedIn h old.inside (under old.around t) old.sink e new.sink)) f k.first in
-      let outside : Refused h (under old.around t) old.sink e new.sink = subst (λ ls. RefusedIn h ls (under old.around t) old.sink e new.sink) i first in
-      refused-references t old.sink new.sink e (subst (λ ws. Refused h (under ws t) old.sink e new.sink) a outside)
+      let first : RefusesIn h old.inside (under old.around t) old.sink e new.sink = subst (λ o. IfNone o (RefusesIn h old.inside (under old.around t) old.sink e new.sink)) f k.first in
+      let outside : SinkRefuses h (under old.around t) old.sink e new.sink = subst (λ ls. RefusesIn h ls (under old.around t) old.sink e new.sink) i first in
+      refused-references t old.sink new.sink e (subst (λ ws. SinkRefuses h (under ws t) old.sink e new.sink) a outside)
 
 -- ---- a vector
 
@@ -76,7 +76,7 @@ module _ (g : Ghosts BufSink) (told : (s : BufSink) → g.told s ≡ Some (take 
 
   -- a vector holds a beginning of the encoding, and behind it what stood there before
   pub refused-vec : (t : Tree) (old new : BufSink) (e : Asn1DerError) → position_of old ≡ 0 → drop (position_of new) (vector_of new).now.items ≡ drop (position_of new) (vector_of old).now.items
-      → Refused g t old e new → RefusedVec t (vector_of old).now.items e (vector_of new).now.items
+      → SinkRefuses g t old e new → VecRefuses t (vector_of old).now.items e (vector_of new).now.items
   refused-vec t old new e start past h =
       let front = h.begins.front in
       let first : Appends (Some (take (position_of old) (vector_of old).now.items)) (g.told new) front = subst (λ a. Appends a (g.told new) front) (told old) h.begins.appends in
@@ -101,7 +101,7 @@ module _ (g : Ghosts SliceSink) (told : (s : SliceSink) → g.told s ≡ Some (w
       subst (λ b. Appends (Some (written_of old)) b bs) (told new) first
 
   -- a slice holds the encoding, and behind it what stood there before
-  pub wrote-slice : (t : Tree) (old new : SliceSink) (n : ℕ) → filled_of old ≡ 0 → IsLater old new → Wrote g t old n new
+  pub wrote-slice : (t : Tree) (old new : SliceSink) (n : ℕ) → filled_of old ≡ 0 → IsLater old new → SinkWrites g t old n new
       → Overwrites t (slice_of old).now n (slice_of new).now × (length (der t) ≤ length (slice_of old).now)
   wrote-slice t old new n start later h =
       let all = holds_all old new (der t) start later (told-appends old new (der t) h.appends) in
@@ -117,7 +117,7 @@ module _ (g : Ghosts SliceSink) (told : (s : SliceSink) → g.told s ≡ Some (w
       without_room (f.is ∙ ap error_of_kind (only f.kind f.answered) ∙ full_kind) h first.0 first.1
 
   -- it holds a beginning of the encoding, and behind it what stood there before
-  pub refused-slice : (t : Tree) (old new : SliceSink) (e : Asn1DerError) → filled_of old ≡ 0 → IsLater old new → Refused g t old e new → RefusedSlice t (slice_of old).now e (slice_of new).now
+  pub refused-slice : (t : Tree) (old new : SliceSink) (e : Asn1DerError) → filled_of old ≡ 0 → IsLater old new → SinkRefuses g t old e new → SliceRefuses t (slice_of old).now e (slice_of new).now
   refused-slice t old new e start later h =
       let b : AppendsBeginning (Some (written_of old)) (Some (written_of new)) (der t) =
       record { front = h.begins.front; rest = h.begins.rest; is = h.begins.is; appends = told-appends old new h.begins.front h.begins.appends } in

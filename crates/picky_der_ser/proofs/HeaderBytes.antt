@@ -12,7 +12,7 @@ use Rattle.picky_der_ser.specs.declared.header.Header.{Header}
 use Rattle.picky_der_ser.specs.declared.header.Header.TheVariants.{Tagged, Application, Raw}
 use Rattle.picky_der_ser.specs.Heading.{tree_of}
 use Rattle.std.specs.Option.{unwrap_or}
-use Rattle.picky_der_ser.specs.Headers.{opening, own_header, openings, joined_last, kept, headers}
+use Rattle.picky_der_ser.specs.Headers.{opening, own_header, openings, innermost_joint_header, headed_wrappers, headers}
 
 -- ---- one wrapper
 
@@ -74,7 +74,7 @@ one BitContainer h c = written_whole BitContainer h c (der-wrap BitContainer (tr
 one (Explicit k) h c = written_whole (Explicit k) h c (der-wrap (Explicit k) (tree_of h c) (present h c) ∙ sym (whole-tagged (0xA0 + k) (der (tree_of h c))))
 
 -- one more wrapper in front
-more : (w v : Wrapper) (ws : List Wrapper) (inner : List ℕ) (n : ℕ) (j : Option Header) → openings (kept j (w ∷ v ∷ ws)) inner n ≡ opening w (length (openings (kept j (v ∷ ws)) inner n) + n) ++ openings (kept j (v ∷ ws)) inner n
+more : (w v : Wrapper) (ws : List Wrapper) (inner : List ℕ) (n : ℕ) (j : Option Header) → openings (headed_wrappers j (w ∷ v ∷ ws)) inner n ≡ opening w (length (openings (headed_wrappers j (v ∷ ws)) inner n) + n) ++ openings (headed_wrappers j (v ∷ ws)) inner n
 more w v ws inner n None = refl
 more w v ws inner n (Some j) =
     let outer : suc (suc (length ws)) - 1 ≡ suc (length ws) = omega arith in
@@ -87,7 +87,7 @@ der-headers [] h c = own h c
 der-headers (w ∷ []) h c = one w h c
 der-headers (w ∷ v ∷ ws) h c =
     one_more w (headers (v ∷ ws) h (length c)) c (under (v ∷ ws) (tree_of h c)) (is_absent-under (v ∷ ws) (tree_of h c) ∙ present h c) (whole v (under ws (tree_of h c))) (der-headers (v ∷ ws) h c)
-    ∙ ap (λ b. b ++ c) (sym (more w v ws (own_header (unwrap_or (joined_last (v ∷ ws) h) h) (length c)) (length c) (joined_last (v ∷ ws) h)))
+    ∙ ap (λ b. b ++ c) (sym (more w v ws (own_header (unwrap_or (innermost_joint_header (v ∷ ws) h) h) (length c)) (length c) (innermost_joint_header (v ∷ ws) h)))
 
 -- where it is one header with a length of one byte
 pub der-short : (ws vs : List Wrapper) (h : Header) (c : List ℕ) (identifier n : ℕ) → vs ≡ ws → n ≡ length c → headers vs h n ≡ identifier ∷ n ∷ [] → identifier ∷ n ∷ c ≡ der (under ws (tree_of h c))

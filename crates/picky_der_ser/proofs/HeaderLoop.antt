@@ -11,7 +11,7 @@ use Rattle.picky_der_core.specs.Wrapper.{HasTagNumber}
 use Rattle.picky_der_ser.specs.declared.header.Header.{Header}
 use Rattle.picky_der_ser.specs.declared.header.Header.TheVariants.{Tagged, Application, Raw}
 use Rattle.std.specs.Option.{unwrap_or}
-use Rattle.picky_der_ser.specs.Headers.{opening, openings, joined, joined_last, kept, HasNumber, HaveTagNumbers}
+use Rattle.picky_der_ser.specs.Headers.{opening, openings, joint_header, innermost_joint_header, headed_wrappers, HasNumber, HaveTagNumbers}
 
 -- ---- tag numbers
 
@@ -28,13 +28,13 @@ first_numbers zero ws h = tt
 first_numbers (suc n) [] h = tt
 first_numbers (suc n) (w ∷ ws) h = (h.0, first_numbers n ws h.1)
 
-pub joined_last-append : (ws : List Wrapper) (w : Wrapper) (h : Header) → joined_last (ws ++ (w ∷ [])) h ≡ joined w h
-joined_last-append [] w h = refl
-joined_last-append (v ∷ []) w h = refl
-joined_last-append (v ∷ u ∷ ws) w h = joined_last-append (u ∷ ws) w h
+pub innermost_joint_header-append : (ws : List Wrapper) (w : Wrapper) (h : Header) → innermost_joint_header (ws ++ (w ∷ [])) h ≡ joint_header w h
+innermost_joint_header-append [] w h = refl
+innermost_joint_header-append (v ∷ []) w h = refl
+innermost_joint_header-append (v ∷ u ∷ ws) w h = innermost_joint_header-append (u ∷ ws) w h
 
 -- the header that is written innermost has a tag number too
-pub joined_number : (w : Wrapper) (h j : Header) → HasTagNumber w → joined w h ≡ Some j → HasNumber j
+pub joined_number : (w : Wrapper) (h j : Header) → HasTagNumber w → joint_header w h ≡ Some j → HasNumber j
 joined_number (Implicit k) (Tagged tag) j n e =
     let q : Tagged (0x80 + k) ≡ j = cc in
     let small : IsTagNumber (number_of (0x80 + k)) = omega arith in
@@ -45,20 +45,20 @@ joined_number OctetContainer h j n e = cc
 joined_number BitContainer h j n e = cc
 joined_number (Explicit k) h j n e = cc
 
-pub innermost_number : (ws : List Wrapper) (h : Header) → HaveTagNumbers ws → HasNumber h → HasNumber (unwrap_or (joined_last ws h) h)
+pub innermost_number : (ws : List Wrapper) (h : Header) → HaveTagNumbers ws → HasNumber h → HasNumber (unwrap_or (innermost_joint_header ws h) h)
 innermost_number [] h n m = m
-innermost_number (w ∷ []) h n m = one (joined w h) refl
+innermost_number (w ∷ []) h n m = one (joint_header w h) refl
   where
-    one : (j : Option Header) → joined w h ≡ j → HasNumber (unwrap_or j h)
+    one : (j : Option Header) → joint_header w h ≡ j → HasNumber (unwrap_or j h)
     one None e = m
     one (Some j) e = joined_number w h j n.0 e
 innermost_number (w ∷ v ∷ ws) h n m = innermost_number (v ∷ ws) h n.1 m
 
-pub kept_numbers : (ws : List Wrapper) (j : Option Header) → HaveTagNumbers ws → HaveTagNumbers (kept j ws)
+pub kept_numbers : (ws : List Wrapper) (j : Option Header) → HaveTagNumbers ws → HaveTagNumbers (headed_wrappers j ws)
 kept_numbers ws None h = h
 kept_numbers ws (Some j) h = first_numbers (length ws - 1) ws h
 
-pub kept_first : (ws : List Wrapper) (j : Option Header) (n : ℕ) → n ≡ bool_byte (is_some j) → take (length ws - n) ws ≡ kept j ws
+pub kept_first : (ws : List Wrapper) (j : Option Header) (n : ℕ) → n ≡ bool_byte (is_some j) → take (length ws - n) ws ≡ headed_wrappers j ws
 kept_first ws None n e = let all : length ws ≤ length ws - n = omega arith in take_all (length ws - n) ws all
 kept_first ws (Some j) n e = ap (λ m. take (length ws - m) ws) e
 

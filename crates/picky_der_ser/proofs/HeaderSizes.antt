@@ -9,7 +9,7 @@ use Rattle.picky_der_core.specs.ElementLaws.{len-short, len-long}
 use Rattle.picky_der_core.specs.BigEndianLaws.{length-big_endian, below-big_endian}
 use Rattle.picky_der_ser.specs.declared.header.Header.{Header}
 use Rattle.picky_der_ser.specs.declared.header.Header.TheVariants.{Tagged, Application, Raw}
-use Rattle.picky_der_ser.specs.Headers.{opening, own_header, openings, joined_last, kept, headers}
+use Rattle.picky_der_ser.specs.Headers.{opening, own_header, openings, innermost_joint_header, headed_wrappers, headers}
 
 len_size : (n : ℕ) → 0 < length (len n)
 len_size n = elim (cases_lt n 0x80) [
@@ -46,5 +46,5 @@ openings_more (w ∷ ws) inner others m n h k =
 
 pub headers_more : (ws : List Wrapper) (h : Header) (n : ℕ) → length (headers ws h 0) ≤ length (headers ws h n)
 headers_more ws h n =
-    let j = joined_last ws h in
-    openings_more (kept j ws) (own_header (unwrap_or j h) 0) (own_header (unwrap_or j h) n) 0 n (own_more (unwrap_or j h) 0 n (omega arith)) (omega arith)
+    let j = innermost_joint_header ws h in
+    openings_more (headed_wrappers j ws) (own_header (unwrap_or j h) 0) (own_header (unwrap_or j h) n) 0 n (own_more (unwrap_or j h) 0 n (omega arith)) (omega arith)

@@ -4,17 +4,17 @@ use Rattle.std.proofs.Math.Seq.{take-append_seam, drop-append_seam}
 use Rattle.std.proofs.lemmas.List.{take-take, drop-append-le, drop_all, take_all, length-drop, take-append-le, length-take-le}
 use Rattle.picky_der_core.specs.declared.asn1.wrapper.Wrapper.{Wrapper}
 use Rattle.picky_der_ser.specs.Places.{MarkPlace}
-use Rattle.picky_der_ser.specs.State.{Level, Stack, with_bytes, begun, in_order, settled}
+use Rattle.picky_der_ser.specs.State.{Level, Stack, with_bytes, at_next_member, in_order, final_content}
 use Rattle.picky_der_core.specs.Encoding.{der}
 use Rattle.picky_der_core.specs.Wrapper.{under}
 use Rattle.picky_der_ser.specs.Heading.{tree_of}
 use Rattle.picky_der_ser.specs.declared.header.Header.TheVariants.{Raw}
 use Rattle.picky_der_ser.specs.Headers.{headers, HasNumber, HaveTagNumbers}
-use Rattle.picky_der_ser.specs.Sealed.{sealed}
+use Rattle.picky_der_ser.specs.Sealed.{as_raw_level}
 use Rattle.picky_der_ser.specs.Marks.{level_at, levels_of, below, seams_below, wrappers_below, level_of, inside_of, pending_of, with_pending, IsMark, AreMarks, HasRoom}
 use Rattle.picky_der_ser.specs.Parts.{AreSeams, last_seam, next_seams}
 use Rattle.picky_der_ser.proofs.Seams.{seams-next, last_seam-next, drop-next_seams, take-next_seams, length-next_seams}
-use Rattle.picky_der_ser.proofs.SetBytes.{settled-uncut, in_order-uncut}
+use Rattle.picky_der_ser.proofs.SetBytes.{final_content-uncut, in_order-uncut}
 
 -- ---- marks within more bytes, and fewer marks
 
@@ -69,9 +69,9 @@ marks-next m ms n q w k =
     } in
     (first, subst (λ r. AreMarks ms m.at r (take m.first_wrapper w)) (sym (take-next_seams m.header m.first_seam q (n - m.start) k.0.first)) k.1)
 
-pub marks-begun : {p : Option MarkPlace} {m : MarkPlace} (ms : List MarkPlace) (n : ℕ) (q r : List ℕ) (w : List Wrapper) → p ≡ Some m → AreMarks (with_pending p ms) n q w → r ≡ next_seams m.header q (n - m.start)
+pub marks-at_next_member : {p : Option MarkPlace} {m : MarkPlace} (ms : List MarkPlace) (n : ℕ) (q r : List ℕ) (w : List Wrapper) → p ≡ Some m → AreMarks (with_pending p ms) n q w → r ≡ next_seams m.header q (n - m.start)
     → AreMarks (with_pending p ms) n r w
-marks-begun {p} {m} ms n q r w was k e =
+marks-at_next_member {p} {m} ms n q r w was k e =
     let before : AreMarks (m ∷ ms) n q w = subst (λ o. AreMarks (with_pending o ms) n q w) was k in
     rw (was, e) (marks-next m ms n q w before)
 
@@ -137,10 +137,10 @@ stack-opened m ms s q w around at start first outer =
     rw (own, others, none, all, empty, whole) refl
 
 -- another member of what is pending begins
-pub stack-begun : (entered : Bool) {p : Option MarkPlace} {m : MarkPlace} (ms : List MarkPlace) (s q r : List ℕ) (w a : List Wrapper) → p ≡ Some m → AreMarks (with_pending p ms) (length s) q w → r ≡ next_seams m.header q (length s - m.start)
-    → IfSome (pending_of entered p s q w) (λ l. stack_at entered p ms s r w a ≡ record (stack_at entered p ms s q w a) { pending = Some (begun l) })
-stack-begun true {p} {m} ms s q r w a was k e = tt
-stack-begun false {p} {m} ms s q r w a was k e =
+pub stack-at_next_member : (entered : Bool) {p : Option MarkPlace} {m : MarkPlace} (ms : List MarkPlace) (s q r : List ℕ) (w a : List Wrapper) → p ≡ Some m → AreMarks (with_pending p ms) (length s) q w → r ≡ next_seams m.header q (length s - m.start)
+    → IfSome (pending_of entered p s q w) (λ l. stack_at entered p ms s r w a ≡ record (stack_at entered p ms s q w a) { pending = Some (at_next_member l) })
+stack-at_next_member true {p} {m} ms s q r w a was k e = tt
+stack-at_next_member false {p} {m} ms s q r w a was k e =
     let before : AreMarks (m ∷ ms) (length s) q w = subst (λ o. AreMarks (with_pending o ms) (length s) q w) was k in
     let first = before.0.first in
     let n = length s - m.start in
@@ -159,11 +159,11 @@ stack-uncut false {p} {m} ms s q w a was h =
     rw was (ap (λ l. record { inside = levels_of ms (take m.at s) (take m.first_seam q) (take m.first_wrapper w); pending = Some l; around = a }) order)
 
 -- what is pending holds its whole encoding
-pub stack-sealed : (entered : Bool) {p : Option MarkPlace} {m : MarkPlace} (n : MarkPlace) (ms : List MarkPlace) (s t q r : List ℕ) (w a : List Wrapper) → p ≡ Some m → n.header ≡ Raw → n.at ≡ m.at → n.start ≡ m.at → n.first_seam ≡ m.first_seam
+pub stack-as_raw_level : (entered : Bool) {p : Option MarkPlace} {m : MarkPlace} (n : MarkPlace) (ms : List MarkPlace) (s t q r : List ℕ) (w a : List Wrapper) → p ≡ Some m → n.header ≡ Raw → n.at ≡ m.at → n.start ≡ m.at → n.first_seam ≡ m.first_seam
     → n.first_wrapper ≡ m.first_wrapper → drop m.first_wrapper w ≡ [] → AreMarks (with_pending p ms) (length s) q w → t ≡ take m.at s ++ der (under (drop m.first_wrapper w) (tree_of m.header (drop m.start s))) → r ≡ take m.first_seam q
-    → IfSome (pending_of entered p s q w) (λ l. stack_at entered (Some n) ms t r w a ≡ record (stack_at entered p ms s q w a) { pending = Some (sealed l) })
-stack-sealed true {p} {m} n ms s t q r w a was header at start first outer bare marks e f = tt
-stack-sealed false {p} {m} n ms s t q r w a was header at start first outer bare marks e f =
+    → IfSome (pending_of entered p s q w) (λ l. stack_at entered (Some n) ms t r w a ≡ record (stack_at entered p ms s q w a) { pending = Some (as_raw_level l) })
+stack-as_raw_level true {p} {m} n ms s t q r w a was header at start first outer bare marks e f = tt
+stack-as_raw_level false {p} {m} n ms s t q r w a was header at start first outer bare marks e f =
     let before : AreMarks (m ∷ ms) (length s) q w = subst (λ o. AreMarks (with_pending o ms) (length s) q w) was marks in
     let within = before.0.within in
     let room = before.0.room in
@@ -252,19 +252,19 @@ module _ {p q : Option MarkPlace} {m : MarkPlace} (ms : List MarkPlace) (seams :
   -- the same of one that has no seams
   pub stack-enclosed_uncut : (entered : Bool) (s t : List ℕ) (a : List Wrapper) (o l : Level) (ls : List Level) → AreMarks (with_pending p ms) (length s) seams w → length seams ≤ m.first_seam → pending_of entered p s seams w ≡ Some o
       → inside_of entered p ms s seams w ≡ l ∷ ls → t ≡ take m.at s ++ der (under (drop m.first_wrapper w) (tree_of m.header (drop m.start s)))
-      → stack_at entered q ms t seams (take m.first_wrapper w) a ≡ record { inside = with_bytes l (der (under o.around (tree_of o.header (settled o)))) ∷ ls; pending = None; around = a }
+      → stack_at entered q ms t seams (take m.first_wrapper w) a ≡ record { inside = with_bytes l (der (under o.around (tree_of o.header (final_content o)))) ∷ ls; pending = None; around = a }
   stack-enclosed_uncut true s t a o l ls marks none e f g = cc
   stack-enclosed_uncut false s t a o l ls marks none e f g =
       let level : level_at m s seams w ≡ o = let some : Some (level_at m s seams w) ≡ Some o = ap (λ x. level_of x s seams w) (sym was) ∙ e in cc in
       let uncut : o.seams ≡ [] = ap (λ (x : Level). x.seams) (sym level) ∙ drop_all m.first_seam seams none in
       let all : seams ≡ take m.first_seam seams = sym (take_all m.first_seam seams none) in
       ap (λ r. stack_at false q ms t r (take m.first_wrapper w) a) all ∙ stack-enclosed false s t a o l ls marks e f g
-      ∙ ap (λ c. record { inside = with_bytes l (der (under o.around (tree_of o.header c))) ∷ ls; pending = None; around = a }) (sym (settled-uncut o uncut))
+      ∙ ap (λ c. record { inside = with_bytes l (der (under o.around (tree_of o.header c))) ∷ ls; pending = None; around = a }) (sym (final_content-uncut o uncut))
 
 -- how long it is then
 pub count-uncut : (entered : Bool) {p : Option MarkPlace} {m : MarkPlace} (s q : List ℕ) (w : List Wrapper) (n : ℕ) → p ≡ Some m → length q ≤ m.first_seam → n ≡ length (der (under (drop m.first_wrapper w) (tree_of m.header (drop m.start s))))
-    → IfSome (pending_of entered p s q w) (λ l. n ≡ length (der (under l.around (tree_of l.header (settled l)))))
+    → IfSome (pending_of entered p s q w) (λ l. n ≡ length (der (under l.around (tree_of l.header (final_content l)))))
 count-uncut true s q w n was none count = tt
 count-uncut false {p} {m} s q w n was none count =
-    let own : settled (level_at m s q w) ≡ drop m.start s = settled-uncut (level_at m s q w) (drop_all m.first_seam q none) in
+    let own : final_content (level_at m s q w) ≡ drop m.start s = final_content-uncut (level_at m s q w) (drop_all m.first_seam q none) in
     rw was (count ∙ ap (λ c. length (der (under (drop m.first_wrapper w) (tree_of m.header c)))) (sym own))

@@ -4,7 +4,7 @@ use Rattle.std.specs.Prelude.{IsTrue}
 use Rattle.std.specs.List.{concat}
 use Rattle.picky_der_core.specs.declared.asn1.wrapper.Wrapper.{Wrapper}
 use Rattle.picky_der_core.specs.Tree.{ListKind, Tree, Trees, trees}
-use Rattle.picky_der_core.specs.Encoding.{list_content, list_tag, written, encodings, der}
+use Rattle.picky_der_core.specs.Encoding.{list_content, list_tag, tree_bytes, encodings, der}
 use Rattle.picky_der_core.specs.Readable.{has_tag_numbers, have_tag_numbers, IsWritable}
 use Rattle.picky_der_core.specs.Wrapper.{under}
 use Rattle.picky_der_core.specs.EncodingLaws.{encodings-trees, length-list_content}
@@ -66,13 +66,13 @@ map_next [] t = refl
 map_next (s ∷ ts) t = ap (λ l. der s ∷ l) (map_next ts t)
 
 size_at : (ts : List Tree) (t : Tree) (us : Trees) → length (der t) ≤ length (concat (encodings (before ts (Trees.more t us))))
-unfolding der written
+unfolding der tree_bytes
 size_at [] t us = omega (arith, length-append (der t) (concat (encodings us)))
 size_at (s ∷ ts) t us = omega (arith, size_at ts t us, length-append (der s) (concat (encodings (before ts (Trees.more t us)))))
 
 -- a list is written as bytes with its tag
 alike_by : (kind : ListKind) (ts : Trees) → IsTrue (have_tag_numbers ts) → AreAlike (Tree.bytes (list_tag kind) (list_content kind (encodings ts))) (Tree.list kind ts)
-unfolding written
+unfolding tree_bytes
 alike_by ListKind.sequence ts h = record { written_same = λ b. refl; absent_same = refl; numbers_same = sym h }
 alike_by ListKind.set ts h = record { written_same = λ b. refl; absent_same = refl; numbers_same = sym h }
 

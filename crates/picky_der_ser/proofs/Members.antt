@@ -11,14 +11,14 @@ use Rattle.picky_der_core.specs.Readable.{have_tag_numbers, IsWritable}
 use Rattle.picky_der_core.specs.Wrapper.{under}
 use Rattle.picky_der_core.specs.WrapperLaws.{AreAlike}
 use Rattle.picky_der_ser.specs.declared.header.Header.TheVariants.{Tagged}
-use Rattle.picky_der_ser.specs.State.{State, Level, with_member, with_members, settled}
+use Rattle.picky_der_ser.specs.State.{State, Level, with_member, with_members, final_content}
 use Rattle.picky_der_ser.specs.Sequences.{IsListTag, list_kind}
-use Rattle.picky_der_ser.specs.Calls.{MemoryExcuse, no_room, no_way, RefusedIn, Writes, RefusesWrite, OpensLevel, RefusesBefore, AddsMember, RefusesToAdd, WritesContent, EndsLevel}
+use Rattle.picky_der_ser.specs.Calls.{MemoryExcuse, no_room, no_way, RefusesIn, Writes, RefusesWrite, OpensLevel, RefusesBefore, AddsMember, RefusesToAdd, WritesContent, EndsLevel}
 use Rattle.picky_der_ser.proofs.Alike.{writes-alike, fails-alike}
 use Rattle.picky_der_ser.proofs.PlainWrites.{refused_unwritable}
 use Rattle.picky_der_ser.proofs.StateWrites.{refused_memory}
 use Rattle.picky_der_ser.proofs.ListBytes.{before, before_none, before_next, numbers_next, map_next, alike_list, member_writable}
-use Rattle.picky_der_ser.proofs.SetBytes.{list_level, members_header, members_around, members-push, settled-members}
+use Rattle.picky_der_ser.proofs.SetBytes.{list_level, members_header, members_around, members-push, final_content-members}
 
 module _ {W : Type 0} where
   -- the list, opened on this serializer, with these members
@@ -57,7 +57,7 @@ module _ {W : Type 0} (g : Ghosts W) where
 
   -- ---- errors
 
-  excused : {Part : Type 0} (ls : List Level) (u : Tree) (sink : W) (e : Asn1DerError) → MemoryExcuse Part e → (IsWritable u → Part) → RefusedIn g ls u sink e sink
+  excused : {Part : Type 0} (ls : List Level) (u : Tree) (sink : W) (e : Asn1DerError) → MemoryExcuse Part e → (IsWritable u → Part) → RefusesIn g ls u sink e sink
   excused ls u sink e (no_room m) part = rw m (refused_memory g ls u sink)
   excused ls u sink e (no_way m n) part = rw m (refused_unwritable g ls u sink (λ w. n (part w)))
 
@@ -70,7 +70,7 @@ module _ {W : Type 0} (g : Ghosts W) where
       earlier None h = tt
       earlier (Some f) h = (h, same)
 
-      own : (o : Option Failure) → IfNone o (MemoryExcuse Part e) → IfNone o (RefusedIn g old.inside (under old.around u) old.sink e new.sink)
+      own : (o : Option Failure) → IfNone o (MemoryExcuse Part e) → IfNone o (RefusesIn g old.inside (under old.around u) old.sink e new.sink)
       own None h = rw same (excused old.inside (under old.around u) old.sink e h part)
       own (Some f) h = tt
 
@@ -104,11 +104,11 @@ module _ {W : Type 0} (g : Ghosts W) where
       let l = level_with kind a.done old in
       let empty = list_level kind old.around in
       let bs = map der a.done in
-      let whole : WritesContent g l.header (settled l) (record (opened_with kind a.done old) { around = l.around }) r new =
-      subst (λ s. IfSome s.pending (λ m. WritesContent g m.header (settled m) (record s { around = m.around }) r new)) a.is h.ended in
-      let headed = subst (λ x. WritesContent g x (settled l) (record (opened_with kind a.done old) { around = l.around }) r new) (members_header empty bs) whole in
-      let wrapped = subst (λ x. WritesContent g (Tagged (list_tag kind)) (settled l) (record (opened_with kind a.done old) { around = x }) r new) (members_around empty bs) headed in
-      subst (λ c. WritesContent g (Tagged (list_tag kind)) c (record old { pending = Some l }) r new) (settled-members kind old.around bs) wrapped
+      let whole : WritesContent g l.header (final_content l) (record (opened_with kind a.done old) { around = l.around }) r new =
+      subst (λ s. IfSome s.pending (λ m. WritesContent g m.header (final_content m) (record s { around = m.around }) r new)) a.is h.ended in
+      let headed = subst (λ x. WritesContent g x (final_content l) (record (opened_with kind a.done old) { around = l.around }) r new) (members_header empty bs) whole in
+      let wrapped = subst (λ x. WritesContent g (Tagged (list_tag kind)) (final_content l) (record (opened_with kind a.done old) { around = x }) r new) (members_around empty bs) headed in
+      subst (λ c. WritesContent g (Tagged (list_tag kind)) c (record old { pending = Some l }) r new) (final_content-members kind old.around bs) wrapped
 
   same_list : (kind : ListKind) (all : Trees) (old now : State W) (a : Awaits kind Trees.none all old now) → AreAlike (Tree.bytes (list_tag kind) (list_content kind (map der a.done))) (Tree.list kind all)
   same_list kind all old now a =

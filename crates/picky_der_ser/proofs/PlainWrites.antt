@@ -19,7 +19,7 @@ use Rattle.picky_der_ser.specs.declared.header.Header.TheVariants.{Tagged, Appli
 use Rattle.picky_der_ser.specs.Heading.{tree_of}
 use Rattle.picky_der_ser.specs.Headers.{HasNumber}
 use Rattle.picky_der_ser.specs.State.{State, Level}
-use Rattle.picky_der_ser.specs.Calls.{RefusedIn, unwritable, no_way, WritesPlain}
+use Rattle.picky_der_ser.specs.Calls.{RefusesIn, unwritable, no_way, WritesPlain}
 
 pub writable-bytes : (tag : ℕ) (c : List ℕ) → IsTagNumber (number_of tag) → length c + 10 < 2 ^ 64 → IsWritable (Tree.bytes tag c)
 writable-bytes tag c h l = record {
@@ -52,7 +52,7 @@ pub unwritable-by : (t : Tree) → has_tag_numbers t ≡ false → ¬ IsWritable
 unwritable-by t e h = let q : false ≡ true = sym e ∙ h.numbers in cc
 
 module _ {W : Type 0} (g : Ghosts W) where
-  pub refused_unwritable : (inside : List Level) (t : Tree) (sink : W) → ¬ IsWritable t → RefusedIn g inside t sink UnsupportedValue sink
+  pub refused_unwritable : (inside : List Level) (t : Tree) (sink : W) → ¬ IsWritable t → RefusesIn g inside t sink UnsupportedValue sink
   refused_unwritable [] t sink n = record { begins = beginning_none (g.told sink) (der t); excuse = unwritable refl n refl }
   refused_unwritable (l ∷ ls) t sink n = (no_way refl n, refl)
 

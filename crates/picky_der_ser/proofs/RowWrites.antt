@@ -5,7 +5,7 @@ use Rattle.picky_der_core.specs.declared.misc.writer.WriteExt.{Ghosts}
 use Rattle.picky_der_core.specs.declared.error.Asn1DerError.{Asn1DerError}
 use Rattle.picky_der_core.specs.declared.asn1.wrapper.Wrapper.{Wrapper}
 use Rattle.picky_der_core.specs.Tree.{ListKind, Tree, Trees}
-use Rattle.picky_der_core.specs.Encoding.{written, encodings, der}
+use Rattle.picky_der_core.specs.Encoding.{tree_bytes, encodings, der}
 use Rattle.picky_der_core.specs.Readable.{IsWritable}
 use Rattle.picky_der_core.specs.Wrapper.{under}
 use Rattle.picky_der_ser.specs.State.{State, Level, with_member, with_members}
@@ -16,11 +16,11 @@ use Rattle.picky_der_ser.proofs.Members.{Awaits, level_with, list_gained, list_s
 
 -- a member, and those behind it
 members_behind : (l : Level) (t : Tree) (ts : Trees) → with_members (with_member l (der t)) (encodings ts) ≡ with_members l (encodings (Trees.more t ts))
-unfolding der written
+unfolding der tree_bytes
 members_behind l t ts = refl
 
 one_member : (l : Level) (t : Tree) → with_members l (encodings (Trees.more t Trees.none)) ≡ with_member l (der t)
-unfolding der written
+unfolding der tree_bytes
 one_member l t = refl
 
 -- a list is written only if those of its members are that stand behind others

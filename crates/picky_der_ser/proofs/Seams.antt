@@ -8,8 +8,8 @@ use Rattle.std.proofs.lemmas.List.{take-append-le, take-append-drop, drop-append
 use Rattle.std.proofs.lemmas.List.Concat.{concat_is}
 use Rattle.std.proofs.lemmas.List.Folds.{flat_map-map}
 use Rattle.std.proofs.lemmas.Slice.{between_is}
-use Rattle.picky_der_core.specs.Order.{is_less, arranged}
-use Rattle.picky_der_core.specs.OrderLaws.{IsSortedBy-one, arranged-same, arranged-sorted, length-arranged}
+use Rattle.picky_der_core.specs.Order.{is_less, in_ascending_order}
+use Rattle.picky_der_core.specs.OrderLaws.{IsSortedBy-one, in_ascending_order-same, in_ascending_order-sorted, length-in_ascending_order}
 use Rattle.picky_der_ser.specs.declared.header.Header.{Header}
 use Rattle.picky_der_ser.specs.Heading.{is_set}
 use Rattle.picky_der_ser.specs.Parts.{parts_from, parts, AreSeams, last_seam, next_seams}
@@ -93,21 +93,21 @@ parts-concat start (s ∷ ss) c k h =
     let seam = drop-append-le start (take s c) (drop s c) (omega (arith, first, size)) in
     ap₂ (λ x y. x ++ y) (between_is c start s) (parts-concat s ss c k.1 h) ∙ sym seam ∙ ap (drop start) (take-append-drop s c)
 
-pub length-arranged_parts : (ss c : List ℕ) → AreSeams 0 ss → last_seam 0 ss ≤ length c → length (concat (arranged (parts ss c))) ≡ length c
-length-arranged_parts ss c k h = length-arranged (parts ss c) ∙ ap length (parts-concat 0 ss c k h)
+pub length-arranged_parts : (ss c : List ℕ) → AreSeams 0 ss → last_seam 0 ss ≤ length c → length (concat (in_ascending_order (parts ss c))) ≡ length c
+length-arranged_parts ss c k h = length-in_ascending_order (parts ss c) ∙ ap length (parts-concat 0 ss c k h)
 
 -- what isn't cut stays as it is
-pub arranged-uncut : (ss c : List ℕ) → length ss ≡ 0 → concat (arranged (parts ss c)) ≡ c
-arranged-uncut [] c h = ap concat (arranged-same (c ∷ []) (IsSortedBy-one is_less c)) ∙ append-nil c
-arranged-uncut (s ∷ ss) c h = absurd (omega (arith, h))
+pub in_ascending_order-uncut : (ss c : List ℕ) → length ss ≡ 0 → concat (in_ascending_order (parts ss c)) ≡ c
+in_ascending_order-uncut [] c h = ap concat (in_ascending_order-same (c ∷ []) (IsSortedBy-one is_less c)) ∙ append-nil c
+in_ascending_order-uncut (s ∷ ss) c h = absurd (omega (arith, h))
 
 -- ---- what a sort of the parts gives, one behind the other
 
 pub joined-sorted : (xs ys : List (Bor (List ℕ))) (all : List (List ℕ)) (r : Result (Vec ℕ Global) AllocError)
     → map (λ x. x.now) xs ≡ all → IsPermutation xs ys → IsSortedByKey (λ x. x.now) (slice_cmp nat_cmp) ys
-    → IfOk r (λ v. AllZip (λ a b. b ≡ a) (flat_map (λ y. y.now) ys) v.items) → IfOk r (λ v. v.items ≡ concat (arranged all))
+    → IfOk r (λ v. AllZip (λ a b. b ≡ a) (flat_map (λ y. y.now) ys) v.items) → IfOk r (λ v. v.items ≡ concat (in_ascending_order all))
 joined-sorted xs ys all (Err e) is moved up h = tt
 joined-sorted xs ys all (Ok v) is moved up h =
-    let bytes : map (λ y. y.now) ys ≡ arranged all = sym (arranged-sorted (λ y. y.now) xs ys moved up) ∙ ap arranged is in
+    let bytes : map (λ y. y.now) ys ≡ in_ascending_order all = sym (in_ascending_order-sorted (λ y. y.now) xs ys moved up) ∙ ap in_ascending_order is in
     let items : v.items ≡ flat_map (λ y. y.now) ys = each_same (flat_map (λ y. y.now) ys) v.items h in
     items ∙ sym (flat_map-map (λ l. l) (λ y. y.now) ys) ∙ sym (concat_is (map (λ y. y.now) ys)) ∙ ap concat bytes

@@ -5,21 +5,21 @@ use Rattle.std.proofs.lemmas.Bool.{lt-ltb}
 use Rattle.picky_der_core.specs.declared.asn1.wrapper.Wrapper.{Wrapper}
 use Rattle.picky_der_core.specs.Tree.{ListKind}
 use Rattle.picky_der_core.specs.Encoding.{list_content, list_tag}
-use Rattle.picky_der_core.specs.Order.{arranged}
-use Rattle.picky_der_core.specs.OrderLaws.{without_empty, arranged-without_empty}
+use Rattle.picky_der_core.specs.Order.{in_ascending_order}
+use Rattle.picky_der_core.specs.OrderLaws.{without_empty, in_ascending_order-without_empty}
 use Rattle.picky_der_ser.specs.declared.header.Header.{Header}
 use Rattle.picky_der_ser.specs.declared.header.Header.TheVariants.{Tagged}
 use Rattle.picky_der_ser.specs.Heading.{is_set}
 use Rattle.picky_der_ser.specs.Parts.{parts, AreSeams, last_seam, next_seams}
-use Rattle.picky_der_ser.specs.State.{Level, with_member, with_members, settled, in_order}
-use Rattle.picky_der_ser.proofs.Seams.{last_seam-push, seams-push, parts-push, arranged-uncut}
+use Rattle.picky_der_ser.specs.State.{Level, with_member, with_members, final_content, in_order}
+use Rattle.picky_der_ser.proofs.Seams.{last_seam-push, seams-push, parts-push, in_ascending_order-uncut}
 
 -- what isn't cut stays as it is
-pub settled-uncut : (l : Level) → l.seams ≡ [] → settled l ≡ l.content
-settled-uncut l e = arranged-uncut l.seams l.content (ap length e)
+pub final_content-uncut : (l : Level) → l.seams ≡ [] → final_content l ≡ l.content
+final_content-uncut l e = in_ascending_order-uncut l.seams l.content (ap length e)
 
 pub in_order-uncut : (l : Level) → l.seams ≡ [] → l ≡ in_order l
-in_order-uncut l e = ap₂ (λ c ss. record l { content = c; seams = ss }) (sym (settled-uncut l e)) e
+in_order-uncut l e = ap₂ (λ c ss. record l { content = c; seams = ss }) (sym (final_content-uncut l e)) e
 
 -- ---- members of a set: those that aren't empty are the parts of the content that aren't
 
@@ -107,14 +107,14 @@ members-push l [] b = refl
 members-push l (c ∷ bs) b = members-push (with_member l c) bs b
 
 -- with its members it is settled to the content of the list
-pub settled-members : (kind : ListKind) (around : List Wrapper) (bs : List (List ℕ))
-    → settled (with_members (list_level kind around) bs) ≡ list_content kind bs
-settled-members ListKind.sequence around bs =
+pub final_content-members : (kind : ListKind) (around : List Wrapper) (bs : List (List ℕ))
+    → final_content (with_members (list_level kind around) bs) ≡ list_content kind bs
+final_content-members ListKind.sequence around bs =
     let l = list_level ListKind.sequence around in
-    settled-uncut (with_members l bs) (uncut_seams l bs refl) ∙ members_content l bs
-settled-members ListKind.set around bs =
+    final_content-uncut (with_members l bs) (uncut_seams l bs refl) ∙ members_content l bs
+final_content-members ListKind.set around bs =
     let l = list_level ListKind.set around in
     let m = with_members l bs in
     let start : Holds [] [] [] = record { ascending = tt; within = omega arith; first = λ _. refl; same = refl } in
     let all = holds_all l [] bs refl start in
-    arranged-without_empty (parts m.seams m.content) ∙ ap (λ x. concat (arranged x)) all.same ∙ sym (arranged-without_empty bs)
+    in_ascending_order-without_empty (parts m.seams m.content) ∙ ap (λ x. concat (in_ascending_order x)) all.same ∙ sym (in_ascending_order-without_empty bs)

@@ -15,7 +15,7 @@ use Rattle.picky_der_core.specs.Wrapper.{under}
 use Rattle.picky_der_ser.specs.Heading.{tree_of}
 use Rattle.picky_der_ser.specs.Headers.{HasNumber, HaveTagNumbers}
 use Rattle.picky_der_ser.specs.State.{State, Level, with_bytes}
-use Rattle.picky_der_ser.specs.Calls.{AddsIn, Wrote, Refused, RefusedIn, no_memory, no_room, Writes, RefusesWrite, WritesPlain, WritesContent}
+use Rattle.picky_der_ser.specs.Calls.{AddsIn, SinkWrites, SinkRefuses, RefusesIn, no_memory, no_room, Writes, RefusesWrite, WritesPlain, WritesContent}
 use Rattle.picky_der_ser.proofs.LevelWrites.{wrote_by, refused_by, writable_counted}
 
 module _ {W : Type 0} (g : Ghosts W) where
@@ -23,15 +23,15 @@ module _ {W : Type 0} (g : Ghosts W) where
   adds_outside inside levels old new bs e f h = subst (λ l. AddsIn g l levels old new bs) (sym e) (f, h)
 
   -- outside levels
-  pub writes_outside : (t : Tree) (old new : State W) (n : ℕ) → old.failed ≡ None → old.inside ≡ [] → new.inside ≡ [] → new.around ≡ [] → new.failed ≡ None → Wrote g (under old.around t) old.sink n new.sink
+  pub writes_outside : (t : Tree) (old new : State W) (n : ℕ) → old.failed ≡ None → old.inside ≡ [] → new.inside ≡ [] → new.around ≡ [] → new.failed ≡ None → SinkWrites g (under old.around t) old.sink n new.sink
       → g.faults new.sink ≡ g.faults old.sink → Writes g t old n new
   writes_outside t old new n f i j a b h q =
       record { had_not_failed = f; writable = h.writable; count = h.count; adds = adds_outside old.inside new.inside old.sink new.sink _ i j h.appends; closed = a; not_failed = b; no_fault = q }
 
-  pub fails_outside : (t : Tree) (old new : State W) (e : Asn1DerError) → old.failed ≡ None → old.inside ≡ [] → new.failed ≡ Some (failure_of e) → Refused g (under old.around t) old.sink e new.sink → RefusesWrite g t old e new
+  pub fails_outside : (t : Tree) (old new : State W) (e : Asn1DerError) → old.failed ≡ None → old.inside ≡ [] → new.failed ≡ Some (failure_of e) → SinkRefuses g (under old.around t) old.sink e new.sink → RefusesWrite g t old e new
   fails_outside t old new e f i b h =
       let u = under old.around t in
-      let first : RefusedIn g old.inside u old.sink e new.sink = subst (λ ls. RefusedIn g ls u old.sink e new.sink) (sym i) h in
+      let first : RefusesIn g old.inside u old.sink e new.sink = subst (λ ls. RefusesIn g ls u old.sink e new.sink) (sym i) h in
       record { failed = b; again = rw f tt; first = rw f first }
 
   -- inside one
@@ -45,13 +45,13 @@ module _ {W : Type 0} (g : Ghosts W) where
       record { had_not_failed = f; writable = w; count = count; adds = adds_inside old.inside new.inside old.sink new.sink _ some h s; closed = a; not_failed = b; no_fault = ap g.faults s }
 
   -- anywhere: out of memory
-  pub refused_memory : (inside : List Level) (t : Tree) (sink : W) → RefusedIn g inside t sink OutOfMemory sink
+  pub refused_memory : (inside : List Level) (t : Tree) (sink : W) → RefusesIn g inside t sink OutOfMemory sink
   refused_memory [] t sink = record { begins = beginning_none (g.told sink) (der t); excuse = no_memory refl refl }
   refused_memory (l ∷ ls) t sink = (no_room refl, refl)
 
   pub fails_memory : (t : Tree) (old new : State W) (e : Asn1DerError) → old.failed ≡ None → e ≡ OutOfMemory → new.failed ≡ Some (failure_of e) → new.sink ≡ old.sink → RefusesWrite g t old e new
   fails_memory t old new e f m b s =
-      let first : RefusedIn g old.inside (under old.around t) old.sink e new.sink = rw (m, s) (refused_memory old.inside (under old.around t) old.sink) in
+      let first : RefusesIn g old.inside (under old.around t) old.sink e new.sink = rw (m, s) (refused_memory old.inside (under old.around t) old.sink) in
       record { failed = b; again = rw f tt; first = rw f first }
 
   -- ---- plain values
@@ -59,10 +59,10 @@ module _ {W : Type 0} (g : Ghosts W) where
   -- the sink took what it took, and then the outcome was settled
   pub plain_outside : (t : Tree) (old new : State W) (mid : W) (levels : List Level) (r s : Result ℕ Asn1DerError) → s ≡ r → new.sink ≡ mid → new.inside ≡ levels → IsWritable t → old.failed ≡ None → old.inside ≡ []
       → OnOk r (levels ≡ []) → OnOk r ((new.around ≡ []) × (new.failed ≡ old.failed)) → IfErr r (λ e. new.failed ≡ Some (failure_of e))
-      → IfOk r (λ n. Wrote g (under old.around t) old.sink n mid) → IfErr r (λ e. Refused g (under old.around t) old.sink e mid) → IfErr r (λ e. old.around ≡ [] → Faulted g old.sink e mid)
+      → IfOk r (λ n. SinkWrites g (under old.around t) old.sink n mid) → IfErr r (λ e. SinkRefuses g (under old.around t) old.sink e mid) → IfErr r (λ e. old.around ≡ [] → Faulted g old.sink e mid)
       → OnOk r (g.faults mid ≡ g.faults old.sink) → IsOnceAtMost (g.faults old.sink) (g.faults mid) → g.later old.sink mid → WritesPlain g t old s new
   plain_outside t old new mid levels (Ok n) s is same x w f i j a b h k m q c l = rw is (record {
-    wrote = writes_outside t old new n f i (x ∙ j) a.0 (a.1 ∙ f) (subst (λ v. Wrote g (under old.around t) old.sink n v) (sym same) h) (ap g.faults same ∙ q);
+    wrote = writes_outside t old new n f i (x ∙ j) a.0 (a.1 ∙ f) (subst (λ v. SinkWrites g (under old.around t) old.sink n v) (sym same) h) (ap g.faults same ∙ q);
     failed = tt;
     outside = tt;
     past = λ no. absurd (no w);
@@ -71,7 +71,7 @@ module _ {W : Type 0} (g : Ghosts W) where
   })
   plain_outside t old new mid levels (Err e) s is same x w f i j a b h k m q c l = rw is (record {
     wrote = tt;
-    failed = fails_outside t old new e f i b (subst (λ v. Refused g (under old.around t) old.sink e v) (sym same) k);
+    failed = fails_outside t old new e f i b (subst (λ v. SinkRefuses g (under old.around t) old.sink e v) (sym same) k);
     outside = λ p y z bare. subst (λ v. Faulted g old.sink e v) (sym same) (m bare);
     past = λ no. absurd (no w);
     counted = subst (λ v. IsOnceAtMost (g.faults old.sink) (g.faults v)) (sym same) c;
@@ -85,11 +85,11 @@ module _ {W : Type 0} (g : Ghosts W) where
   plain_refused t old new e w some h c l = record { wrote = tt; failed = h; outside = λ x y inside around. absurd (some inside); past = λ no. absurd (no w); counted = c; goes_on = l }
 
   -- without wrappers, the sink took an element
-  pub bare_wrote : (t : Tree) (ws : List Wrapper) (bs : List ℕ) (old new : W) (r : Result ℕ Asn1DerError) → ws ≡ [] → IsWritable t → bs ≡ der t → IfOk r (λ n. n ≡ length bs) → OnOk r (Appends (g.told old) (g.told new) bs) → IfOk r (λ n. Wrote g (under ws t) old n new)
-  bare_wrote t ws bs old new r e w is count appends = subst (λ vs. IfOk r (λ n. Wrote g (under vs t) old n new)) (sym e) (wrote_by g t bs old new r w is count appends)
+  pub bare_wrote : (t : Tree) (ws : List Wrapper) (bs : List ℕ) (old new : W) (r : Result ℕ Asn1DerError) → ws ≡ [] → IsWritable t → bs ≡ der t → IfOk r (λ n. n ≡ length bs) → OnOk r (Appends (g.told old) (g.told new) bs) → IfOk r (λ n. SinkWrites g (under ws t) old n new)
+  bare_wrote t ws bs old new r e w is count appends = subst (λ vs. IfOk r (λ n. SinkWrites g (under vs t) old n new)) (sym e) (wrote_by g t bs old new r w is count appends)
 
-  pub bare_refused : (t : Tree) (ws : List Wrapper) (bs : List ℕ) (old new : W) (r : Result ℕ Asn1DerError) → ws ≡ [] → IsWritable t → bs ≡ der t → OnErr r (AppendsTooFew (g.told old) (g.told new) bs) → IfErr r (λ e. Faulted g old e new) → IfErr r (λ e. Refused g (under ws t) old e new)
-  bare_refused t ws bs old new r e w is begins fault = subst (λ vs. IfErr r (λ k. Refused g (under vs t) old k new)) (sym e) (refused_by g t bs old new r w is begins fault)
+  pub bare_refused : (t : Tree) (ws : List Wrapper) (bs : List ℕ) (old new : W) (r : Result ℕ Asn1DerError) → ws ≡ [] → IsWritable t → bs ≡ der t → OnErr r (AppendsTooFew (g.told old) (g.told new) bs) → IfErr r (λ e. Faulted g old e new) → IfErr r (λ e. SinkRefuses g (under ws t) old e new)
+  bare_refused t ws bs old new r e w is begins fault = subst (λ vs. IfErr r (λ k. SinkRefuses g (under vs t) old k new)) (sym e) (refused_by g t bs old new r w is begins fault)
 
   pub bare_fault : (ws : List Wrapper) (old new : W) (r : Result ℕ Asn1DerError) → IfErr r (λ e. Faulted g old e new) → IfErr r (λ e. ws ≡ [] → Faulted g old e new)
   bare_fault ws old new (Ok n) h = tt

@@ -17,7 +17,7 @@ use Rattle.picky_der_core.specs.Wrapper.{wrap, under, HasTagNumber}
 use Rattle.picky_der_core.specs.WrapperLaws.{under-push}
 use Rattle.picky_der_ser.specs.Headers.{HaveTagNumbers}
 use Rattle.picky_der_ser.specs.State.{State}
-use Rattle.picky_der_ser.specs.Calls.{AddsIn, RefusedIn, Writes, RefusesWrite, RefusesWrapper}
+use Rattle.picky_der_ser.specs.Calls.{AddsIn, RefusesIn, Writes, RefusesWrite, RefusesWrapper}
 use Rattle.picky_der_ser.proofs.PlainWrites.{past_under, unwritable-by, refused_unwritable}
 use Rattle.picky_der_ser.proofs.StateWrites.{refused_memory}
 
@@ -69,7 +69,7 @@ module _ {W : Type 0} (g : Ghosts W) where
   fails-wrapped w t old new (Ok n) h = tt
   fails-wrapped w t old new (Err e) h =
       let u = under-push old.around w t in
-      record { failed = h.failed; again = h.again; first = subst (λ v. IfNone old.failed (RefusedIn g old.inside v old.sink e new.sink)) u h.first }
+      record { failed = h.failed; again = h.again; first = subst (λ v. IfNone old.failed (RefusesIn g old.inside v old.sink e new.sink)) u h.first }
 
   -- no wrapper was opened
   pub fails-declined : (w : Wrapper) (t : Tree) (old new : State W) (e : Asn1DerError) → RefusesWrapper g w old e new → RefusesWrite g (wrap w t) old e new
@@ -82,7 +82,7 @@ module _ {W : Type 0} (g : Ghosts W) where
       again None k = tt
       again (Some x) k = (k, h.same)
 
-      first : (f : Option Failure) → f ≡ old.failed → IfNone f (RefusedIn g old.inside u old.sink e new.sink)
+      first : (f : Option Failure) → f ≡ old.failed → IfNone f (RefusesIn g old.inside u old.sink e new.sink)
       first (Some x) q = tt
       first None q = elim (has_or_not w) [
         | inl few ↦ rw (h.memory (sym q) few, h.same) (refused_memory g old.inside u old.sink)

@@ -15,7 +15,7 @@ use Rattle.picky_der_core.specs.Readable.{IsWritable}
 use Rattle.picky_der_core.specs.Wrapper.{under, HasTagNumber}
 use Rattle.picky_der_ser.specs.declared.header.Header.{Header}
 use Rattle.picky_der_ser.specs.Heading.{tree_of}
-use Rattle.picky_der_ser.specs.State.{State, Level, with_bytes, with_member, with_members, settled}
+use Rattle.picky_der_ser.specs.State.{State, Level, with_bytes, with_member, with_members, final_content}
 
 -- each of the trees can be written
 abbrev pub AreWritable : Trees → Type 0
@@ -52,20 +52,20 @@ module _ {W : Type 0} (g : Ghosts W) where
     no_sink : IsWritable t → 0 < length rest → Faulted g old e new → Excuse t rest old e new
 
   -- the tree was written to the sink, and n is its length
-  pub record Wrote (t : Tree) (old : W) (n : ℕ) (new : W) : Type 0 where
+  pub record SinkWrites (t : Tree) (old : W) (n : ℕ) (new : W) : Type 0 where
     pub writable : IsWritable t
     pub count : n ≡ length (der t)
     pub appends : Appends (g.told old) (g.told new) (der t)
 
   -- a beginning of the tree's encoding was written to the sink, and why no more
-  pub record Refused (t : Tree) (old : W) (e : Asn1DerError) (new : W) : Type 0 where
+  pub record SinkRefuses (t : Tree) (old : W) (e : Asn1DerError) (new : W) : Type 0 where
     pub begins : AppendsBeginning (g.told old) (g.told new) (der t)
     pub excuse : Excuse t begins.rest old e new
 
   -- the tree wasn't written, and why: inside a level nothing reaches the sink
-  abbrev pub RefusedIn : List Level → Tree → W → Asn1DerError → W → Type 0
-  RefusedIn [] t old e new = Refused t old e new
-  RefusedIn (l ∷ ls) t old e new = MemoryExcuse (IsWritable t) e × (new ≡ old)
+  abbrev pub RefusesIn : List Level → Tree → W → Asn1DerError → W → Type 0
+  RefusesIn [] t old e new = SinkRefuses t old e new
+  RefusesIn (l ∷ ls) t old e new = MemoryExcuse (IsWritable t) e × (new ≡ old)
 
   -- the call wrote the tree in the open wrappers, and closed them; no fault of the sink was passed over
   pub record Writes (t : Tree) (old : State W) (n : ℕ) (new : State W) : Type 0 where
@@ -81,7 +81,7 @@ module _ {W : Type 0} (g : Ghosts W) where
   pub record RefusesWrite (t : Tree) (old : State W) (e : Asn1DerError) (new : State W) : Type 0 where
     pub failed : new.failed ≡ Some (failure_of e)
     pub again : IfSome old.failed (λ f. (failure_of e ≡ f) × (new.sink ≡ old.sink))
-    pub first : IfNone old.failed (RefusedIn old.inside (under old.around t) old.sink e new.sink)
+    pub first : IfNone old.failed (RefusesIn old.inside (under old.around t) old.sink e new.sink)
 
   -- outside wrappers and levels only the sink can refuse a plain value that can be written, since no memory is taken
   abbrev pub OnlySinkFails : Tree → State W → Asn1DerError → State W → Type 0
@@ -179,7 +179,7 @@ module _ {W : Type 0} (g : Ghosts W) where
 
   -- the level that was opened last has ended
   pub record EndsLevel (old : State W) (r : Result ℕ Asn1DerError) (new : State W) : Type 0 where
-    pub ended : IfSome old.pending (λ l. WritesContent l.header (settled l) (record old { around = l.around }) r new)
+    pub ended : IfSome old.pending (λ l. WritesContent l.header (final_content l) (record old { around = l.around }) r new)
     pub again : IfSome old.failed (λ f. AnswersAgain old.sink f r new)
 
   -- ---- wrappers

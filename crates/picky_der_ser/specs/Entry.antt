@@ -16,7 +16,7 @@ pub record Overwrites (t : Tree) (old : List ℕ) (n : ℕ) (new : List ℕ) : T
   pub holds : new ≡ der t ++ drop (length (der t)) old
 
 -- A beginning of the encoding was written over a vector, and why no more. Nothing is written of a tree that can't be.
-pub record RefusedVec (t : Tree) (old : List ℕ) (e : Asn1DerError) (new : List ℕ) : Type 0 where
+pub record VecRefuses (t : Tree) (old : List ℕ) (e : Asn1DerError) (new : List ℕ) : Type 0 where
   pub front : List ℕ
   pub begins : Begins front (der t)
   pub holds : new ≡ front ++ drop (length front) old
@@ -30,6 +30,6 @@ pub data SliceExcuse (t : Tree) (old : List ℕ) (e : Asn1DerError) (new : List 
   without_room : e ≡ InvalidSink → IsWritable t → length old < length (der t) → new ≡ take (length old) (der t) → SliceExcuse t old e new
 
 -- a beginning of the encoding was written over a slice, and why no more
-pub record RefusedSlice (t : Tree) (old : List ℕ) (e : Asn1DerError) (new : List ℕ) : Type 0 where
+pub record SliceRefuses (t : Tree) (old : List ℕ) (e : Asn1DerError) (new : List ℕ) : Type 0 where
   pub begins : HoldsBeginning old new (der t)
   pub excuse : SliceExcuse t old e new

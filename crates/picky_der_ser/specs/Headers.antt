@@ -28,24 +28,24 @@ openings [] inner n = inner
 openings (w ∷ ws) inner n = let rest = openings ws inner n in opening w (length rest + n) ++ rest
 
 -- the header of an implicit tag directly around a tagged content, which stands in place of that content's own
-abbrev pub joined : Wrapper → Header → Option Header
-joined (Implicit k) (Tagged tag) = Some (Tagged (0x80 + k))
-joined w h = None
+abbrev pub joint_header : Wrapper → Header → Option Header
+joint_header (Implicit k) (Tagged tag) = Some (Tagged (0x80 + k))
+joint_header w h = None
 
 -- the same of the innermost wrapper
-abbrev pub joined_last : List Wrapper → Header → Option Header
-joined_last [] h = None
-joined_last (w ∷ []) h = joined w h
-joined_last (w ∷ v ∷ ws) h = joined_last (v ∷ ws) h
+abbrev pub innermost_joint_header : List Wrapper → Header → Option Header
+innermost_joint_header [] h = None
+innermost_joint_header (w ∷ []) h = joint_header w h
+innermost_joint_header (w ∷ v ∷ ws) h = innermost_joint_header (v ∷ ws) h
 
 -- the wrappers whose own header is written
-abbrev pub kept : Option Header → List Wrapper → List Wrapper
-kept None ws = ws
-kept (Some j) ws = take (length ws - 1) ws
+abbrev pub headed_wrappers : Option Header → List Wrapper → List Wrapper
+headed_wrappers None ws = ws
+headed_wrappers (Some j) ws = take (length ws - 1) ws
 
 -- all that stands in front of a content of n bytes
 abbrev pub headers : List Wrapper → Header → ℕ → List ℕ
-headers ws h n = openings (kept (joined_last ws h) ws) (own_header (unwrap_or (joined_last ws h) h) n) n
+headers ws h n = openings (headed_wrappers (innermost_joint_header ws h) ws) (own_header (unwrap_or (innermost_joint_header ws h) h) n) n
 
 -- each tag number is at most 30
 abbrev pub HasNumber : Header → Type 0

@@ -2,5 +2,5 @@
 use Rattle.std.specs.Prelude.{ℕ, ◌+◌, List, ◌++◌, take, drop}
 
 -- the bytes from `kept` on stand in the place of as many from `at` on
-abbrev pub overwritten : ℕ → ℕ → ℕ → List ℕ → List ℕ
-overwritten at count kept bs = take at bs ++ (drop kept bs ++ drop (at + count) (take kept bs))
+abbrev pub with_overwrite : ℕ → ℕ → ℕ → List ℕ → List ℕ
+with_overwrite at count kept bs = take at bs ++ (drop kept bs ++ drop (at + count) (take kept bs))

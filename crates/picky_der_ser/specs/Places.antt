@@ -39,9 +39,9 @@ root_place = record { header = Raw; at = 0; start = 0; first_seam = 0; first_wra
 abbrev pub mark_place : Mark → MarkPlace
 mark_place m = record { header = m.header; at = m.at; start = m.start; first_seam = m.first_seam; first_wrapper = m.first_wrapper }
 
-abbrev pub placed : Option Mark → Option MarkPlace
-placed None = None
-placed (Some m) = Some (mark_place m)
+abbrev pub place_of_mark : Option Mark → Option MarkPlace
+place_of_mark None = None
+place_of_mark (Some m) = Some (mark_place m)
 
 -- this mark inside of the others, if there is one
 abbrev pub inside_places : Option Mark → List MarkPlace → List MarkPlace

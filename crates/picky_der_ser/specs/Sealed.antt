@@ -7,5 +7,5 @@ use Rattle.picky_der_ser.specs.Heading.{tree_of}
 use Rattle.picky_der_ser.specs.State.{Level}
 
 -- a level that holds the whole encoding of this one
-abbrev pub sealed : Level → Level
-sealed l = record { header = Raw; around = []; content = der (under l.around (tree_of l.header l.content)); seams = [] }
+abbrev pub as_raw_level : Level → Level
+as_raw_level l = record { header = Raw; around = []; content = der (under l.around (tree_of l.header l.content)); seams = [] }

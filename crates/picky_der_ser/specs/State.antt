@@ -1,8 +1,8 @@
 -- What a serializer is to its callers.
-use Rattle.std.specs.Prelude.{ℕ, List, [], ◌∷◌, ◌++◌, length, Option, refl}
+use Rattle.std.specs.Prelude.{◌≡◌, ℕ, List, [], ◌∷◌, ◌++◌, length, Option, None, IfSome, refl}
 use Rattle.std.specs.List.{concat}
 use Rattle.std.specs.Coded.{Coded, code_by, coded×, coded_list, coded_option, coded_ℕ}
-use Rattle.picky_der_core.specs.Order.{arranged}
+use Rattle.picky_der_core.specs.Order.{in_ascending_order}
 use Rattle.picky_der_core.specs.declared.failure.Failure.{Failure}
 use Rattle.picky_der_core.specs.contracts.failure.Failure as failure
 use Rattle.picky_der_core.specs.declared.asn1.wrapper.Wrapper.{Wrapper}
@@ -10,6 +10,7 @@ use Rattle.picky_der_core.specs.contracts.asn1.wrapper.Wrapper as wrapper
 use Rattle.picky_der_ser.specs.declared.header.Header.{Header}
 use Rattle.picky_der_ser.specs.declared.header.Header.TheVariants.{Raw}
 use Rattle.picky_der_ser.specs.contracts.header.Header as header
+use Rattle.picky_der_ser.specs.Headers.{HasNumber, HaveTagNumbers}
 use Rattle.picky_der_ser.specs.Parts.{parts, next_seams}
 
 -- a level: a sequence, set or application tag that is open
@@ -39,12 +40,12 @@ abbrev pub with_bytes : Level → List ℕ → Level
 with_bytes l bs = record l { content = l.content ++ bs }
 
 -- a level of which another member begins
-abbrev pub begun : Level → Level
-begun l = record l { seams = next_seams l.header l.seams (length l.content) }
+abbrev pub at_next_member : Level → Level
+at_next_member l = record l { seams = next_seams l.header l.seams (length l.content) }
 
 -- a level with one member more, by its encoding
 abbrev pub with_member : Level → List ℕ → Level
-with_member l bs = with_bytes (begun l) bs
+with_member l bs = with_bytes (at_next_member l) bs
 
 -- a level with more members, by their encodings
 abbrev pub with_members : Level → List (List ℕ) → Level
@@ -52,12 +53,12 @@ with_members l [] = l
 with_members l (b ∷ members) = with_members (with_member l b) members
 
 -- what is written of a level: its content, of a set with the members in ascending order (X.690, 11.6)
-abbrev pub settled : Level → List ℕ
-settled l = concat (arranged (parts l.seams l.content))
+abbrev pub final_content : Level → List ℕ
+final_content l = concat (in_ascending_order (parts l.seams l.content))
 
 -- the level once its content is that
 abbrev pub in_order : Level → Level
-in_order l = record l { content = settled l; seams = [] }
+in_order l = record l { content = final_content l; seams = [] }
 
 -- the levels of a serializer: those of which a member is being written, innermost first, and the one that was opened last, until
 -- it ends or another call is made; and the open wrappers, outermost first
@@ -73,6 +74,14 @@ stack_code =
     (λ s. (s.inside, (s.pending, s.around)))
     (λ p. record { inside = p.0; pending = p.1.0; around = p.1.1 })
     (λ _. refl)
+
+-- a member of the level that was opened last is being written from here on
+abbrev pub EntersLevel : Stack → Stack → Type 0
+EntersLevel old new = IfSome old.pending (λ l. new ≡ record old { inside = at_next_member l ∷ old.inside; pending = None })
+
+-- the tag numbers of the level that was opened last, and of the wrappers around it, are at most 30
+abbrev pub HasLevelNumbers : Stack → Type 0
+HasLevelNumbers s = IfSome s.pending (λ l. HaveTagNumbers l.around × HasNumber l.header)
 
 pub record State (W : Type 0) : Type 0 where
   pub sink : W

@@ -7,7 +7,7 @@ ghost use Rattle.picky_der_core.specs.Tree.{Tree};
 ghost use Rattle.picky_der_core.specs.Wrapper.{under};
 ghost use Rattle.picky_der_ser.specs.Heading.{tree_of};
 ghost use Rattle.picky_der_ser.specs.Headers.{headers, HasNumber, HaveTagNumbers};
-ghost use Rattle.picky_der_ser.specs.Overwrite.{overwritten};
+ghost use Rattle.picky_der_ser.specs.Overwrite.{with_overwrite};
 
 use crate::Header;
 use crate::header::{push_headers, short_identifier};
@@ -44,7 +44,7 @@ fn rotate_from(out: &mut Vec<u8>, start: usize, count: usize)
 // The last `count` bytes take the place of those from `at` on.
 fn fill_from_last(out: &mut Vec<u8>, at: usize, count: usize)
     requires { at + count + count ≤ vec_len out.old }
-    ensures { out.new.items ≡ overwritten at count (length out.old.items - count) out.old.items }
+    ensures { out.new.items ≡ with_overwrite at count (length out.old.items - count) out.old.items }
 {
     let kept = out.len() - count;
     let (front, last) = out.split_at_mut(kept);

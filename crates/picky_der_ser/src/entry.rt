@@ -4,8 +4,8 @@ ghost use Rattle.picky_der_core.specs.WriterFaults.{IsOnceAtMost};
 ghost use Rattle.picky_der_core.specs.Encoding.{der};
 ghost use Rattle.picky_der_core.specs.Readable.{IsWritable};
 ghost use Rattle.picky_der_core.specs.SliceSink.{slice_of};
-ghost use Rattle.picky_der_ser.specs.Calls.{MemoryExcuse, Wrote, Refused};
-ghost use Rattle.picky_der_ser.specs.Entry.{Overwrites, RefusedVec, RefusedSlice};
+ghost use Rattle.picky_der_ser.specs.Calls.{MemoryExcuse, SinkWrites, SinkRefuses};
+ghost use Rattle.picky_der_ser.specs.Entry.{Overwrites, VecRefuses, SliceRefuses};
 
 use crate::levels::FIRST_ROOM;
 use crate::{Serialize, Serializer};
@@ -21,7 +21,7 @@ use std::alloc::Global;
 pub fn to_bytes<T: Serialize>(alloc: Global, value: &T, buf: &mut [u8]) -> Result<usize>
     ensures ok { IfOk result (λ n. Overwrites (T.meaning value.now) buf.old n buf.new) }
     ensures fits { OnOk result (length (der (T.meaning value.now)) ≤ length buf.old) }
-    ensures err { IfErr result (λ e. RefusedSlice (T.meaning value.now) buf.old e buf.new) }
+    ensures err { IfErr result (λ e. SliceRefuses (T.meaning value.now) buf.old e buf.new) }
 {
     let mut sink = SliceSink::new(buf);
     let outcome = to_writer(alloc, value, &mut sink);
@@ -36,7 +36,7 @@ pub fn to_bytes<T: Serialize>(alloc: Global, value: &T, buf: &mut [u8]) -> Resul
 /// of the encoding stands over the vector's first bytes; at `UnsupportedValue` the vector is as it was.
 pub fn to_byte_buf<T: Serialize>(alloc: Global, value: &T, buf: &mut Vec<u8>) -> Result<usize>
     ensures ok { IfOk result (λ n. Overwrites (T.meaning value.now) buf.old.items n buf.new.items) }
-    ensures err { IfErr result (λ e. RefusedVec
+    ensures err { IfErr result (λ e. VecRefuses
         (T.meaning value.now) buf.old.items e buf.new.items) }
 {
     let mut sink = BufSink::new(buf);
@@ -71,10 +71,10 @@ pub fn to_writer<T: Serialize, W: WriteExt>(
     value: &T,
     writer: &mut W,
 ) -> Result<usize>
-    ensures ok { IfOk result (λ n. Wrote W.WriteExt.own
+    ensures ok { IfOk result (λ n. SinkWrites W.WriteExt.own
         (T.meaning value.now) writer.old n writer.new) }
     ensures no_fault { OnOk result (W.faults writer.new ≡ W.faults writer.old) }
-    ensures err { IfErr result (λ e. Refused W.WriteExt.own
+    ensures err { IfErr result (λ e. SinkRefuses W.WriteExt.own
         (T.meaning value.now) writer.old e writer.new) }
     ensures counted { IsOnceAtMost (W.faults writer.old) (W.faults writer.new) }
     ensures goes_on { W.later writer.old writer.new }

@@ -2,9 +2,10 @@
 ghost use Rattle.std.specs.Prelude.{◌≡◌, ◌+◌, ◌^◌, ◌<◌, ◌≤◌, ◌∷◌, ◌++◌, reverse, take, drop, vec_len};
 ghost use Rattle.std.specs.Prelude.{[], IfSome, IsSome, OnOk};
 ghost use Rattle.picky_der_core.specs.Element.{len as bytes_of};
+ghost use Rattle.picky_der_core.specs.Equality.{IsEqualityOf};
 ghost use Rattle.picky_der_core.specs.Wrapper.{HasTagNumber};
 ghost use Rattle.picky_der_ser.specs.Heading.{is_set};
-ghost use Rattle.picky_der_ser.specs.Headers.{opening, own_header, headers, joined as joined_in, joined_last, HasNumber, HaveTagNumbers};
+ghost use Rattle.picky_der_ser.specs.Headers.{opening, own_header, headers, joint_header, innermost_joint_header, HasNumber, HaveTagNumbers};
 
 use picky_der_core::asn1::{Tag, Wrapper};
 use picky_der_core::misc::Length;
@@ -25,6 +26,11 @@ pub enum Header {
 }
 
 impl Header {
+    /// Two are equal just where they are one kind with one tag or number.
+    pub fn equality()
+        ensures { IsEqualityOf ⟦<Header as PartialEq>⟧.eq (λ header. header) }
+    {}
+
     // Whether the members of what stands under it are put in order.
     pub(crate) fn is_set(self) -> bool
         ensures { result ≡ is_set self }
@@ -132,7 +138,7 @@ fn push_lone_header(out: &mut Vec<u8>, header: Header, len: usize) -> Result<(),
 // The header of an implicit tag directly around a tagged content, which stands in place of that content's own.
 fn joined(wrapper: Wrapper, header: &Header) -> Option<Header>
     requires { HasTagNumber wrapper }
-    ensures { result ≡ joined_in wrapper header.now }
+    ensures { result ≡ joint_header wrapper header.now }
 {
     match (wrapper, header) {
         (Wrapper::Implicit(number), Header::Tagged(_)) => Some(Header::Tagged(
@@ -145,7 +151,7 @@ fn joined(wrapper: Wrapper, header: &Header) -> Option<Header>
 // The header that stands in place of the innermost wrapper's and the content's own, if one does.
 fn innermost_joined(around: &[Wrapper], header: &Header) -> Option<Header>
     requires { HaveTagNumbers around.now }
-    ensures { result ≡ joined_last around.now header.now }
+    ensures { result ≡ innermost_joint_header around.now header.now }
 {
     match around.split_last() {
         Some((wrapper, _)) => joined(*wrapper, header),

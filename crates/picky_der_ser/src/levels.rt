@@ -6,8 +6,8 @@ ghost use Rattle.picky_der_core.specs.Tree.{Tree};
 ghost use Rattle.picky_der_core.specs.Wrapper.{under, HasTagNumber};
 ghost use Rattle.picky_der_ser.specs.Heading.{tree_of};
 ghost use Rattle.picky_der_ser.specs.Headers.{headers, HasNumber, HaveTagNumbers};
-ghost use Rattle.picky_der_ser.specs.State.{Level, root, with_bytes, begun, in_order, settled};
-ghost use Rattle.picky_der_ser.specs.Sealed.{sealed};
+ghost use Rattle.picky_der_ser.specs.State.{Level, root, with_bytes, at_next_member, in_order, final_content, EntersLevel, HasLevelNumbers};
+ghost use Rattle.picky_der_ser.specs.Sealed.{as_raw_level};
 
 use crate::Header;
 use crate::enclose::{enclose, fill_short, push_enclosed, push_short, push_short_header};
@@ -43,7 +43,7 @@ pub(crate) struct Levels {
 impl Model for Levels {
     ghost use Rattle.std.specs.Prelude.{length};
     ghost use Rattle.picky_der_ser.specs.State.{Stack, stack_code};
-    ghost use Rattle.picky_der_ser.specs.Places.{placed};
+    ghost use Rattle.picky_der_ser.specs.Places.{place_of_mark};
     ghost use Rattle.picky_der_ser.specs.Marks.{inside_of, pending_of, with_pending, AreMarks, HasRoom};
 
     ghost Value = { Stack };
@@ -51,14 +51,14 @@ impl Model for Levels {
     ghost coded = { stack_code };
 
     ghost view = { λ s. record {
-      inside = inside_of s.entered (placed s.innermost) s.marks.places s.scratch.items s.seams.items s.wrappers.of_levels;
-      pending = pending_of s.entered (placed s.innermost) s.scratch.items s.seams.items s.wrappers.of_levels;
+      inside = inside_of s.entered (place_of_mark s.innermost) s.marks.places s.scratch.items s.seams.items s.wrappers.of_levels;
+      pending = pending_of s.entered (place_of_mark s.innermost) s.scratch.items s.seams.items s.wrappers.of_levels;
       around = s.wrappers.around;
     } };
 
-    ghost invariant = { λ s. AreMarks (with_pending (placed s.innermost) s.marks.places)
+    ghost invariant = { λ s. AreMarks (with_pending (place_of_mark s.innermost) s.marks.places)
         (length s.scratch.items) s.seams.items s.wrappers.of_levels
-        × HasRoom s.entered (placed s.innermost) s.marks.places s.marks.spare };
+        × HasRoom s.entered (place_of_mark s.innermost) s.marks.places s.marks.spare };
 }
 
 // Drops the bytes in front of this place.
@@ -234,7 +234,7 @@ impl Levels {
     // Keeps where another member of the level begins that was opened last, if it is a set.
     fn begin_member(&mut self) -> Result<(), AllocError>
         ensures { OnOk result (IfSome self.old.pending
-            (λ l. self.new ≡ record self.old { pending = Some (begun l) })) }
+            (λ l. self.new ≡ record self.old { pending = Some (at_next_member l) })) }
     {
         if let Some(mark) = &self.innermost {
             let held = self.scratch.len() - mark.start;
@@ -248,8 +248,7 @@ impl Levels {
     #[cold]
     #[inline(never)]
     pub(crate) fn enter(&mut self) -> Result<(), AllocError>
-        ensures { OnOk result (IfSome self.old.pending
-            (λ l. self.new ≡ record self.old { inside = begun l ∷ self.old.inside; pending = None })) }
+        ensures { OnOk result (EntersLevel self.old self.new) }
     {
         if self.scratch.is_empty() {
             self.scratch.reserve(FIRST_ROOM)?;
@@ -265,8 +264,7 @@ impl Levels {
     #[cold]
     #[inline(never)]
     fn enter_slowly(&mut self) -> Result<(), AllocError>
-        ensures { OnOk result (IfSome self.old.pending
-            (λ l. self.new ≡ record self.old { inside = begun l ∷ self.old.inside; pending = None })) }
+        ensures { OnOk result (EntersLevel self.old self.new) }
     {
         self.make_room()?;
         self.begin_member()?;
@@ -277,8 +275,7 @@ impl Levels {
 
     // The same behind a member of a level that is no set, where there is nothing to make ready. Else nothing is done.
     pub(crate) fn enter_again(&mut self) -> bool
-        ensures yes { result ≡ true → IfSome self.old.pending
-            (λ l. self.new ≡ record self.old { inside = begun l ∷ self.old.inside; pending = None }) }
+        ensures yes { result ≡ true → EntersLevel self.old self.new }
         ensures no { result ≡ false → self.new ≡ self.old }
     {
         let Some(mark) = &self.innermost else {
@@ -395,8 +392,7 @@ impl Levels {
     #[inline(always)]
     pub(crate) fn merge(&mut self) -> Result<usize, AllocError>
         requires { IsSome self.old.pending }
-        ensures numbers { IfSome self.old.pending
-            (λ p. HaveTagNumbers p.around × HasNumber p.header) }
+        ensures numbers { HasLevelNumbers self.old }
         ensures count { IfOk result (λ n. IfSome self.old.pending
             (λ p. n ≡ length (der (under p.around (tree_of p.header p.content))))) }
         ensures bare { OnOk result (self.new.around ≡ []) }
@@ -426,15 +422,14 @@ impl Levels {
     #[inline(always)]
     pub(crate) fn merge_short(&mut self) -> Option<usize>
         requires { IsSome self.old.pending }
-        ensures numbers { IfSome self.old.pending
-            (λ p. HaveTagNumbers p.around × HasNumber p.header) }
+        ensures numbers { HasLevelNumbers self.old }
         ensures inside { IsSome result → self.old.inside ≢ [] }
         ensures count { IfSome result (λ n. IfSome self.old.pending
-            (λ p. n ≡ length (der (under p.around (tree_of p.header (settled p)))))) }
+            (λ p. n ≡ length (der (under p.around (tree_of p.header (final_content p)))))) }
         ensures bare { IsSome result → self.new.around ≡ [] }
         ensures some { IsSome result → (p l : Level) (ls : List Level)
             → self.old.pending ≡ Some p → self.old.inside ≡ l ∷ ls → self.new ≡ record {
-              inside = with_bytes l (der (under p.around (tree_of p.header (settled p)))) ∷ ls;
+              inside = with_bytes l (der (under p.around (tree_of p.header (final_content p)))) ∷ ls;
               pending = None;
               around = [];
             } }
@@ -464,8 +459,7 @@ impl Levels {
     // Adds the headers of a content of `len` bytes to the level that was opened last.
     pub(crate) fn add_headers(&mut self, len: usize) -> Result<(), AllocError>
         requires fits { len < 2 ^ 63 }
-        ensures numbers { IfSome self.old.pending
-            (λ p. HaveTagNumbers p.around × HasNumber p.header) }
+        ensures numbers { HasLevelNumbers self.old }
         ensures around { self.new.around ≡ self.old.around }
         ensures ok { OnOk result (IfSome self.old.pending
             (λ p. self.new ≡ record self.old {
@@ -483,10 +477,9 @@ impl Levels {
     // Writes the header of the level that was opened last into the room for it, where it fits, and answers whether it did:
     // then the level holds its whole encoding.
     pub(crate) fn seal(&mut self) -> bool
-        ensures numbers { IfSome self.old.pending
-            (λ p. HaveTagNumbers p.around × HasNumber p.header) }
+        ensures numbers { HasLevelNumbers self.old }
         ensures yes { result ≡ true → IfSome self.old.pending
-            (λ p. self.new ≡ record self.old { pending = Some (sealed p) }) }
+            (λ p. self.new ≡ record self.old { pending = Some (as_raw_level p) }) }
         ensures no { result ≡ false → self.new ≡ self.old }
     {
         if let Some(mark) = &mut self.innermost {

@@ -1,6 +1,6 @@
 //! The marks of the levels around the innermost one.
 ghost use Rattle.std.specs.Prelude.{◌≡◌, ◌≢◌, ◌<◌, ◌≤◌, [], ◌∷◌, true, false, None, IfSome, IfNone, OnOk};
-ghost use Rattle.picky_der_ser.specs.Places.{mark_place, placed, root_place};
+ghost use Rattle.picky_der_ser.specs.Places.{mark_place, place_of_mark, root_place};
 ghost use Rattle.picky_der_ser.specs.Marks.{with_pending};
 
 use crate::Header;
@@ -114,7 +114,7 @@ impl Marks {
     // Puts the mark behind the others, if there is one.
     pub(crate) fn set_aside(&mut self, innermost: &mut Option<Mark>)
         requires { 0 < self.old.spare }
-        ensures places { self.new.places ≡ with_pending (placed innermost.old) self.old.places }
+        ensures places { self.new.places ≡ with_pending (place_of_mark innermost.old) self.old.places }
         ensures taken { innermost.new ≡ None }
     {
         if let Some(mark) = innermost.take() {

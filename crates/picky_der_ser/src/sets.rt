@@ -1,7 +1,7 @@
 //! The order of the members of a set (X.690, 11.6).
 ghost use Rattle.std.specs.Prelude.{◌≡◌, ◌≤◌, ◌+◌, ◌++◌, length, map, take, drop, vec_len, IfOk, OnOk, OnErr};
 ghost use Rattle.std.specs.List.{concat};
-ghost use Rattle.picky_der_core.specs.Order.{arranged};
+ghost use Rattle.picky_der_core.specs.Order.{in_ascending_order};
 ghost use Rattle.picky_der_ser.specs.Parts.{parts, AreSeams, last_seam, next_seams};
 
 use crate::Header;
@@ -43,7 +43,7 @@ fn cut<'a>(content: &'a [u8], seams: &[usize], alloc: Global) -> Result<Vec<&'a 
 fn sorted_content(content: &[u8], seams: &[usize], alloc: Global) -> Result<Vec<u8>, AllocError>
     requires ascending { AreSeams 0 seams.now }
     requires within { last_seam 0 seams.now ≤ length content.now }
-    ensures { IfOk result (λ all. all.items ≡ concat (arranged (parts seams.now content.now))) }
+    ensures { IfOk result (λ all. all.items ≡ concat (in_ascending_order (parts seams.now content.now))) }
 {
     let mut members = cut(content, seams, alloc)?;
     members.sort()?;
@@ -62,7 +62,7 @@ pub(crate) fn arrange(
     requires ascending { AreSeams 0 seams.now }
     requires within { start + last_seam 0 seams.now ≤ vec_len out.old }
     ensures ok { OnOk result (out.new.items ≡ take start out.old.items ++ concat
-        (arranged (parts seams.now (drop start out.old.items)))) }
+        (in_ascending_order (parts seams.now (drop start out.old.items)))) }
     ensures len { vec_len out.new ≡ vec_len out.old }
 {
     let members = sorted_content(&out[start..], seams, alloc)?;

@@ -80,7 +80,10 @@ impl Wrappers {
     // The open ones stand around a level from here on. Answers where they begin.
     pub(crate) fn take(&mut self) -> usize
         ensures place { result ≡ length self.old.of_levels }
-        ensures taken { self.new ≡ record { of_levels = self.old.of_levels ++ self.old.around; around = [] } }
+        ensures taken { self.new ≡ record {
+          of_levels = self.old.of_levels ++ self.old.around;
+          around = [];
+        } }
         ensures numbers { HaveTagNumbers self.old.around }
     {
         let first = self.taken;

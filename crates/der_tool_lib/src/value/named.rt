@@ -1,6 +1,6 @@
 //! The types that lines name, as they are read.
 ghost use Rattle.std.specs.Prelude.{◌≡◌, IfOk, IfErr, string_bytes, refl};
-ghost use Rattle.der_tool_lib.specs.Value.{described};
+ghost use Rattle.der_tool_lib.specs.Value.{description_of};
 ghost use Rattle.der_tool_lib.specs.Reads.{ReadsNamed, RefusesNamed};
 
 use crate::{SubjectPublicKeyInfo, TestStruct};
@@ -15,14 +15,14 @@ pub(super) trait Named: Deserialize {
     ghost named: { ValueType };
 
     // What the value is in the description.
-    ghost described_as: { Self → (described named).Value };
+    ghost described_as: { Self → (description_of named).Value };
 
     fn read<R: ReadExt>(de: &mut Deserializer<R>) -> Result<Self>
         ensures ok { IfOk result (λ value. ReadsNamed named de.old de.new (described_as value)) }
         ensures err { IfErr result (RefusesNamed named de.old de.new) };
 
     // It means the same there.
-    ghost same_meaning: { (v : Self) → (described named).meaning (described_as v) ≡ Self.meaning v };
+    ghost same_meaning: { (v : Self) → (description_of named).meaning (described_as v) ≡ Self.meaning v };
 }
 
 impl Named for bool {

@@ -2,7 +2,7 @@
 //!
 //! Reading tells a value up to `==`, so these say how much it tells.
 ghost use Rattle.std.specs.Cmp.Lexicographic.{pointwise};
-ghost use Rattle.picky_der_core.specs.Equality.{IsEqualityOf, IsThatOf, compared};
+ghost use Rattle.picky_der_core.specs.Equality.{IsEqualityOf, IsThatOf, comparison_of};
 
 use crate::asn1::{
     Asn1SequenceOf, Asn1SetOf, BitStringAsn1Container, ByteBuf, Bytes, ExplicitContextTag,
@@ -48,6 +48,6 @@ pub fn newtypes()
 
 /// Errors are equal just where their kinds are the same, with the kind of a device's error, and the texts of messages.
 pub fn errors()
-    ensures error { IsEqualityOf ⟦<Asn1DerError as PartialEq>⟧.eq compared }
+    ensures error { IsEqualityOf ⟦<Asn1DerError as PartialEq>⟧.eq comparison_of }
     ensures failure { IsEqualityOf ⟦<Failure as PartialEq>⟧.eq (λ failure. failure) }
 {}

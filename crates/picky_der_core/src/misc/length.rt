@@ -110,7 +110,7 @@ impl Length {
         }
     }
 
-    /// The number that stands in so many length bytes, if no shorter length gives it, and else `InvalidData` (X.690, 10.1).
+    /// The number that stands in `count` length bytes, if no shorter length gives it, and else `InvalidData` (X.690, 10.1).
     pub fn shortest(count: usize, len: usize) -> Result<usize>
         requires { 1 + count < 2 ^ 64 }
         ensures ok { IfOk result (λ n. (n ≡ len) × (length (bytes_of len) ≡ 1 + count)) }

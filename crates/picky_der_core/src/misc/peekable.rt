@@ -4,7 +4,7 @@ ghost use Rattle.std.specs.Prelude.{OnOk, IfErr, OnErr};
 ghost use Rattle.std.specs.Io.KnownBytes.{Keeps, IsAtEnd, ReadConsumes};
 ghost use Rattle.std.specs.Io.{ReadsAtMost, StartsWith};
 ghost use Rattle.picky_der_core.specs.Reader.{GivesByte, GivesNext, TakesFirst, CountsFault, FailsOnce};
-ghost use Rattle.picky_der_core.specs.Peeking.{left_in, IsByteIfAny, count_of_any, moved};
+ghost use Rattle.picky_der_core.specs.Peeking.{left_in, IsByteIfAny, count_of_any, position_behind};
 
 use super::ReadExt;
 use std::io;
@@ -114,7 +114,7 @@ impl<R: ReadExt> PeekableReader<R> {
         ensures bounded { IsByteIfAny result }
         ensures same { self.new.reader ≡ self.old.reader }
         ensures unpeeked { self.new.peeked ≡ None }
-        ensures pos { self.new.pos ≡ moved self.old.pos (count_of_any result) }
+        ensures pos { self.new.pos ≡ position_behind self.old.pos (count_of_any result) }
     {
         let byte = self.peeked?;
         self.peeked = None;
@@ -137,7 +137,7 @@ impl<R: ReadExt> Read for PeekableReader<R> {
             × (self.new.reader ≡ self.old.reader)) }
         ensures unpeeked { 0 < length buf.old → OnOk result (self.new.peeked ≡ None) }
         ensures kept { OnErr result (self.new.peeked ≡ self.old.peeked) }
-        ensures pos { IfOk result (λ n. self.new.pos ≡ moved self.old.pos n) }
+        ensures pos { IfOk result (λ n. self.new.pos ≡ position_behind self.old.pos n) }
         ensures same_pos { OnErr result (self.new.pos ≡ self.old.pos) }
         ensures fault { IfErr result (FailsOnce (R.faults self.old.reader)
             (R.faults self.new.reader) (left_in R.remaining self.new)) }
@@ -161,7 +161,7 @@ impl<R: ReadExt> ReadExt for PeekableReader<R> {
             (λ b. (result ≡ Ok (Some b)) × (self.new.reader ≡ self.old.reader)) }
         ensures unpeeked { OnOk result (self.new.peeked ≡ None) }
         ensures kept { OnErr result (self.new.peeked ≡ self.old.peeked) }
-        ensures pos { IfOk result (λ next. self.new.pos ≡ moved self.old.pos (count_of_any next)) }
+        ensures pos { IfOk result (λ next. self.new.pos ≡ position_behind self.old.pos (count_of_any next)) }
         ensures same_pos { OnErr result (self.new.pos ≡ self.old.pos) }
         ensures fault { IfErr result (FailsOnce (R.faults self.old.reader)
             (R.faults self.new.reader) (left_in R.remaining self.new)) }
@@ -189,7 +189,7 @@ impl<R: ReadExt> ReadExt for PeekableReader<R> {
             × (self.new.reader ≡ self.old.reader)) }
         ensures unpeeked { 0 < length buf.old → OnOk result (self.new.peeked ≡ None) }
         ensures kept { OnErr result (self.new.peeked ≡ self.old.peeked) }
-        ensures pos { IfOk result (λ n. self.new.pos ≡ moved self.old.pos n) }
+        ensures pos { IfOk result (λ n. self.new.pos ≡ position_behind self.old.pos n) }
         ensures same_pos { OnErr result (self.new.pos ≡ self.old.pos) }
         ensures fault { IfErr result (FailsOnce (R.faults self.old.reader)
             (R.faults self.new.reader) (left_in R.remaining self.new)) }
@@ -226,7 +226,7 @@ impl<R: ReadExt> ReadExt for PeekableReader<R> {
             (left_in R.remaining self.new) count }
         ensures peeked { result ≡ true → self.old.peeked ≡ None }
         ensures unpeeked { result ≡ true → self.new.peeked ≡ None }
-        ensures pos { result ≡ true → self.new.pos ≡ moved self.old.pos count }
+        ensures pos { result ≡ true → self.new.pos ≡ position_behind self.old.pos count }
         ensures fewer { result ≡ false → self.new ≡ self.old }
         ensures no_fault { R.faults self.new.reader ≡ R.faults self.old.reader }
         ensures same_references { R.references self.new.reader ≡ R.references self.old.reader }
@@ -246,7 +246,7 @@ impl<R: ReadExt> ReadExt for PeekableReader<R> {
             (λ b. (result ≡ Ok b) × (self.new.reader ≡ self.old.reader)) }
         ensures unpeeked { OnOk result (self.new.peeked ≡ None) }
         ensures kept { OnErr result (self.new.peeked ≡ self.old.peeked) }
-        ensures pos { OnOk result (self.new.pos ≡ moved self.old.pos 1) }
+        ensures pos { OnOk result (self.new.pos ≡ position_behind self.old.pos 1) }
         ensures same_pos { OnErr result (self.new.pos ≡ self.old.pos) }
         ensures fault { CountsFault (left_in R.remaining self.old) (left_in R.remaining self.new)
             (R.faults self.old.reader) (R.faults self.new.reader) result }

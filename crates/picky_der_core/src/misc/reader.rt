@@ -43,7 +43,7 @@ pub trait ReadExt: Read {
         &[]
     }
 
-    /// Takes so many of the bytes that are here already, and answers whether so many are. If not, nothing was taken.
+    /// Takes `count` of the bytes that are here already, and answers whether as many are. If not, nothing was taken.
     fn take_ahead(&mut self, count: usize) -> bool
         ensures taken { result ≡ true → TakesFirst (Self.remaining self.old)
             (Self.remaining self.new) count }

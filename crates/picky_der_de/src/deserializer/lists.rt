@@ -7,6 +7,7 @@ ghost use Rattle.picky_der_ser.specs.Sequences.{IsListTag, list_kind};
 ghost use Rattle.picky_der_input.specs.Reading.{Reads, Refuses};
 ghost use Rattle.picky_der_input.specs.Ends.{OpensList};
 ghost use Rattle.picky_der_de.specs.Lending.{LendsList};
+ghost use Rattle.picky_der_de.specs.Members.{RefusesUnordered};
 ghost use Rattle.picky_der_de.specs.SequenceState.{borrowed_by, outer_of, state_of};
 
 use super::Deserializer;
@@ -82,6 +83,8 @@ impl<R: ReadExt> Deserializer<R> {
             (Tree.list (list_kind tag) (trees (map T.meaning values.items)))) }
         ensures err { IfErr result (Refuses (λ values. Tree.list (list_kind tag)
             (trees (map T.meaning values))) (Shape.list_of (list_kind tag) T.shape) self.old
+            self.new) }
+        ensures order { tag ≡ 0x31 → IfErr result (RefusesUnordered T.meaning T.shape self.old
             self.new) }
     {
         let mut members = self.begin_list(tag)?;

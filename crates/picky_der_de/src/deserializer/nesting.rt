@@ -57,7 +57,8 @@ impl<R: ReadExt> Deserializer<R> {
         ensures ok { IfOk result (λ value. ReadsEnclosed enclosure T.shape self.old self.new
             (T.meaning value)) }
         ensures err { IfErr result (RefusesEnclosed T.meaning T.shape enclosure self.old self.new) }
-        ensures unsupported { (HasEnclosureNumber enclosure → ⊥) → RefusesNumber self.old result self.new }
+        ensures unsupported { (HasEnclosureNumber enclosure → ⊥)
+            → RefusesNumber self.old result self.new }
     {
         let outer = self.input.open_enclosure(enclosure)?;
         let value = T::deserialize(self)?;

@@ -62,7 +62,7 @@ fn copied(alloc: Global, bytes: &[u8]) -> std::result::Result<Vec<u8>, AllocErro
 }
 
 impl<R: ReadExt> Input<R> {
-    // Takes so many bytes, where the reader has as many ahead, and answers whether it has.
+    // Takes `count` bytes, where the reader has as many ahead, and answers whether it has.
     pub(crate) fn take_ahead(&mut self, count: usize) -> bool
         requires had_not_failed { self.old.failed ≡ None }
         requires fits { count ≤ self.old.until_end }
@@ -150,7 +150,7 @@ impl<R: ReadExt> Input<R> {
         Some(&ahead[..count])
     }
 
-    // Takes so many bytes that are ahead into a vector, and `None` where there aren't so many before the innermost end.
+    // Takes `count` bytes that are ahead into a vector, and `None` where there are fewer before the innermost end.
     pub(crate) fn copy_ahead(&mut self, count: usize) -> Result<Option<Vec<u8>>>
         requires had_not_failed { self.old.failed ≡ None }
         ensures taken { IfOk result (λ some. IfSome some

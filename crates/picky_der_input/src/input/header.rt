@@ -12,7 +12,7 @@ use picky_der_core::misc::{Length, ReadExt};
 use picky_der_core::{Asn1DerError, Result};
 
 impl<R: ReadExt> Input<R> {
-    // The number of so many length bytes.
+    // The number of `count` length bytes.
     fn read_digits(&mut self, count: usize) -> Result<usize>
         requires few { count ≤ 8 }
         requires had_not_failed { self.old.failed ≡ None }

@@ -4,7 +4,7 @@ ghost use Rattle.std.specs.Prelude.{◌≡◌, ◌+◌, ◌≤◌, ◌<◌, ◌�
 ghost use Rattle.std.specs.Prelude.{IsTrue, IfOk, IfErr, OnOk};
 ghost use Rattle.picky_der_core.specs.Tag.{number_of, IsTagNumber};
 ghost use Rattle.picky_der_input.specs.Steps.{Takes};
-ghost use Rattle.picky_der_input.specs.Ends.{innermost, narrowed, Closes, RefusesClose, OpensList, RefusesList, OpensLazily};
+ghost use Rattle.picky_der_input.specs.Ends.{innermost, with_inner_end, Closes, RefusesClose, OpensList, RefusesList, OpensLazily};
 ghost use Rattle.picky_der_input.specs.Enclosures.{HasEnclosureNumber, BeginsEnclosure, OpensEnclosure, RefusesOpening, RefusesUnusedBits};
 ghost use Rattle.picky_der_input.specs.TagNumbers.{RefusesNumber};
 
@@ -37,7 +37,7 @@ impl<R: ReadExt> Input<R> {
     // Opens an end `len` bytes from here, and answers the one that was the innermost.
     pub(crate) fn open_end(&mut self, len: usize, kind: End) -> Outer
         requires { len ≤ self.old.until_end }
-        ensures opened { self.new ≡ narrowed self.old len kind }
+        ensures opened { self.new ≡ with_inner_end self.old len kind }
         ensures around { result ≡ innermost self.old }
         ensures bounded { result.place ≤ self.new.limit }
     {
@@ -95,7 +95,8 @@ impl<R: ReadExt> Input<R> {
         ensures ok { IfOk result (BeginsEnclosure enclosure self.old self.new) }
         ensures bounded { IfOk result (λ outer. outer.place ≤ self.new.limit) }
         ensures err { IfErr result (RefusesOpening enclosure self.old self.new) }
-        ensures unsupported { (HasEnclosureNumber enclosure → ⊥) → RefusesNumber self.old result self.new }
+        ensures unsupported { (HasEnclosureNumber enclosure → ⊥)
+            → RefusesNumber self.old result self.new }
     {
         if let Some(error) = self.earlier() {
             return Err(error);
@@ -127,7 +128,8 @@ impl<R: ReadExt> Input<R> {
         ensures ok { IfOk result (OpensEnclosure enclosure self.old self.new) }
         ensures bounded { IfOk result (λ outer. outer.place ≤ self.new.limit) }
         ensures err { IfErr result (RefusesOpening enclosure self.old self.new) }
-        ensures unsupported { (HasEnclosureNumber enclosure → ⊥) → RefusesNumber self.old result self.new }
+        ensures unsupported { (HasEnclosureNumber enclosure → ⊥)
+            → RefusesNumber self.old result self.new }
     {
         let outer = self.begin_enclosure(enclosure)?;
         if enclosure.has_unused_bits() {

@@ -5,8 +5,8 @@ ghost use Rattle.picky_der_core.specs.WriterFaults.{IsOnceAtMost};
 ghost use Rattle.picky_der_core.specs.Wrapper.{under};
 ghost use Rattle.picky_der_ser.specs.Heading.{tree_of};
 ghost use Rattle.picky_der_ser.specs.Headers.{HasNumber};
-ghost use Rattle.picky_der_ser.specs.State.{Level, begun};
-ghost use Rattle.picky_der_ser.specs.Calls.{Wrote, Refused, RefusesToEnter, OpensLevel, AddsMember, RefusesToAdd, WritesContent, EndsLevel};
+ghost use Rattle.picky_der_ser.specs.State.{Level, at_next_member};
+ghost use Rattle.picky_der_ser.specs.Calls.{SinkWrites, SinkRefuses, RefusesToEnter, OpensLevel, AddsMember, RefusesToAdd, WritesContent, EndsLevel};
 
 use super::Serializer;
 use crate::sink::put_headed;
@@ -31,10 +31,10 @@ impl<W: WriteExt> Serializer<W> {
         ensures kept { (self.new.around ≡ self.old.around) × (self.new.failed ≡ self.old.failed) }
         ensures still_outside { OnOk result (self.new.inside ≡ []) }
         ensures wrote { IfOk result (λ n. IfSome self.old.pending
-            (λ l. Wrote W.WriteExt.own (under l.around (tree_of l.header content.now)) self.old.sink
+            (λ l. SinkWrites W.WriteExt.own (under l.around (tree_of l.header content.now)) self.old.sink
             n self.new.sink)) }
         ensures refused { IfErr result (λ e. IfSome self.old.pending
-            (λ l. Refused W.WriteExt.own (under l.around (tree_of l.header content.now))
+            (λ l. SinkRefuses W.WriteExt.own (under l.around (tree_of l.header content.now))
             self.old.sink e self.new.sink)) }
         ensures counted { IsOnceAtMost (W.faults self.old.sink) (W.faults self.new.sink) }
         ensures no_fault { OnOk result (W.faults self.new.sink ≡ W.faults self.old.sink) }
@@ -55,10 +55,10 @@ impl<W: WriteExt> Serializer<W> {
         ensures kept { (self.new.around ≡ self.old.around) × (self.new.failed ≡ self.old.failed) }
         ensures still_outside { OnOk result (self.new.inside ≡ []) }
         ensures wrote { IfOk result (λ n. IfSome self.old.pending
-            (λ l. Wrote W.WriteExt.own (under l.around (tree_of l.header l.content)) self.old.sink n
+            (λ l. SinkWrites W.WriteExt.own (under l.around (tree_of l.header l.content)) self.old.sink n
             self.new.sink)) }
         ensures refused { IfErr result (λ e. IfSome self.old.pending
-            (λ l. Refused W.WriteExt.own (under l.around (tree_of l.header l.content)) self.old.sink
+            (λ l. SinkRefuses W.WriteExt.own (under l.around (tree_of l.header l.content)) self.old.sink
             e self.new.sink)) }
         ensures counted { IsOnceAtMost (W.faults self.old.sink) (W.faults self.new.sink) }
         ensures no_fault { OnOk result (W.faults self.new.sink ≡ W.faults self.old.sink) }
@@ -147,7 +147,7 @@ impl<W: WriteExt> Serializer<W> {
         ensures ok { OnOk result (IfSome self.old.pending
             (λ l. self.new ≡ record self.old {
               around = [];
-              inside = begun l ∷ self.old.inside;
+              inside = at_next_member l ∷ self.old.inside;
               pending = None;
             })) }
         ensures had_not_failed { OnOk result (self.old.failed ≡ None) }

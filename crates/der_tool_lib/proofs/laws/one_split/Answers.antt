@@ -1,5 +1,5 @@
 use Rattle.std.proofs.Common.{◌≡◌, ℕ, List, [], ◌∷◌, ◌++◌, refl, sym, ◌∙◌, append_assoc}
-use Rattle.der_tool_lib.specs.Text.{IsLine, AreLines, ended}
+use Rattle.der_tool_lib.specs.Text.{IsLine, AreLines, text_of_lines}
 use Rattle.der_tool_lib.proofs.laws.one_split.Goals as goal
 
 -- two lines with their ends, one of which begins the other's input
@@ -20,12 +20,12 @@ no_end (c ∷ cs) [] x h e = let same : c ≡ 0x0A = cc in h.0 same
 no_end (c ∷ cs) (d ∷ ds) x h e = let tails : cs ≡ ds ++ (0x0A ∷ x) = cc in no_end cs ds x h.1 tails
 
 one_way : (lines others : List (List ℕ)) (last other : List ℕ) → AreLines lines → AreLines others → IsLine last → IsLine other
-    → ended lines ++ last ≡ ended others ++ other → (lines ≡ others) × (last ≡ other)
+    → text_of_lines lines ++ last ≡ text_of_lines others ++ other → (lines ≡ others) × (last ≡ other)
 one_way [] [] last other h k l m e = (refl, e)
-one_way [] (b ∷ bs) last other h k l m e = absurd (no_end last b _ l (e ∙ append_assoc b (0x0A ∷ ended bs) other))
-one_way (a ∷ as') [] last other h k l m e = absurd (no_end other a _ m (sym e ∙ append_assoc a (0x0A ∷ ended as') last))
+one_way [] (b ∷ bs) last other h k l m e = absurd (no_end last b _ l (e ∙ append_assoc b (0x0A ∷ text_of_lines bs) other))
+one_way (a ∷ as') [] last other h k l m e = absurd (no_end other a _ m (sym e ∙ append_assoc a (0x0A ∷ text_of_lines as') last))
 one_way (a ∷ as') (b ∷ bs) last other h k l m e =
-    let first = one_line a b _ _ h.0 k.0 (sym (append_assoc a (0x0A ∷ ended as') last) ∙ e ∙ append_assoc b (0x0A ∷ ended bs) other) in
+    let first = one_line a b _ _ h.0 k.0 (sym (append_assoc a (0x0A ∷ text_of_lines as') last) ∙ e ∙ append_assoc b (0x0A ∷ text_of_lines bs) other) in
     let rest = one_way as' bs last other h.1 k.1 l m first.1 in
     let all : a ∷ as' ≡ b ∷ bs = cc in
     (all, rest.1)

@@ -2,7 +2,7 @@ use Rattle.std.proofs.Common.{◌≡◌, ◌+◌, ◌-◌, ◌++◌, length, tak
 use Rattle.std.proofs.lemmas.List.{length-drop}
 use Rattle.std.specs.List.{slice_rotate_right}
 use Rattle.picky_der_ser.specs.Headers.{headers}
-use Rattle.picky_der_ser.specs.Overwrite.{overwritten}
+use Rattle.picky_der_ser.specs.Overwrite.{with_overwrite}
 use Rattle.picky_der_ser.proofs.HeaderBytes.{der-headers}
 use Rattle.picky_der_ser.proofs.HeaderSizes.{headers_more}
 use Rattle.picky_der_ser.proofs.Brought.{brought}
@@ -32,6 +32,6 @@ returns-clause-ok c =
     let more = c.len.result - c.len-end.result - width in
     let count : length h ≡ width + more = omega (arith, headers_more c.args.around.now c.args.header n, ap length is, length-append s h) in
     let size : n ≡ length (drop c.args.start s) = omega (arith, length-drop c.args.start s) in
-    c.fill_from_last.ensures ∙ ap (λ w. overwritten c.args.at width (length w - width) w) (c.rotate_from.ensures.items ∙ ap (λ w. take c.args.start w ++ slice_rotate_right (drop c.args.start w) more) is)
+    c.fill_from_last.ensures ∙ ap (λ w. with_overwrite c.args.at width (length w - width) w) (c.rotate_from.ensures.items ∙ ap (λ w. take c.args.start w ++ slice_rotate_right (drop c.args.start w) more) is)
     ∙ brought s h c.args.at c.args.start more (omega arith) (omega arith) count
     ∙ ap (λ x. take c.args.at s ++ x) (ap (λ m. headers c.args.around.now c.args.header m ++ drop c.args.start s) size ∙ sym (der-headers c.args.around.now c.args.header (drop c.args.start s)))

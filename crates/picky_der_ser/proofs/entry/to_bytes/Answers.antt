@@ -1,7 +1,7 @@
 use Rattle.std.proofs.Common.{rules, refl, IfOk, IfErr}
 use Rattle.std.proofs.lemmas.Result.{IfOk-weaker, IfErr-weaker}
 use Rattle.picky_der_core.specs.SliceSink.{slice_of}
-use Rattle.picky_der_ser.specs.Entry.{Overwrites, RefusedSlice}
+use Rattle.picky_der_ser.specs.Entry.{Overwrites, SliceRefuses}
 use Rattle.picky_der_ser.proofs.EntryWrites.{wrote-slice, refused-slice}
 use Rattle.picky_der_ser.proofs.entry.to_bytes.Goals as goal
 
@@ -21,7 +21,7 @@ returns-clause-err g c =
     let t = g.T.Serialize.meaning c.args.value.now in
     let old = c.new-sink.result in
     let new = c.to_writer-outcome.new.writer in
-    let refused : IfErr c.to_writer-outcome.result (λ e. RefusedSlice t (slice_of old).now e (slice_of new).now) =
+    let refused : IfErr c.to_writer-outcome.result (λ e. SliceRefuses t (slice_of old).now e (slice_of new).now) =
     IfErr-weaker c.to_writer-outcome.result _ _
     (λ e h. refused-slice _ (λ _. refl) (λ _. refl) (λ _ k. k) t old new e c.new-sink.ensures.start c.to_writer-outcome.ensures.goes_on h)
     c.to_writer-outcome.ensures.err in

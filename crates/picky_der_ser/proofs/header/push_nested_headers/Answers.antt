@@ -1,7 +1,7 @@
 use Rattle.std.proofs.Common.{◌≡◌, [], ◌++◌, take, drop, reverse, length, sym, ◌∙◌, ap, subst, arith}
 use mir.Val.{bool_byte}
 use Rattle.std.specs.Option.{is_some, unwrap_or}
-use Rattle.picky_der_ser.specs.Headers.{HasNumber, HaveTagNumbers, joined_last, own_header}
+use Rattle.picky_der_ser.specs.Headers.{HasNumber, HaveTagNumbers, innermost_joint_header, own_header}
 use Rattle.picky_der_ser.proofs.HeaderLoop.{nil_of, last_number, outer_numbers, innermost_number, kept_numbers, kept_first, pushed_first, pushed_more, pushed_count, pushed_all}
 use Rattle.picky_der_ser.proofs.header.push_nested_headers.Goals as goal
 
@@ -11,7 +11,7 @@ push_own_header-requires c =
 
 pub loop-wrapper-init : goal.loop-wrapper-init
 loop-wrapper-init c =
-    let j = joined_last c.args.around.now c.args.header in
+    let j = innermost_joint_header c.args.around.now c.args.header in
     let all = kept_first c.args.around.now j c.from-written.result (c.from-written.ensures ∙ ap bool_byte (c.is_some.ensures ∙ ap is_some c.innermost_joined-joined.ensures)) in
     record { all = all; numbers = subst HaveTagNumbers (sym all) (kept_numbers c.args.around.now j c.requires.numbers.0); pushed = pushed_first _ _ _ _ _ (c.in_ok-push_own_header.ensures.ok ∙ ap (λ h. c.args.out.now.items ++ reverse (own_header h c.args.len)) (c.unwrap_or.ensures ∙ ap (λ o. unwrap_or o c.args.header) c.innermost_joined-joined.ensures)) }
 

@@ -1,7 +1,9 @@
 use Rattle.std.proofs.Common.{rules}
 use Rattle.std.proofs.lemmas.Result.{err_from_is_err_and}
-use Rattle.picky_der_de.proofs.Asked.{asked, reads_at}
+use Rattle.picky_der_de.proofs.Asked.{asked, asked_of, reads_at}
 use Rattle.picky_der_de.proofs.ListReads.{list_numbered, list_of_unopened, list_of_refused, list_of_reads, all_closed}
+use Rattle.picky_der_de.specs.Members.{RefusesUnordered}
+use Rattle.picky_der_de.proofs.SetOrder.{unordered_unopened, unordered_refused}
 use Rattle.picky_der_de.proofs.deserializer.Deserializer.read_list.Goals as goal
 
 pub begin_list-requires : goal.begin_list-requires
@@ -22,3 +24,15 @@ returns-in_err-end-clause-err g c = absurd (all_closed c.in_ok-values.ensures.ok
 pub returns-clause-ok : goal.returns-clause-ok
 returns-clause-ok g c =
     reads_at (list_of_reads g.T.Serialize.meaning g.T.Deserialize.shape c.requires c.in_ok-values.values.items c.in_ok-members.ensures.ok c.in_ok-values.ensures.ok c.in_ok-end.ensures.ok c.in_ok-values.ensures.outer) (search rules)
+
+pub returns-in_err-members-clause-order : goal.returns-in_err-members-clause-order
+returns-in_err-members-clause-order g c set =
+    let p = err_from_is_err_and c.from_residual.result c.from_residual.ensures.1 in
+    rw (p.1, p.2) (unordered_unopened (rw set at (rw c.in_err-members.was at c.begin_list.follows.holds-at-none)))
+
+pub returns-in_err-values-clause-order : goal.returns-in_err-values-clause-order
+returns-in_err-values-clause-order g c set =
+    asked_of (RefusesUnordered g.T.Serialize.meaning g.T.Deserialize.shape _) _ c.from_residual-in_err-values.ensures.1 (search rules) (unordered_refused (rw set at c.in_ok-members.ensures.ok) c.in_err-values.ensures.err)
+
+pub returns-in_err-end-clause-order : goal.returns-in_err-end-clause-order
+returns-in_err-end-clause-order g c set = absurd (all_closed c.in_ok-values.ensures.ok c.in_err-end.ensures.err)

@@ -3,7 +3,7 @@ use Rattle.std.proofs.lemmas.Result.{err_from_is_err_and}
 use Rattle.picky_der_core.specs.Failure.{failure_of}
 use Rattle.picky_der_core.specs.Tag.{number_of}
 use Rattle.picky_der_input.specs.Steps.{Fails, IsJudged, IsMissing}
-use Rattle.picky_der_input.specs.Elements.{given_up}
+use Rattle.picky_der_input.specs.Elements.{without_implicit_tag}
 use Rattle.picky_der_input.proofs.Contents.{kept_input, failed_same, unmoved_taken, unmoved_peeked}
 use Rattle.picky_der_input.proofs.Elements.{raw_missing, raw_long_form, raw_no_length}
 use Rattle.picky_der_input.proofs.input.Input.begin_element.Goals as goal
@@ -12,7 +12,7 @@ pub returns-in_err-next_byte-clause-err : goal.returns-in_err-next_byte-clause-e
 returns-in_err-next_byte-clause-err g c =
     let p = err_from_is_err_and c.from_residual.result c.from_residual.ensures.1 in
     let e = c.in_err-next_byte.ensures in
-    let old = given_up c.args.self.now in
+    let old = without_implicit_tag c.args.self.now in
     let new = c.next_byte.new.self in
     let error = c.in_err-next_byte.field-0.0 in
     let unmoved : new ≡ record old { failed = Some (failure_of error); faults = new.faults; input = new.input } = rw (← c.self.view_is) e.unmoved in

@@ -20,7 +20,7 @@ returns-in-Ok-clause-ok g c =
     let k = c.in_ok-content.ensures in
     let v = c.in-Ok.ensures in
     let kept = sym c.deref.ensures.0 in
-    reads_kept g.met.K.PlainKind.kind (g.K.PlainKind.view c.in-Ok.value) h k.ok (kept ∙ v.ok) (ap g.K.PlainKind.judge kept ∙ v.no_fault) (k.implicit_tag ∙ h.implicit_tag)
+    reads_kept g.met.K.PlainKind.kind (g.K.PlainKind.view c.in-Ok.value) h k.ok (kept ∙ v.ok) (ap g.K.PlainKind.judge kept ∙ v.right) (k.implicit_tag ∙ h.implicit_tag)
 
 pub returns-in-Err-clause-err : goal.returns-in-Err-clause-err
 returns-in-Err-clause-err g c =

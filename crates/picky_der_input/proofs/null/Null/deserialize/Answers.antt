@@ -4,5 +4,5 @@ use Rattle.picky_der_input.proofs.null.Null.deserialize.Goals as goal
 pub returns-in_default-clause-ok : goal.returns-in_default-clause-ok
 returns-in_default-clause-ok c = search rules
 
-pub returns-in_default-clause-no_fault : goal.returns-in_default-clause-no_fault
-returns-in_default-clause-no_fault c = search rules
+pub returns-in_default-clause-right : goal.returns-in_default-clause-right
+returns-in_default-clause-right c = search rules

@@ -4,7 +4,7 @@ use Rattle.picky_der_core.specs.Wrapper.{under}
 use Rattle.picky_der_ser.specs.Heading.{tree_of}
 use Rattle.picky_der_ser.specs.State.{Stack, with_bytes}
 use Rattle.picky_der_ser.specs.Marks.{inside_of, pending_of}
-use Rattle.picky_der_ser.specs.Places.{placed}
+use Rattle.picky_der_ser.specs.Places.{place_of_mark}
 use Rattle.picky_der_ser.proofs.LevelMarks.{marks-more, stack_at, stack-grown}
 use Rattle.picky_der_ser.proofs.levels.Levels.append.Goals as goal
 
@@ -22,7 +22,7 @@ pub returns-clause-ok : goal.returns-clause-ok
 returns-clause-ok c = λ l ls f.
     let ms = c.self.inside.marks.places in
     let e = c.self.inside.entered in
-    let p = placed c.self.inside.innermost in
+    let p = place_of_mark c.self.inside.innermost in
     let s = c.self.inside.scratch.items in
     let q = c.self.inside.seams.items in
     let w = c.self.inside.wrappers.of_levels in

@@ -1,0 +1,60 @@
+//! A struct with a field of any type, and one that may be absent.
+ghost use Rattle.std.proofs.Common.{rules};
+ghost use Rattle.picky_der_core.specs.Shape.{Shape};
+ghost use Rattle.picky_der_core.specs.Tree.{ListKind, Tree};
+ghost use Rattle.picky_der_de.specs.Telling.{by_law, by_parts, tells};
+
+use picky_asn1_der::asn1::ExplicitContextTag0;
+use picky_asn1_der::de::{Begins, DeserializeLayout, Struct, deserialize_struct_as};
+use picky_asn1_der::misc::{ReadExt, WriteExt};
+use picky_asn1_der::ser::{Optional, OptionalRef, SerializeMembers};
+use picky_asn1_der::{Deserialize, Deserializer, Result, Serialize, Serializer};
+
+/// A value that may have a note, as a SEQUENCE of the value and, under the explicit tag 0, a UTF8String.
+#[derive(Debug, Drop, PartialEq, Eq)]
+pub struct Noted<T> {
+    /// What is noted.
+    pub value: T,
+    /// The note.
+    pub note: Option<ExplicitContextTag0<String>>,
+}
+
+type Members<T> = (T, Optional<ExplicitContextTag0<String>>, ());
+
+impl<T: Serialize> Serialize for Noted<T> {
+    ghost meaning = { λ it. Tree.list ListKind.sequence (⟦<Members<T> as SerializeMembers>⟧.members
+        (it.value, record { 0 = it.note }, tt)) };
+
+    fn serialize<W: WriteExt>(&self, serializer: &mut Serializer<W>) -> Result<usize> {
+        (&self.value, OptionalRef(&self.note), ()).serialize_sequence(serializer)
+    }
+}
+
+impl<T: Begins> Struct for Noted<T> {
+    type Members = Members<T>;
+
+    ghost parts = { λ it. (it.value, record { 0 = it.note }, tt) };
+
+    fn from_parts(members: Members<T>) -> Noted<T> {
+        let (value, note, ()) = members;
+        Noted {
+            value,
+            note: note.0,
+        }
+    }
+
+    ghost told = { Prim.search rules };
+}
+
+impl<T: Begins> Deserialize for Noted<T> {
+    ghost shape = { Shape.struct_of ListKind.sequence ⟦<Members<T> as DeserializeLayout>⟧.layout };
+
+    ghost injective = { by_parts (Shape.struct_of ListKind.sequence ⟦<Members<T> as DeserializeLayout>⟧.layout)
+        (Prim.search (rules, tells, by_law T.shape T.injective) depth 99) };
+
+    ghost sound = { Prim.search (rules, T.sound) depth 99 };
+
+    fn deserialize<R: ReadExt>(deserializer: &mut Deserializer<R>) -> Result<Noted<T>> {
+        deserialize_struct_as(deserializer)
+    }
+}
