@@ -7,4 +7,4 @@ mod writer;
 
 pub use hexadecimal::{bytes_of, text_of};
 pub use reader::{FailingReader, SlowReader};
-pub use writer::{FailingWriter, Refusal, SlowWriter};
+pub use writer::{FailingWriter, SlowWriter, WriterFault};

@@ -50,7 +50,7 @@ impl Write for SlowWriter {
 
 /// How a call of a writer is refused.
 #[derive(Clone, Copy, Debug)]
-pub enum Refusal {
+pub enum WriterFault {
     /// By an error of this kind.
     Error(ErrorKind),
     /// By taking nothing.
@@ -63,12 +63,12 @@ pub struct FailingWriter {
     writer: SlowWriter,
     // How many calls come before the one that is refused, if that one is still to come.
     before: Option<usize>,
-    refusal: Refusal,
+    refusal: WriterFault,
 }
 
 impl FailingWriter {
     /// A writer whose call number `call` is refused so. Calls are counted from 1, and at 0 none is refused.
-    pub fn new(alloc: Global, call: usize, refusal: Refusal) -> FailingWriter
+    pub fn new(alloc: Global, call: usize, refusal: WriterFault) -> FailingWriter
         ensures { taken_by (writer_of result) ≡ [] }
     {
         FailingWriter {
@@ -94,8 +94,8 @@ impl Write for FailingWriter {
             Some(0) => {
                 self.before = None;
                 match self.refusal {
-                    Refusal::Error(kind) => Err(kind.into()),
-                    Refusal::TakesNothing => Ok(0),
+                    WriterFault::Error(kind) => Err(kind.into()),
+                    WriterFault::TakesNothing => Ok(0),
                 }
             }
             Some(calls) => {

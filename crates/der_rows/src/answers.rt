@@ -11,7 +11,7 @@ use std::fmt::Debug;
 
 /// The bytes of a row, and how they are read.
 #[derive(Drop)]
-pub(crate) struct Input {
+pub(crate) struct RowBytes {
     pub(crate) bytes: Vec<u8>,
     pub(crate) way: Way,
 }
@@ -47,14 +47,14 @@ impl Way {
 /// What becomes of the bytes when they are read as this type.
 pub(crate) fn read_as<T: Deserialize + Debug>(
     alloc: Global,
-    input: &Input,
+    row: &RowBytes,
 ) -> Result<String, AllocError> {
-    match input.way {
-        Way::Slice => read_slice::<T>(alloc, &input.bytes),
-        Way::Reader(limit) => read_a_byte_a_call::<T>(alloc, &input.bytes, limit),
-        Way::Hostile => hostile::answer::<T>(alloc, &input.bytes),
-        Way::Apart => apart::answer::<T>(alloc, &input.bytes),
-        Way::Growing => growths::read::<T>(alloc, &input.bytes),
+    match row.way {
+        Way::Slice => read_slice::<T>(alloc, &row.bytes),
+        Way::Reader(limit) => read_a_byte_a_call::<T>(alloc, &row.bytes, limit),
+        Way::Hostile => hostile::answer::<T>(alloc, &row.bytes),
+        Way::Apart => apart::answer::<T>(alloc, &row.bytes),
+        Way::Growing => growths::read::<T>(alloc, &row.bytes),
     }
 }
 

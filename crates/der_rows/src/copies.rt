@@ -59,6 +59,20 @@ fn copy_contained(alloc: Global, name: &str, bytes: &[u8]) -> Result<(), Stop> {
         "BitStringAsn1Container<ByteBuf>" => {
             copy_as!(BitStringAsn1Container<ByteBuf>, alloc, bytes)
         }
+        _ => copy_nested(alloc, name, bytes),
+    }
+}
+
+// Of one in a container under a tag, and of lists in a tag or in a list.
+fn copy_nested(alloc: Global, name: &str, bytes: &[u8]) -> Result<(), Stop> {
+    match name {
+        "ExplicitContextTag0<OctetStringAsn1Container<ByteBuf>>" => {
+            copy_as!(ExplicitContextTag0<OctetStringAsn1Container<ByteBuf>>, alloc, bytes)
+        }
+        "ExplicitContextTag0<Asn1SequenceOf<ByteBuf>>" => {
+            copy_as!(ExplicitContextTag0<Asn1SequenceOf<ByteBuf>>, alloc, bytes)
+        }
+        "Asn1SetOf<Asn1SetOf<ByteBuf>>" => copy_as!(Asn1SetOf<Asn1SetOf<ByteBuf>>, alloc, bytes),
         _ => Err(Stop::Wrong("type")),
     }
 }

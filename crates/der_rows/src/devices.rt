@@ -1,6 +1,6 @@
 //! Readers and writers that rows name.
 
-use der_fixtures::{FailingReader, Refusal};
+use der_fixtures::{FailingReader, WriterFault};
 use std::io::ErrorKind;
 
 /// The number of the call that fails, counted from 1, and how it does. At 0 none fails.
@@ -56,17 +56,17 @@ impl Device {
 }
 
 /// The call of a writer that is refused, how it is, and what stands behind these: `N with KIND: REST`.
-pub(crate) fn refused_call(text: &str) -> Option<(usize, Refusal, &str)> {
+pub(crate) fn refused_call(text: &str) -> Option<(usize, WriterFault, &str)> {
     let (fault, rest) = text.split_once(": ")?;
     let (call, kind) = fault.split_once(" with ")?;
     Some((call.parse().ok()?, refusal_named(kind)?, rest))
 }
 
 /// The refusal of a writer with this name.
-pub(crate) fn refusal_named(name: &str) -> Option<Refusal> {
+pub(crate) fn refusal_named(name: &str) -> Option<WriterFault> {
     match name {
-        "nothing taken" => Some(Refusal::TakesNothing),
-        _ => Some(Refusal::Error(fault_kind(name)?)),
+        "nothing taken" => Some(WriterFault::TakesNothing),
+        _ => Some(WriterFault::Error(fault_kind(name)?)),
     }
 }
 

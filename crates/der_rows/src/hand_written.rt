@@ -34,3 +34,19 @@ impl Serialize for Littering {
         Ok(count)
     }
 }
+
+/// Writes nothing, and then begins a sequence that it leaves open with a member in it.
+#[derive(Drop)]
+pub(crate) struct Discarding;
+
+impl Serialize for Discarding {
+    ghost use Rattle.picky_der_core.specs.Tree.{Tree};
+
+    ghost meaning = { λ _. Tree.absent };
+
+    fn serialize<W: WriteExt>(&self, serializer: &mut Serializer<W>) -> Result<usize> {
+        let count = serializer.serialize_none()?;
+        ser::Sequence::serialize_lazy(serializer, Tag::SEQUENCE).serialize_element(&1u8)?;
+        Ok(count)
+    }
+}

@@ -5,7 +5,7 @@ use crate::calls::Calls;
 use crate::devices::{Device, refused_call};
 use crate::notation::bytes_in;
 use crate::{calls, growths, streams, tool, typed, values, writing};
-use der_fixtures::Refusal;
+use der_fixtures::WriterFault;
 use std::alloc::{AllocError, Global};
 
 /// The answer to a row. An empty line and a heading, which begins with `#`, are their own answers.
@@ -94,7 +94,7 @@ fn called(alloc: Global, row: &str) -> Option<Calls<'_>> {
 
 fn answer_puts(alloc: Global, row: &str) -> Result<String, AllocError> {
     let Some(rest) = row.strip_prefix("failing at ") else {
-        return writing::answer(alloc, 0, Refusal::TakesNothing, row);
+        return writing::answer(alloc, 0, WriterFault::TakesNothing, row);
     };
     match refused_call(rest) {
         Some((call, refusal, names)) => writing::answer(alloc, call, refusal, names),

@@ -2,7 +2,7 @@
 ghost use Rattle.std.specs.Prelude.{nat_eq};
 ghost use Rattle.std.proofs.Common.{rules};
 ghost use Rattle.picky_der_core.specs.Tree.{Tree};
-ghost use Rattle.picky_der_de.specs.InjectiveLaws.{unsigned_known};
+ghost use Rattle.picky_der_de.specs.InjectiveLaws.{unsigned_injective};
 
 use picky_asn1_der::misc::{ReadExt, WriteExt};
 use picky_asn1_der::{Deserialize, Deserializer, Result, Serialize, Serializer};
@@ -36,7 +36,7 @@ impl Serialize for Seen {
 impl Deserialize for Seen {
     ghost shape = { ⟦<u8 as Deserialize>⟧.shape };
 
-    ghost injective = { λ x y p q r e. unsigned_known x.number y.number e };
+    ghost injective = { λ x y p q r e. unsigned_injective x.number y.number e };
 
     ghost sound = { tt };
 

@@ -3,8 +3,8 @@
 use crate::calls::shown;
 use crate::devices::{fault_kind, refusal_named};
 use crate::runs::in_runs;
-use der_examples::{Host, NumberOrFlag};
-use der_fixtures::{FailingReader, FailingWriter, Refusal, text_of};
+use der_examples::{EncryptedData, Host, NumberOrFlag};
+use der_fixtures::{FailingReader, FailingWriter, WriterFault, text_of};
 use der_tool_lib::{SubjectPublicKeyInfo, TestStruct};
 use der_x509::Extension;
 use picky_asn1_der::asn1::{Asn1SetOf, BitStringAsn1Container, ByteBuf, ExplicitContextTag0};
@@ -26,7 +26,7 @@ pub(crate) enum Sweep {
     /// The call of a reader that fails so, up to one that isn't made any more. At 0 none fails.
     Reader(ErrorKind),
     /// The call of a writer that is refused so, in the same way.
-    Writer(Refusal),
+    Writer(WriterFault),
     /// The length of a slice, up to three more than that of the encoding.
     Slice,
     /// The length of a vector, in the same way.
@@ -68,6 +68,7 @@ pub(crate) fn answer(
         "TestStruct" => answer_as::<TestStruct>(alloc, sweep, encoding),
         "SubjectPublicKeyInfo" => answer_as::<SubjectPublicKeyInfo>(alloc, sweep, encoding),
         "Extension" => answer_as::<Extension>(alloc, sweep, encoding),
+        "EncryptedData" => answer_as::<EncryptedData>(alloc, sweep, encoding),
         _ => String::from_str(alloc, "unknown type"),
     }
 }
@@ -133,7 +134,7 @@ fn write_failing<T: Serialize>(
     value: &T,
     encoding: &[u8],
     call: usize,
-    refusal: Refusal,
+    refusal: WriterFault,
 ) -> Result<String, AllocError> {
     let writer = Watched::new(FailingWriter::new(alloc, call, refusal));
     let mut ser = Serializer::new_to_writer(alloc, writer);

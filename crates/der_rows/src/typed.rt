@@ -1,6 +1,6 @@
 //! Rows of bytes with a type.
 
-use crate::answers::{Input, Way};
+use crate::answers::{RowBytes, Way};
 use crate::notation::bytes_in;
 use crate::sweeps::Sweep;
 use crate::{copies, growths, plain, sweeps};
@@ -15,7 +15,7 @@ pub(crate) fn answer(alloc: Global, row: &str) -> Result<String, AllocError> {
         return growths::answer(alloc, copies::copy(alloc, name, &bytes));
     }
     if let Some(way) = Way::named(words) {
-        return plain::answer(alloc, name, &Input { bytes, way });
+        return plain::answer(alloc, name, &RowBytes { bytes, way });
     }
     match Sweep::named(words) {
         Some(sweep) => sweeps::answer(alloc, name, sweep, &bytes),

@@ -1,7 +1,7 @@
 //! Values that can't be read from what they are written as, and such that are refused in writing.
 
 use crate::answers::{Writing, written};
-use crate::hand_written::{Littering, Untouched};
+use crate::hand_written::{Discarding, Littering, Untouched};
 use der_examples::NumberOrFlag;
 use der_tool_lib::{AlgorithmIdentifier, SubjectPublicKeyInfo, TestStruct};
 use picky_asn1_der::Asn1RawDer;
@@ -38,6 +38,7 @@ fn hand_written(alloc: Global, how: Writing, name: &str) -> Result<String, Alloc
         ),
         "[Untouched]" => written(alloc, how, &[Untouched]),
         "vec![Littering]" => littering(alloc, how),
+        "(Discarding, 7u8)" => written(alloc, how, &(Discarding, 7u8)),
         _ => bytes(alloc, how, name),
     }
 }

@@ -2,7 +2,7 @@
 
 use crate::calls::shown;
 use crate::reading::newtype;
-use der_fixtures::{FailingWriter, Refusal, text_of};
+use der_fixtures::{FailingWriter, WriterFault, text_of};
 use picky_asn1_der::asn1::Tag;
 use picky_asn1_der::misc::{Watched, WriteExt};
 use picky_asn1_der::{Serializer, ser};
@@ -13,7 +13,7 @@ use std::alloc::{AllocError, Global};
 pub(crate) fn answer(
     alloc: Global,
     failing: usize,
-    refusal: Refusal,
+    refusal: WriterFault,
     names: &str,
 ) -> Result<String, AllocError> {
     let writer = Watched::new(FailingWriter::new(alloc, failing, refusal));

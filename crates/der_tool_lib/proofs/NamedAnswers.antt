@@ -11,7 +11,7 @@ use Rattle.picky_der_core.specs.Tree.{Tree, trees}
 use Rattle.picky_der_core.specs.Encoding.{der}
 use Rattle.picky_der_core.specs.Readable.{has_tag_numbers, have_tag_numbers, IsWritable}
 use Rattle.picky_der_core.specs.Reading.{Place, StandsAt}
-use Rattle.picky_der_core.specs.Refusal.{plain_refusal, element_refusal, fault}
+use Rattle.picky_der_core.specs.Refusal.{plain_refusal, element_refusal, error_of}
 use Rattle.picky_der_de.specs.State.{State, fresh}
 use Rattle.picky_der_de.specs.Steps.{IsJudged, IsOther, drawn_count}
 use Rattle.picky_der_de.specs.Reading.{Refuses, now, ever}
@@ -79,12 +79,12 @@ truncated_or_not (error.Message text) h = absurd (h (λ q. cc))
 truncated_or_not (error.Other kind) h = absurd (h (λ q. cc))
 truncated_or_not error.OutOfMemory h = absurd (h (λ q. cc))
 
-abbrev begun : List ℕ → State
-begun bytes = fresh (Some bytes) (length bytes) [] []
+abbrev start_state : List ℕ → State
+start_state bytes = fresh (Some bytes) (length bytes) [] []
 
-module _ (d : Description) (bytes : List ℕ) {new : State} {e : Asn1DerError} (judged : IsJudged (begun bytes) new e) where
+module _ (d : Description) (bytes : List ℕ) {new : State} {e : Asn1DerError} (judged : IsJudged (start_state bytes) new e) where
   -- a final refusal came of bytes that begin the encoding of no value
-  is_truncated : Refuses d.meaning d.shape (begun bytes) new e → BeginsValue d bytes → e ≡ error.TruncatedData
+  is_truncated : Refuses d.meaning d.shape (start_state bytes) new e → BeginsValue d bytes → e ≡ error.TruncatedData
   is_truncated h b = truncated_or_not e (λ final.
       let whole = der (d.meaning b.value) in
       let rest = b.begins.rest in
@@ -96,24 +96,24 @@ module _ (d : Description) (bytes : List ℕ) {new : State} {e : Asn1DerError} (
       let stands : StandsAt Place.whole d.shape whole (2 ^ 64 - 1) (d.meaning b.value) = record { of_shape = b.of_shape; readable = b.readable; may_stand = tt; within = omega (arith, b.writable.fits); front = record { rest = []; is = sym (append-nil whole) } } in
       h.none judged (2 ^ 64 - 1) whole (ever final refl (take n bytes) (drop n bytes ++ rest) (drop n bytes) (ap Some cut) size is) b.value stands)
 
-  refused_as : (kinds : Kinds) → RefusesAs d.meaning d.shape kinds (begun bytes) new e → ((v : d.Value) → StandsFirst d bytes v → ⊥) × IsKind d bytes kinds e
+  refused_as : (kinds : Kinds) → RefusesAs d.meaning d.shape kinds (start_state bytes) new e → ((v : d.Value) → StandsFirst d bytes v → ⊥) × IsKind d bytes kinds e
   refused_as (plain tag judge) h =
       let all : take (length bytes) bytes ≡ bytes = grind (arith, common_steps) in (
         h.refuses.none judged (length bytes) bytes (now refl refl),
-        ap (λ x. fault (plain_refusal tag judge false (length bytes) x)) (sym all) ∙ ap fault (h.just judged bytes refl).refused,
+        ap (λ x. error_of (plain_refusal tag judge false (length bytes) x)) (sym all) ∙ ap error_of (h.just judged bytes refl).refused,
       )
   refused_as element h =
       let all : take (length bytes) bytes ≡ bytes = grind (arith, common_steps) in (
         h.0.none judged (length bytes) bytes (now refl refl),
-        ap (λ x. fault (element_refusal false (length bytes) x)) (sym all) ∙ ap fault (h.1 judged bytes refl).refused,
+        ap (λ x. error_of (element_refusal false (length bytes) x)) (sym all) ∙ ap error_of (h.1 judged bytes refl).refused,
       )
   refused_as mendable h =
       let no_other : IsOther e → ⊥ = h.fails.other refl judged.faults in
       (h.none judged (length bytes) bytes (now refl refl), ((no_other, judged.memory), is_truncated h))
 
-pub answers_refused : {type : ValueType} {old : State} (new : State) {bytes answer : List ℕ} {e : Asn1DerError} → old ≡ begun bytes → new.faults ≡ [] → e ≢ error.OutOfMemory → RefusesNamed type old new e
+pub answers_refused : {type : ValueType} {old : State} (new : State) {bytes answer : List ℕ} {e : Asn1DerError} → old ≡ start_state bytes → new.faults ≡ [] → e ≢ error.OutOfMemory → RefusesNamed type old new e
     → answer ≡ codes "refused " ++ word_of e → AnswersRead type bytes answer
 answers_refused {type} {old} new {bytes} {answer} {e} is none memory r a =
-    let judged : IsJudged (begun bytes) new e = record { had_not_failed = refl; faults = none; memory = memory } in
+    let judged : IsJudged (start_state bytes) new e = record { had_not_failed = refl; faults = none; memory = memory } in
     let told = refused_as (description_of type) bytes judged (description_of type).kinds (subst (λ o. RefusesNamed type o new e) is r) in
     refused e told.0 told.1 a

@@ -8,25 +8,25 @@ use Rattle.picky_der_core.specs.declared.misc.writer.WriteExt.{Ghosts}
 use Rattle.picky_der_core.specs.Error.{error_of_kind}
 use Rattle.picky_der_core.specs.Faults.{Fault}
 use Rattle.picky_der_core.specs.Reader.{TellsFault}
-use Rattle.picky_der_core.specs.WriterFaults.{Faulted}
+use Rattle.picky_der_core.specs.WriterFaults.{WriterFails}
 use Rattle.der_tool_lib.specs.Text.{IsLine}
 use Rattle.der_tool_lib.specs.Run.{StopsAt, no_memory, no_sink, not_ended, just_ended, WroteWhole, Stops, memory, reader, writer, too_long}
 use Rattle.der_tool_lib.proofs.RunSteps.{RunsOn, draws, stands, begins, begins_last, too_many}
 
 -- the reader failed once since then
-pub fault_told : {before between after : List Fault} {left : Option (List ℕ)} {e : Asn1DerError} {k : ErrorKind} → between ≡ before → after ≡ record { kind = k; told = left } ∷ between → e ≡ error_of_kind k → TellsFault before after left e
-fault_told {left = left} {k = k} kept once is = TellsFault.fault k (once ∙ ap (λ l. record { kind = k; told = left } ∷ l) kept) is
+pub fault_told : {before between after : List Fault} {left : Option (List ℕ)} {e : Asn1DerError} {k : ErrorKind} → between ≡ before → after ≡ record { kind = k; left = left } ∷ between → e ≡ error_of_kind k → TellsFault before after left e
+fault_told {left = left} {k = k} kept once is = TellsFault.fault k (once ∙ ap (λ l. record { kind = k; left = left } ∷ l) kept) is
 
 module _ {W : Type 0} (g : Ghosts W) {a b : Option (List ℕ)} {w v : W} {line : List ℕ} {count : ℕ} (h : RunsOn a b (g.told w) (g.told v) line count) (i j : List Fault) where
   -- the reader failed
-  pub reader_stops : (b' : Option (List ℕ)) (e : Asn1DerError) (k : ErrorKind) → Keeps b b' → {m : List Fault} → m ≡ i → j ≡ record { kind = k; told = b' } ∷ m → e ≡ error_of_kind k → Stops g a b' i j w v e
-  reader_stops b' e k same kept once is = reader (record { kind = k; once = once ∙ ap (λ l. record { kind = k; told = b' } ∷ l) kept; is = is }) line h.is_line (stands h b' same)
+  pub reader_stops : (b' : Option (List ℕ)) (e : Asn1DerError) (k : ErrorKind) → Keeps b b' → {m : List Fault} → m ≡ i → j ≡ record { kind = k; left = b' } ∷ m → e ≡ error_of_kind k → Stops g a b' i j w v e
+  reader_stops b' e k same kept once is = reader (record { kind = k; once = once ∙ ap (λ l. record { kind = k; left = b' } ∷ l) kept; is = is }) line h.is_line (stands h b' same)
 
   -- memory was refused for a byte of the line
   pub byte_stops : (b' : Option (List ℕ)) (x : ℕ) → Consumes b b' (x ∷ []) → IsLine (line ++ (x ∷ [])) → Stops g a b' i j w v OutOfMemory
   byte_stops b' x k is_line = memory refl _ (not_ended is_line) (draws h b' x k)
 
-  since : (v' : W) (e : Asn1DerError) → g.faults v ≡ g.faults w → Faulted g v e v' → Faulted g w e v'
+  since : (v' : W) (e : Asn1DerError) → g.faults v ≡ g.faults w → WriterFails g v e v' → WriterFails g w e v'
   since v' e same f = record { rose = subst (λ n. g.faults v' ≡ suc n) same f.rose; kind = f.kind; answered = f.answered; is = f.is }
 
   -- the line that was ended wasn't answered

@@ -8,7 +8,7 @@ use Rattle.picky_der_core.specs.declared.misc.writer.WriteExt.{Ghosts}
 use Rattle.picky_der_core.specs.Error.{error_of_kind}
 use Rattle.picky_der_core.specs.Faults.{Fault}
 use Rattle.picky_der_core.specs.Writer.{AppendsBeginning}
-use Rattle.picky_der_core.specs.WriterFaults.{Faulted}
+use Rattle.picky_der_core.specs.WriterFaults.{WriterFails}
 use Rattle.der_tool_lib.specs.Answer.{IsAnswerTo}
 use Rattle.der_tool_lib.specs.Text.{IsLine, AreLines, AreAnswers, text_of_lines, IsTextOf}
 
@@ -24,7 +24,7 @@ module _ {W : Type 0} (g : Ghosts W) (line : List ℕ) (old new : W) where
   -- why no answer was written, or not all of it
   pub data StopsAt (e : Asn1DerError) : Type 0 where
     no_memory : e ≡ OutOfMemory → new ≡ old → StopsAt e
-    no_sink : Faulted g old e new → (answer : List ℕ) → IsAnswerTo line answer → AppendsBeginning (g.told old) (g.told new) (answer ++ (0x0A ∷ [])) → StopsAt e
+    no_sink : WriterFails g old e new → (answer : List ℕ) → IsAnswerTo line answer → AppendsBeginning (g.told old) (g.told new) (answer ++ (0x0A ∷ [])) → StopsAt e
 
 -- ---- a run
 
@@ -56,7 +56,7 @@ pub data IsLastLine (bytes : List ℕ) : Type 0 where
 -- a reader failed once more, e says how, and nothing was drawn behind it
 pub record ReaderFaulted (old new : List Fault) (left : Option (List ℕ)) (e : Asn1DerError) : Type 0 where
   pub kind : ErrorKind
-  pub once : new ≡ record { kind = kind; told = left } ∷ old
+  pub once : new ≡ record { kind = kind; left = left } ∷ old
   pub is : e ≡ error_of_kind kind
 
 -- no end came within as many bytes as are read
@@ -75,5 +75,5 @@ module _ {W : Type 0} (g : Ghosts W) (in_old in_new : Option (List ℕ)) (faults
     memory : e ≡ OutOfMemory → (line : List ℕ) → IsLastLine line → StopsBefore line → Stops e
     -- the reader cut the line
     reader : ReaderFaulted faults_old faults_new in_new e → (line : List ℕ) → IsLine line → StopsBefore line → Stops e
-    writer : Faulted g out_old e out_new → WroteBeginning in_old in_new (g.told out_old) (g.told out_new) → Stops e
+    writer : WriterFails g out_old e out_new → WroteBeginning in_old in_new (g.told out_old) (g.told out_new) → Stops e
     too_long : e ≡ UnsupportedValue → IsTooLong in_old → (line : List ℕ) → IsLine line → StopsBefore line → Stops e

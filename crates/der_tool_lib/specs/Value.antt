@@ -9,7 +9,7 @@ use Rattle.picky_der_core.specs.Encoding.{der}
 use Rattle.picky_der_core.specs.Readable.{IsReadable, IsWritable}
 use Rattle.picky_der_core.specs.Shape.{Shape, IsOf}
 use Rattle.picky_der_core.specs.Reading.{ReadsFrom}
-use Rattle.picky_der_core.specs.Refusal.{Judge, boolean_fault, unsigned_fault, null_fault, character_fault, text_fault, bytes_fault, plain_refusal, element_refusal, fault}
+use Rattle.picky_der_core.specs.Refusal.{Judge, boolean_error, unsigned_error, null_error, character_error, text_error, bytes_error, plain_refusal, element_refusal, error_of}
 use Rattle.picky_der_de.specs.Steps.{IsOfContent}
 use Rattle.der_tool_lib.specs.declared.test_struct.TestStruct.{TestStruct}
 use Rattle.der_tool_lib.specs.declared.subject_public_key_info.SubjectPublicKeyInfo.{SubjectPublicKeyInfo}
@@ -40,19 +40,19 @@ pub record Description : Type 1 where
   pub kinds : Kinds
 
 abbrev pub unsigned_of : ℕ → Description
-unsigned_of bits = record { Value = ℕ; meaning = Tree.unsigned; shape = Shape.unsigned (2 ^ bits - 1); kinds = plain 0x02 (unsigned_fault (2 ^ bits - 1)) }
+unsigned_of bits = record { Value = ℕ; meaning = Tree.unsigned; shape = Shape.unsigned (2 ^ bits - 1); kinds = plain 0x02 (unsigned_error (2 ^ bits - 1)) }
 
 abbrev pub description_of : ValueType → Description
-description_of named.Bool = record { Value = Bool; meaning = Tree.boolean; shape = Shape.boolean; kinds = plain 0x01 boolean_fault }
+description_of named.Bool = record { Value = Bool; meaning = Tree.boolean; shape = Shape.boolean; kinds = plain 0x01 boolean_error }
 description_of named.U8 = unsigned_of 8
 description_of named.U16 = unsigned_of 16
 description_of named.U32 = unsigned_of 32
 description_of named.U64 = unsigned_of 64
 description_of named.U128 = unsigned_of 128
-description_of named.Null = record { Value = Unit {0}; meaning = λ _. Tree.null; shape = Shape.null; kinds = plain 0x05 null_fault }
-description_of named.Char = record { Value = ℕ; meaning = λ c. Tree.text (encode_utf8 c); shape = Shape.character; kinds = plain 0x0C character_fault }
-description_of named.Text = record { Value = List ℕ; meaning = Tree.text; shape = Shape.text; kinds = plain 0x0C text_fault }
-description_of named.Octets = record { Value = List ℕ; meaning = Tree.bytes 0x04; shape = Shape.bytes 0x04; kinds = plain 0x04 bytes_fault }
+description_of named.Null = record { Value = Unit {0}; meaning = λ _. Tree.null; shape = Shape.null; kinds = plain 0x05 null_error }
+description_of named.Char = record { Value = ℕ; meaning = λ c. Tree.text (encode_utf8 c); shape = Shape.character; kinds = plain 0x0C character_error }
+description_of named.Text = record { Value = List ℕ; meaning = Tree.text; shape = Shape.text; kinds = plain 0x0C text_error }
+description_of named.Octets = record { Value = List ℕ; meaning = Tree.bytes 0x04; shape = Shape.bytes 0x04; kinds = plain 0x04 bytes_error }
 description_of named.Raw = record { Value = List ℕ; meaning = Tree.raw; shape = Shape.raw; kinds = element }
 description_of named.Test = record { Value = TestStruct; meaning = test_written.ghosts.meaning; shape = test_read.ghosts.shape; kinds = mendable }
 description_of named.Spki = record { Value = SubjectPublicKeyInfo; meaning = spki_written.ghosts.meaning; shape = spki_read.ghosts.shape; kinds = mendable }
@@ -74,8 +74,8 @@ module _ (d : Description) (bytes : List ℕ) where
 
   -- the error with which the bytes are refused
   abbrev pub IsKind : Kinds → Asn1DerError → Type 0
-  IsKind (plain tag judge) e = fault (plain_refusal tag judge false (length bytes) bytes) ≡ Some e
-  IsKind element e = fault (element_refusal false (length bytes) bytes) ≡ Some e
+  IsKind (plain tag judge) e = error_of (plain_refusal tag judge false (length bytes) bytes) ≡ Some e
+  IsKind element e = error_of (element_refusal false (length bytes) bytes) ≡ Some e
   IsKind mendable e = IsOfContent e × (BeginsValue → e ≡ TruncatedData)
 
 abbrev pub is_memory : Asn1DerError → Bool

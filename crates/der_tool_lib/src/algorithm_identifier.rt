@@ -3,7 +3,7 @@ ghost use Rattle.picky_der_core.specs.Tree.{ListKind, Tree};
 ghost use Rattle.picky_der_core.specs.Shape.{Shape};
 ghost use Rattle.picky_der_ser.specs.Meaning.{list_meaning};
 ghost use Rattle.der_tool_lib.specs.AlgorithmIdentifier.{elements};
-ghost use Rattle.der_tool_lib.specs.AlgorithmIdentifierLaws.{algorithm_known};
+ghost use Rattle.der_tool_lib.specs.AlgorithmIdentifierLaws.{algorithm_injective};
 
 use picky_asn1_der::asn1::ObjectIdentifierAsn1;
 use picky_asn1_der::misc::{ReadExt, WriteExt};
@@ -33,7 +33,7 @@ impl Serialize for AlgorithmIdentifier {
 impl Deserialize for AlgorithmIdentifier {
     ghost shape = { Shape.list_of ListKind.sequence Shape.raw };
 
-    ghost injective = { λ x y p q r e. algorithm_known x y e };
+    ghost injective = { λ x y p q r e. algorithm_injective x y e };
 
     ghost sound = { tt };
 

@@ -1,7 +1,7 @@
 //! Periods of validity.
 ghost use Rattle.std.proofs.Common.{rules};
 ghost use Rattle.picky_der_de.specs.Telling.{by_law, by_parts, tells};
-ghost use Rattle.der_x509.specs.Time.{time_known};
+ghost use Rattle.der_x509.specs.Time.{time_injective};
 
 use crate::Time;
 use picky_asn1_der::asn1::Tag;
@@ -46,7 +46,7 @@ impl Deserialize for Validity {
     ghost shape = { ⟦<Row<Fields> as Deserialize>⟧.shape };
 
     ghost injective = { by_parts ⟦<Row<Fields> as Deserialize>⟧.shape
-        (Prim.search (tells, by_law ⟦<Time as Deserialize>⟧.shape time_known) depth 99) };
+        (Prim.search (tells, by_law ⟦<Time as Deserialize>⟧.shape time_injective) depth 99) };
 
     ghost sound = { Prim.search rules depth 99 };
 

@@ -2,7 +2,7 @@
 ghost use Rattle.std.specs.Prelude.{◌≡◌, ◌<◌, IfSome, IfNone};
 ghost use Rattle.std.proofs.Common.{rules};
 ghost use Rattle.picky_der_core.specs.Tree.{Tree};
-ghost use Rattle.der_x509.specs.Version.{number_of, is_v1, v1_by_tree};
+ghost use Rattle.der_x509.specs.Version.{version_number, is_v1, v1_by_tree};
 
 use picky_asn1_der::asn1::Tag;
 use picky_asn1_der::de::Begins;
@@ -25,7 +25,7 @@ pub enum Version {
 impl Version {
     // The version with this number.
     fn of(number: u8) -> Option<Version>
-        ensures some { IfSome result (λ v. number_of v ≡ number) }
+        ensures some { IfSome result (λ v. version_number v ≡ number) }
         ensures none { IfNone result (2 < number) }
     {
         match number {
@@ -38,7 +38,7 @@ impl Version {
 }
 
 impl Serialize for Version {
-    ghost meaning = { λ v. Tree.unsigned (number_of v) };
+    ghost meaning = { λ v. Tree.unsigned (version_number v) };
 
     fn serialize<W: WriteExt>(&self, serializer: &mut Serializer<W>) -> Result<usize> {
         serializer.serialize_u8(match self {

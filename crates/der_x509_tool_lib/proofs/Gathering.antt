@@ -2,8 +2,8 @@
 use Rattle.std.proofs.Common.{◌≡◌, ℕ, List, [], ◌∷◌, ◌++◌, Option, Some, None, refl, sym, ap, ◌∙◌, subst, append_assoc, append-nil}
 use Rattle.std.proofs.lemmas.Option.{none-some, same_Some}
 use Rattle.der_tool_lib.specs.Text.{text_of_lines}
-use Rattle.der_x509_tool_lib.specs.Blocks.{IsInside, AreInside, without_outer_space, text_of, Part, lines_of, all_lines, IsBlockLine, IsOpenBlock, BeginInBlock, AreAnswered, IsWhole, AreWhole, IsOpen, none, some, HasAnswers}
-use Rattle.der_x509_tool_lib.specs.Run.{Takes, stays_outside, begins, begins_again, goes_on, ends}
+use Rattle.der_x509_tool_lib.specs.Blocks.{IsInside, AreInside, without_outer_space, block_text, Part, lines_of, all_lines, IsBlockLine, IsOpenBlock, BeginInBlock, AreAnswered, IsWhole, AreWhole, HasOpenBlock, none, some, HasAnswers}
+use Rattle.der_x509_tool_lib.specs.Run.{TakesPemLine, stays_outside, begins, begins_again, goes_on, ends}
 
 -- ---- one more
 
@@ -15,9 +15,9 @@ inside_push : (texts : List (List ℕ)) (line : List ℕ) → AreInside texts �
 inside_push [] line h k = (k, tt)
 inside_push (t ∷ ts) line h k = (h.0, inside_push ts line h.1 k)
 
-text_push : (texts : List (List ℕ)) (line : List ℕ) → text_of (texts ++ (line ∷ [])) ≡ text_of texts ++ without_outer_space line
+text_push : (texts : List (List ℕ)) (line : List ℕ) → block_text (texts ++ (line ∷ [])) ≡ block_text texts ++ without_outer_space line
 text_push [] line = append-nil (without_outer_space line)
-text_push (t ∷ ts) line = ap (λ x. without_outer_space t ++ x) (text_push ts line) ∙ sym (append_assoc (without_outer_space t) (text_of ts) (without_outer_space line))
+text_push (t ∷ ts) line = ap (λ x. without_outer_space t ++ x) (text_push ts line) ∙ sym (append_assoc (without_outer_space t) (block_text ts) (without_outer_space line))
 
 all_push : (parts : List Part) (part : Part) → all_lines (parts ++ (part ∷ [])) ≡ all_lines parts ++ lines_of part
 all_push [] part = append-nil (lines_of part)
@@ -73,16 +73,16 @@ outside answers more parts part h is f k w n = record {
 }
 
 -- a block is open behind them
-inside : {lines : List (List ℕ)} {after : Option (List ℕ)} (answers : List (List ℕ)) (parts : List Part) (begin : List ℕ) (texts : List (List ℕ)) → AreAnswered parts answers → IsOpenBlock begin texts → lines ≡ all_lines parts ++ (begin ∷ texts) → after ≡ Some (text_of texts) → HasAnswers lines after answers
+inside : {lines : List (List ℕ)} {after : Option (List ℕ)} (answers : List (List ℕ)) (parts : List Part) (begin : List ℕ) (texts : List (List ℕ)) → AreAnswered parts answers → IsOpenBlock begin texts → lines ≡ all_lines parts ++ (begin ∷ texts) → after ≡ Some (block_text texts) → HasAnswers lines after answers
 inside answers parts begin texts h k is s = record { parts = parts; answered = h; open_lines = begin ∷ texts; is_open = some begin texts k refl s; is = is }
 
 no_lines : {lines : List (List ℕ)} (parts : List Part) {open_lines : List (List ℕ)} → lines ≡ all_lines parts ++ open_lines → open_lines ≡ [] → lines ≡ all_lines parts
 no_lines parts is n = is ∙ ap (λ l. all_lines parts ++ l) n ∙ append-nil _
 
-pub take_more : {lines answers more : List (List ℕ)} {before after : Option (List ℕ)} {line : List ℕ} → HasAnswers lines before answers → Takes line before after more → HasAnswers (lines ++ (line ∷ [])) after (answers ++ more)
+pub take_more : {lines answers more : List (List ℕ)} {before after : Option (List ℕ)} {line : List ℕ} → HasAnswers lines before answers → TakesPemLine line before after more → HasAnswers (lines ++ (line ∷ [])) after (answers ++ more)
 take_more {lines} {answers} {more} {before} {after} {line} h t = by (h.is_open) t
   where
-    by : IsOpen h.parts h.open_lines before → Takes line before after more → HasAnswers (lines ++ (line ∷ [])) after (answers ++ more)
+    by : HasOpenBlock h.parts h.open_lines before → TakesPemLine line before after more → HasAnswers (lines ++ (line ∷ [])) after (answers ++ more)
     by (none whole empty closed) (stays_outside b e n m) =
         outside answers more h.parts (Part.outside line) h.answered (no_lines h.parts h.is empty) whole (b, subst (AreAnswered []) (sym m) tt) tt n
     by (none whole empty closed) (begins b e n m) =
@@ -99,14 +99,14 @@ take_more {lines} {answers} {more} {before} {after} {line} h t = by (h.is_open) 
         (record { begins = b; inside = tt })
         (ap (λ l. l ++ (line ∷ [])) (h.is ∙ ap (λ l. all_lines h.parts ++ l) are ∙ sym (all_push h.parts (Part.cut begin texts)))) n
     by (some begin texts opened are is_text) (goes_on b text e n m) =
-        let same : text ≡ text_of texts = same_Some _ _ (sym e ∙ is_text) in
+        let same : text ≡ block_text texts = same_Some _ _ (sym e ∙ is_text) in
         subst (HasAnswers (lines ++ (line ∷ [])) after) (sym (ap (λ l. answers ++ l) m ∙ append-nil answers))
         (inside answers h.parts begin (texts ++ (line ∷ [])) h.answered
         (record { begins = opened.begins; inside = inside_push texts line opened.inside b })
         (ap (λ l. l ++ (line ∷ [])) (h.is ∙ ap (λ l. all_lines h.parts ++ l) are) ∙ append_assoc (all_lines h.parts) (begin ∷ texts) (line ∷ []))
         (n ∙ ap (λ x. Some (x ++ without_outer_space line)) same ∙ ap Some (sym (text_push texts line))))
     by (some begin texts opened are is_text) (ends b text answer e n k m) =
-        let same : text ≡ text_of texts = same_Some _ _ (sym e ∙ is_text) in
+        let same : text ≡ block_text texts = same_Some _ _ (sym e ∙ is_text) in
         let part = Part.block begin texts line in
         let own : AreAnswered (part ∷ []) more = subst (AreAnswered (part ∷ [])) (sym m) (record { begins = opened.begins; inside = opened.inside; ends = b }, subst (λ x. IsBlockLine x answer) same k, tt) in
         record {

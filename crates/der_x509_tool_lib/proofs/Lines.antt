@@ -4,7 +4,7 @@ use Rattle.std.specs.Prelude.{codes}
 use Rattle.der_x509_tool_lib.specs.declared.outcome.Reading.{Reading}
 use Rattle.der_x509_tool_lib.specs.declared.outcome.Outcome.TheVariants.{Read}
 use Rattle.der_x509_tool_lib.specs.Outcome.{IsReading}
-use Rattle.der_x509_tool_lib.specs.Line.{sameness_of, IsLineOf}
+use Rattle.der_x509_tool_lib.specs.Answer.{sameness_of, IsLineOf}
 
 -- what was read is the same, and so its line says
 pub read_line : {bytes : List ℕ} (r : Reading) (members line : List ℕ) → IsReading bytes r → line ≡ codes "ok " ++ (members ++ sameness_of r.is_same) → IsLineOf bytes line

@@ -9,13 +9,13 @@ use Rattle.picky_der_core.specs.Writer.{AppendsBeginning, beginning_after}
 use Rattle.der_tool_lib.specs.Text.{IsLine, AreLines, text_of_lines}
 use Rattle.der_tool_lib.specs.Run.{IsTooLong}
 use Rattle.der_tool_lib.proofs.RunSteps.{line_push, lines_push, ended_push, longer}
-use Rattle.der_x509_tool_lib.specs.Blocks.{BeginsBlock, none, HasAnswers, answers_at_end, IsTextOf, WritesText}
-use Rattle.der_x509_tool_lib.specs.Run.{Wrote, Takes, stays_outside, begins, begins_again, goes_on, ends, AnswersLine, AnswersEnd, text_in, WroteWhole, WroteAllButEnd, WroteBeginning, at_line, at_end}
+use Rattle.der_x509_tool_lib.specs.Blocks.{BeginsBlock, none, HasAnswers, answers_at_end, IsBlockLinesOf, WritesBlockLines}
+use Rattle.der_x509_tool_lib.specs.Run.{WritesSome, TakesPemLine, stays_outside, begins, begins_again, goes_on, ends, AnswersPemLine, AnswersEnd, text_in, WroteBlockLines, WroteAllButEnd, WroteSomeBlockLines, at_line, at_end}
 use Rattle.der_x509_tool_lib.proofs.Gathering.{ended_append, take_more}
 
 -- all of the input was drawn
-whole_text : {bytes text : List ℕ} (a b c d : Option (List ℕ)) → Consumes a b bytes → IsAtEnd b → IsTextOf bytes text → Appends c d text → WritesText a c d
-whole_text {bytes} {text} a b c d k e t w = Consumes-whole a b bytes (λ input. (text : List ℕ) × IsTextOf input text × Appends c d text) k e (text, t, w)
+whole_text : {bytes text : List ℕ} (a b c d : Option (List ℕ)) → Consumes a b bytes → IsAtEnd b → IsBlockLinesOf bytes text → Appends c d text → WritesBlockLines a c d
+whole_text {bytes} {text} a b c d k e t w = Consumes-whole a b bytes (λ input. (text : List ℕ) × IsBlockLinesOf input text × Appends c d text) k e (text, t, w)
 
 -- ---- what is kept of a line
 
@@ -55,13 +55,13 @@ begins_kept : (line : List ℕ) → BeginsBlock line → BeginsBlock (take 64 li
 begins_kept line b = subst BeginsBlock (sym (take_all 64 line (omega (arith, b.short)))) b
 
 -- what is kept of a line is taken as the line is
-pub takes_whole : {line kept : List ℕ} {before after : Option (List ℕ)} {answers : List (List ℕ)} → IsKept before line kept → Takes kept before after answers → Takes line before after answers
+pub takes_whole : {line kept : List ℕ} {before after : Option (List ℕ)} {answers : List (List ℕ)} → IsKept before line kept → TakesPemLine kept before after answers → TakesPemLine line before after answers
 takes_whole {line} {kept} {before = None} {after} {answers} h (stays_outside b e n m) = stays_outside (λ c. b (subst BeginsBlock (sym h) (begins_kept line c))) e n m
 takes_whole {line} {kept} {before = None} {after} {answers} h (begins b e n m) = begins (begins_whole line (subst BeginsBlock h b)) e n m
 takes_whole {line} {kept} {before = None} {after} {answers} h (begins_again b text e n m) = absurd (none-some _ e)
 takes_whole {line} {kept} {before = None} {after} {answers} h (goes_on b text e n m) = absurd (none-some _ e)
 takes_whole {line} {kept} {before = None} {after} {answers} h (ends b text answer e n k m) = absurd (none-some _ e)
-takes_whole {line} {kept} {before = Some text} {after} {answers} h t = subst (λ l. Takes l (Some text) after answers) h t
+takes_whole {line} {kept} {before = Some text} {after} {answers} h t = subst (λ l. TakesPemLine l (Some text) after answers) h t
 
 -- ---- what stands while the input is read
 
@@ -94,7 +94,7 @@ run_starts a c = record {
 
 module _ {a b c d : Option (List ℕ)} {kept : List ℕ} {open_text : Option (List ℕ)} {count : ℕ} (h : RunsOn a b c d kept open_text count) where
   -- what was written so far
-  whole : (b' : Option (List ℕ)) (rest : List ℕ) → Consumes a b' (text_of_lines h.lines ++ rest) → WroteWhole a b' c d rest
+  whole : (b' : Option (List ℕ)) (rest : List ℕ) → Consumes a b' (text_of_lines h.lines ++ rest) → WroteBlockLines a b' c d rest
   whole b' rest k = record {
     lines = h.lines;
     are_lines = h.are_lines;
@@ -112,11 +112,11 @@ module _ {a b c d : Option (List ℕ)} {kept : List ℕ} {open_text : Option (Li
   drawn_still b' k = Consumes-kept a b b' _ h.drawn k
 
   -- one byte more was drawn
-  pub draws : (b' : Option (List ℕ)) (x : ℕ) → Consumes b b' (x ∷ []) → WroteWhole a b' c d (h.line ++ (x ∷ []))
+  pub draws : (b' : Option (List ℕ)) (x : ℕ) → Consumes b b' (x ∷ []) → WroteBlockLines a b' c d (h.line ++ (x ∷ []))
   draws b' x k = whole b' _ (drawn_more b' x k)
 
   -- nothing more was drawn
-  pub stands : (b' : Option (List ℕ)) → Keeps b b' → WroteWhole a b' c d h.line
+  pub stands : (b' : Option (List ℕ)) → Keeps b b' → WroteBlockLines a b' c d h.line
   stands b' k = whole b' h.line (drawn_still b' k)
 
   more : (x : ℕ) → length (text_of_lines h.lines ++ (h.line ++ (x ∷ []))) ≡ count + 1
@@ -141,7 +141,7 @@ module _ {a b c d : Option (List ℕ)} {kept : List ℕ} {open_text : Option (Li
   all_drawn : (b' : Option (List ℕ)) → Consumes b b' (0x0A ∷ []) → Consumes a b' (text_of_lines (h.lines ++ (h.line ∷ [])))
   all_drawn b' k = subst (Consumes a b') (sym (ended_push h.lines h.line)) (drawn_more b' 0x0A k)
 
-  all_answers : {after : Option (List ℕ)} {answers : List (List ℕ)} → Takes kept open_text after answers → HasAnswers (h.lines ++ (h.line ∷ [])) after (h.answers ++ answers)
+  all_answers : {after : Option (List ℕ)} {answers : List (List ℕ)} → TakesPemLine kept open_text after answers → HasAnswers (h.lines ++ (h.line ∷ [])) after (h.answers ++ answers)
   all_answers t = take_more h.has_answers (takes_whole h.is_kept t)
 
   all_written : (d' : Option (List ℕ)) (answers : List (List ℕ)) (bytes : List ℕ) → bytes ≡ text_of_lines answers → Appends d d' bytes → Appends c d' (text_of_lines (h.answers ++ answers))
@@ -154,7 +154,7 @@ module _ {a b c d : Option (List ℕ)} {kept : List ℕ} {open_text : Option (Li
   kept_none None = refl
   kept_none (Some text) = refl
 
-  pub line_taken : (b' d' after : Option (List ℕ)) → Consumes b b' (0x0A ∷ []) → Wrote (AnswersLine kept open_text after) d d' → RunsOn a b' c d' [] after (count + 1)
+  pub line_taken : (b' d' after : Option (List ℕ)) → Consumes b b' (0x0A ∷ []) → WritesSome (AnswersPemLine kept open_text after) d d' → RunsOn a b' c d' [] after (count + 1)
   line_taken b' d' after k w = record {
     lines = h.lines ++ (h.line ∷ []);
     line = [];
@@ -169,12 +169,12 @@ module _ {a b c d : Option (List ℕ)} {kept : List ℕ} {open_text : Option (Li
   }
 
   -- the writer failed in what answers the line, whose end was drawn
-  pub line_begun : (b' d' after : Option (List ℕ)) (bytes : List ℕ) → Consumes b b' (0x0A ∷ []) → AnswersLine kept open_text after bytes → AppendsBeginning d d' bytes → WroteBeginning a b' c d'
+  pub line_begun : (b' d' after : Option (List ℕ)) (bytes : List ℕ) → Consumes b b' (0x0A ∷ []) → AnswersPemLine kept open_text after bytes → AppendsBeginning d d' bytes → WroteSomeBlockLines a b' c d'
   line_begun b' d' after bytes k l w = at_line _ after _ (lines_push _ _ h.are_lines h.is_line) (all_answers l.takes) (all_drawn b' k) (begun d' l.answers bytes l.is w)
 
   -- ---- the end of the input
 
-  is_text : {bytes : List ℕ} (e : AnswersEnd kept open_text bytes) → IsTextOf (text_of_lines h.lines ++ h.line) (text_of_lines (h.answers ++ (e.answers ++ answers_at_end e.after)))
+  is_text : {bytes : List ℕ} (e : AnswersEnd kept open_text bytes) → IsBlockLinesOf (text_of_lines h.lines ++ h.line) (text_of_lines (h.answers ++ (e.answers ++ answers_at_end e.after)))
   is_text e = record {
     lines = h.lines ++ (h.line ∷ []);
     are_lines = lines_push _ _ h.are_lines h.is_line;
@@ -185,14 +185,14 @@ module _ {a b c d : Option (List ℕ)} {kept : List ℕ} {open_text : Option (Li
     is = ap text_of_lines (sym (append_assoc h.answers e.answers (answers_at_end e.after)));
   }
 
-  pub input_ends : (b' d' : Option (List ℕ)) → Keeps b b' → IsAtEnd b' → Wrote (AnswersEnd kept open_text) d d' → WritesText a c d'
+  pub input_ends : (b' d' : Option (List ℕ)) → Keeps b b' → IsAtEnd b' → WritesSome (AnswersEnd kept open_text) d d' → WritesBlockLines a c d'
   input_ends b' d' k end w = whole_text a b' c d' (drawn_still b' k) end (is_text w.of) (all_written d' _ w.bytes w.of.is w.written)
 
-  pub input_begun : (b' d' : Option (List ℕ)) (bytes : List ℕ) → Keeps b b' → IsAtEnd b' → AnswersEnd kept open_text bytes → AppendsBeginning d d' bytes → WroteBeginning a b' c d'
+  pub input_begun : (b' d' : Option (List ℕ)) (bytes : List ℕ) → Keeps b b' → IsAtEnd b' → AnswersEnd kept open_text bytes → AppendsBeginning d d' bytes → WroteSomeBlockLines a b' c d'
   input_begun b' d' bytes k end e w = at_end _ _ (is_text e) (drawn_still b' k) end (begun d' _ bytes e.is w)
 
   -- but for the line of the last block
-  pub all_but_end : (b' d' : Option (List ℕ)) (text : List ℕ) (answers : List (List ℕ)) → Keeps b b' → IsAtEnd b' → Takes kept open_text (Some text) answers → Appends d d' (text_of_lines answers) → WroteAllButEnd a b' c d'
+  pub all_but_end : (b' d' : Option (List ℕ)) (text : List ℕ) (answers : List (List ℕ)) → Keeps b b' → IsAtEnd b' → TakesPemLine kept open_text (Some text) answers → Appends d d' (text_of_lines answers) → WroteAllButEnd a b' c d'
   all_but_end b' d' text answers k end t w = record {
     lines = h.lines ++ (h.line ∷ []);
     are_lines = lines_push _ _ h.are_lines h.is_line;

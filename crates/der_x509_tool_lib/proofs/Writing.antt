@@ -6,10 +6,10 @@ use Rattle.std.proofs.KnownBytes.{Appends-nil, Appends-trans}
 use Rattle.picky_der_core.specs.declared.error.Asn1DerError.{Asn1DerError}
 use Rattle.picky_der_core.specs.declared.misc.writer.WriteExt.{Ghosts}
 use Rattle.picky_der_core.specs.Writer.{beginning_front, beginning_after}
-use Rattle.picky_der_core.specs.WriterFaults.{Faulted}
+use Rattle.picky_der_core.specs.WriterFaults.{WriterFails}
 use Rattle.der_tool_lib.specs.Text.{text_of_lines}
 use Rattle.der_x509_tool_lib.specs.Blocks.{BeginsBlock, EndsBlock, IsInside, without_outer_space, IsBlockLine, no_end, answers_at_end}
-use Rattle.der_x509_tool_lib.specs.Run.{Wrote, StopsWriting, no_memory, no_sink, AnswersBlock, Takes, begins_again, goes_on, ends, AnswersLine, AnswersSomeLine, AnswersEnd, text_in, StopsAtEnd, within, behind}
+use Rattle.der_x509_tool_lib.specs.Run.{WritesSome, StopsWriting, no_memory, no_sink, AnswersBlock, TakesPemLine, begins_again, goes_on, ends, AnswersPemLine, AnswersSomeLine, AnswersEnd, text_in, StopsAtEnd, within, behind}
 use Rattle.der_x509_tool_lib.proofs.Gathering.{ended_append}
 
 -- what holds of the bytes that were to be written
@@ -19,7 +19,7 @@ stops_also h (no_sink f bytes p begun) = no_sink f bytes (h bytes p) begun
 
 -- ---- the line of a block
 
-pub line_written : {text line : List ℕ} {a b : Option (List ℕ)} → IsBlockLine text line → Appends a b (line ++ (0x0A ∷ [])) → Wrote (AnswersBlock text) a b
+pub line_written : {text line : List ℕ} {a b : Option (List ℕ)} → IsBlockLine text line → Appends a b (line ++ (0x0A ∷ [])) → WritesSome (AnswersBlock text) a b
 line_written {line = line} h w = record { bytes = line ++ (0x0A ∷ []); of = record { line = line; is_line = h; is = refl }; written = w }
 
 pub line_stopped : {W : Type 0} {g : Ghosts W} {text line : List ℕ} {old new : W} {e : Asn1DerError} → IsBlockLine text line → StopsWriting g (λ bytes. bytes ≡ line ++ (0x0A ∷ [])) old new e → StopsWriting g (AnswersBlock text) old new e
@@ -28,26 +28,26 @@ line_stopped {line = line} h s = stops_also (λ bytes is. record { line = line; 
 -- ---- what is written at a line of a block with this text
 
 module _ {line text : List ℕ} {before : Option (List ℕ)} (open_text : before ≡ Some text) where
-  cut_answers : {bytes : List ℕ} → BeginsBlock line → bytes ≡ codes "refused: the block has no end" ++ (0x0A ∷ []) → AnswersLine line before (Some []) bytes
+  cut_answers : {bytes : List ℕ} → BeginsBlock line → bytes ≡ codes "refused: the block has no end" ++ (0x0A ∷ []) → AnswersPemLine line before (Some []) bytes
   unfolding no_end
   cut_answers b is = record { answers = no_end ∷ []; takes = begins_again b text open_text refl refl; is = is }
 
-  pub cut_written : {a b : Option (List ℕ)} → BeginsBlock line → Appends a b (codes "refused: the block has no end" ++ (0x0A ∷ [])) → Wrote (AnswersLine line before (Some [])) a b
+  pub cut_written : {a b : Option (List ℕ)} → BeginsBlock line → Appends a b (codes "refused: the block has no end" ++ (0x0A ∷ [])) → WritesSome (AnswersPemLine line before (Some [])) a b
   cut_written b w = record { bytes = _; of = cut_answers b refl; written = w }
 
   pub cut_stopped : {W : Type 0} {g : Ghosts W} {old new : W} {e : Asn1DerError} → BeginsBlock line → StopsWriting g (λ bytes. bytes ≡ codes "refused: the block has no end" ++ (0x0A ∷ [])) old new e → StopsWriting g (AnswersSomeLine line before) old new e
   cut_stopped b s = stops_also (λ bytes is. (Some [], cut_answers b is)) s
 
-  end_answers : {bytes : List ℕ} → EndsBlock line → AnswersBlock text bytes → AnswersLine line before None bytes
+  end_answers : {bytes : List ℕ} → EndsBlock line → AnswersBlock text bytes → AnswersPemLine line before None bytes
   end_answers e a = record { answers = a.line ∷ []; takes = ends e text a.line open_text refl a.is_line refl; is = a.is }
 
-  pub end_written : {a b : Option (List ℕ)} → EndsBlock line → Wrote (AnswersBlock text) a b → Wrote (AnswersLine line before None) a b
+  pub end_written : {a b : Option (List ℕ)} → EndsBlock line → WritesSome (AnswersBlock text) a b → WritesSome (AnswersPemLine line before None) a b
   end_written e w = record { bytes = w.bytes; of = end_answers e w.of; written = w.written }
 
   pub end_stopped : {W : Type 0} {g : Ghosts W} {old new : W} {e : Asn1DerError} → EndsBlock line → StopsWriting g (AnswersBlock text) old new e → StopsWriting g (AnswersSomeLine line before) old new e
   end_stopped e s = stops_also (λ bytes a. (None, end_answers e a)) s
 
-  pub gathered : {after : Option (List ℕ)} (a : Option (List ℕ)) → IsInside line → after ≡ Some (text ++ without_outer_space line) → Wrote (AnswersLine line before after) a a
+  pub gathered : {after : Option (List ℕ)} (a : Option (List ℕ)) → IsInside line → after ≡ Some (text ++ without_outer_space line) → WritesSome (AnswersPemLine line before after) a a
   gathered a i n = record { bytes = []; of = record { answers = []; takes = goes_on i text open_text n refl; is = refl }; written = Appends-nil a }
 
 -- ---- what is written at the last line, and behind it
@@ -61,7 +61,7 @@ one_open None e = absurd (true≢false (sym e))
 one_open (Some text) e = (text.items, refl)
 
 module _ {line : List ℕ} {before : Option (List ℕ)} where
-  pub none_written : {after : Option (List ℕ)} {a b : Option (List ℕ)} → after ≡ None → Wrote (AnswersLine line before after) a b → Wrote (AnswersEnd line before) a b
+  pub none_written : {after : Option (List ℕ)} {a b : Option (List ℕ)} → after ≡ None → WritesSome (AnswersPemLine line before after) a b → WritesSome (AnswersEnd line before) a b
   none_written {after} n w = record {
     bytes = w.bytes;
     of = record {
@@ -73,7 +73,7 @@ module _ {line : List ℕ} {before : Option (List ℕ)} where
     written = w.written;
   }
 
-  end_of : (text : List ℕ) (answers : List (List ℕ)) {bytes more : List ℕ} → Takes line before (Some text) answers → bytes ≡ text_of_lines answers → more ≡ codes "refused: the block has no end" ++ (0x0A ∷ []) → AnswersEnd line before (bytes ++ more)
+  end_of : (text : List ℕ) (answers : List (List ℕ)) {bytes more : List ℕ} → TakesPemLine line before (Some text) answers → bytes ≡ text_of_lines answers → more ≡ codes "refused: the block has no end" ++ (0x0A ∷ []) → AnswersEnd line before (bytes ++ more)
   unfolding no_end
   end_of text answers {bytes} {more} t is also = record {
     after = Some text;
@@ -82,10 +82,10 @@ module _ {line : List ℕ} {before : Option (List ℕ)} where
     is = ap (λ l. l ++ more) is ∙ ap (λ l. text_of_lines answers ++ l) also ∙ sym (ended_append answers (no_end ∷ []));
   }
 
-  pub open_written : {text : List ℕ} {after : Option (List ℕ)} {a b c : Option (List ℕ)} → after ≡ Some text → Wrote (AnswersLine line before after) a b → Appends b c (codes "refused: the block has no end" ++ (0x0A ∷ [])) → Wrote (AnswersEnd line before) a c
+  pub open_written : {text : List ℕ} {after : Option (List ℕ)} {a b c : Option (List ℕ)} → after ≡ Some text → WritesSome (AnswersPemLine line before after) a b → Appends b c (codes "refused: the block has no end" ++ (0x0A ∷ [])) → WritesSome (AnswersEnd line before) a c
   open_written {text} {after} {a} {b} {c} s w k = record {
     bytes = w.bytes ++ (codes "refused: the block has no end" ++ (0x0A ∷ []));
-    of = end_of text w.of.answers (subst (λ o. Takes line before o w.of.answers) s w.of.takes) w.of.is refl;
+    of = end_of text w.of.answers (subst (λ o. TakesPemLine line before o w.of.answers) s w.of.takes) w.of.is refl;
     written = Appends-trans a b c _ _ w.written k;
   }
 
@@ -97,9 +97,9 @@ module _ {line : List ℕ} {before : Option (List ℕ)} where
         (record { after = a.0; answers = a.1.answers; takes = a.1.takes; is = ap (λ l. l ++ text_of_lines (answers_at_end a.0)) a.1.is ∙ sym (ended_append a.1.answers (answers_at_end a.0)) })
         (beginning_front (g.told old) (g.told new) bytes (text_of_lines (answers_at_end a.0)) begun))
 
-    pub open_stopped : {text : List ℕ} {after : Option (List ℕ)} {old mid new : W} {e : Asn1DerError} → after ≡ Some text → Wrote (AnswersLine line before after) (g.told old) (g.told mid) → g.faults mid ≡ g.faults old → StopsWriting g (λ bytes. bytes ≡ codes "refused: the block has no end" ++ (0x0A ∷ [])) mid new e → StopsAtEnd g line before old new e
+    pub open_stopped : {text : List ℕ} {after : Option (List ℕ)} {old mid new : W} {e : Asn1DerError} → after ≡ Some text → WritesSome (AnswersPemLine line before after) (g.told old) (g.told mid) → g.faults mid ≡ g.faults old → StopsWriting g (λ bytes. bytes ≡ codes "refused: the block has no end" ++ (0x0A ∷ [])) mid new e → StopsAtEnd g line before old new e
     open_stopped {text} {after} {old} {mid} {new} s w f (no_memory is same) =
-        behind is text w.of.answers (subst (λ o. Takes line before o w.of.answers) s w.of.takes) (subst (λ o. Appends (g.told old) (g.told o) (text_of_lines w.of.answers)) (sym same) (subst (Appends (g.told old) (g.told mid)) w.of.is w.written))
+        behind is text w.of.answers (subst (λ o. TakesPemLine line before o w.of.answers) s w.of.takes) (subst (λ o. Appends (g.told old) (g.told o) (text_of_lines w.of.answers)) (sym same) (subst (Appends (g.told old) (g.told mid)) w.of.is w.written))
     open_stopped {text} {after} {old} {mid} {new} {e} s w f (no_sink faulted bytes also begun) =
-        let once : Faulted g old e new = record { rose = subst (λ n. g.faults new ≡ suc n) f faulted.rose; kind = faulted.kind; answered = faulted.answered; is = faulted.is } in
-        within (no_sink once (w.bytes ++ bytes) (end_of text w.of.answers (subst (λ o. Takes line before o w.of.answers) s w.of.takes) w.of.is also) (beginning_after (g.told old) (g.told mid) (g.told new) w.bytes bytes w.written begun))
+        let once : WriterFails g old e new = record { rose = subst (λ n. g.faults new ≡ suc n) f faulted.rose; kind = faulted.kind; answered = faulted.answered; is = faulted.is } in
+        within (no_sink once (w.bytes ++ bytes) (end_of text w.of.answers (subst (λ o. TakesPemLine line before o w.of.answers) s w.of.takes) w.of.is also) (beginning_after (g.told old) (g.told mid) (g.told new) w.bytes bytes w.written begun))

@@ -7,7 +7,7 @@ use Rattle.base64.specs.declared.DecodeError.{DecodeError}
 use Rattle.base64.specs.Engines.{standard}
 use Rattle.base64.specs.GeneralPurpose.{decode_of}
 use Rattle.der_tool_lib.specs.Text.{AreLines, text_of_lines}
-use Rattle.der_x509_tool_lib.specs.Line.{IsLineOf}
+use Rattle.der_x509_tool_lib.specs.Answer.{IsLineOf}
 
 -- ---- lines
 
@@ -43,9 +43,9 @@ AreInside [] = ⊤
 AreInside (line ∷ lines) = IsInside line × AreInside lines
 
 -- the text of these lines of a block
-abbrev pub text_of : List (List ℕ) → List ℕ
-text_of [] = []
-text_of (line ∷ lines) = without_outer_space line ++ text_of lines
+abbrev pub block_text : List (List ℕ) → List ℕ
+block_text [] = []
+block_text (line ∷ lines) = without_outer_space line ++ block_text lines
 
 -- ---- what lines are made of
 
@@ -99,7 +99,7 @@ AreAnswered [] [] = ⊤
 AreAnswered [] (answer ∷ answers) = ⊥
 AreAnswered (Part.outside line ∷ parts) answers = (BeginsBlock line → ⊥) × AreAnswered parts answers
 AreAnswered (Part.block begin texts end ∷ parts) [] = ⊥
-AreAnswered (Part.block begin texts end ∷ parts) (answer ∷ answers) = IsBlock begin texts end × IsBlockLine (text_of texts) answer × AreAnswered parts answers
+AreAnswered (Part.block begin texts end ∷ parts) (answer ∷ answers) = IsBlock begin texts end × IsBlockLine (block_text texts) answer × AreAnswered parts answers
 AreAnswered (Part.cut begin texts ∷ parts) [] = ⊥
 AreAnswered (Part.cut begin texts ∷ parts) (answer ∷ answers) = IsOpenBlock begin texts × (answer ≡ no_end) × BeginInBlock parts × AreAnswered parts answers
 
@@ -116,16 +116,16 @@ AreWhole (part ∷ []) = IsWhole part
 AreWhole (part ∷ next ∷ parts) = AreWhole (next ∷ parts)
 
 -- what stands behind these parts: nothing, or a block that hasn't ended, whose text so far this is
-pub data IsOpen (parts : List Part) (lines : List (List ℕ)) (open_text : Option (List ℕ)) : Type 0 where
-  none : AreWhole parts → lines ≡ [] → open_text ≡ None → IsOpen parts lines open_text
-  some : (begin : List ℕ) (texts : List (List ℕ)) → IsOpenBlock begin texts → lines ≡ begin ∷ texts → open_text ≡ Some (text_of texts) → IsOpen parts lines open_text
+pub data HasOpenBlock (parts : List Part) (lines : List (List ℕ)) (open_text : Option (List ℕ)) : Type 0 where
+  none : AreWhole parts → lines ≡ [] → open_text ≡ None → HasOpenBlock parts lines open_text
+  some : (begin : List ℕ) (texts : List (List ℕ)) → IsOpenBlock begin texts → lines ≡ begin ∷ texts → open_text ≡ Some (block_text texts) → HasOpenBlock parts lines open_text
 
 -- of these lines the blocks that have an end or are cut are answered so, and one may be open
 pub record HasAnswers (lines : List (List ℕ)) (open_text : Option (List ℕ)) (answers : List (List ℕ)) : Type 0 where
   pub parts : List Part
   pub answered : AreAnswered parts answers
   pub open_lines : List (List ℕ)
-  pub is_open : IsOpen parts open_lines open_text
+  pub is_open : HasOpenBlock parts open_lines open_text
   pub is : lines ≡ all_lines parts ++ open_lines
 
 -- at the end of the input an open block has no end
@@ -135,7 +135,7 @@ answers_at_end (Some text) = no_end ∷ []
 
 -- The text that answers an input: the lines of its blocks, in order, each ended by the byte 0A. What stands behind the last
 -- such byte of the input is a line, too.
-pub record IsTextOf (input text : List ℕ) : Type 0 where
+pub record IsBlockLinesOf (input text : List ℕ) : Type 0 where
   pub lines : List (List ℕ)
   pub are_lines : AreLines lines
   pub is_input : input ++ (0x0A ∷ []) ≡ text_of_lines lines
@@ -145,5 +145,5 @@ pub record IsTextOf (input text : List ℕ) : Type 0 where
   pub is : text ≡ text_of_lines (answers ++ answers_at_end open_text)
 
 -- the text of the known bytes of an input was written
-abbrev pub WritesText : Option (List ℕ) → Option (List ℕ) → Option (List ℕ) → Type 0
-WritesText in_old old new = IfSome in_old (λ input. (text : List ℕ) × IsTextOf input text × Appends old new text)
+abbrev pub WritesBlockLines : Option (List ℕ) → Option (List ℕ) → Option (List ℕ) → Type 0
+WritesBlockLines in_old old new = IfSome in_old (λ input. (text : List ℕ) × IsBlockLinesOf input text × Appends old new text)

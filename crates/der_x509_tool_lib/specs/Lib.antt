@@ -1,4 +1,4 @@
 pub mod Outcome
-pub mod Line
+pub mod Answer
 pub mod Blocks
 pub mod Run

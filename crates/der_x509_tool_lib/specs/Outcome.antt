@@ -12,7 +12,7 @@ use Rattle.der_x509.specs.contracts.tbs_certificate.TbsCertificateSerialize.TheI
 use Rattle.der_x509.specs.contracts.tbs_certificate.TbsCertificateDeserialize.TheImpl as signed_read
 use Rattle.der_x509.specs.contracts.tbs_certificate.TbsCertificatePartialEq.TheImpl as signed_compared
 use Rattle.der_x509_tool_lib.specs.declared.outcome.Reading.{Reading}
-use Rattle.der_x509_tool_lib.specs.declared.outcome.Refusal.{Refusal}
+use Rattle.der_x509_tool_lib.specs.declared.outcome.RefusalAt.{RefusalAt}
 use Rattle.der_x509_tool_lib.specs.declared.outcome.Outcome.{Outcome}
 use Rattle.der_x509_tool_lib.specs.declared.outcome.Outcome.TheVariants as outcome
 
@@ -23,8 +23,8 @@ abbrev pub IsCertificate : List ℕ → Certificate → Type 0
 IsCertificate bytes c = IsFront certificate_written.ghosts.meaning certificate_read.ghosts.shape certificate_compared.ghosts.eq bytes (length bytes) c
 
 -- what is written of it
-abbrev pub bytes_of : Certificate → List ℕ
-bytes_of c = der (certificate_written.ghosts.meaning c)
+abbrev pub certificate_bytes : Certificate → List ℕ
+certificate_bytes c = der (certificate_written.ghosts.meaning c)
 
 -- the bytes of what is signed
 abbrev pub signed_bytes : Certificate → List ℕ
@@ -34,21 +34,21 @@ signed_bytes c = c.tbs_certificate.0.items
 abbrev pub IsSigned : List ℕ → TbsCertificate → Type 0
 IsSigned bytes t = IsFront signed_written.ghosts.meaning signed_read.ghosts.shape signed_compared.ghosts.eq bytes (length bytes) t
 
-abbrev pub bytes_of_signed : TbsCertificate → List ℕ
-bytes_of_signed t = der (signed_written.ghosts.meaning t)
+abbrev pub signed_encoding : TbsCertificate → List ℕ
+signed_encoding t = der (signed_written.ghosts.meaning t)
 
 -- ---- the outcomes
 
 -- The bytes are a certificate, and both it and what is signed of it are written as they were read.
 pub record IsReading (bytes : List ℕ) (r : Reading) : Type 0 where
   pub front : IsCertificate bytes r.certificate
-  pub whole : bytes_of r.certificate ≡ bytes
+  pub whole : certificate_bytes r.certificate ≡ bytes
   pub signed : IsSigned (signed_bytes r.certificate) r.tbs_certificate
-  pub signed_whole : bytes_of_signed r.tbs_certificate ≡ signed_bytes r.certificate
+  pub signed_whole : signed_encoding r.tbs_certificate ≡ signed_bytes r.certificate
   pub same : IsTrue r.is_same
 
 -- `from_bytes` answers this error in place of a certificate
-pub record IsRefused (bytes : List ℕ) (r : Refusal) : Type 0 where
+pub record IsRefused (bytes : List ℕ) (r : RefusalAt) : Type 0 where
   pub refused : HasNoFront certificate_written.ghosts.meaning certificate_read.ghosts.shape bytes (length bytes) r.error
   pub memory : r.error ≢ OutOfMemory
 
@@ -56,14 +56,14 @@ pub record IsRefused (bytes : List ℕ) (r : Refusal) : Type 0 where
 pub record IsLeftOver (bytes : List ℕ) (taken : ℕ) : Type 0 where
   pub certificate : Certificate
   pub front : IsCertificate bytes certificate
-  pub size : taken ≡ length (bytes_of certificate)
+  pub size : taken ≡ length (certificate_bytes certificate)
   pub more : taken < length bytes
 
 -- the bytes are a certificate, of whose signed bytes `from_bytes` answers this error
-pub record IsRefusedSigned (bytes : List ℕ) (r : Refusal) : Type 0 where
+pub record IsRefusedSigned (bytes : List ℕ) (r : RefusalAt) : Type 0 where
   pub certificate : Certificate
   pub front : IsCertificate bytes certificate
-  pub whole : bytes_of certificate ≡ bytes
+  pub whole : certificate_bytes certificate ≡ bytes
   pub refused : HasNoFront signed_written.ghosts.meaning signed_read.ghosts.shape (signed_bytes certificate) (length (signed_bytes certificate)) r.error
   pub memory : r.error ≢ OutOfMemory
 

@@ -7,15 +7,15 @@ use Rattle.picky_der_core.specs.declared.error.Asn1DerError.TheVariants.{Unsuppo
 use Rattle.picky_der_core.specs.declared.misc.writer.WriteExt.{Ghosts}
 use Rattle.picky_der_core.specs.Faults.{Fault}
 use Rattle.picky_der_core.specs.Writer.{AppendsBeginning}
-use Rattle.picky_der_core.specs.WriterFaults.{Faulted}
+use Rattle.picky_der_core.specs.WriterFaults.{WriterFails}
 use Rattle.der_tool_lib.specs.Text.{IsLine, AreLines, text_of_lines}
 use Rattle.der_tool_lib.specs.Run.{IsLastLine, ReaderFaulted, IsTooLong}
-use Rattle.der_x509_tool_lib.specs.Blocks.{BeginsBlock, EndsBlock, IsInside, without_outer_space, IsBlockLine, no_end, HasAnswers, answers_at_end, IsTextOf}
+use Rattle.der_x509_tool_lib.specs.Blocks.{BeginsBlock, EndsBlock, IsInside, without_outer_space, IsBlockLine, no_end, HasAnswers, answers_at_end, IsBlockLinesOf}
 
 -- ---- what is written
 
 -- bytes of which P holds were written
-pub record Wrote (P : List ℕ → Type 0) (old new : Option (List ℕ)) : Type 0 where
+pub record WritesSome (P : List ℕ → Type 0) (old new : Option (List ℕ)) : Type 0 where
   pub bytes : List ℕ
   pub of : P bytes
   pub written : Appends old new bytes
@@ -24,7 +24,7 @@ module _ {W : Type 0} (g : Ghosts W) (P : List ℕ → Type 0) (old new : W) whe
   -- why none of such bytes were written, or not all of them
   pub data StopsWriting (e : Asn1DerError) : Type 0 where
     no_memory : e ≡ OutOfMemory → new ≡ old → StopsWriting e
-    no_sink : Faulted g old e new → (bytes : List ℕ) → P bytes → AppendsBeginning (g.told old) (g.told new) bytes → StopsWriting e
+    no_sink : WriterFails g old e new → (bytes : List ℕ) → P bytes → AppendsBeginning (g.told old) (g.told new) bytes → StopsWriting e
 
 -- ---- one block, and one line
 
@@ -39,39 +39,39 @@ abbrev pub text_in : Option (Vec ℕ Global) → Option (List ℕ)
 text_in block = option_map vec_items block
 
 -- what a line makes of the text of the block that is open, if one is, and the lines that are written at it
-pub data Takes (line : List ℕ) (before after : Option (List ℕ)) (answers : List (List ℕ)) : Type 0 where
-  stays_outside : (BeginsBlock line → ⊥) → before ≡ None → after ≡ None → answers ≡ [] → Takes line before after answers
-  begins : BeginsBlock line → before ≡ None → after ≡ Some [] → answers ≡ [] → Takes line before after answers
-  begins_again : BeginsBlock line → (text : List ℕ) → before ≡ Some text → after ≡ Some [] → answers ≡ no_end ∷ [] → Takes line before after answers
-  goes_on : IsInside line → (text : List ℕ) → before ≡ Some text → after ≡ Some (text ++ without_outer_space line) → answers ≡ [] → Takes line before after answers
-  ends : EndsBlock line → (text answer : List ℕ) → before ≡ Some text → after ≡ None → IsBlockLine text answer → answers ≡ answer ∷ [] → Takes line before after answers
+pub data TakesPemLine (line : List ℕ) (before after : Option (List ℕ)) (answers : List (List ℕ)) : Type 0 where
+  stays_outside : (BeginsBlock line → ⊥) → before ≡ None → after ≡ None → answers ≡ [] → TakesPemLine line before after answers
+  begins : BeginsBlock line → before ≡ None → after ≡ Some [] → answers ≡ [] → TakesPemLine line before after answers
+  begins_again : BeginsBlock line → (text : List ℕ) → before ≡ Some text → after ≡ Some [] → answers ≡ no_end ∷ [] → TakesPemLine line before after answers
+  goes_on : IsInside line → (text : List ℕ) → before ≡ Some text → after ≡ Some (text ++ without_outer_space line) → answers ≡ [] → TakesPemLine line before after answers
+  ends : EndsBlock line → (text answer : List ℕ) → before ≡ Some text → after ≡ None → IsBlockLine text answer → answers ≡ answer ∷ [] → TakesPemLine line before after answers
 
 -- these bytes are the lines that are written at a line
-pub record AnswersLine (line : List ℕ) (before after : Option (List ℕ)) (bytes : List ℕ) : Type 0 where
+pub record AnswersPemLine (line : List ℕ) (before after : Option (List ℕ)) (bytes : List ℕ) : Type 0 where
   pub answers : List (List ℕ)
-  pub takes : Takes line before after answers
+  pub takes : TakesPemLine line before after answers
   pub is : bytes ≡ text_of_lines answers
 
 abbrev pub AnswersSomeLine : List ℕ → Option (List ℕ) → List ℕ → Type 0
-AnswersSomeLine line before bytes = (after : Option (List ℕ)) × AnswersLine line before after bytes
+AnswersSomeLine line before bytes = (after : Option (List ℕ)) × AnswersPemLine line before after bytes
 
 -- these bytes are the lines that are written at the last line, and behind it
 pub record AnswersEnd (line : List ℕ) (before : Option (List ℕ)) (bytes : List ℕ) : Type 0 where
   pub after : Option (List ℕ)
   pub answers : List (List ℕ)
-  pub takes : Takes line before after answers
+  pub takes : TakesPemLine line before after answers
   pub is : bytes ≡ text_of_lines (answers ++ answers_at_end after)
 
 module _ {W : Type 0} (g : Ghosts W) (line : List ℕ) (before : Option (List ℕ)) (old new : W) where
   -- why these weren't written, or not all of them
   pub data StopsAtEnd (e : Asn1DerError) : Type 0 where
     within : StopsWriting g (AnswersEnd line before) old new e → StopsAtEnd e
-    behind : e ≡ OutOfMemory → (text : List ℕ) (answers : List (List ℕ)) → Takes line before (Some text) answers → Appends (g.told old) (g.told new) (text_of_lines answers) → StopsAtEnd e
+    behind : e ≡ OutOfMemory → (text : List ℕ) (answers : List (List ℕ)) → TakesPemLine line before (Some text) answers → Appends (g.told old) (g.told new) (text_of_lines answers) → StopsAtEnd e
 
 -- ---- a run
 
 -- Of an input these were drawn: lines up to their ends, and then `rest`. What answers the lines was written, and nothing else.
-pub record WroteWhole (in_old in_new out_old out_new : Option (List ℕ)) (rest : List ℕ) : Type 0 where
+pub record WroteBlockLines (in_old in_new out_old out_new : Option (List ℕ)) (rest : List ℕ) : Type 0 where
   pub lines : List (List ℕ)
   pub are_lines : AreLines lines
   pub open_text : Option (List ℕ)
@@ -94,21 +94,21 @@ pub record WroteAllButEnd (in_old in_new out_old out_new : Option (List ℕ)) : 
   pub written : Appends out_old out_new (text_of_lines answers)
 
 -- A beginning of what answers the bytes that were drawn was written: lines up to their ends, or all of the input.
-pub data WroteBeginning (in_old in_new out_old out_new : Option (List ℕ)) : Type 0 where
-  at_line : (lines : List (List ℕ)) (open_text : Option (List ℕ)) (answers : List (List ℕ)) → AreLines lines → HasAnswers lines open_text answers → Consumes in_old in_new (text_of_lines lines) → AppendsBeginning out_old out_new (text_of_lines answers) → WroteBeginning in_old in_new out_old out_new
-  at_end : (bytes text : List ℕ) → IsTextOf bytes text → Consumes in_old in_new bytes → IsAtEnd in_new → AppendsBeginning out_old out_new text → WroteBeginning in_old in_new out_old out_new
+pub data WroteSomeBlockLines (in_old in_new out_old out_new : Option (List ℕ)) : Type 0 where
+  at_line : (lines : List (List ℕ)) (open_text : Option (List ℕ)) (answers : List (List ℕ)) → AreLines lines → HasAnswers lines open_text answers → Consumes in_old in_new (text_of_lines lines) → AppendsBeginning out_old out_new (text_of_lines answers) → WroteSomeBlockLines in_old in_new out_old out_new
+  at_end : (bytes text : List ℕ) → IsBlockLinesOf bytes text → Consumes in_old in_new bytes → IsAtEnd in_new → AppendsBeginning out_old out_new text → WroteSomeBlockLines in_old in_new out_old out_new
 
 module _ {W : Type 0} (g : Ghosts W) (in_old in_new : Option (List ℕ)) (faults_old faults_new : List Fault) (out_old out_new : W) where
   -- the lines before this one were answered, and it wasn't
   abbrev pub StopsBefore : List ℕ → Type 0
-  StopsBefore line = WroteWhole in_old in_new (g.told out_old) (g.told out_new) line
+  StopsBefore line = WroteBlockLines in_old in_new (g.told out_old) (g.told out_new) line
 
   -- why a run ended with an error, and what it left
-  pub data Stops (e : Asn1DerError) : Type 0 where
+  pub data StopsPem (e : Asn1DerError) : Type 0 where
     -- memory was refused for the line or what answers it
-    memory : e ≡ OutOfMemory → (line : List ℕ) → IsLastLine line → StopsBefore line → Stops e
-    memory_at_end : e ≡ OutOfMemory → WroteAllButEnd in_old in_new (g.told out_old) (g.told out_new) → Stops e
+    memory : e ≡ OutOfMemory → (line : List ℕ) → IsLastLine line → StopsBefore line → StopsPem e
+    memory_at_end : e ≡ OutOfMemory → WroteAllButEnd in_old in_new (g.told out_old) (g.told out_new) → StopsPem e
     -- the reader cut the line
-    reader : ReaderFaulted faults_old faults_new in_new e → (line : List ℕ) → IsLine line → StopsBefore line → Stops e
-    writer : Faulted g out_old e out_new → WroteBeginning in_old in_new (g.told out_old) (g.told out_new) → Stops e
-    too_long : e ≡ UnsupportedValue → IsTooLong in_old → (line : List ℕ) → IsLine line → StopsBefore line → Stops e
+    reader : ReaderFaulted faults_old faults_new in_new e → (line : List ℕ) → IsLine line → StopsBefore line → StopsPem e
+    writer : WriterFails g out_old e out_new → WroteSomeBlockLines in_old in_new (g.told out_old) (g.told out_new) → StopsPem e
+    too_long : e ≡ UnsupportedValue → IsTooLong in_old → (line : List ℕ) → IsLine line → StopsBefore line → StopsPem e

@@ -1,13 +1,13 @@
 //! Certificates in PEM: each gets a line that says what is in it, or how it is refused.
 #![tactic(auto)]
 
-mod line;
+mod answer;
 mod names;
 mod object_identifier;
 mod outcome;
 mod pem;
 mod text;
 
-pub use line::line_of;
-pub use outcome::{Outcome, Reading, Refusal, examine};
+pub use answer::line_of;
+pub use outcome::{Outcome, Reading, RefusalAt, examine};
 pub use pem::run;

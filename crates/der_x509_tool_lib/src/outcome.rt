@@ -3,7 +3,7 @@ ghost use Rattle.std.specs.Prelude.{◌≡◌, ◌≢◌, ◌≤◌, ◌↔◌, 
 ghost use Rattle.picky_der_core.specs.Encoding.{der};
 ghost use Rattle.picky_der_core.specs.Readable.{IsWritable};
 ghost use Rattle.picky_der_de.specs.Entry.{IsFront, HasNoFront};
-ghost use Rattle.der_x509_tool_lib.specs.Outcome.{IsCertificate, bytes_of, IsOutcome};
+ghost use Rattle.der_x509_tool_lib.specs.Outcome.{IsCertificate, certificate_bytes, IsOutcome};
 
 use der_x509::{Certificate, TbsCertificate};
 use picky_asn1_der::{Asn1DerError, Deserialize, Deserializer, Result, Serialize, to_vec};
@@ -23,7 +23,7 @@ pub struct Reading {
 
 /// Why something wasn't read.
 #[derive(Debug, Clone, Copy, PartialEq, Eq)]
-pub struct Refusal {
+pub struct RefusalAt {
     /// The error, which isn't `OutOfMemory`.
     pub error: Asn1DerError,
     /// How many bytes were taken by then.
@@ -36,11 +36,11 @@ pub enum Outcome {
     /// The bytes are a certificate.
     Read(Reading),
     /// No certificate stands at their front.
-    Refused(Refusal),
+    Refused(RefusalAt),
     /// So many of them are a certificate, and others stand behind it.
     LeftOver(usize),
     /// They are a certificate, but what it has as signed isn't what X.509 says. The count is of the bytes of this part.
-    RefusedSigned(Refusal),
+    RefusedSigned(RefusalAt),
 }
 
 /// Reads bytes as a certificate, reads what is signed of it, and writes both again. The only error is `OutOfMemory`.
@@ -65,7 +65,7 @@ pub fn examine(alloc: Global, bytes: &[u8]) -> Result<Outcome>
 // What comes of the bytes of this certificate, which was read whole.
 fn examine_signed(alloc: Global, bytes: &[u8], certificate: Certificate) -> Result<Outcome>
     requires front { IsCertificate bytes.now certificate }
-    requires whole { bytes_of certificate ≡ bytes.now }
+    requires whole { certificate_bytes certificate ≡ bytes.now }
     ensures ok { IfOk result (IsOutcome bytes.now) }
     ensures err { IfErr result (λ e. e ≡ Asn1DerError.OutOfMemory) }
 {
@@ -85,7 +85,7 @@ fn examine_signed(alloc: Global, bytes: &[u8], certificate: Certificate) -> Resu
 }
 
 // The value at the front of the bytes, and how many of them were taken.
-fn read_front<T: Deserialize>(alloc: Global, bytes: &[u8]) -> result::Result<(T, usize), Refusal>
+fn read_front<T: Deserialize>(alloc: Global, bytes: &[u8]) -> result::Result<(T, usize), RefusalAt>
     ensures front { IfOk result (λ front. IsFront T.meaning T.shape T.eq bytes.now
         (length bytes.now) front.0) }
     ensures taken { IfOk result (λ front. front.1 ≡ length (der (T.meaning front.0))) }
@@ -100,7 +100,7 @@ fn read_front<T: Deserialize>(alloc: Global, bytes: &[u8]) -> result::Result<(T,
     let _ = de.into_reader();
     match outcome {
         Ok(value) => Ok((value, taken)),
-        Err(error) => Err(Refusal { error, taken }),
+        Err(error) => Err(RefusalAt { error, taken }),
     }
 }
 
@@ -115,7 +115,7 @@ fn is_written_as<T: Serialize>(alloc: Global, value: &T, bytes: &[u8]) -> Result
 }
 
 // The refusal, unless it is that of memory.
-fn reported(refusal: Refusal) -> Result<Refusal>
+fn reported(refusal: RefusalAt) -> Result<RefusalAt>
     ensures ok { IfOk result (λ r. (r ≡ refusal) × (r.error ≢ Asn1DerError.OutOfMemory)) }
     ensures err { IfErr result (λ e. e ≡ Asn1DerError.OutOfMemory) }
 {

@@ -4,9 +4,9 @@ ghost use Rattle.std.specs.Prelude.{OnOk, IfOk, IfErr, IsTrue};
 ghost use Rattle.std.specs.Io.KnownBytes.{Appends, IsAtEnd};
 ghost use Rattle.picky_der_core.specs.Reader.{TellsFault};
 ghost use Rattle.picky_der_core.specs.WriterFaults.{IsOnceAtMost};
-ghost use Rattle.der_x509_tool_lib.specs.Blocks.{BeginsBlock, EndsBlock, WritesText};
-ghost use Rattle.der_x509_tool_lib.specs.Run.{text_in, Wrote, AnswersBlock, AnswersLine, AnswersSomeLine, AnswersEnd};
-ghost use Rattle.der_x509_tool_lib.specs.Run.{StopsWriting, StopsAtEnd, Stops};
+ghost use Rattle.der_x509_tool_lib.specs.Blocks.{BeginsBlock, EndsBlock, WritesBlockLines};
+ghost use Rattle.der_x509_tool_lib.specs.Run.{text_in, WritesSome, AnswersBlock, AnswersPemLine, AnswersSomeLine, AnswersEnd};
+ghost use Rattle.der_x509_tool_lib.specs.Run.{StopsWriting, StopsAtEnd, StopsPem};
 
 use crate::line_of;
 use base64::DecodeAllocError;
@@ -33,10 +33,10 @@ const LONGEST_KEPT: usize = 64;
 /// lines. It is `OutOfMemory` where memory was refused, the kind of a device's fault, or `UnsupportedValue` where the input
 /// hasn't ended after `u64::MAX` bytes.
 pub fn run<R: ReadExt, W: WriteExt>(alloc: Global, input: &mut R, output: &mut W) -> Result<()>
-    ensures text { OnOk result (WritesText (R.remaining input.old) (W.told output.old)
+    ensures text { OnOk result (WritesBlockLines (R.remaining input.old) (W.told output.old)
         (W.told output.new)) }
     ensures at_end { OnOk result (IsAtEnd (R.remaining input.new)) }
-    ensures stops { IfErr result (Stops W.WriteExt.own (R.remaining input.old)
+    ensures stops { IfErr result (StopsPem W.WriteExt.own (R.remaining input.old)
         (R.remaining input.new) (R.faults input.old) (R.faults input.new) output.old output.new) }
     ensures reads { IfErr result (TellsFault (R.faults input.old) (R.faults input.new)
         (R.remaining input.new)) }
@@ -88,7 +88,7 @@ fn end_input<W: WriteExt>(
     block: Option<Vec<u8>>,
     output: &mut W,
 ) -> Result<()>
-    ensures ok { OnOk result (Wrote (AnswersEnd line.now (text_in block)) (W.told output.old)
+    ensures ok { OnOk result (WritesSome (AnswersEnd line.now (text_in block)) (W.told output.old)
         (W.told output.new)) }
     ensures err { IfErr result (StopsAtEnd W.WriteExt.own line.now (text_in block) output.old
         output.new) }
@@ -111,8 +111,8 @@ fn take_line<W: WriteExt>(
     block: Option<Vec<u8>>,
     output: &mut W,
 ) -> Result<Option<Vec<u8>>>
-    ensures ok { IfOk result (λ after. Wrote
-        (AnswersLine line.now (text_in block) (text_in after)) (W.told output.old)
+    ensures ok { IfOk result (λ after. WritesSome
+        (AnswersPemLine line.now (text_in block) (text_in after)) (W.told output.old)
         (W.told output.new)) }
     ensures err { IfErr result (StopsWriting W.WriteExt.own
         (AnswersSomeLine line.now (text_in block)) output.old output.new) }
@@ -153,7 +153,7 @@ fn ends_block(line: &[u8]) -> bool
 
 // Writes the line of a block that has an end, with this text.
 fn answer_block<W: WriteExt>(alloc: Global, text: &[u8], output: &mut W) -> Result<()>
-    ensures ok { OnOk result (Wrote (AnswersBlock text.now) (W.told output.old)
+    ensures ok { OnOk result (WritesSome (AnswersBlock text.now) (W.told output.old)
         (W.told output.new)) }
     ensures err { IfErr result (StopsWriting W.WriteExt.own (AnswersBlock text.now) output.old
         output.new) }

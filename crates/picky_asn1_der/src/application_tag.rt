@@ -4,7 +4,7 @@ ghost use Rattle.picky_der_core.specs.Equality.{IsThatOf};
 ghost use Rattle.picky_der_core.specs.Tree.{Tree};
 ghost use Rattle.picky_der_core.specs.Shape.{Shape};
 ghost use Rattle.picky_der_input.specs.declared.enclosure.Enclosure.TheVariants as enclosure;
-ghost use Rattle.picky_der_de.specs.EnclosureLaws.{enclosed_known};
+ghost use Rattle.picky_der_de.specs.EnclosureLaws.{enclosed_injective};
 
 use crate::asn1::Tag;
 use crate::de::Begins;
@@ -52,7 +52,7 @@ impl<V: Serialize + Debug + PartialEq, const T: u8> Serialize for ApplicationTag
 impl<V: Deserialize + Debug, const T: u8> Deserialize for ApplicationTag<V, T> {
     ghost shape = { Shape.application T V.shape };
 
-    ghost injective = { λ x y. enclosed_known (enclosure.Application T) V.meaning V.shape V.eq V.injective x.0 y.0 };
+    ghost injective = { λ x y. enclosed_injective (enclosure.Application T) V.meaning V.shape V.eq V.injective x.0 y.0 };
 
     ghost sound = { V.sound };
 

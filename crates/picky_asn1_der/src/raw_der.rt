@@ -8,7 +8,7 @@ ghost use Rattle.picky_der_core.specs.Tree.{Tree};
 ghost use Rattle.picky_der_core.specs.Shape.{Shape};
 ghost use Rattle.picky_der_input.specs.Reading.{Reads, Refuses};
 ghost use Rattle.picky_der_input.specs.Elements.{RefusesRaw};
-ghost use Rattle.picky_der_de.specs.InjectiveLaws.{raw_known};
+ghost use Rattle.picky_der_de.specs.InjectiveLaws.{raw_injective};
 
 use picky_der_core::asn1::Tag;
 use picky_der_core::misc::{ReadExt, WriteExt};
@@ -77,7 +77,7 @@ impl Serialize for Asn1RawDer {
 impl Deserialize for Asn1RawDer {
     ghost shape = { Shape.raw };
 
-    ghost injective = { λ x y s t r e. raw_known x.0.items y.0.items e };
+    ghost injective = { λ x y s t r e. raw_injective x.0.items y.0.items e };
 
     ghost sound = { tt };
 

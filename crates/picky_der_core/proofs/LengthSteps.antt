@@ -79,18 +79,18 @@ refused_count a b {first} {e} h (IsNoLongCount.too_many more error) =
     refused_after a b (first ∷ []) e h (λ rest. length_of-too_many TruncatedData first rest more ∙ ap (λ x. Err (x, rest)) (sym error))
 
 -- a first byte and so many length bytes were taken, of this number
-pub record Taken (old new : Option (List ℕ)) (first count number : ℕ) : Type 0 where
+pub record TakesLength (old new : Option (List ℕ)) (first count number : ℕ) : Type 0 where
   pub digits : List ℕ
   pub consumed : Consumes old new (first ∷ digits)
   pub size : length digits ≡ count
   pub bytes : AreBytes digits
   pub is : number ≡ number_from_digits 256 digits
 
-pub Taken-first : {a b : Option (List ℕ)} {first : ℕ} → Consumes a b (first ∷ []) → Taken a b first 0 0
-Taken-first h = record { digits = []; consumed = h; size = refl; bytes = tt; is = refl }
+pub length_first : {a b : Option (List ℕ)} {first : ℕ} → Consumes a b (first ∷ []) → TakesLength a b first 0 0
+length_first h = record { digits = []; consumed = h; size = refl; bytes = tt; is = refl }
 
-pub Taken-more : {a b c : Option (List ℕ)} {first count number d : ℕ} → Taken a b first count number → Consumes b c (d ∷ []) → d < 256 → Taken a c first (count + 1) (number * 256 + d)
-Taken-more {a} {b} {c} {first} {count} {number} {d} t h below = record {
+pub length_more : {a b c : Option (List ℕ)} {first count number d : ℕ} → TakesLength a b first count number → Consumes b c (d ∷ []) → d < 256 → TakesLength a c first (count + 1) (number * 256 + d)
+length_more {a} {b} {c} {first} {count} {number} {d} t h below = record {
   digits = t.digits ++ (d ∷ []);
   consumed = Consumes-trans a b c (first ∷ t.digits) (d ∷ []) t.consumed h;
   size = length-append t.digits (d ∷ []) ∙ ap (λ n. n + 1) t.size;
@@ -98,10 +98,10 @@ Taken-more {a} {b} {c} {first} {count} {number} {d} t h below = record {
   is = ap (λ n. n * 256 + d) t.is ∙ sym (number_push 256 t.digits d);
 }
 
-module _ {a b : Option (List ℕ)} {first k count number : ℕ} (t : Taken a b first k number) (long : IsLongCount first count) where
+module _ {a b : Option (List ℕ)} {first k count number : ℕ} (t : TakesLength a b first k number) (long : IsLongCount first count) where
   -- where a byte more is to come, the number has seven bytes at most
-  pub Taken-below : k < count → number < 2 ^ 56
-  Taken-below fewer =
+  pub length_below : k < count → number < 2 ^ 56
+  length_below fewer =
       let most : 256 ^ length t.digits ≤ 256 ^ 7 = pow-le-pow_right {n = 256} (omega arith) {i = length t.digits} {j = 7} (omega (arith, t.size)) in
       omega (arith, t.is, number_lt 256 t.digits t.bytes)
 

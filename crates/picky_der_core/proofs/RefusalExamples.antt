@@ -1,7 +1,7 @@
 -- Worked examples of refusals: the definitions compute them.
 use Rattle.std.proofs.Common.{◌≡◌, true, false, [], ◌∷◌, replicate, refl, Some, None, Ok, Err}
 use Rattle.picky_der_core.specs.declared.error.Asn1DerError.TheVariants.{TruncatedData, InvalidData, UnsupportedValue}
-use Rattle.picky_der_core.specs.Refusal.{length_of, fault, plain_refusal, inside_refusal, header_refusal, numbered_header, refusal_of, element_refusal, boolean_fault, unsigned_fault, null_fault, text_fault, character_fault, bytes_fault}
+use Rattle.picky_der_core.specs.Refusal.{length_of, error_of, plain_refusal, inside_refusal, header_refusal, numbered_header, refusal_of, element_refusal, boolean_error, unsigned_error, null_error, text_error, character_error, bytes_error}
 use Rattle.picky_der_core.proofs.OnLiterals.{text_on_literals}
 
 -- ---- lengths
@@ -35,128 +35,128 @@ whole_length = refl
 
 -- ---- numbers, before a soft end
 
-needless_zero : fault (plain_refusal 0x02 (unsigned_fault 255) false 4 (0x02 ∷ 0x02 ∷ 0x00 ∷ 0x7F ∷ [])) ≡ Some InvalidData
+needless_zero : error_of (plain_refusal 0x02 (unsigned_error 255) false 4 (0x02 ∷ 0x02 ∷ 0x00 ∷ 0x7F ∷ [])) ≡ Some InvalidData
 needless_zero = refl
 
-negative : fault (plain_refusal 0x02 (unsigned_fault 255) false 3 (0x02 ∷ 0x01 ∷ 0x80 ∷ [])) ≡ Some UnsupportedValue
+negative : error_of (plain_refusal 0x02 (unsigned_error 255) false 3 (0x02 ∷ 0x01 ∷ 0x80 ∷ [])) ≡ Some UnsupportedValue
 negative = refl
 
-too_large : fault (plain_refusal 0x02 (unsigned_fault 255) false 4 (0x02 ∷ 0x02 ∷ 0x01 ∷ 0x00 ∷ [])) ≡ Some UnsupportedValue
+too_large : error_of (plain_refusal 0x02 (unsigned_error 255) false 4 (0x02 ∷ 0x02 ∷ 0x01 ∷ 0x00 ∷ [])) ≡ Some UnsupportedValue
 too_large = refl
 
-empty_number : fault (plain_refusal 0x02 (unsigned_fault 255) false 2 (0x02 ∷ 0x00 ∷ [])) ≡ Some TruncatedData
+empty_number : error_of (plain_refusal 0x02 (unsigned_error 255) false 2 (0x02 ∷ 0x00 ∷ [])) ≡ Some TruncatedData
 empty_number = refl
 
-tag_alone : fault (plain_refusal 0x02 (unsigned_fault 255) false 1 (0x02 ∷ [])) ≡ Some TruncatedData
+tag_alone : error_of (plain_refusal 0x02 (unsigned_error 255) false 1 (0x02 ∷ [])) ≡ Some TruncatedData
 tag_alone = refl
 
-long_length_of_one : fault (plain_refusal 0x02 (unsigned_fault 255) false 4 (0x02 ∷ 0x81 ∷ 0x01 ∷ 0x07 ∷ [])) ≡ Some InvalidData
+long_length_of_one : error_of (plain_refusal 0x02 (unsigned_error 255) false 4 (0x02 ∷ 0x81 ∷ 0x01 ∷ 0x07 ∷ [])) ≡ Some InvalidData
 long_length_of_one = refl
 
-foreign_tag : fault (plain_refusal 0x02 (unsigned_fault 255) false 3 (0x01 ∷ 0x01 ∷ 0xFF ∷ [])) ≡ Some InvalidData
+foreign_tag : error_of (plain_refusal 0x02 (unsigned_error 255) false 3 (0x01 ∷ 0x01 ∷ 0xFF ∷ [])) ≡ Some InvalidData
 foreign_tag = refl
 
-needed_zero : fault (plain_refusal 0x02 (unsigned_fault 255) false 4 (0x02 ∷ 0x02 ∷ 0x00 ∷ 0x80 ∷ [])) ≡ None
+needed_zero : error_of (plain_refusal 0x02 (unsigned_error 255) false 4 (0x02 ∷ 0x02 ∷ 0x00 ∷ 0x80 ∷ [])) ≡ None
 needed_zero = refl
 
-greatest : fault (plain_refusal 0x02 (unsigned_fault 0xFFFF_FFFF_FFFF_FFFF_FFFF_FFFF_FFFF_FFFF) false 19 (0x02 ∷ 0x11 ∷ 0x00 ∷ replicate 16 0xFF)) ≡ None
+greatest : error_of (plain_refusal 0x02 (unsigned_error 0xFFFF_FFFF_FFFF_FFFF_FFFF_FFFF_FFFF_FFFF) false 19 (0x02 ∷ 0x11 ∷ 0x00 ∷ replicate 16 0xFF)) ≡ None
 greatest = refl
 
-past_greatest : fault (plain_refusal 0x02 (unsigned_fault 0xFFFF_FFFF_FFFF_FFFF_FFFF_FFFF_FFFF_FFFF) false 20 (0x02 ∷ 0x12 ∷ 0x00 ∷ replicate 17 0xFF)) ≡ Some UnsupportedValue
+past_greatest : error_of (plain_refusal 0x02 (unsigned_error 0xFFFF_FFFF_FFFF_FFFF_FFFF_FFFF_FFFF_FFFF) false 20 (0x02 ∷ 0x12 ∷ 0x00 ∷ replicate 17 0xFF)) ≡ Some UnsupportedValue
 past_greatest = refl
 
 -- ---- bools and null
 
-one : fault (plain_refusal 0x01 boolean_fault false 3 (0x01 ∷ 0x01 ∷ 0x01 ∷ [])) ≡ Some InvalidData
+one : error_of (plain_refusal 0x01 boolean_error false 3 (0x01 ∷ 0x01 ∷ 0x01 ∷ [])) ≡ Some InvalidData
 one = refl
 
-two_bytes : fault (plain_refusal 0x01 boolean_fault false 4 (0x01 ∷ 0x02 ∷ 0xFF ∷ 0xFF ∷ [])) ≡ Some InvalidData
+two_bytes : error_of (plain_refusal 0x01 boolean_error false 4 (0x01 ∷ 0x02 ∷ 0xFF ∷ 0xFF ∷ [])) ≡ Some InvalidData
 two_bytes = refl
 
-no_byte : fault (plain_refusal 0x01 boolean_fault false 2 (0x01 ∷ 0x00 ∷ [])) ≡ Some TruncatedData
+no_byte : error_of (plain_refusal 0x01 boolean_error false 2 (0x01 ∷ 0x00 ∷ [])) ≡ Some TruncatedData
 no_byte = refl
 
-truth : fault (plain_refusal 0x01 boolean_fault false 3 (0x01 ∷ 0x01 ∷ 0xFF ∷ [])) ≡ None
+truth : error_of (plain_refusal 0x01 boolean_error false 3 (0x01 ∷ 0x01 ∷ 0xFF ∷ [])) ≡ None
 truth = refl
 
-null_with_content : fault (plain_refusal 0x05 null_fault false 3 (0x05 ∷ 0x01 ∷ 0x00 ∷ [])) ≡ Some InvalidData
+null_with_content : error_of (plain_refusal 0x05 null_error false 3 (0x05 ∷ 0x01 ∷ 0x00 ∷ [])) ≡ Some InvalidData
 null_with_content = refl
 
 -- ---- ends: a length past a soft and a hard one, a byte missing at them, and input that ends before them
 
-past_soft : fault (plain_refusal 0x04 bytes_fault false 10 (0x04 ∷ 0x88 ∷ replicate 8 0xFF)) ≡ Some TruncatedData
+past_soft : error_of (plain_refusal 0x04 bytes_error false 10 (0x04 ∷ 0x88 ∷ replicate 8 0xFF)) ≡ Some TruncatedData
 past_soft = refl
 
-past_hard : fault (plain_refusal 0x04 bytes_fault true 10 (0x04 ∷ 0x88 ∷ replicate 8 0xFF)) ≡ Some InvalidData
+past_hard : error_of (plain_refusal 0x04 bytes_error true 10 (0x04 ∷ 0x88 ∷ replicate 8 0xFF)) ≡ Some InvalidData
 past_hard = refl
 
-missing_at_hard : fault (plain_refusal 0x02 (unsigned_fault 255) true 2 (0x02 ∷ 0x82 ∷ [])) ≡ Some InvalidData
+missing_at_hard : error_of (plain_refusal 0x02 (unsigned_error 255) true 2 (0x02 ∷ 0x82 ∷ [])) ≡ Some InvalidData
 missing_at_hard = refl
 
-cut_before_hard : fault (plain_refusal 0x02 (unsigned_fault 255) true 3 (0x02 ∷ 0x82 ∷ [])) ≡ Some TruncatedData
+cut_before_hard : error_of (plain_refusal 0x02 (unsigned_error 255) true 3 (0x02 ∷ 0x82 ∷ [])) ≡ Some TruncatedData
 cut_before_hard = refl
 
-cut_content : fault (plain_refusal 0x02 (unsigned_fault 255) true 3 (0x02 ∷ 0x01 ∷ [])) ≡ Some TruncatedData
+cut_content : error_of (plain_refusal 0x02 (unsigned_error 255) true 3 (0x02 ∷ 0x01 ∷ [])) ≡ Some TruncatedData
 cut_content = refl
 
 -- ---- what is left behind the bytes that were drawn
 
-behind_foreign_tag : plain_refusal 0x02 (unsigned_fault 255) false 5 (0x01 ∷ 0x01 ∷ 0xFF ∷ 0x05 ∷ 0x00 ∷ []) ≡ Some (InvalidData, 0x01 ∷ 0xFF ∷ 0x05 ∷ 0x00 ∷ [])
+behind_foreign_tag : plain_refusal 0x02 (unsigned_error 255) false 5 (0x01 ∷ 0x01 ∷ 0xFF ∷ 0x05 ∷ 0x00 ∷ []) ≡ Some (InvalidData, 0x01 ∷ 0xFF ∷ 0x05 ∷ 0x00 ∷ [])
 behind_foreign_tag = refl
 
-behind_long_length : plain_refusal 0x02 (unsigned_fault 255) false 4 (0x02 ∷ 0x81 ∷ 0x01 ∷ 0x07 ∷ []) ≡ Some (InvalidData, 0x07 ∷ [])
+behind_long_length : plain_refusal 0x02 (unsigned_error 255) false 4 (0x02 ∷ 0x81 ∷ 0x01 ∷ 0x07 ∷ []) ≡ Some (InvalidData, 0x07 ∷ [])
 behind_long_length = refl
 
-behind_content : plain_refusal 0x02 (unsigned_fault 255) false 5 (0x02 ∷ 0x01 ∷ 0x80 ∷ 0x05 ∷ 0x00 ∷ []) ≡ Some (UnsupportedValue, 0x05 ∷ 0x00 ∷ [])
+behind_content : plain_refusal 0x02 (unsigned_error 255) false 5 (0x02 ∷ 0x01 ∷ 0x80 ∷ 0x05 ∷ 0x00 ∷ []) ≡ Some (UnsupportedValue, 0x05 ∷ 0x00 ∷ [])
 behind_content = refl
 
-behind_length_past_end : plain_refusal 0x04 bytes_fault true 4 (0x04 ∷ 0x03 ∷ 0xAA ∷ 0xBB ∷ []) ≡ Some (InvalidData, 0xAA ∷ 0xBB ∷ [])
+behind_length_past_end : plain_refusal 0x04 bytes_error true 4 (0x04 ∷ 0x03 ∷ 0xAA ∷ 0xBB ∷ []) ≡ Some (InvalidData, 0xAA ∷ 0xBB ∷ [])
 behind_length_past_end = refl
 
 -- ---- directly under an implicit tag, headers and whole elements
 
-implicit_number : fault (inside_refusal 0x02 (unsigned_fault 255) 1 (0x07 ∷ [])) ≡ None
+implicit_number : error_of (inside_refusal 0x02 (unsigned_error 255) 1 (0x07 ∷ [])) ≡ None
 implicit_number = refl
 
-implicit_cut : fault (inside_refusal 0x02 (unsigned_fault 255) 5 (0x07 ∷ [])) ≡ Some TruncatedData
+implicit_cut : error_of (inside_refusal 0x02 (unsigned_error 255) 5 (0x07 ∷ [])) ≡ Some TruncatedData
 implicit_cut = refl
 
-high_tag_number : fault (plain_refusal 0x1F bytes_fault false 3 (0x1F ∷ 0x01 ∷ 0xAA ∷ [])) ≡ Some UnsupportedValue
+high_tag_number : error_of (plain_refusal 0x1F bytes_error false 3 (0x1F ∷ 0x01 ∷ 0xAA ∷ [])) ≡ Some UnsupportedValue
 high_tag_number = refl
 
-sequence_header : fault (header_refusal 0x30 false 10 (0x30 ∷ 0x88 ∷ replicate 8 0xFF)) ≡ Some TruncatedData
+sequence_header : error_of (header_refusal 0x30 false 10 (0x30 ∷ 0x88 ∷ replicate 8 0xFF)) ≡ Some TruncatedData
 sequence_header = refl
 
-sequence_header_alone : fault (header_refusal 0x30 false 5 (0x30 ∷ 0x03 ∷ [])) ≡ None
+sequence_header_alone : error_of (header_refusal 0x30 false 5 (0x30 ∷ 0x03 ∷ [])) ≡ None
 sequence_header_alone = refl
 
 explicit_of_32 : refusal_of (numbered_header 0xA0 32 false 2 (0xC0 ∷ 0x00 ∷ [])) ≡ Some (UnsupportedValue, 0xC0 ∷ 0x00 ∷ [])
 explicit_of_32 = refl
 
-raw_of_long_tag : fault (element_refusal false 4 (0x1F ∷ 0x81 ∷ 0x00 ∷ 0x00 ∷ [])) ≡ Some UnsupportedValue
+raw_of_long_tag : error_of (element_refusal false 4 (0x1F ∷ 0x81 ∷ 0x00 ∷ 0x00 ∷ [])) ≡ Some UnsupportedValue
 raw_of_long_tag = refl
 
-raw_of_long_length : fault (element_refusal false 4 (0x02 ∷ 0x81 ∷ 0x01 ∷ 0x07 ∷ [])) ≡ Some InvalidData
+raw_of_long_length : error_of (element_refusal false 4 (0x02 ∷ 0x81 ∷ 0x01 ∷ 0x07 ∷ [])) ≡ Some InvalidData
 raw_of_long_length = refl
 
 -- ---- texts
 
-empty_text : fault (plain_refusal 0x0C text_fault false 2 (0x0C ∷ 0x00 ∷ [])) ≡ None
+empty_text : error_of (plain_refusal 0x0C text_error false 2 (0x0C ∷ 0x00 ∷ [])) ≡ None
 unfolding text_on_literals
 empty_text = refl
 
-no_character : fault (plain_refusal 0x0C character_fault false 2 (0x0C ∷ 0x00 ∷ [])) ≡ Some UnsupportedValue
+no_character : error_of (plain_refusal 0x0C character_error false 2 (0x0C ∷ 0x00 ∷ [])) ≡ Some UnsupportedValue
 unfolding text_on_literals
 no_character = refl
 
-two_characters : fault (plain_refusal 0x0C character_fault false 4 (0x0C ∷ 0x02 ∷ 0x41 ∷ 0x42 ∷ [])) ≡ Some InvalidData
+two_characters : error_of (plain_refusal 0x0C character_error false 4 (0x0C ∷ 0x02 ∷ 0x41 ∷ 0x42 ∷ [])) ≡ Some InvalidData
 unfolding text_on_literals
 two_characters = refl
 
-no_utf8 : fault (plain_refusal 0x0C character_fault false 3 (0x0C ∷ 0x01 ∷ 0xFF ∷ [])) ≡ Some InvalidData
+no_utf8 : error_of (plain_refusal 0x0C character_error false 3 (0x0C ∷ 0x01 ∷ 0xFF ∷ [])) ≡ Some InvalidData
 unfolding text_on_literals
 no_utf8 = refl
 
-e_acute : fault (plain_refusal 0x0C character_fault false 4 (0x0C ∷ 0x02 ∷ 0xC3 ∷ 0xA9 ∷ [])) ≡ None
+e_acute : error_of (plain_refusal 0x0C character_error false 4 (0x0C ∷ 0x02 ∷ 0xC3 ∷ 0xA9 ∷ [])) ≡ None
 unfolding text_on_literals
 e_acute = refl

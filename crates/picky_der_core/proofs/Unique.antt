@@ -11,13 +11,13 @@ use Rattle.picky_der_core.specs.EncodingLaws.{is_absent-readable, list_content-i
 use Rattle.picky_der_core.specs.FirstLaws.{begins_in, begins_in_one, begins_next, apart_differ, is_of-optional}
 
 -- directly under an implicit tag stands no choice
-abbrev pub MayStand : Bool → Tree → Type 0
-MayStand true t = ⊤
-MayStand false t = IsNoChoice t
+abbrev pub IsHeadedIfChoice : Bool → Tree → Type 0
+IsHeadedIfChoice true t = ⊤
+IsHeadedIfChoice false t = IsNoChoice t
 
 -- a readable tree with P is known by what is written of it
 abbrev pub IsKnown : Bool → (Tree → Type 0) → Type 0
-IsKnown header P = (t u : Tree) → P t → P u → IsReadable t → IsReadable u → MayStand header t → MayStand header u → tree_bytes header t ≡ tree_bytes header u → t ≡ u
+IsKnown header P = (t u : Tree) → P t → P u → IsReadable t → IsReadable u → IsHeadedIfChoice header t → IsHeadedIfChoice header u → tree_bytes header t ≡ tree_bytes header u → t ≡ u
 
 abbrev pub AreKnown : (Trees → Type 0) → Type 0
 AreKnown Q = (ts us : Trees) → Q ts → Q us → AreReadable ts → AreReadable us → concat (encodings ts) ≡ concat (encodings us) → ts ≡ us

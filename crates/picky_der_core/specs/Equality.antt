@@ -14,13 +14,13 @@ abbrev pub IsThatOf : {V P A : Type 0} → (V → V → A) → (V → P) → (P 
 IsThatOf {V} answer part own = (x y : V) → answer x y ≡ own (part x) (part y)
 
 -- the text of an error that is a message
-abbrev pub text_of : Asn1DerError → Option (List ℕ)
-text_of (error.Message text) = Some text.now
-text_of other = None
+abbrev pub message_text : Asn1DerError → Option (List ℕ)
+message_text (error.Message text) = Some text.now
+message_text other = None
 
 -- what is compared of an error
 abbrev pub comparison_of : Asn1DerError → Failure × Option (List ℕ)
-comparison_of e = (failure_of e, text_of e)
+comparison_of e = (failure_of e, message_text e)
 
 -- ---- copies
 

@@ -9,7 +9,7 @@ use Rattle.picky_der_core.specs.declared.misc.faults.Faults.TheVariants.{Fresh, 
 -- a fault: its kind, and what the device told of its bytes behind it
 pub record Fault : Type 0 where
   pub kind : ErrorKind
-  pub told : Option (List ℕ)
+  pub left : Option (List ℕ)
 
 -- a fault: its kind, and the device behind it
 pub record FaultOf (T : Type 0) : Type 0 where
@@ -30,4 +30,4 @@ count_of faults = length (faults_in faults)
 
 -- what a device tells of its bytes, at each of its faults
 abbrev pub faults_told : {T : Type 0} → (T → Option (List ℕ)) → List (FaultOf T) → List Fault
-faults_told bytes faults = map (λ f. record { kind = f.kind; told = bytes f.device }) faults
+faults_told bytes faults = map (λ f. record { kind = f.kind; left = bytes f.device }) faults

@@ -24,7 +24,7 @@ TakesFirst old new n = IfSome old (λ bs. (n ≤ length bs) × (new ≡ Some (dr
 
 -- of the faults the last is new, of this error, and these bytes are left behind it
 abbrev pub FailsOnce : List Fault → List Fault → Option (List ℕ) → Error → Type 0
-FailsOnce old new left e = new ≡ record { kind = error_kind e; told = left } ∷ old
+FailsOnce old new left e = new ≡ record { kind = error_kind e; left = left } ∷ old
 
 -- an error is a fault, or the end of the input
 pub data IsFaultOrEnd (before left : Option (List ℕ)) (old new : List Fault) (e : Error) : Type 0 where
@@ -36,5 +36,5 @@ CountsFault before left old new r = MatchResult r (λ _. new ≡ old) (IsFaultOr
 
 -- the reader failed just once, the error is what that fault becomes, and nothing was drawn behind it; or it didn't fail
 pub data TellsFault (old new : List Fault) (left : Option (List ℕ)) (e : Asn1DerError) : Type 0 where
-  fault : (kind : ErrorKind) → new ≡ record { kind = kind; told = left } ∷ old → e ≡ error_of_kind kind → TellsFault old new left e
+  fault : (kind : ErrorKind) → new ≡ record { kind = kind; left = left } ∷ old → e ≡ error_of_kind kind → TellsFault old new left e
   no_fault : new ≡ old → TellsFault old new left e

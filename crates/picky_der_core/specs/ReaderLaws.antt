@@ -12,5 +12,5 @@ not_more same = let e = ap length same in omega (arith, e)
 
 -- the end of the input is no fault, and an error tells just the fault that it is
 pub tells_fault : {before left : Option (List ℕ)} {first old new : List Fault} {e : Error} → old ≡ first → IsFaultOrEnd before left old new e → TellsFault first new left (error_of_kind (error_kind e))
-tells_fault {left = left} {e = e} since (fault once) = TellsFault.fault (error_kind e) (once ∙ ap (λ l. record { kind = error_kind e; told = left } ∷ l) since) refl
+tells_fault {left = left} {e = e} since (fault once) = TellsFault.fault (error_kind e) (once ∙ ap (λ l. record { kind = error_kind e; left = left } ∷ l) since) refl
 tells_fault since (end stays kind none) = TellsFault.no_fault (stays ∙ since)

@@ -40,12 +40,12 @@ pub record StandsAt (place : Place) (s : Shape) (bs : List ℕ) (limit : ℕ) (t
 abbrev pub ReadsFrom : {V : Type 0} → (V → Tree) → Shape → List ℕ → ℕ → V → Type 0
 ReadsFrom meaning s input limit v = StandsAt Place.whole s input limit (meaning v)
 
--- more bytes behind b could make a value of the type of it: of some value, of at most `room` bytes, b is the beginning, or
+-- more bytes behind b could make a value of the type of it: of some value, of at most `limit` bytes, b is the beginning, or
 -- it is the beginning of b
-pub record IsMendable {V : Type 0} (meaning : V → Tree) (s : Shape) (place : Place) (b : List ℕ) (room : ℕ) : Type 0 where
+pub record IsMendable {V : Type 0} (meaning : V → Tree) (s : Shape) (place : Place) (b : List ℕ) (limit : ℕ) : Type 0 where
   pub value : V
   pub of_shape : IsOf s (meaning value)
   pub readable : IsReadable (meaning value)
   pub may_stand : MayStand place (meaning value)
-  pub within : length (written_at place (meaning value)) ≤ room
+  pub within : length (written_at place (meaning value)) ≤ limit
   pub agrees : Begins (written_at place (meaning value)) b ⊎ Begins b (written_at place (meaning value))

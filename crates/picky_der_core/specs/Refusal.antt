@@ -82,37 +82,37 @@ refusal_of (Err e) = Some e
 abbrev pub Judge : Type 0
 Judge = List ℕ → Option Asn1DerError
 
-abbrev pub boolean_fault : Judge
-boolean_fault [] = Some TruncatedData
-boolean_fault (b ∷ []) = if (b == 0x00) || (b == 0xFF) then None else Some InvalidData
-boolean_fault (b ∷ c ∷ bs) = Some InvalidData
+abbrev pub boolean_error : Judge
+boolean_error [] = Some TruncatedData
+boolean_error (b ∷ []) = if (b == 0x00) || (b == 0xFF) then None else Some InvalidData
+boolean_error (b ∷ c ∷ bs) = Some InvalidData
 
 -- bytes of a number, without a leading 00
-abbrev pub number_fault : ℕ → Judge
-number_fault most bs = if nat_lt 16 (length bs) || nat_lt most (number_from_digits 256 bs) then Some UnsupportedValue else None
+abbrev pub number_error : ℕ → Judge
+number_error most bs = if nat_lt 16 (length bs) || nat_lt most (number_from_digits 256 bs) then Some UnsupportedValue else None
 
-abbrev pub unsigned_fault : ℕ → Judge
-unsigned_fault most [] = Some TruncatedData
-unsigned_fault most (b ∷ []) = if nat_lt b 0x80 then number_fault most (b ∷ []) else Some UnsupportedValue
-unsigned_fault most (b ∷ c ∷ bs) =
-    if nat_lt b 0x80 then (if b == 0 then (if nat_lt c 0x80 then Some InvalidData else number_fault most (c ∷ bs)) else number_fault most (b ∷ c ∷ bs))
+abbrev pub unsigned_error : ℕ → Judge
+unsigned_error most [] = Some TruncatedData
+unsigned_error most (b ∷ []) = if nat_lt b 0x80 then number_error most (b ∷ []) else Some UnsupportedValue
+unsigned_error most (b ∷ c ∷ bs) =
+    if nat_lt b 0x80 then (if b == 0 then (if nat_lt c 0x80 then Some InvalidData else number_error most (c ∷ bs)) else number_error most (b ∷ c ∷ bs))
     else Some UnsupportedValue
 
-abbrev pub null_fault : Judge
-null_fault [] = None
-null_fault (b ∷ bs) = Some InvalidData
+abbrev pub null_error : Judge
+null_error [] = None
+null_error (b ∷ bs) = Some InvalidData
 
-abbrev pub text_fault : Judge
-text_fault bs = if is_utf8 bs then None else Some InvalidData
+abbrev pub text_error : Judge
+text_error bs = if is_utf8 bs then None else Some InvalidData
 
-abbrev pub character_count_fault : ℕ → Option Asn1DerError
-character_count_fault n = if n == 0 then Some UnsupportedValue else (if n == 1 then None else Some InvalidData)
+abbrev pub character_count_error : ℕ → Option Asn1DerError
+character_count_error n = if n == 0 then Some UnsupportedValue else (if n == 1 then None else Some InvalidData)
 
-abbrev pub character_fault : Judge
-character_fault bs = if is_utf8 bs then character_count_fault (length (chars bs)) else Some InvalidData
+abbrev pub character_error : Judge
+character_error bs = if is_utf8 bs then character_count_error (length (chars bs)) else Some InvalidData
 
-abbrev pub bytes_fault : Judge
-bytes_fault bs = None
+abbrev pub bytes_error : Judge
+bytes_error bs = None
 
 -- ---- whole reads
 
@@ -140,8 +140,8 @@ header_refusal tag hard ahead rest = refusal_of (header tag hard ahead rest)
 
 -- how an element is refused that is taken whole, whatever its tag
 abbrev pub element_refusal : Bool → ℕ → List ℕ → Option Refusal
-element_refusal hard ahead rest = content_refusal bytes_fault (any_header hard ahead rest)
+element_refusal hard ahead rest = content_refusal bytes_error (any_header hard ahead rest)
 
 -- the error alone
-abbrev pub fault : Option Refusal → Option Asn1DerError
-fault refusal = option_map (λ r. r.0) refusal
+abbrev pub error_of : Option Refusal → Option Asn1DerError
+error_of refusal = option_map (λ r. r.0) refusal

@@ -9,7 +9,7 @@ use Rattle.std.proofs.lemmas.Bool.{cases_lt, cond_both, eqb-false}
 use Rattle.std.proofs.lemmas.Int.Digits.{number_after_lt, number_lt}
 use Rattle.picky_der_core.specs.Element.{big_endian}
 use Rattle.picky_der_core.specs.Encoding.{positive, unsigned_content}
-use Rattle.picky_der_core.specs.Refusal.{number_fault, unsigned_fault}
+use Rattle.picky_der_core.specs.Refusal.{number_error, unsigned_error}
 use Rattle.picky_der_core.specs.Shape.{AreBytes}
 use Rattle.picky_der_core.specs.BigEndianLaws.{number-big_endian, AreBytes-big_endian, first-big_endian, big_endian-number, length-big_endian, power_of_2, bytes_high_first-big_endian}
 use Rattle.picky_der_core.specs.declared.error.Asn1DerError.TheVariants.{InvalidData, UnsupportedValue}
@@ -157,11 +157,11 @@ abbrev IsSmall : ℕ → List ℕ → Type 0
 IsSmall most bs = (length bs ≤ 16) × (number_from_digits 256 bs ≤ most)
 
 -- such a number is read
-number_fault-small : (most : ℕ) (bs : List ℕ) → IsSmall most bs → number_fault most bs ≡ None
+number_fault-small : (most : ℕ) (bs : List ℕ) → IsSmall most bs → number_error most bs ≡ None
 number_fault-small most bs h = rw (le-ltb 16 (length bs) h.0, le-ltb most (number_from_digits 256 bs) h.1) refl
 
 -- and no other
-small-number_fault : (most : ℕ) (bs : List ℕ) → number_fault most bs ≡ None → IsSmall most bs
+small-number_fault : (most : ℕ) (bs : List ℕ) → number_error most bs ≡ None → IsSmall most bs
 small-number_fault most bs = by_tests (nat_lt 16 (length bs)) (nat_lt most (number_from_digits 256 bs)) refl refl
   where
     by_tests : (long large : Bool) → nat_lt 16 (length bs) ≡ long → nat_lt most (number_from_digits 256 bs) ≡ large → cond (long || large) (Some UnsupportedValue) None ≡ None → IsSmall most bs
@@ -170,30 +170,30 @@ small-number_fault most bs = by_tests (nat_lt 16 (length bs)) (nat_lt most (numb
     by_tests false true e f h = cc
 
 -- a first byte from 01 to 7F stands alone
-unsigned_fault-low : (most b : ℕ) (bs : List ℕ) → 0 < b → b < 0x80 → unsigned_fault most (b ∷ bs) ≡ number_fault most (b ∷ bs)
+unsigned_fault-low : (most b : ℕ) (bs : List ℕ) → 0 < b → b < 0x80 → unsigned_error most (b ∷ bs) ≡ number_error most (b ∷ bs)
 unsigned_fault-low most b [] h low = rw (lt-ltb b 0x80 low) refl
 unsigned_fault-low most b (c ∷ bs) h low = rw (lt-ltb b 0x80 low, ne_eqb b 0 (λ e. omega arith)) refl
 
 -- one from 80 stands behind 00
-unsigned_fault-high : (most b : ℕ) (bs : List ℕ) → 0x80 ≤ b → unsigned_fault most (0 ∷ b ∷ bs) ≡ number_fault most (b ∷ bs)
+unsigned_fault-high : (most b : ℕ) (bs : List ℕ) → 0x80 ≤ b → unsigned_error most (0 ∷ b ∷ bs) ≡ number_error most (b ∷ bs)
 unsigned_fault-high most b bs high = rw (le-ltb b 0x80 high) refl
 
 -- the rule of the first byte is that of `positive`
-unsigned_fault-positive : (most b : ℕ) (bs : List ℕ) → 0 < b → unsigned_fault most (positive (b ∷ bs)) ≡ number_fault most (b ∷ bs)
+unsigned_fault-positive : (most b : ℕ) (bs : List ℕ) → 0 < b → unsigned_error most (positive (b ∷ bs)) ≡ number_error most (b ∷ bs)
 unsigned_fault-positive most b bs h = elim (cases_lt b 0x80) [
   | inl low ↦ rw (lt-ltb b 0x80 low) (unsigned_fault-low most b bs h low)
   | inr high ↦ rw (le-ltb b 0x80 high) (unsigned_fault-high most b bs high)
 ]
 
 -- the content of a number is read
-pub unsigned_fault-content : (most n : ℕ) → n ≤ most → n < 2 ^ 128 → unsigned_fault most (unsigned_content n) ≡ None
+pub unsigned_fault-content : (most n : ℕ) → n ≤ most → n < 2 ^ 128 → unsigned_error most (unsigned_content n) ≡ None
 unfolding unsigned_content
 unsigned_fault-content most n h k = by_bytes (big_endian n) refl
   where
     small : IsSmall most (big_endian n)
     small = (length-big_endian 16 n k, rw (number-big_endian n) h)
 
-    by_bytes : (bs : List ℕ) → big_endian n ≡ bs → unsigned_fault most (positive bs) ≡ None
+    by_bytes : (bs : List ℕ) → big_endian n ≡ bs → unsigned_error most (positive bs) ≡ None
     by_bytes [] e = number_fault-small most (0 ∷ []) (omega arith, omega arith)
     by_bytes (b ∷ bs) e = unsigned_fault-positive most b bs (first-big_endian n b bs e) ∙ number_fault-small most (b ∷ bs) (subst (IsSmall most) e small)
 
@@ -225,17 +225,17 @@ content_high most b bs high p small =
     (sym (unsigned_content-number b bs (omega arith) p ∙ behind), small.1, number_below most (b ∷ bs) p small)
 
 -- what is read is the content of a number
-pub content-unsigned_fault : (most : ℕ) (bs : List ℕ) → AreBytes bs → unsigned_fault most bs ≡ None → (bs ≡ unsigned_content (number_from_digits 256 bs)) × (number_from_digits 256 bs ≤ most) × (number_from_digits 256 bs < 2 ^ 128)
+pub content-unsigned_fault : (most : ℕ) (bs : List ℕ) → AreBytes bs → unsigned_error most bs ≡ None → (bs ≡ unsigned_content (number_from_digits 256 bs)) × (number_from_digits 256 bs ≤ most) × (number_from_digits 256 bs < 2 ^ 128)
 content-unsigned_fault most [] p e = cc
 content-unsigned_fault most (b ∷ []) p e = by_tests (nat_lt b 0x80) (b == 0) refl refl e
   where
-    by_tests : (low none : Bool) → nat_lt b 0x80 ≡ low → (b == 0) ≡ none → cond low (number_fault most (b ∷ [])) (Some UnsupportedValue) ≡ None → IsContent most (b ∷ [])
+    by_tests : (low none : Bool) → nat_lt b 0x80 ≡ low → (b == 0) ≡ none → cond low (number_error most (b ∷ [])) (Some UnsupportedValue) ≡ None → IsContent most (b ∷ [])
     by_tests true true f g h = let is : b ≡ 0 = eqb-true b 0 g in rw is (content_zero most)
     by_tests true false f g h = content_low most b [] (omega (arith, eqb-false b 0 g)) (ltb-true b 0x80 f) p (small-number_fault most (b ∷ []) h)
     by_tests false none f g h = cc
 content-unsigned_fault most (b ∷ c ∷ bs) p e = by_tests (nat_lt b 0x80) (b == 0) (nat_lt c 0x80) refl refl refl e
   where
-    by_tests : (low none needless : Bool) → nat_lt b 0x80 ≡ low → (b == 0) ≡ none → nat_lt c 0x80 ≡ needless → cond low (cond none (cond needless (Some InvalidData) (number_fault most (c ∷ bs))) (number_fault most (b ∷ c ∷ bs))) (Some UnsupportedValue) ≡ None → IsContent most (b ∷ c ∷ bs)
+    by_tests : (low none needless : Bool) → nat_lt b 0x80 ≡ low → (b == 0) ≡ none → nat_lt c 0x80 ≡ needless → cond low (cond none (cond needless (Some InvalidData) (number_error most (c ∷ bs))) (number_error most (b ∷ c ∷ bs))) (Some UnsupportedValue) ≡ None → IsContent most (b ∷ c ∷ bs)
     by_tests true true false f g i h =
         let is : b ≡ 0 = eqb-true b 0 g in
         rw is (content_high most c bs (ltb-false c 0x80 i) p.1 (small-number_fault most (c ∷ bs) h))

@@ -11,13 +11,13 @@ IsOnceAtMost old new = (old ≤ new) × (new ≤ suc old)
 
 module _ {W : Type 0} (g : Ghosts W) where
   -- the writer failed once, and e says how
-  pub record Faulted (old : W) (e : Asn1DerError) (new : W) : Type 0 where
+  pub record WriterFails (old : W) (e : Asn1DerError) (new : W) : Type 0 where
     pub rose : g.faults new ≡ suc (g.faults old)
     pub kind : ErrorKind
     pub answered : g.answers kind
     pub is : e ≡ error_of_kind kind
 
   -- an answer that tells of each fault
-  pub once_at_most : {A : Type 0} (old new : W) (r : Result A Asn1DerError) → OnOk r (g.faults new ≡ g.faults old) → IfErr r (λ e. Faulted old e new) → IsOnceAtMost (g.faults old) (g.faults new)
+  pub once_at_most : {A : Type 0} (old new : W) (r : Result A Asn1DerError) → OnOk r (g.faults new ≡ g.faults old) → IfErr r (λ e. WriterFails old e new) → IsOnceAtMost (g.faults old) (g.faults new)
   once_at_most old new (Ok v) same f = (omega (arith, same), omega (arith, same))
   once_at_most old new (Err e) same f = (omega (arith, f.rose), omega (arith, f.rose))

@@ -8,7 +8,7 @@ use Rattle.picky_der_core.specs.Shape.{Shape, IsOf, AreOf, EachIs}
 use Rattle.picky_der_input.specs.State.{State}
 use Rattle.picky_der_input.specs.Steps.{Takes, IsJudged}
 use Rattle.picky_der_input.specs.Order.{AreInOrder, without_order}
-use Rattle.picky_der_de.specs.Members.{ReadsMember, RefusesMember, bytes_of, StandBefore, ReadsRow, RefusesRow}
+use Rattle.picky_der_de.specs.Members.{ReadsMember, RefusesMember, members_encoding, StandBefore, ReadsRow, RefusesRow}
 use Rattle.picky_der_de.specs.ArrayLaws.{times}
 use Rattle.picky_der_input.proofs.Steps.{takes_none, takes_then}
 use Rattle.picky_der_input.proofs.Order.{fails_behind, judged_behind}
@@ -25,7 +25,7 @@ RefusesTimes meaning n s old new e = RefusesRow (λ vs. trees (map meaning vs)) 
 pub times_refused : {V : Type 0} {meaning : V → Tree} {s : Shape} {c d : State} {e : Asn1DerError} (n : ℕ) → RefusesMember meaning s c d e → RefusesTimes meaning (suc n) s c d e
 times_refused {V} {meaning} {s} {c} {d} {e} n r = record { fails = r.fails; none = none }
   where
-    none : IsJudged c d e → (vs : List V) → AreOf (times (suc n) s) (trees (map meaning vs)) → AreReadable (trees (map meaning vs)) → AreInOrder c.sets (encodings (trees (map meaning vs))) → StandBefore c d e (bytes_of (trees (map meaning vs))) → ⊥
+    none : IsJudged c d e → (vs : List V) → AreOf (times (suc n) s) (trees (map meaning vs)) → AreReadable (trees (map meaning vs)) → AreInOrder c.sets (encodings (trees (map meaning vs))) → StandBefore c d e (members_encoding (trees (map meaning vs))) → ⊥
     none j [] of_shape readable order w = of_shape
     none j (v ∷ vs) of_shape readable order w = no_member v (trees (map meaning vs)) r j of_shape.0 readable.0 order w
 
@@ -33,7 +33,7 @@ times_refused {V} {meaning} {s} {c} {d} {e} n r = record { fails = r.fails; none
 pub times_next : {V : Type 0} {meaning : V → Tree} {s : Shape} {b c d : State} {t : Tree} {e : Asn1DerError} (n : ℕ) → ReadsMember s b c t → RefusesTimes meaning n s c d e → RefusesTimes meaning (suc n) s b d e
 times_next {V} {meaning} {s} {b} {c} {d} {t} {e} n r h = record { fails = fails_behind (takes_member r) h.fails; none = none }
   where
-    none : IsJudged b d e → (vs : List V) → AreOf (times (suc n) s) (trees (map meaning vs)) → AreReadable (trees (map meaning vs)) → AreInOrder b.sets (encodings (trees (map meaning vs))) → StandBefore b d e (bytes_of (trees (map meaning vs))) → ⊥
+    none : IsJudged b d e → (vs : List V) → AreOf (times (suc n) s) (trees (map meaning vs)) → AreReadable (trees (map meaning vs)) → AreInOrder b.sets (encodings (trees (map meaning vs))) → StandBefore b d e (members_encoding (trees (map meaning vs))) → ⊥
     none j [] of_shape readable order w = of_shape
     none j (v ∷ vs) of_shape readable order w =
         let us = trees (map meaning vs) in
@@ -45,7 +45,7 @@ pub record ReadsFirst {V : Type 0} (meaning : V → Tree) (s : Shape) (old new :
   pub of_shape : EachIs (IsOf s) (trees (map meaning vs))
   pub readable : AreReadable (trees (map meaning vs))
   pub leads : LeadOn meaning old new vs
-  pub takes : Takes (without_order old) (without_order new) (bytes_of (trees (map meaning vs)))
+  pub takes : Takes (without_order old) (without_order new) (members_encoding (trees (map meaning vs)))
   pub implicit_tag : new.implicit_tag ≡ None
   pub refuses : (n : ℕ) (d : State) (e : Asn1DerError) → RefusesTimes meaning n s new d e → RefusesTimes meaning (length vs + n) s old d e
 

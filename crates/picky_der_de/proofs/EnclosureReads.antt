@@ -17,7 +17,7 @@ use Rattle.picky_der_input.specs.Steps.{Takes, Fails, IsJudged, place_in, place_
 use Rattle.picky_der_input.specs.Reading.{Concerns, Reads, Refuses}
 use Rattle.picky_der_input.specs.Ends.{Outer, Closes}
 use Rattle.picky_der_input.specs.Order.{cut_at}
-use Rattle.picky_der_input.specs.Enclosures.{enclose, enclosure_tag, enclose_shape, unused_bits, implicit_number, with_outer_end, opening, OpensEnclosure, RefusesOpening, ReadsEnclosed, RefusesEnclosed, before_value, in_value, behind_value}
+use Rattle.picky_der_input.specs.Enclosures.{enclose, enclosure_tag, enclose_shape, unused_bits, implicit_number, with_outer_end, enclosure_opening, OpensEnclosure, RefusesOpening, ReadsEnclosed, RefusesEnclosed, before_value, in_value, behind_value}
 use Rattle.picky_der_input.proofs.Steps.{takes_then, fails_after, judged_after}
 use Rattle.picky_der_input.proofs.Refusals.{behind, failed_grows, end_below, taken_first}
 use Rattle.picky_der_input.proofs.Headers.{header_length, length_tlv}
@@ -180,7 +180,7 @@ reads_enclosed {s} {w} {a} {b} {c} {d} {outer} {closed} {t} o r k same =
     let inside : Takes b c part = subst (Takes b c) is r.takes in
     let within : c.taken ≤ outer.place = omega (arith, inside.taken, full, o.within) in
     let all = takes_then o.takes (restored_takes outer within inside) in
-    let bytes : opening w o.size ++ part ≡ written_at (place_of a) (enclose w t) =
+    let bytes : enclosure_opening w o.size ++ part ≡ written_at (place_of a) (enclose w t) =
     whole_enclosed (enclosure_tag w) o.size (unused_bits w) part (omega (arith, o.until_end, full)) ∙ sym (written_enclosed a.implicit_tag a.until_end b.until_end w t r.readable) in
     let end : d ≡ with_outer_end outer c = k.same ∙ ap (λ z. with_outer_end z c) same in
     let stands : MayStand (place_in (implicit_number w) b.until_end) t = subst (λ n. MayStand (place_in n b.until_end) t) o.implicit_tag r.may_stand in

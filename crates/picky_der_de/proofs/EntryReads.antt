@@ -37,7 +37,7 @@ left_of (Some b) r e = absurd (let q : Some b ≡ None = e in cc)
 told_fault : {before between after : List Fault} {seen left : Option (List ℕ)} {peeked : Option ℕ} {e : Asn1DerError} → TellsFault before between seen e → (between ≢ before → peeked ≡ None) → after ≡ between → seen ≡ in_front peeked left → TellsFault before after left e
 told_fault {before = before} {left = left} {peeked = peeked} (TellsFault.fault kind once is) unpeeked same front =
     let none = unpeeked (λ kept. not_more (sym once ∙ kept)) in
-    TellsFault.fault kind (same ∙ once ∙ ap (λ i. record { kind = kind; told = i } ∷ before) (front ∙ left_of peeked left none)) is
+    TellsFault.fault kind (same ∙ once ∙ ap (λ i. record { kind = kind; left = i } ∷ before) (front ∙ left_of peeked left none)) is
 told_fault (TellsFault.no_fault none) unpeeked same front = TellsFault.no_fault (same ∙ none)
 
 -- ---- what more bytes could mend
@@ -86,11 +86,11 @@ err_both P Q (Err e) p q = (p, q)
 one_tree : (s : Shape) → IsSound s → {bytes : List ℕ} {limit : ℕ} (t u : Tree) → StandsAt Place.whole s bytes limit t → StandsAt Place.whole s bytes limit u → t ≡ u
 one_tree s sound t u a b = (same_tree s sound t u a.of_shape b.of_shape a.readable b.readable a.front.rest b.front.rest (sym a.front.is ∙ b.front.is)).0
 
-abbrev begun : Reader → ℕ → List ℕ → State
-begun r limit references = fresh r.input limit r.faults references
+abbrev start_state : Reader → ℕ → List ℕ → State
+start_state r limit references = fresh r.input limit r.faults references
 
-module _ {V : Type 0} (meaning : V → Tree) (s : Shape) {old new : State} {references : List ℕ} {limit : ℕ} (before after : Reader) (is : old ≡ begun before limit references) (left : new.input ≡ in_front new.peeked after.input) (faults : after.faults ≡ new.faults) where
-  stands_of : (bytes : List ℕ) (t : Tree) → before.input ≡ Some bytes → Reads s (begun before limit references) new t → StandsAt Place.whole s bytes limit t
+module _ {V : Type 0} (meaning : V → Tree) (s : Shape) {old new : State} {references : List ℕ} {limit : ℕ} (before after : Reader) (is : old ≡ start_state before limit references) (left : new.input ≡ in_front new.peeked after.input) (faults : after.faults ≡ new.faults) where
+  stands_of : (bytes : List ℕ) (t : Tree) → before.input ≡ Some bytes → Reads s (start_state before limit references) new t → StandsAt Place.whole s bytes limit t
   stands_of bytes t k r =
       let front = consumed before.input new.input (der t) bytes r.takes.input k in
       record { of_shape = r.of_shape; readable = r.readable; may_stand = tt; within = omega (arith, r.takes.until_end); front = record { rest = front.0; is = front.2 } }
@@ -98,7 +98,7 @@ module _ {V : Type 0} (meaning : V → Tree) (s : Shape) {old new : State} {refe
   -- the value that was read is the one at the front
   pub reads_front : (eq : V → V → Bool) → IsSound s → IsInjective meaning s eq → (v : V) → Reads s old new (meaning v) → ReadsFront meaning s eq limit before after v
   reads_front eq sound known v read =
-      let r : Reads s (begun before limit references) new (meaning v) = subst (λ o. Reads s o new (meaning v)) is read in
+      let r : Reads s (start_state before limit references) new (meaning v) = subst (λ o. Reads s o new (meaning v)) is read in
       record {
         of_shape = r.of_shape;
         readable = r.readable;
@@ -112,7 +112,7 @@ module _ {V : Type 0} (meaning : V → Tree) (s : Shape) {old new : State} {refe
         faults = faults ∙ r.takes.faults;
       }
 
-  draws : {e : Asn1DerError} → Refuses meaning s (begun before limit references) new e → Draws limit before.input after.input
+  draws : {e : Asn1DerError} → Refuses meaning s (start_state before limit references) new e → Draws limit before.input after.input
   draws h =
       let took = h.fails.took in
       let d = drawn_in_front before.input after.input new.peeked took.bytes (subst (λ i. Consumes before.input i took.bytes) left took.input) in
@@ -120,7 +120,7 @@ module _ {V : Type 0} (meaning : V → Tree) (s : Shape) {old new : State} {refe
       record { bytes = d.0; are = d.2; within = omega (arith, d.1, took.count, all.drawn, h.fails.limit) }
 
   -- as many bytes were drawn as are gone from the reader
-  gone : {e : Asn1DerError} → Refuses meaning s (begun before limit references) new e → (d rest : List ℕ) → before.input ≡ Some (d ++ rest) → after.input ≡ Some rest → length d + 0 ≡ new.taken + count_of_any new.peeked
+  gone : {e : Asn1DerError} → Refuses meaning s (start_state before limit references) new e → (d rest : List ℕ) → before.input ≡ Some (d ++ rest) → after.input ≡ Some rest → length d + 0 ≡ new.taken + count_of_any new.peeked
   gone h d rest k still =
       let took = h.fails.took in
       let x = drawn_in_front before.input after.input new.peeked took.bytes (subst (λ i. Consumes before.input i took.bytes) left took.input) in
@@ -128,11 +128,11 @@ module _ {V : Type 0} (meaning : V → Tree) (s : Shape) {old new : State} {refe
       omega (arith, x.1, took.count, length-append d rest, length-append x.0 rest, ap length same)
 
   -- no bytes behind those that were drawn make a value, unless more bytes are asked for
-  final : {e : Asn1DerError} → Refuses meaning s (begun before limit references) new e → new.faults ≡ before.faults → e ≢ OutOfMemory → (d rest : List ℕ) → before.input ≡ Some (d ++ rest) → after.input ≡ Some rest → IsMendable meaning s Place.whole d any_length → e ≡ TruncatedData
+  final : {e : Asn1DerError} → Refuses meaning s (start_state before limit references) new e → new.faults ≡ before.faults → e ≢ OutOfMemory → (d rest : List ℕ) → before.input ≡ Some (d ++ rest) → after.input ≡ Some rest → IsMendable meaning s Place.whole d any_length → e ≡ TruncatedData
   final {e} h same memory d rest k still m =
       let t = meaning m.value in
       let drawn = gone h d rest k still in
-      let judged : IsJudged (begun before limit references) new e = record { had_not_failed = refl; faults = same; memory = memory } in
+      let judged : IsJudged (start_state before limit references) new e = record { had_not_failed = refl; faults = same; memory = memory } in
       unless_truncated e (λ other. elim m.agrees [
         | inl p ↦ h.none judged any_length d (ever other refl d [] rest k drawn (sym (append-nil d))) m.value (record { of_shape = m.of_shape; readable = m.readable; may_stand = tt; within = m.within; front = p })
         | inr p ↦ h.none judged any_length (der t) (ever other refl d p.rest rest k drawn p.is) m.value (record { of_shape = m.of_shape; readable = m.readable; may_stand = tt; within = m.within; front = record { rest = []; is = sym (append-nil (der t)) } })
@@ -141,7 +141,7 @@ module _ {V : Type 0} (meaning : V → Tree) (s : Shape) {old new : State} {refe
   -- where none was read, none stands
   pub refuses_front : {e : Asn1DerError} → Refuses meaning s old new e → RefusesFront meaning s limit before after e
   refuses_front {e} refused =
-      let h : Refuses meaning s (begun before limit references) new e = subst (λ o. Refuses meaning s o new e) is refused in
+      let h : Refuses meaning s (start_state before limit references) new e = subst (λ o. Refuses meaning s o new e) is refused in
       record {
         none = λ same memory bytes k v stands. h.none (record { had_not_failed = refl; faults = sym faults ∙ same; memory = memory }) limit bytes (now k refl) v stands;
         final = λ same memory d rest k still m. final h (sym faults ∙ same) memory d rest k still m;
@@ -156,7 +156,7 @@ module _ {V : Type 0} (meaning : V → Tree) (s : Shape) {old new : State} {refe
   refuses_next_value {e} refused ahead = record {
     refuses = refuses_front refused;
     ahead = λ until_end same memory none.
-        let some : IsJudged (begun before limit references) new e → 0 < limit → IfSome before.input (λ bytes. 0 < length bytes) = subst (λ (o : State). IsJudged o new e → 0 < o.until_end → IfSome o.input (λ bytes. 0 < length bytes)) is ahead in
+        let some : IsJudged (start_state before limit references) new e → 0 < limit → IfSome before.input (λ bytes. 0 < length bytes) = subst (λ (o : State). IsJudged o new e → 0 < o.until_end → IfSome o.input (λ bytes. 0 < length bytes)) is ahead in
         let bytes : IfSome (Some []) (λ (bytes : List ℕ). 0 < length bytes) = subst (λ i. IfSome i (λ bytes. 0 < length bytes)) none (some (record { had_not_failed = refl; faults = sym faults ∙ same; memory = memory }) until_end) in
         omega (arith, bytes);
   }

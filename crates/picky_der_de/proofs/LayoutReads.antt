@@ -19,7 +19,7 @@ use Rattle.picky_der_input.specs.LookAhead.{Peeks, IdentifiesIn, Identifies}
 use Rattle.picky_der_ser.specs.Meaning.{maybe_more}
 use Rattle.picky_der_ser.specs.Defaults.{IsByTree}
 use Rattle.picky_der_de.specs.Firsts.{IsBegunBy}
-use Rattle.picky_der_de.specs.Members.{ReadsMember, RefusesMember, bytes_of, StandUpToEnd}
+use Rattle.picky_der_de.specs.Members.{ReadsMember, RefusesMember, members_encoding, StandUpToEnd}
 use Rattle.picky_der_de.specs.Layouts.{Presence, always, perhaps, place_then, RefusesComponent, Lacks, no_more, begins_otherwise, RefusesOptional, no_tag, no_member, RefusesDefault, as_optional, written_out, Rests, same, looked, Passes, ReadsLayout, RefusesLayout, AreBegunBy}
 use Rattle.picky_der_de.specs.LayoutLaws.{IsThere, IsComponent, AreComponents, is_there, is_missing}
 use Rattle.picky_der_input.proofs.Steps.{takes_none, takes_then}
@@ -109,22 +109,22 @@ module _ {b c : State} {x : ℕ} (p : Peeks b c x) where
       cc
 
   -- no member stands there whose shape begins otherwise
-  not_there : (s : Shape) {d : State} {e : Asn1DerError} (u : Tree) (us : Trees) → (IsFirst s x → ⊥) → Fails c d e → IsOf s u → IsReadable u → StandUpToEnd b d e (bytes_of (Trees.more u us)) → ⊥
+  not_there : (s : Shape) {d : State} {e : Asn1DerError} (u : Tree) (us : Trees) → (IsFirst s x → ⊥) → Fails c d e → IsOf s u → IsReadable u → StandUpToEnd b d e (members_encoding (Trees.more u us)) → ⊥
   not_there s u us other f o r w =
       let h = begins_in s u o r in
-      let is : bytes_of (Trees.more u us) ≡ h.first ∷ (h.others ++ bytes_of us) = bytes_of-more u us ∙ ap (λ z. z ++ bytes_of us) h.is in
+      let is : members_encoding (Trees.more u us) ≡ h.first ∷ (h.others ++ members_encoding us) = bytes_of-more u us ∙ ap (λ z. z ++ members_encoding us) h.is in
       other (subst (λ z. has (firsts s) z ≡ true) (first_is f w is) h.listed)
 
   -- a member that may be missing isn't, where the next byte is one of its first
-  not_missing : (s : Shape) (l : Layout) {d : State} {e : Asn1DerError} (us : Trees) → are_apart (firsts s) (next_firsts l) ≡ true → IsFirst s x → Fails c d e → AreMembersOf l us → AreReadable us → StandUpToEnd b d e (bytes_of us) → ⊥
+  not_missing : (s : Shape) (l : Layout) {d : State} {e : Asn1DerError} (us : Trees) → are_apart (firsts s) (next_firsts l) ≡ true → IsFirst s x → Fails c d e → AreMembersOf l us → AreReadable us → StandUpToEnd b d e (members_encoding us) → ⊥
   not_missing s l Trees.none apart own f are readable w = none_left p.ahead w
   not_missing s l (Trees.more u us) apart own f are readable w =
       let h = begins_next l u us are readable.0 in
-      let is : bytes_of (Trees.more u us) ≡ h.first ∷ (h.others ++ bytes_of us) = bytes_of-more u us ∙ ap (λ z. z ++ bytes_of us) h.is in
+      let is : members_encoding (Trees.more u us) ≡ h.first ∷ (h.others ++ members_encoding us) = bytes_of-more u us ∙ ap (λ z. z ++ members_encoding us) h.is in
       apart_has x (firsts s) (next_firsts l) apart own (subst (λ z. has (next_firsts l) z ≡ true) (first_is f w is) h.listed)
 
 -- nor where it was read
-not_missing_read : (s : Shape) (l : Layout) {b c d : State} {t : Tree} {e : Asn1DerError} (us : Trees) → are_apart (firsts s) (next_firsts l) ≡ true → ReadsMember s b c t → Fails c d e → AreMembersOf l us → AreReadable us → StandUpToEnd b d e (bytes_of us) → ⊥
+not_missing_read : (s : Shape) (l : Layout) {b c d : State} {t : Tree} {e : Asn1DerError} (us : Trees) → are_apart (firsts s) (next_firsts l) ≡ true → ReadsMember s b c t → Fails c d e → AreMembersOf l us → AreReadable us → StandUpToEnd b d e (members_encoding us) → ⊥
 not_missing_read s l Trees.none apart r f are readable w = none_left (member_ahead r) w
 not_missing_read s l {t = t} (Trees.more u us) apart r f are readable w =
     let h = begins_next l u us are readable.0 in
@@ -134,8 +134,8 @@ not_missing_read s l {t = t} (Trees.more u us) apart r f are readable w =
     apart_has k.first (firsts s) (next_firsts l) apart k.listed (subst (λ z. has (next_firsts l) z ≡ true) first h.listed)
 
 -- no member stands at the end
-nothing_there : {b d : State} {e : Asn1DerError} (u : Tree) (us : Trees) → b.until_end ≡ 0 → IsReadable u → StandUpToEnd b d e (bytes_of (Trees.more u us)) → ⊥
-nothing_there u us z r w = omega (arith, z, w.fills, ap length (bytes_of-more u us), length-append (der u) (bytes_of us), length-der u r)
+nothing_there : {b d : State} {e : Asn1DerError} (u : Tree) (us : Trees) → b.until_end ≡ 0 → IsReadable u → StandUpToEnd b d e (members_encoding (Trees.more u us)) → ⊥
+nothing_there u us z r w = omega (arith, z, w.fills, ap length (bytes_of-more u us), length-append (der u) (members_encoding us), length-der u r)
 
 -- ---- no members
 
@@ -153,7 +153,7 @@ layout_none {b} d = record {
   nothing {a} (same e f g) = takes_none (without_order a) f g
   nothing {a} (looked x g p) = takes_none (without_order a) p.had_not_failed g
 
-  full : {last : State} {e : Asn1DerError} (us : Trees) → AreMembersOf Layout.empty us → 0 < b.until_end → StandUpToEnd b last e (bytes_of us) → ⊥
+  full : {last : State} {e : Asn1DerError} (us : Trees) → AreMembersOf Layout.empty us → 0 < b.until_end → StandUpToEnd b last e (members_encoding us) → ⊥
   full Trees.none are left w = none_left left w
   full (Trees.more t ts) are left w = absurd are
 
@@ -162,11 +162,11 @@ layout_none {b} d = record {
 module _ {V W : Type 0} (meaning : W → Tree) {s : Shape} {l : Layout} (item : V → Option W) (there : (v : V) → IfNone (item v) ⊥) where
   -- refused, whatever is there and whatever is behind it
   always_refused : (others : V → Trees) {b d : State} {e : Asn1DerError} → Fails b d e
-      → (AreMembersTold l → IsJudged b d e → (v : V) (w : W) → IsOf s (meaning w) → AreMembersOf l (others v) → IsReadable (meaning w) → AreReadable (others v) → AreInOrder b.sets (encodings (Trees.more (meaning w) (others v))) → StandUpToEnd b d e (bytes_of (Trees.more (meaning w) (others v))) → ⊥)
+      → (AreMembersTold l → IsJudged b d e → (v : V) (w : W) → IsOf s (meaning w) → AreMembersOf l (others v) → IsReadable (meaning w) → AreReadable (others v) → AreInOrder b.sets (encodings (Trees.more (meaning w) (others v))) → StandUpToEnd b d e (members_encoding (Trees.more (meaning w) (others v))) → ⊥)
       → RefusesLayout (λ v. maybe_more meaning (item v) (others v)) (Layout.required s l) b d e
   always_refused others {b} {d} {e} fails none = record { fails = fails; none = λ told j v. by_option told j v (item v) (there v) }
     where
-      by_option : AreMembersTold l → IsJudged b d e → (v : V) (o : Option W) → IfNone o ⊥ → AreMembersOf (Layout.required s l) (maybe_more meaning o (others v)) → AreReadable (maybe_more meaning o (others v)) → AreInOrder b.sets (encodings (maybe_more meaning o (others v))) → StandUpToEnd b d e (bytes_of (maybe_more meaning o (others v))) → ⊥
+      by_option : AreMembersTold l → IsJudged b d e → (v : V) (o : Option W) → IfNone o ⊥ → AreMembersOf (Layout.required s l) (maybe_more meaning o (others v)) → AreReadable (maybe_more meaning o (others v)) → AreInOrder b.sets (encodings (maybe_more meaning o (others v))) → StandUpToEnd b d e (members_encoding (maybe_more meaning o (others v))) → ⊥
       by_option told j v None t are readable order w = t
       by_option told j v (Some x) t are readable order w = none told j v x are.0 are.1 readable.0 readable.1 order w
 
@@ -178,7 +178,7 @@ module _ {V W : Type 0} (meaning : W → Tree) {s : Shape} {l : Layout} (item : 
       (λ told j v x of_shape are readable behind order w.
       h.none told (judged_behind (takes_member r) j) (rest v) are behind (next_order (meaning x) (others (rest v)) readable r h.fails w.stand order) (next_up_to_end (meaning x) (others (rest v)) readable r h.fails w))
 
-member_then : {s : Shape} {l : Layout} {a b c d : State} {t : Tree} {ts : Trees} → Rests a b → ReadsMember s b c t → ReadsLayout l c d ts → Passes a d (bytes_of (Trees.more t ts))
+member_then : {s : Shape} {l : Layout} {a b c d : State} {t : Tree} {ts : Trees} → Rests a b → ReadsMember s b c t → ReadsLayout l c d ts → Passes a d (members_encoding (Trees.more t ts))
 member_then {a = a} {c = c} {d = d} {t = t} {ts = ts} q r h =
     let m = takes_member r in
     let p = h.passes c (rests_here m.not_failed m.unpeeked) in
@@ -194,7 +194,7 @@ required_read {s} {l} {b} {c} {d} {t} {ts} r h = record {
   fails = λ last e f. fails_behind (takes_member r) (h.fails last e f);
   full = λ told last e f left us are readable w. full told f left us are readable w;
 } where
-  full : AreMembersTold l → {last : State} {e : Asn1DerError} → Fails d last e → 0 < d.until_end → (us : Trees) → AreMembersOf (Layout.required s l) us → AreReadable us → StandUpToEnd b last e (bytes_of us) → ⊥
+  full : AreMembersTold l → {last : State} {e : Asn1DerError} → Fails d last e → 0 < d.until_end → (us : Trees) → AreMembersOf (Layout.required s l) us → AreReadable us → StandUpToEnd b last e (members_encoding us) → ⊥
   full told f left Trees.none are readable w = absurd are
   full told {last} {e} f left (Trees.more u us) are readable w =
       h.full told last e f left us are.1 readable.1 (next_up_to_end u us readable.0 r (h.fails last e f) w)
@@ -215,7 +215,7 @@ module _ {V W U : Type 0} (meaning : W → Tree) (others : U → Trees) (s : Sha
 
   -- members that stand in order
   abbrev Stand : State → State → Asn1DerError → Trees → Type 0
-  Stand b d e ts = AreInOrder b.sets (encodings ts) × StandUpToEnd b d e (bytes_of ts)
+  Stand b d e ts = AreInOrder b.sets (encodings ts) × StandUpToEnd b d e (members_encoding ts)
 
   refused_by : {b d : State} {e : Asn1DerError} → Fails b d e
       → (AreMembersTold (Layout.maybe s l) → IsJudged b d e → (w : W) (u : U) → IsOf s (meaning w) → AreMembersOf l (others u) → AreReadable (Trees.more (meaning w) (others u)) → Stand b d e (Trees.more (meaning w) (others u)) → ⊥)
@@ -255,7 +255,7 @@ record Skips (s : Shape) (b c : State) : Type 0 where
   stands : (d : State) (e : Asn1DerError) (bytes : List ℕ) → StandUpToEnd b d e bytes → StandUpToEnd c d e bytes
   sets : c.sets ≡ b.sets
   rests : (a : State) → Rests a b → Rests a c
-  not : (d : State) (e : Asn1DerError) (u : Tree) (us : Trees) → Fails c d e → IsOf s u → IsReadable u → StandUpToEnd b d e (bytes_of (Trees.more u us)) → ⊥
+  not : (d : State) (e : Asn1DerError) (u : Tree) (us : Trees) → Fails c d e → IsOf s u → IsReadable u → StandUpToEnd b d e (members_encoding (Trees.more u us)) → ⊥
 
 skips : {s : Shape} {b c : State} → b.implicit_tag ≡ None → Lacks s b c → Skips s b c
 skips {b = b} whole (no_more h) = record {
@@ -284,7 +284,7 @@ missing_next meaning others s l part rest begins begin {b} {c} {d} {e} whole h n
     let k : Skips s b c = skips whole h in
     refused_by meaning others s l part rest begins begin (k.fails d e n.fails)
     (λ told j w u o a readable st. k.not d e (meaning w) (others u) n.fails o readable.0 st.1)
-    (λ told j u a readable st. n.none told.1 (k.judged d e j) u a readable (subst (λ x. AreInOrder x (encodings (others u))) (sym k.sets) st.0) (k.stands d e (bytes_of (others u)) st.1))
+    (λ told j u a readable st. n.none told.1 (k.judged d e j) u a readable (subst (λ x. AreInOrder x (encodings (others u))) (sym k.sets) st.0) (k.stands d e (members_encoding (others u)) st.1))
 
 -- it was read, and those behind it
 there_read : {s : Shape} {l : Layout} {b c d : State} {t : Tree} {ts : Trees} → ReadsMember s b c t → ReadsLayout l c d ts → ReadsLayout (Layout.maybe s l) b d (Trees.more t ts)
@@ -297,7 +297,7 @@ there_read {s} {l} {b} {c} {d} {t} {ts} r h = record {
   fails = λ last e f. fails_behind (takes_member r) (h.fails last e f);
   full = λ told last e f left us are readable w. full told f left us are readable w;
 } where
-  full : AreMembersTold (Layout.maybe s l) → {last : State} {e : Asn1DerError} → Fails d last e → 0 < d.until_end → (us : Trees) → AreMembersOf (Layout.maybe s l) us → AreReadable us → StandUpToEnd b last e (bytes_of us) → ⊥
+  full : AreMembersTold (Layout.maybe s l) → {last : State} {e : Asn1DerError} → Fails d last e → 0 < d.until_end → (us : Trees) → AreMembersOf (Layout.maybe s l) us → AreReadable us → StandUpToEnd b last e (members_encoding us) → ⊥
   full told {last} {e} f left us (inr are) readable w = not_missing_read s l us told.0 r (h.fails last e f) are readable w
   full told f left Trees.none (inl are) readable w = absurd are
   full told {last} {e} f left (Trees.more u us) (inl are) readable w =
@@ -317,8 +317,8 @@ missing_read {s} {l} {b} {c} {d} {ts} whole h n =
       full = λ told last e f left us are readable w. full k told f left us are readable w;
     }
   where
-    full : Skips s b c → AreMembersTold (Layout.maybe s l) → {last : State} {e : Asn1DerError} → Fails d last e → 0 < d.until_end → (us : Trees) → AreMembersOf (Layout.maybe s l) us → AreReadable us → StandUpToEnd b last e (bytes_of us) → ⊥
-    full k told {last} {e} f left us (inr are) readable w = n.full told.1 last e f left us are readable (k.stands last e (bytes_of us) w)
+    full : Skips s b c → AreMembersTold (Layout.maybe s l) → {last : State} {e : Asn1DerError} → Fails d last e → 0 < d.until_end → (us : Trees) → AreMembersOf (Layout.maybe s l) us → AreReadable us → StandUpToEnd b last e (members_encoding us) → ⊥
+    full k told {last} {e} f left us (inr are) readable w = n.full told.1 last e f left us are readable (k.stands last e (members_encoding us) w)
     full k told f left Trees.none (inl are) readable w = absurd are
     full k told {last} {e} f left (Trees.more u us) (inl are) readable w = k.not last e u us (n.fails last e f) are.0 readable.0 w
 
@@ -340,7 +340,7 @@ module _ {V W U : Type 0} (meaning : W → Tree) (left_out : W → Bool) (others
     (begins : (w : W) → IsBegunBy (firsts s) (meaning w)) (begin : (u : U) → AreBegunBy (next_firsts l) (others u)) where
   -- the default stands there, and in no row
   out_of_place : {b c d : State} {e : Asn1DerError} (x : W) → IsTrue (left_out x) → ReadsMember s b c (meaning x) → Fails c d e → AreMembersTold (Layout.maybe s l) → (o : Option W) (u : U) → IfSome o (λ w. left_out w ≡ false)
-      → AreMembersOf (Layout.maybe s l) (maybe_more meaning o (others u)) → AreReadable (maybe_more meaning o (others u)) → StandUpToEnd b d e (bytes_of (maybe_more meaning o (others u))) → ⊥
+      → AreMembersOf (Layout.maybe s l) (maybe_more meaning o (others u)) → AreReadable (maybe_more meaning o (others u)) → StandUpToEnd b d e (members_encoding (maybe_more meaning o (others u))) → ⊥
   out_of_place x is r f told None u q are readable w = not_missing_read s l (others u) told.0 r f (is_missing s l told.0 (others u) (begin u) readable are) readable w
   out_of_place x is r f told (Some y) u q are readable w =
       let there = is_there s l told.0 (meaning y) (others u) (begins y) readable.0 are in
@@ -363,7 +363,7 @@ refuses_alike : {V : Type 0} {members others : V → Trees} {l : Layout} {b d : 
 refuses_alike {l = l} {b = b} {d = d} {e = e} is h = record {
   fails = h.fails;
   none = λ told j v are readable order w.
-      h.none told j v (subst (AreMembersOf l) (is v) are) (subst AreReadable (is v) readable) (subst (λ ts. AreInOrder b.sets (encodings ts)) (is v) order) (subst (λ ts. StandUpToEnd b d e (bytes_of ts)) (is v) w);
+      h.none told j v (subst (AreMembersOf l) (is v) are) (subst AreReadable (is v) readable) (subst (λ ts. AreInOrder b.sets (encodings ts)) (is v) order) (subst (λ ts. StandUpToEnd b d e (members_encoding ts)) (is v) w);
 }
 
 module _ {W X : Type 0} {presence : Presence} {in_front : X → Trees → Trees} {eq : X → X → Bool} {meaning : W → Tree} {s : Shape} {eq_item : W → W → Bool} {item : X → Option W} {left_out : W → Bool}
@@ -422,5 +422,5 @@ layout_left {members = members} {l = l} {kind = kind} {b = b} {d = d} {e = e} to
 pub layout_reads : {l : Layout} {kind : ListKind} {a b c d : State} {outer closed : Outer} {ts : Trees} → OpensList (list_tag kind) a b outer → ReadsLayout l b c ts → Closes closed c d → closed ≡ outer → Reads (Shape.struct_of kind l) a d (Tree.list kind ts)
 layout_reads {kind = kind} {b = b} {ts = ts} o r k back =
     let q = r.passes b (opened_rests kind o) in
-    let takes = subst (λ z. Takes (without_order b) (without_order z) (bytes_of ts)) (sym (rested q.rests k.reached)) q.takes in
+    let takes = subst (λ z. Takes (without_order b) (without_order z) (members_encoding ts)) (sym (rested q.rests k.reached)) q.takes in
     list_reads ts o r.order takes r.implicit_tag k back (refl, r.are) r.readable

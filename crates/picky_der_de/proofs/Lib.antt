@@ -6,7 +6,7 @@ pub mod Choices
 pub mod OtherValues
 pub mod Members
 pub mod Rows
-pub mod Asked
+pub mod PassedOn
 pub mod Rests
 pub mod LayoutReads
 pub mod ListReads

@@ -13,22 +13,22 @@ use Rattle.picky_der_input.specs.Steps.{Takes, Fails, IsJudged}
 use Rattle.picky_der_input.specs.Order.{AreInOrder, without_order}
 use Rattle.picky_der_input.specs.Reading.{Reads, Refuses}
 use Rattle.picky_der_input.specs.Ends.{Outer, Closes, RefusesClose, OpensList, RefusesList}
-use Rattle.picky_der_de.specs.Members.{ReadsMember, RefusesMember, HasNoMore, bytes_of, StandBefore, StandUpToEnd, BreaksOrder, RefusesTaken, ReadsAll, RefusesAll}
+use Rattle.picky_der_de.specs.Members.{ReadsMember, RefusesMember, HasNoMore, members_encoding, StandBefore, StandUpToEnd, BreaksOrder, RefusesTaken, ReadsAll, RefusesAll}
 use Rattle.picky_der_input.proofs.Steps.{takes_none, takes_then}
 use Rattle.picky_der_input.proofs.Order.{fails_behind, judged_behind, order_none}
 use Rattle.picky_der_de.proofs.Members.{bytes_of-more, bytes_of-none, takes_member, member_not_implicit, member_leads, member_ahead, next_order, next_member, next_up_to_end, same_member, order_ahead, order_behind, no_members_in_order, no_member, no_member_in_order, member_refused_less, none_left, list_refused, list_unopened, list_reads}
 
 -- ---- one member more behind others
 
-bytes_of-one : (t : Tree) → bytes_of (Trees.more t Trees.none) ≡ der t
+bytes_of-one : (t : Tree) → members_encoding (Trees.more t Trees.none) ≡ der t
 bytes_of-one t = bytes_of-more t Trees.none ∙ ap (λ x. der t ++ x) bytes_of-none ∙ append-nil (der t)
 
-pub bytes_of-push : {V : Type 0} (meaning : V → Tree) (vs : List V) (v : V) → bytes_of (trees (map meaning (vs ++ v ∷ []))) ≡ bytes_of (trees (map meaning vs)) ++ der (meaning v)
+pub bytes_of-push : {V : Type 0} (meaning : V → Tree) (vs : List V) (v : V) → members_encoding (trees (map meaning (vs ++ v ∷ []))) ≡ members_encoding (trees (map meaning vs)) ++ der (meaning v)
 bytes_of-push meaning [] v = bytes_of-more (meaning v) Trees.none ∙ ap (λ x. der (meaning v) ++ x) bytes_of-none ∙ append-nil (der (meaning v)) ∙ ap (λ x. x ++ der (meaning v)) (sym bytes_of-none)
 bytes_of-push meaning (w ∷ vs) v =
     bytes_of-more (meaning w) (trees (map meaning (vs ++ v ∷ [])))
     ∙ ap (λ x. der (meaning w) ++ x) (bytes_of-push meaning vs v)
-    ∙ sym (append_assoc (der (meaning w)) (bytes_of (trees (map meaning vs))) (der (meaning v)))
+    ∙ sym (append_assoc (der (meaning w)) (members_encoding (trees (map meaning vs))) (der (meaning v)))
     ∙ ap (λ x. x ++ der (meaning v)) (sym (bytes_of-more (meaning w) (trees (map meaning vs))))
 
 pub each-push : {V : Type 0} (meaning : V → Tree) (P : Tree → Type 0) (vs : List V) (v : V) → EachIs P (trees (map meaning vs)) → P (meaning v) → EachIs P (trees (map meaning (vs ++ v ∷ [])))
@@ -64,11 +64,11 @@ leads-all meaning a b vs h = subst (AreInOrder a.sets) (append-nil (encodings (t
 pub all_refused : {V : Type 0} {meaning : V → Tree} {s : Shape} {c d : State} {e : Asn1DerError} → RefusesMember meaning s c d e → (c.failed ≡ None → 0 < c.until_end) → RefusesAll meaning s c d e
 all_refused {V} {meaning} {s} {c} {d} {e} r ahead = record { fails = r.fails; lesser = lesser; none = none }
   where
-    lesser : IsJudged c d e → (vs : List V) (v : V) → BreaksOrder meaning s (AreInOrder c.sets) vs v → StandBefore c d e (bytes_of (trees (map meaning (vs ++ v ∷ [])))) → RefusesTaken c d e (bytes_of (trees (map meaning (vs ++ v ∷ []))))
+    lesser : IsJudged c d e → (vs : List V) (v : V) → BreaksOrder meaning s (AreInOrder c.sets) vs v → StandBefore c d e (members_encoding (trees (map meaning (vs ++ v ∷ [])))) → RefusesTaken c d e (members_encoding (trees (map meaning (vs ++ v ∷ []))))
     lesser j [] v h w = subst (RefusesTaken c d e) (sym (bytes_of-one (meaning v))) (member_refused_less v Trees.none r j h.of_shape.0 h.readable.0 w).taken
     lesser j (u ∷ us) v h w = absurd (no_member_in_order u (trees (map meaning (us ++ v ∷ []))) (trees (map meaning us)) r j h.of_shape.0 h.readable.0 h.in_order w)
 
-    none : IsJudged c d e → (vs : List V) → EachIs (IsOf s) (trees (map meaning vs)) → AreReadable (trees (map meaning vs)) → AreInOrder c.sets (encodings (trees (map meaning vs))) → StandUpToEnd c d e (bytes_of (trees (map meaning vs))) → ⊥
+    none : IsJudged c d e → (vs : List V) → EachIs (IsOf s) (trees (map meaning vs)) → AreReadable (trees (map meaning vs)) → AreInOrder c.sets (encodings (trees (map meaning vs))) → StandUpToEnd c d e (members_encoding (trees (map meaning vs))) → ⊥
     none j [] of_shape readable order w = none_left (ahead j.had_not_failed) w
     none j (v ∷ vs) of_shape readable order w = no_member v (trees (map meaning vs)) r j of_shape.0 readable.0 order w.stand
 
@@ -76,7 +76,7 @@ all_refused {V} {meaning} {s} {c} {d} {e} r ahead = record { fails = r.fails; le
 pub all_next : {V : Type 0} {meaning : V → Tree} {s : Shape} {b c d : State} {t : Tree} {e : Asn1DerError} → ReadsMember s b c t → RefusesAll meaning s c d e → RefusesAll meaning s b d e
 all_next {V} {meaning} {s} {b} {c} {d} {t} {e} r h = record { fails = fails_behind (takes_member r) h.fails; lesser = lesser; none = none }
   where
-    lesser : IsJudged b d e → (vs : List V) (v : V) → BreaksOrder meaning s (AreInOrder b.sets) vs v → StandBefore b d e (bytes_of (trees (map meaning (vs ++ v ∷ [])))) → RefusesTaken b d e (bytes_of (trees (map meaning (vs ++ v ∷ []))))
+    lesser : IsJudged b d e → (vs : List V) (v : V) → BreaksOrder meaning s (AreInOrder b.sets) vs v → StandBefore b d e (members_encoding (trees (map meaning (vs ++ v ∷ [])))) → RefusesTaken b d e (members_encoding (trees (map meaning (vs ++ v ∷ []))))
     lesser j [] v k w =
         let same = (same_member (meaning v) Trees.none k.readable.0 r h.fails w).0 in
         absurd (k.broken (order_ahead (meaning v) Trees.none same r (no_members_in_order c.sets)))
@@ -90,10 +90,10 @@ all_next {V} {meaning} {s} {b} {c} {d} {t} {e} r h = record { fails = fails_behi
           broken = λ o. k.broken (order_ahead (meaning u) others same r o);
         } in
         let q = h.lesser (judged_behind (takes_member r) j) us v rest (next_member (meaning u) others k.readable.0 r h.fails w) in
-        let parts : bytes_of (Trees.more (meaning u) others) ≡ der t ++ bytes_of others = bytes_of-more (meaning u) others ∙ ap (λ x. x ++ bytes_of others) same in
+        let parts : members_encoding (Trees.more (meaning u) others) ≡ der t ++ members_encoding others = bytes_of-more (meaning u) others ∙ ap (λ x. x ++ members_encoding others) same in
         record { mid = q.mid; takes = subst (Takes (without_order b) (without_order q.mid)) (sym parts) (takes_then (takes_member r) q.takes); error = q.error; same = q.same }
 
-    none : IsJudged b d e → (vs : List V) → EachIs (IsOf s) (trees (map meaning vs)) → AreReadable (trees (map meaning vs)) → AreInOrder b.sets (encodings (trees (map meaning vs))) → StandUpToEnd b d e (bytes_of (trees (map meaning vs))) → ⊥
+    none : IsJudged b d e → (vs : List V) → EachIs (IsOf s) (trees (map meaning vs)) → AreReadable (trees (map meaning vs)) → AreInOrder b.sets (encodings (trees (map meaning vs))) → StandUpToEnd b d e (members_encoding (trees (map meaning vs))) → ⊥
     none j [] of_shape readable order w = none_left (member_ahead r) w
     none j (v ∷ vs) of_shape readable order w =
         let us = trees (map meaning vs) in
@@ -109,7 +109,7 @@ pub record ReadsSome {V : Type 0} (meaning : V → Tree) (s : Shape) (old new : 
   pub of_shape : EachIs (IsOf s) (trees (map meaning vs))
   pub readable : AreReadable (trees (map meaning vs))
   pub leads : LeadOn meaning old new vs
-  pub takes : Takes (without_order old) (without_order new) (bytes_of (trees (map meaning vs)))
+  pub takes : Takes (without_order old) (without_order new) (members_encoding (trees (map meaning vs)))
   pub implicit_tag : new.implicit_tag ≡ None
   pub refuses : (d : State) (e : Asn1DerError) → RefusesAll meaning s new d e → RefusesAll meaning s old d e
 
@@ -138,7 +138,7 @@ some_all {meaning = meaning} {a = a} {b = b} {vs = vs} h n = record {
   order = leads-all meaning a b vs h.leads;
   of_shape = h.of_shape;
   readable = h.readable;
-  takes = subst (λ z. Takes (without_order a) (without_order z) (bytes_of (trees (map meaning vs)))) (sym n.same) h.takes;
+  takes = subst (λ z. Takes (without_order a) (without_order z) (members_encoding (trees (map meaning vs)))) (sym n.same) h.takes;
   implicit_tag = ap (λ (z : State). z.implicit_tag) n.same ∙ h.implicit_tag;
   reached = ap (λ (z : State). z.until_end) n.same ∙ n.reached;
 }

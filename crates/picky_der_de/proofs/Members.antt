@@ -15,7 +15,7 @@ use Rattle.picky_der_input.specs.Steps.{Takes, Fails, IsJudged, place_in, place_
 use Rattle.picky_der_input.specs.Order.{order_of, sets_inside, is_out_of_order, with_last, AreInOrder, without_order, RefusesTest, out_of_order, without_memory}
 use Rattle.picky_der_input.specs.Reading.{Concerns, now, ever, Reads, Refuses}
 use Rattle.picky_der_input.specs.Ends.{Outer, with_inner_end, Closes, OpensList, RefusesList}
-use Rattle.picky_der_de.specs.Members.{ReadsMember, RefusesNext, no_value, behind_value, RefusesMember, HasNoMore, bytes_of, StandBefore, StandUpToEnd, RefusesTaken}
+use Rattle.picky_der_de.specs.Members.{ReadsMember, RefusesNext, no_value, behind_value, RefusesMember, HasNoMore, members_encoding, StandBefore, StandUpToEnd, RefusesTaken}
 use Rattle.picky_der_input.proofs.Steps.{fails_after, fails_again, judged_after}
 use Rattle.picky_der_input.proofs.Order.{concerns_alike, concerns_unordered, judged_alike, fails_alike, takes_unordered, order_none, order_first, order_next, order_more, order_begins, order_whole}
 use Rattle.picky_der_input.proofs.Refusals.{behind, failed_grows, end_below}
@@ -24,15 +24,15 @@ use Rattle.picky_der_input.proofs.Ends.{narrowed_concerns, concerns_room, narrow
 
 -- ---- the content of a list
 
-pub bytes_of-more : (t : Tree) (ts : Trees) → bytes_of (Trees.more t ts) ≡ der t ++ bytes_of ts
+pub bytes_of-more : (t : Tree) (ts : Trees) → members_encoding (Trees.more t ts) ≡ der t ++ members_encoding ts
 unfolding der tree_bytes
 bytes_of-more t ts = refl
 
-pub bytes_of-none : bytes_of Trees.none ≡ []
+pub bytes_of-none : members_encoding Trees.none ≡ []
 unfolding tree_bytes
 bytes_of-none = refl
 
-pub bytes_of-content : (kind : ListKind) (ts : Trees) → IsInOrder kind (encodings ts) → content (Tree.list kind ts) ≡ bytes_of ts
+pub bytes_of-content : (kind : ListKind) (ts : Trees) → IsInOrder kind (encodings ts) → content (Tree.list kind ts) ≡ members_encoding ts
 bytes_of-content kind ts h = list_content-in_order kind (encodings ts) h
 
 encodings-more : (t : Tree) (ts : Trees) → encodings (Trees.more t ts) ≡ der t ∷ encodings ts
@@ -132,20 +132,20 @@ pub record IsRefusedLess (old new : State) (e : Asn1DerError) (encoding : List �
   pub less : is_out_of_order old.sets encoding ≡ true
 
 -- the bytes of a value were taken: they are those of the first that stands, and the bytes of the others are those behind it
-same_first : {b c d : State} {e : Asn1DerError} (t u : Tree) (us : Trees) → IsReadable u → IsReadable t → (m : Takes b c (der t)) → (l : c.taken ≤ drawn_count d) → {end : ℕ} {seen : List ℕ} (w : Concerns b d e end seen) (rest : List ℕ) → seen ≡ bytes_of (Trees.more u us) ++ rest
-    → (der u ≡ der t) × (bytes_of us ++ rest ≡ (behind m l w).rest)
+same_first : {b c d : State} {e : Asn1DerError} (t u : Tree) (us : Trees) → IsReadable u → IsReadable t → (m : Takes b c (der t)) → (l : c.taken ≤ drawn_count d) → {end : ℕ} {seen : List ℕ} (w : Concerns b d e end seen) (rest : List ℕ) → seen ≡ members_encoding (Trees.more u us) ++ rest
+    → (der u ≡ der t) × (members_encoding us ++ rest ≡ (behind m l w).rest)
 same_first t u us readable read m l w rest begins =
     let v = behind m l w in
-    let same : der u ++ (bytes_of us ++ rest) ≡ der t ++ v.rest =
-    sym (append_assoc (der u) (bytes_of us) rest) ∙ ap (λ x. x ++ rest) (sym (bytes_of-more u us)) ∙ sym begins ∙ v.begins in
-    same_encoding u t (bytes_of us ++ rest) v.rest readable read same
+    let same : der u ++ (members_encoding us ++ rest) ≡ der t ++ v.rest =
+    sym (append_assoc (der u) (members_encoding us) rest) ∙ ap (λ x. x ++ rest) (sym (bytes_of-more u us)) ∙ sym begins ∙ v.begins in
+    same_encoding u t (members_encoding us ++ rest) v.rest readable read same
 
 -- a member was read, and others stand behind it
-module _ {s : Shape} {b c d : State} {e : Asn1DerError} {t : Tree} (u : Tree) (us : Trees) (readable : IsReadable u) (r : ReadsMember s b c t) (f : Fails c d e) (w : StandBefore b d e (bytes_of (Trees.more u us))) where
-  pub same_member : (der u ≡ der t) × (bytes_of us ++ w.rest ≡ (behind (takes_member r) (failed_grows f) (concerns_unordered w.concerns)).rest)
+module _ {s : Shape} {b c d : State} {e : Asn1DerError} {t : Tree} (u : Tree) (us : Trees) (readable : IsReadable u) (r : ReadsMember s b c t) (f : Fails c d e) (w : StandBefore b d e (members_encoding (Trees.more u us))) where
+  pub same_member : (der u ≡ der t) × (members_encoding us ++ w.rest ≡ (behind (takes_member r) (failed_grows f) (concerns_unordered w.concerns)).rest)
   same_member = same_first t u us readable r.reads.readable (takes_member r) (failed_grows f) (concerns_unordered w.concerns) w.rest w.begins
 
-  pub next_member : StandBefore c d e (bytes_of us)
+  pub next_member : StandBefore c d e (members_encoding us)
   next_member =
       let m = takes_member r in
       let v = behind m (failed_grows f) (concerns_unordered w.concerns) in
@@ -157,32 +157,32 @@ module _ {s : Shape} {b c d : State} {e : Asn1DerError} {t : Tree} (u : Tree) (u
         concerns = subst (λ n. Concerns c d e n v.rest) left (concerns_alike c.sets v.concerns);
         rest = w.rest;
         begins = sym same_member.1;
-        within = omega (arith, w.within, ap length (bytes_of-more u us), length-append (der u) (bytes_of us), ap length same_member.0, m.until_end);
+        within = omega (arith, w.within, ap length (bytes_of-more u us), length-append (der u) (members_encoding us), ap length same_member.0, m.until_end);
       }
 
   pub next_order : AreInOrder b.sets (encodings (Trees.more u us)) → AreInOrder c.sets (encodings us)
   next_order h = order_behind u us same_member.0 r h
 
-pub next_up_to_end : {s : Shape} {b c d : State} {e : Asn1DerError} {t : Tree} (u : Tree) (us : Trees) → IsReadable u → ReadsMember s b c t → Fails c d e → StandUpToEnd b d e (bytes_of (Trees.more u us)) → StandUpToEnd c d e (bytes_of us)
+pub next_up_to_end : {s : Shape} {b c d : State} {e : Asn1DerError} {t : Tree} (u : Tree) (us : Trees) → IsReadable u → ReadsMember s b c t → Fails c d e → StandUpToEnd b d e (members_encoding (Trees.more u us)) → StandUpToEnd c d e (members_encoding us)
 next_up_to_end u us readable r f w =
     let p = same_member u us readable r f w.stand in
     record {
       stand = next_member u us readable r f w.stand;
-      fills = omega (arith, w.fills, ap length (bytes_of-more u us), length-append (der u) (bytes_of us), ap length p.0, (takes_member r).until_end);
+      fills = omega (arith, w.fills, ap length (bytes_of-more u us), length-append (der u) (members_encoding us), ap length p.0, (takes_member r).until_end);
     }
 
 -- The next member was refused. Where a value of its type stands there, it was read, and refused for its order.
 module _ {V : Type 0} (meaning : V → Tree) {s : Shape} {c d : State} {e : Asn1DerError} (v : V) (us : Trees) (implicit_tag : c.implicit_tag ≡ None) (j : IsJudged c d e) (of_shape : IsOf s (meaning v)) (readable : IsReadable (meaning v))
-    (w : StandBefore c d e (bytes_of (Trees.more (meaning v) us))) where
+    (w : StandBefore c d e (members_encoding (Trees.more (meaning v) us))) where
   unread : Refuses meaning s c d e → ⊥
   unread r =
-      let parts : bytes_of (Trees.more (meaning v) us) ≡ der (meaning v) ++ bytes_of us = bytes_of-more (meaning v) us in
+      let parts : members_encoding (Trees.more (meaning v) us) ≡ der (meaning v) ++ members_encoding us = bytes_of-more (meaning v) us in
       let stands : StandsAt Place.whole s w.seen c.until_end (meaning v) = record {
         of_shape = of_shape;
         readable = readable;
         may_stand = tt;
-        within = omega (arith, w.within, ap length parts, length-append (der (meaning v)) (bytes_of us));
-        front = record { rest = bytes_of us ++ w.rest; is = w.begins ∙ ap (λ x. x ++ w.rest) parts ∙ append_assoc (der (meaning v)) (bytes_of us) w.rest };
+        within = omega (arith, w.within, ap length parts, length-append (der (meaning v)) (members_encoding us));
+        front = record { rest = members_encoding us ++ w.rest; is = w.begins ∙ ap (λ x. x ++ w.rest) parts ∙ append_assoc (der (meaning v)) (members_encoding us) w.rest };
       } in
       r.none j c.until_end w.seen w.concerns v (subst (λ x. StandsAt (place_in x c.until_end) s w.seen c.until_end (meaning v)) (sym implicit_tag) stands)
 
@@ -201,20 +201,20 @@ module _ {V : Type 0} (meaning : V → Tree) {s : Shape} {c d : State} {e : Asn1
   refused_less (behind_value b t r h) = untested t r h
 
 pub member_refused_less : {V : Type 0} {meaning : V → Tree} {s : Shape} {c d : State} {e : Asn1DerError} (v : V) (us : Trees) → RefusesMember meaning s c d e → IsJudged c d e → IsOf s (meaning v) → IsReadable (meaning v)
-    → StandBefore c d e (bytes_of (Trees.more (meaning v) us)) → IsRefusedLess c d e (der (meaning v))
+    → StandBefore c d e (members_encoding (Trees.more (meaning v) us)) → IsRefusedLess c d e (der (meaning v))
 member_refused_less {meaning = meaning} v us r j of_shape readable w = refused_less meaning v us (r.implicit_tag j.had_not_failed) j of_shape readable w r.refuses
 
 -- so none stands there in order
 pub no_member_in_order : {V : Type 0} {meaning : V → Tree} {s : Shape} {c d : State} {e : Asn1DerError} (v : V) (us vs : Trees) → RefusesMember meaning s c d e → IsJudged c d e → IsOf s (meaning v) → IsReadable (meaning v) → AreInOrder c.sets (encodings (Trees.more (meaning v) vs))
-    → StandBefore c d e (bytes_of (Trees.more (meaning v) us)) → ⊥
+    → StandBefore c d e (members_encoding (Trees.more (meaning v) us)) → ⊥
 no_member_in_order {meaning = meaning} {c = c} v us vs r j of_shape readable order w = true≢false (sym (member_refused_less v us r j of_shape readable w).less ∙ first_in_order c.sets (meaning v) vs order)
 
 pub no_member : {V : Type 0} {meaning : V → Tree} {s : Shape} {c d : State} {e : Asn1DerError} (v : V) (us : Trees) → RefusesMember meaning s c d e → IsJudged c d e → IsOf s (meaning v) → IsReadable (meaning v) → AreInOrder c.sets (encodings (Trees.more (meaning v) us))
-    → StandBefore c d e (bytes_of (Trees.more (meaning v) us)) → ⊥
+    → StandBefore c d e (members_encoding (Trees.more (meaning v) us)) → ⊥
 no_member v us r j of_shape readable order w = no_member_in_order v us us r j of_shape readable order w
 
 -- something is left, so no member is missing
-pub none_left : {c d : State} {e : Asn1DerError} → 0 < c.until_end → StandUpToEnd c d e (bytes_of Trees.none) → ⊥
+pub none_left : {c d : State} {e : Asn1DerError} → 0 < c.until_end → StandUpToEnd c d e (members_encoding Trees.none) → ⊥
 none_left l w = omega (arith, w.fills, ap length bytes_of-none)
 
 -- ---- whole lists
@@ -227,14 +227,14 @@ pub whole_in_order : (kind : ListKind) {a b : State} {outer : Outer} (ts : Trees
 whole_in_order kind ts h i = order_whole kind h.mid.sets (encodings ts) (subst (λ l. AreInOrder l (encodings ts)) (ap (λ (z : State). z.sets) h.opened) i)
 
 -- the members of a list that stands, before the list's end
-members_stand : (kind : ListKind) (s : Shape) {a b c : State} {outer : Outer} {e : Asn1DerError} {end : ℕ} {bs : List ℕ} (ts : Trees) → OpensList (list_tag kind) a b outer → Fails b c e → Concerns a c e end bs → StandsAt (place_of a) s bs end (Tree.list kind ts) → StandUpToEnd b c e (bytes_of ts)
+members_stand : (kind : ListKind) (s : Shape) {a b c : State} {outer : Outer} {e : Asn1DerError} {end : ℕ} {bs : List ℕ} (ts : Trees) → OpensList (list_tag kind) a b outer → Fails b c e → Concerns a c e end bs → StandsAt (place_of a) s bs end (Tree.list kind ts) → StandUpToEnd b c e (members_encoding ts)
 members_stand kind s {b = b} {c = c} {e = e} ts h f w st =
     let grows : h.mid.taken ≤ drawn_count c = omega (arith, failed_grows f, ap (λ (z : State). z.taken) h.opened) in
     let o = begun h.begins grows refl refl w st in
     let content_is = bytes_of-content kind ts st.readable.0 in
     let opened : State = record (with_inner_end h.mid h.len Soft) { sets = sets_inside (order_of (list_tag kind)) h.mid.sets } in
-    let size : length (bytes_of ts) ≡ opened.until_end = sym (ap length content_is) ∙ o.size in
-    let stand : StandBefore opened c e (bytes_of ts) = record {
+    let size : length (members_encoding ts) ≡ opened.until_end = sym (ap length content_is) ∙ o.size in
+    let stand : StandBefore opened c e (members_encoding ts) = record {
       soft = refl;
       seen = o.seen;
       concerns = concerns_alike (sets_inside (order_of (list_tag kind)) h.mid.sets) (narrowed_concerns o.concerns);
@@ -242,11 +242,11 @@ members_stand kind s {b = b} {c = c} {e = e} ts h f w st =
       begins = o.begins ∙ ap (λ x. x ++ o.rest) content_is;
       within = omega (arith, size);
     } in
-    subst (λ z. StandUpToEnd z c e (bytes_of ts)) (sym h.opened) (record { stand = stand; fills = size })
+    subst (λ z. StandUpToEnd z c e (members_encoding ts)) (sym h.opened) (record { stand = stand; fills = size })
 
 -- a list whose header was taken, and whose members can't stand there
 pub list_refused : {V : Type 0} (kind : ListKind) (members : V → Trees) (s : Shape) → IsFirst s (list_tag kind) → {a b c : State} {outer : Outer} {e : Asn1DerError} → OpensList (list_tag kind) a b outer → Fails b c e
-    → (IsJudged b c e → (v : V) → IsOf s (Tree.list kind (members v)) → AreReadable (members v) → AreInOrder b.sets (encodings (members v)) → StandUpToEnd b c e (bytes_of (members v)) → ⊥) → Refuses (λ v. Tree.list kind (members v)) s a c e
+    → (IsJudged b c e → (v : V) → IsOf s (Tree.list kind (members v)) → AreReadable (members v) → AreInOrder b.sets (encodings (members v)) → StandUpToEnd b c e (members_encoding (members v)) → ⊥) → Refuses (λ v. Tree.list kind (members v)) s a c e
 list_refused kind members s first {a} {b} {c} {outer} {e} h f none =
     let before : Fails (with_inner_end h.mid h.len Soft) c e = fails_alike (sets_inside None h.mid.sets) (subst (λ z. Fails z c e) h.opened f) in
     let fails : Fails h.mid c e = widened_fails h.begins.fits before in
@@ -268,7 +268,7 @@ list_unopened kind members s first {a} h =
     }
 
 -- the members of a list that was opened and closed were read
-pub list_reads : {s : Shape} {a b c d : State} {kind : ListKind} {outer closed : Outer} (ts : Trees) → OpensList (list_tag kind) a b outer → AreInOrder b.sets (encodings ts) → Takes (without_order b) (without_order c) (bytes_of ts) → c.implicit_tag ≡ None → Closes closed c d → closed ≡ outer
+pub list_reads : {s : Shape} {a b c d : State} {kind : ListKind} {outer closed : Outer} (ts : Trees) → OpensList (list_tag kind) a b outer → AreInOrder b.sets (encodings ts) → Takes (without_order b) (without_order c) (members_encoding ts) → c.implicit_tag ≡ None → Closes closed c d → closed ≡ outer
     → IsOf s (Tree.list kind ts) → AreReadable ts → Reads s a d (Tree.list kind ts)
 list_reads {s} {a} {b} {c} {d} {kind} {outer} {closed} ts h o t none k same of_shape readable =
     let order = whole_in_order kind ts h o in

@@ -12,7 +12,7 @@ use Rattle.picky_der_input.specs.Steps.{Takes, Fails, IsJudged, place_in}
 use Rattle.picky_der_input.specs.Order.{AreInOrder, Follows}
 use Rattle.picky_der_input.specs.Reading.{Reads, Refuses}
 use Rattle.picky_der_input.specs.Ends.{Outer, RefusesClose, OpensList, RefusesList}
-use Rattle.picky_der_de.specs.Members.{ReadsMember, RefusesMember, HasNoMore, bytes_of, StandUpToEnd, ReadsRow}
+use Rattle.picky_der_de.specs.Members.{ReadsMember, RefusesMember, HasNoMore, members_encoding, StandUpToEnd, ReadsRow}
 use Rattle.picky_der_input.proofs.Order.{fails_behind, judged_behind}
 use Rattle.picky_der_de.proofs.Members.{bytes_of-more, takes_member, member_not_implicit, member_ahead, next_order, next_up_to_end, no_member, none_left, list_refused, list_unopened}
 use Rattle.picky_der_de.proofs.Rows.{row_none, row_read}
@@ -25,7 +25,7 @@ behind_first (Trees.more t ts) = ts
 -- no value of which P holds stands there by its members, which would be all up to the end
 pub record RefusesRest {V : Type 0} (P : V → Type 0) (members : V → Trees) (old new : State) (e : Asn1DerError) : Type 0 where
   pub fails : Fails old new e
-  pub none : IsJudged old new e → (v : V) → P v → AreReadable (members v) → AreInOrder old.sets (encodings (members v)) → StandUpToEnd old new e (bytes_of (members v)) → ⊥
+  pub none : IsJudged old new e → (v : V) → P v → AreReadable (members v) → AreInOrder old.sets (encodings (members v)) → StandUpToEnd old new e (members_encoding (members v)) → ⊥
 
 -- ---- refused
 
@@ -54,17 +54,17 @@ encodings-as : (t u : Tree) (ts : Trees) → der t ≡ der u → encodings (Tree
 unfolding der tree_bytes
 encodings-as t u ts same = ap (λ m. m ∷ encodings ts) same
 
-first_refused : {W : Type 0} {meaning : W → Tree} {s : Shape} {c d : State} {e : Asn1DerError} (ts : Trees) → RefusesMember meaning s c d e → IsJudged c d e → Unread meaning s (IsAhead c) ts → AreInOrder c.sets (encodings ts) → StandUpToEnd c d e (bytes_of ts) → ⊥
+first_refused : {W : Type 0} {meaning : W → Tree} {s : Shape} {c d : State} {e : Asn1DerError} (ts : Trees) → RefusesMember meaning s c d e → IsJudged c d e → Unread meaning s (IsAhead c) ts → AreInOrder c.sets (encodings ts) → StandUpToEnd c d e (members_encoding ts) → ⊥
 first_refused ts r j (nothing ahead) order w = none_left (ahead j.had_not_failed) w
 first_refused {meaning = meaning} {c = c} {d = d} {e = e} ts r j (first v t us of_shape readable same) order w =
-    let as_value = bytes_of-more t us ∙ ap (λ x. x ++ bytes_of us) same ∙ sym (bytes_of-more (meaning v) us) in
+    let as_value = bytes_of-more t us ∙ ap (λ x. x ++ members_encoding us) same ∙ sym (bytes_of-more (meaning v) us) in
     no_member v us r j of_shape readable (subst (AreInOrder c.sets) (encodings-as t (meaning v) us same) order) (subst (StandUpToEnd c d e) as_value w).stand
 
-behind_refused : {s : Shape} {b c d : State} {t : Tree} {e : Asn1DerError} (ts : Trees) → ReadsMember s b c t → Fails c d e → AreReadable ts → StandUpToEnd b d e (bytes_of ts) → StandUpToEnd c d e (bytes_of (behind_first ts))
+behind_refused : {s : Shape} {b c d : State} {t : Tree} {e : Asn1DerError} (ts : Trees) → ReadsMember s b c t → Fails c d e → AreReadable ts → StandUpToEnd b d e (members_encoding ts) → StandUpToEnd c d e (members_encoding (behind_first ts))
 behind_refused Trees.none r f readable w = absurd (none_left (member_ahead r) w)
 behind_refused (Trees.more u us) r f readable w = next_up_to_end u us readable.0 r f w
 
-behind_in_order : {s : Shape} {b c d : State} {t : Tree} {e : Asn1DerError} (ts : Trees) → ReadsMember s b c t → Fails c d e → AreReadable ts → StandUpToEnd b d e (bytes_of ts) → AreInOrder b.sets (encodings ts) → AreInOrder c.sets (encodings (behind_first ts))
+behind_in_order : {s : Shape} {b c d : State} {t : Tree} {e : Asn1DerError} (ts : Trees) → ReadsMember s b c t → Fails c d e → AreReadable ts → StandUpToEnd b d e (members_encoding ts) → AreInOrder b.sets (encodings ts) → AreInOrder c.sets (encodings (behind_first ts))
 behind_in_order Trees.none r f readable w order = absurd (none_left (member_ahead r) w)
 behind_in_order (Trees.more u us) r f readable w order = next_order u us readable.0 r f w.stand order
 
@@ -87,7 +87,7 @@ module _ {V : Type 0} {P : V → Type 0} {members : V → Trees} where
   pub rest_left : {s : Shape} {b c d : State} {t : Tree} {e : Asn1DerError} → ((v : V) → behind_first (members v) ≡ Trees.none) → ReadsMember s b c t → RefusesClose c d e → RefusesRest P members b d e
   rest_left {c = c} {d = d} {e = e} last r k = rest_next r (record {
     fails = k.fails;
-    none = λ j v p readable order w. none_left (k.left (takes_member r).not_failed).0 (subst (λ ts. StandUpToEnd c d e (bytes_of ts)) (last v) w);
+    none = λ j v p readable order w. none_left (k.left (takes_member r).not_failed).0 (subst (λ ts. StandUpToEnd c d e (members_encoding ts)) (last v) w);
   })
 
 -- nothing is left where there is no more member

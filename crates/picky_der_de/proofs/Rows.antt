@@ -11,7 +11,7 @@ use Rattle.picky_der_input.specs.Steps.{Takes}
 use Rattle.picky_der_input.specs.Order.{without_order}
 use Rattle.picky_der_input.specs.Reading.{Reads, Refuses}
 use Rattle.picky_der_input.specs.Ends.{Outer, Closes, RefusesClose, OpensList, RefusesList}
-use Rattle.picky_der_de.specs.Members.{ReadsMember, RefusesMember, bytes_of, ReadsRow, RefusesRow}
+use Rattle.picky_der_de.specs.Members.{ReadsMember, RefusesMember, members_encoding, ReadsRow, RefusesRow}
 use Rattle.picky_der_input.proofs.Steps.{takes_none, takes_then}
 use Rattle.picky_der_input.proofs.Order.{concerns_unordered, fails_behind, judged_behind}
 use Rattle.picky_der_input.proofs.Refusals.{behind, failed_grows}
@@ -47,18 +47,18 @@ row_next {meaning = meaning} {others = others} r h = record {
 }
 
 -- two rows of readable members of the same shapes, at the front of the same bytes
-same_rows : (ss : Shapes) (us ts : Trees) (x y : List ℕ) → AreOf ss us → AreOf ss ts → AreReadable us → AreReadable ts → bytes_of us ++ x ≡ bytes_of ts ++ y → bytes_of us ≡ bytes_of ts
+same_rows : (ss : Shapes) (us ts : Trees) (x y : List ℕ) → AreOf ss us → AreOf ss ts → AreReadable us → AreReadable ts → members_encoding us ++ x ≡ members_encoding ts ++ y → members_encoding us ≡ members_encoding ts
 same_rows Shapes.none Trees.none Trees.none x y p q r z e = refl
 same_rows Shapes.none Trees.none (Trees.more t ts) x y p q r z e = absurd q
 same_rows Shapes.none (Trees.more u us) ts x y p q r z e = absurd p
 same_rows (Shapes.more s ss) Trees.none ts x y p q r z e = absurd p
 same_rows (Shapes.more s ss) (Trees.more u us) Trees.none x y p q r z e = absurd q
 same_rows (Shapes.more s ss) (Trees.more u us) (Trees.more t ts) x y p q r z e =
-    let whole : der u ++ (bytes_of us ++ x) ≡ der t ++ (bytes_of ts ++ y) =
-    sym (append_assoc (der u) (bytes_of us) x) ∙ ap (λ bs. bs ++ x) (sym (bytes_of-more u us)) ∙ e ∙ ap (λ bs. bs ++ y) (bytes_of-more t ts) ∙ append_assoc (der t) (bytes_of ts) y in
-    let first = same_encoding u t (bytes_of us ++ x) (bytes_of ts ++ y) r.0 z.0 whole in
+    let whole : der u ++ (members_encoding us ++ x) ≡ der t ++ (members_encoding ts ++ y) =
+    sym (append_assoc (der u) (members_encoding us) x) ∙ ap (λ bs. bs ++ x) (sym (bytes_of-more u us)) ∙ e ∙ ap (λ bs. bs ++ y) (bytes_of-more t ts) ∙ append_assoc (der t) (members_encoding ts) y in
+    let first = same_encoding u t (members_encoding us ++ x) (members_encoding ts ++ y) r.0 z.0 whole in
     let others = same_rows ss us ts x y p.1 q.1 r.1 z.1 first.1 in
-    bytes_of-more u us ∙ ap (λ bs. bs ++ bytes_of us) first.0 ∙ ap (λ bs. der t ++ bs) others ∙ sym (bytes_of-more t ts)
+    bytes_of-more u us ∙ ap (λ bs. bs ++ members_encoding us) first.0 ∙ ap (λ bs. der t ++ bs) others ∙ sym (bytes_of-more t ts)
 
 -- something is left behind a row that was read
 pub row_left : {V : Type 0} {members : V → Trees} {ss : Shapes} {kind : ListKind} {a b c d : State} {outer : Outer} {ts : Trees} {e : Asn1DerError} → OpensList (list_tag kind) a b outer → ReadsRow ss b c ts → RefusesClose c d e

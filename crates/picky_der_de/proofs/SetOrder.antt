@@ -20,7 +20,7 @@ use Rattle.picky_der_input.proofs.Order.{judged_alike}
 use Rattle.picky_der_input.proofs.Ends.{narrowed_judged}
 use Rattle.picky_der_input.proofs.Headers.{header-read}
 use Rattle.picky_der_input.proofs.Refusals.{consumed}
-use Rattle.picky_der_de.specs.Members.{bytes_of, StandBefore, BreaksOrder, RefusesAll, RefusesUnordered}
+use Rattle.picky_der_de.specs.Members.{members_encoding, StandBefore, BreaksOrder, RefusesAll, RefusesUnordered}
 use Rattle.picky_der_de.proofs.Members.{opened_in_order, whole_in_order}
 
 -- the headers at the front of the same bytes are one, and what is behind them too
@@ -47,7 +47,7 @@ module _ {V : Type 0} {meaning : V → Tree} {s : Shape} where
   -- a member was refused
   pub unordered_refused : {a b c : State} {outer : Outer} {e : Asn1DerError} → OpensList 0x31 a b outer → RefusesAll meaning s b c e → RefusesUnordered meaning s a c e
   unordered_refused {a} {b} {c} {outer} {e} h r j vs v out bs rest known in_set =
-      let members = bytes_of (trees (map meaning (vs ++ v ∷ []))) in
+      let members = members_encoding (trees (map meaning (vs ++ v ∷ []))) in
       let p = consumed a.input h.mid.input (header_bytes a.implicit_tag 0x31 h.len) bs h.begins.takes.input known in
       let q = same_header a.implicit_tag in_set.len h.len a.until_end h.mid.until_end (members ++ rest) p.0 h.begins.takes.until_end in_set.all h.begins.all (sym in_set.begins ∙ p.2) in
       let open_input : b.input ≡ Some p.0 = ap (λ (z : State). z.input) h.opened ∙ p.1 in
@@ -81,5 +81,5 @@ module _ {V : Type 0} {meaning : V → Tree} {s : Shape} where
   unordered_unopened {a} {c} {e} h j vs v out bs rest known in_set =
       let p = h.begin.header j in
       let k = p.1.just j bs known in
-      absurd (no_header_refused a.implicit_tag in_set.len a.until_end (bytes_of (trees (map meaning (vs ++ v ∷ []))) ++ rest) (is_hard a.end) (e, k.left) p.0 (h.begin.bounded j.had_not_failed) in_set.fits
+      absurd (no_header_refused a.implicit_tag in_set.len a.until_end (members_encoding (trees (map meaning (vs ++ v ∷ []))) ++ rest) (is_hard a.end) (e, k.left) p.0 (h.begin.bounded j.had_not_failed) in_set.fits
       (ap (λ x. header_refusal 0x31 (is_hard a.end) a.until_end (take a.until_end x)) (sym in_set.begins) ∙ k.refused))

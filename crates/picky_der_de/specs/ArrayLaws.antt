@@ -4,7 +4,7 @@ use lib.Pointwise.{pointwise}
 use Rattle.picky_der_core.specs.Tree.{ListKind, Tree, Trees, trees}
 use Rattle.picky_der_core.specs.Readable.{AreReadable}
 use Rattle.picky_der_core.specs.Shape.{Shape, Shapes, IsOf, AreOf, EachIs, IsSound, AreSound}
-use Rattle.picky_der_de.specs.InjectiveLaws.{IsInjective, list_known}
+use Rattle.picky_der_de.specs.InjectiveLaws.{IsInjective, list_injective}
 
 -- so many times this shape
 abbrev pub times : ℕ → Shape → Shapes
@@ -23,6 +23,6 @@ times_each (suc n) s Trees.none h = absurd h
 times_each (suc n) s (Trees.more t ts) h = (h.0, times_each n s ts h.1)
 
 -- arrays of values that are known by their trees
-pub array_known : {V : Type 0} (meaning : V → Tree) (s : Shape) (eq : V → V → Bool) → IsInjective meaning s eq → (n : ℕ) {k l : ListKind} (xs ys : List V) → AreOf (times n s) (trees (map meaning xs)) → AreOf (times n s) (trees (map meaning ys)) → AreReadable (trees (map meaning xs))
+pub array_injective : {V : Type 0} (meaning : V → Tree) (s : Shape) (eq : V → V → Bool) → IsInjective meaning s eq → (n : ℕ) {k l : ListKind} (xs ys : List V) → AreOf (times n s) (trees (map meaning xs)) → AreOf (times n s) (trees (map meaning ys)) → AreReadable (trees (map meaning xs))
     → Tree.list k (trees (map meaning xs)) ≡ Tree.list l (trees (map meaning ys)) → pointwise eq xs ys ≡ true
-array_known meaning s eq known n xs ys p q r e = list_known meaning s eq known xs ys (times_each n s (trees (map meaning xs)) p) (times_each n s (trees (map meaning ys)) q) r e
+array_injective meaning s eq known n xs ys p q r e = list_injective meaning s eq known xs ys (times_each n s (trees (map meaning xs)) p) (times_each n s (trees (map meaning ys)) q) r e

@@ -16,9 +16,9 @@ enclose_same (enclosure.Wrapper (Implicit n)) t u e = cc
 enclose_same (enclosure.Application n) t u e = cc
 
 -- readable values with one tree in an enclosure are equal
-pub enclosed_known : (w : Enclosure) {V : Type 0} (meaning : V → Tree) (s : Shape) (eq : V → V → Bool) → IsInjective meaning s eq → IsInjective (λ v. enclose w (meaning v)) (enclose_shape w s) eq
-enclosed_known (enclosure.Wrapper OctetContainer) meaning s eq known x y p q r e = known x y p q r (enclose_same (enclosure.Wrapper OctetContainer) (meaning x) (meaning y) e)
-enclosed_known (enclosure.Wrapper BitContainer) meaning s eq known x y p q r e = known x y p q r (enclose_same (enclosure.Wrapper BitContainer) (meaning x) (meaning y) e)
-enclosed_known (enclosure.Wrapper (Explicit n)) meaning s eq known x y p q r e = known x y p.1 q.1 r.1 (enclose_same (enclosure.Wrapper (Explicit n)) (meaning x) (meaning y) e)
-enclosed_known (enclosure.Wrapper (Implicit n)) meaning s eq known x y p q r e = known x y p.1 q.1 r.2 (enclose_same (enclosure.Wrapper (Implicit n)) (meaning x) (meaning y) e)
-enclosed_known (enclosure.Application n) meaning s eq known x y p q r e = known x y p.1 q.1 r.1 (enclose_same (enclosure.Application n) (meaning x) (meaning y) e)
+pub enclosed_injective : (w : Enclosure) {V : Type 0} (meaning : V → Tree) (s : Shape) (eq : V → V → Bool) → IsInjective meaning s eq → IsInjective (λ v. enclose w (meaning v)) (enclose_shape w s) eq
+enclosed_injective (enclosure.Wrapper OctetContainer) meaning s eq known x y p q r e = known x y p q r (enclose_same (enclosure.Wrapper OctetContainer) (meaning x) (meaning y) e)
+enclosed_injective (enclosure.Wrapper BitContainer) meaning s eq known x y p q r e = known x y p q r (enclose_same (enclosure.Wrapper BitContainer) (meaning x) (meaning y) e)
+enclosed_injective (enclosure.Wrapper (Explicit n)) meaning s eq known x y p q r e = known x y p.1 q.1 r.1 (enclose_same (enclosure.Wrapper (Explicit n)) (meaning x) (meaning y) e)
+enclosed_injective (enclosure.Wrapper (Implicit n)) meaning s eq known x y p q r e = known x y p.1 q.1 r.2 (enclose_same (enclosure.Wrapper (Implicit n)) (meaning x) (meaning y) e)
+enclosed_injective (enclosure.Application n) meaning s eq known x y p q r e = known x y p.1 q.1 r.1 (enclose_same (enclosure.Application n) (meaning x) (meaning y) e)

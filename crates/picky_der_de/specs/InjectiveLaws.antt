@@ -20,14 +20,14 @@ IsInjective {V} meaning s eq = (x y : V) → IsOf s (meaning x) → IsOf s (mean
 abbrev pub AreInjective : {V : Type 0} → (V → Trees) → Shapes → (V → V → Bool) → Type 0
 AreInjective {V} members ss eq = (x y : V) → AreOf ss (members x) → AreOf ss (members y) → AreReadable (members x) → members x ≡ members y → eq x y ≡ true
 
-pub boolean_known : (x y : Bool) → Tree.boolean x ≡ Tree.boolean y → beq x y ≡ true
-boolean_known true true e = refl
-boolean_known false false e = refl
-boolean_known true false e = let q : true ≡ false = cc in cc
-boolean_known false true e = let q : false ≡ true = cc in cc
+pub boolean_injective : (x y : Bool) → Tree.boolean x ≡ Tree.boolean y → beq x y ≡ true
+boolean_injective true true e = refl
+boolean_injective false false e = refl
+boolean_injective true false e = let q : true ≡ false = cc in cc
+boolean_injective false true e = let q : false ≡ true = cc in cc
 
-pub unsigned_known : (x y : ℕ) → Tree.unsigned x ≡ Tree.unsigned y → nat_eq x y ≡ true
-unsigned_known x y e = let q : x ≡ y = cc in eq-eqb x y q
+pub unsigned_injective : (x y : ℕ) → Tree.unsigned x ≡ Tree.unsigned y → nat_eq x y ≡ true
+unsigned_injective x y e = let q : x ≡ y = cc in eq-eqb x y q
 
 same_bytes : (x y : List ℕ) → x ≡ y → pointwise eqb x y ≡ true
 same_bytes [] [] e = refl
@@ -38,25 +38,25 @@ same_bytes (a ∷ x) (b ∷ y) e =
     let q = same_bytes x y (cc) in
     rw (eq-eqb a b p, q) refl
 
-pub bytes_known : {tag other : ℕ} (x y : List ℕ) → Tree.bytes tag x ≡ Tree.bytes other y → pointwise eqb x y ≡ true
-bytes_known x y e = let q : x ≡ y = cc in same_bytes x y q
+pub bytes_injective : {tag other : ℕ} (x y : List ℕ) → Tree.bytes tag x ≡ Tree.bytes other y → pointwise eqb x y ≡ true
+bytes_injective x y e = let q : x ≡ y = cc in same_bytes x y q
 
-pub raw_known : (x y : List ℕ) → Tree.raw x ≡ Tree.raw y → pointwise eqb x y ≡ true
-raw_known x y e = let q : x ≡ y = cc in same_bytes x y q
+pub raw_injective : (x y : List ℕ) → Tree.raw x ≡ Tree.raw y → pointwise eqb x y ≡ true
+raw_injective x y e = let q : x ≡ y = cc in same_bytes x y q
 
-pub text_known : (x y : List ℕ) → Tree.text x ≡ Tree.text y → pointwise eqb x y ≡ true
-text_known x y e = let q : x ≡ y = cc in same_bytes x y q
+pub text_injective : (x y : List ℕ) → Tree.text x ≡ Tree.text y → pointwise eqb x y ≡ true
+text_injective x y e = let q : x ≡ y = cc in same_bytes x y q
 
-pub character_known : (x y : ℕ) → Tree.text (encode_utf8 x) ≡ Tree.text (encode_utf8 y) → nat_eq x y ≡ true
-character_known x y e =
+pub character_injective : (x y : ℕ) → Tree.text (encode_utf8 x) ≡ Tree.text (encode_utf8 y) → nat_eq x y ≡ true
+character_injective x y e =
     let q : encode_utf8 x ≡ encode_utf8 y = cc in
     eq-eqb x y (encode_same x y [] [] (ap (λ bs. bs ++ []) q)).0
 
 -- what is read isn't missing
-pub option_known : {V : Type 0} (meaning : V → Tree) (s : Shape) (eq : V → V → Bool) → IsInjective meaning s eq → IsInjective (option_meaning meaning) (Shape.optional s) (option_eq eq)
-option_known meaning s eq known None y p q r e = absurd r
-option_known meaning s eq known (Some x) None p q r e = absurd (subst IsReadable e r)
-option_known meaning s eq known (Some x) (Some y) p q r e =
+pub option_injective : {V : Type 0} (meaning : V → Tree) (s : Shape) (eq : V → V → Bool) → IsInjective meaning s eq → IsInjective (option_meaning meaning) (Shape.optional s) (option_eq eq)
+option_injective meaning s eq known None y p q r e = absurd r
+option_injective meaning s eq known (Some x) None p q r e = absurd (subst IsReadable e r)
+option_injective meaning s eq known (Some x) (Some y) p q r e =
     known x y (is_of-optional (IsOf s) (meaning x) p r) (is_of-optional (IsOf s) (meaning y) q (subst IsReadable e r)) r e
 
 -- ---- lists
@@ -75,9 +75,9 @@ module _ {V : Type 0} (meaning : V → Tree) (eq : V → V → Bool) (P : V → 
       rw (known x y h.0 k.0 f, same_items xs ys h.1 k.1 g) refl
 
 -- lists of values that are known by their trees
-pub list_known : {V : Type 0} (meaning : V → Tree) (s : Shape) (eq : V → V → Bool) → IsInjective meaning s eq → {k l : ListKind} (xs ys : List V) → EachIs (IsOf s) (trees (map meaning xs)) → EachIs (IsOf s) (trees (map meaning ys)) → AreReadable (trees (map meaning xs))
+pub list_injective : {V : Type 0} (meaning : V → Tree) (s : Shape) (eq : V → V → Bool) → IsInjective meaning s eq → {k l : ListKind} (xs ys : List V) → EachIs (IsOf s) (trees (map meaning xs)) → EachIs (IsOf s) (trees (map meaning ys)) → AreReadable (trees (map meaning xs))
     → Tree.list k (trees (map meaning xs)) ≡ Tree.list l (trees (map meaning ys)) → pointwise eq xs ys ≡ true
-list_known {V} meaning s eq known xs ys p q r e =
+list_injective {V} meaning s eq known xs ys p q r e =
     let f : trees (map meaning xs) ≡ trees (map meaning ys) = cc in
     same_items meaning eq (λ v. IsOf s (meaning v) × IsReadable (meaning v)) (λ vs. EachIs (IsOf s) (trees (map meaning vs)) × AreReadable (trees (map meaning vs))) (λ v vs h. ((h.0.0, h.1.0), (h.0.1, h.1.1)))
     (λ x y h k g. known x y h.0 k.0 h.1 g) xs ys (p, r) (q, subst AreReadable f r) f

@@ -57,13 +57,13 @@ module _ {V : Type 0} (meaning : V → Tree) (s : Shape) (l : Layout) (begins : 
   -- the first may be missing, and of those behind it `Others` holds where they are the same
   pub maybe_told : (eq : V → V → Bool) (Others : Type 0) → IsInjective meaning s eq → (ts us : Trees) → AreBegunBy (next_firsts l) ts → AreBegunBy (next_firsts l) us → (AreMembersOf l ts → AreMembersOf l us → AreReadable ts → ts ≡ us → Others)
       → (x y : Option V) → AreMembersOf (Layout.maybe s l) (maybe_more meaning x ts) → AreMembersOf (Layout.maybe s l) (maybe_more meaning y us) → AreReadable (maybe_more meaning x ts) → maybe_more meaning x ts ≡ maybe_more meaning y us → (option_eq eq x y ≡ true) × Others
-  maybe_told eq Others known ts us f g k None None p q r e = (refl, k (is_missing s l told.0 ts f r p) (is_missing s l told.0 us g (subst AreReadable e r) q) r e)
-  maybe_told eq Others known ts us f g k None (Some y) p q r e = absurd (other_place y us ts f q p (subst AreReadable e r) (sym e))
-  maybe_told eq Others known ts us f g k (Some x) None p q r e = absurd (other_place x ts us g p q r e)
-  maybe_told eq Others known ts us f g k (Some x) (Some y) p q r e =
+  maybe_told eq Others injective ts us f g k None None p q r e = (refl, k (is_missing s l told.0 ts f r p) (is_missing s l told.0 us g (subst AreReadable e r) q) r e)
+  maybe_told eq Others injective ts us f g k None (Some y) p q r e = absurd (other_place y us ts f q p (subst AreReadable e r) (sym e))
+  maybe_told eq Others injective ts us f g k (Some x) None p q r e = absurd (other_place x ts us g p q r e)
+  maybe_told eq Others injective ts us f g k (Some x) (Some y) p q r e =
       let a = is_there s l told.0 (meaning x) ts (begins x) r.0 p in
       let b = is_there s l told.0 (meaning y) us (begins y) (subst AreReadable e r).0 q in
-      (known x y a.0 b.0 r.0 (first_member e), k a.1 b.1 r.1 (other_members e))
+      (injective x y a.0 b.0 r.0 (first_member e), k a.1 b.1 r.1 (other_members e))
 
 -- ---- members with a default
 
@@ -92,14 +92,14 @@ pub record IsComponent {V W : Type 0} (presence : Presence) (in_front : V → Tr
   pub written : (v : V) → IfSome (item v) (λ w. left_out w ≡ false)
   pub equal : (x y : V) → option_eq eq_item (item x) (item y) ≡ true → eq x y ≡ true
   pub begins : (w : W) → IsBegunBy (firsts s) (meaning w)
-  pub known : IsInjective meaning s eq_item
+  pub injective : IsInjective meaning s eq_item
   pub by_tree : IsByTree meaning left_out
   pub sound : IsSound s
 
 none_by_tree : {W : Type 0} (meaning : W → Tree) → IsByTree meaning (λ _. false)
 none_by_tree meaning x y h = cc
 
-module _ {W : Type 0} (meaning : W → Tree) (s : Shape) (eq : W → W → Bool) (begins : (w : W) → IsBegunBy (firsts s) (meaning w)) (known : IsInjective meaning s eq) (sound : IsSound s) where
+module _ {W : Type 0} (meaning : W → Tree) (s : Shape) (eq : W → W → Bool) (begins : (w : W) → IsBegunBy (firsts s) (meaning w)) (injective : IsInjective meaning s eq) (sound : IsSound s) where
   -- a value
   pub always_there : IsComponent always (λ w. Trees.more (meaning w)) eq meaning s eq (λ w. Some w) (λ _. false)
   always_there = record {
@@ -108,7 +108,7 @@ module _ {W : Type 0} (meaning : W → Tree) (s : Shape) (eq : W → W → Bool)
     written = λ v. refl;
     equal = λ x y h. h;
     begins = begins;
-    known = known;
+    injective = injective;
     by_tree = none_by_tree meaning;
     sound = sound;
   }
@@ -121,7 +121,7 @@ module _ {W : Type 0} (meaning : W → Tree) (s : Shape) (eq : W → W → Bool)
     written = λ v. none_out (item v);
     equal = λ x y h. h;
     begins = begins;
-    known = known;
+    injective = injective;
     by_tree = none_by_tree meaning;
     sound = sound;
   } where
@@ -138,7 +138,7 @@ module _ {W : Type 0} (meaning : W → Tree) (s : Shape) (eq : W → W → Bool)
     written = λ v. not_out (value v) (left_out (value v)) refl;
     equal = λ x y h. same_unless_default eq left_out one (value x) (value y) h;
     begins = begins;
-    known = known;
+    injective = injective;
     by_tree = by_tree;
     sound = sound;
   } where
@@ -152,19 +152,19 @@ pub record AreComponents {V : Type 0} (members : V → Trees) (l : Layout) (AreE
   -- the first that is there begins with no other byte
   pub begins : (v : V) → AreBegunBy (next_firsts l) (members v)
   -- two rows of readable members with the same trees are equal, where missing members are told by the first byte
-  pub known : AreMembersTold l → (x y : V) → AreMembersOf l (members x) → AreMembersOf l (members y) → AreReadable (members x) → members x ≡ members y → AreEqual x y
+  pub injective : AreMembersTold l → (x y : V) → AreMembersOf l (members x) → AreMembersOf l (members y) → AreReadable (members x) → members x ≡ members y → AreEqual x y
   -- the choices in the shapes are told by their first byte
   pub sound : AreMembersSound l
 
 pub no_components : {V : Type 0} → AreComponents (λ (v : V). Trees.none) Layout.empty (λ x y. true ≡ true)
-no_components = record { begins = λ v. tt; known = λ told x y p q r e. refl; sound = tt }
+no_components = record { begins = λ v. tt; injective = λ told x y p q r e. refl; sound = tt }
 
 -- as part of others
 pub behind : {V U : Type 0} {members : U → Trees} {l : Layout} {AreEqual : U → U → Type 0} (part : V → U) → AreComponents members l AreEqual → AreComponents (λ v. members (part v)) l (λ x y. AreEqual (part x) (part y))
-behind part c = record { begins = λ v. c.begins (part v); known = λ told x y. c.known told (part x) (part y); sound = c.sound }
+behind part c = record { begins = λ v. c.begins (part v); injective = λ told x y. c.injective told (part x) (part y); sound = c.sound }
 
 pub equal_so : {V : Type 0} {members : V → Trees} {l : Layout} {AreAlike AreEqual : V → V → Type 0} → ((x y : V) → AreAlike x y → AreEqual x y) → AreComponents members l AreAlike → AreComponents members l AreEqual
-equal_so f c = record { begins = c.begins; known = λ told x y p q r e. f x y (c.known told x y p q r e); sound = c.sound }
+equal_so f c = record { begins = c.begins; injective = λ told x y p q r e. f x y (c.injective told x y p q r e); sound = c.sound }
 
 -- a member in front of the others
 module _ {V W X : Type 0} {presence : Presence} {in_front : X → Trees → Trees} {eq : X → X → Bool} {meaning : W → Tree} {s : Shape} {eq_item : W → W → Bool} {item : X → Option W} {left_out : W → Bool} {others : V → Trees} {l : Layout} {AreEqual : V → V → Type 0} (first : V → X)
@@ -177,12 +177,12 @@ module _ {V W X : Type 0} {presence : Presence} {in_front : X → Trees → Tree
   begun_by always (Some w) v t = c.begins w
   begun_by perhaps o v t = maybe_begun meaning s l c.begins o (others v) (cs.begins v)
 
-  known_by : (p : Presence) (a b : Option W) (x y : V) → IsThere p a → IsThere p b → AreMembersTold (place_then p s l) → AreMembersOf (place_then p s l) (maybe_more meaning a (others x)) → AreMembersOf (place_then p s l) (maybe_more meaning b (others y)) → AreReadable (maybe_more meaning a (others x))
+  injective_by : (p : Presence) (a b : Option W) (x y : V) → IsThere p a → IsThere p b → AreMembersTold (place_then p s l) → AreMembersOf (place_then p s l) (maybe_more meaning a (others x)) → AreMembersOf (place_then p s l) (maybe_more meaning b (others y)) → AreReadable (maybe_more meaning a (others x))
       → maybe_more meaning a (others x) ≡ maybe_more meaning b (others y) → (option_eq eq_item a b ≡ true) × AreEqual x y
-  known_by always None b x y t k told p q r e = absurd t
-  known_by always (Some v) None x y t k told p q r e = absurd k
-  known_by always (Some v) (Some w) x y t k told p q r e = (c.known v w p.0 q.0 r.0 (first_member e), cs.known told x y p.1 q.1 r.1 (other_members e))
-  known_by perhaps a b x y t k told p q r e = maybe_told meaning s l c.begins told eq_item (AreEqual x y) c.known (others x) (others y) (cs.begins x) (cs.begins y) (cs.known told.1 x y) a b p q r e
+  injective_by always None b x y t k told p q r e = absurd t
+  injective_by always (Some v) None x y t k told p q r e = absurd k
+  injective_by always (Some v) (Some w) x y t k told p q r e = (c.injective v w p.0 q.0 r.0 (first_member e), cs.injective told x y p.1 q.1 r.1 (other_members e))
+  injective_by perhaps a b x y t k told p q r e = maybe_told meaning s l c.begins told eq_item (AreEqual x y) c.injective (others x) (others y) (cs.begins x) (cs.begins y) (cs.injective told.1 x y) a b p q r e
 
   sound_by : (p : Presence) → AreMembersSound (place_then p s l)
   sound_by always = (c.sound, cs.sound)
@@ -191,8 +191,8 @@ module _ {V W X : Type 0} {presence : Presence} {in_front : X → Trees → Tree
   pub lead : AreComponents (λ v. in_front (first v) (others v)) (place_then presence s l) (λ x y. (eq (first x) (first y) ≡ true) × AreEqual x y)
   lead = record {
     begins = λ v. subst (AreBegunBy (next_firsts (place_then presence s l))) (sym (stand v)) (begun_by presence (item (first v)) v (c.there (first v)));
-    known = λ told x y p q r e.
-        let same = known_by presence (item (first x)) (item (first y)) x y (c.there (first x)) (c.there (first y)) told (subst (AreMembersOf (place_then presence s l)) (stand x) p) (subst (AreMembersOf (place_then presence s l)) (stand y) q) (subst AreReadable (stand x) r) (sym (stand x) ∙ e ∙ stand y) in
+    injective = λ told x y p q r e.
+        let same = injective_by presence (item (first x)) (item (first y)) x y (c.there (first x)) (c.there (first y)) told (subst (AreMembersOf (place_then presence s l)) (stand x) p) (subst (AreMembersOf (place_then presence s l)) (stand y) q) (subst AreReadable (stand x) r) (sym (stand x) ∙ e ∙ stand y) in
         (c.equal (first x) (first y) same.0, same.1);
     sound = sound_by presence;
   }

@@ -12,7 +12,7 @@ use Rattle.picky_der_input.specs.Order.{AreInOrder, without_order}
 use Rattle.picky_der_input.specs.Refusing.{FailsAs}
 use Rattle.picky_der_input.specs.LookAhead.{Peeks, Identifies, RefusesIdentifier}
 use Rattle.picky_der_de.specs.Firsts.{IsBegunBy}
-use Rattle.picky_der_de.specs.Members.{ReadsMember, RefusesMember, HasNoMore, bytes_of, StandUpToEnd}
+use Rattle.picky_der_de.specs.Members.{ReadsMember, RefusesMember, HasNoMore, members_encoding, StandUpToEnd}
 
 -- ---- one member that may be missing
 
@@ -66,16 +66,16 @@ pub record ReadsLayout (l : Layout) (old new : State) (ts : Trees) : Type 0 wher
   pub readable : AreReadable ts
   pub order : AreInOrder old.sets (encodings ts)
   -- whether the first byte was looked at or not
-  pub passes : (a : State) → Rests a old → Passes a new (bytes_of ts)
+  pub passes : (a : State) → Rests a old → Passes a new (members_encoding ts)
   pub implicit_tag : new.implicit_tag ≡ None
   -- what fails behind them has failed from before them
   pub fails : (last : State) (e : Asn1DerError) → Fails new last e → Fails old last e
-  pub full : AreMembersTold l → (last : State) (e : Asn1DerError) → Fails new last e → 0 < new.until_end → (us : Trees) → AreMembersOf l us → AreReadable us → StandUpToEnd old last e (bytes_of us) → ⊥
+  pub full : AreMembersTold l → (last : State) (e : Asn1DerError) → Fails new last e → 0 < new.until_end → (us : Trees) → AreMembersOf l us → AreReadable us → StandUpToEnd old last e (members_encoding us) → ⊥
 
 -- no values stand there as members up to the end
 pub record RefusesLayout {V : Type 0} (members : V → Trees) (l : Layout) (old new : State) (e : Asn1DerError) : Type 0 where
   pub fails : Fails old new e
-  pub none : AreMembersTold l → IsJudged old new e → (v : V) → AreMembersOf l (members v) → AreReadable (members v) → AreInOrder old.sets (encodings (members v)) → StandUpToEnd old new e (bytes_of (members v)) → ⊥
+  pub none : AreMembersTold l → IsJudged old new e → (v : V) → AreMembersOf l (members v) → AreReadable (members v) → AreInOrder old.sets (encodings (members v)) → StandUpToEnd old new e (members_encoding (members v)) → ⊥
 
 -- ---- laws
 

@@ -44,8 +44,8 @@ pub record HasNoMore (old new : State) : Type 0 where
 -- ---- members up to the end
 
 -- the encodings of members, one after another
-abbrev pub bytes_of : Trees → List ℕ
-bytes_of ts = concat (encodings ts)
+abbrev pub members_encoding : Trees → List ℕ
+members_encoding ts = concat (encodings ts)
 
 -- bytes of which a refusal speaks begin with these, which don't reach past the end
 pub record StandBefore (old new : State) (e : Asn1DerError) (bytes : List ℕ) : Type 0 where
@@ -66,21 +66,21 @@ pub record ReadsRow (ss : Shapes) (old new : State) (ts : Trees) : Type 0 where
   pub of_shape : AreOf ss ts
   pub readable : AreReadable ts
   pub order : AreInOrder old.sets (encodings ts)
-  pub takes : Takes (without_order old) (without_order new) (bytes_of ts)
+  pub takes : Takes (without_order old) (without_order new) (members_encoding ts)
   pub implicit_tag : new.implicit_tag ≡ None
 
 -- no values stand there as members, whatever is behind them
 pub record RefusesRow {V : Type 0} (members : V → Trees) (ss : Shapes) (old new : State) (e : Asn1DerError) : Type 0 where
   pub fails : Fails old new e
   pub none : IsJudged old new e → (v : V) → AreOf ss (members v) → AreReadable (members v) → AreInOrder old.sets (encodings (members v))
-      → StandBefore old new e (bytes_of (members v)) → ⊥
+      → StandBefore old new e (members_encoding (members v)) → ⊥
 
 -- all members up to the end were read
 pub record ReadsAll {V : Type 0} (meaning : V → Tree) (s : Shape) (old new : State) (vs : List V) : Type 0 where
   pub of_shape : EachIs (IsOf s) (trees (map meaning vs))
   pub readable : AreReadable (trees (map meaning vs))
   pub order : AreInOrder old.sets (encodings (trees (map meaning vs)))
-  pub takes : Takes (without_order old) (without_order new) (bytes_of (trees (map meaning vs)))
+  pub takes : Takes (without_order old) (without_order new) (members_encoding (trees (map meaning vs)))
   pub implicit_tag : new.implicit_tag ≡ None
   pub reached : new.until_end ≡ 0
 
@@ -102,10 +102,10 @@ pub record RefusesTaken (old new : State) (e : Asn1DerError) (bytes : List ℕ) 
 -- was refused for that as soon as it was read.
 pub record RefusesAll {V : Type 0} (meaning : V → Tree) (s : Shape) (old new : State) (e : Asn1DerError) : Type 0 where
   pub fails : Fails old new e
-  pub lesser : IsJudged old new e → (vs : List V) (v : V) → BreaksOrder meaning s (AreInOrder old.sets) vs v → StandBefore old new e (bytes_of (trees (map meaning (vs ++ v ∷ []))))
-      → RefusesTaken old new e (bytes_of (trees (map meaning (vs ++ v ∷ []))))
+  pub lesser : IsJudged old new e → (vs : List V) (v : V) → BreaksOrder meaning s (AreInOrder old.sets) vs v → StandBefore old new e (members_encoding (trees (map meaning (vs ++ v ∷ []))))
+      → RefusesTaken old new e (members_encoding (trees (map meaning (vs ++ v ∷ []))))
   pub none : IsJudged old new e → (vs : List V) → EachIs (IsOf s) (trees (map meaning vs)) → AreReadable (trees (map meaning vs)) → AreInOrder old.sets (encodings (trees (map meaning vs)))
-      → StandUpToEnd old new e (bytes_of (trees (map meaning vs))) → ⊥
+      → StandUpToEnd old new e (members_encoding (trees (map meaning vs))) → ⊥
 
 -- ---- sets out of order
 
@@ -128,4 +128,4 @@ pub record IsRefusedBefore (rest : List ℕ) (new : State) (e : Asn1DerError) : 
 abbrev pub RefusesUnordered : {V : Type 0} → (V → Tree) → Shape → State → State → Asn1DerError → Type 0
 RefusesUnordered {V} meaning s old new e =
     IsJudged old new e → (vs : List V) (v : V) → BreaksOrder meaning s IsAscending vs v
-    → (bs rest : List ℕ) → old.input ≡ Some bs → BeginsSet old bs (bytes_of (trees (map meaning (vs ++ v ∷ [])))) rest → IsRefusedBefore rest new e
+    → (bs rest : List ℕ) → old.input ≡ Some bs → BeginsSet old bs (members_encoding (trees (map meaning (vs ++ v ∷ [])))) rest → IsRefusedBefore rest new e

@@ -9,11 +9,11 @@ use Rattle.picky_der_core.specs.Readable.{IsReadable, AreReadable}
 use Rattle.picky_der_core.specs.Shape.{Shape, Shapes, Layout, IsOf, AreOf, AreMembersOf, AreMembersTold, firsts, next_firsts}
 use Rattle.picky_der_ser.specs.Meaning.{option_meaning, maybe_more, unless_default}
 use Rattle.picky_der_ser.specs.Defaults.{IsOne}
-use Rattle.picky_der_de.specs.ArrayLaws.{times, array_known}
+use Rattle.picky_der_de.specs.ArrayLaws.{times, array_injective}
 use Rattle.picky_der_de.specs.Firsts.{IsBegunBy, firsts_in}
 use Rattle.picky_der_de.specs.Layouts.{AreBegunBy}
 use Rattle.picky_der_de.specs.LayoutLaws.{maybe_begun, maybe_told, same_unless_default}
-use Rattle.picky_der_de.specs.InjectiveLaws.{IsInjective, boolean_known, unsigned_known, bytes_known, text_known, character_known, raw_known, option_known, list_known, both, row_members, first_member, other_members}
+use Rattle.picky_der_de.specs.InjectiveLaws.{IsInjective, boolean_injective, unsigned_injective, bytes_injective, text_injective, character_injective, raw_injective, option_injective, list_injective, both, row_members, first_member, other_members}
 
 -- where the two are one readable tree of the shape, the two values that mean them are equal
 pub record Tells (s : Shape) (t u : Tree) (equal : Bool) : Type 0 where
@@ -29,31 +29,31 @@ pub by_law : {V : Type 0} {meaning : V → Tree} (s : Shape) {eq : V → V → B
 by_law s h x y = record { tells = h x y }
 
 pub tells_boolean : (x y : Bool) → Tells Shape.boolean (Tree.boolean x) (Tree.boolean y) (beq x y)
-tells_boolean x y = record { tells = λ p q r. boolean_known x y }
+tells_boolean x y = record { tells = λ p q r. boolean_injective x y }
 
 pub tells_unsigned : (most x y : ℕ) → Tells (Shape.unsigned most) (Tree.unsigned x) (Tree.unsigned y) (nat_eq x y)
-tells_unsigned most x y = record { tells = λ p q r. unsigned_known x y }
+tells_unsigned most x y = record { tells = λ p q r. unsigned_injective x y }
 
 pub tells_null : Tells Shape.null Tree.null Tree.null true
 tells_null = record { tells = λ p q r e. refl }
 
 pub tells_text : (xs ys : List ℕ) → Tells Shape.text (Tree.text xs) (Tree.text ys) (pointwise eqb xs ys)
-tells_text xs ys = record { tells = λ p q r. text_known xs ys }
+tells_text xs ys = record { tells = λ p q r. text_injective xs ys }
 
 pub tells_character : (x y : ℕ) → Tells Shape.character (Tree.text (encode_utf8 x)) (Tree.text (encode_utf8 y)) (nat_eq x y)
-tells_character x y = record { tells = λ p q r. character_known x y }
+tells_character x y = record { tells = λ p q r. character_injective x y }
 
 pub tells_bytes : {tag a b : ℕ} {xs ys : List ℕ} → Tells (Shape.bytes tag) (Tree.bytes a xs) (Tree.bytes b ys) (pointwise eqb xs ys)
-tells_bytes {tag} {a} {b} {xs} {ys} = record { tells = λ p q r. bytes_known xs ys }
+tells_bytes {tag} {a} {b} {xs} {ys} = record { tells = λ p q r. bytes_injective xs ys }
 
 pub tells_raw : (xs ys : List ℕ) → Tells Shape.raw (Tree.raw xs) (Tree.raw ys) (pointwise eqb xs ys)
-tells_raw xs ys = record { tells = λ p q r. raw_known xs ys }
+tells_raw xs ys = record { tells = λ p q r. raw_injective xs ys }
 
 pub tells_option : {V : Type 0} (meaning : V → Tree) (s : Shape) (eq : V → V → Bool) → ((x y : V) → Tells s (meaning x) (meaning y) (eq x y)) → (x y : Option V) → Tells (Shape.optional s) (option_meaning meaning x) (option_meaning meaning y) (option_eq eq x y)
-tells_option meaning s eq h x y = record { tells = option_known meaning s eq (λ v w. (h v w).tells) x y }
+tells_option meaning s eq h x y = record { tells = option_injective meaning s eq (λ v w. (h v w).tells) x y }
 
 pub tells_list : {V : Type 0} (meaning : V → Tree) (s : Shape) (eq : V → V → Bool) → ((x y : V) → Tells s (meaning x) (meaning y) (eq x y)) → (k : ListKind) (xs ys : List V) → Tells (Shape.list_of k s) (Tree.list k (trees (map meaning xs))) (Tree.list k (trees (map meaning ys))) (pointwise eq xs ys)
-tells_list meaning s eq h k xs ys = record { tells = λ p q r. list_known meaning s eq (λ v w. (h v w).tells) xs ys p.1 q.1 r.1 }
+tells_list meaning s eq h k xs ys = record { tells = λ p q r. list_injective meaning s eq (λ v w. (h v w).tells) xs ys p.1 q.1 r.1 }
 
 -- ---- wrappers
 
@@ -76,7 +76,7 @@ tells_application {n} {s} {t} {u} {p} h = record { tells = λ a b r e. let f : t
 
 pub tells_array : {V : Type 0} (n : ℕ) (meaning : V → Tree) (s : Shape) (eq : V → V → Bool) → ((x y : V) → Tells s (meaning x) (meaning y) (eq x y)) → (k : ListKind) (xs ys : List V)
     → Tells (Shape.fields k (times n s)) (Tree.list k (trees (map meaning xs))) (Tree.list k (trees (map meaning ys))) (pointwise eq xs ys)
-tells_array n meaning s eq h k xs ys = record { tells = λ p q r. array_known meaning s eq (λ v w. (h v w).tells) n xs ys p.1 q.1 r.1 }
+tells_array n meaning s eq h k xs ys = record { tells = λ p q r. array_injective meaning s eq (λ v w. (h v w).tells) n xs ys p.1 q.1 r.1 }
 
 -- ---- fields
 

@@ -4,7 +4,7 @@ ghost use Rattle.picky_der_core.specs.Tree.{Tree};
 ghost use Rattle.picky_der_core.specs.Shape.{Shapes, AreSound, firsts_of, has};
 ghost use Rattle.picky_der_de.specs.Firsts.{IsBegunBy};
 ghost use Rattle.picky_der_de.specs.Choices.{ReadsBehind, RefusesBehind, AreKnownApart, chosen_of, begins_this_or_other};
-ghost use Rattle.picky_der_de.specs.Choices.{known_this_or_other, equal_this_or_other};
+ghost use Rattle.picky_der_de.specs.Choices.{this_or_other_injective, equal_this_or_other};
 ghost use Rattle.picky_der_core.specs.Equality.{IsThatOf};
 
 use crate::{Begins, Deserializer};
@@ -60,7 +60,7 @@ pub trait Alternatives: PartialEq + Drop + Sized {
     ghost begins: { (v : Self) → IsBegunBy (firsts_of shapes) (chosen v) };
 
     // Two readable values with one tree are equal, where the alternatives are told by their first byte.
-    ghost known: { AreKnownApart chosen shapes Self.eq };
+    ghost injective: { AreKnownApart chosen shapes Self.eq };
 
     // The choices in the shapes are told by their first byte.
     ghost sound: { AreSound shapes };
@@ -83,7 +83,7 @@ impl Alternatives for NoneOf {
 
     ghost begins = { λ v. elim v [ ] };
 
-    ghost known = { λ _ v. elim v [ ] };
+    ghost injective = { λ _ v. elim v [ ] };
 
     ghost sound = { tt };
 }
@@ -111,8 +111,8 @@ impl<A: Begins, B: Alternatives> Alternatives for OneOf<A, B> {
 
     ghost begins = { begins_this_or_other A.meaning B.chosen A.shape B.shapes A.begins B.begins };
 
-    ghost known = { known_this_or_other A.meaning B.chosen A.shape B.shapes A.begins B.begins ⟦<OneOf<A, B> as PartialEq>⟧.eq
-        (λ _ _ h. h) (λ _ _ h. h) A.injective B.known };
+    ghost injective = { this_or_other_injective A.meaning B.chosen A.shape B.shapes A.begins B.begins ⟦<OneOf<A, B> as PartialEq>⟧.eq
+        (λ _ _ h. h) (λ _ _ h. h) A.injective B.injective };
 
     ghost sound = { (A.sound, B.sound) };
 }

@@ -3,7 +3,7 @@ ghost use Rattle.picky_der_core.specs.Tree.{Tree};
 ghost use Rattle.picky_der_core.specs.Shape.{Shapes};
 ghost use Rattle.picky_der_core.specs.Equality.{IsThatOf};
 ghost use Rattle.picky_der_de.specs.Choices.{equal_this_or_other};
-ghost use Rattle.picky_der_de.specs.FourChoices.{one_by_one, chosen_of4, begins_one_of4, known_one_of4};
+ghost use Rattle.picky_der_de.specs.FourChoices.{one_by_one, chosen_of4, begins_one_of4, one_of4_injective};
 
 use crate::{Alternatives, Begins, Deserializer, OneOf};
 use picky_der_core::Result;
@@ -65,9 +65,9 @@ impl<A: Begins, B: Begins, C: Begins, D: Begins, E: Alternatives> Alternatives
     ghost begins = { begins_one_of4 A.meaning B.meaning C.meaning D.meaning E.chosen A.shape B.shape C.shape D.shape E.shapes
         A.begins B.begins C.begins D.begins E.begins };
 
-    ghost known = { known_one_of4 A.meaning B.meaning C.meaning D.meaning E.chosen A.shape B.shape C.shape D.shape E.shapes
+    ghost injective = { one_of4_injective A.meaning B.meaning C.meaning D.meaning E.chosen A.shape B.shape C.shape D.shape E.shapes
         A.begins B.begins C.begins D.begins E.begins ⟦<OneOf4<A, B, C, D, E> as PartialEq>⟧.eq (λ _ _ h. h) (λ _ _ h. h)
-        (λ _ _ h. h) (λ _ _ h. h) (λ _ _ h. h) A.injective B.injective C.injective D.injective E.known };
+        (λ _ _ h. h) (λ _ _ h. h) (λ _ _ h. h) A.injective B.injective C.injective D.injective E.injective };
 
     ghost sound = { (A.sound, (B.sound, (C.sound, (D.sound, E.sound)))) };
 }

@@ -2,7 +2,7 @@
 ghost use Rattle.std.specs.Prelude.{◌≡◌, true};
 ghost use Rattle.picky_der_core.specs.Tree.{Tree};
 ghost use Rattle.picky_der_core.specs.Shape.{Shape, AreTold};
-ghost use Rattle.picky_der_de.specs.Choices.{choice_known, choice_begins};
+ghost use Rattle.picky_der_de.specs.Choices.{choice_injective, choice_begins};
 
 use crate::{Alternatives, Begins, Deserialize, Deserializer};
 use picky_der_core::Result;
@@ -41,8 +41,8 @@ pub trait Told: Choice + Serialize + PartialEq + Drop {
 impl<T: Told> Deserialize for T {
     ghost shape = { Shape.choice T.Alternatives.shapes };
 
-    ghost injective = { λ v w. choice_known T.Alternatives.chosen T.Alternatives.shapes T.Alternatives.eq T.told
-        T.Alternatives.known (T.parts v) (T.parts w) (T.meant v) (T.meant w) (T.equal v w) };
+    ghost injective = { λ v w. choice_injective T.Alternatives.chosen T.Alternatives.shapes T.Alternatives.eq T.told
+        T.Alternatives.injective (T.parts v) (T.parts w) (T.meant v) (T.meant w) (T.equal v w) };
 
     ghost sound = { (T.Alternatives.sound, T.told) };
 

@@ -6,7 +6,7 @@ use Rattle.picky_der_core.specs.ElementLaws.{bytes_then}
 use Rattle.picky_der_core.specs.Failure.{failure_of}
 use Rattle.picky_der_input.specs.State.{State}
 use Rattle.std.specs.Io.KnownBytes.{Consumes, Keeps}
-use Rattle.picky_der_input.specs.Steps.{failed_with, Takes, TakesBytes, Took, TakesKept, StopsShort, Fails, IsMissing}
+use Rattle.picky_der_input.specs.Steps.{failed_with, Takes, TakesBytes, TakesSome, TakesKept, StopsShort, Fails, IsMissing}
 use Rattle.picky_der_input.proofs.Steps.{takes_then, fails_after, judged_after}
 
 -- the first bytes of one byte more
@@ -32,7 +32,7 @@ consumes-keeps (Some xs) None bs l c = c
 consumes-keeps (Some xs) (Some ys) [] l c = sym c
 consumes-keeps (Some xs) (Some ys) (b ∷ bs) l c = absurd (omega arith)
 
-pub kept_input : {a b : State} → Took a b → b.taken ≡ a.taken → Keeps a.input b.input
+pub kept_input : {a b : State} → TakesSome a b → b.taken ≡ a.taken → Keeps a.input b.input
 kept_input {a} {b} t e = consumes-keeps a.input b.input t.bytes (omega (arith, t.count)) t.input
 
 -- one byte more was taken

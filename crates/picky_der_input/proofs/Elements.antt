@@ -13,7 +13,7 @@ use Rattle.picky_der_core.specs.EncodingLaws.{der-raw, der-bytes, inside-other}
 use Rattle.picky_der_core.specs.Shape.{Shape, AreBytes, IsFirst}
 use Rattle.picky_der_core.specs.FirstLaws.{has-tags_below}
 use Rattle.picky_der_core.specs.Reading.{Place, written_at, MayStand, StandsAt}
-use Rattle.picky_der_core.specs.Refusal.{Refusal, bytes_fault, plain_refusal, element_refusal}
+use Rattle.picky_der_core.specs.Refusal.{Refusal, bytes_error, plain_refusal, element_refusal}
 use Rattle.picky_der_input.specs.State.{State}
 use Rattle.picky_der_input.specs.Steps.{Takes, TakesBytes, Fails, StopsShort, IsMissing, IsJudged, failed_with, is_hard, place_in, place_of, drawn_count}
 use Rattle.picky_der_input.specs.Reading.{Concerns, now, ever, IsJustRefused, RefusesPlain, refusal_at}
@@ -106,7 +106,7 @@ stands_tagged {place} {bs} {left} {end} {tag} s e st =
 -- ---- known bytes
 
 -- an element is refused as bytes under its tag are
-element_plain : (tag : ℕ) (hard : Bool) (ahead : ℕ) (y : List ℕ) → IsTagNumber (number_of tag) → element_refusal hard ahead (tag ∷ y) ≡ plain_refusal tag bytes_fault hard ahead (tag ∷ y)
+element_plain : (tag : ℕ) (hard : Bool) (ahead : ℕ) (y : List ℕ) → IsTagNumber (number_of tag) → element_refusal hard ahead (tag ∷ y) ≡ plain_refusal tag bytes_error hard ahead (tag ∷ y)
 element_plain tag hard ahead y n = rw (is_number n, same_byte tag) refl
 
 element_long_form : (first : ℕ) (hard : Bool) (ahead : ℕ) (y : List ℕ) → 30 < number_of first → element_refusal hard ahead (first ∷ y) ≡ Some (UnsupportedValue, y)
@@ -119,7 +119,7 @@ first_of_raw tag n l = has-tags_below tag 256 l n
 
 -- bytes under the tag that was taken were refused
 refuses_tagged : {a b c : State} {e : Asn1DerError} {tag : ℕ} {x : List ℕ} → Takes (without_implicit_tag a) b (tag ∷ x) → b.taken ≤ drawn_count c → IsTagNumber (number_of tag) → tag < 256
-    → RefusesPlain (Tree.bytes tag) tag bytes_fault (Shape.bytes tag) (without_implicit_tag a) c e → RefusesRaw a c e
+    → RefusesPlain (Tree.bytes tag) tag bytes_error (Shape.bytes tag) (without_implicit_tag a) c e → RefusesRaw a c e
 refuses_tagged {a} {b} {c} {e} {tag} {x} t g n byte h = record {
   refuses = record {
     fails = given_up_fails h.refuses.fails;
@@ -134,7 +134,7 @@ refuses_tagged {a} {b} {c} {e} {tag} {x} t g n byte h = record {
       let f = front_of t k in
       record {
         left = q.left;
-        refused = ap (raw_refusal a) f.before ∙ element_plain tag (is_hard a.end) a.until_end (x ++ take b.until_end f.rest) n ∙ ap (refusal_at tag bytes_fault (without_implicit_tag a)) (sym f.before) ∙ q.refused;
+        refused = ap (raw_refusal a) f.before ∙ element_plain tag (is_hard a.end) a.until_end (x ++ take b.until_end f.rest) n ∙ ap (refusal_at tag bytes_error (without_implicit_tag a)) (sym f.before) ∙ q.refused;
         input = q.input;
         kept = q.kept;
         used = q.used;
@@ -213,5 +213,5 @@ reads_raw {a} {b} {c} {tag} {n} {content} {all} h t d is =
       };
       no_refusal = λ bs k.
           let f = front_of h.takes k in
-          ap (raw_refusal a) f.before ∙ element_plain tag (is_hard a.end) a.until_end (len n ++ take b.until_end f.rest) h.number ∙ ap (refusal_at tag bytes_fault (without_implicit_tag a)) (sym f.before) ∙ plain.no_refusal bs k;
+          ap (raw_refusal a) f.before ∙ element_plain tag (is_hard a.end) a.until_end (len n ++ take b.until_end f.rest) h.number ∙ ap (refusal_at tag bytes_error (without_implicit_tag a)) (sym f.before) ∙ plain.no_refusal bs k;
     }

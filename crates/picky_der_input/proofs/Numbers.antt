@@ -5,7 +5,7 @@ use Rattle.std.proofs.lemmas.Bool.Decides.{nat_tests}
 use Rattle.std.proofs.Math.Nat.{pow-suc, pow-le-pow_right}
 use Rattle.picky_der_core.specs.Encoding.{unsigned_content}
 use Rattle.picky_der_core.specs.Shape.{AreBytes}
-use Rattle.picky_der_core.specs.Refusal.{unsigned_fault, number_fault}
+use Rattle.picky_der_core.specs.Refusal.{unsigned_error, number_error}
 use Rattle.picky_der_core.specs.UnsignedLaws.{content-unsigned_fault}
 
 pub more_bytes : (k n d : ℕ) → n < 256 ^ k → d < 256 → n * 256 + d < 256 ^ (k + 1)
@@ -25,10 +25,10 @@ bytes_by_place [] h = tt
 bytes_by_place (b ∷ bs) h = (h 0, bytes_by_place bs (λ i. h (suc i)))
 
 -- the content from which a number was read
-pub content_of_number : (n : ℕ) (content digits : List ℕ) → AreBytes content → ((most : ℕ) → unsigned_fault most content ≡ number_fault most digits) → length digits ≤ 16
+pub content_of_number : (n : ℕ) (content digits : List ℕ) → AreBytes content → ((most : ℕ) → unsigned_error most content ≡ number_error most digits) → length digits ≤ 16
     → n ≡ number_from_digits 256 digits → number_from_digits 256 digits ≡ number_from_digits 256 content → content ≡ unsigned_content n
 content_of_number n content digits bytes same short e f =
     let a : nat_lt 16 (length digits) ≡ false = grind (arith, nat_tests) in
     let b : nat_lt n (number_from_digits 256 digits) ≡ false = grind (arith, nat_tests) in
-    let none : number_fault n digits ≡ None = rw (a, b) refl in
+    let none : number_error n digits ≡ None = rw (a, b) refl in
     (content-unsigned_fault n content bytes (same n ∙ none)).0 ∙ ap unsigned_content (sym f ∙ sym e)

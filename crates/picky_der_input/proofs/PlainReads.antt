@@ -268,7 +268,7 @@ reads_kept {meaning = meaning} {judge = judge} {b = b} {c = c} {kept = kept} kin
 pub refuses_kept : {V : Type 0} {meaning : V → Tree} {s : Shape} {tag n : ℕ} {judge : Judge} {a b c d : State} {e : Asn1DerError} {kept : List ℕ} → IsShortKind meaning s tag judge → BeginsContent tag a b n → TakesKept b c n kept
     → Fails c d e → judge kept ≡ Some e → d ≡ failed_with c e → RefusesPlain meaning tag judge s a d e
 refuses_kept {judge = judge} kind h k f bad same =
-    refuses_content kind.plain h k.takes k.count f (sym (kind.told k.content) ∙ ap judge (sym k.first) ∙ bad) same
+    refuses_content kind.plain h k.takes k.count f (sym (kind.by_front k.content) ∙ ap judge (sym k.first) ∙ bad) same
 
 -- the same of values that hold such a value
 pub refuses_of : {V W : Type 0} {meaning : V → Tree} {s : Shape} {a c : State} {e : Asn1DerError} (part : W → V) → Refuses meaning s a c e → Refuses (λ w. meaning (part w)) s a c e

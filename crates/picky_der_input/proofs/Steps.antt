@@ -7,7 +7,7 @@ use Rattle.picky_der_core.specs.Failure.{failure_of}
 use Rattle.picky_der_core.specs.Peeking.{count_of_any}
 use Rattle.picky_der_core.specs.Reader.{TellsFault}
 use Rattle.picky_der_input.specs.State.{State}
-use Rattle.picky_der_input.specs.Steps.{Takes, Took, Fails, IsWithin, IsUnmoved, HasDrawn, IsJudged, drawn_count}
+use Rattle.picky_der_input.specs.Steps.{Takes, TakesSome, Fails, IsWithin, IsUnmoved, HasDrawn, IsJudged, drawn_count}
 
 pub takes_then : {a b c : State} {x y : List ℕ} → Takes a b x → Takes b c y → Takes a c (x ++ y)
 takes_then {a} {b} {c} {x} {y} h k = record {
@@ -52,7 +52,7 @@ takes_within {a} {b} {x} h w =
     let e : count_of_any b.peeked ≡ 0 = ap count_of_any h.unpeeked in
     record { end = omega (arith, w.end, h.taken, h.until_end, h.limit); drawn = omega (arith, w.end, h.taken, h.until_end, h.limit, e) }
 
-took_after : {a b c : State} {x : List ℕ} → Takes a b x → Took b c → Took a c
+took_after : {a b c : State} {x : List ℕ} → Takes a b x → TakesSome b c → TakesSome a c
 took_after {a} {b} {c} {x} h t = record {
   bytes = x ++ t.bytes;
   input = Consumes-trans a.input b.input c.input x t.bytes h.input t.input;
@@ -88,7 +88,7 @@ judged_after h j = record {
 pub unmoved : (a : State) → IsUnmoved a a
 unmoved a = record { input = Keeps-refl a.input; taken = refl; peeked = refl; faults = refl }
 
-took_none : (a : State) → Took a a
+took_none : (a : State) → TakesSome a a
 took_none a = record { bytes = []; input = Consumes-nil a.input; count = omega arith }
 
 -- it had failed before

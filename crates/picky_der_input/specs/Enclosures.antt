@@ -106,15 +106,15 @@ abbrev pub with_outer_end : Outer → State → State
 with_outer_end outer s = record s { until_end = outer.place - s.taken; end = outer.kind; sets = cut_at outer.last s.sets.around }
 
 -- the header, and the count of unused bits
-abbrev pub opening : Enclosure → ℕ → List ℕ
-opening w n = (enclosure_tag w ∷ len n) ++ unused_bits w
+abbrev pub enclosure_opening : Enclosure → ℕ → List ℕ
+enclosure_opening w n = (enclosure_tag w ∷ len n) ++ unused_bits w
 
 -- What stands before the value was taken, and nothing else changed but for a hard end that was opened where the length says.
 pub record OpensEnclosure (w : Enclosure) (old new : State) (outer : Outer) : Type 0 where
   pub size : ℕ
   pub number : HasEnclosureNumber w
   pub around : outer ≡ innermost old
-  pub takes : Takes old (with_outer_end outer new) (opening w size)
+  pub takes : Takes old (with_outer_end outer new) (enclosure_opening w size)
   pub until_end : size ≡ length (unused_bits w) + new.until_end
   pub within : new.taken + new.until_end ≤ outer.place
   pub end : new.end ≡ Hard

@@ -9,13 +9,13 @@ use Rattle.picky_der_core.specs.Shape.{Shape, IsFirst}
 use Rattle.picky_der_core.specs.Encoding.{boolean_content, unsigned_content}
 use Rattle.picky_der_core.specs.EncodingLaws.{number-unsigned_content}
 use Rattle.picky_der_core.specs.Tag.{number_of, is_tag_number, IsTagNumber}
-use Rattle.picky_der_core.specs.Refusal.{boolean_fault, number_fault, unsigned_fault, null_fault, text_fault, character_fault, bytes_fault}
+use Rattle.picky_der_core.specs.Refusal.{boolean_error, number_error, unsigned_error, null_error, text_error, character_error, bytes_error}
 use Rattle.picky_der_core.specs.BooleanLaws.{boolean_fault-content}
 use Rattle.picky_der_core.specs.UnsignedLaws.{unsigned_fault-content, content-unsigned_fault, AreBytes-unsigned_content, length-unsigned_content}
 use Rattle.picky_der_input.specs.PlainKinds.{IsPlainKind, IsShort, IsShortKind}
-use Rattle.picky_der_input.specs.TextLaws.{text_good, character_good, character_told, length_character, one_character}
+use Rattle.picky_der_input.specs.TextLaws.{text_good, character_good, character_by_front, length_character, one_character}
 
-boolean_kind : IsPlainKind Tree.boolean Shape.boolean 0x01 boolean_fault
+boolean_kind : IsPlainKind Tree.boolean Shape.boolean 0x01 boolean_error
 boolean_kind = record {
   number = omega arith;
   first = refl;
@@ -25,7 +25,7 @@ boolean_kind = record {
   judged = λ b o. boolean_fault-content b;
 }
 
-unsigned_kind : (most : ℕ) → IsPlainKind Tree.unsigned (Shape.unsigned most) 0x02 (unsigned_fault most)
+unsigned_kind : (most : ℕ) → IsPlainKind Tree.unsigned (Shape.unsigned most) 0x02 (unsigned_error most)
 unsigned_kind most = record {
   number = omega arith;
   first = refl;
@@ -35,7 +35,7 @@ unsigned_kind most = record {
   judged = λ n o. unsigned_fault-content most n o.0 o.1;
 }
 
-null_kind : IsPlainKind (λ (_ : Unit {0}). Tree.null) Shape.null 0x05 null_fault
+null_kind : IsPlainKind (λ (_ : Unit {0}). Tree.null) Shape.null 0x05 null_error
 null_kind = record {
   number = omega arith;
   first = refl;
@@ -45,7 +45,7 @@ null_kind = record {
   judged = λ _ o. refl;
 }
 
-pub text_kind : IsPlainKind Tree.text Shape.text 0x0C text_fault
+pub text_kind : IsPlainKind Tree.text Shape.text 0x0C text_error
 text_kind = record {
   number = omega arith;
   first = refl;
@@ -55,7 +55,7 @@ text_kind = record {
   judged = λ s o. text_good s o;
 }
 
-character_kind : IsPlainKind (λ c. Tree.text (encode_utf8 c)) Shape.character 0x0C character_fault
+character_kind : IsPlainKind (λ c. Tree.text (encode_utf8 c)) Shape.character 0x0C character_error
 character_kind = record {
   number = omega arith;
   first = refl;
@@ -71,7 +71,7 @@ first_of_bytes tag n =
     let same : (tag == tag) ≡ true = grind (arith, nat_tests) in
     rw (in_range, same) refl
 
-pub bytes_kind : (tag : ℕ) → IsTagNumber (number_of tag) → IsPlainKind (Tree.bytes tag) (Shape.bytes tag) tag bytes_fault
+pub bytes_kind : (tag : ℕ) → IsTagNumber (number_of tag) → IsPlainKind (Tree.bytes tag) (Shape.bytes tag) tag bytes_error
 bytes_kind tag n = record {
   number = n;
   first = first_of_bytes tag n;
@@ -83,21 +83,21 @@ bytes_kind tag n = record {
 
 -- ---- the first bytes tell
 
-boolean_told : (c : List ℕ) → boolean_fault (take 18 c) ≡ boolean_fault c
-boolean_told [] = refl
-boolean_told (b ∷ []) = refl
-boolean_told (b ∷ d ∷ bs) = refl
+boolean_by_front : (c : List ℕ) → boolean_error (take 18 c) ≡ boolean_error c
+boolean_by_front [] = refl
+boolean_by_front (b ∷ []) = refl
+boolean_by_front (b ∷ d ∷ bs) = refl
 
-null_told : (c : List ℕ) → null_fault (take 18 c) ≡ null_fault c
-null_told [] = refl
-null_told (b ∷ bs) = refl
+null_by_front : (c : List ℕ) → null_error (take 18 c) ≡ null_error c
+null_by_front [] = refl
+null_by_front (b ∷ bs) = refl
 
-number_too_long : (most : ℕ) (bs : List ℕ) → 16 < length bs → number_fault most bs ≡ Some UnsupportedValue
+number_too_long : (most : ℕ) (bs : List ℕ) → 16 < length bs → number_error most bs ≡ Some UnsupportedValue
 number_too_long most bs h = rw (lt-ltb 16 (length bs) h) refl
 
-number_told : (most d : ℕ) (bs : List ℕ) → (number_fault most (d ∷ take 16 bs) ≡ number_fault most (d ∷ bs)) × ((b : ℕ) → number_fault most (b ∷ d ∷ take 16 bs) ≡ number_fault most (b ∷ d ∷ bs))
-number_told most d bs = elim (cases_lt (length bs) 16) [
-  | inl few ↦ let all : take 16 bs ≡ bs = grind (arith, common_steps) in (ap (λ x. number_fault most (d ∷ x)) all, λ b. ap (λ x. number_fault most (b ∷ d ∷ x)) all)
+number_by_front : (most d : ℕ) (bs : List ℕ) → (number_error most (d ∷ take 16 bs) ≡ number_error most (d ∷ bs)) × ((b : ℕ) → number_error most (b ∷ d ∷ take 16 bs) ≡ number_error most (b ∷ d ∷ bs))
+number_by_front most d bs = elim (cases_lt (length bs) 16) [
+  | inl few ↦ let all : take 16 bs ≡ bs = grind (arith, common_steps) in (ap (λ x. number_error most (d ∷ x)) all, λ b. ap (λ x. number_error most (b ∷ d ∷ x)) all)
   | inr many ↦
       let long : length (take 16 bs) ≡ 16 = grind (arith, common_steps) in (
         number_too_long most (d ∷ take 16 bs) (omega arith) ∙ sym (number_too_long most (d ∷ bs) (omega arith)),
@@ -105,32 +105,32 @@ number_told most d bs = elim (cases_lt (length bs) 16) [
       )
 ]
 
-unsigned_told : (most : ℕ) (c : List ℕ) → unsigned_fault most (take 18 c) ≡ unsigned_fault most c
-unsigned_told most [] = refl
-unsigned_told most (b ∷ []) = refl
-unsigned_told most (b ∷ d ∷ bs) = let told = number_told most d bs in rw (told.0, told.1 b) refl
+unsigned_by_front : (most : ℕ) (c : List ℕ) → unsigned_error most (take 18 c) ≡ unsigned_error most c
+unsigned_by_front most [] = refl
+unsigned_by_front most (b ∷ []) = refl
+unsigned_by_front most (b ∷ d ∷ bs) = let by_front = number_by_front most d bs in rw (by_front.0, by_front.1 b) refl
 
 -- ---- kinds that are read from their first bytes
 
-pub short_boolean : IsShortKind Tree.boolean Shape.boolean 0x01 boolean_fault
-short_boolean = record { plain = boolean_kind; told = boolean_told; short = λ b e. record { of_shape = tt; readable = tt; short = size b } }
+pub short_boolean : IsShortKind Tree.boolean Shape.boolean 0x01 boolean_error
+short_boolean = record { plain = boolean_kind; by_front = boolean_by_front; short = λ b e. record { of_shape = tt; readable = tt; short = size b } }
   where
     size : (b : Bool) → length (boolean_content b) < 18
     size false = omega arith
     size true = omega arith
 
 -- a content that is read is that of a number of the type
-unsigned_short : (most n : ℕ) → unsigned_fault most (unsigned_content n) ≡ None → IsShort (Shape.unsigned most) (Tree.unsigned n)
+unsigned_short : (most n : ℕ) → unsigned_error most (unsigned_content n) ≡ None → IsShort (Shape.unsigned most) (Tree.unsigned n)
 unsigned_short most n e =
     let h = content-unsigned_fault most (unsigned_content n) (AreBytes-unsigned_content n) e in
     let few : n < 2 ^ 128 = omega (arith, h.2, number-unsigned_content n) in
     record { of_shape = (omega (arith, h.1, number-unsigned_content n), few); readable = tt; short = omega (arith, length-unsigned_content n few) }
 
-pub short_unsigned : (most : ℕ) → IsShortKind Tree.unsigned (Shape.unsigned most) 0x02 (unsigned_fault most)
-short_unsigned most = record { plain = unsigned_kind most; told = unsigned_told most; short = unsigned_short most }
+pub short_unsigned : (most : ℕ) → IsShortKind Tree.unsigned (Shape.unsigned most) 0x02 (unsigned_error most)
+short_unsigned most = record { plain = unsigned_kind most; by_front = unsigned_by_front most; short = unsigned_short most }
 
-pub short_null : IsShortKind (λ (_ : Unit {0}). Tree.null) Shape.null 0x05 null_fault
-short_null = record { plain = null_kind; told = null_told; short = λ _ e. record { of_shape = tt; readable = tt; short = omega arith } }
+pub short_null : IsShortKind (λ (_ : Unit {0}). Tree.null) Shape.null 0x05 null_error
+short_null = record { plain = null_kind; by_front = null_by_front; short = λ _ e. record { of_shape = tt; readable = tt; short = omega arith } }
 
-pub short_character : IsShortKind (λ c. Tree.text (encode_utf8 c)) Shape.character 0x0C character_fault
-short_character = record { plain = character_kind; told = character_told; short = λ c e. record { of_shape = one_character (encode_utf8 c) e; readable = tt; short = length_character c } }
+pub short_character : IsShortKind (λ c. Tree.text (encode_utf8 c)) Shape.character 0x0C character_error
+short_character = record { plain = character_kind; by_front = character_by_front; short = λ c e. record { of_shape = one_character (encode_utf8 c) e; readable = tt; short = length_character c } }

@@ -25,5 +25,5 @@ pub record IsShort (s : Shape) (t : Tree) : Type 0 where
 -- a kind of plain values that are read from the first 18 bytes of their contents
 pub record IsShortKind {V : Type 0} (meaning : V → Tree) (s : Shape) (tag : ℕ) (judge : Judge) : Type 0 where
   pub plain : IsPlainKind meaning s tag judge
-  pub told : (c : List ℕ) → judge (take 18 c) ≡ judge c
+  pub by_front : (c : List ℕ) → judge (take 18 c) ≡ judge c
   pub short : (v : V) → judge (content (meaning v)) ≡ None → IsShort s (meaning v)

@@ -6,7 +6,7 @@ use Rattle.picky_der_core.specs.Tree.{Tree}
 use Rattle.picky_der_core.specs.Readable.{IsReadable}
 use Rattle.picky_der_core.specs.Shape.{Shape, IsOf, IsFirst}
 use Rattle.picky_der_core.specs.Reading.{written_at, MayStand, StandsAt}
-use Rattle.picky_der_core.specs.Refusal.{Judge, Refusal, plain_refusal, inside_refusal, boolean_fault, unsigned_fault, null_fault, text_fault, character_fault, bytes_fault}
+use Rattle.picky_der_core.specs.Refusal.{Judge, Refusal, plain_refusal, inside_refusal, boolean_error, unsigned_error, null_error, text_error, character_error, bytes_error}
 use Rattle.picky_der_input.specs.State.{State}
 use Rattle.picky_der_input.specs.Steps.{Takes, Fails, IsJudged, drawn_count, reach, place_of, is_hard}
 
@@ -82,40 +82,40 @@ pub record RefusesPlain {V : Type 0} (meaning : V → Tree) (tag : ℕ) (judge :
 -- ---- the kinds of plain values
 
 abbrev pub ReadsBoolean : State → State → Bool → Type 0
-ReadsBoolean old new b = ReadsPlain 0x01 boolean_fault Shape.boolean old new (Tree.boolean b)
+ReadsBoolean old new b = ReadsPlain 0x01 boolean_error Shape.boolean old new (Tree.boolean b)
 
 abbrev pub RefusesBoolean : State → State → Asn1DerError → Type 0
-RefusesBoolean old new e = RefusesPlain Tree.boolean 0x01 boolean_fault Shape.boolean old new e
+RefusesBoolean old new e = RefusesPlain Tree.boolean 0x01 boolean_error Shape.boolean old new e
 
 -- a number up to the greatest one of a type
 abbrev pub ReadsUnsigned : ℕ → State → State → ℕ → Type 0
-ReadsUnsigned most old new n = ReadsPlain 0x02 (unsigned_fault most) (Shape.unsigned most) old new (Tree.unsigned n)
+ReadsUnsigned most old new n = ReadsPlain 0x02 (unsigned_error most) (Shape.unsigned most) old new (Tree.unsigned n)
 
 abbrev pub RefusesUnsigned : ℕ → State → State → Asn1DerError → Type 0
-RefusesUnsigned most old new e = RefusesPlain Tree.unsigned 0x02 (unsigned_fault most) (Shape.unsigned most) old new e
+RefusesUnsigned most old new e = RefusesPlain Tree.unsigned 0x02 (unsigned_error most) (Shape.unsigned most) old new e
 
 abbrev pub ReadsBytes : ℕ → State → State → List ℕ → Type 0
-ReadsBytes tag old new bs = ReadsPlain tag bytes_fault (Shape.bytes tag) old new (Tree.bytes tag bs)
+ReadsBytes tag old new bs = ReadsPlain tag bytes_error (Shape.bytes tag) old new (Tree.bytes tag bs)
 
 abbrev pub RefusesBytes : ℕ → State → State → Asn1DerError → Type 0
-RefusesBytes tag old new e = RefusesPlain (Tree.bytes tag) tag bytes_fault (Shape.bytes tag) old new e
+RefusesBytes tag old new e = RefusesPlain (Tree.bytes tag) tag bytes_error (Shape.bytes tag) old new e
 
 abbrev pub ReadsNull : State → State → Type 0
-ReadsNull old new = ReadsPlain 0x05 null_fault Shape.null old new Tree.null
+ReadsNull old new = ReadsPlain 0x05 null_error Shape.null old new Tree.null
 
 abbrev pub RefusesNull : State → State → Asn1DerError → Type 0
-RefusesNull old new e = RefusesPlain (λ (_ : Unit {0}). Tree.null) 0x05 null_fault Shape.null old new e
+RefusesNull old new e = RefusesPlain (λ (_ : Unit {0}). Tree.null) 0x05 null_error Shape.null old new e
 
 -- a text, by its bytes
 abbrev pub ReadsText : State → State → List ℕ → Type 0
-ReadsText old new s = ReadsPlain 0x0C text_fault Shape.text old new (Tree.text s)
+ReadsText old new s = ReadsPlain 0x0C text_error Shape.text old new (Tree.text s)
 
 abbrev pub RefusesText : State → State → Asn1DerError → Type 0
-RefusesText old new e = RefusesPlain Tree.text 0x0C text_fault Shape.text old new e
+RefusesText old new e = RefusesPlain Tree.text 0x0C text_error Shape.text old new e
 
 -- a text of one character
 abbrev pub ReadsCharacter : State → State → ℕ → Type 0
-ReadsCharacter old new c = ReadsPlain 0x0C character_fault Shape.character old new (Tree.text (encode_utf8 c))
+ReadsCharacter old new c = ReadsPlain 0x0C character_error Shape.character old new (Tree.text (encode_utf8 c))
 
 abbrev pub RefusesCharacter : State → State → Asn1DerError → Type 0
-RefusesCharacter old new e = RefusesPlain (λ c. Tree.text (encode_utf8 c)) 0x0C character_fault Shape.character old new e
+RefusesCharacter old new e = RefusesPlain (λ c. Tree.text (encode_utf8 c)) 0x0C character_error Shape.character old new e

@@ -80,7 +80,7 @@ pub record Takes (old new : State) (bytes : List ℕ) : Type 0 where
   pub references : new.references ≡ old.references
 
 -- the bytes that a failed call took
-pub record Took (old new : State) : Type 0 where
+pub record TakesSome (old new : State) : Type 0 where
   pub bytes : List ℕ
   pub input : Consumes old.input new.input bytes
   pub count : new.taken ≡ old.taken + length bytes
@@ -114,7 +114,7 @@ pub record Fails (old new : State) (e : Asn1DerError) : Type 0 where
   pub unpeeked : new.faults ≢ old.faults → new.peeked ≡ None
   -- `Other` comes from a fault alone
   pub other : old.failed ≡ None → new.faults ≡ old.faults → IsOther e → ⊥
-  pub took : Took old new
+  pub took : TakesSome old new
   -- a peeked byte stays, or was taken
   pub grows : drawn_count old ≤ drawn_count new
   -- the innermost end doesn't move away

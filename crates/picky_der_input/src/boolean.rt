@@ -3,7 +3,7 @@ ghost use Rattle.std.specs.Prelude.{◌≡◌, Bool, None, Some, IfOk, OnOk, IfE
 ghost use Rattle.picky_der_core.specs.Tree.{Tree};
 ghost use Rattle.picky_der_core.specs.Shape.{Shape};
 ghost use Rattle.picky_der_core.specs.Encoding.{boolean_content};
-ghost use Rattle.picky_der_core.specs.Refusal.{boolean_fault};
+ghost use Rattle.picky_der_core.specs.Refusal.{boolean_error};
 ghost use Rattle.picky_der_input.specs.Steps.{IsOfContent};
 ghost use Rattle.picky_der_input.specs.PlainKindLaws.{short_boolean};
 
@@ -19,8 +19,8 @@ impl Boolean {
     /// `InvalidData` for more than one byte and for any other byte.
     pub fn deserialize(content: &[u8]) -> Result<bool>
         ensures ok { IfOk result (λ value. content.now ≡ boolean_content value) }
-        ensures right { OnOk result (boolean_fault content.now ≡ None) }
-        ensures fault { IfErr result (λ e. boolean_fault content.now ≡ Some e) }
+        ensures right { OnOk result (boolean_error content.now ≡ None) }
+        ensures fault { IfErr result (λ e. boolean_error content.now ≡ Some e) }
         ensures no_device { IfErr result IsOfContent }
     {
         match content {
@@ -43,7 +43,7 @@ impl PlainKind<bool> for Boolean {
 
     ghost TAG = { 0x01 };
 
-    ghost judge = { boolean_fault };
+    ghost judge = { boolean_error };
 
     const TAG: Tag = Tag::BOOLEAN;
 

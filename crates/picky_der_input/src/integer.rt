@@ -4,7 +4,7 @@ ghost use Rattle.std.specs.Int.Digits.{number_from_digits};
 ghost use Rattle.picky_der_core.specs.Tree.{Tree};
 ghost use Rattle.picky_der_core.specs.Shape.{Shape};
 ghost use Rattle.picky_der_core.specs.Encoding.{unsigned_content};
-ghost use Rattle.picky_der_core.specs.Refusal.{unsigned_fault, number_fault};
+ghost use Rattle.picky_der_core.specs.Refusal.{unsigned_error, number_error};
 ghost use Rattle.picky_der_input.specs.Steps.{IsOfContent};
 ghost use Rattle.picky_der_input.specs.PlainKindLaws.{short_unsigned};
 
@@ -15,10 +15,10 @@ use picky_der_core::{Asn1DerError, Result, UInt};
 // The bytes of a number behind a 00 that keeps it from being negative.
 fn digits_of(content: &[u8]) -> Result<&[u8]>
     ensures ok { IfOk result (λ digits. (most : ℕ)
-        → unsigned_fault most content.now ≡ number_fault most digits.now) }
+        → unsigned_error most content.now ≡ number_error most digits.now) }
     ensures same { IfOk result (λ digits. number_from_digits 256 digits.now
         ≡ number_from_digits 256 content.now) }
-    ensures err { IfErr result (λ e. (most : ℕ) → unsigned_fault most content.now ≡ Some e) }
+    ensures err { IfErr result (λ e. (most : ℕ) → unsigned_error most content.now ≡ Some e) }
     ensures no_device { IfErr result IsOfContent }
 {
     match content {
@@ -56,8 +56,8 @@ impl UnsignedInteger {
     /// past the type's greatest; `InvalidData` for a needless 00 in front.
     pub fn deserialize<T: UInt>(content: &[u8]) -> Result<T>
         ensures ok { IfOk result (λ value. content.now ≡ unsigned_content (T.number value)) }
-        ensures right { OnOk result (unsigned_fault T.greatest content.now ≡ None) }
-        ensures fault { IfErr result (λ e. unsigned_fault T.greatest content.now ≡ Some e) }
+        ensures right { OnOk result (unsigned_error T.greatest content.now ≡ None) }
+        ensures fault { IfErr result (λ e. unsigned_error T.greatest content.now ≡ Some e) }
         ensures no_device { IfErr result IsOfContent }
     {
         let digits = digits_of(content)?;
@@ -79,7 +79,7 @@ impl<T: UInt> PlainKind<T> for UnsignedInteger {
 
     ghost TAG = { 0x02 };
 
-    ghost judge = { unsigned_fault T.greatest };
+    ghost judge = { unsigned_error T.greatest };
 
     const TAG: Tag = Tag::INTEGER;
 

@@ -2,7 +2,7 @@
 ghost use Rattle.std.specs.Prelude.{◌≡◌, [], None, Some, OnOk, IfErr};
 ghost use Rattle.picky_der_core.specs.Tree.{Tree};
 ghost use Rattle.picky_der_core.specs.Shape.{Shape};
-ghost use Rattle.picky_der_core.specs.Refusal.{null_fault};
+ghost use Rattle.picky_der_core.specs.Refusal.{null_error};
 ghost use Rattle.picky_der_input.specs.Steps.{IsOfContent};
 ghost use Rattle.picky_der_input.specs.PlainKindLaws.{short_null};
 
@@ -17,8 +17,8 @@ impl Null {
     /// The null with this content, which is empty. `InvalidData` for any other.
     pub fn deserialize(content: &[u8]) -> Result<()>
         ensures ok { OnOk result (content.now ≡ []) }
-        ensures right { OnOk result (null_fault content.now ≡ None) }
-        ensures fault { IfErr result (λ e. null_fault content.now ≡ Some e) }
+        ensures right { OnOk result (null_error content.now ≡ None) }
+        ensures fault { IfErr result (λ e. null_error content.now ≡ Some e) }
         ensures no_device { IfErr result IsOfContent }
     {
         match content {
@@ -39,7 +39,7 @@ impl PlainKind<()> for Null {
 
     ghost TAG = { 0x05 };
 
-    ghost judge = { null_fault };
+    ghost judge = { null_error };
 
     const TAG: Tag = Tag::NULL;
 

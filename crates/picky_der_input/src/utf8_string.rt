@@ -2,7 +2,7 @@
 ghost use Rattle.std.specs.Prelude.{◌≡◌, ℕ, None, Some, IfOk, OnOk, IfErr, IsUtf8, encode_utf8};
 ghost use Rattle.picky_der_core.specs.Tree.{Tree};
 ghost use Rattle.picky_der_core.specs.Shape.{Shape};
-ghost use Rattle.picky_der_core.specs.Refusal.{text_fault, character_fault};
+ghost use Rattle.picky_der_core.specs.Refusal.{text_error, character_error};
 ghost use Rattle.picky_der_input.specs.Steps.{IsOfContent};
 ghost use Rattle.picky_der_input.specs.PlainKindLaws.{short_character};
 
@@ -17,8 +17,8 @@ impl Utf8String {
     /// The text with this content, which stays where it is. `InvalidData` where it isn't UTF-8.
     pub fn deserialize(content: &[u8]) -> Result<&str>
         ensures ok { IfOk result (λ text. (text.now ≡ content.now) × IsUtf8 content.now) }
-        ensures right { OnOk result (text_fault content.now ≡ None) }
-        ensures fault { IfErr result (λ e. text_fault content.now ≡ Some e) }
+        ensures right { OnOk result (text_error content.now ≡ None) }
+        ensures fault { IfErr result (λ e. text_error content.now ≡ Some e) }
         ensures no_device { IfErr result IsOfContent }
     {
         match str::from_utf8(content) {
@@ -39,7 +39,7 @@ impl PlainKind<char> for Utf8String {
 
     ghost TAG = { 0x0C };
 
-    ghost judge = { character_fault };
+    ghost judge = { character_error };
 
     const TAG: Tag = Tag::UTF8_STRING;
 

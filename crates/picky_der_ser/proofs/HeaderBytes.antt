@@ -12,7 +12,7 @@ use Rattle.picky_der_ser.specs.declared.header.Header.{Header}
 use Rattle.picky_der_ser.specs.declared.header.Header.TheVariants.{Tagged, Application, Raw}
 use Rattle.picky_der_ser.specs.Heading.{tree_of}
 use Rattle.std.specs.Option.{unwrap_or}
-use Rattle.picky_der_ser.specs.Headers.{opening, own_header, openings, innermost_joint_header, headed_wrappers, headers}
+use Rattle.picky_der_ser.specs.Headers.{wrapper_opening, own_header, wrapper_openings, innermost_joint_header, headed_wrappers, headers}
 
 -- ---- one wrapper
 
@@ -20,12 +20,12 @@ whole-tagged : (tag : ℕ) (bs : List ℕ) → (tag ∷ len (length bs)) ++ bs �
 unfolding tlv
 whole-tagged tag bs = refl
 
-whole-bit : (bs : List ℕ) → opening BitContainer (length bs) ++ bs ≡ tlv 0x03 (0x00 ∷ bs)
+whole-bit : (bs : List ℕ) → wrapper_opening BitContainer (length bs) ++ bs ≡ tlv 0x03 (0x00 ∷ bs)
 unfolding tlv
 whole-bit bs = ap (λ x. 0x03 ∷ x) (append_assoc (len (suc (length bs))) (0x00 ∷ []) bs)
 
 -- a wrapper around what it doesn't leave the header out of
-wraps : (w : Wrapper) (t : Tree) → is_absent t ≡ false → inside t ≡ der t → der (wrap w t) ≡ opening w (length (der t)) ++ der t
+wraps : (w : Wrapper) (t : Tree) → is_absent t ≡ false → inside t ≡ der t → der (wrap w t) ≡ wrapper_opening w (length (der t)) ++ der t
 wraps OctetContainer t p i = der-wrap OctetContainer t p ∙ sym (whole-tagged 0x04 (der t))
 wraps BitContainer t p i = der-wrap BitContainer t p ∙ sym (whole-bit (der t))
 wraps (Explicit k) t p i = der-wrap (Explicit k) t p ∙ sym (whole-tagged (0xA0 + k) (der t))
@@ -46,12 +46,12 @@ own Raw c = der-raw c
 -- ---- all of them
 
 -- in front of an encoding that is kept whole
-before : (w : Wrapper) (rest c bs : List ℕ) → bs ≡ rest ++ c → opening w (length bs) ++ bs ≡ (opening w (length rest + length c) ++ rest) ++ c
+before : (w : Wrapper) (rest c bs : List ℕ) → bs ≡ rest ++ c → wrapper_opening w (length bs) ++ bs ≡ (wrapper_opening w (length rest + length c) ++ rest) ++ c
 before w rest c bs e =
     let n : length bs ≡ length rest + length c = ap length e ∙ length-append rest c in
-    ap (λ m. opening w m ++ bs) n ∙ ap (λ b. opening w (length rest + length c) ++ b) e ∙ sym (append_assoc (opening w (length rest + length c)) rest c)
+    ap (λ m. wrapper_opening w m ++ bs) n ∙ ap (λ b. wrapper_opening w (length rest + length c) ++ b) e ∙ sym (append_assoc (wrapper_opening w (length rest + length c)) rest c)
 
-one_more : (w : Wrapper) (rest c : List ℕ) (t : Tree) → is_absent t ≡ false → inside t ≡ der t → der t ≡ rest ++ c → der (wrap w t) ≡ (opening w (length rest + length c) ++ rest) ++ c
+one_more : (w : Wrapper) (rest c : List ℕ) (t : Tree) → is_absent t ≡ false → inside t ≡ der t → der t ≡ rest ++ c → der (wrap w t) ≡ (wrapper_opening w (length rest + length c) ++ rest) ++ c
 one_more w rest c t p i e = wraps w t p i ∙ before w rest c (der t) e
 
 -- a wrapper keeps the header of what is no plain value
@@ -61,8 +61,8 @@ whole BitContainer t = inside-other _ refl tt
 whole (Explicit k) t = inside-other _ refl tt
 whole (Implicit k) t = inside-other _ refl tt
 
-written_whole : (w : Wrapper) (h : Header) (c : List ℕ) → der (wrap w (tree_of h c)) ≡ opening w (length (der (tree_of h c))) ++ der (tree_of h c)
-    → der (wrap w (tree_of h c)) ≡ (opening w (length (own_header h (length c)) + length c) ++ own_header h (length c)) ++ c
+written_whole : (w : Wrapper) (h : Header) (c : List ℕ) → der (wrap w (tree_of h c)) ≡ wrapper_opening w (length (der (tree_of h c))) ++ der (tree_of h c)
+    → der (wrap w (tree_of h c)) ≡ (wrapper_opening w (length (own_header h (length c)) + length c) ++ own_header h (length c)) ++ c
 written_whole w h c e = e ∙ before w (own_header h (length c)) c (der (tree_of h c)) (own h c)
 
 one : (w : Wrapper) (h : Header) (c : List ℕ) → der (wrap w (tree_of h c)) ≡ headers (w ∷ []) h (length c) ++ c
@@ -74,7 +74,7 @@ one BitContainer h c = written_whole BitContainer h c (der-wrap BitContainer (tr
 one (Explicit k) h c = written_whole (Explicit k) h c (der-wrap (Explicit k) (tree_of h c) (present h c) ∙ sym (whole-tagged (0xA0 + k) (der (tree_of h c))))
 
 -- one more wrapper in front
-more : (w v : Wrapper) (ws : List Wrapper) (inner : List ℕ) (n : ℕ) (j : Option Header) → openings (headed_wrappers j (w ∷ v ∷ ws)) inner n ≡ opening w (length (openings (headed_wrappers j (v ∷ ws)) inner n) + n) ++ openings (headed_wrappers j (v ∷ ws)) inner n
+more : (w v : Wrapper) (ws : List Wrapper) (inner : List ℕ) (n : ℕ) (j : Option Header) → wrapper_openings (headed_wrappers j (w ∷ v ∷ ws)) inner n ≡ wrapper_opening w (length (wrapper_openings (headed_wrappers j (v ∷ ws)) inner n) + n) ++ wrapper_openings (headed_wrappers j (v ∷ ws)) inner n
 more w v ws inner n None = refl
 more w v ws inner n (Some j) =
     let outer : suc (suc (length ws)) - 1 ≡ suc (length ws) = omega arith in

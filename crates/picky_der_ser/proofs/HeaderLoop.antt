@@ -11,7 +11,7 @@ use Rattle.picky_der_core.specs.Wrapper.{HasTagNumber}
 use Rattle.picky_der_ser.specs.declared.header.Header.{Header}
 use Rattle.picky_der_ser.specs.declared.header.Header.TheVariants.{Tagged, Application, Raw}
 use Rattle.std.specs.Option.{unwrap_or}
-use Rattle.picky_der_ser.specs.Headers.{opening, openings, joint_header, innermost_joint_header, headed_wrappers, HasNumber, HaveTagNumbers}
+use Rattle.picky_der_ser.specs.Headers.{wrapper_opening, wrapper_openings, joint_header, innermost_joint_header, headed_wrappers, HasNumber, HaveTagNumbers}
 
 -- ---- tag numbers
 
@@ -69,36 +69,36 @@ nil_of (w ∷ ws) e = absurd (omega arith)
 -- ---- the loop
 
 -- behind what was there stand the openings of all but `rest`, the last byte first
-pub record Pushed (old now : List ℕ) (all rest : List Wrapper) (inner : List ℕ) (n : ℕ) : Type 0 where
+pub record PushesHeaders (old now : List ℕ) (all rest : List Wrapper) (inner : List ℕ) (n : ℕ) : Type 0 where
   pub done : List Wrapper
   pub parts : all ≡ rest ++ done
-  pub items : now ≡ old ++ reverse (openings done inner n)
+  pub items : now ≡ old ++ reverse (wrapper_openings done inner n)
 
-pub pushed_first : (old now : List ℕ) (all : List Wrapper) (inner : List ℕ) (n : ℕ) → now ≡ old ++ reverse inner → Pushed old now all all inner n
+pub pushed_first : (old now : List ℕ) (all : List Wrapper) (inner : List ℕ) (n : ℕ) → now ≡ old ++ reverse inner → PushesHeaders old now all all inner n
 pushed_first old now all inner n e = record { done = []; parts = sym (append-nil all); items = e }
 
 -- how many bytes were added
-pub pushed_count : {old now : List ℕ} {all rest : List Wrapper} {inner : List ℕ} {n : ℕ} → (p : Pushed old now all rest inner n) → length now ≡ length old + length (openings p.done inner n)
+pub pushed_count : {old now : List ℕ} {all rest : List Wrapper} {inner : List ℕ} {n : ℕ} → (p : PushesHeaders old now all rest inner n) → length now ≡ length old + length (wrapper_openings p.done inner n)
 pushed_count {old} {inner = inner} {n = n} p =
-    ap length p.items ∙ length-append old (reverse (openings p.done inner n)) ∙ ap (λ m. length old + m) (length-reverse (openings p.done inner n))
+    ap length p.items ∙ length-append old (reverse (wrapper_openings p.done inner n)) ∙ ap (λ m. length old + m) (length-reverse (wrapper_openings p.done inner n))
 
-pub pushed_more : {old mid now : List ℕ} {all rest outer : List Wrapper} {inner : List ℕ} {n m : ℕ} (w : Wrapper) → Pushed old mid all rest inner n → rest ≡ outer ++ (w ∷ []) → m ≡ n + (length mid - length old)
-    → now ≡ mid ++ reverse (opening w m) → Pushed old now all outer inner n
+pub pushed_more : {old mid now : List ℕ} {all rest outer : List Wrapper} {inner : List ℕ} {n m : ℕ} (w : Wrapper) → PushesHeaders old mid all rest inner n → rest ≡ outer ++ (w ∷ []) → m ≡ n + (length mid - length old)
+    → now ≡ mid ++ reverse (wrapper_opening w m) → PushesHeaders old now all outer inner n
 pushed_more {old} {mid} {now} {all} {rest} {outer} {inner} {n} {m} w p e k a =
-    let others = openings p.done inner n in
+    let others = wrapper_openings p.done inner n in
     let count : m ≡ length others + n = omega (arith, pushed_count p) in
     record {
       done = w ∷ p.done;
       parts = p.parts ∙ ap (λ ws. ws ++ p.done) e ∙ append_assoc outer (w ∷ []) p.done;
       items =
-          a ∙ ap (λ bs. bs ++ reverse (opening w m)) p.items ∙ append_assoc old (reverse others) (reverse (opening w m)) ∙ ap (λ bs. old ++ bs) (sym (reverse-append (opening w m) others))
-          ∙ ap (λ x. old ++ reverse (opening w x ++ others)) count;
+          a ∙ ap (λ bs. bs ++ reverse (wrapper_opening w m)) p.items ∙ append_assoc old (reverse others) (reverse (wrapper_opening w m)) ∙ ap (λ bs. old ++ bs) (sym (reverse-append (wrapper_opening w m) others))
+          ∙ ap (λ x. old ++ reverse (wrapper_opening w x ++ others)) count;
     }
 
-pub pushed_all : {old now : List ℕ} {all whole rest : List Wrapper} {inner : List ℕ} {n : ℕ} → Pushed old now all rest inner n → rest ≡ [] → all ≡ whole → take (length old) now ++ reverse (drop (length old) now) ≡ old ++ openings whole inner n
+pub pushed_all : {old now : List ℕ} {all whole rest : List Wrapper} {inner : List ℕ} {n : ℕ} → PushesHeaders old now all rest inner n → rest ≡ [] → all ≡ whole → take (length old) now ++ reverse (drop (length old) now) ≡ old ++ wrapper_openings whole inner n
 pushed_all {old} {now} {all} {whole} {rest} {inner} {n} p none e =
-    let bs = openings p.done inner n in
+    let bs = wrapper_openings p.done inner n in
     let front : take (length old) now ≡ old = ap (take (length old)) p.items ∙ take-append_seam old (reverse bs) in
     let back : drop (length old) now ≡ reverse bs = ap (drop (length old)) p.items ∙ drop-append_seam old (reverse bs) in
     let done : p.done ≡ whole = sym (p.parts ∙ ap (λ ws. ws ++ p.done) none) ∙ e in
-    rw (front, back, reverse-reverse bs) (ap (λ ws. old ++ openings ws inner n) done)
+    rw (front, back, reverse-reverse bs) (ap (λ ws. old ++ wrapper_openings ws inner n) done)

@@ -9,7 +9,7 @@ use Rattle.picky_der_core.specs.ElementLaws.{len-short, len-long}
 use Rattle.picky_der_core.specs.BigEndianLaws.{length-big_endian, below-big_endian}
 use Rattle.picky_der_ser.specs.declared.header.Header.{Header}
 use Rattle.picky_der_ser.specs.declared.header.Header.TheVariants.{Tagged, Application, Raw}
-use Rattle.picky_der_ser.specs.Headers.{opening, own_header, openings, innermost_joint_header, headed_wrappers, headers}
+use Rattle.picky_der_ser.specs.Headers.{wrapper_opening, own_header, wrapper_openings, innermost_joint_header, headed_wrappers, headers}
 
 len_size : (n : ℕ) → 0 < length (len n)
 len_size n = elim (cases_lt n 0x80) [
@@ -26,7 +26,7 @@ len_more m n h = elim (cases_lt m 0x80) [
       rw (len-long m long, len-long n (omega arith)) (omega (arith, few))
 ]
 
-opening_more : (w : Wrapper) (m n : ℕ) → m ≤ n → length (opening w m) ≤ length (opening w n)
+opening_more : (w : Wrapper) (m n : ℕ) → m ≤ n → length (wrapper_opening w m) ≤ length (wrapper_opening w n)
 opening_more OctetContainer m n h = let s = len_more m n h in omega (arith, s)
 opening_more BitContainer m n h = let s = len_more (suc m) (suc n) (omega arith) in omega (arith, s, length-append (len (suc m)) (0x00 ∷ []), length-append (len (suc n)) (0x00 ∷ []))
 opening_more (Explicit k) m n h = let s = len_more m n h in omega (arith, s)
@@ -37,12 +37,12 @@ own_more (Tagged tag) m n h = let s = len_more m n h in omega (arith, s)
 own_more (Application k) m n h = let s = len_more m n h in omega (arith, s)
 own_more Raw m n h = omega arith
 
-openings_more : (ws : List Wrapper) (inner others : List ℕ) (m n : ℕ) → length inner ≤ length others → m ≤ n → length (openings ws inner m) ≤ length (openings ws others n)
+openings_more : (ws : List Wrapper) (inner others : List ℕ) (m n : ℕ) → length inner ≤ length others → m ≤ n → length (wrapper_openings ws inner m) ≤ length (wrapper_openings ws others n)
 openings_more [] inner others m n h k = h
 openings_more (w ∷ ws) inner others m n h k =
     let rest = openings_more ws inner others m n h k in
-    let first = opening_more w (length (openings ws inner m) + m) (length (openings ws others n) + n) (omega (arith, rest)) in
-    omega (arith, first, rest, length-append (opening w (length (openings ws inner m) + m)) (openings ws inner m), length-append (opening w (length (openings ws others n) + n)) (openings ws others n))
+    let first = opening_more w (length (wrapper_openings ws inner m) + m) (length (wrapper_openings ws others n) + n) (omega (arith, rest)) in
+    omega (arith, first, rest, length-append (wrapper_opening w (length (wrapper_openings ws inner m) + m)) (wrapper_openings ws inner m), length-append (wrapper_opening w (length (wrapper_openings ws others n) + n)) (wrapper_openings ws others n))
 
 pub headers_more : (ws : List Wrapper) (h : Header) (n : ℕ) → length (headers ws h 0) ≤ length (headers ws h n)
 headers_more ws h n =

@@ -29,26 +29,6 @@ marks-more (m ∷ ms) q w h k = (mark-more h k.0, k.1)
 pub mark-outer : {p : Option MarkPlace} {m : MarkPlace} (ms : List MarkPlace) (n : ℕ) (q : List ℕ) (w : List Wrapper) → p ≡ Some m → AreMarks (with_pending p ms) n q w → m.first_wrapper ≤ length w
 mark-outer {p} {m} ms n q w was k = let before : AreMarks (m ∷ ms) n q w = subst (λ o. AreMarks (with_pending o ms) n q w) was k in before.0.outer
 
--- a level is opened in these wrappers, behind all that was there
-pub marks-opened : (m : MarkPlace) (ms : List MarkPlace) (n : ℕ) (q : List ℕ) (w around : List Wrapper) → m.at ≡ n → m.start ≡ n → m.first_seam ≡ length q → m.first_wrapper ≡ length w → HasNumber m.header → HaveTagNumbers around → AreMarks ms n q w
-    → AreMarks (m ∷ ms) n q (w ++ around)
-marks-opened m ms n q w around at start first outer number numbers k =
-    let own : drop m.first_wrapper (w ++ around) ≡ around = ap (λ j. drop j (w ++ around)) outer ∙ drop-append_seam w around in
-    let others : take m.first_wrapper (w ++ around) ≡ w = ap (λ j. take j (w ++ around)) outer ∙ take-append_seam w around in
-    let none : drop m.first_seam q ≡ [] = drop_all m.first_seam q (omega (arith, first)) in
-    let all : take m.first_seam q ≡ q = take_all m.first_seam q (omega (arith, first)) in
-    let mark : IsMark m n q (w ++ around) = record {
-      numbers = subst HaveTagNumbers (sym own) numbers;
-      number = number;
-      room = omega (arith, at, start);
-      outer = omega (arith, outer, length-append w around);
-      first = omega (arith, first);
-      within = rw none (omega (arith, start));
-      ascending = rw none tt;
-      least = omega (arith, at, start);
-    } in
-    (mark, rw (at, all, others) k)
-
 -- another member of the innermost begins where it ends
 marks-next : (m : MarkPlace) (ms : List MarkPlace) (n : ℕ) (q : List ℕ) (w : List Wrapper) → AreMarks (m ∷ ms) n q w → AreMarks (m ∷ ms) n (next_seams m.header q (n - m.start)) w
 marks-next m ms n q w k =
@@ -123,18 +103,6 @@ room-ended false p s q w ms spare some = tt
 
 abbrev pub stack_at : Bool → Option MarkPlace → List MarkPlace → List ℕ → List ℕ → List Wrapper → List Wrapper → Stack
 stack_at e p ms s q w a = record { inside = inside_of e p ms s q w; pending = pending_of e p s q w; around = a }
-
--- a level is opened in the open wrappers
-pub stack-opened : (m : MarkPlace) (ms : List MarkPlace) (s q : List ℕ) (w around : List Wrapper) → m.at ≡ length s → m.start ≡ length s → m.first_seam ≡ length q → m.first_wrapper ≡ length w
-    → stack_at false (Some m) ms s q (w ++ around) [] ≡ record { inside = levels_of ms s q w; pending = Some (record { header = m.header; around = around; content = []; seams = [] }); around = [] }
-stack-opened m ms s q w around at start first outer =
-    let own : drop m.first_wrapper (w ++ around) ≡ around = ap (λ j. drop j (w ++ around)) outer ∙ drop-append_seam w around in
-    let others : take m.first_wrapper (w ++ around) ≡ w = ap (λ j. take j (w ++ around)) outer ∙ take-append_seam w around in
-    let none : drop m.first_seam q ≡ [] = drop_all m.first_seam q (omega (arith, first)) in
-    let all : take m.first_seam q ≡ q = take_all m.first_seam q (omega (arith, first)) in
-    let empty : drop m.start s ≡ [] = drop_all m.start s (omega (arith, start)) in
-    let whole : take m.at s ≡ s = take_all m.at s (omega (arith, at)) in
-    rw (own, others, none, all, empty, whole) refl
 
 -- another member of what is pending begins
 pub stack-at_next_member : (entered : Bool) {p : Option MarkPlace} {m : MarkPlace} (ms : List MarkPlace) (s q r : List ℕ) (w a : List Wrapper) → p ≡ Some m → AreMarks (with_pending p ms) (length s) q w → r ≡ next_seams m.header q (length s - m.start)

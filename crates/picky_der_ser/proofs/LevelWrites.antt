@@ -7,7 +7,7 @@ use Rattle.picky_der_core.specs.declared.asn1.wrapper.Wrapper.{Wrapper}
 use Rattle.picky_der_core.specs.declared.asn1.wrapper.Wrapper.TheVariants.{OctetContainer, BitContainer, Explicit, Implicit}
 use Rattle.picky_der_core.specs.Tag.{number_of, is_tag_number}
 use Rattle.picky_der_core.specs.Writer.{AppendsTooFew}
-use Rattle.picky_der_core.specs.WriterFaults.{Faulted}
+use Rattle.picky_der_core.specs.WriterFaults.{WriterFails}
 use Rattle.picky_der_core.specs.declared.misc.writer.WriteExt.{Ghosts}
 use Rattle.picky_der_core.specs.declared.error.Asn1DerError.{Asn1DerError}
 use Rattle.picky_der_core.specs.Tree.{Tree}
@@ -102,7 +102,7 @@ module _ {W : Type 0} (g : Ghosts W) where
   wrote_by t bs old new (Ok n) w is count appends = record { writable = w; count = count ∙ ap length is; appends = subst (Appends (g.told old) (g.told new)) is appends }
   wrote_by t bs old new (Err e) w is count appends = tt
 
-  pub refused_by : (t : Tree) (bs : List ℕ) (old new : W) (r : Result ℕ Asn1DerError) → IsWritable t → bs ≡ der t → OnErr r (AppendsTooFew (g.told old) (g.told new) bs) → IfErr r (λ e. Faulted g old e new) → IfErr r (λ e. SinkRefuses g t old e new)
+  pub refused_by : (t : Tree) (bs : List ℕ) (old new : W) (r : Result ℕ Asn1DerError) → IsWritable t → bs ≡ der t → OnErr r (AppendsTooFew (g.told old) (g.told new) bs) → IfErr r (λ e. WriterFails g old e new) → IfErr r (λ e. SinkRefuses g t old e new)
   refused_by t bs old new (Ok n) w is begins fault = tt
   refused_by t bs old new (Err e) w is begins fault =
       let b : AppendsTooFew (g.told old) (g.told new) (der t) = subst (AppendsTooFew (g.told old) (g.told new)) is begins in
@@ -113,7 +113,7 @@ module _ {W : Type 0} (g : Ghosts W) where
   wrote_level t None bs old new (Ok n) is count appends = tt
   wrote_level t (Some l) bs old new (Ok n) is count appends = wrote_by (t l) bs old new (Ok n) is.0 is.1 count appends
 
-  pub refused_level : (t : Level → Tree) (p : Option Level) (bs : List ℕ) (old new : W) (r : Result ℕ Asn1DerError) → AreEncoding t p bs → OnErr r (AppendsTooFew (g.told old) (g.told new) bs) → IfErr r (λ e. Faulted g old e new) → IfErr r (λ e. IfSome p (λ l. SinkRefuses g (t l) old e new))
+  pub refused_level : (t : Level → Tree) (p : Option Level) (bs : List ℕ) (old new : W) (r : Result ℕ Asn1DerError) → AreEncoding t p bs → OnErr r (AppendsTooFew (g.told old) (g.told new) bs) → IfErr r (λ e. WriterFails g old e new) → IfErr r (λ e. IfSome p (λ l. SinkRefuses g (t l) old e new))
   refused_level t p bs old new (Ok n) is begins fault = tt
   refused_level t None bs old new (Err e) is begins fault = tt
   refused_level t (Some l) bs old new (Err e) is begins fault = refused_by (t l) bs old new (Err e) is.0 is.1 begins fault

@@ -4,7 +4,7 @@ use Rattle.std.specs.Io.KnownBytes.{Appends}
 use Rattle.picky_der_core.specs.Failure.{failure_of}
 use Rattle.picky_der_core.specs.declared.asn1.wrapper.Wrapper.{Wrapper}
 use Rattle.picky_der_core.specs.Writer.{AppendsTooFew, beginning_none}
-use Rattle.picky_der_core.specs.WriterFaults.{Faulted, IsOnceAtMost}
+use Rattle.picky_der_core.specs.WriterFaults.{WriterFails, IsOnceAtMost}
 use Rattle.picky_der_core.specs.declared.misc.writer.WriteExt.{Ghosts}
 use Rattle.picky_der_core.specs.declared.error.Asn1DerError.{Asn1DerError}
 use Rattle.picky_der_core.specs.declared.error.Asn1DerError.TheVariants.{OutOfMemory}
@@ -59,7 +59,7 @@ module _ {W : Type 0} (g : Ghosts W) where
   -- the sink took what it took, and then the outcome was settled
   pub plain_outside : (t : Tree) (old new : State W) (mid : W) (levels : List Level) (r s : Result ℕ Asn1DerError) → s ≡ r → new.sink ≡ mid → new.inside ≡ levels → IsWritable t → old.failed ≡ None → old.inside ≡ []
       → OnOk r (levels ≡ []) → OnOk r ((new.around ≡ []) × (new.failed ≡ old.failed)) → IfErr r (λ e. new.failed ≡ Some (failure_of e))
-      → IfOk r (λ n. SinkWrites g (under old.around t) old.sink n mid) → IfErr r (λ e. SinkRefuses g (under old.around t) old.sink e mid) → IfErr r (λ e. old.around ≡ [] → Faulted g old.sink e mid)
+      → IfOk r (λ n. SinkWrites g (under old.around t) old.sink n mid) → IfErr r (λ e. SinkRefuses g (under old.around t) old.sink e mid) → IfErr r (λ e. old.around ≡ [] → WriterFails g old.sink e mid)
       → OnOk r (g.faults mid ≡ g.faults old.sink) → IsOnceAtMost (g.faults old.sink) (g.faults mid) → g.later old.sink mid → WritesPlain g t old s new
   plain_outside t old new mid levels (Ok n) s is same x w f i j a b h k m q c l = rw is (record {
     wrote = writes_outside t old new n f i (x ∙ j) a.0 (a.1 ∙ f) (subst (λ v. SinkWrites g (under old.around t) old.sink n v) (sym same) h) (ap g.faults same ∙ q);
@@ -72,7 +72,7 @@ module _ {W : Type 0} (g : Ghosts W) where
   plain_outside t old new mid levels (Err e) s is same x w f i j a b h k m q c l = rw is (record {
     wrote = tt;
     failed = fails_outside t old new e f i b (subst (λ v. SinkRefuses g (under old.around t) old.sink e v) (sym same) k);
-    outside = λ p y z bare. subst (λ v. Faulted g old.sink e v) (sym same) (m bare);
+    outside = λ p y z bare. subst (λ v. WriterFails g old.sink e v) (sym same) (m bare);
     past = λ no. absurd (no w);
     counted = subst (λ v. IsOnceAtMost (g.faults old.sink) (g.faults v)) (sym same) c;
     goes_on = subst (g.later old.sink) (sym same) l;
@@ -88,14 +88,14 @@ module _ {W : Type 0} (g : Ghosts W) where
   pub bare_wrote : (t : Tree) (ws : List Wrapper) (bs : List ℕ) (old new : W) (r : Result ℕ Asn1DerError) → ws ≡ [] → IsWritable t → bs ≡ der t → IfOk r (λ n. n ≡ length bs) → OnOk r (Appends (g.told old) (g.told new) bs) → IfOk r (λ n. SinkWrites g (under ws t) old n new)
   bare_wrote t ws bs old new r e w is count appends = subst (λ vs. IfOk r (λ n. SinkWrites g (under vs t) old n new)) (sym e) (wrote_by g t bs old new r w is count appends)
 
-  pub bare_refused : (t : Tree) (ws : List Wrapper) (bs : List ℕ) (old new : W) (r : Result ℕ Asn1DerError) → ws ≡ [] → IsWritable t → bs ≡ der t → OnErr r (AppendsTooFew (g.told old) (g.told new) bs) → IfErr r (λ e. Faulted g old e new) → IfErr r (λ e. SinkRefuses g (under ws t) old e new)
+  pub bare_refused : (t : Tree) (ws : List Wrapper) (bs : List ℕ) (old new : W) (r : Result ℕ Asn1DerError) → ws ≡ [] → IsWritable t → bs ≡ der t → OnErr r (AppendsTooFew (g.told old) (g.told new) bs) → IfErr r (λ e. WriterFails g old e new) → IfErr r (λ e. SinkRefuses g (under ws t) old e new)
   bare_refused t ws bs old new r e w is begins fault = subst (λ vs. IfErr r (λ k. SinkRefuses g (under vs t) old k new)) (sym e) (refused_by g t bs old new r w is begins fault)
 
-  pub bare_fault : (ws : List Wrapper) (old new : W) (r : Result ℕ Asn1DerError) → IfErr r (λ e. Faulted g old e new) → IfErr r (λ e. ws ≡ [] → Faulted g old e new)
+  pub bare_fault : (ws : List Wrapper) (old new : W) (r : Result ℕ Asn1DerError) → IfErr r (λ e. WriterFails g old e new) → IfErr r (λ e. ws ≡ [] → WriterFails g old e new)
   bare_fault ws old new (Ok n) h = tt
   bare_fault ws old new (Err e) h = λ bare. h
 
-  pub wrapped_fault : (ws : List Wrapper) (old new : W) (r : Result ℕ Asn1DerError) → ws ≢ [] → IfErr r (λ e. ws ≡ [] → Faulted g old e new)
+  pub wrapped_fault : (ws : List Wrapper) (old new : W) (r : Result ℕ Asn1DerError) → ws ≢ [] → IfErr r (λ e. ws ≡ [] → WriterFails g old e new)
   wrapped_fault ws old new (Ok n) h = tt
   wrapped_fault ws old new (Err e) h = λ bare. absurd (h bare)
 

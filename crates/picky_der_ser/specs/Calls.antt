@@ -3,7 +3,7 @@ use Rattle.std.specs.Prelude.{◌≡◌, ℕ, List, [], ◌∷◌, length, None,
 use Rattle.picky_der_core.specs.declared.asn1.wrapper.Wrapper.{Wrapper}
 use Rattle.std.specs.Io.KnownBytes.{Appends}
 use Rattle.picky_der_core.specs.Writer.{AppendsBeginning}
-use Rattle.picky_der_core.specs.WriterFaults.{Faulted, IsOnceAtMost}
+use Rattle.picky_der_core.specs.WriterFaults.{WriterFails, IsOnceAtMost}
 use Rattle.picky_der_core.specs.declared.misc.writer.WriteExt.{Ghosts}
 use Rattle.picky_der_core.specs.declared.error.Asn1DerError.{Asn1DerError}
 use Rattle.picky_der_core.specs.declared.failure.Failure.{Failure}
@@ -49,7 +49,7 @@ module _ {W : Type 0} (g : Ghosts W) where
   pub data Excuse (t : Tree) (rest : List ℕ) (old : W) (e : Asn1DerError) (new : W) : Type 0 where
     no_memory : e ≡ OutOfMemory → new ≡ old → Excuse t rest old e new
     unwritable : e ≡ UnsupportedValue → ¬ IsWritable t → new ≡ old → Excuse t rest old e new
-    no_sink : IsWritable t → 0 < length rest → Faulted g old e new → Excuse t rest old e new
+    no_sink : IsWritable t → 0 < length rest → WriterFails g old e new → Excuse t rest old e new
 
   -- the tree was written to the sink, and n is its length
   pub record SinkWrites (t : Tree) (old : W) (n : ℕ) (new : W) : Type 0 where
@@ -85,7 +85,7 @@ module _ {W : Type 0} (g : Ghosts W) where
 
   -- outside wrappers and levels only the sink can refuse a plain value that can be written, since no memory is taken
   abbrev pub OnlySinkFails : Tree → State W → Asn1DerError → State W → Type 0
-  OnlySinkFails t old e new = IsWritable t → old.failed ≡ None → old.inside ≡ [] → old.around ≡ [] → Faulted g old.sink e new.sink
+  OnlySinkFails t old e new = IsWritable t → old.failed ≡ None → old.inside ≡ [] → old.around ≡ [] → WriterFails g old.sink e new.sink
 
   -- a plain value that can't be written is refused before anything else is done, whatever is open
   abbrev pub RefusesUnwritable : Tree → State W → Result ℕ Asn1DerError → State W → Type 0

@@ -10,11 +10,11 @@ use Rattle.picky_der_ser.specs.declared.header.Header.{Header}
 use Rattle.picky_der_ser.specs.declared.header.Header.TheVariants.{Tagged, Application, Raw}
 
 -- what a wrapper puts in front of n bytes; that of a bit string is followed by the count of its unused bits
-abbrev pub opening : Wrapper → ℕ → List ℕ
-opening OctetContainer n = 0x04 ∷ len n
-opening BitContainer n = 0x03 ∷ (len (suc n) ++ (0x00 ∷ []))
-opening (Explicit k) n = (0xA0 + k) ∷ len n
-opening (Implicit k) n = (0x80 + k) ∷ len n
+abbrev pub wrapper_opening : Wrapper → ℕ → List ℕ
+wrapper_opening OctetContainer n = 0x04 ∷ len n
+wrapper_opening BitContainer n = 0x03 ∷ (len (suc n) ++ (0x00 ∷ []))
+wrapper_opening (Explicit k) n = (0xA0 + k) ∷ len n
+wrapper_opening (Implicit k) n = (0x80 + k) ∷ len n
 
 -- the header of n bytes
 abbrev pub own_header : Header → ℕ → List ℕ
@@ -23,9 +23,9 @@ own_header (Application k) n = (0x60 + k) ∷ len n
 own_header Raw n = []
 
 -- the wrappers, the outermost first, in front of these bytes and n more
-abbrev pub openings : List Wrapper → List ℕ → ℕ → List ℕ
-openings [] inner n = inner
-openings (w ∷ ws) inner n = let rest = openings ws inner n in opening w (length rest + n) ++ rest
+abbrev pub wrapper_openings : List Wrapper → List ℕ → ℕ → List ℕ
+wrapper_openings [] inner n = inner
+wrapper_openings (w ∷ ws) inner n = let rest = wrapper_openings ws inner n in wrapper_opening w (length rest + n) ++ rest
 
 -- the header of an implicit tag directly around a tagged content, which stands in place of that content's own
 abbrev pub joint_header : Wrapper → Header → Option Header
@@ -45,7 +45,7 @@ headed_wrappers (Some j) ws = take (length ws - 1) ws
 
 -- all that stands in front of a content of n bytes
 abbrev pub headers : List Wrapper → Header → ℕ → List ℕ
-headers ws h n = openings (headed_wrappers (innermost_joint_header ws h) ws) (own_header (unwrap_or (innermost_joint_header ws h) h) n) n
+headers ws h n = wrapper_openings (headed_wrappers (innermost_joint_header ws h) ws) (own_header (unwrap_or (innermost_joint_header ws h) h) n) n
 
 -- each tag number is at most 30
 abbrev pub HasNumber : Header → Type 0

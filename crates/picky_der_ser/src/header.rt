@@ -5,7 +5,8 @@ ghost use Rattle.picky_der_core.specs.Element.{len as bytes_of};
 ghost use Rattle.picky_der_core.specs.Equality.{IsEqualityOf};
 ghost use Rattle.picky_der_core.specs.Wrapper.{HasTagNumber};
 ghost use Rattle.picky_der_ser.specs.Heading.{is_set};
-ghost use Rattle.picky_der_ser.specs.Headers.{opening, own_header, headers, joint_header, innermost_joint_header, HasNumber, HaveTagNumbers};
+ghost use Rattle.picky_der_ser.specs.Headers.{wrapper_opening, own_header, headers, joint_header};
+ghost use Rattle.picky_der_ser.specs.Headers.{innermost_joint_header, HasNumber, HaveTagNumbers};
 
 use picky_der_core::asn1::{Tag, Wrapper};
 use picky_der_core::misc::Length;
@@ -77,7 +78,7 @@ fn reverse_from(out: &mut Vec<u8>, start: usize)
 fn push_opening(out: &mut Vec<u8>, wrapper: Wrapper, len: usize) -> Result<(), AllocError>
     requires number { HasTagNumber wrapper }
     requires fits { len + 1 < 2 ^ 64 }
-    ensures ok { OnOk result (out.new.items ≡ out.old.items ++ reverse (opening wrapper len)) }
+    ensures ok { OnOk result (out.new.items ≡ out.old.items ++ reverse (wrapper_opening wrapper len)) }
     ensures grows { vec_len out.old ≤ vec_len out.new }
 {
     match wrapper {

@@ -17,12 +17,12 @@ mod optional;
 mod row;
 mod sequence;
 mod serializer;
-mod sets;
+mod order;
 mod several;
 mod sink;
 mod utf8_string;
 mod wide;
-mod wrappers;
+mod wrapper_stack;
 
 pub use boolean::Boolean;
 pub use default::{DefaultOf, Defaulted, DefaultedRef, False, Number, True};

@@ -3,7 +3,7 @@ ghost use Rattle.std.specs.Prelude.{◌≡◌, ◌++◌, length, IfOk, IfErr, On
 ghost use Rattle.std.specs.Io.KnownBytes.{Appends};
 ghost use Rattle.picky_der_core.specs.Element.{tlv};
 ghost use Rattle.picky_der_core.specs.Writer.{AppendsTooFew};
-ghost use Rattle.picky_der_core.specs.WriterFaults.{Faulted};
+ghost use Rattle.picky_der_core.specs.WriterFaults.{WriterFails};
 
 use picky_der_core::asn1::Tag;
 use picky_der_core::misc::{Length, WriteExt};
@@ -16,7 +16,7 @@ pub(crate) fn put_element<W: WriteExt>(sink: &mut W, tag: Tag, content: &[u8]) -
         (tlv tag content.now)) }
     ensures beginning { OnErr result (AppendsTooFew (W.told sink.old) (W.told sink.new)
         (tlv tag content.now)) }
-    ensures fault { IfErr result (λ e. Faulted W.WriteExt.own sink.old e sink.new) }
+    ensures fault { IfErr result (λ e. WriterFails W.WriteExt.own sink.old e sink.new) }
     ensures no_fault { OnOk result (W.faults sink.new ≡ W.faults sink.old) }
     ensures goes_on { W.later sink.old sink.new }
 {
@@ -33,7 +33,7 @@ pub(crate) fn put_headed<W: WriteExt>(sink: &mut W, headers: &[u8], content: &[u
         (headers.now ++ content.now)) }
     ensures beginning { OnErr result (AppendsTooFew (W.told sink.old) (W.told sink.new)
         (headers.now ++ content.now)) }
-    ensures fault { IfErr result (λ e. Faulted W.WriteExt.own sink.old e sink.new) }
+    ensures fault { IfErr result (λ e. WriterFails W.WriteExt.own sink.old e sink.new) }
     ensures no_fault { OnOk result (W.faults sink.new ≡ W.faults sink.old) }
     ensures goes_on { W.later sink.old sink.new }
 {

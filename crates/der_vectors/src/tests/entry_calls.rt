@@ -1,12 +1,13 @@
 //! What the entry calls answer one after another, and what they leave in a slice and in a device.
 
 use der_fixtures::{SlowReader, SlowWriter, bytes_of, text_of};
-use picky_asn1_der::Asn1DerError::{InvalidSink, TruncatedData};
+use picky_asn1_der::Asn1DerError::{InvalidData, InvalidSink, TruncatedData};
 use picky_asn1_der::asn1::{ByteBuf, Bytes, PrintableStringAsn1};
 use picky_asn1_der::misc::{PeekableReader, ReadExt, Watched};
 use picky_asn1_der::round_trip::{read_back, written_back};
 use picky_asn1_der::{
-    Length, Serializer, de, from_bytes, from_reader, from_reader_with_max_len, to_writer,
+    Length, Serializer, de, from_bytes, from_reader, from_reader_with_max_len, next_from_reader,
+    to_writer,
 };
 use std::alloc::Global;
 use std::test::Fail;
@@ -84,5 +85,27 @@ fn from_reader_draws_10240_bytes_at_most(rt: HostRuntime) -> Result<(), Fail> {
     same!(rt; reader.get_ref().given(), 4);
     let octets: ByteBuf = from_bytes(alloc, &past)?;
     same!(rt; octets.0.len(), 10237);
+    Ok(())
+}
+
+// A foreign tag, one behind a member, and a member that isn't the shortest: no byte is drawn behind what shows it.
+#[test]
+fn nothing_is_drawn_behind_a_refusal(rt: HostRuntime) -> Result<(), Fail> {
+    let alloc = rt.alloc();
+    for (row, drawn) in [
+        ("05 00 05 00", 1),
+        ("30 06 02 01 07 05 00 05", 6),
+        ("30 06 02 02 00 7F 05 00", 6),
+    ] {
+        let bytes = bytes_of(alloc, row)?;
+        let mut reader = Watched::new(SlowReader::new(&bytes));
+        let refused = from_reader::<(u8, bool), _>(alloc, &mut reader);
+        same!(rt; refused.err(), Some(InvalidData));
+        same!(rt; reader.get_ref().given(), drawn);
+        let mut reader = Watched::new(SlowReader::new(&bytes));
+        let refused = next_from_reader::<(u8, bool), _>(alloc, &mut reader, 8);
+        same!(rt; refused.err(), Some(InvalidData));
+        same!(rt; reader.get_ref().given(), drawn);
+    }
     Ok(())
 }

@@ -7,7 +7,9 @@ use picky_asn1_der::asn1::{
     ExplicitContextTag, ImplicitContextTag, Newtype, OctetStringAsn1Container, Tag, TagClass,
     Wrapper,
 };
-use picky_asn1_der::{Asn1DerError, Asn1RawDer, Row};
+use picky_asn1_der::de::{Enclosure, End};
+use picky_asn1_der::ser::{Defaulted, False, Header, Optional};
+use picky_asn1_der::{Asn1DerError, Asn1RawDer, NoneOf, OneOf, OneOf4, Row};
 use picky_der_core::Failure;
 use std::io::ErrorKind;
 use std::process::Abort;
@@ -82,7 +84,7 @@ fn values_in_wrappers_differ(rt: HostRuntime) {
 }
 
 #[test]
-fn tags_and_wrappers_differ(rt: HostRuntime) {
+fn tags_differ(rt: HostRuntime) {
     all_differ(
         &rt,
         &[
@@ -101,6 +103,10 @@ fn tags_and_wrappers_differ(rt: HostRuntime) {
             TagClass::Private,
         ],
     );
+}
+
+#[test]
+fn wrappers_differ(rt: HostRuntime) {
     all_differ(
         &rt,
         &[
@@ -147,6 +153,62 @@ fn errors_differ(rt: HostRuntime) {
             Asn1DerError::custom("a"),
             Asn1DerError::custom("b"),
             Asn1DerError::custom(""),
+        ],
+    );
+}
+
+#[test]
+fn headers_and_ends_differ(rt: HostRuntime) {
+    all_differ(&rt, &[End::Limit, End::Soft, End::Hard]);
+    all_differ(
+        &rt,
+        &[
+            Enclosure::Wrapper(Wrapper::OctetContainer),
+            Enclosure::Wrapper(Wrapper::Explicit(1)),
+            Enclosure::Wrapper(Wrapper::Explicit(2)),
+            Enclosure::Application(1),
+            Enclosure::Application(2),
+        ],
+    );
+    all_differ(
+        &rt,
+        &[
+            Header::Tagged(Tag::INTEGER),
+            Header::Tagged(Tag::BOOLEAN),
+            Header::Application(1),
+            Header::Application(2),
+            Header::Raw,
+        ],
+    );
+}
+
+#[test]
+fn members_and_alternatives_differ(rt: HostRuntime) {
+    all_differ(
+        &rt,
+        &[Optional(None), Optional(Some(5u8)), Optional(Some(6))],
+    );
+    all_differ(
+        &rt,
+        &[Defaulted::<bool, False>::new(false), Defaulted::new(true)],
+    );
+    all_differ(
+        &rt,
+        &[
+            OneOf::<u8, OneOf<bool, NoneOf>>::This(1),
+            OneOf::This(0),
+            OneOf::Other(OneOf::This(true)),
+            OneOf::Other(OneOf::This(false)),
+        ],
+    );
+    all_differ(
+        &rt,
+        &[
+            OneOf4::<u8, u8, u8, u8, NoneOf>::First(1),
+            OneOf4::First(2),
+            OneOf4::Second(1),
+            OneOf4::Third(1),
+            OneOf4::Fourth(1),
         ],
     );
 }

@@ -1,6 +1,6 @@
 //! The lines of the tool.
 
-use der_fixtures::{FailingReader, FailingWriter, Refusal};
+use der_fixtures::{FailingReader, FailingWriter, WriterFault};
 use der_tool_lib::{kind_word, run};
 use picky_asn1_der::Asn1DerError;
 use picky_asn1_der::Asn1DerError::{Other, TruncatedData};
@@ -49,7 +49,7 @@ fn stops_where_the_reader_fails(rt: HostRuntime) {
 fn stops_where_the_writer_fails(rt: HostRuntime) {
     let alloc = rt.alloc();
     let mut input: &[u8] = b"len 290\nlen 10\nlen 11\n";
-    let refusal = Refusal::Error(ErrorKind::BrokenPipe);
+    let refusal = WriterFault::Error(ErrorKind::BrokenPipe);
     let mut output = Watched::new(FailingWriter::new(alloc, 9, refusal));
     let outcome = run(alloc, &mut input, &mut output);
     same!(rt; outcome, Err(Other(ErrorKind::BrokenPipe)));

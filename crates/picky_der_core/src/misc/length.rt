@@ -4,7 +4,7 @@ ghost use Rattle.std.specs.Prelude.{IfSome};
 ghost use Rattle.std.specs.Io.KnownBytes.{Appends, Consumes};
 ghost use Rattle.picky_der_core.specs.Element.{len as bytes_of, Begins};
 ghost use Rattle.picky_der_core.specs.Writer.{AppendsTooFew};
-ghost use Rattle.picky_der_core.specs.WriterFaults.{Faulted};
+ghost use Rattle.picky_der_core.specs.WriterFaults.{WriterFails};
 ghost use Rattle.picky_der_core.specs.Lengths.{IsReadAs, IsRefusedAs, IsOfDevice, IsLongCount, IsNoLongCount};
 ghost use Rattle.picky_der_core.specs.Reader.{TellsFault};
 ghost use Rattle.picky_der_core.specs.Refusal.{length_of};
@@ -61,7 +61,7 @@ impl Length {
             (bytes_of len)) }
         ensures beginning { OnErr result (AppendsTooFew (W.told writer.old) (W.told writer.new)
             (bytes_of len)) }
-        ensures fault { IfErr result (λ e. Faulted W.WriteExt.own writer.old e writer.new) }
+        ensures fault { IfErr result (λ e. WriterFails W.WriteExt.own writer.old e writer.new) }
         ensures no_fault { OnOk result (W.faults writer.new ≡ W.faults writer.old) }
         ensures goes_on { W.later writer.old writer.new }
     {

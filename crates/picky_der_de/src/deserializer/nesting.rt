@@ -1,4 +1,4 @@
-//! The ends of sequences and sets, opened and closed, and values in wrappers and application tags.
+//! What is passed on to the `Input`: the ends of sequences and sets, and what stands around values in wrappers and application tags.
 ghost use Rattle.std.specs.Prelude.{◌≡◌, ◌+◌, ◌≤◌, ◌↔◌, None, Some, IsTrue, IfOk, IfErr, OnOk};
 ghost use Rattle.picky_der_core.specs.Failure.{failure_of};
 ghost use Rattle.picky_der_core.specs.Tag.{number_of, IsTagNumber};

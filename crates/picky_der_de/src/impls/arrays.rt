@@ -4,7 +4,7 @@ ghost use Rattle.picky_der_core.specs.Tree.{ListKind, Tree};
 ghost use Rattle.picky_der_core.specs.Shape.{Shape};
 ghost use Rattle.picky_der_ser.specs.Meaning.{list_meaning};
 ghost use Rattle.picky_der_input.specs.Reading.{Reads, Refuses};
-ghost use Rattle.picky_der_de.specs.ArrayLaws.{times, times_sound, array_known};
+ghost use Rattle.picky_der_de.specs.ArrayLaws.{times, times_sound, array_injective};
 
 use crate::{Deserialize, Deserializer};
 use picky_der_core::Result;
@@ -71,7 +71,7 @@ impl<T: Deserialize + Copy + Default, const N: usize> Fill for [T; N] {
 impl<T: Deserialize + Copy + Default, const N: usize> Deserialize for [T; N] {
     ghost shape = { Shape.fields ListKind.sequence (times N T.shape) };
 
-    ghost injective = { λ x y p q r e. array_known T.meaning T.shape T.eq T.injective N x y p.1 q.1 r.1 e };
+    ghost injective = { λ x y p q r e. array_injective T.meaning T.shape T.eq T.injective N x y p.1 q.1 r.1 e };
 
     ghost sound = { times_sound N T.shape T.sound };
 

@@ -5,7 +5,7 @@ ghost use Rattle.picky_der_core.specs.Tree.{Tree};
 ghost use Rattle.picky_der_core.specs.Shape.{Shape};
 ghost use Rattle.picky_der_input.specs.Reading.{Reads, Refuses, RefusesBytes};
 ghost use Rattle.picky_der_input.specs.TagNumbers.{RefusesNumber};
-ghost use Rattle.picky_der_de.specs.InjectiveLaws.{bytes_known};
+ghost use Rattle.picky_der_de.specs.InjectiveLaws.{bytes_injective};
 
 use crate::{Deserialize, Deserializer};
 use picky_der_core::Result;
@@ -16,7 +16,7 @@ use picky_der_ser::Serialize;
 impl Deserialize for ByteBuf {
     ghost shape = { Shape.bytes 0x04 };
 
-    ghost injective = { λ x y s t r e. bytes_known x.0.items y.0.items e };
+    ghost injective = { λ x y s t r e. bytes_injective x.0.items y.0.items e };
 
     ghost sound = { tt };
 
@@ -34,7 +34,7 @@ impl Deserialize for ByteBuf {
 impl<const TAG: u8> Deserialize for TaggedBytes<TAG> {
     ghost shape = { Shape.bytes TAG };
 
-    ghost injective = { λ x y s t r e. bytes_known x.0.items y.0.items e };
+    ghost injective = { λ x y s t r e. bytes_injective x.0.items y.0.items e };
 
     ghost sound = { tt };
 

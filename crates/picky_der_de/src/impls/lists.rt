@@ -3,7 +3,7 @@ ghost use Rattle.std.specs.Prelude.{map, IfOk, IfErr};
 ghost use Rattle.picky_der_core.specs.Tree.{ListKind, Tree, trees};
 ghost use Rattle.picky_der_core.specs.Shape.{Shape};
 ghost use Rattle.picky_der_input.specs.Reading.{Reads, Refuses};
-ghost use Rattle.picky_der_de.specs.InjectiveLaws.{list_known};
+ghost use Rattle.picky_der_de.specs.InjectiveLaws.{list_injective};
 ghost use Rattle.picky_der_de.specs.Members.{RefusesUnordered};
 
 use crate::{Deserialize, Deserializer};
@@ -15,7 +15,7 @@ use picky_der_ser::Serialize;
 impl<T: Deserialize> Deserialize for Vec<T> {
     ghost shape = { Shape.list_of ListKind.sequence T.shape };
 
-    ghost injective = { λ x y p q r e. list_known T.meaning T.shape T.eq T.injective x.items y.items p.1 q.1 r.1 e };
+    ghost injective = { λ x y p q r e. list_injective T.meaning T.shape T.eq T.injective x.items y.items p.1 q.1 r.1 e };
 
     ghost sound = { T.sound };
 
@@ -27,7 +27,7 @@ impl<T: Deserialize> Deserialize for Vec<T> {
 impl<T: Deserialize> Deserialize for Asn1SequenceOf<T> {
     ghost shape = { Shape.list_of ListKind.sequence T.shape };
 
-    ghost injective = { λ x y p q r e. list_known T.meaning T.shape T.eq T.injective x.0.items y.0.items p.1 q.1 r.1 e };
+    ghost injective = { λ x y p q r e. list_injective T.meaning T.shape T.eq T.injective x.0.items y.0.items p.1 q.1 r.1 e };
 
     ghost sound = { T.sound };
 
@@ -39,7 +39,7 @@ impl<T: Deserialize> Deserialize for Asn1SequenceOf<T> {
 impl<T: Deserialize> Deserialize for Asn1SetOf<T> {
     ghost shape = { Shape.list_of ListKind.set T.shape };
 
-    ghost injective = { λ x y p q r e. list_known T.meaning T.shape T.eq T.injective x.0.items y.0.items p.1 q.1 r.1 e };
+    ghost injective = { λ x y p q r e. list_injective T.meaning T.shape T.eq T.injective x.0.items y.0.items p.1 q.1 r.1 e };
 
     ghost sound = { T.sound };
 

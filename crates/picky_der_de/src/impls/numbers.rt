@@ -4,7 +4,7 @@ ghost use Rattle.picky_der_core.specs.Tree.{Tree};
 ghost use Rattle.picky_der_core.specs.Shape.{Shape};
 ghost use Rattle.picky_der_input.specs.Steps.{TakesNoMemory};
 ghost use Rattle.picky_der_input.specs.Reading.{Reads, Refuses, RefusesBoolean, ReadsUnsigned, RefusesUnsigned};
-ghost use Rattle.picky_der_de.specs.InjectiveLaws.{boolean_known, unsigned_known};
+ghost use Rattle.picky_der_de.specs.InjectiveLaws.{boolean_injective, unsigned_injective};
 
 use crate::{Deserialize, Deserializer};
 use picky_der_core::Result;
@@ -13,7 +13,7 @@ use picky_der_core::misc::ReadExt;
 impl Deserialize for bool {
     ghost shape = { Shape.boolean };
 
-    ghost injective = { λ x y s t r e. boolean_known x y e };
+    ghost injective = { λ x y s t r e. boolean_injective x y e };
 
     ghost sound = { tt };
 
@@ -32,7 +32,7 @@ impl Deserialize for bool {
 impl Deserialize for u8 {
     ghost shape = { Shape.unsigned (2 ^ 8 - 1) };
 
-    ghost injective = { λ x y s t r e. unsigned_known x y e };
+    ghost injective = { λ x y s t r e. unsigned_injective x y e };
 
     ghost sound = { tt };
 
@@ -51,7 +51,7 @@ impl Deserialize for u8 {
 impl Deserialize for u16 {
     ghost shape = { Shape.unsigned (2 ^ 16 - 1) };
 
-    ghost injective = { λ x y s t r e. unsigned_known x y e };
+    ghost injective = { λ x y s t r e. unsigned_injective x y e };
 
     ghost sound = { tt };
 
@@ -70,7 +70,7 @@ impl Deserialize for u16 {
 impl Deserialize for u32 {
     ghost shape = { Shape.unsigned (2 ^ 32 - 1) };
 
-    ghost injective = { λ x y s t r e. unsigned_known x y e };
+    ghost injective = { λ x y s t r e. unsigned_injective x y e };
 
     ghost sound = { tt };
 
@@ -89,7 +89,7 @@ impl Deserialize for u32 {
 impl Deserialize for u64 {
     ghost shape = { Shape.unsigned (2 ^ 64 - 1) };
 
-    ghost injective = { λ x y s t r e. unsigned_known x y e };
+    ghost injective = { λ x y s t r e. unsigned_injective x y e };
 
     ghost sound = { tt };
 
@@ -108,7 +108,7 @@ impl Deserialize for u64 {
 impl Deserialize for u128 {
     ghost shape = { Shape.unsigned (2 ^ 128 - 1) };
 
-    ghost injective = { λ x y s t r e. unsigned_known x y e };
+    ghost injective = { λ x y s t r e. unsigned_injective x y e };
 
     ghost sound = { tt };
 
@@ -127,7 +127,7 @@ impl Deserialize for u128 {
 impl Deserialize for usize {
     ghost shape = { Shape.unsigned (2 ^ 64 - 1) };
 
-    ghost injective = { λ x y s t r e. unsigned_known x y e };
+    ghost injective = { λ x y s t r e. unsigned_injective x y e };
 
     ghost sound = { tt };
 

@@ -4,7 +4,7 @@ ghost use Rattle.picky_der_core.specs.Tree.{Tree};
 ghost use Rattle.picky_der_core.specs.Shape.{Shape};
 ghost use Rattle.picky_der_input.specs.Steps.{TakesNoMemory};
 ghost use Rattle.picky_der_input.specs.Reading.{Reads, Refuses, RefusesNull};
-ghost use Rattle.picky_der_de.specs.InjectiveLaws.{option_known};
+ghost use Rattle.picky_der_de.specs.InjectiveLaws.{option_injective};
 
 use crate::{Deserialize, Deserializer};
 use picky_der_core::Result;
@@ -31,7 +31,7 @@ impl Deserialize for () {
 impl<T: Deserialize> Deserialize for Option<T> {
     ghost shape = { Shape.optional T.shape };
 
-    ghost injective = { option_known T.meaning T.shape T.eq T.injective };
+    ghost injective = { option_injective T.meaning T.shape T.eq T.injective };
 
     ghost sound = { T.sound };
 

@@ -5,7 +5,7 @@ ghost use Rattle.picky_der_core.specs.Tree.{Tree};
 ghost use Rattle.picky_der_core.specs.Shape.{Shape};
 ghost use Rattle.picky_der_input.specs.Steps.{TakesNoMemory};
 ghost use Rattle.picky_der_input.specs.Reading.{Reads, Refuses, RefusesText, RefusesCharacter};
-ghost use Rattle.picky_der_de.specs.InjectiveLaws.{character_known, text_known};
+ghost use Rattle.picky_der_de.specs.InjectiveLaws.{character_injective, text_injective};
 
 use crate::{Deserialize, Deserializer};
 use picky_der_core::Result;
@@ -14,7 +14,7 @@ use picky_der_core::misc::ReadExt;
 impl Deserialize for char {
     ghost shape = { Shape.character };
 
-    ghost injective = { λ x y s t r e. character_known x y e };
+    ghost injective = { λ x y s t r e. character_injective x y e };
 
     ghost sound = { tt };
 
@@ -33,7 +33,7 @@ impl Deserialize for char {
 impl Deserialize for String {
     ghost shape = { Shape.text };
 
-    ghost injective = { λ x y s t r e. text_known (string_bytes x) (string_bytes y) e };
+    ghost injective = { λ x y s t r e. text_injective (string_bytes x) (string_bytes y) e };
 
     ghost sound = { tt };
 

@@ -2,7 +2,7 @@
 ghost use Rattle.picky_der_core.specs.Shape.{Shape};
 ghost use Rattle.picky_der_core.specs.declared.asn1.wrapper.Wrapper.TheVariants as wrapper;
 ghost use Rattle.picky_der_input.specs.declared.enclosure.Enclosure.TheVariants as enclosure;
-ghost use Rattle.picky_der_de.specs.EnclosureLaws.{enclosed_known};
+ghost use Rattle.picky_der_de.specs.EnclosureLaws.{enclosed_injective};
 
 use crate::{Deserialize, Deserializer};
 use picky_der_core::Result;
@@ -15,7 +15,7 @@ use picky_der_core::misc::ReadExt;
 impl<T: Deserialize> Deserialize for OctetStringAsn1Container<T> {
     ghost shape = { Shape.octet_container T.shape };
 
-    ghost injective = { λ x y. enclosed_known (enclosure.Wrapper wrapper.OctetContainer) T.meaning T.shape T.eq T.injective x.0 y.0 };
+    ghost injective = { λ x y. enclosed_injective (enclosure.Wrapper wrapper.OctetContainer) T.meaning T.shape T.eq T.injective x.0 y.0 };
 
     ghost sound = { T.sound };
 
@@ -28,7 +28,7 @@ impl<T: Deserialize> Deserialize for OctetStringAsn1Container<T> {
 impl<T: Deserialize> Deserialize for BitStringAsn1Container<T> {
     ghost shape = { Shape.bit_container T.shape };
 
-    ghost injective = { λ x y. enclosed_known (enclosure.Wrapper wrapper.BitContainer) T.meaning T.shape T.eq T.injective x.0 y.0 };
+    ghost injective = { λ x y. enclosed_injective (enclosure.Wrapper wrapper.BitContainer) T.meaning T.shape T.eq T.injective x.0 y.0 };
 
     ghost sound = { T.sound };
 
@@ -41,7 +41,7 @@ impl<T: Deserialize> Deserialize for BitStringAsn1Container<T> {
 impl<T: Deserialize, const N: u8> Deserialize for ExplicitContextTag<T, N> {
     ghost shape = { Shape.explicit N T.shape };
 
-    ghost injective = { λ x y. enclosed_known (enclosure.Wrapper (wrapper.Explicit N)) T.meaning T.shape T.eq T.injective x.0 y.0 };
+    ghost injective = { λ x y. enclosed_injective (enclosure.Wrapper (wrapper.Explicit N)) T.meaning T.shape T.eq T.injective x.0 y.0 };
 
     ghost sound = { T.sound };
 
@@ -54,7 +54,7 @@ impl<T: Deserialize, const N: u8> Deserialize for ExplicitContextTag<T, N> {
 impl<T: Deserialize, const N: u8> Deserialize for ImplicitContextTag<T, N> {
     ghost shape = { Shape.implicit N T.shape };
 
-    ghost injective = { λ x y. enclosed_known (enclosure.Wrapper (wrapper.Implicit N)) T.meaning T.shape T.eq T.injective x.0 y.0 };
+    ghost injective = { λ x y. enclosed_injective (enclosure.Wrapper (wrapper.Implicit N)) T.meaning T.shape T.eq T.injective x.0 y.0 };
 
     ghost sound = { T.sound };
 

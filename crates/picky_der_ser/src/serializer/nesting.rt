@@ -6,7 +6,8 @@ ghost use Rattle.picky_der_core.specs.Wrapper.{under};
 ghost use Rattle.picky_der_ser.specs.Heading.{tree_of};
 ghost use Rattle.picky_der_ser.specs.Headers.{HasNumber};
 ghost use Rattle.picky_der_ser.specs.State.{Level, at_next_member};
-ghost use Rattle.picky_der_ser.specs.Calls.{SinkWrites, SinkRefuses, RefusesToEnter, OpensLevel, AddsMember, RefusesToAdd, WritesContent, EndsLevel};
+ghost use Rattle.picky_der_ser.specs.Calls.{SinkWrites, SinkRefuses, RefusesToEnter, OpensLevel};
+ghost use Rattle.picky_der_ser.specs.Calls.{AddsMember, RefusesToAdd, WritesContent, EndsLevel};
 
 use super::Serializer;
 use crate::sink::put_headed;

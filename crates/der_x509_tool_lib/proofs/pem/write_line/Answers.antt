@@ -1,6 +1,6 @@
 use Rattle.std.proofs.Common.{◌∙◌, refl}
 use Rattle.std.proofs.lemmas.Result.{err_from_is_err_and}
-use Rattle.picky_der_core.specs.WriterFaults.{Faulted}
+use Rattle.picky_der_core.specs.WriterFaults.{WriterFails}
 use Rattle.der_x509_tool_lib.specs.Run.{no_sink}
 use Rattle.der_x509_tool_lib.proofs.pem.write_line.Goals as goal
 
@@ -9,5 +9,5 @@ returns-in_err-write_exact-clause-err g c =
     let p = err_from_is_err_and c.from_residual-in_err-write_exact.result c.from_residual-in_err-write_exact.ensures.1 in
     let text = c.as_bytes.ensures.value ∙ c.in_ok-text.ensures.ok in
     let failed = c.in_err-write_exact.ensures in
-    let fault : Faulted g.W.WriteExt c.args.output.now p.0 c.write_exact.new.self = record { rose = failed.fault.0; kind = _; answered = failed.fault.1; is = p.2 } in
+    let fault : WriterFails g.W.WriteExt c.args.output.now p.0 c.write_exact.new.self = record { rose = failed.fault.0; kind = _; answered = failed.fault.1; is = p.2 } in
     rw p.1 (no_sink fault _ refl (rw text at failed.beginning.begins))

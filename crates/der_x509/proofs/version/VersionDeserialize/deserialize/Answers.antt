@@ -1,13 +1,13 @@
 use Rattle.std.proofs.Common.{rules, ◌≡◌, arith}
-use Rattle.picky_der_de.proofs.Asked.{asked}
+use Rattle.picky_der_de.proofs.PassedOn.{refusal_passed_on}
 use Rattle.picky_der_de.proofs.OtherValues.{other_value}
 use Rattle.picky_der_de.proofs.PlainReads.{refuses_of}
-use Rattle.der_x509.specs.Version.{number_of, number_of_most}
+use Rattle.der_x509.specs.Version.{version_number, version_number_most}
 use Rattle.der_x509.proofs.version.VersionDeserialize.deserialize.Goals as goal
 
 pub returns-in_err-deserialize-clause-err : goal.returns-in_err-deserialize-clause-err
-returns-in_err-deserialize-clause-err g c = asked _ c.from_residual.ensures.1 (search rules) (refuses_of number_of c.in_err-deserialize.ensures.err)
+returns-in_err-deserialize-clause-err g c = refusal_passed_on _ c.from_residual.ensures.1 (search rules) (refuses_of version_number c.in_err-deserialize.ensures.err)
 
 pub returns-in-None-clause-err : goal.returns-in-None-clause-err
 returns-in-None-clause-err g c =
-    other_value tt c.in_ok-deserialize.ensures.ok c.refuse.ensures.is c.refuse.ensures.fails (λ h. cc) (λ v p q. let n : number_of v ≡ c.in_ok-deserialize.field-0 = cc in omega (arith, number_of_most v, c.in-None.ensures.none))
+    other_value tt c.in_ok-deserialize.ensures.ok c.refuse.ensures.is c.refuse.ensures.fails (λ h. cc) (λ v p q. let n : version_number v ≡ c.in_ok-deserialize.field-0 = cc in omega (arith, version_number_most v, c.in-None.ensures.none))

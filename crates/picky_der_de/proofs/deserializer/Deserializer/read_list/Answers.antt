@@ -1,6 +1,6 @@
 use Rattle.std.proofs.Common.{rules}
 use Rattle.std.proofs.lemmas.Result.{err_from_is_err_and}
-use Rattle.picky_der_de.proofs.Asked.{asked, asked_of, reads_at}
+use Rattle.picky_der_de.proofs.PassedOn.{refusal_passed_on, passed_on, reads_at}
 use Rattle.picky_der_de.proofs.ListReads.{list_numbered, list_of_unopened, list_of_refused, list_of_reads, all_closed}
 use Rattle.picky_der_de.specs.Members.{RefusesUnordered}
 use Rattle.picky_der_de.proofs.SetOrder.{unordered_unopened, unordered_refused}
@@ -16,7 +16,7 @@ returns-in_err-members-clause-err g c =
 
 pub returns-in_err-values-clause-err : goal.returns-in_err-values-clause-err
 returns-in_err-values-clause-err g c =
-    asked _ c.from_residual-in_err-values.ensures.1 (search rules) (list_of_refused g.T.Serialize.meaning g.T.Deserialize.shape c.requires (λ vs. vs) c.in_ok-members.ensures.ok c.in_err-values.ensures.err)
+    refusal_passed_on _ c.from_residual-in_err-values.ensures.1 (search rules) (list_of_refused g.T.Serialize.meaning g.T.Deserialize.shape c.requires (λ vs. vs) c.in_ok-members.ensures.ok c.in_err-values.ensures.err)
 
 pub returns-in_err-end-clause-err : goal.returns-in_err-end-clause-err
 returns-in_err-end-clause-err g c = absurd (all_closed c.in_ok-values.ensures.ok c.in_err-end.ensures.err)
@@ -32,7 +32,7 @@ returns-in_err-members-clause-order g c set =
 
 pub returns-in_err-values-clause-order : goal.returns-in_err-values-clause-order
 returns-in_err-values-clause-order g c set =
-    asked_of (RefusesUnordered g.T.Serialize.meaning g.T.Deserialize.shape _) _ c.from_residual-in_err-values.ensures.1 (search rules) (unordered_refused (rw set at c.in_ok-members.ensures.ok) c.in_err-values.ensures.err)
+    passed_on (RefusesUnordered g.T.Serialize.meaning g.T.Deserialize.shape _) _ c.from_residual-in_err-values.ensures.1 (search rules) (unordered_refused (rw set at c.in_ok-members.ensures.ok) c.in_err-values.ensures.err)
 
 pub returns-in_err-end-clause-order : goal.returns-in_err-end-clause-order
 returns-in_err-end-clause-order g c set = absurd (all_closed c.in_ok-values.ensures.ok c.in_err-end.ensures.err)

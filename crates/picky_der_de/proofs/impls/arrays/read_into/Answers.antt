@@ -2,13 +2,13 @@ use Rattle.std.proofs.Common.{rules, ◌∙◌, ◌<◌, length, take, map, refl
 use Rattle.std.proofs.lemmas.List.{take_more_set, take_all, length-set, length-take-le}
 use Rattle.std.proofs.lemmas.Result.{IfErr-weaker, on_ok_weaker}
 use Rattle.picky_der_core.specs.Tree.{trees}
-use Rattle.picky_der_de.proofs.Asked.{asked, reads_at, refuses_at}
+use Rattle.picky_der_de.proofs.PassedOn.{refusal_passed_on, reads_at, refuses_at}
 use Rattle.picky_der_de.proofs.Rows.{row_unopened, row_refused, row_left, row_reads}
 use Rattle.picky_der_de.proofs.ArrayReads.{ReadsFirst, first_none, first_more, first_all, first_refused}
 use Rattle.picky_der_de.proofs.impls.arrays.read_into.Goals as goal
 
 pub returns-in_err-members-clause-err : goal.returns-in_err-members-clause-err
-returns-in_err-members-clause-err g c = asked _ c.from_residual.ensures.1 refl (row_unopened {members = λ vs. trees (map g.T.Serialize.meaning vs)} (rw c.in_err-members.was at c.deserialize_seq.follows.holds-at-none))
+returns-in_err-members-clause-err g c = refusal_passed_on _ c.from_residual.ensures.1 refl (row_unopened {members = λ vs. trees (map g.T.Serialize.meaning vs)} (rw c.in_err-members.was at c.deserialize_seq.follows.holds-at-none))
 
 pub loop-at-init : goal.loop-at-init
 loop-at-init g c = record {
@@ -24,7 +24,7 @@ returns-in_err-places-clause-err g c =
     let i = c.loop-at.invariant in
     let l = length-take-le c.loop-at.at c.loop-at.places i.within in
     let h = first_refused (length c.args.places.now) _ i.first (omega (arith, l, i.same_length, c.loop-at-test.true)) c.in_err-places.ensures.err in
-    asked _ c.from_residual-in_err-places.ensures.1 (search rules) (row_refused {members = λ vs. trees (map g.T.Serialize.meaning vs)} c.in_ok-members.ensures.ok h)
+    refusal_passed_on _ c.from_residual-in_err-places.ensures.1 (search rules) (row_refused {members = λ vs. trees (map g.T.Serialize.meaning vs)} c.in_ok-members.ensures.ok h)
 
 pub loop-at-preserved : goal.loop-at-preserved
 loop-at-preserved g c =

@@ -3,7 +3,7 @@ use Rattle.std.proofs.KnownBytes.{Consumes-nil}
 use Rattle.std.proofs.lemmas.Result.{err_from_is_err_and, IfOk-weaker, IfErr-weaker}
 use Rattle.picky_der_core.specs.ElementLaws.{len-short}
 use Rattle.picky_der_core.specs.ReaderLaws.{tells_fault}
-use Rattle.picky_der_core.proofs.LengthSteps.{none_from_refused, refused_missing, no_device, refused_count, Taken-first, Taken-more, Taken-below, refused_cut, Consumes-shortest, refused_longer, read_len}
+use Rattle.picky_der_core.proofs.LengthSteps.{none_from_refused, refused_missing, no_device, refused_count, length_first, length_more, length_below, refused_cut, Consumes-shortest, refused_longer, read_len}
 use Rattle.picky_der_core.proofs.misc.length.Length.deserialized.Goals as goal
 
 -- ---- the first byte
@@ -45,11 +45,11 @@ pub loop-init : goal.loop-init
 loop-init g c = record {
   no_fault = c.in_ok-first.ensures.fault;
   same_references = c.in_ok-first.ensures.same_references;
-  taken = Taken-first c.in_ok-first.ensures.byte;
+  taken = length_first c.in_ok-first.ensures.byte;
 }
 
 pub overflow_mul-len : goal.overflow_mul-len
-overflow_mul-len g c = omega (arith, Taken-below c.loop.invariant.taken c.in_ok-count.ensures.ok c.loop-test.true)
+overflow_mul-len g c = omega (arith, length_below c.loop.invariant.taken c.in_ok-count.ensures.ok c.loop-test.true)
 
 pub returns-in_err-read_one-clause-refused : goal.returns-in_err-read_one-clause-refused
 returns-in_err-read_one-clause-refused g c =
@@ -71,13 +71,13 @@ returns-in_err-read_one-clause-fault g c =
     rw (p.1, p.2) (tells_fault c.loop.invariant.no_fault c.in_err-read_one.ensures.fault)
 
 pub overflow_add-len : goal.overflow_add-len
-overflow_add-len g c = omega (arith, Taken-below c.loop.invariant.taken c.in_ok-count.ensures.ok c.loop-test.true)
+overflow_add-len g c = omega (arith, length_below c.loop.invariant.taken c.in_ok-count.ensures.ok c.loop-test.true)
 
 pub loop-preserved : goal.loop-preserved
 loop-preserved g c = record {
   no_fault = c.in_ok-read_one.ensures.fault ∙ c.loop.invariant.no_fault;
   same_references = c.in_ok-read_one.ensures.same_references ∙ c.loop.invariant.same_references;
-  taken = rw (c.from-in-loop.ensures) (Taken-more c.loop.invariant.taken c.in_ok-read_one.ensures.byte (omega arith));
+  taken = rw (c.from-in-loop.ensures) (length_more c.loop.invariant.taken c.in_ok-read_one.ensures.byte (omega arith));
 }
 
 -- ---- the number
