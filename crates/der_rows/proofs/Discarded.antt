@@ -29,7 +29,7 @@ only_memory (no_way m n) = absurd (n one_is_writable)
 module _ {W : Type 0} (g : Ghosts W) where
   nothing_reached : (inside : List Level) (t : Tree) (old new : W) {e : Asn1DerError} → e ≡ OutOfMemory → new ≡ old → RefusesIn g inside t old e new
   nothing_reached [] t old new none same =
-      record { begins = rw same (beginning_none (g.told old) (der t)); excuse = no_memory none same }
+      record { begins = rw same (beginning_none (g.written old) (der t)); excuse = no_memory none same }
   nothing_reached (l ∷ ls) t old new none same = (no_room none, same)
 
   -- nothing was written, a sequence was begun behind it, and its member was refused

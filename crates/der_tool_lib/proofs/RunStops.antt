@@ -17,7 +17,7 @@ use Rattle.der_tool_lib.proofs.RunSteps.{RunsOn, draws, stands, begins, begins_l
 pub fault_told : {before between after : List Fault} {left : Option (List ℕ)} {e : Asn1DerError} {k : ErrorKind} → between ≡ before → after ≡ record { kind = k; left = left } ∷ between → e ≡ error_of_kind k → TellsFault before after left e
 fault_told {left = left} {k = k} kept once is = TellsFault.fault k (once ∙ ap (λ l. record { kind = k; left = left } ∷ l) kept) is
 
-module _ {W : Type 0} (g : Ghosts W) {a b : Option (List ℕ)} {w v : W} {line : List ℕ} {count : ℕ} (h : RunsOn a b (g.told w) (g.told v) line count) (i j : List Fault) where
+module _ {W : Type 0} (g : Ghosts W) {a b : Option (List ℕ)} {w v : W} {line : List ℕ} {count : ℕ} (h : RunsOn a b (g.written w) (g.written v) line count) (i j : List Fault) where
   -- the reader failed
   pub reader_stops : (b' : Option (List ℕ)) (e : Asn1DerError) (k : ErrorKind) → Keeps b b' → {m : List Fault} → m ≡ i → j ≡ record { kind = k; left = b' } ∷ m → e ≡ error_of_kind k → Stops g a b' i j w v e
   reader_stops b' e k same kept once is = reader (record { kind = k; once = once ∙ ap (λ l. record { kind = k; left = b' } ∷ l) kept; is = is }) line h.is_line (stands h b' same)
@@ -32,14 +32,14 @@ module _ {W : Type 0} (g : Ghosts W) {a b : Option (List ℕ)} {w v : W} {line :
   -- the line that was ended wasn't answered
   pub line_stops : (b' : Option (List ℕ)) (v' : W) (e : Asn1DerError) → Consumes b b' (0x0A ∷ []) → g.faults v ≡ g.faults w → StopsAt g line v v' e → Stops g a b' i j w v' e
   line_stops b' v' e k same (no_memory is kept) =
-      memory is _ (just_ended line h.is_line refl) (subst (λ o. WroteWhole a b' (g.told w) (g.told o) (line ++ (0x0A ∷ []))) (sym kept) (draws h b' 0x0A k))
-  line_stops b' v' e k same (no_sink f answer is begun) = writer (since v' e same f) (begins h b' (g.told v') k answer is begun)
+      memory is _ (just_ended line h.is_line refl) (subst (λ o. WroteWhole a b' (g.written w) (g.written o) (line ++ (0x0A ∷ []))) (sym kept) (draws h b' 0x0A k))
+  line_stops b' v' e k same (no_sink f answer is begun) = writer (since v' e same f) (begins h b' (g.written v') k answer is begun)
 
   -- the last line wasn't answered, which had no end
   pub last_stops : (b' : Option (List ℕ)) (v' : W) (e : Asn1DerError) → Keeps b b' → IsAtEnd b' → 0 < length line → g.faults v ≡ g.faults w → StopsAt g line v v' e → Stops g a b' i j w v' e
   last_stops b' v' e k end some same (no_memory is kept) =
-      memory is _ (not_ended h.is_line) (subst (λ o. WroteWhole a b' (g.told w) (g.told o) line) (sym kept) (stands h b' k))
-  last_stops b' v' e k end some same (no_sink f answer is begun) = writer (since v' e same f) (begins_last h b' (g.told v') k end some answer is begun)
+      memory is _ (not_ended h.is_line) (subst (λ o. WroteWhole a b' (g.written w) (g.written o) line) (sym kept) (stands h b' k))
+  last_stops b' v' e k end some same (no_sink f answer is begun) = writer (since v' e same f) (begins_last h b' (g.written v') k end some answer is begun)
 
   -- the input goes on past the limit
   pub limit_stops : count ≡ 2 ^ 64 - 1 → Stops g a b i j w v UnsupportedValue

@@ -24,7 +24,7 @@ module _ {W : Type 0} (g : Ghosts W) (line : List ℕ) (old new : W) where
   -- why no answer was written, or not all of it
   pub data StopsAt (e : Asn1DerError) : Type 0 where
     no_memory : e ≡ OutOfMemory → new ≡ old → StopsAt e
-    no_sink : WriterFails g old e new → (answer : List ℕ) → IsAnswerTo line answer → AppendsBeginning (g.told old) (g.told new) (answer ++ (0x0A ∷ [])) → StopsAt e
+    no_sink : WriterFails g old e new → (answer : List ℕ) → IsAnswerTo line answer → AppendsBeginning (g.written old) (g.written new) (answer ++ (0x0A ∷ [])) → StopsAt e
 
 -- ---- a run
 
@@ -67,7 +67,7 @@ IsTooLong (Some input) = 2 ^ 64 - 1 ≤ length input
 module _ {W : Type 0} (g : Ghosts W) (in_old in_new : Option (List ℕ)) (faults_old faults_new : List Fault) (out_old out_new : W) where
   -- the lines before this one were answered, and it wasn't
   abbrev pub StopsBefore : List ℕ → Type 0
-  StopsBefore line = WroteWhole in_old in_new (g.told out_old) (g.told out_new) line
+  StopsBefore line = WroteWhole in_old in_new (g.written out_old) (g.written out_new) line
 
   -- why a run ended with an error, and what it left
   pub data Stops (e : Asn1DerError) : Type 0 where
@@ -75,5 +75,5 @@ module _ {W : Type 0} (g : Ghosts W) (in_old in_new : Option (List ℕ)) (faults
     memory : e ≡ OutOfMemory → (line : List ℕ) → IsLastLine line → StopsBefore line → Stops e
     -- the reader cut the line
     reader : ReaderFaulted faults_old faults_new in_new e → (line : List ℕ) → IsLine line → StopsBefore line → Stops e
-    writer : WriterFails g out_old e out_new → WroteBeginning in_old in_new (g.told out_old) (g.told out_new) → Stops e
+    writer : WriterFails g out_old e out_new → WroteBeginning in_old in_new (g.written out_old) (g.written out_new) → Stops e
     too_long : e ≡ UnsupportedValue → IsTooLong in_old → (line : List ℕ) → IsLine line → StopsBefore line → Stops e

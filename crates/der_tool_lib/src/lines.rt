@@ -13,7 +13,7 @@ use std::alloc::Global;
 
 // Writes the answer to a line, and the byte that ends it.
 fn answer_line<W: WriteExt>(alloc: Global, line: &[u8], output: &mut W) -> Result<()>
-    ensures ok { OnOk result (AnswersLine line.now (W.told output.old) (W.told output.new)) }
+    ensures ok { OnOk result (AnswersLine line.now (W.written output.old) (W.written output.new)) }
     ensures err { IfErr result (StopsAt W.WriteExt.own line.now output.old output.new) }
     ensures counted { IsOnceAtMost (W.faults output.old) (W.faults output.new) }
     ensures no_fault { OnOk result (W.faults output.new ≡ W.faults output.old) }
@@ -34,8 +34,8 @@ fn answer_line<W: WriteExt>(alloc: Global, line: &[u8], output: &mut W) -> Resul
 /// the text. It is `OutOfMemory` where memory was refused, the kind of a device's fault, or `UnsupportedValue` where the
 /// input hasn't ended after `u64::MAX` bytes.
 pub fn run<R: ReadExt, W: WriteExt>(alloc: Global, input: &mut R, output: &mut W) -> Result<()>
-    ensures text { OnOk result (WritesText (R.remaining input.old) (W.told output.old)
-        (W.told output.new)) }
+    ensures text { OnOk result (WritesText (R.remaining input.old) (W.written output.old)
+        (W.written output.new)) }
     ensures at_end { OnOk result (IsAtEnd (R.remaining input.new)) }
     ensures stops { IfErr result (Stops W.WriteExt.own (R.remaining input.old)
         (R.remaining input.new) (R.faults input.old) (R.faults input.new) output.old output.new) }

@@ -95,11 +95,11 @@ module _ {line : List ℕ} {before : Option (List ℕ)} where
     line_stopped_at_end {old} {new} (no_sink f bytes a begun) =
         within (no_sink f (bytes ++ text_of_lines (answers_at_end a.0))
         (record { after = a.0; answers = a.1.answers; takes = a.1.takes; is = ap (λ l. l ++ text_of_lines (answers_at_end a.0)) a.1.is ∙ sym (ended_append a.1.answers (answers_at_end a.0)) })
-        (beginning_front (g.told old) (g.told new) bytes (text_of_lines (answers_at_end a.0)) begun))
+        (beginning_front (g.written old) (g.written new) bytes (text_of_lines (answers_at_end a.0)) begun))
 
-    pub open_stopped : {text : List ℕ} {after : Option (List ℕ)} {old mid new : W} {e : Asn1DerError} → after ≡ Some text → WritesSome (AnswersPemLine line before after) (g.told old) (g.told mid) → g.faults mid ≡ g.faults old → StopsWriting g (λ bytes. bytes ≡ codes "refused: the block has no end" ++ (0x0A ∷ [])) mid new e → StopsAtEnd g line before old new e
+    pub open_stopped : {text : List ℕ} {after : Option (List ℕ)} {old mid new : W} {e : Asn1DerError} → after ≡ Some text → WritesSome (AnswersPemLine line before after) (g.written old) (g.written mid) → g.faults mid ≡ g.faults old → StopsWriting g (λ bytes. bytes ≡ codes "refused: the block has no end" ++ (0x0A ∷ [])) mid new e → StopsAtEnd g line before old new e
     open_stopped {text} {after} {old} {mid} {new} s w f (no_memory is same) =
-        behind is text w.of.answers (subst (λ o. TakesPemLine line before o w.of.answers) s w.of.takes) (subst (λ o. Appends (g.told old) (g.told o) (text_of_lines w.of.answers)) (sym same) (subst (Appends (g.told old) (g.told mid)) w.of.is w.written))
+        behind is text w.of.answers (subst (λ o. TakesPemLine line before o w.of.answers) s w.of.takes) (subst (λ o. Appends (g.written old) (g.written o) (text_of_lines w.of.answers)) (sym same) (subst (Appends (g.written old) (g.written mid)) w.of.is w.written))
     open_stopped {text} {after} {old} {mid} {new} {e} s w f (no_sink faulted bytes also begun) =
         let once : WriterFails g old e new = record { rose = subst (λ n. g.faults new ≡ suc n) f faulted.rose; kind = faulted.kind; answered = faulted.answered; is = faulted.is } in
-        within (no_sink once (w.bytes ++ bytes) (end_of text w.of.answers (subst (λ o. TakesPemLine line before o w.of.answers) s w.of.takes) w.of.is also) (beginning_after (g.told old) (g.told mid) (g.told new) w.bytes bytes w.written begun))
+        within (no_sink once (w.bytes ++ bytes) (end_of text w.of.answers (subst (λ o. TakesPemLine line before o w.of.answers) s w.of.takes) w.of.is also) (beginning_after (g.written old) (g.written mid) (g.written new) w.bytes bytes w.written begun))

@@ -24,7 +24,7 @@ module _ {W : Type 0} (g : Ghosts W) (P : List ℕ → Type 0) (old new : W) whe
   -- why none of such bytes were written, or not all of them
   pub data StopsWriting (e : Asn1DerError) : Type 0 where
     no_memory : e ≡ OutOfMemory → new ≡ old → StopsWriting e
-    no_sink : WriterFails g old e new → (bytes : List ℕ) → P bytes → AppendsBeginning (g.told old) (g.told new) bytes → StopsWriting e
+    no_sink : WriterFails g old e new → (bytes : List ℕ) → P bytes → AppendsBeginning (g.written old) (g.written new) bytes → StopsWriting e
 
 -- ---- one block, and one line
 
@@ -66,7 +66,7 @@ module _ {W : Type 0} (g : Ghosts W) (line : List ℕ) (before : Option (List �
   -- why these weren't written, or not all of them
   pub data StopsAtEnd (e : Asn1DerError) : Type 0 where
     within : StopsWriting g (AnswersEnd line before) old new e → StopsAtEnd e
-    behind : e ≡ OutOfMemory → (text : List ℕ) (answers : List (List ℕ)) → TakesPemLine line before (Some text) answers → Appends (g.told old) (g.told new) (text_of_lines answers) → StopsAtEnd e
+    behind : e ≡ OutOfMemory → (text : List ℕ) (answers : List (List ℕ)) → TakesPemLine line before (Some text) answers → Appends (g.written old) (g.written new) (text_of_lines answers) → StopsAtEnd e
 
 -- ---- a run
 
@@ -101,14 +101,14 @@ pub data WroteSomeBlockLines (in_old in_new out_old out_new : Option (List ℕ))
 module _ {W : Type 0} (g : Ghosts W) (in_old in_new : Option (List ℕ)) (faults_old faults_new : List Fault) (out_old out_new : W) where
   -- the lines before this one were answered, and it wasn't
   abbrev pub StopsBefore : List ℕ → Type 0
-  StopsBefore line = WroteBlockLines in_old in_new (g.told out_old) (g.told out_new) line
+  StopsBefore line = WroteBlockLines in_old in_new (g.written out_old) (g.written out_new) line
 
   -- why a run ended with an error, and what it left
   pub data StopsPem (e : Asn1DerError) : Type 0 where
     -- memory was refused for the line or what answers it
     memory : e ≡ OutOfMemory → (line : List ℕ) → IsLastLine line → StopsBefore line → StopsPem e
-    memory_at_end : e ≡ OutOfMemory → WroteAllButEnd in_old in_new (g.told out_old) (g.told out_new) → StopsPem e
+    memory_at_end : e ≡ OutOfMemory → WroteAllButEnd in_old in_new (g.written out_old) (g.written out_new) → StopsPem e
     -- the reader cut the line
     reader : ReaderFaulted faults_old faults_new in_new e → (line : List ℕ) → IsLine line → StopsBefore line → StopsPem e
-    writer : WriterFails g out_old e out_new → WroteSomeBlockLines in_old in_new (g.told out_old) (g.told out_new) → StopsPem e
+    writer : WriterFails g out_old e out_new → WroteSomeBlockLines in_old in_new (g.written out_old) (g.written out_new) → StopsPem e
     too_long : e ≡ UnsupportedValue → IsTooLong in_old → (line : List ℕ) → IsLine line → StopsBefore line → StopsPem e

@@ -33,8 +33,8 @@ const LONGEST_KEPT: usize = 64;
 /// lines. It is `OutOfMemory` where memory was refused, the kind of a device's fault, or `UnsupportedValue` where the input
 /// hasn't ended after `u64::MAX` bytes.
 pub fn run<R: ReadExt, W: WriteExt>(alloc: Global, input: &mut R, output: &mut W) -> Result<()>
-    ensures text { OnOk result (WritesBlockLines (R.remaining input.old) (W.told output.old)
-        (W.told output.new)) }
+    ensures text { OnOk result (WritesBlockLines (R.remaining input.old) (W.written output.old)
+        (W.written output.new)) }
     ensures at_end { OnOk result (IsAtEnd (R.remaining input.new)) }
     ensures stops { IfErr result (StopsPem W.WriteExt.own (R.remaining input.old)
         (R.remaining input.new) (R.faults input.old) (R.faults input.new) output.old output.new) }
@@ -88,8 +88,8 @@ fn end_input<W: WriteExt>(
     block: Option<Vec<u8>>,
     output: &mut W,
 ) -> Result<()>
-    ensures ok { OnOk result (WritesSome (AnswersEnd line.now (text_in block)) (W.told output.old)
-        (W.told output.new)) }
+    ensures ok { OnOk result (WritesSome (AnswersEnd line.now (text_in block)) (W.written output.old)
+        (W.written output.new)) }
     ensures err { IfErr result (StopsAtEnd W.WriteExt.own line.now (text_in block) output.old
         output.new) }
     ensures counted { IsOnceAtMost (W.faults output.old) (W.faults output.new) }
@@ -112,8 +112,8 @@ fn take_line<W: WriteExt>(
     output: &mut W,
 ) -> Result<Option<Vec<u8>>>
     ensures ok { IfOk result (λ after. WritesSome
-        (AnswersPemLine line.now (text_in block) (text_in after)) (W.told output.old)
-        (W.told output.new)) }
+        (AnswersPemLine line.now (text_in block) (text_in after)) (W.written output.old)
+        (W.written output.new)) }
     ensures err { IfErr result (StopsWriting W.WriteExt.own
         (AnswersSomeLine line.now (text_in block)) output.old output.new) }
     ensures counted { IsOnceAtMost (W.faults output.old) (W.faults output.new) }
@@ -153,8 +153,8 @@ fn ends_block(line: &[u8]) -> bool
 
 // Writes the line of a block that has an end, with this text.
 fn answer_block<W: WriteExt>(alloc: Global, text: &[u8], output: &mut W) -> Result<()>
-    ensures ok { OnOk result (WritesSome (AnswersBlock text.now) (W.told output.old)
-        (W.told output.new)) }
+    ensures ok { OnOk result (WritesSome (AnswersBlock text.now) (W.written output.old)
+        (W.written output.new)) }
     ensures err { IfErr result (StopsWriting W.WriteExt.own (AnswersBlock text.now) output.old
         output.new) }
     ensures counted { IsOnceAtMost (W.faults output.old) (W.faults output.new) }
@@ -175,7 +175,7 @@ fn answer_block<W: WriteExt>(alloc: Global, text: &[u8], output: &mut W) -> Resu
 
 // Writes a line, and the byte that ends it.
 fn write_line<W: WriteExt>(alloc: Global, line: &str, output: &mut W) -> Result<()>
-    ensures ok { OnOk result (Appends (W.told output.old) (W.told output.new)
+    ensures ok { OnOk result (Appends (W.written output.old) (W.written output.new)
         (line.now ++ (0x0A ∷ []))) }
     ensures err { IfErr result (StopsWriting W.WriteExt.own
         (λ bytes. bytes ≡ line.now ++ (0x0A ∷ [])) output.old output.new) }

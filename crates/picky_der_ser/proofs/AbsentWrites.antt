@@ -14,7 +14,7 @@ nothing_more l = ap (λ c. record l { content = c }) (sym (append-nil l.content)
 
 module _ {W : Type 0} (g : Ghosts W) where
   adds_none : (inside : List Level) (sink : W) → AddsIn g inside inside sink sink []
-  adds_none [] sink = (refl, Appends-nil (g.told sink))
+  adds_none [] sink = (refl, Appends-nil (g.written sink))
   adds_none (l ∷ ls) sink = (ap (λ m. m ∷ ls) (nothing_more l), refl)
 
   pub absent-ok : (old : State W) → old.failed ≡ None → HaveTagNumbers old.around → WritesAbsent g old (Ok 0) (record old { around = []; pending = None })

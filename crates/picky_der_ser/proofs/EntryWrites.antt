@@ -33,7 +33,7 @@ full_kind = refl
 
 -- ---- a writer, through a reference
 
-module _ {V W : Type 0} (h : Ghosts V) (g : Ghosts W) (now : V → W) (told : (v : V) → h.told v ≡ g.told (now v)) (faults : (v : V) → h.faults v ≡ g.faults (now v)) (answers : (k : ErrorKind) → h.answers k → g.answers k) where
+module _ {V W : Type 0} (h : Ghosts V) (g : Ghosts W) (now : V → W) (told : (v : V) → h.written v ≡ g.written (now v)) (faults : (v : V) → h.faults v ≡ g.faults (now v)) (answers : (k : ErrorKind) → h.answers k → g.answers k) where
   excuse-references : (t : Tree) (rest : List ℕ) (old new : V) (e : Asn1DerError) → Excuse h t rest old e new → Excuse g t rest (now old) e (now new)
   excuse-references t rest old new e (no_memory m s) = no_memory m (ap now s)
   excuse-references t rest old new e (unwritable m n s) = unwritable m n (ap now s)
@@ -43,8 +43,8 @@ module _ {V W : Type 0} (h : Ghosts V) (g : Ghosts W) (now : V → W) (told : (v
   refused-references : (t : Tree) (old new : V) (e : Asn1DerError) → SinkRefuses h t old e new → SinkRefuses g t (now old) e (now new)
   refused-references t old new e r =
       let b = r.begins in
-      let first : Appends (g.told (now old)) (h.told new) b.front = subst (λ a. Appends a (h.told new) b.front) (told old) b.appends in
-      let both : Appends (g.told (now old)) (g.told (now new)) b.front = subst (λ c. Appends (g.told (now old)) c b.front) (told new) first in
+      let first : Appends (g.written (now old)) (h.written new) b.front = subst (λ a. Appends a (h.written new) b.front) (told old) b.appends in
+      let both : Appends (g.written (now old)) (g.written (now new)) b.front = subst (λ c. Appends (g.written (now old)) c b.front) (told new) first in
       record { begins = record { front = b.front; rest = b.rest; is = b.is; appends = both }; excuse = excuse-references t b.rest old new e r.excuse }
 
   -- a serializer that began with nothing open, and hadn't failed
@@ -61,7 +61,7 @@ over j front old new e h f =
     let n : length front ≡ j = sym (ap length e) ∙ grind (arith, common_steps) in
     sym (take-append-drop j new) ∙ ap (λ l. l ++ drop j new) e ∙ ap (λ l. front ++ l) f ∙ ap (λ k. front ++ drop k old) (sym n)
 
-module _ (g : Ghosts BufSink) (told : (s : BufSink) → g.told s ≡ Some (take (position_of s) (vector_of s).now.items)) (only : (k : ErrorKind) → g.answers k → k ≡ kind.OutOfMemory) where
+module _ (g : Ghosts BufSink) (told : (s : BufSink) → g.written s ≡ Some (take (position_of s) (vector_of s).now.items)) (only : (k : ErrorKind) → g.answers k → k ≡ kind.OutOfMemory) where
   vec_excuse : (t : Tree) (old new : BufSink) (e : Asn1DerError) (rest : List ℕ) → Excuse g t rest old e new → MemoryExcuse (IsWritable t) e
   vec_excuse t old new e rest (no_memory m s) = no_room m
   vec_excuse t old new e rest (unwritable m n s) = no_way m n
@@ -79,7 +79,7 @@ module _ (g : Ghosts BufSink) (told : (s : BufSink) → g.told s ≡ Some (take 
       → SinkRefuses g t old e new → VecRefuses t (vector_of old).now.items e (vector_of new).now.items
   refused-vec t old new e start past h =
       let front = h.begins.front in
-      let first : Appends (Some (take (position_of old) (vector_of old).now.items)) (g.told new) front = subst (λ a. Appends a (g.told new) front) (told old) h.begins.appends in
+      let first : Appends (Some (take (position_of old) (vector_of old).now.items)) (g.written new) front = subst (λ a. Appends a (g.written new) front) (told old) h.begins.appends in
       let both : take (position_of new) (vector_of new).now.items ≡ take (position_of old) (vector_of old).now.items ++ front =
       subst (λ b. Appends (Some (take (position_of old) (vector_of old).now.items)) b front) (told new) first in
       let is : take (position_of new) (vector_of new).now.items ≡ front = both ∙ ap (λ k. take k (vector_of old).now.items ++ front) start in
@@ -94,10 +94,10 @@ module _ (g : Ghosts BufSink) (told : (s : BufSink) → g.told s ≡ Some (take 
 
 -- ---- a slice
 
-module _ (g : Ghosts SliceSink) (told : (s : SliceSink) → g.told s ≡ Some (written_of s)) (faults : (s : SliceSink) → g.faults s ≡ faults_of s) (only : (k : ErrorKind) → g.answers k → k ≡ kind.WriteZero) where
-  told-appends : (old new : SliceSink) (bs : List ℕ) → Appends (g.told old) (g.told new) bs → Appends (Some (written_of old)) (Some (written_of new)) bs
+module _ (g : Ghosts SliceSink) (told : (s : SliceSink) → g.written s ≡ Some (written_of s)) (faults : (s : SliceSink) → g.faults s ≡ faults_of s) (only : (k : ErrorKind) → g.answers k → k ≡ kind.WriteZero) where
+  told-appends : (old new : SliceSink) (bs : List ℕ) → Appends (g.written old) (g.written new) bs → Appends (Some (written_of old)) (Some (written_of new)) bs
   told-appends old new bs h =
-      let first : Appends (Some (written_of old)) (g.told new) bs = subst (λ a. Appends a (g.told new) bs) (told old) h in
+      let first : Appends (Some (written_of old)) (g.written new) bs = subst (λ a. Appends a (g.written new) bs) (told old) h in
       subst (λ b. Appends (Some (written_of old)) b bs) (told new) first
 
   -- a slice holds the encoding, and behind it what stood there before

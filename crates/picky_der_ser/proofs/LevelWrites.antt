@@ -98,22 +98,22 @@ encoding_sealed (Some l) old new bs numbers is shown fits =
     (writable_counted l.around l.header l.content numbers (omega (arith, ap length e, fits)), e)
 
 module _ {W : Type 0} (g : Ghosts W) where
-  pub wrote_by : (t : Tree) (bs : List ℕ) (old new : W) (r : Result ℕ Asn1DerError) → IsWritable t → bs ≡ der t → IfOk r (λ n. n ≡ length bs) → OnOk r (Appends (g.told old) (g.told new) bs) → IfOk r (λ n. SinkWrites g t old n new)
-  wrote_by t bs old new (Ok n) w is count appends = record { writable = w; count = count ∙ ap length is; appends = subst (Appends (g.told old) (g.told new)) is appends }
+  pub wrote_by : (t : Tree) (bs : List ℕ) (old new : W) (r : Result ℕ Asn1DerError) → IsWritable t → bs ≡ der t → IfOk r (λ n. n ≡ length bs) → OnOk r (Appends (g.written old) (g.written new) bs) → IfOk r (λ n. SinkWrites g t old n new)
+  wrote_by t bs old new (Ok n) w is count appends = record { writable = w; count = count ∙ ap length is; appends = subst (Appends (g.written old) (g.written new)) is appends }
   wrote_by t bs old new (Err e) w is count appends = tt
 
-  pub refused_by : (t : Tree) (bs : List ℕ) (old new : W) (r : Result ℕ Asn1DerError) → IsWritable t → bs ≡ der t → OnErr r (AppendsTooFew (g.told old) (g.told new) bs) → IfErr r (λ e. WriterFails g old e new) → IfErr r (λ e. SinkRefuses g t old e new)
+  pub refused_by : (t : Tree) (bs : List ℕ) (old new : W) (r : Result ℕ Asn1DerError) → IsWritable t → bs ≡ der t → OnErr r (AppendsTooFew (g.written old) (g.written new) bs) → IfErr r (λ e. WriterFails g old e new) → IfErr r (λ e. SinkRefuses g t old e new)
   refused_by t bs old new (Ok n) w is begins fault = tt
   refused_by t bs old new (Err e) w is begins fault =
-      let b : AppendsTooFew (g.told old) (g.told new) (der t) = subst (AppendsTooFew (g.told old) (g.told new)) is begins in
+      let b : AppendsTooFew (g.written old) (g.written new) (der t) = subst (AppendsTooFew (g.written old) (g.written new)) is begins in
       record { begins = b.begins; excuse = no_sink w b.missing fault }
 
-  pub wrote_level : (t : Level → Tree) (p : Option Level) (bs : List ℕ) (old new : W) (r : Result ℕ Asn1DerError) → AreEncoding t p bs → IfOk r (λ n. n ≡ length bs) → OnOk r (Appends (g.told old) (g.told new) bs) → IfOk r (λ n. IfSome p (λ l. SinkWrites g (t l) old n new))
+  pub wrote_level : (t : Level → Tree) (p : Option Level) (bs : List ℕ) (old new : W) (r : Result ℕ Asn1DerError) → AreEncoding t p bs → IfOk r (λ n. n ≡ length bs) → OnOk r (Appends (g.written old) (g.written new) bs) → IfOk r (λ n. IfSome p (λ l. SinkWrites g (t l) old n new))
   wrote_level t p bs old new (Err e) is count appends = tt
   wrote_level t None bs old new (Ok n) is count appends = tt
   wrote_level t (Some l) bs old new (Ok n) is count appends = wrote_by (t l) bs old new (Ok n) is.0 is.1 count appends
 
-  pub refused_level : (t : Level → Tree) (p : Option Level) (bs : List ℕ) (old new : W) (r : Result ℕ Asn1DerError) → AreEncoding t p bs → OnErr r (AppendsTooFew (g.told old) (g.told new) bs) → IfErr r (λ e. WriterFails g old e new) → IfErr r (λ e. IfSome p (λ l. SinkRefuses g (t l) old e new))
+  pub refused_level : (t : Level → Tree) (p : Option Level) (bs : List ℕ) (old new : W) (r : Result ℕ Asn1DerError) → AreEncoding t p bs → OnErr r (AppendsTooFew (g.written old) (g.written new) bs) → IfErr r (λ e. WriterFails g old e new) → IfErr r (λ e. IfSome p (λ l. SinkRefuses g (t l) old e new))
   refused_level t p bs old new (Ok n) is begins fault = tt
   refused_level t None bs old new (Err e) is begins fault = tt
   refused_level t (Some l) bs old new (Err e) is begins fault = refused_by (t l) bs old new (Err e) is.0 is.1 begins fault

@@ -53,7 +53,7 @@ unwritable-by t e h = let q : false ≡ true = sym e ∙ h.numbers in cc
 
 module _ {W : Type 0} (g : Ghosts W) where
   pub refused_unwritable : (inside : List Level) (t : Tree) (sink : W) → ¬ IsWritable t → RefusesIn g inside t sink UnsupportedValue sink
-  refused_unwritable [] t sink n = record { begins = beginning_none (g.told sink) (der t); excuse = unwritable refl n refl }
+  refused_unwritable [] t sink n = record { begins = beginning_none (g.written sink) (der t); excuse = unwritable refl n refl }
   refused_unwritable (l ∷ ls) t sink n = (no_way refl n, refl)
 
   -- a tag number past 30

@@ -19,7 +19,7 @@ use Rattle.picky_der_ser.specs.Calls.{AddsIn, SinkWrites, SinkRefuses, RefusesIn
 use Rattle.picky_der_ser.proofs.LevelWrites.{wrote_by, refused_by, writable_counted}
 
 module _ {W : Type 0} (g : Ghosts W) where
-  adds_outside : (inside levels : List Level) (old new : W) (bs : List ℕ) → inside ≡ [] → levels ≡ [] → Appends (g.told old) (g.told new) bs → AddsIn g inside levels old new bs
+  adds_outside : (inside levels : List Level) (old new : W) (bs : List ℕ) → inside ≡ [] → levels ≡ [] → Appends (g.written old) (g.written new) bs → AddsIn g inside levels old new bs
   adds_outside inside levels old new bs e f h = subst (λ l. AddsIn g l levels old new bs) (sym e) (f, h)
 
   -- outside levels
@@ -46,7 +46,7 @@ module _ {W : Type 0} (g : Ghosts W) where
 
   -- anywhere: out of memory
   pub refused_memory : (inside : List Level) (t : Tree) (sink : W) → RefusesIn g inside t sink OutOfMemory sink
-  refused_memory [] t sink = record { begins = beginning_none (g.told sink) (der t); excuse = no_memory refl refl }
+  refused_memory [] t sink = record { begins = beginning_none (g.written sink) (der t); excuse = no_memory refl refl }
   refused_memory (l ∷ ls) t sink = (no_room refl, refl)
 
   pub fails_memory : (t : Tree) (old new : State W) (e : Asn1DerError) → old.failed ≡ None → e ≡ OutOfMemory → new.failed ≡ Some (failure_of e) → new.sink ≡ old.sink → RefusesWrite g t old e new
@@ -85,10 +85,10 @@ module _ {W : Type 0} (g : Ghosts W) where
   plain_refused t old new e w some h c l = record { wrote = tt; failed = h; outside = λ x y inside around. absurd (some inside); past = λ no. absurd (no w); counted = c; goes_on = l }
 
   -- without wrappers, the sink took an element
-  pub bare_wrote : (t : Tree) (ws : List Wrapper) (bs : List ℕ) (old new : W) (r : Result ℕ Asn1DerError) → ws ≡ [] → IsWritable t → bs ≡ der t → IfOk r (λ n. n ≡ length bs) → OnOk r (Appends (g.told old) (g.told new) bs) → IfOk r (λ n. SinkWrites g (under ws t) old n new)
+  pub bare_wrote : (t : Tree) (ws : List Wrapper) (bs : List ℕ) (old new : W) (r : Result ℕ Asn1DerError) → ws ≡ [] → IsWritable t → bs ≡ der t → IfOk r (λ n. n ≡ length bs) → OnOk r (Appends (g.written old) (g.written new) bs) → IfOk r (λ n. SinkWrites g (under ws t) old n new)
   bare_wrote t ws bs old new r e w is count appends = subst (λ vs. IfOk r (λ n. SinkWrites g (under vs t) old n new)) (sym e) (wrote_by g t bs old new r w is count appends)
 
-  pub bare_refused : (t : Tree) (ws : List Wrapper) (bs : List ℕ) (old new : W) (r : Result ℕ Asn1DerError) → ws ≡ [] → IsWritable t → bs ≡ der t → OnErr r (AppendsTooFew (g.told old) (g.told new) bs) → IfErr r (λ e. WriterFails g old e new) → IfErr r (λ e. SinkRefuses g (under ws t) old e new)
+  pub bare_refused : (t : Tree) (ws : List Wrapper) (bs : List ℕ) (old new : W) (r : Result ℕ Asn1DerError) → ws ≡ [] → IsWritable t → bs ≡ der t → OnErr r (AppendsTooFew (g.written old) (g.written new) bs) → IfErr r (λ e. WriterFails g old e new) → IfErr r (λ e. SinkRefuses g (under ws t) old e new)
   bare_refused t ws bs old new r e w is begins fault = subst (λ vs. IfErr r (λ k. SinkRefuses g (under vs t) old k new)) (sym e) (refused_by g t bs old new r w is begins fault)
 
   pub bare_fault : (ws : List Wrapper) (old new : W) (r : Result ℕ Asn1DerError) → IfErr r (λ e. WriterFails g old e new) → IfErr r (λ e. ws ≡ [] → WriterFails g old e new)

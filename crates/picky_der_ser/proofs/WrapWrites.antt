@@ -26,14 +26,14 @@ numbers-push [] w h k = (k, tt)
 numbers-push (v ∷ ws) w h k = (h.0, numbers-push ws w h.1 k)
 
 -- whether its tag number is at most 30
-told : (w : Wrapper) (t : Tree) → (HasTagNumber w → ⊥) → has_tag_numbers (wrap w t) ≡ false
-told OctetContainer t h = absurd (h tt)
-told BitContainer t h = absurd (h tt)
-told (Explicit n) t h = elim (leb_tells n 30) [
+unnumbered : (w : Wrapper) (t : Tree) → (HasTagNumber w → ⊥) → has_tag_numbers (wrap w t) ≡ false
+unnumbered OctetContainer t h = absurd (h tt)
+unnumbered BitContainer t h = absurd (h tt)
+unnumbered (Explicit n) t h = elim (leb_tells n 30) [
   | inl few ↦ absurd (h few.1)
   | inr past ↦ rw past.0 refl
 ]
-told (Implicit n) t h = elim (leb_tells n 30) [
+unnumbered (Implicit n) t h = elim (leb_tells n 30) [
   | inl few ↦ absurd (h few.1)
   | inr past ↦ rw past.0 refl
 ]
@@ -86,5 +86,5 @@ module _ {W : Type 0} (g : Ghosts W) where
       first (Some x) q = tt
       first None q = elim (has_or_not w) [
         | inl few ↦ rw (h.memory (sym q) few, h.same) (refused_memory g old.inside u old.sink)
-        | inr past ↦ rw (h.past (sym q) past, h.same) (refused_unwritable g old.inside u old.sink (unwritable-by u (past_under old.around (wrap w t) (told w t past))))
+        | inr past ↦ rw (h.past (sym q) past, h.same) (refused_unwritable g old.inside u old.sink (unwritable-by u (past_under old.around (wrap w t) (unnumbered w t past))))
       ]

@@ -39,7 +39,7 @@ pub record HadFailed {W : Type 0} (old : State W) (e : Asn1DerError) (new : Stat
 module _ {W : Type 0} (g : Ghosts W) where
   -- these bytes were added to what was written, or inside a level to what the innermost one holds
   abbrev pub AddsIn : List Level → List Level → W → W → List ℕ → Type 0
-  AddsIn [] levels old new bs = (levels ≡ []) × Appends (g.told old) (g.told new) bs
+  AddsIn [] levels old new bs = (levels ≡ []) × Appends (g.written old) (g.written new) bs
   AddsIn (l ∷ ls) levels old new bs = (levels ≡ with_bytes l bs ∷ ls) × (new ≡ old)
 
   abbrev pub Adds : State W → State W → List ℕ → Type 0
@@ -55,11 +55,11 @@ module _ {W : Type 0} (g : Ghosts W) where
   pub record SinkWrites (t : Tree) (old : W) (n : ℕ) (new : W) : Type 0 where
     pub writable : IsWritable t
     pub count : n ≡ length (der t)
-    pub appends : Appends (g.told old) (g.told new) (der t)
+    pub appends : Appends (g.written old) (g.written new) (der t)
 
   -- a beginning of the tree's encoding was written to the sink, and why no more
   pub record SinkRefuses (t : Tree) (old : W) (e : Asn1DerError) (new : W) : Type 0 where
-    pub begins : AppendsBeginning (g.told old) (g.told new) (der t)
+    pub begins : AppendsBeginning (g.written old) (g.written new) (der t)
     pub excuse : Excuse t begins.rest old e new
 
   -- the tree wasn't written, and why: inside a level nothing reaches the sink

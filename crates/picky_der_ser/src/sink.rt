@@ -12,9 +12,9 @@ use picky_der_core::{Asn1DerError, Result};
 // Writes a tag, the length and the content, and takes no memory.
 pub(crate) fn put_element<W: WriteExt>(sink: &mut W, tag: Tag, content: &[u8]) -> Result<usize>
     ensures count { IfOk result (λ n. n ≡ length (tlv tag content.now)) }
-    ensures appends { OnOk result (Appends (W.told sink.old) (W.told sink.new)
+    ensures appends { OnOk result (Appends (W.written sink.old) (W.written sink.new)
         (tlv tag content.now)) }
-    ensures beginning { OnErr result (AppendsTooFew (W.told sink.old) (W.told sink.new)
+    ensures beginning { OnErr result (AppendsTooFew (W.written sink.old) (W.written sink.new)
         (tlv tag content.now)) }
     ensures fault { IfErr result (λ e. WriterFails W.WriteExt.own sink.old e sink.new) }
     ensures no_fault { OnOk result (W.faults sink.new ≡ W.faults sink.old) }
@@ -29,9 +29,9 @@ pub(crate) fn put_element<W: WriteExt>(sink: &mut W, tag: Tag, content: &[u8]) -
 // Writes the headers of a content, and the content.
 pub(crate) fn put_headed<W: WriteExt>(sink: &mut W, headers: &[u8], content: &[u8]) -> Result<usize>
     ensures count { IfOk result (λ n. n ≡ length (headers.now ++ content.now)) }
-    ensures appends { OnOk result (Appends (W.told sink.old) (W.told sink.new)
+    ensures appends { OnOk result (Appends (W.written sink.old) (W.written sink.new)
         (headers.now ++ content.now)) }
-    ensures beginning { OnErr result (AppendsTooFew (W.told sink.old) (W.told sink.new)
+    ensures beginning { OnErr result (AppendsTooFew (W.written sink.old) (W.written sink.new)
         (headers.now ++ content.now)) }
     ensures fault { IfErr result (λ e. WriterFails W.WriteExt.own sink.old e sink.new) }
     ensures no_fault { OnOk result (W.faults sink.new ≡ W.faults sink.old) }

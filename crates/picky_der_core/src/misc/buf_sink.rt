@@ -132,7 +132,7 @@ impl Write for BufSink<'_> {
 impl WriteExt for BufSink<'_> {
     ghost use Rattle.picky_der_core.specs.Sink.{position_of, written_of, faults_of, IsLater};
 
-    ghost told = { λ s. Some (written_of s) };
+    ghost written = { λ s. Some (written_of s) };
 
     ghost faults = { λ s. faults_of s };
 

@@ -57,9 +57,9 @@ impl Length {
     /// and at least one byte is missing.
     pub fn serialize<W: WriteExt>(len: usize, writer: &mut W) -> Result<usize>
         ensures count { IfOk result (λ n. n ≡ length (bytes_of len)) }
-        ensures appends { OnOk result (Appends (W.told writer.old) (W.told writer.new)
+        ensures appends { OnOk result (Appends (W.written writer.old) (W.written writer.new)
             (bytes_of len)) }
-        ensures beginning { OnErr result (AppendsTooFew (W.told writer.old) (W.told writer.new)
+        ensures beginning { OnErr result (AppendsTooFew (W.written writer.old) (W.written writer.new)
             (bytes_of len)) }
         ensures fault { IfErr result (λ e. WriterFails W.WriteExt.own writer.old e writer.new) }
         ensures no_fault { OnOk result (W.faults writer.new ≡ W.faults writer.old) }

@@ -113,7 +113,7 @@ impl Write for SliceSink<'_> {
 impl WriteExt for SliceSink<'_> {
     ghost use Rattle.picky_der_core.specs.SliceSink.{slice_of, filled_of, room_of, written_of, faults_of, IsLater};
 
-    ghost told = { λ s. Some (written_of s) };
+    ghost written = { λ s. Some (written_of s) };
 
     ghost faults = { λ s. faults_of s };
 

@@ -133,7 +133,7 @@ impl<T: Write> Write for Watched<T> {
 }
 
 impl<T: Write> WriteExt for Watched<T> {
-    ghost told = { λ w. T.contents w.inner };
+    ghost written = { λ w. T.contents w.inner };
 
     ghost faults = { λ w. length w.faults };
 

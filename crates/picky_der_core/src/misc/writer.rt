@@ -12,7 +12,7 @@ use std::io::Write;
 /// A writer that writes all of a slice, and whose faults are counted in contracts.
 pub trait WriteExt: Write {
     // The bytes that the writer tells.
-    ghost told: { Self → Option (List ℕ) };
+    ghost written: { Self → Option (List ℕ) };
 
     // Writes that answered an error, or took nothing of a slice that wasn't empty.
     ghost faults: { Self → ℕ };
@@ -28,8 +28,8 @@ pub trait WriteExt: Write {
     /// error.
     fn write_exact(&mut self, bytes: &[u8]) -> io::Result<usize>
         ensures count { IfOk result (λ n. n ≡ length bytes.now) }
-        ensures appends { OnOk result (Appends (told self.old) (told self.new) bytes.now) }
-        ensures beginning { OnErr result (AppendsTooFew (told self.old) (told self.new) bytes.now) }
+        ensures appends { OnOk result (Appends (written self.old) (written self.new) bytes.now) }
+        ensures beginning { OnErr result (AppendsTooFew (written self.old) (written self.new) bytes.now) }
         ensures fault { IfErr result (λ e. (faults self.new ≡ suc (faults self.old))
             × answers (error_kind e)) }
         ensures no_fault { OnOk result (faults self.new ≡ faults self.old) }
@@ -38,8 +38,8 @@ pub trait WriteExt: Write {
     /// Writes the byte, and answers 1. At an error nothing was written.
     fn write_one(&mut self, byte: u8) -> io::Result<usize>
         ensures count { IfOk result (λ n. n ≡ 1) }
-        ensures appends { OnOk result (Appends (told self.old) (told self.new) (byte ∷ [])) }
-        ensures beginning { OnErr result (AppendsTooFew (told self.old) (told self.new)
+        ensures appends { OnOk result (Appends (written self.old) (written self.new) (byte ∷ [])) }
+        ensures beginning { OnErr result (AppendsTooFew (written self.old) (written self.new)
             (byte ∷ [])) }
         ensures fault { IfErr result (λ e. (faults self.new ≡ suc (faults self.old))
             × answers (error_kind e)) }
@@ -49,7 +49,7 @@ pub trait WriteExt: Write {
         self.write_exact(&[byte])
     }
 
-    ghost tells: { (s : Self) → told s ≡ Self.contents s };
+    ghost tells: { (s : Self) → written s ≡ Self.contents s };
 
     ghost later_refl: { (s : Self) → later s s };
 
@@ -57,7 +57,7 @@ pub trait WriteExt: Write {
 }
 
 impl<W: WriteExt> WriteExt for &mut W {
-    ghost told = { λ w. W.told w.now };
+    ghost written = { λ w. W.written w.now };
 
     ghost faults = { λ w. W.faults w.now };
 
