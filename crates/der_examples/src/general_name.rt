@@ -16,7 +16,8 @@ use picky_asn1_der::asn1::{
 };
 use picky_asn1_der::misc::WriteExt;
 use picky_asn1_der::{
-    Alternatives, Asn1RawDer, Choice, NoneOf, OneOf, OneOf4, Result, Serialize, Serializer, Told,
+    Alternatives, Asn1RawDer, Choice, DeserializeChoice, NoneOf, OneOf, OneOf4, Result, Serialize,
+    Serializer,
 };
 
 /// A distinguished name: sets of attributes, each with its type and its value (RFC 5280, 4.1.2.4).
@@ -107,10 +108,10 @@ impl Serialize for GeneralName {
     }
 }
 
-impl Told for GeneralName {
+impl DeserializeChoice for GeneralName {
     ghost told = { Prim.search rules };
 
-    ghost meant = { Prim.search rules };
+    ghost means_choice = { Prim.search rules };
 
     ghost equal = { Prim.search rules };
 }

@@ -6,7 +6,9 @@ ghost use Rattle.der_examples.specs.declared.host.Host.TheVariants.{Email, Domai
 use picky_asn1_der::OneOf4::{First, Fourth, Second, Third};
 use picky_asn1_der::asn1::{ByteBuf, Ia5StringAsn1, ImplicitContextTag2};
 use picky_asn1_der::misc::WriteExt;
-use picky_asn1_der::{Alternatives, Choice, NoneOf, OneOf4, Result, Serialize, Serializer, Told};
+use picky_asn1_der::{
+    Alternatives, Choice, DeserializeChoice, NoneOf, OneOf4, Result, Serialize, Serializer,
+};
 
 /// How a host is named.
 #[derive(Debug, Drop, PartialEq, Eq)]
@@ -51,10 +53,10 @@ impl Serialize for Host {
     }
 }
 
-impl Told for Host {
+impl DeserializeChoice for Host {
     ghost told = { Prim.search rules };
 
-    ghost meant = { Prim.search rules };
+    ghost means_choice = { Prim.search rules };
 
     ghost equal = { Prim.search rules };
 }

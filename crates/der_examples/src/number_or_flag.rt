@@ -5,7 +5,9 @@ ghost use Rattle.der_examples.specs.declared.number_or_flag.NumberOrFlag.TheVari
 
 use picky_asn1_der::OneOf::{Other, This};
 use picky_asn1_der::misc::WriteExt;
-use picky_asn1_der::{Alternatives, Choice, NoneOf, OneOf, Result, Serialize, Serializer, Told};
+use picky_asn1_der::{
+    Alternatives, Choice, DeserializeChoice, NoneOf, OneOf, Result, Serialize, Serializer,
+};
 
 /// A number or a bool.
 #[derive(Debug, Drop, PartialEq, Eq)]
@@ -42,10 +44,10 @@ impl Serialize for NumberOrFlag {
     }
 }
 
-impl Told for NumberOrFlag {
+impl DeserializeChoice for NumberOrFlag {
     ghost told = { Prim.search rules };
 
-    ghost meant = { Prim.search rules };
+    ghost means_choice = { Prim.search rules };
 
     ghost equal = { Prim.search rules };
 }

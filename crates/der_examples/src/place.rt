@@ -8,7 +8,9 @@ use picky_asn1_der::OneOf::{Other, This};
 use picky_asn1_der::asn1::Tag;
 use picky_asn1_der::de::Begins;
 use picky_asn1_der::misc::WriteExt;
-use picky_asn1_der::{Alternatives, Choice, NoneOf, OneOf, Result, Serialize, Serializer, Told};
+use picky_asn1_der::{
+    Alternatives, Choice, DeserializeChoice, NoneOf, OneOf, Result, Serialize, Serializer,
+};
 
 impl Begins for Point {
     fn begins_with(tag: Tag) -> bool {
@@ -53,10 +55,10 @@ impl Serialize for Place {
     }
 }
 
-impl Told for Place {
+impl DeserializeChoice for Place {
     ghost told = { Prim.search rules };
 
-    ghost meant = { Prim.search rules };
+    ghost means_choice = { Prim.search rules };
 
     ghost equal = { Prim.search rules };
 }

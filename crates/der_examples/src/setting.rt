@@ -5,7 +5,9 @@ ghost use Rattle.der_examples.specs.declared.setting.Setting.TheVariants.{Number
 
 use picky_asn1_der::OneOf::{Other, This};
 use picky_asn1_der::misc::WriteExt;
-use picky_asn1_der::{Alternatives, Choice, NoneOf, OneOf, Result, Serialize, Serializer, Told};
+use picky_asn1_der::{
+    Alternatives, Choice, DeserializeChoice, NoneOf, OneOf, Result, Serialize, Serializer,
+};
 
 /// What a setting is set to.
 #[derive(Debug, Drop, PartialEq, Eq)]
@@ -46,10 +48,10 @@ impl Serialize for Setting {
     }
 }
 
-impl Told for Setting {
+impl DeserializeChoice for Setting {
     ghost told = { Prim.search rules };
 
-    ghost meant = { Prim.search rules };
+    ghost means_choice = { Prim.search rules };
 
     ghost equal = { Prim.search rules };
 }

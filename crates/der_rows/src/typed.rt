@@ -8,7 +8,7 @@ use std::alloc::{AllocError, Global};
 
 /// The answer to words of what is done, bytes in brackets, and ` as ` with a type.
 pub(crate) fn answer(alloc: Global, row: &str) -> Result<String, AllocError> {
-    let Some((words, bytes, name)) = parts(alloc, row) else {
+    let Some((words, bytes, name)) = split_row(alloc, row) else {
         return String::from_str(alloc, "unknown row");
     };
     if words == "copy" {
@@ -23,7 +23,7 @@ pub(crate) fn answer(alloc: Global, row: &str) -> Result<String, AllocError> {
     }
 }
 
-fn parts(alloc: Global, row: &str) -> Option<(&str, Vec<u8>, &str)> {
+fn split_row(alloc: Global, row: &str) -> Option<(&str, Vec<u8>, &str)> {
     let (words, rest) = row.split_once(" [")?;
     let (bytes, name) = rest.split_once("] as ")?;
     Some((words, bytes_in(alloc, bytes)?, name))

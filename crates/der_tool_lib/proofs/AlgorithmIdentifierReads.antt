@@ -14,7 +14,7 @@ use Rattle.picky_der_de.specs.Reading.{Reads, Refuses}
 use Rattle.picky_der_de.specs.Ends.{Outer, Closes, RefusesClose, OpensList, RefusesList}
 use Rattle.picky_der_de.specs.Members.{ReadsMember, RefusesMember, HasNoMore}
 use Rattle.picky_der_de.proofs.Rows.{row_read, row_reads}
-use Rattle.picky_der_de.proofs.Rests.{behind_first, RefusesRest, Unread, nothing, first, IsAhead, rest_unopened, rest_refused, rest_head, rest_next, rest_left, rest_closed, member_as, row_last, row_ended, reads_as}
+use Rattle.picky_der_de.proofs.Rests.{behind_first, RefusesRest, FirstIsUnread, nothing, first, IsAhead, rest_unopened, rest_refused, rest_head, rest_next, rest_left, rest_closed, member_as, row_last, row_ended, reads_as}
 use Rattle.picky_der_ser.specs.Meaning.{list_meaning}
 use Rattle.picky_asn1_der.specs.declared.raw_der.Asn1RawDer.{Asn1RawDer}
 use Rattle.der_tool_lib.specs.declared.algorithm_identifier.AlgorithmIdentifier.{AlgorithmIdentifier}
@@ -30,8 +30,8 @@ members a = trees (map Tree.raw (elements a))
 abbrev AreElements : AlgorithmIdentifier → Type 0
 AreElements a = EachIs (IsOf Shape.raw) (members a)
 
-abbrev RefusesIdentifier : State → State → Asn1DerError → Type 0
-RefusesIdentifier = Refuses (λ a. list_meaning ListKind.sequence Tree.raw (elements a)) shape
+abbrev RefusesAlgorithm : State → State → Asn1DerError → Type 0
+RefusesAlgorithm = Refuses (λ a. list_meaning ListKind.sequence Tree.raw (elements a)) shape
 
 -- an object identifier, as the element that it is
 same_element : (x : List ℕ) → der (Tree.raw (tlv 0x06 x)) ≡ der (Tree.bytes 0x06 x)
@@ -39,28 +39,28 @@ same_element x = der-raw (tlv 0x06 x) ∙ sym (der-bytes 0x06 x)
 
 -- ---- refused
 
-pub unopened : {a c : State} {e : Asn1DerError} → RefusesList 0x30 a c e → RefusesIdentifier a c e
+pub unopened : {a c : State} {e : Asn1DerError} → RefusesList 0x30 a c e → RefusesAlgorithm a c e
 unopened h = rest_unopened {members = members} {kind = ListKind.sequence} refl h
 
 module _ {a b : State} {outer : Outer} (opened : OpensList 0x30 a b outer) where
-  refused : {c : State} {e : Asn1DerError} → RefusesRest AreElements members b c e → RefusesIdentifier a c e
+  refused : {c : State} {e : Asn1DerError} → RefusesRest AreElements members b c e → RefusesAlgorithm a c e
   refused r = rest_refused {kind = ListKind.sequence} refl (λ v of_shape. of_shape.1) opened r
 
   -- the first member is no object identifier
-  pub no_algorithm : {c : State} {e : Asn1DerError} → RefusesMember (λ (x : TaggedBytes 0x06). Tree.bytes 0x06 x.0.items) (Shape.bytes 0x06) b c e → RefusesIdentifier a c e
+  pub no_algorithm : {c : State} {e : Asn1DerError} → RefusesMember (λ (x : TaggedBytes 0x06). Tree.bytes 0x06 x.0.items) (Shape.bytes 0x06) b c e → RefusesAlgorithm a c e
   no_algorithm r = refused (rest_head (λ v bytes readable. first v.algorithm _ _ (refl, content_bytes 0x06 v.algorithm.0.items bytes.0) (omega arith) (same_element v.algorithm.0.items)) r)
 
   module _ {s : Shape} {c : State} {t : Tree} (algorithm : ReadsMember s b c t) where
     -- the parameters are no element
-    pub no_parameters : {d : State} {e : Asn1DerError} → RefusesMember (λ (p : Asn1RawDer). Tree.raw p.0.items) Shape.raw c d e → IsAhead c → RefusesIdentifier a d e
+    pub no_parameters : {d : State} {e : Asn1DerError} → RefusesMember (λ (p : Asn1RawDer). Tree.raw p.0.items) Shape.raw c d e → IsAhead c → RefusesAlgorithm a d e
     no_parameters r ahead = refused (rest_next algorithm (rest_head (λ v bytes readable. unread v.parameters bytes.1 readable) r))
       where
-        unread : (p : Option Asn1RawDer) → EachIs (IsOf Shape.raw) (trees (map Tree.raw (of_parameters p))) → AreReadable (trees (map Tree.raw (of_parameters p))) → Unread (λ (p : Asn1RawDer). Tree.raw p.0.items) Shape.raw (IsAhead c) (trees (map Tree.raw (of_parameters p)))
+        unread : (p : Option Asn1RawDer) → EachIs (IsOf Shape.raw) (trees (map Tree.raw (of_parameters p))) → AreReadable (trees (map Tree.raw (of_parameters p))) → FirstIsUnread (λ (p : Asn1RawDer). Tree.raw p.0.items) Shape.raw (IsAhead c) (trees (map Tree.raw (of_parameters p)))
         unread None bytes readable = nothing ahead
         unread (Some p) bytes readable = first p _ _ bytes.0 readable.0 refl
 
     -- there is a third member
-    pub left_over : {d f : State} {e : Asn1DerError} (p : Option Asn1RawDer) → IfSome p (λ v. ReadsMember Shape.raw c d (Tree.raw v.0.items)) → IfNone p (HasNoMore c d) → RefusesClose d f e → RefusesIdentifier a f e
+    pub left_over : {d f : State} {e : Asn1DerError} (p : Option Asn1RawDer) → IfSome p (λ v. ReadsMember Shape.raw c d (Tree.raw v.0.items)) → IfNone p (HasNoMore c d) → RefusesClose d f e → RefusesAlgorithm a f e
     left_over None read n k = absurd (rest_closed n k)
     left_over (Some p) read n k = refused (rest_next algorithm (rest_left (λ v. last v.parameters) read k))
       where
@@ -74,11 +74,11 @@ module _ {a b : State} {outer : Outer} (opened : OpensList 0x30 a b outer) where
 algorithm_read : {b c : State} (x : List ℕ) → length x < 2 ^ 64 → ReadsMember (Shape.bytes 0x06) b c (Tree.bytes 0x06 x) → ReadsMember Shape.raw b c (Tree.raw (tlv 0x06 x))
 algorithm_read x small r = member_as (Tree.raw (tlv 0x06 x)) (element_bytes 0x06 x (omega arith) small r.reads.of_shape.1) (record { tag = 0x06; content = x; number = omega arith; is = refl }) (sym (same_element x)) r
 
-pub reads_identifier : {a b c d f : State} {outer closed : Outer} (x : List ℕ) (p : Option Asn1RawDer) → length x < 2 ^ 64 → OpensList 0x30 a b outer → ReadsMember (Shape.bytes 0x06) b c (Tree.bytes 0x06 x)
+pub reads_algorithm : {a b c d f : State} {outer closed : Outer} (x : List ℕ) (p : Option Asn1RawDer) → length x < 2 ^ 64 → OpensList 0x30 a b outer → ReadsMember (Shape.bytes 0x06) b c (Tree.bytes 0x06 x)
     → IfSome p (λ v. ReadsMember Shape.raw c d (Tree.raw v.0.items)) → IfNone p (HasNoMore c d) → Closes closed d f → closed ≡ outer → Reads shape a f (list_meaning ListKind.sequence Tree.raw (tlv 0x06 x ∷ of_parameters p))
-reads_identifier x None small opened algorithm read n k same =
+reads_algorithm x None small opened algorithm read n k same =
     let row = row_ended (algorithm_read x small algorithm) n in
     reads_as (refl, row.of_shape) (row_reads {kind = ListKind.sequence} opened row k same)
-reads_identifier x (Some p) small opened algorithm read n k same =
+reads_algorithm x (Some p) small opened algorithm read n k same =
     let row = row_read (algorithm_read x small algorithm) (row_last read) in
     reads_as (refl, row.of_shape) (row_reads {kind = ListKind.sequence} opened row k same)

@@ -6,7 +6,7 @@ use Rattle.std.specs.Io.KnownBytes.{Consumes}
 use Rattle.hex.specs.Hex.{encode_lower}
 use Rattle.picky_der_core.specs.declared.error.Asn1DerError.{Asn1DerError}
 use Rattle.picky_der_core.specs.declared.error.Asn1DerError.TheVariants as error
-use Rattle.picky_der_core.specs.Element.{Begins}
+use Rattle.picky_der_core.specs.Element.{IsPrefix}
 use Rattle.picky_der_core.specs.Tree.{Tree, trees}
 use Rattle.picky_der_core.specs.Encoding.{der}
 use Rattle.picky_der_core.specs.Readable.{has_tag_numbers, have_tag_numbers, IsWritable}
@@ -19,12 +19,12 @@ use Rattle.der_tool_lib.specs.declared.value.ValueType.{ValueType}
 use Rattle.der_tool_lib.specs.declared.value.ValueType.TheVariants as named
 use Rattle.der_tool_lib.specs.AlgorithmIdentifier.{elements}
 use Rattle.der_tool_lib.specs.Words.{word_of}
-use Rattle.der_tool_lib.specs.Value.{Kinds, plain, element, mendable, Description, description_of, StandsFirst, BeginsValue, IsKind, AnswersRead, read, refused}
+use Rattle.der_tool_lib.specs.Value.{RefusalRule, plain, element, mendable, Description, description_of, StandsFirst, BeginsValue, IsErrorBy, AnswersRead, read, refused}
 use Rattle.der_tool_lib.specs.Reads.{RefusesAs, ReadsNamed, RefusesNamed}
 
 -- ---- values
 
-known_front : (left : Option (List ℕ)) (bytes front : List ℕ) → Consumes (Some bytes) left front → Begins front bytes
+known_front : (left : Option (List ℕ)) (bytes front : List ℕ) → Consumes (Some bytes) left front → IsPrefix front bytes
 known_front None bytes front c = absurd c
 known_front (Some rest) bytes front c = record { rest = rest; is = c }
 
@@ -96,7 +96,7 @@ module _ (d : Description) (bytes : List ℕ) {new : State} {e : Asn1DerError} (
       let stands : StandsAt Place.whole d.shape whole (2 ^ 64 - 1) (d.meaning b.value) = record { of_shape = b.of_shape; readable = b.readable; may_stand = tt; within = omega (arith, b.writable.fits); front = record { rest = []; is = sym (append-nil whole) } } in
       h.none judged (2 ^ 64 - 1) whole (ever final refl (take n bytes) (drop n bytes ++ rest) (drop n bytes) (ap Some cut) size is) b.value stands)
 
-  refused_as : (kinds : Kinds) → RefusesAs d.meaning d.shape kinds (start_state bytes) new e → ((v : d.Value) → StandsFirst d bytes v → ⊥) × IsKind d bytes kinds e
+  refused_as : (rule : RefusalRule) → RefusesAs d.meaning d.shape rule (start_state bytes) new e → ((v : d.Value) → StandsFirst d bytes v → ⊥) × IsErrorBy d bytes rule e
   refused_as (plain tag judge) h =
       let all : take (length bytes) bytes ≡ bytes = grind (arith, common_steps) in (
         h.refuses.none judged (length bytes) bytes (now refl refl),
@@ -115,5 +115,5 @@ pub answers_refused : {type : ValueType} {old : State} (new : State) {bytes answ
     → answer ≡ codes "refused " ++ word_of e → AnswersRead type bytes answer
 answers_refused {type} {old} new {bytes} {answer} {e} is none memory r a =
     let judged : IsJudged (start_state bytes) new e = record { had_not_failed = refl; faults = none; memory = memory } in
-    let told = refused_as (description_of type) bytes judged (description_of type).kinds (subst (λ o. RefusesNamed type o new e) is r) in
+    let told = refused_as (description_of type) bytes judged (description_of type).rule (subst (λ o. RefusesNamed type o new e) is r) in
     refused e told.0 told.1 a

@@ -4,7 +4,7 @@ use Rattle.std.specs.Io.KnownBytes.{Appends, Consumes, Keeps, IsAtEnd}
 use Rattle.std.proofs.KnownBytes.{Appends-nil, Appends-trans, Consumes-nil, Consumes-trans, Consumes-kept, Consumes-whole}
 use Rattle.picky_der_core.specs.Writer.{AppendsBeginning, beginning_after}
 use Rattle.der_tool_lib.specs.Answer.{IsAnswerTo}
-use Rattle.der_tool_lib.specs.Text.{IsLine, AreLines, AreAnswers, text_of_lines, unless_empty, IsSplit, IsTextOf, WritesText}
+use Rattle.der_tool_lib.specs.Text.{IsLine, AreLines, AreAnswers, text_of_lines, unless_empty, IsSplit, IsAnswersOf, WritesAnswers}
 use Rattle.der_tool_lib.specs.Run.{AnswersLine, WroteWhole, WroteBeginning, IsTooLong}
 
 -- ---- one more
@@ -23,9 +23,9 @@ answers_push [] (a ∷ as') line answer h k = absurd h
 answers_push (l ∷ ls) [] line answer h k = absurd h
 answers_push (l ∷ ls) (a ∷ as') line answer h k = (h.0, answers_push ls as' line answer h.1 k)
 
-pub ended_push : (lines : List (List ℕ)) (line : List ℕ) → text_of_lines (lines ++ (line ∷ [])) ≡ text_of_lines lines ++ (line ++ (0x0A ∷ []))
-ended_push [] line = refl
-ended_push (l ∷ ls) line = ap (λ t. l ++ (0x0A ∷ t)) (ended_push ls line) ∙ sym (append_assoc l (0x0A ∷ text_of_lines ls) (line ++ (0x0A ∷ [])))
+pub text_of_lines-push : (lines : List (List ℕ)) (line : List ℕ) → text_of_lines (lines ++ (line ∷ [])) ≡ text_of_lines lines ++ (line ++ (0x0A ∷ []))
+text_of_lines-push [] line = refl
+text_of_lines-push (l ∷ ls) line = ap (λ t. l ++ (0x0A ∷ t)) (text_of_lines-push ls line) ∙ sym (append_assoc l (0x0A ∷ text_of_lines ls) (line ++ (0x0A ∷ [])))
 
 -- a line that isn't empty is a last line
 last_of : (line : List ℕ) → 0 < length line → unless_empty line ≡ line ∷ []
@@ -37,8 +37,8 @@ none_last [] n = refl
 none_last (x ∷ xs) n = absurd (omega (arith, n))
 
 -- all of the input was drawn
-whole_text : {bytes text : List ℕ} (a b c d : Option (List ℕ)) → Consumes a b bytes → IsAtEnd b → IsTextOf bytes text → Appends c d text → WritesText a c d
-whole_text {bytes} {text} a b c d k e t w = Consumes-whole a b bytes (λ input. (text : List ℕ) × IsTextOf input text × Appends c d text) k e (text, t, w)
+whole_text : {bytes text : List ℕ} (a b c d : Option (List ℕ)) → Consumes a b bytes → IsAtEnd b → IsAnswersOf bytes text → Appends c d text → WritesAnswers a c d
+whole_text {bytes} {text} a b c d k e t w = Consumes-whole a b bytes (λ input. (text : List ℕ) × IsAnswersOf input text × Appends c d text) k e (text, t, w)
 
 -- more was drawn than an input within the limit has
 pub longer : (a b : Option (List ℕ)) (bytes : List ℕ) → Consumes a b bytes → length bytes ≡ 2 ^ 64 - 1 → IsTooLong a
@@ -101,13 +101,13 @@ module _ {a b c d : Option (List ℕ)} {line : List ℕ} {count : ℕ} (h : Runs
 
   -- the line was answered
   answered_bytes : (b' : Option (List ℕ)) → Consumes b b' (0x0A ∷ []) → Consumes a b' (text_of_lines (h.whole.lines ++ (line ∷ [])) ++ [])
-  answered_bytes b' k = subst (Consumes a b') (sym (append-nil _ ∙ ended_push h.whole.lines line)) (drawn_more b' 0x0A k)
+  answered_bytes b' k = subst (Consumes a b') (sym (append-nil _ ∙ text_of_lines-push h.whole.lines line)) (drawn_more b' 0x0A k)
 
   answered_text : (d' : Option (List ℕ)) (k : AnswersLine line d d') → Appends c d' (text_of_lines (h.whole.answers ++ (k.answer ∷ [])))
-  answered_text d' k = subst (Appends c d') (sym (ended_push h.whole.answers k.answer)) (Appends-trans c d d' _ _ h.whole.written k.written)
+  answered_text d' k = subst (Appends c d') (sym (text_of_lines-push h.whole.answers k.answer)) (Appends-trans c d d' _ _ h.whole.written k.written)
 
   begun_text : (d' : Option (List ℕ)) (answer : List ℕ) → AppendsBeginning d d' (answer ++ (0x0A ∷ [])) → AppendsBeginning c d' (text_of_lines (h.whole.answers ++ (answer ∷ [])))
-  begun_text d' answer k = subst (AppendsBeginning c d') (sym (ended_push h.whole.answers answer)) (beginning_after c d d' _ _ h.whole.written k)
+  begun_text d' answer k = subst (AppendsBeginning c d') (sym (text_of_lines-push h.whole.answers answer)) (beginning_after c d d' _ _ h.whole.written k)
 
   pub line_answered : (b' d' : Option (List ℕ)) → Consumes b b' (0x0A ∷ []) → AnswersLine line d d' → RunsOn a b' c d' [] (count + 1)
   line_answered b' d' k w = record {
@@ -120,13 +120,13 @@ module _ {a b c d : Option (List ℕ)} {line : List ℕ} {count : ℕ} (h : Runs
       written = answered_text d' w;
     };
     is_line = tt;
-    counted = ap length (append-nil _ ∙ ended_push h.whole.lines line) ∙ more 0x0A;
+    counted = ap length (append-nil _ ∙ text_of_lines-push h.whole.lines line) ∙ more 0x0A;
   }
 
   -- ---- the text of what was drawn
 
-  text_of_ended : (answer : List ℕ) → IsAnswerTo line answer → IsTextOf (text_of_lines (h.whole.lines ++ (line ∷ [])) ++ []) (text_of_lines (h.whole.answers ++ (answer ∷ [])))
-  text_of_ended answer k = record {
+  text_of_answers : (answer : List ℕ) → IsAnswerTo line answer → IsAnswersOf (text_of_lines (h.whole.lines ++ (line ∷ [])) ++ []) (text_of_lines (h.whole.answers ++ (answer ∷ [])))
+  text_of_answers answer k = record {
     lines = h.whole.lines ++ (line ∷ []);
     last = [];
     split = record { are_lines = lines_push _ _ h.whole.are_lines h.is_line; is_line = tt; is = refl };
@@ -137,12 +137,12 @@ module _ {a b c d : Option (List ℕ)} {line : List ℕ} {count : ℕ} (h : Runs
 
   -- the writer failed in the answer to the line, whose end was drawn
   pub begins : (b' d' : Option (List ℕ)) → Consumes b b' (0x0A ∷ []) → (answer : List ℕ) → IsAnswerTo line answer → AppendsBeginning d d' (answer ++ (0x0A ∷ [])) → WroteBeginning a b' c d'
-  unfolding text_of_ended
+  unfolding text_of_answers
   begins b' d' k answer n w = record {
     bytes = _;
     drawn = answered_bytes b' k;
     text = _;
-    is_text = text_of_ended answer n;
+    is_text = text_of_answers answer n;
     at_end = λ l. absurd (omega (arith, l));
     written = begun_text d' answer w;
   }
@@ -150,7 +150,7 @@ module _ {a b c d : Option (List ℕ)} {line : List ℕ} {count : ℕ} (h : Runs
   split_of : IsSplit (text_of_lines h.whole.lines ++ line) h.whole.lines line
   split_of = record { are_lines = h.whole.are_lines; is_line = h.is_line; is = refl }
 
-  text_of_last : (answer : List ℕ) → 0 < length line → IsAnswerTo line answer → IsTextOf (text_of_lines h.whole.lines ++ line) (text_of_lines (h.whole.answers ++ (answer ∷ [])))
+  text_of_last : (answer : List ℕ) → 0 < length line → IsAnswerTo line answer → IsAnswersOf (text_of_lines h.whole.lines ++ line) (text_of_lines (h.whole.answers ++ (answer ∷ [])))
   text_of_last answer some k = record {
     lines = h.whole.lines;
     last = line;
@@ -173,7 +173,7 @@ module _ {a b c d : Option (List ℕ)} {line : List ℕ} {count : ℕ} (h : Runs
 
   -- ---- the end of the input
 
-  text_of_none : length line ≡ 0 → IsTextOf (text_of_lines h.whole.lines ++ line) (text_of_lines h.whole.answers)
+  text_of_none : length line ≡ 0 → IsAnswersOf (text_of_lines h.whole.lines ++ line) (text_of_lines h.whole.answers)
   text_of_none none = record {
     lines = h.whole.lines;
     last = line;
@@ -183,10 +183,10 @@ module _ {a b c d : Option (List ℕ)} {line : List ℕ} {count : ℕ} (h : Runs
     is = refl;
   }
 
-  pub ends : (b' : Option (List ℕ)) → Keeps b b' → IsAtEnd b' → length line ≡ 0 → WritesText a c d
+  pub ends : (b' : Option (List ℕ)) → Keeps b b' → IsAtEnd b' → length line ≡ 0 → WritesAnswers a c d
   ends b' k e none = whole_text a b' c d (drawn_still b' k) e (text_of_none none) h.whole.written
 
-  pub ends_answered : (b' d' : Option (List ℕ)) → Keeps b b' → IsAtEnd b' → 0 < length line → AnswersLine line d d' → WritesText a c d'
+  pub ends_answered : (b' d' : Option (List ℕ)) → Keeps b b' → IsAtEnd b' → 0 < length line → AnswersLine line d d' → WritesAnswers a c d'
   ends_answered b' d' k e some w = whole_text a b' c d' (drawn_still b' k) e (text_of_last w.answer some w.is_answer) (answered_text d' w)
 
   -- ---- too long an input

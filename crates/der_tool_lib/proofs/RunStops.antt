@@ -8,9 +8,9 @@ use Rattle.picky_der_core.specs.declared.misc.writer.WriteExt.{Ghosts}
 use Rattle.picky_der_core.specs.Error.{error_of_kind}
 use Rattle.picky_der_core.specs.Faults.{Fault}
 use Rattle.picky_der_core.specs.Reader.{TellsFault}
-use Rattle.picky_der_core.specs.WriterFaults.{WriterFails}
+use Rattle.picky_der_core.specs.WriterFaults.{WriterFails, fails_since}
 use Rattle.der_tool_lib.specs.Text.{IsLine}
-use Rattle.der_tool_lib.specs.Run.{StopsAt, no_memory, no_sink, not_ended, just_ended, WroteWhole, Stops, memory, reader, writer, too_long}
+use Rattle.der_tool_lib.specs.Run.{StopsLine, no_memory, no_sink, not_ended, just_ended, WroteWhole, Stops, memory, reader, writer, too_long}
 use Rattle.der_tool_lib.proofs.RunSteps.{RunsOn, draws, stands, begins, begins_last, too_many}
 
 -- the reader failed once since then
@@ -26,20 +26,17 @@ module _ {W : Type 0} (g : Ghosts W) {a b : Option (List ℕ)} {w v : W} {line :
   pub byte_stops : (b' : Option (List ℕ)) (x : ℕ) → Consumes b b' (x ∷ []) → IsLine (line ++ (x ∷ [])) → Stops g a b' i j w v OutOfMemory
   byte_stops b' x k is_line = memory refl _ (not_ended is_line) (draws h b' x k)
 
-  since : (v' : W) (e : Asn1DerError) → g.faults v ≡ g.faults w → WriterFails g v e v' → WriterFails g w e v'
-  since v' e same f = record { rose = subst (λ n. g.faults v' ≡ suc n) same f.rose; kind = f.kind; answered = f.answered; is = f.is }
-
   -- the line that was ended wasn't answered
-  pub line_stops : (b' : Option (List ℕ)) (v' : W) (e : Asn1DerError) → Consumes b b' (0x0A ∷ []) → g.faults v ≡ g.faults w → StopsAt g line v v' e → Stops g a b' i j w v' e
+  pub line_stops : (b' : Option (List ℕ)) (v' : W) (e : Asn1DerError) → Consumes b b' (0x0A ∷ []) → g.faults v ≡ g.faults w → StopsLine g line v v' e → Stops g a b' i j w v' e
   line_stops b' v' e k same (no_memory is kept) =
       memory is _ (just_ended line h.is_line refl) (subst (λ o. WroteWhole a b' (g.written w) (g.written o) (line ++ (0x0A ∷ []))) (sym kept) (draws h b' 0x0A k))
-  line_stops b' v' e k same (no_sink f answer is begun) = writer (since v' e same f) (begins h b' (g.written v') k answer is begun)
+  line_stops b' v' e k same (no_sink f answer is begun) = writer (fails_since g w v v' e same f) (begins h b' (g.written v') k answer is begun)
 
   -- the last line wasn't answered, which had no end
-  pub last_stops : (b' : Option (List ℕ)) (v' : W) (e : Asn1DerError) → Keeps b b' → IsAtEnd b' → 0 < length line → g.faults v ≡ g.faults w → StopsAt g line v v' e → Stops g a b' i j w v' e
+  pub last_stops : (b' : Option (List ℕ)) (v' : W) (e : Asn1DerError) → Keeps b b' → IsAtEnd b' → 0 < length line → g.faults v ≡ g.faults w → StopsLine g line v v' e → Stops g a b' i j w v' e
   last_stops b' v' e k end some same (no_memory is kept) =
       memory is _ (not_ended h.is_line) (subst (λ o. WroteWhole a b' (g.written w) (g.written o) line) (sym kept) (stands h b' k))
-  last_stops b' v' e k end some same (no_sink f answer is begun) = writer (since v' e same f) (begins_last h b' (g.written v') k end some answer is begun)
+  last_stops b' v' e k end some same (no_sink f answer is begun) = writer (fails_since g w v v' e same f) (begins_last h b' (g.written v') k end some answer is begun)
 
   -- the input goes on past the limit
   pub limit_stops : count ≡ 2 ^ 64 - 1 → Stops g a b i j w v UnsupportedValue

@@ -6,7 +6,7 @@ use Rattle.picky_der_core.specs.Element.{tlv}
 use Rattle.picky_der_core.specs.ElementLaws.{tlv-same}
 use Rattle.picky_der_core.specs.Tree.{ListKind, Tree, trees}
 use Rattle.picky_der_ser.specs.Meaning.{list_meaning}
-use Rattle.picky_der_de.specs.InjectiveLaws.{both, raw_injective, bytes_injective, row_members, first_member, other_members}
+use Rattle.picky_der_de.specs.InjectiveLaws.{both, raw_injective, bytes_injective, list_members, first_member, other_members}
 use Rattle.picky_asn1_der.specs.declared.raw_der.Asn1RawDer.{Asn1RawDer}
 use Rattle.picky_asn1_der.specs.contracts.raw_der.Asn1RawDerPartialEq.TheImpl as compared_raw
 use Rattle.der_tool_lib.specs.declared.algorithm_identifier.AlgorithmIdentifier.{AlgorithmIdentifier}
@@ -22,7 +22,7 @@ parameters_injective (Some p) (Some q) e = raw_injective p.0.items q.0.items (fi
 -- identifiers with one tree are equal
 pub algorithm_injective : (x y : AlgorithmIdentifier) → list_meaning ListKind.sequence Tree.raw (elements x) ≡ list_meaning ListKind.sequence Tree.raw (elements y) → compared.ghosts.eq x y ≡ true
 algorithm_injective x y e =
-    let members = row_members e in
+    let members = list_members e in
     let raw : Tree.raw (tlv 0x06 x.algorithm.0.items) ≡ Tree.raw (tlv 0x06 y.algorithm.0.items) = first_member members in
     let element : tlv 0x06 x.algorithm.0.items ≡ tlv 0x06 y.algorithm.0.items = cc in
     let contents = tlv-same 0x06 0x06 x.algorithm.0.items y.algorithm.0.items element in

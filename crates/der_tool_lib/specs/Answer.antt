@@ -2,7 +2,7 @@
 use Rattle.std.specs.Prelude.{◌≡◌, ℕ, List, codes, Result, Ok, Err}
 use Rattle.hex.specs.declared.error.FromHexError.{FromHexError}
 use Rattle.hex.specs.Hex.{encode_lower, decode_of}
-use Rattle.picky_der_core.specs.Element.{len as bytes_of}
+use Rattle.picky_der_core.specs.Element.{length_octets}
 use Rattle.der_tool_lib.specs.declared.value.ValueType.{ValueType}
 use Rattle.der_tool_lib.specs.Line.{Query, len, read, nothing, Asks}
 use Rattle.der_tool_lib.specs.Value.{AnswersRead}
@@ -14,7 +14,7 @@ AnswersDigits type (Err e) answer = answer ≡ codes "refused Line"
 
 -- This answers what a line asks for: a length's bytes in hexadecimal, with lower case letters, or what is read.
 abbrev pub Answers : Query → List ℕ → Type 0
-Answers (len n) answer = answer ≡ encode_lower (bytes_of n)
+Answers (len n) answer = answer ≡ encode_lower (length_octets n)
 Answers (read type digits) answer = AnswersDigits type (decode_of digits) answer
 Answers nothing answer = answer ≡ codes "refused Line"
 

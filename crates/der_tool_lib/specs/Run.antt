@@ -10,7 +10,7 @@ use Rattle.picky_der_core.specs.Faults.{Fault}
 use Rattle.picky_der_core.specs.Writer.{AppendsBeginning}
 use Rattle.picky_der_core.specs.WriterFaults.{WriterFails}
 use Rattle.der_tool_lib.specs.Answer.{IsAnswerTo}
-use Rattle.der_tool_lib.specs.Text.{IsLine, AreLines, AreAnswers, text_of_lines, IsTextOf}
+use Rattle.der_tool_lib.specs.Text.{IsLine, AreLines, AreAnswers, text_of_lines, IsAnswersOf}
 
 -- ---- one line
 
@@ -22,9 +22,9 @@ pub record AnswersLine (line : List ℕ) (old new : Option (List ℕ)) : Type 0 
 
 module _ {W : Type 0} (g : Ghosts W) (line : List ℕ) (old new : W) where
   -- why no answer was written, or not all of it
-  pub data StopsAt (e : Asn1DerError) : Type 0 where
-    no_memory : e ≡ OutOfMemory → new ≡ old → StopsAt e
-    no_sink : WriterFails g old e new → (answer : List ℕ) → IsAnswerTo line answer → AppendsBeginning (g.written old) (g.written new) (answer ++ (0x0A ∷ [])) → StopsAt e
+  pub data StopsLine (e : Asn1DerError) : Type 0 where
+    no_memory : e ≡ OutOfMemory → new ≡ old → StopsLine e
+    no_sink : WriterFails g old e new → (answer : List ℕ) → IsAnswerTo line answer → AppendsBeginning (g.written old) (g.written new) (answer ++ (0x0A ∷ [])) → StopsLine e
 
 -- ---- a run
 
@@ -44,7 +44,7 @@ pub record WroteBeginning (in_old in_new out_old out_new : Option (List ℕ)) : 
   pub bytes : List ℕ
   pub drawn : Consumes in_old in_new bytes
   pub text : List ℕ
-  pub is_text : IsTextOf bytes text
+  pub is_text : IsAnswersOf bytes text
   pub at_end : 0 < length is_text.last → IsAtEnd in_new
   pub written : AppendsBeginning out_old out_new text
 

@@ -36,7 +36,7 @@ AreAnswers (line ∷ lines) [] = ⊥
 AreAnswers (line ∷ lines) (answer ∷ answers) = IsAnswerTo line answer × AreAnswers lines answers
 
 -- the text that answers an input: the answers to its lines, in order, each ended by the byte 0A
-pub record IsTextOf (input text : List ℕ) : Type 0 where
+pub record IsAnswersOf (input text : List ℕ) : Type 0 where
   pub lines : List (List ℕ)
   pub last : List ℕ
   pub split : IsSplit input lines last
@@ -45,5 +45,5 @@ pub record IsTextOf (input text : List ℕ) : Type 0 where
   pub is : text ≡ text_of_lines answers
 
 -- the text of the known bytes of an input was written
-abbrev pub WritesText : Option (List ℕ) → Option (List ℕ) → Option (List ℕ) → Type 0
-WritesText in_old old new = IfSome in_old (λ input. (text : List ℕ) × IsTextOf input text × Appends old new text)
+abbrev pub WritesAnswers : Option (List ℕ) → Option (List ℕ) → Option (List ℕ) → Type 0
+WritesAnswers in_old old new = IfSome in_old (λ input. (text : List ℕ) × IsAnswersOf input text × Appends old new text)

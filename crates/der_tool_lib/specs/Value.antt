@@ -3,7 +3,7 @@ use Rattle.std.specs.Prelude.{◌≡◌, ℕ, ◌-◌, ◌^◌, Bool, true, fals
 use Rattle.hex.specs.Hex.{encode_lower}
 use Rattle.picky_der_core.specs.declared.error.Asn1DerError.{Asn1DerError}
 use Rattle.picky_der_core.specs.declared.error.Asn1DerError.TheVariants.{TruncatedData, OutOfMemory}
-use Rattle.picky_der_core.specs.Element.{Begins}
+use Rattle.picky_der_core.specs.Element.{IsPrefix}
 use Rattle.picky_der_core.specs.Tree.{Tree}
 use Rattle.picky_der_core.specs.Encoding.{der}
 use Rattle.picky_der_core.specs.Readable.{IsReadable, IsWritable}
@@ -24,38 +24,38 @@ use Rattle.der_tool_lib.specs.Words.{word_of}
 -- ---- the types
 
 -- how it is known with which error bytes are refused
-pub data Kinds : Type 0 where
+pub data RefusalRule : Type 0 where
   -- just as a plain read is with this tag, whose contents are judged so
-  plain : ℕ → Judge → Kinds
+  plain : ℕ → Judge → RefusalRule
   -- just as an element that is taken whole is
-  element : Kinds
+  element : RefusalRule
   -- with `TruncatedData` where more bytes could complete a value
-  mendable : Kinds
+  mendable : RefusalRule
 
 -- what the values of a type mean, of which shape, and how its refusals are known
 pub record Description : Type 1 where
   pub Value : Type 0
   pub meaning : Value → Tree
   pub shape : Shape
-  pub kinds : Kinds
+  pub rule : RefusalRule
 
 abbrev pub unsigned_of : ℕ → Description
-unsigned_of bits = record { Value = ℕ; meaning = Tree.unsigned; shape = Shape.unsigned (2 ^ bits - 1); kinds = plain 0x02 (unsigned_error (2 ^ bits - 1)) }
+unsigned_of bits = record { Value = ℕ; meaning = Tree.unsigned; shape = Shape.unsigned (2 ^ bits - 1); rule = plain 0x02 (unsigned_error (2 ^ bits - 1)) }
 
 abbrev pub description_of : ValueType → Description
-description_of named.Bool = record { Value = Bool; meaning = Tree.boolean; shape = Shape.boolean; kinds = plain 0x01 boolean_error }
+description_of named.Bool = record { Value = Bool; meaning = Tree.boolean; shape = Shape.boolean; rule = plain 0x01 boolean_error }
 description_of named.U8 = unsigned_of 8
 description_of named.U16 = unsigned_of 16
 description_of named.U32 = unsigned_of 32
 description_of named.U64 = unsigned_of 64
 description_of named.U128 = unsigned_of 128
-description_of named.Null = record { Value = Unit {0}; meaning = λ _. Tree.null; shape = Shape.null; kinds = plain 0x05 null_error }
-description_of named.Char = record { Value = ℕ; meaning = λ c. Tree.text (encode_utf8 c); shape = Shape.character; kinds = plain 0x0C character_error }
-description_of named.Text = record { Value = List ℕ; meaning = Tree.text; shape = Shape.text; kinds = plain 0x0C text_error }
-description_of named.Octets = record { Value = List ℕ; meaning = Tree.bytes 0x04; shape = Shape.bytes 0x04; kinds = plain 0x04 bytes_error }
-description_of named.Raw = record { Value = List ℕ; meaning = Tree.raw; shape = Shape.raw; kinds = element }
-description_of named.Test = record { Value = TestStruct; meaning = test_written.ghosts.meaning; shape = test_read.ghosts.shape; kinds = mendable }
-description_of named.Spki = record { Value = SubjectPublicKeyInfo; meaning = spki_written.ghosts.meaning; shape = spki_read.ghosts.shape; kinds = mendable }
+description_of named.Null = record { Value = Unit {0}; meaning = λ _. Tree.null; shape = Shape.null; rule = plain 0x05 null_error }
+description_of named.Char = record { Value = ℕ; meaning = λ c. Tree.text (encode_utf8 c); shape = Shape.character; rule = plain 0x0C character_error }
+description_of named.Text = record { Value = List ℕ; meaning = Tree.text; shape = Shape.text; rule = plain 0x0C text_error }
+description_of named.Octets = record { Value = List ℕ; meaning = Tree.bytes 0x04; shape = Shape.bytes 0x04; rule = plain 0x04 bytes_error }
+description_of named.Raw = record { Value = List ℕ; meaning = Tree.raw; shape = Shape.raw; rule = element }
+description_of named.Test = record { Value = TestStruct; meaning = test_written.ghosts.meaning; shape = test_read.ghosts.shape; rule = mendable }
+description_of named.Spki = record { Value = SubjectPublicKeyInfo; meaning = spki_written.ghosts.meaning; shape = spki_read.ghosts.shape; rule = mendable }
 
 -- ---- the answers
 
@@ -70,13 +70,13 @@ module _ (d : Description) (bytes : List ℕ) where
     pub of_shape : IsOf d.shape (d.meaning value)
     pub readable : IsReadable (d.meaning value)
     pub writable : IsWritable (d.meaning value)
-    pub begins : Begins bytes (der (d.meaning value))
+    pub begins : IsPrefix bytes (der (d.meaning value))
 
   -- the error with which the bytes are refused
-  abbrev pub IsKind : Kinds → Asn1DerError → Type 0
-  IsKind (plain tag judge) e = error_of (plain_refusal tag judge false (length bytes) bytes) ≡ Some e
-  IsKind element e = error_of (element_refusal false (length bytes) bytes) ≡ Some e
-  IsKind mendable e = IsOfContent e × (BeginsValue → e ≡ TruncatedData)
+  abbrev pub IsErrorBy : RefusalRule → Asn1DerError → Type 0
+  IsErrorBy (plain tag judge) e = error_of (plain_refusal tag judge false (length bytes) bytes) ≡ Some e
+  IsErrorBy element e = error_of (element_refusal false (length bytes) bytes) ≡ Some e
+  IsErrorBy mendable e = IsOfContent e × (BeginsValue → e ≡ TruncatedData)
 
 abbrev pub is_memory : Asn1DerError → Bool
 is_memory OutOfMemory = true
@@ -87,4 +87,4 @@ pub data AnswersRead (type : ValueType) (bytes answer : List ℕ) : Type 0 where
   read : (v : (description_of type).Value) → StandsFirst (description_of type) bytes v
       → answer ≡ codes "ok " ++ (decimal (length (der ((description_of type).meaning v))) ++ (codes " " ++ encode_lower (der ((description_of type).meaning v)))) → AnswersRead type bytes answer
   refused : (e : Asn1DerError) → ((v : (description_of type).Value) → StandsFirst (description_of type) bytes v → ⊥)
-      → IsKind (description_of type) bytes (description_of type).kinds e → answer ≡ codes "refused " ++ word_of e → AnswersRead type bytes answer
+      → IsErrorBy (description_of type) bytes (description_of type).rule e → answer ≡ codes "refused " ++ word_of e → AnswersRead type bytes answer

@@ -1,7 +1,7 @@
 //! The answer to a line.
 ghost use Rattle.std.specs.Prelude.{◌≡◌, codes, IfOk, IfErr, string_bytes};
 ghost use Rattle.hex.specs.Hex.{encode_lower, decode_of};
-ghost use Rattle.picky_der_core.specs.Element.{len};
+ghost use Rattle.picky_der_core.specs.Element.{length_octets};
 ghost use Rattle.der_tool_lib.specs.Answer.{AnswersDigits, IsAnswerTo};
 ghost use Rattle.der_tool_lib.specs.Words.{word_of};
 
@@ -47,7 +47,7 @@ fn refuse_line(alloc: Global) -> Result<String>
 
 // The bytes of a length in hexadecimal.
 fn length_in_hex(alloc: Global, n: usize) -> Result<String>
-    ensures ok { IfOk result (λ text. string_bytes text ≡ encode_lower (len n)) }
+    ensures ok { IfOk result (λ text. string_bytes text ≡ encode_lower (length_octets n)) }
     ensures err { IfErr result (λ e. e ≡ Asn1DerError.OutOfMemory) }
 {
     let mut bytes = Vec::new(alloc);

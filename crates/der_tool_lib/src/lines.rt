@@ -3,8 +3,8 @@ ghost use Rattle.std.specs.Prelude.{◌≡◌, OnOk, IfErr};
 ghost use Rattle.std.specs.Io.KnownBytes.{IsAtEnd};
 ghost use Rattle.picky_der_core.specs.Reader.{TellsFault};
 ghost use Rattle.picky_der_core.specs.WriterFaults.{IsOnceAtMost};
-ghost use Rattle.der_tool_lib.specs.Run.{AnswersLine, Stops, StopsAt};
-ghost use Rattle.der_tool_lib.specs.Text.{WritesText};
+ghost use Rattle.der_tool_lib.specs.Run.{AnswersLine, Stops, StopsLine};
+ghost use Rattle.der_tool_lib.specs.Text.{WritesAnswers};
 
 use crate::answer_to;
 use picky_der_core::misc::{ReadExt, WriteExt};
@@ -14,7 +14,7 @@ use std::alloc::Global;
 // Writes the answer to a line, and the byte that ends it.
 fn answer_line<W: WriteExt>(alloc: Global, line: &[u8], output: &mut W) -> Result<()>
     ensures ok { OnOk result (AnswersLine line.now (W.written output.old) (W.written output.new)) }
-    ensures err { IfErr result (StopsAt W.WriteExt.own line.now output.old output.new) }
+    ensures err { IfErr result (StopsLine W.WriteExt.own line.now output.old output.new) }
     ensures counted { IsOnceAtMost (W.faults output.old) (W.faults output.new) }
     ensures no_fault { OnOk result (W.faults output.new ≡ W.faults output.old) }
     ensures goes_on { W.later output.old output.new }
@@ -34,7 +34,7 @@ fn answer_line<W: WriteExt>(alloc: Global, line: &[u8], output: &mut W) -> Resul
 /// the text. It is `OutOfMemory` where memory was refused, the kind of a device's fault, or `UnsupportedValue` where the
 /// input hasn't ended after `u64::MAX` bytes.
 pub fn run<R: ReadExt, W: WriteExt>(alloc: Global, input: &mut R, output: &mut W) -> Result<()>
-    ensures text { OnOk result (WritesText (R.remaining input.old) (W.written output.old)
+    ensures text { OnOk result (WritesAnswers (R.remaining input.old) (W.written output.old)
         (W.written output.new)) }
     ensures at_end { OnOk result (IsAtEnd (R.remaining input.new)) }
     ensures stops { IfErr result (Stops W.WriteExt.own (R.remaining input.old)

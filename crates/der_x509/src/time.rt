@@ -6,7 +6,9 @@ ghost use Rattle.der_x509.specs.declared.time.Time.TheVariants.{Utc, Generalized
 use picky_asn1_der::OneOf::{Other, This};
 use picky_asn1_der::asn1::{GeneralizedTimeAsn1, UtcTimeAsn1};
 use picky_asn1_der::misc::WriteExt;
-use picky_asn1_der::{Alternatives, Choice, NoneOf, OneOf, Result, Serialize, Serializer, Told};
+use picky_asn1_der::{
+    Alternatives, Choice, DeserializeChoice, NoneOf, OneOf, Result, Serialize, Serializer,
+};
 
 /// A time, as a CHOICE (RFC 5280, 4.1.2.5). That its text is a time isn't checked.
 #[derive(Debug, Drop, PartialEq, Eq)]
@@ -43,10 +45,10 @@ impl Serialize for Time {
     }
 }
 
-impl Told for Time {
+impl DeserializeChoice for Time {
     ghost told = { Prim.search rules };
 
-    ghost meant = { Prim.search rules };
+    ghost means_choice = { Prim.search rules };
 
     ghost equal = { Prim.search rules };
 }

@@ -13,12 +13,12 @@ use Rattle.picky_der_core.specs.Shape.{Shape, IsSound}
 use Rattle.picky_der_de.specs.State.{State, fresh}
 use Rattle.picky_der_de.specs.Reading.{Reads, Refuses}
 use Rattle.picky_der_de.specs.InjectiveLaws.{IsInjective}
-use Rattle.picky_der_de.specs.Entry.{Reader, IsFront, HasNoFront}
+use Rattle.picky_der_de.specs.Entry.{ReaderView, IsFront, HasNoFront}
 use Rattle.picky_der_de.proofs.EntryReads.{reads_front, refuses_front, slice_refused}
 
 -- ---- reading
 
-abbrev whole : List ℕ → Reader
+abbrev whole : List ℕ → ReaderView
 whole bytes = record { input = Some bytes; faults = [] }
 
 module _ {V : Type 0} (meaning : V → Tree) (s : Shape) {old new : State} {bytes : List ℕ} (left : Option (List ℕ)) (after : List Fault) (is : old ≡ fresh (Some bytes) (length bytes) [] []) (input : new.input ≡ in_front new.peeked left) (faults : after ≡ new.faults) where

@@ -8,10 +8,10 @@ use Rattle.std.proofs.KnownBytes.{Appends-nil, Appends-trans, Consumes-nil, Cons
 use Rattle.picky_der_core.specs.Writer.{AppendsBeginning, beginning_after}
 use Rattle.der_tool_lib.specs.Text.{IsLine, AreLines, text_of_lines}
 use Rattle.der_tool_lib.specs.Run.{IsTooLong}
-use Rattle.der_tool_lib.proofs.RunSteps.{line_push, lines_push, ended_push, longer}
+use Rattle.der_tool_lib.proofs.RunSteps.{line_push, lines_push, text_of_lines-push, longer}
 use Rattle.der_x509_tool_lib.specs.Blocks.{BeginsBlock, none, HasAnswers, answers_at_end, IsBlockLinesOf, WritesBlockLines}
 use Rattle.der_x509_tool_lib.specs.Run.{WritesSome, TakesPemLine, stays_outside, begins, begins_again, goes_on, ends, AnswersPemLine, AnswersEnd, text_in, WroteBlockLines, WroteAllButEnd, WroteSomeBlockLines, at_line, at_end}
-use Rattle.der_x509_tool_lib.proofs.Gathering.{ended_append, take_more}
+use Rattle.der_x509_tool_lib.proofs.Gathering.{text_of_lines-append, take_more}
 
 -- all of the input was drawn
 whole_text : {bytes text : List ℕ} (a b c d : Option (List ℕ)) → Consumes a b bytes → IsAtEnd b → IsBlockLinesOf bytes text → Appends c d text → WritesBlockLines a c d
@@ -20,9 +20,9 @@ whole_text {bytes} {text} a b c d k e t w = Consumes-whole a b bytes (λ input. 
 -- ---- what is kept of a line
 
 -- in a block a line is kept whole, and else its first 64 bytes
-abbrev pub IsKept : Option (List ℕ) → List ℕ → List ℕ → Type 0
-IsKept None line kept = kept ≡ take 64 line
-IsKept (Some text) line kept = kept ≡ line
+abbrev pub KeepsLine : Option (List ℕ) → List ℕ → List ℕ → Type 0
+KeepsLine None line kept = kept ≡ take 64 line
+KeepsLine (Some text) line kept = kept ≡ line
 
 -- a byte is kept in a block, and else where fewer than 64 are
 abbrev pub KeepsByte : Option (List ℕ) → List ℕ → List ℕ → ℕ → Type 0
@@ -37,7 +37,7 @@ keeps_byte (Some text) is_inside old new byte e inside short long = inside (sym 
 short_kept : (line : List ℕ) → length (take 64 line) < 64 → take 64 line ≡ line
 short_kept line h = take_all 64 line (omega (arith, h, length-take 64 line))
 
-pub byte_kept : (open_text : Option (List ℕ)) (line old new : List ℕ) (byte : ℕ) → IsKept open_text line old → KeepsByte open_text old new byte → IsKept open_text (line ++ (byte ∷ [])) new
+pub byte_kept : (open_text : Option (List ℕ)) (line old new : List ℕ) (byte : ℕ) → KeepsLine open_text line old → KeepsByte open_text old new byte → KeepsLine open_text (line ++ (byte ∷ [])) new
 byte_kept (Some text) line old new byte h k = k ∙ ap (λ l. l ++ (byte ∷ [])) h
 byte_kept None line old new byte h k = by (cases_lt (length line) 64)
   where
@@ -55,7 +55,7 @@ begins_kept : (line : List ℕ) → BeginsBlock line → BeginsBlock (take 64 li
 begins_kept line b = subst BeginsBlock (sym (take_all 64 line (omega (arith, b.short)))) b
 
 -- what is kept of a line is taken as the line is
-pub takes_whole : {line kept : List ℕ} {before after : Option (List ℕ)} {answers : List (List ℕ)} → IsKept before line kept → TakesPemLine kept before after answers → TakesPemLine line before after answers
+pub takes_whole : {line kept : List ℕ} {before after : Option (List ℕ)} {answers : List (List ℕ)} → KeepsLine before line kept → TakesPemLine kept before after answers → TakesPemLine line before after answers
 takes_whole {line} {kept} {before = None} {after} {answers} h (stays_outside b e n m) = stays_outside (λ c. b (subst BeginsBlock (sym h) (begins_kept line c))) e n m
 takes_whole {line} {kept} {before = None} {after} {answers} h (begins b e n m) = begins (begins_whole line (subst BeginsBlock h b)) e n m
 takes_whole {line} {kept} {before = None} {after} {answers} h (begins_again b text e n m) = absurd (none-some _ e)
@@ -66,7 +66,7 @@ takes_whole {line} {kept} {before = Some text} {after} {answers} h t = subst (λ
 -- ---- what stands while the input is read
 
 -- this many bytes were drawn, of which `line` has no end yet; the lines before it were answered
-pub record RunsOn (a b c d : Option (List ℕ)) (kept : List ℕ) (open_text : Option (List ℕ)) (count : ℕ) : Type 0 where
+pub record RunsOnPem (a b c d : Option (List ℕ)) (kept : List ℕ) (open_text : Option (List ℕ)) (count : ℕ) : Type 0 where
   pub lines : List (List ℕ)
   pub line : List ℕ
   pub answers : List (List ℕ)
@@ -75,24 +75,24 @@ pub record RunsOn (a b c d : Option (List ℕ)) (kept : List ℕ) (open_text : O
   pub has_answers : HasAnswers lines open_text answers
   pub drawn : Consumes a b (text_of_lines lines ++ line)
   pub written : Appends c d (text_of_lines answers)
-  pub is_kept : IsKept open_text line kept
+  pub is_kept : KeepsLine open_text line kept
   pub counted : length (text_of_lines lines ++ line) ≡ count
 
-pub run_starts : (a c : Option (List ℕ)) → RunsOn a a c c [] None 0
+pub run_starts : (a c : Option (List ℕ)) → RunsOnPem a a c c [] None 0
 run_starts a c = record {
   lines = [];
   line = [];
   answers = [];
   are_lines = tt;
   is_line = tt;
-  has_answers = record { parts = []; answered = tt; open_lines = []; is_open = none tt refl refl; is = refl };
+  has_answers = record { sections = []; answered = tt; open_lines = []; open_block = none tt refl refl; is = refl };
   drawn = Consumes-nil a;
   written = Appends-nil c;
   is_kept = refl;
   counted = refl;
 }
 
-module _ {a b c d : Option (List ℕ)} {kept : List ℕ} {open_text : Option (List ℕ)} {count : ℕ} (h : RunsOn a b c d kept open_text count) where
+module _ {a b c d : Option (List ℕ)} {kept : List ℕ} {open_text : Option (List ℕ)} {count : ℕ} (h : RunsOnPem a b c d kept open_text count) where
   -- what was written so far
   whole : (b' : Option (List ℕ)) (rest : List ℕ) → Consumes a b' (text_of_lines h.lines ++ rest) → WroteBlockLines a b' c d rest
   whole b' rest k = record {
@@ -122,7 +122,7 @@ module _ {a b c d : Option (List ℕ)} {kept : List ℕ} {open_text : Option (Li
   more : (x : ℕ) → length (text_of_lines h.lines ++ (h.line ++ (x ∷ []))) ≡ count + 1
   more x = omega (arith, h.counted, length-append (text_of_lines h.lines) h.line, length-append (text_of_lines h.lines) (h.line ++ (x ∷ [])), length-append h.line (x ∷ []))
 
-  pub byte_drawn : (b' : Option (List ℕ)) (x : ℕ) (kept' : List ℕ) → Consumes b b' (x ∷ []) → x ≢ 0x0A → KeepsByte open_text kept kept' x → RunsOn a b' c d kept' open_text (count + 1)
+  pub byte_drawn : (b' : Option (List ℕ)) (x : ℕ) (kept' : List ℕ) → Consumes b b' (x ∷ []) → x ≢ 0x0A → KeepsByte open_text kept kept' x → RunsOnPem a b' c d kept' open_text (count + 1)
   byte_drawn b' x kept' k n keeps = record {
     lines = h.lines;
     line = h.line ++ (x ∷ []);
@@ -139,22 +139,22 @@ module _ {a b c d : Option (List ℕ)} {kept : List ℕ} {open_text : Option (Li
   -- ---- the line was taken
 
   all_drawn : (b' : Option (List ℕ)) → Consumes b b' (0x0A ∷ []) → Consumes a b' (text_of_lines (h.lines ++ (h.line ∷ [])))
-  all_drawn b' k = subst (Consumes a b') (sym (ended_push h.lines h.line)) (drawn_more b' 0x0A k)
+  all_drawn b' k = subst (Consumes a b') (sym (text_of_lines-push h.lines h.line)) (drawn_more b' 0x0A k)
 
   all_answers : {after : Option (List ℕ)} {answers : List (List ℕ)} → TakesPemLine kept open_text after answers → HasAnswers (h.lines ++ (h.line ∷ [])) after (h.answers ++ answers)
   all_answers t = take_more h.has_answers (takes_whole h.is_kept t)
 
   all_written : (d' : Option (List ℕ)) (answers : List (List ℕ)) (bytes : List ℕ) → bytes ≡ text_of_lines answers → Appends d d' bytes → Appends c d' (text_of_lines (h.answers ++ answers))
-  all_written d' answers bytes is k = subst (Appends c d') (ap (λ l. text_of_lines h.answers ++ l) is ∙ sym (ended_append h.answers answers)) (Appends-trans c d d' _ _ h.written k)
+  all_written d' answers bytes is k = subst (Appends c d') (ap (λ l. text_of_lines h.answers ++ l) is ∙ sym (text_of_lines-append h.answers answers)) (Appends-trans c d d' _ _ h.written k)
 
   begun : (d' : Option (List ℕ)) (answers : List (List ℕ)) (bytes : List ℕ) → bytes ≡ text_of_lines answers → AppendsBeginning d d' bytes → AppendsBeginning c d' (text_of_lines (h.answers ++ answers))
-  begun d' answers bytes is k = subst (AppendsBeginning c d') (ap (λ l. text_of_lines h.answers ++ l) is ∙ sym (ended_append h.answers answers)) (beginning_after c d d' _ _ h.written k)
+  begun d' answers bytes is k = subst (AppendsBeginning c d') (ap (λ l. text_of_lines h.answers ++ l) is ∙ sym (text_of_lines-append h.answers answers)) (beginning_after c d d' _ _ h.written k)
 
-  kept_none : (after : Option (List ℕ)) → IsKept after [] []
+  kept_none : (after : Option (List ℕ)) → KeepsLine after [] []
   kept_none None = refl
   kept_none (Some text) = refl
 
-  pub line_taken : (b' d' after : Option (List ℕ)) → Consumes b b' (0x0A ∷ []) → WritesSome (AnswersPemLine kept open_text after) d d' → RunsOn a b' c d' [] after (count + 1)
+  pub line_taken : (b' d' after : Option (List ℕ)) → Consumes b b' (0x0A ∷ []) → WritesSome (AnswersPemLine kept open_text after) d d' → RunsOnPem a b' c d' [] after (count + 1)
   line_taken b' d' after k w = record {
     lines = h.lines ++ (h.line ∷ []);
     line = [];
@@ -165,7 +165,7 @@ module _ {a b c d : Option (List ℕ)} {kept : List ℕ} {open_text : Option (Li
     drawn = subst (Consumes a b') (sym (append-nil _)) (all_drawn b' k);
     written = all_written d' w.of.answers w.bytes w.of.is w.written;
     is_kept = kept_none after;
-    counted = ap length (append-nil _ ∙ ended_push h.lines h.line) ∙ more 0x0A;
+    counted = ap length (append-nil _ ∙ text_of_lines-push h.lines h.line) ∙ more 0x0A;
   }
 
   -- the writer failed in what answers the line, whose end was drawn
@@ -178,7 +178,7 @@ module _ {a b c d : Option (List ℕ)} {kept : List ℕ} {open_text : Option (Li
   is_text e = record {
     lines = h.lines ++ (h.line ∷ []);
     are_lines = lines_push _ _ h.are_lines h.is_line;
-    is_input = append_assoc (text_of_lines h.lines) h.line (0x0A ∷ []) ∙ sym (ended_push h.lines h.line);
+    is_input = append_assoc (text_of_lines h.lines) h.line (0x0A ∷ []) ∙ sym (text_of_lines-push h.lines h.line);
     open_text = e.after;
     answers = h.answers ++ e.answers;
     has_answers = all_answers e.takes;
@@ -202,7 +202,7 @@ module _ {a b c d : Option (List ℕ)} {kept : List ℕ} {open_text : Option (Li
     bytes = text_of_lines h.lines ++ h.line;
     drawn = drawn_still b' k;
     at_end = end;
-    is = append_assoc (text_of_lines h.lines) h.line (0x0A ∷ []) ∙ sym (ended_push h.lines h.line);
+    is = append_assoc (text_of_lines h.lines) h.line (0x0A ∷ []) ∙ sym (text_of_lines-push h.lines h.line);
     written = all_written d' answers _ refl w;
   }
 

@@ -8,13 +8,13 @@ use Rattle.picky_der_core.specs.declared.error.Asn1DerError.TheVariants.{Unsuppo
 use Rattle.picky_der_core.specs.declared.misc.writer.WriteExt.{Ghosts}
 use Rattle.picky_der_core.specs.Error.{error_of_kind}
 use Rattle.picky_der_core.specs.Faults.{Fault}
-use Rattle.picky_der_core.specs.WriterFaults.{WriterFails}
+use Rattle.picky_der_core.specs.WriterFaults.{WriterFails, fails_since}
 use Rattle.der_tool_lib.specs.Text.{IsLine}
 use Rattle.der_tool_lib.specs.Run.{not_ended, just_ended}
 use Rattle.der_x509_tool_lib.specs.Run.{StopsWriting, no_memory, no_sink, AnswersSomeLine, StopsAtEnd, within, behind, WroteBlockLines, StopsPem, memory, memory_at_end, reader, writer, too_long}
-use Rattle.der_x509_tool_lib.proofs.RunSteps.{RunsOn, draws, stands, line_begun, input_begun, all_but_end, too_many}
+use Rattle.der_x509_tool_lib.proofs.RunSteps.{RunsOnPem, draws, stands, line_begun, input_begun, all_but_end, too_many}
 
-module _ {W : Type 0} (g : Ghosts W) {a b : Option (List ℕ)} {w v : W} {kept : List ℕ} {open_text : Option (List ℕ)} {count : ℕ} (h : RunsOn a b (g.written w) (g.written v) kept open_text count) (i j : List Fault) where
+module _ {W : Type 0} (g : Ghosts W) {a b : Option (List ℕ)} {w v : W} {kept : List ℕ} {open_text : Option (List ℕ)} {count : ℕ} (h : RunsOnPem a b (g.written w) (g.written v) kept open_text count) (i j : List Fault) where
   -- the reader failed
   pub reader_stops : (b' : Option (List ℕ)) (e : Asn1DerError) (k : ErrorKind) → Keeps b b' → {m : List Fault} → m ≡ i → j ≡ record { kind = k; left = b' } ∷ m → e ≡ error_of_kind k → StopsPem g a b' i j w v e
   reader_stops b' e k same kept_faults once is = reader (record { kind = k; once = once ∙ ap (λ l. record { kind = k; left = b' } ∷ l) kept_faults; is = is }) h.line h.is_line (stands h b' same)
@@ -23,20 +23,17 @@ module _ {W : Type 0} (g : Ghosts W) {a b : Option (List ℕ)} {w v : W} {kept :
   pub byte_stops : (b' : Option (List ℕ)) (x : ℕ) (e : Asn1DerError) → e ≡ OutOfMemory → Consumes b b' (x ∷ []) → IsLine (h.line ++ (x ∷ [])) → StopsPem g a b' i j w v e
   byte_stops b' x e is k is_line = memory is _ (not_ended is_line) (draws h b' x k)
 
-  since : (v' : W) (e : Asn1DerError) → g.faults v ≡ g.faults w → WriterFails g v e v' → WriterFails g w e v'
-  since v' e same f = record { rose = subst (λ n. g.faults v' ≡ suc n) same f.rose; kind = f.kind; answered = f.answered; is = f.is }
-
   -- the line that was ended wasn't answered
   pub line_stops : (b' : Option (List ℕ)) (v' : W) (e : Asn1DerError) → Consumes b b' (0x0A ∷ []) → g.faults v ≡ g.faults w → StopsWriting g (AnswersSomeLine kept open_text) v v' e → StopsPem g a b' i j w v' e
   line_stops b' v' e k same (no_memory is kept_sink) =
       memory is _ (just_ended h.line h.is_line refl) (subst (λ o. WroteBlockLines a b' (g.written w) (g.written o) (h.line ++ (0x0A ∷ []))) (sym kept_sink) (draws h b' 0x0A k))
-  line_stops b' v' e k same (no_sink f bytes l begun) = writer (since v' e same f) (line_begun h b' (g.written v') l.0 bytes k l.1 begun)
+  line_stops b' v' e k same (no_sink f bytes l begun) = writer (fails_since g w v v' e same f) (line_begun h b' (g.written v') l.0 bytes k l.1 begun)
 
   -- the last line wasn't answered, or the block that was open behind it
   pub end_stops : (b' : Option (List ℕ)) (v' : W) (e : Asn1DerError) → Keeps b b' → IsAtEnd b' → g.faults v ≡ g.faults w → StopsAtEnd g kept open_text v v' e → StopsPem g a b' i j w v' e
   end_stops b' v' e k end same (within (no_memory is kept_sink)) =
       memory is _ (not_ended h.is_line) (subst (λ o. WroteBlockLines a b' (g.written w) (g.written o) h.line) (sym kept_sink) (stands h b' k))
-  end_stops b' v' e k end same (within (no_sink f bytes l begun)) = writer (since v' e same f) (input_begun h b' (g.written v') bytes k end l begun)
+  end_stops b' v' e k end same (within (no_sink f bytes l begun)) = writer (fails_since g w v v' e same f) (input_begun h b' (g.written v') bytes k end l begun)
   end_stops b' v' e k end same (behind is text answers t written) = memory_at_end is (all_but_end h b' (g.written v') text answers k end t written)
 
   -- the input goes on past the limit

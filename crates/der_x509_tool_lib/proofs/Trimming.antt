@@ -4,6 +4,6 @@ use Rattle.std.specs.Str.{IsTrimAscii}
 use Rattle.std.proofs.lemmas.Str.Ascii.{trim_ascii_is}
 use Rattle.der_x509_tool_lib.specs.Blocks.{without_outer_space}
 
-pub trimmed_is : (line r : List ℕ) → IsTrimAscii line r → r ≡ without_outer_space line
+pub without_outer_space-is : (line r : List ℕ) → IsTrimAscii line r → r ≡ without_outer_space line
 unfolding without_outer_space
-trimmed_is line r h = trim_ascii_is line r _ refl h
+without_outer_space-is line r h = trim_ascii_is line r _ refl h

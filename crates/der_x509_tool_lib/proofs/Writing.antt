@@ -8,9 +8,9 @@ use Rattle.picky_der_core.specs.declared.misc.writer.WriteExt.{Ghosts}
 use Rattle.picky_der_core.specs.Writer.{beginning_front, beginning_after}
 use Rattle.picky_der_core.specs.WriterFaults.{WriterFails}
 use Rattle.der_tool_lib.specs.Text.{text_of_lines}
-use Rattle.der_x509_tool_lib.specs.Blocks.{BeginsBlock, EndsBlock, IsInside, without_outer_space, IsBlockLine, no_end, answers_at_end}
+use Rattle.der_x509_tool_lib.specs.Blocks.{BeginsBlock, EndsBlock, IsTextLine, without_outer_space, IsBlockLine, no_end, answers_at_end}
 use Rattle.der_x509_tool_lib.specs.Run.{WritesSome, StopsWriting, no_memory, no_sink, AnswersBlock, TakesPemLine, begins_again, goes_on, ends, AnswersPemLine, AnswersSomeLine, AnswersEnd, text_in, StopsAtEnd, within, behind}
-use Rattle.der_x509_tool_lib.proofs.Gathering.{ended_append}
+use Rattle.der_x509_tool_lib.proofs.Gathering.{text_of_lines-append}
 
 -- what holds of the bytes that were to be written
 pub stops_also : {W : Type 0} {g : Ghosts W} {P Q : List ℕ → Type 0} {old new : W} {e : Asn1DerError} → ((bytes : List ℕ) → P bytes → Q bytes) → StopsWriting g P old new e → StopsWriting g Q old new e
@@ -47,7 +47,7 @@ module _ {line text : List ℕ} {before : Option (List ℕ)} (open_text : before
   pub end_stopped : {W : Type 0} {g : Ghosts W} {old new : W} {e : Asn1DerError} → EndsBlock line → StopsWriting g (AnswersBlock text) old new e → StopsWriting g (AnswersSomeLine line before) old new e
   end_stopped e s = stops_also (λ bytes a. (None, end_answers e a)) s
 
-  pub gathered : {after : Option (List ℕ)} (a : Option (List ℕ)) → IsInside line → after ≡ Some (text ++ without_outer_space line) → WritesSome (AnswersPemLine line before after) a a
+  pub gathered : {after : Option (List ℕ)} (a : Option (List ℕ)) → IsTextLine line → after ≡ Some (text ++ without_outer_space line) → WritesSome (AnswersPemLine line before after) a a
   gathered a i n = record { bytes = []; of = record { answers = []; takes = goes_on i text open_text n refl; is = refl }; written = Appends-nil a }
 
 -- ---- what is written at the last line, and behind it
@@ -79,7 +79,7 @@ module _ {line : List ℕ} {before : Option (List ℕ)} where
     after = Some text;
     answers = answers;
     takes = t;
-    is = ap (λ l. l ++ more) is ∙ ap (λ l. text_of_lines answers ++ l) also ∙ sym (ended_append answers (no_end ∷ []));
+    is = ap (λ l. l ++ more) is ∙ ap (λ l. text_of_lines answers ++ l) also ∙ sym (text_of_lines-append answers (no_end ∷ []));
   }
 
   pub open_written : {text : List ℕ} {after : Option (List ℕ)} {a b c : Option (List ℕ)} → after ≡ Some text → WritesSome (AnswersPemLine line before after) a b → Appends b c (codes "refused: the block has no end" ++ (0x0A ∷ [])) → WritesSome (AnswersEnd line before) a c
@@ -94,7 +94,7 @@ module _ {line : List ℕ} {before : Option (List ℕ)} where
     line_stopped_at_end (no_memory is same) = within (no_memory is same)
     line_stopped_at_end {old} {new} (no_sink f bytes a begun) =
         within (no_sink f (bytes ++ text_of_lines (answers_at_end a.0))
-        (record { after = a.0; answers = a.1.answers; takes = a.1.takes; is = ap (λ l. l ++ text_of_lines (answers_at_end a.0)) a.1.is ∙ sym (ended_append a.1.answers (answers_at_end a.0)) })
+        (record { after = a.0; answers = a.1.answers; takes = a.1.takes; is = ap (λ l. l ++ text_of_lines (answers_at_end a.0)) a.1.is ∙ sym (text_of_lines-append a.1.answers (answers_at_end a.0)) })
         (beginning_front (g.written old) (g.written new) bytes (text_of_lines (answers_at_end a.0)) begun))
 
     pub open_stopped : {text : List ℕ} {after : Option (List ℕ)} {old mid new : W} {e : Asn1DerError} → after ≡ Some text → WritesSome (AnswersPemLine line before after) (g.written old) (g.written mid) → g.faults mid ≡ g.faults old → StopsWriting g (λ bytes. bytes ≡ codes "refused: the block has no end" ++ (0x0A ∷ [])) mid new e → StopsAtEnd g line before old new e

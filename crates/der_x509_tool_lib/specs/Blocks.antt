@@ -34,13 +34,13 @@ abbrev pub EndsBlock : List ℕ → Type 0
 EndsBlock line = without_outer_space line ≡ end_line
 
 -- a line of a block's text neither begins a block nor ends one
-pub record IsInside (line : List ℕ) : Type 0 where
+pub record IsTextLine (line : List ℕ) : Type 0 where
   pub begins_none : BeginsBlock line → ⊥
   pub ends_none : EndsBlock line → ⊥
 
-abbrev pub AreInside : List (List ℕ) → Type 0
-AreInside [] = ⊤
-AreInside (line ∷ lines) = IsInside line × AreInside lines
+abbrev pub AreTextLines : List (List ℕ) → Type 0
+AreTextLines [] = ⊤
+AreTextLines (line ∷ lines) = IsTextLine line × AreTextLines lines
 
 -- the text of these lines of a block
 abbrev pub block_text : List (List ℕ) → List ℕ
@@ -49,22 +49,22 @@ block_text (line ∷ lines) = without_outer_space line ++ block_text lines
 
 -- ---- what lines are made of
 
-pub data Part : Type 0 where
+pub data Section : Type 0 where
   -- a line outside of blocks
-  outside : List ℕ → Part
+  outside : List ℕ → Section
   -- the line that begins a block, the lines of its text, and the line that ends it
-  block : List ℕ → List (List ℕ) → List ℕ → Part
+  block : List ℕ → List (List ℕ) → List ℕ → Section
   -- a block without an end, since another begins behind it
-  cut : List ℕ → List (List ℕ) → Part
+  cut : List ℕ → List (List ℕ) → Section
 
-abbrev pub lines_of : Part → List (List ℕ)
-lines_of (Part.outside line) = line ∷ []
-lines_of (Part.block begin texts end) = begin ∷ (texts ++ (end ∷ []))
-lines_of (Part.cut begin texts) = begin ∷ texts
+abbrev pub lines_of : Section → List (List ℕ)
+lines_of (Section.outside line) = line ∷ []
+lines_of (Section.block begin texts end) = begin ∷ (texts ++ (end ∷ []))
+lines_of (Section.cut begin texts) = begin ∷ texts
 
-abbrev pub all_lines : List Part → List (List ℕ)
+abbrev pub all_lines : List Section → List (List ℕ)
 all_lines [] = []
-all_lines (part ∷ parts) = lines_of part ++ all_lines parts
+all_lines (section ∷ sections) = lines_of section ++ all_lines sections
 
 -- ---- answers
 
@@ -79,54 +79,54 @@ no_end = codes "refused: the block has no end"
 
 pub record IsBlock (begin : List ℕ) (texts : List (List ℕ)) (end : List ℕ) : Type 0 where
   pub begins : BeginsBlock begin
-  pub inside : AreInside texts
+  pub inside : AreTextLines texts
   pub ends : EndsBlock end
 
 pub record IsOpenBlock (begin : List ℕ) (texts : List (List ℕ)) : Type 0 where
   pub begins : BeginsBlock begin
-  pub inside : AreInside texts
+  pub inside : AreTextLines texts
 
 -- no line outside of blocks is first
-abbrev pub BeginInBlock : List Part → Type 0
+abbrev pub BeginInBlock : List Section → Type 0
 BeginInBlock [] = ⊤
-BeginInBlock (Part.outside line ∷ parts) = ⊥
-BeginInBlock (Part.block begin texts end ∷ parts) = ⊤
-BeginInBlock (Part.cut begin texts ∷ parts) = ⊤
+BeginInBlock (Section.outside line ∷ sections) = ⊥
+BeginInBlock (Section.block begin texts end ∷ sections) = ⊤
+BeginInBlock (Section.cut begin texts ∷ sections) = ⊤
 
 -- each block is answered by a line, in order, and nothing else is
-abbrev pub AreAnswered : List Part → List (List ℕ) → Type 0
+abbrev pub AreAnswered : List Section → List (List ℕ) → Type 0
 AreAnswered [] [] = ⊤
 AreAnswered [] (answer ∷ answers) = ⊥
-AreAnswered (Part.outside line ∷ parts) answers = (BeginsBlock line → ⊥) × AreAnswered parts answers
-AreAnswered (Part.block begin texts end ∷ parts) [] = ⊥
-AreAnswered (Part.block begin texts end ∷ parts) (answer ∷ answers) = IsBlock begin texts end × IsBlockLine (block_text texts) answer × AreAnswered parts answers
-AreAnswered (Part.cut begin texts ∷ parts) [] = ⊥
-AreAnswered (Part.cut begin texts ∷ parts) (answer ∷ answers) = IsOpenBlock begin texts × (answer ≡ no_end) × BeginInBlock parts × AreAnswered parts answers
+AreAnswered (Section.outside line ∷ sections) answers = (BeginsBlock line → ⊥) × AreAnswered sections answers
+AreAnswered (Section.block begin texts end ∷ sections) [] = ⊥
+AreAnswered (Section.block begin texts end ∷ sections) (answer ∷ answers) = IsBlock begin texts end × IsBlockLine (block_text texts) answer × AreAnswered sections answers
+AreAnswered (Section.cut begin texts ∷ sections) [] = ⊥
+AreAnswered (Section.cut begin texts ∷ sections) (answer ∷ answers) = IsOpenBlock begin texts × (answer ≡ no_end) × BeginInBlock sections × AreAnswered sections answers
 
 -- nothing else has to stand behind it
-abbrev pub IsWhole : Part → Type 0
-IsWhole (Part.outside line) = ⊤
-IsWhole (Part.block begin texts end) = ⊤
-IsWhole (Part.cut begin texts) = ⊥
+abbrev pub IsWhole : Section → Type 0
+IsWhole (Section.outside line) = ⊤
+IsWhole (Section.block begin texts end) = ⊤
+IsWhole (Section.cut begin texts) = ⊥
 
--- the last part isn't cut
-abbrev pub AreWhole : List Part → Type 0
+-- the last section isn't cut
+abbrev pub AreWhole : List Section → Type 0
 AreWhole [] = ⊤
-AreWhole (part ∷ []) = IsWhole part
-AreWhole (part ∷ next ∷ parts) = AreWhole (next ∷ parts)
+AreWhole (section ∷ []) = IsWhole section
+AreWhole (section ∷ next ∷ sections) = AreWhole (next ∷ sections)
 
--- what stands behind these parts: nothing, or a block that hasn't ended, whose text so far this is
-pub data HasOpenBlock (parts : List Part) (lines : List (List ℕ)) (open_text : Option (List ℕ)) : Type 0 where
-  none : AreWhole parts → lines ≡ [] → open_text ≡ None → HasOpenBlock parts lines open_text
-  some : (begin : List ℕ) (texts : List (List ℕ)) → IsOpenBlock begin texts → lines ≡ begin ∷ texts → open_text ≡ Some (block_text texts) → HasOpenBlock parts lines open_text
+-- what stands behind these sections: nothing, or a block that hasn't ended, whose text so far this is
+pub data HasOpenBlock (sections : List Section) (lines : List (List ℕ)) (open_text : Option (List ℕ)) : Type 0 where
+  none : AreWhole sections → lines ≡ [] → open_text ≡ None → HasOpenBlock sections lines open_text
+  some : (begin : List ℕ) (texts : List (List ℕ)) → IsOpenBlock begin texts → lines ≡ begin ∷ texts → open_text ≡ Some (block_text texts) → HasOpenBlock sections lines open_text
 
 -- of these lines the blocks that have an end or are cut are answered so, and one may be open
 pub record HasAnswers (lines : List (List ℕ)) (open_text : Option (List ℕ)) (answers : List (List ℕ)) : Type 0 where
-  pub parts : List Part
-  pub answered : AreAnswered parts answers
+  pub sections : List Section
+  pub answered : AreAnswered sections answers
   pub open_lines : List (List ℕ)
-  pub is_open : HasOpenBlock parts open_lines open_text
-  pub is : lines ≡ all_lines parts ++ open_lines
+  pub open_block : HasOpenBlock sections open_lines open_text
+  pub is : lines ≡ all_lines sections ++ open_lines
 
 -- at the end of the input an open block has no end
 abbrev pub answers_at_end : Option (List ℕ) → List (List ℕ)

@@ -23,16 +23,16 @@ abbrev pub IsCertificate : List ℕ → Certificate → Type 0
 IsCertificate bytes c = IsFront certificate_written.ghosts.meaning certificate_read.ghosts.shape certificate_compared.ghosts.eq bytes (length bytes) c
 
 -- what is written of it
-abbrev pub certificate_bytes : Certificate → List ℕ
-certificate_bytes c = der (certificate_written.ghosts.meaning c)
+abbrev pub certificate_encoding : Certificate → List ℕ
+certificate_encoding c = der (certificate_written.ghosts.meaning c)
 
 -- the bytes of what is signed
 abbrev pub signed_bytes : Certificate → List ℕ
 signed_bytes c = c.tbs_certificate.0.items
 
 -- the value that `from_bytes` answers of these
-abbrev pub IsSigned : List ℕ → TbsCertificate → Type 0
-IsSigned bytes t = IsFront signed_written.ghosts.meaning signed_read.ghosts.shape signed_compared.ghosts.eq bytes (length bytes) t
+abbrev pub IsTbsCertificate : List ℕ → TbsCertificate → Type 0
+IsTbsCertificate bytes t = IsFront signed_written.ghosts.meaning signed_read.ghosts.shape signed_compared.ghosts.eq bytes (length bytes) t
 
 abbrev pub signed_encoding : TbsCertificate → List ℕ
 signed_encoding t = der (signed_written.ghosts.meaning t)
@@ -42,8 +42,8 @@ signed_encoding t = der (signed_written.ghosts.meaning t)
 -- The bytes are a certificate, and both it and what is signed of it are written as they were read.
 pub record IsReading (bytes : List ℕ) (r : Reading) : Type 0 where
   pub front : IsCertificate bytes r.certificate
-  pub whole : certificate_bytes r.certificate ≡ bytes
-  pub signed : IsSigned (signed_bytes r.certificate) r.tbs_certificate
+  pub whole : certificate_encoding r.certificate ≡ bytes
+  pub signed : IsTbsCertificate (signed_bytes r.certificate) r.tbs_certificate
   pub signed_whole : signed_encoding r.tbs_certificate ≡ signed_bytes r.certificate
   pub same : IsTrue r.is_same
 
@@ -56,14 +56,14 @@ pub record IsRefused (bytes : List ℕ) (r : RefusalAt) : Type 0 where
 pub record IsLeftOver (bytes : List ℕ) (taken : ℕ) : Type 0 where
   pub certificate : Certificate
   pub front : IsCertificate bytes certificate
-  pub size : taken ≡ length (certificate_bytes certificate)
+  pub size : taken ≡ length (certificate_encoding certificate)
   pub more : taken < length bytes
 
 -- the bytes are a certificate, of whose signed bytes `from_bytes` answers this error
 pub record IsRefusedSigned (bytes : List ℕ) (r : RefusalAt) : Type 0 where
   pub certificate : Certificate
   pub front : IsCertificate bytes certificate
-  pub whole : certificate_bytes certificate ≡ bytes
+  pub whole : certificate_encoding certificate ≡ bytes
   pub refused : HasNoFront signed_written.ghosts.meaning signed_read.ghosts.shape (signed_bytes certificate) (length (signed_bytes certificate)) r.error
   pub memory : r.error ≢ OutOfMemory
 

@@ -10,7 +10,7 @@ use Rattle.picky_der_core.specs.Writer.{AppendsBeginning}
 use Rattle.picky_der_core.specs.WriterFaults.{WriterFails}
 use Rattle.der_tool_lib.specs.Text.{IsLine, AreLines, text_of_lines}
 use Rattle.der_tool_lib.specs.Run.{IsLastLine, ReaderFaulted, IsTooLong}
-use Rattle.der_x509_tool_lib.specs.Blocks.{BeginsBlock, EndsBlock, IsInside, without_outer_space, IsBlockLine, no_end, HasAnswers, answers_at_end, IsBlockLinesOf}
+use Rattle.der_x509_tool_lib.specs.Blocks.{BeginsBlock, EndsBlock, IsTextLine, without_outer_space, IsBlockLine, no_end, HasAnswers, answers_at_end, IsBlockLinesOf}
 
 -- ---- what is written
 
@@ -43,7 +43,7 @@ pub data TakesPemLine (line : List ℕ) (before after : Option (List ℕ)) (answ
   stays_outside : (BeginsBlock line → ⊥) → before ≡ None → after ≡ None → answers ≡ [] → TakesPemLine line before after answers
   begins : BeginsBlock line → before ≡ None → after ≡ Some [] → answers ≡ [] → TakesPemLine line before after answers
   begins_again : BeginsBlock line → (text : List ℕ) → before ≡ Some text → after ≡ Some [] → answers ≡ no_end ∷ [] → TakesPemLine line before after answers
-  goes_on : IsInside line → (text : List ℕ) → before ≡ Some text → after ≡ Some (text ++ without_outer_space line) → answers ≡ [] → TakesPemLine line before after answers
+  goes_on : IsTextLine line → (text : List ℕ) → before ≡ Some text → after ≡ Some (text ++ without_outer_space line) → answers ≡ [] → TakesPemLine line before after answers
   ends : EndsBlock line → (text answer : List ℕ) → before ≡ Some text → after ≡ None → IsBlockLine text answer → answers ≡ answer ∷ [] → TakesPemLine line before after answers
 
 -- these bytes are the lines that are written at a line
@@ -100,15 +100,15 @@ pub data WroteSomeBlockLines (in_old in_new out_old out_new : Option (List ℕ))
 
 module _ {W : Type 0} (g : Ghosts W) (in_old in_new : Option (List ℕ)) (faults_old faults_new : List Fault) (out_old out_new : W) where
   -- the lines before this one were answered, and it wasn't
-  abbrev pub StopsBefore : List ℕ → Type 0
-  StopsBefore line = WroteBlockLines in_old in_new (g.written out_old) (g.written out_new) line
+  abbrev pub StopsBeforeLine : List ℕ → Type 0
+  StopsBeforeLine line = WroteBlockLines in_old in_new (g.written out_old) (g.written out_new) line
 
   -- why a run ended with an error, and what it left
   pub data StopsPem (e : Asn1DerError) : Type 0 where
     -- memory was refused for the line or what answers it
-    memory : e ≡ OutOfMemory → (line : List ℕ) → IsLastLine line → StopsBefore line → StopsPem e
+    memory : e ≡ OutOfMemory → (line : List ℕ) → IsLastLine line → StopsBeforeLine line → StopsPem e
     memory_at_end : e ≡ OutOfMemory → WroteAllButEnd in_old in_new (g.written out_old) (g.written out_new) → StopsPem e
     -- the reader cut the line
-    reader : ReaderFaulted faults_old faults_new in_new e → (line : List ℕ) → IsLine line → StopsBefore line → StopsPem e
+    reader : ReaderFaulted faults_old faults_new in_new e → (line : List ℕ) → IsLine line → StopsBeforeLine line → StopsPem e
     writer : WriterFails g out_old e out_new → WroteSomeBlockLines in_old in_new (g.written out_old) (g.written out_new) → StopsPem e
-    too_long : e ≡ UnsupportedValue → IsTooLong in_old → (line : List ℕ) → IsLine line → StopsBefore line → StopsPem e
+    too_long : e ≡ UnsupportedValue → IsTooLong in_old → (line : List ℕ) → IsLine line → StopsBeforeLine line → StopsPem e

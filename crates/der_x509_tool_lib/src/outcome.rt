@@ -3,7 +3,7 @@ ghost use Rattle.std.specs.Prelude.{◌≡◌, ◌≢◌, ◌≤◌, ◌↔◌, 
 ghost use Rattle.picky_der_core.specs.Encoding.{der};
 ghost use Rattle.picky_der_core.specs.Readable.{IsWritable};
 ghost use Rattle.picky_der_de.specs.Entry.{IsFront, HasNoFront};
-ghost use Rattle.der_x509_tool_lib.specs.Outcome.{IsCertificate, certificate_bytes, IsOutcome};
+ghost use Rattle.der_x509_tool_lib.specs.Outcome.{IsCertificate, certificate_encoding, IsOutcome};
 
 use der_x509::{Certificate, TbsCertificate};
 use picky_asn1_der::{Asn1DerError, Deserialize, Deserializer, Result, Serialize, to_vec};
@@ -65,7 +65,7 @@ pub fn examine(alloc: Global, bytes: &[u8]) -> Result<Outcome>
 // What comes of the bytes of this certificate, which was read whole.
 fn examine_signed(alloc: Global, bytes: &[u8], certificate: Certificate) -> Result<Outcome>
     requires front { IsCertificate bytes.now certificate }
-    requires whole { certificate_bytes certificate ≡ bytes.now }
+    requires whole { certificate_encoding certificate ≡ bytes.now }
     ensures ok { IfOk result (IsOutcome bytes.now) }
     ensures err { IfErr result (λ e. e ≡ Asn1DerError.OutOfMemory) }
 {

@@ -1,7 +1,7 @@
 //! What is written of a readable value is read back as an equal one, and nothing but its encoding is read as it: as contracts of code
 //! that is nothing but the calls of writing and reading.
 ghost use Rattle.std.specs.Prelude.{◌≡◌, ◌≢◌, length, true, IfOk, IfErr};
-ghost use Rattle.picky_der_core.specs.Element.{Begins};
+ghost use Rattle.picky_der_core.specs.Element.{IsPrefix};
 ghost use Rattle.picky_der_core.specs.Encoding.{der};
 ghost use Rattle.picky_der_core.specs.Shape.{IsOf};
 ghost use Rattle.picky_der_core.specs.Readable.{IsReadable, IsWritable};
@@ -32,7 +32,7 @@ pub fn written_back<T: Deserialize>(alloc: Global, bytes: &[u8]) -> Result<Vec<u
     ensures written { IfOk result (λ again. (v : T)
         × ReadsFrom T.meaning T.shape bytes.now (length bytes.now) v
         × (again.items ≡ der (T.meaning v))) }
-    ensures same { IfOk result (λ again. Begins again.items bytes.now) }
+    ensures same { IfOk result (λ again. IsPrefix again.items bytes.now) }
     ensures err { IfErr result (λ e. e ≢ Asn1DerError.OutOfMemory → (v : T)
         → ReadsFrom T.meaning T.shape bytes.now (length bytes.now) v
         → IsWritable (T.meaning v) → ⊥) }

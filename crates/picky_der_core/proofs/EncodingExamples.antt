@@ -1,6 +1,6 @@
 -- Worked examples of lengths and encodings: the definitions compute them.
 use Rattle.std.proofs.Common.{◌≡◌, true, List, ℕ, [], ◌∷◌, take, replicate, refl}
-use Rattle.picky_der_core.specs.Element.{len}
+use Rattle.picky_der_core.specs.Element.{length_octets}
 use Rattle.picky_der_core.specs.Tree.{ListKind, Tree, trees}
 use Rattle.picky_der_core.specs.Encoding.{der}
 use Rattle.picky_der_core.proofs.OnLiterals.{der_on_literals}
@@ -18,27 +18,27 @@ rsa_encryption = 0x2A ∷ 0x86 ∷ 0x48 ∷ 0x86 ∷ 0xF7 ∷ 0x0D ∷ 0x01 ∷ 
 
 -- ---- lengths
 
-length_10 : len 10 ≡ 0x0A ∷ []
+length_10 : length_octets 10 ≡ 0x0A ∷ []
 unfolding der_on_literals
 length_10 = refl
 
-length_127 : len 127 ≡ 0x7F ∷ []
+length_127 : length_octets 127 ≡ 0x7F ∷ []
 unfolding der_on_literals
 length_127 = refl
 
-length_128 : len 128 ≡ 0x81 ∷ 0x80 ∷ []
+length_128 : length_octets 128 ≡ 0x81 ∷ 0x80 ∷ []
 unfolding der_on_literals
 length_128 = refl
 
-length_129 : len 129 ≡ 0x81 ∷ 0x81 ∷ []
+length_129 : length_octets 129 ≡ 0x81 ∷ 0x81 ∷ []
 unfolding der_on_literals
 length_129 = refl
 
-length_290 : len 290 ≡ 0x82 ∷ 0x01 ∷ 0x22 ∷ []
+length_290 : length_octets 290 ≡ 0x82 ∷ 0x01 ∷ 0x22 ∷ []
 unfolding der_on_literals
 length_290 = refl
 
-length_greatest : len 0xFFFF_FFFF_FFFF_FFFF ≡ 0x88 ∷ replicate 8 0xFF
+length_greatest : length_octets 0xFFFF_FFFF_FFFF_FFFF ≡ 0x88 ∷ replicate 8 0xFF
 unfolding der_on_literals
 length_greatest = refl
 
@@ -133,9 +133,9 @@ explicit_raw : der (Tree.explicit 0 (Tree.raw (0x02 ∷ 0x01 ∷ 0x07 ∷ []))) 
 unfolding der_on_literals
 explicit_raw = refl
 
-implicit_number : der (Tree.implicit 1 (Tree.unsigned 7)) ≡ 0x81 ∷ 0x01 ∷ 0x07 ∷ []
+implicit_unsigned : der (Tree.implicit 1 (Tree.unsigned 7)) ≡ 0x81 ∷ 0x01 ∷ 0x07 ∷ []
 unfolding der_on_literals
-implicit_number = refl
+implicit_unsigned = refl
 
 implicit_sequence : der (Tree.implicit 1 (Tree.list ListKind.sequence (trees (Tree.unsigned 7 ∷ [])))) ≡ 0x81 ∷ 0x03 ∷ 0x02 ∷ 0x01 ∷ 0x07 ∷ []
 unfolding der_on_literals

@@ -9,7 +9,7 @@ use Rattle.std.proofs.lemmas.Int.Digits.{number_push, number_lt}
 use Rattle.std.proofs.Math.Nat.{pow-le-pow_right}
 use Rattle.picky_der_core.specs.declared.error.Asn1DerError.{Asn1DerError}
 use Rattle.picky_der_core.specs.declared.error.Asn1DerError.TheVariants.{TruncatedData, InvalidData}
-use Rattle.picky_der_core.specs.Element.{len, Begins}
+use Rattle.picky_der_core.specs.Element.{length_octets, IsPrefix}
 use Rattle.picky_der_core.specs.ElementLaws.{bytes_then}
 use Rattle.picky_der_core.specs.Error.{error_of_kind}
 use Rattle.picky_der_core.specs.Shape.{AreBytes}
@@ -18,7 +18,7 @@ use Rattle.picky_der_core.specs.Reader.{IsFaultOrEnd}
 use Rattle.picky_der_core.specs.ReaderLaws.{not_more}
 use Rattle.picky_der_core.specs.Refusal.{length_of}
 use Rattle.picky_der_core.specs.Lengths.{IsReadAs, IsRefusedAs, IsOfDevice, IsLongCount, IsNoLongCount}
-use Rattle.picky_der_core.specs.LengthLaws.{length_of-len, length_of-none, length_of-too_many, length_of-cut, length_of-longer, len-number, no_length}
+use Rattle.picky_der_core.specs.LengthLaws.{length_of-length_octets, length_of-none, length_of-too_many, length_of-cut, length_of-longer, length_octets-number, no_length_begins}
 
 -- ---- known bytes
 
@@ -43,12 +43,12 @@ refused_at_end (Some xs) (Some ys) (Some zs) bs h end kept is =
 
 -- no length stands there
 abbrev pub IsNoLength : Option (List ℕ) → Type 0
-IsNoLength known = IfSome known (λ bs. (n : ℕ) → n < 2 ^ 64 → Begins (len n) bs → ⊥)
+IsNoLength known = IfSome known (λ bs. (n : ℕ) → n < 2 ^ 64 → IsPrefix (length_octets n) bs → ⊥)
 
 IsNoLength-from_refused : (a b : Option (List ℕ)) (e : Asn1DerError) → IsRefusedAs (length_of TruncatedData) a b e → IsNoLength a
 IsNoLength-from_refused None b e h = tt
 IsNoLength-from_refused (Some xs) None e h = absurd h
-IsNoLength-from_refused (Some xs) (Some ys) e h = no_length TruncatedData xs (e, ys) h
+IsNoLength-from_refused (Some xs) (Some ys) e h = no_length_begins TruncatedData xs (e, ys) h
 
 pub none_from_refused : (r : Result ℕ Asn1DerError) (P : Type 0) (a b : Option (List ℕ)) → IfErr r (λ e. P → IsRefusedAs (length_of TruncatedData) a b e) → OnErr r (P → IsNoLength a)
 none_from_refused (Ok n) P a b h = tt
@@ -110,17 +110,17 @@ module _ {a b : Option (List ℕ)} {first k count number : ℕ} (t : TakesLength
   refused_cut c fewer = refused_missing a c (first ∷ t.digits) (length_of-cut TruncatedData first count t.digits long (omega (arith, t.size))) t.consumed
 
   -- all came, and are as few as can be
-  pub Consumes-shortest : k ≡ count → length (len number) ≡ 1 + count → Consumes a b (len number)
+  pub Consumes-shortest : k ≡ count → length (length_octets number) ≡ 1 + count → Consumes a b (length_octets number)
   Consumes-shortest whole size =
-      let same : len number ≡ first ∷ t.digits = ap len t.is ∙ len-number first count t.digits long (t.size ∙ whole) t.bytes (ap (λ n. length (len n)) (sym t.is) ∙ size) in
+      let same : length_octets number ≡ first ∷ t.digits = ap length_octets t.is ∙ length_octets-number first count t.digits long (t.size ∙ whole) t.bytes (ap (λ n. length (length_octets n)) (sym t.is) ∙ size) in
       rw same t.consumed
 
   -- or too many
-  pub refused_longer : k ≡ count → length (len number) ≢ 1 + count → IsRefusedAs (length_of TruncatedData) a b InvalidData
+  pub refused_longer : k ≡ count → length (length_octets number) ≢ 1 + count → IsRefusedAs (length_of TruncatedData) a b InvalidData
   refused_longer whole size =
       refused_after a b (first ∷ t.digits) InvalidData t.consumed
-      (λ rest. length_of-longer TruncatedData first count t.digits rest long (t.size ∙ whole) t.bytes (λ same. size (ap (λ n. length (len n)) t.is ∙ same)))
+      (λ rest. length_of-longer TruncatedData first count t.digits rest long (t.size ∙ whole) t.bytes (λ same. size (ap (λ n. length (length_octets n)) t.is ∙ same)))
 
 -- a length was taken
-pub read_len : (a b : Option (List ℕ)) (n : ℕ) → n < 2 ^ 64 → Consumes a b (len n) → IsReadAs (length_of TruncatedData) a b n
-read_len a b n small h = read_after a b (len n) n h (λ rest. length_of-len TruncatedData n rest small)
+pub read_len : (a b : Option (List ℕ)) (n : ℕ) → n < 2 ^ 64 → Consumes a b (length_octets n) → IsReadAs (length_of TruncatedData) a b n
+read_len a b n small h = read_after a b (length_octets n) n h (λ rest. length_of-length_octets TruncatedData n rest small)

@@ -115,8 +115,8 @@ behind_length_past_end = refl
 
 -- ---- directly under an implicit tag, headers and whole elements
 
-implicit_number : error_of (inside_refusal 0x02 (unsigned_error 255) 1 (0x07 ∷ [])) ≡ None
-implicit_number = refl
+implicit_unsigned : error_of (inside_refusal 0x02 (unsigned_error 255) 1 (0x07 ∷ [])) ≡ None
+implicit_unsigned = refl
 
 implicit_cut : error_of (inside_refusal 0x02 (unsigned_error 255) 5 (0x07 ∷ [])) ≡ Some TruncatedData
 implicit_cut = refl

@@ -3,7 +3,7 @@ use Rattle.std.proofs.Common.{◌≡◌, ℕ, false, List, [], ◌∷◌, ◌++�
 use Rattle.picky_der_core.specs.Tree.{ListKind, Tree, trees}
 use Rattle.picky_der_core.specs.Order.{is_less}
 use Rattle.picky_der_core.specs.OrderLaws.{IsSortedBy-one, IsSortedBy-cons, IsSortedBy-broken}
-use Rattle.picky_der_core.specs.Encoding.{der, inside}
+use Rattle.picky_der_core.specs.Encoding.{der, implicit_content}
 use Rattle.picky_der_core.specs.Readable.{IsReadable}
 use Rattle.picky_der_core.specs.Shape.{Shape, Layout, shapes, IsOf, IsSound, tags_below}
 use Rattle.picky_der_core.proofs.OnLiterals.{der_on_literals}
@@ -57,8 +57,8 @@ untold_behind : IsSound (Shape.struct_of ListKind.sequence (Layout.maybe Shape.n
 untold_behind sound = let untold = sound.1.0 in cc
 
 -- behind a member that is always there it may come again
-told_by_place : IsSound (Shape.struct_of ListKind.sequence (Layout.maybe Shape.null (Layout.required Shape.boolean (Layout.maybe Shape.null Layout.empty))))
-told_by_place = ((tt, (tt, (tt, tt))), (refl, (refl, tt)))
+told_behind_required : IsSound (Shape.struct_of ListKind.sequence (Layout.maybe Shape.null (Layout.required Shape.boolean (Layout.maybe Shape.null Layout.empty))))
+told_behind_required = ((tt, (tt, (tt, tt))), (refl, (refl, tt)))
 
 -- ---- alternatives that aren't told: null, and an element
 
@@ -87,7 +87,7 @@ no_first_byte = refl
 
 -- ---- a plain value that needn't fill its implicit tag
 
-begins_another : inside (Tree.unsigned 7) ++ (0x07 ∷ []) ≡ inside (Tree.unsigned 0x0707)
+begins_another : implicit_content (Tree.unsigned 7) ++ (0x07 ∷ []) ≡ implicit_content (Tree.unsigned 0x0707)
 unfolding der_on_literals
 begins_another = refl
 

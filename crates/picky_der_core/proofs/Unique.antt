@@ -3,7 +3,7 @@ use Rattle.std.proofs.Common.{◌≡◌, ℕ, Bool, true, false, List, [], ◌�
 use Rattle.std.specs.Prelude.{⊤}
 use Rattle.std.specs.List.{concat}
 use Rattle.picky_der_core.specs.Tree.{ListKind, Tree, Trees}
-use Rattle.picky_der_core.specs.Encoding.{plain_encoding, around, tree_bytes, encodings, der, boolean_content, list_content}
+use Rattle.picky_der_core.specs.Encoding.{plain_encoding, wrapper_encoding, tree_bytes, encodings, der, boolean_content, list_content}
 use Rattle.picky_der_core.specs.Readable.{IsReadable, AreReadable, IsNoChoice}
 use Rattle.picky_der_core.specs.Shape.{Shape, Shapes, Layout, IsOf, AreOf, IsOneOf, AreMembersOf, firsts, firsts_of, next_firsts, are_apart, IsBoolean, IsUnsigned, IsNull, IsText, IsCharacter, IsBytes, IsRaw, IsList, IsOptional, IsOctetContainer, IsBitContainer, IsExplicit, IsImplicit, IsApplication, IsChoice, EachIs, FirstAndRest, FirstOrNone, IsEmpty, IsSound, AreSound, AreTold, AreMembersSound, AreMembersTold}
 use Rattle.picky_der_core.specs.ElementLaws.{tlv-same}
@@ -29,11 +29,11 @@ unfolding plain_encoding
 plain_encoding-same true x y c d e = (tlv-same x y c d e).1
 plain_encoding-same false x y c d e = e
 
-around-same : (p q : Bool) (x y : ℕ) (c d : List ℕ) → p ≡ false → q ≡ false → around p x c ≡ around q y d → c ≡ d
-unfolding around
-around-same false false x y c d h k e = (tlv-same x y c d e).1
-around-same true _ x y c d h k e = cc
-around-same false true x y c d h k e = cc
+wrapper_encoding-same : (p q : Bool) (x y : ℕ) (c d : List ℕ) → p ≡ false → q ≡ false → wrapper_encoding p x c ≡ wrapper_encoding q y d → c ≡ d
+unfolding wrapper_encoding
+wrapper_encoding-same false false x y c d h k e = (tlv-same x y c d e).1
+wrapper_encoding-same true _ x y c d h k e = cc
+wrapper_encoding-same false true x y c d h k e = cc
 
 boolean_content-same : (b c : Bool) → boolean_content b ≡ boolean_content c → b ≡ c
 boolean_content-same true true e = refl
@@ -98,14 +98,14 @@ optional_known P header known t u p q r s = known t u (is_of-optional P t p r) (
 octet_container_known : (P : Tree → Type 0) → IsKnown true P → (header : Bool) → IsKnown header (IsOctetContainer P)
 unfolding tree_bytes
 octet_container_known P known header (Tree.octet_container t) (Tree.octet_container u) p q r s m n e =
-    ap Tree.octet_container (known t u p q r s tt tt (around-same _ _ _ _ _ _ (is_absent-readable t r) (is_absent-readable u s) e))
+    ap Tree.octet_container (known t u p q r s tt tt (wrapper_encoding-same _ _ _ _ _ _ (is_absent-readable t r) (is_absent-readable u s) e))
 octet_container_known P known header (Tree.octet_container t) _ p q r s m n e = absurd q
 octet_container_known P known header _ _ p q r s m n e = absurd p
 
 bit_container_known : (P : Tree → Type 0) → IsKnown true P → (header : Bool) → IsKnown header (IsBitContainer P)
 unfolding tree_bytes
 bit_container_known P known header (Tree.bit_container t) (Tree.bit_container u) p q r s m n e =
-    let f : 0x00 ∷ tree_bytes true t ≡ 0x00 ∷ tree_bytes true u = around-same _ _ _ _ _ _ (is_absent-readable t r) (is_absent-readable u s) e in
+    let f : 0x00 ∷ tree_bytes true t ≡ 0x00 ∷ tree_bytes true u = wrapper_encoding-same _ _ _ _ _ _ (is_absent-readable t r) (is_absent-readable u s) e in
     ap Tree.bit_container (known t u p q r s tt tt (cc))
 bit_container_known P known header (Tree.bit_container t) _ p q r s m n e = absurd q
 bit_container_known P known header _ _ p q r s m n e = absurd p
@@ -114,7 +114,7 @@ explicit_known : (k : ℕ) (P : Tree → Type 0) → IsKnown true P → (header 
 unfolding tree_bytes
 explicit_known k P known header (Tree.explicit x t) (Tree.explicit y u) p q r s m n e =
     let f : x ≡ y = p.0 ∙ sym q.0 in
-    let g : t ≡ u = known t u p.1 q.1 r.1 s.1 tt tt (around-same _ _ _ _ _ _ (is_absent-readable t r.1) (is_absent-readable u s.1) e) in
+    let g : t ≡ u = known t u p.1 q.1 r.1 s.1 tt tt (wrapper_encoding-same _ _ _ _ _ _ (is_absent-readable t r.1) (is_absent-readable u s.1) e) in
     cc
 explicit_known k P known header (Tree.explicit x t) _ p q r s m n e = absurd q
 explicit_known k P known header _ _ p q r s m n e = absurd p
@@ -123,7 +123,7 @@ implicit_known : (k : ℕ) (P : Tree → Type 0) → IsKnown false P → (header
 unfolding tree_bytes
 implicit_known k P known header (Tree.implicit x t) (Tree.implicit y u) p q r s m n e =
     let f : x ≡ y = p.0 ∙ sym q.0 in
-    let g : t ≡ u = known t u p.1 q.1 r.2 s.2 r.1 s.1 (around-same _ _ _ _ _ _ (is_absent-readable t r.2) (is_absent-readable u s.2) e) in
+    let g : t ≡ u = known t u p.1 q.1 r.2 s.2 r.1 s.1 (wrapper_encoding-same _ _ _ _ _ _ (is_absent-readable t r.2) (is_absent-readable u s.2) e) in
     cc
 implicit_known k P known header (Tree.implicit x t) _ p q r s m n e = absurd q
 implicit_known k P known header _ _ p q r s m n e = absurd p
@@ -204,21 +204,21 @@ one_known s ss a known others t u (inr p) (inl q) r v m n e = absurd (apart_diff
 
 -- ---- members that may be missing
 
--- a member, and what stands in its place where it is missing, aren't written alike
-missing_told : (s : Shape) (l : Layout) → are_apart (firsts s) (next_firsts l) ≡ true → (ts us : Trees) → FirstAndRest (IsOf s) (AreMembersOf l) ts → AreMembersOf l us → AreReadable ts → AreReadable us
+-- a member, and what stands instead where it is missing, aren't written alike
+absent_told : (s : Shape) (l : Layout) → are_apart (firsts s) (next_firsts l) ≡ true → (ts us : Trees) → FirstAndRest (IsOf s) (AreMembersOf l) ts → AreMembersOf l us → AreReadable ts → AreReadable us
     → concat (encodings ts) ≡ concat (encodings us) → ⊥
 unfolding tree_bytes der
-missing_told s l apart (Trees.more t ts) Trees.none p q r v e = not_empty t (concat (encodings ts)) r.0 e
-missing_told s l apart (Trees.more t ts) (Trees.more u us) p q r v e =
+absent_told s l apart (Trees.more t ts) Trees.none p q r v e = not_empty t (concat (encodings ts)) r.0 e
+absent_told s l apart (Trees.more t ts) (Trees.more u us) p q r v e =
     let same = (same_encoding t u (concat (encodings ts)) (concat (encodings us)) r.0 v.0 e).0 in
     apart_differ (firsts s) (next_firsts l) t u apart (begins_in s t p.0 r.0) (begins_next l u us q v.0) same
-missing_told s l apart Trees.none _ p q r v e = absurd p
+absent_told s l apart Trees.none _ p q r v e = absurd p
 
 first_or_none_known : (s : Shape) (l : Layout) → are_apart (firsts s) (next_firsts l) ≡ true → IsKnown true (IsOf s) → AreKnown (AreMembersOf l) → AreKnown (FirstOrNone (IsOf s) (AreMembersOf l))
 first_or_none_known s l apart known others ts us (inl p) (inl q) r v e = first_and_rest_known (IsOf s) (AreMembersOf l) known others ts us p q r v e
 first_or_none_known s l apart known others ts us (inr p) (inr q) r v e = others ts us p q r v e
-first_or_none_known s l apart known others ts us (inl p) (inr q) r v e = absurd (missing_told s l apart ts us p q r v e)
-first_or_none_known s l apart known others ts us (inr p) (inl q) r v e = absurd (missing_told s l apart us ts q p v r (sym e))
+first_or_none_known s l apart known others ts us (inl p) (inr q) r v e = absurd (absent_told s l apart ts us p q r v e)
+first_or_none_known s l apart known others ts us (inr p) (inl q) r v e = absurd (absent_told s l apart us ts q p v r (sym e))
 
 mutual
   pub known : (s : Shape) → IsSound s → (header : Bool) → IsKnown header (IsOf s)

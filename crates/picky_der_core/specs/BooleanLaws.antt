@@ -5,9 +5,9 @@ use Rattle.picky_der_core.specs.Encoding.{boolean_content}
 use Rattle.picky_der_core.specs.Refusal.{boolean_error}
 
 -- the content of a bool is read
-pub boolean_fault-content : (b : Bool) → boolean_error (boolean_content b) ≡ None
-boolean_fault-content true = refl
-boolean_fault-content false = refl
+pub boolean_error-content : (b : Bool) → boolean_error (boolean_content b) ≡ None
+boolean_error-content true = refl
+boolean_error-content false = refl
 
 -- what is read is the content of a bool
 pub content-boolean_error : (bs : List ℕ) → boolean_error bs ≡ None → (bs ≡ boolean_content false) ⊎ (bs ≡ boolean_content true)

@@ -12,12 +12,12 @@ unfoldable pub big_endian : ℕ → List ℕ
 big_endian n = big_endian_within n n
 
 -- a length: the number in one byte, or how many bytes it takes and these
-unfoldable pub len : ℕ → List ℕ
-len n = if nat_lt n 0x80 then n ∷ [] else (0x80 + length (big_endian n)) ∷ big_endian n
+unfoldable pub length_octets : ℕ → List ℕ
+length_octets n = if nat_lt n 0x80 then n ∷ [] else (0x80 + length (big_endian n)) ∷ big_endian n
 
 -- an element: a tag, the length of its content, and the content
 unfoldable pub tlv : ℕ → List ℕ → List ℕ
-tlv tag content = tag ∷ (len (length content) ++ content)
+tlv tag content = tag ∷ (length_octets (length content) ++ content)
 
 -- these bytes are one element, whose tag isn't of the long form
 pub record IsElement (b : List ℕ) : Type 0 where
@@ -27,6 +27,6 @@ pub record IsElement (b : List ℕ) : Type 0 where
   pub is : b ≡ tlv tag content
 
 -- the second list is the first followed by any bytes, also none
-pub record Begins (b c : List ℕ) : Type 0 where
+pub record IsPrefix (b c : List ℕ) : Type 0 where
   pub rest : List ℕ
   pub is : c ≡ b ++ rest

@@ -13,13 +13,13 @@ boolean_content false = 0x00 ∷ []
 boolean_content true = 0xFF ∷ []
 
 -- a byte 00 in front where the first byte would be 80 or more, and where there is none
-abbrev pub positive : List ℕ → List ℕ
-positive [] = 0x00 ∷ []
-positive (b ∷ bs) = if nat_lt b 0x80 then b ∷ bs else 0x00 ∷ b ∷ bs
+abbrev pub as_positive : List ℕ → List ℕ
+as_positive [] = 0x00 ∷ []
+as_positive (b ∷ bs) = if nat_lt b 0x80 then b ∷ bs else 0x00 ∷ b ∷ bs
 
 -- a number: the fewest bytes that aren't read as a negative one (8.3)
 unfoldable pub unsigned_content : ℕ → List ℕ
-unsigned_content n = positive (big_endian n)
+unsigned_content n = as_positive (big_endian n)
 
 -- a list, from the encodings of its members: one after another, in a sequence as they are given (8.9, 8.10), and in a set in
 -- ascending order (8.11, 8.12, 11.6)
@@ -39,9 +39,9 @@ plain_encoding true tag content = tlv tag content
 plain_encoding false tag content = content
 
 -- a wrapper, which is left out around nothing
-unfoldable pub around : Bool → ℕ → List ℕ → List ℕ
-around true tag content = []
-around false tag content = tlv tag content
+unfoldable pub wrapper_encoding : Bool → ℕ → List ℕ → List ℕ
+wrapper_encoding true tag content = []
+wrapper_encoding false tag content = tlv tag content
 
 -- ---- encodings
 
@@ -54,10 +54,10 @@ unfoldable mutual
   tree_bytes header (Tree.text s) = plain_encoding header 0x0C s
   tree_bytes header (Tree.bytes tag s) = plain_encoding header tag s
   tree_bytes header (Tree.list kind ts) = plain_encoding header (list_tag kind) (list_content kind (encodings ts))
-  tree_bytes header (Tree.octet_container t) = around (is_absent t) 0x04 (tree_bytes true t)
-  tree_bytes header (Tree.bit_container t) = around (is_absent t) 0x03 (0x00 ∷ tree_bytes true t)
-  tree_bytes header (Tree.explicit n t) = around (is_absent t) (0xA0 + n) (tree_bytes true t)
-  tree_bytes header (Tree.implicit n t) = around (is_absent t) (0x80 + n) (tree_bytes false t)
+  tree_bytes header (Tree.octet_container t) = wrapper_encoding (is_absent t) 0x04 (tree_bytes true t)
+  tree_bytes header (Tree.bit_container t) = wrapper_encoding (is_absent t) 0x03 (0x00 ∷ tree_bytes true t)
+  tree_bytes header (Tree.explicit n t) = wrapper_encoding (is_absent t) (0xA0 + n) (tree_bytes true t)
+  tree_bytes header (Tree.implicit n t) = wrapper_encoding (is_absent t) (0x80 + n) (tree_bytes false t)
   tree_bytes header (Tree.application n t) = tlv (0x60 + n) (tree_bytes true t)
   tree_bytes header (Tree.raw s) = s
   tree_bytes header (Tree.choice t) = tree_bytes header t
@@ -73,8 +73,8 @@ unfoldable pub der : Tree → List ℕ
 der t = tree_bytes true t
 
 -- what stands directly under an implicit tag: the content of a plain tree, and the whole encoding of any other
-unfoldable pub inside : Tree → List ℕ
-inside t = tree_bytes false t
+unfoldable pub implicit_content : Tree → List ℕ
+implicit_content t = tree_bytes false t
 
 -- the content of a plain tree, and its tag
 abbrev pub content : Tree → List ℕ

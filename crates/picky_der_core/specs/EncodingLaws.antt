@@ -5,7 +5,7 @@ use Rattle.std.specs.List.{concat}
 use Rattle.picky_der_core.specs.Tag.{number_of, IsTagNumber}
 use Rattle.picky_der_core.specs.Element.{big_endian, tlv, IsElement}
 use Rattle.picky_der_core.specs.Tree.{ListKind, Tree, trees, is_plain, is_absent}
-use Rattle.picky_der_core.specs.Encoding.{boolean_content, positive, unsigned_content, list_content, list_tag, plain_encoding, around, tree_bytes, encodings, der, inside, content, plain_tag}
+use Rattle.picky_der_core.specs.Encoding.{boolean_content, as_positive, unsigned_content, list_content, list_tag, plain_encoding, wrapper_encoding, tree_bytes, encodings, der, implicit_content, content, plain_tag}
 use Rattle.picky_der_core.specs.Readable.{IsReadable, IsInOrder, IsNoChoice}
 use Rattle.picky_der_core.specs.BigEndianLaws.{number-big_endian}
 use Rattle.picky_der_core.specs.ElementLaws.{tlv_prefix}
@@ -13,15 +13,15 @@ use Rattle.picky_der_core.specs.OrderLaws.{in_ascending_order-same, length-in_as
 
 -- ---- the encoding by its kinds
 
-pub around-present : (b : Bool) (x : ℕ) (c : List ℕ) → b ≡ false → around b x c ≡ tlv x c
-unfolding around
-around-present true x c e = cc
-around-present false x c e = refl
+pub wrapper_encoding-present : (b : Bool) (x : ℕ) (c : List ℕ) → b ≡ false → wrapper_encoding b x c ≡ tlv x c
+unfolding wrapper_encoding
+wrapper_encoding-present true x c e = cc
+wrapper_encoding-present false x c e = refl
 
-around-absent : (b : Bool) (x : ℕ) (c : List ℕ) → b ≡ true → around b x c ≡ []
-unfolding around
-around-absent true x c e = refl
-around-absent false x c e = cc
+wrapper_encoding-absent : (b : Bool) (x : ℕ) (c : List ℕ) → b ≡ true → wrapper_encoding b x c ≡ []
+unfolding wrapper_encoding
+wrapper_encoding-absent true x c e = refl
+wrapper_encoding-absent false x c e = cc
 
 -- a plain tree: its tag, and its content
 pub der-plain : (t : Tree) → is_plain t ≡ true → der t ≡ tlv (plain_tag t) (content t)
@@ -38,29 +38,29 @@ der-plain _ p = cc
 pub der-absent : (t : Tree) → is_absent t ≡ true → der t ≡ []
 unfolding der tree_bytes
 der-absent Tree.absent h = refl
-der-absent (Tree.octet_container t) h = around-absent _ _ _ h
-der-absent (Tree.bit_container t) h = around-absent _ _ _ h
-der-absent (Tree.explicit n t) h = around-absent _ _ _ h
-der-absent (Tree.implicit n t) h = around-absent _ _ _ h
+der-absent (Tree.octet_container t) h = wrapper_encoding-absent _ _ _ h
+der-absent (Tree.bit_container t) h = wrapper_encoding-absent _ _ _ h
+der-absent (Tree.explicit n t) h = wrapper_encoding-absent _ _ _ h
+der-absent (Tree.implicit n t) h = wrapper_encoding-absent _ _ _ h
 der-absent (Tree.choice t) h = der-absent t h
 der-absent _ h = cc
 
 -- the containers and tags, around something
 pub der-octet_container : (t : Tree) → is_absent t ≡ false → der (Tree.octet_container t) ≡ tlv 0x04 (der t)
 unfolding der tree_bytes
-der-octet_container t h = around-present _ _ _ h
+der-octet_container t h = wrapper_encoding-present _ _ _ h
 
 pub der-bit_container : (t : Tree) → is_absent t ≡ false → der (Tree.bit_container t) ≡ tlv 0x03 (0x00 ∷ der t)
 unfolding der tree_bytes
-der-bit_container t h = around-present _ _ _ h
+der-bit_container t h = wrapper_encoding-present _ _ _ h
 
 pub der-explicit : (n : ℕ) (t : Tree) → is_absent t ≡ false → der (Tree.explicit n t) ≡ tlv (0xA0 + n) (der t)
 unfolding der tree_bytes
-der-explicit n t h = around-present _ _ _ h
+der-explicit n t h = wrapper_encoding-present _ _ _ h
 
-pub der-implicit : (n : ℕ) (t : Tree) → is_absent t ≡ false → der (Tree.implicit n t) ≡ tlv (0x80 + n) (inside t)
-unfolding der inside tree_bytes
-der-implicit n t h = around-present _ _ _ h
+pub der-implicit : (n : ℕ) (t : Tree) → is_absent t ≡ false → der (Tree.implicit n t) ≡ tlv (0x80 + n) (implicit_content t)
+unfolding der implicit_content tree_bytes
+der-implicit n t h = wrapper_encoding-present _ _ _ h
 
 pub der-application : (n : ℕ) (t : Tree) → der (Tree.application n t) ≡ tlv (0x60 + n) (der t)
 unfolding der tree_bytes
@@ -76,31 +76,31 @@ der-choice t = refl
 
 -- ---- directly under an implicit tag
 
-pub inside-plain : (t : Tree) → is_plain t ≡ true → inside t ≡ content t
-unfolding inside tree_bytes plain_encoding
-inside-plain (Tree.boolean b) p = refl
-inside-plain (Tree.unsigned n) p = refl
-inside-plain Tree.null p = refl
-inside-plain (Tree.text s) p = refl
-inside-plain (Tree.bytes tag s) p = refl
-inside-plain (Tree.list kind ts) p = refl
-inside-plain _ p = cc
+pub implicit_content-plain : (t : Tree) → is_plain t ≡ true → implicit_content t ≡ content t
+unfolding implicit_content tree_bytes plain_encoding
+implicit_content-plain (Tree.boolean b) p = refl
+implicit_content-plain (Tree.unsigned n) p = refl
+implicit_content-plain Tree.null p = refl
+implicit_content-plain (Tree.text s) p = refl
+implicit_content-plain (Tree.bytes tag s) p = refl
+implicit_content-plain (Tree.list kind ts) p = refl
+implicit_content-plain _ p = cc
 
-pub inside-choice : (t : Tree) → inside (Tree.choice t) ≡ inside t
-unfolding inside tree_bytes
-inside-choice t = refl
+pub implicit_content-choice : (t : Tree) → implicit_content (Tree.choice t) ≡ implicit_content t
+unfolding implicit_content tree_bytes
+implicit_content-choice t = refl
 
 -- what is neither plain nor a choice keeps its header
-pub inside-other : (t : Tree) → is_plain t ≡ false → IsNoChoice t → inside t ≡ der t
-unfolding inside der tree_bytes
-inside-other (Tree.choice t) p n = absurd n
-inside-other (Tree.boolean b) p n = cc
-inside-other (Tree.unsigned b) p n = cc
-inside-other Tree.null p n = cc
-inside-other (Tree.text b) p n = cc
-inside-other (Tree.bytes x b) p n = cc
-inside-other (Tree.list x b) p n = cc
-inside-other _ p n = refl
+pub implicit_content-other : (t : Tree) → is_plain t ≡ false → IsNoChoice t → implicit_content t ≡ der t
+unfolding implicit_content der tree_bytes
+implicit_content-other (Tree.choice t) p n = absurd n
+implicit_content-other (Tree.boolean b) p n = cc
+implicit_content-other (Tree.unsigned b) p n = cc
+implicit_content-other Tree.null p n = cc
+implicit_content-other (Tree.text b) p n = cc
+implicit_content-other (Tree.bytes x b) p n = cc
+implicit_content-other (Tree.list x b) p n = cc
+implicit_content-other _ p n = refl
 
 -- ---- plain trees
 
@@ -176,22 +176,22 @@ list_tag_number : (kind : ListKind) → IsTagNumber (number_of (list_tag kind))
 list_tag_number ListKind.sequence = omega arith
 list_tag_number ListKind.set = omega arith
 
-headed_element : (tag : ℕ) (c : List ℕ) → IsTagNumber (number_of tag) → IsElement (plain_encoding true tag c)
+plain_encoding_element : (tag : ℕ) (c : List ℕ) → IsTagNumber (number_of tag) → IsElement (plain_encoding true tag c)
 unfolding plain_encoding
-headed_element tag c h = record { tag = tag; content = c; number = h; is = refl }
+plain_encoding_element tag c h = record { tag = tag; content = c; number = h; is = refl }
 
-around_element : (t : Tree) (tag : ℕ) (c : List ℕ) → is_absent t ≡ false → IsTagNumber (number_of tag) → IsElement (around (is_absent t) tag c)
-around_element t tag c p h = record { tag = tag; content = c; number = h; is = around-present _ tag c p }
+around_element : (t : Tree) (tag : ℕ) (c : List ℕ) → is_absent t ≡ false → IsTagNumber (number_of tag) → IsElement (wrapper_encoding (is_absent t) tag c)
+around_element t tag c p h = record { tag = tag; content = c; number = h; is = wrapper_encoding-present _ tag c p }
 
 -- the encoding of a readable tree is one element
 pub der-element : (t : Tree) → IsReadable t → IsElement (der t)
 unfolding der tree_bytes
-der-element (Tree.boolean b) r = headed_element _ _ (omega arith)
-der-element (Tree.unsigned n) r = headed_element _ _ (omega arith)
-der-element Tree.null r = headed_element _ _ (omega arith)
-der-element (Tree.text s) r = headed_element _ _ (omega arith)
-der-element (Tree.bytes tag s) r = headed_element _ _ r
-der-element (Tree.list kind ts) r = headed_element _ _ (list_tag_number kind)
+der-element (Tree.boolean b) r = plain_encoding_element _ _ (omega arith)
+der-element (Tree.unsigned n) r = plain_encoding_element _ _ (omega arith)
+der-element Tree.null r = plain_encoding_element _ _ (omega arith)
+der-element (Tree.text s) r = plain_encoding_element _ _ (omega arith)
+der-element (Tree.bytes tag s) r = plain_encoding_element _ _ r
+der-element (Tree.list kind ts) r = plain_encoding_element _ _ (list_tag_number kind)
 der-element (Tree.octet_container t) r = around_element t _ _ (is_absent-readable t r) (omega arith)
 der-element (Tree.bit_container t) r = around_element t _ _ (is_absent-readable t r) (omega arith)
 der-element (Tree.explicit n t) r = around_element t _ _ (is_absent-readable t r.1) (omega arith)
@@ -225,7 +225,7 @@ padded : (p : Bool) (b : ℕ) (bs : List ℕ) → number_from_digits 256 (cond p
 padded true b bs = refl
 padded false b bs = refl
 
-number-positive : (bs : List ℕ) → number_from_digits 256 (positive bs) ≡ number_from_digits 256 bs
+number-positive : (bs : List ℕ) → number_from_digits 256 (as_positive bs) ≡ number_from_digits 256 bs
 number-positive [] = refl
 number-positive (b ∷ bs) = padded (nat_lt b 0x80) b bs
 

@@ -5,20 +5,20 @@ use Rattle.picky_der_core.specs.Element.{tlv}
 use Rattle.picky_der_core.specs.Tree.{ListKind, Tree, Trees}
 use Rattle.picky_der_core.specs.Encoding.{plain_encoding, tree_bytes, der, list_tag}
 use Rattle.picky_der_core.specs.Readable.{IsReadable}
-use Rattle.picky_der_core.specs.Shape.{Shape, Shapes, Layout, IsOf, IsOneOf, AreMembersOf, FirstOrNone, firsts, firsts_of, next_firsts, has, are_apart, tags_below, tag_with_number, AreBytes, IsBoolean, IsUnsigned, IsNull, IsText, IsCharacter, IsBytes, IsRaw, IsList, IsOptional, IsOctetContainer, IsBitContainer, IsExplicit, IsImplicit, IsApplication, IsChoice}
-use Rattle.picky_der_core.specs.EncodingLaws.{is_absent-readable, around-present}
+use Rattle.picky_der_core.specs.Shape.{Shape, Shapes, Layout, IsOf, IsOneOf, AreMembersOf, FirstOrNone, firsts, firsts_of, next_firsts, contains, are_apart, tags_below, tag_with_number, AreBytes, IsBoolean, IsUnsigned, IsNull, IsText, IsCharacter, IsBytes, IsRaw, IsList, IsOptional, IsOctetContainer, IsBitContainer, IsExplicit, IsImplicit, IsApplication, IsChoice}
+use Rattle.picky_der_core.specs.EncodingLaws.{is_absent-readable, wrapper_encoding-present}
 
 -- its encoding begins with one of these bytes
 pub record BeginsIn (fs : List ℕ) (t : Tree) : Type 0 where
   pub first : ℕ
   pub others : List ℕ
   pub is : der t ≡ first ∷ others
-  pub listed : has fs first ≡ true
+  pub listed : contains fs first ≡ true
 
 -- ---- lists of bytes
 
-pub has_itself : (x : ℕ) (ys : List ℕ) → has (x ∷ ys) x ≡ true
-has_itself x ys = rw eq-eqb refl
+pub contains_itself : (x : ℕ) (ys : List ℕ) → contains (x ∷ ys) x ≡ true
+contains_itself x ys = rw eq-eqb refl
 
 or_left : (a b : Bool) → a ≡ true → (a || b) ≡ true
 or_left true b h = refl
@@ -32,13 +32,13 @@ or_more : (a b c d : Bool) → (a || b) ≡ true → (a ≡ true → c ≡ true)
 or_more true b c d h f g = or_left c d (f refl)
 or_more false b c d h f g = or_right c d (g h)
 
-pub has-append_left : (x : ℕ) (xs ys : List ℕ) → has xs x ≡ true → has (xs ++ ys) x ≡ true
-has-append_left x [] ys h = cc
-has-append_left x (y ∷ xs) ys h = or_more (x == y) (has xs x) (x == y) (has (xs ++ ys) x) h (λ e. e) (has-append_left x xs ys)
+pub contains-append_left : (x : ℕ) (xs ys : List ℕ) → contains xs x ≡ true → contains (xs ++ ys) x ≡ true
+contains-append_left x [] ys h = cc
+contains-append_left x (y ∷ xs) ys h = or_more (x == y) (contains xs x) (x == y) (contains (xs ++ ys) x) h (λ e. e) (contains-append_left x xs ys)
 
-pub has-append_right : (x : ℕ) (xs ys : List ℕ) → has ys x ≡ true → has (xs ++ ys) x ≡ true
-has-append_right x [] ys h = h
-has-append_right x (y ∷ xs) ys h = or_right (x == y) (has (xs ++ ys) x) (has-append_right x xs ys h)
+pub contains-append_right : (x : ℕ) (xs ys : List ℕ) → contains ys x ≡ true → contains (xs ++ ys) x ≡ true
+contains-append_right x [] ys h = h
+contains-append_right x (y ∷ xs) ys h = or_right (x == y) (contains (xs ++ ys) x) (contains-append_right x xs ys h)
 
 and_parts : (a b : Bool) → (a && b) ≡ true → (a ≡ true) × (b ≡ true)
 and_parts true b h = (refl, h)
@@ -49,123 +49,123 @@ not_both true h k = cc
 not_both false h k = cc
 
 -- no byte is in both of two lists that are apart
-pub apart_has : (x : ℕ) (xs ys : List ℕ) → are_apart xs ys ≡ true → has xs x ≡ true → has ys x ≡ true → ⊥
-apart_has x [] ys a h k = cc
-apart_has x (y ∷ xs) ys a h k =
-    let parts = and_parts (not (has ys y)) (are_apart xs ys) a in
-    by_first (x == y) refl h (λ later. apart_has x xs ys parts.1 later k)
+pub apart_contains : (x : ℕ) (xs ys : List ℕ) → are_apart xs ys ≡ true → contains xs x ≡ true → contains ys x ≡ true → ⊥
+apart_contains x [] ys a h k = cc
+apart_contains x (y ∷ xs) ys a h k =
+    let parts = and_parts (not (contains ys y)) (are_apart xs ys) a in
+    by_first (x == y) refl h (λ later. apart_contains x xs ys parts.1 later k)
   where
-    by_first : (b : Bool) → (x == y) ≡ b → (b || has xs x) ≡ true → (has xs x ≡ true → ⊥) → ⊥
+    by_first : (b : Bool) → (x == y) ≡ b → (b || contains xs x) ≡ true → (contains xs x ≡ true → ⊥) → ⊥
     by_first true e h next =
         let same : x ≡ y = eqb-true x y e in
-        let fresh = and_parts (not (has ys y)) (are_apart xs ys) a in
-        not_both (has ys y) fresh.0 (subst (λ z. has ys z ≡ true) same k)
+        let fresh = and_parts (not (contains ys y)) (are_apart xs ys) a in
+        not_both (contains ys y) fresh.0 (subst (λ z. contains ys z ≡ true) same k)
     by_first false e h next = next h
 
-pub has_numbered : (number tag : ℕ) → IsTagNumber number → has (tag_with_number number tag) tag ≡ true
-has_numbered number tag h = rw (le-leb number 30 h) (has_itself tag [])
+pub contains_numbered : (number tag : ℕ) → IsTagNumber number → contains (tag_with_number number tag) tag ≡ true
+contains_numbered number tag h = rw (le-leb number 30 h) (contains_itself tag [])
 
 -- each byte that isn't a tag of the long form
-pub has-tags_below : (x n : ℕ) → x < n → IsTagNumber (number_of x) → has (tags_below n) x ≡ true
+pub contains-tags_below : (x n : ℕ) → x < n → IsTagNumber (number_of x) → contains (tags_below n) x ≡ true
 unfolding tags_below
-has-tags_below x zero l h = absurd (omega arith)
-has-tags_below x (suc n) l h = by_last (x == n) refl (λ k. has-tags_below x n k h)
+contains-tags_below x zero l h = absurd (omega arith)
+contains-tags_below x (suc n) l h = by_last (x == n) refl (λ k. contains-tags_below x n k h)
   where
-    by_last : (b : Bool) → (x == n) ≡ b → (x < n → has (tags_below n) x ≡ true) → has (tag_with_number (number_of n) n ++ tags_below n) x ≡ true
+    by_last : (b : Bool) → (x == n) ≡ b → (x < n → contains (tags_below n) x ≡ true) → contains (tag_with_number (number_of n) n ++ tags_below n) x ≡ true
     by_last true e next =
         let same : x ≡ n = eqb-true x n e in
-        has-append_left x (tag_with_number (number_of n) n) (tags_below n) (subst (λ m. has (tag_with_number (number_of m) m) x ≡ true) same (has_numbered (number_of x) x h))
+        contains-append_left x (tag_with_number (number_of n) n) (tags_below n) (subst (λ m. contains (tag_with_number (number_of m) m) x ≡ true) same (contains_numbered (number_of x) x h))
     by_last false e next =
         let less : x < n = omega (arith, false-eqb x n (sym e)) in
-        has-append_right x (tag_with_number (number_of n) n) (tags_below n) (next less)
+        contains-append_right x (tag_with_number (number_of n) n) (tags_below n) (next less)
 
 -- trees that begin with bytes of two lists apart aren't written alike
 pub apart_differ : (fs gs : List ℕ) (t u : Tree) → are_apart fs gs ≡ true → BeginsIn fs t → BeginsIn gs u → der t ≡ der u → ⊥
 apart_differ fs gs t u a b c e =
     let same : b.first ∷ b.others ≡ c.first ∷ c.others = sym b.is ∙ e ∙ c.is in
     let first : b.first ≡ c.first = cc in
-    apart_has c.first fs gs a (subst (λ x. has fs x ≡ true) first b.listed) c.listed
+    apart_contains c.first fs gs a (subst (λ x. contains fs x ≡ true) first b.listed) c.listed
 
 -- ---- each kind of shape
 
-pub begins_headed : (tag : ℕ) (c fs : List ℕ) (t : Tree) → der t ≡ plain_encoding true tag c → has fs tag ≡ true → BeginsIn fs t
+pub begins_plain_encoding : (tag : ℕ) (c fs : List ℕ) (t : Tree) → der t ≡ plain_encoding true tag c → contains fs tag ≡ true → BeginsIn fs t
 unfolding plain_encoding tlv
-begins_headed tag c fs t e h = record { first = tag; others = _; is = e; listed = h }
+begins_plain_encoding tag c fs t e h = record { first = tag; others = _; is = e; listed = h }
 
-pub begins_tlv : (tag : ℕ) (c fs : List ℕ) (t : Tree) → der t ≡ tlv tag c → has fs tag ≡ true → BeginsIn fs t
+pub begins_tlv : (tag : ℕ) (c fs : List ℕ) (t : Tree) → der t ≡ tlv tag c → contains fs tag ≡ true → BeginsIn fs t
 unfolding tlv
 begins_tlv tag c fs t e h = record { first = tag; others = _; is = e; listed = h }
 
 boolean_first : (t : Tree) → IsBoolean t → IsReadable t → BeginsIn (0x01 ∷ []) t
 unfolding der tree_bytes
-boolean_first (Tree.boolean b) p r = begins_headed _ _ _ (Tree.boolean b) refl refl
+boolean_first (Tree.boolean b) p r = begins_plain_encoding _ _ _ (Tree.boolean b) refl refl
 boolean_first _ p r = absurd p
 
 unsigned_first : (most : ℕ) (t : Tree) → IsUnsigned most t → IsReadable t → BeginsIn (0x02 ∷ []) t
 unfolding der tree_bytes
-unsigned_first most (Tree.unsigned n) p r = begins_headed _ _ _ (Tree.unsigned n) refl refl
+unsigned_first most (Tree.unsigned n) p r = begins_plain_encoding _ _ _ (Tree.unsigned n) refl refl
 unsigned_first most _ p r = absurd p
 
 null_first : (t : Tree) → IsNull t → IsReadable t → BeginsIn (0x05 ∷ []) t
 unfolding der tree_bytes
-null_first Tree.null p r = begins_headed _ _ _ Tree.null refl refl
+null_first Tree.null p r = begins_plain_encoding _ _ _ Tree.null refl refl
 null_first _ p r = absurd p
 
 text_first : (t : Tree) → IsText t → IsReadable t → BeginsIn (0x0C ∷ []) t
 unfolding der tree_bytes
-text_first (Tree.text s) p r = begins_headed _ _ _ (Tree.text s) refl refl
+text_first (Tree.text s) p r = begins_plain_encoding _ _ _ (Tree.text s) refl refl
 text_first _ p r = absurd p
 
 character_first : (t : Tree) → IsCharacter t → IsReadable t → BeginsIn (0x0C ∷ []) t
 unfolding der tree_bytes
-character_first (Tree.text s) p r = begins_headed _ _ _ (Tree.text s) refl refl
+character_first (Tree.text s) p r = begins_plain_encoding _ _ _ (Tree.text s) refl refl
 character_first _ p r = absurd p
 
 bytes_first : (tag : ℕ) (t : Tree) → IsBytes tag t → IsReadable t → BeginsIn (tag_with_number (number_of tag) tag) t
 unfolding der tree_bytes
 bytes_first tag (Tree.bytes x s) p r =
-    subst (λ n. BeginsIn (tag_with_number (number_of n) n) (Tree.bytes x s)) p.0 (begins_headed x _ _ (Tree.bytes x s) refl (has_numbered (number_of x) x r))
+    subst (λ n. BeginsIn (tag_with_number (number_of n) n) (Tree.bytes x s)) p.0 (begins_plain_encoding x _ _ (Tree.bytes x s) refl (contains_numbered (number_of x) x r))
 bytes_first tag _ p r = absurd p
 
 list_first : (kind : ListKind) (P : Trees → Type 0) (t : Tree) → IsList kind P t → IsReadable t → BeginsIn (list_tag kind ∷ []) t
 unfolding der tree_bytes
 list_first kind P (Tree.list x ts) p r =
-    subst (λ n. BeginsIn (list_tag n ∷ []) (Tree.list x ts)) p.0 (begins_headed _ _ _ (Tree.list x ts) refl (has_itself (list_tag x) []))
+    subst (λ n. BeginsIn (list_tag n ∷ []) (Tree.list x ts)) p.0 (begins_plain_encoding _ _ _ (Tree.list x ts) refl (contains_itself (list_tag x) []))
 list_first kind P _ p r = absurd p
 
 octet_container_first : (P : Tree → Type 0) (t : Tree) → IsOctetContainer P t → IsReadable t → BeginsIn (0x04 ∷ []) t
 unfolding der tree_bytes
-octet_container_first P (Tree.octet_container t) p r = begins_tlv _ _ _ (Tree.octet_container t) (around-present _ _ _ (is_absent-readable t r)) refl
+octet_container_first P (Tree.octet_container t) p r = begins_tlv _ _ _ (Tree.octet_container t) (wrapper_encoding-present _ _ _ (is_absent-readable t r)) refl
 octet_container_first P _ p r = absurd p
 
 bit_container_first : (P : Tree → Type 0) (t : Tree) → IsBitContainer P t → IsReadable t → BeginsIn (0x03 ∷ []) t
 unfolding der tree_bytes
-bit_container_first P (Tree.bit_container t) p r = begins_tlv _ _ _ (Tree.bit_container t) (around-present _ _ _ (is_absent-readable t r)) refl
+bit_container_first P (Tree.bit_container t) p r = begins_tlv _ _ _ (Tree.bit_container t) (wrapper_encoding-present _ _ _ (is_absent-readable t r)) refl
 bit_container_first P _ p r = absurd p
 
 explicit_first : (n : ℕ) (P : Tree → Type 0) (t : Tree) → IsExplicit n P t → IsReadable t → BeginsIn (tag_with_number n (0xA0 + n)) t
 unfolding der tree_bytes
 explicit_first n P (Tree.explicit m t) p r =
-    subst (λ k. BeginsIn (tag_with_number k (0xA0 + k)) (Tree.explicit m t)) p.0 (begins_tlv _ _ _ (Tree.explicit m t) (around-present _ _ _ (is_absent-readable t r.1)) (has_numbered m (0xA0 + m) r.0))
+    subst (λ k. BeginsIn (tag_with_number k (0xA0 + k)) (Tree.explicit m t)) p.0 (begins_tlv _ _ _ (Tree.explicit m t) (wrapper_encoding-present _ _ _ (is_absent-readable t r.1)) (contains_numbered m (0xA0 + m) r.0))
 explicit_first n P _ p r = absurd p
 
 implicit_first : (n : ℕ) (P : Tree → Type 0) (t : Tree) → IsImplicit n P t → IsReadable t → BeginsIn (tag_with_number n (0x80 + n)) t
 unfolding der tree_bytes
 implicit_first n P (Tree.implicit m t) p r =
-    subst (λ k. BeginsIn (tag_with_number k (0x80 + k)) (Tree.implicit m t)) p.0 (begins_tlv _ _ _ (Tree.implicit m t) (around-present _ _ _ (is_absent-readable t r.2)) (has_numbered m (0x80 + m) r.0))
+    subst (λ k. BeginsIn (tag_with_number k (0x80 + k)) (Tree.implicit m t)) p.0 (begins_tlv _ _ _ (Tree.implicit m t) (wrapper_encoding-present _ _ _ (is_absent-readable t r.2)) (contains_numbered m (0x80 + m) r.0))
 implicit_first n P _ p r = absurd p
 
 application_first : (n : ℕ) (P : Tree → Type 0) (t : Tree) → IsApplication n P t → IsReadable t → BeginsIn (tag_with_number n (0x60 + n)) t
 unfolding der tree_bytes
 application_first n P (Tree.application m t) p r =
-    subst (λ k. BeginsIn (tag_with_number k (0x60 + k)) (Tree.application m t)) p.0 (begins_tlv _ _ _ (Tree.application m t) refl (has_numbered m (0x60 + m) r.0))
+    subst (λ k. BeginsIn (tag_with_number k (0x60 + k)) (Tree.application m t)) p.0 (begins_tlv _ _ _ (Tree.application m t) refl (contains_numbered m (0x60 + m) r.0))
 application_first n P _ p r = absurd p
 
 raw_first : (t : Tree) → IsRaw t → IsReadable t → BeginsIn (tags_below 256) t
 unfolding der tree_bytes tlv
 raw_first (Tree.raw s) p r =
     let bytes : AreBytes (tlv r.tag r.content) = subst AreBytes r.is p in
-    begins_tlv _ _ _ (Tree.raw s) r.is (has-tags_below r.tag 256 bytes.0 r.number)
+    begins_tlv _ _ _ (Tree.raw s) r.is (contains-tags_below r.tag 256 bytes.0 r.number)
 raw_first _ p r = absurd p
 
 -- a readable tree of an optional shape is there
@@ -179,10 +179,10 @@ choice_first P fs next (Tree.choice t) p r = let b = next t p r in record { firs
 choice_first P fs next _ p r = absurd p
 
 begins_left : (fs gs : List ℕ) (t : Tree) → BeginsIn fs t → BeginsIn (fs ++ gs) t
-begins_left fs gs t b = record { first = b.first; others = b.others; is = b.is; listed = has-append_left b.first fs gs b.listed }
+begins_left fs gs t b = record { first = b.first; others = b.others; is = b.is; listed = contains-append_left b.first fs gs b.listed }
 
 begins_right : (fs gs : List ℕ) (t : Tree) → BeginsIn gs t → BeginsIn (fs ++ gs) t
-begins_right fs gs t b = record { first = b.first; others = b.others; is = b.is; listed = has-append_right b.first fs gs b.listed }
+begins_right fs gs t b = record { first = b.first; others = b.others; is = b.is; listed = contains-append_right b.first fs gs b.listed }
 
 one_of_first : (P Q : Tree → Type 0) (fs gs : List ℕ) → ((t : Tree) → P t → IsReadable t → BeginsIn fs t) → ((t : Tree) → Q t → IsReadable t → BeginsIn gs t) → (t : Tree) → P t ⊎ Q t → IsReadable t → BeginsIn (fs ++ gs) t
 one_of_first P Q fs gs f g t (inl p) r = begins_left fs gs t (f t p r)

@@ -4,7 +4,7 @@ use Rattle.std.specs.List.{AllByRecursion, concat}
 use Rattle.std.specs.List.Sorted.{IsPermutation}
 use Rattle.picky_der_core.specs.declared.asn1.wrapper.Wrapper.{Wrapper}
 use Rattle.picky_der_core.specs.Tag.{number_of, IsTagNumber}
-use Rattle.picky_der_core.specs.Element.{len, tlv, Begins}
+use Rattle.picky_der_core.specs.Element.{length_octets, tlv, IsPrefix}
 use Rattle.picky_der_core.specs.Tree.{ListKind, Tree, trees, is_absent}
 use Rattle.picky_der_core.specs.Encoding.{der}
 use Rattle.picky_der_core.specs.Readable.{IsReadable}
@@ -18,7 +18,7 @@ Stands s input limit t = StandsAt Place.whole s input limit t
 
 -- a length that begins another, followed by any bytes, is that length
 abbrev pub LengthBothWays : Type 0
-LengthBothWays = (n k : ℕ) (rest : List ℕ) → Begins (len n) (len k ++ rest) → n ≡ k
+LengthBothWays = (n k : ℕ) (rest : List ℕ) → IsPrefix (length_octets n) (length_octets k ++ rest) → n ≡ k
 
 -- around something, a wrapper or application tag of a number up to 30 is one element, which holds just what it should
 abbrev pub WrapperLengths : Type 0
@@ -34,7 +34,7 @@ FirstsTell =
 -- two readable trees are one tree if the encoding of one begins the other's
 abbrev pub UniqueReadability : Type 0
 UniqueReadability =
-    (s : Shape) → IsSound s → (t u : Tree) → IsOf s t → IsOf s u → IsReadable t → IsReadable u → Begins (der t) (der u) → t ≡ u
+    (s : Shape) → IsSound s → (t u : Tree) → IsOf s t → IsOf s u → IsReadable t → IsReadable u → IsPrefix (der t) (der u) → t ≡ u
 
 -- what stands at the front of an input is one tree
 abbrev pub OneValue : Type 0

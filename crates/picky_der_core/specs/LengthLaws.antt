@@ -7,22 +7,22 @@ use Rattle.std.proofs.Math.Nat.{pow-le-pow_right}
 use Rattle.std.proofs.Math.Seq.{take-append_seam, drop-append_seam}
 use Rattle.picky_der_core.specs.declared.error.Asn1DerError.{Asn1DerError}
 use Rattle.picky_der_core.specs.declared.error.Asn1DerError.TheVariants.{InvalidData, UnsupportedValue}
-use Rattle.picky_der_core.specs.Element.{big_endian, len, Begins}
+use Rattle.picky_der_core.specs.Element.{big_endian, length_octets, IsPrefix}
 use Rattle.picky_der_core.specs.BigEndianLaws.{number-big_endian, AreBytes-big_endian, big_endian-number, big_endian-as_many, length-big_endian, big_endian-least}
-use Rattle.picky_der_core.specs.ElementLaws.{len-short, len-long}
+use Rattle.picky_der_core.specs.ElementLaws.{length_octets-short, length_octets-long}
 use Rattle.picky_der_core.specs.Shape.{AreBytes}
-use Rattle.picky_der_core.specs.Refusal.{Refusal, Outcome, long_length, begins_with_zero, length_of}
+use Rattle.picky_der_core.specs.Refusal.{Refusal, ReadOutcome, long_length, begins_with_zero, length_of}
 use Rattle.picky_der_core.specs.Lengths.{IsLongCount}
 
 -- ---- how many bytes a length takes
 
 -- below 128 one
-pub length-len-short : (n : ℕ) → n < 0x80 → length (len n) ≡ 1
-length-len-short n h = ap length (len-short n h)
+pub length-length_octets-short : (n : ℕ) → n < 0x80 → length (length_octets n) ≡ 1
+length-length_octets-short n h = ap length (length_octets-short n h)
 
 -- from 128 on one, and those of the number
-pub length-len-long : (n : ℕ) → 0x80 ≤ n → length (len n) ≡ 1 + length (big_endian n)
-length-len-long n h = ap length (len-long n h) ∙ omega arith
+pub length-length_octets-long : (n : ℕ) → 0x80 ≤ n → length (length_octets n) ≡ 1 + length (big_endian n)
+length-length_octets-long n h = ap length (length_octets-long n h) ∙ omega arith
 
 -- ---- what reading a length answers, by its first byte
 
@@ -63,14 +63,14 @@ length_of-long lacking first k ds rest count e =
     length_of-counted lacking first k (ds ++ rest) count ∙ rw (← e, there, take-append_seam ds rest, drop-append_seam ds rest) refl
 
 -- a length that takes more than one byte has these of its number
-long-from_size : (n k : ℕ) → 0 < k → length (len n) ≡ 1 + k → (0x80 ≤ n) × (length (big_endian n) ≡ k)
+long-from_size : (n k : ℕ) → 0 < k → length (length_octets n) ≡ 1 + k → (0x80 ≤ n) × (length (big_endian n) ≡ k)
 long-from_size n k some e = elim (cases_lt n 0x80) [
-  | inl short ↦ absurd (omega (arith, length-len-short n short))
-  | inr long ↦ (long, omega (arith, length-len-long n long))
+  | inl short ↦ absurd (omega (arith, length-length_octets-short n short))
+  | inr long ↦ (long, omega (arith, length-length_octets-long n long))
 ]
 
 -- no 0 in front and no number below 128 where the length takes as many
-long_length-shortest : (ds rest : List ℕ) → 0 < length ds → AreBytes ds → length (len (number_from_digits 256 ds)) ≡ 1 + length ds
+long_length-shortest : (ds rest : List ℕ) → 0 < length ds → AreBytes ds → length (length_octets (number_from_digits 256 ds)) ≡ 1 + length ds
     → long_length (number_from_digits 256 ds) (begins_with_zero ds) rest ≡ Ok (number_from_digits 256 ds, rest)
 long_length-shortest [] rest some h e = absurd (omega arith)
 long_length-shortest (zero ∷ ds) rest some h e =
@@ -79,29 +79,29 @@ long_length-shortest (zero ∷ ds) rest some h e =
 long_length-shortest (suc d ∷ ds) rest some h e = rw (ne_eqb (suc d) 0 (λ z. omega arith), le-ltb _ _ (long-from_size _ _ some e).0) refl
 
 -- one of the two where it takes others
-long_length-longer : (ds rest : List ℕ) → 0 < length ds → AreBytes ds → length (len (number_from_digits 256 ds)) ≢ 1 + length ds
+long_length-longer : (ds rest : List ℕ) → 0 < length ds → AreBytes ds → length (length_octets (number_from_digits 256 ds)) ≢ 1 + length ds
     → long_length (number_from_digits 256 ds) (begins_with_zero ds) rest ≡ Err (InvalidData, rest)
 long_length-longer [] rest some h e = absurd (omega arith)
 long_length-longer (zero ∷ ds) rest some h e = refl
 long_length-longer (suc d ∷ ds) rest some h e = elim (cases_lt (number_from_digits 256 (suc d ∷ ds)) 0x80) [
   | inl short ↦ rw (ne_eqb (suc d) 0 (λ z. omega arith), lt-ltb _ _ short) refl
-  | inr long ↦ absurd (e (length-len-long _ long ∙ ap (λ l. 1 + length l) (big_endian-number (suc d) ds (omega arith) h)))
+  | inr long ↦ absurd (e (length-length_octets-long _ long ∙ ap (λ l. 1 + length l) (big_endian-number (suc d) ds (omega arith) h)))
 ]
 
 -- the length of the number takes as many bytes
-pub length_of-shortest : (lacking : Asn1DerError) (first k : ℕ) (ds rest : List ℕ) → IsLongCount first k → length ds ≡ k → AreBytes ds → length (len (number_from_digits 256 ds)) ≡ 1 + k
+pub length_of-shortest : (lacking : Asn1DerError) (first k : ℕ) (ds rest : List ℕ) → IsLongCount first k → length ds ≡ k → AreBytes ds → length (length_octets (number_from_digits 256 ds)) ≡ 1 + k
     → length_of lacking (first ∷ ds ++ rest) ≡ Ok (number_from_digits 256 ds, rest)
 length_of-shortest lacking first k ds rest count e h size =
     length_of-long lacking first k ds rest count e ∙ long_length-shortest ds rest (omega arith) h (omega arith)
 
 -- and then it is these
-pub len-number : (first k : ℕ) (ds : List ℕ) → IsLongCount first k → length ds ≡ k → AreBytes ds → length (len (number_from_digits 256 ds)) ≡ 1 + k → len (number_from_digits 256 ds) ≡ first ∷ ds
-len-number first k ds count e h size =
+pub length_octets-number : (first k : ℕ) (ds : List ℕ) → IsLongCount first k → length ds ≡ k → AreBytes ds → length (length_octets (number_from_digits 256 ds)) ≡ 1 + k → length_octets (number_from_digits 256 ds) ≡ first ∷ ds
+length_octets-number first k ds count e h size =
     let (long, as_many) = long-from_size (number_from_digits 256 ds) k count.some size in
-    rw (len-long (number_from_digits 256 ds) long, big_endian-as_many ds h (omega arith), e, ← count.is) refl
+    rw (length_octets-long (number_from_digits 256 ds) long, big_endian-as_many ds h (omega arith), e, ← count.is) refl
 
 -- it takes fewer bytes
-pub length_of-longer : (lacking : Asn1DerError) (first k : ℕ) (ds rest : List ℕ) → IsLongCount first k → length ds ≡ k → AreBytes ds → length (len (number_from_digits 256 ds)) ≢ 1 + k
+pub length_of-longer : (lacking : Asn1DerError) (first k : ℕ) (ds rest : List ℕ) → IsLongCount first k → length ds ≡ k → AreBytes ds → length (length_octets (number_from_digits 256 ds)) ≢ 1 + k
     → length_of lacking (first ∷ ds ++ rest) ≡ Err (InvalidData, rest)
 length_of-longer lacking first k ds rest count e h size =
     length_of-long lacking first k ds rest count e ∙ long_length-longer ds rest (omega arith) h (λ same. size (omega arith))
@@ -109,28 +109,28 @@ length_of-longer lacking first k ds rest count e h size =
 -- ---- lengths are read, and nothing else
 
 -- what is written is read
-pub length_of-len : (lacking : Asn1DerError) (n : ℕ) (rest : List ℕ) → n < 2 ^ 64 → length_of lacking (len n ++ rest) ≡ Ok (n, rest)
-length_of-len lacking n rest h = elim (cases_lt n 0x80) [
-  | inl short ↦ rw (len-short n short) (length_of-short lacking n rest short)
+pub length_of-length_octets : (lacking : Asn1DerError) (n : ℕ) (rest : List ℕ) → n < 2 ^ 64 → length_of lacking (length_octets n ++ rest) ≡ Ok (n, rest)
+length_of-length_octets lacking n rest h = elim (cases_lt n 0x80) [
+  | inl short ↦ rw (length_octets-short n short) (length_of-short lacking n rest short)
   | inr long ↦
       let ds = big_endian n in
       let count : IsLongCount (0x80 + length ds) (length ds) = record { is = refl; some = big_endian-least 0 n (omega arith); most = length-big_endian 8 n (omega arith) } in
-      let size : length (len (number_from_digits 256 ds)) ≡ 1 + length ds = rw (number-big_endian n) (length-len-long n long) in
-      rw (len-long n long) (length_of-shortest lacking (0x80 + length ds) (length ds) ds rest count refl (AreBytes-big_endian n) size ∙ ap (λ m. Ok (m, rest)) (number-big_endian n))
+      let size : length (length_octets (number_from_digits 256 ds)) ≡ 1 + length ds = rw (number-big_endian n) (length-length_octets-long n long) in
+      rw (length_octets-long n long) (length_of-shortest lacking (0x80 + length ds) (length ds) ds rest count refl (AreBytes-big_endian n) size ∙ ap (λ m. Ok (m, rest)) (number-big_endian n))
 ]
 
 -- one answer is one number and one rest
-same_read : {m n : ℕ} {xs ys : List ℕ} → ◌≡◌ {A = Outcome ℕ} (Ok (m, xs)) (Ok (n, ys)) → (m ≡ n) × (xs ≡ ys)
+same_read : {m n : ℕ} {xs ys : List ℕ} → ◌≡◌ {A = ReadOutcome ℕ} (Ok (m, xs)) (Ok (n, ys)) → (m ≡ n) × (xs ≡ ys)
 same_read {m} {n} {xs} {ys} e = let same : ◌≡◌ {A = ℕ × List ℕ} (m, xs) (n, ys) = cc in (ap (λ p. p.0) same, ap (λ p. p.1) same)
 
 -- what is read was written: in the long form
-len-from_long : (lacking : Asn1DerError) (first k : ℕ) (ds left : List ℕ) (n : ℕ) (rest : List ℕ) → IsLongCount first k → length ds ≡ k → AreBytes ds
-    → length_of lacking (first ∷ ds ++ left) ≡ Ok (n, rest) → (first ∷ ds ++ left ≡ len n ++ rest) × (n < 2 ^ 64)
-len-from_long lacking first k ds left n rest count e h read = elim (cases_eq (length (len (number_from_digits 256 ds))) (1 + k)) [
+length_octets-from_long : (lacking : Asn1DerError) (first k : ℕ) (ds left : List ℕ) (n : ℕ) (rest : List ℕ) → IsLongCount first k → length ds ≡ k → AreBytes ds
+    → length_of lacking (first ∷ ds ++ left) ≡ Ok (n, rest) → (first ∷ ds ++ left ≡ length_octets n ++ rest) × (n < 2 ^ 64)
+length_octets-from_long lacking first k ds left n rest count e h read = elim (cases_eq (length (length_octets (number_from_digits 256 ds))) (1 + k)) [
   | inl size ↦
       let (number, behind) = same_read (sym (length_of-shortest lacking first k ds left count e h size) ∙ read) in
       let below : number_from_digits 256 ds < 256 ^ 8 = omega (arith, number_lt 256 ds h, pow-le-pow_right {n = 256} (omega arith) {i = length ds} {j = 8} (omega arith)) in
-      (rw (← number, len-number first k ds count e h size, behind) refl, omega arith)
+      (rw (← number, length_octets-number first k ds count e h size, behind) refl, omega arith)
   | inr more ↦ cc (length_of-longer lacking first k ds left count e h more)
 ]
 
@@ -142,12 +142,12 @@ taken_bytes zero (b ∷ bs) h = tt
 taken_bytes (suc k) (b ∷ bs) h = (h.0, taken_bytes k bs h.1)
 
 -- and in any
-pub len-from_length_of : (lacking : Asn1DerError) (bs : List ℕ) (n : ℕ) (rest : List ℕ) → AreBytes bs → length_of lacking bs ≡ Ok (n, rest) → (bs ≡ len n ++ rest) × (n < 2 ^ 64)
-len-from_length_of lacking [] n rest h read = cc
-len-from_length_of lacking (b ∷ bs) n rest h read = elim (cases_lt b 0x80) [
+pub length_octets-from_length_of : (lacking : Asn1DerError) (bs : List ℕ) (n : ℕ) (rest : List ℕ) → AreBytes bs → length_of lacking bs ≡ Ok (n, rest) → (bs ≡ length_octets n ++ rest) × (n < 2 ^ 64)
+length_octets-from_length_of lacking [] n rest h read = cc
+length_octets-from_length_of lacking (b ∷ bs) n rest h read = elim (cases_lt b 0x80) [
   | inl short ↦
       let (number, behind) = same_read (sym (length_of-short lacking b bs short) ∙ read) in
-      (rw (len-short n (omega arith), number, behind) refl, omega arith)
+      (rw (length_octets-short n (omega arith), number, behind) refl, omega arith)
   | inr long ↦ elim (cases_eq b 0x80) [
     | inl none ↦ cc (length_of-none lacking b bs none)
     | inr some ↦ elim (cases_lt 0x88 b) [
@@ -159,15 +159,15 @@ len-from_length_of lacking (b ∷ bs) n rest h read = elim (cases_lt b 0x80) [
             | inl cut ↦ cc (length_of-cut lacking b k bs count cut)
             | inr there ↦
                 let parts : take k bs ++ drop k bs ≡ bs = take-append-drop k bs in
-                subst (λ l. (b ∷ l ≡ len n ++ rest) × (n < 2 ^ 64)) parts
-                (len-from_long lacking b k (take k bs) (drop k bs) n rest count (length-take-le k bs there) (taken_bytes k bs h.1) (ap (λ l. length_of lacking (b ∷ l)) parts ∙ read))
+                subst (λ l. (b ∷ l ≡ length_octets n ++ rest) × (n < 2 ^ 64)) parts
+                (length_octets-from_long lacking b k (take k bs) (drop k bs) n rest count (length-take-le k bs there) (taken_bytes k bs h.1) (ap (λ l. length_of lacking (b ∷ l)) parts ∙ read))
           ]
     ]
   ]
 ]
 
 -- where none is read, none stands
-pub no_length : (lacking : Asn1DerError) (bs : List ℕ) (e : Refusal) → length_of lacking bs ≡ Err e → (n : ℕ) → n < 2 ^ 64 → Begins (len n) bs → ⊥
-no_length lacking bs e refused n h there =
-    let read : length_of lacking bs ≡ Ok (n, there.rest) = ap (length_of lacking) there.is ∙ length_of-len lacking n there.rest h in
+pub no_length_begins : (lacking : Asn1DerError) (bs : List ℕ) (e : Refusal) → length_of lacking bs ≡ Err e → (n : ℕ) → n < 2 ^ 64 → IsPrefix (length_octets n) bs → ⊥
+no_length_begins lacking bs e refused n h there =
+    let read : length_of lacking bs ≡ Ok (n, there.rest) = ap (length_of lacking) there.is ∙ length_of-length_octets lacking n there.rest h in
     cc

@@ -155,9 +155,9 @@ only_ascending xs ys moved up on = same_ascending xs ys up on (λ c. sym (sum_by
 
 -- ---- the arrangement
 
-inserted_permutation : (a : List ℕ) (ys : List (List ℕ)) → IsPermutation (a ∷ ys) (in_order_with a ys)
-inserted_permutation a [] = IsPermutation-refl (a ∷ [])
-inserted_permutation a (b ∷ ys) = by_test (is_less b a) (inserted_permutation a ys)
+in_order_with-permutation : (a : List ℕ) (ys : List (List ℕ)) → IsPermutation (a ∷ ys) (in_order_with a ys)
+in_order_with-permutation a [] = IsPermutation-refl (a ∷ [])
+in_order_with-permutation a (b ∷ ys) = by_test (is_less b a) (in_order_with-permutation a ys)
   where
     by_test : (t : Bool) → IsPermutation (a ∷ ys) (in_order_with a ys) → IsPermutation (a ∷ b ∷ ys) (cond t (b ∷ in_order_with a ys) (a ∷ b ∷ ys))
     by_test true moved =
@@ -166,32 +166,32 @@ inserted_permutation a (b ∷ ys) = by_test (is_less b a) (inserted_permutation 
     by_test false moved = IsPermutation-refl (a ∷ b ∷ ys)
 
 -- behind b, which a isn't less than
-inserted_behind : (a b : List ℕ) (ys : List (List ℕ)) → is_less a b ≡ false → IsAscending (b ∷ ys) → IsAscending (in_order_with a ys)
+in_order_with-behind : (a b : List ℕ) (ys : List (List ℕ)) → is_less a b ≡ false → IsAscending (b ∷ ys) → IsAscending (in_order_with a ys)
     → IsAscending (b ∷ in_order_with a ys)
-inserted_behind a b [] h up on = IsSortedBy-cons is_less b a [] h on
-inserted_behind a b (c ∷ ys) h up on = by_test (is_less c a) on
+in_order_with-behind a b [] h up on = IsSortedBy-cons is_less b a [] h on
+in_order_with-behind a b (c ∷ ys) h up on = by_test (is_less c a) on
   where
     by_test : (t : Bool) → IsAscending (cond t (c ∷ in_order_with a ys) (a ∷ c ∷ ys)) → IsAscending (b ∷ cond t (c ∷ in_order_with a ys) (a ∷ c ∷ ys))
     by_test true next = IsSortedBy-cons is_less b c (in_order_with a ys) (IsSortedBy-first is_less b c ys up) next
     by_test false next = IsSortedBy-cons is_less b a (c ∷ ys) h next
 
-inserted_ascending : (a : List ℕ) (ys : List (List ℕ)) → IsAscending ys → IsAscending (in_order_with a ys)
-inserted_ascending a [] up = IsSortedBy-one is_less a
-inserted_ascending a (b ∷ ys) up = by_test (is_less b a) refl (inserted_ascending a ys (IsSortedBy-tail is_less b ys up))
+in_order_with-ascending : (a : List ℕ) (ys : List (List ℕ)) → IsAscending ys → IsAscending (in_order_with a ys)
+in_order_with-ascending a [] up = IsSortedBy-one is_less a
+in_order_with-ascending a (b ∷ ys) up = by_test (is_less b a) refl (in_order_with-ascending a ys (IsSortedBy-tail is_less b ys up))
   where
     by_test : (t : Bool) → is_less b a ≡ t → IsAscending (in_order_with a ys) → IsAscending (cond t (b ∷ in_order_with a ys) (a ∷ b ∷ ys))
-    by_test true e on = inserted_behind a b ys (less_one_way b a e) up on
+    by_test true e on = in_order_with-behind a b ys (less_one_way b a e) up on
     by_test false e on = IsSortedBy-cons is_less a b ys e up
 
 pub in_ascending_order-permutation : (xs : List (List ℕ)) → IsPermutation xs (in_ascending_order xs)
 unfolding in_ascending_order
 in_ascending_order-permutation [] = IsPermutation-refl []
-in_ascending_order-permutation (a ∷ xs) = IsPermutation-trans _ _ _ (IsPermutation-cons a _ _ (in_ascending_order-permutation xs)) (inserted_permutation a (in_ascending_order xs))
+in_ascending_order-permutation (a ∷ xs) = IsPermutation-trans _ _ _ (IsPermutation-cons a _ _ (in_ascending_order-permutation xs)) (in_order_with-permutation a (in_ascending_order xs))
 
 pub in_ascending_order-ascending : (xs : List (List ℕ)) → IsAscending (in_ascending_order xs)
 unfolding in_ascending_order
 in_ascending_order-ascending [] = IsSortedBy-nil is_less
-in_ascending_order-ascending (a ∷ xs) = inserted_ascending a (in_ascending_order xs) (in_ascending_order-ascending xs)
+in_ascending_order-ascending (a ∷ xs) = in_order_with-ascending a (in_ascending_order xs) (in_ascending_order-ascending xs)
 
 -- what is ascending stays as it is
 pub in_ascending_order-same : (xs : List (List ℕ)) → IsAscending xs → in_ascending_order xs ≡ xs
@@ -231,23 +231,23 @@ empty_ones [] = []
 empty_ones ([] ∷ xs) = [] ∷ empty_ones xs
 empty_ones ((b ∷ a) ∷ xs) = empty_ones xs
 
-inserted_nothing : (xs : List (List ℕ)) → in_order_with [] xs ≡ [] ∷ xs
-inserted_nothing [] = refl
-inserted_nothing ([] ∷ xs) = refl
-inserted_nothing ((b ∷ a) ∷ xs) = refl
+in_order_with-nothing : (xs : List (List ℕ)) → in_order_with [] xs ≡ [] ∷ xs
+in_order_with-nothing [] = refl
+in_order_with-nothing ([] ∷ xs) = refl
+in_order_with-nothing ((b ∷ a) ∷ xs) = refl
 
-inserted_behind_empty : (b : ℕ) (a : List ℕ) (xs ys : List (List ℕ))
+in_order_with-behind_empty : (b : ℕ) (a : List ℕ) (xs ys : List (List ℕ))
     → in_order_with (b ∷ a) (empty_ones xs ++ ys) ≡ empty_ones xs ++ in_order_with (b ∷ a) ys
-inserted_behind_empty b a [] ys = refl
-inserted_behind_empty b a ([] ∷ xs) ys = ap (λ l. [] ∷ l) (inserted_behind_empty b a xs ys)
-inserted_behind_empty b a ((d ∷ c) ∷ xs) ys = inserted_behind_empty b a xs ys
+in_order_with-behind_empty b a [] ys = refl
+in_order_with-behind_empty b a ([] ∷ xs) ys = ap (λ l. [] ∷ l) (in_order_with-behind_empty b a xs ys)
+in_order_with-behind_empty b a ((d ∷ c) ∷ xs) ys = in_order_with-behind_empty b a xs ys
 
 -- they come first
 empty_first : (xs : List (List ℕ)) → in_ascending_order xs ≡ empty_ones xs ++ in_ascending_order (without_empty xs)
 unfolding in_ascending_order
 empty_first [] = refl
-empty_first ([] ∷ xs) = inserted_nothing (in_ascending_order xs) ∙ ap (λ l. [] ∷ l) (empty_first xs)
-empty_first ((b ∷ a) ∷ xs) = ap (in_order_with (b ∷ a)) (empty_first xs) ∙ inserted_behind_empty b a xs (in_ascending_order (without_empty xs))
+empty_first ([] ∷ xs) = in_order_with-nothing (in_ascending_order xs) ∙ ap (λ l. [] ∷ l) (empty_first xs)
+empty_first ((b ∷ a) ∷ xs) = ap (in_order_with (b ∷ a)) (empty_first xs) ∙ in_order_with-behind_empty b a xs (in_ascending_order (without_empty xs))
 
 concat-empty : (xs ys : List (List ℕ)) → concat (empty_ones xs ++ ys) ≡ concat ys
 concat-empty [] ys = refl

@@ -2,14 +2,14 @@
 use Rattle.std.specs.Prelude.{ℕ, zero, suc, ◌+◌, ◌-◌, ◌^◌, ◌<◌, min, List, ◌∷◌, Option, None, Some, ⊤, refl}
 use Rattle.std.specs.Coded.{Coded, code_by, coded×, coded_option, coded_ℕ}
 
-pub record Peeking (R : Type 0) : Type 0 where
+pub record PeekableState (R : Type 0) : Type 0 where
   pub reader : R
   -- the byte that was drawn and not yet handed out
   pub peeked : Option ℕ
   -- how many bytes were handed out
   pub pos : ℕ
 
-abbrev pub peeking_code : {R : Type 0} → Coded R → Coded (Peeking R)
+abbrev pub peeking_code : {R : Type 0} → Coded R → Coded (PeekableState R)
 peeking_code {R} reader =
     code_by (R × (Option ℕ × ℕ))
     (coded× reader (coded× (coded_option coded_ℕ) coded_ℕ))
@@ -24,7 +24,7 @@ in_front (Some b) None = None
 in_front (Some b) (Some bs) = Some (b ∷ bs)
 
 -- the bytes that are still to be handed out, where the inner reader tells its own
-abbrev pub left_in : {R : Type 0} → (R → Option (List ℕ)) → Peeking R → Option (List ℕ)
+abbrev pub left_in : {R : Type 0} → (R → Option (List ℕ)) → PeekableState R → Option (List ℕ)
 left_in remaining p = in_front p.peeked (remaining p.reader)
 
 -- a byte, if there is one

@@ -1,8 +1,8 @@
 -- What reading means: which value stands at the front of some bytes.
 use Rattle.std.specs.Prelude.{◌≡◌, ℕ, ◌≤◌, ◌⊎◌, List, length, ⊤, IsTrue}
-use Rattle.picky_der_core.specs.Element.{Begins}
+use Rattle.picky_der_core.specs.Element.{IsPrefix}
 use Rattle.picky_der_core.specs.Tree.{Tree, is_plain}
-use Rattle.picky_der_core.specs.Encoding.{der, inside}
+use Rattle.picky_der_core.specs.Encoding.{der, implicit_content}
 use Rattle.picky_der_core.specs.Readable.{IsReadable, IsNoChoice}
 use Rattle.picky_der_core.specs.Shape.{Shape, IsOf}
 
@@ -16,13 +16,13 @@ pub data Place : Type 0 where
 -- what stands there of a tree
 abbrev pub written_at : Place → Tree → List ℕ
 written_at Place.whole t = der t
-written_at (Place.under_implicit ahead) t = inside t
+written_at (Place.under_implicit ahead) t = implicit_content t
 
 -- Directly under an implicit tag no choice is read, since its first byte isn't there to tell it, and a plain value fills
 -- the tag's content, since its length isn't there.
 pub record FillsTag (ahead : ℕ) (t : Tree) : Type 0 where
   pub no_choice : IsNoChoice t
-  pub filled : IsTrue (is_plain t) → length (inside t) ≡ ahead
+  pub filled : IsTrue (is_plain t) → length (implicit_content t) ≡ ahead
 
 abbrev pub MayStand : Place → Tree → Type 0
 MayStand Place.whole t = ⊤
@@ -34,7 +34,7 @@ pub record StandsAt (place : Place) (s : Shape) (bs : List ℕ) (limit : ℕ) (t
   pub readable : IsReadable t
   pub may_stand : MayStand place t
   pub within : length (written_at place t) ≤ limit
-  pub front : Begins (written_at place t) bs
+  pub front : IsPrefix (written_at place t) bs
 
 -- a value v of a type, known by what it means, is read from the input within the limit
 abbrev pub ReadsFrom : {V : Type 0} → (V → Tree) → Shape → List ℕ → ℕ → V → Type 0
@@ -48,4 +48,4 @@ pub record IsMendable {V : Type 0} (meaning : V → Tree) (s : Shape) (place : P
   pub readable : IsReadable (meaning value)
   pub may_stand : MayStand place (meaning value)
   pub within : length (written_at place (meaning value)) ≤ limit
-  pub agrees : Begins (written_at place (meaning value)) b ⊎ Begins b (written_at place (meaning value))
+  pub agrees : IsPrefix (written_at place (meaning value)) b ⊎ IsPrefix b (written_at place (meaning value))

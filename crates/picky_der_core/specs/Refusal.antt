@@ -10,12 +10,12 @@ use Rattle.picky_der_core.specs.Tag.{number_of, is_tag_number}
 -- ---- ends
 
 -- A length that reaches past an end. Past a hard end no byte can come.
-abbrev pub past : Bool → Asn1DerError
-past hard = if hard then InvalidData else TruncatedData
+abbrev pub error_past_end : Bool → Asn1DerError
+error_past_end hard = if hard then InvalidData else TruncatedData
 
 -- a byte that isn't there, where the innermost end is `ahead` bytes away and the reader has `rest` of these
 abbrev pub missing_byte : Bool → ℕ → List ℕ → Asn1DerError
-missing_byte hard ahead rest = past (hard && (length rest == ahead))
+missing_byte hard ahead rest = error_past_end (hard && (length rest == ahead))
 
 -- ---- lengths
 
@@ -24,11 +24,11 @@ abbrev pub Refusal : Type 0
 Refusal = Asn1DerError × List ℕ
 
 -- what was read and the bytes behind it, or the refusal
-abbrev pub Outcome : Type 0 → Type 0
-Outcome A = Result (A × List ℕ) Refusal
+abbrev pub ReadOutcome : Type 0 → Type 0
+ReadOutcome A = Result (A × List ℕ) Refusal
 
 -- the number of a length of the long form, which must be the shortest
-abbrev pub long_length : ℕ → Bool → List ℕ → Outcome ℕ
+abbrev pub long_length : ℕ → Bool → List ℕ → ReadOutcome ℕ
 long_length n leading_zero rest = if leading_zero || nat_lt n 0x80 then Err (InvalidData, rest) else Ok (n, rest)
 
 abbrev pub begins_with_zero : List ℕ → Bool
@@ -36,7 +36,7 @@ begins_with_zero [] = true
 begins_with_zero (b ∷ bs) = b == 0
 
 -- the length at the front of these bytes, where a byte that isn't there is refused with `lacking`
-abbrev pub length_of : Asn1DerError → List ℕ → Outcome ℕ
+abbrev pub length_of : Asn1DerError → List ℕ → ReadOutcome ℕ
 length_of lacking [] = Err (lacking, [])
 length_of lacking (b ∷ bs) =
     if nat_lt b 0x80 then Ok (b, bs)
@@ -48,31 +48,31 @@ length_of lacking (b ∷ bs) =
 -- ---- headers
 
 -- the length behind the tag, if it doesn't reach past the innermost end
-abbrev pub within_end : Bool → ℕ → List ℕ → Outcome ℕ → Outcome ℕ
+abbrev pub within_end : Bool → ℕ → List ℕ → ReadOutcome ℕ → ReadOutcome ℕ
 within_end hard ahead rest (Err e) = Err e
-within_end hard ahead rest (Ok (n, left)) = if nat_lt (ahead - (length rest - length left)) n then Err (past hard, left) else Ok (n, left)
+within_end hard ahead rest (Ok (n, left)) = if nat_lt (ahead - (length rest - length left)) n then Err (error_past_end hard, left) else Ok (n, left)
 
-abbrev pub length_behind : Bool → ℕ → List ℕ → List ℕ → Outcome ℕ
+abbrev pub length_behind : Bool → ℕ → List ℕ → List ℕ → ReadOutcome ℕ
 length_behind hard ahead rest behind = within_end hard ahead rest (length_of (missing_byte hard ahead rest) behind)
 
-abbrev pub header_with : ℕ → Bool → ℕ → List ℕ → Outcome ℕ
+abbrev pub header_with : ℕ → Bool → ℕ → List ℕ → ReadOutcome ℕ
 header_with tag hard ahead [] = Err (missing_byte hard ahead [], [])
 header_with tag hard ahead (b ∷ bs) = if b == tag then length_behind hard ahead (b ∷ bs) bs else Err (InvalidData, bs)
 
 -- the header of an element with this tag: the length of the content, and the bytes from there on
-abbrev pub header : ℕ → Bool → ℕ → List ℕ → Outcome ℕ
+abbrev pub header : ℕ → Bool → ℕ → List ℕ → ReadOutcome ℕ
 header tag hard ahead rest = if is_tag_number (number_of tag) then header_with tag hard ahead rest else Err (UnsupportedValue, rest)
 
 -- the same with a tag by its number, as of an explicit, an implicit and an application tag
-abbrev pub numbered_header : ℕ → ℕ → Bool → ℕ → List ℕ → Outcome ℕ
+abbrev pub numbered_header : ℕ → ℕ → Bool → ℕ → List ℕ → ReadOutcome ℕ
 numbered_header base n hard ahead rest = if is_tag_number n then header_with (base + n) hard ahead rest else Err (UnsupportedValue, rest)
 
 -- the header of any element
-abbrev pub any_header : Bool → ℕ → List ℕ → Outcome ℕ
+abbrev pub any_header : Bool → ℕ → List ℕ → ReadOutcome ℕ
 any_header hard ahead [] = Err (missing_byte hard ahead [], [])
 any_header hard ahead (b ∷ bs) = if is_tag_number (number_of b) then length_behind hard ahead (b ∷ bs) bs else Err (UnsupportedValue, bs)
 
-abbrev pub refusal_of : Outcome ℕ → Option Refusal
+abbrev pub refusal_of : ReadOutcome ℕ → Option Refusal
 refusal_of (Ok read) = None
 refusal_of (Err e) = Some e
 
@@ -121,7 +121,7 @@ refusal_leaving None left = None
 refusal_leaving (Some e) left = Some (e, left)
 
 -- the content, which is drawn whole before it is judged
-abbrev pub content_refusal : Judge → Outcome ℕ → Option Refusal
+abbrev pub content_refusal : Judge → ReadOutcome ℕ → Option Refusal
 content_refusal judge (Err e) = Some e
 content_refusal judge (Ok (n, rest)) = if nat_lt (length rest) n then Some (TruncatedData, []) else refusal_leaving (judge (take n rest)) (drop n rest)
 

@@ -209,16 +209,16 @@ next_firsts Layout.empty = []
 next_firsts (Layout.required s l) = firsts s
 next_firsts (Layout.maybe s l) = firsts s ++ next_firsts l
 
-abbrev pub has : List ℕ → ℕ → Bool
-has xs x = list_any (λ y. x == y) xs
+abbrev pub contains : List ℕ → ℕ → Bool
+contains xs x = list_any (λ y. x == y) xs
 
 -- an encoding of the shape can begin with this byte
 abbrev pub IsFirst : Shape → ℕ → Type 0
-IsFirst s b = IsTrue (has (firsts s) b)
+IsFirst s b = IsTrue (contains (firsts s) b)
 
 -- no byte in common
 abbrev pub are_apart : List ℕ → List ℕ → Bool
-are_apart xs ys = list_all (λ x. not (has ys x)) xs
+are_apart xs ys = list_all (λ x. not (contains ys x)) xs
 
 -- ---- shapes whose choices and missing members are told
 
@@ -227,7 +227,7 @@ abbrev pub AreTold : Shapes → Type 0
 AreTold Shapes.none = ⊤
 AreTold (Shapes.more s ss) = IsTrue (are_apart (firsts s) (firsts_of ss)) × AreTold ss
 
--- each member that may be missing is told by the first byte from those that may come in its place
+-- each member that may be missing is told by the first byte from those that may come instead of it
 abbrev pub AreMembersTold : Layout → Type 0
 AreMembersTold Layout.empty = ⊤
 AreMembersTold (Layout.required s l) = AreMembersTold l

@@ -8,7 +8,7 @@ use Rattle.std.proofs.lemmas.Nat.{pow_pos, pow-add, leading_top}
 use Rattle.std.proofs.lemmas.Bool.{cases_lt, cond_both, eqb-false}
 use Rattle.std.proofs.lemmas.Int.Digits.{number_after_lt, number_lt}
 use Rattle.picky_der_core.specs.Element.{big_endian}
-use Rattle.picky_der_core.specs.Encoding.{positive, unsigned_content}
+use Rattle.picky_der_core.specs.Encoding.{as_positive, unsigned_content}
 use Rattle.picky_der_core.specs.Refusal.{number_error, unsigned_error}
 use Rattle.picky_der_core.specs.Shape.{AreBytes}
 use Rattle.picky_der_core.specs.BigEndianLaws.{number-big_endian, AreBytes-big_endian, first-big_endian, big_endian-number, length-big_endian, power_of_2, bytes_high_first-big_endian}
@@ -109,7 +109,7 @@ pub unsigned_content-bytes_high_first : (k n : ℕ) → n < 256 ^ k → drop ((c
 unfolding unsigned_content
 unsigned_content-bytes_high_first k n h = by_bytes (big_endian n) refl
   where
-    by_bytes : (bs : List ℕ) → big_endian n ≡ bs → drop ((count_leading_zeros (8 * k) n + 7) / 8) (0 ∷ bytes_high_first k n) ≡ positive (big_endian n)
+    by_bytes : (bs : List ℕ) → big_endian n ≡ bs → drop ((count_leading_zeros (8 * k) n + 7) / 8) (0 ∷ bytes_high_first k n) ≡ as_positive (big_endian n)
     by_bytes [] e =
         let is : n ≡ 0 = sym (number-big_endian n) ∙ ap (number_from_digits 256) e in
         let zeros : count_leading_zeros (8 * k) n ≡ 8 * k = ap (count_leading_zeros (8 * k)) is ∙ leading_of_zero (8 * k) in
@@ -124,7 +124,7 @@ unsigned_content-be_bytes n h = unsigned_content-bytes_high_first 16 n h
 -- ---- contents
 
 -- a byte in front is one more byte
-AreBytes-positive : (bs : List ℕ) → AreBytes bs → AreBytes (positive bs)
+AreBytes-positive : (bs : List ℕ) → AreBytes bs → AreBytes (as_positive bs)
 AreBytes-positive [] p = (omega arith, tt)
 AreBytes-positive (b ∷ bs) p = cond_both (nat_lt b 0x80) (b ∷ bs) (0 ∷ b ∷ bs) AreBytes (λ e. p) (λ e. (omega arith, p))
 
@@ -134,7 +134,7 @@ unfolding unsigned_content
 AreBytes-unsigned_content n = AreBytes-positive (big_endian n) (AreBytes-big_endian n)
 
 -- at most one byte is put in front
-length-positive : (bs : List ℕ) → length (positive bs) ≤ suc (length bs)
+length-positive : (bs : List ℕ) → length (as_positive bs) ≤ suc (length bs)
 length-positive [] = omega arith
 length-positive (b ∷ bs) = cond_both (nat_lt b 0x80) (b ∷ bs) (0 ∷ b ∷ bs) (λ cs. length cs ≤ suc (suc (length bs))) (λ e. omega arith) (λ e. omega arith)
 
@@ -146,9 +146,9 @@ length-unsigned_content n h =
     omega (arith, length-positive (big_endian n))
 
 -- the content of the number that bytes make
-unsigned_content-number : (b : ℕ) (bs : List ℕ) → 0 < b → AreBytes (b ∷ bs) → unsigned_content (number_from_digits 256 (b ∷ bs)) ≡ positive (b ∷ bs)
+unsigned_content-number : (b : ℕ) (bs : List ℕ) → 0 < b → AreBytes (b ∷ bs) → unsigned_content (number_from_digits 256 (b ∷ bs)) ≡ as_positive (b ∷ bs)
 unfolding unsigned_content
-unsigned_content-number b bs h p = ap positive (big_endian-number b bs h p)
+unsigned_content-number b bs h p = ap as_positive (big_endian-number b bs h p)
 
 -- ---- which contents are read
 
@@ -157,12 +157,12 @@ abbrev IsSmall : ℕ → List ℕ → Type 0
 IsSmall most bs = (length bs ≤ 16) × (number_from_digits 256 bs ≤ most)
 
 -- such a number is read
-number_fault-small : (most : ℕ) (bs : List ℕ) → IsSmall most bs → number_error most bs ≡ None
-number_fault-small most bs h = rw (le-ltb 16 (length bs) h.0, le-ltb most (number_from_digits 256 bs) h.1) refl
+number_error-small : (most : ℕ) (bs : List ℕ) → IsSmall most bs → number_error most bs ≡ None
+number_error-small most bs h = rw (le-ltb 16 (length bs) h.0, le-ltb most (number_from_digits 256 bs) h.1) refl
 
 -- and no other
-small-number_fault : (most : ℕ) (bs : List ℕ) → number_error most bs ≡ None → IsSmall most bs
-small-number_fault most bs = by_tests (nat_lt 16 (length bs)) (nat_lt most (number_from_digits 256 bs)) refl refl
+small-number_error : (most : ℕ) (bs : List ℕ) → number_error most bs ≡ None → IsSmall most bs
+small-number_error most bs = by_tests (nat_lt 16 (length bs)) (nat_lt most (number_from_digits 256 bs)) refl refl
   where
     by_tests : (long large : Bool) → nat_lt 16 (length bs) ≡ long → nat_lt most (number_from_digits 256 bs) ≡ large → cond (long || large) (Some UnsupportedValue) None ≡ None → IsSmall most bs
     by_tests false false e f h = (ltb-false 16 (length bs) e, ltb-false most (number_from_digits 256 bs) f)
@@ -170,32 +170,32 @@ small-number_fault most bs = by_tests (nat_lt 16 (length bs)) (nat_lt most (numb
     by_tests false true e f h = cc
 
 -- a first byte from 01 to 7F stands alone
-unsigned_fault-low : (most b : ℕ) (bs : List ℕ) → 0 < b → b < 0x80 → unsigned_error most (b ∷ bs) ≡ number_error most (b ∷ bs)
-unsigned_fault-low most b [] h low = rw (lt-ltb b 0x80 low) refl
-unsigned_fault-low most b (c ∷ bs) h low = rw (lt-ltb b 0x80 low, ne_eqb b 0 (λ e. omega arith)) refl
+unsigned_error-low : (most b : ℕ) (bs : List ℕ) → 0 < b → b < 0x80 → unsigned_error most (b ∷ bs) ≡ number_error most (b ∷ bs)
+unsigned_error-low most b [] h low = rw (lt-ltb b 0x80 low) refl
+unsigned_error-low most b (c ∷ bs) h low = rw (lt-ltb b 0x80 low, ne_eqb b 0 (λ e. omega arith)) refl
 
 -- one from 80 stands behind 00
-unsigned_fault-high : (most b : ℕ) (bs : List ℕ) → 0x80 ≤ b → unsigned_error most (0 ∷ b ∷ bs) ≡ number_error most (b ∷ bs)
-unsigned_fault-high most b bs high = rw (le-ltb b 0x80 high) refl
+unsigned_error-high : (most b : ℕ) (bs : List ℕ) → 0x80 ≤ b → unsigned_error most (0 ∷ b ∷ bs) ≡ number_error most (b ∷ bs)
+unsigned_error-high most b bs high = rw (le-ltb b 0x80 high) refl
 
 -- the rule of the first byte is that of `positive`
-unsigned_fault-positive : (most b : ℕ) (bs : List ℕ) → 0 < b → unsigned_error most (positive (b ∷ bs)) ≡ number_error most (b ∷ bs)
-unsigned_fault-positive most b bs h = elim (cases_lt b 0x80) [
-  | inl low ↦ rw (lt-ltb b 0x80 low) (unsigned_fault-low most b bs h low)
-  | inr high ↦ rw (le-ltb b 0x80 high) (unsigned_fault-high most b bs high)
+unsigned_error-positive : (most b : ℕ) (bs : List ℕ) → 0 < b → unsigned_error most (as_positive (b ∷ bs)) ≡ number_error most (b ∷ bs)
+unsigned_error-positive most b bs h = elim (cases_lt b 0x80) [
+  | inl low ↦ rw (lt-ltb b 0x80 low) (unsigned_error-low most b bs h low)
+  | inr high ↦ rw (le-ltb b 0x80 high) (unsigned_error-high most b bs high)
 ]
 
 -- the content of a number is read
-pub unsigned_fault-content : (most n : ℕ) → n ≤ most → n < 2 ^ 128 → unsigned_error most (unsigned_content n) ≡ None
+pub unsigned_error-content : (most n : ℕ) → n ≤ most → n < 2 ^ 128 → unsigned_error most (unsigned_content n) ≡ None
 unfolding unsigned_content
-unsigned_fault-content most n h k = by_bytes (big_endian n) refl
+unsigned_error-content most n h k = by_bytes (big_endian n) refl
   where
     small : IsSmall most (big_endian n)
     small = (length-big_endian 16 n k, rw (number-big_endian n) h)
 
-    by_bytes : (bs : List ℕ) → big_endian n ≡ bs → unsigned_error most (positive bs) ≡ None
-    by_bytes [] e = number_fault-small most (0 ∷ []) (omega arith, omega arith)
-    by_bytes (b ∷ bs) e = unsigned_fault-positive most b bs (first-big_endian n b bs e) ∙ number_fault-small most (b ∷ bs) (subst (IsSmall most) e small)
+    by_bytes : (bs : List ℕ) → big_endian n ≡ bs → unsigned_error most (as_positive bs) ≡ None
+    by_bytes [] e = number_error-small most (0 ∷ []) (omega arith, omega arith)
+    by_bytes (b ∷ bs) e = unsigned_error-positive most b bs (first-big_endian n b bs e) ∙ number_error-small most (b ∷ bs) (subst (IsSmall most) e small)
 
 -- these bytes are the content of the number that they make, and this isn't too large
 abbrev IsContent : ℕ → List ℕ → Type 0
@@ -215,30 +215,30 @@ content_zero most = (refl, omega arith, omega arith)
 -- a first byte from 01 to 7F
 content_low : (most b : ℕ) (bs : List ℕ) → 0 < b → b < 0x80 → AreBytes (b ∷ bs) → IsSmall most (b ∷ bs) → IsContent most (b ∷ bs)
 content_low most b bs h low p small =
-    let alone : positive (b ∷ bs) ≡ b ∷ bs = rw (lt-ltb b 0x80 low) refl in
+    let alone : as_positive (b ∷ bs) ≡ b ∷ bs = rw (lt-ltb b 0x80 low) refl in
     (sym (unsigned_content-number b bs h p ∙ alone), small.1, number_below most (b ∷ bs) p small)
 
 -- 00, and a byte from 80 behind it
 content_high : (most b : ℕ) (bs : List ℕ) → 0x80 ≤ b → AreBytes (b ∷ bs) → IsSmall most (b ∷ bs) → IsContent most (0 ∷ b ∷ bs)
 content_high most b bs high p small =
-    let behind : positive (b ∷ bs) ≡ 0 ∷ b ∷ bs = rw (le-ltb b 0x80 high) refl in
+    let behind : as_positive (b ∷ bs) ≡ 0 ∷ b ∷ bs = rw (le-ltb b 0x80 high) refl in
     (sym (unsigned_content-number b bs (omega arith) p ∙ behind), small.1, number_below most (b ∷ bs) p small)
 
 -- what is read is the content of a number
-pub content-unsigned_fault : (most : ℕ) (bs : List ℕ) → AreBytes bs → unsigned_error most bs ≡ None → (bs ≡ unsigned_content (number_from_digits 256 bs)) × (number_from_digits 256 bs ≤ most) × (number_from_digits 256 bs < 2 ^ 128)
-content-unsigned_fault most [] p e = cc
-content-unsigned_fault most (b ∷ []) p e = by_tests (nat_lt b 0x80) (b == 0) refl refl e
+pub content-unsigned_error : (most : ℕ) (bs : List ℕ) → AreBytes bs → unsigned_error most bs ≡ None → (bs ≡ unsigned_content (number_from_digits 256 bs)) × (number_from_digits 256 bs ≤ most) × (number_from_digits 256 bs < 2 ^ 128)
+content-unsigned_error most [] p e = cc
+content-unsigned_error most (b ∷ []) p e = by_tests (nat_lt b 0x80) (b == 0) refl refl e
   where
     by_tests : (low none : Bool) → nat_lt b 0x80 ≡ low → (b == 0) ≡ none → cond low (number_error most (b ∷ [])) (Some UnsupportedValue) ≡ None → IsContent most (b ∷ [])
     by_tests true true f g h = let is : b ≡ 0 = eqb-true b 0 g in rw is (content_zero most)
-    by_tests true false f g h = content_low most b [] (omega (arith, eqb-false b 0 g)) (ltb-true b 0x80 f) p (small-number_fault most (b ∷ []) h)
+    by_tests true false f g h = content_low most b [] (omega (arith, eqb-false b 0 g)) (ltb-true b 0x80 f) p (small-number_error most (b ∷ []) h)
     by_tests false none f g h = cc
-content-unsigned_fault most (b ∷ c ∷ bs) p e = by_tests (nat_lt b 0x80) (b == 0) (nat_lt c 0x80) refl refl refl e
+content-unsigned_error most (b ∷ c ∷ bs) p e = by_tests (nat_lt b 0x80) (b == 0) (nat_lt c 0x80) refl refl refl e
   where
     by_tests : (low none needless : Bool) → nat_lt b 0x80 ≡ low → (b == 0) ≡ none → nat_lt c 0x80 ≡ needless → cond low (cond none (cond needless (Some InvalidData) (number_error most (c ∷ bs))) (number_error most (b ∷ c ∷ bs))) (Some UnsupportedValue) ≡ None → IsContent most (b ∷ c ∷ bs)
     by_tests true true false f g i h =
         let is : b ≡ 0 = eqb-true b 0 g in
-        rw is (content_high most c bs (ltb-false c 0x80 i) p.1 (small-number_fault most (c ∷ bs) h))
-    by_tests true false needless f g i h = content_low most b (c ∷ bs) (omega (arith, eqb-false b 0 g)) (ltb-true b 0x80 f) p (small-number_fault most (b ∷ c ∷ bs) h)
+        rw is (content_high most c bs (ltb-false c 0x80 i) p.1 (small-number_error most (c ∷ bs) h))
+    by_tests true false needless f g i h = content_low most b (c ∷ bs) (omega (arith, eqb-false b 0 g)) (ltb-true b 0x80 f) p (small-number_error most (b ∷ c ∷ bs) h)
     by_tests true true true f g i h = cc
     by_tests false none needless f g i h = cc

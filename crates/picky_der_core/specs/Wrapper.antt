@@ -6,7 +6,7 @@ use Rattle.picky_der_core.specs.declared.asn1.wrapper.Wrapper.{Wrapper}
 use Rattle.picky_der_core.specs.declared.asn1.wrapper.Wrapper.TheVariants.{OctetContainer, BitContainer, Explicit, Implicit}
 use Rattle.picky_der_core.specs.Tag.{IsTagNumber}
 use Rattle.picky_der_core.specs.Tree.{Tree}
-use Rattle.picky_der_core.specs.Encoding.{der, inside}
+use Rattle.picky_der_core.specs.Encoding.{der, implicit_content}
 
 abbrev pub wrap : Wrapper → Tree → Tree
 wrap OctetContainer t = Tree.octet_container t
@@ -30,7 +30,7 @@ abbrev pub wrapped_content : Wrapper → Tree → List ℕ
 wrapped_content OctetContainer t = der t
 wrapped_content BitContainer t = 0x00 ∷ der t
 wrapped_content (Explicit n) t = der t
-wrapped_content (Implicit n) t = inside t
+wrapped_content (Implicit n) t = implicit_content t
 
 -- its tag number, if it has one, is at most 30
 abbrev pub HasTagNumber : Wrapper → Type 0

@@ -5,18 +5,18 @@ use Rattle.picky_der_core.specs.declared.asn1.wrapper.Wrapper.TheVariants.{Octet
 use Rattle.picky_der_core.specs.Tag.{number_of, is_tag_number, IsTagNumber}
 use Rattle.picky_der_core.specs.Element.{tlv}
 use Rattle.picky_der_core.specs.Tree.{Tree, is_plain, is_absent}
-use Rattle.picky_der_core.specs.Encoding.{around, tree_bytes, der, inside, content, plain_tag}
+use Rattle.picky_der_core.specs.Encoding.{wrapper_encoding, tree_bytes, der, implicit_content, content, plain_tag}
 use Rattle.picky_der_core.specs.Readable.{has_tag_numbers}
 use Rattle.picky_der_core.specs.Wrapper.{wrap, under, wrapper_tag, wrapped_content, HasTagNumber}
-use Rattle.picky_der_core.specs.EncodingLaws.{around-present, der-absent}
+use Rattle.picky_der_core.specs.EncodingLaws.{wrapper_encoding-present, der-absent}
 
 -- around something, a wrapper is one element with just what stands in it
 pub der-wrap : (w : Wrapper) (t : Tree) → is_absent t ≡ false → der (wrap w t) ≡ tlv (wrapper_tag w) (wrapped_content w t)
-unfolding der inside tree_bytes
-der-wrap OctetContainer t e = around-present (is_absent t) _ _ e
-der-wrap BitContainer t e = around-present (is_absent t) _ _ e
-der-wrap (Explicit n) t e = around-present (is_absent t) _ _ e
-der-wrap (Implicit n) t e = around-present (is_absent t) _ _ e
+unfolding der implicit_content tree_bytes
+der-wrap OctetContainer t e = wrapper_encoding-present (is_absent t) _ _ e
+der-wrap BitContainer t e = wrapper_encoding-present (is_absent t) _ _ e
+der-wrap (Explicit n) t e = wrapper_encoding-present (is_absent t) _ _ e
+der-wrap (Implicit n) t e = wrapper_encoding-present (is_absent t) _ _ e
 
 pub wrapper_tag_number : (w : Wrapper) → HasTagNumber w → IsTagNumber (number_of (wrapper_tag w))
 wrapper_tag_number OctetContainer h = omega arith
@@ -51,13 +51,13 @@ pub record AreAlike (t u : Tree) : Type 0 where
 pub alike-wrap : (w : Wrapper) (t u : Tree) → AreAlike t u → AreAlike (wrap w t) (wrap w u)
 unfolding tree_bytes
 alike-wrap OctetContainer t u a =
-    record { written_same = λ h. ap₂ (λ b c. around b 0x04 c) a.absent_same (a.written_same true); absent_same = a.absent_same; numbers_same = a.numbers_same }
+    record { written_same = λ h. ap₂ (λ b c. wrapper_encoding b 0x04 c) a.absent_same (a.written_same true); absent_same = a.absent_same; numbers_same = a.numbers_same }
 alike-wrap BitContainer t u a =
-    record { written_same = λ h. ap₂ (λ b c. around b 0x03 (0x00 ∷ c)) a.absent_same (a.written_same true); absent_same = a.absent_same; numbers_same = a.numbers_same }
+    record { written_same = λ h. ap₂ (λ b c. wrapper_encoding b 0x03 (0x00 ∷ c)) a.absent_same (a.written_same true); absent_same = a.absent_same; numbers_same = a.numbers_same }
 alike-wrap (Explicit n) t u a =
-    record { written_same = λ h. ap₂ (λ b c. around b (0xA0 + n) c) a.absent_same (a.written_same true); absent_same = a.absent_same; numbers_same = ap (λ b. is_tag_number n && b) a.numbers_same }
+    record { written_same = λ h. ap₂ (λ b c. wrapper_encoding b (0xA0 + n) c) a.absent_same (a.written_same true); absent_same = a.absent_same; numbers_same = ap (λ b. is_tag_number n && b) a.numbers_same }
 alike-wrap (Implicit n) t u a =
-    record { written_same = λ h. ap₂ (λ b c. around b (0x80 + n) c) a.absent_same (a.written_same false); absent_same = a.absent_same; numbers_same = ap (λ b. is_tag_number n && b) a.numbers_same }
+    record { written_same = λ h. ap₂ (λ b c. wrapper_encoding b (0x80 + n) c) a.absent_same (a.written_same false); absent_same = a.absent_same; numbers_same = ap (λ b. is_tag_number n && b) a.numbers_same }
 
 -- trees that are written alike are so in open wrappers
 pub alike-under : (ws : List Wrapper) (t u : Tree) → AreAlike t u → AreAlike (under ws t) (under ws u)

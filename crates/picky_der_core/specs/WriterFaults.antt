@@ -1,5 +1,5 @@
 -- A fault of a writer, and the error that it becomes.
-use Rattle.std.proofs.Common.{◌≡◌, ◌≤◌, ℕ, suc, Result, Ok, Err, OnOk, IfErr, arith}
+use Rattle.std.proofs.Common.{◌≡◌, ◌≤◌, ℕ, suc, Result, Ok, Err, OnOk, IfErr, subst, arith}
 use Rattle.std.specs.declared.io.ErrorKind.{ErrorKind}
 use Rattle.picky_der_core.specs.declared.error.Asn1DerError.{Asn1DerError}
 use Rattle.picky_der_core.specs.declared.misc.writer.WriteExt.{Ghosts}
@@ -16,6 +16,10 @@ module _ {W : Type 0} (g : Ghosts W) where
     pub kind : ErrorKind
     pub answered : g.answers kind
     pub is : e ≡ error_of_kind kind
+
+  -- it failed once since an earlier state too, if it didn't fail between
+  pub fails_since : (old mid new : W) (e : Asn1DerError) → g.faults mid ≡ g.faults old → WriterFails mid e new → WriterFails old e new
+  fails_since old mid new e same f = record { rose = subst (λ n. g.faults new ≡ suc n) same f.rose; kind = f.kind; answered = f.answered; is = f.is }
 
   -- an answer that tells of each fault
   pub once_at_most : {A : Type 0} (old new : W) (r : Result A Asn1DerError) → OnOk r (g.faults new ≡ g.faults old) → IfErr r (λ e. WriterFails old e new) → IsOnceAtMost (g.faults old) (g.faults new)

@@ -1,4 +1,4 @@
--- Arrays, read and refused: as many members of one shape as there are places.
+-- Arrays, read and refused: as many members of one shape as there are slots.
 use Rattle.std.proofs.Common.{◌≡◌, ℕ, suc, ◌+◌, ◌-◌, ◌<◌, List, [], ◌∷◌, ◌++◌, length, map, None, sym, subst, arith, length-append}
 use Rattle.picky_der_core.specs.declared.error.Asn1DerError.{Asn1DerError}
 use Rattle.picky_der_core.specs.Tree.{Tree, trees}
@@ -12,8 +12,8 @@ use Rattle.picky_der_de.specs.Members.{ReadsMember, RefusesMember, members_encod
 use Rattle.picky_der_de.specs.ArrayLaws.{times}
 use Rattle.picky_der_input.proofs.Steps.{takes_none, takes_then}
 use Rattle.picky_der_input.proofs.Order.{fails_behind, judged_behind}
-use Rattle.picky_der_de.proofs.Members.{bytes_of-none, takes_member, member_not_implicit, next_order, next_member, no_member}
-use Rattle.picky_der_de.proofs.ListReads.{bytes_of-push, each-push, readable-push, LeadOn, leads-none, leads-push, leads-all}
+use Rattle.picky_der_de.proofs.Members.{members_encoding-none, takes_member, member_not_implicit, next_order, next_member, no_member}
+use Rattle.picky_der_de.proofs.ListReads.{members_encoding-push, each-push, readable-push, LeadOn, leads-none, leads-push, leads-all}
 
 -- ---- refused
 
@@ -54,7 +54,7 @@ first_none meaning s a h p d = record {
   of_shape = tt;
   readable = tt;
   leads = leads-none meaning a;
-  takes = subst (Takes (without_order a) (without_order a)) (sym bytes_of-none) (takes_none (without_order a) h p);
+  takes = subst (Takes (without_order a) (without_order a)) (sym members_encoding-none) (takes_none (without_order a) h p);
   implicit_tag = d;
   refuses = λ n d e r. subst (λ m. RefusesTimes meaning m s a d e) (omega arith) r;
 }
@@ -64,7 +64,7 @@ first_more meaning s {a} {b} {c} vs v h r = record {
   of_shape = each-push meaning (IsOf s) vs v h.of_shape r.reads.of_shape;
   readable = readable-push meaning vs v h.readable r.reads.readable;
   leads = leads-push meaning a vs v h.leads r;
-  takes = subst (Takes (without_order a) (without_order c)) (sym (bytes_of-push meaning vs v)) (takes_then h.takes (takes_member r));
+  takes = subst (Takes (without_order a) (without_order c)) (sym (members_encoding-push meaning vs v)) (takes_then h.takes (takes_member r));
   implicit_tag = member_not_implicit r;
   refuses = λ n d e w. subst (λ m. RefusesTimes meaning m s a d e) (omega (arith, length-append vs (v ∷ []))) (h.refuses (suc n) d e (times_next n r w));
 }

@@ -3,8 +3,8 @@ use Rattle.std.proofs.Common.{◌≡◌, ℕ, ◌<◌, inl, inr, true, List, ◌
 use Rattle.picky_der_core.specs.declared.error.Asn1DerError.{Asn1DerError}
 use Rattle.picky_der_core.specs.Tree.{Tree}
 use Rattle.picky_der_core.specs.EncodingLaws.{der-choice}
-use Rattle.picky_der_core.specs.Shape.{Shape, Shapes, IsOf, IsFirst, AreTold, firsts, firsts_of, has}
-use Rattle.picky_der_core.specs.FirstLaws.{apart_has, has-append_left, has-append_right}
+use Rattle.picky_der_core.specs.Shape.{Shape, Shapes, IsOf, IsFirst, AreTold, firsts, firsts_of, contains}
+use Rattle.picky_der_core.specs.FirstLaws.{apart_contains, contains-append_left, contains-append_right}
 use Rattle.picky_der_core.specs.Reading.{Place, written_at, MayStand, StandsAt}
 use Rattle.picky_der_input.specs.State.{State}
 use Rattle.picky_der_input.specs.Steps.{Takes, IsJudged, place_in, place_of}
@@ -15,7 +15,7 @@ use Rattle.picky_der_de.specs.declared.alternatives.OneOf.TheVariants.{This, Oth
 use Rattle.picky_der_de.specs.Firsts.{IsBegunBy, begins_among, bytes_in_one}
 use Rattle.picky_der_de.specs.Choices.{chosen_of, ReadsBehind, RefusesBehind, of_this, of_other}
 use Rattle.picky_der_input.proofs.Refusals.{missing_first}
-use Rattle.picky_der_de.proofs.Peeked.{not_direct, peeks_takes, peeks_fails, peeks_judged, peeks_concerns, peeks_front, peeked_first, is_whole, nothing_whole}
+use Rattle.picky_der_de.proofs.Peeked.{no_implicit_tag, peeks_takes, peeks_fails, peeks_judged, peeks_concerns, peeks_front, peeked_first, is_whole, nothing_whole}
 
 -- ---- where a choice stands
 
@@ -30,13 +30,13 @@ alternative {u = u} o st = record {
 }
 
 -- the first byte there is one with which it begins
-stands_begun : {ss : Shapes} {bs left : List ℕ} {end x : ℕ} {u : Tree} (fs : List ℕ) → IsBegunBy fs u → StandsAt Place.whole (Shape.choice ss) bs end (Tree.choice u) → bs ≡ x ∷ left → has fs x ≡ true
+stands_begun : {ss : Shapes} {bs left : List ℕ} {end x : ℕ} {u : Tree} (fs : List ℕ) → IsBegunBy fs u → StandsAt Place.whole (Shape.choice ss) bs end (Tree.choice u) → bs ≡ x ∷ left → contains fs x ≡ true
 stands_begun {ss} {bs} {left} {end} {x} {u} fs f st e =
     let h = begins_among fs u f st.readable (bytes_in_one ss u st.of_shape) in
     let d = der-choice u ∙ h.is in
     let q : h.first ∷ (h.others ++ st.front.rest) ≡ x ∷ left = sym (ap (λ z. z ++ st.front.rest) d) ∙ sym st.front.is ∙ e in
     let same : h.first ≡ x = cc in
-    subst (λ z. has fs z ≡ true) same h.listed
+    subst (λ z. contains fs z ≡ true) same h.listed
 
 nothing_stands : {s : Shape} {a c : State} {e : Asn1DerError} {end : ℕ} {bs : List ℕ} (u : Tree) → HidesChoice a e → Concerns a c e end bs → StandsAt (place_of a) s bs end (Tree.choice u) → ⊥
 nothing_stands u (no_byte d m) w st = nothing_whole d m w st
@@ -63,7 +63,7 @@ reads_this {b = b} {c = c} {t = t} h a p = record {
   of_shape = inl h.of_shape;
   readable = h.readable;
   may_stand = subst (λ z. MayStand z (Tree.choice t)) (sym (is_whole a p.implicit_tag)) tt;
-  takes = subst (λ z. Takes a c (written_at z (Tree.choice t))) (sym (is_whole a p.implicit_tag)) (subst (Takes a c) (ap (λ z. written_at z t) (is_whole b (not_direct p)) ∙ sym (der-choice t)) (peeks_takes p h.takes));
+  takes = subst (λ z. Takes a c (written_at z (Tree.choice t))) (sym (is_whole a p.implicit_tag)) (subst (Takes a c) (ap (λ z. written_at z t) (is_whole b (no_implicit_tag p)) ∙ sym (der-choice t)) (peeks_takes p h.takes));
   implicit_tag = h.implicit_tag;
 }
 
@@ -78,14 +78,14 @@ module _ {A B : Type 0} {m : A → Tree} {n : B → Tree} {s : Shape} {ss : Shap
     refuses = λ told a p. record {
       fails = peeks_fails p h.fails;
       none = λ j end bs k v st. none told p (peeks_judged p j) (peeks_concerns p k) (peeks_front p h.fails k).1 v (subst (λ z. StandsAt z (Shape.choice (Shapes.more s ss)) bs end (Tree.choice (chosen_of m n v))) (is_whole a p.implicit_tag) st);
-      first = λ j k d l y left i. subst (IsFirst (Shape.choice (Shapes.more s ss))) (sym (peeked_first p y left i)) (has-append_left x (firsts s) (firsts_of ss) g);
+      first = λ j k d l y left i. subst (IsFirst (Shape.choice (Shapes.more s ss))) (sym (peeked_first p y left i)) (contains-append_left x (firsts s) (firsts_of ss) g);
     };
   } where
     none : {a : State} → AreTold (Shapes.more s ss) → Peeks a b x → IsJudged b c e → {end : ℕ} {bs left : List ℕ} → Concerns b c e end bs → bs ≡ x ∷ left → (v : OneOf A B) → StandsAt Place.whole (Shape.choice (Shapes.more s ss)) bs end (Tree.choice (chosen_of m n v)) → ⊥
     none told p j {end} {bs} k f (This v) st =
         let own = alternative (of_this m n s ss this other told.0 v st.readable st.of_shape) st in
-        h.none j end bs k v (subst (λ z. StandsAt z s bs end (m v)) (sym (is_whole b (not_direct p))) own)
-    none told p j k f (Other v) st = apart_has x (firsts s) (firsts_of ss) told.0 g (stands_begun (firsts_of ss) (other v) st f)
+        h.none j end bs k v (subst (λ z. StandsAt z s bs end (m v)) (sym (is_whole b (no_implicit_tag p))) own)
+    none told p j k f (Other v) st = apart_contains x (firsts s) (firsts_of ss) told.0 g (stands_begun (firsts_of ss) (other v) st f)
 
   -- those behind it were refused
   pub refuses_other : (IsFirst s x → ⊥) → RefusesBehind n ss x b c e → RefusesBehind (chosen_of m n) (Shapes.more s ss) x b c e
@@ -94,7 +94,7 @@ module _ {A B : Type 0} {m : A → Tree} {n : B → Tree} {s : Shape} {ss : Shap
     refuses = λ told a p. let r = h.refuses told.1 a p in record {
       fails = r.fails;
       none = λ j end bs k v st. none told p r j k (peeks_front p h.fails k).1 v (subst (λ z. StandsAt z (Shape.choice (Shapes.more s ss)) bs end (Tree.choice (chosen_of m n v))) (is_whole a p.implicit_tag) st);
-      first = λ j k d l y left i. has-append_right y (firsts s) (firsts_of ss) (r.first j k d l y left i);
+      first = λ j k d l y left i. contains-append_right y (firsts s) (firsts_of ss) (r.first j k d l y left i);
     };
   } where
     none : {a : State} → AreTold (Shapes.more s ss) → Peeks a b x → Refuses (λ v. Tree.choice (n v)) (Shape.choice ss) a c e → IsJudged a c e → {end : ℕ} {bs left : List ℕ} → Concerns a c e end bs → bs ≡ x ∷ left → (v : OneOf A B)
@@ -106,15 +106,15 @@ module _ {A B : Type 0} {m : A → Tree} {n : B → Tree} {s : Shape} {ss : Shap
 
 -- ---- of a type that means the choice
 
-pub refuses_meant : {V : Type 0} {meaning tree : V → Tree} {s : Shape} {a c : State} {e : Asn1DerError} → ((v : V) → meaning v ≡ tree v) → Refuses tree s a c e → Refuses meaning s a c e
-refuses_meant {meaning = meaning} {tree = tree} {s = s} {a = a} same h = record {
+pub refuses_choice : {V : Type 0} {meaning tree : V → Tree} {s : Shape} {a c : State} {e : Asn1DerError} → ((v : V) → meaning v ≡ tree v) → Refuses tree s a c e → Refuses meaning s a c e
+refuses_choice {meaning = meaning} {tree = tree} {s = s} {a = a} same h = record {
   fails = h.fails;
   none = λ j end bs k v st. h.none j end bs k v (subst (StandsAt (place_of a) s bs end) (same v) st);
   first = h.first;
 }
 
-pub reads_meant : {P : Type 0} (m : P → Tree) {s : Shape} {a c : State} {p q : P} {t : Tree} → Reads s a c (Tree.choice (m p)) → t ≡ Tree.choice (m q) → q ≡ p → Reads s a c t
-reads_meant m {s = s} {a = a} {c = c} h same is = subst (Reads s a c) (sym (same ∙ ap (λ z. Tree.choice (m z)) is)) h
+pub reads_choice : {P : Type 0} (m : P → Tree) {s : Shape} {a c : State} {p q : P} {t : Tree} → Reads s a c (Tree.choice (m p)) → t ≡ Tree.choice (m q) → q ≡ p → Reads s a c t
+reads_choice m {s = s} {a = a} {c = c} h same is = subst (Reads s a c) (sym (same ∙ ap (λ z. Tree.choice (m z)) is)) h
 
 -- ---- of values that are those of another type
 

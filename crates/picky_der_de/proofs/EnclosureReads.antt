@@ -2,11 +2,11 @@
 use Rattle.std.proofs.Common.{◌≡◌, ℕ, ◌+◌, ◌<◌, ◌≤◌, Bool, true, false, List, ◌∷◌, ◌++◌, length, Option, Some, None, refl, sym, ◌∙◌, ap, subst, arith, append_assoc, length-append}
 use Rattle.picky_der_core.specs.declared.error.Asn1DerError.{Asn1DerError}
 use Rattle.picky_der_core.specs.declared.error.Asn1DerError.TheVariants.{TruncatedData, InvalidData}
-use Rattle.picky_der_core.specs.Element.{len, tlv}
+use Rattle.picky_der_core.specs.Element.{length_octets, tlv}
 use Rattle.picky_der_core.specs.ElementLaws.{same_front}
 use Rattle.picky_der_core.specs.Tree.{Tree, is_plain}
-use Rattle.picky_der_core.specs.Encoding.{der, inside}
-use Rattle.picky_der_core.specs.EncodingLaws.{same_encoding, inside-other}
+use Rattle.picky_der_core.specs.Encoding.{der, implicit_content}
+use Rattle.picky_der_core.specs.EncodingLaws.{same_encoding, implicit_content-other}
 use Rattle.picky_der_core.specs.Readable.{IsReadable}
 use Rattle.picky_der_core.specs.Reading.{Place, written_at, MayStand, StandsAt}
 use Rattle.picky_der_core.specs.Shape.{Shape, IsOf, IsFirst}
@@ -15,19 +15,19 @@ use Rattle.picky_der_input.specs.declared.enclosure.Enclosure.{Enclosure}
 use Rattle.picky_der_input.specs.State.{OpenSets, State}
 use Rattle.picky_der_input.specs.Steps.{Takes, Fails, IsJudged, place_in, place_of}
 use Rattle.picky_der_input.specs.Reading.{Concerns, Reads, Refuses}
-use Rattle.picky_der_input.specs.Ends.{Outer, Closes}
+use Rattle.picky_der_input.specs.Ends.{Outer, Closes, with_outer_end}
 use Rattle.picky_der_input.specs.Order.{cut_at}
-use Rattle.picky_der_input.specs.Enclosures.{enclose, enclosure_tag, enclose_shape, unused_bits, implicit_number, with_outer_end, enclosure_opening, OpensEnclosure, RefusesOpening, ReadsEnclosed, RefusesEnclosed, before_value, in_value, behind_value}
+use Rattle.picky_der_input.specs.Enclosures.{enclose, enclosure_tag, enclose_shape, unused_bits, implicit_number, enclosure_opening, OpensEnclosure, RefusesOpening, ReadsEnclosed, RefusesEnclosed, before_value, in_value, behind_value}
 use Rattle.picky_der_input.proofs.Steps.{takes_then, fails_after, judged_after}
-use Rattle.picky_der_input.proofs.Refusals.{behind, failed_grows, end_below, taken_first}
+use Rattle.picky_der_input.proofs.Refusals.{concerns_behind, failed_grows, end_below, taken_first}
 use Rattle.picky_der_input.proofs.Headers.{header_length, length_tlv}
-use Rattle.picky_der_input.proofs.Enclosures.{is_of_held, is_of_enclosed, readable_held, readable_number, readable_enclosed, may_stand_held, may_stand_enclosed, written_enclosed, first_enclosed}
+use Rattle.picky_der_input.proofs.Enclosures.{is_of_inner, is_of_enclosed, readable_inner, readable_number, readable_enclosed, may_stand_inner, may_stand_enclosed, written_enclosed, first_enclosed}
 use Rattle.picky_der_input.proofs.Openings.{own_concerns}
 
 -- ---- the end around
 
-restored_takes : {b c : State} {x : List ℕ} (outer : Outer) → c.taken ≤ outer.place → Takes b c x → Takes (with_outer_end outer b) (with_outer_end outer c) x
-restored_takes outer l t = record {
+takes_with_outer_end : {b c : State} {x : List ℕ} (outer : Outer) → c.taken ≤ outer.position → Takes b c x → Takes (with_outer_end outer b) (with_outer_end outer c) x
+takes_with_outer_end outer l t = record {
   input = t.input;
   taken = t.taken;
   until_end = omega (arith, t.taken, l);
@@ -42,8 +42,8 @@ restored_takes outer l t = record {
   references = t.references;
 }
 
-restored_fails : {b c : State} {e : Asn1DerError} (outer : Outer) → b.taken + b.until_end ≤ outer.place → Fails b c e → Fails (with_outer_end outer b) c e
-restored_fails {b} {c} {e} outer l f = record {
+fails_with_outer_end : {b c : State} {e : Asn1DerError} (outer : Outer) → b.taken + b.until_end ≤ outer.position → Fails b c e → Fails (with_outer_end outer b) c e
+fails_with_outer_end {b} {c} {e} outer l f = record {
   failed = f.failed;
   again = λ k w. let q = f.again k w in (q.0, record { input = q.1.input; taken = q.1.taken; peeked = q.1.peeked; faults = q.1.faults });
   faults = f.faults;
@@ -58,31 +58,31 @@ restored_fails {b} {c} {e} outer l f = record {
   references = f.references;
 }
 
-restored_judged : {b c : State} {e : Asn1DerError} (outer : Outer) → IsJudged (with_outer_end outer b) c e → IsJudged b c e
-restored_judged outer j = record { had_not_failed = j.had_not_failed; faults = j.faults; memory = j.memory }
+judged_with_outer_end : {b c : State} {e : Asn1DerError} (outer : Outer) → IsJudged (with_outer_end outer b) c e → IsJudged b c e
+judged_with_outer_end outer j = record { had_not_failed = j.had_not_failed; faults = j.faults; memory = j.memory }
 
 opened_fails : {w : Enclosure} {a b c : State} {outer : Outer} {e : Asn1DerError} → OpensEnclosure w a b outer → Fails b c e → Fails a c e
-opened_fails {outer = outer} o f = fails_after o.takes (restored_fails outer o.within f)
+opened_fails {outer = outer} o f = fails_after o.takes (fails_with_outer_end outer o.within f)
 
 opened_judged : {w : Enclosure} {a b c : State} {outer : Outer} {e : Asn1DerError} → OpensEnclosure w a b outer → IsJudged a c e → IsJudged b c e
-opened_judged {outer = outer} o j = restored_judged outer (judged_after o.takes j)
+opened_judged {outer = outer} o j = judged_with_outer_end outer (judged_after o.takes j)
 
 -- ---- what stands in an enclosure
 
 -- bytes of which a refusal speaks begin with what is written of the tree, which fills what is left before the enclosure's end
-record Holds (w : Enclosure) (b c : State) (e : Asn1DerError) (s : Shape) (u : Tree) : Type 0 where
+record FillsEnclosure (w : Enclosure) (b c : State) (e : Asn1DerError) (s : Shape) (u : Tree) : Type 0 where
   pub seen : List ℕ
   pub concerns : Concerns b c e b.until_end seen
   pub stands : StandsAt (place_of b) s seen b.until_end u
   pub fills : length (written_at (place_of b) u) ≡ b.until_end
 
-holds : {w : Enclosure} {a b c : State} {outer : Outer} {e : Asn1DerError} {end : ℕ} {bs : List ℕ} (s : Shape) (u : Tree) → OpensEnclosure w a b outer → Fails b c e → Concerns a c e end bs → StandsAt (place_of a) (enclose_shape w s) bs end (enclose w u) → Holds w b c e s u
+holds : {w : Enclosure} {a b c : State} {outer : Outer} {e : Asn1DerError} {end : ℕ} {bs : List ℕ} (s : Shape) (u : Tree) → OpensEnclosure w a b outer → Fails b c e → Concerns a c e end bs → StandsAt (place_of a) (enclose_shape w s) bs end (enclose w u) → FillsEnclosure w b c e s u
 holds {w} {a} {b} {c} {outer} {e} {end} {bs} s u o f k st =
-    let readable = readable_held w u st.readable in
+    let readable = readable_inner w u st.readable in
     let unused = unused_bits w in
     let part = written_at (place_in (implicit_number w) b.until_end) u in
-    let v = behind o.takes (failed_grows f) k in
-    let header = enclosure_tag w ∷ len o.size in
+    let v = concerns_behind o.takes (failed_grows f) k in
+    let header = enclosure_tag w ∷ length_octets o.size in
     let whole : written_at (place_of a) (enclose w u) ≡ tlv (enclosure_tag w) (unused ++ part) = written_enclosed a.implicit_tag a.until_end b.until_end w u readable in
     let same : header ++ (unused ++ v.rest) ≡ tlv (enclosure_tag w) (unused ++ part) ++ st.front.rest =
     sym (append_assoc header unused v.rest) ∙ sym v.begins ∙ st.front.is ∙ ap (λ z. z ++ st.front.rest) whole in
@@ -90,9 +90,9 @@ holds {w} {a} {b} {c} {outer} {e} {end} {bs} s u o f k st =
     let front : v.rest ≡ part ++ st.front.rest = (same_front unused unused v.rest (part ++ st.front.rest) refl (q.1 ∙ append_assoc unused part st.front.rest)).1 in
     let fills : length part ≡ b.until_end = omega (arith, q.0, length-append unused part, o.until_end) in
     let stands : StandsAt (place_in (implicit_number w) b.until_end) s v.rest b.until_end u = record {
-      of_shape = is_of_held w s u st.of_shape;
+      of_shape = is_of_inner w s u st.of_shape;
       readable = readable;
-      may_stand = may_stand_held w u b.until_end st.readable fills;
+      may_stand = may_stand_inner w u b.until_end st.readable fills;
       within = omega (arith, fills);
       front = record { rest = st.front.rest; is = front };
     } in
@@ -104,12 +104,12 @@ holds {w} {a} {b} {c} {outer} {e} {end} {bs} s u o f k st =
     }
 
 -- what was read is as long as a value that would fill the enclosure
-same_inside : (plain : Bool) (until_end : ℕ) (t u : Tree) (x y : List ℕ) → is_plain t ≡ plain → is_plain u ≡ plain → IsReadable t → IsReadable u → MayStand (Place.under_implicit until_end) t → MayStand (Place.under_implicit until_end) u
-    → inside t ++ x ≡ inside u ++ y → length (inside u) ≡ until_end → length (inside t) ≡ until_end
-same_inside true until_end t u x y p q r v f g e l = f.filled p
-same_inside false until_end t u x y p q r v f g e l =
-    let h : inside t ≡ der t = inside-other t p f.no_choice in
-    let k : inside u ≡ der u = inside-other u q g.no_choice in
+same_implicit_content : (plain : Bool) (until_end : ℕ) (t u : Tree) (x y : List ℕ) → is_plain t ≡ plain → is_plain u ≡ plain → IsReadable t → IsReadable u → MayStand (Place.under_implicit until_end) t → MayStand (Place.under_implicit until_end) u
+    → implicit_content t ++ x ≡ implicit_content u ++ y → length (implicit_content u) ≡ until_end → length (implicit_content t) ≡ until_end
+same_implicit_content true until_end t u x y p q r v f g e l = f.filled p
+same_implicit_content false until_end t u x y p q r v f g e l =
+    let h : implicit_content t ≡ der t = implicit_content-other t p f.no_choice in
+    let k : implicit_content u ≡ der u = implicit_content-other u q g.no_choice in
     let i : der t ++ x ≡ der u ++ y = sym (ap (λ c. c ++ x) h) ∙ e ∙ ap (λ c. c ++ y) k in
     ap length (h ∙ (same_encoding t u x y r v i).0 ∙ sym k) ∙ l
 
@@ -117,26 +117,26 @@ same_size : (d : Option ℕ) (until_end : ℕ) (s : Shape) (t u : Tree) (x y : L
     → written_at (place_in d until_end) t ++ x ≡ written_at (place_in d until_end) u ++ y → length (written_at (place_in d until_end) u) ≡ until_end → length (written_at (place_in d until_end) t) ≡ until_end
 same_size None until_end s t u x y o p r v f g e l = ap length (same_encoding t u x y r v e).0 ∙ l
 same_size (Some n) until_end s t u x y o p r v f g e l =
-    same_inside (is_plain_shape s) until_end t u x y (plain_by_shape s t o r f.no_choice) (plain_by_shape s u p v g.no_choice) r v f g e l
+    same_implicit_content (is_plain_shape s) until_end t u x y (plain_by_shape s t o r f.no_choice) (plain_by_shape s u p v g.no_choice) r v f g e l
 
 -- ---- refused values
 
 not_opened : {V : Type 0} (meaning : V → Tree) (s : Shape) {w : Enclosure} {a c : State} {e : Asn1DerError} {end : ℕ} {bs : List ℕ} → RefusesOpening w a c e → IsJudged a c e → Concerns a c e end bs → (v : V) → StandsAt (place_of a) (enclose_shape w s) bs end (enclose w (meaning v)) → ⊥
 not_opened meaning s {w} {a} {c} {e} {end} {bs} r j k v st =
     let part = written_at (place_in (implicit_number w) 0) (meaning v) in
-    let whole : written_at (place_of a) (enclose w (meaning v)) ≡ tlv (enclosure_tag w) (unused_bits w ++ part) = written_enclosed a.implicit_tag a.until_end 0 w (meaning v) (readable_held w (meaning v) st.readable) in
+    let whole : written_at (place_of a) (enclose w (meaning v)) ≡ tlv (enclosure_tag w) (unused_bits w ++ part) = written_enclosed a.implicit_tag a.until_end 0 w (meaning v) (readable_inner w (meaning v) st.readable) in
     let size : length (written_at (place_of a) (enclose w (meaning v))) ≡ length (tlv (enclosure_tag w) (unused_bits w ++ part)) = ap length whole in
     let small = end_below (r.bounded j.had_not_failed) k in
     r.none j end bs k part st.front.rest (readable_number w (meaning v) st.readable) (omega (arith, st.within, size, length_tlv (enclosure_tag w) (unused_bits w ++ part), small))
     (st.front.is ∙ ap (λ z. z ++ st.front.rest) whole) (omega (arith, st.within, size))
 
 first_opened : {w : Enclosure} {a b : State} {outer : Outer} (s : Shape) → OpensEnclosure w a b outer → (x : ℕ) (left : List ℕ) → a.input ≡ Some (x ∷ left) → IsFirst (enclose_shape w s) x
-first_opened {w} {a} {b} s o x left q = subst (IsFirst (enclose_shape w s)) (sym (taken_first a.input b.input (enclosure_tag w) x (len o.size ++ unused_bits w) left o.takes.input q)) (first_enclosed w s o.number)
+first_opened {w} {a} {b} s o x left q = subst (IsFirst (enclose_shape w s)) (sym (taken_first a.input b.input (enclosure_tag w) x (length_octets o.size ++ unused_bits w) left o.takes.input q)) (first_enclosed w s o.number)
 
 -- bytes are left over behind a value that was read, so no value fills the enclosure
-not_filled : {s : Shape} {w : Enclosure} {b last c : State} {e : Asn1DerError} {t u : Tree} → Reads s b last t → Fails last c e → 0 < last.until_end → Holds w b c e s u → ⊥
+not_filled : {s : Shape} {w : Enclosure} {b last c : State} {e : Asn1DerError} {t u : Tree} → Reads s b last t → Fails last c e → 0 < last.until_end → FillsEnclosure w b c e s u → ⊥
 not_filled {s} {w} {b} {last} {c} {e} {t} {u} r f l z =
-    let y = behind r.takes (failed_grows f) z.concerns in
+    let y = concerns_behind r.takes (failed_grows f) z.concerns in
     let full = same_size b.implicit_tag b.until_end s t u y.rest z.stands.front.rest r.of_shape z.stands.of_shape r.readable z.stands.readable r.may_stand z.stands.may_stand (sym y.begins ∙ z.stands.front.is) z.fills in
     omega (arith, full, r.takes.until_end, l)
 
@@ -165,11 +165,11 @@ refuses_enclosed {meaning = meaning} {s = s} {w = w} (behind_value b last outer 
 
 -- ---- what was read
 
-whole_enclosed : (tag n : ℕ) (unused part : List ℕ) → n ≡ length unused + length part → ((tag ∷ len n) ++ unused) ++ part ≡ tlv tag (unused ++ part)
+whole_enclosed : (tag n : ℕ) (unused part : List ℕ) → n ≡ length unused + length part → ((tag ∷ length_octets n) ++ unused) ++ part ≡ tlv tag (unused ++ part)
 unfolding tlv
 whole_enclosed tag n unused part l =
     let size : n ≡ length (unused ++ part) = omega (arith, l, length-append unused part) in
-    append_assoc (tag ∷ len n) unused part ∙ ap (λ m. (tag ∷ len m) ++ (unused ++ part)) size
+    append_assoc (tag ∷ length_octets n) unused part ∙ ap (λ m. (tag ∷ length_octets m) ++ (unused ++ part)) size
 
 -- a value was read up to the enclosure's end
 pub reads_enclosed : {s : Shape} {w : Enclosure} {a b c d : State} {outer closed : Outer} {t : Tree} → OpensEnclosure w a b outer → Reads s b c t → Closes closed c d → closed ≡ outer → ReadsEnclosed w s a d t
@@ -177,9 +177,9 @@ reads_enclosed {s} {w} {a} {b} {c} {d} {outer} {closed} {t} o r k same =
     let part = written_at (place_in (implicit_number w) b.until_end) t in
     let is : written_at (place_of b) t ≡ part = ap (λ n. written_at (place_in n b.until_end) t) o.implicit_tag in
     let full : length part ≡ b.until_end = omega (arith, r.takes.until_end, k.reached, ap length is) in
-    let inside : Takes b c part = subst (Takes b c) is r.takes in
-    let within : c.taken ≤ outer.place = omega (arith, inside.taken, full, o.within) in
-    let all = takes_then o.takes (restored_takes outer within inside) in
+    let inner : Takes b c part = subst (Takes b c) is r.takes in
+    let within : c.taken ≤ outer.position = omega (arith, inner.taken, full, o.within) in
+    let all = takes_then o.takes (takes_with_outer_end outer within inner) in
     let bytes : enclosure_opening w o.size ++ part ≡ written_at (place_of a) (enclose w t) =
     whole_enclosed (enclosure_tag w) o.size (unused_bits w) part (omega (arith, o.until_end, full)) ∙ sym (written_enclosed a.implicit_tag a.until_end b.until_end w t r.readable) in
     let end : d ≡ with_outer_end outer c = k.same ∙ ap (λ z. with_outer_end z c) same in

@@ -3,7 +3,7 @@ use Rattle.std.proofs.Common.{◌≡◌, ◌≢◌, ◌⊎◌, ℕ, ◌+◌, ◌
 use Rattle.std.specs.Io.KnownBytes.{Consumes}
 use Rattle.picky_der_core.specs.declared.error.Asn1DerError.{Asn1DerError}
 use Rattle.picky_der_core.specs.declared.error.Asn1DerError.TheVariants.{TruncatedData, InvalidData, UnsupportedValue, UnsupportedType, InvalidSink, Message, Other, OutOfMemory}
-use Rattle.picky_der_core.specs.Element.{Begins}
+use Rattle.picky_der_core.specs.Element.{IsPrefix}
 use Rattle.picky_der_core.specs.Tree.{Tree}
 use Rattle.picky_der_core.specs.Encoding.{der}
 use Rattle.picky_der_core.specs.Shape.{Shape, IsSound}
@@ -17,7 +17,7 @@ use Rattle.picky_der_core.specs.Peeking.{in_front, count_of_any}
 use Rattle.picky_der_input.specs.Steps.{IsJudged}
 use Rattle.picky_der_input.specs.Reading.{Reads, Refuses, now, ever}
 use Rattle.picky_der_de.specs.InjectiveLaws.{IsInjective}
-use Rattle.picky_der_de.specs.Entry.{any_length, HasNoFront, Reader, ReadsFront, Draws, RefusesFront, RefusesNextValue}
+use Rattle.picky_der_de.specs.Entry.{any_length, HasNoFront, ReaderView, ReadsFront, Draws, RefusesFront, RefusesNextValue}
 use Rattle.picky_der_input.proofs.Refusals.{consumed}
 
 -- ---- what is left in the reader
@@ -53,7 +53,7 @@ unless_truncated (Other kind) h = absurd (h (λ (q : Other kind ≡ TruncatedDat
 unless_truncated OutOfMemory h = absurd (h (λ (q : OutOfMemory ≡ TruncatedData). cc))
 
 -- of two beginnings of one list, one begins the other
-comparable : (a b x y : List ℕ) → a ++ x ≡ b ++ y → Begins a b ⊎ Begins b a
+comparable : (a b x y : List ℕ) → a ++ x ≡ b ++ y → IsPrefix a b ⊎ IsPrefix b a
 comparable [] b x y e = inl (record { rest = b; is = refl })
 comparable (c ∷ a) [] x y e = inr (record { rest = c ∷ a; is = refl })
 comparable (c ∷ a) (d ∷ b) x y e =
@@ -86,10 +86,10 @@ err_both P Q (Err e) p q = (p, q)
 one_tree : (s : Shape) → IsSound s → {bytes : List ℕ} {limit : ℕ} (t u : Tree) → StandsAt Place.whole s bytes limit t → StandsAt Place.whole s bytes limit u → t ≡ u
 one_tree s sound t u a b = (same_tree s sound t u a.of_shape b.of_shape a.readable b.readable a.front.rest b.front.rest (sym a.front.is ∙ b.front.is)).0
 
-abbrev start_state : Reader → ℕ → List ℕ → State
+abbrev start_state : ReaderView → ℕ → List ℕ → State
 start_state r limit references = fresh r.input limit r.faults references
 
-module _ {V : Type 0} (meaning : V → Tree) (s : Shape) {old new : State} {references : List ℕ} {limit : ℕ} (before after : Reader) (is : old ≡ start_state before limit references) (left : new.input ≡ in_front new.peeked after.input) (faults : after.faults ≡ new.faults) where
+module _ {V : Type 0} (meaning : V → Tree) (s : Shape) {old new : State} {references : List ℕ} {limit : ℕ} (before after : ReaderView) (is : old ≡ start_state before limit references) (left : new.input ≡ in_front new.peeked after.input) (faults : after.faults ≡ new.faults) where
   stands_of : (bytes : List ℕ) (t : Tree) → before.input ≡ Some bytes → Reads s (start_state before limit references) new t → StandsAt Place.whole s bytes limit t
   stands_of bytes t k r =
       let front = consumed before.input new.input (der t) bytes r.takes.input k in
@@ -163,13 +163,13 @@ module _ {V : Type 0} (meaning : V → Tree) (s : Shape) {old new : State} {refe
 
 -- ---- of a slice
 
-slice_final : {V : Type 0} (meaning : V → Tree) (s : Shape) {limit : ℕ} {before after : Reader} {e : Asn1DerError} (bytes : List ℕ) (r : Option (List ℕ)) → before.input ≡ Some bytes → after.faults ≡ before.faults → r ≡ after.input
+slice_final : {V : Type 0} (meaning : V → Tree) (s : Shape) {limit : ℕ} {before after : ReaderView} {e : Asn1DerError} (bytes : List ℕ) (r : Option (List ℕ)) → before.input ≡ Some bytes → after.faults ≡ before.faults → r ≡ after.input
     → (d : Draws limit (Some bytes) r) → RefusesFront meaning s limit before after e → e ≢ OutOfMemory → IsMendable meaning s Place.whole bytes any_length → e ≡ TruncatedData
 slice_final meaning s bytes None k same is d h memory m = absurd d.are
 slice_final meaning s bytes (Some left) k same is d h memory m =
     h.final same memory d.bytes left (k ∙ ap Some d.are) (sym is) (mends_beginning d.bytes left (subst (λ z. IsMendable meaning s Place.whole z any_length) d.are m))
 
-pub slice_refused : {V : Type 0} (meaning : V → Tree) (s : Shape) {limit : ℕ} {before after : Reader} {e : Asn1DerError} {bytes : List ℕ} → before.input ≡ Some bytes → before.faults ≡ [] → after.faults ≡ [] → RefusesFront meaning s limit before after e → HasNoFront meaning s bytes limit e
+pub slice_refused : {V : Type 0} (meaning : V → Tree) (s : Shape) {limit : ℕ} {before after : ReaderView} {e : Asn1DerError} {bytes : List ℕ} → before.input ≡ Some bytes → before.faults ≡ [] → after.faults ≡ [] → RefusesFront meaning s limit before after e → HasNoFront meaning s bytes limit e
 slice_refused meaning s {limit = limit} {after = after} {bytes = bytes} k none still h = record {
   none = λ memory v stands. h.none (still ∙ sym none) memory bytes k v stands;
   final = slice_final meaning s bytes after.input k (still ∙ sym none) refl (subst (λ i. Draws limit i after.input) k h.drawn) h;

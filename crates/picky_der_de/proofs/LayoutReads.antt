@@ -7,8 +7,8 @@ use Rattle.picky_der_core.specs.Tree.{ListKind, Tree, Trees}
 use Rattle.picky_der_core.specs.Encoding.{der, encodings, list_tag}
 use Rattle.picky_der_core.specs.EncodingLaws.{length-der}
 use Rattle.picky_der_core.specs.Readable.{IsReadable, AreReadable}
-use Rattle.picky_der_core.specs.Shape.{Shape, Layout, IsOf, IsSound, AreMembersOf, AreMembersTold, IsFirst, firsts, next_firsts, has, are_apart}
-use Rattle.picky_der_core.specs.FirstLaws.{begins_in, begins_next, apart_has}
+use Rattle.picky_der_core.specs.Shape.{Shape, Layout, IsOf, IsSound, AreMembersOf, AreMembersTold, IsFirst, firsts, next_firsts, contains, are_apart}
+use Rattle.picky_der_core.specs.FirstLaws.{begins_in, begins_next, apart_contains}
 use Rattle.picky_der_core.proofs.Unique.{same_tree}
 use Rattle.picky_der_input.specs.State.{State}
 use Rattle.picky_der_input.specs.Steps.{Takes, Fails, IsJudged}
@@ -20,13 +20,13 @@ use Rattle.picky_der_ser.specs.Meaning.{maybe_more}
 use Rattle.picky_der_ser.specs.Defaults.{IsByTree}
 use Rattle.picky_der_de.specs.Firsts.{IsBegunBy}
 use Rattle.picky_der_de.specs.Members.{ReadsMember, RefusesMember, members_encoding, StandUpToEnd}
-use Rattle.picky_der_de.specs.Layouts.{Presence, always, perhaps, place_then, RefusesComponent, Lacks, no_more, begins_otherwise, RefusesOptional, no_tag, no_member, RefusesDefault, as_optional, written_out, Rests, same, looked, Passes, ReadsLayout, RefusesLayout, AreBegunBy}
-use Rattle.picky_der_de.specs.LayoutLaws.{IsThere, IsComponent, AreComponents, is_there, is_missing}
+use Rattle.picky_der_de.specs.Layouts.{Presence, always, perhaps, component_then, RefusesComponent, Lacks, no_more, begins_otherwise, RefusesOptional, no_tag, no_member, RefusesDefault, as_optional, written_out, PeeksAtMost, same, looked, Passes, ReadsLayout, RefusesLayout, AreBegunBy}
+use Rattle.picky_der_de.specs.LayoutLaws.{IsThere, IsComponent, AreComponents, first_is_present, first_is_absent}
 use Rattle.picky_der_input.proofs.Steps.{takes_none, takes_then}
 use Rattle.picky_der_input.proofs.Order.{fails_behind, judged_behind}
 use Rattle.picky_der_input.proofs.Refusals.{missing_here}
 use Rattle.picky_der_de.proofs.Peeked.{peeks_takes, peeks_fails, peeks_judged, peeks_concerns, peeks_front}
-use Rattle.picky_der_de.proofs.Members.{bytes_of-more, bytes_of-none, no_members_in_order, takes_member, member_ahead, members_lead, next_order, next_up_to_end, none_left, list_refused, list_unopened, list_reads}
+use Rattle.picky_der_de.proofs.Members.{members_encoding-more, members_encoding-none, no_members_in_order, takes_member, member_ahead, members_lead, next_order, next_up_to_end, none_left, list_refused, list_unopened, list_reads}
 use Rattle.picky_der_de.proofs.Members.{no_member as no_value_there, same_member}
 
 -- ---- looks
@@ -54,31 +54,31 @@ look_again {a} {b} {c} {x} {y} p q =
     keeps (Some xs) (Some ys) None h g = absurd g
     keeps (Some xs) (Some ys) (Some zs) h g = g ∙ h
 
-peeks_unordered : {a b : State} {x : ℕ} → Peeks a b x → Peeks (without_order a) (without_order b) x
-peeks_unordered p = record { had_not_failed = p.had_not_failed; implicit_tag = p.implicit_tag; ahead = p.ahead; byte = p.byte; next = p.next; again = p.again; input = p.input; same = ap without_order p.same }
+peeks_without_order : {a b : State} {x : ℕ} → Peeks a b x → Peeks (without_order a) (without_order b) x
+peeks_without_order p = record { had_not_failed = p.had_not_failed; implicit_tag = p.implicit_tag; ahead = p.ahead; byte = p.byte; next = p.next; again = p.again; input = p.input; same = ap without_order p.same }
 
 as_look : {b c : State} {tag : ℕ} → b.implicit_tag ≡ None → Identifies b c tag → Peeks b c tag
 as_look {b} {c} {tag} d h = subst (λ o. IdentifiesIn o b c tag) d h.is
 
-rests_here : {a : State} → a.failed ≡ None → a.peeked ≡ None → Rests a a
-rests_here f p = same refl f p
+peeks_at_most_here : {a : State} → a.failed ≡ None → a.peeked ≡ None → PeeksAtMost a a
+peeks_at_most_here f p = same refl f p
 
-rests_look : {a b c : State} {x : ℕ} → Rests a b → Peeks b c x → Rests a c
-rests_look {c = c} {x = x} (same e f g) p = looked x g (subst (λ z. Peeks z c x) e p)
-rests_look (looked y g q) p = looked y g (look_again q p)
+peeks_at_most_look : {a b c : State} {x : ℕ} → PeeksAtMost a b → Peeks b c x → PeeksAtMost a c
+peeks_at_most_look {c = c} {x = x} (same e f g) p = looked x g (subst (λ z. Peeks z c x) e p)
+peeks_at_most_look (looked y g q) p = looked y g (look_again q p)
 
-rests_takes : {a b : State} (c : State) {bytes : List ℕ} → Rests a b → Takes (without_order b) (without_order c) bytes → Takes (without_order a) (without_order c) bytes
-rests_takes c {bytes = bytes} (same e f g) t = subst (λ z. Takes (without_order z) (without_order c) bytes) e t
-rests_takes c (looked x g p) t = peeks_takes (peeks_unordered p) t
+peeks_at_most_takes : {a b : State} (c : State) {bytes : List ℕ} → PeeksAtMost a b → Takes (without_order b) (without_order c) bytes → Takes (without_order a) (without_order c) bytes
+peeks_at_most_takes c {bytes = bytes} (same e f g) t = subst (λ z. Takes (without_order z) (without_order c) bytes) e t
+peeks_at_most_takes c (looked x g p) t = peeks_takes (peeks_without_order p) t
 
-rests_not_failed : {a b : State} → Rests a b → b.failed ≡ None
-rests_not_failed (same e f g) = ap (λ (s : State). s.failed) e ∙ f
-rests_not_failed (looked x g p) = ap (λ (s : State). s.failed) p.same ∙ p.had_not_failed
+peeks_at_most_not_failed : {a b : State} → PeeksAtMost a b → b.failed ≡ None
+peeks_at_most_not_failed (same e f g) = ap (λ (s : State). s.failed) e ∙ f
+peeks_at_most_not_failed (looked x g p) = ap (λ (s : State). s.failed) p.same ∙ p.had_not_failed
 
 -- the end was reached, so no look was taken
-rested : {a b : State} → Rests a b → b.until_end ≡ 0 → b ≡ a
-rested (same e f g) z = e
-rested (looked x g p) z = absurd (let q : _ = ap (λ (s : State). s.until_end) p.same in omega (arith, q, z, p.ahead))
+no_peek_at_end : {a b : State} → PeeksAtMost a b → b.until_end ≡ 0 → b ≡ a
+no_peek_at_end (same e f g) z = e
+no_peek_at_end (looked x g p) z = absurd (let q : _ = ap (λ (s : State). s.until_end) p.same in omega (arith, q, z, p.ahead))
 
 -- ---- bytes behind a look
 
@@ -112,30 +112,30 @@ module _ {b c : State} {x : ℕ} (p : Peeks b c x) where
   not_there : (s : Shape) {d : State} {e : Asn1DerError} (u : Tree) (us : Trees) → (IsFirst s x → ⊥) → Fails c d e → IsOf s u → IsReadable u → StandUpToEnd b d e (members_encoding (Trees.more u us)) → ⊥
   not_there s u us other f o r w =
       let h = begins_in s u o r in
-      let is : members_encoding (Trees.more u us) ≡ h.first ∷ (h.others ++ members_encoding us) = bytes_of-more u us ∙ ap (λ z. z ++ members_encoding us) h.is in
-      other (subst (λ z. has (firsts s) z ≡ true) (first_is f w is) h.listed)
+      let is : members_encoding (Trees.more u us) ≡ h.first ∷ (h.others ++ members_encoding us) = members_encoding-more u us ∙ ap (λ z. z ++ members_encoding us) h.is in
+      other (subst (λ z. contains (firsts s) z ≡ true) (first_is f w is) h.listed)
 
   -- a member that may be missing isn't, where the next byte is one of its first
-  not_missing : (s : Shape) (l : Layout) {d : State} {e : Asn1DerError} (us : Trees) → are_apart (firsts s) (next_firsts l) ≡ true → IsFirst s x → Fails c d e → AreMembersOf l us → AreReadable us → StandUpToEnd b d e (members_encoding us) → ⊥
-  not_missing s l Trees.none apart own f are readable w = none_left p.ahead w
-  not_missing s l (Trees.more u us) apart own f are readable w =
+  not_absent : (s : Shape) (l : Layout) {d : State} {e : Asn1DerError} (us : Trees) → are_apart (firsts s) (next_firsts l) ≡ true → IsFirst s x → Fails c d e → AreMembersOf l us → AreReadable us → StandUpToEnd b d e (members_encoding us) → ⊥
+  not_absent s l Trees.none apart own f are readable w = none_left p.ahead w
+  not_absent s l (Trees.more u us) apart own f are readable w =
       let h = begins_next l u us are readable.0 in
-      let is : members_encoding (Trees.more u us) ≡ h.first ∷ (h.others ++ members_encoding us) = bytes_of-more u us ∙ ap (λ z. z ++ members_encoding us) h.is in
-      apart_has x (firsts s) (next_firsts l) apart own (subst (λ z. has (next_firsts l) z ≡ true) (first_is f w is) h.listed)
+      let is : members_encoding (Trees.more u us) ≡ h.first ∷ (h.others ++ members_encoding us) = members_encoding-more u us ∙ ap (λ z. z ++ members_encoding us) h.is in
+      apart_contains x (firsts s) (next_firsts l) apart own (subst (λ z. contains (next_firsts l) z ≡ true) (first_is f w is) h.listed)
 
 -- nor where it was read
-not_missing_read : (s : Shape) (l : Layout) {b c d : State} {t : Tree} {e : Asn1DerError} (us : Trees) → are_apart (firsts s) (next_firsts l) ≡ true → ReadsMember s b c t → Fails c d e → AreMembersOf l us → AreReadable us → StandUpToEnd b d e (members_encoding us) → ⊥
-not_missing_read s l Trees.none apart r f are readable w = none_left (member_ahead r) w
-not_missing_read s l {t = t} (Trees.more u us) apart r f are readable w =
+not_absent_read : (s : Shape) (l : Layout) {b c d : State} {t : Tree} {e : Asn1DerError} (us : Trees) → are_apart (firsts s) (next_firsts l) ≡ true → ReadsMember s b c t → Fails c d e → AreMembersOf l us → AreReadable us → StandUpToEnd b d e (members_encoding us) → ⊥
+not_absent_read s l Trees.none apart r f are readable w = none_left (member_ahead r) w
+not_absent_read s l {t = t} (Trees.more u us) apart r f are readable w =
     let h = begins_next l u us are readable.0 in
     let k = begins_in s t r.reads.of_shape r.reads.readable in
     let same_first : h.first ∷ h.others ≡ k.first ∷ k.others = sym h.is ∙ (same_member u us readable.0 r f w.stand).0 ∙ k.is in
     let first : h.first ≡ k.first = cc in
-    apart_has k.first (firsts s) (next_firsts l) apart k.listed (subst (λ z. has (next_firsts l) z ≡ true) first h.listed)
+    apart_contains k.first (firsts s) (next_firsts l) apart k.listed (subst (λ z. contains (next_firsts l) z ≡ true) first h.listed)
 
 -- no member stands at the end
 nothing_there : {b d : State} {e : Asn1DerError} (u : Tree) (us : Trees) → b.until_end ≡ 0 → IsReadable u → StandUpToEnd b d e (members_encoding (Trees.more u us)) → ⊥
-nothing_there u us z r w = omega (arith, z, w.fills, ap length (bytes_of-more u us), length-append (der u) (members_encoding us), length-der u r)
+nothing_there u us z r w = omega (arith, z, w.fills, ap length (members_encoding-more u us), length-append (der u) (members_encoding us), length-der u r)
 
 -- ---- no members
 
@@ -144,12 +144,12 @@ layout_none {b} d = record {
   are = tt;
   readable = tt;
   order = no_members_in_order b.sets;
-  passes = λ a q. record { mid = a; takes = subst (Takes (without_order a) (without_order a)) (sym bytes_of-none) (nothing q); rests = q };
+  passes = λ a q. record { mid = a; takes = subst (Takes (without_order a) (without_order a)) (sym members_encoding-none) (nothing q); peeks_at_most = q };
   implicit_tag = d;
   fails = λ last e f. f;
   full = λ told last e f left us are r w. full us are left w;
 } where
-  nothing : {a : State} → Rests a b → Takes (without_order a) (without_order a) []
+  nothing : {a : State} → PeeksAtMost a b → Takes (without_order a) (without_order a) []
   nothing {a} (same e f g) = takes_none (without_order a) f g
   nothing {a} (looked x g p) = takes_none (without_order a) p.had_not_failed g
 
@@ -178,11 +178,11 @@ module _ {V W : Type 0} (meaning : W → Tree) {s : Shape} {l : Layout} (item : 
       (λ told j v x of_shape are readable behind order w.
       h.none told (judged_behind (takes_member r) j) (rest v) are behind (next_order (meaning x) (others (rest v)) readable r h.fails w.stand order) (next_up_to_end (meaning x) (others (rest v)) readable r h.fails w))
 
-member_then : {s : Shape} {l : Layout} {a b c d : State} {t : Tree} {ts : Trees} → Rests a b → ReadsMember s b c t → ReadsLayout l c d ts → Passes a d (members_encoding (Trees.more t ts))
+member_then : {s : Shape} {l : Layout} {a b c d : State} {t : Tree} {ts : Trees} → PeeksAtMost a b → ReadsMember s b c t → ReadsLayout l c d ts → Passes a d (members_encoding (Trees.more t ts))
 member_then {a = a} {c = c} {d = d} {t = t} {ts = ts} q r h =
     let m = takes_member r in
-    let p = h.passes c (rests_here m.not_failed m.unpeeked) in
-    record { mid = p.mid; takes = subst (Takes (without_order a) (without_order p.mid)) (sym (bytes_of-more t ts)) (takes_then (rests_takes c q m) p.takes); rests = p.rests }
+    let p = h.passes c (peeks_at_most_here m.not_failed m.unpeeked) in
+    record { mid = p.mid; takes = subst (Takes (without_order a) (without_order p.mid)) (sym (members_encoding-more t ts)) (takes_then (peeks_at_most_takes c q m) p.takes); peeks_at_most = p.peeks_at_most }
 
 required_read : {s : Shape} {l : Layout} {b c d : State} {t : Tree} {ts : Trees} → ReadsMember s b c t → ReadsLayout l c d ts → ReadsLayout (Layout.required s l) b d (Trees.more t ts)
 required_read {s} {l} {b} {c} {d} {t} {ts} r h = record {
@@ -208,9 +208,9 @@ module _ {V W U : Type 0} (meaning : W → Tree) (others : U → Trees) (s : Sha
       → ((w : W) (u : U) → IsOf s (meaning w) → AreMembersOf l (others u) → AreReadable (Trees.more (meaning w) (others u)) → P (Trees.more (meaning w) (others u)) → ⊥)
       → ((u : U) → AreMembersOf l (others u) → AreReadable (others u) → P (others u) → ⊥)
       → (o : Option W) (u : U) → AreMembersOf (Layout.maybe s l) (maybe_more meaning o (others u)) → AreReadable (maybe_more meaning o (others u)) → P (maybe_more meaning o (others u)) → ⊥
-  by_option P told f g None u are readable p = g u (is_missing s l told.0 (others u) (begin u) readable are) readable p
+  by_option P told f g None u are readable p = g u (first_is_absent s l told.0 (others u) (begin u) readable are) readable p
   by_option P told f g (Some w) u are readable p =
-      let q = is_there s l told.0 (meaning w) (others u) (begins w) readable.0 are in
+      let q = first_is_present s l told.0 (meaning w) (others u) (begins w) readable.0 are in
       f w u q.0 q.1 readable p
 
   -- members that stand in order
@@ -239,14 +239,14 @@ module _ {V W U : Type 0} (meaning : W → Tree) (others : U → Trees) (s : Sha
       let p = as_look whole i in
       refused_by (peeks_fails p r.fails)
       (λ told j w u o a readable st. no_value_there w (others u) r (peeks_judged p j) o readable.0 (order_looked p (encodings (Trees.more (meaning w) (others u))) st.0) (stands_looked p st.1).stand)
-      (λ told j u a readable st. not_missing p s l (others u) told.0 own r.fails a readable st.1)
+      (λ told j u a readable st. not_absent p s l (others u) told.0 own r.fails a readable st.1)
 
   -- it was read, and those behind it were refused
   there_next : {b c d : State} {t : Tree} {e : Asn1DerError} → ReadsMember s b c t → RefusesLayout others l c d e → RefusesLayout (λ v. maybe_more meaning (part v) (others (rest v))) (Layout.maybe s l) b d e
   there_next r n = refused_by (fails_behind (takes_member r) n.fails)
       (λ told j w u o a readable st.
       n.none told.1 (judged_behind (takes_member r) j) u a readable.1 (next_order (meaning w) (others u) readable.0 r n.fails st.1.stand st.0) (next_up_to_end (meaning w) (others u) readable.0 r n.fails st.1))
-      (λ told j u a readable st. not_missing_read s l (others u) told.0 r n.fails a readable st.1)
+      (λ told j u a readable st. not_absent_read s l (others u) told.0 r n.fails a readable st.1)
 
 -- it can't be there, and what stands stands behind the look
 record Skips (s : Shape) (b c : State) : Type 0 where
@@ -254,7 +254,7 @@ record Skips (s : Shape) (b c : State) : Type 0 where
   judged : (d : State) (e : Asn1DerError) → IsJudged b d e → IsJudged c d e
   stands : (d : State) (e : Asn1DerError) (bytes : List ℕ) → StandUpToEnd b d e bytes → StandUpToEnd c d e bytes
   sets : c.sets ≡ b.sets
-  rests : (a : State) → Rests a b → Rests a c
+  peeks_at_most : (a : State) → PeeksAtMost a b → PeeksAtMost a c
   not : (d : State) (e : Asn1DerError) (u : Tree) (us : Trees) → Fails c d e → IsOf s u → IsReadable u → StandUpToEnd b d e (members_encoding (Trees.more u us)) → ⊥
 
 skips : {s : Shape} {b c : State} → b.implicit_tag ≡ None → Lacks s b c → Skips s b c
@@ -263,7 +263,7 @@ skips {b = b} whole (no_more h) = record {
   judged = λ d e j. subst (λ x. IsJudged x d e) (sym h.same) j;
   stands = λ d e bytes w. subst (λ x. StandUpToEnd x d e bytes) (sym h.same) w;
   sets = ap (λ (z : State). z.sets) h.same;
-  rests = λ a q. subst (Rests a) (sym h.same) q;
+  peeks_at_most = λ a q. subst (PeeksAtMost a) (sym h.same) q;
   not = λ d e u us f o r w. nothing_there u us h.reached r w;
 }
 skips {s = s} whole (begins_otherwise tag i other) =
@@ -273,14 +273,14 @@ skips {s = s} whole (begins_otherwise tag i other) =
       judged = λ d e j. peeks_judged p j;
       stands = λ d e bytes w. stands_looked p w;
       sets = ap (λ (z : State). z.sets) p.same;
-      rests = λ a q. rests_look q p;
+      peeks_at_most = λ a q. peeks_at_most_look q p;
       not = λ d e u us f o r w. not_there p s u us other f o r w;
     }
 
 -- it is missing, and those behind it were refused
-missing_next : {V W U : Type 0} (meaning : W → Tree) (others : U → Trees) (s : Shape) (l : Layout) (part : V → Option W) (rest : V → U) → ((w : W) → IsBegunBy (firsts s) (meaning w)) → ((u : U) → AreBegunBy (next_firsts l) (others u))
+absent_next : {V W U : Type 0} (meaning : W → Tree) (others : U → Trees) (s : Shape) (l : Layout) (part : V → Option W) (rest : V → U) → ((w : W) → IsBegunBy (firsts s) (meaning w)) → ((u : U) → AreBegunBy (next_firsts l) (others u))
     → {b c d : State} {e : Asn1DerError} → b.implicit_tag ≡ None → Lacks s b c → RefusesLayout others l c d e → RefusesLayout (λ v. maybe_more meaning (part v) (others (rest v))) (Layout.maybe s l) b d e
-missing_next meaning others s l part rest begins begin {b} {c} {d} {e} whole h n =
+absent_next meaning others s l part rest begins begin {b} {c} {d} {e} whole h n =
     let k : Skips s b c = skips whole h in
     refused_by meaning others s l part rest begins begin (k.fails d e n.fails)
     (λ told j w u o a readable st. k.not d e (meaning w) (others u) n.fails o readable.0 st.1)
@@ -298,20 +298,20 @@ there_read {s} {l} {b} {c} {d} {t} {ts} r h = record {
   full = λ told last e f left us are readable w. full told f left us are readable w;
 } where
   full : AreMembersTold (Layout.maybe s l) → {last : State} {e : Asn1DerError} → Fails d last e → 0 < d.until_end → (us : Trees) → AreMembersOf (Layout.maybe s l) us → AreReadable us → StandUpToEnd b last e (members_encoding us) → ⊥
-  full told {last} {e} f left us (inr are) readable w = not_missing_read s l us told.0 r (h.fails last e f) are readable w
+  full told {last} {e} f left us (inr are) readable w = not_absent_read s l us told.0 r (h.fails last e f) are readable w
   full told f left Trees.none (inl are) readable w = absurd are
   full told {last} {e} f left (Trees.more u us) (inl are) readable w =
       h.full told.1 last e f left us are.1 readable.1 (next_up_to_end u us readable.0 r (h.fails last e f) w)
 
 -- it is missing, and those behind it were read
-missing_read : {s : Shape} {l : Layout} {b c d : State} {ts : Trees} → b.implicit_tag ≡ None → Lacks s b c → ReadsLayout l c d ts → ReadsLayout (Layout.maybe s l) b d ts
-missing_read {s} {l} {b} {c} {d} {ts} whole h n =
+absent_read : {s : Shape} {l : Layout} {b c d : State} {ts : Trees} → b.implicit_tag ≡ None → Lacks s b c → ReadsLayout l c d ts → ReadsLayout (Layout.maybe s l) b d ts
+absent_read {s} {l} {b} {c} {d} {ts} whole h n =
     let k : Skips s b c = skips whole h in
     record {
       are = inr n.are;
       readable = n.readable;
       order = subst (λ x. AreInOrder x (encodings ts)) k.sets n.order;
-      passes = λ a q. n.passes a (k.rests a q);
+      passes = λ a q. n.passes a (k.peeks_at_most a q);
       implicit_tag = n.implicit_tag;
       fails = λ last e f. k.fails last e (n.fails last e f);
       full = λ told last e f left us are readable w. full k told f left us are readable w;
@@ -325,13 +325,13 @@ missing_read {s} {l} {b} {c} {d} {ts} whole h n =
 -- by whether it was read
 maybe_read : {W : Type 0} (meaning : W → Tree) {s : Shape} {l : Layout} {b c d : State} {ts : Trees} (o : Option W) → b.implicit_tag ≡ None → IfSome o (λ w. ReadsMember s b c (meaning w)) → IfNone o (Lacks s b c) → ReadsLayout l c d ts
     → ReadsLayout (Layout.maybe s l) b d (maybe_more meaning o ts)
-maybe_read meaning None whole r h n = missing_read whole h n
+maybe_read meaning None whole r h n = absent_read whole h n
 maybe_read meaning (Some w) whole r h n = there_read r n
 
 maybe_next : {V W U : Type 0} (meaning : W → Tree) (others : U → Trees) (s : Shape) (l : Layout) (part : V → Option W) (rest : V → U) → ((w : W) → IsBegunBy (firsts s) (meaning w)) → ((u : U) → AreBegunBy (next_firsts l) (others u))
     → {b c d : State} {e : Asn1DerError} (o : Option W) → b.implicit_tag ≡ None → IfSome o (λ w. ReadsMember s b c (meaning w)) → IfNone o (Lacks s b c) → RefusesLayout others l c d e
     → RefusesLayout (λ v. maybe_more meaning (part v) (others (rest v))) (Layout.maybe s l) b d e
-maybe_next meaning others s l part rest begins begin None whole r h n = missing_next meaning others s l part rest begins begin whole h n
+maybe_next meaning others s l part rest begins begin None whole r h n = absent_next meaning others s l part rest begins begin whole h n
 maybe_next meaning others s l part rest begins begin (Some w) whole r h n = there_next meaning others s l part rest begins begin r n
 
 -- ---- a member with a default
@@ -339,11 +339,11 @@ maybe_next meaning others s l part rest begins begin (Some w) whole r h n = ther
 module _ {V W U : Type 0} (meaning : W → Tree) (left_out : W → Bool) (others : U → Trees) (s : Shape) (l : Layout) (item : V → Option W) (rest : V → U) (written : (v : V) → IfSome (item v) (λ w. left_out w ≡ false)) (by_tree : IsByTree meaning left_out) (sound : IsSound s)
     (begins : (w : W) → IsBegunBy (firsts s) (meaning w)) (begin : (u : U) → AreBegunBy (next_firsts l) (others u)) where
   -- the default stands there, and in no row
-  out_of_place : {b c d : State} {e : Asn1DerError} (x : W) → IsTrue (left_out x) → ReadsMember s b c (meaning x) → Fails c d e → AreMembersTold (Layout.maybe s l) → (o : Option W) (u : U) → IfSome o (λ w. left_out w ≡ false)
+  left_out_found : {b c d : State} {e : Asn1DerError} (x : W) → IsTrue (left_out x) → ReadsMember s b c (meaning x) → Fails c d e → AreMembersTold (Layout.maybe s l) → (o : Option W) (u : U) → IfSome o (λ w. left_out w ≡ false)
       → AreMembersOf (Layout.maybe s l) (maybe_more meaning o (others u)) → AreReadable (maybe_more meaning o (others u)) → StandUpToEnd b d e (members_encoding (maybe_more meaning o (others u))) → ⊥
-  out_of_place x is r f told None u q are readable w = not_missing_read s l (others u) told.0 r f (is_missing s l told.0 (others u) (begin u) readable are) readable w
-  out_of_place x is r f told (Some y) u q are readable w =
-      let there = is_there s l told.0 (meaning y) (others u) (begins y) readable.0 are in
+  left_out_found x is r f told None u q are readable w = not_absent_read s l (others u) told.0 r f (first_is_absent s l told.0 (others u) (begin u) readable are) readable w
+  left_out_found x is r f told (Some y) u q are readable w =
+      let there = first_is_present s l told.0 (meaning y) (others u) (begins y) readable.0 are in
       let bytes : der (meaning y) ≡ der (meaning x) = (same_member (meaning y) (others u) readable.0 r f w.stand).0 in
       let same : meaning x ≡ meaning y = (same_tree s sound (meaning x) (meaning y) r.reads.of_shape there.0 r.reads.readable readable.0 [] [] (ap (λ z. z ++ []) (sym bytes))).0 in
       let out : left_out y ≡ true = (by_tree x y is).1 same in
@@ -354,7 +354,7 @@ module _ {V W U : Type 0} (meaning : W → Tree) (left_out : W → Bool) (others
   default_head whole (as_optional h) = maybe_head meaning others s l item rest begins begin whole h
   default_head whole (written_out c x is r _ f) = record {
     fails = fails_behind (takes_member r) f;
-    none = λ told j v are readable order w. out_of_place x is r f told (item v) (rest v) (written v) are readable w;
+    none = λ told j v are readable order w. left_out_found x is r f told (item v) (rest v) (written v) are readable w;
   }
 
 -- ---- a member, always there or not
@@ -368,27 +368,27 @@ refuses_alike {l = l} {b = b} {d = d} {e = e} is h = record {
 
 module _ {W X : Type 0} {presence : Presence} {in_front : X → Trees → Trees} {eq : X → X → Bool} {meaning : W → Tree} {s : Shape} {eq_item : W → W → Bool} {item : X → Option W} {left_out : W → Bool}
     (c : IsComponent presence in_front eq meaning s eq_item item left_out) where
-  pub component_read : {l : Layout} {b m d : State} {ts : Trees} (x : X) → b.implicit_tag ≡ None → IfSome (item x) (λ w. ReadsMember s b m (meaning w)) → IfNone (item x) (Lacks s b m) → ReadsLayout l m d ts → ReadsLayout (place_then presence s l) b d (in_front x ts)
-  component_read {l} {b} {m} {d} {ts} x whole r h n = subst (ReadsLayout (place_then presence s l) b d) (sym (c.stands x ts)) (by_presence presence (item x) (c.there x) r h)
+  pub component_read : {l : Layout} {b m d : State} {ts : Trees} (x : X) → b.implicit_tag ≡ None → IfSome (item x) (λ w. ReadsMember s b m (meaning w)) → IfNone (item x) (Lacks s b m) → ReadsLayout l m d ts → ReadsLayout (component_then presence s l) b d (in_front x ts)
+  component_read {l} {b} {m} {d} {ts} x whole r h n = subst (ReadsLayout (component_then presence s l) b d) (sym (c.stands x ts)) (by_presence presence (item x) (c.there x) r h)
     where
-      by_presence : (p : Presence) (o : Option W) → IsThere p o → IfSome o (λ w. ReadsMember s b m (meaning w)) → IfNone o (Lacks s b m) → ReadsLayout (place_then p s l) b d (maybe_more meaning o ts)
+      by_presence : (p : Presence) (o : Option W) → IsThere p o → IfSome o (λ w. ReadsMember s b m (meaning w)) → IfNone o (Lacks s b m) → ReadsLayout (component_then p s l) b d (maybe_more meaning o ts)
       by_presence always None t r h = absurd t
       by_presence always (Some w) t r h = required_read r n
       by_presence perhaps o t r h = maybe_read meaning o whole r h n
 
   pub component_head : {V : Type 0} {others : V → Trees} {l : Layout} {AreEqual : V → V → Type 0} (first : V → X) → AreComponents others l AreEqual → {b d : State} {e : Asn1DerError} → b.implicit_tag ≡ None → RefusesComponent presence meaning left_out s b d e
-      → RefusesLayout (λ v. in_front (first v) (others v)) (place_then presence s l) b d e
+      → RefusesLayout (λ v. in_front (first v) (others v)) (component_then presence s l) b d e
   component_head {V} {others} {l} first cs {b} {d} {e} whole h = refuses_alike (λ v. c.stands (first v) (others v)) (by_presence presence c.there h)
     where
-      by_presence : (p : Presence) → ((x : X) → IsThere p (item x)) → RefusesComponent p meaning left_out s b d e → RefusesLayout (λ v. maybe_more meaning (item (first v)) (others v)) (place_then p s l) b d e
+      by_presence : (p : Presence) → ((x : X) → IsThere p (item x)) → RefusesComponent p meaning left_out s b d e → RefusesLayout (λ v. maybe_more meaning (item (first v)) (others v)) (component_then p s l) b d e
       by_presence always there h = required_head meaning (λ v. item (first v)) (λ v. there (first v)) others h
       by_presence perhaps there h = default_head meaning left_out others s l (λ v. item (first v)) (λ v. v) (λ v. c.written (first v)) c.by_tree c.sound c.begins cs.begins whole h
 
   pub component_next : {V U : Type 0} {others : U → Trees} {l : Layout} {AreEqual : U → U → Type 0} (first : V → X) (rest : V → U) → AreComponents others l AreEqual → {b m d : State} {e : Asn1DerError} (x : X) → b.implicit_tag ≡ None → IfSome (item x) (λ w. ReadsMember s b m (meaning w)) → IfNone (item x) (Lacks s b m)
-      → RefusesLayout others l m d e → RefusesLayout (λ v. in_front (first v) (others (rest v))) (place_then presence s l) b d e
+      → RefusesLayout others l m d e → RefusesLayout (λ v. in_front (first v) (others (rest v))) (component_then presence s l) b d e
   component_next {V} {U} {others} {l} first rest cs {b} {m} {d} {e} x whole r h n = refuses_alike (λ v. c.stands (first v) (others (rest v))) (by_presence presence (item x) (c.there x) c.there r h)
     where
-      by_presence : (p : Presence) (o : Option W) → IsThere p o → ((y : X) → IsThere p (item y)) → IfSome o (λ w. ReadsMember s b m (meaning w)) → IfNone o (Lacks s b m) → RefusesLayout (λ v. maybe_more meaning (item (first v)) (others (rest v))) (place_then p s l) b d e
+      by_presence : (p : Presence) (o : Option W) → IsThere p o → ((y : X) → IsThere p (item y)) → IfSome o (λ w. ReadsMember s b m (meaning w)) → IfNone o (Lacks s b m) → RefusesLayout (λ v. maybe_more meaning (item (first v)) (others (rest v))) (component_then p s l) b d e
       by_presence always None t there r h = absurd t
       by_presence always (Some w) t there r h = required_next meaning (λ v. item (first v)) (λ v. there (first v)) others rest r n
       by_presence perhaps o t there r h = maybe_next meaning others s l (λ v. item (first v)) rest c.begins cs.begins o whole r h n
@@ -399,8 +399,8 @@ layout_first : (kind : ListKind) (l : Layout) → IsFirst (Shape.struct_of kind 
 layout_first ListKind.sequence l = refl
 layout_first ListKind.set l = refl
 
-opened_rests : (kind : ListKind) {a b : State} {outer : Outer} → OpensList (list_tag kind) a b outer → Rests b b
-opened_rests kind o = rests_here (ap (λ (s : State). s.failed) o.opened ∙ o.begins.takes.not_failed) (ap (λ (s : State). s.peeked) o.opened ∙ o.begins.takes.unpeeked)
+opened_peeks_at_most : (kind : ListKind) {a b : State} {outer : Outer} → OpensList (list_tag kind) a b outer → PeeksAtMost b b
+opened_peeks_at_most kind o = peeks_at_most_here (ap (λ (s : State). s.failed) o.opened ∙ o.begins.takes.not_failed) (ap (λ (s : State). s.peeked) o.opened ∙ o.begins.takes.unpeeked)
 
 -- there is no header
 pub layout_unopened : {V : Type 0} {members : V → Trees} {l : Layout} {kind : ListKind} {a c : State} {e : Asn1DerError} → RefusesList (list_tag kind) a c e → Refuses (λ v. Tree.list kind (members v)) (Shape.struct_of kind l) a c e
@@ -415,12 +415,12 @@ layout_refused {members = members} {l = l} {kind = kind} part told o r = list_re
 pub layout_left : {V : Type 0} {members : V → Trees} {l : Layout} {kind : ListKind} {a b c d : State} {outer : Outer} {ts : Trees} {e : Asn1DerError} → AreMembersTold l → OpensList (list_tag kind) a b outer → ReadsLayout l b c ts → RefusesClose c d e
     → Refuses (λ v. Tree.list kind (members v)) (Shape.struct_of kind l) a d e
 layout_left {members = members} {l = l} {kind = kind} {b = b} {d = d} {e = e} told o r h =
-    let left = h.left (rests_not_failed (r.passes b (opened_rests kind o)).rests) in
+    let left = h.left (peeks_at_most_not_failed (r.passes b (opened_peeks_at_most kind o)).peeks_at_most) in
     list_refused kind members (Shape.struct_of kind l) (layout_first kind l) o (r.fails d e h.fails) (λ j v of_shape readable order w. r.full told d e h.fails left.0 (members v) of_shape.1 readable w)
 
 -- the members were read, and the list was closed
 pub layout_reads : {l : Layout} {kind : ListKind} {a b c d : State} {outer closed : Outer} {ts : Trees} → OpensList (list_tag kind) a b outer → ReadsLayout l b c ts → Closes closed c d → closed ≡ outer → Reads (Shape.struct_of kind l) a d (Tree.list kind ts)
 layout_reads {kind = kind} {b = b} {ts = ts} o r k back =
-    let q = r.passes b (opened_rests kind o) in
-    let takes = subst (λ z. Takes (without_order b) (without_order z) (members_encoding ts)) (sym (rested q.rests k.reached)) q.takes in
+    let q = r.passes b (opened_peeks_at_most kind o) in
+    let takes = subst (λ z. Takes (without_order b) (without_order z) (members_encoding ts)) (sym (no_peek_at_end q.peeks_at_most k.reached)) q.takes in
     list_reads ts o r.order takes r.implicit_tag k back (refl, r.are) r.readable

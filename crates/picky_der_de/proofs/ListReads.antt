@@ -16,20 +16,20 @@ use Rattle.picky_der_input.specs.Ends.{Outer, Closes, RefusesClose, OpensList, R
 use Rattle.picky_der_de.specs.Members.{ReadsMember, RefusesMember, HasNoMore, members_encoding, StandBefore, StandUpToEnd, BreaksOrder, RefusesTaken, ReadsAll, RefusesAll}
 use Rattle.picky_der_input.proofs.Steps.{takes_none, takes_then}
 use Rattle.picky_der_input.proofs.Order.{fails_behind, judged_behind, order_none}
-use Rattle.picky_der_de.proofs.Members.{bytes_of-more, bytes_of-none, takes_member, member_not_implicit, member_leads, member_ahead, next_order, next_member, next_up_to_end, same_member, order_ahead, order_behind, no_members_in_order, no_member, no_member_in_order, member_refused_less, none_left, list_refused, list_unopened, list_reads}
+use Rattle.picky_der_de.proofs.Members.{members_encoding-more, members_encoding-none, takes_member, member_not_implicit, member_leads, member_ahead, next_order, next_member, next_up_to_end, same_member, order_ahead, order_behind, no_members_in_order, no_member, no_member_in_order, member_refused_less, none_left, list_refused, list_unopened, list_reads}
 
 -- ---- one member more behind others
 
-bytes_of-one : (t : Tree) → members_encoding (Trees.more t Trees.none) ≡ der t
-bytes_of-one t = bytes_of-more t Trees.none ∙ ap (λ x. der t ++ x) bytes_of-none ∙ append-nil (der t)
+members_encoding-one : (t : Tree) → members_encoding (Trees.more t Trees.none) ≡ der t
+members_encoding-one t = members_encoding-more t Trees.none ∙ ap (λ x. der t ++ x) members_encoding-none ∙ append-nil (der t)
 
-pub bytes_of-push : {V : Type 0} (meaning : V → Tree) (vs : List V) (v : V) → members_encoding (trees (map meaning (vs ++ v ∷ []))) ≡ members_encoding (trees (map meaning vs)) ++ der (meaning v)
-bytes_of-push meaning [] v = bytes_of-more (meaning v) Trees.none ∙ ap (λ x. der (meaning v) ++ x) bytes_of-none ∙ append-nil (der (meaning v)) ∙ ap (λ x. x ++ der (meaning v)) (sym bytes_of-none)
-bytes_of-push meaning (w ∷ vs) v =
-    bytes_of-more (meaning w) (trees (map meaning (vs ++ v ∷ [])))
-    ∙ ap (λ x. der (meaning w) ++ x) (bytes_of-push meaning vs v)
+pub members_encoding-push : {V : Type 0} (meaning : V → Tree) (vs : List V) (v : V) → members_encoding (trees (map meaning (vs ++ v ∷ []))) ≡ members_encoding (trees (map meaning vs)) ++ der (meaning v)
+members_encoding-push meaning [] v = members_encoding-more (meaning v) Trees.none ∙ ap (λ x. der (meaning v) ++ x) members_encoding-none ∙ append-nil (der (meaning v)) ∙ ap (λ x. x ++ der (meaning v)) (sym members_encoding-none)
+members_encoding-push meaning (w ∷ vs) v =
+    members_encoding-more (meaning w) (trees (map meaning (vs ++ v ∷ [])))
+    ∙ ap (λ x. der (meaning w) ++ x) (members_encoding-push meaning vs v)
     ∙ sym (append_assoc (der (meaning w)) (members_encoding (trees (map meaning vs))) (der (meaning v)))
-    ∙ ap (λ x. x ++ der (meaning v)) (sym (bytes_of-more (meaning w) (trees (map meaning vs))))
+    ∙ ap (λ x. x ++ der (meaning v)) (sym (members_encoding-more (meaning w) (trees (map meaning vs))))
 
 pub each-push : {V : Type 0} (meaning : V → Tree) (P : Tree → Type 0) (vs : List V) (v : V) → EachIs P (trees (map meaning vs)) → P (meaning v) → EachIs P (trees (map meaning (vs ++ v ∷ [])))
 each-push meaning P [] v h p = (p, tt)
@@ -65,7 +65,7 @@ pub all_refused : {V : Type 0} {meaning : V → Tree} {s : Shape} {c d : State} 
 all_refused {V} {meaning} {s} {c} {d} {e} r ahead = record { fails = r.fails; lesser = lesser; none = none }
   where
     lesser : IsJudged c d e → (vs : List V) (v : V) → BreaksOrder meaning s (AreInOrder c.sets) vs v → StandBefore c d e (members_encoding (trees (map meaning (vs ++ v ∷ [])))) → RefusesTaken c d e (members_encoding (trees (map meaning (vs ++ v ∷ []))))
-    lesser j [] v h w = subst (RefusesTaken c d e) (sym (bytes_of-one (meaning v))) (member_refused_less v Trees.none r j h.of_shape.0 h.readable.0 w).taken
+    lesser j [] v h w = subst (RefusesTaken c d e) (sym (members_encoding-one (meaning v))) (member_refused_less v Trees.none r j h.of_shape.0 h.readable.0 w).taken
     lesser j (u ∷ us) v h w = absurd (no_member_in_order u (trees (map meaning (us ++ v ∷ []))) (trees (map meaning us)) r j h.of_shape.0 h.readable.0 h.in_order w)
 
     none : IsJudged c d e → (vs : List V) → EachIs (IsOf s) (trees (map meaning vs)) → AreReadable (trees (map meaning vs)) → AreInOrder c.sets (encodings (trees (map meaning vs))) → StandUpToEnd c d e (members_encoding (trees (map meaning vs))) → ⊥
@@ -90,7 +90,7 @@ all_next {V} {meaning} {s} {b} {c} {d} {t} {e} r h = record { fails = fails_behi
           broken = λ o. k.broken (order_ahead (meaning u) others same r o);
         } in
         let q = h.lesser (judged_behind (takes_member r) j) us v rest (next_member (meaning u) others k.readable.0 r h.fails w) in
-        let parts : members_encoding (Trees.more (meaning u) others) ≡ der t ++ members_encoding others = bytes_of-more (meaning u) others ∙ ap (λ x. x ++ members_encoding others) same in
+        let parts : members_encoding (Trees.more (meaning u) others) ≡ der t ++ members_encoding others = members_encoding-more (meaning u) others ∙ ap (λ x. x ++ members_encoding others) same in
         record { mid = q.mid; takes = subst (Takes (without_order b) (without_order q.mid)) (sym parts) (takes_then (takes_member r) q.takes); error = q.error; same = q.same }
 
     none : IsJudged b d e → (vs : List V) → EachIs (IsOf s) (trees (map meaning vs)) → AreReadable (trees (map meaning vs)) → AreInOrder b.sets (encodings (trees (map meaning vs))) → StandUpToEnd b d e (members_encoding (trees (map meaning vs))) → ⊥
@@ -118,7 +118,7 @@ some_none meaning s a h p d = record {
   of_shape = tt;
   readable = tt;
   leads = leads-none meaning a;
-  takes = subst (Takes (without_order a) (without_order a)) (sym bytes_of-none) (takes_none (without_order a) h p);
+  takes = subst (Takes (without_order a) (without_order a)) (sym members_encoding-none) (takes_none (without_order a) h p);
   implicit_tag = d;
   refuses = λ d e r. r;
 }
@@ -128,7 +128,7 @@ some_more meaning s {a} {b} {c} vs v h r = record {
   of_shape = each-push meaning (IsOf s) vs v h.of_shape r.reads.of_shape;
   readable = readable-push meaning vs v h.readable r.reads.readable;
   leads = leads-push meaning a vs v h.leads r;
-  takes = subst (Takes (without_order a) (without_order c)) (sym (bytes_of-push meaning vs v)) (takes_then h.takes (takes_member r));
+  takes = subst (Takes (without_order a) (without_order c)) (sym (members_encoding-push meaning vs v)) (takes_then h.takes (takes_member r));
   implicit_tag = member_not_implicit r;
   refuses = λ d e w. h.refuses d e (all_next r w);
 }

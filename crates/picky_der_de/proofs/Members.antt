@@ -17,23 +17,23 @@ use Rattle.picky_der_input.specs.Reading.{Concerns, now, ever, Reads, Refuses}
 use Rattle.picky_der_input.specs.Ends.{Outer, with_inner_end, Closes, OpensList, RefusesList}
 use Rattle.picky_der_de.specs.Members.{ReadsMember, RefusesNext, no_value, behind_value, RefusesMember, HasNoMore, members_encoding, StandBefore, StandUpToEnd, RefusesTaken}
 use Rattle.picky_der_input.proofs.Steps.{fails_after, fails_again, judged_after}
-use Rattle.picky_der_input.proofs.Order.{concerns_alike, concerns_unordered, judged_alike, fails_alike, takes_unordered, order_none, order_first, order_next, order_more, order_begins, order_whole}
-use Rattle.picky_der_input.proofs.Refusals.{behind, failed_grows, end_below}
+use Rattle.picky_der_input.proofs.Order.{concerns_alike, concerns_without_order, judged_alike, fails_alike, takes_without_order, order_none, order_first, order_next, order_more, order_begins, order_whole}
+use Rattle.picky_der_input.proofs.Refusals.{concerns_behind, failed_grows, end_below}
 use Rattle.picky_der_input.proofs.PlainReads.{no_plain, begun, takes_plain, may_stand, first_of_header}
-use Rattle.picky_der_input.proofs.Ends.{narrowed_concerns, concerns_room, narrowed_judged, widened_fails, closes_behind}
+use Rattle.picky_der_input.proofs.Ends.{concerns_with_inner_end, concerns_room, judged_with_inner_end, fails_without_inner_end, closes_behind}
 
 -- ---- the content of a list
 
-pub bytes_of-more : (t : Tree) (ts : Trees) → members_encoding (Trees.more t ts) ≡ der t ++ members_encoding ts
+pub members_encoding-more : (t : Tree) (ts : Trees) → members_encoding (Trees.more t ts) ≡ der t ++ members_encoding ts
 unfolding der tree_bytes
-bytes_of-more t ts = refl
+members_encoding-more t ts = refl
 
-pub bytes_of-none : members_encoding Trees.none ≡ []
+pub members_encoding-none : members_encoding Trees.none ≡ []
 unfolding tree_bytes
-bytes_of-none = refl
+members_encoding-none = refl
 
-pub bytes_of-content : (kind : ListKind) (ts : Trees) → IsInOrder kind (encodings ts) → content (Tree.list kind ts) ≡ members_encoding ts
-bytes_of-content kind ts h = list_content-in_order kind (encodings ts) h
+pub members_encoding-content : (kind : ListKind) (ts : Trees) → IsInOrder kind (encodings ts) → content (Tree.list kind ts) ≡ members_encoding ts
+members_encoding-content kind ts h = list_content-in_order kind (encodings ts) h
 
 encodings-more : (t : Tree) (ts : Trees) → encodings (Trees.more t ts) ≡ der t ∷ encodings ts
 unfolding der tree_bytes
@@ -57,7 +57,7 @@ takes_whole : {s : Shape} {b c : State} {t : Tree} → Reads s b c t → b.impli
 takes_whole {b = b} {c = c} {t = t} r implicit_tag = subst (λ d. Takes b c (written_at (place_in d b.until_end) t)) implicit_tag r.takes
 
 pub takes_member : {s : Shape} {b c : State} {t : Tree} → ReadsMember s b c t → Takes (without_order b) (without_order c) (der t)
-takes_member {b = b} {t = t} r = subst (λ z. Takes (without_order b) (without_order z) (der t)) (sym r.follows.same) (takes_unordered (takes_whole r.reads r.implicit_tag))
+takes_member {b = b} {t = t} r = subst (λ z. Takes (without_order b) (without_order z) (der t)) (sym r.follows.same) (takes_without_order (takes_whole r.reads r.implicit_tag))
 
 pub member_not_implicit : {s : Shape} {b c : State} {t : Tree} → ReadsMember s b c t → c.implicit_tag ≡ None
 member_not_implicit r = ap (λ (z : State). z.implicit_tag) r.follows.same ∙ r.reads.implicit_tag
@@ -133,22 +133,22 @@ pub record IsRefusedLess (old new : State) (e : Asn1DerError) (encoding : List �
 
 -- the bytes of a value were taken: they are those of the first that stands, and the bytes of the others are those behind it
 same_first : {b c d : State} {e : Asn1DerError} (t u : Tree) (us : Trees) → IsReadable u → IsReadable t → (m : Takes b c (der t)) → (l : c.taken ≤ drawn_count d) → {end : ℕ} {seen : List ℕ} (w : Concerns b d e end seen) (rest : List ℕ) → seen ≡ members_encoding (Trees.more u us) ++ rest
-    → (der u ≡ der t) × (members_encoding us ++ rest ≡ (behind m l w).rest)
+    → (der u ≡ der t) × (members_encoding us ++ rest ≡ (concerns_behind m l w).rest)
 same_first t u us readable read m l w rest begins =
-    let v = behind m l w in
+    let v = concerns_behind m l w in
     let same : der u ++ (members_encoding us ++ rest) ≡ der t ++ v.rest =
-    sym (append_assoc (der u) (members_encoding us) rest) ∙ ap (λ x. x ++ rest) (sym (bytes_of-more u us)) ∙ sym begins ∙ v.begins in
+    sym (append_assoc (der u) (members_encoding us) rest) ∙ ap (λ x. x ++ rest) (sym (members_encoding-more u us)) ∙ sym begins ∙ v.begins in
     same_encoding u t (members_encoding us ++ rest) v.rest readable read same
 
 -- a member was read, and others stand behind it
 module _ {s : Shape} {b c d : State} {e : Asn1DerError} {t : Tree} (u : Tree) (us : Trees) (readable : IsReadable u) (r : ReadsMember s b c t) (f : Fails c d e) (w : StandBefore b d e (members_encoding (Trees.more u us))) where
-  pub same_member : (der u ≡ der t) × (members_encoding us ++ w.rest ≡ (behind (takes_member r) (failed_grows f) (concerns_unordered w.concerns)).rest)
-  same_member = same_first t u us readable r.reads.readable (takes_member r) (failed_grows f) (concerns_unordered w.concerns) w.rest w.begins
+  pub same_member : (der u ≡ der t) × (members_encoding us ++ w.rest ≡ (concerns_behind (takes_member r) (failed_grows f) (concerns_without_order w.concerns)).rest)
+  same_member = same_first t u us readable r.reads.readable (takes_member r) (failed_grows f) (concerns_without_order w.concerns) w.rest w.begins
 
   pub next_member : StandBefore c d e (members_encoding us)
   next_member =
       let m = takes_member r in
-      let v = behind m (failed_grows f) (concerns_unordered w.concerns) in
+      let v = concerns_behind m (failed_grows f) (concerns_without_order w.concerns) in
       let soft : c.end ≡ Soft = m.end ∙ w.soft in
       let left : v.left ≡ c.until_end = concerns_room soft v.concerns in
       record {
@@ -157,7 +157,7 @@ module _ {s : Shape} {b c d : State} {e : Asn1DerError} {t : Tree} (u : Tree) (u
         concerns = subst (λ n. Concerns c d e n v.rest) left (concerns_alike c.sets v.concerns);
         rest = w.rest;
         begins = sym same_member.1;
-        within = omega (arith, w.within, ap length (bytes_of-more u us), length-append (der u) (members_encoding us), ap length same_member.0, m.until_end);
+        within = omega (arith, w.within, ap length (members_encoding-more u us), length-append (der u) (members_encoding us), ap length same_member.0, m.until_end);
       }
 
   pub next_order : AreInOrder b.sets (encodings (Trees.more u us)) → AreInOrder c.sets (encodings us)
@@ -168,7 +168,7 @@ next_up_to_end u us readable r f w =
     let p = same_member u us readable r f w.stand in
     record {
       stand = next_member u us readable r f w.stand;
-      fills = omega (arith, w.fills, ap length (bytes_of-more u us), length-append (der u) (members_encoding us), ap length p.0, (takes_member r).until_end);
+      fills = omega (arith, w.fills, ap length (members_encoding-more u us), length-append (der u) (members_encoding us), ap length p.0, (takes_member r).until_end);
     }
 
 -- The next member was refused. Where a value of its type stands there, it was read, and refused for its order.
@@ -176,7 +176,7 @@ module _ {V : Type 0} (meaning : V → Tree) {s : Shape} {c d : State} {e : Asn1
     (w : StandBefore c d e (members_encoding (Trees.more (meaning v) us))) where
   unread : Refuses meaning s c d e → ⊥
   unread r =
-      let parts : members_encoding (Trees.more (meaning v) us) ≡ der (meaning v) ++ members_encoding us = bytes_of-more (meaning v) us in
+      let parts : members_encoding (Trees.more (meaning v) us) ≡ der (meaning v) ++ members_encoding us = members_encoding-more (meaning v) us in
       let stands : StandsAt Place.whole s w.seen c.until_end (meaning v) = record {
         of_shape = of_shape;
         readable = readable;
@@ -192,7 +192,7 @@ module _ {V : Type 0} (meaning : V → Tree) {s : Shape} {c d : State} {e : Asn1
       let m = takes_whole r implicit_tag in
       let same = (same_first t (meaning v) us readable r.readable m (failed_grows h.fails) w.concerns w.rest w.begins).0 in
       record {
-        taken = record { mid = b; takes = subst (Takes (without_order c) (without_order b)) (sym same) (takes_unordered m); error = h.error; same = h.same };
+        taken = record { mid = b; takes = subst (Takes (without_order c) (without_order b)) (sym same) (takes_without_order m); error = h.error; same = h.same };
         less = ap₂ is_out_of_order (sym m.sets) same ∙ h.less;
       }
 
@@ -215,7 +215,7 @@ no_member v us r j of_shape readable order w = no_member_in_order v us us r j of
 
 -- something is left, so no member is missing
 pub none_left : {c d : State} {e : Asn1DerError} → 0 < c.until_end → StandUpToEnd c d e (members_encoding Trees.none) → ⊥
-none_left l w = omega (arith, w.fills, ap length bytes_of-none)
+none_left l w = omega (arith, w.fills, ap length members_encoding-none)
 
 -- ---- whole lists
 
@@ -231,13 +231,13 @@ members_stand : (kind : ListKind) (s : Shape) {a b c : State} {outer : Outer} {e
 members_stand kind s {b = b} {c = c} {e = e} ts h f w st =
     let grows : h.mid.taken ≤ drawn_count c = omega (arith, failed_grows f, ap (λ (z : State). z.taken) h.opened) in
     let o = begun h.begins grows refl refl w st in
-    let content_is = bytes_of-content kind ts st.readable.0 in
-    let opened : State = record (with_inner_end h.mid h.len Soft) { sets = sets_inside (order_of (list_tag kind)) h.mid.sets } in
+    let content_is = members_encoding-content kind ts st.readable.0 in
+    let opened : State = record (with_inner_end h.mid h.size Soft) { sets = sets_inside (order_of (list_tag kind)) h.mid.sets } in
     let size : length (members_encoding ts) ≡ opened.until_end = sym (ap length content_is) ∙ o.size in
     let stand : StandBefore opened c e (members_encoding ts) = record {
       soft = refl;
       seen = o.seen;
-      concerns = concerns_alike (sets_inside (order_of (list_tag kind)) h.mid.sets) (narrowed_concerns o.concerns);
+      concerns = concerns_alike (sets_inside (order_of (list_tag kind)) h.mid.sets) (concerns_with_inner_end o.concerns);
       rest = o.rest;
       begins = o.begins ∙ ap (λ x. x ++ o.rest) content_is;
       within = omega (arith, size);
@@ -248,13 +248,13 @@ members_stand kind s {b = b} {c = c} {e = e} ts h f w st =
 pub list_refused : {V : Type 0} (kind : ListKind) (members : V → Trees) (s : Shape) → IsFirst s (list_tag kind) → {a b c : State} {outer : Outer} {e : Asn1DerError} → OpensList (list_tag kind) a b outer → Fails b c e
     → (IsJudged b c e → (v : V) → IsOf s (Tree.list kind (members v)) → AreReadable (members v) → AreInOrder b.sets (encodings (members v)) → StandUpToEnd b c e (members_encoding (members v)) → ⊥) → Refuses (λ v. Tree.list kind (members v)) s a c e
 list_refused kind members s first {a} {b} {c} {outer} {e} h f none =
-    let before : Fails (with_inner_end h.mid h.len Soft) c e = fails_alike (sets_inside None h.mid.sets) (subst (λ z. Fails z c e) h.opened f) in
-    let fails : Fails h.mid c e = widened_fails h.begins.fits before in
-    let judged : IsJudged a c e → IsJudged b c e = λ j. subst (λ z. IsJudged z c e) (sym h.opened) (judged_alike (sets_inside (order_of (list_tag kind)) h.mid.sets) (narrowed_judged h.len Soft (judged_after h.begins.takes j))) in
+    let before : Fails (with_inner_end h.mid h.size Soft) c e = fails_alike (sets_inside None h.mid.sets) (subst (λ z. Fails z c e) h.opened f) in
+    let fails : Fails h.mid c e = fails_without_inner_end h.begins.fits before in
+    let judged : IsJudged a c e → IsJudged b c e = λ j. subst (λ z. IsJudged z c e) (sym h.opened) (judged_alike (sets_inside (order_of (list_tag kind)) h.mid.sets) (judged_with_inner_end h.size Soft (judged_after h.begins.takes j))) in
     record {
       fails = fails_after h.begins.takes fails;
       none = λ j end bs w v st. none (judged j) v st.of_shape st.readable.1 (opened_in_order kind (members v) h st.readable.0) (members_stand kind s (members v) h f w st);
-      first = λ j k d x left l q. first_of_header s a.implicit_tag a.input h.mid.input (list_tag kind) h.len first h.begins.takes.input d left l q;
+      first = λ j k d x left l q. first_of_header s a.implicit_tag a.input h.mid.input (list_tag kind) h.size first h.begins.takes.input d left l q;
     }
 
 -- a list whose header was refused
@@ -273,14 +273,14 @@ pub list_reads : {s : Shape} {a b c d : State} {kind : ListKind} {outer closed :
 list_reads {s} {a} {b} {c} {d} {kind} {outer} {closed} ts h o t none k same of_shape readable =
     let order = whole_in_order kind ts h o in
     let all = content (Tree.list kind ts) in
-    let taken : Takes (without_order b) (without_order c) all = subst (Takes (without_order b) (without_order c)) (sym (bytes_of-content kind ts order)) t in
-    let within : Takes (with_inner_end h.mid h.len Soft) (without_order c) all = subst (λ z. Takes (without_order z) (without_order c) all) h.opened taken in
+    let taken : Takes (without_order b) (without_order c) all = subst (Takes (without_order b) (without_order c)) (sym (members_encoding-content kind ts order)) t in
+    let within : Takes (with_inner_end h.mid h.size Soft) (without_order c) all = subst (λ z. Takes (without_order z) (without_order c) all) h.opened taken in
     let closes : Closes closed (without_order c) d = record { reached = k.reached; had_not_failed = k.had_not_failed; same = k.same } in
-    let p = closes_behind h.begins.fits (same ∙ h.around) within closes in
+    let p = closes_behind h.begins.fits (same ∙ h.outer_end) within closes in
     record {
       of_shape = of_shape;
       readable = (order, readable);
-      may_stand = may_stand a.implicit_tag (list_tag kind) h.len a.until_end h.mid.until_end (Tree.list kind ts) refl h.begins.takes.until_end h.begins.all p.1 tt;
+      may_stand = may_stand a.implicit_tag (list_tag kind) h.size a.until_end h.mid.until_end (Tree.list kind ts) refl h.begins.takes.until_end h.begins.all p.1 tt;
       takes = takes_plain a.implicit_tag a.until_end (Tree.list kind ts) refl refl h.begins.takes p.0 p.1;
       implicit_tag = ap (λ (z : State). z.implicit_tag) k.same ∙ none;
     }

@@ -3,7 +3,7 @@ use Rattle.std.proofs.Common.{◌≡◌, ℕ, ◌≤◌, inl, inr, List, [], ◌
 use Rattle.std.specs.Io.KnownBytes.{Consumes}
 use Rattle.std.proofs.KnownBytes.{Consumes-trans}
 use Rattle.picky_der_core.specs.declared.error.Asn1DerError.{Asn1DerError}
-use Rattle.picky_der_core.specs.Element.{Begins}
+use Rattle.picky_der_core.specs.Element.{IsPrefix}
 use Rattle.picky_der_core.specs.Peeking.{count_of_any}
 use Rattle.picky_der_core.specs.Tree.{Tree}
 use Rattle.picky_der_core.specs.Encoding.{der}
@@ -12,7 +12,7 @@ use Rattle.picky_der_core.specs.Reader.{TellsFault}
 use Rattle.picky_der_core.specs.Shape.{Shape}
 use Rattle.picky_der_core.specs.Reading.{Place, StandsAt}
 use Rattle.picky_der_input.specs.State.{State}
-use Rattle.picky_der_input.specs.Steps.{Takes, Fails, IsJudged, IsMissing, drawn_count, reach, place_in, place_of}
+use Rattle.picky_der_input.specs.Steps.{Takes, Fails, IsJudged, IsMissing, drawn_count, mendable_limit, place_in, place_of}
 use Rattle.picky_der_input.specs.Reading.{Concerns, now, ever, Refuses}
 use Rattle.picky_der_input.specs.LookAhead.{Peeks, IdentifiesIn, Identifies, RefusesIdentifier}
 use Rattle.picky_der_input.proofs.Steps.{there_after}
@@ -41,8 +41,8 @@ module _ {a b : State} {x : ℕ} (p : Peeks a b x) where
   not_failed : b.failed ≡ None
   not_failed = ap (λ (s : State). s.failed) p.same ∙ p.had_not_failed
 
-  pub not_direct : b.implicit_tag ≡ None
-  not_direct = ap (λ (s : State). s.implicit_tag) p.same ∙ p.implicit_tag
+  pub no_implicit_tag : b.implicit_tag ≡ None
+  no_implicit_tag = ap (λ (s : State). s.implicit_tag) p.same ∙ p.implicit_tag
 
   one_peeked : count_of_any b.peeked ≡ 1
   one_peeked = ap (λ (s : State). count_of_any s.peeked) p.same
@@ -91,9 +91,9 @@ module _ {a b : State} {x : ℕ} (p : Peeks a b x) where
   pub peeks_concerns : {c : State} {e : Asn1DerError} {end : ℕ} {bs : List ℕ} → Concerns a c e end bs → Concerns b c e end bs
   peeks_concerns {c} {e} {end} {bs} (now i r) = now (kept_known a.input b.input bs p.input i) (r ∙ sym still_room)
   peeks_concerns {c} {e} {end} {bs} (ever w r d y left i l f) =
-      ever w (r ∙ sym (ap reach p.same)) d y left (kept_known a.input b.input (d ++ left) p.input i) (omega (arith, l, still_taken)) f
+      ever w (r ∙ sym (ap mendable_limit p.same)) d y left (kept_known a.input b.input (d ++ left) p.input i) (omega (arith, l, still_taken)) f
 
-  known_next : (i : Option (List ℕ)) (bs : List ℕ) → IfSome i (Begins (x ∷ [])) → i ≡ Some bs → (left : List ℕ) × (bs ≡ x ∷ left)
+  known_next : (i : Option (List ℕ)) (bs : List ℕ) → IfSome i (IsPrefix (x ∷ [])) → i ≡ Some bs → (left : List ℕ) × (bs ≡ x ∷ left)
   known_next None bs h e = absurd (let q : None ≡ Some bs = e in cc)
   known_next (Some xs) bs h e = let same : xs ≡ bs = cc in (h.rest, sym same ∙ h.is)
 
@@ -116,7 +116,7 @@ module _ {a b : State} {x : ℕ} (p : Peeks a b x) where
   peeks_refuses {meaning = meaning} {s = s} h = record {
     fails = peeks_fails h.fails;
     none = λ j end bs w v st. h.none (peeks_judged j) end bs (peeks_concerns w) v (subst (λ z. StandsAt z s bs end (meaning v)) (sym same_place) st);
-    first = λ j k d l y left i. h.first (peeks_judged j) k not_direct (omega (arith, l, still_room)) y left (kept_known a.input b.input (y ∷ left) p.input i);
+    first = λ j k d l y left i. h.first (peeks_judged j) k no_implicit_tag (omega (arith, l, still_room)) y left (kept_known a.input b.input (y ∷ left) p.input i);
   }
 
 -- ---- where a value stands

@@ -1,4 +1,4 @@
--- The rest of a sequence's members, from one place on up to its end: for types whose values don't all have as many members.
+-- The rest of a sequence's members, from one member on up to its end: for types whose values don't all have as many members.
 -- Each call gives one record, and one lemma takes it.
 use Rattle.std.proofs.Common.{◌≡◌, ◌<◌, ◌∷◌, ◌++◌, None, sym, ◌∙◌, ap, subst, arith}
 use Rattle.picky_der_core.specs.declared.error.Asn1DerError.{Asn1DerError}
@@ -14,7 +14,7 @@ use Rattle.picky_der_input.specs.Reading.{Reads, Refuses}
 use Rattle.picky_der_input.specs.Ends.{Outer, RefusesClose, OpensList, RefusesList}
 use Rattle.picky_der_de.specs.Members.{ReadsMember, RefusesMember, HasNoMore, members_encoding, StandUpToEnd, ReadsRow}
 use Rattle.picky_der_input.proofs.Order.{fails_behind, judged_behind}
-use Rattle.picky_der_de.proofs.Members.{bytes_of-more, takes_member, member_not_implicit, member_ahead, next_order, next_up_to_end, no_member, none_left, list_refused, list_unopened}
+use Rattle.picky_der_de.proofs.Members.{members_encoding-more, takes_member, member_not_implicit, member_ahead, next_order, next_up_to_end, no_member, none_left, list_refused, list_unopened}
 use Rattle.picky_der_de.proofs.Rows.{row_none, row_read}
 
 -- the members behind the first one
@@ -31,9 +31,9 @@ pub record RefusesRest {V : Type 0} (P : V → Type 0) (members : V → Trees) (
 
 -- Why these members don't stand where the next one was refused: there are none, and something is left; or the first is
 -- written as a value of the type that was refused.
-pub data Unread {W : Type 0} (meaning : W → Tree) (s : Shape) (Ahead : Type 0) : Trees → Type 0 where
-  nothing : Ahead → Unread meaning s Ahead Trees.none
-  first : (w : W) (t : Tree) (ts : Trees) → IsOf s (meaning w) → IsReadable (meaning w) → der t ≡ der (meaning w) → Unread meaning s Ahead (Trees.more t ts)
+pub data FirstIsUnread {W : Type 0} (meaning : W → Tree) (s : Shape) (Ahead : Type 0) : Trees → Type 0 where
+  nothing : Ahead → FirstIsUnread meaning s Ahead Trees.none
+  first : (w : W) (t : Tree) (ts : Trees) → IsOf s (meaning w) → IsReadable (meaning w) → der t ≡ der (meaning w) → FirstIsUnread meaning s Ahead (Trees.more t ts)
 
 -- something is left, unless the deserializer had failed
 abbrev pub IsAhead : State → Type 0
@@ -54,10 +54,10 @@ encodings-as : (t u : Tree) (ts : Trees) → der t ≡ der u → encodings (Tree
 unfolding der tree_bytes
 encodings-as t u ts same = ap (λ m. m ∷ encodings ts) same
 
-first_refused : {W : Type 0} {meaning : W → Tree} {s : Shape} {c d : State} {e : Asn1DerError} (ts : Trees) → RefusesMember meaning s c d e → IsJudged c d e → Unread meaning s (IsAhead c) ts → AreInOrder c.sets (encodings ts) → StandUpToEnd c d e (members_encoding ts) → ⊥
+first_refused : {W : Type 0} {meaning : W → Tree} {s : Shape} {c d : State} {e : Asn1DerError} (ts : Trees) → RefusesMember meaning s c d e → IsJudged c d e → FirstIsUnread meaning s (IsAhead c) ts → AreInOrder c.sets (encodings ts) → StandUpToEnd c d e (members_encoding ts) → ⊥
 first_refused ts r j (nothing ahead) order w = none_left (ahead j.had_not_failed) w
 first_refused {meaning = meaning} {c = c} {d = d} {e = e} ts r j (first v t us of_shape readable same) order w =
-    let as_value = bytes_of-more t us ∙ ap (λ x. x ++ members_encoding us) same ∙ sym (bytes_of-more (meaning v) us) in
+    let as_value = members_encoding-more t us ∙ ap (λ x. x ++ members_encoding us) same ∙ sym (members_encoding-more (meaning v) us) in
     no_member v us r j of_shape readable (subst (AreInOrder c.sets) (encodings-as t (meaning v) us same) order) (subst (StandUpToEnd c d e) as_value w).stand
 
 behind_refused : {s : Shape} {b c d : State} {t : Tree} {e : Asn1DerError} (ts : Trees) → ReadsMember s b c t → Fails c d e → AreReadable ts → StandUpToEnd b d e (members_encoding ts) → StandUpToEnd c d e (members_encoding (behind_first ts))
@@ -70,7 +70,7 @@ behind_in_order (Trees.more u us) r f readable w order = next_order u us readabl
 
 module _ {V : Type 0} {P : V → Type 0} {members : V → Trees} where
   -- the next member was refused
-  pub rest_head : {W : Type 0} {meaning : W → Tree} {s : Shape} {c d : State} {e : Asn1DerError} → ((v : V) → P v → AreReadable (members v) → Unread meaning s (IsAhead c) (members v)) → RefusesMember meaning s c d e → RefusesRest P members c d e
+  pub rest_head : {W : Type 0} {meaning : W → Tree} {s : Shape} {c d : State} {e : Asn1DerError} → ((v : V) → P v → AreReadable (members v) → FirstIsUnread meaning s (IsAhead c) (members v)) → RefusesMember meaning s c d e → RefusesRest P members c d e
   rest_head unread r = record { fails = r.fails; none = λ j v p readable order w. first_refused (members v) r j (unread v p readable) order w }
 
   -- a member was read, and those behind it were refused

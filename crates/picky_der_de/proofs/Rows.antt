@@ -13,9 +13,9 @@ use Rattle.picky_der_input.specs.Reading.{Reads, Refuses}
 use Rattle.picky_der_input.specs.Ends.{Outer, Closes, RefusesClose, OpensList, RefusesList}
 use Rattle.picky_der_de.specs.Members.{ReadsMember, RefusesMember, members_encoding, ReadsRow, RefusesRow}
 use Rattle.picky_der_input.proofs.Steps.{takes_none, takes_then}
-use Rattle.picky_der_input.proofs.Order.{concerns_unordered, fails_behind, judged_behind}
-use Rattle.picky_der_input.proofs.Refusals.{behind, failed_grows}
-use Rattle.picky_der_de.proofs.Members.{bytes_of-more, bytes_of-none, no_members_in_order, takes_member, members_lead, next_order, next_member, no_member, list_refused, list_unopened, list_reads}
+use Rattle.picky_der_input.proofs.Order.{concerns_without_order, fails_behind, judged_behind}
+use Rattle.picky_der_input.proofs.Refusals.{concerns_behind, failed_grows}
+use Rattle.picky_der_de.proofs.Members.{members_encoding-more, members_encoding-none, no_members_in_order, takes_member, members_lead, next_order, next_member, no_member, list_refused, list_unopened, list_reads}
 
 row_first : (kind : ListKind) (ss : Shapes) → IsFirst (Shape.fields kind ss) (list_tag kind)
 row_first ListKind.sequence ss = refl
@@ -55,16 +55,16 @@ same_rows (Shapes.more s ss) Trees.none ts x y p q r z e = absurd p
 same_rows (Shapes.more s ss) (Trees.more u us) Trees.none x y p q r z e = absurd q
 same_rows (Shapes.more s ss) (Trees.more u us) (Trees.more t ts) x y p q r z e =
     let whole : der u ++ (members_encoding us ++ x) ≡ der t ++ (members_encoding ts ++ y) =
-    sym (append_assoc (der u) (members_encoding us) x) ∙ ap (λ bs. bs ++ x) (sym (bytes_of-more u us)) ∙ e ∙ ap (λ bs. bs ++ y) (bytes_of-more t ts) ∙ append_assoc (der t) (members_encoding ts) y in
+    sym (append_assoc (der u) (members_encoding us) x) ∙ ap (λ bs. bs ++ x) (sym (members_encoding-more u us)) ∙ e ∙ ap (λ bs. bs ++ y) (members_encoding-more t ts) ∙ append_assoc (der t) (members_encoding ts) y in
     let first = same_encoding u t (members_encoding us ++ x) (members_encoding ts ++ y) r.0 z.0 whole in
     let others = same_rows ss us ts x y p.1 q.1 r.1 z.1 first.1 in
-    bytes_of-more u us ∙ ap (λ bs. bs ++ members_encoding us) first.0 ∙ ap (λ bs. der t ++ bs) others ∙ sym (bytes_of-more t ts)
+    members_encoding-more u us ∙ ap (λ bs. bs ++ members_encoding us) first.0 ∙ ap (λ bs. der t ++ bs) others ∙ sym (members_encoding-more t ts)
 
 -- something is left behind a row that was read
 pub row_left : {V : Type 0} {members : V → Trees} {ss : Shapes} {kind : ListKind} {a b c d : State} {outer : Outer} {ts : Trees} {e : Asn1DerError} → OpensList (list_tag kind) a b outer → ReadsRow ss b c ts → RefusesClose c d e
     → Refuses (λ v. Tree.list kind (members v)) (Shape.fields kind ss) a d e
 row_left {members = members} {ss = ss} {kind = kind} {ts = ts} o r h = list_refused kind members (Shape.fields kind ss) (row_first kind ss) o (fails_behind r.takes h.fails) (λ j v of_shape readable order w.
-    let u = behind r.takes (failed_grows h.fails) (concerns_unordered w.stand.concerns) in
+    let u = concerns_behind r.takes (failed_grows h.fails) (concerns_without_order w.stand.concerns) in
     let same = same_rows ss (members v) ts w.stand.rest u.rest of_shape.1 r.of_shape readable r.readable (sym w.stand.begins ∙ u.begins) in
     omega (arith, w.fills, r.takes.until_end, (h.left r.takes.not_failed).0, ap length same))
 
@@ -80,7 +80,7 @@ row_none {c = c} f p d = record {
   of_shape = tt;
   readable = tt;
   order = no_members_in_order c.sets;
-  takes = subst (Takes (without_order c) (without_order c)) (sym bytes_of-none) (takes_none (without_order c) f p);
+  takes = subst (Takes (without_order c) (without_order c)) (sym members_encoding-none) (takes_none (without_order c) f p);
   implicit_tag = d;
 }
 
@@ -90,7 +90,7 @@ row_read {b = b} {d = d} {t = t} {ts = ts} r h = record {
   of_shape = (r.reads.of_shape, h.of_shape);
   readable = (r.reads.readable, h.readable);
   order = members_lead ts r h.order;
-  takes = subst (Takes (without_order b) (without_order d)) (sym (bytes_of-more t ts)) (takes_then (takes_member r) h.takes);
+  takes = subst (Takes (without_order b) (without_order d)) (sym (members_encoding-more t ts)) (takes_then (takes_member r) h.takes);
   implicit_tag = h.implicit_tag;
 }
 

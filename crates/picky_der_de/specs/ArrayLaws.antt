@@ -1,4 +1,4 @@
--- Arrays: as many members of one shape as there are places.
+-- Arrays: as many members of one shape as there are slots.
 use Rattle.std.specs.Prelude.{◌≡◌, ℕ, zero, suc, List, Bool, true, map}
 use lib.Pointwise.{pointwise}
 use Rattle.picky_der_core.specs.Tree.{ListKind, Tree, Trees, trees}

@@ -5,7 +5,7 @@ use Rattle.picky_der_core.specs.declared.error.Asn1DerError.{Asn1DerError}
 use Rattle.picky_der_core.specs.Tree.{Tree}
 use Rattle.picky_der_core.specs.Readable.{IsReadable}
 use Rattle.picky_der_core.specs.Shape.{Shape, Shapes, IsOf, IsOneOf, AreTold, firsts, firsts_of, are_apart}
-use Rattle.picky_der_core.specs.FirstLaws.{begins_in, begins_in_one, apart_differ, has-append_left, has-append_right}
+use Rattle.picky_der_core.specs.FirstLaws.{begins_in, begins_in_one, apart_differ, contains-append_left, contains-append_right}
 use Rattle.picky_der_input.specs.State.{State}
 use Rattle.picky_der_input.specs.Steps.{Fails}
 use Rattle.picky_der_input.specs.Reading.{Reads, Refuses}
@@ -45,8 +45,8 @@ AreKnownApart {V} meaning ss eq = AreTold ss → (v w : V) → IsOneOf ss (meani
 
 module _ {A B : Type 0} (m : A → Tree) (n : B → Tree) (s : Shape) (ss : Shapes) (this : (a : A) → IsBegunBy (firsts s) (m a)) (other : (b : B) → IsBegunBy (firsts_of ss) (n b)) where
   pub begins_this_or_other : (v : OneOf A B) → IsBegunBy (firsts s ++ firsts_of ss) (chosen_of m n v)
-  begins_this_or_other (This a) = λ b h. has-append_left b (firsts s) (firsts_of ss) (this a b h)
-  begins_this_or_other (Other c) = λ b h. has-append_right b (firsts s) (firsts_of ss) (other c b h)
+  begins_this_or_other (This a) = λ b h. contains-append_left b (firsts s) (firsts_of ss) (this a b h)
+  begins_this_or_other (Other c) = λ b h. contains-append_right b (firsts s) (firsts_of ss) (other c b h)
 
   module _ (w : IsTrue (are_apart (firsts s) (firsts_of ss))) where
     -- a value of this alternative is of no other's shape

@@ -32,15 +32,15 @@ pub record HasNoFront {V : Type 0} (meaning : V → Tree) (s : Shape) (input : L
   pub no_fault : IsOther e → ⊥
 
 -- What a reader tells of the bytes that are left, and how it failed so far: before a call, and behind it.
-pub record Reader : Type 0 where
+pub record ReaderView : Type 0 where
   pub input : Option (List ℕ)
   pub faults : List Fault
 
-abbrev pub view_of : {R : Type 0} → (R → Option (List ℕ)) → (R → List Fault) → R → Reader
+abbrev pub view_of : {R : Type 0} → (R → Option (List ℕ)) → (R → List Fault) → R → ReaderView
 view_of remaining faults r = record { input = remaining r; faults = faults r }
 
 -- just the value's encoding was drawn, and of a known input it is the value at the front
-pub record ReadsFront {V : Type 0} (meaning : V → Tree) (s : Shape) (eq : V → V → Bool) (limit : ℕ) (old new : Reader) (v : V) : Type 0 where
+pub record ReadsFront {V : Type 0} (meaning : V → Tree) (s : Shape) (eq : V → V → Bool) (limit : ℕ) (old new : ReaderView) (v : V) : Type 0 where
   pub of_shape : IsOf s (meaning v)
   pub readable : IsReadable (meaning v)
   pub within : length (der (meaning v)) ≤ limit
@@ -55,7 +55,7 @@ pub record Draws (limit : ℕ) (old new : Option (List ℕ)) : Type 0 where
   pub within : length bytes ≤ limit
 
 -- the reader failed, memory was refused, or no value stands at the front of the input
-pub record RefusesFront {V : Type 0} (meaning : V → Tree) (s : Shape) (limit : ℕ) (old new : Reader) (e : Asn1DerError) : Type 0 where
+pub record RefusesFront {V : Type 0} (meaning : V → Tree) (s : Shape) (limit : ℕ) (old new : ReaderView) (e : Asn1DerError) : Type 0 where
   pub none : new.faults ≡ old.faults → e ≢ OutOfMemory → (input : List ℕ) → old.input ≡ Some input → (v : V) → ReadsFrom meaning s input limit v → ⊥
   -- more bytes behind those that were drawn could make a value only where the input was cut short
   pub final : new.faults ≡ old.faults → e ≢ OutOfMemory → (d left : List ℕ) → old.input ≡ Some (d ++ left) → new.input ≡ Some left → IsMendable meaning s Place.whole d any_length → e ≡ TruncatedData
@@ -70,13 +70,13 @@ pub record RefusesFront {V : Type 0} (meaning : V → Tree) (s : Shape) (limit :
 -- ---- values behind each other
 
 -- nothing is left in the reader, and nothing was drawn
-pub record HasNoneLeft (limit : ℕ) (old new : Reader) : Type 0 where
+pub record HasNoneLeft (limit : ℕ) (old new : ReaderView) : Type 0 where
   pub ahead : 0 < limit
   pub ended : IsAtEnd old.input
   pub input : Keeps old.input new.input
   pub faults : new.faults ≡ old.faults
 
 -- the next value is refused, which isn't where none is left
-pub record RefusesNextValue {V : Type 0} (meaning : V → Tree) (s : Shape) (limit : ℕ) (old new : Reader) (e : Asn1DerError) : Type 0 where
+pub record RefusesNextValue {V : Type 0} (meaning : V → Tree) (s : Shape) (limit : ℕ) (old new : ReaderView) (e : Asn1DerError) : Type 0 where
   pub refuses : RefusesFront meaning s limit old new e
   pub ahead : 0 < limit → new.faults ≡ old.faults → e ≢ OutOfMemory → old.input ≡ Some [] → ⊥

@@ -5,10 +5,10 @@ use Rattle.picky_der_core.specs.Tag.{number_of}
 use Rattle.picky_der_core.specs.Element.{tlv}
 use Rattle.picky_der_core.specs.Tree.{Tree}
 use Rattle.picky_der_core.specs.Encoding.{tree_bytes, der, list_tag}
-use Rattle.picky_der_core.specs.EncodingLaws.{is_absent-readable, around-present}
+use Rattle.picky_der_core.specs.EncodingLaws.{is_absent-readable, wrapper_encoding-present}
 use Rattle.picky_der_core.specs.Readable.{IsReadable}
-use Rattle.picky_der_core.specs.Shape.{Shape, Shapes, IsOf, IsOneOf, firsts, has, tags_below, tag_with_number, AreBytes, IsBoolean, IsUnsigned, IsNull, IsText, IsCharacter, IsBytes, IsRaw, IsList, IsOptional, IsOctetContainer, IsBitContainer, IsExplicit, IsImplicit, IsApplication, IsChoice}
-use Rattle.picky_der_core.specs.FirstLaws.{BeginsIn, has_itself, has_numbered, has-tags_below, begins_headed, begins_tlv}
+use Rattle.picky_der_core.specs.Shape.{Shape, Shapes, IsOf, IsOneOf, firsts, contains, tags_below, tag_with_number, AreBytes, IsBoolean, IsUnsigned, IsNull, IsText, IsCharacter, IsBytes, IsRaw, IsList, IsOptional, IsOctetContainer, IsBitContainer, IsExplicit, IsImplicit, IsApplication, IsChoice}
+use Rattle.picky_der_core.specs.FirstLaws.{BeginsIn, contains_itself, contains_numbered, contains-tags_below, begins_plain_encoding, begins_tlv}
 use Rattle.picky_der_ser.specs.Meaning.{option_meaning}
 
 -- the bytes with which an encoding of a tree of this kind, and with these tags, can begin
@@ -30,7 +30,7 @@ firsts_in Tree.absent = []
 
 -- each byte with which a tree of its kind can begin is one of these
 abbrev pub IsBegunBy : List ℕ → Tree → Type 0
-IsBegunBy fs t = (b : ℕ) → IsTrue (has (firsts_in t) b) → IsTrue (has fs b)
+IsBegunBy fs t = (b : ℕ) → IsTrue (contains (firsts_in t) b) → IsTrue (contains fs b)
 
 -- ---- a readable tree begins so
 
@@ -42,20 +42,20 @@ BytesIn _ = ⊤
 
 pub begins_in_own : (t : Tree) → IsReadable t → BytesIn t → BeginsIn (firsts_in t) t
 unfolding der tree_bytes tlv
-begins_in_own (Tree.boolean b) r k = begins_headed _ _ _ (Tree.boolean b) refl refl
-begins_in_own (Tree.unsigned n) r k = begins_headed _ _ _ (Tree.unsigned n) refl refl
-begins_in_own Tree.null r k = begins_headed _ _ _ Tree.null refl refl
-begins_in_own (Tree.text s) r k = begins_headed _ _ _ (Tree.text s) refl refl
-begins_in_own (Tree.bytes tag s) r k = begins_headed tag _ _ (Tree.bytes tag s) refl (has_numbered (number_of tag) tag r)
-begins_in_own (Tree.list kind ts) r k = begins_headed _ _ _ (Tree.list kind ts) refl (has_itself (list_tag kind) [])
-begins_in_own (Tree.octet_container t) r k = begins_tlv _ (der t) _ (Tree.octet_container t) (around-present _ _ _ (is_absent-readable t r)) refl
-begins_in_own (Tree.bit_container t) r k = begins_tlv _ (0x00 ∷ der t) _ (Tree.bit_container t) (around-present _ _ _ (is_absent-readable t r)) refl
-begins_in_own (Tree.explicit n t) r k = begins_tlv _ (der t) _ (Tree.explicit n t) (around-present _ _ _ (is_absent-readable t r.1)) (has_numbered n (0xA0 + n) r.0)
-begins_in_own (Tree.implicit n t) r k = begins_tlv _ _ _ (Tree.implicit n t) (around-present _ _ _ (is_absent-readable t r.2)) (has_numbered n (0x80 + n) r.0)
-begins_in_own (Tree.application n t) r k = begins_tlv _ _ _ (Tree.application n t) refl (has_numbered n (0x60 + n) r.0)
+begins_in_own (Tree.boolean b) r k = begins_plain_encoding _ _ _ (Tree.boolean b) refl refl
+begins_in_own (Tree.unsigned n) r k = begins_plain_encoding _ _ _ (Tree.unsigned n) refl refl
+begins_in_own Tree.null r k = begins_plain_encoding _ _ _ Tree.null refl refl
+begins_in_own (Tree.text s) r k = begins_plain_encoding _ _ _ (Tree.text s) refl refl
+begins_in_own (Tree.bytes tag s) r k = begins_plain_encoding tag _ _ (Tree.bytes tag s) refl (contains_numbered (number_of tag) tag r)
+begins_in_own (Tree.list kind ts) r k = begins_plain_encoding _ _ _ (Tree.list kind ts) refl (contains_itself (list_tag kind) [])
+begins_in_own (Tree.octet_container t) r k = begins_tlv _ (der t) _ (Tree.octet_container t) (wrapper_encoding-present _ _ _ (is_absent-readable t r)) refl
+begins_in_own (Tree.bit_container t) r k = begins_tlv _ (0x00 ∷ der t) _ (Tree.bit_container t) (wrapper_encoding-present _ _ _ (is_absent-readable t r)) refl
+begins_in_own (Tree.explicit n t) r k = begins_tlv _ (der t) _ (Tree.explicit n t) (wrapper_encoding-present _ _ _ (is_absent-readable t r.1)) (contains_numbered n (0xA0 + n) r.0)
+begins_in_own (Tree.implicit n t) r k = begins_tlv _ _ _ (Tree.implicit n t) (wrapper_encoding-present _ _ _ (is_absent-readable t r.2)) (contains_numbered n (0x80 + n) r.0)
+begins_in_own (Tree.application n t) r k = begins_tlv _ _ _ (Tree.application n t) refl (contains_numbered n (0x60 + n) r.0)
 begins_in_own (Tree.raw s) r k =
     let bytes : AreBytes (tlv r.tag r.content) = subst AreBytes r.is k in
-    begins_tlv _ _ _ (Tree.raw s) r.is (has-tags_below r.tag 256 bytes.0 r.number)
+    begins_tlv _ _ _ (Tree.raw s) r.is (contains-tags_below r.tag 256 bytes.0 r.number)
 begins_in_own (Tree.choice t) r k = let b = begins_in_own t r k in record { first = b.first; others = b.others; is = b.is; listed = b.listed }
 begins_in_own Tree.absent r k = absurd r
 

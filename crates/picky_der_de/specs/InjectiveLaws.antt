@@ -84,8 +84,8 @@ list_injective {V} meaning s eq known xs ys p q r e =
 
 -- ---- rows, whose members are each known
 
-pub row_members : {k l : ListKind} {ts us : Trees} → Tree.list k ts ≡ Tree.list l us → ts ≡ us
-row_members e = cc
+pub list_members : {k l : ListKind} {ts us : Trees} → Tree.list k ts ≡ Tree.list l us → ts ≡ us
+list_members e = cc
 
 -- the first member and the others
 pub first_member : {t u : Tree} {ts us : Trees} → Trees.more t ts ≡ Trees.more u us → t ≡ u

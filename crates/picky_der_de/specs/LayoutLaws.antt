@@ -5,12 +5,12 @@ use Rattle.std.specs.Option.{option_eq}
 use Rattle.picky_der_core.specs.Tree.{Tree, Trees}
 use Rattle.picky_der_core.specs.Readable.{IsReadable, AreReadable}
 use Rattle.picky_der_core.specs.Shape.{Shape, Layout, IsOf, IsSound, AreMembersOf, AreMembersTold, AreMembersSound, FirstAndRest, FirstOrNone, firsts, next_firsts, are_apart}
-use Rattle.picky_der_core.specs.FirstLaws.{begins_in, begins_next, apart_differ, has-append_left, has-append_right}
+use Rattle.picky_der_core.specs.FirstLaws.{begins_in, begins_next, apart_differ, contains-append_left, contains-append_right}
 use Rattle.picky_der_ser.specs.Meaning.{maybe_more, unless_default}
 use Rattle.picky_der_ser.specs.Defaults.{IsByTree, IsOne}
 use Rattle.picky_der_de.specs.Firsts.{IsBegunBy, BytesIn, bytes_in, begins_among}
 use Rattle.picky_der_de.specs.InjectiveLaws.{IsInjective, first_member, other_members}
-use Rattle.picky_der_de.specs.Layouts.{Presence, always, perhaps, place_then, AreBegunBy}
+use Rattle.picky_der_de.specs.Layouts.{Presence, always, perhaps, component_then, AreBegunBy}
 
 -- the first member that is there is made of bytes, where it is a raw part
 bytes_next : (l : Layout) (t : Tree) (ts : Trees) → AreMembersOf l (Trees.more t ts) → BytesIn t
@@ -21,48 +21,48 @@ bytes_next (Layout.maybe s l) t ts (inr q) = bytes_next l t ts q
 
 module _ (s : Shape) (l : Layout) (apart : are_apart (firsts s) (next_firsts l) ≡ true) where
   -- a member that begins as the one that may be missing is that one
-  pub is_there : (t : Tree) (ts : Trees) → IsBegunBy (firsts s) t → IsReadable t → FirstOrNone (IsOf s) (AreMembersOf l) (Trees.more t ts) → IsOf s t × AreMembersOf l ts
-  is_there t ts f r (inl p) = p
-  is_there t ts f r (inr q) = absurd (apart_differ (firsts s) (next_firsts l) t t apart (begins_among (firsts s) t f r (bytes_next l t ts q)) (begins_next l t ts q r) refl)
+  pub first_is_present : (t : Tree) (ts : Trees) → IsBegunBy (firsts s) t → IsReadable t → FirstOrNone (IsOf s) (AreMembersOf l) (Trees.more t ts) → IsOf s t × AreMembersOf l ts
+  first_is_present t ts f r (inl p) = p
+  first_is_present t ts f r (inr q) = absurd (apart_differ (firsts s) (next_firsts l) t t apart (begins_among (firsts s) t f r (bytes_next l t ts q)) (begins_next l t ts q r) refl)
 
   not_first : (ts : Trees) → AreBegunBy (next_firsts l) ts → AreReadable ts → FirstAndRest (IsOf s) (AreMembersOf l) ts → ⊥
   not_first Trees.none f r p = absurd p
   not_first (Trees.more t ts) f r p = apart_differ (firsts s) (next_firsts l) t t apart (begins_in s t p.0 r.0) (begins_among (next_firsts l) t f r.0 (bytes_in s t p.0)) refl
 
   -- members that begin as those behind it are these
-  pub is_missing : (ts : Trees) → AreBegunBy (next_firsts l) ts → AreReadable ts → FirstOrNone (IsOf s) (AreMembersOf l) ts → AreMembersOf l ts
-  is_missing ts f r (inl p) = absurd (not_first ts f r p)
-  is_missing ts f r (inr q) = q
+  pub first_is_absent : (ts : Trees) → AreBegunBy (next_firsts l) ts → AreReadable ts → FirstOrNone (IsOf s) (AreMembersOf l) ts → AreMembersOf l ts
+  first_is_absent ts f r (inl p) = absurd (not_first ts f r p)
+  first_is_absent ts f r (inr q) = q
 
 -- ---- with which bytes members begin
 
 wider : (fs gs : List ℕ) (ts : Trees) → AreBegunBy gs ts → AreBegunBy (fs ++ gs) ts
 wider fs gs Trees.none f = tt
-wider fs gs (Trees.more t ts) f = λ b h. has-append_right b fs gs (f b h)
+wider fs gs (Trees.more t ts) f = λ b h. contains-append_right b fs gs (f b h)
 
 pub maybe_begun : {V : Type 0} (meaning : V → Tree) (s : Shape) (l : Layout) → ((v : V) → IsBegunBy (firsts s) (meaning v)) → (o : Option V) (ts : Trees) → AreBegunBy (next_firsts l) ts → AreBegunBy (firsts s ++ next_firsts l) (maybe_more meaning o ts)
 maybe_begun meaning s l f None ts g = wider (firsts s) (next_firsts l) ts g
-maybe_begun meaning s l f (Some v) ts g = λ b h. has-append_left b (firsts s) (next_firsts l) (f v b h)
+maybe_begun meaning s l f (Some v) ts g = λ b h. contains-append_left b (firsts s) (next_firsts l) (f v b h)
 
 -- ---- members are known by their trees
 
 module _ {V : Type 0} (meaning : V → Tree) (s : Shape) (l : Layout) (begins : (v : V) → IsBegunBy (firsts s) (meaning v)) (told : AreMembersTold (Layout.maybe s l)) where
   -- one that is there isn't what stands where it is missing
-  other_place : (v : V) (ts us : Trees) → AreBegunBy (next_firsts l) us → AreMembersOf (Layout.maybe s l) (Trees.more (meaning v) ts) → AreMembersOf (Layout.maybe s l) us → AreReadable (Trees.more (meaning v) ts) → Trees.more (meaning v) ts ≡ us → ⊥
-  other_place v ts us f p q r e =
-      let there = is_there s l told.0 (meaning v) ts (begins v) r.0 p in
-      let behind = is_missing s l told.0 us f (subst AreReadable e r) q in
+  present_and_absent : (v : V) (ts us : Trees) → AreBegunBy (next_firsts l) us → AreMembersOf (Layout.maybe s l) (Trees.more (meaning v) ts) → AreMembersOf (Layout.maybe s l) us → AreReadable (Trees.more (meaning v) ts) → Trees.more (meaning v) ts ≡ us → ⊥
+  present_and_absent v ts us f p q r e =
+      let there = first_is_present s l told.0 (meaning v) ts (begins v) r.0 p in
+      let behind = first_is_absent s l told.0 us f (subst AreReadable e r) q in
       apart_differ (firsts s) (next_firsts l) (meaning v) (meaning v) told.0 (begins_in s (meaning v) there.0 r.0) (begins_next l (meaning v) ts (subst (AreMembersOf l) (sym e) behind) r.0) refl
 
   -- the first may be missing, and of those behind it `Others` holds where they are the same
   pub maybe_told : (eq : V → V → Bool) (Others : Type 0) → IsInjective meaning s eq → (ts us : Trees) → AreBegunBy (next_firsts l) ts → AreBegunBy (next_firsts l) us → (AreMembersOf l ts → AreMembersOf l us → AreReadable ts → ts ≡ us → Others)
       → (x y : Option V) → AreMembersOf (Layout.maybe s l) (maybe_more meaning x ts) → AreMembersOf (Layout.maybe s l) (maybe_more meaning y us) → AreReadable (maybe_more meaning x ts) → maybe_more meaning x ts ≡ maybe_more meaning y us → (option_eq eq x y ≡ true) × Others
-  maybe_told eq Others injective ts us f g k None None p q r e = (refl, k (is_missing s l told.0 ts f r p) (is_missing s l told.0 us g (subst AreReadable e r) q) r e)
-  maybe_told eq Others injective ts us f g k None (Some y) p q r e = absurd (other_place y us ts f q p (subst AreReadable e r) (sym e))
-  maybe_told eq Others injective ts us f g k (Some x) None p q r e = absurd (other_place x ts us g p q r e)
+  maybe_told eq Others injective ts us f g k None None p q r e = (refl, k (first_is_absent s l told.0 ts f r p) (first_is_absent s l told.0 us g (subst AreReadable e r) q) r e)
+  maybe_told eq Others injective ts us f g k None (Some y) p q r e = absurd (present_and_absent y us ts f q p (subst AreReadable e r) (sym e))
+  maybe_told eq Others injective ts us f g k (Some x) None p q r e = absurd (present_and_absent x ts us g p q r e)
   maybe_told eq Others injective ts us f g k (Some x) (Some y) p q r e =
-      let a = is_there s l told.0 (meaning x) ts (begins x) r.0 p in
-      let b = is_there s l told.0 (meaning y) us (begins y) (subst AreReadable e r).0 q in
+      let a = first_is_present s l told.0 (meaning x) ts (begins x) r.0 p in
+      let b = first_is_present s l told.0 (meaning y) us (begins y) (subst AreReadable e r).0 q in
       (injective x y a.0 b.0 r.0 (first_member e), k a.1 b.1 r.1 (other_members e))
 
 -- ---- members with a default
@@ -172,27 +172,27 @@ module _ {V W X : Type 0} {presence : Presence} {in_front : X → Trees → Tree
   stand : (v : V) → in_front (first v) (others v) ≡ maybe_more meaning (item (first v)) (others v)
   stand v = c.stands (first v) (others v)
 
-  begun_by : (p : Presence) (o : Option W) (v : V) → IsThere p o → AreBegunBy (next_firsts (place_then p s l)) (maybe_more meaning o (others v))
+  begun_by : (p : Presence) (o : Option W) (v : V) → IsThere p o → AreBegunBy (next_firsts (component_then p s l)) (maybe_more meaning o (others v))
   begun_by always None v t = absurd t
   begun_by always (Some w) v t = c.begins w
   begun_by perhaps o v t = maybe_begun meaning s l c.begins o (others v) (cs.begins v)
 
-  injective_by : (p : Presence) (a b : Option W) (x y : V) → IsThere p a → IsThere p b → AreMembersTold (place_then p s l) → AreMembersOf (place_then p s l) (maybe_more meaning a (others x)) → AreMembersOf (place_then p s l) (maybe_more meaning b (others y)) → AreReadable (maybe_more meaning a (others x))
+  injective_by : (p : Presence) (a b : Option W) (x y : V) → IsThere p a → IsThere p b → AreMembersTold (component_then p s l) → AreMembersOf (component_then p s l) (maybe_more meaning a (others x)) → AreMembersOf (component_then p s l) (maybe_more meaning b (others y)) → AreReadable (maybe_more meaning a (others x))
       → maybe_more meaning a (others x) ≡ maybe_more meaning b (others y) → (option_eq eq_item a b ≡ true) × AreEqual x y
   injective_by always None b x y t k told p q r e = absurd t
   injective_by always (Some v) None x y t k told p q r e = absurd k
   injective_by always (Some v) (Some w) x y t k told p q r e = (c.injective v w p.0 q.0 r.0 (first_member e), cs.injective told x y p.1 q.1 r.1 (other_members e))
   injective_by perhaps a b x y t k told p q r e = maybe_told meaning s l c.begins told eq_item (AreEqual x y) c.injective (others x) (others y) (cs.begins x) (cs.begins y) (cs.injective told.1 x y) a b p q r e
 
-  sound_by : (p : Presence) → AreMembersSound (place_then p s l)
+  sound_by : (p : Presence) → AreMembersSound (component_then p s l)
   sound_by always = (c.sound, cs.sound)
   sound_by perhaps = (c.sound, cs.sound)
 
-  pub lead : AreComponents (λ v. in_front (first v) (others v)) (place_then presence s l) (λ x y. (eq (first x) (first y) ≡ true) × AreEqual x y)
+  pub lead : AreComponents (λ v. in_front (first v) (others v)) (component_then presence s l) (λ x y. (eq (first x) (first y) ≡ true) × AreEqual x y)
   lead = record {
-    begins = λ v. subst (AreBegunBy (next_firsts (place_then presence s l))) (sym (stand v)) (begun_by presence (item (first v)) v (c.there (first v)));
+    begins = λ v. subst (AreBegunBy (next_firsts (component_then presence s l))) (sym (stand v)) (begun_by presence (item (first v)) v (c.there (first v)));
     injective = λ told x y p q r e.
-        let same = injective_by presence (item (first x)) (item (first y)) x y (c.there (first x)) (c.there (first y)) told (subst (AreMembersOf (place_then presence s l)) (stand x) p) (subst (AreMembersOf (place_then presence s l)) (stand y) q) (subst AreReadable (stand x) r) (sym (stand x) ∙ e ∙ stand y) in
+        let same = injective_by presence (item (first x)) (item (first y)) x y (c.there (first x)) (c.there (first y)) told (subst (AreMembersOf (component_then presence s l)) (stand x) p) (subst (AreMembersOf (component_then presence s l)) (stand y) q) (subst AreReadable (stand x) r) (sym (stand x) ∙ e ∙ stand y) in
         (c.equal (first x) (first y) same.0, same.1);
     sound = sound_by presence;
   }

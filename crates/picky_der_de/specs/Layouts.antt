@@ -38,9 +38,9 @@ pub data Presence : Type 0 where
   perhaps : Presence
 
 -- a member in front of others
-abbrev pub place_then : Presence → Shape → Layout → Layout
-place_then always = Layout.required
-place_then perhaps = Layout.maybe
+abbrev pub component_then : Presence → Shape → Layout → Layout
+component_then always = Layout.required
+component_then perhaps = Layout.maybe
 
 -- why it wasn't read: one that is always there is no default
 abbrev pub RefusesComponent : {V : Type 0} → Presence → (V → Tree) → (V → Bool) → Shape → State → State → Asn1DerError → Type 0
@@ -50,15 +50,15 @@ RefusesComponent perhaps meaning left_out = RefusesDefault meaning left_out
 -- ---- all members of a layout
 
 -- at most a look was taken at the next byte
-pub data Rests (old new : State) : Type 0 where
-  same : new ≡ old → old.failed ≡ None → old.peeked ≡ None → Rests old new
-  looked : (x : ℕ) → old.peeked ≡ None → Peeks old new x → Rests old new
+pub data PeeksAtMost (old new : State) : Type 0 where
+  same : new ≡ old → old.failed ≡ None → old.peeked ≡ None → PeeksAtMost old new
+  looked : (x : ℕ) → old.peeked ≡ None → Peeks old new x → PeeksAtMost old new
 
 -- these bytes were taken, and at most a look at the byte behind them
 pub record Passes (old new : State) (bytes : List ℕ) : Type 0 where
   pub mid : State
   pub takes : Takes (without_order old) (without_order mid) bytes
-  pub rests : Rests mid new
+  pub peeks_at_most : PeeksAtMost mid new
 
 -- These members were read. Where something is left behind them, no members stand there that reach up to the end.
 pub record ReadsLayout (l : Layout) (old new : State) (ts : Trees) : Type 0 where
@@ -66,7 +66,7 @@ pub record ReadsLayout (l : Layout) (old new : State) (ts : Trees) : Type 0 wher
   pub readable : AreReadable ts
   pub order : AreInOrder old.sets (encodings ts)
   -- whether the first byte was looked at or not
-  pub passes : (a : State) → Rests a old → Passes a new (members_encoding ts)
+  pub passes : (a : State) → PeeksAtMost a old → Passes a new (members_encoding ts)
   pub implicit_tag : new.implicit_tag ≡ None
   -- what fails behind them has failed from before them
   pub fails : (last : State) (e : Asn1DerError) → Fails new last e → Fails old last e

@@ -112,11 +112,11 @@ pub record RefusesAll {V : Type 0} (meaning : V → Tree) (s : Shape) (old new :
 -- Known bytes begin with the header of a set, which directly under an implicit tag was that tag's, and behind it with these
 -- bytes of its content.
 pub record BeginsSet (old : State) (bs members rest : List ℕ) : Type 0 where
-  pub len : ℕ
-  pub begins : bs ≡ header_bytes old.implicit_tag 0x31 len ++ (members ++ rest)
-  pub all : IfSome old.implicit_tag (λ number. len ≡ old.until_end)
-  pub fits : length (header_bytes old.implicit_tag 0x31 len) + len ≤ old.until_end
-  pub within : length members ≤ len
+  pub size : ℕ
+  pub begins : bs ≡ header_bytes old.implicit_tag 0x31 size ++ (members ++ rest)
+  pub all : IfSome old.implicit_tag (λ number. size ≡ old.until_end)
+  pub fits : length (header_bytes old.implicit_tag 0x31 size) + size ≤ old.until_end
+  pub within : length members ≤ size
 
 -- it was refused with `InvalidData`, and this is left behind what was drawn
 pub record IsRefusedBefore (rest : List ℕ) (new : State) (e : Asn1DerError) : Type 0 where

@@ -13,7 +13,7 @@ use Rattle.picky_der_de.specs.ArrayLaws.{times, array_injective}
 use Rattle.picky_der_de.specs.Firsts.{IsBegunBy, firsts_in}
 use Rattle.picky_der_de.specs.Layouts.{AreBegunBy}
 use Rattle.picky_der_de.specs.LayoutLaws.{maybe_begun, maybe_told, same_unless_default}
-use Rattle.picky_der_de.specs.InjectiveLaws.{IsInjective, boolean_injective, unsigned_injective, bytes_injective, text_injective, character_injective, raw_injective, option_injective, list_injective, both, row_members, first_member, other_members}
+use Rattle.picky_der_de.specs.InjectiveLaws.{IsInjective, boolean_injective, unsigned_injective, bytes_injective, text_injective, character_injective, raw_injective, option_injective, list_injective, both, list_members, first_member, other_members}
 
 -- where the two are one readable tree of the shape, the two values that mean them are equal
 pub record Tells (s : Shape) (t u : Tree) (equal : Bool) : Type 0 where
@@ -81,7 +81,7 @@ tells_array n meaning s eq h k xs ys = record { tells = λ p q r. array_injectiv
 -- ---- fields
 
 pub tells_fields : (k : ListKind) (ss : Shapes) (ts us : Trees) (p : Bool) → TellAll ss ts us p → Tells (Shape.fields k ss) (Tree.list k ts) (Tree.list k us) p
-tells_fields k ss ts us p h = record { tells = λ a b r e. h.tell a.1 b.1 r.1 (row_members e) }
+tells_fields k ss ts us p h = record { tells = λ a b r e. h.tell a.1 b.1 r.1 (list_members e) }
 
 pub tell_none : TellAll Shapes.none Trees.none Trees.none true
 tell_none = record { tell = λ a b r e. refl }
@@ -103,7 +103,7 @@ pub record TellMembers (l : Layout) (ts us : Trees) (equal : Bool) : Type 0 wher
   pub tell : AreMembersTold l → AreMembersOf l ts → AreMembersOf l us → AreReadable ts → ts ≡ us → equal ≡ true
 
 pub tells_struct : {k : ListKind} {l : Layout} {ts us : Trees} {p : Bool} → AreMembersTold l → TellMembers l ts us p → Tells (Shape.struct_of k l) (Tree.list k ts) (Tree.list k us) p
-tells_struct apart h = record { tells = λ a b r e. h.tell apart a.1 b.1 r.1 (row_members e) }
+tells_struct apart h = record { tells = λ a b r e. h.tell apart a.1 b.1 r.1 (list_members e) }
 
 pub tell_empty : TellMembers Layout.empty Trees.none Trees.none true
 tell_empty = record { tell = λ apart a b r e. refl }

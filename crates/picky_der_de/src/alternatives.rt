@@ -1,7 +1,7 @@
 //! The alternatives of a choice, of any number.
 ghost use Rattle.std.specs.Prelude.{◌↔◌, IsTrue, IfOk, IfErr};
 ghost use Rattle.picky_der_core.specs.Tree.{Tree};
-ghost use Rattle.picky_der_core.specs.Shape.{Shapes, AreSound, firsts_of, has};
+ghost use Rattle.picky_der_core.specs.Shape.{Shapes, AreSound, firsts_of, contains};
 ghost use Rattle.picky_der_de.specs.Firsts.{IsBegunBy};
 ghost use Rattle.picky_der_de.specs.Choices.{ReadsBehind, RefusesBehind, AreKnownApart, chosen_of, begins_this_or_other};
 ghost use Rattle.picky_der_de.specs.Choices.{this_or_other_injective, equal_this_or_other};
@@ -47,7 +47,7 @@ pub trait Alternatives: PartialEq + Drop + Sized {
 
     /// Whether a value of one of them can begin with this byte.
     fn begins_with(tag: Tag) -> bool
-        ensures { IsTrue result ↔ IsTrue (has (firsts_of shapes) tag) };
+        ensures { IsTrue result ↔ IsTrue (contains (firsts_of shapes) tag) };
 
     /// Reads a value of the first alternative that can begin with this byte, which was looked at and is next.
     ///

@@ -27,22 +27,22 @@ pub trait Choice: Sized {
 ///
 /// `InvalidData` for a first byte that is of none, and directly under an implicit tag, where no byte tells them; the refusal
 /// of an end; else as the value is refused.
-pub trait Told: Choice + Serialize + PartialEq + Drop {
+pub trait DeserializeChoice: Choice + Serialize + PartialEq + Drop {
     // No byte begins two alternatives.
     ghost told: { AreTold Self.Alternatives.shapes };
 
     // A value means the choice of its alternative's.
-    ghost meant: { (v : Self) → Self.meaning v ≡ Tree.choice (Self.Alternatives.chosen (Self.parts v)) };
+    ghost means_choice: { (v : Self) → Self.meaning v ≡ Tree.choice (Self.Alternatives.chosen (Self.parts v)) };
 
     // Choices of equal values are equal.
     ghost equal: { (v w : Self) → Self.Alternatives.eq (Self.parts v) (Self.parts w) ≡ true → Self.eq v w ≡ true };
 }
 
-impl<T: Told> Deserialize for T {
+impl<T: DeserializeChoice> Deserialize for T {
     ghost shape = { Shape.choice T.Alternatives.shapes };
 
     ghost injective = { λ v w. choice_injective T.Alternatives.chosen T.Alternatives.shapes T.Alternatives.eq T.told
-        T.Alternatives.injective (T.parts v) (T.parts w) (T.meant v) (T.meant w) (T.equal v w) };
+        T.Alternatives.injective (T.parts v) (T.parts w) (T.means_choice v) (T.means_choice w) (T.equal v w) };
 
     ghost sound = { (T.Alternatives.sound, T.told) };
 
@@ -55,10 +55,10 @@ impl<T: Told> Deserialize for T {
     }
 }
 
-impl<T: Told> Begins for T {
+impl<T: DeserializeChoice> Begins for T {
     fn begins_with(tag: Tag) -> bool {
         T::Alternatives::begins_with(tag)
     }
 
-    ghost begins = { λ v. choice_begins T.Alternatives.chosen T.Alternatives.shapes T.Alternatives.begins (T.parts v) (T.meant v) };
+    ghost begins = { λ v. choice_begins T.Alternatives.chosen T.Alternatives.shapes T.Alternatives.begins (T.parts v) (T.means_choice v) };
 }

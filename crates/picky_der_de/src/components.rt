@@ -1,5 +1,5 @@
 //! Up to eight members of a struct at a time, as they are read, and those behind them.
-ghost use Rattle.picky_der_de.specs.Layouts.{place_then};
+ghost use Rattle.picky_der_de.specs.Layouts.{component_then};
 ghost use Rattle.picky_der_de.specs.InjectiveLaws.{both};
 ghost use Rattle.picky_der_de.specs.LayoutLaws.{equal_so, lead, behind};
 
@@ -8,7 +8,7 @@ use picky_der_core::Result;
 use picky_der_core::misc::ReadExt;
 
 impl<A: DeserializeMember, Z: DeserializeLayout> DeserializeLayout for (A, Z) {
-    ghost layout = { place_then A.presence A.shape Z.layout };
+    ghost layout = { component_then A.presence A.shape Z.layout };
 
     fn deserialize_layout<R: ReadExt>(sequence: &mut Sequence<'_, R>) -> Result<(A, Z)> {
         let first = A::deserialize_member(sequence)?;
@@ -22,7 +22,7 @@ impl<A: DeserializeMember, Z: DeserializeLayout> DeserializeLayout for (A, Z) {
 
 impl<A: DeserializeMember, B: DeserializeMember, Z: DeserializeLayout> DeserializeLayout
     for (A, B, Z) {
-    ghost layout = { place_then A.presence A.shape (place_then B.presence B.shape Z.layout) };
+    ghost layout = { component_then A.presence A.shape (component_then B.presence B.shape Z.layout) };
 
     fn deserialize_layout<R: ReadExt>(sequence: &mut Sequence<'_, R>) -> Result<(A, B, Z)> {
         let first = A::deserialize_member(sequence)?;
@@ -41,7 +41,7 @@ impl<
     C: DeserializeMember,
     Z: DeserializeLayout,
 > DeserializeLayout for (A, B, C, Z) {
-    ghost layout = { place_then A.presence A.shape (place_then B.presence B.shape (place_then C.presence C.shape Z.layout)) };
+    ghost layout = { component_then A.presence A.shape (component_then B.presence B.shape (component_then C.presence C.shape Z.layout)) };
 
     fn deserialize_layout<R: ReadExt>(sequence: &mut Sequence<'_, R>) -> Result<(A, B, C, Z)> {
         let first = A::deserialize_member(sequence)?;
@@ -62,8 +62,8 @@ impl<
     D: DeserializeMember,
     Z: DeserializeLayout,
 > DeserializeLayout for (A, B, C, D, Z) {
-    ghost layout = { place_then A.presence A.shape (place_then B.presence B.shape
-        (place_then C.presence C.shape (place_then D.presence D.shape Z.layout))) };
+    ghost layout = { component_then A.presence A.shape (component_then B.presence B.shape
+        (component_then C.presence C.shape (component_then D.presence D.shape Z.layout))) };
 
     fn deserialize_layout<R: ReadExt>(sequence: &mut Sequence<'_, R>) -> Result<(A, B, C, D, Z)> {
         let first = A::deserialize_member(sequence)?;
@@ -85,8 +85,8 @@ impl<
     E: DeserializeMember,
     Z: DeserializeLayout,
 > DeserializeLayout for (A, B, C, D, E, Z) {
-    ghost layout = { place_then A.presence A.shape (place_then B.presence B.shape
-        (place_then C.presence C.shape (place_then D.presence D.shape (place_then E.presence E.shape Z.layout)))) };
+    ghost layout = { component_then A.presence A.shape (component_then B.presence B.shape
+        (component_then C.presence C.shape (component_then D.presence D.shape (component_then E.presence E.shape Z.layout)))) };
 
     fn deserialize_layout<R: ReadExt>(
         sequence: &mut Sequence<'_, R>,
@@ -112,9 +112,9 @@ impl<
     F: DeserializeMember,
     Z: DeserializeLayout,
 > DeserializeLayout for (A, B, C, D, E, F, Z) {
-    ghost layout = { place_then A.presence A.shape (place_then B.presence B.shape
-        (place_then C.presence C.shape (place_then D.presence D.shape
-        (place_then E.presence E.shape (place_then F.presence F.shape Z.layout))))) };
+    ghost layout = { component_then A.presence A.shape (component_then B.presence B.shape
+        (component_then C.presence C.shape (component_then D.presence D.shape
+        (component_then E.presence E.shape (component_then F.presence F.shape Z.layout))))) };
 
     fn deserialize_layout<R: ReadExt>(
         sequence: &mut Sequence<'_, R>,
@@ -142,9 +142,9 @@ impl<
     G: DeserializeMember,
     Z: DeserializeLayout,
 > DeserializeLayout for (A, B, C, D, E, F, G, Z) {
-    ghost layout = { place_then A.presence A.shape (place_then B.presence B.shape
-        (place_then C.presence C.shape (place_then D.presence D.shape
-        (place_then E.presence E.shape (place_then F.presence F.shape (place_then G.presence G.shape Z.layout)))))) };
+    ghost layout = { component_then A.presence A.shape (component_then B.presence B.shape
+        (component_then C.presence C.shape (component_then D.presence D.shape
+        (component_then E.presence E.shape (component_then F.presence F.shape (component_then G.presence G.shape Z.layout)))))) };
 
     fn deserialize_layout<R: ReadExt>(
         sequence: &mut Sequence<'_, R>,
@@ -174,10 +174,10 @@ impl<
     H: DeserializeMember,
     Z: DeserializeLayout,
 > DeserializeLayout for (A, B, C, D, E, F, G, H, Z) {
-    ghost layout = { place_then A.presence A.shape (place_then B.presence B.shape
-        (place_then C.presence C.shape (place_then D.presence D.shape
-        (place_then E.presence E.shape (place_then F.presence F.shape
-        (place_then G.presence G.shape (place_then H.presence H.shape Z.layout))))))) };
+    ghost layout = { component_then A.presence A.shape (component_then B.presence B.shape
+        (component_then C.presence C.shape (component_then D.presence D.shape
+        (component_then E.presence E.shape (component_then F.presence F.shape
+        (component_then G.presence G.shape (component_then H.presence H.shape Z.layout))))))) };
 
     fn deserialize_layout<R: ReadExt>(
         sequence: &mut Sequence<'_, R>,

@@ -49,7 +49,7 @@ impl DeserializeLayout for () {
 /// A type whose values are told by the members of a sequence, of which some may be absent, as a struct's are.
 pub trait Struct: Sized {
     /// The members, as `(A, Optional<B>, ())` of one that is always there and one that may be absent. Those behind the eighth
-    /// are the last place, again a tuple.
+    /// are the last field, again a tuple.
     type Members: DeserializeLayout;
 
     // The members of a value.
@@ -59,7 +59,7 @@ pub trait Struct: Sized {
     fn from_parts(members: Self::Members) -> Self
         ensures { parts result ≡ members };
 
-    // No byte begins a member that may be absent and one that may come in its place.
+    // No byte begins a member that may be absent and one that may come instead of it.
     ghost told: { AreMembersTold Self.Members.layout };
 }
 

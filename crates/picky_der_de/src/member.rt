@@ -1,4 +1,4 @@
-//! One place of a struct: a member that is always there, or one that may be absent.
+//! One member of a struct: it is always there, or it may be absent.
 ghost use Rattle.std.specs.Prelude.{◌≡◌, Bool, false, Option, Some, IfOk, IfErr, IfSome, IfNone};
 ghost use Rattle.picky_der_core.specs.Shape.{Shape};
 ghost use Rattle.picky_der_core.specs.Tree.{Tree};
@@ -12,7 +12,7 @@ use picky_der_core::Result;
 use picky_der_core::misc::ReadExt;
 use picky_der_ser::{DefaultOf, Defaulted, Optional, SerializeMember};
 
-/// A place of a struct that is read back: a value, which is always there, or a member that may be absent, as `Optional` and
+/// A member of a struct that is read back: a value, which is always there, or one that may be absent, as `Optional` and
 /// `Defaulted` are.
 pub trait DeserializeMember: SerializeMember + PartialEq + Drop + Sized {
     ghost use Rattle.picky_der_de.specs.SequenceState.{borrowed_by, outer_of, state_of};
@@ -42,10 +42,10 @@ pub trait DeserializeMember: SerializeMember + PartialEq + Drop + Sized {
     fn deserialize_member<R: ReadExt>(sequence: &mut Sequence<'_, R>) -> Result<Self>
         ensures same_reference { borrowed_by sequence.new ≡ borrowed_by sequence.old }
         ensures outer { outer_of sequence.new ≡ outer_of sequence.old }
-        ensures member { IfOk result (λ place. IfSome (item place)
+        ensures member { IfOk result (λ slot. IfSome (item slot)
             (λ value. ReadsMember shape (state_of sequence.old) (state_of sequence.new)
             (item_meaning value))) }
-        ensures none { IfOk result (λ place. IfNone (item place)
+        ensures none { IfOk result (λ slot. IfNone (item slot)
             (Lacks shape (state_of sequence.old) (state_of sequence.new))) }
         ensures err { IfErr result (RefusesComponent presence item_meaning left_out shape
             (state_of sequence.old) (state_of sequence.new)) };

@@ -12,7 +12,7 @@ use picky_der_core::misc::ReadExt;
 ///
 /// Each row of members has to be a value of the type. A type that leaves some out is read by the calls of the deserializer.
 pub trait Record: Sized {
-    /// The members, as `(A, B, ())` of two. Those behind the eighth are the last place, again a tuple.
+    /// The members, as `(A, B, ())` of two. Those behind the eighth are the last field, again a tuple.
     type Fields: DeserializeMembers;
 
     // The members of a value.

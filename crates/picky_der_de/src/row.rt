@@ -4,7 +4,7 @@ ghost use Rattle.std.proofs.Common.{refl};
 ghost use Rattle.picky_der_core.specs.Tree.{ListKind};
 ghost use Rattle.picky_der_core.specs.Shape.{Shape, Shapes, AreSound};
 ghost use Rattle.picky_der_de.specs.Members.{ReadsRow, RefusesRow};
-ghost use Rattle.picky_der_de.specs.InjectiveLaws.{AreInjective, row_members};
+ghost use Rattle.picky_der_de.specs.InjectiveLaws.{AreInjective, list_members};
 
 use crate::{Deserialize, Deserializer, Sequence};
 use picky_der_core::Result;
@@ -54,7 +54,7 @@ impl DeserializeMembers for () {
 impl<M: DeserializeMembers> Deserialize for Row<M> {
     ghost shape = { Shape.fields ListKind.sequence M.shapes };
 
-    ghost injective = { λ x y p q r e. M.injective x.0 y.0 p.1 q.1 r.1 (row_members e) };
+    ghost injective = { λ x y p q r e. M.injective x.0 y.0 p.1 q.1 r.1 (list_members e) };
 
     ghost sound = { M.sound };
 

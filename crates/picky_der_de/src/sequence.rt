@@ -15,8 +15,8 @@ pub struct Sequence<'a, R: ReadExt> {
     de: &'a mut Deserializer<R>,
     // The end around its own.
     outer: Outer,
-    ghost within: { de.now.taken + de.now.until_end ≤ outer.place },
-    ghost bounded: { outer.place ≤ de.now.limit },
+    ghost within: { de.now.taken + de.now.until_end ≤ outer.position },
+    ghost bounded: { outer.position ≤ de.now.limit },
     ghost whole: { de.now.failed ≡ None → de.now.implicit_tag ≡ None },
 }
 

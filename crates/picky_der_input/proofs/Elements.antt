@@ -4,14 +4,14 @@ use Rattle.std.proofs.lemmas.Bool.Decides.{nat_tests}
 use Rattle.std.specs.Io.KnownBytes.{Keeps}
 use Rattle.picky_der_core.specs.declared.error.Asn1DerError.{Asn1DerError}
 use Rattle.picky_der_core.specs.declared.error.Asn1DerError.TheVariants.{TruncatedData, UnsupportedValue}
-use Rattle.picky_der_core.specs.Element.{len, tlv, IsElement}
+use Rattle.picky_der_core.specs.Element.{length_octets, tlv, IsElement}
 use Rattle.picky_der_core.specs.ElementLaws.{bytes_then, length_bytes, content_bytes}
 use Rattle.picky_der_core.specs.Tag.{number_of, is_tag_number, IsTagNumber}
 use Rattle.picky_der_core.specs.Tree.{Tree}
 use Rattle.picky_der_core.specs.Encoding.{der}
-use Rattle.picky_der_core.specs.EncodingLaws.{der-raw, der-bytes, inside-other}
+use Rattle.picky_der_core.specs.EncodingLaws.{der-raw, der-bytes, implicit_content-other}
 use Rattle.picky_der_core.specs.Shape.{Shape, AreBytes, IsFirst}
-use Rattle.picky_der_core.specs.FirstLaws.{has-tags_below}
+use Rattle.picky_der_core.specs.FirstLaws.{contains-tags_below}
 use Rattle.picky_der_core.specs.Reading.{Place, written_at, MayStand, StandsAt}
 use Rattle.picky_der_core.specs.Refusal.{Refusal, bytes_error, plain_refusal, element_refusal}
 use Rattle.picky_der_input.specs.State.{State}
@@ -20,7 +20,7 @@ use Rattle.picky_der_input.specs.Reading.{Concerns, now, ever, IsJustRefused, Re
 use Rattle.picky_der_input.specs.Headers.{BeginsContent, RefusesContentLength}
 use Rattle.picky_der_input.specs.Elements.{raw_refusal, without_implicit_tag, BeginsElement, ReadsRaw, RefusesRaw}
 use Rattle.picky_der_input.proofs.Steps.{fails_after}
-use Rattle.picky_der_input.proofs.Refusals.{behind, failed_grows, missing_here, missing_first, taken_first}
+use Rattle.picky_der_input.proofs.Refusals.{concerns_behind, failed_grows, missing_here, missing_first, taken_first}
 use Rattle.picky_der_input.proofs.Known.{front_of, just_taken, just_missing}
 use Rattle.picky_der_input.proofs.Headers.{is_number, same_byte, length_tlv, header_unread}
 use Rattle.picky_der_input.proofs.PlainReads.{refuses_header, refuses_cut, reads_plain}
@@ -28,8 +28,8 @@ use Rattle.picky_der_input.specs.PlainKindLaws.{bytes_kind}
 
 -- ---- the special reading is given up
 
-given_up_takes : {a c : State} {bs : List ℕ} → Takes (without_implicit_tag a) c bs → Takes a c bs
-given_up_takes t = record {
+takes_with_implicit_tag : {a c : State} {bs : List ℕ} → Takes (without_implicit_tag a) c bs → Takes a c bs
+takes_with_implicit_tag t = record {
   input = t.input;
   taken = t.taken;
   until_end = t.until_end;
@@ -44,8 +44,8 @@ given_up_takes t = record {
   references = t.references;
 }
 
-given_up_fails : {a c : State} {e : Asn1DerError} → Fails (without_implicit_tag a) c e → Fails a c e
-given_up_fails f = record {
+fails_with_implicit_tag : {a c : State} {e : Asn1DerError} → Fails (without_implicit_tag a) c e → Fails a c e
+fails_with_implicit_tag f = record {
   failed = f.failed;
   again = λ k w. let q = f.again k w in (q.0, record { input = q.1.input; taken = q.1.taken; peeked = q.1.peeked; faults = q.1.faults });
   faults = f.faults;
@@ -60,26 +60,26 @@ given_up_fails f = record {
   references = f.references;
 }
 
-given_up_judged : {a c : State} {e : Asn1DerError} → IsJudged a c e → IsJudged (without_implicit_tag a) c e
-given_up_judged j = record { had_not_failed = j.had_not_failed; faults = j.faults; memory = j.memory }
+judged_without_implicit_tag : {a c : State} {e : Asn1DerError} → IsJudged a c e → IsJudged (without_implicit_tag a) c e
+judged_without_implicit_tag j = record { had_not_failed = j.had_not_failed; faults = j.faults; memory = j.memory }
 
-given_up_concerns : {a c : State} {e : Asn1DerError} {end : ℕ} {bs : List ℕ} → Concerns a c e end bs → Concerns (without_implicit_tag a) c e end bs
-given_up_concerns (now i r) = now i r
-given_up_concerns (ever w r d y left i q f) = ever w r d y left i q f
+concerns_without_implicit_tag : {a c : State} {e : Asn1DerError} {end : ℕ} {bs : List ℕ} → Concerns a c e end bs → Concerns (without_implicit_tag a) c e end bs
+concerns_without_implicit_tag (now i r) = now i r
+concerns_without_implicit_tag (ever w r d y left i q f) = ever w r d y left i q f
 
-given_up_just : {refusal : List ℕ → Option Refusal} {a c : State} {e : Asn1DerError} {bs : List ℕ} → IsJustRefused refusal (without_implicit_tag a) c e bs → IsJustRefused refusal a c e bs
-given_up_just h = record { left = h.left; refused = h.refused; input = h.input; kept = h.kept; used = h.used }
+just_with_implicit_tag : {refusal : List ℕ → Option Refusal} {a c : State} {e : Asn1DerError} {bs : List ℕ} → IsJustRefused refusal (without_implicit_tag a) c e bs → IsJustRefused refusal a c e bs
+just_with_implicit_tag h = record { left = h.left; refused = h.refused; input = h.input; kept = h.kept; used = h.used }
 
 -- ---- elements and their tags
 
 -- the element stands whole wherever it stands
 written_raw : (place : Place) (s : List ℕ) → written_at place (Tree.raw s) ≡ s
 written_raw Place.whole s = der-raw s
-written_raw (Place.under_implicit ahead) s = inside-other (Tree.raw s) refl tt ∙ der-raw s
+written_raw (Place.under_implicit ahead) s = implicit_content-other (Tree.raw s) refl tt ∙ der-raw s
 
 first_tag : (x tag : ℕ) (c rest left : List ℕ) → tag ∷ left ≡ tlv x c ++ rest → x ≡ tag
 unfolding tlv
-first_tag x tag c rest left e = let q : tag ∷ left ≡ x ∷ ((len (length c) ++ c) ++ rest) = e in cc
+first_tag x tag c rest left e = let q : tag ∷ left ≡ x ∷ ((length_octets (length c) ++ c) ++ rest) = e in cc
 
 -- an element that stands where this tag stands is bytes under it
 stands_tagged : {place : Place} {bs left : List ℕ} {end tag : ℕ} (s : List ℕ) → bs ≡ tag ∷ left → StandsAt place Shape.raw bs end (Tree.raw s)
@@ -113,7 +113,7 @@ element_long_form : (first : ℕ) (hard : Bool) (ahead : ℕ) (y : List ℕ) →
 element_long_form first hard ahead y past = let none : is_tag_number (number_of first) ≡ false = grind (arith, nat_tests) in rw none refl
 
 first_of_raw : (tag : ℕ) → IsTagNumber (number_of tag) → tag < 256 → IsFirst Shape.raw tag
-first_of_raw tag n l = has-tags_below tag 256 l n
+first_of_raw tag n l = contains-tags_below tag 256 l n
 
 -- ---- refused
 
@@ -122,15 +122,15 @@ refuses_tagged : {a b c : State} {e : Asn1DerError} {tag : ℕ} {x : List ℕ} �
     → RefusesPlain (Tree.bytes tag) tag bytes_error (Shape.bytes tag) (without_implicit_tag a) c e → RefusesRaw a c e
 refuses_tagged {a} {b} {c} {e} {tag} {x} t g n byte h = record {
   refuses = record {
-    fails = given_up_fails h.refuses.fails;
+    fails = fails_with_implicit_tag h.refuses.fails;
     none = λ j end bs w s st.
-        let v = behind t g (given_up_concerns w) in
+        let v = concerns_behind t g (concerns_without_implicit_tag w) in
         let q = stands_tagged s v.begins st in
-        h.refuses.none (given_up_judged j) end bs (given_up_concerns w) q.1.0 q.1.1;
+        h.refuses.none (judged_without_implicit_tag j) end bs (concerns_without_implicit_tag w) q.1.0 q.1.1;
     first = λ j k d l y left i. subst (IsFirst Shape.raw) (sym (taken_first a.input b.input tag y x left t.input i)) (first_of_raw tag n byte);
   };
   just = λ j bs k.
-      let q = h.just (given_up_judged j) bs k in
+      let q = h.just (judged_without_implicit_tag j) bs k in
       let f = front_of t k in
       record {
         left = q.left;
@@ -145,18 +145,18 @@ refuses_tagged {a} {b} {c} {e} {tag} {x} t g n byte h = record {
 pub raw_missing : {a c : State} {e : Asn1DerError} → Fails (without_implicit_tag a) c e → (IsJudged a c e → IsMissing (without_implicit_tag a) e) → Keeps a.input c.input → c.taken ≡ a.taken → c.peeked ≡ a.peeked → RefusesRaw a c e
 raw_missing {a} {c} {e} f m i t p = record {
   refuses = record {
-    fails = given_up_fails f;
+    fails = fails_with_implicit_tag f;
     none = λ j end bs w s st. none j w s st;
     first = λ j k d l b left q. absurd (missing_first (without_implicit_tag a) (m j) l q);
   };
-  just = λ j bs k. given_up_just (just_missing (raw_refusal a) (m j) i t p k (λ is. ap (λ x. Some (x, [])) is));
+  just = λ j bs k. just_with_implicit_tag (just_missing (raw_refusal a) (m j) i t p k (λ is. ap (λ x. Some (x, [])) is));
 } where
   none : IsJudged a c e → {end : ℕ} {bs : List ℕ} → Concerns a c e end bs → (s : List ℕ) → StandsAt (place_of a) Shape.raw bs end (Tree.raw s) → ⊥
   none j {end} {bs} w s st =
       let r : IsElement s = st.readable in
       let size = ap length (written_raw (place_of a) s ∙ r.is) in
       let whole = length_tlv r.tag r.content in
-      elim (missing_here (m j) (given_up_concerns w)) [
+      elim (missing_here (m j) (concerns_without_implicit_tag w)) [
         | inl here ↦ omega (arith, st.within, size, whole, here)
         | inr ended ↦ omega (arith, size, whole, ap length (sym st.front.is ∙ ended), length-append (written_at (place_of a) (Tree.raw s)) st.front.rest)
       ]
@@ -165,14 +165,14 @@ raw_missing {a} {c} {e} f m i t p = record {
 pub raw_long_form : {a b c : State} {e : Asn1DerError} {first : ℕ} → Takes (without_implicit_tag a) b (first ∷ []) → 30 < number_of first → Fails b c e → e ≡ UnsupportedValue → c ≡ failed_with b e → RefusesRaw a c e
 raw_long_form {a} {first = first} t past f is same = record {
   refuses = record {
-    fails = given_up_fails (fails_after t f);
+    fails = fails_with_implicit_tag (fails_after t f);
     none = λ j end bs w s st.
-        let v = behind t (failed_grows f) (given_up_concerns w) in
+        let v = concerns_behind t (failed_grows f) (concerns_without_implicit_tag w) in
         let q = stands_tagged s v.begins st in
         omega (arith, q.0, past);
     first = λ j k d l b left q. absurd (let r : UnsupportedValue ≡ TruncatedData = sym is ∙ k in cc);
   };
-  just = λ j bs k. given_up_just (just_taken (raw_refusal a) t same k (λ y. element_long_form first (is_hard a.end) a.until_end y past ∙ ap (λ x. Some (x, y)) (sym is)));
+  just = λ j bs k. just_with_implicit_tag (just_taken (raw_refusal a) t same k (λ y. element_long_form first (is_hard a.end) a.until_end y past ∙ ap (λ x. Some (x, y)) (sym is)));
 }
 
 -- the length behind the tag was refused
@@ -194,24 +194,24 @@ raw_may_stand : (d : Option ℕ) (until_end : ℕ) (s : List ℕ) → MayStand (
 raw_may_stand None until_end s = tt
 raw_may_stand (Some number) until_end s = record { no_choice = tt; filled = λ plain. absurd (let q : false ≡ true = plain in cc) }
 
-is_tlv : (tag n : ℕ) (content : List ℕ) → length content ≡ n → tlv tag content ≡ (tag ∷ len n) ++ content
+is_tlv : (tag n : ℕ) (content : List ℕ) → length content ≡ n → tlv tag content ≡ (tag ∷ length_octets n) ++ content
 unfolding tlv
 is_tlv tag n content size = rw size refl
 
-pub reads_raw : {a b c : State} {tag n : ℕ} {content all : List ℕ} → BeginsElement a b tag n → TakesBytes b c n content → c.implicit_tag ≡ None → all ≡ (tag ∷ len n) ++ content → ReadsRaw a c all
+pub reads_raw : {a b c : State} {tag n : ℕ} {content all : List ℕ} → BeginsElement a b tag n → TakesBytes b c n content → c.implicit_tag ≡ None → all ≡ (tag ∷ length_octets n) ++ content → ReadsRaw a c all
 reads_raw {a} {b} {c} {tag} {n} {content} {all} h t d is =
     let plain = reads_plain (bytes_kind tag h.number) content (refl, t.bytes) h.number (begins_tagged h) t.takes t.count d in
     let whole : tlv tag content ≡ all = is_tlv tag n content t.count ∙ sym is in
     let small : n < 2 ^ 64 = omega (arith, h.fits, h.takes.until_end, h.bounded) in
     record {
       reads = record {
-        of_shape = subst AreBytes (sym is) (h.byte, bytes_then (len n) content (length_bytes n small) t.bytes);
+        of_shape = subst AreBytes (sym is) (h.byte, bytes_then (length_octets n) content (length_bytes n small) t.bytes);
         readable = record { tag = tag; content = content; number = h.number; is = sym whole };
         may_stand = raw_may_stand a.implicit_tag a.until_end all;
-        takes = subst (Takes a c) (der-bytes tag content ∙ whole ∙ sym (written_raw (place_of a) all)) (given_up_takes plain.reads.takes);
+        takes = subst (Takes a c) (der-bytes tag content ∙ whole ∙ sym (written_raw (place_of a) all)) (takes_with_implicit_tag plain.reads.takes);
         implicit_tag = d;
       };
       no_refusal = λ bs k.
           let f = front_of h.takes k in
-          ap (raw_refusal a) f.before ∙ element_plain tag (is_hard a.end) a.until_end (len n ++ take b.until_end f.rest) h.number ∙ ap (refusal_at tag bytes_error (without_implicit_tag a)) (sym f.before) ∙ plain.no_refusal bs k;
+          ap (raw_refusal a) f.before ∙ element_plain tag (is_hard a.end) a.until_end (length_octets n ++ take b.until_end f.rest) h.number ∙ ap (refusal_at tag bytes_error (without_implicit_tag a)) (sym f.before) ∙ plain.no_refusal bs k;
     }

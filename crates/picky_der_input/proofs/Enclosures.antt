@@ -5,15 +5,15 @@ use Rattle.picky_der_core.specs.declared.error.Asn1DerError.{Asn1DerError}
 use Rattle.picky_der_core.specs.declared.error.Asn1DerError.TheVariants.{TruncatedData, InvalidData, UnsupportedValue}
 use Rattle.picky_der_core.specs.declared.asn1.wrapper.Wrapper.{Wrapper}
 use Rattle.picky_der_core.specs.declared.asn1.wrapper.Wrapper.TheVariants.{OctetContainer, BitContainer, Explicit, Implicit}
-use Rattle.picky_der_core.specs.Element.{len, tlv}
+use Rattle.picky_der_core.specs.Element.{length_octets, tlv}
 use Rattle.picky_der_core.specs.Tag.{number_of, is_tag_number, IsTagNumber}
 use Rattle.picky_der_core.specs.Tree.{Tree}
 use Rattle.picky_der_core.specs.Encoding.{der}
-use Rattle.picky_der_core.specs.EncodingLaws.{inside-other, is_absent-readable, der-application}
-use Rattle.picky_der_core.specs.FirstLaws.{has_numbered}
+use Rattle.picky_der_core.specs.EncodingLaws.{implicit_content-other, is_absent-readable, der-application}
+use Rattle.picky_der_core.specs.FirstLaws.{contains_numbered}
 use Rattle.picky_der_core.specs.Readable.{IsReadable}
 use Rattle.picky_der_core.specs.Reading.{written_at, MayStand}
-use Rattle.picky_der_core.specs.Refusal.{Refusal, Outcome, header, header_refusal, refusal_of}
+use Rattle.picky_der_core.specs.Refusal.{Refusal, ReadOutcome, header, header_refusal, refusal_of}
 use Rattle.picky_der_core.specs.Shape.{Shape, IsOf, IsFirst}
 use Rattle.picky_der_core.specs.Wrapper.{wrapped_content}
 use Rattle.picky_der_core.specs.WrapperLaws.{der-wrap, wrapper_tag_number}
@@ -26,12 +26,12 @@ use Rattle.picky_der_input.proofs.Headers.{is_number, header-read}
 
 -- ---- the tree in an enclosure
 
-pub is_of_held : (w : Enclosure) (s : Shape) (t : Tree) → IsOf (enclose_shape w s) (enclose w t) → IsOf s t
-is_of_held (enclosure.Wrapper OctetContainer) s t o = o
-is_of_held (enclosure.Wrapper BitContainer) s t o = o
-is_of_held (enclosure.Wrapper (Explicit n)) s t o = o.1
-is_of_held (enclosure.Wrapper (Implicit n)) s t o = o.1
-is_of_held (enclosure.Application n) s t o = o.1
+pub is_of_inner : (w : Enclosure) (s : Shape) (t : Tree) → IsOf (enclose_shape w s) (enclose w t) → IsOf s t
+is_of_inner (enclosure.Wrapper OctetContainer) s t o = o
+is_of_inner (enclosure.Wrapper BitContainer) s t o = o
+is_of_inner (enclosure.Wrapper (Explicit n)) s t o = o.1
+is_of_inner (enclosure.Wrapper (Implicit n)) s t o = o.1
+is_of_inner (enclosure.Application n) s t o = o.1
 
 pub is_of_enclosed : (w : Enclosure) (s : Shape) (t : Tree) → IsOf s t → IsOf (enclose_shape w s) (enclose w t)
 is_of_enclosed (enclosure.Wrapper OctetContainer) s t o = o
@@ -40,12 +40,12 @@ is_of_enclosed (enclosure.Wrapper (Explicit n)) s t o = (refl, o)
 is_of_enclosed (enclosure.Wrapper (Implicit n)) s t o = (refl, o)
 is_of_enclosed (enclosure.Application n) s t o = (refl, o)
 
-pub readable_held : (w : Enclosure) (t : Tree) → IsReadable (enclose w t) → IsReadable t
-readable_held (enclosure.Wrapper OctetContainer) t r = r
-readable_held (enclosure.Wrapper BitContainer) t r = r
-readable_held (enclosure.Wrapper (Explicit n)) t r = r.1
-readable_held (enclosure.Wrapper (Implicit n)) t r = r.2
-readable_held (enclosure.Application n) t r = r.1
+pub readable_inner : (w : Enclosure) (t : Tree) → IsReadable (enclose w t) → IsReadable t
+readable_inner (enclosure.Wrapper OctetContainer) t r = r
+readable_inner (enclosure.Wrapper BitContainer) t r = r
+readable_inner (enclosure.Wrapper (Explicit n)) t r = r.1
+readable_inner (enclosure.Wrapper (Implicit n)) t r = r.2
+readable_inner (enclosure.Application n) t r = r.1
 
 pub readable_number : (w : Enclosure) (t : Tree) → IsReadable (enclose w t) → HasEnclosureNumber w
 readable_number (enclosure.Wrapper OctetContainer) t r = tt
@@ -61,12 +61,12 @@ readable_enclosed (enclosure.Wrapper (Explicit k)) t until_end n r m = (n, r)
 readable_enclosed (enclosure.Wrapper (Implicit k)) t until_end n r m = (n, m.no_choice, r)
 readable_enclosed (enclosure.Application k) t until_end n r m = (n, r)
 
-pub may_stand_held : (w : Enclosure) (t : Tree) (until_end : ℕ) → IsReadable (enclose w t) → length (written_at (place_in (implicit_number w) until_end) t) ≡ until_end → MayStand (place_in (implicit_number w) until_end) t
-may_stand_held (enclosure.Wrapper OctetContainer) t until_end r l = tt
-may_stand_held (enclosure.Wrapper BitContainer) t until_end r l = tt
-may_stand_held (enclosure.Wrapper (Explicit n)) t until_end r l = tt
-may_stand_held (enclosure.Wrapper (Implicit n)) t until_end r l = record { no_choice = r.1; filled = λ p. l }
-may_stand_held (enclosure.Application n) t until_end r l = tt
+pub may_stand_inner : (w : Enclosure) (t : Tree) (until_end : ℕ) → IsReadable (enclose w t) → length (written_at (place_in (implicit_number w) until_end) t) ≡ until_end → MayStand (place_in (implicit_number w) until_end) t
+may_stand_inner (enclosure.Wrapper OctetContainer) t until_end r l = tt
+may_stand_inner (enclosure.Wrapper BitContainer) t until_end r l = tt
+may_stand_inner (enclosure.Wrapper (Explicit n)) t until_end r l = tt
+may_stand_inner (enclosure.Wrapper (Implicit n)) t until_end r l = record { no_choice = r.1; filled = λ p. l }
+may_stand_inner (enclosure.Application n) t until_end r l = tt
 
 -- an enclosure is no plain value and no choice
 pub may_stand_enclosed : (d : Option ℕ) (until_end : ℕ) (w : Enclosure) (t : Tree) → MayStand (place_in d until_end) (enclose w t)
@@ -80,20 +80,20 @@ may_stand_enclosed (Some k) until_end (enclosure.Application n) t = record { no_
 -- it keeps its header directly under an implicit tag
 written_whole : (d : Option ℕ) (until_end : ℕ) (w : Enclosure) (t : Tree) → written_at (place_in d until_end) (enclose w t) ≡ der (enclose w t)
 written_whole None until_end w t = refl
-written_whole (Some k) until_end (enclosure.Wrapper OctetContainer) t = inside-other (Tree.octet_container t) refl tt
-written_whole (Some k) until_end (enclosure.Wrapper BitContainer) t = inside-other (Tree.bit_container t) refl tt
-written_whole (Some k) until_end (enclosure.Wrapper (Explicit n)) t = inside-other (Tree.explicit n t) refl tt
-written_whole (Some k) until_end (enclosure.Wrapper (Implicit n)) t = inside-other (Tree.implicit n t) refl tt
-written_whole (Some k) until_end (enclosure.Application n) t = inside-other (Tree.application n t) refl tt
+written_whole (Some k) until_end (enclosure.Wrapper OctetContainer) t = implicit_content-other (Tree.octet_container t) refl tt
+written_whole (Some k) until_end (enclosure.Wrapper BitContainer) t = implicit_content-other (Tree.bit_container t) refl tt
+written_whole (Some k) until_end (enclosure.Wrapper (Explicit n)) t = implicit_content-other (Tree.explicit n t) refl tt
+written_whole (Some k) until_end (enclosure.Wrapper (Implicit n)) t = implicit_content-other (Tree.implicit n t) refl tt
+written_whole (Some k) until_end (enclosure.Application n) t = implicit_content-other (Tree.application n t) refl tt
 
-held_is : (w : Wrapper) (t : Tree) (until_end : ℕ) → wrapped_content w t ≡ unused_bits (enclosure.Wrapper w) ++ written_at (place_in (implicit_number (enclosure.Wrapper w)) until_end) t
-held_is OctetContainer t until_end = refl
-held_is BitContainer t until_end = refl
-held_is (Explicit n) t until_end = refl
-held_is (Implicit n) t until_end = refl
+wrapped_content-is : (w : Wrapper) (t : Tree) (until_end : ℕ) → wrapped_content w t ≡ unused_bits (enclosure.Wrapper w) ++ written_at (place_in (implicit_number (enclosure.Wrapper w)) until_end) t
+wrapped_content-is OctetContainer t until_end = refl
+wrapped_content-is BitContainer t until_end = refl
+wrapped_content-is (Explicit n) t until_end = refl
+wrapped_content-is (Implicit n) t until_end = refl
 
 der-enclose : (w : Enclosure) (t : Tree) (until_end : ℕ) → IsReadable t → der (enclose w t) ≡ tlv (enclosure_tag w) (unused_bits w ++ written_at (place_in (implicit_number w) until_end) t)
-der-enclose (enclosure.Wrapper w) t until_end r = der-wrap w t (is_absent-readable t r) ∙ ap (tlv (enclosure_tag (enclosure.Wrapper w))) (held_is w t until_end)
+der-enclose (enclosure.Wrapper w) t until_end r = der-wrap w t (is_absent-readable t r) ∙ ap (tlv (enclosure_tag (enclosure.Wrapper w))) (wrapped_content-is w t until_end)
 der-enclose (enclosure.Application n) t until_end r = der-application n t
 
 -- what is written of an enclosure, wherever it stands
@@ -104,9 +104,9 @@ written_enclosed d ahead until_end w t r = written_whole d ahead w t ∙ der-enc
 pub first_enclosed : (w : Enclosure) (s : Shape) → HasEnclosureNumber w → IsFirst (enclose_shape w s) (enclosure_tag w)
 first_enclosed (enclosure.Wrapper OctetContainer) s h = refl
 first_enclosed (enclosure.Wrapper BitContainer) s h = refl
-first_enclosed (enclosure.Wrapper (Explicit n)) s h = has_numbered n (0xA0 + n) h
-first_enclosed (enclosure.Wrapper (Implicit n)) s h = has_numbered n (0x80 + n) h
-first_enclosed (enclosure.Application n) s h = has_numbered n (0x60 + n) h
+first_enclosed (enclosure.Wrapper (Explicit n)) s h = contains_numbered n (0xA0 + n) h
+first_enclosed (enclosure.Wrapper (Implicit n)) s h = contains_numbered n (0x80 + n) h
+first_enclosed (enclosure.Application n) s h = contains_numbered n (0x60 + n) h
 
 -- ---- the count of unused bits
 
@@ -159,17 +159,17 @@ enclosure_header_is (enclosure.Wrapper (Implicit n)) hard ahead rest h = rw (is_
 enclosure_header_is (enclosure.Application n) hard ahead rest h = rw (is_number h, is_number (tag_number (enclosure.Application n) h)) refl
 
 -- known bytes with a header in front
-pub opening_read : (w : Enclosure) (s : State) (n q : ℕ) (y : List ℕ) → HasEnclosureNumber w → n < 2 ^ 64 → s.until_end ≡ length (enclosure_tag w ∷ len n) + q → n ≤ q
-    → opening_refusal w s ((enclosure_tag w ∷ len n) ++ y) ≡ refusal_behind (counts_unused_bits w) (Ok (n, y))
+pub opening_read : (w : Enclosure) (s : State) (n q : ℕ) (y : List ℕ) → HasEnclosureNumber w → n < 2 ^ 64 → s.until_end ≡ length (enclosure_tag w ∷ length_octets n) + q → n ≤ q
+    → opening_refusal w s ((enclosure_tag w ∷ length_octets n) ++ y) ≡ refusal_behind (counts_unused_bits w) (Ok (n, y))
 opening_read w s n q y h small r l =
-    ap (refusal_behind (counts_unused_bits w)) (enclosure_header_is w (is_hard s.end) s.until_end ((enclosure_tag w ∷ len n) ++ y) h ∙ header-read (enclosure_tag w) (is_hard s.end) s.until_end n q y (tag_number w h) small r l)
+    ap (refusal_behind (counts_unused_bits w)) (enclosure_header_is w (is_hard s.end) s.until_end ((enclosure_tag w ∷ length_octets n) ++ y) h ∙ header-read (enclosure_tag w) (is_hard s.end) s.until_end n q y (tag_number w h) small r l)
 
 -- a refused header
 pub opening_refused : (w : Enclosure) (s : State) (rest : List ℕ) (r : Refusal) → HasEnclosureNumber w → header_refusal (enclosure_tag w) (is_hard s.end) s.until_end rest ≡ Some r → opening_refusal w s rest ≡ Some r
 opening_refused w s rest r h e =
     ap (refusal_behind (counts_unused_bits w)) (enclosure_header_is w (is_hard s.end) s.until_end rest h) ∙ refused (counts_unused_bits w) (header (enclosure_tag w) (is_hard s.end) s.until_end rest) e
   where
-    refused : (b : Bool) (o : Outcome ℕ) → refusal_of o ≡ Some r → refusal_behind b o ≡ Some r
+    refused : (b : Bool) (o : ReadOutcome ℕ) → refusal_of o ≡ Some r → refusal_behind b o ≡ Some r
     refused true (Ok read) h = absurd (let q : None ≡ Some r = h in cc)
     refused false (Ok read) h = absurd (let q : None ≡ Some r = h in cc)
     refused true (Err e) h = h

@@ -6,7 +6,7 @@ use Rattle.picky_der_core.specs.Refusal.{refusal_of}
 use Rattle.picky_der_input.specs.declared.end.End.{End}
 use Rattle.picky_der_input.specs.declared.end.End.TheVariants.{Soft}
 use Rattle.picky_der_input.specs.State.{State}
-use Rattle.picky_der_input.specs.Steps.{Takes, Fails, IsJudged, far, is_hard}
+use Rattle.picky_der_input.specs.Steps.{Takes, Fails, IsJudged, mendable_within, is_hard}
 use Rattle.picky_der_input.specs.Order.{order_of, sets_inside, cut_at}
 use Rattle.picky_der_input.proofs.Order.{put_back}
 use Rattle.picky_der_input.specs.Reading.{Concerns, now, ever}
@@ -32,30 +32,30 @@ not_refused {tag} {n} {a} {b} i h k =
 pub opens_list : {tag n : ℕ} {a b c : State} {outer : Outer} → IsTagNumber (number_of tag) → BeginsContent tag a b n → c ≡ record (with_inner_end b n Soft) { sets = sets_inside (order_of tag) b.sets } → outer ≡ innermost b → OpensList tag a c outer
 opens_list {n = n} {b = b} i h opened back = record {
   mid = b;
-  len = n;
+  size = n;
   begins = h;
   opened = opened;
-  around = back;
+  outer_end = back;
   no_refusal = λ bs k. not_refused i h k;
 }
 
 -- ---- before an end that was opened
 
 -- bytes of which a refusal speaks, where the end is nearer
-pub narrowed_concerns : {b c : State} {e : Asn1DerError} {n left : ℕ} {seen : List ℕ} → Concerns b c e left seen → Concerns (with_inner_end b n Soft) c e n seen
-narrowed_concerns (now i r) = now i refl
-narrowed_concerns (ever w r d y left i q f) = ever w refl d y left i q f
+pub concerns_with_inner_end : {b c : State} {e : Asn1DerError} {n left : ℕ} {seen : List ℕ} → Concerns b c e left seen → Concerns (with_inner_end b n Soft) c e n seen
+concerns_with_inner_end (now i r) = now i refl
+concerns_with_inner_end (ever w r d y left i q f) = ever w refl d y left i q f
 
 pub concerns_room : {b c : State} {e : Asn1DerError} {left : ℕ} {seen : List ℕ} → b.end ≡ Soft → Concerns b c e left seen → left ≡ b.until_end
 concerns_room soft (now i r) = r
-concerns_room {b} soft (ever w r d y left i q f) = r ∙ ap (λ (z : End). far z b.until_end) soft
+concerns_room {b} soft (ever w r d y left i q f) = r ∙ ap (λ (z : End). mendable_within z b.until_end) soft
 
-pub narrowed_judged : {b c : State} {e : Asn1DerError} (n : ℕ) (kind : End) → IsJudged b c e → IsJudged (with_inner_end b n kind) c e
-narrowed_judged n kind j = record { had_not_failed = j.had_not_failed; faults = j.faults; memory = j.memory }
+pub judged_with_inner_end : {b c : State} {e : Asn1DerError} (n : ℕ) (kind : End) → IsJudged b c e → IsJudged (with_inner_end b n kind) c e
+judged_with_inner_end n kind j = record { had_not_failed = j.had_not_failed; faults = j.faults; memory = j.memory }
 
 -- a call that failed before a nearer end failed before the one around it
-pub widened_fails : {b c : State} {e : Asn1DerError} {n : ℕ} {kind : End} → n ≤ b.until_end → Fails (with_inner_end b n kind) c e → Fails b c e
-widened_fails {b} {c} {e} {n} {kind} l f = record {
+pub fails_without_inner_end : {b c : State} {e : Asn1DerError} {n : ℕ} {kind : End} → n ≤ b.until_end → Fails (with_inner_end b n kind) c e → Fails b c e
+fails_without_inner_end {b} {c} {e} {n} {kind} l f = record {
   failed = f.failed;
   again = λ k w. let q = f.again k w in (q.0, record { input = q.1.input; taken = q.1.taken; peeked = q.1.peeked; faults = q.1.faults });
   faults = f.faults;
@@ -74,12 +74,12 @@ widened_fails {b} {c} {e} {n} {kind} l f = record {
 pub closes_behind : {b c d : State} {n : ℕ} {kind : End} {outer : Outer} {bytes : List ℕ} → n ≤ b.until_end → outer ≡ innermost b → Takes (with_inner_end b n kind) c bytes → Closes outer c d → Takes b d bytes × (length bytes ≡ n)
 closes_behind {b} {c} {d} {n} {kind} {outer} {bytes} l back t k =
     let size : length bytes ≡ n = omega (arith, t.until_end, k.reached) in
-    let place : outer.place ≡ b.taken + b.until_end = ap (λ (o : Outer). o.place) back in
-    let new : State = record c { until_end = outer.place - c.taken; end = outer.kind; sets = cut_at outer.last c.sets.around } in
+    let position : outer.position ≡ b.taken + b.until_end = ap (λ (o : Outer). o.position) back in
+    let new : State = record c { until_end = outer.position - c.taken; end = outer.kind; sets = cut_at outer.last c.sets.around } in
     let takes : Takes b new bytes = record {
       input = t.input;
       taken = t.taken;
-      until_end = omega (arith, t.taken, place, size);
+      until_end = omega (arith, t.taken, position, size);
       end = ap (λ (o : Outer). o.kind) back;
       limit = t.limit;
       sets = put_back b back t.sets;

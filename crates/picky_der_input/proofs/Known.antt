@@ -13,20 +13,20 @@ use Rattle.picky_der_input.specs.declared.end.End.{End}
 use Rattle.picky_der_input.specs.declared.end.End.TheVariants.{Limit, Soft, Hard}
 use Rattle.picky_der_core.specs.Peeking.{count_of_any}
 use Rattle.picky_der_input.specs.State.{State}
-use Rattle.picky_der_input.specs.Steps.{Takes, IsMissing, end_is_here, input_ended, IsCut, failed_with, is_hard, at_end}
+use Rattle.picky_der_input.specs.Steps.{Takes, IsMissing, end_is_here, input_ended, IsCut, failed_with, is_hard, error_at_end}
 use Rattle.picky_der_input.specs.Reading.{IsJustRefused}
 use Rattle.picky_der_input.proofs.Refusals.{consumed, at_end_of}
 
 -- ---- what stands before the end
 
 -- known bytes, of which h were taken: r ahead is the end, and q behind h
-pub record Front (left : Option (List ℕ)) (r q : ℕ) (h bs : List ℕ) : Type 0 where
+pub record TakenFront (left : Option (List ℕ)) (r q : ℕ) (h bs : List ℕ) : Type 0 where
   pub rest : List ℕ
   pub known : left ≡ Some rest
   pub before : take r bs ≡ h ++ take q rest
   pub past : drop r bs ≡ drop q rest
 
-pub front : (i j : Option (List ℕ)) {r q : ℕ} {h bs : List ℕ} → Consumes i j h → r ≡ length h + q → i ≡ Some bs → Front j r q h bs
+pub front : (i j : Option (List ℕ)) {r q : ℕ} {h bs : List ℕ} → Consumes i j h → r ≡ length h + q → i ≡ Some bs → TakenFront j r q h bs
 front i j {r} {q} {h} {bs} c e k =
     let p = consumed i j h bs c k in
     record {
@@ -36,18 +36,18 @@ front i j {r} {q} {h} {bs} c e k =
       past = ap (drop r) p.2 ∙ ap (λ n. drop n (h ++ p.0)) e ∙ drop-append-add h p.0 q;
     }
 
-pub front_of : {a b : State} {h bs : List ℕ} → Takes a b h → a.input ≡ Some bs → Front b.input a.until_end b.until_end h bs
+pub front_of : {a b : State} {h bs : List ℕ} → Takes a b h → a.input ≡ Some bs → TakenFront b.input a.until_end b.until_end h bs
 front_of {a} {b} t k = front a.input b.input t.input t.until_end k
 
 -- ---- where a byte is missing
 
 -- all that stands before the end was taken, and the missing byte is refused so
-pub record Missing (end : End) (left : Option (List ℕ)) (r : ℕ) (h bs : List ℕ) (e : Asn1DerError) : Type 0 where
+pub record AllTaken (end : End) (left : Option (List ℕ)) (r : ℕ) (h bs : List ℕ) (e : Asn1DerError) : Type 0 where
   pub is : missing_byte (is_hard end) r h ≡ e
   pub before : take r bs ≡ h
   pub known : left ≡ Some (drop r bs)
 
-missing_at_end : (end : End) (r : ℕ) (h : List ℕ) → r ≡ length h → missing_byte (is_hard end) r h ≡ at_end end
+missing_at_end : (end : End) (r : ℕ) (h : List ℕ) → r ≡ length h → missing_byte (is_hard end) r h ≡ error_at_end end
 missing_at_end Limit r h e = refl
 missing_at_end Soft r h e = refl
 missing_at_end Hard r h e = let here : (length h == r) ≡ true = grind (arith, nat_tests) in rw here refl
@@ -57,7 +57,7 @@ missing_before Limit r h l = refl
 missing_before Soft r h l = refl
 missing_before Hard r h l = rw (ne_eqb (length h) r (λ e. omega arith)) refl
 
-pub missing_of : {mid : State} {e : Asn1DerError} (r : ℕ) (h bs : List ℕ) → IsMissing mid e → r ≡ length h + mid.until_end → Front mid.input r mid.until_end h bs → Missing mid.end mid.input r h bs e
+pub missing_of : {mid : State} {e : Asn1DerError} (r : ℕ) (h bs : List ℕ) → IsMissing mid e → r ≡ length h + mid.until_end → TakenFront mid.input r mid.until_end h bs → AllTaken mid.end mid.input r h bs e
 missing_of {mid} {e} r h bs (end_is_here z is) l f =
     let none : take mid.until_end f.rest ≡ [] = ap (λ n. take n f.rest) z in
     let all : drop mid.until_end f.rest ≡ f.rest = ap (λ n. drop n f.rest) z in
@@ -117,11 +117,11 @@ pub just_taken : (refusal : List ℕ → Option Refusal) {a b c : State} {h bs :
     → ((y : List ℕ) → refusal (h ++ y) ≡ Some (e, y)) → IsJustRefused refusal a c e bs
 just_taken refusal {a} {b} {c} {h} {bs} {e} t same k w =
     let f = front_of t k in
-    let parts : f.rest ≡ take b.until_end f.rest ++ drop a.until_end bs = sym (take-append-drop b.until_end f.rest) ∙ ap (λ x. take b.until_end f.rest ++ x) (sym f.past) in
+    let both : f.rest ≡ take b.until_end f.rest ++ drop a.until_end bs = sym (take-append-drop b.until_end f.rest) ∙ ap (λ x. take b.until_end f.rest ++ x) (sym f.past) in
     record {
       left = take b.until_end f.rest;
       refused = ap refusal f.before ∙ w (take b.until_end f.rest);
-      input = ap (λ (s : State). s.input) same ∙ f.known ∙ ap (λ x. Some x) parts;
+      input = ap (λ (s : State). s.input) same ∙ f.known ∙ ap (λ x. Some x) both;
       kept = peeked_kept c t (ap (λ (s : State). s.taken) same) (ap (λ (s : State). s.peeked) same);
       used = λ more. ap (λ (s : State). s.peeked) same ∙ t.unpeeked;
     }

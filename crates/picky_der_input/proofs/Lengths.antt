@@ -4,11 +4,11 @@ use Rattle.std.specs.Int.Digits.{number_from_digits}
 use Rattle.std.proofs.lemmas.Int.Digits.{number_push}
 use Rattle.picky_der_core.specs.declared.error.Asn1DerError.{Asn1DerError}
 use Rattle.picky_der_core.specs.declared.error.Asn1DerError.TheVariants.{InvalidData}
-use Rattle.picky_der_core.specs.Element.{len}
-use Rattle.picky_der_core.specs.ElementLaws.{len-short}
+use Rattle.picky_der_core.specs.Element.{length_octets}
+use Rattle.picky_der_core.specs.ElementLaws.{length_octets-short}
 use Rattle.picky_der_core.specs.Refusal.{length_of}
 use Rattle.picky_der_core.specs.Lengths.{IsLongCount, IsNoLongCount, none, too_many}
-use Rattle.picky_der_core.specs.LengthLaws.{length_of-none, length_of-too_many, length_of-cut, length_of-longer, len-number}
+use Rattle.picky_der_core.specs.LengthLaws.{length_of-none, length_of-too_many, length_of-cut, length_of-longer, length_octets-number}
 use Rattle.picky_der_input.specs.State.{State}
 use Rattle.picky_der_input.specs.Steps.{Takes, Fails, IsCut, StopsShort, failed_with}
 use Rattle.picky_der_input.specs.Headers.{ReadsDigits, cut, bad, RefusesLength}
@@ -30,13 +30,13 @@ digits_more {d = d} h t l = record {
 -- ---- the length itself
 
 -- one byte
-pub takes_short : {a b : State} {first : ℕ} → Takes a b (first ∷ []) → first < 0x80 → Takes a b (len first)
-takes_short {a} {b} {first} t h = rw (len-short first h) t
+pub takes_short : {a b : State} {first : ℕ} → Takes a b (first ∷ []) → first < 0x80 → Takes a b (length_octets first)
+takes_short {a} {b} {first} t h = rw (length_octets-short first h) t
 
 -- more than one
-pub takes_long : {a b c : State} {first count n : ℕ} → Takes a b (first ∷ []) → IsLongCount first count → ReadsDigits b c count n → length (len n) ≡ 1 + count → Takes a c (len n)
+pub takes_long : {a b c : State} {first count n : ℕ} → Takes a b (first ∷ []) → IsLongCount first count → ReadsDigits b c count n → length (length_octets n) ≡ 1 + count → Takes a c (length_octets n)
 takes_long {first = first} {count = count} t l d size =
-    let is : len (number_from_digits 256 d.digits) ≡ first ∷ d.digits = len-number first count d.digits l d.takes.count d.takes.bytes (ap (λ m. length (len m)) (sym d.number) ∙ size) in
+    let is : length_octets (number_from_digits 256 d.digits) ≡ first ∷ d.digits = length_octets-number first count d.digits l d.takes.count d.takes.bytes (ap (λ m. length (length_octets m)) (sym d.number) ∙ size) in
     rw (d.number, is) (takes_then t d.takes.takes)
 
 -- ---- no length
@@ -83,7 +83,7 @@ no_long_count {first} {k} (none is error) lacking y = length_of-none lacking fir
 no_long_count {first} {k} (too_many more error) lacking y = length_of-too_many lacking first y more ∙ ap (λ e. Err (e, y)) (sym error)
 
 -- a shorter length gives the number
-pub longer : {b c : State} {first count n : ℕ} {k : Asn1DerError} → IsLongCount first count → (d : ReadsDigits b c count n) → k ≡ InvalidData → length (len n) ≢ 1 + count
+pub longer : {b c : State} {first count n : ℕ} {k : Asn1DerError} → IsLongCount first count → (d : ReadsDigits b c count n) → k ≡ InvalidData → length (length_octets n) ≢ 1 + count
     → (lacking : Asn1DerError) (y : List ℕ) → length_of lacking (first ∷ d.digits ++ y) ≡ Err (k, y)
 longer {first = first} {count = count} l d error more lacking y =
-    length_of-longer lacking first count d.digits y l d.takes.count d.takes.bytes (λ size. more (ap (λ m. length (len m)) d.number ∙ size)) ∙ ap (λ e. Err (e, y)) (sym error)
+    length_of-longer lacking first count d.digits y l d.takes.count d.takes.bytes (λ size. more (ap (λ m. length (length_octets m)) d.number ∙ size)) ∙ ap (λ e. Err (e, y)) (sym error)

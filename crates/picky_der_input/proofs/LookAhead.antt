@@ -8,14 +8,14 @@ use Rattle.picky_der_core.specs.Refusal.{Refusal, missing_byte}
 use Rattle.picky_der_input.specs.declared.end.End.{End}
 use Rattle.picky_der_input.specs.declared.end.End.TheVariants.{Limit, Soft, Hard}
 use Rattle.picky_der_input.specs.State.{State}
-use Rattle.picky_der_input.specs.Steps.{Fails, IsMissing, end_is_here, input_ended, failed_with, is_hard, at_end}
+use Rattle.picky_der_input.specs.Steps.{Fails, IsMissing, end_is_here, input_ended, failed_with, is_hard, error_at_end}
 use Rattle.picky_der_input.specs.LookAhead.{choice_refusal_in, choice_refusal, identifier_refusal_in, RefusesChoice, RefusesIdentifier, HidesChoice, no_byte, implicit}
 use Rattle.picky_der_input.proofs.ReaderFaults.{StopsAt, read_fails, read_missing}
 use Rattle.picky_der_input.proofs.Known.{just_missing}
 use Rattle.picky_der_input.proofs.PlainReads.{just_map}
 use Rattle.picky_der_input.proofs.Steps.{fails_again}
 
-memory_at_end : (end : End) → at_end end ≢ OutOfMemory
+memory_at_end : (end : End) → error_at_end end ≢ OutOfMemory
 memory_at_end Limit h = cc
 memory_at_end Soft h = cc
 memory_at_end Hard h = cc
@@ -45,7 +45,7 @@ stands_implicit : (d : Option ℕ) (number : ℕ) (s : State) (rest : List ℕ) 
 stands_implicit None number s rest h = absurd (let q : None ≡ Some number = h in cc)
 stands_implicit (Some n) number s rest h = refl
 
--- the implicit tag stands in its place
+-- the implicit tag stands instead of it
 pub choice_under_implicit : {a c : State} {e : Asn1DerError} {number : ℕ} → a.implicit_tag ≡ Some number → Fails a c e → e ≡ InvalidData → c ≡ failed_with a e → RefusesChoice a c e
 choice_under_implicit {a} {c} {e} {number} d f is same = record {
   refuses = record {

@@ -6,7 +6,7 @@ use Rattle.std.proofs.Math.Nat.{pow-suc, pow-le-pow_right}
 use Rattle.picky_der_core.specs.Encoding.{unsigned_content}
 use Rattle.picky_der_core.specs.Shape.{AreBytes}
 use Rattle.picky_der_core.specs.Refusal.{unsigned_error, number_error}
-use Rattle.picky_der_core.specs.UnsignedLaws.{content-unsigned_fault}
+use Rattle.picky_der_core.specs.UnsignedLaws.{content-unsigned_error}
 
 pub more_bytes : (k n d : ℕ) → n < 256 ^ k → d < 256 → n * 256 + d < 256 ^ (k + 1)
 more_bytes k n d h l =
@@ -19,10 +19,10 @@ more_bytes_fit k m n d l h b =
     let most : 256 ^ (k + 1) ≤ 256 ^ m = pow-le-pow_right {n = 256} (omega arith) (omega arith) in
     omega (arith, more_bytes k n d h b, most)
 
--- a list of which each place holds a byte
-pub bytes_by_place : (bs : List ℕ) → ((i : ℕ) → get_or bs i 0 < 256) → AreBytes bs
-bytes_by_place [] h = tt
-bytes_by_place (b ∷ bs) h = (h 0, bytes_by_place bs (λ i. h (suc i)))
+-- a list that holds a byte at each index
+pub bytes_by_index : (bs : List ℕ) → ((i : ℕ) → get_or bs i 0 < 256) → AreBytes bs
+bytes_by_index [] h = tt
+bytes_by_index (b ∷ bs) h = (h 0, bytes_by_index bs (λ i. h (suc i)))
 
 -- the content from which a number was read
 pub content_of_number : (n : ℕ) (content digits : List ℕ) → AreBytes content → ((most : ℕ) → unsigned_error most content ≡ number_error most digits) → length digits ≤ 16
@@ -31,4 +31,4 @@ content_of_number n content digits bytes same short e f =
     let a : nat_lt 16 (length digits) ≡ false = grind (arith, nat_tests) in
     let b : nat_lt n (number_from_digits 256 digits) ≡ false = grind (arith, nat_tests) in
     let none : number_error n digits ≡ None = rw (a, b) refl in
-    (content-unsigned_fault n content bytes (same n ∙ none)).0 ∙ ap unsigned_content (sym f ∙ sym e)
+    (content-unsigned_error n content bytes (same n ∙ none)).0 ∙ ap unsigned_content (sym f ∙ sym e)

@@ -4,23 +4,23 @@ use Rattle.std.proofs.lemmas.Grind.{common_steps}
 use Rattle.std.proofs.lemmas.List.{take-append-drop}
 use Rattle.picky_der_core.specs.declared.error.Asn1DerError.{Asn1DerError}
 use Rattle.picky_der_core.specs.declared.error.Asn1DerError.TheVariants.{TruncatedData, UnsupportedValue, OutOfMemory}
-use Rattle.picky_der_core.specs.Element.{len}
+use Rattle.picky_der_core.specs.Element.{length_octets}
 use Rattle.picky_der_core.specs.Refusal.{Refusal}
 use Rattle.picky_der_input.specs.declared.enclosure.Enclosure.{Enclosure}
 use Rattle.picky_der_input.specs.declared.end.End.TheVariants.{Hard}
 use Rattle.picky_der_input.specs.State.{State}
-use Rattle.picky_der_input.specs.Steps.{Takes, Fails, IsJudged, IsMissing, end_is_here, input_ended, TakesNoMemory, failed_with, far, drawn_count}
+use Rattle.picky_der_input.specs.Steps.{Takes, Fails, IsJudged, IsMissing, end_is_here, input_ended, TakesNoMemory, failed_with, mendable_within, drawn_count}
 use Rattle.picky_der_input.specs.Reading.{Concerns, now, ever, IsJustRefused}
 use Rattle.picky_der_input.specs.Headers.{RefusesHeader}
-use Rattle.picky_der_input.specs.Ends.{Outer, innermost, with_inner_end}
-use Rattle.picky_der_input.specs.Enclosures.{enclosure_tag, HasEnclosureNumber, unused_bits, counts_unused_bits, implicit_number, unused_bits_refusal, refusal_behind, opening_refusal, with_outer_end, OpensEnclosure, RefusesOpening, BeginsEnclosure, StopsUnusedBits, count_missing, count_other, RefusesUnusedBits}
+use Rattle.picky_der_input.specs.Ends.{Outer, innermost, with_inner_end, with_outer_end}
+use Rattle.picky_der_input.specs.Enclosures.{enclosure_tag, HasEnclosureNumber, unused_bits, counts_unused_bits, implicit_number, unused_bits_refusal, refusal_behind, opening_refusal, OpensEnclosure, RefusesOpening, BeginsEnclosure, StopsUnusedBits, count_missing, count_other, RefusesUnusedBits}
 use Rattle.picky_der_input.proofs.Steps.{takes_then, takes_none, fails_after, judged_after}
-use Rattle.picky_der_input.proofs.Refusals.{consumed, behind, failed_grows, missing_here, taken_first, at_end_of}
+use Rattle.picky_der_input.proofs.Refusals.{consumed, concerns_behind, failed_grows, missing_here, taken_first, at_end_of}
 use Rattle.picky_der_input.proofs.Known.{front_of, just_taken, kept_known, peeked_kept}
 use Rattle.picky_der_input.proofs.Headers.{header_length}
 use Rattle.picky_der_input.proofs.PlainReads.{just_map}
 use Rattle.picky_der_input.proofs.Order.{put_back}
-use Rattle.picky_der_input.proofs.Ends.{narrowed_judged, widened_fails}
+use Rattle.picky_der_input.proofs.Ends.{judged_with_inner_end, fails_without_inner_end}
 use Rattle.picky_der_input.proofs.Enclosures.{some_unused, no_unused, unused_cut, unused_other, behind_read, opening_read, opening_refused, opening_unsupported}
 
 -- ---- refused headers
@@ -63,7 +63,7 @@ hard_concerns (ever w r d y left i q f) = ever w refl d y left i q f
 -- the same of the end that is open
 pub own_concerns : {b c : State} (outer : Outer) {e : Asn1DerError} {left : ℕ} {seen : List ℕ} → b.end ≡ Hard → Concerns (with_outer_end outer b) c e left seen → Concerns b c e b.until_end seen
 own_concerns outer hard (now i r) = now i refl
-own_concerns {b} outer hard (ever w r d y left i q f) = ever w (sym (ap (λ z. far z b.until_end) hard)) d y left i q f
+own_concerns {b} outer hard (ever w r d y left i q f) = ever w (sym (ap (λ z. mendable_within z b.until_end) hard)) d y left i q f
 
 first_byte : (x y : ℕ) (a b : List ℕ) → x ∷ a ≡ y ∷ b → x ≡ y
 first_byte x y a b e = cc
@@ -76,7 +76,7 @@ no_container content (count_missing m i t p) w size rest is = elim (missing_here
 ]
 no_container {c = c} content (count_other mid x t d is same) w size rest q =
     let grows : mid.taken ≤ drawn_count c = omega (arith, ap (λ (s : State). s.taken) same) in
-    let v = behind t grows (hard_concerns w) in
+    let v = concerns_behind t grows (hard_concerns w) in
     d (first_byte x 0x00 v.rest (content ++ rest) (sym v.begins ∙ q))
 
 -- what is refused is known by the input, and by what was taken and peeked
@@ -84,8 +84,8 @@ just_alike : {refusal : List ℕ → Option Refusal} {a c d : State} {e : Asn1De
 just_alike i t p h = record { left = h.left; refused = h.refused; input = i ∙ h.input; kept = λ q. p ∙ h.kept (sym t ∙ q); used = λ more. p ∙ h.used (omega (arith, more, t)) }
 
 -- what was taken before an opened end was taken before the one around it
-widened_takes : {b c : State} {n : ℕ} {x : List ℕ} → n ≤ b.until_end → Takes (with_inner_end b n Hard) c x → Takes b (record c { until_end = b.until_end - length x; end = b.end; sets = b.sets }) x
-widened_takes l t = record {
+takes_without_inner_end : {b c : State} {n : ℕ} {x : List ℕ} → n ≤ b.until_end → Takes (with_inner_end b n Hard) c x → Takes b (record c { until_end = b.until_end - length x; end = b.end; sets = b.sets }) x
+takes_without_inner_end l t = record {
   input = t.input;
   taken = t.taken;
   until_end = omega (arith, t.until_end, l);
@@ -113,44 +113,44 @@ below : {w : Enclosure} {a b : State} {outer : Outer} → (h : BeginsEnclosure w
 below h = omega (arith, h.fits, h.takes.until_end, h.bounded)
 
 -- known bytes behind the header
-counted : {w : Enclosure} {a b : State} {outer : Outer} (h : BeginsEnclosure w a b outer) (y : List ℕ) → counts_unused_bits w ≡ true → opening_refusal w a ((enclosure_tag w ∷ len h.size) ++ y) ≡ unused_bits_refusal h.size y
+counted : {w : Enclosure} {a b : State} {outer : Outer} (h : BeginsEnclosure w a b outer) (y : List ℕ) → counts_unused_bits w ≡ true → opening_refusal w a ((enclosure_tag w ∷ length_octets h.size) ++ y) ≡ unused_bits_refusal h.size y
 counted {w} {a} h y e = opening_read w a h.size h.mid.until_end y h.number (below h) h.takes.until_end h.fits ∙ ap (λ counts. refusal_behind counts (Ok (h.size, y))) e
 
 just_unused : {w : Enclosure} {a b c : State} {outer : Outer} {e : Asn1DerError} {bs : List ℕ} (h : BeginsEnclosure w a b outer) → counts_unused_bits w ≡ true → StopsUnusedBits (with_inner_end h.mid h.size Hard) c e → a.input ≡ Some bs → IsJustRefused (opening_refusal w a) a c e bs
 just_unused {w} {a} {c = c} {bs = bs} h counts (count_missing m i t p) k =
     let f = front_of h.takes k in
     let until_end = h.mid.until_end in
-    let parts : f.rest ≡ take until_end f.rest ++ drop a.until_end bs = sym (take-append-drop until_end f.rest) ∙ ap (λ x. take until_end f.rest ++ x) (sym f.past) in
+    let both : f.rest ≡ take until_end f.rest ++ drop a.until_end bs = sym (take-append-drop until_end f.rest) ∙ ap (λ x. take until_end f.rest ++ x) (sym f.past) in
     record {
       left = take until_end f.rest;
       refused = ap (opening_refusal w a) f.before ∙ counted h (take until_end f.rest) counts ∙ unused_missing h.size until_end f.rest h.mid m f.known;
-      input = kept_known h.mid.input c.input f.rest i f.known ∙ ap (λ x. Some x) parts;
+      input = kept_known h.mid.input c.input f.rest i f.known ∙ ap (λ x. Some x) both;
       kept = peeked_kept c h.takes t p;
       used = λ more. p ∙ h.takes.unpeeked;
     }
 just_unused {w} {a} {c = c} {e = e} h counts (count_other mid x t d is same) k =
-    let header = enclosure_tag w ∷ len h.size in
+    let header = enclosure_tag w ∷ length_octets h.size in
     let end = record mid { until_end = h.mid.until_end - 1; end = h.mid.end; sets = h.mid.sets } in
     let some : 0 < h.size = omega (arith, t.until_end) in
     just_alike (ap (λ (s : State). s.input) same) (ap (λ (s : State). s.taken) same) (ap (λ (s : State). s.peeked) same)
-    (just_taken (opening_refusal w a) {c = failed_with end e} (takes_then h.takes (widened_takes h.fits t)) refl k (λ y.
+    (just_taken (opening_refusal w a) {c = failed_with end e} (takes_then h.takes (takes_without_inner_end h.fits t)) refl k (λ y.
     ap (opening_refusal w a) (append_assoc header (x ∷ []) y) ∙ counted h (x ∷ y) counts ∙ unused_other h.size x y e some d is))
 
 -- the count of unused bits behind a header was refused
 pub opening_unused : {w : Enclosure} {a b c : State} {outer : Outer} {e : Asn1DerError} → BeginsEnclosure w a b outer → counts_unused_bits w ≡ true → RefusesUnusedBits b c e → RefusesOpening w a c e
 opening_unused {w} {a} {b} {c} {outer} {e} h counts r =
     let r' : RefusesUnusedBits (with_inner_end h.mid h.size Hard) c e = subst (λ z. RefusesUnusedBits z c e) h.opened r in
-    let fails : Fails h.mid c e = widened_fails h.fits r'.fails in
-    let judged : IsJudged a c e → IsJudged (with_inner_end h.mid h.size Hard) c e = λ j. narrowed_judged h.size Hard (judged_after h.takes j) in
+    let fails : Fails h.mid c e = fails_without_inner_end h.fits r'.fails in
+    let judged : IsJudged a c e → IsJudged (with_inner_end h.mid h.size Hard) c e = λ j. judged_with_inner_end h.size Hard (judged_after h.takes j) in
     let zero : unused_bits w ≡ 0x00 ∷ [] = some_unused w counts in
     record {
       fails = fails_after h.takes fails;
       none = λ j end bs k content rest n small is fits.
-          let v = behind h.takes (failed_grows fails) k in
+          let v = concerns_behind h.takes (failed_grows fails) k in
           let q = header_length (enclosure_tag w) h.size (unused_bits w ++ content) v.rest rest (sym v.begins ∙ is) in
           let with : unused_bits w ++ content ≡ 0x00 ∷ content = ap (λ u. u ++ content) zero in
           no_container content (r'.stops (judged j)) v.concerns (q.0 ∙ ap length with) rest (q.1 ∙ ap (λ u. u ++ rest) with);
-      first = λ j k l x left q. (taken_first a.input h.mid.input (enclosure_tag w) x (len h.size) left h.takes.input q, h.number);
+      first = λ j k l x left q. (taken_first a.input h.mid.input (enclosure_tag w) x (length_octets h.size) left h.takes.input q, h.number);
       just = λ j bs k. just_unused h counts (r'.stops (judged j)) k;
       memory = λ k same. r'.memory h.takes.not_failed (same ∙ sym h.takes.faults);
       bounded = λ k. h.bounded;
@@ -160,8 +160,8 @@ opening_unused {w} {a} {b} {c} {outer} {e} h counts r =
 
 same_innermost : {a b : State} {x : List ℕ} → Takes a b x → innermost b ≡ innermost a
 same_innermost {a} {b} t =
-    let place : b.taken + b.until_end ≡ a.taken + a.until_end = omega (arith, t.taken, t.until_end) in
-    rw (place, t.end, t.sets) refl
+    let position : b.taken + b.until_end ≡ a.taken + a.until_end = omega (arith, t.taken, t.until_end) in
+    rw (position, t.end, t.sets) refl
 
 not_refused : {w : Enclosure} {a b c : State} {outer : Outer} {bs : List ℕ} (h : BeginsEnclosure w a b outer) → Takes (with_inner_end h.mid h.size Hard) c (unused_bits w) → a.input ≡ Some bs → opening_refusal w a (take a.until_end bs) ≡ None
 not_refused {w} {a} {c = c} h t k =
@@ -174,15 +174,15 @@ not_refused {w} {a} {c = c} h t k =
 pub opens_enclosure : {w : Enclosure} {a b c d : State} {outer : Outer} → BeginsEnclosure w a b outer → Takes b c (unused_bits w) → d ≡ record c { implicit_tag = implicit_number w } → OpensEnclosure w a d outer
 opens_enclosure {w} {a} {b} {c} {d} {outer} h taken is =
     let t : Takes (with_inner_end h.mid h.size Hard) c (unused_bits w) = subst (λ z. Takes z c (unused_bits w)) h.opened taken in
-    let place : outer.place ≡ h.mid.taken + h.mid.until_end = ap (λ (o : Outer). o.place) h.around in
+    let position : outer.position ≡ h.mid.taken + h.mid.until_end = ap (λ (o : Outer). o.position) h.outer_end in
     let new : State = record c { implicit_tag = implicit_number w } in
     let behind : Takes h.mid (with_outer_end outer new) (unused_bits w) = record {
       input = t.input;
       taken = t.taken;
-      until_end = omega (arith, t.taken, t.until_end, place, h.fits);
-      end = ap (λ (o : Outer). o.kind) h.around;
+      until_end = omega (arith, t.taken, t.until_end, position, h.fits);
+      end = ap (λ (o : Outer). o.kind) h.outer_end;
       limit = t.limit;
-      sets = put_back h.mid h.around t.sets;
+      sets = put_back h.mid h.outer_end t.sets;
       unpeeked = t.unpeeked;
       drawn = t.drawn;
       had_not_failed = t.had_not_failed;
@@ -193,10 +193,10 @@ opens_enclosure {w} {a} {b} {c} {d} {outer} h taken is =
     subst (λ z. OpensEnclosure w a z outer) (sym is) (record {
       size = h.size;
       number = h.number;
-      around = h.around ∙ same_innermost h.takes;
+      outer_end = h.outer_end ∙ same_innermost h.takes;
       takes = takes_then h.takes behind;
       until_end = t.until_end;
-      within = omega (arith, t.taken, t.until_end, place, h.fits);
+      within = omega (arith, t.taken, t.until_end, position, h.fits);
       end = t.end;
       implicit_tag = refl;
       bounded = h.bounded;

@@ -57,11 +57,11 @@ fails_alike s f = record {
   references = f.references;
 }
 
-pub concerns_unordered : {b c : State} {e : Asn1DerError} {end : ℕ} {bs : List ℕ} → Concerns b c e end bs → Concerns (without_order b) c e end bs
-concerns_unordered {b = b} h = concerns_alike (record b.sets { last = None }) h
+pub concerns_without_order : {b c : State} {e : Asn1DerError} {end : ℕ} {bs : List ℕ} → Concerns b c e end bs → Concerns (without_order b) c e end bs
+concerns_without_order {b = b} h = concerns_alike (record b.sets { last = None }) h
 
-pub takes_unordered : {a b : State} {x : List ℕ} → Takes a b x → Takes (without_order a) (without_order b) x
-takes_unordered t = record {
+pub takes_without_order : {a b : State} {x : List ℕ} → Takes a b x → Takes (without_order a) (without_order b) x
+takes_without_order t = record {
   input = t.input;
   taken = t.taken;
   until_end = t.until_end;

@@ -51,17 +51,17 @@ pub record Gives (old new : State) (n : ℕ) (bytes : List ℕ) : Type 0 where
 -- so they were taken
 pub given_taken : {old new : State} {n : ℕ} {bytes : List ℕ} → Gives old new n bytes → Takes old new bytes
 given_taken {old} {new} {n} {bytes} h =
-    let place : new.taken ≡ old.taken + n = h.taken ∙ moved_few old.taken n (omega (arith, h.fits, h.small)) in
+    let position : new.taken ≡ old.taken + n = h.taken ∙ moved_few old.taken n (omega (arith, h.fits, h.small)) in
     let none : count_of_any old.peeked ≡ 0 = ap count_of_any h.was_unpeeked in
     record {
       input = h.input;
-      taken = omega (arith, place, h.count);
+      taken = omega (arith, position, h.count);
       until_end = omega (arith, h.until_end, h.count, h.fits);
       end = h.end;
       limit = h.limit;
       sets = h.sets;
       unpeeked = h.unpeeked;
-      drawn = omega (arith, place, none);
+      drawn = omega (arith, position, none);
       had_not_failed = h.had_not_failed;
       not_failed = h.not_failed;
       faults = h.faults;

@@ -7,23 +7,23 @@ use Rattle.std.proofs.lemmas.Grind.{common_steps}
 use Rattle.std.proofs.lemmas.List.{take-append-drop}
 use Rattle.picky_der_core.specs.declared.error.Asn1DerError.{Asn1DerError}
 use Rattle.picky_der_core.specs.declared.error.Asn1DerError.TheVariants.{TruncatedData, UnsupportedValue}
-use Rattle.picky_der_core.specs.Element.{len, tlv}
+use Rattle.picky_der_core.specs.Element.{length_octets, tlv}
 use Rattle.picky_der_core.specs.ElementLaws.{same_front}
 use Rattle.picky_der_core.specs.Tag.{number_of, is_tag_number, IsTagNumber}
 use Rattle.picky_der_core.specs.Tree.{Tree, is_plain}
-use Rattle.picky_der_core.specs.Encoding.{der, inside, content, plain_tag}
-use Rattle.picky_der_core.specs.EncodingLaws.{der-plain, inside-plain}
+use Rattle.picky_der_core.specs.Encoding.{der, implicit_content, content, plain_tag}
+use Rattle.picky_der_core.specs.EncodingLaws.{der-plain, implicit_content-plain}
 use Rattle.picky_der_core.specs.Readable.{IsReadable, IsNoChoice}
 use Rattle.picky_der_core.specs.Shape.{Shape, IsOf, IsFirst}
 use Rattle.picky_der_core.specs.Reading.{written_at, MayStand, StandsAt}
-use Rattle.picky_der_core.specs.Refusal.{Judge, Refusal, refusal_leaving, header, header_refusal, refusal_of, content_refusal, Outcome}
+use Rattle.picky_der_core.specs.Refusal.{Judge, Refusal, refusal_leaving, header, header_refusal, refusal_of, content_refusal, ReadOutcome}
 use Rattle.picky_der_input.specs.State.{State}
 use Rattle.picky_der_input.specs.Steps.{Takes, TakesKept, Fails, IsCut, StopsShort, IsJudged, failed_with, is_hard, place_in, place_of, drawn_count}
 use Rattle.picky_der_input.specs.PlainKinds.{IsPlainKind, IsShortKind}
 use Rattle.picky_der_input.specs.Reading.{Concerns, Refuses, refusal_in, refusal_at, IsJustRefused, ReadsPlain, RefusesPlain}
 use Rattle.picky_der_input.specs.Headers.{header_bytes, BeginsContent, RefusesBegin, NoElement}
 use Rattle.picky_der_input.proofs.Steps.{takes_then, fails_after, judged_after}
-use Rattle.picky_der_input.proofs.Refusals.{behind, failed_grows, cut_grows, missing_here, end_below, taken_first}
+use Rattle.picky_der_input.proofs.Refusals.{concerns_behind, failed_grows, cut_grows, missing_here, end_below, taken_first}
 use Rattle.picky_der_input.proofs.Lengths.{cut_after}
 use Rattle.picky_der_input.proofs.Known.{front_of, just_cut, just_taken, missing_before}
 use Rattle.picky_der_input.proofs.Headers.{header_length, length_tlv, header-read}
@@ -34,22 +34,22 @@ use Rattle.picky_der_input.proofs.Headers.{header_length, length_tlv, header-rea
 der_of : (t : Tree) (tag : ℕ) → is_plain t ≡ true → plain_tag t ≡ tag → der t ≡ tlv tag (content t)
 der_of t tag p e = der-plain t p ∙ ap (λ x. tlv x (content t)) e
 
-pub record Standing (d : Option ℕ) (tag n end : ℕ) (rest : List ℕ) (t : Tree) : Type 0 where
+pub record ContentStands (d : Option ℕ) (tag n end : ℕ) (rest : List ℕ) (t : Tree) : Type 0 where
   pub size : length (content t) ≡ n
   pub behind : List ℕ
   pub is : rest ≡ content t ++ behind
   pub within : length (header_bytes d tag n) + n ≤ end
 
-standing : (d : Option ℕ) (tag n until_end end : ℕ) (s : Shape) (rest : List ℕ) (t : Tree) → is_plain t ≡ true → plain_tag t ≡ tag → IfSome d (λ number. n ≡ until_end)
-    → StandsAt (place_in d until_end) s (header_bytes d tag n ++ rest) end t → Standing d tag n end rest t
-standing None tag n until_end end s rest t p e a st =
-    let is : (tag ∷ len n) ++ rest ≡ tlv tag (content t) ++ st.front.rest = st.front.is ∙ ap (λ z. z ++ st.front.rest) (der_of t tag p e) in
+content_stands : (d : Option ℕ) (tag n until_end end : ℕ) (s : Shape) (rest : List ℕ) (t : Tree) → is_plain t ≡ true → plain_tag t ≡ tag → IfSome d (λ number. n ≡ until_end)
+    → StandsAt (place_in d until_end) s (header_bytes d tag n ++ rest) end t → ContentStands d tag n end rest t
+content_stands None tag n until_end end s rest t p e a st =
+    let is : (tag ∷ length_octets n) ++ rest ≡ tlv tag (content t) ++ st.front.rest = st.front.is ∙ ap (λ z. z ++ st.front.rest) (der_of t tag p e) in
     let q = header_length tag n (content t) rest st.front.rest is in
     let size : length (der t) ≡ length (tlv tag (content t)) = ap length (der_of t tag p e) in
-    let same : length (len n) ≡ length (len (length (content t))) = ap (λ m. length (len m)) q.0 in
+    let same : length (length_octets n) ≡ length (length_octets (length (content t))) = ap (λ m. length (length_octets m)) q.0 in
     record { size = sym q.0; behind = st.front.rest; is = q.1; within = omega (arith, st.within, size, length_tlv tag (content t), same, q.0) }
-standing (Some number) tag n until_end end s rest t p e a st =
-    let is : inside t ≡ content t = inside-plain t p in
+content_stands (Some number) tag n until_end end s rest t p e a st =
+    let is : implicit_content t ≡ content t = implicit_content-plain t p in
     let size : length (content t) ≡ until_end = ap length (sym is) ∙ st.may_stand.filled p in
     record { size = size ∙ sym a; behind = st.front.rest; is = st.front.is ∙ ap (λ z. z ++ st.front.rest) is; within = omega (arith, st.within, size, ap length is) }
 
@@ -58,7 +58,7 @@ all_of None tag n until_end left r a = tt
 all_of (Some number) tag n until_end left r a = omega arith
 
 -- the content of a value that stands, behind its header
-pub record Content (mid new : State) (e : Asn1DerError) (n : ℕ) (t : Tree) : Type 0 where
+pub record SeenContent (mid new : State) (e : Asn1DerError) (n : ℕ) (t : Tree) : Type 0 where
   pub left : ℕ
   pub seen : List ℕ
   pub concerns : Concerns mid new e left seen
@@ -68,11 +68,11 @@ pub record Content (mid new : State) (e : Asn1DerError) (n : ℕ) (t : Tree) : T
   pub size : length (content t) ≡ n
 
 pub begun : {a b c : State} {s : Shape} {e : Asn1DerError} {tag n end : ℕ} {bs : List ℕ} {t : Tree} → BeginsContent tag a b n → b.taken ≤ drawn_count c → is_plain t ≡ true → plain_tag t ≡ tag
-    → Concerns a c e end bs → StandsAt (place_of a) s bs end t → Content b c e n t
+    → Concerns a c e end bs → StandsAt (place_of a) s bs end t → SeenContent b c e n t
 begun {a} {b} {c} {s} {e} {tag} {n} {end} {bs} {t} h g p k w st =
-    let v = behind h.takes g w in
+    let v = concerns_behind h.takes g w in
     let st' : StandsAt (place_of a) s (header_bytes a.implicit_tag tag n ++ v.rest) end t = subst (λ x. StandsAt (place_of a) s x end t) v.begins st in
-    let q = standing a.implicit_tag tag n a.until_end end s v.rest t p k (all_of a.implicit_tag tag n a.until_end b.until_end h.takes.until_end h.all) st' in
+    let q = content_stands a.implicit_tag tag n a.until_end end s v.rest t p k (all_of a.implicit_tag tag n a.until_end b.until_end h.takes.until_end h.all) st' in
     record { left = v.left; seen = v.rest; concerns = v.concerns; fits = omega (arith, v.ends, q.within); rest = q.behind; begins = q.is; size = q.size }
 
 -- ---- refused headers
@@ -86,7 +86,7 @@ no_plain (Some number) tag until_end end s bs t e small p k h st = absurd (let q
 refused_in : (d : Option ℕ) (tag : ℕ) (judge : Judge) (s : State) (rest : List ℕ) (r : Refusal) → d ≡ None → header_refusal tag (is_hard s.end) s.until_end rest ≡ Some r → refusal_in d tag judge s rest ≡ Some r
 refused_in None tag judge s rest r e h = refused (header tag (is_hard s.end) s.until_end rest) h
   where
-    refused : (o : Outcome ℕ) → refusal_of o ≡ Some r → content_refusal judge o ≡ Some r
+    refused : (o : ReadOutcome ℕ) → refusal_of o ≡ Some r → content_refusal judge o ≡ Some r
     refused (Ok read) h = absurd (let q : None ≡ Some r = h in cc)
     refused (Err e) h = h
 refused_in (Some number) tag judge s rest r e h = absurd (let q : Some number ≡ None = e in cc)
@@ -132,7 +132,7 @@ refuses_number {tag = tag} {judge = judge} {a = a} n none f is same = record {
 -- ---- refused contents
 
 pub first_of_header : (s : Shape) (d : Option ℕ) (i j : Option (List ℕ)) (tag n : ℕ) → IsFirst s tag → Consumes i j (header_bytes d tag n) → d ≡ None → (b : ℕ) (left : List ℕ) → i ≡ Some (b ∷ left) → IsFirst s b
-first_of_header s None i j tag n f t e b left k = subst (IsFirst s) (sym (taken_first i j tag b (len n) left t k)) f
+first_of_header s None i j tag n f t e b left k = subst (IsFirst s) (sym (taken_first i j tag b (length_octets n) left t k)) f
 first_of_header s (Some number) i j tag n f t e b left k = absurd (let q : Some number ≡ None = e in cc)
 
 -- known bytes behind the header are judged
@@ -155,7 +155,7 @@ fits_below h = omega (arith, h.fits, h.takes.until_end, h.bounded)
 
 -- a plain value whose header was taken
 behind_header : {V : Type 0} {meaning : V → Tree} {s : Shape} {tag n : ℕ} {judge : Judge} {a b c : State} {e : Asn1DerError} → IsPlainKind meaning s tag judge → BeginsContent tag a b n → Fails b c e
-    → (IsJudged b c e → (v : V) → IsOf s (meaning v) → Content b c e n (meaning v) → ⊥) → (IsJudged b c e → (bs : List ℕ) → a.input ≡ Some bs → IsJustRefused (refusal_at tag judge a) a c e bs)
+    → (IsJudged b c e → (v : V) → IsOf s (meaning v) → SeenContent b c e n (meaning v) → ⊥) → (IsJudged b c e → (bs : List ℕ) → a.input ≡ Some bs → IsJustRefused (refusal_at tag judge a) a c e bs)
     → RefusesPlain meaning tag judge s a c e
 behind_header {s = s} {tag = tag} {n = n} {a = a} {b = b} kind h f none just = record {
   refuses = record {
@@ -166,9 +166,9 @@ behind_header {s = s} {tag = tag} {n = n} {a = a} {b = b} kind h f none just = r
   just = λ j. just (judged_after h.takes j);
 }
 
-content_missing : {b c : State} {e : Asn1DerError} {n : ℕ} {t : Tree} → IsCut b c n e → Content b c e n t → ⊥
+content_missing : {b c : State} {e : Asn1DerError} {n : ℕ} {t : Tree} → IsCut b c n e → SeenContent b c e n t → ⊥
 content_missing {t = t} m w =
-    let v = behind m.takes (cut_grows m) w.concerns in
+    let v = concerns_behind m.takes (cut_grows m) w.concerns in
     let sizes : length m.bytes + length v.rest ≡ length (content t) + length w.rest =
     sym (length-append m.bytes v.rest) ∙ ap length (sym v.begins ∙ w.begins) ∙ length-append (content t) w.rest in
     elim (missing_here m.missing v.concerns) [
@@ -190,9 +190,9 @@ pub refuses_cut : {V : Type 0} {meaning : V → Tree} {s : Shape} {tag n : ℕ} 
 refuses_cut {tag = tag} {n = n} {judge = judge} kind h f =
     behind_header kind h f.fails (λ j v o. content_missing (f.short j)) (λ j bs k. just_content_cut tag n judge kind.number h (f.short j) k)
 
-judged_none : (judge : Judge) {b c d : State} {e : Asn1DerError} {n : ℕ} {t : Tree} {x : List ℕ} → Takes b c x → length x ≡ n → c.taken ≤ drawn_count d → judge x ≡ Some e → judge (content t) ≡ None → Content b d e n t → ⊥
+judged_none : (judge : Judge) {b c d : State} {e : Asn1DerError} {n : ℕ} {t : Tree} {x : List ℕ} → Takes b c x → length x ≡ n → c.taken ≤ drawn_count d → judge x ≡ Some e → judge (content t) ≡ None → SeenContent b d e n t → ⊥
 judged_none judge {e = e} {t = t} {x = x} h l g bad good w =
-    let v = behind h g w.concerns in
+    let v = concerns_behind h g w.concerns in
     let same : x ≡ content t = (same_front x (content t) v.rest w.rest (l ∙ sym w.size) (sym v.begins ∙ w.begins)).0 in
     let q : Some e ≡ None = sym bad ∙ ap judge same ∙ good in
     cc
@@ -218,13 +218,13 @@ refuses_content {meaning = meaning} {tag = tag} {n = n} {judge = judge} kind h t
 pub takes_plain : (d : Option ℕ) (until_end : ℕ) {a b c : State} {tag n : ℕ} (t : Tree) → is_plain t ≡ true → plain_tag t ≡ tag → Takes a b (header_bytes d tag n) → Takes b c (content t) → length (content t) ≡ n → Takes a c (written_at (place_in d until_end) t)
 unfolding tlv
 takes_plain None until_end {a} {b} {c} {tag} {n} t p k h x l =
-    let is : (tag ∷ len n) ++ content t ≡ der t = rw (der_of t tag p k, l) refl in
+    let is : (tag ∷ length_octets n) ++ content t ≡ der t = rw (der_of t tag p k, l) refl in
     subst (Takes a c) is (takes_then h x)
-takes_plain (Some number) until_end {a} {b} {c} t p k h x l = subst (Takes a c) (sym (inside-plain t p)) (takes_then h x)
+takes_plain (Some number) until_end {a} {b} {c} t p k h x l = subst (Takes a c) (sym (implicit_content-plain t p)) (takes_then h x)
 
 pub may_stand : (d : Option ℕ) (tag n until_end left : ℕ) (t : Tree) → is_plain t ≡ true → until_end ≡ length (header_bytes d tag n) + left → IfSome d (λ number. n ≡ left) → length (content t) ≡ n → IsNoChoice t → MayStand (place_in d until_end) t
 may_stand None tag n until_end left t p r a l c = tt
-may_stand (Some number) tag n until_end left t p r a l c = record { no_choice = c; filled = λ q. omega (arith, ap length (inside-plain t p)) }
+may_stand (Some number) tag n until_end left t p r a l c = record { no_choice = c; filled = λ q. omega (arith, ap length (implicit_content-plain t p)) }
 
 not_refused : (tag n : ℕ) (judge : Judge) {a b c : State} {x bs : List ℕ} → IsTagNumber (number_of tag) → BeginsContent tag a b n → Takes b c x → length x ≡ n → judge x ≡ None → a.input ≡ Some bs → refusal_at tag judge a (take a.until_end bs) ≡ None
 not_refused tag n judge {a} {b} {c} {x} {bs} i h t l good k =

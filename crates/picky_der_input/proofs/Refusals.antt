@@ -6,7 +6,7 @@ use Rattle.picky_der_core.specs.declared.error.Asn1DerError.TheVariants.{Truncat
 use Rattle.picky_der_input.specs.declared.end.End.{End}
 use Rattle.picky_der_input.specs.declared.end.End.TheVariants.{Limit, Soft, Hard}
 use Rattle.picky_der_input.specs.State.{State}
-use Rattle.picky_der_input.specs.Steps.{Takes, Fails, IsMissing, end_is_here, input_ended, IsJudged, IsCut, at_end, far, reach, drawn_count}
+use Rattle.picky_der_input.specs.Steps.{Takes, Fails, IsMissing, end_is_here, input_ended, IsJudged, IsCut, error_at_end, mendable_within, mendable_limit, drawn_count}
 use Rattle.picky_der_input.specs.Reading.{Concerns, now, ever, AllConcerned}
 use Rattle.picky_der_input.proofs.Steps.{judged_after}
 
@@ -30,7 +30,7 @@ consumed (Some xs) (Some ys) h bs c e = (ys, refl, cc)
 
 -- ---- behind what was taken
 
-pub record Behind (old mid new : State) (e : Asn1DerError) (h : List ℕ) (end : ℕ) (bs : List ℕ) : Type 0 where
+pub record ConcernsBehind (old mid new : State) (e : Asn1DerError) (h : List ℕ) (end : ℕ) (bs : List ℕ) : Type 0 where
   pub left : ℕ
   pub rest : List ℕ
   pub begins : bs ≡ h ++ rest
@@ -38,14 +38,14 @@ pub record Behind (old mid new : State) (e : Asn1DerError) (h : List ℕ) (end :
   -- the end is as much nearer, or as far as the limit lets it be
   pub ends : end ≤ length h + left
 
-far_takes : (e : End) (r s n : ℕ) → r ≡ n + s → far e r ≤ n + far e s
+far_takes : (e : End) (r s n : ℕ) → r ≡ n + s → mendable_within e r ≤ n + mendable_within e s
 far_takes Limit r s n h = omega arith
 far_takes Soft r s n h = omega arith
 far_takes Hard r s n h = omega arith
 
-reach_takes : {a b : State} {h : List ℕ} → Takes a b h → reach a ≤ length h + reach b
+reach_takes : {a b : State} {h : List ℕ} → Takes a b h → mendable_limit a ≤ length h + mendable_limit b
 reach_takes {a} {b} {h} t =
-    let same : reach b ≡ far a.end b.until_end = ap (λ (z : End). far z b.until_end) t.end in
+    let same : mendable_limit b ≡ mendable_within a.end b.until_end = ap (λ (z : End). mendable_within z b.until_end) t.end in
     omega (arith, far_takes a.end a.until_end b.until_end (length h) t.until_end, same)
 
 -- what was taken was drawn
@@ -55,29 +55,29 @@ failed_grows f = omega (arith, f.grows)
 pub cut_grows : {a c : State} {n : ℕ} {k : Asn1DerError} → (m : IsCut a c n k) → m.mid.taken ≤ drawn_count c
 cut_grows m = omega (arith, m.taken)
 
-pub behind : {a b c : State} {k : Asn1DerError} {h : List ℕ} {end : ℕ} {bs : List ℕ} → Takes a b h → b.taken ≤ drawn_count c → Concerns a c k end bs → Behind a b c k h end bs
-behind {a} {b} {c} {k} {h} {end} {bs} t f (now e r) =
+pub concerns_behind : {a b c : State} {k : Asn1DerError} {h : List ℕ} {end : ℕ} {bs : List ℕ} → Takes a b h → b.taken ≤ drawn_count c → Concerns a c k end bs → ConcernsBehind a b c k h end bs
+concerns_behind {a} {b} {c} {k} {h} {end} {bs} t f (now e r) =
     let q = consumed a.input b.input h bs t.input e in
     record { left = b.until_end; rest = q.0; begins = q.2; concerns = now q.1 refl; ends = omega (arith, t.until_end) }
-behind {a} {b} {c} {k} {h} {end} {bs} t f (ever n r d y left e m g) =
+concerns_behind {a} {b} {c} {k} {h} {end} {bs} t f (ever n r d y left e m g) =
     let q = consumed a.input b.input h (d ++ left) t.input e in
     let p = parted d h q.0 left q.2 (omega (arith, f, t.taken)) in
     let i : b.input ≡ Some (p.0 ++ left) = q.1 ∙ ap (λ (z : List ℕ). Some z) p.2 in
     let u : bs ≡ h ++ (p.0 ++ y) = g ∙ ap (λ (z : List ℕ). z ++ y) p.1 ∙ append_assoc h p.0 y in
     let v : length d ≡ length h + length p.0 = ap (λ (z : List ℕ). length z) p.1 ∙ length-append h p.0 in
-    record { left = reach b; rest = p.0 ++ y; begins = u; concerns = ever n refl p.0 y left i (omega (arith, t.taken)) refl; ends = omega (arith, reach_takes t) }
+    record { left = mendable_limit b; rest = p.0 ++ y; begins = u; concerns = ever n refl p.0 y left i (omega (arith, t.taken)) refl; ends = omega (arith, reach_takes t) }
 
 -- what is told of the bytes behind is told of all
 pub tells_after : {a b c : State} {k : Asn1DerError} {h : List ℕ} (P : ℕ → List ℕ → Type 0) → Takes a b h → Fails b c k
     → (IsJudged b c k → (end left : ℕ) (rest : List ℕ) → end ≤ length h + left → Concerns b c k left rest → P end (h ++ rest)) → AllConcerned a c k P
-tells_after P t f p = λ j end bs k. let w = behind t (failed_grows f) k in rw w.begins (p (judged_after t j) end w.left w.rest w.ends w.concerns)
+tells_after P t f p = λ j end bs k. let w = concerns_behind t (failed_grows f) k in rw w.begins (p (judged_after t j) end w.left w.rest w.ends w.concerns)
 
 -- ---- ends
 
-at_end_final : (e : End) (until_end : ℕ) (k : Asn1DerError) → k ≡ at_end e → k ≢ TruncatedData → far e until_end ≡ until_end
-at_end_final Limit until_end k e n = absurd (n e)
-at_end_final Soft until_end k e n = absurd (n e)
-at_end_final Hard until_end k e n = refl
+error_at_end_final : (e : End) (until_end : ℕ) (k : Asn1DerError) → k ≡ error_at_end e → k ≢ TruncatedData → mendable_within e until_end ≡ until_end
+error_at_end_final Limit until_end k e n = absurd (n e)
+error_at_end_final Soft until_end k e n = absurd (n e)
+error_at_end_final Hard until_end k e n = refl
 
 pub at_end_of : (i : Option (List ℕ)) (bs : List ℕ) → IsAtEnd i → i ≡ Some bs → bs ≡ []
 at_end_of None bs h e = absurd (let q : None ≡ Some bs = e in cc)
@@ -87,17 +87,17 @@ at_end_of (Some xs) bs h e = let p : xs ≡ bs = cc in sym p ∙ h
 pub missing_here : {b c : State} {k : Asn1DerError} {end : ℕ} {bs : List ℕ} → IsMissing b k → Concerns b c k end bs → (end ≡ 0) ⊎ (bs ≡ [])
 missing_here {b} {c} {k} {end} {bs} (end_is_here z m) (now e r) = inl (r ∙ z)
 missing_here {b} {c} {k} {end} {bs} (input_ended l z m) (now e r) = inr (at_end_of b.input bs z e)
-missing_here {b} {c} {k} {end} {bs} (end_is_here z m) (ever n r d y left e q f) = inl (r ∙ at_end_final b.end b.until_end k m n ∙ z)
+missing_here {b} {c} {k} {end} {bs} (end_is_here z m) (ever n r d y left e q f) = inl (r ∙ error_at_end_final b.end b.until_end k m n ∙ z)
 missing_here {b} {c} {k} {end} {bs} (input_ended l z m) (ever n r d y left e q f) = absurd (n m)
 
 -- a length that reaches past the end
-pub past_end : {b c : State} {k : Asn1DerError} {end : ℕ} {bs : List ℕ} {n : ℕ} → k ≡ at_end b.end → b.until_end < n → Concerns b c k end bs → end < n
+pub past_end : {b c : State} {k : Asn1DerError} {end : ℕ} {bs : List ℕ} {n : ℕ} → k ≡ error_at_end b.end → b.until_end < n → Concerns b c k end bs → end < n
 past_end {b} {c} {k} {end} {bs} {n} h l (now e r) = omega arith
 past_end {b} {c} {k} {end} {bs} {n} h l (ever w r d y left e q f) =
-    let g : end ≡ b.until_end = r ∙ at_end_final b.end b.until_end k h w in
+    let g : end ≡ b.until_end = r ∙ error_at_end_final b.end b.until_end k h w in
     omega arith
 
-far_below : (e : End) (until_end : ℕ) → until_end < 2 ^ 64 → far e until_end < 2 ^ 64
+far_below : (e : End) (until_end : ℕ) → until_end < 2 ^ 64 → mendable_within e until_end < 2 ^ 64
 far_below Limit until_end h = omega arith
 far_below Soft until_end h = h
 far_below Hard until_end h = h

@@ -2,8 +2,8 @@
 use Rattle.std.proofs.Common.{◌≡◌, ℕ, ◌+◌, List, [], ◌∷◌, ◌++◌, length, take, Option, Some, None, IfSome, refl, sym, ◌∙◌, ap, subst, arith, append_assoc, length-append}
 use Rattle.std.proofs.lemmas.Grind.{common_steps}
 use Rattle.std.specs.Io.KnownBytes.{Consumes, prepend_known}
-use Rattle.picky_der_core.specs.Element.{len}
-use Rattle.picky_der_core.specs.ElementLaws.{len-short, second_bytes}
+use Rattle.picky_der_core.specs.Element.{length_octets}
+use Rattle.picky_der_core.specs.ElementLaws.{length_octets-short, second_bytes}
 use Rattle.picky_der_core.specs.Tree.{Tree}
 use Rattle.picky_der_core.specs.Encoding.{content}
 use Rattle.picky_der_core.specs.Shape.{Shape, AreBytes}
@@ -22,7 +22,7 @@ use Rattle.picky_der_input.proofs.Elements.{reads_raw}
 -- ---- two steps in place of one
 
 -- bytes were taken, and then others
-pub record Parts (a c : State) (x y : List ℕ) : Type 0 where
+pub record TakesInTwo (a c : State) (x y : List ℕ) : Type 0 where
   pub mid : State
   pub first : Takes a mid x
   pub rest : Takes mid c y
@@ -37,8 +37,8 @@ rest_part : (j : Option (List ℕ)) (y : List ℕ) → Consumes (prepend_known y
 rest_part None y = tt
 rest_part (Some ys) y = refl
 
-pub parts : {a c : State} (x y : List ℕ) → Takes a c (x ++ y) → a.peeked ≡ None → Parts a c x y
-parts {a} {c} x y t p =
+pub takes_in_two : {a c : State} (x y : List ℕ) → Takes a c (x ++ y) → a.peeked ≡ None → TakesInTwo a c x y
+takes_in_two {a} {c} x y t p =
     let none : count_of_any a.peeked ≡ 0 = ap count_of_any p in
     let size = length-append x y in
     let no_byte : count_of_any c.peeked ≡ 0 = ap count_of_any t.unpeeked in
@@ -77,7 +77,7 @@ parts {a} {c} x y t p =
 
 -- ---- plain values
 
-whole_header : (d : Option ℕ) (tag n : ℕ) → d ≡ None → header_bytes d tag n ≡ tag ∷ len n
+whole_header : (d : Option ℕ) (tag n : ℕ) → d ≡ None → header_bytes d tag n ≡ tag ∷ length_octets n
 whole_header None tag n e = refl
 whole_header (Some number) tag n e = absurd (let q : Some number ≡ None = e in cc)
 
@@ -91,8 +91,8 @@ pub reads_short : {V : Type 0} {meaning : V → Tree} {s : Shape} {tag : ℕ} {j
 reads_short {meaning = meaning} {tag = tag} {judge = judge} {a = a} {c = c} {bytes = bytes} kind v is good h t p d =
     let n = length bytes in
     let taken : Takes a c (tag ∷ (n ∷ bytes)) = t (tag ∷ (n ∷ bytes)) (omega arith) h.shows in
-    let header : header_bytes a.implicit_tag tag n ≡ tag ∷ (n ∷ []) = whole_header a.implicit_tag tag n h.whole ∙ ap (λ z. tag ∷ z) (len-short n h.short) in
-    let q = parts (tag ∷ (n ∷ [])) bytes taken p in
+    let header : header_bytes a.implicit_tag tag n ≡ tag ∷ (n ∷ []) = whole_header a.implicit_tag tag n h.whole ∙ ap (λ z. tag ∷ z) (length_octets-short n h.short) in
+    let q = takes_in_two (tag ∷ (n ∷ [])) bytes taken p in
     let none : c.implicit_tag ≡ None = d ∙ h.whole in
     let begins : BeginsContent tag a q.mid n = record {
       takes = rw header q.first;
@@ -106,8 +106,8 @@ reads_short {meaning = meaning} {tag = tag} {judge = judge} {a = a} {c = c} {byt
 
 -- ---- elements
 
-takes_given_up : {a b : State} {x : List ℕ} → Takes a b x → Takes (without_implicit_tag a) b x
-takes_given_up t = record {
+takes_without_implicit_tag : {a b : State} {x : List ℕ} → Takes a b x → Takes (without_implicit_tag a) b x
+takes_without_implicit_tag t = record {
   input = t.input;
   taken = t.taken;
   until_end = t.until_end;
@@ -127,19 +127,19 @@ pub reads_whole : {a c : State} {all : List ℕ} → ShowsElement a all → Take
 reads_whole {a} {c} {all} h t b p d =
     let e = h.element in
     let n = length e.content in
-    let is : all ≡ (e.tag ∷ len n) ++ e.content = sym (take_whole all) ∙ e.is in
-    let taken : Takes a c ((e.tag ∷ len n) ++ e.content) = subst (Takes a c) is (t all refl h.shows) in
-    let q = parts (e.tag ∷ len n) e.content taken p in
+    let is : all ≡ (e.tag ∷ length_octets n) ++ e.content = sym (take_whole all) ∙ e.is in
+    let taken : Takes a c ((e.tag ∷ length_octets n) ++ e.content) = subst (Takes a c) is (t all refl h.shows) in
+    let q = takes_in_two (e.tag ∷ length_octets n) e.content taken p in
     let none : c.implicit_tag ≡ None = d ∙ h.whole in
     let begins : BeginsElement a q.mid e.tag n = record {
-      takes = takes_given_up q.first;
+      takes = takes_without_implicit_tag q.first;
       number = e.number;
       byte = e.byte;
       implicit_tag = q.implicit_tag ∙ none;
       fits = omega (arith, q.rest.until_end);
       bounded = h.bounded;
     } in
-    reads_raw begins (record { takes = q.rest; count = refl; bytes = second_bytes (e.tag ∷ len n) e.content (subst AreBytes is b) }) none is
+    reads_raw begins (record { takes = q.rest; count = refl; bytes = second_bytes (e.tag ∷ length_octets n) e.content (subst AreBytes is b) }) none is
   where
     take_whole : (xs : List ℕ) → take (length xs) xs ≡ xs
     take_whole xs = grind (arith, common_steps)

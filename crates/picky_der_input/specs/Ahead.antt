@@ -1,7 +1,7 @@
 -- Bytes that the reader has ahead.
 use Rattle.std.specs.Prelude.{◌≡◌, ℕ, ◌+◌, ◌^◌, ◌<◌, ◌≤◌, List, ◌∷◌, ◌++◌, length, take, None, IfSome}
 use Rattle.std.specs.Io.{StartsWith}
-use Rattle.picky_der_core.specs.Element.{len}
+use Rattle.picky_der_core.specs.Element.{length_octets}
 use Rattle.picky_der_core.specs.Tag.{number_of, IsTagNumber}
 use Rattle.picky_der_input.specs.State.{State}
 use Rattle.picky_der_input.specs.Steps.{Takes}
@@ -16,8 +16,8 @@ TakesShown old new count = (bytes : List ℕ) → length bytes ≡ count → Sho
 
 -- the header of an element with this tag is next, that many bytes, and its content of n bytes ends before the innermost end
 pub record ShowsHeader (s : State) (tag n count : ℕ) : Type 0 where
-  pub shows : Shows s (tag ∷ len n)
-  pub size : count ≡ length (tag ∷ len n)
+  pub shows : Shows s (tag ∷ length_octets n)
+  pub size : count ≡ length (tag ∷ length_octets n)
   pub fits : count + n ≤ s.until_end
 
 -- an element with this tag and content is next, before the innermost end, and its length is one byte
@@ -35,7 +35,7 @@ pub record IsElementInFront (bytes : List ℕ) (count : ℕ) : Type 0 where
   pub number : IsTagNumber (number_of tag)
   pub byte : tag < 256
   pub content : List ℕ
-  pub is : take count bytes ≡ (tag ∷ len (length content)) ++ content
+  pub is : take count bytes ≡ (tag ∷ length_octets (length content)) ++ content
   pub fits : count ≤ length bytes
 
 -- an element is next, before the innermost end: these bytes

@@ -2,7 +2,7 @@
 use Rattle.std.specs.Prelude.{◌≡◌, ℕ, ◌^◌, ◌<◌, ◌≤◌, List, ◌∷◌, Option, None}
 use Rattle.picky_der_core.specs.declared.error.Asn1DerError.{Asn1DerError}
 use Rattle.picky_der_core.specs.Tag.{number_of, IsTagNumber}
-use Rattle.picky_der_core.specs.Element.{len}
+use Rattle.picky_der_core.specs.Element.{length_octets}
 use Rattle.picky_der_core.specs.Tree.{Tree}
 use Rattle.picky_der_core.specs.Shape.{Shape}
 use Rattle.picky_der_core.specs.Refusal.{Refusal, element_refusal}
@@ -20,7 +20,7 @@ without_implicit_tag s = record s { implicit_tag = None }
 
 -- the header of an element was taken, and its content is next, n bytes of it
 pub record BeginsElement (old new : State) (tag n : ℕ) : Type 0 where
-  pub takes : Takes (without_implicit_tag old) new (tag ∷ len n)
+  pub takes : Takes (without_implicit_tag old) new (tag ∷ length_octets n)
   pub number : IsTagNumber (number_of tag)
   pub byte : tag < 256
   pub implicit_tag : new.implicit_tag ≡ None

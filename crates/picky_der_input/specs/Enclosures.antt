@@ -1,24 +1,23 @@
 -- What reading a value in an enclosure does: in a wrapper, or under an application tag.
-use Rattle.std.specs.Prelude.{◌≡◌, ◌≢◌, ℕ, zero, suc, ◌+◌, ◌-◌, ◌^◌, ◌<◌, ◌≤◌, Bool, true, false, List, [], ◌∷◌, ◌++◌, length, ◌==◌, Option, None, Some, Ok, Err, if◌then◌else◌}
+use Rattle.std.specs.Prelude.{◌≡◌, ◌≢◌, ℕ, zero, suc, ◌+◌, ◌^◌, ◌<◌, ◌≤◌, Bool, true, false, List, [], ◌∷◌, ◌++◌, length, ◌==◌, Option, None, Some, Ok, Err, if◌then◌else◌}
 use Rattle.std.specs.Io.KnownBytes.{Keeps}
 use Rattle.picky_der_core.specs.declared.error.Asn1DerError.{Asn1DerError}
 use Rattle.picky_der_core.specs.declared.error.Asn1DerError.TheVariants.{TruncatedData, InvalidData}
 use Rattle.picky_der_core.specs.declared.asn1.wrapper.Wrapper.{Wrapper}
 use Rattle.picky_der_core.specs.declared.asn1.wrapper.Wrapper.TheVariants.{OctetContainer, BitContainer, Explicit, Implicit}
-use Rattle.picky_der_core.specs.Element.{len, tlv}
+use Rattle.picky_der_core.specs.Element.{length_octets, tlv}
 use Rattle.picky_der_core.specs.Tag.{IsTagNumber}
 use Rattle.picky_der_core.specs.Tree.{Tree}
 use Rattle.picky_der_core.specs.Shape.{Shape}
 use Rattle.picky_der_core.specs.Wrapper.{wrap, wrapper_tag, HasTagNumber}
-use Rattle.picky_der_core.specs.Refusal.{Refusal, Outcome, header, numbered_header, past}
+use Rattle.picky_der_core.specs.Refusal.{Refusal, ReadOutcome, header, numbered_header, error_past_end}
 use Rattle.picky_der_input.specs.declared.enclosure.Enclosure.{Enclosure}
 use Rattle.picky_der_input.specs.declared.enclosure.Enclosure.TheVariants as enclosure
 use Rattle.picky_der_input.specs.declared.end.End.TheVariants.{Hard}
 use Rattle.picky_der_input.specs.State.{State}
 use Rattle.picky_der_input.specs.Steps.{Takes, Fails, IsJudged, IsMissing, TakesNoMemory, failed_with, is_hard}
 use Rattle.picky_der_input.specs.Reading.{Reads, Refuses, AllConcerned, AreNotRefused, AreJustRefused}
-use Rattle.picky_der_input.specs.Order.{cut_at}
-use Rattle.picky_der_input.specs.Ends.{Outer, innermost, with_inner_end, RefusesClose}
+use Rattle.picky_der_input.specs.Ends.{Outer, innermost, with_inner_end, with_outer_end, RefusesClose}
 
 -- ---- enclosures
 
@@ -79,18 +78,18 @@ implicit_number (enclosure.Application n) = None
 
 -- n bytes before the end of a bit string container
 abbrev pub unused_bits_refusal : ℕ → List ℕ → Option Refusal
-unused_bits_refusal zero rest = Some (past true, rest)
+unused_bits_refusal zero rest = Some (error_past_end true, rest)
 unused_bits_refusal (suc n) [] = Some (TruncatedData, [])
 unused_bits_refusal (suc n) (b ∷ bs) = if b == 0x00 then None else Some (InvalidData, bs)
 
-abbrev pub enclosure_header : Enclosure → Bool → ℕ → List ℕ → Outcome ℕ
+abbrev pub enclosure_header : Enclosure → Bool → ℕ → List ℕ → ReadOutcome ℕ
 enclosure_header (enclosure.Wrapper OctetContainer) hard ahead rest = header 0x04 hard ahead rest
 enclosure_header (enclosure.Wrapper BitContainer) hard ahead rest = header 0x03 hard ahead rest
 enclosure_header (enclosure.Wrapper (Explicit n)) hard ahead rest = numbered_header 0xA0 n hard ahead rest
 enclosure_header (enclosure.Wrapper (Implicit n)) hard ahead rest = numbered_header 0x80 n hard ahead rest
 enclosure_header (enclosure.Application n) hard ahead rest = numbered_header 0x60 n hard ahead rest
 
-abbrev pub refusal_behind : Bool → Outcome ℕ → Option Refusal
+abbrev pub refusal_behind : Bool → ReadOutcome ℕ → Option Refusal
 refusal_behind counts (Err r) = Some r
 refusal_behind true (Ok (n, rest)) = unused_bits_refusal n rest
 refusal_behind false (Ok (n, rest)) = None
@@ -101,22 +100,18 @@ opening_refusal w s rest = refusal_behind (counts_unused_bits w) (enclosure_head
 
 -- ---- openings
 
--- the end around the innermost one was put back
-abbrev pub with_outer_end : Outer → State → State
-with_outer_end outer s = record s { until_end = outer.place - s.taken; end = outer.kind; sets = cut_at outer.last s.sets.around }
-
 -- the header, and the count of unused bits
 abbrev pub enclosure_opening : Enclosure → ℕ → List ℕ
-enclosure_opening w n = (enclosure_tag w ∷ len n) ++ unused_bits w
+enclosure_opening w n = (enclosure_tag w ∷ length_octets n) ++ unused_bits w
 
 -- What stands before the value was taken, and nothing else changed but for a hard end that was opened where the length says.
 pub record OpensEnclosure (w : Enclosure) (old new : State) (outer : Outer) : Type 0 where
   pub size : ℕ
   pub number : HasEnclosureNumber w
-  pub around : outer ≡ innermost old
+  pub outer_end : outer ≡ innermost old
   pub takes : Takes old (with_outer_end outer new) (enclosure_opening w size)
   pub until_end : size ≡ length (unused_bits w) + new.until_end
-  pub within : new.taken + new.until_end ≤ outer.place
+  pub within : new.taken + new.until_end ≤ outer.position
   pub end : new.end ≡ Hard
   pub implicit_tag : new.implicit_tag ≡ implicit_number w
   pub bounded : old.until_end < 2 ^ 64
@@ -140,10 +135,10 @@ pub record BeginsEnclosure (w : Enclosure) (old new : State) (outer : Outer) : T
   pub mid : State
   pub size : ℕ
   pub number : HasEnclosureNumber w
-  pub takes : Takes old mid (enclosure_tag w ∷ len size)
+  pub takes : Takes old mid (enclosure_tag w ∷ length_octets size)
   pub fits : size ≤ mid.until_end
   pub opened : new ≡ with_inner_end mid size Hard
-  pub around : outer ≡ innermost mid
+  pub outer_end : outer ≡ innermost mid
   pub bounded : old.until_end < 2 ^ 64
 
 -- why the count of unused bits isn't 00: it is missing, or another byte was taken

@@ -7,7 +7,7 @@ use Rattle.picky_der_core.specs.Refusal.{Refusal, header_refusal}
 use Rattle.picky_der_input.specs.declared.end.End.{End}
 use Rattle.picky_der_input.specs.declared.end.End.TheVariants.{Soft}
 use Rattle.picky_der_input.specs.State.{State}
-use Rattle.picky_der_input.specs.Steps.{Fails, TakesNoMemory, failed_with, at_end, is_hard}
+use Rattle.picky_der_input.specs.Steps.{Fails, TakesNoMemory, failed_with, error_at_end, is_hard}
 use Rattle.picky_der_input.specs.Order.{order_of, sets_inside, last_start, cut_at}
 use Rattle.picky_der_input.specs.Reading.{AreNotRefused}
 use Rattle.picky_der_input.specs.Headers.{BeginsContent, RefusesBegin}
@@ -15,23 +15,27 @@ use Rattle.picky_der_input.specs.Headers.{BeginsContent, RefusesBegin}
 -- What is put back where an end is closed: how many bytes are before the end around it, what this is, and, where it is that of
 -- a set, how many bytes are kept before the encoding of its last member.
 pub record Outer : Type 0 where
-  pub place : ℕ
+  pub position : ℕ
   pub kind : End
   pub last : Option ℕ
 
 -- the innermost end, to be put back
 abbrev pub innermost : State → Outer
-innermost s = record { place = s.taken + s.until_end; kind = s.end; last = last_start s.sets }
+innermost s = record { position = s.taken + s.until_end; kind = s.end; last = last_start s.sets }
 
 -- an end of this kind was opened this many bytes from here
 abbrev pub with_inner_end : State → ℕ → End → State
 with_inner_end s n kind = record s { until_end = n; end = kind; sets = sets_inside None s.sets }
 
+-- the end around the innermost one was put back
+abbrev pub with_outer_end : Outer → State → State
+with_outer_end outer s = record s { until_end = outer.position - s.taken; end = outer.kind; sets = cut_at outer.last s.sets.around }
+
 -- the end was reached, and the one around it is the innermost again
 pub record Closes (outer : Outer) (old new : State) : Type 0 where
   pub reached : old.until_end ≡ 0
   pub had_not_failed : old.failed ≡ None
-  pub same : new ≡ record old { until_end = outer.place - old.taken; end = outer.kind; sets = cut_at outer.last old.sets.around }
+  pub same : new ≡ with_outer_end outer old
 
 -- bytes are left before the end, and none of them was drawn
 pub record RefusesClose (old new : State) (e : Asn1DerError) : Type 0 where
@@ -51,10 +55,10 @@ list_refusal tag s rest = list_refusal_in s.implicit_tag tag s rest
 -- the header under this tag was taken, if one stands there, and a soft end was opened where the content ends
 pub record OpensList (tag : ℕ) (old new : State) (outer : Outer) : Type 0 where
   pub mid : State
-  pub len : ℕ
-  pub begins : BeginsContent tag old mid len
-  pub opened : new ≡ record (with_inner_end mid len Soft) { sets = sets_inside (order_of tag) mid.sets }
-  pub around : outer ≡ innermost mid
+  pub size : ℕ
+  pub begins : BeginsContent tag old mid size
+  pub opened : new ≡ record (with_inner_end mid size Soft) { sets = sets_inside (order_of tag) mid.sets }
+  pub outer_end : outer ≡ innermost mid
   pub no_refusal : AreNotRefused (list_refusal tag old) old
 
 -- the header was refused, and just so; no memory was wanted
@@ -64,9 +68,9 @@ pub record RefusesList (tag : ℕ) (old new : State) (e : Asn1DerError) : Type 0
 
 -- A soft end was opened this many bytes from here, or it would have been past the innermost end, and then the deserializer has
 -- failed. One that had failed is as it was. No order of members is tested before that end.
-pub record OpensLazily (len : ℕ) (old new : State) (outer : Outer) : Type 0 where
+pub record OpensLazily (size : ℕ) (old new : State) (outer : Outer) : Type 0 where
   pub again : (f : Failure) → old.failed ≡ Some f → new ≡ old
-  pub past : old.failed ≡ None → old.until_end < len → new ≡ failed_with old (at_end old.end)
-  pub opened : old.failed ≡ None → len ≤ old.until_end → new ≡ record (with_inner_end old len Soft) { implicit_tag = None }
-  pub around : old.failed ≡ None → len ≤ old.until_end → outer ≡ innermost old
-  pub place : outer.place ≡ old.taken + old.until_end
+  pub past : old.failed ≡ None → old.until_end < size → new ≡ failed_with old (error_at_end old.end)
+  pub opened : old.failed ≡ None → size ≤ old.until_end → new ≡ record (with_inner_end old size Soft) { implicit_tag = None }
+  pub outer_end : old.failed ≡ None → size ≤ old.until_end → outer ≡ innermost old
+  pub position : outer.position ≡ old.taken + old.until_end

@@ -3,10 +3,10 @@ use Rattle.std.specs.Prelude.{◌≡◌, ℕ, ◌^◌, ◌<◌, ◌≤◌, List,
 use Rattle.std.specs.Int.Digits.{number_from_digits}
 use Rattle.picky_der_core.specs.declared.error.Asn1DerError.{Asn1DerError}
 use Rattle.picky_der_core.specs.declared.error.Asn1DerError.TheVariants.{TruncatedData}
-use Rattle.picky_der_core.specs.Element.{len, tlv}
+use Rattle.picky_der_core.specs.Element.{length_octets, tlv}
 use Rattle.picky_der_core.specs.Refusal.{length_of, header_refusal}
 use Rattle.picky_der_input.specs.State.{State}
-use Rattle.picky_der_input.specs.Steps.{Takes, TakesBytes, Fails, IsCut, IsJudged, failed_with, is_hard, at_end}
+use Rattle.picky_der_input.specs.Steps.{Takes, TakesBytes, Fails, IsCut, IsJudged, failed_with, is_hard, error_at_end}
 use Rattle.picky_der_input.specs.Reading.{AllConcerned, AreJustRefused}
 
 -- why no length was read: a byte was missing, or what was taken begins none
@@ -22,7 +22,7 @@ pub record RefusesLength (old new : State) (e : Asn1DerError) : Type 0 where
 -- why no length of a content was read: there is no length, or it reaches past the innermost end
 pub data StopsContentLength (old new : State) (e : Asn1DerError) : Type 0 where
   no_length : StopsLength old new e → StopsContentLength old new e
-  too_long : (mid : State) (n : ℕ) → Takes old mid (len n) → n < 2 ^ 64 → mid.until_end < n → e ≡ at_end mid.end → new ≡ failed_with mid e → StopsContentLength old new e
+  too_long : (mid : State) (n : ℕ) → Takes old mid (length_octets n) → n < 2 ^ 64 → mid.until_end < n → e ≡ error_at_end mid.end → new ≡ failed_with mid e → StopsContentLength old new e
 
 -- no length of a content that ends before the innermost end was read
 pub record RefusesContentLength (old new : State) (e : Asn1DerError) : Type 0 where
@@ -42,7 +42,7 @@ pub record RefusesHeader (tag : ℕ) (old new : State) (e : Asn1DerError) : Type
 
 -- the header, which was taken before directly under an implicit tag
 abbrev pub header_bytes : Option ℕ → ℕ → ℕ → List ℕ
-header_bytes None tag n = tag ∷ len n
+header_bytes None tag n = tag ∷ length_octets n
 header_bytes (Some number) tag n = []
 
 -- the content of an element with this tag is next, n bytes of it

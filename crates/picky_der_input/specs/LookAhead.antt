@@ -4,7 +4,7 @@ use Rattle.std.specs.Io.KnownBytes.{Keeps, IsAtEnd}
 use Rattle.picky_der_core.specs.declared.error.Asn1DerError.{Asn1DerError}
 use Rattle.picky_der_core.specs.Failure.{failure_of}
 use Rattle.picky_der_core.specs.declared.error.Asn1DerError.TheVariants.{InvalidData}
-use Rattle.picky_der_core.specs.Element.{Begins}
+use Rattle.picky_der_core.specs.Element.{IsPrefix}
 use Rattle.picky_der_core.specs.Refusal.{Refusal, missing_byte}
 use Rattle.picky_der_input.specs.State.{State}
 use Rattle.picky_der_input.specs.Steps.{Fails, IsJudged, IsMissing, TakesNoMemory, is_hard}
@@ -41,7 +41,7 @@ pub record Peeks (old new : State) (b : ℕ) : Type 0 where
   pub implicit_tag : old.implicit_tag ≡ None
   pub ahead : 0 < old.until_end
   pub byte : b < 256
-  pub next : IfSome old.input (Begins (b ∷ []))
+  pub next : IfSome old.input (IsPrefix (b ∷ []))
   pub again : IfSome old.peeked (λ p. b ≡ p)
   pub input : Keeps old.input new.input
   pub same : new ≡ record old { input = new.input; peeked = Some b }
@@ -86,7 +86,7 @@ pub record TellsChoice (old new : State) (tag : ℕ) : Type 0 where
   pub peeks : Peeks old new tag
   pub no_refusal : AreNotRefused (choice_refusal old) old
 
--- why there is no such byte: it is missing, or the implicit tag stands in its place
+-- why there is no such byte: it is missing, or the implicit tag stands instead of it
 pub data HidesChoice (old : State) (e : Asn1DerError) : Type 0 where
   no_byte : old.implicit_tag ≡ None → IsMissing old e → HidesChoice old e
   implicit : (number : ℕ) → old.implicit_tag ≡ Some number → e ≡ InvalidData → HidesChoice old e

@@ -28,7 +28,7 @@ last_start s = option_map (λ last. length s.around) s.last
 -- these encodings, that of the innermost end from there on
 abbrev pub cut_at : Option ℕ → List ℕ → OpenSets
 cut_at None kept = record { last = None; around = kept }
-cut_at (Some place) kept = record { last = Some (drop place kept); around = take place kept }
+cut_at (Some start) kept = record { last = Some (drop start kept); around = take start kept }
 
 -- ---- members
 

@@ -1,4 +1,4 @@
--- The kinds of plain values.
+-- What holds of each kind of plain value.
 use Rattle.std.proofs.Common.{◌≡◌, ℕ, ◌^◌, ◌<◌, Bool, inl, inr, List, [], ◌∷◌, length, take, Some, None, true, false, ◌==◌, encode_utf8, refl, sym, ◌∙◌, ap, arith, lt-ltb}
 use Rattle.std.proofs.lemmas.Bool.{cases_lt}
 use Rattle.std.proofs.lemmas.Bool.Decides.{nat_tests}
@@ -10,8 +10,8 @@ use Rattle.picky_der_core.specs.Encoding.{boolean_content, unsigned_content}
 use Rattle.picky_der_core.specs.EncodingLaws.{number-unsigned_content}
 use Rattle.picky_der_core.specs.Tag.{number_of, is_tag_number, IsTagNumber}
 use Rattle.picky_der_core.specs.Refusal.{boolean_error, number_error, unsigned_error, null_error, text_error, character_error, bytes_error}
-use Rattle.picky_der_core.specs.BooleanLaws.{boolean_fault-content}
-use Rattle.picky_der_core.specs.UnsignedLaws.{unsigned_fault-content, content-unsigned_fault, AreBytes-unsigned_content, length-unsigned_content}
+use Rattle.picky_der_core.specs.BooleanLaws.{boolean_error-content}
+use Rattle.picky_der_core.specs.UnsignedLaws.{unsigned_error-content, content-unsigned_error, AreBytes-unsigned_content, length-unsigned_content}
 use Rattle.picky_der_input.specs.PlainKinds.{IsPlainKind, IsShort, IsShortKind}
 use Rattle.picky_der_input.specs.TextLaws.{text_good, character_good, character_by_front, length_character, one_character}
 
@@ -22,7 +22,7 @@ boolean_kind = record {
   plain = λ b. refl;
   tagged = λ b. refl;
   no_choice = λ b. tt;
-  judged = λ b o. boolean_fault-content b;
+  judged = λ b o. boolean_error-content b;
 }
 
 unsigned_kind : (most : ℕ) → IsPlainKind Tree.unsigned (Shape.unsigned most) 0x02 (unsigned_error most)
@@ -32,7 +32,7 @@ unsigned_kind most = record {
   plain = λ n. refl;
   tagged = λ n. refl;
   no_choice = λ n. tt;
-  judged = λ n o. unsigned_fault-content most n o.0 o.1;
+  judged = λ n o. unsigned_error-content most n o.0 o.1;
 }
 
 null_kind : IsPlainKind (λ (_ : Unit {0}). Tree.null) Shape.null 0x05 null_error
@@ -122,7 +122,7 @@ short_boolean = record { plain = boolean_kind; by_front = boolean_by_front; shor
 -- a content that is read is that of a number of the type
 unsigned_short : (most n : ℕ) → unsigned_error most (unsigned_content n) ≡ None → IsShort (Shape.unsigned most) (Tree.unsigned n)
 unsigned_short most n e =
-    let h = content-unsigned_fault most (unsigned_content n) (AreBytes-unsigned_content n) e in
+    let h = content-unsigned_error most (unsigned_content n) (AreBytes-unsigned_content n) e in
     let few : n < 2 ^ 128 = omega (arith, h.2, number-unsigned_content n) in
     record { of_shape = (omega (arith, h.1, number-unsigned_content n), few); readable = tt; short = omega (arith, length-unsigned_content n few) }
 

@@ -8,7 +8,7 @@ use Rattle.picky_der_core.specs.Shape.{Shape, IsOf, IsFirst}
 use Rattle.picky_der_core.specs.Reading.{written_at, MayStand, StandsAt}
 use Rattle.picky_der_core.specs.Refusal.{Judge, Refusal, plain_refusal, inside_refusal, boolean_error, unsigned_error, null_error, text_error, character_error, bytes_error}
 use Rattle.picky_der_input.specs.State.{State}
-use Rattle.picky_der_input.specs.Steps.{Takes, Fails, IsJudged, drawn_count, reach, place_of, is_hard}
+use Rattle.picky_der_input.specs.Steps.{Takes, Fails, IsJudged, drawn_count, mendable_limit, place_of, is_hard}
 
 -- a tree of the shape was read
 pub record Reads (s : Shape) (old new : State) (t : Tree) : Type 0 where
@@ -22,7 +22,7 @@ pub record Reads (s : Shape) (old new : State) (t : Tree) : Type 0 where
 -- final, what was drawn with any bytes behind it.
 pub data Concerns (old new : State) (e : Asn1DerError) (end : ℕ) (bs : List ℕ) : Type 0 where
   now : old.input ≡ Some bs → end ≡ old.until_end → Concerns old new e end bs
-  ever : e ≢ TruncatedData → end ≡ reach old → (d y left : List ℕ) → old.input ≡ Some (d ++ left) → length d + old.taken ≡ drawn_count new → bs ≡ d ++ y → Concerns old new e end bs
+  ever : e ≢ TruncatedData → end ≡ mendable_limit old → (d y left : List ℕ) → old.input ≡ Some (d ++ left) → length d + old.taken ≡ drawn_count new → bs ≡ d ++ y → Concerns old new e end bs
 
 -- P of all bytes of which the refusal speaks
 abbrev pub AllConcerned : State → State → Asn1DerError → (ℕ → List ℕ → Type 0) → Type 0

@@ -1,4 +1,4 @@
--- What the calls of a deserializer do to it.
+-- What the calls of an input do to it.
 use Rattle.std.specs.Prelude.{◌≡◌, ◌≢◌, ℕ, ◌+◌, ◌-◌, ◌^◌, ◌<◌, ◌≤◌, Bool, true, false, List, ◌++◌, length, take, Option, Some, None, IfSome, ⊤}
 use Rattle.std.specs.Io.KnownBytes.{Consumes, Keeps, IsAtEnd}
 use Rattle.picky_der_core.specs.declared.error.Asn1DerError.{Asn1DerError}
@@ -7,7 +7,7 @@ use Rattle.picky_der_core.specs.Failure.{failure_of}
 use Rattle.picky_der_core.specs.declared.error.Asn1DerError.TheVariants.{TruncatedData, Other, OutOfMemory}
 use Rattle.picky_der_core.specs.Reader.{TellsFault}
 use Rattle.picky_der_core.specs.Peeking.{count_of_any}
-use Rattle.picky_der_core.specs.Refusal.{past}
+use Rattle.picky_der_core.specs.Refusal.{error_past_end}
 use Rattle.picky_der_core.specs.Shape.{AreBytes}
 use Rattle.picky_der_core.specs.Tag.{IsTagNumber}
 use Rattle.picky_der_core.specs.Reading.{Place}
@@ -27,17 +27,17 @@ is_hard Soft = false
 is_hard Hard = true
 
 -- a byte that is missing at the innermost end, or a length that reaches past it
-abbrev pub at_end : End → Asn1DerError
-at_end end = past (is_hard end)
+abbrev pub error_at_end : End → Asn1DerError
+error_at_end end = error_past_end (is_hard end)
 
 -- how far ahead the innermost end is that is neither the limit nor that of the input
-abbrev pub far : End → ℕ → ℕ
-far Limit until_end = 2 ^ 64 - 1
-far Soft until_end = until_end
-far Hard until_end = until_end
+abbrev pub mendable_within : End → ℕ → ℕ
+mendable_within Limit until_end = 2 ^ 64 - 1
+mendable_within Soft until_end = until_end
+mendable_within Hard until_end = until_end
 
-abbrev pub reach : State → ℕ
-reach s = far s.end s.until_end
+abbrev pub mendable_limit : State → ℕ
+mendable_limit s = mendable_within s.end s.until_end
 
 -- where the next value stands
 abbrev pub place_in : Option ℕ → ℕ → Place
@@ -136,7 +136,7 @@ TakesNoMemory old new e = old.failed ≡ None → new.faults ≡ old.faults → 
 
 -- why no byte came: the end is here, or the input ended before it
 pub data IsMissing (s : State) (e : Asn1DerError) : Type 0 where
-  end_is_here : s.until_end ≡ 0 → e ≡ at_end s.end → IsMissing s e
+  end_is_here : s.until_end ≡ 0 → e ≡ error_at_end s.end → IsMissing s e
   input_ended : 0 < s.until_end → IsAtEnd s.input → e ≡ TruncatedData → IsMissing s e
 
 -- ---- contents

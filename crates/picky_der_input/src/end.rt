@@ -1,7 +1,7 @@
 //! What kinds of ends there are before which a value has to be complete.
 ghost use Rattle.std.specs.Prelude.{◌≡◌};
 ghost use Rattle.picky_der_core.specs.Equality.{IsEqualityOf};
-ghost use Rattle.picky_der_input.specs.Steps.{at_end};
+ghost use Rattle.picky_der_input.specs.Steps.{error_at_end};
 
 use picky_der_core::Asn1DerError;
 
@@ -26,7 +26,7 @@ impl End {
 
     // The error of a byte that is missing there, and of a length that reaches past it.
     pub(crate) fn missing(self) -> Asn1DerError
-        ensures { result ≡ at_end self }
+        ensures { result ≡ error_at_end self }
     {
         match self {
             End::Limit | End::Soft => Asn1DerError::TruncatedData,

@@ -71,7 +71,7 @@ impl<R: ReadExt> Model for Input<R> {
     ghost invariant = { λ d. (d.reader.pos + d.until_end < 2 ^ 64) × IsUnpeekedIfImplicit d.implicit_tag d.reader.peeked ×
         IsTagNumberIfAny d.implicit_tag
         × (d.reader.pos + d.until_end ≤ d.limit) × (d.reader.pos + count_of_any d.reader.peeked ≤ d.limit)
-        × IfSome d.last (λ place. place ≤ length d.kept.items) };
+        × IfSome d.last (λ start. start ≤ length d.kept.items) };
 }
 
 impl<R: ReadExt> Input<R> {

@@ -1,5 +1,5 @@
-//! The bytes that are read: headers, contents, ends, and the plain values that stand there. What composes values of
-//! types is the crate above.
+//! What is read of the input: headers, contents, ends and plain values. Values of any type are read by `picky_der_de`,
+//! the crate above.
 #![tactic(auto)]
 
 mod boolean;

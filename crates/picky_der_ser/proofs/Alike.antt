@@ -57,8 +57,8 @@ module _ {W : Type 0} (g : Ghosts W) where
   outside-alike t u old new (Ok n) a h = tt
   outside-alike t u old new (Err e) a h = λ w. h (writable-alike u t (alike-sym t u a) w)
 
-  past-alike : (t u : Tree) (old new : State W) (r : Result ℕ Asn1DerError) → AreAlike t u → RefusesUnwritable g t old r new → RefusesUnwritable g u old r new
-  past-alike t u old new r a h = λ n. h (λ w. n (writable-alike t u a w))
+  refuses_unwritable-alike : (t u : Tree) (old new : State W) (r : Result ℕ Asn1DerError) → AreAlike t u → RefusesUnwritable g t old r new → RefusesUnwritable g u old r new
+  refuses_unwritable-alike t u old new r a h = λ n. h (λ w. n (writable-alike t u a w))
 
   -- a plain value is written as its tag and content
   pub writes_plain-as : (t : Tree) (c : List ℕ) → is_simple t ≡ true → c ≡ content t → (old new : State W) (r : Result ℕ Asn1DerError) → WritesPlain g (Tree.bytes (plain_tag t) c) old r new → WritesPlain g t old r new
@@ -69,7 +69,7 @@ module _ {W : Type 0} (g : Ghosts W) where
         wrote = writes-alike (Tree.bytes (plain_tag t) (content t)) t old new r a k.wrote;
         failed = fails-alike (Tree.bytes (plain_tag t) (content t)) t old new r a k.failed;
         outside = outside-alike (Tree.bytes (plain_tag t) (content t)) t old new r a k.outside;
-        past = past-alike (Tree.bytes (plain_tag t) (content t)) t old new r a k.past;
+        refuses_unwritable = refuses_unwritable-alike (Tree.bytes (plain_tag t) (content t)) t old new r a k.refuses_unwritable;
         counted = k.counted;
         goes_on = k.goes_on;
       }

@@ -26,7 +26,7 @@ turned bs i j h =
     ∙ ap₂ (λ x y. x ++ y) (drop-append-add last front m) (take-append-add last front m ∙ ap (λ x. last ++ x) (take-take m k bs (omega arith)))
     ∙ sym (append_assoc (drop m front) last (take m bs)) ∙ ap (λ x. x ++ take m bs) (sym before)
 
--- the last `count` of these bytes in the place of those behind `a`
+-- the last `count` of these bytes in place of those behind `a`
 filled : (a r x f : List ℕ) (at count n : ℕ) → length a ≡ at → length r ≡ count → length f ≡ count → n ≡ at + count + length x
     → with_overwrite at count n (((a ++ r) ++ x) ++ f) ≡ a ++ (f ++ x)
 filled a r x f at count n i j k l =
@@ -40,7 +40,7 @@ filled a r x f at count n i j k l =
     let others : drop (at + count) (take n all) ≡ x = ap (λ m. drop m (take n all)) behind ∙ ap (drop (length (a ++ r))) kept ∙ drop-append_seam (a ++ r) x in
     rw (front, last, others) refl
 
--- bytes behind a list, brought in front of its content: the first of them in the place of the room
+-- bytes behind a list, brought in front of its content: the first of them in place of the room
 pub brought : (s h : List ℕ) (at start more : ℕ) → at ≤ start → start ≤ length s → length h ≡ (start - at) + more
     → with_overwrite at (start - at) (length (take start (s ++ h) ++ slice_rotate_right (drop start (s ++ h)) more) - (start - at)) (take start (s ++ h) ++ slice_rotate_right (drop start (s ++ h)) more) ≡ take at s ++ (h ++ drop start s)
 brought s h at start more room within count =

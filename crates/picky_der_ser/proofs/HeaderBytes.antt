@@ -2,10 +2,10 @@
 use Rattle.std.proofs.Common.{◌≡◌, ℕ, suc, ◌+◌, ◌-◌, false, List, [], ◌∷◌, ◌++◌, length, Option, None, Some, refl, sym, ◌∙◌, ap, append_assoc, length-append, arith}
 use Rattle.picky_der_core.specs.declared.asn1.wrapper.Wrapper.{Wrapper}
 use Rattle.picky_der_core.specs.declared.asn1.wrapper.Wrapper.TheVariants.{OctetContainer, BitContainer, Explicit, Implicit}
-use Rattle.picky_der_core.specs.Element.{len, tlv}
+use Rattle.picky_der_core.specs.Element.{length_octets, tlv}
 use Rattle.picky_der_core.specs.Tree.{Tree, is_absent}
-use Rattle.picky_der_core.specs.Encoding.{der, inside}
-use Rattle.picky_der_core.specs.EncodingLaws.{der-bytes, der-application, der-raw, inside-plain, inside-other}
+use Rattle.picky_der_core.specs.Encoding.{der, implicit_content}
+use Rattle.picky_der_core.specs.EncodingLaws.{der-bytes, der-application, der-raw, implicit_content-plain, implicit_content-other}
 use Rattle.picky_der_core.specs.Wrapper.{wrap, under}
 use Rattle.picky_der_core.specs.WrapperLaws.{der-wrap, is_absent-under}
 use Rattle.picky_der_ser.specs.declared.header.Header.{Header}
@@ -16,16 +16,16 @@ use Rattle.picky_der_ser.specs.Headers.{wrapper_opening, own_header, wrapper_ope
 
 -- ---- one wrapper
 
-whole-tagged : (tag : ℕ) (bs : List ℕ) → (tag ∷ len (length bs)) ++ bs ≡ tlv tag bs
+whole-tagged : (tag : ℕ) (bs : List ℕ) → (tag ∷ length_octets (length bs)) ++ bs ≡ tlv tag bs
 unfolding tlv
 whole-tagged tag bs = refl
 
 whole-bit : (bs : List ℕ) → wrapper_opening BitContainer (length bs) ++ bs ≡ tlv 0x03 (0x00 ∷ bs)
 unfolding tlv
-whole-bit bs = ap (λ x. 0x03 ∷ x) (append_assoc (len (suc (length bs))) (0x00 ∷ []) bs)
+whole-bit bs = ap (λ x. 0x03 ∷ x) (append_assoc (length_octets (suc (length bs))) (0x00 ∷ []) bs)
 
 -- a wrapper around what it doesn't leave the header out of
-wraps : (w : Wrapper) (t : Tree) → is_absent t ≡ false → inside t ≡ der t → der (wrap w t) ≡ wrapper_opening w (length (der t)) ++ der t
+wraps : (w : Wrapper) (t : Tree) → is_absent t ≡ false → implicit_content t ≡ der t → der (wrap w t) ≡ wrapper_opening w (length (der t)) ++ der t
 wraps OctetContainer t p i = der-wrap OctetContainer t p ∙ sym (whole-tagged 0x04 (der t))
 wraps BitContainer t p i = der-wrap BitContainer t p ∙ sym (whole-bit (der t))
 wraps (Explicit k) t p i = der-wrap (Explicit k) t p ∙ sym (whole-tagged (0xA0 + k) (der t))
@@ -51,24 +51,24 @@ before w rest c bs e =
     let n : length bs ≡ length rest + length c = ap length e ∙ length-append rest c in
     ap (λ m. wrapper_opening w m ++ bs) n ∙ ap (λ b. wrapper_opening w (length rest + length c) ++ b) e ∙ sym (append_assoc (wrapper_opening w (length rest + length c)) rest c)
 
-one_more : (w : Wrapper) (rest c : List ℕ) (t : Tree) → is_absent t ≡ false → inside t ≡ der t → der t ≡ rest ++ c → der (wrap w t) ≡ (wrapper_opening w (length rest + length c) ++ rest) ++ c
+one_more : (w : Wrapper) (rest c : List ℕ) (t : Tree) → is_absent t ≡ false → implicit_content t ≡ der t → der t ≡ rest ++ c → der (wrap w t) ≡ (wrapper_opening w (length rest + length c) ++ rest) ++ c
 one_more w rest c t p i e = wraps w t p i ∙ before w rest c (der t) e
 
 -- a wrapper keeps the header of what is no plain value
-whole : (v : Wrapper) (t : Tree) → inside (wrap v t) ≡ der (wrap v t)
-whole OctetContainer t = inside-other _ refl tt
-whole BitContainer t = inside-other _ refl tt
-whole (Explicit k) t = inside-other _ refl tt
-whole (Implicit k) t = inside-other _ refl tt
+whole : (v : Wrapper) (t : Tree) → implicit_content (wrap v t) ≡ der (wrap v t)
+whole OctetContainer t = implicit_content-other _ refl tt
+whole BitContainer t = implicit_content-other _ refl tt
+whole (Explicit k) t = implicit_content-other _ refl tt
+whole (Implicit k) t = implicit_content-other _ refl tt
 
 written_whole : (w : Wrapper) (h : Header) (c : List ℕ) → der (wrap w (tree_of h c)) ≡ wrapper_opening w (length (der (tree_of h c))) ++ der (tree_of h c)
     → der (wrap w (tree_of h c)) ≡ (wrapper_opening w (length (own_header h (length c)) + length c) ++ own_header h (length c)) ++ c
 written_whole w h c e = e ∙ before w (own_header h (length c)) c (der (tree_of h c)) (own h c)
 
 one : (w : Wrapper) (h : Header) (c : List ℕ) → der (wrap w (tree_of h c)) ≡ headers (w ∷ []) h (length c) ++ c
-one (Implicit k) (Tagged tag) c = der-wrap (Implicit k) (Tree.bytes tag c) refl ∙ ap (tlv (0x80 + k)) (inside-plain (Tree.bytes tag c) refl) ∙ sym (whole-tagged (0x80 + k) c)
-one (Implicit k) (Application m) c = one_more (Implicit k) (own_header (Application m) (length c)) c (tree_of (Application m) c) refl (inside-other _ refl tt) (own (Application m) c)
-one (Implicit k) Raw c = one_more (Implicit k) (own_header Raw (length c)) c (tree_of Raw c) refl (inside-other _ refl tt) (own Raw c)
+one (Implicit k) (Tagged tag) c = der-wrap (Implicit k) (Tree.bytes tag c) refl ∙ ap (tlv (0x80 + k)) (implicit_content-plain (Tree.bytes tag c) refl) ∙ sym (whole-tagged (0x80 + k) c)
+one (Implicit k) (Application m) c = one_more (Implicit k) (own_header (Application m) (length c)) c (tree_of (Application m) c) refl (implicit_content-other _ refl tt) (own (Application m) c)
+one (Implicit k) Raw c = one_more (Implicit k) (own_header Raw (length c)) c (tree_of Raw c) refl (implicit_content-other _ refl tt) (own Raw c)
 one OctetContainer h c = written_whole OctetContainer h c (der-wrap OctetContainer (tree_of h c) (present h c) ∙ sym (whole-tagged 0x04 (der (tree_of h c))))
 one BitContainer h c = written_whole BitContainer h c (der-wrap BitContainer (tree_of h c) (present h c) ∙ sym (whole-bit (der (tree_of h c))))
 one (Explicit k) h c = written_whole (Explicit k) h c (der-wrap (Explicit k) (tree_of h c) (present h c) ∙ sym (whole-tagged (0xA0 + k) (der (tree_of h c))))

@@ -71,11 +71,11 @@ nil_of (w ∷ ws) e = absurd (omega arith)
 -- behind what was there stand the openings of all but `rest`, the last byte first
 pub record PushesHeaders (old now : List ℕ) (all rest : List Wrapper) (inner : List ℕ) (n : ℕ) : Type 0 where
   pub done : List Wrapper
-  pub parts : all ≡ rest ++ done
+  pub split : all ≡ rest ++ done
   pub items : now ≡ old ++ reverse (wrapper_openings done inner n)
 
 pub pushed_first : (old now : List ℕ) (all : List Wrapper) (inner : List ℕ) (n : ℕ) → now ≡ old ++ reverse inner → PushesHeaders old now all all inner n
-pushed_first old now all inner n e = record { done = []; parts = sym (append-nil all); items = e }
+pushed_first old now all inner n e = record { done = []; split = sym (append-nil all); items = e }
 
 -- how many bytes were added
 pub pushed_count : {old now : List ℕ} {all rest : List Wrapper} {inner : List ℕ} {n : ℕ} → (p : PushesHeaders old now all rest inner n) → length now ≡ length old + length (wrapper_openings p.done inner n)
@@ -89,7 +89,7 @@ pushed_more {old} {mid} {now} {all} {rest} {outer} {inner} {n} {m} w p e k a =
     let count : m ≡ length others + n = omega (arith, pushed_count p) in
     record {
       done = w ∷ p.done;
-      parts = p.parts ∙ ap (λ ws. ws ++ p.done) e ∙ append_assoc outer (w ∷ []) p.done;
+      split = p.split ∙ ap (λ ws. ws ++ p.done) e ∙ append_assoc outer (w ∷ []) p.done;
       items =
           a ∙ ap (λ bs. bs ++ reverse (wrapper_opening w m)) p.items ∙ append_assoc old (reverse others) (reverse (wrapper_opening w m)) ∙ ap (λ bs. old ++ bs) (sym (reverse-append (wrapper_opening w m) others))
           ∙ ap (λ x. old ++ reverse (wrapper_opening w x ++ others)) count;
@@ -100,5 +100,5 @@ pushed_all {old} {now} {all} {whole} {rest} {inner} {n} p none e =
     let bs = wrapper_openings p.done inner n in
     let front : take (length old) now ≡ old = ap (take (length old)) p.items ∙ take-append_seam old (reverse bs) in
     let back : drop (length old) now ≡ reverse bs = ap (drop (length old)) p.items ∙ drop-append_seam old (reverse bs) in
-    let done : p.done ≡ whole = sym (p.parts ∙ ap (λ ws. ws ++ p.done) none) ∙ e in
+    let done : p.done ≡ whole = sym (p.split ∙ ap (λ ws. ws ++ p.done) none) ∙ e in
     rw (front, back, reverse-reverse bs) (ap (λ ws. old ++ wrapper_openings ws inner n) done)

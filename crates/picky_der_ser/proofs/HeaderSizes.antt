@@ -4,31 +4,31 @@ use Rattle.std.proofs.lemmas.Bool.{cases_lt}
 use Rattle.std.specs.Option.{unwrap_or}
 use Rattle.picky_der_core.specs.declared.asn1.wrapper.Wrapper.{Wrapper}
 use Rattle.picky_der_core.specs.declared.asn1.wrapper.Wrapper.TheVariants.{OctetContainer, BitContainer, Explicit, Implicit}
-use Rattle.picky_der_core.specs.Element.{big_endian, len}
-use Rattle.picky_der_core.specs.ElementLaws.{len-short, len-long}
+use Rattle.picky_der_core.specs.Element.{big_endian, length_octets}
+use Rattle.picky_der_core.specs.ElementLaws.{length_octets-short, length_octets-long}
 use Rattle.picky_der_core.specs.BigEndianLaws.{length-big_endian, below-big_endian}
 use Rattle.picky_der_ser.specs.declared.header.Header.{Header}
 use Rattle.picky_der_ser.specs.declared.header.Header.TheVariants.{Tagged, Application, Raw}
 use Rattle.picky_der_ser.specs.Headers.{wrapper_opening, own_header, wrapper_openings, innermost_joint_header, headed_wrappers, headers}
 
-len_size : (n : ℕ) → 0 < length (len n)
+len_size : (n : ℕ) → 0 < length (length_octets n)
 len_size n = elim (cases_lt n 0x80) [
-  | inl short ↦ rw (len-short n short) (omega arith)
-  | inr long ↦ rw (len-long n long) (omega arith)
+  | inl short ↦ rw (length_octets-short n short) (omega arith)
+  | inr long ↦ rw (length_octets-long n long) (omega arith)
 ]
 
-len_more : (m n : ℕ) → m ≤ n → length (len m) ≤ length (len n)
+len_more : (m n : ℕ) → m ≤ n → length (length_octets m) ≤ length (length_octets n)
 len_more m n h = elim (cases_lt m 0x80) [
-  | inl short ↦ rw (len-short m short) (omega (arith, len_size n))
+  | inl short ↦ rw (length_octets-short m short) (omega (arith, len_size n))
   | inr long ↦
       let below = below-big_endian n in
       let few = length-big_endian (length (big_endian n)) m (omega (arith, below)) in
-      rw (len-long m long, len-long n (omega arith)) (omega (arith, few))
+      rw (length_octets-long m long, length_octets-long n (omega arith)) (omega (arith, few))
 ]
 
 opening_more : (w : Wrapper) (m n : ℕ) → m ≤ n → length (wrapper_opening w m) ≤ length (wrapper_opening w n)
 opening_more OctetContainer m n h = let s = len_more m n h in omega (arith, s)
-opening_more BitContainer m n h = let s = len_more (suc m) (suc n) (omega arith) in omega (arith, s, length-append (len (suc m)) (0x00 ∷ []), length-append (len (suc n)) (0x00 ∷ []))
+opening_more BitContainer m n h = let s = len_more (suc m) (suc n) (omega arith) in omega (arith, s, length-append (length_octets (suc m)) (0x00 ∷ []), length-append (length_octets (suc n)) (0x00 ∷ []))
 opening_more (Explicit k) m n h = let s = len_more m n h in omega (arith, s)
 opening_more (Implicit k) m n h = let s = len_more m n h in omega (arith, s)
 

@@ -3,7 +3,7 @@ use Rattle.std.proofs.Common.{◌≡◌, ◌≢◌, ℕ, ◌≤◌, ◌-◌, Boo
 use Rattle.std.proofs.Math.Seq.{take-append_seam, drop-append_seam}
 use Rattle.std.proofs.lemmas.List.{take-take, drop-append-le, drop_all, take_all, length-drop, take-append-le, length-take-le}
 use Rattle.picky_der_core.specs.declared.asn1.wrapper.Wrapper.{Wrapper}
-use Rattle.picky_der_ser.specs.Places.{MarkPlace}
+use Rattle.picky_der_ser.specs.MarkViews.{MarkView}
 use Rattle.picky_der_ser.specs.State.{Level, Stack, with_bytes, at_next_member, in_order, final_content}
 use Rattle.picky_der_core.specs.Encoding.{der}
 use Rattle.picky_der_core.specs.Wrapper.{under}
@@ -11,26 +11,26 @@ use Rattle.picky_der_ser.specs.Heading.{tree_of}
 use Rattle.picky_der_ser.specs.declared.header.Header.TheVariants.{Raw}
 use Rattle.picky_der_ser.specs.Headers.{headers}
 use Rattle.picky_der_ser.specs.Sealed.{as_raw_level}
-use Rattle.picky_der_ser.specs.Marks.{level_at, levels_of, below, seams_below, wrappers_below, level_of, inside_of, pending_of, with_pending, IsMark, AreMarks, HasRoom}
-use Rattle.picky_der_ser.specs.Parts.{AreSeams, last_seam, next_seams}
+use Rattle.picky_der_ser.specs.Marks.{level_at, levels_of, bytes_below, seams_below, wrappers_below, level_of, inside_of, pending_of, with_pending, IsMark, AreMarks, HasRoom}
+use Rattle.picky_der_ser.specs.Seams.{AreSeams, last_seam, next_seams}
 use Rattle.picky_der_ser.proofs.Seams.{seams-next, last_seam-next, drop-next_seams, take-next_seams, length-next_seams}
 use Rattle.picky_der_ser.proofs.SetBytes.{final_content-uncut, in_order-uncut}
 
 -- ---- marks within more bytes, and fewer marks
 
-pub mark-more : {m : MarkPlace} {a b : ℕ} {q : List ℕ} {w : List Wrapper} → a ≤ b → IsMark m a q w → IsMark m b q w
+pub mark-more : {m : MarkView} {a b : ℕ} {q : List ℕ} {w : List Wrapper} → a ≤ b → IsMark m a q w → IsMark m b q w
 mark-more h k = record { numbers = k.numbers; number = k.number; room = k.room; outer = k.outer; first = k.first; within = omega (arith, h, k.within); ascending = k.ascending; least = k.least }
 
-pub marks-more : (ms : List MarkPlace) {a b : ℕ} (q : List ℕ) (w : List Wrapper) → a ≤ b → AreMarks ms a q w → AreMarks ms b q w
+pub marks-more : (ms : List MarkView) {a b : ℕ} (q : List ℕ) (w : List Wrapper) → a ≤ b → AreMarks ms a q w → AreMarks ms b q w
 marks-more [] q w h k = tt
 marks-more (m ∷ ms) q w h k = (mark-more h k.0, k.1)
 
 -- the wrappers of the innermost level stand within those of all
-pub mark-outer : {p : Option MarkPlace} {m : MarkPlace} (ms : List MarkPlace) (n : ℕ) (q : List ℕ) (w : List Wrapper) → p ≡ Some m → AreMarks (with_pending p ms) n q w → m.first_wrapper ≤ length w
+pub mark-outer : {p : Option MarkView} {m : MarkView} (ms : List MarkView) (n : ℕ) (q : List ℕ) (w : List Wrapper) → p ≡ Some m → AreMarks (with_pending p ms) n q w → m.first_wrapper ≤ length w
 mark-outer {p} {m} ms n q w was k = let before : AreMarks (m ∷ ms) n q w = subst (λ o. AreMarks (with_pending o ms) n q w) was k in before.0.outer
 
 -- another member of the innermost begins where it ends
-marks-next : (m : MarkPlace) (ms : List MarkPlace) (n : ℕ) (q : List ℕ) (w : List Wrapper) → AreMarks (m ∷ ms) n q w → AreMarks (m ∷ ms) n (next_seams m.header q (n - m.start)) w
+marks-next : (m : MarkView) (ms : List MarkView) (n : ℕ) (q : List ℕ) (w : List Wrapper) → AreMarks (m ∷ ms) n q w → AreMarks (m ∷ ms) n (next_seams m.header q (n - m.start)) w
 marks-next m ms n q w k =
     let within = k.0.within in
     let own = drop m.first_seam q in
@@ -49,7 +49,7 @@ marks-next m ms n q w k =
     } in
     (first, subst (λ r. AreMarks ms m.at r (take m.first_wrapper w)) (sym (take-next_seams m.header m.first_seam q (n - m.start) k.0.first)) k.1)
 
-pub marks-at_next_member : {p : Option MarkPlace} {m : MarkPlace} (ms : List MarkPlace) (n : ℕ) (q r : List ℕ) (w : List Wrapper) → p ≡ Some m → AreMarks (with_pending p ms) n q w → r ≡ next_seams m.header q (n - m.start)
+pub marks-at_next_member : {p : Option MarkView} {m : MarkView} (ms : List MarkView) (n : ℕ) (q r : List ℕ) (w : List Wrapper) → p ≡ Some m → AreMarks (with_pending p ms) n q w → r ≡ next_seams m.header q (n - m.start)
     → AreMarks (with_pending p ms) n r w
 marks-at_next_member {p} {m} ms n q r w was k e =
     let before : AreMarks (m ∷ ms) n q w = subst (λ o. AreMarks (with_pending o ms) n q w) was k in
@@ -57,25 +57,25 @@ marks-at_next_member {p} {m} ms n q r w was k e =
 
 -- ---- whether there is one
 
-some_level : (ms : List MarkPlace) (s q : List ℕ) (w : List Wrapper) → ms ≢ [] → levels_of ms s q w ≢ []
+some_level : (ms : List MarkView) (s q : List ℕ) (w : List Wrapper) → ms ≢ [] → levels_of ms s q w ≢ []
 some_level [] s q w h = absurd (h refl)
 some_level (m ∷ ms) s q w h = λ e. cc
 
 -- a member is being written
-pub some_entered : (entered : Bool) (p : Option MarkPlace) (ms : List MarkPlace) (s q : List ℕ) (w : List Wrapper) (spare : ℕ) → entered ≡ true → HasRoom entered p ms spare → inside_of entered p ms s q w ≢ []
+pub some_entered : (entered : Bool) (p : Option MarkView) (ms : List MarkView) (s q : List ℕ) (w : List Wrapper) (spare : ℕ) → entered ≡ true → HasRoom entered p ms spare → inside_of entered p ms s q w ≢ []
 some_entered false p ms s q w spare e h = cc
 some_entered true None ms s q w spare e h = some_level ms s q w h
 some_entered true (Some m) ms s q w spare e h = λ none. cc
 
 -- there are levels around the innermost one
-pub some_inside : (entered : Bool) (p : Option MarkPlace) (ms : List MarkPlace) (s q : List ℕ) (w : List Wrapper) → ms ≢ [] → inside_of entered p ms s q w ≢ []
+pub some_inside : (entered : Bool) (p : Option MarkView) (ms : List MarkView) (s q : List ℕ) (w : List Wrapper) → ms ≢ [] → inside_of entered p ms s q w ≢ []
 some_inside true None ms s q w h = some_level ms s q w h
 some_inside true (Some m) ms s q w h = λ e. cc
-some_inside false p ms s q w h = some_level ms (below p s) (seams_below p q) (wrappers_below p w) h
+some_inside false p ms s q w h = some_level ms (bytes_below p s) (seams_below p q) (wrappers_below p w) h
 
 -- ---- what is added to the innermost
 
-pub levels-grown : (ms : List MarkPlace) (s q bs : List ℕ) (w : List Wrapper) (l : Level) (ls : List Level) → AreMarks ms (length s) q w → levels_of ms s q w ≡ l ∷ ls → levels_of ms (s ++ bs) q w ≡ with_bytes l bs ∷ ls
+pub levels-grown : (ms : List MarkView) (s q bs : List ℕ) (w : List Wrapper) (l : Level) (ls : List Level) → AreMarks ms (length s) q w → levels_of ms s q w ≡ l ∷ ls → levels_of ms (s ++ bs) q w ≡ with_bytes l bs ∷ ls
 levels-grown [] s q bs w l ls h e = cc
 levels-grown (m ∷ ms) s q bs w l ls h e =
     let last = h.0.within in
@@ -95,17 +95,17 @@ levels-grown (m ∷ ms) s q bs w l ls h e =
 -- ---- room for one more mark
 
 -- none is needed once what was pending is gone
-pub room-ended : (entered : Bool) (p : Option MarkPlace) (s q : List ℕ) (w : List Wrapper) (ms : List MarkPlace) (spare : ℕ) → IsSome (pending_of entered p s q w) → HasRoom entered None ms spare
+pub room-ended : (entered : Bool) (p : Option MarkView) (s q : List ℕ) (w : List Wrapper) (ms : List MarkView) (spare : ℕ) → IsSome (pending_of entered p s q w) → HasRoom entered None ms spare
 room-ended true p s q w ms spare some = cc
 room-ended false p s q w ms spare some = tt
 
 -- ---- the stack
 
-abbrev pub stack_at : Bool → Option MarkPlace → List MarkPlace → List ℕ → List ℕ → List Wrapper → List Wrapper → Stack
+abbrev pub stack_at : Bool → Option MarkView → List MarkView → List ℕ → List ℕ → List Wrapper → List Wrapper → Stack
 stack_at e p ms s q w a = record { inside = inside_of e p ms s q w; pending = pending_of e p s q w; around = a }
 
 -- another member of what is pending begins
-pub stack-at_next_member : (entered : Bool) {p : Option MarkPlace} {m : MarkPlace} (ms : List MarkPlace) (s q r : List ℕ) (w a : List Wrapper) → p ≡ Some m → AreMarks (with_pending p ms) (length s) q w → r ≡ next_seams m.header q (length s - m.start)
+pub stack-at_next_member : (entered : Bool) {p : Option MarkView} {m : MarkView} (ms : List MarkView) (s q r : List ℕ) (w a : List Wrapper) → p ≡ Some m → AreMarks (with_pending p ms) (length s) q w → r ≡ next_seams m.header q (length s - m.start)
     → IfSome (pending_of entered p s q w) (λ l. stack_at entered p ms s r w a ≡ record (stack_at entered p ms s q w a) { pending = Some (at_next_member l) })
 stack-at_next_member true {p} {m} ms s q r w a was k e = tt
 stack-at_next_member false {p} {m} ms s q r w a was k e =
@@ -118,7 +118,7 @@ stack-at_next_member false {p} {m} ms s q r w a was k e =
     rw (was, e) (ap₂ (λ x y. record { inside = levels_of ms (take m.at s) x (take m.first_wrapper w); pending = Some (record { header = m.header; around = drop m.first_wrapper w; content = drop m.start s; seams = y }); around = a }) others own)
 
 -- what is pending and has no seams is in order
-pub stack-uncut : (entered : Bool) {p : Option MarkPlace} {m : MarkPlace} (ms : List MarkPlace) (s q : List ℕ) (w a : List Wrapper) → p ≡ Some m → length q ≤ m.first_seam
+pub stack-uncut : (entered : Bool) {p : Option MarkView} {m : MarkView} (ms : List MarkView) (s q : List ℕ) (w a : List Wrapper) → p ≡ Some m → length q ≤ m.first_seam
     → IfSome (pending_of entered p s q w) (λ l. stack_at entered p ms s q w a ≡ record (stack_at entered p ms s q w a) { pending = Some (in_order l) })
 stack-uncut true {p} {m} ms s q w a was h = tt
 stack-uncut false {p} {m} ms s q w a was h =
@@ -127,7 +127,7 @@ stack-uncut false {p} {m} ms s q w a was h =
     rw was (ap (λ l. record { inside = levels_of ms (take m.at s) (take m.first_seam q) (take m.first_wrapper w); pending = Some l; around = a }) order)
 
 -- what is pending holds its whole encoding
-pub stack-as_raw_level : (entered : Bool) {p : Option MarkPlace} {m : MarkPlace} (n : MarkPlace) (ms : List MarkPlace) (s t q r : List ℕ) (w a : List Wrapper) → p ≡ Some m → n.header ≡ Raw → n.at ≡ m.at → n.start ≡ m.at → n.first_seam ≡ m.first_seam
+pub stack-as_raw_level : (entered : Bool) {p : Option MarkView} {m : MarkView} (n : MarkView) (ms : List MarkView) (s t q r : List ℕ) (w a : List Wrapper) → p ≡ Some m → n.header ≡ Raw → n.at ≡ m.at → n.start ≡ m.at → n.first_seam ≡ m.first_seam
     → n.first_wrapper ≡ m.first_wrapper → drop m.first_wrapper w ≡ [] → AreMarks (with_pending p ms) (length s) q w → t ≡ take m.at s ++ der (under (drop m.first_wrapper w) (tree_of m.header (drop m.start s))) → r ≡ take m.first_seam q
     → IfSome (pending_of entered p s q w) (λ l. stack_at entered (Some n) ms t r w a ≡ record (stack_at entered p ms s q w a) { pending = Some (as_raw_level l) })
 stack-as_raw_level true {p} {m} n ms s t q r w a was header at start first outer bare marks e f = tt
@@ -148,14 +148,14 @@ stack-as_raw_level false {p} {m} n ms s t q r w a was header at start first oute
     rw was (cc)
 
 -- where nothing is pending, what is added goes to the innermost level
-pub stack-grown : (entered : Bool) (p : Option MarkPlace) (ms : List MarkPlace) (s q bs : List ℕ) (w a : List Wrapper) (l : Level) (ls : List Level) → AreMarks (with_pending p ms) (length s) q w → pending_of entered p s q w ≡ None
+pub stack-grown : (entered : Bool) (p : Option MarkView) (ms : List MarkView) (s q bs : List ℕ) (w a : List Wrapper) (l : Level) (ls : List Level) → AreMarks (with_pending p ms) (length s) q w → pending_of entered p s q w ≡ None
     → inside_of entered p ms s q w ≡ l ∷ ls → stack_at entered p ms (s ++ bs) q w a ≡ record { inside = with_bytes l bs ∷ ls; pending = None; around = a }
 stack-grown true p ms s q bs w a l ls h n e = let f = levels-grown (with_pending p ms) s q bs w l ls h e in cc
 stack-grown false None ms s q bs w a l ls h n e = let f = levels-grown ms s q bs w l ls h e in cc
 stack-grown false (Some m) ms s q bs w a l ls h n e = cc
 
 -- what is pending gets its headers
-pub stack-headed : (entered : Bool) {p : Option MarkPlace} {m : MarkPlace} (ms : List MarkPlace) (s t q : List ℕ) (w a : List Wrapper) (n : ℕ) → p ≡ Some m → AreMarks (with_pending p ms) (length s) q w → t ≡ s ++ headers (drop m.first_wrapper w) m.header n
+pub stack-headed : (entered : Bool) {p : Option MarkView} {m : MarkView} (ms : List MarkView) (s t q : List ℕ) (w a : List Wrapper) (n : ℕ) → p ≡ Some m → AreMarks (with_pending p ms) (length s) q w → t ≡ s ++ headers (drop m.first_wrapper w) m.header n
     → IfSome (pending_of entered p s q w) (λ l. stack_at entered p ms t q w a ≡ record (stack_at entered p ms s q w a) { pending = Some (with_bytes l (headers l.around l.header n)) })
 stack-headed true {p} {m} ms s t q w a n was k e = tt
 stack-headed false {p} {m} ms s t q w a n was k e =
@@ -168,7 +168,7 @@ stack-headed false {p} {m} ms s t q w a n was k e =
     rw (was, e, own, front) refl
 
 -- the room for its headers is made
-pub stack-roomed : (entered : Bool) {p : Option MarkPlace} {m : MarkPlace} (n : MarkPlace) (ms : List MarkPlace) (s t q hs : List ℕ) (w a : List Wrapper) → p ≡ Some m → n.header ≡ m.header → n.at ≡ m.at → n.start ≡ length t → n.first_seam ≡ m.first_seam
+pub stack-roomed : (entered : Bool) {p : Option MarkView} {m : MarkView} (n : MarkView) (ms : List MarkView) (s t q hs : List ℕ) (w a : List Wrapper) → p ≡ Some m → n.header ≡ m.header → n.at ≡ m.at → n.start ≡ length t → n.first_seam ≡ m.first_seam
     → n.first_wrapper ≡ m.first_wrapper → AreMarks (with_pending p ms) (length s) q w → length s ≡ m.at → t ≡ s ++ hs → stack_at entered (Some n) ms t q w a ≡ stack_at entered p ms s q w a
 stack-roomed entered {p} {m} n ms s t q hs w a was header at start first outer k size e =
     let before : AreMarks (m ∷ ms) (length s) q w = subst (λ o. AreMarks (with_pending o ms) (length s) q w) was k in
@@ -187,7 +187,7 @@ stack-roomed entered {p} {m} n ms s t q hs w a was header at start first outer k
     by_entered false x y z = ap₂ (λ l ls. record { inside = ls; pending = Some l; around = a }) y z
 
 -- the bytes from the last mark on are replaced, and go to the level around it
-stack-merged : (m : MarkPlace) (ms : List MarkPlace) (s q bs : List ℕ) (w a : List Wrapper) (l : Level) (ls : List Level) → AreMarks (m ∷ ms) (length s) q w → levels_of ms (take m.at s) (take m.first_seam q) (take m.first_wrapper w) ≡ l ∷ ls
+stack-merged : (m : MarkView) (ms : List MarkView) (s q bs : List ℕ) (w a : List Wrapper) (l : Level) (ls : List Level) → AreMarks (m ∷ ms) (length s) q w → levels_of ms (take m.at s) (take m.first_seam q) (take m.first_wrapper w) ≡ l ∷ ls
     → stack_at false None ms (take m.at s ++ bs) (take m.first_seam q) (take m.first_wrapper w) a ≡ record { inside = with_bytes l bs ∷ ls; pending = None; around = a }
 stack-merged m ms s q bs w a l ls h e =
     let within = h.0.within in
@@ -197,7 +197,7 @@ stack-merged m ms s q bs w a l ls h e =
     let f = levels-grown ms (take m.at s) (take m.first_seam q) bs outer l ls (subst (λ k. AreMarks ms k (take m.first_seam q) outer) (sym size) h.1) e in
     cc
 
-module _ {p q : Option MarkPlace} {m : MarkPlace} (ms : List MarkPlace) (seams : List ℕ) (w : List Wrapper) (was : p ≡ Some m) (now : q ≡ None) where
+module _ {p q : Option MarkView} {m : MarkView} (ms : List MarkView) (seams : List ℕ) (w : List Wrapper) (was : p ≡ Some m) (now : q ≡ None) where
   pub marks-taken : (n k : ℕ) → m.at ≤ k → AreMarks (with_pending p ms) n seams w → AreMarks (with_pending q ms) k (take m.first_seam seams) (take m.first_wrapper w)
   marks-taken n k h marks =
       let before : AreMarks (m ∷ ms) n seams w = subst (λ o. AreMarks (with_pending o ms) n seams w) was marks in
@@ -211,7 +211,7 @@ module _ {p q : Option MarkPlace} {m : MarkPlace} (ms : List MarkPlace) (seams :
   stack-enclosed false s t a o l ls marks e f g =
       let before : AreMarks (m ∷ ms) (length s) seams w = subst (λ x. AreMarks (with_pending x ms) (length s) seams w) was marks in
       let level : level_at m s seams w ≡ o = let some : Some (level_at m s seams w) ≡ Some o = ap (λ x. level_of x s seams w) (sym was) ∙ e in cc in
-      let inside : levels_of ms (take m.at s) (take m.first_seam seams) (take m.first_wrapper w) ≡ l ∷ ls = ap (λ x. levels_of ms (below x s) (seams_below x seams) (wrappers_below x w)) (sym was) ∙ f in
+      let inside : levels_of ms (take m.at s) (take m.first_seam seams) (take m.first_wrapper w) ≡ l ∷ ls = ap (λ x. levels_of ms (bytes_below x s) (seams_below x seams) (wrappers_below x w)) (sym was) ∙ f in
       rw now (
       ap (λ x. stack_at false None ms x (take m.first_seam seams) (take m.first_wrapper w) a) g ∙ stack-merged m ms s seams _ w a l ls before inside
       ∙ ap (λ (x : Level). record { inside = with_bytes l (der (under x.around (tree_of x.header x.content))) ∷ ls; pending = None; around = a }) level
@@ -230,7 +230,7 @@ module _ {p q : Option MarkPlace} {m : MarkPlace} (ms : List MarkPlace) (seams :
       ∙ ap (λ c. record { inside = with_bytes l (der (under o.around (tree_of o.header c))) ∷ ls; pending = None; around = a }) (sym (final_content-uncut o uncut))
 
 -- how long it is then
-pub count-uncut : (entered : Bool) {p : Option MarkPlace} {m : MarkPlace} (s q : List ℕ) (w : List Wrapper) (n : ℕ) → p ≡ Some m → length q ≤ m.first_seam → n ≡ length (der (under (drop m.first_wrapper w) (tree_of m.header (drop m.start s))))
+pub count-uncut : (entered : Bool) {p : Option MarkView} {m : MarkView} (s q : List ℕ) (w : List Wrapper) (n : ℕ) → p ≡ Some m → length q ≤ m.first_seam → n ≡ length (der (under (drop m.first_wrapper w) (tree_of m.header (drop m.start s))))
     → IfSome (pending_of entered p s q w) (λ l. n ≡ length (der (under l.around (tree_of l.header (final_content l)))))
 count-uncut true s q w n was none count = tt
 count-uncut false {p} {m} s q w n was none count =

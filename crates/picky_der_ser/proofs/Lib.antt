@@ -5,7 +5,7 @@ pub mod AbsentWrites
 pub mod HeaderBytes
 pub mod HeaderLoop
 pub mod LevelMarks
-pub mod MarkPlaces
+pub mod MarksAround
 pub mod LevelWrites
 pub mod StateWrites
 pub mod WrapWrites

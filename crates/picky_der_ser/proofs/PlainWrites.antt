@@ -66,7 +66,7 @@ module _ {W : Type 0} (g : Ghosts W) where
         wrote = tt;
         failed = record { failed = refl; again = rw f tt; first = rw f refused };
         outside = λ w. absurd (unwritable-by t past w);
-        past = λ n failed. (refl, refl);
+        refuses_unwritable = λ n failed. (refl, refl);
         counted = (omega arith, omega arith);
         goes_on = later;
       }

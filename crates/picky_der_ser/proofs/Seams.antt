@@ -12,7 +12,7 @@ use Rattle.picky_der_core.specs.Order.{is_less, in_ascending_order}
 use Rattle.picky_der_core.specs.OrderLaws.{IsSortedBy-one, in_ascending_order-same, in_ascending_order-sorted, length-in_ascending_order}
 use Rattle.picky_der_ser.specs.declared.header.Header.{Header}
 use Rattle.picky_der_ser.specs.Heading.{is_set}
-use Rattle.picky_der_ser.specs.Parts.{parts_from, parts, AreSeams, last_seam, next_seams}
+use Rattle.picky_der_ser.specs.Seams.{cut_from, cut_at_seams, AreSeams, last_seam, next_seams}
 
 pub last_seam-least : (start : ℕ) (ss : List ℕ) → AreSeams start ss → start ≤ last_seam start ss
 last_seam-least start [] h = omega arith
@@ -68,40 +68,40 @@ length-next_seams header ss n = by_test (is_set header && nat_lt 0 n)
     by_test true = omega (arith, length-append ss (n ∷ []))
     by_test false = omega arith
 
--- ---- a member behind the others is one part more
+-- ---- a member behind the others is cut off as one more
 
 between-front : (start s : ℕ) (c b : List ℕ) → s ≤ length c → between start s (c ++ b) ≡ between start s c
 between-front start s c b h = between_is (c ++ b) start s ∙ ap (drop start) (take-append-le s c b h) ∙ sym (between_is c start s)
 
-pub parts-push : (start : ℕ) (ss c b : List ℕ) → AreSeams start ss → last_seam start ss ≤ length c
-    → parts_from start (ss ++ (length c ∷ [])) (c ++ b) ≡ parts_from start ss c ++ (b ∷ [])
-parts-push start [] c b k h =
+pub cut_from-push : (start : ℕ) (ss c b : List ℕ) → AreSeams start ss → last_seam start ss ≤ length c
+    → cut_from start (ss ++ (length c ∷ [])) (c ++ b) ≡ cut_from start ss c ++ (b ∷ [])
+cut_from-push start [] c b k h =
     let front : between start (length c) (c ++ b) ≡ drop start c = between_is (c ++ b) start (length c) ∙ ap (drop start) (take-append_seam c b) in
     ap₂ (λ x y. x ∷ y ∷ []) front (drop-append_seam c b)
-parts-push start (s ∷ ss) c b k h =
+cut_from-push start (s ∷ ss) c b k h =
     let least = last_seam-least s ss k.1 in
-    ap₂ (λ x y. x ∷ y) (between-front start s c b (omega (arith, least, h))) (parts-push s ss c b k.1 h)
+    ap₂ (λ x y. x ∷ y) (between-front start s c b (omega (arith, least, h))) (cut_from-push s ss c b k.1 h)
 
--- ---- the parts are all of it
+-- ---- what was cut is all of it
 
-parts-concat : (start : ℕ) (ss c : List ℕ) → AreSeams start ss → last_seam start ss ≤ length c → concat (parts_from start ss c) ≡ drop start c
-parts-concat start [] c k h = append-nil (drop start c)
-parts-concat start (s ∷ ss) c k h =
+cut_from-concat : (start : ℕ) (ss c : List ℕ) → AreSeams start ss → last_seam start ss ≤ length c → concat (cut_from start ss c) ≡ drop start c
+cut_from-concat start [] c k h = append-nil (drop start c)
+cut_from-concat start (s ∷ ss) c k h =
     let first = k.0 in
     let least = last_seam-least s ss k.1 in
     let size = length-take-le s c (omega (arith, least, h)) in
     let seam = drop-append-le start (take s c) (drop s c) (omega (arith, first, size)) in
-    ap₂ (λ x y. x ++ y) (between_is c start s) (parts-concat s ss c k.1 h) ∙ sym seam ∙ ap (drop start) (take-append-drop s c)
+    ap₂ (λ x y. x ++ y) (between_is c start s) (cut_from-concat s ss c k.1 h) ∙ sym seam ∙ ap (drop start) (take-append-drop s c)
 
-pub length-arranged_parts : (ss c : List ℕ) → AreSeams 0 ss → last_seam 0 ss ≤ length c → length (concat (in_ascending_order (parts ss c))) ≡ length c
-length-arranged_parts ss c k h = length-in_ascending_order (parts ss c) ∙ ap length (parts-concat 0 ss c k h)
+pub length-in_order : (ss c : List ℕ) → AreSeams 0 ss → last_seam 0 ss ≤ length c → length (concat (in_ascending_order (cut_at_seams ss c))) ≡ length c
+length-in_order ss c k h = length-in_ascending_order (cut_at_seams ss c) ∙ ap length (cut_from-concat 0 ss c k h)
 
 -- what isn't cut stays as it is
-pub in_ascending_order-uncut : (ss c : List ℕ) → length ss ≡ 0 → concat (in_ascending_order (parts ss c)) ≡ c
+pub in_ascending_order-uncut : (ss c : List ℕ) → length ss ≡ 0 → concat (in_ascending_order (cut_at_seams ss c)) ≡ c
 in_ascending_order-uncut [] c h = ap concat (in_ascending_order-same (c ∷ []) (IsSortedBy-one is_less c)) ∙ append-nil c
 in_ascending_order-uncut (s ∷ ss) c h = absurd (omega (arith, h))
 
--- ---- what a sort of the parts gives, one behind the other
+-- ---- what a sort of what was cut gives, one behind the other
 
 pub joined-sorted : (xs ys : List (Bor (List ℕ))) (all : List (List ℕ)) (r : Result (Vec ℕ Global) AllocError)
     → map (λ x. x.now) xs ≡ all → IsPermutation xs ys → IsSortedByKey (λ x. x.now) (slice_cmp nat_cmp) ys

@@ -10,9 +10,9 @@ use Rattle.picky_der_core.specs.OrderLaws.{without_empty, in_ascending_order-wit
 use Rattle.picky_der_ser.specs.declared.header.Header.{Header}
 use Rattle.picky_der_ser.specs.declared.header.Header.TheVariants.{Tagged}
 use Rattle.picky_der_ser.specs.Heading.{is_set}
-use Rattle.picky_der_ser.specs.Parts.{parts, AreSeams, last_seam, next_seams}
+use Rattle.picky_der_ser.specs.Seams.{cut_at_seams, AreSeams, last_seam, next_seams}
 use Rattle.picky_der_ser.specs.State.{Level, with_member, with_members, final_content, in_order}
-use Rattle.picky_der_ser.proofs.Seams.{last_seam-push, seams-push, parts-push, in_ascending_order-uncut}
+use Rattle.picky_der_ser.proofs.Seams.{last_seam-push, seams-push, cut_from-push, in_ascending_order-uncut}
 
 -- what isn't cut stays as it is
 pub final_content-uncut : (l : Level) → l.seams ≡ [] → final_content l ≡ l.content
@@ -21,60 +21,60 @@ final_content-uncut l e = in_ascending_order-uncut l.seams l.content (ap length 
 pub in_order-uncut : (l : Level) → l.seams ≡ [] → l ≡ in_order l
 in_order-uncut l e = ap₂ (λ c ss. record l { content = c; seams = ss }) (sym (final_content-uncut l e)) e
 
--- ---- members of a set: those that aren't empty are the parts of the content that aren't
+-- ---- members of a set: those that aren't empty are what stands between seams and isn't
 
-record Holds (seams content : List ℕ) (members : List (List ℕ)) : Type 0 where
+record SeamsDivide (seams content : List ℕ) (members : List (List ℕ)) : Type 0 where
   pub ascending : AreSeams 0 seams
   pub within : last_seam 0 seams ≤ length content
   pub first : content ≡ [] → seams ≡ []
-  pub same : without_empty (parts seams content) ≡ without_empty members
+  pub same : without_empty (cut_at_seams seams content) ≡ without_empty members
 
 without_empty-append : (xs ys : List (List ℕ)) → without_empty (xs ++ ys) ≡ without_empty xs ++ without_empty ys
 without_empty-append [] ys = refl
 without_empty-append ([] ∷ xs) ys = without_empty-append xs ys
 without_empty-append ((b ∷ a) ∷ xs) ys = ap (λ l. (b ∷ a) ∷ l) (without_empty-append xs ys)
 
-holds_first : (b : List ℕ) (members : List (List ℕ)) → without_empty members ≡ [] → Holds [] b (members ++ (b ∷ []))
-holds_first b members none = record {
+seams_divide_first : (b : List ℕ) (members : List (List ℕ)) → without_empty members ≡ [] → SeamsDivide [] b (members ++ (b ∷ []))
+seams_divide_first b members none = record {
   ascending = tt;
   within = omega arith;
   first = λ _. refl;
   same = ap (λ l. l ++ without_empty (b ∷ [])) (sym none) ∙ sym (without_empty-append members (b ∷ []));
 }
 
-holds_more : (x : ℕ) (ss c b : List ℕ) (members : List (List ℕ)) → Holds ss (x ∷ c) members
-    → Holds (ss ++ (length (x ∷ c) ∷ [])) (x ∷ c ++ b) (members ++ (b ∷ []))
-holds_more x ss c b members h =
+seams_divide_more : (x : ℕ) (ss c b : List ℕ) (members : List (List ℕ)) → SeamsDivide ss (x ∷ c) members
+    → SeamsDivide (ss ++ (length (x ∷ c) ∷ [])) (x ∷ c ++ b) (members ++ (b ∷ []))
+seams_divide_more x ss c b members h =
     let last = last_seam-push 0 ss (length (x ∷ c)) in
     let size = length-append (x ∷ c) b in
     record {
       ascending = seams-push 0 ss (length (x ∷ c)) h.within h.ascending;
       within = omega (arith, last, size);
       first = λ e. cc;
-      same = ap without_empty (parts-push 0 ss (x ∷ c) b h.ascending h.within) ∙ without_empty-append (parts ss (x ∷ c)) (b ∷ [])
+      same = ap without_empty (cut_from-push 0 ss (x ∷ c) b h.ascending h.within) ∙ without_empty-append (cut_at_seams ss (x ∷ c)) (b ∷ [])
           ∙ ap (λ l. l ++ without_empty (b ∷ [])) h.same ∙ sym (without_empty-append members (b ∷ []));
     }
 
-holds_next : (header : Header) (ss c b : List ℕ) (members : List (List ℕ)) → is_set header ≡ true → Holds ss c members
-    → Holds (next_seams header ss (length c)) (c ++ b) (members ++ (b ∷ []))
-holds_next header ss [] b members e h =
+seams_divide_next : (header : Header) (ss c b : List ℕ) (members : List (List ℕ)) → is_set header ≡ true → SeamsDivide ss c members
+    → SeamsDivide (next_seams header ss (length c)) (c ++ b) (members ++ (b ∷ []))
+seams_divide_next header ss [] b members e h =
     let none = h.first refl in
     let seams : next_seams header ss 0 ≡ [] = ap (λ t. cond (t && nat_lt 0 0) (ss ++ (0 ∷ [])) ss) e ∙ none in
-    let empty : without_empty members ≡ [] = sym h.same ∙ ap (λ l. without_empty (parts l [])) none in
-    subst (λ l. Holds l b (members ++ (b ∷ []))) (sym seams) (holds_first b members empty)
-holds_next header ss (x ∷ c) b members e h =
+    let empty : without_empty members ≡ [] = sym h.same ∙ ap (λ l. without_empty (cut_at_seams l [])) none in
+    subst (λ l. SeamsDivide l b (members ++ (b ∷ []))) (sym seams) (seams_divide_first b members empty)
+seams_divide_next header ss (x ∷ c) b members e h =
     let n = length (x ∷ c) in
     let more = ap (λ t. cond t (ss ++ (n ∷ [])) ss) (lt-ltb 0 n (omega arith)) in
     let seams : next_seams header ss n ≡ ss ++ (n ∷ []) = ap (λ t. cond (t && nat_lt 0 n) (ss ++ (n ∷ [])) ss) e ∙ more in
-    subst (λ l. Holds l (x ∷ c ++ b) (members ++ (b ∷ []))) (sym seams) (holds_more x ss c b members h)
+    subst (λ l. SeamsDivide l (x ∷ c ++ b) (members ++ (b ∷ []))) (sym seams) (seams_divide_more x ss c b members h)
 
-holds_all : (l : Level) (members bs : List (List ℕ)) → is_set l.header ≡ true → Holds l.seams l.content members
-    → let m = with_members l bs in Holds m.seams m.content (members ++ bs)
-holds_all l members [] e h = subst (Holds l.seams l.content) (sym (append-nil members)) h
-holds_all l members (b ∷ bs) e h =
+seams_divide_all : (l : Level) (members bs : List (List ℕ)) → is_set l.header ≡ true → SeamsDivide l.seams l.content members
+    → let m = with_members l bs in SeamsDivide m.seams m.content (members ++ bs)
+seams_divide_all l members [] e h = subst (SeamsDivide l.seams l.content) (sym (append-nil members)) h
+seams_divide_all l members (b ∷ bs) e h =
     let m = with_members l (b ∷ bs) in
-    let next = holds_next l.header l.seams l.content b members e h in
-    subst (Holds m.seams m.content) (append_assoc members (b ∷ []) bs) (holds_all (with_member l b) (members ++ (b ∷ [])) bs e next)
+    let next = seams_divide_next l.header l.seams l.content b members e h in
+    subst (SeamsDivide m.seams m.content) (append_assoc members (b ∷ []) bs) (seams_divide_all (with_member l b) (members ++ (b ∷ [])) bs e next)
 
 -- ---- members of a level that isn't cut
 
@@ -115,6 +115,6 @@ final_content-members ListKind.sequence around bs =
 final_content-members ListKind.set around bs =
     let l = list_level ListKind.set around in
     let m = with_members l bs in
-    let start : Holds [] [] [] = record { ascending = tt; within = omega arith; first = λ _. refl; same = refl } in
-    let all = holds_all l [] bs refl start in
-    in_ascending_order-without_empty (parts m.seams m.content) ∙ ap (λ x. concat (in_ascending_order x)) all.same ∙ sym (in_ascending_order-without_empty bs)
+    let start : SeamsDivide [] [] [] = record { ascending = tt; within = omega arith; first = λ _. refl; same = refl } in
+    let all = seams_divide_all l [] bs refl start in
+    in_ascending_order-without_empty (cut_at_seams m.seams m.content) ∙ ap (λ x. concat (in_ascending_order x)) all.same ∙ sym (in_ascending_order-without_empty bs)

@@ -65,7 +65,7 @@ module _ {W : Type 0} (g : Ghosts W) where
     wrote = writes_outside t old new n f i (x ∙ j) a.0 (a.1 ∙ f) (subst (λ v. SinkWrites g (under old.around t) old.sink n v) (sym same) h) (ap g.faults same ∙ q);
     failed = tt;
     outside = tt;
-    past = λ no. absurd (no w);
+    refuses_unwritable = λ no. absurd (no w);
     counted = subst (λ v. IsOnceAtMost (g.faults old.sink) (g.faults v)) (sym same) c;
     goes_on = subst (g.later old.sink) (sym same) l;
   })
@@ -73,16 +73,16 @@ module _ {W : Type 0} (g : Ghosts W) where
     wrote = tt;
     failed = fails_outside t old new e f i b (subst (λ v. SinkRefuses g (under old.around t) old.sink e v) (sym same) k);
     outside = λ p y z bare. subst (λ v. WriterFails g old.sink e v) (sym same) (m bare);
-    past = λ no. absurd (no w);
+    refuses_unwritable = λ no. absurd (no w);
     counted = subst (λ v. IsOnceAtMost (g.faults old.sink) (g.faults v)) (sym same) c;
     goes_on = subst (g.later old.sink) (sym same) l;
   })
 
   pub plain_inside : (t : Tree) (old new : State W) (n : ℕ) → IsWritable t → Writes g t old n new → IsOnceAtMost (g.faults old.sink) (g.faults new.sink) → g.later old.sink new.sink → WritesPlain g t old (Ok n) new
-  plain_inside t old new n w h c l = record { wrote = h; failed = tt; outside = tt; past = λ no. absurd (no w); counted = c; goes_on = l }
+  plain_inside t old new n w h c l = record { wrote = h; failed = tt; outside = tt; refuses_unwritable = λ no. absurd (no w); counted = c; goes_on = l }
 
   pub plain_refused : (t : Tree) (old new : State W) (e : Asn1DerError) → IsWritable t → old.inside ≢ [] → RefusesWrite g t old e new → IsOnceAtMost (g.faults old.sink) (g.faults new.sink) → g.later old.sink new.sink → WritesPlain g t old (Err e) new
-  plain_refused t old new e w some h c l = record { wrote = tt; failed = h; outside = λ x y inside around. absurd (some inside); past = λ no. absurd (no w); counted = c; goes_on = l }
+  plain_refused t old new e w some h c l = record { wrote = tt; failed = h; outside = λ x y inside around. absurd (some inside); refuses_unwritable = λ no. absurd (no w); counted = c; goes_on = l }
 
   -- without wrappers, the sink took an element
   pub bare_wrote : (t : Tree) (ws : List Wrapper) (bs : List ℕ) (old new : W) (r : Result ℕ Asn1DerError) → ws ≡ [] → IsWritable t → bs ≡ der t → IfOk r (λ n. n ≡ length bs) → OnOk r (Appends (g.written old) (g.written new) bs) → IfOk r (λ n. SinkWrites g (under ws t) old n new)

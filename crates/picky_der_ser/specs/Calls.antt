@@ -96,7 +96,7 @@ module _ {W : Type 0} (g : Ghosts W) where
     pub wrote : IfOk r (λ n. Writes t old n new)
     pub failed : IfErr r (λ e. RefusesWrite t old e new)
     pub outside : IfErr r (λ e. OnlySinkFails t old e new)
-    pub past : RefusesUnwritable t old r new
+    pub refuses_unwritable : RefusesUnwritable t old r new
     pub counted : IsOnceAtMost (g.faults old.sink) (g.faults new.sink)
     pub goes_on : g.later old.sink new.sink
 

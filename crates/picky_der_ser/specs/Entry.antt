@@ -2,7 +2,7 @@
 use Rattle.std.specs.Prelude.{◌≡◌, ℕ, ◌<◌, List, [], ◌++◌, length, take, drop}
 use Rattle.picky_der_core.specs.declared.error.Asn1DerError.{Asn1DerError}
 use Rattle.picky_der_core.specs.declared.error.Asn1DerError.TheVariants.{UnsupportedValue, InvalidSink, OutOfMemory}
-use Rattle.picky_der_core.specs.Element.{Begins}
+use Rattle.picky_der_core.specs.Element.{IsPrefix}
 use Rattle.picky_der_core.specs.Tree.{Tree}
 use Rattle.picky_der_core.specs.Encoding.{der}
 use Rattle.picky_der_core.specs.Readable.{IsWritable}
@@ -18,7 +18,7 @@ pub record Overwrites (t : Tree) (old : List ℕ) (n : ℕ) (new : List ℕ) : T
 -- A beginning of the encoding was written over a vector, and why no more. Nothing is written of a tree that can't be.
 pub record VecRefuses (t : Tree) (old : List ℕ) (e : Asn1DerError) (new : List ℕ) : Type 0 where
   pub front : List ℕ
-  pub begins : Begins front (der t)
+  pub begins : IsPrefix front (der t)
   pub holds : new ≡ front ++ drop (length front) old
   pub nothing : e ≡ UnsupportedValue → front ≡ []
   pub excuse : MemoryExcuse (IsWritable t) e

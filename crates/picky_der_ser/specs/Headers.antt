@@ -3,7 +3,7 @@ use Rattle.std.specs.Prelude.{ℕ, suc, ◌+◌, ⊤, List, [], ◌∷◌, ◌++
 use Rattle.std.specs.Option.{unwrap_or}
 use Rattle.picky_der_core.specs.declared.asn1.wrapper.Wrapper.{Wrapper}
 use Rattle.picky_der_core.specs.declared.asn1.wrapper.Wrapper.TheVariants.{OctetContainer, BitContainer, Explicit, Implicit}
-use Rattle.picky_der_core.specs.Element.{len}
+use Rattle.picky_der_core.specs.Element.{length_octets}
 use Rattle.picky_der_core.specs.Tag.{IsTagNumber, number_of}
 use Rattle.picky_der_core.specs.Wrapper.{HasTagNumber}
 use Rattle.picky_der_ser.specs.declared.header.Header.{Header}
@@ -11,15 +11,15 @@ use Rattle.picky_der_ser.specs.declared.header.Header.TheVariants.{Tagged, Appli
 
 -- what a wrapper puts in front of n bytes; that of a bit string is followed by the count of its unused bits
 abbrev pub wrapper_opening : Wrapper → ℕ → List ℕ
-wrapper_opening OctetContainer n = 0x04 ∷ len n
-wrapper_opening BitContainer n = 0x03 ∷ (len (suc n) ++ (0x00 ∷ []))
-wrapper_opening (Explicit k) n = (0xA0 + k) ∷ len n
-wrapper_opening (Implicit k) n = (0x80 + k) ∷ len n
+wrapper_opening OctetContainer n = 0x04 ∷ length_octets n
+wrapper_opening BitContainer n = 0x03 ∷ (length_octets (suc n) ++ (0x00 ∷ []))
+wrapper_opening (Explicit k) n = (0xA0 + k) ∷ length_octets n
+wrapper_opening (Implicit k) n = (0x80 + k) ∷ length_octets n
 
 -- the header of n bytes
 abbrev pub own_header : Header → ℕ → List ℕ
-own_header (Tagged tag) n = tag ∷ len n
-own_header (Application k) n = (0x60 + k) ∷ len n
+own_header (Tagged tag) n = tag ∷ length_octets n
+own_header (Application k) n = (0x60 + k) ∷ length_octets n
 own_header Raw n = []
 
 -- the wrappers, the outermost first, in front of these bytes and n more

@@ -1,8 +1,8 @@
 pub mod Heading
 pub mod Headers
-pub mod Parts
+pub mod Seams
 pub mod Wrappers
-pub mod Places
+pub mod MarkViews
 pub mod Marks
 pub mod Overwrite
 pub mod State

@@ -15,9 +15,9 @@ abbrev pub list_kind : ℕ → ListKind
 list_kind tag = if nat_eq tag 0x31 then ListKind.set else ListKind.sequence
 
 -- unless the serializer has failed, a level is open
-abbrev pub IsOpen : Option Failure → Option Level → Type 0
-IsOpen failed pending = IfNone failed (IsSome pending)
+abbrev pub HasOpenLevel : Option Failure → Option Level → Type 0
+HasOpenLevel failed pending = IfNone failed (IsSome pending)
 
-pub IsOpen-prop : (failed : Option Failure) (pending : Option Level) → IsProp (IsOpen failed pending)
-IsOpen-prop None pending = Bool-set _ _
-IsOpen-prop (Some failure) pending = Unit-prop
+pub HasOpenLevel-prop : (failed : Option Failure) (pending : Option Level) → IsProp (HasOpenLevel failed pending)
+HasOpenLevel-prop None pending = Bool-set _ _
+HasOpenLevel-prop (Some failure) pending = Unit-prop

@@ -11,7 +11,7 @@ use Rattle.picky_der_ser.specs.declared.header.Header.{Header}
 use Rattle.picky_der_ser.specs.declared.header.Header.TheVariants.{Raw}
 use Rattle.picky_der_ser.specs.contracts.header.Header as header
 use Rattle.picky_der_ser.specs.Headers.{HasNumber, HaveTagNumbers}
-use Rattle.picky_der_ser.specs.Parts.{parts, next_seams}
+use Rattle.picky_der_ser.specs.Seams.{cut_at_seams, next_seams}
 
 -- a level: a sequence, set or application tag that is open
 pub record Level : Type 0 where
@@ -54,7 +54,7 @@ with_members l (b ∷ members) = with_members (with_member l b) members
 
 -- what is written of a level: its content, of a set with the members in ascending order (X.690, 11.6)
 abbrev pub final_content : Level → List ℕ
-final_content l = concat (in_ascending_order (parts l.seams l.content))
+final_content l = concat (in_ascending_order (cut_at_seams l.seams l.content))
 
 -- the level once its content is that
 abbrev pub in_order : Level → Level

@@ -1,7 +1,7 @@
 //! What stands in front of a content that is being written: the headers of the wrappers around it, and its own.
 ghost use Rattle.std.specs.Prelude.{◌≡◌, ◌+◌, ◌^◌, ◌<◌, ◌≤◌, ◌∷◌, ◌++◌, reverse, take, drop, vec_len};
 ghost use Rattle.std.specs.Prelude.{[], IfSome, IsSome, OnOk};
-ghost use Rattle.picky_der_core.specs.Element.{len as bytes_of};
+ghost use Rattle.picky_der_core.specs.Element.{length_octets};
 ghost use Rattle.picky_der_core.specs.Equality.{IsEqualityOf};
 ghost use Rattle.picky_der_core.specs.Wrapper.{HasTagNumber};
 ghost use Rattle.picky_der_ser.specs.Heading.{is_set};
@@ -45,7 +45,7 @@ impl Header {
 
 // Adds a tag and a length, the last byte first.
 fn push_back_to_front(out: &mut Vec<u8>, tag: Tag, len: usize) -> Result<(), AllocError>
-    ensures ok { OnOk result (out.new.items ≡ out.old.items ++ reverse (tag ∷ bytes_of len)) }
+    ensures ok { OnOk result (out.new.items ≡ out.old.items ++ reverse (tag ∷ length_octets len)) }
     ensures grows { vec_len out.old ≤ vec_len out.new }
 {
     let mut bytes = Length::bytes(len);
@@ -57,7 +57,7 @@ fn push_back_to_front(out: &mut Vec<u8>, tag: Tag, len: usize) -> Result<(), All
 
 // Adds a tag and a length.
 fn push_tag_and_length(out: &mut Vec<u8>, tag: Tag, len: usize) -> Result<(), AllocError>
-    ensures ok { OnOk result (out.new.items ≡ out.old.items ++ (tag ∷ bytes_of len)) }
+    ensures ok { OnOk result (out.new.items ≡ out.old.items ++ (tag ∷ length_octets len)) }
     ensures grows { vec_len out.old ≤ vec_len out.new }
 {
     out.push(tag.inner())?;

@@ -4,7 +4,7 @@ use crate::{Sequence, SerializeMember, SerializeMembers};
 use picky_der_core::Result;
 use picky_der_core::misc::WriteExt;
 
-// Members by reference, the last place for those behind them. All references have one lifetime: the checker refuses a type
+// Members by reference, the last one for those behind them. All references have one lifetime: the checker refuses a type
 // argument that names several.
 #[derive(Drop)]
 pub(crate) struct One<'a, A, Z>(pub(crate) &'a A, pub(crate) &'a Z);

@@ -43,7 +43,7 @@ pub(crate) struct Levels {
 impl Model for Levels {
     ghost use Rattle.std.specs.Prelude.{length};
     ghost use Rattle.picky_der_ser.specs.State.{Stack, stack_code};
-    ghost use Rattle.picky_der_ser.specs.Places.{place_of_mark};
+    ghost use Rattle.picky_der_ser.specs.MarkViews.{view_of_mark};
     ghost use Rattle.picky_der_ser.specs.Marks.{inside_of, pending_of, with_pending, AreMarks, HasRoom};
 
     ghost Value = { Stack };
@@ -51,17 +51,17 @@ impl Model for Levels {
     ghost coded = { stack_code };
 
     ghost view = { λ s. record {
-      inside = inside_of s.entered (place_of_mark s.innermost) s.marks.places s.scratch.items s.seams.items s.wrappers.of_levels;
-      pending = pending_of s.entered (place_of_mark s.innermost) s.scratch.items s.seams.items s.wrappers.of_levels;
+      inside = inside_of s.entered (view_of_mark s.innermost) s.marks.views s.scratch.items s.seams.items s.wrappers.of_levels;
+      pending = pending_of s.entered (view_of_mark s.innermost) s.scratch.items s.seams.items s.wrappers.of_levels;
       around = s.wrappers.around;
     } };
 
-    ghost invariant = { λ s. AreMarks (with_pending (place_of_mark s.innermost) s.marks.places)
+    ghost invariant = { λ s. AreMarks (with_pending (view_of_mark s.innermost) s.marks.views)
         (length s.scratch.items) s.seams.items s.wrappers.of_levels
-        × HasRoom s.entered (place_of_mark s.innermost) s.marks.places s.marks.spare };
+        × HasRoom s.entered (view_of_mark s.innermost) s.marks.views s.marks.spare };
 }
 
-// Drops the bytes in front of this place.
+// Drops the bytes before this index.
 #[cold]
 #[inline(never)]
 fn drop_front(out: &mut Vec<u8>, start: usize)
@@ -341,7 +341,12 @@ impl Levels {
     {
         self.give_up();
         let start = self.scratch.len();
-        push_enclosed(&mut self.scratch, self.wrappers.open(), header, content)?;
+        push_enclosed(
+            &mut self.scratch,
+            self.wrappers.open_wrappers(),
+            header,
+            content,
+        )?;
         Ok(self.scratch.len() - start)
     }
 

@@ -1,6 +1,6 @@
 //! The marks of the levels around the innermost one.
 ghost use Rattle.std.specs.Prelude.{◌≡◌, ◌≢◌, ◌<◌, ◌≤◌, [], ◌∷◌, true, false, None, IfSome, IfNone, OnOk};
-ghost use Rattle.picky_der_ser.specs.Places.{mark_place, place_of_mark, root_place};
+ghost use Rattle.picky_der_ser.specs.MarkViews.{mark_view, view_of_mark, root_view};
 ghost use Rattle.picky_der_ser.specs.Marks.{with_pending};
 
 use crate::Header;
@@ -39,14 +39,14 @@ pub(crate) struct Marks {
 
 impl Model for Marks {
     ghost use Rattle.std.specs.Prelude.{◌+◌, ◌-◌, vec_len, vec_capacity};
-    ghost use Rattle.picky_der_ser.specs.Places.{MarksAround, marks_around_code, places_of, spare_slot, IsFilled};
+    ghost use Rattle.picky_der_ser.specs.MarkViews.{MarksAround, marks_around_code, views_of, spare_slot, IsFilled};
 
     ghost Value = { MarksAround };
 
     ghost coded = { marks_around_code };
 
     ghost view = { λ s. record {
-      places = places_of s.rooted s.first s.second s.others.items;
+      views = views_of s.rooted s.first s.second s.others.items;
       spare = spare_slot s.first + spare_slot s.second + (vec_capacity s.others - vec_len s.others);
     } };
 
@@ -55,7 +55,7 @@ impl Model for Marks {
 
 impl Marks {
     pub(crate) fn new(alloc: Global) -> Marks
-        ensures { result.places ≡ [] }
+        ensures { result.views ≡ [] }
     {
         Marks {
             rooted: false,
@@ -68,7 +68,7 @@ impl Marks {
     // With that of a root alone. In line, so that they are made where they will stand.
     #[inline(always)]
     pub(crate) fn new_in_root(alloc: Global) -> Marks
-        ensures { result.places ≡ root_place ∷ [] }
+        ensures { result.views ≡ root_view ∷ [] }
     {
         Marks {
             rooted: true,
@@ -79,15 +79,15 @@ impl Marks {
     }
 
     pub(crate) fn is_empty(&self) -> bool
-        ensures yes { result ≡ true → self.now.places ≡ [] }
-        ensures no { result ≡ false → self.now.places ≢ [] }
+        ensures yes { result ≡ true → self.now.views ≡ [] }
+        ensures no { result ≡ false → self.now.views ≢ [] }
     {
         !self.rooted && self.first.is_none()
     }
 
     // Whether there is no mark but a root's.
     pub(crate) fn is_only_root(&self) -> bool
-        ensures { result ≡ true → self.now.places ≡ root_place ∷ [] }
+        ensures { result ≡ true → self.now.views ≡ root_view ∷ [] }
     {
         self.rooted && self.first.is_none()
     }
@@ -101,7 +101,7 @@ impl Marks {
 
     // Makes room for one more.
     pub(crate) fn reserve_one(&mut self) -> Result<(), AllocError>
-        ensures same { self.new.places ≡ self.old.places }
+        ensures same { self.new.views ≡ self.old.views }
         ensures ok { OnOk result (0 < self.new.spare) }
         ensures grows { self.old.spare ≤ self.new.spare }
     {
@@ -114,7 +114,7 @@ impl Marks {
     // Puts the mark behind the others, if there is one.
     pub(crate) fn set_aside(&mut self, innermost: &mut Option<Mark>)
         requires { 0 < self.old.spare }
-        ensures places { self.new.places ≡ with_pending (place_of_mark innermost.old) self.old.places }
+        ensures views { self.new.views ≡ with_pending (view_of_mark innermost.old) self.old.views }
         ensures taken { innermost.new ≡ None }
     {
         if let Some(mark) = innermost.take() {
@@ -131,9 +131,9 @@ impl Marks {
     // Takes the last mark out, to where none is.
     pub(crate) fn bring_back(&mut self, innermost: &mut Option<Mark>)
         requires { innermost.old ≡ None }
-        ensures some { IfSome innermost.new (λ mark. self.old.places
-            ≡ mark_place mark ∷ self.new.places) }
-        ensures none { IfNone innermost.new ((self.old.places ≡ []) × (self.new.places ≡ [])) }
+        ensures some { IfSome innermost.new (λ mark. self.old.views
+            ≡ mark_view mark ∷ self.new.views) }
+        ensures none { IfNone innermost.new ((self.old.views ≡ []) × (self.new.views ≡ [])) }
     {
         if !self.others.is_empty() {
             *innermost = self.others.pop();

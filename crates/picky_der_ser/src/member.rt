@@ -1,4 +1,4 @@
-//! One place of a row: a member that is always there, or one that may be absent.
+//! One member of a row: it is always there, or it may be absent.
 ghost use Rattle.std.specs.Prelude.{◌≡◌, IfErr, OnOk};
 ghost use Rattle.picky_der_core.specs.Tree.{Trees};
 ghost use Rattle.picky_der_ser.specs.Calls.{AddsInFront, RefusesInFront};
@@ -7,7 +7,7 @@ use crate::{Sequence, Serialize};
 use picky_der_core::Result;
 use picky_der_core::misc::WriteExt;
 
-/// A place of a row: a value, which is always there, or a member that may be absent.
+/// A member of a row: a value, which is always there, or one that may be absent.
 pub trait SerializeMember {
     ghost use Rattle.picky_der_ser.specs.SequenceState.{borrowed_by, state_of};
 

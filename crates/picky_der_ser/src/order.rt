@@ -2,7 +2,7 @@
 ghost use Rattle.std.specs.Prelude.{◌≡◌, ◌≤◌, ◌+◌, ◌++◌, length, map, take, drop, vec_len, IfOk, OnOk, OnErr};
 ghost use Rattle.std.specs.List.{concat};
 ghost use Rattle.picky_der_core.specs.Order.{in_ascending_order};
-ghost use Rattle.picky_der_ser.specs.Parts.{parts, AreSeams, last_seam, next_seams};
+ghost use Rattle.picky_der_ser.specs.Seams.{cut_at_seams, AreSeams, last_seam, next_seams};
 
 use crate::Header;
 use std::alloc::{AllocError, Global};
@@ -27,7 +27,7 @@ fn cut<'a>(content: &'a [u8], seams: &[usize], alloc: Global) -> Result<Vec<&'a 
     requires ascending { AreSeams 0 seams.now }
     requires within { last_seam 0 seams.now ≤ length content.now }
     ensures { IfOk result (λ members. map (λ m. m.now) members.items
-        ≡ parts seams.now content.now) }
+        ≡ cut_at_seams seams.now content.now) }
 {
     let mut members = Vec::new(alloc);
     let mut start = 0;
@@ -39,18 +39,18 @@ fn cut<'a>(content: &'a [u8], seams: &[usize], alloc: Global) -> Result<Vec<&'a 
     Ok(members)
 }
 
-// The parts of the content in ascending order, one behind the other.
+// The members of the content in ascending order, one behind the other.
 fn sorted_content(content: &[u8], seams: &[usize], alloc: Global) -> Result<Vec<u8>, AllocError>
     requires ascending { AreSeams 0 seams.now }
     requires within { last_seam 0 seams.now ≤ length content.now }
-    ensures { IfOk result (λ all. all.items ≡ concat (in_ascending_order (parts seams.now content.now))) }
+    ensures { IfOk result (λ all. all.items ≡ concat (in_ascending_order (cut_at_seams seams.now content.now))) }
 {
     let mut members = cut(content, seams, alloc)?;
     members.sort()?;
     members.concat(alloc)
 }
 
-// Puts the parts of what stands from `start` on in ascending order. Most of what ends has but one part and doesn't come here,
+// Puts the members of what stands from `start` on in ascending order. Most of what ends has no seam and doesn't come here,
 // so this stays out of line.
 #[inline(never)]
 pub(crate) fn arrange(
@@ -62,7 +62,7 @@ pub(crate) fn arrange(
     requires ascending { AreSeams 0 seams.now }
     requires within { start + last_seam 0 seams.now ≤ vec_len out.old }
     ensures ok { OnOk result (out.new.items ≡ take start out.old.items ++ concat
-        (in_ascending_order (parts seams.now (drop start out.old.items)))) }
+        (in_ascending_order (cut_at_seams seams.now (drop start out.old.items)))) }
     ensures len { vec_len out.new ≡ vec_len out.old }
 {
     let members = sorted_content(&out[start..], seams, alloc)?;

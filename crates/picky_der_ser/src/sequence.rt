@@ -1,7 +1,7 @@
 //! Sequences and sets that are being written (X.690, 8.9 to 8.12).
 ghost use Rattle.std.specs.Prelude.{◌≡◌, IfErr, OnOk};
 ghost use Rattle.picky_der_ser.specs.Calls.{OpensLevel, AddsMember, RefusesToAdd, EndsLevel};
-ghost use Rattle.picky_der_ser.specs.Sequences.{IsListTag, IsOpen, IsOpen-prop};
+ghost use Rattle.picky_der_ser.specs.Sequences.{IsListTag, HasOpenLevel, HasOpenLevel-prop};
 
 use crate::{Header, Serialize, Serializer};
 use picky_der_core::Result;
@@ -14,7 +14,7 @@ use picky_der_core::misc::WriteExt;
 pub struct Sequence<'a, W: WriteExt> {
     ser: &'a mut Serializer<W>,
     // Unless the serializer has failed, a level is open.
-    ghost open: { IsOpen ser.now.failed ser.now.pending } by { IsOpen-prop ser.now.failed ser.now.pending },
+    ghost open: { HasOpenLevel ser.now.failed ser.now.pending } by { HasOpenLevel-prop ser.now.failed ser.now.pending },
 }
 
 impl<'a, W: WriteExt> Sequence<'a, W> {

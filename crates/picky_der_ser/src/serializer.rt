@@ -76,7 +76,7 @@ impl<W: WriteExt> Model for Serializer<W> {
 impl<'a> Serializer<SliceSink<'a>> {
     ghost use Rattle.picky_der_core.specs.SliceSink.{slice_of, filled_of, faults_of};
 
-    /// Fills a slice from its first place on, and then takes nothing.
+    /// Fills a slice from its first byte on, and then takes nothing.
     pub fn new_to_bytes(alloc: Global, buf: &'a mut [u8]) -> Serializer<SliceSink<'a>>
         ensures same_reference { (slice_of result.sink).ghost_name ≡ buf.entry.ghost_name }
         ensures same { (slice_of result.sink).now ≡ buf.old }
@@ -125,7 +125,7 @@ impl<'a> Serializer<SliceSink<'a>> {
 impl<'a> Serializer<BufSink<'a>> {
     ghost use Rattle.picky_der_core.specs.Sink.{vector_of, position_of, faults_of};
 
-    /// Writes over a vector from its first place on, and then appends to it.
+    /// Writes over a vector from its first byte on, and then appends to it.
     pub fn new_to_byte_buf(alloc: Global, buf: &'a mut Vec<u8>) -> Serializer<BufSink<'a>>
         ensures same_reference { (vector_of result.sink).ghost_name ≡ buf.entry.ghost_name }
         ensures same { (vector_of result.sink).now ≡ buf.old }

@@ -49,7 +49,7 @@ impl Wrappers {
     }
 
     // The open ones, the outermost first.
-    pub(crate) fn open(&self) -> &[Wrapper]
+    pub(crate) fn open_wrappers(&self) -> &[Wrapper]
         ensures same { result.now ≡ self.now.around }
         ensures numbers { HaveTagNumbers self.now.around }
     {
@@ -79,7 +79,7 @@ impl Wrappers {
 
     // The open ones stand around a level from here on. Answers where they begin.
     pub(crate) fn take(&mut self) -> usize
-        ensures place { result ≡ length self.old.of_levels }
+        ensures count { result ≡ length self.old.of_levels }
         ensures taken { self.new ≡ record {
           of_levels = self.old.of_levels ++ self.old.around;
           around = [];

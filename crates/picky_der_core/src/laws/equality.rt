@@ -17,7 +17,7 @@ pub fn bytes<const TAG: u8>()
     ensures tagged { IsEqualityOf ⟦<TaggedBytes<TAG> as PartialEq>⟧.eq (λ tagged. tagged.0.items) }
 {}
 
-/// Lists are equal just where they are as long and each two values at one place are equal.
+/// Lists are equal just where they are as long and each two values at one index are equal.
 pub fn lists<T: PartialEq>()
     ensures sequence { IsThatOf ⟦<Asn1SequenceOf<T> as PartialEq>⟧.eq (λ list. list.0.items)
         (pointwise T.eq) }

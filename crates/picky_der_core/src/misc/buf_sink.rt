@@ -35,7 +35,7 @@ fn overwrite(buf: &mut Vec<u8>, at: usize, bytes: &[u8]) -> Result<(), AllocErro
     Ok(())
 }
 
-/// A sink that overwrites a vector from its first place on, and then appends to it.
+/// A sink that overwrites a vector from its first byte on, and then appends to it.
 #[derive(Drop)]
 pub struct BufSink<'a> {
     buf: &'a mut Vec<u8>,
@@ -47,7 +47,7 @@ pub struct BufSink<'a> {
 impl<'a> BufSink<'a> {
     ghost use Rattle.picky_der_core.specs.Sink.{vector_of, position_of, faults_of};
 
-    /// Writes over the vector from its first place on.
+    /// Writes over the vector from its first byte on.
     pub fn new(buf: &'a mut Vec<u8>) -> BufSink<'a>
         ensures same_reference { (vector_of result).ghost_name ≡ buf.entry.ghost_name }
         ensures same { (vector_of result).now ≡ buf.old }

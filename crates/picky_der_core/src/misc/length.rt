@@ -2,7 +2,7 @@
 ghost use Rattle.std.specs.Prelude.{◌≡◌, ◌≢◌, ◌+◌, ◌^◌, ◌<◌, ◌≤◌, ℕ, length, IfOk, OnOk, OnErr, IfErr};
 ghost use Rattle.std.specs.Prelude.{IfSome};
 ghost use Rattle.std.specs.Io.KnownBytes.{Appends, Consumes};
-ghost use Rattle.picky_der_core.specs.Element.{len as bytes_of, Begins};
+ghost use Rattle.picky_der_core.specs.Element.{length_octets, IsPrefix};
 ghost use Rattle.picky_der_core.specs.Writer.{AppendsTooFew};
 ghost use Rattle.picky_der_core.specs.WriterFaults.{WriterFails};
 ghost use Rattle.picky_der_core.specs.Lengths.{IsReadAs, IsRefusedAs, IsOfDevice, IsLongCount, IsNoLongCount};
@@ -25,7 +25,7 @@ impl Length {
     /// no length is drawn alone; else all length bytes are drawn before they are refused.
     pub fn deserialized<R: ReadExt>(reader: &mut R) -> Result<usize>
         ensures ok { IfOk result (λ n. Consumes (R.remaining reader.old) (R.remaining reader.new)
-            (bytes_of n)) }
+            (length_octets n)) }
         ensures read { IfOk result (IsReadAs (length_of Asn1DerError.TruncatedData)
             (R.remaining reader.old) (R.remaining reader.new)) }
         ensures refused { IfErr result (λ e. R.faults reader.new ≡ R.faults reader.old
@@ -33,7 +33,7 @@ impl Length {
             (R.remaining reader.new) e) }
         ensures none { OnErr result (R.faults reader.new ≡ R.faults reader.old
             → IfSome (R.remaining reader.old)
-            (λ bs. (n : ℕ) → n < 2 ^ 64 → Begins (bytes_of n) bs → ⊥)) }
+            (λ bs. (n : ℕ) → n < 2 ^ 64 → IsPrefix (length_octets n) bs → ⊥)) }
         ensures fault { IfErr result (TellsFault (R.faults reader.old) (R.faults reader.new)
             (R.remaining reader.new)) }
         ensures device { IfErr result (λ e. R.faults reader.new ≡ R.faults reader.old
@@ -56,11 +56,11 @@ impl Length {
     /// Writes a length, and answers how many bytes it took. At an error of the writer a beginning was written,
     /// and at least one byte is missing.
     pub fn serialize<W: WriteExt>(len: usize, writer: &mut W) -> Result<usize>
-        ensures count { IfOk result (λ n. n ≡ length (bytes_of len)) }
+        ensures count { IfOk result (λ n. n ≡ length (length_octets len)) }
         ensures appends { OnOk result (Appends (W.written writer.old) (W.written writer.new)
-            (bytes_of len)) }
+            (length_octets len)) }
         ensures beginning { OnErr result (AppendsTooFew (W.written writer.old) (W.written writer.new)
-            (bytes_of len)) }
+            (length_octets len)) }
         ensures fault { IfErr result (λ e. WriterFails W.WriteExt.own writer.old e writer.new) }
         ensures no_fault { OnOk result (W.faults writer.new ≡ W.faults writer.old) }
         ensures goes_on { W.later writer.old writer.new }
@@ -70,7 +70,7 @@ impl Length {
 
     /// The bytes of a length.
     pub fn bytes(len: usize) -> ArrayVec<u8, 9>
-        ensures { result.items ≡ bytes_of len }
+        ensures { result.items ≡ length_octets len }
     {
         let mut bytes = ArrayVec::new();
         if len < 0x80 {
@@ -86,7 +86,7 @@ impl Length {
 
     /// How many bytes the length takes.
     pub fn encoded_len(len: usize) -> usize
-        ensures { result ≡ length (bytes_of len) }
+        ensures { result ≡ length (length_octets len) }
     {
         if len < 0x80 {
             return 1;
@@ -113,9 +113,9 @@ impl Length {
     /// The number that stands in `count` length bytes, if no shorter length gives it, and else `InvalidData` (X.690, 10.1).
     pub fn shortest(count: usize, len: usize) -> Result<usize>
         requires { 1 + count < 2 ^ 64 }
-        ensures ok { IfOk result (λ n. (n ≡ len) × (length (bytes_of len) ≡ 1 + count)) }
+        ensures ok { IfOk result (λ n. (n ≡ len) × (length (length_octets len) ≡ 1 + count)) }
         ensures err { IfErr result (λ e. (e ≡ Asn1DerError.InvalidData)
-            × (length (bytes_of len) ≢ 1 + count)) }
+            × (length (length_octets len) ≢ 1 + count)) }
     {
         if Length::encoded_len(len) == 1 + count {
             Ok(len)

@@ -21,9 +21,9 @@ pub struct PeekableReader<R: ReadExt> {
 
 impl<R: ReadExt> Model for PeekableReader<R> {
     ghost use Rattle.std.specs.Prelude.{◌<◌, ◌^◌};
-    ghost use Rattle.picky_der_core.specs.Peeking.{Peeking, peeking_code, IsByteIfAny};
+    ghost use Rattle.picky_der_core.specs.Peeking.{PeekableState, peeking_code, IsByteIfAny};
 
-    ghost Value = { Peeking R };
+    ghost Value = { PeekableState R };
 
     ghost coded = { peeking_code R.code };
 

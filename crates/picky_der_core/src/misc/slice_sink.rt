@@ -14,7 +14,7 @@ use super::{Faults, WriteExt};
 use std::io;
 use std::io::{Error, ErrorKind, Write};
 
-/// A sink that fills a slice from its first place on, and then takes nothing.
+/// A sink that fills a slice from its first byte on, and then takes nothing.
 #[derive(Drop)]
 pub struct SliceSink<'a> {
     buf: &'a mut [u8],
@@ -27,7 +27,7 @@ pub struct SliceSink<'a> {
 impl<'a> SliceSink<'a> {
     ghost use Rattle.picky_der_core.specs.SliceSink.{slice_of, filled_of, faults_of};
 
-    /// Fills the slice from its first place on.
+    /// Fills the slice from its first byte on.
     pub fn new(buf: &'a mut [u8]) -> SliceSink<'a>
         ensures same_reference { (slice_of result).ghost_name ≡ buf.entry.ghost_name }
         ensures same { (slice_of result).now ≡ buf.old }

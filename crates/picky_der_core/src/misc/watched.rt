@@ -22,10 +22,10 @@ pub struct Watched<T> {
 }
 
 impl<T> Model for Watched<T> {
-    ghost use Rattle.picky_der_core.specs.Watching.{Watching, watching_code};
+    ghost use Rattle.picky_der_core.specs.Watching.{WatchedState, watching_code};
     ghost use Rattle.picky_der_core.specs.Faults.{faults_in};
 
-    ghost Value = { Watching T };
+    ghost Value = { WatchedState T };
 
     ghost coded = { watching_code T.code };
 

@@ -19,7 +19,7 @@ impl<R: ReadExt> Deserializer<R> {
     pub(crate) fn open_list(&mut self, tag: Tag) -> Result<Outer>
         requires number { IsTagNumber (number_of tag) }
         ensures ok { IfOk result (λ outer. OpensList tag self.old self.new outer) }
-        ensures bounded { IfOk result (λ outer. outer.place ≤ self.new.limit) }
+        ensures bounded { IfOk result (λ outer. outer.position ≤ self.new.limit) }
         ensures err { IfErr result (RefusesList tag self.old self.new) }
     {
         self.input.open_list(tag)
@@ -28,15 +28,15 @@ impl<R: ReadExt> Deserializer<R> {
     // Opens a soft end `len` bytes from here. Where that is past the innermost end, it has failed.
     pub(crate) fn open_lazily(&mut self, len: usize) -> Outer
         ensures opened { OpensLazily len self.old self.new result }
-        ensures bounded { result.place ≤ self.new.limit }
+        ensures bounded { result.position ≤ self.new.limit }
     {
         self.input.open_lazily(len)
     }
 
     // Closes the innermost end, if it was reached, and puts the one around it back.
     pub(crate) fn close_end(&mut self, outer: Outer) -> Result<()>
-        requires within { self.old.taken + self.old.until_end ≤ outer.place }
-        requires bounded { outer.place ≤ self.old.limit }
+        requires within { self.old.taken + self.old.until_end ≤ outer.position }
+        requires bounded { outer.position ≤ self.old.limit }
         ensures ok { OnOk result (Closes outer self.old self.new) }
         ensures err { IfErr result (RefusesClose self.old self.new) }
     {

@@ -10,25 +10,25 @@ use crate::{Deserialize, Deserializer};
 use picky_der_core::Result;
 use picky_der_core::misc::ReadExt;
 
-// Reads a sequence of as many members as there are places, into these.
+// Reads a sequence of as many members as there are slots, into these.
 fn read_into<T: Deserialize + Copy, R: ReadExt>(
-    places: &mut [T],
+    slots: &mut [T],
     de: &mut Deserializer<R>,
 ) -> Result<()>
     ensures ok { OnOk result (Reads (Shape.fields ListKind.sequence
-        (times (length places.old) T.shape)) de.old de.new
-        (list_meaning ListKind.sequence T.meaning places.new)) }
+        (times (length slots.old) T.shape)) de.old de.new
+        (list_meaning ListKind.sequence T.meaning slots.new)) }
     ensures err { IfErr result (Refuses (list_meaning ListKind.sequence T.meaning)
-        (Shape.fields ListKind.sequence (times (length places.old) T.shape)) de.old de.new) }
+        (Shape.fields ListKind.sequence (times (length slots.old) T.shape)) de.old de.new) }
 {
     let mut members = de.deserialize_seq()?;
-    for at in 0..places.len() {
-        places[at] = members.next_field::<T>()?;
+    for at in 0..slots.len() {
+        slots[at] = members.next_field::<T>()?;
     }
     members.end()
 }
 
-// A value that stands there before it is read, as an array with a default in each place.
+// A value that stands there before it is read, as an array with a default in each slot.
 trait Fill: Drop + Sized {
     ghost meaning: { Self → Tree };
 

@@ -1,7 +1,7 @@
 //! With which first bytes the values of the library's types begin.
 ghost use Rattle.std.specs.Prelude.{◌↔◌, ◌+◌, ◌≤◌, IsTrue};
 ghost use Rattle.picky_der_core.specs.Tag.{number_of};
-ghost use Rattle.picky_der_core.specs.Shape.{has, tag_with_number};
+ghost use Rattle.picky_der_core.specs.Shape.{contains, tag_with_number};
 ghost use Rattle.picky_der_de.specs.Firsts.{option_begun};
 
 use crate::{Begins, Deserialize, DeserializeMembers};
@@ -13,7 +13,7 @@ use picky_der_ser::Row;
 
 // Whether it is this tag, whose number has to be one of the short form.
 fn is_tag(tag: Tag, wanted: u8) -> bool
-    ensures { IsTrue result ↔ IsTrue (has (tag_with_number (number_of wanted) wanted) tag) }
+    ensures { IsTrue result ↔ IsTrue (contains (tag_with_number (number_of wanted) wanted) tag) }
 {
     let number = Tag::from(wanted).number();
     number <= Tag::MAX_NUMBER && tag.inner() == wanted
@@ -22,7 +22,7 @@ fn is_tag(tag: Tag, wanted: u8) -> bool
 // Whether it is the tag of the class and form of this first one, with this number, which has to be one of the short form.
 fn is_numbered(tag: Tag, first: u8, number: u8) -> bool
     requires { first ≤ 0xE0 }
-    ensures { IsTrue result ↔ IsTrue (has (tag_with_number number (first + number)) tag) }
+    ensures { IsTrue result ↔ IsTrue (contains (tag_with_number number (first + number)) tag) }
 {
     number <= Tag::MAX_NUMBER && tag.inner() == first + number
 }

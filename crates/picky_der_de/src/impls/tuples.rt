@@ -1,7 +1,7 @@
 //! Tuples, as they are read: each as the row of its members.
 ghost use Rattle.picky_der_core.specs.Tree.{ListKind};
 ghost use Rattle.picky_der_core.specs.Shape.{Shape, Shapes};
-ghost use Rattle.picky_der_de.specs.InjectiveLaws.{both, row_members, first_member, other_members};
+ghost use Rattle.picky_der_de.specs.InjectiveLaws.{both, list_members, first_member, other_members};
 
 use crate::{Alike, Deserialize, Deserializer, deserialize_as};
 use picky_der_core::Result;
@@ -21,7 +21,7 @@ impl<A: Deserialize> Alike for (A,) {
 impl<A: Deserialize> Deserialize for (A,) {
     ghost shape = { Shape.fields ListKind.sequence (Shapes.more A.shape Shapes.none) };
 
-    ghost injective = { λ x y p q r e. let m = row_members e in A.injective x.0 y.0 p.1.0 q.1.0 r.1.0 (first_member m) };
+    ghost injective = { λ x y p q r e. let m = list_members e in A.injective x.0 y.0 p.1.0 q.1.0 r.1.0 (first_member m) };
 
     ghost sound = { (A.sound, tt) };
 
@@ -43,7 +43,7 @@ impl<A: Deserialize, B: Deserialize> Alike for (A, B) {
 impl<A: Deserialize, B: Deserialize> Deserialize for (A, B) {
     ghost shape = { Shape.fields ListKind.sequence (Shapes.more A.shape (Shapes.more B.shape Shapes.none)) };
 
-    ghost injective = { λ x y p q r e. let m = row_members e in both (A.injective x.0 y.0 p.1.0 q.1.0 r.1.0 (first_member m))
+    ghost injective = { λ x y p q r e. let m = list_members e in both (A.injective x.0 y.0 p.1.0 q.1.0 r.1.0 (first_member m))
         (B.injective x.1 y.1 p.1.1.0 q.1.1.0 r.1.1.0 (first_member (other_members m))) };
 
     ghost sound = { (A.sound, (B.sound, tt)) };
@@ -66,7 +66,7 @@ impl<A: Deserialize, B: Deserialize, C: Deserialize> Alike for (A, B, C) {
 impl<A: Deserialize, B: Deserialize, C: Deserialize> Deserialize for (A, B, C) {
     ghost shape = { Shape.fields ListKind.sequence (Shapes.more A.shape (Shapes.more B.shape (Shapes.more C.shape Shapes.none))) };
 
-    ghost injective = { λ x y p q r e. let m = row_members e in both (both (A.injective x.0 y.0 p.1.0 q.1.0 r.1.0 (first_member m))
+    ghost injective = { λ x y p q r e. let m = list_members e in both (both (A.injective x.0 y.0 p.1.0 q.1.0 r.1.0 (first_member m))
         (B.injective x.1 y.1 p.1.1.0 q.1.1.0 r.1.1.0 (first_member (other_members m))))
         (C.injective x.2 y.2 p.1.1.1.0 q.1.1.1.0 r.1.1.1.0 (first_member (other_members (other_members m)))) };
 
@@ -91,7 +91,7 @@ impl<A: Deserialize, B: Deserialize, C: Deserialize, D: Deserialize> Deserialize
     ghost shape = { Shape.fields ListKind.sequence (Shapes.more A.shape
         (Shapes.more B.shape (Shapes.more C.shape (Shapes.more D.shape Shapes.none)))) };
 
-    ghost injective = { λ x y p q r e. let m = row_members e in both (both (both (A.injective x.0 y.0 p.1.0 q.1.0 r.1.0 (first_member m))
+    ghost injective = { λ x y p q r e. let m = list_members e in both (both (both (A.injective x.0 y.0 p.1.0 q.1.0 r.1.0 (first_member m))
         (B.injective x.1 y.1 p.1.1.0 q.1.1.0 r.1.1.0 (first_member (other_members m))))
         (C.injective x.2 y.2 p.1.1.1.0 q.1.1.1.0 r.1.1.1.0 (first_member (other_members (other_members m)))))
         (D.injective x.3 y.3 p.1.1.1.1.0 q.1.1.1.1.0 r.1.1.1.1.0 (first_member (other_members (other_members (other_members m))))) };
@@ -119,7 +119,7 @@ impl<A: Deserialize, B: Deserialize, C: Deserialize, D: Deserialize, E: Deserial
     ghost shape = { Shape.fields ListKind.sequence (Shapes.more A.shape
         (Shapes.more B.shape (Shapes.more C.shape (Shapes.more D.shape (Shapes.more E.shape Shapes.none))))) };
 
-    ghost injective = { λ x y p q r e. let m = row_members e in both
+    ghost injective = { λ x y p q r e. let m = list_members e in both
         (both (both (both (A.injective x.0 y.0 p.1.0 q.1.0 r.1.0 (first_member m))
         (B.injective x.1 y.1 p.1.1.0 q.1.1.0 r.1.1.0 (first_member (other_members m))))
         (C.injective x.2 y.2 p.1.1.1.0 q.1.1.1.0 r.1.1.1.0 (first_member (other_members (other_members m)))))
@@ -164,7 +164,7 @@ impl<
     ghost shape = { Shape.fields ListKind.sequence (Shapes.more A.shape
         (Shapes.more B.shape (Shapes.more C.shape (Shapes.more D.shape (Shapes.more E.shape (Shapes.more F.shape Shapes.none)))))) };
 
-    ghost injective = { λ x y p q r e. let m = row_members e in both
+    ghost injective = { λ x y p q r e. let m = list_members e in both
         (both (both (both (both (A.injective x.0 y.0 p.1.0 q.1.0 r.1.0 (first_member m))
         (B.injective x.1 y.1 p.1.1.0 q.1.1.0 r.1.1.0 (first_member (other_members m))))
         (C.injective x.2 y.2 p.1.1.1.0 q.1.1.1.0 r.1.1.1.0 (first_member (other_members (other_members m)))))
@@ -214,7 +214,7 @@ impl<
         (Shapes.more B.shape (Shapes.more C.shape (Shapes.more D.shape
         (Shapes.more E.shape (Shapes.more F.shape (Shapes.more G.shape Shapes.none))))))) };
 
-    ghost injective = { λ x y p q r e. let m = row_members e in both
+    ghost injective = { λ x y p q r e. let m = list_members e in both
         (both (both (both (both (both (A.injective x.0 y.0 p.1.0 q.1.0 r.1.0 (first_member m))
         (B.injective x.1 y.1 p.1.1.0 q.1.1.0 r.1.1.0 (first_member (other_members m))))
         (C.injective x.2 y.2 p.1.1.1.0 q.1.1.1.0 r.1.1.1.0 (first_member (other_members (other_members m)))))
@@ -268,7 +268,7 @@ impl<
         (Shapes.more B.shape (Shapes.more C.shape (Shapes.more D.shape
         (Shapes.more E.shape (Shapes.more F.shape (Shapes.more G.shape (Shapes.more H.shape Shapes.none)))))))) };
 
-    ghost injective = { λ x y p q r e. let m = row_members e in both
+    ghost injective = { λ x y p q r e. let m = list_members e in both
         (both (both (both (both (both (both (A.injective x.0 y.0 p.1.0 q.1.0 r.1.0 (first_member m))
         (B.injective x.1 y.1 p.1.1.0 q.1.1.0 r.1.1.0 (first_member (other_members m))))
         (C.injective x.2 y.2 p.1.1.1.0 q.1.1.1.0 r.1.1.1.0 (first_member (other_members (other_members m)))))

@@ -2,7 +2,7 @@
 //! draws them one by one: so no refusal but that of memory is made here.
 ghost use Rattle.std.specs.Prelude.{◌≡◌, ◌+◌, ◌≤◌, ◌<◌, ◌∷◌, length, true, false, None, IfNone, IfSome, IfOk};
 ghost use Rattle.std.specs.Prelude.{IfErr, OnOk};
-ghost use Rattle.picky_der_core.specs.Element.{len as bytes_of, Begins};
+ghost use Rattle.picky_der_core.specs.Element.{length_octets, IsPrefix};
 ghost use Rattle.picky_der_core.specs.Shape.{AreBytes};
 ghost use Rattle.picky_der_input.specs.Steps.{Takes, TakesBytes, Fails};
 ghost use Rattle.picky_der_input.specs.Elements.{ReadsRaw, RefusesRaw};
@@ -17,8 +17,8 @@ use std::alloc::{AllocError, Global};
 // The length that stands in front of these bytes, and how many bytes say it. `None` where none stands there, and for those
 // of more than three bytes.
 fn length_in_front(bytes: &[u8]) -> Option<(usize, usize)>
-    ensures is { IfSome result (λ r. Begins (bytes_of r.0) bytes.now) }
-    ensures size { IfSome result (λ r. r.1 ≡ length (bytes_of r.0)) }
+    ensures is { IfSome result (λ r. IsPrefix (length_octets r.0) bytes.now) }
+    ensures size { IfSome result (λ r. r.1 ≡ length (length_octets r.0)) }
     ensures small { IfSome result (λ r. (r.0 < 65536) × (r.1 ≤ 3)) }
 {
     if bytes.is_empty() {
@@ -97,7 +97,7 @@ impl<R: ReadExt> Input<R> {
     // Takes the header of an element with this tag that is ahead, and answers the length of the content.
     pub(crate) fn take_header_ahead(&mut self, tag: Tag) -> Option<usize>
         requires had_not_failed { self.old.failed ≡ None }
-        ensures taken { IfSome result (λ n. Takes self.old self.new (tag ∷ bytes_of n)
+        ensures taken { IfSome result (λ n. Takes self.old self.new (tag ∷ length_octets n)
             × (n ≤ self.new.until_end)) }
         ensures implicit_tag { self.new.implicit_tag ≡ self.old.implicit_tag }
         ensures none { IfNone result (self.new ≡ self.old) }

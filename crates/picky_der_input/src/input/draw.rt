@@ -163,7 +163,7 @@ impl<R: ReadExt> Input<R> {
         requires had_not_failed { self.old.failed ≡ None }
         requires unpeeked { self.old.peeked ≡ None }
         requires some_left { 0 < left }
-        requires place { 0 < length piece.old }
+        requires some_room { 0 < length piece.old }
         ensures ok { IfOk result (λ n. TakesPiece self.old self.new left n piece.new) }
         ensures implicit_tag { OnOk result (self.new.implicit_tag ≡ self.old.implicit_tag) }
         ensures err { IfErr result (Fails self.old self.new) }

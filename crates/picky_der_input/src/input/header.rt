@@ -1,6 +1,6 @@
 //! Lengths and headers.
 ghost use Rattle.std.specs.Prelude.{◌≡◌, ◌≤◌, ◌∷◌, ◌<◌, ◌^◌, None, IfOk, IfErr, OnOk};
-ghost use Rattle.picky_der_core.specs.Element.{len as bytes_of};
+ghost use Rattle.picky_der_core.specs.Element.{length_octets};
 ghost use Rattle.picky_der_core.specs.Tag.{number_of, IsTagNumber};
 ghost use Rattle.picky_der_input.specs.Steps.{Takes, StopsShort, TakesNoMemory};
 ghost use Rattle.picky_der_input.specs.Headers.{ReadsDigits, RefusesLength, RefusesContentLength, RefusesHeader};
@@ -34,7 +34,7 @@ impl<R: ReadExt> Input<R> {
     fn read_length(&mut self) -> Result<usize>
         requires had_not_failed { self.old.failed ≡ None }
         requires unpeeked { self.old.peeked ≡ None }
-        ensures ok { IfOk result (λ n. Takes self.old self.new (bytes_of n)) }
+        ensures ok { IfOk result (λ n. Takes self.old self.new (length_octets n)) }
         ensures fits { IfOk result (λ n. n < 2 ^ 64) }
         ensures implicit_tag { OnOk result (self.new.implicit_tag ≡ self.old.implicit_tag) }
         ensures err { IfErr result (RefusesLength self.old self.new) }
@@ -59,7 +59,7 @@ impl<R: ReadExt> Input<R> {
     pub(crate) fn read_content_length(&mut self) -> Result<usize>
         requires had_not_failed { self.old.failed ≡ None }
         requires unpeeked { self.old.peeked ≡ None }
-        ensures ok { IfOk result (λ n. Takes self.old self.new (bytes_of n)
+        ensures ok { IfOk result (λ n. Takes self.old self.new (length_octets n)
             × (n ≤ self.new.until_end)) }
         ensures implicit_tag { OnOk result (self.new.implicit_tag ≡ self.old.implicit_tag) }
         ensures err { IfErr result (RefusesContentLength self.old self.new) }
@@ -77,7 +77,7 @@ impl<R: ReadExt> Input<R> {
     pub(crate) fn read_header(&mut self, tag: Tag) -> Result<usize>
         requires number { IsTagNumber (number_of tag) }
         requires had_not_failed { self.old.failed ≡ None }
-        ensures ok { IfOk result (λ n. Takes self.old self.new (tag ∷ bytes_of n)
+        ensures ok { IfOk result (λ n. Takes self.old self.new (tag ∷ length_octets n)
             × (n ≤ self.new.until_end)) }
         ensures implicit_tag { OnOk result (self.new.implicit_tag ≡ self.old.implicit_tag) }
         ensures err { IfErr result (RefusesHeader tag self.old self.new) }
@@ -95,7 +95,7 @@ impl<R: ReadExt> Input<R> {
     fn draw_header(&mut self, tag: Tag) -> Result<usize>
         requires number { IsTagNumber (number_of tag) }
         requires had_not_failed { self.old.failed ≡ None }
-        ensures ok { IfOk result (λ n. Takes self.old self.new (tag ∷ bytes_of n)
+        ensures ok { IfOk result (λ n. Takes self.old self.new (tag ∷ length_octets n)
             × (n ≤ self.new.until_end)) }
         ensures implicit_tag { OnOk result (self.new.implicit_tag ≡ self.old.implicit_tag) }
         ensures err { IfErr result (RefusesHeader tag self.old self.new) }

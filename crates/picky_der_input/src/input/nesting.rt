@@ -19,7 +19,7 @@ use std::marker::Model;
 #[derive(Drop)]
 pub struct Outer {
     // How many bytes are taken before it.
-    place: usize,
+    position: usize,
     kind: End,
     // Where it is a set's, how many bytes are kept before the encoding of its last member.
     last: Option<usize>,
@@ -30,7 +30,7 @@ impl Model for Outer {
 
     ghost Value = { OuterEnd };
 
-    ghost view = { λ o. record { place = o.place; kind = o.kind; last = o.last } };
+    ghost view = { λ o. record { position = o.position; kind = o.kind; last = o.last } };
 }
 
 impl<R: ReadExt> Input<R> {
@@ -38,11 +38,11 @@ impl<R: ReadExt> Input<R> {
     pub(crate) fn open_end(&mut self, len: usize, kind: End) -> Outer
         requires { len ≤ self.old.until_end }
         ensures opened { self.new ≡ with_inner_end self.old len kind }
-        ensures around { result ≡ innermost self.old }
-        ensures bounded { result.place ≤ self.new.limit }
+        ensures outer_end { result ≡ innermost self.old }
+        ensures bounded { result.position ≤ self.new.limit }
     {
         let outer = Outer {
-            place: self.reader.pos() + self.until_end,
+            position: self.reader.pos() + self.until_end,
             kind: self.end,
             last: self.last.take(),
         };
@@ -58,7 +58,7 @@ impl<R: ReadExt> Input<R> {
     pub fn open_list(&mut self, tag: Tag) -> Result<Outer>
         requires number { IsTagNumber (number_of tag) }
         ensures ok { IfOk result (λ outer. OpensList tag self.old self.new outer) }
-        ensures bounded { IfOk result (λ outer. outer.place ≤ self.new.limit) }
+        ensures bounded { IfOk result (λ outer. outer.position ≤ self.new.limit) }
         ensures err { IfErr result (RefusesList tag self.old self.new) }
     {
         let len = self.begin(tag)?;
@@ -74,7 +74,7 @@ impl<R: ReadExt> Input<R> {
     /// `TruncatedData`. One that had failed stays as it is.
     pub fn open_lazily(&mut self, len: usize) -> Outer
         ensures opened { OpensLazily len self.old self.new result }
-        ensures bounded { result.place ≤ self.new.limit }
+        ensures bounded { result.position ≤ self.new.limit }
     {
         if self.failed.is_none() && len <= self.until_end {
             self.implicit_tag = None;
@@ -84,7 +84,7 @@ impl<R: ReadExt> Input<R> {
             self.failed = Some(Failure::of(self.end.missing()));
         }
         Outer {
-            place: self.reader.pos() + self.until_end,
+            position: self.reader.pos() + self.until_end,
             kind: self.end,
             last: self.last,
         }
@@ -93,7 +93,7 @@ impl<R: ReadExt> Input<R> {
     // Takes the header of an enclosure, and opens its end. Directly under an implicit tag it has its own header too.
     fn begin_enclosure(&mut self, enclosure: Enclosure) -> Result<Outer>
         ensures ok { IfOk result (BeginsEnclosure enclosure self.old self.new) }
-        ensures bounded { IfOk result (λ outer. outer.place ≤ self.new.limit) }
+        ensures bounded { IfOk result (λ outer. outer.position ≤ self.new.limit) }
         ensures err { IfErr result (RefusesOpening enclosure self.old self.new) }
         ensures unsupported { (HasEnclosureNumber enclosure → ⊥)
             → RefusesNumber self.old result self.new }
@@ -126,7 +126,7 @@ impl<R: ReadExt> Input<R> {
     /// (X.690, 8.6.2); the refusals of a header and of an end; else the reader's fault.
     pub fn open_enclosure(&mut self, enclosure: Enclosure) -> Result<Outer>
         ensures ok { IfOk result (OpensEnclosure enclosure self.old self.new) }
-        ensures bounded { IfOk result (λ outer. outer.place ≤ self.new.limit) }
+        ensures bounded { IfOk result (λ outer. outer.position ≤ self.new.limit) }
         ensures err { IfErr result (RefusesOpening enclosure self.old self.new) }
         ensures unsupported { (HasEnclosureNumber enclosure → ⊥)
             → RefusesNumber self.old result self.new }
@@ -143,8 +143,8 @@ impl<R: ReadExt> Input<R> {
     ///
     /// `InvalidData` where bytes are left before it, of which none is drawn.
     pub fn close_end(&mut self, outer: Outer) -> Result<()>
-        requires within { self.old.taken + self.old.until_end ≤ outer.place }
-        requires bounded { outer.place ≤ self.old.limit }
+        requires within { self.old.taken + self.old.until_end ≤ outer.position }
+        requires bounded { outer.position ≤ self.old.limit }
         ensures ok { OnOk result (Closes outer self.old self.new) }
         ensures err { IfErr result (RefusesClose self.old self.new) }
     {
@@ -154,7 +154,7 @@ impl<R: ReadExt> Input<R> {
         if self.until_end > 0 {
             return Err(self.fail(Asn1DerError::InvalidData));
         }
-        self.until_end = outer.place - self.reader.pos();
+        self.until_end = outer.position - self.reader.pos();
         self.end = outer.kind;
         self.leave_set(outer.last);
         Ok(())

@@ -36,7 +36,7 @@ impl<R: ReadExt> Input<R> {
             self.kept.truncate(begin);
         }
         self.last = match outer {
-            Some(place) => Some(place.min(self.kept.len())),
+            Some(start) => Some(start.min(self.kept.len())),
             None => None,
         };
     }
@@ -46,21 +46,21 @@ impl<R: ReadExt> Input<R> {
         ensures { result ≡ is_out_of_order self.now.sets member.now }
     {
         match self.last {
-            Some(place) => member.cmp(&self.kept[place..]).is_lt(),
+            Some(start) => member.cmp(&self.kept[start..]).is_lt(),
             None => false,
         }
     }
 
-    // Keeps the encoding of a member in place of that of the one before it, where the order is tested. Without room for both
+    // Keeps the encoding of a member in start of that of the one before it, where the order is tested. Without room for both
     // nothing changes.
     fn keep_last(&mut self, member: &[u8]) -> std::result::Result<(), AllocError>
         ensures ok { OnOk result
             (self.new ≡ record self.old { sets = with_last self.old.sets member.now }) }
         ensures err { OnErr result ((self.new ≡ self.old) × (self.old.sets.last ≢ None)) }
     {
-        if let Some(place) = self.last {
+        if let Some(start) = self.last {
             self.kept.reserve(member.len())?;
-            self.kept.truncate(place);
+            self.kept.truncate(start);
             self.kept.extend_from_slice(member)?;
         }
         Ok(())

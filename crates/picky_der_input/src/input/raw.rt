@@ -1,6 +1,6 @@
 //! Elements that are taken whole, whatever their tag (X.690, 8.1.1).
 ghost use Rattle.std.specs.Prelude.{◌≡◌, ◌∷◌, ℕ, List, IfOk, IfErr, OnOk};
-ghost use Rattle.picky_der_core.specs.Element.{len as bytes_of};
+ghost use Rattle.picky_der_core.specs.Element.{length_octets};
 ghost use Rattle.picky_der_input.specs.Steps.{TakesNoMemory};
 ghost use Rattle.picky_der_input.specs.Elements.{BeginsElement, ReadsRaw, RefusesRaw};
 
@@ -12,7 +12,7 @@ use std::alloc::Global;
 
 // A header, in a vector that what is behind it can be put into.
 fn header(alloc: Global, tag: Tag, len: usize) -> Result<Vec<u8>>
-    ensures ok { IfOk result (λ bytes. bytes.items ≡ tag ∷ bytes_of len) }
+    ensures ok { IfOk result (λ bytes. bytes.items ≡ tag ∷ length_octets len) }
     ensures err { IfErr result (λ e. e ≡ Asn1DerError.OutOfMemory) }
 {
     let mut bytes = Vec::new(alloc);

@@ -11,7 +11,7 @@ use Rattle.picky_der_ser.specs.Calls.{MemoryExcuse, no_room, no_way}
 use Rattle.der_examples.proofs.first_steps.number.Goals as goal
 
 of_128 : der (Tree.unsigned 128) ≡ 0x02 ∷ 0x02 ∷ 0x00 ∷ 0x80 ∷ []
-unfolding element.tlv element.len element.big_endian encoding.unsigned_content
+unfolding element.tlv element.length_octets element.big_endian encoding.unsigned_content
 of_128 = der-unsigned 128
 
 -- it can be written, so memory alone can be missing

@@ -1,6 +1,6 @@
 use Rattle.std.proofs.Common.{◌≡◌, true, false, sym, ◌∙◌, arith}
 use Rattle.std.specs.Prelude.{IsTrue}
-use Rattle.der_x509_tool_lib.specs.Outcome.{IsSigned, signed_bytes}
+use Rattle.der_x509_tool_lib.specs.Outcome.{IsTbsCertificate, signed_bytes}
 use Rattle.der_x509_tool_lib.proofs.Fronts.{front_writable, front_element}
 use Rattle.der_x509_tool_lib.proofs.outcome.examine_signed.Goals as goal
 use Rattle.der_x509_tool_lib.proofs.outcome.examine_signed.Goals.{then-is_same, else-is_same}
@@ -12,7 +12,7 @@ is_written_as-requires-in-Ok c = front_writable c.in-Ok.ensures.front (omega ari
 pub returns-after-is_same-clause-ok : goal.returns-after-is_same-clause-ok
 returns-after-is_same-clause-ok c =
     let certificate = c.requires.front in
-    let signed : IsSigned (signed_bytes c.args.certificate) c.in-Ok.tbs_certificate = rw c.deref.ensures.value at c.in-Ok.ensures.front in
+    let signed : IsTbsCertificate (signed_bytes c.args.certificate) c.in-Ok.tbs_certificate = rw c.deref.ensures.value at c.in-Ok.ensures.front in
     let signed_whole = front_element signed certificate.reads.readable.1.0 in
     let first : IsTrue c.in_ok-is_same-in-Ok.is_same = c.in_ok-is_same-in-Ok.ensures.ok.1 c.requires.whole in
     let second : IsTrue c.in_ok-signed_is_same-in-Ok.signed_is_same = c.in_ok-signed_is_same-in-Ok.ensures.ok.1 (signed_whole ∙ sym c.deref-in-Ok.ensures.value) in

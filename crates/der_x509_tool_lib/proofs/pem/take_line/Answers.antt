@@ -1,9 +1,9 @@
 use Rattle.std.proofs.Common.{◌++◌, Some, ap, sym, ◌∙◌}
 use mathlib.Core.Bool.{true≢false}
 use Rattle.std.proofs.lemmas.Result.{err_from_is_err_and}
-use Rattle.der_x509_tool_lib.specs.Blocks.{IsInside}
+use Rattle.der_x509_tool_lib.specs.Blocks.{IsTextLine}
 use Rattle.der_x509_tool_lib.specs.Run.{text_in}
-use Rattle.der_x509_tool_lib.proofs.Trimming.{trimmed_is}
+use Rattle.der_x509_tool_lib.proofs.Trimming.{without_outer_space-is}
 use Rattle.der_x509_tool_lib.proofs.Writing.{cut_written, cut_stopped, end_written, end_stopped, gathered}
 use Rattle.der_x509_tool_lib.proofs.pem.take_line.Goals as goal
 
@@ -27,9 +27,9 @@ returns-then-ends_block-clause-ok g c =
 
 pub returns-clause-ok : goal.returns-clause-ok
 returns-clause-ok g c =
-    let inside : IsInside c.args.line.now = record {
+    let inside : IsTextLine c.args.line.now = record {
       begins_none = λ b. true≢false (sym (c.begins_block-begins.ensures.1 b) ∙ c.if-begins-2.false);
       ends_none = λ e. true≢false (sym (c.ends_block.ensures.1 e) ∙ c.if-ends_block.false);
     } in
     let extended = c.in_ok-extend_from_slice.ensures.items in
-    gathered (ap text_in c.in-Some.is) _ inside (ap Some (extended ∙ ap (λ l. c.in-Some.text.items ++ l) (trimmed_is _ _ c.trim_ascii.ensures.value)))
+    gathered (ap text_in c.in-Some.is) _ inside (ap Some (extended ∙ ap (λ l. c.in-Some.text.items ++ l) (without_outer_space-is _ _ c.trim_ascii.ensures.value)))

@@ -5,13 +5,13 @@ use Rattle.picky_der_ser.proofs.HeaderLoop.{PushesHeaders}
 use Rattle.picky_der_ser.proofs.header.push_nested_headers.Given as goal
 
 -- the wrappers that are left, and the headers of the others
-pub record Kept (l : goal.Live-loop-wrapper) : Type 0 where
+pub record HeadersLeft (l : goal.Live-loop-wrapper) : Type 0 where
   pub all : l.initial.rest ≡ headed_wrappers (innermost_joint_header l.fn.around l.fn.header) l.fn.around
   pub numbers : HaveTagNumbers l.rest
   pub pushed : PushesHeaders l.fn.out.items l.out.items l.initial.rest l.rest (own_header (unwrap_or (innermost_joint_header l.fn.around l.fn.header) l.fn.header) l.len) l.len
 
 abbrev pub invariant-loop-wrapper : goal.invariant-loop-wrapper
-invariant-loop-wrapper l = Kept l
+invariant-loop-wrapper l = HeadersLeft l
 
 abbrev pub decreases-loop-wrapper : goal.decreases-loop-wrapper
 decreases-loop-wrapper l = length l.rest

@@ -1,7 +1,7 @@
 use Rattle.std.proofs.Common.{[], ◌∷◌, ◌++◌, length, Result, Ok, Err, OnErr, arith, length-append}
 use Rattle.std.proofs.KnownBytes.{Appends-trans}
-use Rattle.picky_der_core.specs.Element.{len, tlv}
-use Rattle.picky_der_core.specs.ElementLaws.{length-len}
+use Rattle.picky_der_core.specs.Element.{length_octets, tlv}
+use Rattle.picky_der_core.specs.ElementLaws.{length-length_octets}
 use Rattle.picky_der_core.specs.Writer.{too_few_after, too_few_front}
 use Rattle.picky_der_ser.proofs.sink.put_element.Goals as goal
 
@@ -13,38 +13,38 @@ pub returns-in_err-identifier-clause-beginning : goal.returns-in_err-identifier-
 unfolding tlv
 returns-in_err-identifier-clause-beginning g c =
     let content = c.args.content.now in
-    rw (← c.inner.ensures) (on_err _ (too_few_front _ _ (c.inner.result ∷ []) (len (length content) ++ content) c.in_err-identifier.ensures.beginning))
+    rw (← c.inner.ensures) (on_err _ (too_few_front _ _ (c.inner.result ∷ []) (length_octets (length content) ++ content) c.in_err-identifier.ensures.beginning))
 
 pub returns-in_err-length-clause-beginning : goal.returns-in_err-length-clause-beginning
 unfolding tlv
 returns-in_err-length-clause-beginning g c =
     let content = c.args.content.now in
-    rw (← c.inner.ensures) (on_err _ (too_few_after _ _ _ (c.inner.result ∷ []) (len (length content) ++ content) c.in_ok-identifier.ensures.appends (too_few_front _ _ (len (length content)) content c.in_err-length.ensures.beginning)))
+    rw (← c.inner.ensures) (on_err _ (too_few_after _ _ _ (c.inner.result ∷ []) (length_octets (length content) ++ content) c.in_ok-identifier.ensures.appends (too_few_front _ _ (length_octets (length content)) content c.in_err-length.ensures.beginning)))
 
 pub returns-in_err-rest-clause-beginning : goal.returns-in_err-rest-clause-beginning
 unfolding tlv
 returns-in_err-rest-clause-beginning g c =
     let content = c.args.content.now in
-    rw (← c.inner.ensures) (on_err _ (too_few_after _ _ _ (c.inner.result ∷ []) (len (length content) ++ content) c.in_ok-identifier.ensures.appends (too_few_after _ _ _ (len (length content)) content c.in_ok-length.ensures.appends c.in_err-rest.ensures.beginning)))
+    rw (← c.inner.ensures) (on_err _ (too_few_after _ _ _ (c.inner.result ∷ []) (length_octets (length content) ++ content) c.in_ok-identifier.ensures.appends (too_few_after _ _ _ (length_octets (length content)) content c.in_ok-length.ensures.appends c.in_err-rest.ensures.beginning)))
 
 pub overflow_add-result : goal.overflow_add-result
 overflow_add-result g c =
-    let most = length-len (length c.args.content.now) (omega arith) in
+    let most = length-length_octets (length c.args.content.now) (omega arith) in
     omega (arith, most, c.in_ok-identifier.ensures.count, c.in_ok-length.ensures.count)
 
 pub overflow_add-result-2 : goal.overflow_add-result-2
 overflow_add-result-2 g c =
-    let most = length-len (length c.args.content.now) (omega arith) in
+    let most = length-length_octets (length c.args.content.now) (omega arith) in
     omega (arith, most, c.in_ok-identifier.ensures.count, c.in_ok-length.ensures.count, c.in_ok-rest.ensures.count)
 
 pub returns-clause-count : goal.returns-clause-count
 unfolding tlv
 returns-clause-count g c =
     let content = c.args.content.now in
-    omega (arith, length-append (len (length content)) content, c.in_ok-identifier.ensures.count, c.in_ok-length.ensures.count, c.in_ok-rest.ensures.count)
+    omega (arith, length-append (length_octets (length content)) content, c.in_ok-identifier.ensures.count, c.in_ok-length.ensures.count, c.in_ok-rest.ensures.count)
 
 pub returns-clause-appends : goal.returns-clause-appends
 unfolding tlv
 returns-clause-appends g c =
     let content = c.args.content.now in
-    rw (← c.inner.ensures) (Appends-trans _ _ _ (c.inner.result ∷ []) (len (length content) ++ content) c.in_ok-identifier.ensures.appends (Appends-trans _ _ _ (len (length content)) content c.in_ok-length.ensures.appends c.in_ok-rest.ensures.appends))
+    rw (← c.inner.ensures) (Appends-trans _ _ _ (c.inner.result ∷ []) (length_octets (length content) ++ content) c.in_ok-identifier.ensures.appends (Appends-trans _ _ _ (length_octets (length content)) content c.in_ok-length.ensures.appends c.in_ok-rest.ensures.appends))

@@ -1,6 +1,6 @@
 use Rattle.std.proofs.Common.{rules, refl, ◌<◌, ◌^◌, ◌∙◌, length, arith}
 use Rattle.picky_der_de.proofs.PassedOn.{refusal_passed_on, reads_at}
-use Rattle.der_tool_lib.proofs.AlgorithmIdentifierReads.{unopened, no_algorithm, no_parameters, left_over, reads_identifier}
+use Rattle.der_tool_lib.proofs.AlgorithmIdentifierReads.{unopened, no_algorithm, no_parameters, left_over, reads_algorithm}
 use Rattle.der_tool_lib.proofs.algorithm_identifier.AlgorithmIdentifierDeserialize.deserialize.Goals as goal
 
 pub returns-in_err-members-clause-err : goal.returns-in_err-members-clause-err
@@ -24,4 +24,4 @@ returns-clause-ok g c =
     let p = c.in_ok-parameters.ensures in
     let bytes = c.in_ok-algorithm.algorithm.0 in
     let small : length bytes.items < 2 ^ 64 = omega (arith, bytes.ok, bytes.small) in
-    reads_at (reads_identifier bytes.items c.in_ok-parameters.parameters small c.in_ok-members.ensures.ok c.in_ok-algorithm.ensures.ok p.member p.none c.in_ok-end.ensures.ok (p.outer ∙ c.in_ok-algorithm.ensures.outer)) (search rules)
+    reads_at (reads_algorithm bytes.items c.in_ok-parameters.parameters small c.in_ok-members.ensures.ok c.in_ok-algorithm.ensures.ok p.member p.none c.in_ok-end.ensures.ok (p.outer ∙ c.in_ok-algorithm.ensures.outer)) (search rules)

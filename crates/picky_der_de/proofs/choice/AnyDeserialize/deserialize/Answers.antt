@@ -1,18 +1,18 @@
 use Rattle.std.proofs.lemmas.Result.{err_from_is_err_and}
 use Rattle.picky_der_input.proofs.PlainReads.{refuses_of}
-use Rattle.picky_der_de.proofs.Choices.{refuses_hidden, refuses_meant, reads_meant}
+use Rattle.picky_der_de.proofs.Choices.{refuses_hidden, refuses_choice, reads_choice}
 use Rattle.picky_der_de.proofs.choice.AnyDeserialize.deserialize.Goals as goal
 
 pub returns-in-Err-clause-err : goal.returns-in-Err-clause-err
-returns-in-Err-clause-err g c = refuses_meant g.met.T.Told.meant (refuses_hidden c.in-Err.ensures.err)
+returns-in-Err-clause-err g c = refuses_choice g.met.T.DeserializeChoice.means_choice (refuses_hidden c.in-Err.ensures.err)
 
 pub returns-in_err-deserialize_alternative-clause-err :
     goal.returns-in_err-deserialize_alternative-clause-err
 returns-in_err-deserialize_alternative-clause-err g c =
     let p = err_from_is_err_and c.from_residual.result c.from_residual.ensures.1 in
     let h = c.in_err-deserialize_alternative.ensures.err in
-    rw (p.1, p.2) (refuses_meant g.met.T.Told.meant (refuses_of g.T.Choice.parts (h.refuses g.met.T.Told.told c.args.de.now c.in-Ok.ensures.ok.peeks)))
+    rw (p.1, p.2) (refuses_choice g.met.T.DeserializeChoice.means_choice (refuses_of g.T.Choice.parts (h.refuses g.met.T.DeserializeChoice.told c.args.de.now c.in-Ok.ensures.ok.peeks)))
 
 pub returns-clause-ok : goal.returns-clause-ok
 returns-clause-ok g c =
-    reads_meant g.T.Alternatives.Alternatives.chosen (c.in_ok-deserialize_alternative.ensures.ok c.args.de.now c.in-Ok.ensures.ok.peeks) (g.met.T.Told.meant c.from_parts.result) c.from_parts.ensures
+    reads_choice g.T.Alternatives.Alternatives.chosen (c.in_ok-deserialize_alternative.ensures.ok c.args.de.now c.in-Ok.ensures.ok.peeks) (g.met.T.DeserializeChoice.means_choice c.from_parts.result) c.from_parts.ensures

@@ -19,39 +19,39 @@ loop-at-init g c = record {
   outer = refl;
 }
 
-pub returns-in_err-places-clause-err : goal.returns-in_err-places-clause-err
-returns-in_err-places-clause-err g c =
+pub returns-in_err-slots-clause-err : goal.returns-in_err-slots-clause-err
+returns-in_err-slots-clause-err g c =
     let i = c.loop-at.invariant in
-    let l = length-take-le c.loop-at.at c.loop-at.places i.within in
-    let h = first_refused (length c.args.places.now) _ i.first (omega (arith, l, i.same_length, c.loop-at-test.true)) c.in_err-places.ensures.err in
-    refusal_passed_on _ c.from_residual-in_err-places.ensures.1 (search rules) (row_refused {members = λ vs. trees (map g.T.Serialize.meaning vs)} c.in_ok-members.ensures.ok h)
+    let l = length-take-le c.loop-at.at c.loop-at.slots i.within in
+    let h = first_refused (length c.args.slots.now) _ i.first (omega (arith, l, i.same_length, c.loop-at-test.true)) c.in_err-slots.ensures.err in
+    refusal_passed_on _ c.from_residual-in_err-slots.ensures.1 (search rules) (row_refused {members = λ vs. trees (map g.T.Serialize.meaning vs)} c.in_ok-members.ensures.ok h)
 
 pub loop-at-preserved : goal.loop-at-preserved
 loop-at-preserved g c =
     let i = c.loop-at.invariant in
-    let less : c.loop-at.at < length c.loop-at.places = omega (arith, i.same_length, c.loop-at-test.true) in
-    let h = first_more g.T.Serialize.meaning g.T.Deserialize.shape (take c.loop-at.at c.loop-at.places) c.in_ok-places.field-0 i.first c.in_ok-places.ensures.ok in
-    let long = length-set c.loop-at.places c.loop-at.at c.in_ok-places.field-0 in
+    let less : c.loop-at.at < length c.loop-at.slots = omega (arith, i.same_length, c.loop-at-test.true) in
+    let h = first_more g.T.Serialize.meaning g.T.Deserialize.shape (take c.loop-at.at c.loop-at.slots) c.in_ok-slots.field-0 i.first c.in_ok-slots.ensures.ok in
+    let long = length-set c.loop-at.slots c.loop-at.at c.in_ok-slots.field-0 in
     record {
-      first = rw (take_more_set c.loop-at.places c.loop-at.at c.in_ok-places.field-0 less) h;
+      first = rw (take_more_set c.loop-at.slots c.loop-at.at c.in_ok-slots.field-0 less) h;
       within = omega (arith, long, less);
       same_length = long ∙ i.same_length;
-      same_reference = c.in_ok-places.ensures.same_reference ∙ i.same_reference;
-      outer = c.in_ok-places.ensures.outer ∙ i.outer;
+      same_reference = c.in_ok-slots.ensures.same_reference ∙ i.same_reference;
+      outer = c.in_ok-slots.ensures.outer ∙ i.outer;
     }
 
 pub returns-clause-ok : goal.returns-clause-ok
 returns-clause-ok g c =
     let i = c.loop-at.invariant in
-    let all = take_all c.loop-at.at c.loop-at.places (omega (arith, i.same_length, c.loop-at-test.false)) in
+    let all = take_all c.loop-at.at c.loop-at.slots (omega (arith, i.same_length, c.loop-at-test.false)) in
     let first = subst (ReadsFirst g.T.Serialize.meaning g.T.Deserialize.shape c.in_ok-members.members.de.now c.loop-at.members.de.now) all i.first in
-    let row = first_all g.T.Serialize.meaning g.T.Deserialize.shape (length c.args.places.now) c.loop-at.places i.same_length first in
+    let row = first_all g.T.Serialize.meaning g.T.Deserialize.shape (length c.args.slots.now) c.loop-at.slots i.same_length first in
     on_ok_weaker c.end.result (λ k. reads_at (row_reads c.in_ok-members.ensures.ok row k i.outer) (search rules)) c.end.ensures.ok
 
 pub returns-clause-err : goal.returns-clause-err
 returns-clause-err g c =
     let i = c.loop-at.invariant in
-    let all = take_all c.loop-at.at c.loop-at.places (omega (arith, i.same_length, c.loop-at-test.false)) in
+    let all = take_all c.loop-at.at c.loop-at.slots (omega (arith, i.same_length, c.loop-at-test.false)) in
     let first = subst (ReadsFirst g.T.Serialize.meaning g.T.Deserialize.shape c.in_ok-members.members.de.now c.loop-at.members.de.now) all i.first in
-    let row = first_all g.T.Serialize.meaning g.T.Deserialize.shape (length c.args.places.now) c.loop-at.places i.same_length first in
+    let row = first_all g.T.Serialize.meaning g.T.Deserialize.shape (length c.args.slots.now) c.loop-at.slots i.same_length first in
     IfErr-weaker c.end.result _ _ (λ e k. refuses_at (row_left {members = λ vs. trees (map g.T.Serialize.meaning vs)} c.in_ok-members.ensures.ok row k) (search rules)) c.end.ensures.err

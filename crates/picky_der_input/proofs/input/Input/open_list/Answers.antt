@@ -8,4 +8,4 @@ pub returns-clause-ok : goal.returns-clause-ok
 returns-clause-ok g c =
     let opened = c.open_end-outer.ensures in
     let is = c.order_members.ensures ∙ ap (λ (s : State). record s { sets = record s.sets { last = order_of c.args.tag } }) opened.opened in
-    opens_list c.requires.number c.in_ok-len.ensures.ok is opened.around
+    opens_list c.requires.number c.in_ok-len.ensures.ok is opened.outer_end

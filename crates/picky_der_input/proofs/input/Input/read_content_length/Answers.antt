@@ -1,7 +1,7 @@
 use Rattle.std.proofs.Common.{◌≡◌, ◌<◌, ◌∙◌, ap, arith}
 use Rattle.std.proofs.lemmas.Result.{err_from_is_err_and}
 use Rattle.picky_der_input.specs.State.{State}
-use Rattle.picky_der_input.specs.Steps.{at_end}
+use Rattle.picky_der_input.specs.Steps.{error_at_end}
 use Rattle.picky_der_input.proofs.Contents.{failed_same}
 use Rattle.picky_der_input.proofs.Headers.{content_no_length, content_too_long}
 use Rattle.picky_der_input.proofs.input.Input.read_content_length.Goals as goal
@@ -18,5 +18,5 @@ returns-then-len-self-clause-err g c =
     let until_end : c.self.inside.until_end ≡ c.read_length.new.self.until_end = ap (λ (s : State). s.until_end) c.self.view_is in
     let end : c.self.inside.end ≡ c.read_length.new.self.end = ap (λ (s : State). s.end) c.self.view_is in
     let more : c.read_length.new.self.until_end < c.in_ok-len.len = omega (arith, c.if-len-self.true, until_end) in
-    let error = f.error ∙ c.missing-error.ensures ∙ ap at_end end in
+    let error = f.error ∙ c.missing-error.ensures ∙ ap error_at_end end in
     content_too_long e.ok f.fails e.fits more error (failed_same c.read_length.new.self f.error f.same)

@@ -2,7 +2,7 @@ use Rattle.std.proofs.Common.{◌≡◌, ◌≤◌, ℕ, true, ◌∷◌, length
 use Rattle.std.proofs.lemmas.Bool.Decides.{nat_tests}
 use Rattle.picky_der_ser.specs.State.{Stack}
 use Rattle.picky_der_ser.specs.Marks.{inside_of, pending_of}
-use Rattle.picky_der_ser.specs.Places.{place_of_mark}
+use Rattle.picky_der_ser.specs.MarkViews.{view_of_mark}
 use Rattle.picky_der_ser.proofs.LevelMarks.{marks-more, some_entered, stack_at, stack-grown}
 use Rattle.picky_der_ser.proofs.levels.Levels.append_short.Goals as goal
 
@@ -15,13 +15,13 @@ pub returns-clause-inside : goal.returns-clause-inside
 returns-clause-inside c = λ t e.
     let s = c.self.inside.scratch.items in
     let q = c.self.inside.seams.items in
-    some_entered c.self.inside.entered (place_of_mark c.self.inside.innermost) c.self.inside.marks.places s q c.self.inside.wrappers.of_levels c.self.inside.marks.spare c.if-not-self.false c.self.invariant.1 (ap (λ (x : Stack). x.inside) c.self.view_is ∙ e)
+    some_entered c.self.inside.entered (view_of_mark c.self.inside.innermost) c.self.inside.marks.views s q c.self.inside.wrappers.of_levels c.self.inside.marks.spare c.if-not-self.false c.self.invariant.1 (ap (λ (x : Stack). x.inside) c.self.view_is ∙ e)
 
 pub returns-clause-yes : goal.returns-clause-yes
 returns-clause-yes c = λ t l ls f.
     let e = c.self.inside.entered in
-    let ms = c.self.inside.marks.places in
-    let p = place_of_mark c.self.inside.innermost in
+    let ms = c.self.inside.marks.views in
+    let p = view_of_mark c.self.inside.innermost in
     let s = c.self.inside.scratch.items in
     let q = c.self.inside.seams.items in
     let w = c.self.inside.wrappers.of_levels in

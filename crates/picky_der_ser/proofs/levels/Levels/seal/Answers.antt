@@ -1,13 +1,13 @@
 use Rattle.std.proofs.Common.{◌≡◌, ◌+◌, ◌-◌, ◌∷◌, ◌++◌, length, take, drop, refl, sym, ap, ◌∙◌, arith}
 use Rattle.std.proofs.lemmas.List.{length-drop}
 use Rattle.picky_der_ser.specs.declared.header.Header.TheVariants.{Raw}
-use Rattle.picky_der_ser.specs.Places.{mark_place, place_of_mark}
+use Rattle.picky_der_ser.specs.MarkViews.{mark_view, view_of_mark}
 use Rattle.picky_der_ser.proofs.HeaderBytes.{der-short}
 use Rattle.picky_der_ser.proofs.LevelMarks.{mark-outer, stack-as_raw_level}
 use Rattle.picky_der_ser.proofs.levels.Levels.seal.Goals as goal
 
 pub around_from-around-requires : goal.around_from-around-requires
-around_from-around-requires c = mark-outer _ _ _ _ (ap place_of_mark c.in-Some.is) c.self.invariant.0
+around_from-around-requires c = mark-outer _ _ _ _ (ap view_of_mark c.in-Some.is) c.self.invariant.0
 
 pub returns-then-mark-eq2-clause-yes : goal.returns-then-mark-eq2-clause-yes
 returns-then-mark-eq2-clause-yes c = λ t.
@@ -23,4 +23,4 @@ returns-then-mark-eq2-clause-yes c = λ t.
     let short = der-short ws _ m.header b identifier n c.around_from-around.ensures size c.in-Some-short_identifier.ensures.header in
     let whole = c.fill_short.ensures.items ∙ ap (λ x. take m.at s ++ x) (ap (λ k. identifier ∷ n ∷ drop k s) behind ∙ short) in
     let bare = sym c.around_from-around.ensures ∙ c.in-Some-short_identifier.ensures.bare refl in
-    rw (← c.self.view_is) (stack-as_raw_level _ (mark_place (record m { start = m.at; header = Raw })) _ s _ c.self.inside.seams.items _ w _ (ap place_of_mark c.in-Some.is) refl refl refl refl refl bare c.self.invariant.0 whole c.truncate.ensures.items)
+    rw (← c.self.view_is) (stack-as_raw_level _ (mark_view (record m { start = m.at; header = Raw })) _ s _ c.self.inside.seams.items _ w _ (ap view_of_mark c.in-Some.is) refl refl refl refl refl bare c.self.invariant.0 whole c.truncate.ensures.items)

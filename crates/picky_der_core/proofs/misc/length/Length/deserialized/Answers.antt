@@ -1,7 +1,7 @@
 use Rattle.std.proofs.Common.{[], refl, sym, ◌∙◌, arith}
 use Rattle.std.proofs.KnownBytes.{Consumes-nil}
 use Rattle.std.proofs.lemmas.Result.{err_from_is_err_and, IfOk-weaker, IfErr-weaker}
-use Rattle.picky_der_core.specs.ElementLaws.{len-short}
+use Rattle.picky_der_core.specs.ElementLaws.{length_octets-short}
 use Rattle.picky_der_core.specs.ReaderLaws.{tells_fault}
 use Rattle.picky_der_core.proofs.LengthSteps.{none_from_refused, refused_missing, no_device, refused_count, length_first, length_more, length_below, refused_cut, Consumes-shortest, refused_longer, read_len}
 use Rattle.picky_der_core.proofs.misc.length.Length.deserialized.Goals as goal
@@ -29,7 +29,7 @@ returns-in_err-first-clause-fault g c =
 
 pub returns-then-first-lt128-clause-ok : goal.returns-then-first-lt128-clause-ok
 returns-then-first-lt128-clause-ok g c =
-    rw (c.from.ensures, len-short c.in_ok-first.first (omega arith)) c.in_ok-first.ensures.byte
+    rw (c.from.ensures, length_octets-short c.in_ok-first.first (omega arith)) c.in_ok-first.ensures.byte
 
 pub returns-in_err-count-clause-refused : goal.returns-in_err-count-clause-refused
 returns-in_err-count-clause-refused g c =

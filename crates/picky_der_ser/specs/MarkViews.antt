@@ -7,7 +7,7 @@ use Rattle.picky_der_ser.specs.contracts.header.Header as header
 use Rattle.picky_der_ser.specs.declared.marks.Mark.{Mark}
 
 -- what a mark tells of its level: its header, and where it begins
-pub record MarkPlace : Type 0 where
+pub record MarkView : Type 0 where
   pub header : Header
   -- where the room for the headers begins, and the content behind it
   pub at : ℕ
@@ -16,8 +16,8 @@ pub record MarkPlace : Type 0 where
   pub first_seam : ℕ
   pub first_wrapper : ℕ
 
-abbrev pub place_code : Coded MarkPlace
-place_code =
+abbrev pub mark_view_code : Coded MarkView
+mark_view_code =
     code_by (Header × (ℕ × (ℕ × (ℕ × ℕ))))
     (coded× header.the_row.coded (coded× coded_ℕ (coded× coded_ℕ (coded× coded_ℕ coded_ℕ))))
     (λ p. (p.header, (p.at, (p.start, (p.first_seam, p.first_wrapper)))))
@@ -26,43 +26,43 @@ place_code =
 
 -- the marks around a level: what they tell, innermost first, and for how many more there is room
 pub record MarksAround : Type 0 where
-  pub places : List MarkPlace
+  pub views : List MarkView
   pub spare : ℕ
 
 abbrev pub marks_around_code : Coded MarksAround
-marks_around_code = code_by (List MarkPlace × ℕ) (coded× (coded_list place_code) coded_ℕ) (λ m. (m.places, m.spare)) (λ p. record { places = p.0; spare = p.1 }) (λ _. refl)
+marks_around_code = code_by (List MarkView × ℕ) (coded× (coded_list mark_view_code) coded_ℕ) (λ m. (m.views, m.spare)) (λ p. record { views = p.0; spare = p.1 }) (λ _. refl)
 
--- the root's place: nothing stands in front of what it holds
-abbrev pub root_place : MarkPlace
-root_place = record { header = Raw; at = 0; start = 0; first_seam = 0; first_wrapper = 0 }
+-- the root's mark: nothing stands in front of what it holds
+abbrev pub root_view : MarkView
+root_view = record { header = Raw; at = 0; start = 0; first_seam = 0; first_wrapper = 0 }
 
-abbrev pub mark_place : Mark → MarkPlace
-mark_place m = record { header = m.header; at = m.at; start = m.start; first_seam = m.first_seam; first_wrapper = m.first_wrapper }
+abbrev pub mark_view : Mark → MarkView
+mark_view m = record { header = m.header; at = m.at; start = m.start; first_seam = m.first_seam; first_wrapper = m.first_wrapper }
 
-abbrev pub place_of_mark : Option Mark → Option MarkPlace
-place_of_mark None = None
-place_of_mark (Some m) = Some (mark_place m)
+abbrev pub view_of_mark : Option Mark → Option MarkView
+view_of_mark None = None
+view_of_mark (Some m) = Some (mark_view m)
 
 -- this mark inside of the others, if there is one
-abbrev pub inside_places : Option Mark → List MarkPlace → List MarkPlace
-inside_places None ps = ps
-inside_places (Some m) ps = mark_place m ∷ ps
+abbrev pub with_mark : Option Mark → List MarkView → List MarkView
+with_mark None ps = ps
+with_mark (Some m) ps = mark_view m ∷ ps
 
--- the root's place, if it is around them all
-abbrev pub root_places : Bool → List MarkPlace
-root_places true = root_place ∷ []
-root_places false = []
+-- the root's mark, if it is around them all
+abbrev pub root_views : Bool → List MarkView
+root_views true = root_view ∷ []
+root_views false = []
 
 -- All marks, innermost first: the others are given outermost first.
-abbrev pub places_of : Bool → Option Mark → Option Mark → List Mark → List MarkPlace
-places_of rooted first second others = map mark_place (reverse others) ++ inside_places second (inside_places first (root_places rooted))
+abbrev pub views_of : Bool → Option Mark → Option Mark → List Mark → List MarkView
+views_of rooted first second others = map mark_view (reverse others) ++ with_mark second (with_mark first (root_views rooted))
 
 -- for how many there is room where this one may stand
 abbrev pub spare_slot : Option Mark → ℕ
 spare_slot None = 1
 spare_slot (Some m) = 0
 
--- A mark takes the first place that is free: where a place is taken, those before it are.
+-- A mark is kept in the first slot that is free: where a slot is taken, those before it are.
 abbrev pub IsFilled : Option Mark → Option Mark → List Mark → Type 0
 IsFilled None None [] = ⊤
 IsFilled None None (m ∷ ms) = ⊥

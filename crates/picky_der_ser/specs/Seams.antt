@@ -5,20 +5,20 @@ use Rattle.picky_der_ser.specs.declared.header.Header.{Header}
 use Rattle.picky_der_ser.specs.Heading.{is_set}
 
 -- what stands between the seams, from the byte at `start` on
-abbrev pub parts_from : ℕ → List ℕ → List ℕ → List (List ℕ)
-parts_from start [] c = drop start c ∷ []
-parts_from start (s ∷ ss) c = between start s c ∷ parts_from s ss c
+abbrev pub cut_from : ℕ → List ℕ → List ℕ → List (List ℕ)
+cut_from start [] c = drop start c ∷ []
+cut_from start (s ∷ ss) c = between start s c ∷ cut_from s ss c
 
--- one part more than there are seams
-abbrev pub parts : List ℕ → List ℕ → List (List ℕ)
-parts seams c = parts_from 0 seams c
+-- one list more than there are seams
+abbrev pub cut_at_seams : List ℕ → List ℕ → List (List ℕ)
+cut_at_seams seams c = cut_from 0 seams c
 
 -- none stands before the one in front of it, nor before `start`
 abbrev pub AreSeams : ℕ → List ℕ → Type 0
 AreSeams start [] = ⊤
 AreSeams start (s ∷ ss) = (start ≤ s) × AreSeams s ss
 
--- where the last part begins
+-- where the last of these begins
 abbrev pub last_seam : ℕ → List ℕ → ℕ
 last_seam start [] = start
 last_seam start (s ∷ ss) = last_seam s ss
