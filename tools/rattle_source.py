@@ -102,8 +102,8 @@ def block_of(header):
 
 
 def parts(text):
-    """The functions of a file, each as the header of its block (or an empty text), its name, and the places of its beginning, its
-    body and its end; and the blocks, each as its header and the places of its beginning and end."""
+    """The functions of a file, each as the header of its block (or an empty text), its name, and the indices of its beginning, its
+    body and its end; and the blocks, each as its header and the indices of its beginning and end."""
     code, found, blocks, at = blanked(text), [], [], 0
     pattern = re.compile(r"\bfn\s+(\w+)|\b((?:impl|trait)\b(?:[^;{\[]|\[[^\]]*\])*)\{")
     for it in iter(lambda: pattern.search(code, at), None):
@@ -120,7 +120,7 @@ def parts(text):
 
 
 def functions(text):
-    """The functions of a file: the block of each (or an empty text), its name, and the places of its beginning and end."""
+    """The functions of a file: the block of each (or an empty text), its name, and the indices of its beginning and end."""
     return [(block_of(header) if header else "", name, begin, end) for header, name, begin, _, end in parts(text)[0]]
 
 

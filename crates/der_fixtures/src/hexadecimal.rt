@@ -13,7 +13,8 @@ use std::alloc::{AllocError, Global};
 /// odd number of digits, or a character that isn't one.
 pub fn bytes_of(alloc: Global, text: &str) -> Result<Vec<u8>, FromHexError>
     ensures ok { IfOk result (λ bytes. decode_of (without_spaces text.now) ≡ Ok bytes.items) }
-    ensures err { IfErr result (λ e. (e ≡ OutOfMemory) ⊎ (decode_of (without_spaces text.now) ≡ Err e)) }
+    ensures err { IfErr result
+        (λ e. (e ≡ OutOfMemory) ⊎ (decode_of (without_spaces text.now) ≡ Err e)) }
 {
     let mut digits = Vec::new(alloc);
     if digits.extend_from_slice(text.as_bytes()).is_err() {

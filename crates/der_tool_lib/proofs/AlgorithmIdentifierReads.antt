@@ -39,8 +39,8 @@ same_element x = der-raw (tlv 0x06 x) ∙ sym (der-bytes 0x06 x)
 
 -- ---- refused
 
-pub unopened : {a c : State} {e : Asn1DerError} → RefusesList 0x30 a c e → RefusesAlgorithm a c e
-unopened h = rest_unopened {members = members} {kind = ListKind.sequence} refl h
+pub algorithm_unopened : {a c : State} {e : Asn1DerError} → RefusesList 0x30 a c e → RefusesAlgorithm a c e
+algorithm_unopened h = rest_unopened {members = members} {kind = ListKind.sequence} refl h
 
 module _ {a b : State} {outer : Outer} (opened : OpensList 0x30 a b outer) where
   refused : {c : State} {e : Asn1DerError} → RefusesRest AreElements members b c e → RefusesAlgorithm a c e

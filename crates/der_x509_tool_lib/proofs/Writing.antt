@@ -47,8 +47,8 @@ module _ {line text : List ℕ} {before : Option (List ℕ)} (open_text : before
   pub end_stopped : {W : Type 0} {g : Ghosts W} {old new : W} {e : Asn1DerError} → EndsBlock line → StopsWriting g (AnswersBlock text) old new e → StopsWriting g (AnswersSomeLine line before) old new e
   end_stopped e s = stops_also (λ bytes a. (None, end_answers e a)) s
 
-  pub gathered : {after : Option (List ℕ)} (a : Option (List ℕ)) → IsTextLine line → after ≡ Some (text ++ without_outer_space line) → WritesSome (AnswersPemLine line before after) a a
-  gathered a i n = record { bytes = []; of = record { answers = []; takes = goes_on i text open_text n refl; is = refl }; written = Appends-nil a }
+  pub text_goes_on : {after : Option (List ℕ)} (a : Option (List ℕ)) → IsTextLine line → after ≡ Some (text ++ without_outer_space line) → WritesSome (AnswersPemLine line before after) a a
+  text_goes_on a i n = record { bytes = []; of = record { answers = []; takes = goes_on i text open_text n refl; is = refl }; written = Appends-nil a }
 
 -- ---- what is written at the last line, and behind it
 

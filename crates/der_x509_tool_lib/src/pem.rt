@@ -88,7 +88,8 @@ fn end_input<W: WriteExt>(
     block: Option<Vec<u8>>,
     output: &mut W,
 ) -> Result<()>
-    ensures ok { OnOk result (WritesSome (AnswersEnd line.now (text_in block)) (W.written output.old)
+    ensures ok { OnOk result (WritesSome (AnswersEnd line.now (text_in block))
+        (W.written output.old)
         (W.written output.new)) }
     ensures err { IfErr result (StopsAtEnd W.WriteExt.own line.now (text_in block) output.old
         output.new) }

@@ -23,7 +23,7 @@ use std::hash::Hash;
 #[derive(Clone, Drop, PartialEq, Eq, PartialOrd, Hash)]
 pub struct Asn1RawDer(pub Vec<u8>);
 
-/// Raw elements are equal just where their bytes are the same. They are ordered as their bytes are, at the first place
+/// Raw elements are equal just where their bytes are the same. They are ordered as their bytes are, at the first index
 /// where these differ, and hashed as a list of these. A copy has the same bytes.
 pub fn comparisons()
     ensures equal { IsEqualityOf ⟦<Asn1RawDer as PartialEq>⟧.eq (λ raw. raw.0.items) }

@@ -122,5 +122,5 @@ module _ {a b : Option (List ℕ)} {first k count number : ℕ} (t : TakesLength
       (λ rest. length_of-longer TruncatedData first count t.digits rest long (t.size ∙ whole) t.bytes (λ same. size (ap (λ n. length (length_octets n)) t.is ∙ same)))
 
 -- a length was taken
-pub read_len : (a b : Option (List ℕ)) (n : ℕ) → n < 2 ^ 64 → Consumes a b (length_octets n) → IsReadAs (length_of TruncatedData) a b n
-read_len a b n small h = read_after a b (length_octets n) n h (λ rest. length_of-length_octets TruncatedData n rest small)
+pub read_length_octets : (a b : Option (List ℕ)) (n : ℕ) → n < 2 ^ 64 → Consumes a b (length_octets n) → IsReadAs (length_of TruncatedData) a b n
+read_length_octets a b n small h = read_after a b (length_octets n) n h (λ rest. length_of-length_octets TruncatedData n rest small)

@@ -9,8 +9,8 @@ first_of [] b h = absurd (omega (arith, h))
 first_of (x ∷ xs) b h = refl
 
 -- the byte that was in front is gone
-pub handed_out : (p q : Option ℕ) (i j : Option (List ℕ)) (b : ℕ) → p ≡ Some b → q ≡ None → j ≡ i → Consumes (in_front p i) (in_front q j) (b ∷ [])
-handed_out p q i j b f n e = rw (f, n, e) (by_case i)
+pub peeked_consumed : (p q : Option ℕ) (i j : Option (List ℕ)) (b : ℕ) → p ≡ Some b → q ≡ None → j ≡ i → Consumes (in_front p i) (in_front q j) (b ∷ [])
+peeked_consumed p q i j b f n e = rw (f, n, e) (by_case i)
   where
     by_case : (left : Option (List ℕ)) → Consumes (in_front (Some b) left) left (b ∷ [])
     by_case None = tt

@@ -39,9 +39,9 @@ length-length_octets n h = by_form (nat_lt n 0x80) refl
         rw (length_octets-long n (ltb-false n 0x80 e)) (omega (arith, most))
 
 -- no length begins another
-pub len_prefix : (m n : ℕ) (a b : List ℕ) → length_octets m ++ a ≡ length_octets n ++ b → (m ≡ n) × (a ≡ b)
+pub length_octets_prefix : (m n : ℕ) (a b : List ℕ) → length_octets m ++ a ≡ length_octets n ++ b → (m ≡ n) × (a ≡ b)
 unfolding length_octets
-len_prefix m n a b = by_form (nat_lt m 0x80) (nat_lt n 0x80) refl refl
+length_octets_prefix m n a b = by_form (nat_lt m 0x80) (nat_lt n 0x80) refl refl
   where
     by_form : (p q : Bool) → nat_lt m 0x80 ≡ p → nat_lt n 0x80 ≡ q → cond p (m ∷ []) ((0x80 + length (big_endian m)) ∷ big_endian m) ++ a ≡ cond q (n ∷ []) ((0x80 + length (big_endian n)) ∷ big_endian n) ++ b → (m ≡ n) × (a ≡ b)
     by_form true true s t e = (cc, cc)
@@ -65,7 +65,7 @@ unfolding tlv
 tlv_prefix x y c d a b e =
     let g : (length_octets (length c) ++ c) ++ a ≡ (length_octets (length d) ++ d) ++ b = cc in
     let h : length_octets (length c) ++ (c ++ a) ≡ length_octets (length d) ++ (d ++ b) = simp append_assoc at g in
-    let sizes = len_prefix (length c) (length d) (c ++ a) (d ++ b) h in
+    let sizes = length_octets_prefix (length c) (length d) (c ++ a) (d ++ b) h in
     let parts = same_front c d a b sizes.0 sizes.1 in
     (cc, parts.0, parts.1)
 

@@ -180,8 +180,8 @@ plain_encoding_element : (tag : ℕ) (c : List ℕ) → IsTagNumber (number_of t
 unfolding plain_encoding
 plain_encoding_element tag c h = record { tag = tag; content = c; number = h; is = refl }
 
-around_element : (t : Tree) (tag : ℕ) (c : List ℕ) → is_absent t ≡ false → IsTagNumber (number_of tag) → IsElement (wrapper_encoding (is_absent t) tag c)
-around_element t tag c p h = record { tag = tag; content = c; number = h; is = wrapper_encoding-present _ tag c p }
+wrapper_encoding_element : (t : Tree) (tag : ℕ) (c : List ℕ) → is_absent t ≡ false → IsTagNumber (number_of tag) → IsElement (wrapper_encoding (is_absent t) tag c)
+wrapper_encoding_element t tag c p h = record { tag = tag; content = c; number = h; is = wrapper_encoding-present _ tag c p }
 
 -- the encoding of a readable tree is one element
 pub der-element : (t : Tree) → IsReadable t → IsElement (der t)
@@ -192,10 +192,10 @@ der-element Tree.null r = plain_encoding_element _ _ (omega arith)
 der-element (Tree.text s) r = plain_encoding_element _ _ (omega arith)
 der-element (Tree.bytes tag s) r = plain_encoding_element _ _ r
 der-element (Tree.list kind ts) r = plain_encoding_element _ _ (list_tag_number kind)
-der-element (Tree.octet_container t) r = around_element t _ _ (is_absent-readable t r) (omega arith)
-der-element (Tree.bit_container t) r = around_element t _ _ (is_absent-readable t r) (omega arith)
-der-element (Tree.explicit n t) r = around_element t _ _ (is_absent-readable t r.1) (omega arith)
-der-element (Tree.implicit n t) r = around_element t _ _ (is_absent-readable t r.2) (omega arith)
+der-element (Tree.octet_container t) r = wrapper_encoding_element t _ _ (is_absent-readable t r) (omega arith)
+der-element (Tree.bit_container t) r = wrapper_encoding_element t _ _ (is_absent-readable t r) (omega arith)
+der-element (Tree.explicit n t) r = wrapper_encoding_element t _ _ (is_absent-readable t r.1) (omega arith)
+der-element (Tree.implicit n t) r = wrapper_encoding_element t _ _ (is_absent-readable t r.2) (omega arith)
 der-element (Tree.application n t) r = record { tag = 0x60 + n; content = _; number = omega arith; is = refl }
 der-element (Tree.raw s) r = r
 der-element (Tree.choice t) r = der-element t r
@@ -225,14 +225,14 @@ padded : (p : Bool) (b : ℕ) (bs : List ℕ) → number_from_digits 256 (cond p
 padded true b bs = refl
 padded false b bs = refl
 
-number-positive : (bs : List ℕ) → number_from_digits 256 (as_positive bs) ≡ number_from_digits 256 bs
-number-positive [] = refl
-number-positive (b ∷ bs) = padded (nat_lt b 0x80) b bs
+number-as_positive : (bs : List ℕ) → number_from_digits 256 (as_positive bs) ≡ number_from_digits 256 bs
+number-as_positive [] = refl
+number-as_positive (b ∷ bs) = padded (nat_lt b 0x80) b bs
 
 -- the content of a number gives the number back
 pub number-unsigned_content : (n : ℕ) → number_from_digits 256 (unsigned_content n) ≡ n
 unfolding unsigned_content
-number-unsigned_content n = number-positive (big_endian n) ∙ number-big_endian n
+number-unsigned_content n = number-as_positive (big_endian n) ∙ number-big_endian n
 
 pub unsigned_content-same : (m n : ℕ) → unsigned_content m ≡ unsigned_content n → m ≡ n
 unsigned_content-same m n e = sym (number-unsigned_content m) ∙ ap (number_from_digits 256) e ∙ number-unsigned_content n

@@ -134,16 +134,16 @@ unfolding unsigned_content
 AreBytes-unsigned_content n = AreBytes-positive (big_endian n) (AreBytes-big_endian n)
 
 -- at most one byte is put in front
-length-positive : (bs : List ℕ) → length (as_positive bs) ≤ suc (length bs)
-length-positive [] = omega arith
-length-positive (b ∷ bs) = cond_both (nat_lt b 0x80) (b ∷ bs) (0 ∷ b ∷ bs) (λ cs. length cs ≤ suc (suc (length bs))) (λ e. omega arith) (λ e. omega arith)
+length-as_positive : (bs : List ℕ) → length (as_positive bs) ≤ suc (length bs)
+length-as_positive [] = omega arith
+length-as_positive (b ∷ bs) = cond_both (nat_lt b 0x80) (b ∷ bs) (0 ∷ b ∷ bs) (λ cs. length cs ≤ suc (suc (length bs))) (λ e. omega arith) (λ e. omega arith)
 
 -- the content of a number of 128 bits takes at most 17 bytes
 pub length-unsigned_content : (n : ℕ) → n < 2 ^ 128 → length (unsigned_content n) ≤ 17
 unfolding unsigned_content
 length-unsigned_content n h =
     let bytes : length (big_endian n) ≤ 16 = length-big_endian 16 n h in
-    omega (arith, length-positive (big_endian n))
+    omega (arith, length-as_positive (big_endian n))
 
 -- the content of the number that bytes make
 unsigned_content-number : (b : ℕ) (bs : List ℕ) → 0 < b → AreBytes (b ∷ bs) → unsigned_content (number_from_digits 256 (b ∷ bs)) ≡ as_positive (b ∷ bs)
@@ -178,9 +178,9 @@ unsigned_error-low most b (c ∷ bs) h low = rw (lt-ltb b 0x80 low, ne_eqb b 0 (
 unsigned_error-high : (most b : ℕ) (bs : List ℕ) → 0x80 ≤ b → unsigned_error most (0 ∷ b ∷ bs) ≡ number_error most (b ∷ bs)
 unsigned_error-high most b bs high = rw (le-ltb b 0x80 high) refl
 
--- the rule of the first byte is that of `positive`
-unsigned_error-positive : (most b : ℕ) (bs : List ℕ) → 0 < b → unsigned_error most (as_positive (b ∷ bs)) ≡ number_error most (b ∷ bs)
-unsigned_error-positive most b bs h = elim (cases_lt b 0x80) [
+-- the rule of the first byte is that of `as_positive`
+unsigned_error-as_positive : (most b : ℕ) (bs : List ℕ) → 0 < b → unsigned_error most (as_positive (b ∷ bs)) ≡ number_error most (b ∷ bs)
+unsigned_error-as_positive most b bs h = elim (cases_lt b 0x80) [
   | inl low ↦ rw (lt-ltb b 0x80 low) (unsigned_error-low most b bs h low)
   | inr high ↦ rw (le-ltb b 0x80 high) (unsigned_error-high most b bs high)
 ]
@@ -195,7 +195,7 @@ unsigned_error-content most n h k = by_bytes (big_endian n) refl
 
     by_bytes : (bs : List ℕ) → big_endian n ≡ bs → unsigned_error most (as_positive bs) ≡ None
     by_bytes [] e = number_error-small most (0 ∷ []) (omega arith, omega arith)
-    by_bytes (b ∷ bs) e = unsigned_error-positive most b bs (first-big_endian n b bs e) ∙ number_error-small most (b ∷ bs) (subst (IsSmall most) e small)
+    by_bytes (b ∷ bs) e = unsigned_error-as_positive most b bs (first-big_endian n b bs e) ∙ number_error-small most (b ∷ bs) (subst (IsSmall most) e small)
 
 -- these bytes are the content of the number that they make, and this isn't too large
 abbrev IsContent : ℕ → List ℕ → Type 0

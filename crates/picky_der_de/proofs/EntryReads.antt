@@ -18,7 +18,7 @@ use Rattle.picky_der_input.specs.Steps.{IsJudged}
 use Rattle.picky_der_input.specs.Reading.{Reads, Refuses, now, ever}
 use Rattle.picky_der_de.specs.InjectiveLaws.{IsInjective}
 use Rattle.picky_der_de.specs.Entry.{any_length, HasNoFront, ReaderView, ReadsFront, Draws, RefusesFront, RefusesNextValue}
-use Rattle.picky_der_input.proofs.Refusals.{consumed}
+use Rattle.picky_der_input.proofs.Refusals.{front_consumed}
 
 -- ---- what is left in the reader
 
@@ -92,7 +92,7 @@ start_state r limit references = fresh r.input limit r.faults references
 module _ {V : Type 0} (meaning : V → Tree) (s : Shape) {old new : State} {references : List ℕ} {limit : ℕ} (before after : ReaderView) (is : old ≡ start_state before limit references) (left : new.input ≡ in_front new.peeked after.input) (faults : after.faults ≡ new.faults) where
   stands_of : (bytes : List ℕ) (t : Tree) → before.input ≡ Some bytes → Reads s (start_state before limit references) new t → StandsAt Place.whole s bytes limit t
   stands_of bytes t k r =
-      let front = consumed before.input new.input (der t) bytes r.takes.input k in
+      let front = front_consumed before.input new.input (der t) bytes r.takes.input k in
       record { of_shape = r.of_shape; readable = r.readable; may_stand = tt; within = omega (arith, r.takes.until_end); front = record { rest = front.0; is = front.2 } }
 
   -- the value that was read is the one at the front

@@ -19,7 +19,7 @@ use Rattle.picky_der_de.specs.Members.{ReadsMember, RefusesNext, no_value, behin
 use Rattle.picky_der_input.proofs.Steps.{fails_after, fails_again, judged_after}
 use Rattle.picky_der_input.proofs.Order.{concerns_alike, concerns_without_order, judged_alike, fails_alike, takes_without_order, order_none, order_first, order_next, order_more, order_begins, order_whole}
 use Rattle.picky_der_input.proofs.Refusals.{concerns_behind, failed_grows, end_below}
-use Rattle.picky_der_input.proofs.PlainReads.{no_plain, begun, takes_plain, may_stand, first_of_header}
+use Rattle.picky_der_input.proofs.PlainReads.{no_plain, seen_content, takes_plain, may_stand, first_of_header}
 use Rattle.picky_der_input.proofs.Ends.{concerns_with_inner_end, concerns_room, judged_with_inner_end, fails_without_inner_end, closes_behind}
 
 -- ---- the content of a list
@@ -230,7 +230,7 @@ whole_in_order kind ts h i = order_whole kind h.mid.sets (encodings ts) (subst (
 members_stand : (kind : ListKind) (s : Shape) {a b c : State} {outer : Outer} {e : Asn1DerError} {end : ℕ} {bs : List ℕ} (ts : Trees) → OpensList (list_tag kind) a b outer → Fails b c e → Concerns a c e end bs → StandsAt (place_of a) s bs end (Tree.list kind ts) → StandUpToEnd b c e (members_encoding ts)
 members_stand kind s {b = b} {c = c} {e = e} ts h f w st =
     let grows : h.mid.taken ≤ drawn_count c = omega (arith, failed_grows f, ap (λ (z : State). z.taken) h.opened) in
-    let o = begun h.begins grows refl refl w st in
+    let o = seen_content h.begins grows refl refl w st in
     let content_is = members_encoding-content kind ts st.readable.0 in
     let opened : State = record (with_inner_end h.mid h.size Soft) { sets = sets_inside (order_of (list_tag kind)) h.mid.sets } in
     let size : length (members_encoding ts) ≡ opened.until_end = sym (ap length content_is) ∙ o.size in

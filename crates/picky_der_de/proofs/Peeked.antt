@@ -17,7 +17,7 @@ use Rattle.picky_der_input.specs.Reading.{Concerns, now, ever, Refuses}
 use Rattle.picky_der_input.specs.LookAhead.{Peeks, IdentifiesIn, Identifies, RefusesIdentifier}
 use Rattle.picky_der_input.proofs.Steps.{there_after}
 use Rattle.picky_der_input.proofs.ReaderFaults.{keeps_consumes}
-use Rattle.picky_der_input.proofs.Refusals.{parted, missing_here, missing_first}
+use Rattle.picky_der_input.proofs.Refusals.{split_behind, missing_here, missing_first}
 use Rattle.picky_der_input.proofs.Known.{kept_known}
 
 at_most_one : (p : Option ℕ) → count_of_any p ≤ 1
@@ -102,7 +102,7 @@ module _ {a b : State} {x : ℕ} (p : Peeks a b x) where
   peeks_front {c} {e} {end} {bs} f (now i r) = known_next a.input bs p.next i
   peeks_front {c} {e} {end} {bs} f (ever w r d y left i l g) =
       let h = known_next a.input (d ++ left) p.next i in
-      let u = parted d (x ∷ []) h.0 left h.1 (omega (arith, f.grows, one_peeked, still_taken, l)) in
+      let u = split_behind d (x ∷ []) h.0 left h.1 (omega (arith, f.grows, one_peeked, still_taken, l)) in
       (u.0 ++ y, g ∙ ap (λ z. z ++ y) u.1)
 
   pub peeked_first : (y : ℕ) (left : List ℕ) → a.input ≡ Some (y ∷ left) → y ≡ x
@@ -136,12 +136,12 @@ nothing_whole {a} {s = s} {end = end} {bs = bs} {t = t} d m w st =
 
 -- ---- behind a look at the tag
 
-pub identified : (P : State → Type 0) {a b : State} {tag : ℕ} → (d : Option ℕ) → IdentifiesIn d a b tag → (Peeks a b tag → P b → P a) → P b → P a
-identified P None h f k = f h k
-identified P (Some number) h f k = subst P h.2 k
+pub through_identifies : (P : State → Type 0) {a b : State} {tag : ℕ} → (d : Option ℕ) → IdentifiesIn d a b tag → (Peeks a b tag → P b → P a) → P b → P a
+through_identifies P None h f k = f h k
+through_identifies P (Some number) h f k = subst P h.2 k
 
 pub identified_refuses : {V : Type 0} {meaning : V → Tree} {s : Shape} {a b c : State} {tag : ℕ} {e : Asn1DerError} → Identifies a b tag → Refuses meaning s b c e → Refuses meaning s a c e
-identified_refuses {meaning = meaning} {s = s} {a = a} {c = c} {e = e} h r = identified (λ x. Refuses meaning s x c e) a.implicit_tag h.is (λ p k. peeks_refuses p k) r
+identified_refuses {meaning = meaning} {s = s} {a = a} {c = c} {e = e} h r = through_identifies (λ x. Refuses meaning s x c e) a.implicit_tag h.is (λ p k. peeks_refuses p k) r
 
 -- no value stands where no tag does
 pub refuses_identifier : {V : Type 0} {meaning : V → Tree} {s : Shape} {a c : State} {e : Asn1DerError} → RefusesIdentifier a c e → Refuses meaning s a c e

@@ -4,7 +4,7 @@ use Rattle.std.proofs.lemmas.List.{append_cancel_left}
 use Rattle.std.proofs.Math.Seq.{take-append-add}
 use Rattle.picky_der_core.specs.declared.error.Asn1DerError.{Asn1DerError}
 use Rattle.picky_der_core.specs.Element.{length_octets}
-use Rattle.picky_der_core.specs.ElementLaws.{len_prefix}
+use Rattle.picky_der_core.specs.ElementLaws.{length_octets_prefix}
 use Rattle.picky_der_core.specs.Refusal.{Refusal, refusal_of, header_refusal}
 use Rattle.picky_der_core.specs.Shape.{Shape}
 use Rattle.picky_der_core.specs.Tree.{ListKind, Tree, trees}
@@ -19,7 +19,7 @@ use Rattle.picky_der_input.proofs.Steps.{judged_after}
 use Rattle.picky_der_input.proofs.Order.{judged_alike}
 use Rattle.picky_der_input.proofs.Ends.{judged_with_inner_end}
 use Rattle.picky_der_input.proofs.Headers.{header-read}
-use Rattle.picky_der_input.proofs.Refusals.{consumed}
+use Rattle.picky_der_input.proofs.Refusals.{front_consumed}
 use Rattle.picky_der_de.specs.Members.{members_encoding, StandBefore, BreaksOrder, RefusesAll, RefusesUnordered}
 use Rattle.picky_der_de.proofs.Members.{opened_in_order, whole_in_order}
 
@@ -28,7 +28,7 @@ same_header : (d : Option ℕ) (n m until_end left : ℕ) (x y : List ℕ) → u
     → header_bytes d 0x31 n ++ x ≡ header_bytes d 0x31 m ++ y → (n ≡ m) × (x ≡ y)
 same_header None n m until_end left x y is a b e =
     let lengths : length_octets n ++ x ≡ length_octets m ++ y = cc in
-    len_prefix n m x y lengths
+    length_octets_prefix n m x y lengths
 same_header (Some number) n m until_end left x y is a b e = (omega arith, e)
 
 -- a header that stands there isn't refused
@@ -48,7 +48,7 @@ module _ {V : Type 0} {meaning : V → Tree} {s : Shape} where
   pub unordered_refused : {a b c : State} {outer : Outer} {e : Asn1DerError} → OpensList 0x31 a b outer → RefusesAll meaning s b c e → RefusesUnordered meaning s a c e
   unordered_refused {a} {b} {c} {outer} {e} h r j vs v out bs rest known in_set =
       let members = members_encoding (trees (map meaning (vs ++ v ∷ []))) in
-      let p = consumed a.input h.mid.input (header_bytes a.implicit_tag 0x31 h.size) bs h.begins.takes.input known in
+      let p = front_consumed a.input h.mid.input (header_bytes a.implicit_tag 0x31 h.size) bs h.begins.takes.input known in
       let q = same_header a.implicit_tag in_set.size h.size a.until_end h.mid.until_end (members ++ rest) p.0 h.begins.takes.until_end in_set.all h.begins.all (sym in_set.begins ∙ p.2) in
       let open_input : b.input ≡ Some p.0 = ap (λ (z : State). z.input) h.opened ∙ p.1 in
       let ahead : b.until_end ≡ h.size = ap (λ (z : State). z.until_end) h.opened in
@@ -68,7 +68,7 @@ module _ {V : Type 0} {meaning : V → Tree} {s : Shape} where
         broken = λ o. out.broken (whole_in_order ListKind.set (trees (map meaning (vs ++ v ∷ []))) h o);
       } in
       let t = r.lesser judged vs v breaks stand in
-      let left = consumed b.input t.mid.input members p.0 t.takes.input open_input in
+      let left = front_consumed b.input t.mid.input members p.0 t.takes.input open_input in
       let same : left.0 ≡ rest = append_cancel_left members left.0 rest (sym left.2 ∙ sym q.1) in
       record {
         error = t.error;

@@ -30,8 +30,8 @@ impl<'a, R: ReadExt> Sequence<'a, R> {
     ghost use Rattle.picky_der_ser.specs.Meaning.{unless_default};
     ghost use Rattle.picky_der_de.specs.Layouts.{Lacks, RefusesOptional, RefusesDefault};
 
-    /// Reads the next `len` bytes as members, without a header. Directly under an implicit tag that tag's special
-    /// reading is given up, and its end is the one around this. No order of members is tested.
+    /// Reads the next `len` bytes as members, without a header. Directly under an implicit tag the members have their own
+    /// headers, and that tag's end is the one around this. No order of members is tested.
     ///
     /// Where these bytes reach past the innermost end, the deserializer has failed: with `InvalidData` at a hard end,
     /// and `TruncatedData` at a soft one.

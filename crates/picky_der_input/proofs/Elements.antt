@@ -26,7 +26,7 @@ use Rattle.picky_der_input.proofs.Headers.{is_number, same_byte, length_tlv, hea
 use Rattle.picky_der_input.proofs.PlainReads.{refuses_header, refuses_cut, reads_plain}
 use Rattle.picky_der_input.specs.PlainKindLaws.{bytes_kind}
 
--- ---- the special reading is given up
+-- ---- without the implicit tag
 
 takes_with_implicit_tag : {a c : State} {bs : List ℕ} → Takes (without_implicit_tag a) c bs → Takes a c bs
 takes_with_implicit_tag t = record {

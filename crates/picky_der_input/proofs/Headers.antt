@@ -5,7 +5,7 @@ use Rattle.std.specs.Io.KnownBytes.{Keeps}
 use Rattle.picky_der_core.specs.declared.error.Asn1DerError.{Asn1DerError}
 use Rattle.picky_der_core.specs.declared.error.Asn1DerError.TheVariants.{TruncatedData, InvalidData}
 use Rattle.picky_der_core.specs.Element.{length_octets, tlv}
-use Rattle.picky_der_core.specs.ElementLaws.{len_prefix}
+use Rattle.picky_der_core.specs.ElementLaws.{length_octets_prefix}
 use Rattle.picky_der_core.specs.LengthLaws.{length_of-length_octets}
 use Rattle.picky_der_core.specs.Tag.{number_of, is_tag_number, IsTagNumber}
 use Rattle.picky_der_core.specs.Refusal.{error_past_end, missing_byte, length_of, within_end, header, header_refusal, refusal_of}
@@ -14,7 +14,7 @@ use Rattle.picky_der_input.specs.Steps.{Takes, Fails, IsMissing, IsJudged, faile
 use Rattle.picky_der_input.specs.Reading.{Concerns, IsJustRefused}
 use Rattle.picky_der_input.specs.Headers.{StopsLength, cut, bad, RefusesLength, StopsContentLength, no_length, too_long, RefusesContentLength, NoElement, RefusesHeader}
 use Rattle.picky_der_input.proofs.Steps.{takes_then, fails_after, judged_after}
-use Rattle.picky_der_input.proofs.Refusals.{parted, concerns_behind, cut_grows, tells_after, missing_here, past_end, missing_first, taken_first}
+use Rattle.picky_der_input.proofs.Refusals.{split_behind, concerns_behind, cut_grows, tells_after, missing_here, past_end, missing_first, taken_first}
 use Rattle.picky_der_input.proofs.Lengths.{cut_after}
 use Rattle.picky_der_input.proofs.Known.{just_cut, just_taken, just_missing}
 
@@ -60,7 +60,7 @@ unfolding tlv
 header_length tag n content rest z e =
     let f : tag ∷ (length_octets n ++ rest) ≡ tag ∷ ((length_octets (length content) ++ content) ++ z) = e in
     let g : length_octets n ++ rest ≡ length_octets (length content) ++ (content ++ z) = (cc) ∙ append_assoc (length_octets (length content)) content z in
-    len_prefix n (length content) rest (content ++ z) g
+    length_octets_prefix n (length content) rest (content ++ z) g
 
 -- where there is no length there is no element
 no_length_no_element : (tag : ℕ) (bytes content z : List ℕ) → ((lacking : Asn1DerError) → length_of lacking bytes ≡ Err (lacking, [])) → length content < 2 ^ 64 → tag ∷ bytes ≡ tlv tag content ++ z → ⊥
@@ -83,7 +83,7 @@ bad_length_no_element tag bytes rest content z e h small q =
 
 -- what was taken holds the element that stands before an end right behind it
 within_taken : (tag : ℕ) (bytes rest content z : List ℕ) → (tag ∷ bytes) ++ rest ≡ tlv tag content ++ z → length (tlv tag content) ≤ length (tag ∷ bytes) → (w : List ℕ) × (tag ∷ bytes ≡ tlv tag content ++ w)
-within_taken tag bytes rest content z e l = let p = parted (tag ∷ bytes) (tlv tag content) z rest e l in (p.0, p.1)
+within_taken tag bytes rest content z e l = let p = split_behind (tag ∷ bytes) (tlv tag content) z rest e l in (p.0, p.1)
 
 -- ---- refused headers
 

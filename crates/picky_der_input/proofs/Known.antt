@@ -15,7 +15,7 @@ use Rattle.picky_der_core.specs.Peeking.{count_of_any}
 use Rattle.picky_der_input.specs.State.{State}
 use Rattle.picky_der_input.specs.Steps.{Takes, IsMissing, end_is_here, input_ended, IsCut, failed_with, is_hard, error_at_end}
 use Rattle.picky_der_input.specs.Reading.{IsJustRefused}
-use Rattle.picky_der_input.proofs.Refusals.{consumed, at_end_of}
+use Rattle.picky_der_input.proofs.Refusals.{front_consumed, at_end_of}
 
 -- ---- what stands before the end
 
@@ -28,7 +28,7 @@ pub record TakenFront (left : Option (List ℕ)) (r q : ℕ) (h bs : List ℕ) :
 
 pub front : (i j : Option (List ℕ)) {r q : ℕ} {h bs : List ℕ} → Consumes i j h → r ≡ length h + q → i ≡ Some bs → TakenFront j r q h bs
 front i j {r} {q} {h} {bs} c e k =
-    let p = consumed i j h bs c k in
+    let p = front_consumed i j h bs c k in
     record {
       rest = p.0;
       known = p.1;

@@ -15,7 +15,7 @@ use Rattle.picky_der_input.specs.Headers.{RefusesHeader}
 use Rattle.picky_der_input.specs.Ends.{Outer, innermost, with_inner_end, with_outer_end}
 use Rattle.picky_der_input.specs.Enclosures.{enclosure_tag, HasEnclosureNumber, unused_bits, counts_unused_bits, implicit_number, unused_bits_refusal, refusal_behind, opening_refusal, OpensEnclosure, RefusesOpening, BeginsEnclosure, StopsUnusedBits, count_missing, count_other, RefusesUnusedBits}
 use Rattle.picky_der_input.proofs.Steps.{takes_then, takes_none, fails_after, judged_after}
-use Rattle.picky_der_input.proofs.Refusals.{consumed, concerns_behind, failed_grows, missing_here, taken_first, at_end_of}
+use Rattle.picky_der_input.proofs.Refusals.{front_consumed, concerns_behind, failed_grows, missing_here, taken_first, at_end_of}
 use Rattle.picky_der_input.proofs.Known.{front_of, just_taken, kept_known, peeked_kept}
 use Rattle.picky_der_input.proofs.Headers.{header_length}
 use Rattle.picky_der_input.proofs.PlainReads.{just_map}
@@ -166,7 +166,7 @@ same_innermost {a} {b} t =
 not_refused : {w : Enclosure} {a b c : State} {outer : Outer} {bs : List ℕ} (h : BeginsEnclosure w a b outer) → Takes (with_inner_end h.mid h.size Hard) c (unused_bits w) → a.input ≡ Some bs → opening_refusal w a (take a.until_end bs) ≡ None
 not_refused {w} {a} {c = c} h t k =
     let f = front_of h.takes k in
-    let p = consumed h.mid.input c.input (unused_bits w) f.rest t.input f.known in
+    let p = front_consumed h.mid.input c.input (unused_bits w) f.rest t.input f.known in
     ap (opening_refusal w a) f.before ∙ opening_read w a h.size h.mid.until_end (take h.mid.until_end f.rest) h.number (below h) h.takes.until_end h.fits
     ∙ behind_read w h.size h.mid.until_end f.rest p.0 p.2 (omega (arith, t.until_end)) h.fits
 

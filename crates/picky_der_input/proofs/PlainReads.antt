@@ -67,9 +67,9 @@ pub record SeenContent (mid new : State) (e : Asn1DerError) (n : ℕ) (t : Tree)
   pub begins : seen ≡ content t ++ rest
   pub size : length (content t) ≡ n
 
-pub begun : {a b c : State} {s : Shape} {e : Asn1DerError} {tag n end : ℕ} {bs : List ℕ} {t : Tree} → BeginsContent tag a b n → b.taken ≤ drawn_count c → is_plain t ≡ true → plain_tag t ≡ tag
+pub seen_content : {a b c : State} {s : Shape} {e : Asn1DerError} {tag n end : ℕ} {bs : List ℕ} {t : Tree} → BeginsContent tag a b n → b.taken ≤ drawn_count c → is_plain t ≡ true → plain_tag t ≡ tag
     → Concerns a c e end bs → StandsAt (place_of a) s bs end t → SeenContent b c e n t
-begun {a} {b} {c} {s} {e} {tag} {n} {end} {bs} {t} h g p k w st =
+seen_content {a} {b} {c} {s} {e} {tag} {n} {end} {bs} {t} h g p k w st =
     let v = concerns_behind h.takes g w in
     let st' : StandsAt (place_of a) s (header_bytes a.implicit_tag tag n ++ v.rest) end t = subst (λ x. StandsAt (place_of a) s x end t) v.begins st in
     let q = content_stands a.implicit_tag tag n a.until_end end s v.rest t p k (all_of a.implicit_tag tag n a.until_end b.until_end h.takes.until_end h.all) st' in
@@ -160,7 +160,7 @@ behind_header : {V : Type 0} {meaning : V → Tree} {s : Shape} {tag n : ℕ} {j
 behind_header {s = s} {tag = tag} {n = n} {a = a} {b = b} kind h f none just = record {
   refuses = record {
     fails = fails_after h.takes f;
-    none = λ j end bs w v st. none (judged_after h.takes j) v st.of_shape (begun h (failed_grows f) (kind.plain v) (kind.tagged v) w st);
+    none = λ j end bs w v st. none (judged_after h.takes j) v st.of_shape (seen_content h (failed_grows f) (kind.plain v) (kind.tagged v) w st);
     first = λ j k d x left l q. first_of_header s a.implicit_tag a.input b.input tag n kind.first h.takes.input d left l q;
   };
   just = λ j. just (judged_after h.takes j);

@@ -12,21 +12,21 @@ use Rattle.picky_der_input.proofs.Steps.{judged_after}
 
 -- ---- lists with a front
 
--- parted behind that front
-pub parted : (d h cs left : List ℕ) → d ++ left ≡ h ++ cs → length h ≤ length d → (e : List ℕ) × (d ≡ h ++ e) × (cs ≡ e ++ left)
-parted d [] cs left e l = (d, refl, sym e)
-parted [] (x ∷ h) cs left e l = absurd (omega arith)
-parted (y ∷ d) (x ∷ h) cs left e l =
-    let q = parted d h cs left (cc) (omega arith) in
+-- split behind that front
+pub split_behind : (d h cs left : List ℕ) → d ++ left ≡ h ++ cs → length h ≤ length d → (e : List ℕ) × (d ≡ h ++ e) × (cs ≡ e ++ left)
+split_behind d [] cs left e l = (d, refl, sym e)
+split_behind [] (x ∷ h) cs left e l = absurd (omega arith)
+split_behind (y ∷ d) (x ∷ h) cs left e l =
+    let q = split_behind d h cs left (cc) (omega arith) in
     let p : y ≡ x = cc in
     let r : d ≡ h ++ q.0 = q.1 in
     (q.0, cc, q.2)
 
 -- known bytes begin with those that were taken
-pub consumed : (i j : Option (List ℕ)) (h bs : List ℕ) → Consumes i j h → i ≡ Some bs → (cs : List ℕ) × (j ≡ Some cs) × (bs ≡ h ++ cs)
-consumed None j h bs c e = absurd (let q : None ≡ Some bs = e in cc)
-consumed (Some xs) None h bs c e = absurd c
-consumed (Some xs) (Some ys) h bs c e = (ys, refl, cc)
+pub front_consumed : (i j : Option (List ℕ)) (h bs : List ℕ) → Consumes i j h → i ≡ Some bs → (cs : List ℕ) × (j ≡ Some cs) × (bs ≡ h ++ cs)
+front_consumed None j h bs c e = absurd (let q : None ≡ Some bs = e in cc)
+front_consumed (Some xs) None h bs c e = absurd c
+front_consumed (Some xs) (Some ys) h bs c e = (ys, refl, cc)
 
 -- ---- behind what was taken
 
@@ -57,11 +57,11 @@ cut_grows m = omega (arith, m.taken)
 
 pub concerns_behind : {a b c : State} {k : Asn1DerError} {h : List ℕ} {end : ℕ} {bs : List ℕ} → Takes a b h → b.taken ≤ drawn_count c → Concerns a c k end bs → ConcernsBehind a b c k h end bs
 concerns_behind {a} {b} {c} {k} {h} {end} {bs} t f (now e r) =
-    let q = consumed a.input b.input h bs t.input e in
+    let q = front_consumed a.input b.input h bs t.input e in
     record { left = b.until_end; rest = q.0; begins = q.2; concerns = now q.1 refl; ends = omega (arith, t.until_end) }
 concerns_behind {a} {b} {c} {k} {h} {end} {bs} t f (ever n r d y left e m g) =
-    let q = consumed a.input b.input h (d ++ left) t.input e in
-    let p = parted d h q.0 left q.2 (omega (arith, f, t.taken)) in
+    let q = front_consumed a.input b.input h (d ++ left) t.input e in
+    let p = split_behind d h q.0 left q.2 (omega (arith, f, t.taken)) in
     let i : b.input ≡ Some (p.0 ++ left) = q.1 ∙ ap (λ (z : List ℕ). Some z) p.2 in
     let u : bs ≡ h ++ (p.0 ++ y) = g ∙ ap (λ (z : List ℕ). z ++ y) p.1 ∙ append_assoc h p.0 y in
     let v : length d ≡ length h + length p.0 = ap (λ (z : List ℕ). length z) p.1 ∙ length-append h p.0 in
@@ -114,4 +114,4 @@ missing_first s {k} {b} {left} (end_is_here z m) l e = omega arith
 missing_first s {k} {b} {left} (input_ended r z m) l e = let q : b ∷ left ≡ [] = at_end_of s.input (b ∷ left) z e in cc
 
 pub taken_first : (i j : Option (List ℕ)) (x y : ℕ) (h left : List ℕ) → Consumes i j (x ∷ h) → i ≡ Some (y ∷ left) → y ≡ x
-taken_first i j x y h left t e = let q = consumed i j (x ∷ h) (y ∷ left) t e in let p : y ∷ left ≡ x ∷ (h ++ q.0) = q.2 in cc
+taken_first i j x y h left t e = let q = front_consumed i j (x ∷ h) (y ∷ left) t e in let p : y ∷ left ≡ x ∷ (h ++ q.0) = q.2 in cc

@@ -85,8 +85,8 @@ judged_after h j = record {
   memory = j.memory;
 }
 
-pub unmoved : (a : State) → IsUnmoved a a
-unmoved a = record { input = Keeps-refl a.input; taken = refl; peeked = refl; faults = refl }
+pub IsUnmoved-refl : (a : State) → IsUnmoved a a
+IsUnmoved-refl a = record { input = Keeps-refl a.input; taken = refl; peeked = refl; faults = refl }
 
 took_none : (a : State) → TakesSome a a
 took_none a = record { bytes = []; input = Consumes-nil a.input; count = omega arith }
@@ -95,7 +95,7 @@ took_none a = record { bytes = []; input = Consumes-nil a.input; count = omega a
 pub fails_again : (a : State) {e : Asn1DerError} → a.failed ≡ Some (failure_of e) → Fails a a e
 fails_again a {e} h = record {
   failed = h;
-  again = λ f w. (let q : Some (failure_of e) ≡ Some f = sym h ∙ w in cc, unmoved a);
+  again = λ f w. (let q : Some (failure_of e) ≡ Some f = sym h ∙ w in cc, IsUnmoved-refl a);
   faults = TellsFault.no_fault refl;
   unpeeked = λ more. absurd (more refl);
   other = λ w. absurd (let q : None ≡ Some (failure_of e) = sym w ∙ h in cc);

@@ -14,7 +14,7 @@ use Rattle.picky_der_input.specs.Reading.{Reads, Refuses, AreNotRefused, AreJust
 abbrev pub raw_refusal : State → List ℕ → Option Refusal
 raw_refusal s rest = element_refusal (is_hard s.end) s.until_end rest
 
--- directly under an implicit tag that tag's special reading was given up
+-- directly under an implicit tag what stands there is read with its own header
 abbrev pub without_implicit_tag : State → State
 without_implicit_tag s = record s { implicit_tag = None }
 

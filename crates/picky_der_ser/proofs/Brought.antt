@@ -12,8 +12,8 @@ rotated c h room more count =
     ap (λ k. drop k (c ++ h) ++ take k (c ++ h)) n ∙ ap (λ x. x ++ take (length c + room) (c ++ h)) (drop-append-add c h room) ∙ ap (λ x. drop room h ++ x) (take-append-add c h room)
 
 -- two turns are one
-pub turned : (bs : List ℕ) (i j : ℕ) → i + j ≤ length bs → slice_rotate_right (slice_rotate_right bs i) j ≡ slice_rotate_right bs (i + j)
-turned bs i j h =
+pub turn_twice : (bs : List ℕ) (i j : ℕ) → i + j ≤ length bs → slice_rotate_right (slice_rotate_right bs i) j ≡ slice_rotate_right bs (i + j)
+turn_twice bs i j h =
     let k = length bs - i in
     let m = length bs - (i + j) in
     let last = drop k bs in
@@ -41,9 +41,9 @@ filled a r x f at count n i j k l =
     rw (front, last, others) refl
 
 -- bytes behind a list, brought in front of its content: the first of them in place of the room
-pub brought : (s h : List ℕ) (at start more : ℕ) → at ≤ start → start ≤ length s → length h ≡ (start - at) + more
+pub in_front_of_content : (s h : List ℕ) (at start more : ℕ) → at ≤ start → start ≤ length s → length h ≡ (start - at) + more
     → with_overwrite at (start - at) (length (take start (s ++ h) ++ slice_rotate_right (drop start (s ++ h)) more) - (start - at)) (take start (s ++ h) ++ slice_rotate_right (drop start (s ++ h)) more) ≡ take at s ++ (h ++ drop start s)
-brought s h at start more room within count =
+in_front_of_content s h at start more room within count =
     let c = drop start s in
     let width = start - at in
     let a = take at s in

@@ -11,15 +11,15 @@ use Rattle.picky_der_ser.specs.declared.header.Header.{Header}
 use Rattle.picky_der_ser.specs.declared.header.Header.TheVariants.{Tagged, Application, Raw}
 use Rattle.picky_der_ser.specs.Headers.{wrapper_opening, own_header, wrapper_openings, innermost_joint_header, headed_wrappers, headers}
 
-len_size : (n : ℕ) → 0 < length (length_octets n)
-len_size n = elim (cases_lt n 0x80) [
+length_octets_some : (n : ℕ) → 0 < length (length_octets n)
+length_octets_some n = elim (cases_lt n 0x80) [
   | inl short ↦ rw (length_octets-short n short) (omega arith)
   | inr long ↦ rw (length_octets-long n long) (omega arith)
 ]
 
-len_more : (m n : ℕ) → m ≤ n → length (length_octets m) ≤ length (length_octets n)
-len_more m n h = elim (cases_lt m 0x80) [
-  | inl short ↦ rw (length_octets-short m short) (omega (arith, len_size n))
+length_octets_more : (m n : ℕ) → m ≤ n → length (length_octets m) ≤ length (length_octets n)
+length_octets_more m n h = elim (cases_lt m 0x80) [
+  | inl short ↦ rw (length_octets-short m short) (omega (arith, length_octets_some n))
   | inr long ↦
       let below = below-big_endian n in
       let few = length-big_endian (length (big_endian n)) m (omega (arith, below)) in
@@ -27,14 +27,14 @@ len_more m n h = elim (cases_lt m 0x80) [
 ]
 
 opening_more : (w : Wrapper) (m n : ℕ) → m ≤ n → length (wrapper_opening w m) ≤ length (wrapper_opening w n)
-opening_more OctetContainer m n h = let s = len_more m n h in omega (arith, s)
-opening_more BitContainer m n h = let s = len_more (suc m) (suc n) (omega arith) in omega (arith, s, length-append (length_octets (suc m)) (0x00 ∷ []), length-append (length_octets (suc n)) (0x00 ∷ []))
-opening_more (Explicit k) m n h = let s = len_more m n h in omega (arith, s)
-opening_more (Implicit k) m n h = let s = len_more m n h in omega (arith, s)
+opening_more OctetContainer m n h = let s = length_octets_more m n h in omega (arith, s)
+opening_more BitContainer m n h = let s = length_octets_more (suc m) (suc n) (omega arith) in omega (arith, s, length-append (length_octets (suc m)) (0x00 ∷ []), length-append (length_octets (suc n)) (0x00 ∷ []))
+opening_more (Explicit k) m n h = let s = length_octets_more m n h in omega (arith, s)
+opening_more (Implicit k) m n h = let s = length_octets_more m n h in omega (arith, s)
 
 own_more : (h : Header) (m n : ℕ) → m ≤ n → length (own_header h m) ≤ length (own_header h n)
-own_more (Tagged tag) m n h = let s = len_more m n h in omega (arith, s)
-own_more (Application k) m n h = let s = len_more m n h in omega (arith, s)
+own_more (Tagged tag) m n h = let s = length_octets_more m n h in omega (arith, s)
+own_more (Application k) m n h = let s = length_octets_more m n h in omega (arith, s)
 own_more Raw m n h = omega arith
 
 openings_more : (ws : List Wrapper) (inner others : List ℕ) (m n : ℕ) → length inner ≤ length others → m ≤ n → length (wrapper_openings ws inner m) ≤ length (wrapper_openings ws others n)

@@ -41,7 +41,7 @@ fn rotate_from(out: &mut Vec<u8>, start: usize, count: usize)
     turn(&mut out[start..], count);
 }
 
-// The last `count` bytes stand instead of those from `at` on.
+// Moves the last `count` bytes over those from `at` on.
 fn fill_from_last(out: &mut Vec<u8>, at: usize, count: usize)
     requires { at + count + count ≤ vec_len out.old }
     ensures { out.new.items ≡ with_overwrite at count (length out.old.items - count) out.old.items }

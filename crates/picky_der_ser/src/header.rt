@@ -78,7 +78,8 @@ fn reverse_from(out: &mut Vec<u8>, start: usize)
 fn push_opening(out: &mut Vec<u8>, wrapper: Wrapper, len: usize) -> Result<(), AllocError>
     requires number { HasTagNumber wrapper }
     requires fits { len + 1 < 2 ^ 64 }
-    ensures ok { OnOk result (out.new.items ≡ out.old.items ++ reverse (wrapper_opening wrapper len)) }
+    ensures ok { OnOk result
+        (out.new.items ≡ out.old.items ++ reverse (wrapper_opening wrapper len)) }
     ensures grows { vec_len out.old ≤ vec_len out.new }
 {
     match wrapper {

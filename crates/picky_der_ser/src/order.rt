@@ -43,7 +43,8 @@ fn cut<'a>(content: &'a [u8], seams: &[usize], alloc: Global) -> Result<Vec<&'a 
 fn sorted_content(content: &[u8], seams: &[usize], alloc: Global) -> Result<Vec<u8>, AllocError>
     requires ascending { AreSeams 0 seams.now }
     requires within { last_seam 0 seams.now ≤ length content.now }
-    ensures { IfOk result (λ all. all.items ≡ concat (in_ascending_order (cut_at_seams seams.now content.now))) }
+    ensures { IfOk result (λ all. all.items
+        ≡ concat (in_ascending_order (cut_at_seams seams.now content.now))) }
 {
     let mut members = cut(content, seams, alloc)?;
     members.sort()?;

@@ -59,7 +59,8 @@ impl Length {
         ensures count { IfOk result (λ n. n ≡ length (length_octets len)) }
         ensures appends { OnOk result (Appends (W.written writer.old) (W.written writer.new)
             (length_octets len)) }
-        ensures beginning { OnErr result (AppendsTooFew (W.written writer.old) (W.written writer.new)
+        ensures beginning { OnErr result (AppendsTooFew (W.written writer.old)
+            (W.written writer.new)
             (length_octets len)) }
         ensures fault { IfErr result (λ e. WriterFails W.WriteExt.own writer.old e writer.new) }
         ensures no_fault { OnOk result (W.faults writer.new ≡ W.faults writer.old) }

@@ -161,7 +161,8 @@ impl<R: ReadExt> ReadExt for PeekableReader<R> {
             (λ b. (result ≡ Ok (Some b)) × (self.new.reader ≡ self.old.reader)) }
         ensures unpeeked { OnOk result (self.new.peeked ≡ None) }
         ensures kept { OnErr result (self.new.peeked ≡ self.old.peeked) }
-        ensures pos { IfOk result (λ next. self.new.pos ≡ position_behind self.old.pos (count_of_any next)) }
+        ensures pos { IfOk result
+            (λ next. self.new.pos ≡ position_behind self.old.pos (count_of_any next)) }
         ensures same_pos { OnErr result (self.new.pos ≡ self.old.pos) }
         ensures fault { IfErr result (FailsOnce (R.faults self.old.reader)
             (R.faults self.new.reader) (left_in R.remaining self.new)) }

@@ -29,7 +29,8 @@ pub trait WriteExt: Write {
     fn write_exact(&mut self, bytes: &[u8]) -> io::Result<usize>
         ensures count { IfOk result (λ n. n ≡ length bytes.now) }
         ensures appends { OnOk result (Appends (written self.old) (written self.new) bytes.now) }
-        ensures beginning { OnErr result (AppendsTooFew (written self.old) (written self.new) bytes.now) }
+        ensures beginning { OnErr result
+            (AppendsTooFew (written self.old) (written self.new) bytes.now) }
         ensures fault { IfErr result (λ e. (faults self.new ≡ suc (faults self.old))
             × answers (error_kind e)) }
         ensures no_fault { OnOk result (faults self.new ≡ faults self.old) }

@@ -67,8 +67,8 @@ impl<R: ReadExt> Input<R> {
         Ok(outer)
     }
 
-    /// Opens a soft end `len` bytes from here, before which no order is tested. Directly under an implicit tag that tag's
-    /// special reading is given up.
+    /// Opens a soft end `len` bytes from here, before which no order is tested. Directly under an implicit tag what stands
+    /// there has its own header.
     ///
     /// Where these bytes reach past the innermost end, the input has failed: with `InvalidData` at a hard end, and else with
     /// `TruncatedData`. One that had failed stays as it is.

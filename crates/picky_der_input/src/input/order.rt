@@ -51,7 +51,7 @@ impl<R: ReadExt> Input<R> {
         }
     }
 
-    // Keeps the encoding of a member in start of that of the one before it, where the order is tested. Without room for both
+    // Keeps the encoding of a member in place of that of the one before it, where the order is tested. Without room for both
     // nothing changes.
     fn keep_last(&mut self, member: &[u8]) -> std::result::Result<(), AllocError>
         ensures ok { OnOk result

@@ -42,8 +42,7 @@ impl<R: ReadExt> Input<R> {
     }
 
     /// Takes the next element whole, and answers its bytes, the header's too. They aren't looked at, but for where they
-    /// end. Directly under an implicit tag the element stands with its header, and that tag's special reading is given
-    /// up.
+    /// end. Directly under an implicit tag the element stands with its own header.
     ///
     /// `UnsupportedValue` for a tag whose number is 31, which announces the long form; the refusals of a length and of
     /// an end; `OutOfMemory` where memory is refused; else the reader's fault.

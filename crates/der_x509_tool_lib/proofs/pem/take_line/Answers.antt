@@ -4,7 +4,7 @@ use Rattle.std.proofs.lemmas.Result.{err_from_is_err_and}
 use Rattle.der_x509_tool_lib.specs.Blocks.{IsTextLine}
 use Rattle.der_x509_tool_lib.specs.Run.{text_in}
 use Rattle.der_x509_tool_lib.proofs.Trimming.{without_outer_space-is}
-use Rattle.der_x509_tool_lib.proofs.Writing.{cut_written, cut_stopped, end_written, end_stopped, gathered}
+use Rattle.der_x509_tool_lib.proofs.Writing.{cut_written, cut_stopped, end_written, end_stopped, text_goes_on}
 use Rattle.der_x509_tool_lib.proofs.pem.take_line.Goals as goal
 
 pub returns-in_err-write_line-clause-err : goal.returns-in_err-write_line-clause-err
@@ -32,4 +32,4 @@ returns-clause-ok g c =
       ends_none = λ e. true≢false (sym (c.ends_block.ensures.1 e) ∙ c.if-ends_block.false);
     } in
     let extended = c.in_ok-extend_from_slice.ensures.items in
-    gathered (ap text_in c.in-Some.is) _ inside (ap Some (extended ∙ ap (λ l. c.in-Some.text.items ++ l) (without_outer_space-is _ _ c.trim_ascii.ensures.value)))
+    text_goes_on (ap text_in c.in-Some.is) _ inside (ap Some (extended ∙ ap (λ l. c.in-Some.text.items ++ l) (without_outer_space-is _ _ c.trim_ascii.ensures.value)))

@@ -5,7 +5,7 @@ use Rattle.picky_der_ser.specs.Headers.{headers}
 use Rattle.picky_der_ser.specs.Overwrite.{with_overwrite}
 use Rattle.picky_der_ser.proofs.HeaderBytes.{der-headers}
 use Rattle.picky_der_ser.proofs.HeaderSizes.{headers_more}
-use Rattle.picky_der_ser.proofs.Brought.{brought}
+use Rattle.picky_der_ser.proofs.Brought.{in_front_of_content}
 use Rattle.picky_der_ser.proofs.enclose.enclose_nested.Goals as goal
 
 pub overflow_sub-more-2 : goal.overflow_sub-more-2
@@ -33,5 +33,5 @@ returns-clause-ok c =
     let count : length h ≡ width + more = omega (arith, headers_more c.args.around.now c.args.header n, ap length is, length-append s h) in
     let size : n ≡ length (drop c.args.start s) = omega (arith, length-drop c.args.start s) in
     c.fill_from_last.ensures ∙ ap (λ w. with_overwrite c.args.at width (length w - width) w) (c.rotate_from.ensures.items ∙ ap (λ w. take c.args.start w ++ slice_rotate_right (drop c.args.start w) more) is)
-    ∙ brought s h c.args.at c.args.start more (omega arith) (omega arith) count
+    ∙ in_front_of_content s h c.args.at c.args.start more (omega arith) (omega arith) count
     ∙ ap (λ x. take c.args.at s ++ x) (ap (λ m. headers c.args.around.now c.args.header m ++ drop c.args.start s) size ∙ sym (der-headers c.args.around.now c.args.header (drop c.args.start s)))

@@ -1,10 +1,10 @@
 use Rattle.std.proofs.Common.{rules, refl, ◌<◌, ◌^◌, ◌∙◌, length, arith}
 use Rattle.picky_der_de.proofs.PassedOn.{refusal_passed_on, reads_at}
-use Rattle.der_tool_lib.proofs.AlgorithmIdentifierReads.{unopened, no_algorithm, no_parameters, left_over, reads_algorithm}
+use Rattle.der_tool_lib.proofs.AlgorithmIdentifierReads.{algorithm_unopened, no_algorithm, no_parameters, left_over, reads_algorithm}
 use Rattle.der_tool_lib.proofs.algorithm_identifier.AlgorithmIdentifierDeserialize.deserialize.Goals as goal
 
 pub returns-in_err-members-clause-err : goal.returns-in_err-members-clause-err
-returns-in_err-members-clause-err g c = refusal_passed_on _ c.from_residual.ensures.1 refl (unopened (rw c.in_err-members.was at c.deserialize_seq.follows.holds-at-none))
+returns-in_err-members-clause-err g c = refusal_passed_on _ c.from_residual.ensures.1 refl (algorithm_unopened (rw c.in_err-members.was at c.deserialize_seq.follows.holds-at-none))
 
 pub returns-in_err-algorithm-clause-err : goal.returns-in_err-algorithm-clause-err
 returns-in_err-algorithm-clause-err g c = refusal_passed_on _ c.from_residual-in_err-algorithm.ensures.1 (search rules) (no_algorithm c.in_ok-members.ensures.ok c.in_err-algorithm.ensures.err)

@@ -3,7 +3,7 @@ use Rattle.std.proofs.KnownBytes.{Consumes-nil}
 use Rattle.std.proofs.lemmas.Result.{err_from_is_err_and, IfOk-weaker, IfErr-weaker}
 use Rattle.picky_der_core.specs.ElementLaws.{length_octets-short}
 use Rattle.picky_der_core.specs.ReaderLaws.{tells_fault}
-use Rattle.picky_der_core.proofs.LengthSteps.{none_from_refused, refused_missing, no_device, refused_count, length_first, length_more, length_below, refused_cut, Consumes-shortest, refused_longer, read_len}
+use Rattle.picky_der_core.proofs.LengthSteps.{none_from_refused, refused_missing, no_device, refused_count, length_first, length_more, length_below, refused_cut, Consumes-shortest, refused_longer, read_length_octets}
 use Rattle.picky_der_core.proofs.misc.length.Length.deserialized.Goals as goal
 
 -- ---- the first byte
@@ -90,7 +90,7 @@ returns-clause-ok g c =
 pub returns-clause-read : goal.returns-clause-read
 returns-clause-read g c =
     let t = c.loop.invariant.taken in
-    IfOk-weaker c.shortest.result _ _ (λ n h. rw h.0 (read_len _ _ _ (omega arith) (Consumes-shortest t c.in_ok-count.ensures.ok (omega arith) h.1))) c.shortest.ensures.ok
+    IfOk-weaker c.shortest.result _ _ (λ n h. rw h.0 (read_length_octets _ _ _ (omega arith) (Consumes-shortest t c.in_ok-count.ensures.ok (omega arith) h.1))) c.shortest.ensures.ok
 
 pub returns-clause-refused : goal.returns-clause-refused
 returns-clause-refused g c =
