@@ -37,11 +37,11 @@ module _ {W : Type 0} (g : Ghosts W) where
   discarded header {old} {mid} {lazy} {new} {n} {e} h kept o r =
       let failed : lazy.failed ≡ None = ap (λ (s : State W). s.failed) o.opened ∙ h.not_failed in
       let sink : lazy.sink ≡ mid.sink = ap (λ (s : State W). s.sink) o.opened in
-      let excuse : MemoryExcuse (IsWritable (Tree.unsigned 1)) e = subst (λ f. IfNone f (MemoryExcuse (IsWritable (Tree.unsigned 1)) e)) failed r.first in
+      let excuse : MemoryExcuse (IsWritable (Tree.unsigned 1)) e = subst (λ f. IfNone f (MemoryExcuse (IsWritable (Tree.unsigned 1)) e)) failed r.reason in
       record {
         failed = r.failed;
         again = rw h.had_not_failed tt;
-        first = rw h.had_not_failed (nothing_reached old.inside (under old.around Tree.absent) old.sink new.sink (only_memory excuse) (r.same ∙ sink ∙ kept));
+        reason = rw h.had_not_failed (nothing_reached old.inside (under old.around Tree.absent) old.sink new.sink (only_memory excuse) (r.same ∙ sink ∙ kept));
       }
 
   -- the same of the answer that passes the error on

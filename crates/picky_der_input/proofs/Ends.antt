@@ -75,7 +75,7 @@ pub closes_behind : {b c d : State} {n : ℕ} {kind : End} {outer : Outer} {byte
 closes_behind {b} {c} {d} {n} {kind} {outer} {bytes} l back t k =
     let size : length bytes ≡ n = omega (arith, t.until_end, k.reached) in
     let position : outer.position ≡ b.taken + b.until_end = ap (λ (o : Outer). o.position) back in
-    let new : State = record c { until_end = outer.position - c.taken; end = outer.kind; sets = cut_at outer.last c.sets.around } in
+    let new : State = record c { until_end = outer.position - c.taken; end = outer.kind; sets = cut_at outer.last_start c.sets.around } in
     let takes : Takes b new bytes = record {
       input = t.input;
       taken = t.taken;

@@ -29,8 +29,8 @@ cut_kept None around = refl
 cut_kept (Some last) around = cut_behind around last
 
 -- what was kept before an end was opened is kept again where it is closed
-pub put_back : {outer : Outer} {s : OpenSets} (b : State) → outer ≡ innermost b → s ≡ sets_inside None b.sets → cut_at outer.last s.around ≡ b.sets
-put_back b back is = ap₂ cut_at (ap (λ (o : Outer). o.last) back) (ap (λ (s : OpenSets). s.around) is) ∙ cut_kept b.sets.last b.sets.around
+pub put_back : {outer : Outer} {s : OpenSets} (b : State) → outer ≡ innermost b → s ≡ sets_inside None b.sets → cut_at outer.last_start s.around ≡ b.sets
+put_back b back is = ap₂ cut_at (ap (λ (o : Outer). o.last_start) back) (ap (λ (s : OpenSets). s.around) is) ∙ cut_kept b.sets.last b.sets.around
 
 -- ---- whatever is kept of the members before
 

@@ -17,11 +17,11 @@ use Rattle.picky_der_input.specs.Headers.{BeginsContent, RefusesBegin}
 pub record Outer : Type 0 where
   pub position : ℕ
   pub kind : End
-  pub last : Option ℕ
+  pub last_start : Option ℕ
 
 -- the innermost end, to be put back
 abbrev pub innermost : State → Outer
-innermost s = record { position = s.taken + s.until_end; kind = s.end; last = last_start s.sets }
+innermost s = record { position = s.taken + s.until_end; kind = s.end; last_start = last_start s.sets }
 
 -- an end of this kind was opened this many bytes from here
 abbrev pub with_inner_end : State → ℕ → End → State
@@ -29,7 +29,7 @@ with_inner_end s n kind = record s { until_end = n; end = kind; sets = sets_insi
 
 -- the end around the innermost one was put back
 abbrev pub with_outer_end : Outer → State → State
-with_outer_end outer s = record s { until_end = outer.position - s.taken; end = outer.kind; sets = cut_at outer.last s.sets.around }
+with_outer_end outer s = record s { until_end = outer.position - s.taken; end = outer.kind; sets = cut_at outer.last_start s.sets.around }
 
 -- the end was reached, and the one around it is the innermost again
 pub record Closes (outer : Outer) (old new : State) : Type 0 where

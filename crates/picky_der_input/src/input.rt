@@ -39,7 +39,7 @@ pub struct Input<R: ReadExt> {
     // The encodings of the last members of the sets that are open, one behind the other.
     kept: Vec<u8>,
     // Where the innermost end is that of a set, how many of these bytes are before its own.
-    last: Option<usize>,
+    last_start: Option<usize>,
     implicit_tag: Option<u8>,
     failed: Option<Failure>,
 }
@@ -60,7 +60,7 @@ impl<R: ReadExt> Model for Input<R> {
       limit = d.limit;
       until_end = d.until_end;
       end = d.end;
-      sets = cut_at d.last d.kept.items;
+      sets = cut_at d.last_start d.kept.items;
       implicit_tag = d.implicit_tag;
       failed = d.failed;
       faults = R.faults d.reader.reader;
@@ -71,7 +71,7 @@ impl<R: ReadExt> Model for Input<R> {
     ghost invariant = { λ d. (d.reader.pos + d.until_end < 2 ^ 64) × IsUnpeekedIfImplicit d.implicit_tag d.reader.peeked ×
         IsTagNumberIfAny d.implicit_tag
         × (d.reader.pos + d.until_end ≤ d.limit) × (d.reader.pos + count_of_any d.reader.peeked ≤ d.limit)
-        × IfSome d.last (λ start. start ≤ length d.kept.items) };
+        × IfSome d.last_start (λ start. start ≤ length d.kept.items) };
 }
 
 impl<R: ReadExt> Input<R> {
@@ -87,7 +87,7 @@ impl<R: ReadExt> Input<R> {
             until_end: max_len,
             end: End::Limit,
             kept: Vec::new(alloc),
-            last: None,
+            last_start: None,
             implicit_tag: None,
             failed: None,
         }
@@ -106,7 +106,7 @@ impl<R: ReadExt> Input<R> {
             until_end: _,
             end: _,
             kept: _,
-            last: _,
+            last_start: _,
             implicit_tag: _,
             failed: _,
         } = self;

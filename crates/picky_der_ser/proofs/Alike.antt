@@ -51,7 +51,7 @@ module _ {W : Type 0} (g : Ghosts W) where
   pub fails-alike : (t u : Tree) (old new : State W) (r : Result ℕ Asn1DerError) → AreAlike t u → IfErr r (λ e. RefusesWrite g t old e new) → IfErr r (λ e. RefusesWrite g u old e new)
   fails-alike t u old new (Ok n) a h = tt
   fails-alike t u old new (Err e) a h =
-      record { failed = h.failed; again = h.again; first = refused_first-alike old.failed _ _ _ _ _ e (alike-under old.around t u a) h.first }
+      record { failed = h.failed; again = h.again; reason = refused_first-alike old.failed _ _ _ _ _ e (alike-under old.around t u a) h.reason }
 
   outside-alike : (t u : Tree) (old new : State W) (r : Result ℕ Asn1DerError) → AreAlike t u → IfErr r (λ e. OnlySinkFails g t old e new) → IfErr r (λ e. OnlySinkFails g u old e new)
   outside-alike t u old new (Ok n) a h = tt

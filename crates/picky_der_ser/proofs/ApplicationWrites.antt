@@ -82,7 +82,7 @@ module _ {W : Type 0} (g : Ghosts W) (n : ℕ) (t : Tree) (old now : State W) (o
   pub application_refused : (new : State W) (d e : Asn1DerError) → RefusesToAdd g t now e new → d ≡ e → RefusesWrite g (Tree.application n t) old d new
   application_refused new d e h i =
       let sink : new.sink ≡ old.sink = h.same ∙ ap (λ (s : State W). s.sink) o.opened in
-      rw i (refused_part g (Tree.application n t) old new e (part_writable old.around n t) h.failed sink (subst (λ f. IfSome f (λ k. failure_of e ≡ k)) failed_at h.again) (subst (λ f. IfNone f (MemoryExcuse (IsWritable t) e)) failed_at h.first))
+      rw i (refused_part g (Tree.application n t) old new e (part_writable old.around n t) h.failed sink (subst (λ f. IfSome f (λ k. failure_of e ≡ k)) failed_at h.again) (subst (λ f. IfNone f (MemoryExcuse (IsWritable t) e)) failed_at h.reason))
 
 module _ {W : Type 0} (g : Ghosts W) where
   -- a tag number past 30
@@ -92,6 +92,6 @@ module _ {W : Type 0} (g : Ghosts W) where
       let past : has_tag_numbers (Tree.application n t) ≡ false = ap (λ b. b && has_tag_numbers t) number in
       let u = under old.around (Tree.application n t) in
       let refused = refused_unwritable g old.inside u old.sink (unwritable-by u (past_under old.around (Tree.application n t) past)) in
-      record { failed = refl; again = rw f tt; first = rw f refused }
+      record { failed = refl; again = rw f tt; reason = rw f refused }
 
 pub ruleset application = (application_wrote, application_failed, application_refused, application_past)

@@ -19,7 +19,7 @@ use Rattle.picky_der_ser.proofs.SetBytes.{final_content-uncut, in_order-uncut}
 -- ---- marks within more bytes, and fewer marks
 
 pub mark-more : {m : MarkView} {a b : ℕ} {q : List ℕ} {w : List Wrapper} → a ≤ b → IsMark m a q w → IsMark m b q w
-mark-more h k = record { numbers = k.numbers; number = k.number; room = k.room; outer = k.outer; first = k.first; within = omega (arith, h, k.within); ascending = k.ascending; least = k.least }
+mark-more h k = record { numbers = k.numbers; number = k.number; room = k.room; outer = k.outer; within_seams = k.within_seams; within = omega (arith, h, k.within); ascending = k.ascending; least = k.least }
 
 pub marks-more : (ms : List MarkView) {a b : ℕ} (q : List ℕ) (w : List Wrapper) → a ≤ b → AreMarks ms a q w → AreMarks ms b q w
 marks-more [] q w h k = tt
@@ -36,18 +36,18 @@ marks-next m ms n q w k =
     let own = drop m.first_seam q in
     let held : last_seam 0 own ≤ n - m.start = omega (arith, within) in
     let last = last_seam-next m.header own (n - m.start) held in
-    let is = drop-next_seams m.header m.first_seam q (n - m.start) k.0.first in
+    let is = drop-next_seams m.header m.first_seam q (n - m.start) k.0.within_seams in
     let first : IsMark m n (next_seams m.header q (n - m.start)) w = record {
       numbers = k.0.numbers;
       number = k.0.number;
       room = k.0.room;
       outer = k.0.outer;
-      first = omega (arith, k.0.first, length-next_seams m.header q (n - m.start));
+      within_seams = omega (arith, k.0.within_seams, length-next_seams m.header q (n - m.start));
       within = omega (arith, within, last, ap (last_seam 0) is);
       ascending = subst (AreSeams 0) (sym is) (seams-next m.header own (n - m.start) held k.0.ascending);
       least = k.0.least;
     } in
-    (first, subst (λ r. AreMarks ms m.at r (take m.first_wrapper w)) (sym (take-next_seams m.header m.first_seam q (n - m.start) k.0.first)) k.1)
+    (first, subst (λ r. AreMarks ms m.at r (take m.first_wrapper w)) (sym (take-next_seams m.header m.first_seam q (n - m.start) k.0.within_seams)) k.1)
 
 pub marks-at_next_member : {p : Option MarkView} {m : MarkView} (ms : List MarkView) (n : ℕ) (q r : List ℕ) (w : List Wrapper) → p ≡ Some m → AreMarks (with_pending p ms) n q w → r ≡ next_seams m.header q (n - m.start)
     → AreMarks (with_pending p ms) n r w
@@ -110,7 +110,7 @@ pub stack-at_next_member : (entered : Bool) {p : Option MarkView} {m : MarkView}
 stack-at_next_member true {p} {m} ms s q r w a was k e = tt
 stack-at_next_member false {p} {m} ms s q r w a was k e =
     let before : AreMarks (m ∷ ms) (length s) q w = subst (λ o. AreMarks (with_pending o ms) (length s) q w) was k in
-    let first = before.0.first in
+    let first = before.0.within_seams in
     let n = length s - m.start in
     let own : drop m.first_seam (next_seams m.header q n) ≡ next_seams m.header (drop m.first_seam q) (length (drop m.start s)) =
     drop-next_seams m.header m.first_seam q n first ∙ ap (next_seams m.header (drop m.first_seam q)) (sym (length-drop m.start s)) in
@@ -138,7 +138,7 @@ stack-as_raw_level false {p} {m} n ms s t q r w a was header at start first oute
     let whole = der (under (drop m.first_wrapper w) (tree_of m.header (drop m.start s))) in
     let front = take m.at s in
     let size : length front ≡ m.at = length-take-le m.at s (omega (arith, within, room)) in
-    let count : length (take m.first_seam q) ≡ m.first_seam = length-take-le m.first_seam q before.0.first in
+    let count : length (take m.first_seam q) ≡ m.first_seam = length-take-le m.first_seam q before.0.within_seams in
     let all : drop n.start t ≡ whole = ap (λ k. drop k t) (start ∙ sym size) ∙ ap (drop (length front)) e ∙ drop-append_seam front whole in
     let none : drop n.first_seam r ≡ [] = ap (λ k. drop k r) first ∙ ap (drop m.first_seam) f ∙ drop_all m.first_seam (take m.first_seam q) (omega (arith, count)) in
     let unwrapped : drop n.first_wrapper w ≡ [] = ap (λ k. drop k w) outer ∙ bare in

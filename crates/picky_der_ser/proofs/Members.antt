@@ -64,7 +64,7 @@ module _ {W : Type 0} (g : Ghosts W) where
   -- nothing was written: out of memory, or a part that can't be written
   pub refused_part : {Part : Type 0} (u : Tree) (old new : State W) (e : Asn1DerError) → (IsWritable (under old.around u) → Part) → new.failed ≡ Some (failure_of e) → new.sink ≡ old.sink
       → IfSome old.failed (λ f. failure_of e ≡ f) → IfNone old.failed (MemoryExcuse Part e) → RefusesWrite g u old e new
-  refused_part {Part} u old new e part failed same again first = record { failed = failed; again = earlier old.failed again; first = own old.failed first }
+  refused_part {Part} u old new e part failed same again reason = record { failed = failed; again = earlier old.failed again; reason = own old.failed reason }
     where
       earlier : (o : Option Failure) → IfSome o (λ f. failure_of e ≡ f) → IfSome o (λ f. (failure_of e ≡ f) × (new.sink ≡ old.sink))
       earlier None h = tt
@@ -81,7 +81,7 @@ module _ {W : Type 0} (g : Ghosts W) where
       let sink : new.sink ≡ old.sink = h.same ∙ ap (λ (s : State W). s.sink) a.is in
       let failed : now.failed ≡ old.failed = ap (λ (s : State W). s.failed) a.is in
       let part : IsWritable (under old.around (Tree.list kind all)) → Part = λ w. of_all a (subst (λ us. IsWritable (under old.around (Tree.list kind us))) a.split w) in
-      rw i (refused_part (Tree.list kind all) old new e part h.failed sink (subst (λ o. IfSome o (λ f. failure_of e ≡ f)) failed h.again) (subst (λ o. IfNone o (MemoryExcuse Part e)) failed h.first))
+      rw i (refused_part (Tree.list kind all) old new e part h.failed sink (subst (λ o. IfSome o (λ f. failure_of e ≡ f)) failed h.again) (subst (λ o. IfNone o (MemoryExcuse Part e)) failed h.reason))
 
   -- a member was refused
   pub list_refused : (kind : ListKind) (rest all : Trees) (t : Tree) (old now new : State W) (d e : Asn1DerError) → RefusesToAdd g t now e new → d ≡ e → Awaits kind (Trees.more t rest) all old now → RefusesWrite g (Tree.list kind all) old d new
@@ -96,7 +96,7 @@ module _ {W : Type 0} (g : Ghosts W) where
 
   pub fails_whatever : (t : Tree) (old new : State W) (p : Option Level) (r : Result ℕ Asn1DerError) → IfErr r (λ e. RefusesWrite g t (record old { pending = p }) e new) → IfErr r (λ e. RefusesWrite g t old e new)
   fails_whatever t old new p (Ok n) h = tt
-  fails_whatever t old new p (Err e) h = record { failed = h.failed; again = h.again; first = h.first }
+  fails_whatever t old new p (Err e) h = record { failed = h.failed; again = h.again; reason = h.reason }
 
   ended : (kind : ListKind) (all : Trees) (old now new : State W) (r : Result ℕ Asn1DerError) → EndsLevel g now r new → (a : Awaits kind Trees.none all old now)
       → WritesContent g (Tagged (list_tag kind)) (list_content kind (map der a.done)) (record old { pending = Some (level_with kind a.done old) }) r new

@@ -64,7 +64,7 @@ module _ {W : Type 0} (g : Ghosts W) where
       let refused = refused_unwritable old.inside (under old.around t) old.sink (unwritable-by (under old.around t) (past_under old.around t past)) in
       record {
         wrote = tt;
-        failed = record { failed = refl; again = rw f tt; first = rw f refused };
+        failed = record { failed = refl; again = rw f tt; reason = rw f refused };
         outside = λ w. absurd (unwritable-by t past w);
         refuses_unwritable = λ n failed. (refl, refl);
         counted = (omega arith, omega arith);

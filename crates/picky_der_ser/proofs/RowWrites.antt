@@ -61,7 +61,7 @@ module _ {W : Type 0} (g : Ghosts W) where
   all_stopped Trees.none new opened a h = absurd h
   all_stopped {t} {old} {between} {e} (Trees.more u us) new opened a h =
       let now = with_it old.pending (subst (λ o. IfNone o (IsSome old.pending)) a.had_not_failed opened) a.added in
-      record { failed = h.failed; same = h.same ∙ now.0; again = rw a.had_not_failed tt; first = rw a.had_not_failed (excuse_of_part (λ w. w.1) (subst (λ o. IfNone o (MemoryExcuse (AreWritable (Trees.more u us)) e)) now.1 h.first)) }
+      record { failed = h.failed; same = h.same ∙ now.0; again = rw a.had_not_failed tt; reason = rw a.had_not_failed (excuse_of_part (λ w. w.1) (subst (λ o. IfNone o (MemoryExcuse (AreWritable (Trees.more u us)) e)) now.1 h.reason)) }
     where
       with_it : (o : Option Level) → IsSome o → IfSome o (λ l. between ≡ with_level old (with_member l (der t))) → (between.sink ≡ old.sink) × (between.failed ≡ None)
       with_it None is k = cc

@@ -26,7 +26,7 @@ in_order-uncut l e = ap₂ (λ c ss. record l { content = c; seams = ss }) (sym 
 record SeamsDivide (seams content : List ℕ) (members : List (List ℕ)) : Type 0 where
   pub ascending : AreSeams 0 seams
   pub within : last_seam 0 seams ≤ length content
-  pub first : content ≡ [] → seams ≡ []
+  pub no_seam : content ≡ [] → seams ≡ []
   pub same : without_empty (cut_at_seams seams content) ≡ without_empty members
 
 without_empty-append : (xs ys : List (List ℕ)) → without_empty (xs ++ ys) ≡ without_empty xs ++ without_empty ys
@@ -38,7 +38,7 @@ seams_divide_first : (b : List ℕ) (members : List (List ℕ)) → without_empt
 seams_divide_first b members none = record {
   ascending = tt;
   within = omega arith;
-  first = λ _. refl;
+  no_seam = λ _. refl;
   same = ap (λ l. l ++ without_empty (b ∷ [])) (sym none) ∙ sym (without_empty-append members (b ∷ []));
 }
 
@@ -50,7 +50,7 @@ seams_divide_more x ss c b members h =
     record {
       ascending = seams-push 0 ss (length (x ∷ c)) h.within h.ascending;
       within = omega (arith, last, size);
-      first = λ e. cc;
+      no_seam = λ e. cc;
       same = ap without_empty (cut_from-push 0 ss (x ∷ c) b h.ascending h.within) ∙ without_empty-append (cut_at_seams ss (x ∷ c)) (b ∷ [])
           ∙ ap (λ l. l ++ without_empty (b ∷ [])) h.same ∙ sym (without_empty-append members (b ∷ []));
     }
@@ -58,7 +58,7 @@ seams_divide_more x ss c b members h =
 seams_divide_next : (header : Header) (ss c b : List ℕ) (members : List (List ℕ)) → is_set header ≡ true → SeamsDivide ss c members
     → SeamsDivide (next_seams header ss (length c)) (c ++ b) (members ++ (b ∷ []))
 seams_divide_next header ss [] b members e h =
-    let none = h.first refl in
+    let none = h.no_seam refl in
     let seams : next_seams header ss 0 ≡ [] = ap (λ t. cond (t && nat_lt 0 0) (ss ++ (0 ∷ [])) ss) e ∙ none in
     let empty : without_empty members ≡ [] = sym h.same ∙ ap (λ l. without_empty (cut_at_seams l [])) none in
     subst (λ l. SeamsDivide l b (members ++ (b ∷ []))) (sym seams) (seams_divide_first b members empty)
@@ -115,6 +115,6 @@ final_content-members ListKind.sequence around bs =
 final_content-members ListKind.set around bs =
     let l = list_level ListKind.set around in
     let m = with_members l bs in
-    let start : SeamsDivide [] [] [] = record { ascending = tt; within = omega arith; first = λ _. refl; same = refl } in
+    let start : SeamsDivide [] [] [] = record { ascending = tt; within = omega arith; no_seam = λ _. refl; same = refl } in
     let all = seams_divide_all l [] bs refl start in
     in_ascending_order-without_empty (cut_at_seams m.seams m.content) ∙ ap (λ x. concat (in_ascending_order x)) all.same ∙ sym (in_ascending_order-without_empty bs)

@@ -32,7 +32,7 @@ module _ {W : Type 0} (g : Ghosts W) where
   fails_outside t old new e f i b h =
       let u = under old.around t in
       let first : RefusesIn g old.inside u old.sink e new.sink = subst (λ ls. RefusesIn g ls u old.sink e new.sink) (sym i) h in
-      record { failed = b; again = rw f tt; first = rw f first }
+      record { failed = b; again = rw f tt; reason = rw f first }
 
   -- inside one
   adds_inside : (inside levels : List Level) (old new : W) (bs : List ℕ) → inside ≢ [] → ((l : Level) (ls : List Level) → inside ≡ l ∷ ls → levels ≡ with_bytes l bs ∷ ls) → new ≡ old → AddsIn g inside levels old new bs
@@ -52,7 +52,7 @@ module _ {W : Type 0} (g : Ghosts W) where
   pub fails_memory : (t : Tree) (old new : State W) (e : Asn1DerError) → old.failed ≡ None → e ≡ OutOfMemory → new.failed ≡ Some (failure_of e) → new.sink ≡ old.sink → RefusesWrite g t old e new
   fails_memory t old new e f m b s =
       let first : RefusesIn g old.inside (under old.around t) old.sink e new.sink = rw (m, s) (refused_memory old.inside (under old.around t) old.sink) in
-      record { failed = b; again = rw f tt; first = rw f first }
+      record { failed = b; again = rw f tt; reason = rw f first }
 
   -- ---- plain values
 

@@ -69,11 +69,11 @@ module _ {W : Type 0} (g : Ghosts W) where
   fails-wrapped w t old new (Ok n) h = tt
   fails-wrapped w t old new (Err e) h =
       let u = under-push old.around w t in
-      record { failed = h.failed; again = h.again; first = subst (λ v. IfNone old.failed (RefusesIn g old.inside v old.sink e new.sink)) u h.first }
+      record { failed = h.failed; again = h.again; reason = subst (λ v. IfNone old.failed (RefusesIn g old.inside v old.sink e new.sink)) u h.reason }
 
   -- no wrapper was opened
   pub fails-declined : (w : Wrapper) (t : Tree) (old new : State W) (e : Asn1DerError) → RefusesWrapper g w old e new → RefusesWrite g (wrap w t) old e new
-  fails-declined w t old new e h = record { failed = h.failed; again = again old.failed h.again; first = first old.failed refl }
+  fails-declined w t old new e h = record { failed = h.failed; again = again old.failed h.again; reason = reason old.failed refl }
     where
       u : Tree
       u = under old.around (wrap w t)
@@ -82,9 +82,9 @@ module _ {W : Type 0} (g : Ghosts W) where
       again None k = tt
       again (Some x) k = (k, h.same)
 
-      first : (f : Option Failure) → f ≡ old.failed → IfNone f (RefusesIn g old.inside u old.sink e new.sink)
-      first (Some x) q = tt
-      first None q = elim (has_or_not w) [
+      reason : (f : Option Failure) → f ≡ old.failed → IfNone f (RefusesIn g old.inside u old.sink e new.sink)
+      reason (Some x) q = tt
+      reason None q = elim (has_or_not w) [
         | inl few ↦ rw (h.memory (sym q) few, h.same) (refused_memory g old.inside u old.sink)
         | inr past ↦ rw (h.past (sym q) past, h.same) (refused_unwritable g old.inside u old.sink (unwritable-by u (past_under old.around (wrap w t) (unnumbered w t past))))
       ]

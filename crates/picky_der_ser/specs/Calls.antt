@@ -81,7 +81,7 @@ module _ {W : Type 0} (g : Ghosts W) where
   pub record RefusesWrite (t : Tree) (old : State W) (e : Asn1DerError) (new : State W) : Type 0 where
     pub failed : new.failed ≡ Some (failure_of e)
     pub again : IfSome old.failed (λ f. (failure_of e ≡ f) × (new.sink ≡ old.sink))
-    pub first : IfNone old.failed (RefusesIn old.inside (under old.around t) old.sink e new.sink)
+    pub reason : IfNone old.failed (RefusesIn old.inside (under old.around t) old.sink e new.sink)
 
   -- outside wrappers and levels only the sink can refuse a plain value that can be written, since no memory is taken
   abbrev pub OnlySinkFails : Tree → State W → Asn1DerError → State W → Type 0
@@ -114,7 +114,7 @@ module _ {W : Type 0} (g : Ghosts W) where
     pub failed : new.failed ≡ Some (failure_of e)
     pub same : new.sink ≡ old.sink
     pub again : IfSome old.failed (λ f. failure_of e ≡ f)
-    pub first : IfNone old.failed (e ≡ OutOfMemory)
+    pub reason : IfNone old.failed (e ≡ OutOfMemory)
 
   -- a level was opened under this header, and took the open wrappers with it
   pub record OpensLevel (header : Header) (old new : State W) : Type 0 where
@@ -131,7 +131,7 @@ module _ {W : Type 0} (g : Ghosts W) where
     pub failed : new.failed ≡ Some (failure_of e)
     pub same : new.sink ≡ old.sink
     pub again : IfSome old.failed (λ f. failure_of e ≡ f)
-    pub first : IfNone old.failed (MemoryExcuse Possible e)
+    pub reason : IfNone old.failed (MemoryExcuse Possible e)
 
   -- the tree wasn't added
   abbrev pub RefusesToAdd : Tree → State W → Asn1DerError → State W → Type 0

@@ -54,7 +54,7 @@ pub record IsMark (m : MarkView) (n : ℕ) (seams : List ℕ) (ws : List Wrapper
   pub number : HasNumber m.header
   pub room : m.at ≤ m.start
   pub outer : m.first_wrapper ≤ length ws
-  pub first : m.first_seam ≤ length seams
+  pub within_seams : m.first_seam ≤ length seams
   pub within : m.start + last_seam 0 (drop m.first_seam seams) ≤ n
   pub ascending : AreSeams 0 (drop m.first_seam seams)
   -- the room isn't larger than the headers will be

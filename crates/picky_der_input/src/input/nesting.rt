@@ -22,7 +22,7 @@ pub struct Outer {
     position: usize,
     kind: End,
     // Where it is a set's, how many bytes are kept before the encoding of its last member.
-    last: Option<usize>,
+    last_start: Option<usize>,
 }
 
 impl Model for Outer {
@@ -30,7 +30,7 @@ impl Model for Outer {
 
     ghost Value = { OuterEnd };
 
-    ghost view = { λ o. record { position = o.position; kind = o.kind; last = o.last } };
+    ghost view = { λ o. record { position = o.position; kind = o.kind; last_start = o.last_start } };
 }
 
 impl<R: ReadExt> Input<R> {
@@ -44,7 +44,7 @@ impl<R: ReadExt> Input<R> {
         let outer = Outer {
             position: self.reader.pos() + self.until_end,
             kind: self.end,
-            last: self.last.take(),
+            last_start: self.last_start.take(),
         };
         self.until_end = len;
         self.end = kind;
@@ -86,7 +86,7 @@ impl<R: ReadExt> Input<R> {
         Outer {
             position: self.reader.pos() + self.until_end,
             kind: self.end,
-            last: self.last,
+            last_start: self.last_start,
         }
     }
 
@@ -156,7 +156,7 @@ impl<R: ReadExt> Input<R> {
         }
         self.until_end = outer.position - self.reader.pos();
         self.end = outer.kind;
-        self.leave_set(outer.last);
+        self.leave_set(outer.last_start);
         Ok(())
     }
 

@@ -13,7 +13,7 @@ impl<R: ReadExt> Input<R> {
     pub fn is_in_set(&self) -> bool
         ensures { IsTrue result ↔ (self.now.sets.last ≢ None) }
     {
-        self.last.is_some()
+        self.last_start.is_some()
     }
 
     // Before the members of a list under this tag: only those of a set have an order that is tested.
@@ -24,7 +24,7 @@ impl<R: ReadExt> Input<R> {
         } }
     {
         if tag == Tag::SET {
-            self.last = Some(self.kept.len());
+            self.last_start = Some(self.kept.len());
         }
     }
 
@@ -32,10 +32,10 @@ impl<R: ReadExt> Input<R> {
     pub(super) fn leave_set(&mut self, outer: Option<usize>)
         ensures { self.new ≡ record self.old { sets = cut_at outer self.old.sets.around } }
     {
-        if let Some(begin) = self.last {
+        if let Some(begin) = self.last_start {
             self.kept.truncate(begin);
         }
-        self.last = match outer {
+        self.last_start = match outer {
             Some(start) => Some(start.min(self.kept.len())),
             None => None,
         };
@@ -45,7 +45,7 @@ impl<R: ReadExt> Input<R> {
     fn is_out_of_order(&self, member: &[u8]) -> bool
         ensures { result ≡ is_out_of_order self.now.sets member.now }
     {
-        match self.last {
+        match self.last_start {
             Some(start) => member.cmp(&self.kept[start..]).is_lt(),
             None => false,
         }
@@ -58,7 +58,7 @@ impl<R: ReadExt> Input<R> {
             (self.new ≡ record self.old { sets = with_last self.old.sets member.now }) }
         ensures err { OnErr result ((self.new ≡ self.old) × (self.old.sets.last ≢ None)) }
     {
-        if let Some(start) = self.last {
+        if let Some(start) = self.last_start {
             self.kept.reserve(member.len())?;
             self.kept.truncate(start);
             self.kept.extend_from_slice(member)?;
