@@ -3,7 +3,7 @@ use Rattle.std.proofs.Common.{◌≡◌, ◌≢◌, ℕ, ◌≤◌, ◌-◌, Boo
 use Rattle.std.proofs.Math.Seq.{take-append_seam, drop-append_seam}
 use Rattle.std.proofs.lemmas.List.{take-take, drop-append-le, drop_all, take_all, length-drop, take-append-le, length-take-le}
 use Rattle.picky_der_core.specs.declared.asn1.wrapper.Wrapper.{Wrapper}
-use Rattle.picky_der_ser.specs.MarkViews.{MarkView}
+use Rattle.picky_der_ser.specs.MarkViews.{MarkView, with_mark}
 use Rattle.picky_der_ser.specs.State.{Level, Stack, with_bytes, at_next_member, in_order, final_content}
 use Rattle.picky_der_core.specs.Encoding.{der}
 use Rattle.picky_der_core.specs.Wrapper.{under}
@@ -11,7 +11,7 @@ use Rattle.picky_der_ser.specs.Heading.{tree_of}
 use Rattle.picky_der_ser.specs.declared.header.Header.TheVariants.{Raw}
 use Rattle.picky_der_ser.specs.Headers.{headers}
 use Rattle.picky_der_ser.specs.Sealed.{as_raw_level}
-use Rattle.picky_der_ser.specs.Marks.{level_at, levels_of, bytes_below, seams_below, wrappers_below, level_of, inside_of, pending_of, with_pending, IsMark, AreMarks, HasRoom}
+use Rattle.picky_der_ser.specs.Marks.{level_at, levels_of, bytes_below, seams_below, wrappers_below, level_of, inside_of, pending_of, IsMark, AreMarks, HasRoom}
 use Rattle.picky_der_ser.specs.Seams.{AreSeams, last_seam, next_seams}
 use Rattle.picky_der_ser.proofs.Seams.{seams-next, last_seam-next, drop-next_seams, take-next_seams, length-next_seams}
 use Rattle.picky_der_ser.proofs.SetBytes.{final_content-uncut, in_order-uncut}
@@ -26,8 +26,8 @@ marks-more [] q w h k = tt
 marks-more (m ∷ ms) q w h k = (mark-more h k.0, k.1)
 
 -- the wrappers of the innermost level stand within those of all
-pub mark-outer : {p : Option MarkView} {m : MarkView} (ms : List MarkView) (n : ℕ) (q : List ℕ) (w : List Wrapper) → p ≡ Some m → AreMarks (with_pending p ms) n q w → m.first_wrapper ≤ length w
-mark-outer {p} {m} ms n q w was k = let before : AreMarks (m ∷ ms) n q w = subst (λ o. AreMarks (with_pending o ms) n q w) was k in before.0.outer
+pub mark-outer : {p : Option MarkView} {m : MarkView} (ms : List MarkView) (n : ℕ) (q : List ℕ) (w : List Wrapper) → p ≡ Some m → AreMarks (with_mark p ms) n q w → m.first_wrapper ≤ length w
+mark-outer {p} {m} ms n q w was k = let before : AreMarks (m ∷ ms) n q w = subst (λ o. AreMarks (with_mark o ms) n q w) was k in before.0.outer
 
 -- another member of the innermost begins where it ends
 marks-next : (m : MarkView) (ms : List MarkView) (n : ℕ) (q : List ℕ) (w : List Wrapper) → AreMarks (m ∷ ms) n q w → AreMarks (m ∷ ms) n (next_seams m.header q (n - m.start)) w
@@ -49,10 +49,10 @@ marks-next m ms n q w k =
     } in
     (first, subst (λ r. AreMarks ms m.at r (take m.first_wrapper w)) (sym (take-next_seams m.header m.first_seam q (n - m.start) k.0.within_seams)) k.1)
 
-pub marks-at_next_member : {p : Option MarkView} {m : MarkView} (ms : List MarkView) (n : ℕ) (q r : List ℕ) (w : List Wrapper) → p ≡ Some m → AreMarks (with_pending p ms) n q w → r ≡ next_seams m.header q (n - m.start)
-    → AreMarks (with_pending p ms) n r w
+pub marks-at_next_member : {p : Option MarkView} {m : MarkView} (ms : List MarkView) (n : ℕ) (q r : List ℕ) (w : List Wrapper) → p ≡ Some m → AreMarks (with_mark p ms) n q w → r ≡ next_seams m.header q (n - m.start)
+    → AreMarks (with_mark p ms) n r w
 marks-at_next_member {p} {m} ms n q r w was k e =
-    let before : AreMarks (m ∷ ms) n q w = subst (λ o. AreMarks (with_pending o ms) n q w) was k in
+    let before : AreMarks (m ∷ ms) n q w = subst (λ o. AreMarks (with_mark o ms) n q w) was k in
     rw (was, e) (marks-next m ms n q w before)
 
 -- ---- whether there is one
@@ -105,11 +105,11 @@ abbrev pub stack_at : Bool → Option MarkView → List MarkView → List ℕ �
 stack_at e p ms s q w a = record { inside = inside_of e p ms s q w; pending = pending_of e p s q w; around = a }
 
 -- another member of what is pending begins
-pub stack-at_next_member : (entered : Bool) {p : Option MarkView} {m : MarkView} (ms : List MarkView) (s q r : List ℕ) (w a : List Wrapper) → p ≡ Some m → AreMarks (with_pending p ms) (length s) q w → r ≡ next_seams m.header q (length s - m.start)
+pub stack-at_next_member : (entered : Bool) {p : Option MarkView} {m : MarkView} (ms : List MarkView) (s q r : List ℕ) (w a : List Wrapper) → p ≡ Some m → AreMarks (with_mark p ms) (length s) q w → r ≡ next_seams m.header q (length s - m.start)
     → IfSome (pending_of entered p s q w) (λ l. stack_at entered p ms s r w a ≡ record (stack_at entered p ms s q w a) { pending = Some (at_next_member l) })
 stack-at_next_member true {p} {m} ms s q r w a was k e = tt
 stack-at_next_member false {p} {m} ms s q r w a was k e =
-    let before : AreMarks (m ∷ ms) (length s) q w = subst (λ o. AreMarks (with_pending o ms) (length s) q w) was k in
+    let before : AreMarks (m ∷ ms) (length s) q w = subst (λ o. AreMarks (with_mark o ms) (length s) q w) was k in
     let first = before.0.within_seams in
     let n = length s - m.start in
     let own : drop m.first_seam (next_seams m.header q n) ≡ next_seams m.header (drop m.first_seam q) (length (drop m.start s)) =
@@ -128,11 +128,11 @@ stack-uncut false {p} {m} ms s q w a was h =
 
 -- what is pending holds its whole encoding
 pub stack-as_raw_level : (entered : Bool) {p : Option MarkView} {m : MarkView} (n : MarkView) (ms : List MarkView) (s t q r : List ℕ) (w a : List Wrapper) → p ≡ Some m → n.header ≡ Raw → n.at ≡ m.at → n.start ≡ m.at → n.first_seam ≡ m.first_seam
-    → n.first_wrapper ≡ m.first_wrapper → drop m.first_wrapper w ≡ [] → AreMarks (with_pending p ms) (length s) q w → t ≡ take m.at s ++ der (under (drop m.first_wrapper w) (tree_of m.header (drop m.start s))) → r ≡ take m.first_seam q
+    → n.first_wrapper ≡ m.first_wrapper → drop m.first_wrapper w ≡ [] → AreMarks (with_mark p ms) (length s) q w → t ≡ take m.at s ++ der (under (drop m.first_wrapper w) (tree_of m.header (drop m.start s))) → r ≡ take m.first_seam q
     → IfSome (pending_of entered p s q w) (λ l. stack_at entered (Some n) ms t r w a ≡ record (stack_at entered p ms s q w a) { pending = Some (as_raw_level l) })
 stack-as_raw_level true {p} {m} n ms s t q r w a was header at start first outer bare marks e f = tt
 stack-as_raw_level false {p} {m} n ms s t q r w a was header at start first outer bare marks e f =
-    let before : AreMarks (m ∷ ms) (length s) q w = subst (λ o. AreMarks (with_pending o ms) (length s) q w) was marks in
+    let before : AreMarks (m ∷ ms) (length s) q w = subst (λ o. AreMarks (with_mark o ms) (length s) q w) was marks in
     let within = before.0.within in
     let room = before.0.room in
     let whole = der (under (drop m.first_wrapper w) (tree_of m.header (drop m.start s))) in
@@ -148,18 +148,18 @@ stack-as_raw_level false {p} {m} n ms s t q r w a was header at start first oute
     rw was (cc)
 
 -- where nothing is pending, what is added goes to the innermost level
-pub stack-grown : (entered : Bool) (p : Option MarkView) (ms : List MarkView) (s q bs : List ℕ) (w a : List Wrapper) (l : Level) (ls : List Level) → AreMarks (with_pending p ms) (length s) q w → pending_of entered p s q w ≡ None
+pub stack-grown : (entered : Bool) (p : Option MarkView) (ms : List MarkView) (s q bs : List ℕ) (w a : List Wrapper) (l : Level) (ls : List Level) → AreMarks (with_mark p ms) (length s) q w → pending_of entered p s q w ≡ None
     → inside_of entered p ms s q w ≡ l ∷ ls → stack_at entered p ms (s ++ bs) q w a ≡ record { inside = with_bytes l bs ∷ ls; pending = None; around = a }
-stack-grown true p ms s q bs w a l ls h n e = let f = levels-grown (with_pending p ms) s q bs w l ls h e in cc
+stack-grown true p ms s q bs w a l ls h n e = let f = levels-grown (with_mark p ms) s q bs w l ls h e in cc
 stack-grown false None ms s q bs w a l ls h n e = let f = levels-grown ms s q bs w l ls h e in cc
 stack-grown false (Some m) ms s q bs w a l ls h n e = cc
 
 -- what is pending gets its headers
-pub stack-headed : (entered : Bool) {p : Option MarkView} {m : MarkView} (ms : List MarkView) (s t q : List ℕ) (w a : List Wrapper) (n : ℕ) → p ≡ Some m → AreMarks (with_pending p ms) (length s) q w → t ≡ s ++ headers (drop m.first_wrapper w) m.header n
+pub stack-headed : (entered : Bool) {p : Option MarkView} {m : MarkView} (ms : List MarkView) (s t q : List ℕ) (w a : List Wrapper) (n : ℕ) → p ≡ Some m → AreMarks (with_mark p ms) (length s) q w → t ≡ s ++ headers (drop m.first_wrapper w) m.header n
     → IfSome (pending_of entered p s q w) (λ l. stack_at entered p ms t q w a ≡ record (stack_at entered p ms s q w a) { pending = Some (with_bytes l (headers l.around l.header n)) })
 stack-headed true {p} {m} ms s t q w a n was k e = tt
 stack-headed false {p} {m} ms s t q w a n was k e =
-    let before : AreMarks (m ∷ ms) (length s) q w = subst (λ o. AreMarks (with_pending o ms) (length s) q w) was k in
+    let before : AreMarks (m ∷ ms) (length s) q w = subst (λ o. AreMarks (with_mark o ms) (length s) q w) was k in
     let within = before.0.within in
     let room = before.0.room in
     let hs = headers (drop m.first_wrapper w) m.header n in
@@ -169,9 +169,9 @@ stack-headed false {p} {m} ms s t q w a n was k e =
 
 -- the room for its headers is made
 pub stack-roomed : (entered : Bool) {p : Option MarkView} {m : MarkView} (n : MarkView) (ms : List MarkView) (s t q hs : List ℕ) (w a : List Wrapper) → p ≡ Some m → n.header ≡ m.header → n.at ≡ m.at → n.start ≡ length t → n.first_seam ≡ m.first_seam
-    → n.first_wrapper ≡ m.first_wrapper → AreMarks (with_pending p ms) (length s) q w → length s ≡ m.at → t ≡ s ++ hs → stack_at entered (Some n) ms t q w a ≡ stack_at entered p ms s q w a
+    → n.first_wrapper ≡ m.first_wrapper → AreMarks (with_mark p ms) (length s) q w → length s ≡ m.at → t ≡ s ++ hs → stack_at entered (Some n) ms t q w a ≡ stack_at entered p ms s q w a
 stack-roomed entered {p} {m} n ms s t q hs w a was header at start first outer k size e =
-    let before : AreMarks (m ∷ ms) (length s) q w = subst (λ o. AreMarks (with_pending o ms) (length s) q w) was k in
+    let before : AreMarks (m ∷ ms) (length s) q w = subst (λ o. AreMarks (with_mark o ms) (length s) q w) was k in
     let room = before.0.room in
     let none : drop n.start t ≡ [] = drop_all n.start t (omega (arith, start)) in
     let was_none : drop m.start s ≡ [] = drop_all m.start s (omega (arith, size, room)) in
@@ -198,18 +198,18 @@ stack-merged m ms s q bs w a l ls h e =
     cc
 
 module _ {p q : Option MarkView} {m : MarkView} (ms : List MarkView) (seams : List ℕ) (w : List Wrapper) (was : p ≡ Some m) (now : q ≡ None) where
-  pub marks-taken : (n k : ℕ) → m.at ≤ k → AreMarks (with_pending p ms) n seams w → AreMarks (with_pending q ms) k (take m.first_seam seams) (take m.first_wrapper w)
+  pub marks-taken : (n k : ℕ) → m.at ≤ k → AreMarks (with_mark p ms) n seams w → AreMarks (with_mark q ms) k (take m.first_seam seams) (take m.first_wrapper w)
   marks-taken n k h marks =
-      let before : AreMarks (m ∷ ms) n seams w = subst (λ o. AreMarks (with_pending o ms) n seams w) was marks in
+      let before : AreMarks (m ∷ ms) n seams w = subst (λ o. AreMarks (with_mark o ms) n seams w) was marks in
       rw now (marks-more ms (take m.first_seam seams) (take m.first_wrapper w) h before.1)
 
   -- what was pending is enclosed, and goes to the level around it
-  pub stack-enclosed : (entered : Bool) (s t : List ℕ) (a : List Wrapper) (o l : Level) (ls : List Level) → AreMarks (with_pending p ms) (length s) seams w → pending_of entered p s seams w ≡ Some o → inside_of entered p ms s seams w ≡ l ∷ ls
+  pub stack-enclosed : (entered : Bool) (s t : List ℕ) (a : List Wrapper) (o l : Level) (ls : List Level) → AreMarks (with_mark p ms) (length s) seams w → pending_of entered p s seams w ≡ Some o → inside_of entered p ms s seams w ≡ l ∷ ls
       → t ≡ take m.at s ++ der (under (drop m.first_wrapper w) (tree_of m.header (drop m.start s)))
       → stack_at entered q ms t (take m.first_seam seams) (take m.first_wrapper w) a ≡ record { inside = with_bytes l (der (under o.around (tree_of o.header o.content))) ∷ ls; pending = None; around = a }
   stack-enclosed true s t a o l ls marks e f g = cc
   stack-enclosed false s t a o l ls marks e f g =
-      let before : AreMarks (m ∷ ms) (length s) seams w = subst (λ x. AreMarks (with_pending x ms) (length s) seams w) was marks in
+      let before : AreMarks (m ∷ ms) (length s) seams w = subst (λ x. AreMarks (with_mark x ms) (length s) seams w) was marks in
       let level : level_at m s seams w ≡ o = let some : Some (level_at m s seams w) ≡ Some o = ap (λ x. level_of x s seams w) (sym was) ∙ e in cc in
       let inside : levels_of ms (take m.at s) (take m.first_seam seams) (take m.first_wrapper w) ≡ l ∷ ls = ap (λ x. levels_of ms (bytes_below x s) (seams_below x seams) (wrappers_below x w)) (sym was) ∙ f in
       rw now (
@@ -218,7 +218,7 @@ module _ {p q : Option MarkView} {m : MarkView} (ms : List MarkView) (seams : Li
       )
 
   -- the same of one that has no seams
-  pub stack-enclosed_uncut : (entered : Bool) (s t : List ℕ) (a : List Wrapper) (o l : Level) (ls : List Level) → AreMarks (with_pending p ms) (length s) seams w → length seams ≤ m.first_seam → pending_of entered p s seams w ≡ Some o
+  pub stack-enclosed_uncut : (entered : Bool) (s t : List ℕ) (a : List Wrapper) (o l : Level) (ls : List Level) → AreMarks (with_mark p ms) (length s) seams w → length seams ≤ m.first_seam → pending_of entered p s seams w ≡ Some o
       → inside_of entered p ms s seams w ≡ l ∷ ls → t ≡ take m.at s ++ der (under (drop m.first_wrapper w) (tree_of m.header (drop m.start s)))
       → stack_at entered q ms t seams (take m.first_wrapper w) a ≡ record { inside = with_bytes l (der (under o.around (tree_of o.header (final_content o)))) ∷ ls; pending = None; around = a }
   stack-enclosed_uncut true s t a o l ls marks none e f g = cc

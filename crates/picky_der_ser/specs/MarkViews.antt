@@ -44,9 +44,9 @@ view_of_mark None = None
 view_of_mark (Some m) = Some (mark_view m)
 
 -- this mark inside of the others, if there is one
-abbrev pub with_mark : Option Mark → List MarkView → List MarkView
-with_mark None ps = ps
-with_mark (Some m) ps = mark_view m ∷ ps
+abbrev pub with_mark : Option MarkView → List MarkView → List MarkView
+with_mark None ms = ms
+with_mark (Some m) ms = m ∷ ms
 
 -- the root's mark, if it is around them all
 abbrev pub root_views : Bool → List MarkView
@@ -55,7 +55,7 @@ root_views false = []
 
 -- All marks, innermost first: the others are given outermost first.
 abbrev pub views_of : Bool → Option Mark → Option Mark → List Mark → List MarkView
-views_of rooted first second others = map mark_view (reverse others) ++ with_mark second (with_mark first (root_views rooted))
+views_of rooted first second others = map mark_view (reverse others) ++ with_mark (view_of_mark second) (with_mark (view_of_mark first) (root_views rooted))
 
 -- for how many there is room where this one may stand
 abbrev pub spare_slot : Option Mark → ℕ

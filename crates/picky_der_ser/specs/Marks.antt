@@ -1,7 +1,7 @@
 -- How marks divide one list of bytes, one of seams and one of wrappers among the levels.
 use Rattle.std.specs.Prelude.{ℕ, ◌≢◌, ◌+◌, ◌<◌, ◌≤◌, ⊤, Bool, true, false, List, [], ◌∷◌, length, take, drop, Option, None, Some}
 use Rattle.picky_der_core.specs.declared.asn1.wrapper.Wrapper.{Wrapper}
-use Rattle.picky_der_ser.specs.MarkViews.{MarkView}
+use Rattle.picky_der_ser.specs.MarkViews.{MarkView, with_mark}
 use Rattle.picky_der_ser.specs.State.{Level}
 use Rattle.picky_der_ser.specs.Headers.{headers, HasNumber, HaveTagNumbers}
 use Rattle.picky_der_ser.specs.Seams.{AreSeams, last_seam}
@@ -34,13 +34,9 @@ abbrev pub level_of : Option MarkView → List ℕ → List ℕ → List Wrapper
 level_of None s seams ws = None
 level_of (Some m) s seams ws = Some (level_at m s seams ws)
 
-abbrev pub with_pending : Option MarkView → List MarkView → List MarkView
-with_pending None ms = ms
-with_pending (Some m) ms = m ∷ ms
-
 -- the levels of which a member is being written: the innermost one too, if it was entered
 abbrev pub inside_of : Bool → Option MarkView → List MarkView → List ℕ → List ℕ → List Wrapper → List Level
-inside_of true p ms s seams ws = levels_of (with_pending p ms) s seams ws
+inside_of true p ms s seams ws = levels_of (with_mark p ms) s seams ws
 inside_of false p ms s seams ws = levels_of ms (bytes_below p s) (seams_below p seams) (wrappers_below p ws)
 
 -- the innermost one, if it wasn't

@@ -43,8 +43,8 @@ pub(crate) struct Levels {
 impl Model for Levels {
     ghost use Rattle.std.specs.Prelude.{length};
     ghost use Rattle.picky_der_ser.specs.State.{Stack, stack_code};
-    ghost use Rattle.picky_der_ser.specs.MarkViews.{view_of_mark};
-    ghost use Rattle.picky_der_ser.specs.Marks.{inside_of, pending_of, with_pending, AreMarks, HasRoom};
+    ghost use Rattle.picky_der_ser.specs.MarkViews.{view_of_mark, with_mark};
+    ghost use Rattle.picky_der_ser.specs.Marks.{inside_of, pending_of, AreMarks, HasRoom};
 
     ghost Value = { Stack };
 
@@ -56,7 +56,7 @@ impl Model for Levels {
       around = s.wrappers.around;
     } };
 
-    ghost invariant = { λ s. AreMarks (with_pending (view_of_mark s.innermost) s.marks.views)
+    ghost invariant = { λ s. AreMarks (with_mark (view_of_mark s.innermost) s.marks.views)
         (length s.scratch.items) s.seams.items s.wrappers.of_levels
         × HasRoom s.entered (view_of_mark s.innermost) s.marks.views s.marks.spare };
 }

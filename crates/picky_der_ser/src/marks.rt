@@ -1,7 +1,6 @@
 //! The marks of the levels around the innermost one.
 ghost use Rattle.std.specs.Prelude.{◌≡◌, ◌≢◌, ◌<◌, ◌≤◌, [], ◌∷◌, true, false, None, IfSome, IfNone, OnOk};
-ghost use Rattle.picky_der_ser.specs.MarkViews.{mark_view, view_of_mark, root_view};
-ghost use Rattle.picky_der_ser.specs.Marks.{with_pending};
+ghost use Rattle.picky_der_ser.specs.MarkViews.{mark_view, view_of_mark, root_view, with_mark};
 
 use crate::Header;
 use std::alloc::{AllocError, Global};
@@ -114,7 +113,7 @@ impl Marks {
     // Puts the mark behind the others, if there is one.
     pub(crate) fn set_aside(&mut self, innermost: &mut Option<Mark>)
         requires { 0 < self.old.spare }
-        ensures views { self.new.views ≡ with_pending (view_of_mark innermost.old) self.old.views }
+        ensures views { self.new.views ≡ with_mark (view_of_mark innermost.old) self.old.views }
         ensures taken { innermost.new ≡ None }
     {
         if let Some(mark) = innermost.take() {

@@ -4,9 +4,9 @@ use Rattle.std.proofs.lemmas.List.{length-drop}
 use Rattle.picky_der_core.specs.Encoding.{der}
 use Rattle.picky_der_core.specs.Wrapper.{under}
 use Rattle.picky_der_ser.specs.Heading.{tree_of}
-use Rattle.picky_der_ser.specs.Marks.{AreMarks, with_pending}
+use Rattle.picky_der_ser.specs.Marks.{AreMarks}
 use Rattle.picky_der_ser.specs.State.{Stack}
-use Rattle.picky_der_ser.specs.MarkViews.{mark_view, view_of_mark}
+use Rattle.picky_der_ser.specs.MarkViews.{mark_view, view_of_mark, with_mark}
 use Rattle.picky_der_ser.proofs.HeaderBytes.{der-short}
 use Rattle.picky_der_ser.proofs.LevelMarks.{mark-outer, marks-taken, room-ended, stack-enclosed_uncut, count-uncut}
 use Rattle.picky_der_ser.proofs.levels.Levels.merge_short.Goals as goal
@@ -22,7 +22,7 @@ invariant_of-self c =
     let q = c.self.inside.seams.items in
     let w = c.self.inside.wrappers.of_levels in
     let none : length q ≤ m.first_seam = grind (arith, nat_tests) in
-    let before : AreMarks (mark_view m ∷ ms) (length s) q w = subst (λ o. AreMarks (with_pending o ms) (length s) q w) (ap view_of_mark c.in-Some.is) c.self.invariant.0 in
+    let before : AreMarks (mark_view m ∷ ms) (length s) q w = subst (λ o. AreMarks (with_mark o ms) (length s) q w) (ap view_of_mark c.in-Some.is) c.self.invariant.0 in
     let room = before.0.room in
     let start = before.0.within in
     let within : m.at ≤ length c.fill_short.new.out.items = omega (arith, c.fill_short.ensures.len, room, start) in
