@@ -1,8 +1,13 @@
 """Edits of a crate's files, and the functions that they change.
 
-An edit is a file of lines `file: PATH`, `old: TEXT` and `new: TEXT`, as the files of must-fail/ are: each TEXT is one line, and
-an old one stands exactly once in its file. Other lines, as a comment at the top, say nothing.
+An edit has a name, MODULE.FUNCTION.what_is_wrong, and lines `file: PATH`, `old: TEXT` and `new: TEXT`. Each TEXT is one line, or a part of
+one, and the old one is exactly once in its file. A line `survives: WHY` says that the contracts let the edit through, and one
+`survives by hand: WHY` that only a proof by hand would show this. A line that begins with `#` is a comment.
+
+must-fail/NAME.edit has one edit. wrong-bodies/MODULE.bodies has those of a module: each begins with a line `## FUNCTION.what_is_wrong`,
+and its file is the module's own where no `file:` line names another.
 """
+import functools
 import os
 import re
 
@@ -130,45 +135,52 @@ def module_of(path):
     return [] if parts in (["lib"], ["main"]) else parts
 
 
-class Edit:
-    """An edit, by its file."""
+# the words that begin an edit's lines, in their order
+WORDS = re.compile(r"(survives( by hand)?:)?((file:)?old:new:)+")
 
-    def __init__(self, file):
-        self.file, self.name = file, os.path.basename(file).removesuffix(".edit")
-        self.pairs, self.note, path, old = [], "", "", ""
-        with open(file, encoding="utf-8") as it:
-            for line in it.read().split("\n"):
-                if line.startswith("file: "):
-                    path = line[len("file: ") :].strip()
-                elif line.startswith("old: "):
-                    old = line[len("old: ") :]
-                elif line.startswith("new:"):
-                    self.pairs.append((path, old, line[len("new:") :].removeprefix(" ")))
-                elif line.startswith("# "):
-                    self.note = self.note or line[len("# ") :]
+
+class Edit:
+    """An edit: its name, its pairs of texts, and, where it is known to survive, how and why."""
+
+    def __init__(self, name, path, lines):
+        self.name, self.pairs, self.known, self.why = name, [], "", ""
+        lines = [it.partition(":") for it in lines if it.strip() and not it.startswith("#")]
+        self.is_in_form = bool(WORDS.fullmatch("".join(f"{word}:" for word, _, _ in lines)))
+        for word, _, text in lines if self.is_in_form else []:
+            text = text.removeprefix(" ")
+            if word == "file":
+                path = text
+            elif word == "old":
+                old = text
+            elif word == "new":
+                self.pairs.append((path, old, text))
+            else:
+                self.known, self.why = word, text
 
     def applied(self, texts):
         """The texts of a crate's files with this edit."""
         texts = dict(texts)
-        if not self.pairs:
-            raise BadEdit("it has no 'old:' and 'new:' pair")
+        if not self.is_in_form:
+            raise BadEdit("it isn't made of lines `file: PATH`, `old: TEXT` and `new: TEXT`")
         for path, old, new in self.pairs:
-            count = texts.get(path, "").count(old)
-            if count != 1 or not old:
-                raise BadEdit(f"an 'old:' text stands in {path} {count} times, and not once")
+            count = texts.get(path, "").count(old) if old else 0
+            if count != 1:
+                raise BadEdit(f"an old text is in {path} {count} times, and not once")
             texts[path] = texts[path].replace(old, new)
         return texts
 
-    def changes(self, texts):
-        """What the edit makes of the functions of these texts: the new text of each one that it changes or adds."""
-        before, after = all_functions(texts), all_functions(self.applied(texts))
-        return {name: after.get(name) for name in {*before, *after} if before.get(name) != after.get(name)}
+    def look_at(self, texts):
+        """Finds `changed`, what the edit makes of each function of these texts that it changes or adds; `own`, the functions that it is
+        about; and `touched`, what no two edits that are tried at once may share. A function that it adds counts by its name alone there,
+        since the methods of a type may be in several files.
 
-    def clashes_with(self, other):
-        """Whether both change one function, or add one of the same name to a type, whose methods may stand in several files; or
-        both are about one function."""
-        names = {name if name in self.own else name[1:] for name in self.changed}
-        return any((name if name in other.own else name[1:]) in names for name in other.changed) or not set(self.own).isdisjoint(other.own)
+        It is about the function in its name, as about a law for what it adds; where there is none, about those that it changes or adds.
+        """
+        before, after = all_functions(texts), all_functions(self.applied(texts))
+        self.changed = {it: after.get(it) for it in {*before, *after} if before.get(it) != after.get(it)}
+        named, old = [it for it in before if self.names(it)], [it for it in self.changed if it in before]
+        self.own = sorted([it for it in named if it in old] or named or old or self.changed)
+        self.touched = {*self.own, *self.changed, *(it[1:] for it in self.changed if it not in before)}
 
     def names(self, function):
         """Whether this is the function in the edit's name."""
@@ -176,22 +188,20 @@ class Edit:
         file, called = self.name.split(".")[:2]
         return path == f"src/{file.replace('-', '/')}.rt" and called in (name, f"{block}-{name}")
 
-    def own_functions(self, texts):
-        """The functions that the edit is about: those whose text it changes; or else the one in its name, as a law of what it adds;
-        or else those that it adds."""
-        before, changed = all_functions(texts), self.changes(texts)
-        return sorted([it for it in changed if it in before] or [it for it in before if self.names(it)] or changed)
+
+@functools.cache
+def functions_of(path, text):
+    """The text of each function of a file by its path, block and name, without comments and with each space as one."""
+    found = {}
+    for block, name, start, end in functions(text):
+        bare = re.sub(r"/\*.*?\*/|//[^\n]*", " ", text[start:end], flags=re.S)
+        found[path, block, name] = " ".join(bare.split())
+    return found
 
 
 def all_functions(texts):
-    """The text of each function of a crate by its file, block and name, without comments and with each space as one."""
-    found = {}
-    for path, text in texts.items():
-        if path.startswith("src/"):
-            for block, name, start, end in functions(text):
-                bare = re.sub(r"/\*.*?\*/|//[^\n]*", " ", text[start:end], flags=re.S)
-                found[path, block, name] = " ".join(bare.split())
-    return found
+    """The text of each function of a crate, by its path, block and name."""
+    return {name: body for path, text in texts.items() if path.startswith("src/") for name, body in functions_of(path, text).items()}
 
 
 def texts_of(folder):
@@ -207,7 +217,19 @@ def texts_of(folder):
 
 
 def edits_of(folder, kind):
-    """The edits of a crate in must-fail/ or wrong-bodies/, in the order of their names."""
-    where = f"{folder}/{kind}"
-    names = sorted(os.listdir(where)) if os.path.isdir(where) else []
-    return [Edit(f"{where}/{it}") for it in names if it.endswith(".edit")]
+    """The edits of a crate in must-fail/ or wrong-bodies/, in the order of the files' names."""
+    where, found = f"{folder}/{kind}", []
+    for file in sorted(os.listdir(where)) if os.path.isdir(where) else []:
+        with open(f"{where}/{file}", encoding="utf-8") as it:
+            text = it.read()
+        name, ending = os.path.splitext(file)
+        if (kind, ending) == ("must-fail", ".edit"):
+            found.append(Edit(name, "", text.split("\n")))
+        elif (kind, ending) == ("wrong-bodies", ".bodies"):
+            head, *sections = [it.split("\n") for it in re.split(r"^## ", text, flags=re.M)]
+            found += [Edit(f"{name}.{it[0].strip()}", f"src/{name.replace('-', '/')}.rt", it[1:]) for it in sections]
+            # before the first heading there are only comments
+            found += [Edit(f"{name}.", "", head)] if any(it.strip() and not it.startswith("#") for it in head) else []
+        else:
+            found.append(Edit(file, "", []))
+    return found
