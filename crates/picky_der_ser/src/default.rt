@@ -1,9 +1,10 @@
 //! Members of a sequence that are left out where they have the default value.
 ghost use Rattle.std.proofs.Common.{rules};
-ghost use Rattle.std.specs.Prelude.{◌≡◌, Bool, IsTrue, not, nat_eq};
+ghost use Rattle.std.specs.Prelude.{◌≡◌, Bool, true, IsTrue, not, nat_eq};
+ghost use mathlib.Core.Bool.{beq};
 ghost use Rattle.picky_der_core.specs.Equality.{IsThatOf};
 ghost use Rattle.picky_der_ser.specs.Meaning.{maybe_more, unless_default};
-ghost use Rattle.picky_der_ser.specs.Defaults.{IsByTree, IsOne, numbers_by_tree, one_number, explicit_by_tree};
+ghost use Rattle.picky_der_ser.specs.Defaults.{IsByTree, IsOne, numbers_by_tree, one_false, one_true, one_number, explicit_by_tree};
 
 use crate::{Sequence, Serialize, SerializeMember};
 use picky_der_core::Result;
@@ -16,6 +17,12 @@ pub trait DefaultOf<T: Serialize + PartialEq> {
     // Whether a value is the default.
     ghost left_out: { T → Bool };
 
+    // A `==` of the values: that of the type, where it can be named.
+    ghost equal: { T → T → Bool };
+
+    // There is one default by it.
+    ghost one: { IsOne equal left_out };
+
     /// Whether a value is the default.
     fn is_default(value: &T) -> bool
         ensures { result ≡ left_out value.now };
@@ -27,8 +34,8 @@ pub trait DefaultOf<T: Serialize + PartialEq> {
     // A value is the default just where it means the tree that the default means.
     ghost by_tree: { IsByTree T.meaning left_out };
 
-    // There is one default.
-    ghost one: { IsOne T.eq left_out };
+    // Values that are equal by it are equal.
+    ghost equal_so: { (x y : T) → equal x y ≡ true → T.eq x y ≡ true };
 }
 
 /// A member of a row with the default `D`: nothing is written of one that has it (X.690, 11.5), and the others stand as they do
@@ -113,6 +120,8 @@ pub struct Number<const N: u8>;
 impl DefaultOf<bool> for False {
     ghost left_out = { not };
 
+    ghost equal = { beq };
+
     fn is_default(value: &bool) -> bool {
         !*value
     }
@@ -123,11 +132,15 @@ impl DefaultOf<bool> for False {
 
     ghost by_tree = { Prim.search rules };
 
-    ghost one = { Prim.search rules };
+    ghost one = { one_false };
+
+    ghost equal_so = { λ x y h. h };
 }
 
 impl DefaultOf<bool> for True {
     ghost left_out = { λ value. value };
+
+    ghost equal = { beq };
 
     fn is_default(value: &bool) -> bool {
         *value
@@ -139,11 +152,15 @@ impl DefaultOf<bool> for True {
 
     ghost by_tree = { Prim.search rules };
 
-    ghost one = { Prim.search rules };
+    ghost one = { one_true };
+
+    ghost equal_so = { λ x y h. h };
 }
 
 impl<const N: u8> DefaultOf<u8> for Number<N> {
     ghost left_out = { λ number. nat_eq number N };
+
+    ghost equal = { nat_eq };
 
     fn is_default(value: &u8) -> bool {
         *value == N
@@ -156,10 +173,14 @@ impl<const N: u8> DefaultOf<u8> for Number<N> {
     ghost by_tree = { numbers_by_tree N };
 
     ghost one = { one_number N };
+
+    ghost equal_so = { λ x y h. h };
 }
 
 impl<const N: u8> DefaultOf<u16> for Number<N> {
     ghost left_out = { λ number. nat_eq number N };
+
+    ghost equal = { nat_eq };
 
     fn is_default(value: &u16) -> bool {
         *value == u16::from(N)
@@ -172,10 +193,14 @@ impl<const N: u8> DefaultOf<u16> for Number<N> {
     ghost by_tree = { numbers_by_tree N };
 
     ghost one = { one_number N };
+
+    ghost equal_so = { λ x y h. h };
 }
 
 impl<const N: u8> DefaultOf<u32> for Number<N> {
     ghost left_out = { λ number. nat_eq number N };
+
+    ghost equal = { nat_eq };
 
     fn is_default(value: &u32) -> bool {
         *value == u32::from(N)
@@ -188,10 +213,14 @@ impl<const N: u8> DefaultOf<u32> for Number<N> {
     ghost by_tree = { numbers_by_tree N };
 
     ghost one = { one_number N };
+
+    ghost equal_so = { λ x y h. h };
 }
 
 impl<const N: u8> DefaultOf<u64> for Number<N> {
     ghost left_out = { λ number. nat_eq number N };
+
+    ghost equal = { nat_eq };
 
     fn is_default(value: &u64) -> bool {
         *value == u64::from(N)
@@ -204,10 +233,14 @@ impl<const N: u8> DefaultOf<u64> for Number<N> {
     ghost by_tree = { numbers_by_tree N };
 
     ghost one = { one_number N };
+
+    ghost equal_so = { λ x y h. h };
 }
 
 impl<const N: u8> DefaultOf<u128> for Number<N> {
     ghost left_out = { λ number. nat_eq number N };
+
+    ghost equal = { nat_eq };
 
     fn is_default(value: &u128) -> bool {
         *value == u128::from(N)
@@ -220,10 +253,14 @@ impl<const N: u8> DefaultOf<u128> for Number<N> {
     ghost by_tree = { numbers_by_tree N };
 
     ghost one = { one_number N };
+
+    ghost equal_so = { λ x y h. h };
 }
 
 impl<const N: u8> DefaultOf<usize> for Number<N> {
     ghost left_out = { λ number. nat_eq number N };
+
+    ghost equal = { nat_eq };
 
     fn is_default(value: &usize) -> bool {
         *value == N as usize
@@ -236,12 +273,16 @@ impl<const N: u8> DefaultOf<usize> for Number<N> {
     ghost by_tree = { numbers_by_tree N };
 
     ghost one = { one_number N };
+
+    ghost equal_so = { λ x y h. h };
 }
 
 /// A default is one under an explicit tag, too.
 impl<T: Serialize + PartialEq, D: DefaultOf<T>, const N: u8> DefaultOf<ExplicitContextTag<T, N>>
     for D {
     ghost left_out = { λ tagged. D.left_out tagged.0 };
+
+    ghost equal = { λ x y. D.equal x.0 y.0 };
 
     fn is_default(value: &ExplicitContextTag<T, N>) -> bool {
         D::is_default(&value.0)
@@ -254,4 +295,6 @@ impl<T: Serialize + PartialEq, D: DefaultOf<T>, const N: u8> DefaultOf<ExplicitC
     ghost by_tree = { λ x y d. explicit_by_tree N T.meaning D.left_out D.by_tree x.0 y.0 d };
 
     ghost one = { λ x y. D.one x.0 y.0 };
+
+    ghost equal_so = { λ x y h. D.equal_so x.0 y.0 h };
 }
