@@ -104,18 +104,6 @@ module _ {A B : Type 0} {m : A → Tree} {n : B → Tree} {s : Shape} {ss : Shap
         let own : StandsAt Place.whole (Shape.choice ss) bs end (Tree.choice (n v)) = record { of_shape = of_other m n s ss this other told.0 v st.readable st.of_shape; readable = st.readable; may_stand = tt; within = st.within; front = st.front } in
         r.none j end bs k v (subst (λ z. StandsAt z (Shape.choice ss) bs end (Tree.choice (n v))) (sym (is_whole a p.implicit_tag)) own)
 
--- ---- of a type that means the choice
-
-pub refuses_choice : {V : Type 0} {meaning tree : V → Tree} {s : Shape} {a c : State} {e : Asn1DerError} → ((v : V) → meaning v ≡ tree v) → Refuses tree s a c e → Refuses meaning s a c e
-refuses_choice {meaning = meaning} {tree = tree} {s = s} {a = a} same h = record {
-  fails = h.fails;
-  none = λ j end bs k v st. h.none j end bs k v (subst (StandsAt (place_of a) s bs end) (same v) st);
-  first = h.first;
-}
-
-pub reads_choice : {P : Type 0} (m : P → Tree) {s : Shape} {a c : State} {p q : P} {t : Tree} → Reads s a c (Tree.choice (m p)) → t ≡ Tree.choice (m q) → q ≡ p → Reads s a c t
-reads_choice m {s = s} {a = a} {c = c} h same is = subst (Reads s a c) (sym (same ∙ ap (λ z. Tree.choice (m z)) is)) h
-
 -- ---- of values that are those of another type
 
 pub refuses_through : {V U : Type 0} (f : V → U) {m : U → Tree} {ss : Shapes} {x : ℕ} {b c : State} {e : Asn1DerError} → RefusesBehind m ss x b c e → RefusesBehind (λ v. m (f v)) ss x b c e

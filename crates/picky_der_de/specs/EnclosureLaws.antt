@@ -1,12 +1,13 @@
--- A tree tells the value in an enclosure.
+-- What is known of the value in an enclosure is known of the whole.
 use Rattle.std.specs.Prelude.{◌≡◌, Bool}
 use Rattle.picky_der_core.specs.declared.asn1.wrapper.Wrapper.TheVariants.{OctetContainer, BitContainer, Explicit, Implicit}
 use Rattle.picky_der_core.specs.Tree.{Tree}
-use Rattle.picky_der_core.specs.Shape.{Shape}
+use Rattle.picky_der_core.specs.Shape.{Shape, IsSound, firsts}
 use Rattle.picky_der_input.specs.declared.enclosure.Enclosure.{Enclosure}
 use Rattle.picky_der_input.specs.declared.enclosure.Enclosure.TheVariants as enclosure
-use Rattle.picky_der_de.specs.InjectiveLaws.{IsInjective}
 use Rattle.picky_der_input.specs.Enclosures.{enclose, enclose_shape}
+use Rattle.picky_der_de.specs.Firsts.{IsBegunBy}
+use Rattle.picky_der_de.specs.InjectiveLaws.{IsInjective}
 
 enclose_same : (w : Enclosure) (t u : Tree) → enclose w t ≡ enclose w u → t ≡ u
 enclose_same (enclosure.Wrapper OctetContainer) t u e = cc
@@ -22,3 +23,18 @@ enclosed_injective (enclosure.Wrapper BitContainer) meaning s eq known x y p q r
 enclosed_injective (enclosure.Wrapper (Explicit n)) meaning s eq known x y p q r e = known x y p.1 q.1 r.1 (enclose_same (enclosure.Wrapper (Explicit n)) (meaning x) (meaning y) e)
 enclosed_injective (enclosure.Wrapper (Implicit n)) meaning s eq known x y p q r e = known x y p.1 q.1 r.2 (enclose_same (enclosure.Wrapper (Implicit n)) (meaning x) (meaning y) e)
 enclosed_injective (enclosure.Application n) meaning s eq known x y p q r e = known x y p.1 q.1 r.1 (enclose_same (enclosure.Application n) (meaning x) (meaning y) e)
+
+pub enclosed_sound : (w : Enclosure) (s : Shape) → IsSound s → IsSound (enclose_shape w s)
+enclosed_sound (enclosure.Wrapper OctetContainer) s h = h
+enclosed_sound (enclosure.Wrapper BitContainer) s h = h
+enclosed_sound (enclosure.Wrapper (Explicit n)) s h = h
+enclosed_sound (enclosure.Wrapper (Implicit n)) s h = h
+enclosed_sound (enclosure.Application n) s h = h
+
+-- the enclosure alone says with which bytes it begins
+pub enclosed_begun : (w : Enclosure) (s : Shape) (t : Tree) → IsBegunBy (firsts (enclose_shape w s)) (enclose w t)
+enclosed_begun (enclosure.Wrapper OctetContainer) s t = λ b h. h
+enclosed_begun (enclosure.Wrapper BitContainer) s t = λ b h. h
+enclosed_begun (enclosure.Wrapper (Explicit n)) s t = λ b h. h
+enclosed_begun (enclosure.Wrapper (Implicit n)) s t = λ b h. h
+enclosed_begun (enclosure.Application n) s t = λ b h. h

@@ -8,17 +8,13 @@ use Rattle.std.proofs.Common.{eq-eqb, ap, subst, ◌++◌}
 use Rattle.std.proofs.lemmas.Str.{encode_same}
 use Rattle.picky_der_core.specs.Tree.{ListKind, Tree, Trees, trees}
 use Rattle.picky_der_core.specs.Readable.{IsReadable, AreReadable}
-use Rattle.picky_der_core.specs.Shape.{Shape, Shapes, IsOf, AreOf, EachIs}
+use Rattle.picky_der_core.specs.Shape.{Shape, IsOf, EachIs}
 use Rattle.picky_der_core.specs.FirstLaws.{is_of-optional}
 use Rattle.picky_der_ser.specs.Meaning.{option_meaning}
 
 -- two readable values of the type with one tree are equal
 abbrev pub IsInjective : {V : Type 0} → (V → Tree) → Shape → (V → V → Bool) → Type 0
 IsInjective {V} meaning s eq = (x y : V) → IsOf s (meaning x) → IsOf s (meaning y) → IsReadable (meaning x) → meaning x ≡ meaning y → eq x y ≡ true
-
--- two rows of readable members with the same trees are equal
-abbrev pub AreInjective : {V : Type 0} → (V → Trees) → Shapes → (V → V → Bool) → Type 0
-AreInjective {V} members ss eq = (x y : V) → AreOf ss (members x) → AreOf ss (members y) → AreReadable (members x) → members x ≡ members y → eq x y ≡ true
 
 pub boolean_injective : (x y : Bool) → Tree.boolean x ≡ Tree.boolean y → beq x y ≡ true
 boolean_injective true true e = refl

@@ -40,7 +40,7 @@ wider : (fs gs : List ℕ) (ts : Trees) → AreBegunBy gs ts → AreBegunBy (fs 
 wider fs gs Trees.none f = tt
 wider fs gs (Trees.more t ts) f = λ b h. contains-append_right b fs gs (f b h)
 
-pub maybe_begun : {V : Type 0} (meaning : V → Tree) (s : Shape) (l : Layout) → ((v : V) → IsBegunBy (firsts s) (meaning v)) → (o : Option V) (ts : Trees) → AreBegunBy (next_firsts l) ts → AreBegunBy (firsts s ++ next_firsts l) (maybe_more meaning o ts)
+maybe_begun : {V : Type 0} (meaning : V → Tree) (s : Shape) (l : Layout) → ((v : V) → IsBegunBy (firsts s) (meaning v)) → (o : Option V) (ts : Trees) → AreBegunBy (next_firsts l) ts → AreBegunBy (firsts s ++ next_firsts l) (maybe_more meaning o ts)
 maybe_begun meaning s l f None ts g = wider (firsts s) (next_firsts l) ts g
 maybe_begun meaning s l f (Some v) ts g = λ b h. contains-append_left b (firsts s) (next_firsts l) (f v b h)
 
@@ -55,7 +55,7 @@ module _ {V : Type 0} (meaning : V → Tree) (s : Shape) (l : Layout) (begins : 
       apart_differ (firsts s) (next_firsts l) (meaning v) (meaning v) told.0 (begins_in s (meaning v) there.0 r.0) (begins_next l (meaning v) ts (subst (AreMembersOf l) (sym e) behind) r.0) refl
 
   -- the first may be missing, and of those behind it `Others` holds where they are the same
-  pub maybe_told : (eq : V → V → Bool) (Others : Type 0) → IsInjective meaning s eq → (ts us : Trees) → AreBegunBy (next_firsts l) ts → AreBegunBy (next_firsts l) us → (AreMembersOf l ts → AreMembersOf l us → AreReadable ts → ts ≡ us → Others)
+  maybe_told : (eq : V → V → Bool) (Others : Type 0) → IsInjective meaning s eq → (ts us : Trees) → AreBegunBy (next_firsts l) ts → AreBegunBy (next_firsts l) us → (AreMembersOf l ts → AreMembersOf l us → AreReadable ts → ts ≡ us → Others)
       → (x y : Option V) → AreMembersOf (Layout.maybe s l) (maybe_more meaning x ts) → AreMembersOf (Layout.maybe s l) (maybe_more meaning y us) → AreReadable (maybe_more meaning x ts) → maybe_more meaning x ts ≡ maybe_more meaning y us → (option_eq eq x y ≡ true) × Others
   maybe_told eq Others injective ts us f g k None None p q r e = (refl, k (first_is_absent s l told.0 ts f r p) (first_is_absent s l told.0 us g (subst AreReadable e r) q) r e)
   maybe_told eq Others injective ts us f g k None (Some y) p q r e = absurd (present_and_absent y us ts f q p (subst AreReadable e r) (sym e))
@@ -75,7 +75,7 @@ equal_unless_default eq left_out one x y true false p q h = cc
 equal_unless_default eq left_out one x y false true p q h = cc
 equal_unless_default eq left_out one x y false false p q h = h
 
-pub same_unless_default : {V : Type 0} (eq : V → V → Bool) (left_out : V → Bool) → IsOne eq left_out → (x y : V) → option_eq eq (unless_default left_out x) (unless_default left_out y) ≡ true → eq x y ≡ true
+same_unless_default : {V : Type 0} (eq : V → V → Bool) (left_out : V → Bool) → IsOne eq left_out → (x y : V) → option_eq eq (unless_default left_out x) (unless_default left_out y) ≡ true → eq x y ≡ true
 same_unless_default eq left_out one x y h = equal_unless_default eq left_out one x y (left_out x) (left_out y) refl refl h
 
 -- ---- one member
@@ -114,12 +114,12 @@ module _ {W : Type 0} (meaning : W → Tree) (s : Shape) (eq : W → W → Bool)
   }
 
   -- a value that may be missing
-  pub perhaps_there : {V : Type 0} (item : V → Option W) → IsComponent perhaps (λ v. maybe_more meaning (item v)) (λ x y. option_eq eq (item x) (item y)) meaning s eq item (λ _. false)
-  perhaps_there {V} item = record {
+  pub perhaps_there : {V : Type 0} (item : V → Option W) (eq_member : V → V → Bool) → ((x y : V) → option_eq eq (item x) (item y) ≡ true → eq_member x y ≡ true) → IsComponent perhaps (λ v. maybe_more meaning (item v)) eq_member meaning s eq item (λ _. false)
+  perhaps_there {V} item eq_member same = record {
     stands = λ v ts. refl;
     there = λ v. tt;
     written = λ v. none_out (item v);
-    equal = λ x y h. h;
+    equal = same;
     begins = begins;
     injective = injective;
     by_tree = none_by_tree meaning;
@@ -156,8 +156,8 @@ pub record AreComponents {V : Type 0} (members : V → Trees) (l : Layout) (AreE
   -- the choices in the shapes are told by their first byte
   pub sound : AreMembersSound l
 
-pub no_components : {V : Type 0} → AreComponents (λ (v : V). Trees.none) Layout.empty (λ x y. true ≡ true)
-no_components = record { begins = λ v. tt; injective = λ told x y p q r e. refl; sound = tt }
+pub no_components : {V : Type 0} → AreComponents (λ (v : V). Trees.none) Layout.empty (λ x y. ⊤)
+no_components = record { begins = λ v. tt; injective = λ told x y p q r e. tt; sound = tt }
 
 -- as part of others
 pub behind : {V U : Type 0} {members : U → Trees} {l : Layout} {AreEqual : U → U → Type 0} (part : V → U) → AreComponents members l AreEqual → AreComponents (λ v. members (part v)) l (λ x y. AreEqual (part x) (part y))

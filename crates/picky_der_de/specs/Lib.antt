@@ -13,10 +13,15 @@ pub mod LayoutLaws
 pub mod InjectiveLaws
 pub mod EnclosureLaws
 pub mod Firsts
-pub mod Telling
 pub mod Choices
 pub mod FourChoices
 pub mod Entry
 pub mod Lending
 pub mod ArrayLaws
 pub mod SequenceState
+pub mod Known
+pub mod KnownContainers
+pub mod KnownMembers
+pub mod KnownRows
+pub mod KnownLayouts
+pub mod KnownChoices

@@ -1,11 +1,12 @@
 //! The alternatives of a choice, of any number.
-ghost use Rattle.std.specs.Prelude.{◌↔◌, IsTrue, IfOk, IfErr};
+ghost use Rattle.std.specs.Prelude.{◌↔◌, IsTrue, IfOk, IfErr, refl};
 ghost use Rattle.picky_der_core.specs.Tree.{Tree};
-ghost use Rattle.picky_der_core.specs.Shape.{Shapes, AreSound, firsts_of, contains};
-ghost use Rattle.picky_der_de.specs.Firsts.{IsBegunBy};
-ghost use Rattle.picky_der_de.specs.Choices.{ReadsBehind, RefusesBehind, AreKnownApart, chosen_of, begins_this_or_other};
-ghost use Rattle.picky_der_de.specs.Choices.{this_or_other_injective, equal_this_or_other};
+ghost use Rattle.picky_der_core.specs.Shape.{Shapes, firsts_of, contains};
 ghost use Rattle.picky_der_core.specs.Equality.{IsThatOf};
+ghost use Rattle.picky_der_de.specs.declared.alternatives.OneOf.TheVariants.{This, Other};
+ghost use Rattle.picky_der_de.specs.Choices.{ReadsBehind, RefusesBehind, chosen_of, equal_this_or_other};
+ghost use Rattle.picky_der_de.specs.Known.{Ties, ties_so};
+ghost use Rattle.picky_der_de.specs.KnownChoices.{KnownChoice, known_no_choice, known_this_or_other, ties_this_or_other};
 
 use crate::{Begins, Deserializer};
 use picky_der_core::asn1::Tag;
@@ -39,6 +40,9 @@ pub trait Alternatives: PartialEq + Drop + Sized {
     // A shape for each alternative.
     ghost shapes: { Shapes };
 
+    // What is known of their values: which trees they mean, and that these distinguish them.
+    ghost known: { KnownChoice Self shapes };
+
     // What the value means that was chosen, as a value of its own type.
     ghost chosen: { Self → Tree };
 
@@ -56,18 +60,14 @@ pub trait Alternatives: PartialEq + Drop + Sized {
         ensures ok { IfOk result (λ value. ReadsBehind shapes tag de.old de.new (chosen value)) }
         ensures err { IfErr result (RefusesBehind chosen shapes tag de.old de.new) };
 
-    // No value begins with another byte.
-    ghost begins: { (v : Self) → IsBegunBy (firsts_of shapes) (chosen v) };
-
-    // Two readable values with one tree are equal, where the alternatives are told by their first byte.
-    ghost injective: { AreKnownApart chosen shapes Self.eq };
-
-    // The choices in the shapes are told by their first byte.
-    ghost sound: { AreSound shapes };
+    // It is known of these trees, and of the `==`.
+    ghost tied: { Ties known.chosen known.equal chosen Self.eq };
 }
 
 impl Alternatives for NoneOf {
     ghost shapes = { Shapes.none };
+
+    ghost known = { known_no_choice (λ v. elim v [ ]) (λ v. elim v [ ]) };
 
     ghost chosen = { λ v. elim v [ ] };
 
@@ -81,15 +81,13 @@ impl Alternatives for NoneOf {
         Err(de.refuse(Asn1DerError::InvalidData))
     }
 
-    ghost begins = { λ v. elim v [ ] };
-
-    ghost injective = { λ _ v. elim v [ ] };
-
-    ghost sound = { tt };
+    ghost tied = { record { meaning = refl; equal = λ v. elim v [ ] } };
 }
 
 impl<A: Begins, B: Alternatives> Alternatives for OneOf<A, B> {
     ghost shapes = { Shapes.more A.shape B.shapes };
+
+    ghost known = { known_this_or_other A.known B.known };
 
     ghost chosen = { chosen_of A.meaning B.chosen };
 
@@ -109,10 +107,8 @@ impl<A: Begins, B: Alternatives> Alternatives for OneOf<A, B> {
         Ok(OneOf::Other(B::deserialize_alternative(tag, de)?))
     }
 
-    ghost begins = { begins_this_or_other A.meaning B.chosen A.shape B.shapes A.begins B.begins };
-
-    ghost injective = { this_or_other_injective A.meaning B.chosen A.shape B.shapes A.begins B.begins ⟦<OneOf<A, B> as PartialEq>⟧.eq
-        (λ _ _ h. h) (λ _ _ h. h) A.injective B.injective };
-
-    ghost sound = { (A.sound, B.sound) };
+    ghost tied = { ties_so (ties_this_or_other A.tied B.tied) (elim [
+      | This a ↦ elim [ This b ↦ λ h. h | _ ↦ λ h. h ]
+      | Other a ↦ elim [ Other b ↦ λ h. h | _ ↦ λ h. h ]
+    ]) };
 }

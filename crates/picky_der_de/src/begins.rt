@@ -1,7 +1,6 @@
 //! The first bytes of values, by which alternatives are told.
 ghost use Rattle.std.specs.Prelude.{◌↔◌, IsTrue};
-ghost use Rattle.picky_der_core.specs.Shape.{IsFirst, firsts};
-ghost use Rattle.picky_der_de.specs.Firsts.{IsBegunBy};
+ghost use Rattle.picky_der_core.specs.Shape.{IsFirst};
 
 use crate::Deserialize;
 use picky_der_core::asn1::Tag;
@@ -11,7 +10,4 @@ pub trait Begins: Deserialize {
     /// Whether a value can begin with this byte.
     fn begins_with(tag: Tag) -> bool
         ensures { IsTrue result ↔ IsFirst Self.shape tag };
-
-    // No value begins with another byte.
-    ghost begins: { (v : Self) → IsBegunBy (firsts Self.shape) (Self.meaning v) };
 }

@@ -1,7 +1,7 @@
-//! Up to eight members of a struct at a time, as they are read, and those behind them.
+//! Up to eight members of a struct at a time, as they are read, and those after them.
 ghost use Rattle.picky_der_de.specs.Layouts.{component_then};
-ghost use Rattle.picky_der_de.specs.InjectiveLaws.{both};
-ghost use Rattle.picky_der_de.specs.LayoutLaws.{equal_so, lead, behind};
+ghost use Rattle.picky_der_de.specs.KnownMembers.{ties_member, ties_part, ties_tuple};
+ghost use Rattle.picky_der_de.specs.KnownLayouts.{known_member, known_members};
 
 use crate::{DeserializeLayout, DeserializeMember, Sequence};
 use picky_der_core::Result;
@@ -10,19 +10,22 @@ use picky_der_core::misc::ReadExt;
 impl<A: DeserializeMember, Z: DeserializeLayout> DeserializeLayout for (A, Z) {
     ghost layout = { component_then A.presence A.shape Z.layout };
 
+    ghost known = { known_member (λ it. it.0) A.known (known_members (λ it. it.1) Z.known) };
+
     fn deserialize_layout<R: ReadExt>(sequence: &mut Sequence<'_, R>) -> Result<(A, Z)> {
         let first = A::deserialize_member(sequence)?;
         let others = Z::deserialize_layout(sequence)?;
         Ok((first, others))
     }
 
-    ghost are_components = { equal_so (λ x y h. both h.0 h.1)
-        (lead (λ row. row.0) A.is_component (behind (λ row. row.1) Z.are_components)) };
+    ghost tied = { ties_tuple (ties_member (λ it. it.0) A.tied (ties_part (λ it. it.1) Z.tied)) };
 }
 
 impl<A: DeserializeMember, B: DeserializeMember, Z: DeserializeLayout> DeserializeLayout
     for (A, B, Z) {
     ghost layout = { component_then A.presence A.shape (component_then B.presence B.shape Z.layout) };
+
+    ghost known = { known_member (λ it. it.0) A.known (known_member (λ it. it.1) B.known (known_members (λ it. it.2) Z.known)) };
 
     fn deserialize_layout<R: ReadExt>(sequence: &mut Sequence<'_, R>) -> Result<(A, B, Z)> {
         let first = A::deserialize_member(sequence)?;
@@ -31,8 +34,7 @@ impl<A: DeserializeMember, B: DeserializeMember, Z: DeserializeLayout> Deseriali
         Ok((first, second, behind))
     }
 
-    ghost are_components = { equal_so (λ x y h. both (both h.0 h.1.0) h.1.1)
-        (lead (λ row. row.0) A.is_component (lead (λ row. row.1) B.is_component (behind (λ row. row.2) Z.are_components))) };
+    ghost tied = { ties_tuple (ties_member (λ it. it.0) A.tied (ties_member (λ it. it.1) B.tied (ties_part (λ it. it.2) Z.tied))) };
 }
 
 impl<
@@ -43,6 +45,9 @@ impl<
 > DeserializeLayout for (A, B, C, Z) {
     ghost layout = { component_then A.presence A.shape (component_then B.presence B.shape (component_then C.presence C.shape Z.layout)) };
 
+    ghost known = { known_member (λ it. it.0) A.known (known_member (λ it. it.1) B.known (known_member (λ it. it.2) C.known
+        (known_members (λ it. it.3) Z.known))) };
+
     fn deserialize_layout<R: ReadExt>(sequence: &mut Sequence<'_, R>) -> Result<(A, B, C, Z)> {
         let first = A::deserialize_member(sequence)?;
         let others = <(B, C, Z) as DeserializeLayout>::deserialize_layout(sequence)?;
@@ -50,9 +55,8 @@ impl<
         Ok((first, second, third, behind))
     }
 
-    ghost are_components = { equal_so (λ x y h. both (both (both h.0 h.1.0) h.1.1.0) h.1.1.1)
-        (lead (λ row. row.0) A.is_component (lead (λ row. row.1) B.is_component
-        (lead (λ row. row.2) C.is_component (behind (λ row. row.3) Z.are_components)))) };
+    ghost tied = { ties_tuple (ties_member (λ it. it.0) A.tied (ties_member (λ it. it.1) B.tied (ties_member (λ it. it.2) C.tied
+        (ties_part (λ it. it.3) Z.tied)))) };
 }
 
 impl<
@@ -65,6 +69,9 @@ impl<
     ghost layout = { component_then A.presence A.shape (component_then B.presence B.shape
         (component_then C.presence C.shape (component_then D.presence D.shape Z.layout))) };
 
+    ghost known = { known_member (λ it. it.0) A.known (known_member (λ it. it.1) B.known (known_member (λ it. it.2) C.known
+        (known_member (λ it. it.3) D.known (known_members (λ it. it.4) Z.known)))) };
+
     fn deserialize_layout<R: ReadExt>(sequence: &mut Sequence<'_, R>) -> Result<(A, B, C, D, Z)> {
         let first = A::deserialize_member(sequence)?;
         let others = <(B, C, D, Z) as DeserializeLayout>::deserialize_layout(sequence)?;
@@ -72,9 +79,8 @@ impl<
         Ok((first, second, third, fourth, behind))
     }
 
-    ghost are_components = { equal_so (λ x y h. both (both (both (both h.0 h.1.0) h.1.1.0) h.1.1.1.0) h.1.1.1.1)
-        (lead (λ row. row.0) A.is_component (lead (λ row. row.1) B.is_component
-        (lead (λ row. row.2) C.is_component (lead (λ row. row.3) D.is_component (behind (λ row. row.4) Z.are_components))))) };
+    ghost tied = { ties_tuple (ties_member (λ it. it.0) A.tied (ties_member (λ it. it.1) B.tied (ties_member (λ it. it.2) C.tied
+        (ties_member (λ it. it.3) D.tied (ties_part (λ it. it.4) Z.tied))))) };
 }
 
 impl<
@@ -88,6 +94,9 @@ impl<
     ghost layout = { component_then A.presence A.shape (component_then B.presence B.shape
         (component_then C.presence C.shape (component_then D.presence D.shape (component_then E.presence E.shape Z.layout)))) };
 
+    ghost known = { known_member (λ it. it.0) A.known (known_member (λ it. it.1) B.known (known_member (λ it. it.2) C.known
+        (known_member (λ it. it.3) D.known (known_member (λ it. it.4) E.known (known_members (λ it. it.5) Z.known))))) };
+
     fn deserialize_layout<R: ReadExt>(
         sequence: &mut Sequence<'_, R>,
     ) -> Result<(A, B, C, D, E, Z)> {
@@ -97,10 +106,8 @@ impl<
         Ok((first, second, third, fourth, fifth, behind))
     }
 
-    ghost are_components = { equal_so (λ x y h. both (both (both (both (both h.0 h.1.0) h.1.1.0) h.1.1.1.0) h.1.1.1.1.0) h.1.1.1.1.1)
-        (lead (λ row. row.0) A.is_component (lead (λ row. row.1) B.is_component
-        (lead (λ row. row.2) C.is_component (lead (λ row. row.3) D.is_component
-        (lead (λ row. row.4) E.is_component (behind (λ row. row.5) Z.are_components)))))) };
+    ghost tied = { ties_tuple (ties_member (λ it. it.0) A.tied (ties_member (λ it. it.1) B.tied (ties_member (λ it. it.2) C.tied
+        (ties_member (λ it. it.3) D.tied (ties_member (λ it. it.4) E.tied (ties_part (λ it. it.5) Z.tied)))))) };
 }
 
 impl<
@@ -116,6 +123,10 @@ impl<
         (component_then C.presence C.shape (component_then D.presence D.shape
         (component_then E.presence E.shape (component_then F.presence F.shape Z.layout))))) };
 
+    ghost known = { known_member (λ it. it.0) A.known (known_member (λ it. it.1) B.known (known_member (λ it. it.2) C.known
+        (known_member (λ it. it.3) D.known (known_member (λ it. it.4) E.known (known_member (λ it. it.5) F.known
+        (known_members (λ it. it.6) Z.known)))))) };
+
     fn deserialize_layout<R: ReadExt>(
         sequence: &mut Sequence<'_, R>,
     ) -> Result<(A, B, C, D, E, F, Z)> {
@@ -125,11 +136,9 @@ impl<
         Ok((first, second, third, fourth, fifth, sixth, behind))
     }
 
-    ghost are_components = { equal_so (λ x y h. both (both (both
-        (both (both (both h.0 h.1.0) h.1.1.0) h.1.1.1.0) h.1.1.1.1.0) h.1.1.1.1.1.0) h.1.1.1.1.1.1)
-        (lead (λ row. row.0) A.is_component (lead (λ row. row.1) B.is_component
-        (lead (λ row. row.2) C.is_component (lead (λ row. row.3) D.is_component
-        (lead (λ row. row.4) E.is_component (lead (λ row. row.5) F.is_component (behind (λ row. row.6) Z.are_components))))))) };
+    ghost tied = { ties_tuple (ties_member (λ it. it.0) A.tied (ties_member (λ it. it.1) B.tied (ties_member (λ it. it.2) C.tied
+        (ties_member (λ it. it.3) D.tied (ties_member (λ it. it.4) E.tied (ties_member (λ it. it.5) F.tied
+        (ties_part (λ it. it.6) Z.tied))))))) };
 }
 
 impl<
@@ -146,6 +155,10 @@ impl<
         (component_then C.presence C.shape (component_then D.presence D.shape
         (component_then E.presence E.shape (component_then F.presence F.shape (component_then G.presence G.shape Z.layout)))))) };
 
+    ghost known = { known_member (λ it. it.0) A.known (known_member (λ it. it.1) B.known (known_member (λ it. it.2) C.known
+        (known_member (λ it. it.3) D.known (known_member (λ it. it.4) E.known (known_member (λ it. it.5) F.known
+        (known_member (λ it. it.6) G.known (known_members (λ it. it.7) Z.known))))))) };
+
     fn deserialize_layout<R: ReadExt>(
         sequence: &mut Sequence<'_, R>,
     ) -> Result<(A, B, C, D, E, F, G, Z)> {
@@ -155,12 +168,9 @@ impl<
         Ok((first, second, third, fourth, fifth, sixth, seventh, behind))
     }
 
-    ghost are_components = { equal_so (λ x y h. both (both (both
-        (both (both (both (both h.0 h.1.0) h.1.1.0) h.1.1.1.0) h.1.1.1.1.0) h.1.1.1.1.1.0) h.1.1.1.1.1.1.0) h.1.1.1.1.1.1.1)
-        (lead (λ row. row.0) A.is_component (lead (λ row. row.1) B.is_component
-        (lead (λ row. row.2) C.is_component (lead (λ row. row.3) D.is_component
-        (lead (λ row. row.4) E.is_component (lead (λ row. row.5) F.is_component
-        (lead (λ row. row.6) G.is_component (behind (λ row. row.7) Z.are_components)))))))) };
+    ghost tied = { ties_tuple (ties_member (λ it. it.0) A.tied (ties_member (λ it. it.1) B.tied (ties_member (λ it. it.2) C.tied
+        (ties_member (λ it. it.3) D.tied (ties_member (λ it. it.4) E.tied (ties_member (λ it. it.5) F.tied (ties_member (λ it. it.6) G.tied
+        (ties_part (λ it. it.7) Z.tied)))))))) };
 }
 
 impl<
@@ -179,6 +189,10 @@ impl<
         (component_then E.presence E.shape (component_then F.presence F.shape
         (component_then G.presence G.shape (component_then H.presence H.shape Z.layout))))))) };
 
+    ghost known = { known_member (λ it. it.0) A.known (known_member (λ it. it.1) B.known (known_member (λ it. it.2) C.known
+        (known_member (λ it. it.3) D.known (known_member (λ it. it.4) E.known (known_member (λ it. it.5) F.known
+        (known_member (λ it. it.6) G.known (known_member (λ it. it.7) H.known (known_members (λ it. it.8) Z.known)))))))) };
+
     fn deserialize_layout<R: ReadExt>(
         sequence: &mut Sequence<'_, R>,
     ) -> Result<(A, B, C, D, E, F, G, H, Z)> {
@@ -190,11 +204,7 @@ impl<
         ))
     }
 
-    ghost are_components = { equal_so (λ x y h. both (both (both
-        (both (both (both (both (both h.0 h.1.0) h.1.1.0) h.1.1.1.0) h.1.1.1.1.0) h.1.1.1.1.1.0)
-        h.1.1.1.1.1.1.0) h.1.1.1.1.1.1.1.0) h.1.1.1.1.1.1.1.1)
-        (lead (λ row. row.0) A.is_component (lead (λ row. row.1) B.is_component
-        (lead (λ row. row.2) C.is_component (lead (λ row. row.3) D.is_component
-        (lead (λ row. row.4) E.is_component (lead (λ row. row.5) F.is_component
-        (lead (λ row. row.6) G.is_component (lead (λ row. row.7) H.is_component (behind (λ row. row.8) Z.are_components))))))))) };
+    ghost tied = { ties_tuple (ties_member (λ it. it.0) A.tied (ties_member (λ it. it.1) B.tied (ties_member (λ it. it.2) C.tied
+        (ties_member (λ it. it.3) D.tied (ties_member (λ it. it.4) E.tied (ties_member (λ it. it.5) F.tied (ties_member (λ it. it.6) G.tied
+        (ties_member (λ it. it.7) H.tied (ties_part (λ it. it.8) Z.tied))))))))) };
 }

@@ -1,8 +1,8 @@
 //! The trait of what is read.
 ghost use Rattle.std.specs.Prelude.{IfOk, IfErr};
-ghost use Rattle.picky_der_core.specs.Shape.{Shape, IsSound};
+ghost use Rattle.picky_der_core.specs.Shape.{Shape};
 ghost use Rattle.picky_der_input.specs.Reading.{Reads, Refuses};
-ghost use Rattle.picky_der_de.specs.InjectiveLaws.{IsInjective};
+ghost use Rattle.picky_der_de.specs.Known.{Known, Ties};
 
 use crate::Deserializer;
 use picky_der_core::Result;
@@ -14,6 +14,9 @@ pub trait Deserialize: Serialize + PartialEq + Drop + Sized {
     // The trees of its values.
     ghost shape: { Shape };
 
+    // What is known of them: they tell the values.
+    ghost known: { Known Self shape };
+
     /// Reads a value, and takes just the bytes of its encoding. Directly under an implicit tag these are its content's.
     ///
     /// An implementation passes on the errors of the calls that it makes, and has the deserializer fail with its own.
@@ -23,9 +26,6 @@ pub trait Deserialize: Serialize + PartialEq + Drop + Sized {
         ensures ok { IfOk result (λ value. Reads shape de.old de.new (Self.meaning value)) }
         ensures err { IfErr result (Refuses Self.meaning shape de.old de.new) };
 
-    // Two readable values with one tree are equal.
-    ghost injective: { IsInjective Self.meaning shape Self.eq };
-
-    // The choices in the shape are told by their first byte.
-    ghost sound: { IsSound shape };
+    // It is known of what they mean to `Serialize`, and of their `==`.
+    ghost tied: { Ties known.meaning known.equal Self.meaning Self.eq };
 }

@@ -1,10 +1,11 @@
 //! Members of a sequence of which some may be absent, as they are read.
-ghost use Rattle.std.specs.Prelude.{◌≡◌, None, IsTrue, IfOk, IfErr};
+ghost use Rattle.std.specs.Prelude.{◌≡◌, ◌∷◌, [], true, None, IfOk, IfErr};
 ghost use Rattle.picky_der_core.specs.Tree.{ListKind, Tree};
-ghost use Rattle.picky_der_core.specs.Shape.{Shape, Layout, AreMembersTold};
+ghost use Rattle.picky_der_core.specs.Shape.{Shape, Layout};
 ghost use Rattle.picky_der_input.specs.Reading.{Reads, Refuses};
 ghost use Rattle.picky_der_de.specs.Layouts.{ReadsLayout, RefusesLayout};
-ghost use Rattle.picky_der_de.specs.LayoutLaws.{AreComponents, no_components};
+ghost use Rattle.picky_der_de.specs.KnownMembers.{TiesMembers, ties_none, ties_tuple};
+ghost use Rattle.picky_der_de.specs.KnownLayouts.{KnownLayout, known_empty, are_members_told};
 
 use crate::{Deserializer, Sequence};
 use picky_der_core::Result;
@@ -19,6 +20,9 @@ pub trait DeserializeLayout: SerializeMembers + PartialEq + Drop + Sized {
     // The shapes of the members, and which may be missing.
     ghost layout: { Layout };
 
+    // What is known of the members: which trees they mean, and that these distinguish them.
+    ghost known: { KnownLayout Self layout };
+
     /// Reads the members, from a sequence that hasn't failed and in which none is awaited directly under an implicit tag.
     /// One that is always there is refused as `next_field` refuses it, one that may be absent as `next_optional` does, and one
     /// with a default as `next_or_default` does. What is left behind the last one may be looked at, and isn't read.
@@ -32,18 +36,20 @@ pub trait DeserializeLayout: SerializeMembers + PartialEq + Drop + Sized {
         ensures err { IfErr result (RefusesLayout Self.members layout (state_of sequence.old)
             (state_of sequence.new)) };
 
-    // The first that is there begins with no other byte than its layout says, and they are known by their trees.
-    ghost are_components: { AreComponents Self.members layout (λ x y. IsTrue (Self.eq x y)) };
+    // It is known of what they mean to `SerializeMembers`, and of their `==`.
+    ghost tied: { TiesMembers known.members known.tests Self.members (λ x y. Self.eq x y ∷ []) };
 }
 
 impl DeserializeLayout for () {
     ghost layout = { Layout.empty };
 
+    ghost known = { known_empty };
+
     fn deserialize_layout<R: ReadExt>(_sequence: &mut Sequence<'_, R>) -> Result<()> {
         Ok(())
     }
 
-    ghost are_components = { no_components };
+    ghost tied = { ties_tuple ties_none };
 }
 
 /// A type whose values are told by the members of a sequence, of which some may be absent, as a struct's are.
@@ -60,7 +66,7 @@ pub trait Struct: Sized {
         ensures { parts result ≡ members };
 
     // No byte begins a member that may be absent and one that may come instead of it.
-    ghost told: { AreMembersTold Self.Members.layout };
+    ghost told: { are_members_told Self.Members.layout ≡ true };
 }
 
 /// Reads a sequence of which some members may be absent, which is the whole body of `Deserialize::deserialize` of such a type.

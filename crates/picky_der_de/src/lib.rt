@@ -23,7 +23,7 @@ pub use alike::{Alike, deserialize_as};
 pub use alternatives::{Alternatives, NoneOf, OneOf};
 pub use alternatives4::OneOf4;
 pub use begins::Begins;
-pub use choice::{Choice, DeserializeChoice};
+pub use choice::{Choice, deserialize_choice_as};
 pub use deserialize::Deserialize;
 pub use deserializer::Deserializer;
 pub use entry::{DEFAULT_MAX_LEN, from_bytes, from_reader, from_reader_with_max_len};

@@ -1,11 +1,15 @@
 //! One member of a struct: it is always there, or it may be absent.
 ghost use Rattle.std.specs.Prelude.{◌≡◌, Bool, false, Option, Some, IfOk, IfErr, IfSome, IfNone};
+ghost use Rattle.std.specs.Option.{option_eq};
 ghost use Rattle.picky_der_core.specs.Shape.{Shape};
 ghost use Rattle.picky_der_core.specs.Tree.{Tree};
 ghost use Rattle.picky_der_ser.specs.Meaning.{unless_default};
 ghost use Rattle.picky_der_de.specs.Members.{ReadsMember};
 ghost use Rattle.picky_der_de.specs.Layouts.{Presence, always, perhaps, Lacks, RefusesComponent};
 ghost use Rattle.picky_der_de.specs.LayoutLaws.{IsComponent, always_there, perhaps_there, with_default};
+ghost use Rattle.picky_der_de.specs.Known.{begun_of, injective_of};
+ghost use Rattle.picky_der_de.specs.KnownMembers.{TiesMember, ties_always};
+ghost use Rattle.picky_der_de.specs.KnownLayouts.{KnownMember, known_always, known_perhaps, known_default, ties_perhaps, ties_default};
 
 use crate::{Begins, Sequence};
 use picky_der_core::Result;
@@ -38,6 +42,9 @@ pub trait DeserializeMember: SerializeMember + PartialEq + Drop + Sized {
     // What is never written.
     ghost left_out: { Self.Item → Bool };
 
+    // What is known of the member: which trees it means, and that these distinguish it.
+    ghost known: { KnownMember Self Self.Item presence shape };
+
     /// Reads the member, which is refused as `next_field`, `next_optional` and `next_or_default` refuse theirs.
     fn deserialize_member<R: ReadExt>(sequence: &mut Sequence<'_, R>) -> Result<Self>
         ensures same_reference { borrowed_by sequence.new ≡ borrowed_by sequence.old }
@@ -52,6 +59,9 @@ pub trait DeserializeMember: SerializeMember + PartialEq + Drop + Sized {
 
     // What is written of it is what stands there, and it is known by that.
     ghost is_component: { IsComponent presence Self.in_front Self.eq item_meaning shape item_eq item left_out };
+
+    // It is known of what is written to `SerializeMember`, and of its `==`.
+    ghost tied: { TiesMember known.in_front known.equal Self.in_front Self.eq };
 }
 
 impl<T: Begins> DeserializeMember for T {
@@ -69,11 +79,15 @@ impl<T: Begins> DeserializeMember for T {
 
     ghost left_out = { λ _. false };
 
+    ghost known = { known_always T.known };
+
     fn deserialize_member<R: ReadExt>(sequence: &mut Sequence<'_, R>) -> Result<T> {
         sequence.next_field::<T>()
     }
 
-    ghost is_component = { always_there T.meaning T.shape T.eq T.begins T.injective T.sound };
+    ghost is_component = { always_there T.meaning T.shape T.eq (begun_of T.known T.tied) (injective_of T.known T.tied) T.known.sound };
+
+    ghost tied = { ties_always T.tied };
 }
 
 impl<T: Begins> DeserializeMember for Optional<T> {
@@ -91,12 +105,17 @@ impl<T: Begins> DeserializeMember for Optional<T> {
 
     ghost left_out = { λ _. false };
 
+    ghost known = { known_perhaps T.known (λ member. member.0) };
+
     fn deserialize_member<R: ReadExt>(sequence: &mut Sequence<'_, R>) -> Result<Optional<T>> {
         let value = sequence.next_optional::<T>()?;
         Ok(Optional(value))
     }
 
-    ghost is_component = { perhaps_there T.meaning T.shape T.eq T.begins T.injective T.sound (λ member. member.0) };
+    ghost is_component = { perhaps_there T.meaning T.shape T.eq (begun_of T.known T.tied) (injective_of T.known T.tied) T.known.sound
+        (λ member. member.0) (λ x y. option_eq T.eq x.0 y.0) (λ x y h. h) };
+
+    ghost tied = { ties_perhaps (λ member. member.0) T.tied };
 }
 
 impl<T: Begins, D: DefaultOf<T>> DeserializeMember for Defaulted<T, D> {
@@ -114,11 +133,15 @@ impl<T: Begins, D: DefaultOf<T>> DeserializeMember for Defaulted<T, D> {
 
     ghost left_out = { D.left_out };
 
+    ghost known = { known_default T.known D.left_out D.equal D.one (λ member. member.value) };
+
     fn deserialize_member<R: ReadExt>(sequence: &mut Sequence<'_, R>) -> Result<Defaulted<T, D>> {
         let value = sequence.next_or_default::<T, D>()?;
         Ok(Defaulted::new(value))
     }
 
-    ghost is_component = { with_default T.meaning T.shape T.eq T.begins T.injective T.sound D.left_out D.by_tree D.one
-        (λ member. member.value) };
+    ghost is_component = { with_default T.meaning T.shape T.eq (begun_of T.known T.tied) (injective_of T.known T.tied) T.known.sound
+        D.left_out D.by_tree (λ x y a b. D.equal_so x y (D.one x y a b)) (λ member. member.value) };
+
+    ghost tied = { ties_default D.left_out (λ member. member.value) T.tied D.equal_so };
 }

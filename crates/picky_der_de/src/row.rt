@@ -1,10 +1,10 @@
 //! Sequences of members of any types, as they are read.
-ghost use Rattle.std.specs.Prelude.{◌≡◌, None, IfOk, IfErr};
-ghost use Rattle.std.proofs.Common.{refl};
+ghost use Rattle.std.specs.Prelude.{◌≡◌, ◌∷◌, [], None, IfOk, IfErr};
 ghost use Rattle.picky_der_core.specs.Tree.{ListKind};
-ghost use Rattle.picky_der_core.specs.Shape.{Shape, Shapes, AreSound};
+ghost use Rattle.picky_der_core.specs.Shape.{Shape, Shapes};
 ghost use Rattle.picky_der_de.specs.Members.{ReadsRow, RefusesRow};
-ghost use Rattle.picky_der_de.specs.InjectiveLaws.{AreInjective, list_members};
+ghost use Rattle.picky_der_de.specs.KnownMembers.{TiesMembers, ties_none, ties_sequence, ties_tuple};
+ghost use Rattle.picky_der_de.specs.KnownRows.{KnownRow, known_none, known_row};
 
 use crate::{Deserialize, Deserializer, Sequence};
 use picky_der_core::Result;
@@ -17,6 +17,9 @@ pub trait DeserializeMembers: SerializeMembers + PartialEq + Drop + Sized {
 
     // A shape for each member.
     ghost shapes: { Shapes };
+
+    // What is known of the members: which trees they mean, and that these distinguish them.
+    ghost known: { KnownRow Self shapes };
 
     /// Reads the members, from a sequence that hasn't failed, whose next tag wasn't looked at, and in which none is awaited
     /// directly under an implicit tag. A missing one is refused as `next_field` refuses it, and what is left behind the last
@@ -32,31 +35,28 @@ pub trait DeserializeMembers: SerializeMembers + PartialEq + Drop + Sized {
         ensures err { IfErr result (RefusesRow Self.members shapes (state_of sequence.old)
             (state_of sequence.new)) };
 
-    // Two rows of readable members with the same trees are equal.
-    ghost injective: { AreInjective Self.members shapes Self.eq };
-
-    // The choices in the shapes are told by their first byte.
-    ghost sound: { AreSound shapes };
+    // It is known of what they mean to `SerializeMembers`, and of their `==`.
+    ghost tied: { TiesMembers known.members known.tests Self.members (λ x y. Self.eq x y ∷ []) };
 }
 
 impl DeserializeMembers for () {
     ghost shapes = { Shapes.none };
 
+    ghost known = { known_none };
+
     fn deserialize_members<R: ReadExt>(_sequence: &mut Sequence<'_, R>) -> Result<()> {
         Ok(())
     }
 
-    ghost injective = { λ _ _ _ _ _ _. refl };
-
-    ghost sound = { tt };
+    ghost tied = { ties_tuple ties_none };
 }
 
 impl<M: DeserializeMembers> Deserialize for Row<M> {
     ghost shape = { Shape.fields ListKind.sequence M.shapes };
 
-    ghost injective = { λ x y p q r e. M.injective x.0 y.0 p.1 q.1 r.1 (list_members e) };
+    ghost known = { known_row M.known (λ it. it.0) };
 
-    ghost sound = { M.sound };
+    ghost tied = { ties_sequence (λ it. it.0) M.tied };
 
     fn deserialize<R: ReadExt>(de: &mut Deserializer<R>) -> Result<Row<M>> {
         let mut sequence = de.deserialize_seq()?;

@@ -1,6 +1,7 @@
-//! Up to eight members of a row at a time, as they are read, and those behind them.
+//! Up to eight members of a row at a time, as they are read, and those after them.
 ghost use Rattle.picky_der_core.specs.Shape.{Shapes};
-ghost use Rattle.picky_der_de.specs.InjectiveLaws.{both, first_member, other_members};
+ghost use Rattle.picky_der_de.specs.KnownMembers.{ties_field, ties_part, ties_tuple};
+ghost use Rattle.picky_der_de.specs.KnownRows.{known_field, known_fields};
 
 use crate::{Deserialize, DeserializeMembers, Sequence};
 use picky_der_core::Result;
@@ -9,20 +10,21 @@ use picky_der_core::misc::ReadExt;
 impl<A: Deserialize, Z: DeserializeMembers> DeserializeMembers for (A, Z) {
     ghost shapes = { Shapes.more A.shape Z.shapes };
 
+    ghost known = { known_field (λ it. it.0) A.known (known_fields (λ it. it.1) Z.known) };
+
     fn deserialize_members<R: ReadExt>(sequence: &mut Sequence<'_, R>) -> Result<(A, Z)> {
         let first = sequence.next_field::<A>()?;
         let others = Z::deserialize_members(sequence)?;
         Ok((first, others))
     }
 
-    ghost injective = { λ x y p q r e. both (A.injective x.0 y.0 p.0 q.0 r.0 (first_member e))
-        (Z.injective x.1 y.1 p.1 q.1 r.1 (other_members e)) };
-
-    ghost sound = { (A.sound, Z.sound) };
+    ghost tied = { ties_tuple (ties_field (λ it. it.0) A.tied (ties_part (λ it. it.1) Z.tied)) };
 }
 
 impl<A: Deserialize, B: Deserialize, Z: DeserializeMembers> DeserializeMembers for (A, B, Z) {
     ghost shapes = { Shapes.more A.shape (Shapes.more B.shape Z.shapes) };
+
+    ghost known = { known_field (λ it. it.0) A.known (known_field (λ it. it.1) B.known (known_fields (λ it. it.2) Z.known)) };
 
     fn deserialize_members<R: ReadExt>(sequence: &mut Sequence<'_, R>) -> Result<(A, B, Z)> {
         let first = sequence.next_field::<A>()?;
@@ -31,16 +33,15 @@ impl<A: Deserialize, B: Deserialize, Z: DeserializeMembers> DeserializeMembers f
         Ok((first, second, behind))
     }
 
-    ghost injective = { λ x y p q r e. both (both (A.injective x.0 y.0 p.0 q.0 r.0 (first_member e))
-        (B.injective x.1 y.1 p.1.0 q.1.0 r.1.0 (first_member (other_members e))))
-        (Z.injective x.2 y.2 p.1.1 q.1.1 r.1.1 (other_members (other_members e))) };
-
-    ghost sound = { (A.sound, (B.sound, Z.sound)) };
+    ghost tied = { ties_tuple (ties_field (λ it. it.0) A.tied (ties_field (λ it. it.1) B.tied (ties_part (λ it. it.2) Z.tied))) };
 }
 
 impl<A: Deserialize, B: Deserialize, C: Deserialize, Z: DeserializeMembers> DeserializeMembers
     for (A, B, C, Z) {
     ghost shapes = { Shapes.more A.shape (Shapes.more B.shape (Shapes.more C.shape Z.shapes)) };
+
+    ghost known = { known_field (λ it. it.0) A.known (known_field (λ it. it.1) B.known (known_field (λ it. it.2) C.known
+        (known_fields (λ it. it.3) Z.known))) };
 
     fn deserialize_members<R: ReadExt>(sequence: &mut Sequence<'_, R>) -> Result<(A, B, C, Z)> {
         let first = sequence.next_field::<A>()?;
@@ -49,12 +50,8 @@ impl<A: Deserialize, B: Deserialize, C: Deserialize, Z: DeserializeMembers> Dese
         Ok((first, second, third, behind))
     }
 
-    ghost injective = { λ x y p q r e. both (both (both (A.injective x.0 y.0 p.0 q.0 r.0 (first_member e))
-        (B.injective x.1 y.1 p.1.0 q.1.0 r.1.0 (first_member (other_members e))))
-        (C.injective x.2 y.2 p.1.1.0 q.1.1.0 r.1.1.0 (first_member (other_members (other_members e)))))
-        (Z.injective x.3 y.3 p.1.1.1 q.1.1.1 r.1.1.1 (other_members (other_members (other_members e)))) };
-
-    ghost sound = { (A.sound, (B.sound, (C.sound, Z.sound))) };
+    ghost tied = { ties_tuple (ties_field (λ it. it.0) A.tied (ties_field (λ it. it.1) B.tied (ties_field (λ it. it.2) C.tied
+        (ties_part (λ it. it.3) Z.tied)))) };
 }
 
 impl<
@@ -66,6 +63,9 @@ impl<
 > DeserializeMembers for (A, B, C, D, Z) {
     ghost shapes = { Shapes.more A.shape (Shapes.more B.shape (Shapes.more C.shape (Shapes.more D.shape Z.shapes))) };
 
+    ghost known = { known_field (λ it. it.0) A.known (known_field (λ it. it.1) B.known (known_field (λ it. it.2) C.known
+        (known_field (λ it. it.3) D.known (known_fields (λ it. it.4) Z.known)))) };
+
     fn deserialize_members<R: ReadExt>(sequence: &mut Sequence<'_, R>) -> Result<(A, B, C, D, Z)> {
         let first = sequence.next_field::<A>()?;
         let others = <(B, C, D, Z) as DeserializeMembers>::deserialize_members(sequence)?;
@@ -73,13 +73,8 @@ impl<
         Ok((first, second, third, fourth, behind))
     }
 
-    ghost injective = { λ x y p q r e. both (both (both (both (A.injective x.0 y.0 p.0 q.0 r.0 (first_member e))
-        (B.injective x.1 y.1 p.1.0 q.1.0 r.1.0 (first_member (other_members e))))
-        (C.injective x.2 y.2 p.1.1.0 q.1.1.0 r.1.1.0 (first_member (other_members (other_members e)))))
-        (D.injective x.3 y.3 p.1.1.1.0 q.1.1.1.0 r.1.1.1.0 (first_member (other_members (other_members (other_members e))))))
-        (Z.injective x.4 y.4 p.1.1.1.1 q.1.1.1.1 r.1.1.1.1 (other_members (other_members (other_members (other_members e))))) };
-
-    ghost sound = { (A.sound, (B.sound, (C.sound, (D.sound, Z.sound)))) };
+    ghost tied = { ties_tuple (ties_field (λ it. it.0) A.tied (ties_field (λ it. it.1) B.tied (ties_field (λ it. it.2) C.tied
+        (ties_field (λ it. it.3) D.tied (ties_part (λ it. it.4) Z.tied))))) };
 }
 
 impl<
@@ -92,6 +87,9 @@ impl<
 > DeserializeMembers for (A, B, C, D, E, Z) {
     ghost shapes = { Shapes.more A.shape (Shapes.more B.shape (Shapes.more C.shape (Shapes.more D.shape (Shapes.more E.shape Z.shapes)))) };
 
+    ghost known = { known_field (λ it. it.0) A.known (known_field (λ it. it.1) B.known (known_field (λ it. it.2) C.known
+        (known_field (λ it. it.3) D.known (known_field (λ it. it.4) E.known (known_fields (λ it. it.5) Z.known))))) };
+
     fn deserialize_members<R: ReadExt>(
         sequence: &mut Sequence<'_, R>,
     ) -> Result<(A, B, C, D, E, Z)> {
@@ -101,16 +99,8 @@ impl<
         Ok((first, second, third, fourth, fifth, behind))
     }
 
-    ghost injective = { λ x y p q r e. both (both (both (both (both (A.injective x.0 y.0 p.0 q.0 r.0 (first_member e))
-        (B.injective x.1 y.1 p.1.0 q.1.0 r.1.0 (first_member (other_members e))))
-        (C.injective x.2 y.2 p.1.1.0 q.1.1.0 r.1.1.0 (first_member (other_members (other_members e)))))
-        (D.injective x.3 y.3 p.1.1.1.0 q.1.1.1.0 r.1.1.1.0 (first_member (other_members (other_members (other_members e))))))
-        (E.injective x.4 y.4 p.1.1.1.1.0 q.1.1.1.1.0 r.1.1.1.1.0
-        (first_member (other_members (other_members (other_members (other_members e)))))))
-        (Z.injective x.5 y.5 p.1.1.1.1.1 q.1.1.1.1.1 r.1.1.1.1.1
-        (other_members (other_members (other_members (other_members (other_members e)))))) };
-
-    ghost sound = { (A.sound, (B.sound, (C.sound, (D.sound, (E.sound, Z.sound))))) };
+    ghost tied = { ties_tuple (ties_field (λ it. it.0) A.tied (ties_field (λ it. it.1) B.tied (ties_field (λ it. it.2) C.tied
+        (ties_field (λ it. it.3) D.tied (ties_field (λ it. it.4) E.tied (ties_part (λ it. it.5) Z.tied)))))) };
 }
 
 impl<
@@ -125,6 +115,10 @@ impl<
     ghost shapes = { Shapes.more A.shape (Shapes.more B.shape
         (Shapes.more C.shape (Shapes.more D.shape (Shapes.more E.shape (Shapes.more F.shape Z.shapes))))) };
 
+    ghost known = { known_field (λ it. it.0) A.known (known_field (λ it. it.1) B.known (known_field (λ it. it.2) C.known
+        (known_field (λ it. it.3) D.known (known_field (λ it. it.4) E.known (known_field (λ it. it.5) F.known
+        (known_fields (λ it. it.6) Z.known)))))) };
+
     fn deserialize_members<R: ReadExt>(
         sequence: &mut Sequence<'_, R>,
     ) -> Result<(A, B, C, D, E, F, Z)> {
@@ -134,18 +128,9 @@ impl<
         Ok((first, second, third, fourth, fifth, sixth, behind))
     }
 
-    ghost injective = { λ x y p q r e. both (both (both (both (both (both (A.injective x.0 y.0 p.0 q.0 r.0 (first_member e))
-        (B.injective x.1 y.1 p.1.0 q.1.0 r.1.0 (first_member (other_members e))))
-        (C.injective x.2 y.2 p.1.1.0 q.1.1.0 r.1.1.0 (first_member (other_members (other_members e)))))
-        (D.injective x.3 y.3 p.1.1.1.0 q.1.1.1.0 r.1.1.1.0 (first_member (other_members (other_members (other_members e))))))
-        (E.injective x.4 y.4 p.1.1.1.1.0 q.1.1.1.1.0 r.1.1.1.1.0
-        (first_member (other_members (other_members (other_members (other_members e)))))))
-        (F.injective x.5 y.5 p.1.1.1.1.1.0 q.1.1.1.1.1.0 r.1.1.1.1.1.0
-        (first_member (other_members (other_members (other_members (other_members (other_members e))))))))
-        (Z.injective x.6 y.6 p.1.1.1.1.1.1 q.1.1.1.1.1.1 r.1.1.1.1.1.1
-        (other_members (other_members (other_members (other_members (other_members (other_members e))))))) };
-
-    ghost sound = { (A.sound, (B.sound, (C.sound, (D.sound, (E.sound, (F.sound, Z.sound)))))) };
+    ghost tied = { ties_tuple (ties_field (λ it. it.0) A.tied (ties_field (λ it. it.1) B.tied (ties_field (λ it. it.2) C.tied
+        (ties_field (λ it. it.3) D.tied (ties_field (λ it. it.4) E.tied (ties_field (λ it. it.5) F.tied
+        (ties_part (λ it. it.6) Z.tied))))))) };
 }
 
 impl<
@@ -161,6 +146,10 @@ impl<
     ghost shapes = { Shapes.more A.shape (Shapes.more B.shape
         (Shapes.more C.shape (Shapes.more D.shape (Shapes.more E.shape (Shapes.more F.shape (Shapes.more G.shape Z.shapes)))))) };
 
+    ghost known = { known_field (λ it. it.0) A.known (known_field (λ it. it.1) B.known (known_field (λ it. it.2) C.known
+        (known_field (λ it. it.3) D.known (known_field (λ it. it.4) E.known (known_field (λ it. it.5) F.known
+        (known_field (λ it. it.6) G.known (known_fields (λ it. it.7) Z.known))))))) };
+
     fn deserialize_members<R: ReadExt>(
         sequence: &mut Sequence<'_, R>,
     ) -> Result<(A, B, C, D, E, F, G, Z)> {
@@ -170,20 +159,9 @@ impl<
         Ok((first, second, third, fourth, fifth, sixth, seventh, behind))
     }
 
-    ghost injective = { λ x y p q r e. both (both (both (both (both (both (both (A.injective x.0 y.0 p.0 q.0 r.0 (first_member e))
-        (B.injective x.1 y.1 p.1.0 q.1.0 r.1.0 (first_member (other_members e))))
-        (C.injective x.2 y.2 p.1.1.0 q.1.1.0 r.1.1.0 (first_member (other_members (other_members e)))))
-        (D.injective x.3 y.3 p.1.1.1.0 q.1.1.1.0 r.1.1.1.0 (first_member (other_members (other_members (other_members e))))))
-        (E.injective x.4 y.4 p.1.1.1.1.0 q.1.1.1.1.0 r.1.1.1.1.0
-        (first_member (other_members (other_members (other_members (other_members e)))))))
-        (F.injective x.5 y.5 p.1.1.1.1.1.0 q.1.1.1.1.1.0 r.1.1.1.1.1.0
-        (first_member (other_members (other_members (other_members (other_members (other_members e))))))))
-        (G.injective x.6 y.6 p.1.1.1.1.1.1.0 q.1.1.1.1.1.1.0 r.1.1.1.1.1.1.0
-        (first_member (other_members (other_members (other_members (other_members (other_members (other_members e)))))))))
-        (Z.injective x.7 y.7 p.1.1.1.1.1.1.1 q.1.1.1.1.1.1.1 r.1.1.1.1.1.1.1
-        (other_members (other_members (other_members (other_members (other_members (other_members (other_members e)))))))) };
-
-    ghost sound = { (A.sound, (B.sound, (C.sound, (D.sound, (E.sound, (F.sound, (G.sound, Z.sound))))))) };
+    ghost tied = { ties_tuple (ties_field (λ it. it.0) A.tied (ties_field (λ it. it.1) B.tied (ties_field (λ it. it.2) C.tied
+        (ties_field (λ it. it.3) D.tied (ties_field (λ it. it.4) E.tied (ties_field (λ it. it.5) F.tied (ties_field (λ it. it.6) G.tied
+        (ties_part (λ it. it.7) Z.tied)))))))) };
 }
 
 impl<
@@ -201,6 +179,10 @@ impl<
         (Shapes.more C.shape (Shapes.more D.shape (Shapes.more E.shape
         (Shapes.more F.shape (Shapes.more G.shape (Shapes.more H.shape Z.shapes))))))) };
 
+    ghost known = { known_field (λ it. it.0) A.known (known_field (λ it. it.1) B.known (known_field (λ it. it.2) C.known
+        (known_field (λ it. it.3) D.known (known_field (λ it. it.4) E.known (known_field (λ it. it.5) F.known
+        (known_field (λ it. it.6) G.known (known_field (λ it. it.7) H.known (known_fields (λ it. it.8) Z.known)))))))) };
+
     fn deserialize_members<R: ReadExt>(
         sequence: &mut Sequence<'_, R>,
     ) -> Result<(A, B, C, D, E, F, G, H, Z)> {
@@ -214,22 +196,7 @@ impl<
         ))
     }
 
-    ghost injective = { λ x y p q r e. both (both (both (both (both (both (both (both (A.injective x.0 y.0 p.0 q.0 r.0 (first_member e))
-        (B.injective x.1 y.1 p.1.0 q.1.0 r.1.0 (first_member (other_members e))))
-        (C.injective x.2 y.2 p.1.1.0 q.1.1.0 r.1.1.0 (first_member (other_members (other_members e)))))
-        (D.injective x.3 y.3 p.1.1.1.0 q.1.1.1.0 r.1.1.1.0 (first_member (other_members (other_members (other_members e))))))
-        (E.injective x.4 y.4 p.1.1.1.1.0 q.1.1.1.1.0 r.1.1.1.1.0
-        (first_member (other_members (other_members (other_members (other_members e)))))))
-        (F.injective x.5 y.5 p.1.1.1.1.1.0 q.1.1.1.1.1.0 r.1.1.1.1.1.0
-        (first_member (other_members (other_members (other_members (other_members (other_members e))))))))
-        (G.injective x.6 y.6 p.1.1.1.1.1.1.0 q.1.1.1.1.1.1.0 r.1.1.1.1.1.1.0
-        (first_member (other_members (other_members (other_members (other_members (other_members (other_members e)))))))))
-        (H.injective x.7 y.7 p.1.1.1.1.1.1.1.0 q.1.1.1.1.1.1.1.0 r.1.1.1.1.1.1.1.0
-        (first_member (other_members (other_members (other_members
-        (other_members (other_members (other_members (other_members e))))))))))
-        (Z.injective x.8 y.8 p.1.1.1.1.1.1.1.1 q.1.1.1.1.1.1.1.1 r.1.1.1.1.1.1.1.1
-        (other_members (other_members (other_members (other_members
-        (other_members (other_members (other_members (other_members e))))))))) };
-
-    ghost sound = { (A.sound, (B.sound, (C.sound, (D.sound, (E.sound, (F.sound, (G.sound, (H.sound, Z.sound)))))))) };
+    ghost tied = { ties_tuple (ties_field (λ it. it.0) A.tied (ties_field (λ it. it.1) B.tied (ties_field (λ it. it.2) C.tied
+        (ties_field (λ it. it.3) D.tied (ties_field (λ it. it.4) E.tied (ties_field (λ it. it.5) F.tied (ties_field (λ it. it.6) G.tied
+        (ties_field (λ it. it.7) H.tied (ties_part (λ it. it.8) Z.tied))))))))) };
 }

@@ -4,7 +4,8 @@ ghost use Rattle.picky_der_core.specs.Tree.{ListKind, Tree};
 ghost use Rattle.picky_der_core.specs.Shape.{Shape};
 ghost use Rattle.picky_der_ser.specs.Meaning.{list_meaning};
 ghost use Rattle.picky_der_input.specs.Reading.{Reads, Refuses};
-ghost use Rattle.picky_der_de.specs.ArrayLaws.{times, times_sound, array_injective};
+ghost use Rattle.picky_der_de.specs.ArrayLaws.{times};
+ghost use Rattle.picky_der_de.specs.KnownContainers.{known_array, ties_list};
 
 use crate::{Deserialize, Deserializer};
 use picky_der_core::Result;
@@ -71,9 +72,9 @@ impl<T: Deserialize + Copy + Default, const N: usize> Fill for [T; N] {
 impl<T: Deserialize + Copy + Default, const N: usize> Deserialize for [T; N] {
     ghost shape = { Shape.fields ListKind.sequence (times N T.shape) };
 
-    ghost injective = { λ x y p q r e. array_injective T.meaning T.shape T.eq T.injective N x y p.1 q.1 r.1 e };
+    ghost known = { known_array T.known N (λ it. it) };
 
-    ghost sound = { times_sound N T.shape T.sound };
+    ghost tied = { ties_list T.tied ListKind.sequence (λ it. it) };
 
     fn deserialize<R: ReadExt>(de: &mut Deserializer<R>) -> Result<[T; N]> {
         read_filled(de)

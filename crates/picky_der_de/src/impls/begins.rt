@@ -2,7 +2,6 @@
 ghost use Rattle.std.specs.Prelude.{◌↔◌, ◌+◌, ◌≤◌, IsTrue};
 ghost use Rattle.picky_der_core.specs.Tag.{number_of};
 ghost use Rattle.picky_der_core.specs.Shape.{contains, tag_with_number};
-ghost use Rattle.picky_der_de.specs.Firsts.{option_begun};
 
 use crate::{Begins, Deserialize, DeserializeMembers};
 use picky_der_core::asn1::{
@@ -31,206 +30,154 @@ impl Begins for bool {
     fn begins_with(tag: Tag) -> bool {
         tag == Tag::BOOLEAN
     }
-
-    ghost begins = { λ v b h. h };
 }
 
 impl Begins for u8 {
     fn begins_with(tag: Tag) -> bool {
         tag == Tag::INTEGER
     }
-
-    ghost begins = { λ v b h. h };
 }
 
 impl Begins for u16 {
     fn begins_with(tag: Tag) -> bool {
         tag == Tag::INTEGER
     }
-
-    ghost begins = { λ v b h. h };
 }
 
 impl Begins for u32 {
     fn begins_with(tag: Tag) -> bool {
         tag == Tag::INTEGER
     }
-
-    ghost begins = { λ v b h. h };
 }
 
 impl Begins for u64 {
     fn begins_with(tag: Tag) -> bool {
         tag == Tag::INTEGER
     }
-
-    ghost begins = { λ v b h. h };
 }
 
 impl Begins for u128 {
     fn begins_with(tag: Tag) -> bool {
         tag == Tag::INTEGER
     }
-
-    ghost begins = { λ v b h. h };
 }
 
 impl Begins for usize {
     fn begins_with(tag: Tag) -> bool {
         tag == Tag::INTEGER
     }
-
-    ghost begins = { λ v b h. h };
 }
 
 impl Begins for () {
     fn begins_with(tag: Tag) -> bool {
         tag == Tag::NULL
     }
-
-    ghost begins = { λ v b h. h };
 }
 
 impl<T: Begins> Begins for Option<T> {
     fn begins_with(tag: Tag) -> bool {
         T::begins_with(tag)
     }
-
-    ghost begins = { option_begun T.meaning T.shape T.begins };
 }
 
 impl Begins for char {
     fn begins_with(tag: Tag) -> bool {
         tag == Tag::UTF8_STRING
     }
-
-    ghost begins = { λ v b h. h };
 }
 
 impl Begins for String {
     fn begins_with(tag: Tag) -> bool {
         tag == Tag::UTF8_STRING
     }
-
-    ghost begins = { λ v b h. h };
 }
 
 impl Begins for ByteBuf {
     fn begins_with(tag: Tag) -> bool {
         tag == Tag::OCTET_STRING
     }
-
-    ghost begins = { λ v b h. h };
 }
 
 impl<const TAG: u8> Begins for TaggedBytes<TAG> {
     fn begins_with(tag: Tag) -> bool {
         is_tag(tag, TAG)
     }
-
-    ghost begins = { λ v b h. h };
 }
 
 impl<T: Deserialize> Begins for Vec<T> {
     fn begins_with(tag: Tag) -> bool {
         tag == Tag::SEQUENCE
     }
-
-    ghost begins = { λ v b h. h };
 }
 
 impl<T: Deserialize> Begins for Asn1SequenceOf<T> {
     fn begins_with(tag: Tag) -> bool {
         tag == Tag::SEQUENCE
     }
-
-    ghost begins = { λ v b h. h };
 }
 
 impl<T: Deserialize> Begins for Asn1SetOf<T> {
     fn begins_with(tag: Tag) -> bool {
         tag == Tag::SET
     }
-
-    ghost begins = { λ v b h. h };
 }
 
 impl<T: Deserialize + Copy + Default, const N: usize> Begins for [T; N] {
     fn begins_with(tag: Tag) -> bool {
         tag == Tag::SEQUENCE
     }
-
-    ghost begins = { λ v b h. h };
 }
 
 impl<A: Deserialize> Begins for (A,) {
     fn begins_with(tag: Tag) -> bool {
         tag == Tag::SEQUENCE
     }
-
-    ghost begins = { λ v b h. h };
 }
 
 impl<A: Deserialize, B: Deserialize> Begins for (A, B) {
     fn begins_with(tag: Tag) -> bool {
         tag == Tag::SEQUENCE
     }
-
-    ghost begins = { λ v b h. h };
 }
 
 impl<A: Deserialize, B: Deserialize, C: Deserialize> Begins for (A, B, C) {
     fn begins_with(tag: Tag) -> bool {
         tag == Tag::SEQUENCE
     }
-
-    ghost begins = { λ v b h. h };
 }
 
 impl<A: Deserialize, B: Deserialize, C: Deserialize, D: Deserialize> Begins for (A, B, C, D) {
     fn begins_with(tag: Tag) -> bool {
         tag == Tag::SEQUENCE
     }
-
-    ghost begins = { λ v b h. h };
 }
 
 impl<M: DeserializeMembers> Begins for Row<M> {
     fn begins_with(tag: Tag) -> bool {
         tag == Tag::SEQUENCE
     }
-
-    ghost begins = { λ v b h. h };
 }
 
 impl<T: Deserialize> Begins for OctetStringAsn1Container<T> {
     fn begins_with(tag: Tag) -> bool {
         tag == Tag::OCTET_STRING
     }
-
-    ghost begins = { λ v b h. h };
 }
 
 impl<T: Deserialize> Begins for BitStringAsn1Container<T> {
     fn begins_with(tag: Tag) -> bool {
         tag == Tag::BIT_STRING
     }
-
-    ghost begins = { λ v b h. h };
 }
 
 impl<T: Deserialize, const N: u8> Begins for ExplicitContextTag<T, N> {
     fn begins_with(tag: Tag) -> bool {
         is_numbered(tag, 0xA0, N)
     }
-
-    ghost begins = { λ v b h. h };
 }
 
 impl<T: Deserialize, const N: u8> Begins for ImplicitContextTag<T, N> {
     fn begins_with(tag: Tag) -> bool {
         is_numbered(tag, 0x80, N)
     }
-
-    ghost begins = { λ v b h. h };
 }

@@ -5,7 +5,7 @@ ghost use Rattle.picky_der_core.specs.Tree.{Tree};
 ghost use Rattle.picky_der_core.specs.Shape.{Shape};
 ghost use Rattle.picky_der_input.specs.Reading.{Reads, Refuses, RefusesBytes};
 ghost use Rattle.picky_der_input.specs.TagNumbers.{RefusesNumber};
-ghost use Rattle.picky_der_de.specs.InjectiveLaws.{bytes_injective};
+ghost use Rattle.picky_der_de.specs.Known.{known_bytes, by_itself};
 
 use crate::{Deserialize, Deserializer};
 use picky_der_core::Result;
@@ -16,9 +16,9 @@ use picky_der_ser::Serialize;
 impl Deserialize for ByteBuf {
     ghost shape = { Shape.bytes 0x04 };
 
-    ghost injective = { λ x y s t r e. bytes_injective x.0.items y.0.items e };
+    ghost known = { known_bytes 0x04 (λ it. it.0.items) };
 
-    ghost sound = { tt };
+    ghost tied = { by_itself };
 
     fn deserialize<R: ReadExt>(de: &mut Deserializer<R>) -> Result<ByteBuf>
         ensures ok { IfOk result (λ value. Reads (Shape.bytes 0x04) de.old de.new
@@ -34,9 +34,9 @@ impl Deserialize for ByteBuf {
 impl<const TAG: u8> Deserialize for TaggedBytes<TAG> {
     ghost shape = { Shape.bytes TAG };
 
-    ghost injective = { λ x y s t r e. bytes_injective x.0.items y.0.items e };
+    ghost known = { known_bytes TAG (λ it. it.0.items) };
 
-    ghost sound = { tt };
+    ghost tied = { by_itself };
 
     fn deserialize<R: ReadExt>(de: &mut Deserializer<R>) -> Result<TaggedBytes<TAG>>
         ensures ok { IfOk result (λ value. Reads (Shape.bytes TAG) de.old de.new

@@ -4,7 +4,7 @@ ghost use Rattle.picky_der_core.specs.Tree.{Tree};
 ghost use Rattle.picky_der_core.specs.Shape.{Shape};
 ghost use Rattle.picky_der_input.specs.Steps.{TakesNoMemory};
 ghost use Rattle.picky_der_input.specs.Reading.{Reads, Refuses, RefusesBoolean, ReadsUnsigned, RefusesUnsigned};
-ghost use Rattle.picky_der_de.specs.InjectiveLaws.{boolean_injective, unsigned_injective};
+ghost use Rattle.picky_der_de.specs.Known.{known_boolean, known_unsigned, by_itself};
 
 use crate::{Deserialize, Deserializer};
 use picky_der_core::Result;
@@ -13,9 +13,9 @@ use picky_der_core::misc::ReadExt;
 impl Deserialize for bool {
     ghost shape = { Shape.boolean };
 
-    ghost injective = { λ x y s t r e. boolean_injective x y e };
+    ghost known = { known_boolean };
 
-    ghost sound = { tt };
+    ghost tied = { by_itself };
 
     fn deserialize<R: ReadExt>(de: &mut Deserializer<R>) -> Result<bool>
         ensures ok { IfOk result (λ value. Reads Shape.boolean de.old de.new
@@ -32,9 +32,9 @@ impl Deserialize for bool {
 impl Deserialize for u8 {
     ghost shape = { Shape.unsigned (2 ^ 8 - 1) };
 
-    ghost injective = { λ x y s t r e. unsigned_injective x y e };
+    ghost known = { known_unsigned (2 ^ 8 - 1) };
 
-    ghost sound = { tt };
+    ghost tied = { by_itself };
 
     fn deserialize<R: ReadExt>(de: &mut Deserializer<R>) -> Result<u8>
         ensures ok { IfOk result (λ value. Reads (Shape.unsigned (2 ^ 8 - 1)) de.old de.new
@@ -51,9 +51,9 @@ impl Deserialize for u8 {
 impl Deserialize for u16 {
     ghost shape = { Shape.unsigned (2 ^ 16 - 1) };
 
-    ghost injective = { λ x y s t r e. unsigned_injective x y e };
+    ghost known = { known_unsigned (2 ^ 16 - 1) };
 
-    ghost sound = { tt };
+    ghost tied = { by_itself };
 
     fn deserialize<R: ReadExt>(de: &mut Deserializer<R>) -> Result<u16>
         ensures ok { IfOk result (λ value. Reads (Shape.unsigned (2 ^ 16 - 1)) de.old de.new
@@ -70,9 +70,9 @@ impl Deserialize for u16 {
 impl Deserialize for u32 {
     ghost shape = { Shape.unsigned (2 ^ 32 - 1) };
 
-    ghost injective = { λ x y s t r e. unsigned_injective x y e };
+    ghost known = { known_unsigned (2 ^ 32 - 1) };
 
-    ghost sound = { tt };
+    ghost tied = { by_itself };
 
     fn deserialize<R: ReadExt>(de: &mut Deserializer<R>) -> Result<u32>
         ensures ok { IfOk result (λ value. Reads (Shape.unsigned (2 ^ 32 - 1)) de.old de.new
@@ -89,9 +89,9 @@ impl Deserialize for u32 {
 impl Deserialize for u64 {
     ghost shape = { Shape.unsigned (2 ^ 64 - 1) };
 
-    ghost injective = { λ x y s t r e. unsigned_injective x y e };
+    ghost known = { known_unsigned (2 ^ 64 - 1) };
 
-    ghost sound = { tt };
+    ghost tied = { by_itself };
 
     fn deserialize<R: ReadExt>(de: &mut Deserializer<R>) -> Result<u64>
         ensures ok { IfOk result (λ value. Reads (Shape.unsigned (2 ^ 64 - 1)) de.old de.new
@@ -108,9 +108,9 @@ impl Deserialize for u64 {
 impl Deserialize for u128 {
     ghost shape = { Shape.unsigned (2 ^ 128 - 1) };
 
-    ghost injective = { λ x y s t r e. unsigned_injective x y e };
+    ghost known = { known_unsigned (2 ^ 128 - 1) };
 
-    ghost sound = { tt };
+    ghost tied = { by_itself };
 
     fn deserialize<R: ReadExt>(de: &mut Deserializer<R>) -> Result<u128>
         ensures ok { IfOk result (λ value. Reads (Shape.unsigned (2 ^ 128 - 1)) de.old de.new
@@ -127,9 +127,9 @@ impl Deserialize for u128 {
 impl Deserialize for usize {
     ghost shape = { Shape.unsigned (2 ^ 64 - 1) };
 
-    ghost injective = { λ x y s t r e. unsigned_injective x y e };
+    ghost known = { known_unsigned (2 ^ 64 - 1) };
 
-    ghost sound = { tt };
+    ghost tied = { by_itself };
 
     fn deserialize<R: ReadExt>(de: &mut Deserializer<R>) -> Result<usize>
         ensures ok { IfOk result (λ value. Reads (Shape.unsigned (2 ^ 64 - 1)) de.old de.new

@@ -1,10 +1,11 @@
 //! Null, as it is read, and values that may be missing.
-ghost use Rattle.std.specs.Prelude.{refl, IfOk, IfErr};
+ghost use Rattle.std.specs.Prelude.{IfOk, IfErr};
 ghost use Rattle.picky_der_core.specs.Tree.{Tree};
 ghost use Rattle.picky_der_core.specs.Shape.{Shape};
 ghost use Rattle.picky_der_input.specs.Steps.{TakesNoMemory};
 ghost use Rattle.picky_der_input.specs.Reading.{Reads, Refuses, RefusesNull};
-ghost use Rattle.picky_der_de.specs.InjectiveLaws.{option_injective};
+ghost use Rattle.picky_der_de.specs.Known.{known_null, by_itself};
+ghost use Rattle.picky_der_de.specs.KnownContainers.{known_option, ties_option};
 
 use crate::{Deserialize, Deserializer};
 use picky_der_core::Result;
@@ -13,9 +14,9 @@ use picky_der_core::misc::ReadExt;
 impl Deserialize for () {
     ghost shape = { Shape.null };
 
-    ghost injective = { λ x y s t r e. refl };
+    ghost known = { known_null };
 
-    ghost sound = { tt };
+    ghost tied = { by_itself };
 
     fn deserialize<R: ReadExt>(de: &mut Deserializer<R>) -> Result<()>
         ensures ok { IfOk result (λ _. Reads Shape.null de.old de.new Tree.null) }
@@ -31,9 +32,9 @@ impl Deserialize for () {
 impl<T: Deserialize> Deserialize for Option<T> {
     ghost shape = { Shape.optional T.shape };
 
-    ghost injective = { option_injective T.meaning T.shape T.eq T.injective };
+    ghost known = { known_option T.known };
 
-    ghost sound = { T.sound };
+    ghost tied = { ties_option T.tied };
 
     fn deserialize<R: ReadExt>(de: &mut Deserializer<R>) -> Result<Option<T>> {
         de.deserialize_option()

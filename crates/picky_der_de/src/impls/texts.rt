@@ -5,7 +5,7 @@ ghost use Rattle.picky_der_core.specs.Tree.{Tree};
 ghost use Rattle.picky_der_core.specs.Shape.{Shape};
 ghost use Rattle.picky_der_input.specs.Steps.{TakesNoMemory};
 ghost use Rattle.picky_der_input.specs.Reading.{Reads, Refuses, RefusesText, RefusesCharacter};
-ghost use Rattle.picky_der_de.specs.InjectiveLaws.{character_injective, text_injective};
+ghost use Rattle.picky_der_de.specs.Known.{known_character, known_text, by_itself};
 
 use crate::{Deserialize, Deserializer};
 use picky_der_core::Result;
@@ -14,9 +14,9 @@ use picky_der_core::misc::ReadExt;
 impl Deserialize for char {
     ghost shape = { Shape.character };
 
-    ghost injective = { λ x y s t r e. character_injective x y e };
+    ghost known = { known_character };
 
-    ghost sound = { tt };
+    ghost tied = { by_itself };
 
     fn deserialize<R: ReadExt>(de: &mut Deserializer<R>) -> Result<char>
         ensures ok { IfOk result (λ value. Reads Shape.character de.old de.new
@@ -33,9 +33,9 @@ impl Deserialize for char {
 impl Deserialize for String {
     ghost shape = { Shape.text };
 
-    ghost injective = { λ x y s t r e. text_injective (string_bytes x) (string_bytes y) e };
+    ghost known = { known_text string_bytes };
 
-    ghost sound = { tt };
+    ghost tied = { by_itself };
 
     fn deserialize<R: ReadExt>(de: &mut Deserializer<R>) -> Result<String>
         ensures ok { IfOk result (λ value. Reads Shape.text de.old de.new

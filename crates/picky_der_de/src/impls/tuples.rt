@@ -1,7 +1,8 @@
 //! Tuples, as they are read: each as the row of its members.
 ghost use Rattle.picky_der_core.specs.Tree.{ListKind};
 ghost use Rattle.picky_der_core.specs.Shape.{Shape, Shapes};
-ghost use Rattle.picky_der_de.specs.InjectiveLaws.{both, list_members, first_member, other_members};
+ghost use Rattle.picky_der_de.specs.KnownMembers.{ties_field, ties_none, ties_sequence, ties_tuple};
+ghost use Rattle.picky_der_de.specs.KnownRows.{known_field, known_none, known_row};
 
 use crate::{Alike, Deserialize, Deserializer, deserialize_as};
 use picky_der_core::Result;
@@ -21,9 +22,9 @@ impl<A: Deserialize> Alike for (A,) {
 impl<A: Deserialize> Deserialize for (A,) {
     ghost shape = { Shape.fields ListKind.sequence (Shapes.more A.shape Shapes.none) };
 
-    ghost injective = { λ x y p q r e. let m = list_members e in A.injective x.0 y.0 p.1.0 q.1.0 r.1.0 (first_member m) };
+    ghost known = { known_row (known_field (λ it. it.0) A.known known_none) (λ it. it) };
 
-    ghost sound = { (A.sound, tt) };
+    ghost tied = { ties_sequence (λ it. it) (ties_tuple (ties_field (λ it. it.0) A.tied ties_none)) };
 
     fn deserialize<R: ReadExt>(de: &mut Deserializer<R>) -> Result<(A,)> {
         deserialize_as(de)
@@ -43,10 +44,9 @@ impl<A: Deserialize, B: Deserialize> Alike for (A, B) {
 impl<A: Deserialize, B: Deserialize> Deserialize for (A, B) {
     ghost shape = { Shape.fields ListKind.sequence (Shapes.more A.shape (Shapes.more B.shape Shapes.none)) };
 
-    ghost injective = { λ x y p q r e. let m = list_members e in both (A.injective x.0 y.0 p.1.0 q.1.0 r.1.0 (first_member m))
-        (B.injective x.1 y.1 p.1.1.0 q.1.1.0 r.1.1.0 (first_member (other_members m))) };
+    ghost known = { known_row (known_field (λ it. it.0) A.known (known_field (λ it. it.1) B.known known_none)) (λ it. it) };
 
-    ghost sound = { (A.sound, (B.sound, tt)) };
+    ghost tied = { ties_sequence (λ it. it) (ties_tuple (ties_field (λ it. it.0) A.tied (ties_field (λ it. it.1) B.tied ties_none))) };
 
     fn deserialize<R: ReadExt>(de: &mut Deserializer<R>) -> Result<(A, B)> {
         deserialize_as(de)
@@ -66,11 +66,11 @@ impl<A: Deserialize, B: Deserialize, C: Deserialize> Alike for (A, B, C) {
 impl<A: Deserialize, B: Deserialize, C: Deserialize> Deserialize for (A, B, C) {
     ghost shape = { Shape.fields ListKind.sequence (Shapes.more A.shape (Shapes.more B.shape (Shapes.more C.shape Shapes.none))) };
 
-    ghost injective = { λ x y p q r e. let m = list_members e in both (both (A.injective x.0 y.0 p.1.0 q.1.0 r.1.0 (first_member m))
-        (B.injective x.1 y.1 p.1.1.0 q.1.1.0 r.1.1.0 (first_member (other_members m))))
-        (C.injective x.2 y.2 p.1.1.1.0 q.1.1.1.0 r.1.1.1.0 (first_member (other_members (other_members m)))) };
+    ghost known = { known_row (known_field (λ it. it.0) A.known (known_field (λ it. it.1) B.known
+        (known_field (λ it. it.2) C.known known_none))) (λ it. it) };
 
-    ghost sound = { (A.sound, (B.sound, (C.sound, tt))) };
+    ghost tied = { ties_sequence (λ it. it) (ties_tuple (ties_field (λ it. it.0) A.tied (ties_field (λ it. it.1) B.tied
+        (ties_field (λ it. it.2) C.tied ties_none)))) };
 
     fn deserialize<R: ReadExt>(de: &mut Deserializer<R>) -> Result<(A, B, C)> {
         deserialize_as(de)
@@ -91,12 +91,11 @@ impl<A: Deserialize, B: Deserialize, C: Deserialize, D: Deserialize> Deserialize
     ghost shape = { Shape.fields ListKind.sequence (Shapes.more A.shape
         (Shapes.more B.shape (Shapes.more C.shape (Shapes.more D.shape Shapes.none)))) };
 
-    ghost injective = { λ x y p q r e. let m = list_members e in both (both (both (A.injective x.0 y.0 p.1.0 q.1.0 r.1.0 (first_member m))
-        (B.injective x.1 y.1 p.1.1.0 q.1.1.0 r.1.1.0 (first_member (other_members m))))
-        (C.injective x.2 y.2 p.1.1.1.0 q.1.1.1.0 r.1.1.1.0 (first_member (other_members (other_members m)))))
-        (D.injective x.3 y.3 p.1.1.1.1.0 q.1.1.1.1.0 r.1.1.1.1.0 (first_member (other_members (other_members (other_members m))))) };
+    ghost known = { known_row (known_field (λ it. it.0) A.known (known_field (λ it. it.1) B.known (known_field (λ it. it.2) C.known
+        (known_field (λ it. it.3) D.known known_none)))) (λ it. it) };
 
-    ghost sound = { (A.sound, (B.sound, (C.sound, (D.sound, tt)))) };
+    ghost tied = { ties_sequence (λ it. it) (ties_tuple (ties_field (λ it. it.0) A.tied (ties_field (λ it. it.1) B.tied
+        (ties_field (λ it. it.2) C.tied (ties_field (λ it. it.3) D.tied ties_none))))) };
 
     fn deserialize<R: ReadExt>(de: &mut Deserializer<R>) -> Result<(A, B, C, D)> {
         deserialize_as(de)
@@ -119,15 +118,11 @@ impl<A: Deserialize, B: Deserialize, C: Deserialize, D: Deserialize, E: Deserial
     ghost shape = { Shape.fields ListKind.sequence (Shapes.more A.shape
         (Shapes.more B.shape (Shapes.more C.shape (Shapes.more D.shape (Shapes.more E.shape Shapes.none))))) };
 
-    ghost injective = { λ x y p q r e. let m = list_members e in both
-        (both (both (both (A.injective x.0 y.0 p.1.0 q.1.0 r.1.0 (first_member m))
-        (B.injective x.1 y.1 p.1.1.0 q.1.1.0 r.1.1.0 (first_member (other_members m))))
-        (C.injective x.2 y.2 p.1.1.1.0 q.1.1.1.0 r.1.1.1.0 (first_member (other_members (other_members m)))))
-        (D.injective x.3 y.3 p.1.1.1.1.0 q.1.1.1.1.0 r.1.1.1.1.0 (first_member (other_members (other_members (other_members m))))))
-        (E.injective x.4 y.4 p.1.1.1.1.1.0 q.1.1.1.1.1.0 r.1.1.1.1.1.0
-        (first_member (other_members (other_members (other_members (other_members m)))))) };
+    ghost known = { known_row (known_field (λ it. it.0) A.known (known_field (λ it. it.1) B.known (known_field (λ it. it.2) C.known
+        (known_field (λ it. it.3) D.known (known_field (λ it. it.4) E.known known_none))))) (λ it. it) };
 
-    ghost sound = { (A.sound, (B.sound, (C.sound, (D.sound, (E.sound, tt))))) };
+    ghost tied = { ties_sequence (λ it. it) (ties_tuple (ties_field (λ it. it.0) A.tied (ties_field (λ it. it.1) B.tied
+        (ties_field (λ it. it.2) C.tied (ties_field (λ it. it.3) D.tied (ties_field (λ it. it.4) E.tied ties_none)))))) };
 
     fn deserialize<R: ReadExt>(de: &mut Deserializer<R>) -> Result<(A, B, C, D, E)> {
         deserialize_as(de)
@@ -164,17 +159,12 @@ impl<
     ghost shape = { Shape.fields ListKind.sequence (Shapes.more A.shape
         (Shapes.more B.shape (Shapes.more C.shape (Shapes.more D.shape (Shapes.more E.shape (Shapes.more F.shape Shapes.none)))))) };
 
-    ghost injective = { λ x y p q r e. let m = list_members e in both
-        (both (both (both (both (A.injective x.0 y.0 p.1.0 q.1.0 r.1.0 (first_member m))
-        (B.injective x.1 y.1 p.1.1.0 q.1.1.0 r.1.1.0 (first_member (other_members m))))
-        (C.injective x.2 y.2 p.1.1.1.0 q.1.1.1.0 r.1.1.1.0 (first_member (other_members (other_members m)))))
-        (D.injective x.3 y.3 p.1.1.1.1.0 q.1.1.1.1.0 r.1.1.1.1.0 (first_member (other_members (other_members (other_members m))))))
-        (E.injective x.4 y.4 p.1.1.1.1.1.0 q.1.1.1.1.1.0 r.1.1.1.1.1.0
-        (first_member (other_members (other_members (other_members (other_members m)))))))
-        (F.injective x.5 y.5 p.1.1.1.1.1.1.0 q.1.1.1.1.1.1.0 r.1.1.1.1.1.1.0
-        (first_member (other_members (other_members (other_members (other_members (other_members m))))))) };
+    ghost known = { known_row (known_field (λ it. it.0) A.known (known_field (λ it. it.1) B.known (known_field (λ it. it.2) C.known
+        (known_field (λ it. it.3) D.known (known_field (λ it. it.4) E.known (known_field (λ it. it.5) F.known known_none)))))) (λ it. it) };
 
-    ghost sound = { (A.sound, (B.sound, (C.sound, (D.sound, (E.sound, (F.sound, tt)))))) };
+    ghost tied = { ties_sequence (λ it. it) (ties_tuple (ties_field (λ it. it.0) A.tied (ties_field (λ it. it.1) B.tied
+        (ties_field (λ it. it.2) C.tied (ties_field (λ it. it.3) D.tied (ties_field (λ it. it.4) E.tied
+        (ties_field (λ it. it.5) F.tied ties_none))))))) };
 
     fn deserialize<R: ReadExt>(de: &mut Deserializer<R>) -> Result<(A, B, C, D, E, F)> {
         deserialize_as(de)
@@ -214,19 +204,13 @@ impl<
         (Shapes.more B.shape (Shapes.more C.shape (Shapes.more D.shape
         (Shapes.more E.shape (Shapes.more F.shape (Shapes.more G.shape Shapes.none))))))) };
 
-    ghost injective = { λ x y p q r e. let m = list_members e in both
-        (both (both (both (both (both (A.injective x.0 y.0 p.1.0 q.1.0 r.1.0 (first_member m))
-        (B.injective x.1 y.1 p.1.1.0 q.1.1.0 r.1.1.0 (first_member (other_members m))))
-        (C.injective x.2 y.2 p.1.1.1.0 q.1.1.1.0 r.1.1.1.0 (first_member (other_members (other_members m)))))
-        (D.injective x.3 y.3 p.1.1.1.1.0 q.1.1.1.1.0 r.1.1.1.1.0 (first_member (other_members (other_members (other_members m))))))
-        (E.injective x.4 y.4 p.1.1.1.1.1.0 q.1.1.1.1.1.0 r.1.1.1.1.1.0
-        (first_member (other_members (other_members (other_members (other_members m)))))))
-        (F.injective x.5 y.5 p.1.1.1.1.1.1.0 q.1.1.1.1.1.1.0 r.1.1.1.1.1.1.0
-        (first_member (other_members (other_members (other_members (other_members (other_members m))))))))
-        (G.injective x.6 y.6 p.1.1.1.1.1.1.1.0 q.1.1.1.1.1.1.1.0 r.1.1.1.1.1.1.1.0
-        (first_member (other_members (other_members (other_members (other_members (other_members (other_members m)))))))) };
+    ghost known = { known_row (known_field (λ it. it.0) A.known (known_field (λ it. it.1) B.known (known_field (λ it. it.2) C.known
+        (known_field (λ it. it.3) D.known (known_field (λ it. it.4) E.known (known_field (λ it. it.5) F.known
+        (known_field (λ it. it.6) G.known known_none))))))) (λ it. it) };
 
-    ghost sound = { (A.sound, (B.sound, (C.sound, (D.sound, (E.sound, (F.sound, (G.sound, tt))))))) };
+    ghost tied = { ties_sequence (λ it. it) (ties_tuple (ties_field (λ it. it.0) A.tied (ties_field (λ it. it.1) B.tied
+        (ties_field (λ it. it.2) C.tied (ties_field (λ it. it.3) D.tied (ties_field (λ it. it.4) E.tied (ties_field (λ it. it.5) F.tied
+        (ties_field (λ it. it.6) G.tied ties_none)))))))) };
 
     fn deserialize<R: ReadExt>(de: &mut Deserializer<R>) -> Result<(A, B, C, D, E, F, G)> {
         deserialize_as(de)
@@ -268,22 +252,13 @@ impl<
         (Shapes.more B.shape (Shapes.more C.shape (Shapes.more D.shape
         (Shapes.more E.shape (Shapes.more F.shape (Shapes.more G.shape (Shapes.more H.shape Shapes.none)))))))) };
 
-    ghost injective = { λ x y p q r e. let m = list_members e in both
-        (both (both (both (both (both (both (A.injective x.0 y.0 p.1.0 q.1.0 r.1.0 (first_member m))
-        (B.injective x.1 y.1 p.1.1.0 q.1.1.0 r.1.1.0 (first_member (other_members m))))
-        (C.injective x.2 y.2 p.1.1.1.0 q.1.1.1.0 r.1.1.1.0 (first_member (other_members (other_members m)))))
-        (D.injective x.3 y.3 p.1.1.1.1.0 q.1.1.1.1.0 r.1.1.1.1.0 (first_member (other_members (other_members (other_members m))))))
-        (E.injective x.4 y.4 p.1.1.1.1.1.0 q.1.1.1.1.1.0 r.1.1.1.1.1.0
-        (first_member (other_members (other_members (other_members (other_members m)))))))
-        (F.injective x.5 y.5 p.1.1.1.1.1.1.0 q.1.1.1.1.1.1.0 r.1.1.1.1.1.1.0
-        (first_member (other_members (other_members (other_members (other_members (other_members m))))))))
-        (G.injective x.6 y.6 p.1.1.1.1.1.1.1.0 q.1.1.1.1.1.1.1.0 r.1.1.1.1.1.1.1.0
-        (first_member (other_members (other_members (other_members (other_members (other_members (other_members m)))))))))
-        (H.injective x.7 y.7 p.1.1.1.1.1.1.1.1.0 q.1.1.1.1.1.1.1.1.0 r.1.1.1.1.1.1.1.1.0
-        (first_member (other_members (other_members (other_members
-        (other_members (other_members (other_members (other_members m))))))))) };
+    ghost known = { known_row (known_field (λ it. it.0) A.known (known_field (λ it. it.1) B.known (known_field (λ it. it.2) C.known
+        (known_field (λ it. it.3) D.known (known_field (λ it. it.4) E.known (known_field (λ it. it.5) F.known
+        (known_field (λ it. it.6) G.known (known_field (λ it. it.7) H.known known_none)))))))) (λ it. it) };
 
-    ghost sound = { (A.sound, (B.sound, (C.sound, (D.sound, (E.sound, (F.sound, (G.sound, (H.sound, tt)))))))) };
+    ghost tied = { ties_sequence (λ it. it) (ties_tuple (ties_field (λ it. it.0) A.tied (ties_field (λ it. it.1) B.tied
+        (ties_field (λ it. it.2) C.tied (ties_field (λ it. it.3) D.tied (ties_field (λ it. it.4) E.tied (ties_field (λ it. it.5) F.tied
+        (ties_field (λ it. it.6) G.tied (ties_field (λ it. it.7) H.tied ties_none))))))))) };
 
     fn deserialize<R: ReadExt>(de: &mut Deserializer<R>) -> Result<(A, B, C, D, E, F, G, H)> {
         deserialize_as(de)

@@ -2,7 +2,7 @@
 ghost use Rattle.picky_der_core.specs.Shape.{Shape};
 ghost use Rattle.picky_der_core.specs.declared.asn1.wrapper.Wrapper.TheVariants as wrapper;
 ghost use Rattle.picky_der_input.specs.declared.enclosure.Enclosure.TheVariants as enclosure;
-ghost use Rattle.picky_der_de.specs.EnclosureLaws.{enclosed_injective};
+ghost use Rattle.picky_der_de.specs.KnownContainers.{known_enclosed, ties_enclosed};
 
 use crate::{Deserialize, Deserializer};
 use picky_der_core::Result;
@@ -15,9 +15,9 @@ use picky_der_core::misc::ReadExt;
 impl<T: Deserialize> Deserialize for OctetStringAsn1Container<T> {
     ghost shape = { Shape.octet_container T.shape };
 
-    ghost injective = { λ x y. enclosed_injective (enclosure.Wrapper wrapper.OctetContainer) T.meaning T.shape T.eq T.injective x.0 y.0 };
+    ghost known = { known_enclosed T.known (enclosure.Wrapper wrapper.OctetContainer) (λ it. it.0) };
 
-    ghost sound = { T.sound };
+    ghost tied = { ties_enclosed T.tied (enclosure.Wrapper wrapper.OctetContainer) (λ it. it.0) };
 
     fn deserialize<R: ReadExt>(de: &mut Deserializer<R>) -> Result<OctetStringAsn1Container<T>> {
         let value = de.deserialize_newtype_struct(Newtype::OctetContainer)?;
@@ -28,9 +28,9 @@ impl<T: Deserialize> Deserialize for OctetStringAsn1Container<T> {
 impl<T: Deserialize> Deserialize for BitStringAsn1Container<T> {
     ghost shape = { Shape.bit_container T.shape };
 
-    ghost injective = { λ x y. enclosed_injective (enclosure.Wrapper wrapper.BitContainer) T.meaning T.shape T.eq T.injective x.0 y.0 };
+    ghost known = { known_enclosed T.known (enclosure.Wrapper wrapper.BitContainer) (λ it. it.0) };
 
-    ghost sound = { T.sound };
+    ghost tied = { ties_enclosed T.tied (enclosure.Wrapper wrapper.BitContainer) (λ it. it.0) };
 
     fn deserialize<R: ReadExt>(de: &mut Deserializer<R>) -> Result<BitStringAsn1Container<T>> {
         let value = de.deserialize_newtype_struct(Newtype::BitContainer)?;
@@ -41,9 +41,9 @@ impl<T: Deserialize> Deserialize for BitStringAsn1Container<T> {
 impl<T: Deserialize, const N: u8> Deserialize for ExplicitContextTag<T, N> {
     ghost shape = { Shape.explicit N T.shape };
 
-    ghost injective = { λ x y. enclosed_injective (enclosure.Wrapper (wrapper.Explicit N)) T.meaning T.shape T.eq T.injective x.0 y.0 };
+    ghost known = { known_enclosed T.known (enclosure.Wrapper (wrapper.Explicit N)) (λ it. it.0) };
 
-    ghost sound = { T.sound };
+    ghost tied = { ties_enclosed T.tied (enclosure.Wrapper (wrapper.Explicit N)) (λ it. it.0) };
 
     fn deserialize<R: ReadExt>(de: &mut Deserializer<R>) -> Result<ExplicitContextTag<T, N>> {
         let value = de.deserialize_newtype_struct(Newtype::Explicit(N))?;
@@ -54,9 +54,9 @@ impl<T: Deserialize, const N: u8> Deserialize for ExplicitContextTag<T, N> {
 impl<T: Deserialize, const N: u8> Deserialize for ImplicitContextTag<T, N> {
     ghost shape = { Shape.implicit N T.shape };
 
-    ghost injective = { λ x y. enclosed_injective (enclosure.Wrapper (wrapper.Implicit N)) T.meaning T.shape T.eq T.injective x.0 y.0 };
+    ghost known = { known_enclosed T.known (enclosure.Wrapper (wrapper.Implicit N)) (λ it. it.0) };
 
-    ghost sound = { T.sound };
+    ghost tied = { ties_enclosed T.tied (enclosure.Wrapper (wrapper.Implicit N)) (λ it. it.0) };
 
     fn deserialize<R: ReadExt>(de: &mut Deserializer<R>) -> Result<ImplicitContextTag<T, N>> {
         let value = de.deserialize_newtype_struct(Newtype::Implicit(N))?;

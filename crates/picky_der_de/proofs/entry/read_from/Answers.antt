@@ -1,4 +1,5 @@
 use Rattle.std.proofs.lemmas.Result.{MatchResult-weaker}
+use Rattle.picky_der_de.specs.Known.{injective_of}
 use Rattle.picky_der_de.proofs.EntryReads.{reads_front, refuses_front}
 use Rattle.picky_der_de.proofs.entry.read_from.Goals as goal
 
@@ -6,7 +7,7 @@ pub returns-clause-ok : goal.returns-clause-ok
 returns-clause-ok g c =
     let d = g.T.Deserialize in
     MatchResult-weaker c.deserialize-result.result c.deserialize-result.ensures.ok
-    (λ v r. reads_front g.T.Serialize.meaning d.shape _ _ c.new_from_reader-de.ensures c.into_reader.ensures.input c.into_reader.ensures.faults g.T.PartialEq.eq g.met.T.Deserialize.sound g.met.T.Deserialize.injective v r)
+    (λ v r. reads_front g.T.Serialize.meaning d.shape _ _ c.new_from_reader-de.ensures c.into_reader.ensures.input c.into_reader.ensures.faults g.T.PartialEq.eq d.known.sound (injective_of d.known g.met.T.Deserialize.tied) v r)
     (λ e h. tt)
 
 pub returns-clause-err : goal.returns-clause-err

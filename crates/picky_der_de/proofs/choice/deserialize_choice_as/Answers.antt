@@ -1,0 +1,19 @@
+use Rattle.std.proofs.lemmas.Result.{err_from_is_err_and}
+use Rattle.picky_der_input.proofs.PlainReads.{refuses_of}
+use Rattle.picky_der_de.specs.KnownChoices.{alternatives_told}
+use Rattle.picky_der_de.proofs.Choices.{refuses_hidden}
+use Rattle.picky_der_de.proofs.choice.deserialize_choice_as.Goals as goal
+
+pub returns-in-Err-clause-err : goal.returns-in-Err-clause-err
+returns-in-Err-clause-err g c = refuses_hidden c.in-Err.ensures.err
+
+pub returns-in_err-deserialize_alternative-clause-err :
+    goal.returns-in_err-deserialize_alternative-clause-err
+returns-in_err-deserialize_alternative-clause-err g c =
+    let p = err_from_is_err_and c.from_residual.result c.from_residual.ensures.1 in
+    let h = c.in_err-deserialize_alternative.ensures.err in
+    rw (p.1, p.2) (refuses_of g.T.Choice.parts (h.refuses (alternatives_told g.T.Alternatives.Alternatives.shapes g.met.T.Choice.told) c.args.de.now c.in-Ok.ensures.ok.peeks))
+
+pub returns-clause-ok : goal.returns-clause-ok
+returns-clause-ok g c =
+    rw c.from_parts.ensures (c.in_ok-deserialize_alternative.ensures.ok c.args.de.now c.in-Ok.ensures.ok.peeks)

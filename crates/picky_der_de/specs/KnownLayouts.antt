@@ -1,0 +1,184 @@
+-- What is known of layouts: members of which some may be absent.
+use Rattle.std.specs.Prelude.{◌≡◌, List, [], ◌∷◌, ℕ, Bool, true, false, ◌&&◌, ◌||◌, Option, Some, None, if◌then◌else◌, IsTrue, refl}
+use Rattle.std.specs.Option.{option_eq}
+use Rattle.std.proofs.Common.{ap, subst}
+use Rattle.std.proofs.lemmas.Bool.{and_parts, or_left, or_right}
+use Rattle.picky_der_core.specs.Tree.{ListKind, Tree, Trees}
+use Rattle.picky_der_core.specs.Shape.{Shape, Layout, AreMembersTold, firsts, next_firsts, are_apart}
+use Rattle.picky_der_ser.specs.Meaning.{maybe_more, unless_default}
+use Rattle.picky_der_ser.specs.Defaults.{IsOne}
+use Rattle.picky_der_de.specs.InjectiveLaws.{list_members}
+use Rattle.picky_der_de.specs.Layouts.{Presence, always, perhaps, component_then}
+use Rattle.picky_der_de.specs.LayoutLaws.{IsComponent, AreComponents, always_there, perhaps_there, no_components, behind, equal_so, lead}
+use Rattle.picky_der_de.specs.Known.{Known, Ties}
+use Rattle.picky_der_de.specs.KnownMembers.{AreTrue, conjunction, conjunction_true, TiesMembers, TiesMember}
+
+-- ---- one member
+
+-- of a member V, where a W is what is written
+pub record KnownMember (V W : Type 0) (presence : Presence) (s : Shape) : Type 0 where
+  pub in_front : V → Trees → Trees
+  pub equal : V → V → Bool
+  pub meaning : W → Tree
+  pub equal_item : W → W → Bool
+  pub item : V → Option W
+  pub is : IsComponent presence in_front equal meaning s equal_item item (λ w. false)
+
+module _ {A : Type 0} (p q : A → A → Bool) (left_out : A → Bool) (one : IsOne q left_out) where
+  equal_or_default_by : (x y : A) (a b : Bool) → left_out x ≡ a → left_out y ≡ b → option_eq p (if a then None else Some x) (if b then None else Some y) ≡ true → (p x y || q x y) ≡ true
+  equal_or_default_by x y true true d e h = or_right (p x y) (q x y) (one x y d e)
+  equal_or_default_by x y true false d e h = cc
+  equal_or_default_by x y false true d e h = cc
+  equal_or_default_by x y false false d e h = or_left (p x y) (q x y) h
+
+  -- what is written of two values is equal, or nothing is since both are the default
+  pub equal_or_default : (x y : A) → option_eq p (unless_default left_out x) (unless_default left_out y) ≡ true → (p x y || q x y) ≡ true
+  equal_or_default x y h = equal_or_default_by x y (left_out x) (left_out y) refl refl h
+
+module _ {A : Type 0} {s : Shape} (a : Known A s) where
+  abbrev pub known_always : KnownMember A A always s
+  known_always = record {
+    in_front = λ v. Trees.more (a.meaning v);
+    equal = a.equal;
+    meaning = a.meaning;
+    equal_item = a.equal;
+    item = λ v. Some v;
+    is = always_there a.meaning s a.equal a.begun a.injective a.sound;
+  }
+
+  -- of which an item is there, or none
+  abbrev known_maybe : {V : Type 0} (item : V → Option A) (eq : V → V → Bool) → ((x y : V) → option_eq a.equal (item x) (item y) ≡ true → eq x y ≡ true) → KnownMember V A perhaps s
+  known_maybe item eq same = record {
+    in_front = λ v. maybe_more a.meaning (item v);
+    equal = eq;
+    meaning = a.meaning;
+    equal_item = a.equal;
+    item = item;
+    is = perhaps_there a.meaning s a.equal a.begun a.injective a.sound item eq same;
+  }
+
+  abbrev pub known_perhaps : {V : Type 0} (item : V → Option A) → KnownMember V A perhaps s
+  known_perhaps item = known_maybe item (λ x y. option_eq a.equal (item x) (item y)) (λ x y h. h)
+
+  -- two values are equal by the type's own `==`, or, where they are the default, by that of the default
+  abbrev pub known_default : {V : Type 0} (left_out : A → Bool) (eq : A → A → Bool) → IsOne eq left_out → (value : V → A) → KnownMember V A perhaps s
+  known_default left_out eq one value = known_maybe (λ v. unless_default left_out (value v)) (λ x y. a.equal (value x) (value y) || eq (value x) (value y)) (λ x y h. equal_or_default a.equal eq left_out one (value x) (value y) h)
+
+-- ---- members, one after another
+
+pub record KnownLayout (P : Type 0) (l : Layout) : Type 0 where
+  pub members : P → Trees
+  -- the `==` of each member
+  pub tests : P → P → List Bool
+  -- two rows of readable members with the same trees pass them, where the first byte distinguishes missing members
+  pub are : AreComponents members l (λ x y. AreTrue (tests x y))
+
+abbrev pub known_empty : {P : Type 0} → KnownLayout P Layout.empty
+known_empty = record { members = λ x. Trees.none; tests = λ x y. []; are = no_components }
+
+module _ {P : Type 0} {l : Layout} where
+  -- one member before others
+  abbrev pub known_member : {X W : Type 0} {presence : Presence} {s : Shape} (first : P → X) → KnownMember X W presence s → KnownLayout P l → KnownLayout P (component_then presence s l)
+  known_member first a others = record {
+    members = λ x. a.in_front (first x) (others.members x);
+    tests = λ x y. a.equal (first x) (first y) ∷ others.tests x y;
+    are = lead first a.is others.are;
+  }
+
+  -- where they are a part
+  abbrev pub known_members : {V : Type 0} (part : V → P) → KnownLayout P l → KnownLayout V l
+  known_members part layout = record { members = λ x. layout.members (part x); tests = λ x y. layout.tests (part x) (part y); are = behind part layout.are }
+
+-- ---- the first byte distinguishes what may be absent: a test, which computes
+
+-- after the last member nothing has to be told apart
+abbrev are_apart_or_last : List ℕ → List ℕ → Bool
+are_apart_or_last fs [] = true
+are_apart_or_last fs (g ∷ gs) = are_apart fs (g ∷ gs)
+
+abbrev pub are_members_told : Layout → Bool
+are_members_told Layout.empty = true
+are_members_told (Layout.required s l) = are_members_told l
+are_members_told (Layout.maybe s l) = are_apart_or_last (firsts s) (next_firsts l) && are_members_told l
+
+apart_from_none : (fs : List ℕ) → are_apart fs [] ≡ true
+apart_from_none [] = refl
+apart_from_none (f ∷ fs) = apart_from_none fs
+
+apart_of : (fs gs : List ℕ) → are_apart_or_last fs gs ≡ true → IsTrue (are_apart fs gs)
+apart_of fs [] h = apart_from_none fs
+apart_of fs (g ∷ gs) h = h
+
+pub members_told : (l : Layout) → are_members_told l ≡ true → AreMembersTold l
+members_told Layout.empty h = tt
+members_told (Layout.required s l) h = members_told l h
+members_told (Layout.maybe s l) h =
+    let parts = and_parts (are_apart_or_last (firsts s) (next_firsts l)) (are_members_told l) h in
+    (apart_of (firsts s) (next_firsts l) parts.0, members_told l parts.1)
+
+-- ---- a sequence of them
+
+module _ {P S : Type 0} {l : Layout} (layout : KnownLayout P l) (told : are_members_told l ≡ true) (parts : S → P) where
+  -- with this `==`: it holds where they are equal, each
+  abbrev pub known_struct : (eq : S → S → Bool) → ((x y : S) → conjunction (layout.tests (parts x) (parts y)) ≡ true → eq x y ≡ true) → Known S (Shape.struct_of ListKind.sequence l)
+  known_struct eq same = record {
+    meaning = λ s. Tree.list ListKind.sequence (layout.members (parts s));
+    equal = eq;
+    injective = λ x y p q r e. same x y (conjunction_true (layout.tests (parts x) (parts y)) (layout.are.injective (members_told l told) (parts x) (parts y) p.1 q.1 r.1 (list_members e)));
+    sound = (layout.are.sound, members_told l told);
+    begun = λ v b h. h;
+  }
+
+  -- with the `==` of a struct of them
+  abbrev pub known_layout : Known S (Shape.struct_of ListKind.sequence l)
+  known_layout = known_struct (λ x y. conjunction (layout.tests (parts x) (parts y))) (λ x y h. h)
+
+-- A struct with a default is equal where its members are, of which one is equal by its own `==` or by that of its default. So its members are named up to the last that has one.
+
+module _ (p : Bool) {q r : Bool} where
+  -- a member with no default
+  pub same_then : (q ≡ true → r ≡ true) → (p && q) ≡ true → (p && r) ≡ true
+  same_then f h = by_value p h where
+    by_value : (x : Bool) → (x && q) ≡ true → (x && r) ≡ true
+    by_value true k = f k
+    by_value false k = k
+
+  -- one with a default
+  pub default_then : (q ≡ true → r ≡ true) → ((p || p) && q) ≡ true → (p && r) ≡ true
+  default_then f h = by_value p h where
+    by_value : (x : Bool) → ((x || x) && q) ≡ true → (x && r) ≡ true
+    by_value true k = f k
+    by_value false k = k
+
+pub default_last : (p : Bool) → (p || p) ≡ true → p ≡ true
+default_last true h = h
+default_last false h = h
+
+-- ---- ties
+
+pub ties_perhaps : {A V : Type 0} {m n : A → Tree} {p q : A → A → Bool} (item : V → Option A) → Ties m p n q
+    → TiesMember (λ v. maybe_more m (item v)) (λ x y. option_eq p (item x) (item y)) (λ v. maybe_more n (item v)) (λ x y. option_eq q (item x) (item y))
+ties_perhaps {A} {V} {p = p} {q = q} item t = record {
+  in_front = ap {B = V → Trees → Trees} (λ (k : A → Tree) (v : V). maybe_more k (item v)) t.meaning;
+  equal = λ x y h. so (item x) (item y) h;
+} where
+  so : (x y : Option A) → option_eq p x y ≡ true → option_eq q x y ≡ true
+  so None None h = refl
+  so None (Some y) h = h
+  so (Some x) None h = h
+  so (Some x) (Some y) h = t.equal x y h
+
+pub ties_default : {A V : Type 0} {m n : A → Tree} {p q r : A → A → Bool} (left_out : A → Bool) (value : V → A) → Ties m p n q → ((x y : A) → r x y ≡ true → q x y ≡ true)
+    → TiesMember (λ v. maybe_more m (unless_default left_out (value v))) (λ x y. p (value x) (value y) || r (value x) (value y)) (λ v. maybe_more n (unless_default left_out (value v))) (λ x y. q (value x) (value y))
+ties_default {A} {V} {p = p} {q = q} {r = r} left_out value t so = record {
+  in_front = ap {B = V → Trees → Trees} (λ (k : A → Tree) (v : V). maybe_more k (unless_default left_out (value v))) t.meaning;
+  equal = λ x y. either (p (value x) (value y)) (r (value x) (value y)) (q (value x) (value y)) (t.equal (value x) (value y)) (so (value x) (value y));
+} where
+  either : (a b c : Bool) → (a ≡ true → c ≡ true) → (b ≡ true → c ≡ true) → (a || b) ≡ true → c ≡ true
+  either true b c f g h = f refl
+  either false b c f g h = g h
+
+-- what the members owe whose trees and `==` these are
+pub components_of : {P : Type 0} {l : Layout} (known : KnownLayout P l) {means : P → Trees} {eq : P → P → Bool} → TiesMembers known.members known.tests means (λ x y. eq x y ∷ []) → AreComponents means l (λ x y. IsTrue (eq x y))
+components_of {P} {l} known {means} {eq} t =
+    equal_so (λ x y h. (t.equal x y h).0) (subst (λ (k : P → Trees). AreComponents k l (λ x y. AreTrue (known.tests x y))) t.members known.are)
