@@ -4,7 +4,7 @@ ghost use Rattle.picky_der_core.specs.Equality.{IsThatOf};
 ghost use Rattle.picky_der_core.specs.Tree.{Tree};
 ghost use Rattle.picky_der_core.specs.Shape.{Shape};
 ghost use Rattle.picky_der_input.specs.declared.enclosure.Enclosure.TheVariants as enclosure;
-ghost use Rattle.picky_der_de.specs.EnclosureLaws.{enclosed_injective};
+ghost use Rattle.picky_der_de.specs.KnownContainers.{known_enclosed, ties_enclosed};
 
 use crate::asn1::Tag;
 use crate::de::Begins;
@@ -52,9 +52,9 @@ impl<V: Serialize + Debug + PartialEq, const T: u8> Serialize for ApplicationTag
 impl<V: Deserialize + Debug, const T: u8> Deserialize for ApplicationTag<V, T> {
     ghost shape = { Shape.application T V.shape };
 
-    ghost injective = { λ x y. enclosed_injective (enclosure.Application T) V.meaning V.shape V.eq V.injective x.0 y.0 };
+    ghost known = { known_enclosed V.known (enclosure.Application T) (λ it. it.0) };
 
-    ghost sound = { V.sound };
+    ghost tied = { ties_enclosed V.tied (enclosure.Application T) (λ it. it.0) };
 
     fn deserialize<R: ReadExt>(de: &mut Deserializer<R>) -> Result<ApplicationTag<V, T>> {
         let value = de.deserialize_application(T)?;
@@ -66,6 +66,4 @@ impl<V: Deserialize + Debug, const T: u8> Begins for ApplicationTag<V, T> {
     fn begins_with(tag: Tag) -> bool {
         T <= Tag::MAX_NUMBER && tag.inner() == 0x60 + T
     }
-
-    ghost begins = { λ v b h. h };
 }

@@ -8,7 +8,7 @@ ghost use Rattle.picky_der_core.specs.Tree.{Tree};
 ghost use Rattle.picky_der_core.specs.Shape.{Shape};
 ghost use Rattle.picky_der_input.specs.Reading.{Reads, Refuses};
 ghost use Rattle.picky_der_input.specs.Elements.{RefusesRaw};
-ghost use Rattle.picky_der_de.specs.InjectiveLaws.{raw_injective};
+ghost use Rattle.picky_der_de.specs.Known.{known_raw, by_itself};
 
 use picky_der_core::asn1::Tag;
 use picky_der_core::misc::{ReadExt, WriteExt};
@@ -77,9 +77,9 @@ impl Serialize for Asn1RawDer {
 impl Deserialize for Asn1RawDer {
     ghost shape = { Shape.raw };
 
-    ghost injective = { λ x y s t r e. raw_injective x.0.items y.0.items e };
+    ghost known = { known_raw (λ it. it.0.items) };
 
-    ghost sound = { tt };
+    ghost tied = { by_itself };
 
     fn deserialize<R: ReadExt>(de: &mut Deserializer<R>) -> Result<Asn1RawDer>
         ensures ok { IfOk result (λ value. Reads Shape.raw de.old de.new (Tree.raw value.0.items)) }
@@ -95,6 +95,4 @@ impl Begins for Asn1RawDer {
     fn begins_with(tag: Tag) -> bool {
         tag.number() <= Tag::MAX_NUMBER
     }
-
-    ghost begins = { λ v b h. h };
 }
