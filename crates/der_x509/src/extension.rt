@@ -1,8 +1,9 @@
 //! Extensions of certificates.
-ghost use Rattle.std.proofs.Common.{rules};
+ghost use Rattle.std.specs.Prelude.{refl};
 ghost use Rattle.picky_der_core.specs.Shape.{Shape};
 ghost use Rattle.picky_der_core.specs.Tree.{ListKind, Tree};
-ghost use Rattle.picky_der_de.specs.Telling.{by_parts, tells};
+ghost use Rattle.picky_der_de.specs.Known.{by_itself};
+ghost use Rattle.picky_der_de.specs.KnownLayouts.{default_then, known_struct, same_then};
 
 use picky_asn1_der::asn1::{ByteBuf, ObjectIdentifierAsn1};
 use picky_asn1_der::de::{DeserializeLayout, Struct, deserialize_struct_as};
@@ -52,16 +53,17 @@ impl Struct for Extension {
         }
     }
 
-    ghost told = { Prim.search rules };
+    ghost told = { refl };
 }
 
 impl Deserialize for Extension {
     ghost shape = { Shape.struct_of ListKind.sequence ⟦<Members as DeserializeLayout>⟧.layout };
 
-    ghost injective = { by_parts (Shape.struct_of ListKind.sequence ⟦<Members as DeserializeLayout>⟧.layout)
-        (Prim.search (rules, tells) depth 99) };
+    ghost known = { known_struct ⟦<Members as DeserializeLayout>⟧.known refl ⟦<Self as Struct>⟧.parts ⟦<Self as PartialEq>⟧.eq
+        (λ x y. same_then (⟦<ObjectIdentifierAsn1 as PartialEq>⟧.eq x.id y.id)
+        (default_then (⟦<bool as PartialEq>⟧.eq x.critical y.critical) (λ h. h))) };
 
-    ghost sound = { Prim.search rules depth 99 };
+    ghost tied = { by_itself };
 
     fn deserialize<R: ReadExt>(deserializer: &mut Deserializer<R>) -> Result<Extension> {
         deserialize_struct_as(deserializer)

@@ -1,18 +1,9 @@
 //! What is signed of a certificate.
-ghost use Rattle.std.proofs.Common.{rules};
-ghost use Rattle.picky_der_core.specs.Shape.{Shape, Layout};
-ghost use Rattle.picky_der_core.specs.Tree.{ListKind, Tree, Trees};
-ghost use Rattle.picky_der_de.specs.LayoutLaws.{maybe_begun};
-ghost use Rattle.picky_der_de.specs.Telling.{by_law, by_parts, tells_struct, tells_list, tells_explicit, tells_implicit, tells_bytes};
-ghost use Rattle.picky_der_de.specs.Telling.{tell_default, tell_required, tell_maybe, tell_last_maybe};
-ghost use Rattle.picky_asn1_der.specs.RawLaws.{raw_is_last};
-ghost use Rattle.der_x509.specs.contracts.algorithm_identifier.AlgorithmIdentifierDeserialize.TheImpl.Laws.{injective-law as algorithm_law};
-ghost use Rattle.der_x509.specs.contracts.attribute.AttributeDeserialize.TheImpl.Laws.{injective-law as attribute_injective};
-ghost use Rattle.der_x509.specs.contracts.extension.ExtensionDeserialize.TheImpl.Laws.{injective-law as extension_injective};
-ghost use Rattle.der_x509.specs.contracts.subject_public_key_info.SubjectPublicKeyInfoDeserialize.TheImpl.Laws.{injective-law as key_law};
-ghost use Rattle.der_x509.specs.contracts.validity.ValidityDeserialize.TheImpl.Laws.{injective-law as validity_injective};
-ghost use Rattle.der_x509.specs.contracts.version.VersionDeserialize.TheImpl.Laws.{injective-law as version_injective};
-ghost use Rattle.der_x509.specs.contracts.version.V1DefaultOfVersion.TheImpl.Laws.{one-law};
+ghost use Rattle.std.specs.Prelude.{refl};
+ghost use Rattle.picky_der_core.specs.Shape.{Shape};
+ghost use Rattle.picky_der_core.specs.Tree.{ListKind, Tree};
+ghost use Rattle.picky_der_de.specs.Known.{by_itself};
+ghost use Rattle.picky_der_de.specs.KnownLayouts.{default_then, known_struct};
 
 use crate::{
     AlgorithmIdentifier, Attribute, Extension, Extensions, Name, RelativeName,
@@ -134,42 +125,16 @@ impl Struct for TbsCertificate {
         }
     }
 
-    ghost told = { Prim.search rules };
+    ghost told = { refl };
 }
 
 impl Deserialize for TbsCertificate {
     ghost shape = { Shape.struct_of ListKind.sequence ⟦<Members as DeserializeLayout>⟧.layout };
 
-    ghost injective = { let begun_by_extensions = maybe_begun ⟦<ExplicitContextTag3<Extensions> as Serialize>⟧.meaning
-        ⟦<ExplicitContextTag3<Extensions> as Deserialize>⟧.shape Layout.empty (λ v b h. h) in
-        let begun_by_subject = maybe_begun ⟦<ImplicitContextTag2<BitStringAsn1> as Serialize>⟧.meaning
-        ⟦<ImplicitContextTag2<BitStringAsn1> as Deserialize>⟧.shape
-        (Layout.maybe ⟦<ExplicitContextTag3<Extensions> as Deserialize>⟧.shape Layout.empty) (λ v b h. h) in
-        let told_attributes = tells_list ⟦<Attribute as Serialize>⟧.meaning ⟦<Attribute as Deserialize>⟧.shape
-        ⟦<Attribute as PartialEq>⟧.eq (by_law ⟦<Attribute as Deserialize>⟧.shape attribute_injective) ListKind.set in
-        let told_names = tells_list ⟦<RelativeName as Serialize>⟧.meaning ⟦<RelativeName as Deserialize>⟧.shape
-        ⟦<RelativeName as PartialEq>⟧.eq (λ v w. told_attributes v.0.items w.0.items) ListKind.sequence in
-        let told_extensions = tells_list ⟦<Extension as Serialize>⟧.meaning ⟦<Extension as Deserialize>⟧.shape
-        ⟦<Extension as PartialEq>⟧.eq (by_law ⟦<Extension as Deserialize>⟧.shape extension_injective) ListKind.sequence in
-        by_parts (Shape.struct_of ListKind.sequence ⟦<Members as DeserializeLayout>⟧.layout) (λ x y. tells_struct (Prim.search rules) (
-        tell_default (λ v w. one-law v.0 w.0) (λ v b h. h)
-        (λ v w. tells_explicit (by_law ⟦<Version as Deserialize>⟧.shape version_injective v.0 w.0)) (λ b h. h) (λ b h. h) (
-        tell_required tells_bytes (
-        tell_required (by_law ⟦<AlgorithmIdentifier as Deserialize>⟧.shape algorithm_law x.signature y.signature) (
-        tell_required (told_names x.issuer.items y.issuer.items) (
-        tell_required (by_law ⟦<Validity as Deserialize>⟧.shape validity_injective x.validity y.validity) (
-        tell_required (told_names x.subject.items y.subject.items) (
-        tell_required (by_law ⟦<SubjectPublicKeyInfo as Deserialize>⟧.shape key_law x.subject_public_key_info
-        y.subject_public_key_info) (
-        tell_maybe (λ v b h. h) (λ v w. tells_implicit tells_bytes)
-        (begun_by_subject x.subject_unique_id _ (begun_by_extensions x.extensions Trees.none tt))
-        (begun_by_subject y.subject_unique_id _ (begun_by_extensions y.extensions Trees.none tt)) (
-        tell_maybe (λ v b h. h) (λ v w. tells_implicit tells_bytes) (begun_by_extensions x.extensions Trees.none tt)
-        (begun_by_extensions y.extensions Trees.none tt) (
-        tell_last_maybe (λ v b h. h) (λ v w. tells_explicit (told_extensions v.0.items w.0.items)) x.extensions y.extensions)
-        x.subject_unique_id y.subject_unique_id) x.issuer_unique_id y.issuer_unique_id))))))) x.version y.version)) };
+    ghost known = { known_struct ⟦<Members as DeserializeLayout>⟧.known refl ⟦<Self as Struct>⟧.parts ⟦<Self as PartialEq>⟧.eq
+        (λ x y. default_then (⟦<ExplicitContextTag0<Version> as PartialEq>⟧.eq x.version y.version) (λ h. h)) };
 
-    ghost sound = { Prim.search (rules, raw_is_last) depth 99 };
+    ghost tied = { by_itself };
 
     fn deserialize<R: ReadExt>(deserializer: &mut Deserializer<R>) -> Result<TbsCertificate> {
         deserialize_struct_as(deserializer)

@@ -1,13 +1,17 @@
 //! Times of certificates.
-ghost use Rattle.std.proofs.Common.{rules};
+ghost use Rattle.std.specs.Prelude.{refl};
+ghost use Rattle.picky_der_core.specs.Shape.{Shape};
 ghost use Rattle.picky_der_de.specs.declared.alternatives.OneOf.TheVariants.{This, Other};
+ghost use Rattle.picky_der_de.specs.Known.{by_itself};
+ghost use Rattle.picky_der_de.specs.KnownChoices.{known_choice};
 ghost use Rattle.der_x509.specs.declared.time.Time.TheVariants.{Utc, Generalized};
 
 use picky_asn1_der::OneOf::{Other, This};
-use picky_asn1_der::asn1::{GeneralizedTimeAsn1, UtcTimeAsn1};
-use picky_asn1_der::misc::WriteExt;
+use picky_asn1_der::asn1::{GeneralizedTimeAsn1, Tag, UtcTimeAsn1};
+use picky_asn1_der::de::{Begins, deserialize_choice_as};
+use picky_asn1_der::misc::{ReadExt, WriteExt};
 use picky_asn1_der::{
-    Alternatives, Choice, DeserializeChoice, NoneOf, OneOf, Result, Serialize, Serializer,
+    Alternatives, Choice, Deserialize, Deserializer, NoneOf, OneOf, Result, Serialize, Serializer,
 };
 
 /// A time, as a CHOICE (RFC 5280, 4.1.2.5). That its text is a time isn't checked.
@@ -32,6 +36,8 @@ impl Choice for Time {
             Other(This(time)) => Time::Generalized(time),
         }
     }
+
+    ghost told = { refl };
 }
 
 impl Serialize for Time {
@@ -45,10 +51,23 @@ impl Serialize for Time {
     }
 }
 
-impl DeserializeChoice for Time {
-    ghost told = { Prim.search rules };
+impl Deserialize for Time {
+    ghost shape = { Shape.choice ⟦<Parts as Alternatives>⟧.shapes };
 
-    ghost means_choice = { Prim.search rules };
+    ghost known = { known_choice ⟦<Parts as Alternatives>⟧.known refl ⟦<Self as Choice>⟧.parts ⟦<Self as PartialEq>⟧.eq (elim [
+      | Utc x ↦ elim [ Utc y ↦ λ h. h | _ ↦ λ h. h ]
+      | Generalized x ↦ elim [ Generalized y ↦ λ h. h | _ ↦ λ h. h ]
+    ]) };
 
-    ghost equal = { Prim.search rules };
+    ghost tied = { by_itself };
+
+    fn deserialize<R: ReadExt>(deserializer: &mut Deserializer<R>) -> Result<Time> {
+        deserialize_choice_as(deserializer)
+    }
+}
+
+impl Begins for Time {
+    fn begins_with(tag: Tag) -> bool {
+        <Parts as Alternatives>::begins_with(tag)
+    }
 }

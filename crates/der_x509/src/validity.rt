@@ -1,11 +1,10 @@
 //! Periods of validity.
-ghost use Rattle.std.proofs.Common.{rules};
-ghost use Rattle.picky_der_de.specs.Telling.{by_law, by_parts, tells};
-ghost use Rattle.der_x509.specs.Time.{time_injective};
+ghost use Rattle.picky_der_de.specs.Known.{by_itself};
+ghost use Rattle.picky_der_de.specs.KnownRows.{known_record};
 
 use crate::Time;
 use picky_asn1_der::asn1::Tag;
-use picky_asn1_der::de::Begins;
+use picky_asn1_der::de::{Begins, DeserializeMembers};
 use picky_asn1_der::misc::{ReadExt, WriteExt};
 use picky_asn1_der::{Deserialize, Deserializer, Record, Result, Row, Serialize, Serializer, de};
 
@@ -45,10 +44,9 @@ impl Record for Validity {
 impl Deserialize for Validity {
     ghost shape = { ⟦<Row<Fields> as Deserialize>⟧.shape };
 
-    ghost injective = { by_parts ⟦<Row<Fields> as Deserialize>⟧.shape
-        (Prim.search (tells, by_law ⟦<Time as Deserialize>⟧.shape time_injective) depth 99) };
+    ghost known = { known_record ⟦<Fields as DeserializeMembers>⟧.known ⟦<Self as Record>⟧.parts ⟦<Self as PartialEq>⟧.eq (λ x y h. h) };
 
-    ghost sound = { Prim.search rules depth 99 };
+    ghost tied = { by_itself };
 
     fn deserialize<R: ReadExt>(deserializer: &mut Deserializer<R>) -> Result<Validity> {
         de::deserialize_record_as(deserializer)
@@ -59,6 +57,4 @@ impl Begins for Validity {
     fn begins_with(tag: Tag) -> bool {
         tag == Tag::SEQUENCE
     }
-
-    ghost begins = { λ it byte held. held };
 }

@@ -1,7 +1,8 @@
 //! Versions of certificates.
-ghost use Rattle.std.specs.Prelude.{◌≡◌, ◌<◌, IfSome, IfNone};
-ghost use Rattle.std.proofs.Common.{rules};
+ghost use Rattle.std.specs.Prelude.{◌≡◌, ◌<◌, ◌^◌, ◌-◌, IfSome, IfNone, refl};
 ghost use Rattle.picky_der_core.specs.Tree.{Tree};
+ghost use Rattle.picky_der_de.specs.Known.{by_itself, known_number};
+ghost use Rattle.der_x509.specs.declared.version.Version.TheVariants as version;
 ghost use Rattle.der_x509.specs.Version.{version_number, is_v1, v1_by_tree};
 
 use picky_asn1_der::asn1::Tag;
@@ -52,9 +53,13 @@ impl Serialize for Version {
 impl Deserialize for Version {
     ghost shape = { ⟦<u8 as Deserialize>⟧.shape };
 
-    ghost injective = { Prim.search rules };
+    ghost known = { known_number (2 ^ 8 - 1) version_number ⟦<Self as PartialEq>⟧.eq (elim [
+      | version.V1 ↦ elim [ version.V1 ↦ λ h. h | _ ↦ λ h. h ]
+      | version.V2 ↦ elim [ version.V2 ↦ λ h. h | _ ↦ λ h. h ]
+      | version.V3 ↦ elim [ version.V3 ↦ λ h. h | _ ↦ λ h. h ]
+    ]) };
 
-    ghost sound = { Prim.search rules };
+    ghost tied = { by_itself };
 
     fn deserialize<R: ReadExt>(deserializer: &mut Deserializer<R>) -> Result<Version> {
         match Version::of(u8::deserialize(deserializer)?) {
@@ -68,8 +73,6 @@ impl Begins for Version {
     fn begins_with(tag: Tag) -> bool {
         tag == Tag::INTEGER
     }
-
-    ghost begins = { λ it byte held. held };
 }
 
 /// The default `V1` of a version.
@@ -77,6 +80,14 @@ pub struct V1;
 
 impl DefaultOf<Version> for V1 {
     ghost left_out = { is_v1 };
+
+    ghost equal = { ⟦<Version as PartialEq>⟧.eq };
+
+    ghost one = { elim [
+      | version.V1 ↦ elim [ version.V1 ↦ λ h k. k | _ ↦ λ h k. k ]
+      | version.V2 ↦ elim [ version.V2 ↦ λ h k. refl | _ ↦ λ h k. h ]
+      | version.V3 ↦ elim [ version.V3 ↦ λ h k. refl | _ ↦ λ h k. h ]
+    ] };
 
     fn is_default(value: &Version) -> bool {
         matches!(*value, Version::V1)
@@ -88,5 +99,5 @@ impl DefaultOf<Version> for V1 {
 
     ghost by_tree = { v1_by_tree };
 
-    ghost one = { Prim.search rules };
+    ghost equal_so = { λ x y h. h };
 }
