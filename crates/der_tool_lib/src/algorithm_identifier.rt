@@ -2,6 +2,7 @@
 ghost use Rattle.picky_der_core.specs.Tree.{ListKind, Tree};
 ghost use Rattle.picky_der_core.specs.Shape.{Shape};
 ghost use Rattle.picky_der_ser.specs.Meaning.{list_meaning};
+ghost use Rattle.picky_der_de.specs.Known.{by_itself};
 ghost use Rattle.der_tool_lib.specs.AlgorithmIdentifier.{elements};
 ghost use Rattle.der_tool_lib.specs.AlgorithmIdentifierLaws.{algorithm_injective};
 
@@ -33,9 +34,15 @@ impl Serialize for AlgorithmIdentifier {
 impl Deserialize for AlgorithmIdentifier {
     ghost shape = { Shape.list_of ListKind.sequence Shape.raw };
 
-    ghost injective = { λ x y p q r e. algorithm_injective x y e };
+    ghost known = { record {
+      meaning = ⟦<Self as Serialize>⟧.meaning;
+      equal = ⟦<Self as PartialEq>⟧.eq;
+      injective = λ x y p q r e. algorithm_injective x y e;
+      sound = tt;
+      begun = λ x b h. h;
+    } };
 
-    ghost sound = { tt };
+    ghost tied = { by_itself };
 
     fn deserialize<R: ReadExt>(deserializer: &mut Deserializer<R>) -> Result<AlgorithmIdentifier> {
         let mut members = deserializer.deserialize_seq()?;
