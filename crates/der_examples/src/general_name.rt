@@ -1,7 +1,10 @@
 //! A choice of nine.
-ghost use Rattle.std.proofs.Common.{rules};
+ghost use Rattle.std.specs.Prelude.{refl};
+ghost use Rattle.picky_der_core.specs.Shape.{Shape};
 ghost use Rattle.picky_der_de.specs.declared.alternatives.OneOf.TheVariants.{This};
 ghost use Rattle.picky_der_de.specs.declared.alternatives4.OneOf4.TheVariants.{First, Second, Third, Fourth, Later};
+ghost use Rattle.picky_der_de.specs.Known.{by_itself};
+ghost use Rattle.picky_der_de.specs.KnownChoices.{known_choice};
 ghost use Rattle.der_examples.specs.declared.general_name.GeneralName.TheVariants.{OtherName, Rfc822Name, DnsName, X400Address};
 ghost use Rattle.der_examples.specs.declared.general_name.GeneralName.TheVariants.{DirectoryName};
 ghost use Rattle.der_examples.specs.declared.general_name.GeneralName.TheVariants.{EdiPartyName, UniformResourceIdentifier, IpAddress};
@@ -12,12 +15,13 @@ use picky_asn1_der::OneOf4::{First, Fourth, Later, Second, Third};
 use picky_asn1_der::asn1::{
     Asn1SetOf, ByteBuf, ExplicitContextTag4, Ia5StringAsn1, ImplicitContextTag1,
     ImplicitContextTag2, ImplicitContextTag6, ImplicitContextTag7, ImplicitContextTag8,
-    ObjectIdentifierAsn1, TaggedBytes,
+    ObjectIdentifierAsn1, Tag, TaggedBytes,
 };
-use picky_asn1_der::misc::WriteExt;
+use picky_asn1_der::de::{Begins, deserialize_choice_as};
+use picky_asn1_der::misc::{ReadExt, WriteExt};
 use picky_asn1_der::{
-    Alternatives, Asn1RawDer, Choice, DeserializeChoice, NoneOf, OneOf, OneOf4, Result, Serialize,
-    Serializer,
+    Alternatives, Asn1RawDer, Choice, Deserialize, Deserializer, NoneOf, OneOf, OneOf4, Result,
+    Serialize, Serializer,
 };
 
 /// A distinguished name: sets of attributes, each with its type and its value (RFC 5280, 4.1.2.4).
@@ -88,6 +92,8 @@ impl Choice for GeneralName {
             Later(Later(This(identifier))) => GeneralName::RegisteredId(identifier),
         }
     }
+
+    ghost told = { refl };
 }
 
 impl Serialize for GeneralName {
@@ -108,10 +114,31 @@ impl Serialize for GeneralName {
     }
 }
 
-impl DeserializeChoice for GeneralName {
-    ghost told = { Prim.search rules };
+impl Deserialize for GeneralName {
+    ghost shape = { Shape.choice ⟦<Parts as Alternatives>⟧.shapes };
 
-    ghost means_choice = { Prim.search rules };
+    ghost known = { known_choice ⟦<Parts as Alternatives>⟧.known refl ⟦<Self as Choice>⟧.parts ⟦<Self as PartialEq>⟧.eq
+        (elim [
+          | OtherName x ↦ elim [ OtherName y ↦ λ h. h | _ ↦ λ h. h ]
+          | Rfc822Name x ↦ elim [ Rfc822Name y ↦ λ h. h | _ ↦ λ h. h ]
+          | DnsName x ↦ elim [ DnsName y ↦ λ h. h | _ ↦ λ h. h ]
+          | X400Address x ↦ elim [ X400Address y ↦ λ h. h | _ ↦ λ h. h ]
+          | DirectoryName x ↦ elim [ DirectoryName y ↦ λ h. h | _ ↦ λ h. h ]
+          | EdiPartyName x ↦ elim [ EdiPartyName y ↦ λ h. h | _ ↦ λ h. h ]
+          | UniformResourceIdentifier x ↦ elim [ UniformResourceIdentifier y ↦ λ h. h | _ ↦ λ h. h ]
+          | IpAddress x ↦ elim [ IpAddress y ↦ λ h. h | _ ↦ λ h. h ]
+          | RegisteredId x ↦ elim [ RegisteredId y ↦ λ h. h | _ ↦ λ h. h ]
+        ]) };
 
-    ghost equal = { Prim.search rules };
+    ghost tied = { by_itself };
+
+    fn deserialize<R: ReadExt>(deserializer: &mut Deserializer<R>) -> Result<GeneralName> {
+        deserialize_choice_as(deserializer)
+    }
+}
+
+impl Begins for GeneralName {
+    fn begins_with(tag: Tag) -> bool {
+        <Parts as Alternatives>::begins_with(tag)
+    }
 }

@@ -1,13 +1,17 @@
 //! A choice of four, one of which is a list.
-ghost use Rattle.std.proofs.Common.{rules};
+ghost use Rattle.std.specs.Prelude.{refl};
+ghost use Rattle.picky_der_core.specs.Shape.{Shape};
 ghost use Rattle.picky_der_de.specs.declared.alternatives4.OneOf4.TheVariants.{First, Second, Third, Fourth};
+ghost use Rattle.picky_der_de.specs.Known.{by_itself};
+ghost use Rattle.picky_der_de.specs.KnownChoices.{known_choice};
 ghost use Rattle.der_examples.specs.declared.host.Host.TheVariants.{Email, Domain, Owner, Address};
 
 use picky_asn1_der::OneOf4::{First, Fourth, Second, Third};
-use picky_asn1_der::asn1::{ByteBuf, Ia5StringAsn1, ImplicitContextTag2};
-use picky_asn1_der::misc::WriteExt;
+use picky_asn1_der::asn1::{ByteBuf, Ia5StringAsn1, ImplicitContextTag2, Tag};
+use picky_asn1_der::de::{Begins, deserialize_choice_as};
+use picky_asn1_der::misc::{ReadExt, WriteExt};
 use picky_asn1_der::{
-    Alternatives, Choice, DeserializeChoice, NoneOf, OneOf4, Result, Serialize, Serializer,
+    Alternatives, Choice, Deserialize, Deserializer, NoneOf, OneOf4, Result, Serialize, Serializer,
 };
 
 /// How a host is named.
@@ -38,6 +42,8 @@ impl Choice for Host {
             Fourth(address) => Host::Address(address),
         }
     }
+
+    ghost told = { refl };
 }
 
 impl Serialize for Host {
@@ -53,10 +59,25 @@ impl Serialize for Host {
     }
 }
 
-impl DeserializeChoice for Host {
-    ghost told = { Prim.search rules };
+impl Deserialize for Host {
+    ghost shape = { Shape.choice ⟦<Parts as Alternatives>⟧.shapes };
 
-    ghost means_choice = { Prim.search rules };
+    ghost known = { known_choice ⟦<Parts as Alternatives>⟧.known refl ⟦<Self as Choice>⟧.parts ⟦<Self as PartialEq>⟧.eq (elim [
+      | Email x ↦ elim [ Email y ↦ λ h. h | _ ↦ λ h. h ]
+      | Domain x ↦ elim [ Domain y ↦ λ h. h | _ ↦ λ h. h ]
+      | Owner x ↦ elim [ Owner y ↦ λ h. h | _ ↦ λ h. h ]
+      | Address x ↦ elim [ Address y ↦ λ h. h | _ ↦ λ h. h ]
+    ]) };
 
-    ghost equal = { Prim.search rules };
+    ghost tied = { by_itself };
+
+    fn deserialize<R: ReadExt>(deserializer: &mut Deserializer<R>) -> Result<Host> {
+        deserialize_choice_as(deserializer)
+    }
+}
+
+impl Begins for Host {
+    fn begins_with(tag: Tag) -> bool {
+        <Parts as Alternatives>::begins_with(tag)
+    }
 }

@@ -1,7 +1,8 @@
 //! A struct that is written and read member by member.
-ghost use Rattle.std.proofs.Common.{rules};
-ghost use Rattle.picky_der_de.specs.Telling.{by_parts, tells};
+ghost use Rattle.picky_der_de.specs.Known.{by_itself};
+ghost use Rattle.picky_der_de.specs.KnownRows.{known_record};
 
+use picky_asn1_der::de::DeserializeMembers;
 use picky_asn1_der::misc::{ReadExt, WriteExt};
 use picky_asn1_der::{Deserialize, Deserializer, Result, Row, Serialize, Serializer};
 
@@ -30,9 +31,10 @@ impl Serialize for Interval {
 impl Deserialize for Interval {
     ghost shape = { ⟦<Row<Fields> as Deserialize>⟧.shape };
 
-    ghost injective = { by_parts ⟦<Row<Fields> as Deserialize>⟧.shape (Prim.search tells depth 99) };
+    ghost known = { known_record ⟦<Fields as DeserializeMembers>⟧.known (λ it. (it.first, it.last, tt)) ⟦<Self as PartialEq>⟧.eq
+        (λ x y h. h) };
 
-    ghost sound = { Prim.search rules depth 99 };
+    ghost tied = { by_itself };
 
     fn deserialize<R: ReadExt>(deserializer: &mut Deserializer<R>) -> Result<Interval> {
         let mut members = deserializer.deserialize_seq()?;

@@ -2,6 +2,7 @@
 #![tactic(auto)]
 
 mod age_groups;
+mod change;
 mod encrypted_data;
 mod first_steps;
 mod general_name;
@@ -27,6 +28,7 @@ mod ticket;
 mod track;
 
 pub use age_groups::AgeGroups;
+pub use change::Change;
 pub use encrypted_data::EncryptedData;
 pub use first_steps::{number, octets, small_number, text};
 pub use general_name::{GeneralName, Name};

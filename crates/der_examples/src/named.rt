@@ -1,8 +1,10 @@
 //! A struct with a field of any type.
-ghost use Rattle.std.proofs.Common.{rules};
-ghost use Rattle.picky_der_de.specs.Telling.{by_law, by_parts, tells};
+ghost use Rattle.picky_der_de.specs.Known.{by_itself};
+ghost use Rattle.picky_der_de.specs.KnownMembers.{ties_field, ties_none, ties_sequence};
+ghost use Rattle.picky_der_de.specs.KnownRows.{known_row};
 
 use picky_asn1_der::asn1::ByteBuf;
+use picky_asn1_der::de::DeserializeMembers;
 use picky_asn1_der::misc::{ReadExt, WriteExt};
 use picky_asn1_der::{Deserialize, Deserializer, Record, Result, Row, Serialize, Serializer, de};
 
@@ -39,9 +41,9 @@ impl<T: Deserialize> Record for Named<T> {
 impl<T: Deserialize> Deserialize for Named<T> {
     ghost shape = { ⟦<Row<Fields<T>> as Deserialize>⟧.shape };
 
-    ghost injective = { by_parts ⟦<Row<Fields<T>> as Deserialize>⟧.shape (Prim.search (tells, by_law T.shape T.injective) depth 99) };
+    ghost known = { known_row ⟦<Fields<T> as DeserializeMembers>⟧.known ⟦<Self as Record>⟧.parts };
 
-    ghost sound = { Prim.search (rules, T.sound) depth 99 };
+    ghost tied = { ties_sequence ⟦<Self as Record>⟧.parts (ties_field (λ x. x.0) by_itself (ties_field (λ x. x.1) T.tied ties_none)) };
 
     fn deserialize<R: ReadExt>(deserializer: &mut Deserializer<R>) -> Result<Named<T>> {
         de::deserialize_record_as(deserializer)

@@ -1,8 +1,10 @@
 //! A struct with a field of any type, and one that may be absent.
-ghost use Rattle.std.proofs.Common.{rules};
+ghost use Rattle.std.specs.Prelude.{refl};
 ghost use Rattle.picky_der_core.specs.Shape.{Shape};
 ghost use Rattle.picky_der_core.specs.Tree.{ListKind, Tree};
-ghost use Rattle.picky_der_de.specs.Telling.{by_law, by_parts, tells};
+ghost use Rattle.picky_der_de.specs.Known.{by_itself};
+ghost use Rattle.picky_der_de.specs.KnownMembers.{ties_always, ties_member, ties_none, ties_sequence};
+ghost use Rattle.picky_der_de.specs.KnownLayouts.{known_layout, ties_perhaps};
 
 use picky_asn1_der::asn1::ExplicitContextTag0;
 use picky_asn1_der::de::{Begins, DeserializeLayout, Struct, deserialize_struct_as};
@@ -43,16 +45,16 @@ impl<T: Begins> Struct for Noted<T> {
         }
     }
 
-    ghost told = { Prim.search rules };
+    ghost told = { refl };
 }
 
 impl<T: Begins> Deserialize for Noted<T> {
     ghost shape = { Shape.struct_of ListKind.sequence ⟦<Members<T> as DeserializeLayout>⟧.layout };
 
-    ghost injective = { by_parts (Shape.struct_of ListKind.sequence ⟦<Members<T> as DeserializeLayout>⟧.layout)
-        (Prim.search (rules, tells, by_law T.shape T.injective) depth 99) };
+    ghost known = { known_layout ⟦<Members<T> as DeserializeLayout>⟧.known refl ⟦<Self as Struct>⟧.parts };
 
-    ghost sound = { Prim.search (rules, T.sound) depth 99 };
+    ghost tied = { ties_sequence ⟦<Self as Struct>⟧.parts (ties_member (λ x. x.0) (ties_always T.tied)
+        (ties_member (λ x. x.1) (ties_perhaps (λ x. x.0) by_itself) ties_none)) };
 
     fn deserialize<R: ReadExt>(deserializer: &mut Deserializer<R>) -> Result<Noted<T>> {
         deserialize_struct_as(deserializer)

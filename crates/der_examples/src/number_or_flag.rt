@@ -1,12 +1,17 @@
 //! A choice, as a CHOICE of an INTEGER and a BOOLEAN (X.690, 8.13).
-ghost use Rattle.std.proofs.Common.{rules};
+ghost use Rattle.std.specs.Prelude.{refl};
+ghost use Rattle.picky_der_core.specs.Shape.{Shape};
 ghost use Rattle.picky_der_de.specs.declared.alternatives.OneOf.TheVariants.{This, Other};
+ghost use Rattle.picky_der_de.specs.Known.{by_itself};
+ghost use Rattle.picky_der_de.specs.KnownChoices.{known_choice};
 ghost use Rattle.der_examples.specs.declared.number_or_flag.NumberOrFlag.TheVariants.{Number, Flag};
 
 use picky_asn1_der::OneOf::{Other, This};
-use picky_asn1_der::misc::WriteExt;
+use picky_asn1_der::asn1::Tag;
+use picky_asn1_der::de::{Begins, deserialize_choice_as};
+use picky_asn1_der::misc::{ReadExt, WriteExt};
 use picky_asn1_der::{
-    Alternatives, Choice, DeserializeChoice, NoneOf, OneOf, Result, Serialize, Serializer,
+    Alternatives, Choice, Deserialize, Deserializer, NoneOf, OneOf, Result, Serialize, Serializer,
 };
 
 /// A number or a bool.
@@ -31,6 +36,8 @@ impl Choice for NumberOrFlag {
             Other(This(flag)) => NumberOrFlag::Flag(flag),
         }
     }
+
+    ghost told = { refl };
 }
 
 impl Serialize for NumberOrFlag {
@@ -44,10 +51,24 @@ impl Serialize for NumberOrFlag {
     }
 }
 
-impl DeserializeChoice for NumberOrFlag {
-    ghost told = { Prim.search rules };
+impl Deserialize for NumberOrFlag {
+    ghost shape = { Shape.choice ⟦<Parts as Alternatives>⟧.shapes };
 
-    ghost means_choice = { Prim.search rules };
+    ghost known = { known_choice ⟦<Parts as Alternatives>⟧.known refl ⟦<Self as Choice>⟧.parts ⟦<Self as PartialEq>⟧.eq
+        (elim [
+          | Number x ↦ elim [ Number y ↦ λ h. h | _ ↦ λ h. h ]
+          | Flag x ↦ elim [ Flag y ↦ λ h. h | _ ↦ λ h. h ]
+        ]) };
 
-    ghost equal = { Prim.search rules };
+    ghost tied = { by_itself };
+
+    fn deserialize<R: ReadExt>(deserializer: &mut Deserializer<R>) -> Result<NumberOrFlag> {
+        deserialize_choice_as(deserializer)
+    }
+}
+
+impl Begins for NumberOrFlag {
+    fn begins_with(tag: Tag) -> bool {
+        <Parts as Alternatives>::begins_with(tag)
+    }
 }

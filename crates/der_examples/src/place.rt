@@ -1,23 +1,24 @@
 //! A choice of a struct and another choice.
-ghost use Rattle.std.proofs.Common.{rules};
+ghost use Rattle.std.specs.Prelude.{refl};
+ghost use Rattle.picky_der_core.specs.Shape.{Shape};
 ghost use Rattle.picky_der_de.specs.declared.alternatives.OneOf.TheVariants.{This, Other};
+ghost use Rattle.picky_der_de.specs.Known.{by_itself};
+ghost use Rattle.picky_der_de.specs.KnownChoices.{known_choice};
 ghost use Rattle.der_examples.specs.declared.place.Place.TheVariants.{At, By};
 
 use crate::{NumberOrFlag, Point};
 use picky_asn1_der::OneOf::{Other, This};
 use picky_asn1_der::asn1::Tag;
-use picky_asn1_der::de::Begins;
-use picky_asn1_der::misc::WriteExt;
+use picky_asn1_der::de::{Begins, deserialize_choice_as};
+use picky_asn1_der::misc::{ReadExt, WriteExt};
 use picky_asn1_der::{
-    Alternatives, Choice, DeserializeChoice, NoneOf, OneOf, Result, Serialize, Serializer,
+    Alternatives, Choice, Deserialize, Deserializer, NoneOf, OneOf, Result, Serialize, Serializer,
 };
 
 impl Begins for Point {
     fn begins_with(tag: Tag) -> bool {
         tag == Tag::SEQUENCE
     }
-
-    ghost begins = { λ point byte held. held };
 }
 
 /// Where something is.
@@ -42,6 +43,8 @@ impl Choice for Place {
             Other(This(sign)) => Place::By(sign),
         }
     }
+
+    ghost told = { refl };
 }
 
 impl Serialize for Place {
@@ -55,10 +58,23 @@ impl Serialize for Place {
     }
 }
 
-impl DeserializeChoice for Place {
-    ghost told = { Prim.search rules };
+impl Deserialize for Place {
+    ghost shape = { Shape.choice ⟦<Parts as Alternatives>⟧.shapes };
 
-    ghost means_choice = { Prim.search rules };
+    ghost known = { known_choice ⟦<Parts as Alternatives>⟧.known refl ⟦<Self as Choice>⟧.parts ⟦<Self as PartialEq>⟧.eq (elim [
+      | At x ↦ elim [ At y ↦ λ h. h | _ ↦ λ h. h ]
+      | By x ↦ elim [ By y ↦ λ h. h | _ ↦ λ h. h ]
+    ]) };
 
-    ghost equal = { Prim.search rules };
+    ghost tied = { by_itself };
+
+    fn deserialize<R: ReadExt>(deserializer: &mut Deserializer<R>) -> Result<Place> {
+        deserialize_choice_as(deserializer)
+    }
+}
+
+impl Begins for Place {
+    fn begins_with(tag: Tag) -> bool {
+        <Parts as Alternatives>::begins_with(tag)
+    }
 }

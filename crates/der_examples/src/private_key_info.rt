@@ -1,9 +1,9 @@
 //! A private key, whose attributes may be absent.
-ghost use Rattle.std.proofs.Common.{rules};
+ghost use Rattle.std.specs.Prelude.{refl};
 ghost use Rattle.picky_der_core.specs.Shape.{Shape};
 ghost use Rattle.picky_der_core.specs.Tree.{ListKind, Tree};
-ghost use Rattle.picky_der_de.specs.Telling.{by_parts, tells};
-ghost use Rattle.picky_asn1_der.specs.RawLaws.{raw_is_last};
+ghost use Rattle.picky_der_de.specs.Known.{by_itself};
+ghost use Rattle.picky_der_de.specs.KnownLayouts.{known_struct};
 
 use der_x509::AlgorithmIdentifier;
 use picky_asn1_der::asn1::{ByteBuf, TaggedBytes};
@@ -64,16 +64,16 @@ impl Struct for PrivateKeyInfo {
         }
     }
 
-    ghost told = { Prim.search rules };
+    ghost told = { refl };
 }
 
 impl Deserialize for PrivateKeyInfo {
     ghost shape = { Shape.struct_of ListKind.sequence ⟦<Members as DeserializeLayout>⟧.layout };
 
-    ghost injective = { by_parts (Shape.struct_of ListKind.sequence ⟦<Members as DeserializeLayout>⟧.layout)
-        (Prim.search (rules, tells, raw_is_last) depth 99) };
+    ghost known = { known_struct ⟦<Members as DeserializeLayout>⟧.known refl ⟦<Self as Struct>⟧.parts ⟦<Self as PartialEq>⟧.eq
+        (λ x y h. h) };
 
-    ghost sound = { Prim.search (rules, raw_is_last) depth 99 };
+    ghost tied = { by_itself };
 
     fn deserialize<R: ReadExt>(deserializer: &mut Deserializer<R>) -> Result<PrivateKeyInfo> {
         deserialize_struct_as(deserializer)

@@ -1,12 +1,17 @@
 //! A choice of three.
-ghost use Rattle.std.proofs.Common.{rules};
+ghost use Rattle.std.specs.Prelude.{refl};
+ghost use Rattle.picky_der_core.specs.Shape.{Shape};
 ghost use Rattle.picky_der_de.specs.declared.alternatives.OneOf.TheVariants.{This, Other};
+ghost use Rattle.picky_der_de.specs.Known.{by_itself};
+ghost use Rattle.picky_der_de.specs.KnownChoices.{known_choice};
 ghost use Rattle.der_examples.specs.declared.setting.Setting.TheVariants.{Number, Text, Numbers};
 
 use picky_asn1_der::OneOf::{Other, This};
-use picky_asn1_der::misc::WriteExt;
+use picky_asn1_der::asn1::Tag;
+use picky_asn1_der::de::{Begins, deserialize_choice_as};
+use picky_asn1_der::misc::{ReadExt, WriteExt};
 use picky_asn1_der::{
-    Alternatives, Choice, DeserializeChoice, NoneOf, OneOf, Result, Serialize, Serializer,
+    Alternatives, Choice, Deserialize, Deserializer, NoneOf, OneOf, Result, Serialize, Serializer,
 };
 
 /// What a setting is set to.
@@ -34,6 +39,8 @@ impl Choice for Setting {
             Other(Other(This(numbers))) => Setting::Numbers(numbers),
         }
     }
+
+    ghost told = { refl };
 }
 
 impl Serialize for Setting {
@@ -48,10 +55,24 @@ impl Serialize for Setting {
     }
 }
 
-impl DeserializeChoice for Setting {
-    ghost told = { Prim.search rules };
+impl Deserialize for Setting {
+    ghost shape = { Shape.choice ⟦<Parts as Alternatives>⟧.shapes };
 
-    ghost means_choice = { Prim.search rules };
+    ghost known = { known_choice ⟦<Parts as Alternatives>⟧.known refl ⟦<Self as Choice>⟧.parts ⟦<Self as PartialEq>⟧.eq (elim [
+      | Number x ↦ elim [ Number y ↦ λ h. h | _ ↦ λ h. h ]
+      | Text x ↦ elim [ Text y ↦ λ h. h | _ ↦ λ h. h ]
+      | Numbers x ↦ elim [ Numbers y ↦ λ h. h | _ ↦ λ h. h ]
+    ]) };
 
-    ghost equal = { Prim.search rules };
+    ghost tied = { by_itself };
+
+    fn deserialize<R: ReadExt>(deserializer: &mut Deserializer<R>) -> Result<Setting> {
+        deserialize_choice_as(deserializer)
+    }
+}
+
+impl Begins for Setting {
+    fn begins_with(tag: Tag) -> bool {
+        <Parts as Alternatives>::begins_with(tag)
+    }
 }

@@ -1,8 +1,9 @@
 //! A struct whose fields are structs and nothing else.
-ghost use Rattle.std.proofs.Common.{rules};
-ghost use Rattle.picky_der_de.specs.Telling.{by_parts, tells};
+ghost use Rattle.picky_der_de.specs.Known.{by_itself};
+ghost use Rattle.picky_der_de.specs.KnownRows.{known_record};
 
 use crate::Moment;
+use picky_asn1_der::de::DeserializeMembers;
 use picky_asn1_der::misc::{ReadExt, WriteExt};
 use picky_asn1_der::{Deserialize, Deserializer, Record, Result, Row, Serialize, Serializer, de};
 
@@ -39,9 +40,9 @@ impl Record for Stay {
 impl Deserialize for Stay {
     ghost shape = { ⟦<Row<Fields> as Deserialize>⟧.shape };
 
-    ghost injective = { by_parts ⟦<Row<Fields> as Deserialize>⟧.shape (Prim.search tells depth 99) };
+    ghost known = { known_record ⟦<Fields as DeserializeMembers>⟧.known ⟦<Self as Record>⟧.parts ⟦<Self as PartialEq>⟧.eq (λ x y h. h) };
 
-    ghost sound = { Prim.search rules depth 99 };
+    ghost tied = { by_itself };
 
     fn deserialize<R: ReadExt>(deserializer: &mut Deserializer<R>) -> Result<Stay> {
         de::deserialize_record_as(deserializer)
