@@ -1,5 +1,5 @@
 -- What is known of layouts: members of which some may be absent.
-use Rattle.std.specs.Prelude.{◌≡◌, List, [], ◌∷◌, ℕ, Bool, true, false, ◌&&◌, ◌||◌, Option, Some, None, if◌then◌else◌, IsTrue, refl}
+use Rattle.std.specs.Prelude.{◌≡◌, List, [], ◌∷◌, ℕ, Bool, true, false, ◌&&◌, ◌||◌, Option, Some, None, map, if◌then◌else◌, IsTrue, ⊤, refl}
 use Rattle.std.specs.Option.{option_eq}
 use Rattle.std.proofs.Common.{ap, subst}
 use Rattle.std.proofs.lemmas.Bool.{and_parts, or_left, or_right}
@@ -13,16 +13,47 @@ use Rattle.picky_der_de.specs.LayoutLaws.{IsComponent, AreComponents, always_the
 use Rattle.picky_der_de.specs.Known.{Known, Ties}
 use Rattle.picky_der_de.specs.KnownMembers.{AreTrue, conjunction, conjunction_true, TiesMembers, TiesMember}
 
+-- ---- by what two members are equal
+
+pub data Test : Type 0 where
+  plain : Bool → Test
+  -- by the `==` of the type, or, as both are the default, by that of the default
+  defaulted : Bool → Bool → Test
+
+abbrev pub passes : Test → Bool
+passes (plain p) = p
+passes (defaulted p q) = p || q
+
+-- by the `==` of the type alone
+abbrev pub by_type : Test → Bool
+by_type (plain p) = p
+by_type (defaulted p q) = p
+
+-- what is equal by the `==` of a default is by that of the type
+abbrev pub DefaultsAgree : List Test → Type 0
+DefaultsAgree [] = ⊤
+DefaultsAgree (plain p ∷ ts) = DefaultsAgree ts
+DefaultsAgree (defaulted p q ∷ ts) = (q ≡ true → p ≡ true) × DefaultsAgree ts
+
+either : (p q r : Bool) → (p ≡ true → r ≡ true) → (q ≡ true → r ≡ true) → (p || q) ≡ true → r ≡ true
+either true q r f g h = f refl
+either false q r f g h = g h
+
+pub by_types : (ts : List Test) → DefaultsAgree ts → AreTrue (map passes ts) → AreTrue (map by_type ts)
+by_types [] agree h = tt
+by_types (plain p ∷ ts) agree h = (h.0, by_types ts agree h.1)
+by_types (defaulted p q ∷ ts) agree h = (either p q p (λ e. e) agree.0 h.0, by_types ts agree.1 h.1)
+
 -- ---- one member
 
 -- of a member V, where a W is what is written
 pub record KnownMember (V W : Type 0) (presence : Presence) (s : Shape) : Type 0 where
   pub in_front : V → Trees → Trees
-  pub equal : V → V → Bool
+  pub test : V → V → Test
   pub meaning : W → Tree
   pub equal_item : W → W → Bool
   pub item : V → Option W
-  pub is : IsComponent presence in_front equal meaning s equal_item item (λ w. false)
+  pub is : IsComponent presence in_front (λ x y. passes (test x y)) meaning s equal_item item (λ w. false)
 
 module _ {A : Type 0} (p q : A → A → Bool) (left_out : A → Bool) (one : IsOne q left_out) where
   equal_or_default_by : (x y : A) (a b : Bool) → left_out x ≡ a → left_out y ≡ b → option_eq p (if a then None else Some x) (if b then None else Some y) ≡ true → (p x y || q x y) ≡ true
@@ -39,7 +70,7 @@ module _ {A : Type 0} {s : Shape} (a : Known A s) where
   abbrev pub known_always : KnownMember A A always s
   known_always = record {
     in_front = λ v. Trees.more (a.meaning v);
-    equal = a.equal;
+    test = λ x y. plain (a.equal x y);
     meaning = a.meaning;
     equal_item = a.equal;
     item = λ v. Some v;
@@ -47,31 +78,30 @@ module _ {A : Type 0} {s : Shape} (a : Known A s) where
   }
 
   -- of which an item is there, or none
-  abbrev known_maybe : {V : Type 0} (item : V → Option A) (eq : V → V → Bool) → ((x y : V) → option_eq a.equal (item x) (item y) ≡ true → eq x y ≡ true) → KnownMember V A perhaps s
-  known_maybe item eq same = record {
+  abbrev known_maybe : {V : Type 0} (item : V → Option A) (test : V → V → Test) → ((x y : V) → option_eq a.equal (item x) (item y) ≡ true → passes (test x y) ≡ true) → KnownMember V A perhaps s
+  known_maybe item test same = record {
     in_front = λ v. maybe_more a.meaning (item v);
-    equal = eq;
+    test = test;
     meaning = a.meaning;
     equal_item = a.equal;
     item = item;
-    is = perhaps_there a.meaning s a.equal a.begun a.injective a.sound item eq same;
+    is = perhaps_there a.meaning s a.equal a.begun a.injective a.sound item (λ x y. passes (test x y)) same;
   }
 
   abbrev pub known_perhaps : {V : Type 0} (item : V → Option A) → KnownMember V A perhaps s
-  known_perhaps item = known_maybe item (λ x y. option_eq a.equal (item x) (item y)) (λ x y h. h)
+  known_perhaps item = known_maybe item (λ x y. plain (option_eq a.equal (item x) (item y))) (λ x y h. h)
 
-  -- two values are equal by the type's own `==`, or, where they are the default, by that of the default
   abbrev pub known_default : {V : Type 0} (left_out : A → Bool) (eq : A → A → Bool) → IsOne eq left_out → (value : V → A) → KnownMember V A perhaps s
-  known_default left_out eq one value = known_maybe (λ v. unless_default left_out (value v)) (λ x y. a.equal (value x) (value y) || eq (value x) (value y)) (λ x y h. equal_or_default a.equal eq left_out one (value x) (value y) h)
+  known_default left_out eq one value = known_maybe (λ v. unless_default left_out (value v)) (λ x y. defaulted (a.equal (value x) (value y)) (eq (value x) (value y))) (λ x y h. equal_or_default a.equal eq left_out one (value x) (value y) h)
 
 -- ---- members, one after another
 
 pub record KnownLayout (P : Type 0) (l : Layout) : Type 0 where
   pub members : P → Trees
-  -- the `==` of each member
-  pub tests : P → P → List Bool
+  -- one of each member
+  pub tests : P → P → List Test
   -- two rows of readable members with the same trees pass them, where the first byte distinguishes missing members
-  pub are : AreComponents members l (λ x y. AreTrue (tests x y))
+  pub are : AreComponents members l (λ x y. AreTrue (map passes (tests x y)))
 
 abbrev pub known_empty : {P : Type 0} → KnownLayout P Layout.empty
 known_empty = record { members = λ x. Trees.none; tests = λ x y. []; are = no_components }
@@ -81,7 +111,7 @@ module _ {P : Type 0} {l : Layout} where
   abbrev pub known_member : {X W : Type 0} {presence : Presence} {s : Shape} (first : P → X) → KnownMember X W presence s → KnownLayout P l → KnownLayout P (component_then presence s l)
   known_member first a others = record {
     members = λ x. a.in_front (first x) (others.members x);
-    tests = λ x y. a.equal (first x) (first y) ∷ others.tests x y;
+    tests = λ x y. a.test (first x) (first y) ∷ others.tests x y;
     are = lead first a.is others.are;
   }
 
@@ -119,40 +149,23 @@ members_told (Layout.maybe s l) h =
 -- ---- a sequence of them
 
 module _ {P S : Type 0} {l : Layout} (layout : KnownLayout P l) (told : are_members_told l ≡ true) (parts : S → P) where
-  -- with this `==`: it holds where they are equal, each
-  abbrev pub known_struct : (eq : S → S → Bool) → ((x y : S) → conjunction (layout.tests (parts x) (parts y)) ≡ true → eq x y ≡ true) → Known S (Shape.struct_of ListKind.sequence l)
-  known_struct eq same = record {
+  -- with this `==`
+  abbrev known_sequence : (eq : S → S → Bool) → ((x y : S) → AreTrue (map passes (layout.tests (parts x) (parts y))) → eq x y ≡ true) → Known S (Shape.struct_of ListKind.sequence l)
+  known_sequence eq same = record {
     meaning = λ s. Tree.list ListKind.sequence (layout.members (parts s));
     equal = eq;
-    injective = λ x y p q r e. same x y (conjunction_true (layout.tests (parts x) (parts y)) (layout.are.injective (members_told l told) (parts x) (parts y) p.1 q.1 r.1 (list_members e)));
+    injective = λ x y p q r e. same x y (layout.are.injective (members_told l told) (parts x) (parts y) p.1 q.1 r.1 (list_members e));
     sound = (layout.are.sound, members_told l told);
     begun = λ v b h. h;
   }
 
+  -- With a `==` that holds where members are equal by their types.
+  abbrev pub known_struct : (eq : S → S → Bool) → ((x y : S) → conjunction (map by_type (layout.tests (parts x) (parts y))) ≡ true → eq x y ≡ true) → ((x y : S) → DefaultsAgree (layout.tests (parts x) (parts y))) → Known S (Shape.struct_of ListKind.sequence l)
+  known_struct eq same agree = known_sequence eq (λ x y h. same x y (conjunction_true (map by_type (layout.tests (parts x) (parts y))) (by_types (layout.tests (parts x) (parts y)) (agree x y) h)))
+
   -- with the `==` of a struct of them
   abbrev pub known_layout : Known S (Shape.struct_of ListKind.sequence l)
-  known_layout = known_struct (λ x y. conjunction (layout.tests (parts x) (parts y))) (λ x y h. h)
-
--- A struct with a default is equal where its members are, of which one is equal by its own `==` or by that of its default. So its members are named up to the last that has one.
-
-module _ (p : Bool) {q r : Bool} where
-  -- a member with no default
-  pub same_then : (q ≡ true → r ≡ true) → (p && q) ≡ true → (p && r) ≡ true
-  same_then f h = by_value p h where
-    by_value : (x : Bool) → (x && q) ≡ true → (x && r) ≡ true
-    by_value true k = f k
-    by_value false k = k
-
-  -- one with a default
-  pub default_then : (q ≡ true → r ≡ true) → ((p || p) && q) ≡ true → (p && r) ≡ true
-  default_then f h = by_value p h where
-    by_value : (x : Bool) → ((x || x) && q) ≡ true → (x && r) ≡ true
-    by_value true k = f k
-    by_value false k = k
-
-pub default_last : (p : Bool) → (p || p) ≡ true → p ≡ true
-default_last true h = h
-default_last false h = h
+  known_layout = known_sequence (λ x y. conjunction (map passes (layout.tests (parts x) (parts y)))) (λ x y h. conjunction_true (map passes (layout.tests (parts x) (parts y))) h)
 
 -- ---- ties
 
@@ -173,12 +186,9 @@ pub ties_default : {A V : Type 0} {m n : A → Tree} {p q r : A → A → Bool} 
 ties_default {A} {V} {p = p} {q = q} {r = r} left_out value t so = record {
   in_front = ap {B = V → Trees → Trees} (λ (k : A → Tree) (v : V). maybe_more k (unless_default left_out (value v))) t.meaning;
   equal = λ x y. either (p (value x) (value y)) (r (value x) (value y)) (q (value x) (value y)) (t.equal (value x) (value y)) (so (value x) (value y));
-} where
-  either : (a b c : Bool) → (a ≡ true → c ≡ true) → (b ≡ true → c ≡ true) → (a || b) ≡ true → c ≡ true
-  either true b c f g h = f refl
-  either false b c f g h = g h
+}
 
 -- what the members owe whose trees and `==` these are
-pub components_of : {P : Type 0} {l : Layout} (known : KnownLayout P l) {means : P → Trees} {eq : P → P → Bool} → TiesMembers known.members known.tests means (λ x y. eq x y ∷ []) → AreComponents means l (λ x y. IsTrue (eq x y))
+pub components_of : {P : Type 0} {l : Layout} (known : KnownLayout P l) {means : P → Trees} {eq : P → P → Bool} → TiesMembers known.members (λ x y. map passes (known.tests x y)) means (λ x y. eq x y ∷ []) → AreComponents means l (λ x y. IsTrue (eq x y))
 components_of {P} {l} known {means} {eq} t =
-    equal_so (λ x y h. (t.equal x y h).0) (subst (λ (k : P → Trees). AreComponents k l (λ x y. AreTrue (known.tests x y))) t.members known.are)
+    equal_so (λ x y h. (t.equal x y h).0) (subst (λ (k : P → Trees). AreComponents k l (λ x y. AreTrue (map passes (known.tests x y)))) t.members known.are)

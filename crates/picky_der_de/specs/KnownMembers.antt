@@ -74,10 +74,6 @@ module _ {P : Type 0} {ms us : P → Trees} {ts vs : P → P → List Bool} wher
     equal = λ x y h. conjunction_true (vs (parts x) (parts y)) (t.equal (parts x) (parts y) (each_true (ts (parts x) (parts y)) h));
   }
 
-module _ {V : Type 0} {in_front : V → Trees → Trees} {eq : V → V → Bool} where
-  pub member_by_itself : TiesMember in_front eq in_front eq
-  member_by_itself = record { in_front = refl; equal = λ x y h. h }
-
 -- one that is always there
 pub ties_always : {A : Type 0} {m n : A → Tree} {p q : A → A → Bool} → Ties m p n q → TiesMember (λ a. Trees.more (m a)) p (λ a. Trees.more (n a)) q
 ties_always {A} t = record { in_front = ap {B = A → Trees → Trees} (λ (k : A → Tree) (a : A). Trees.more (k a)) t.meaning; equal = t.equal }

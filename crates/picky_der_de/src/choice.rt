@@ -29,7 +29,7 @@ pub trait Choice: Sized {
 /// it is.
 ///
 /// `InvalidData` for a first byte that is of none, and directly under an implicit tag, where no byte distinguishes them; else
-/// as `peek_next_tag` and the alternative's own `deserialize` refuse it.
+/// as `deserialize_enum` and the alternative's own `deserialize` refuse it.
 pub fn deserialize_choice_as<T: Choice, R: ReadExt>(de: &mut Deserializer<R>) -> Result<T>
     ensures ok { IfOk result (λ value. Reads (Shape.choice T.Alternatives.shapes) de.old de.new
         (Tree.choice (T.Alternatives.chosen (T.parts value)))) }

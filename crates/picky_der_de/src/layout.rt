@@ -1,11 +1,11 @@
 //! Members of a sequence of which some may be absent, as they are read.
-ghost use Rattle.std.specs.Prelude.{◌≡◌, ◌∷◌, [], true, None, IfOk, IfErr};
+ghost use Rattle.std.specs.Prelude.{◌≡◌, ◌∷◌, [], true, None, map, IfOk, IfErr};
 ghost use Rattle.picky_der_core.specs.Tree.{ListKind, Tree};
 ghost use Rattle.picky_der_core.specs.Shape.{Shape, Layout};
 ghost use Rattle.picky_der_input.specs.Reading.{Reads, Refuses};
 ghost use Rattle.picky_der_de.specs.Layouts.{ReadsLayout, RefusesLayout};
 ghost use Rattle.picky_der_de.specs.KnownMembers.{TiesMembers, ties_none, ties_tuple};
-ghost use Rattle.picky_der_de.specs.KnownLayouts.{KnownLayout, known_empty, are_members_told};
+ghost use Rattle.picky_der_de.specs.KnownLayouts.{KnownLayout, known_empty, are_members_told, passes};
 
 use crate::{Deserializer, Sequence};
 use picky_der_core::Result;
@@ -37,7 +37,7 @@ pub trait DeserializeLayout: SerializeMembers + PartialEq + Drop + Sized {
             (state_of sequence.new)) };
 
     // It is known of what they mean to `SerializeMembers`, and of their `==`.
-    ghost tied: { TiesMembers known.members known.tests Self.members (λ x y. Self.eq x y ∷ []) };
+    ghost tied: { TiesMembers known.members (λ x y. map passes (known.tests x y)) Self.members (λ x y. Self.eq x y ∷ []) };
 }
 
 impl DeserializeLayout for () {

@@ -9,7 +9,7 @@ ghost use Rattle.picky_der_de.specs.Layouts.{Presence, always, perhaps, Lacks, R
 ghost use Rattle.picky_der_de.specs.LayoutLaws.{IsComponent, always_there, perhaps_there, with_default};
 ghost use Rattle.picky_der_de.specs.Known.{begun_of, injective_of};
 ghost use Rattle.picky_der_de.specs.KnownMembers.{TiesMember, ties_always};
-ghost use Rattle.picky_der_de.specs.KnownLayouts.{KnownMember, known_always, known_perhaps, known_default, ties_perhaps, ties_default};
+ghost use Rattle.picky_der_de.specs.KnownLayouts.{KnownMember, known_always, known_perhaps, known_default, passes, ties_perhaps, ties_default};
 
 use crate::{Begins, Sequence};
 use picky_der_core::Result;
@@ -61,7 +61,7 @@ pub trait DeserializeMember: SerializeMember + PartialEq + Drop + Sized {
     ghost is_component: { IsComponent presence Self.in_front Self.eq item_meaning shape item_eq item left_out };
 
     // It is known of what is written to `SerializeMember`, and of its `==`.
-    ghost tied: { TiesMember known.in_front known.equal Self.in_front Self.eq };
+    ghost tied: { TiesMember known.in_front (λ x y. passes (known.test x y)) Self.in_front Self.eq };
 }
 
 impl<T: Begins> DeserializeMember for T {
