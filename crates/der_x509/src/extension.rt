@@ -3,7 +3,7 @@ ghost use Rattle.std.specs.Prelude.{refl};
 ghost use Rattle.picky_der_core.specs.Shape.{Shape};
 ghost use Rattle.picky_der_core.specs.Tree.{ListKind, Tree};
 ghost use Rattle.picky_der_de.specs.Known.{by_itself};
-ghost use Rattle.picky_der_de.specs.KnownLayouts.{default_then, known_struct, same_then};
+ghost use Rattle.picky_der_de.specs.KnownLayouts.{known_struct};
 
 use picky_asn1_der::asn1::{ByteBuf, ObjectIdentifierAsn1};
 use picky_asn1_der::de::{DeserializeLayout, Struct, deserialize_struct_as};
@@ -60,8 +60,7 @@ impl Deserialize for Extension {
     ghost shape = { Shape.struct_of ListKind.sequence ⟦<Members as DeserializeLayout>⟧.layout };
 
     ghost known = { known_struct ⟦<Members as DeserializeLayout>⟧.known refl ⟦<Self as Struct>⟧.parts ⟦<Self as PartialEq>⟧.eq
-        (λ x y. same_then (⟦<ObjectIdentifierAsn1 as PartialEq>⟧.eq x.id y.id)
-        (default_then (⟦<bool as PartialEq>⟧.eq x.critical y.critical) (λ h. h))) };
+        (λ x y h. h) (λ x y. (λ h. h, tt)) };
 
     ghost tied = { by_itself };
 

@@ -3,7 +3,7 @@ ghost use Rattle.std.specs.Prelude.{refl};
 ghost use Rattle.picky_der_core.specs.Shape.{Shape};
 ghost use Rattle.picky_der_core.specs.Tree.{ListKind, Tree};
 ghost use Rattle.picky_der_de.specs.Known.{by_itself};
-ghost use Rattle.picky_der_de.specs.KnownLayouts.{default_then, known_struct};
+ghost use Rattle.picky_der_de.specs.KnownLayouts.{known_struct};
 
 use crate::{
     AlgorithmIdentifier, Attribute, Extension, Extensions, Name, RelativeName,
@@ -132,7 +132,7 @@ impl Deserialize for TbsCertificate {
     ghost shape = { Shape.struct_of ListKind.sequence ⟦<Members as DeserializeLayout>⟧.layout };
 
     ghost known = { known_struct ⟦<Members as DeserializeLayout>⟧.known refl ⟦<Self as Struct>⟧.parts ⟦<Self as PartialEq>⟧.eq
-        (λ x y. default_then (⟦<ExplicitContextTag0<Version> as PartialEq>⟧.eq x.version y.version) (λ h. h)) };
+        (λ x y h. h) (λ x y. (λ h. h, tt)) };
 
     ghost tied = { by_itself };
 
