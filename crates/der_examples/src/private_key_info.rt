@@ -71,7 +71,7 @@ impl Deserialize for PrivateKeyInfo {
     ghost shape = { Shape.struct_of ListKind.sequence ⟦<Members as DeserializeLayout>⟧.layout };
 
     ghost known = { known_struct ⟦<Members as DeserializeLayout>⟧.known refl ⟦<Self as Struct>⟧.parts ⟦<Self as PartialEq>⟧.eq
-        (λ x y h. h) };
+        (λ x y h. h) (λ x y. tt) };
 
     ghost tied = { by_itself };
 
