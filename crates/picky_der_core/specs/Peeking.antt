@@ -1,31 +1,53 @@
 -- What contracts see of a reader that can be peeked.
-use Rattle.std.specs.Prelude.{ℕ, zero, suc, ◌+◌, ◌-◌, ◌^◌, ◌<◌, min, List, ◌∷◌, Option, None, Some, ⊤, refl}
-use Rattle.std.specs.Coded.{Coded, code_by, coded×, coded_option, coded_ℕ}
+use Rattle.std.specs.Prelude.{ℕ, zero, suc, ◌+◌, ◌-◌, ◌^◌, ◌<◌, ◌≡◌, Bool, true, false, min, take, List, [], ◌∷◌, Option, None, Some, IfSome, ⊤, refl}
+use Rattle.std.specs.Coded.{Coded, code_by, coded×, coded_option, coded_bool, coded_ℕ}
 
 pub record PeekableState (R : Type 0) : Type 0 where
   pub reader : R
-  -- the byte that was drawn and not yet handed out
+  -- the next byte, where it was looked at
   pub peeked : Option ℕ
+  -- whether it was read from the reader; if not, the reader still shows it
+  pub drawn : Bool
   -- how many bytes were handed out
   pub pos : ℕ
 
 abbrev pub peeking_code : {R : Type 0} → Coded R → Coded (PeekableState R)
 peeking_code {R} reader =
-    code_by (R × (Option ℕ × ℕ))
-    (coded× reader (coded× (coded_option coded_ℕ) coded_ℕ))
-    (λ p. (p.reader, (p.peeked, p.pos)))
-    (λ p. record { reader = p.0; peeked = p.1.0; pos = p.1.1 })
+    code_by (R × (Option ℕ × (Bool × ℕ)))
+    (coded× reader (coded× (coded_option coded_ℕ) (coded× coded_bool coded_ℕ)))
+    (λ p. (p.reader, (p.peeked, (p.drawn, p.pos))))
+    (λ p. record { reader = p.0; peeked = p.1.0; drawn = p.1.1.0; pos = p.1.1.1 })
     (λ _. refl)
 
--- the bytes left, a peeked byte in front
+-- the bytes left, with this byte in front
 abbrev pub in_front : Option ℕ → Option (List ℕ) → Option (List ℕ)
 in_front None left = left
 in_front (Some b) None = None
 in_front (Some b) (Some bs) = Some (b ∷ bs)
 
+-- the peeked byte, where it was read from the reader
+abbrev pub drawn_byte : Bool → Option ℕ → Option ℕ
+drawn_byte true peeked = peeked
+drawn_byte false peeked = None
+
 -- the bytes that are still to be handed out, where the inner reader tells its own
 abbrev pub left_in : {R : Type 0} → (R → Option (List ℕ)) → PeekableState R → Option (List ℕ)
-left_in remaining p = in_front p.peeked (remaining p.reader)
+left_in remaining p = in_front (drawn_byte p.drawn p.peeked) (remaining p.reader)
+
+-- how many bytes are shown: none while the peeked byte was read from the reader
+abbrev pub shown_by : Bool → ℕ → ℕ
+shown_by true n = 0
+shown_by false n = n
+
+-- of known bytes this is the first
+abbrev pub IsFirstIn : Option (List ℕ) → ℕ → Type 0
+IsFirstIn left b = IfSome left (λ bytes. take 1 bytes ≡ b ∷ [])
+
+-- a peeked byte that the reader still has is the first of those that are shown
+abbrev pub IsShown : Bool → Option ℕ → ℕ → Option (List ℕ) → Type 0
+IsShown true peeked n left = ⊤
+IsShown false None n left = ⊤
+IsShown false (Some b) n left = (0 < n) × IsFirstIn left b
 
 -- a byte, if there is one
 abbrev pub IsByteIfAny : Option ℕ → Type 0

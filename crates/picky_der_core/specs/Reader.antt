@@ -1,5 +1,5 @@
 -- What a read of one byte does.
-use Rattle.std.specs.Prelude.{◌≡◌, ℕ, ◌≤◌, List, [], ◌∷◌, length, drop, Option, Some, IfSome, MatchOption, Result, MatchResult}
+use Rattle.std.specs.Prelude.{◌≡◌, ℕ, ◌≤◌, List, [], ◌∷◌, length, drop, Option, None, Some, MatchOption, Result, MatchResult}
 use Rattle.std.specs.Io.KnownBytes.{Consumes, Keeps, IsAtEnd}
 use Rattle.std.specs.IoError.{error_kind}
 use Rattle.std.specs.declared.io.Error.{Error}
@@ -18,9 +18,10 @@ abbrev pub GivesNext : Option (List ℕ) → Option (List ℕ) → Result (Optio
 GivesNext old new r =
     MatchResult r (λ next. MatchOption next (Keeps old new × IsAtEnd new) (λ b. Consumes old new (b ∷ []))) (λ _. Keeps old new)
 
--- of the known bytes the first n were taken
+-- the first n bytes were taken
 abbrev pub TakesFirst : Option (List ℕ) → Option (List ℕ) → ℕ → Type 0
-TakesFirst old new n = IfSome old (λ bs. (n ≤ length bs) × (new ≡ Some (drop n bs)))
+TakesFirst None new n = new ≡ None
+TakesFirst (Some bs) new n = (n ≤ length bs) × (new ≡ Some (drop n bs))
 
 -- of the faults the last is new, of this error, and these bytes are left behind it
 abbrev pub FailsOnce : List Fault → List Fault → Option (List ℕ) → Error → Type 0

@@ -2,6 +2,7 @@ pub mod Options
 pub mod EntryReads
 pub mod EnclosureReads
 pub mod Peeked
+pub mod SeenMembers
 pub mod Choices
 pub mod OtherValues
 pub mod Members

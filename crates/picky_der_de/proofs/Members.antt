@@ -53,7 +53,7 @@ next_in_order l t ts h = order_next l (der t) (encodings ts) (subst (AreInOrder 
 -- ---- one member
 
 -- a value that doesn't stand directly under an implicit tag
-takes_whole : {s : Shape} {b c : State} {t : Tree} → Reads s b c t → b.implicit_tag ≡ None → Takes b c (der t)
+pub takes_whole : {s : Shape} {b c : State} {t : Tree} → Reads s b c t → b.implicit_tag ≡ None → Takes b c (der t)
 takes_whole {b = b} {c = c} {t = t} r implicit_tag = subst (λ d. Takes b c (written_at (place_in d b.until_end) t)) implicit_tag r.takes
 
 pub takes_member : {s : Shape} {b c : State} {t : Tree} → ReadsMember s b c t → Takes (without_order b) (without_order c) (der t)

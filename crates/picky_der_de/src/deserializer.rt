@@ -64,7 +64,7 @@ impl<R: ReadExt> Deserializer<R> {
         }
     }
 
-    /// The reader, behind a byte that was peeked.
+    /// The reader, after a byte that was peeked.
     pub fn into_reader(self) -> R
         ensures input { self.input ≡ in_front self.peeked (R.remaining result) }
         ensures faults { R.faults result ≡ self.faults }

@@ -45,7 +45,7 @@ impl<'a, R: ReadExt> Sequence<'a, R> {
 
     /// The next member, and `None` exactly at the end. A member is refused as its type is. In a set that was begun by
     /// `deserialize_set` one that was read is refused with `InvalidData` where its encoding is less than the one before it
-    /// (X.690, 11.6), and with `OutOfMemory` where a growth for that test was; no byte behind it is drawn.
+    /// (X.690, 11.6); no byte after it is drawn. It is `OutOfMemory` where the allocation for that test failed.
     pub fn next_element<T: Deserialize>(&mut self) -> Result<Option<T>>
         ensures same_reference { borrowed_by self.new ≡ borrowed_by self.old }
         ensures outer { outer_of self.new ≡ outer_of self.old }
@@ -62,10 +62,13 @@ impl<'a, R: ReadExt> Sequence<'a, R> {
         if self.de.is_at_end()? {
             return Ok(None);
         }
-        let value = T::deserialize(self.de)?;
         if self.de.is_in_set() {
-            self.de.test_order(&value)?;
+            return match self.de.next_in_set::<T>() {
+                Ok(value) => Ok(Some(value)),
+                Err(error) => Err(error),
+            };
         }
+        let value = T::deserialize(self.de)?;
         Ok(Some(value))
     }
 

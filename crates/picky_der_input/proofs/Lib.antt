@@ -15,4 +15,5 @@ pub mod Enclosures
 pub mod Openings
 pub mod Pieces
 pub mod Ahead
+pub mod Seen
 pub mod Whole

@@ -84,10 +84,10 @@ module _ {old new : State} {e : Asn1DerError} (s : StopsAt old new e) where
       by_case (end q is left) = input_ended r left is
 
 -- a peeked byte would have been the answer
-pub unpeeked_at_error : {A : Type 0} (p : Option ℕ) (error : Error) (answer : ℕ → A) (P : ℕ → Type 0) → IfSome p (λ b. (◌≡◌ {A = Result A Error} (Err error) (Ok (answer b))) × P b) → p ≡ None
-unpeeked_at_error None error answer P h = refl
-unpeeked_at_error (Some b) error answer P h = let q = h.0 in cc
+pub unpeeked_at_error : {A : Type 0} (p : Option ℕ) (error : Error) (answer : ℕ → A) → IfSome p (λ b. ◌≡◌ {A = Result A Error} (Err error) (Ok (answer b))) → p ≡ None
+unpeeked_at_error None error answer h = refl
+unpeeked_at_error (Some b) error answer h = cc
 
-pub unpeeked_at_end : (p : Option ℕ) (P : ℕ → Type 0) → IfSome p (λ b. (◌≡◌ {A = Result (Option ℕ) Error} (Ok None) (Ok (Some b))) × P b) → p ≡ None
-unpeeked_at_end None P h = refl
-unpeeked_at_end (Some b) P h = let q = h.0 in cc
+pub unpeeked_at_end : (p : Option ℕ) → IfSome p (λ b. ◌≡◌ {A = Result (Option ℕ) Error} (Ok None) (Ok (Some b))) → p ≡ None
+unpeeked_at_end None h = refl
+unpeeked_at_end (Some b) h = cc

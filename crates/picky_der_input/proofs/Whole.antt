@@ -1,5 +1,5 @@
 -- Values that were ahead whole, and were taken in one step.
-use Rattle.std.proofs.Common.{◌≡◌, ℕ, ◌+◌, List, [], ◌∷◌, ◌++◌, length, take, Option, Some, None, IfSome, refl, sym, ◌∙◌, ap, subst, arith, append_assoc, length-append}
+use Rattle.std.proofs.Common.{◌≡◌, ℕ, ◌+◌, ◌≤◌, ◌<◌, List, [], ◌∷◌, ◌++◌, length, take, Option, Some, None, IfSome, refl, sym, ◌∙◌, ap, subst, arith, append_assoc, length-append}
 use Rattle.std.proofs.lemmas.Grind.{common_steps}
 use Rattle.std.specs.Io.KnownBytes.{Consumes, prepend_known}
 use Rattle.picky_der_core.specs.Element.{length_octets}
@@ -21,6 +21,10 @@ use Rattle.picky_der_input.proofs.Elements.{reads_raw}
 
 -- ---- two steps in place of one
 
+at_most_one : (p : Option ℕ) → count_of_any p ≤ 1
+at_most_one None = omega arith
+at_most_one (Some b) = omega arith
+
 -- bytes were taken, and then others
 pub record TakesInTwo (a c : State) (x y : List ℕ) : Type 0 where
   pub mid : State
@@ -37,9 +41,9 @@ rest_part : (j : Option (List ℕ)) (y : List ℕ) → Consumes (prepend_known y
 rest_part None y = tt
 rest_part (Some ys) y = refl
 
-pub takes_in_two : {a c : State} (x y : List ℕ) → Takes a c (x ++ y) → a.peeked ≡ None → TakesInTwo a c x y
-takes_in_two {a} {c} x y t p =
-    let none : count_of_any a.peeked ≡ 0 = ap count_of_any p in
+pub takes_in_two : {a c : State} (x y : List ℕ) → Takes a c (x ++ y) → 0 < length x → TakesInTwo a c x y
+takes_in_two {a} {c} x y t some =
+    let few = at_most_one a.peeked in
     let size = length-append x y in
     let no_byte : count_of_any c.peeked ≡ 0 = ap count_of_any t.unpeeked in
     record {
@@ -52,7 +56,7 @@ takes_in_two {a} {c} x y t p =
         limit = t.limit;
         sets = t.sets;
         unpeeked = t.unpeeked;
-        drawn = omega (arith, none);
+        drawn = omega (arith, few, some);
         had_not_failed = t.had_not_failed;
         not_failed = t.not_failed;
         faults = t.faults;
@@ -87,12 +91,12 @@ none_directly P (Some number) e = absurd (let q : Some number ≡ None = e in cc
 
 -- a plain value of which tag, length and content were taken
 pub reads_short : {V : Type 0} {meaning : V → Tree} {s : Shape} {tag : ℕ} {judge : Judge} {a c : State} {bytes : List ℕ} → IsShortKind meaning s tag judge → (v : V)
-    → bytes ≡ content (meaning v) → judge bytes ≡ None → ShowsShort a tag bytes → TakesShown a c (length bytes + 2) → a.peeked ≡ None → c.implicit_tag ≡ a.implicit_tag → ReadsPlain tag judge s a c (meaning v)
-reads_short {meaning = meaning} {tag = tag} {judge = judge} {a = a} {c = c} {bytes = bytes} kind v is good h t p d =
+    → bytes ≡ content (meaning v) → judge bytes ≡ None → ShowsShort a tag bytes → TakesShown a c (length bytes + 2) → c.implicit_tag ≡ a.implicit_tag → ReadsPlain tag judge s a c (meaning v)
+reads_short {meaning = meaning} {tag = tag} {judge = judge} {a = a} {c = c} {bytes = bytes} kind v is good h t d =
     let n = length bytes in
     let taken : Takes a c (tag ∷ (n ∷ bytes)) = t (tag ∷ (n ∷ bytes)) (omega arith) h.shows in
     let header : header_bytes a.implicit_tag tag n ≡ tag ∷ (n ∷ []) = whole_header a.implicit_tag tag n h.whole ∙ ap (λ z. tag ∷ z) (length_octets-short n h.short) in
-    let q = takes_in_two (tag ∷ (n ∷ [])) bytes taken p in
+    let q = takes_in_two (tag ∷ (n ∷ [])) bytes taken (omega arith) in
     let none : c.implicit_tag ≡ None = d ∙ h.whole in
     let begins : BeginsContent tag a q.mid n = record {
       takes = rw header q.first;
@@ -123,13 +127,13 @@ takes_without_implicit_tag t = record {
 }
 
 -- an element that was taken whole
-pub reads_whole : {a c : State} {all : List ℕ} → ShowsElement a all → TakesShown a c (length all) → AreBytes all → a.peeked ≡ None → c.implicit_tag ≡ a.implicit_tag → ReadsRaw a c all
-reads_whole {a} {c} {all} h t b p d =
+pub reads_whole : {a c : State} {all : List ℕ} → ShowsElement a all → TakesShown a c (length all) → AreBytes all → c.implicit_tag ≡ a.implicit_tag → ReadsRaw a c all
+reads_whole {a} {c} {all} h t b d =
     let e = h.element in
     let n = length e.content in
     let is : all ≡ (e.tag ∷ length_octets n) ++ e.content = sym (take_whole all) ∙ e.is in
     let taken : Takes a c ((e.tag ∷ length_octets n) ++ e.content) = subst (Takes a c) is (t all refl h.shows) in
-    let q = takes_in_two (e.tag ∷ length_octets n) e.content taken p in
+    let q = takes_in_two (e.tag ∷ length_octets n) e.content taken (omega arith) in
     let none : c.implicit_tag ≡ None = d ∙ h.whole in
     let begins : BeginsElement a q.mid e.tag n = record {
       takes = takes_without_implicit_tag q.first;

@@ -2,6 +2,7 @@
 use Rattle.std.specs.Prelude.{◌≡◌, ◌≢◌, ℕ, Bool, true, false, List, [], ◌∷◌, ◌++◌, length, take, drop, ◌==◌, Option, None, Some, option_map, ⊤, if◌then◌else◌}
 use Rattle.picky_der_core.specs.declared.error.Asn1DerError.{Asn1DerError}
 use Rattle.picky_der_core.specs.declared.error.Asn1DerError.TheVariants.{InvalidData, OutOfMemory}
+use Rattle.picky_der_core.specs.Element.{IsElement}
 use Rattle.picky_der_core.specs.Order.{is_less, IsAscending}
 use Rattle.picky_der_input.specs.State.{OpenSets, State}
 use Rattle.picky_der_input.specs.Steps.{Fails, failed_with}
@@ -60,6 +61,21 @@ without_order s = record s { sets = record s.sets { last = None } }
 pub record Follows (member : List ℕ) (old new : State) : Type 0 where
   pub in_order : is_out_of_order old.sets member ≡ false
   pub same : new ≡ record old { sets = with_last old.sets member }
+
+-- what is kept after the next member was seen: its encoding, where that isn't less than the last one
+abbrev pub sets_seen : Bool → OpenSets → List ℕ → OpenSets
+sets_seen true s member = s
+sets_seen false s member = with_last s member
+
+-- The next member is shown whole: its encoding is less than the last one, or it may come next and is the last one from here on.
+-- Nothing was taken.
+pub record SeesMember (old new : State) (less : Bool) : Type 0 where
+  pub member : List ℕ
+  pub element : IsElement member
+  pub left : List ℕ
+  pub known : old.input ≡ Some (member ++ left)
+  pub order : is_out_of_order old.sets member ≡ less
+  pub same : new ≡ record old { sets = sets_seen less old.sets member }
 
 -- it is less than the last one, and the deserializer has failed
 pub record RefusesOrder (member : List ℕ) (old new : State) (e : Asn1DerError) : Type 0 where

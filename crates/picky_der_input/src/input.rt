@@ -93,7 +93,7 @@ impl<R: ReadExt> Input<R> {
         }
     }
 
-    /// The reader, behind a byte that was peeked.
+    /// The reader, after a byte that was peeked.
     pub fn into_reader(self) -> R
         ensures input { self.input ≡ in_front self.peeked (R.remaining result) }
         ensures faults { R.faults result ≡ self.faults }
@@ -141,6 +141,7 @@ impl<R: ReadExt> Input<R> {
         ensures same { self.new ≡ record self.old { failed = Some (failure_of error) } }
         ensures fails { Fails self.old self.new result }
     {
+        self.reader.peeked_is_left();
         self.failed = Some(Failure::of(error));
         error
     }

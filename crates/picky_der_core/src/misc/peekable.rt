@@ -1,10 +1,10 @@
 //! A reader whose next byte can be looked at.
-ghost use Rattle.std.specs.Prelude.{◌≡◌, ◌<◌, ◌∷◌, [], true, false, length, drop, Ok, None, Some, IfNone, IfSome, IfOk};
+ghost use Rattle.std.specs.Prelude.{◌≡◌, ◌<◌, ◌≤◌, ◌∷◌, [], false, length, drop, Ok, None, Some, IfNone, IfSome, IfOk};
 ghost use Rattle.std.specs.Prelude.{OnOk, IfErr, OnErr};
-ghost use Rattle.std.specs.Io.KnownBytes.{Keeps, IsAtEnd, ReadConsumes};
+ghost use Rattle.std.specs.Io.KnownBytes.{Consumes, Keeps, IsAtEnd, ReadConsumes};
 ghost use Rattle.std.specs.Io.{ReadsAtMost, StartsWith};
 ghost use Rattle.picky_der_core.specs.Reader.{GivesByte, GivesNext, TakesFirst, CountsFault, FailsOnce};
-ghost use Rattle.picky_der_core.specs.Peeking.{left_in, IsByteIfAny, count_of_any, position_behind};
+ghost use Rattle.picky_der_core.specs.Peeking.{in_front, left_in, shown_by, IsFirstIn, IsByteIfAny, count_of_any, position_behind};
 
 use super::ReadExt;
 use std::io;
@@ -16,41 +16,46 @@ use std::marker::Model;
 pub struct PeekableReader<R: ReadExt> {
     reader: R,
     peeked: Option<u8>,
+    // Whether the peeked byte was read from the reader. If not, the reader still shows it.
+    drawn: bool,
     pos: usize,
 }
 
 impl<R: ReadExt> Model for PeekableReader<R> {
     ghost use Rattle.std.specs.Prelude.{◌<◌, ◌^◌};
-    ghost use Rattle.picky_der_core.specs.Peeking.{PeekableState, peeking_code, IsByteIfAny};
+    ghost use Rattle.picky_der_core.specs.Peeking.{PeekableState, peeking_code, IsByteIfAny, IsShown};
 
     ghost Value = { PeekableState R };
 
     ghost coded = { peeking_code R.code };
 
-    ghost view = { λ p. record { reader = p.reader; peeked = p.peeked; pos = p.pos } };
+    ghost view = { λ p. record { reader = p.reader; peeked = p.peeked; drawn = p.drawn; pos = p.pos } };
 
-    ghost invariant = { λ p. IsByteIfAny p.peeked × (p.pos < 2 ^ 64) };
+    ghost invariant = { λ p. IsByteIfAny p.peeked × (p.pos < 2 ^ 64)
+        × IsShown p.drawn p.peeked (R.shown p.reader) (R.remaining p.reader) };
 }
 
 impl<R: ReadExt> PeekableReader<R> {
     /// Reads from the reader.
     pub fn new(reader: R) -> PeekableReader<R>
-        ensures { result ≡ record { reader = reader; peeked = None; pos = 0 } }
+        ensures { result ≡ record { reader = reader; peeked = None; drawn = false; pos = 0 } }
     {
         PeekableReader {
             reader,
             peeked: None,
+            drawn: false,
             pos: 0,
         }
     }
 
-    /// The next byte, which the next read hands out, and `None` at the end of the input. Where a byte was peeked already,
-    /// the inner reader isn't asked.
+    /// The next byte, which the next read hands out, and `None` at the end of the input. A byte that the inner reader shows
+    /// stays in it. Where a byte was peeked already, the inner reader isn't asked.
     pub fn peek_next(&mut self) -> io::Result<Option<u8>>
         ensures again { IfSome self.old.peeked
             (λ b. (result ≡ Ok (Some b)) × (self.new ≡ self.old)) }
         ensures ok { IfOk result (λ next. self.new.peeked ≡ next) }
         ensures bounded { IfOk result IsByteIfAny }
+        ensures next { IfOk result (λ next. IfSome next (IsFirstIn (left_in R.remaining self.old))) }
         ensures end { IfOk result (λ next. IfNone next (IsAtEnd (left_in R.remaining self.old))) }
         ensures asked { OnErr result (self.old.peeked ≡ None) }
         ensures kept { OnErr result (self.new.peeked ≡ self.old.peeked) }
@@ -62,7 +67,13 @@ impl<R: ReadExt> PeekableReader<R> {
         ensures same_references { R.references self.new.reader ≡ R.references self.old.reader }
     {
         if self.peeked.is_none() {
-            self.peeked = self.reader.read_next()?;
+            if let [first, ..] = self.reader.ahead() {
+                self.peeked = Some(*first);
+                self.drawn = false;
+            } else {
+                self.peeked = self.reader.read_next()?;
+                self.drawn = true;
+            }
         }
         Ok(self.peeked)
     }
@@ -81,12 +92,18 @@ impl<R: ReadExt> PeekableReader<R> {
             (R.faults self.old.reader) (R.faults self.new.reader) result }
         ensures same_references { R.references self.new.reader ≡ R.references self.old.reader }
     {
-        if let Some(byte) = self.peeked {
-            return Ok(byte);
+        match self.peek_next() {
+            Ok(Some(byte)) => Ok(byte),
+            Ok(None) => Err(Error::from(ErrorKind::UnexpectedEof)),
+            Err(error) => Err(error),
         }
-        let byte = self.reader.read_one()?;
-        self.peeked = Some(byte);
-        Ok(byte)
+    }
+
+    /// A peeked byte is the first of those that are left.
+    pub fn peeked_is_left(&self)
+        ensures { IfSome self.now.peeked (IsFirstIn (left_in R.remaining self.now)) }
+    {
+        let _ = &self.reader;
     }
 
     /// How many bytes were handed out, a peeked one not counted. It stays at `usize::MAX`.
@@ -96,15 +113,21 @@ impl<R: ReadExt> PeekableReader<R> {
         self.pos
     }
 
-    /// The inner reader, behind a byte that was peeked.
+    /// The inner reader, after a byte that was peeked.
     pub fn into_inner(self) -> R
-        ensures { result ≡ self.reader }
+        ensures input { left_in R.remaining self ≡ in_front self.peeked (R.remaining result) }
+        ensures no_fault { R.faults result ≡ R.faults self.reader }
+        ensures same_references { R.references result ≡ R.references self.reader }
     {
         let PeekableReader {
-            reader,
-            peeked: _,
+            mut reader,
+            peeked,
+            drawn,
             pos: _,
         } = self;
+        if peeked.is_some() && !drawn {
+            reader.take_ahead(1);
+        }
         reader
     }
 
@@ -112,12 +135,20 @@ impl<R: ReadExt> PeekableReader<R> {
     fn take_peeked(&mut self) -> Option<u8>
         ensures byte { result ≡ self.old.peeked }
         ensures bounded { IsByteIfAny result }
-        ensures same { self.new.reader ≡ self.old.reader }
+        ensures input { IfSome result (λ b. Consumes (left_in R.remaining self.old)
+            (left_in R.remaining self.new) (b ∷ [])) }
+        ensures none { IfNone result (self.new ≡ self.old) }
         ensures unpeeked { self.new.peeked ≡ None }
         ensures pos { self.new.pos ≡ position_behind self.old.pos (count_of_any result) }
+        ensures no_fault { R.faults self.new.reader ≡ R.faults self.old.reader }
+        ensures same_references { R.references self.new.reader ≡ R.references self.old.reader }
     {
         let byte = self.peeked?;
         self.peeked = None;
+        if !self.drawn {
+            self.reader.take_ahead(1);
+        }
+        self.drawn = false;
         self.pos = self.pos.saturating_add(1);
         Some(byte)
     }
@@ -133,8 +164,7 @@ impl<R: ReadExt> Read for PeekableReader<R> {
             (left_in R.remaining self.new) result buf.new }
         ensures empty { length buf.old ≡ 0 → (result ≡ Ok 0) × (self.new ≡ self.old) }
         ensures peeked { 0 < length buf.old → IfSome self.old.peeked (λ b.
-            (result ≡ Ok 1) × (buf.new ≡ b ∷ drop 1 buf.old)
-            × (self.new.reader ≡ self.old.reader)) }
+            (result ≡ Ok 1) × (buf.new ≡ b ∷ drop 1 buf.old)) }
         ensures unpeeked { 0 < length buf.old → OnOk result (self.new.peeked ≡ None) }
         ensures kept { OnErr result (self.new.peeked ≡ self.old.peeked) }
         ensures pos { IfOk result (λ n. self.new.pos ≡ position_behind self.old.pos n) }
@@ -153,12 +183,14 @@ impl<R: ReadExt> ReadExt for PeekableReader<R> {
 
     ghost references = { λ p. R.references p.reader };
 
+    ghost shown = { λ p. shown_by p.drawn (R.shown p.reader) };
+
     fn read_next(&mut self) -> io::Result<Option<u8>>
         ensures byte { GivesNext (left_in R.remaining self.old)
             (left_in R.remaining self.new) result }
         ensures bounded { IfOk result IsByteIfAny }
         ensures peeked { IfSome self.old.peeked
-            (λ b. (result ≡ Ok (Some b)) × (self.new.reader ≡ self.old.reader)) }
+            (λ b. result ≡ Ok (Some b)) }
         ensures unpeeked { OnOk result (self.new.peeked ≡ None) }
         ensures kept { OnErr result (self.new.peeked ≡ self.old.peeked) }
         ensures pos { IfOk result
@@ -186,8 +218,7 @@ impl<R: ReadExt> ReadExt for PeekableReader<R> {
             (left_in R.remaining self.new) result buf.new }
         ensures empty { length buf.old ≡ 0 → (result ≡ Ok 0) × (self.new ≡ self.old) }
         ensures peeked { 0 < length buf.old → IfSome self.old.peeked (λ b.
-            (result ≡ Ok 1) × (buf.new ≡ b ∷ drop 1 buf.old)
-            × (self.new.reader ≡ self.old.reader)) }
+            (result ≡ Ok 1) × (buf.new ≡ b ∷ drop 1 buf.old)) }
         ensures unpeeked { 0 < length buf.old → OnOk result (self.new.peeked ≡ None) }
         ensures kept { OnErr result (self.new.peeked ≡ self.old.peeked) }
         ensures pos { IfOk result (λ n. self.new.pos ≡ position_behind self.old.pos n) }
@@ -209,34 +240,34 @@ impl<R: ReadExt> ReadExt for PeekableReader<R> {
         }
     }
 
-    /// While a byte is peeked none are shown.
+    /// The bytes that the inner reader shows, and none while the peeked byte was read from it.
     fn ahead(&self) -> &[u8]
         ensures front { IfSome (left_in R.remaining self.now)
             (λ bytes. StartsWith bytes result.now) }
-        ensures peeked { IfSome self.now.peeked (λ b. result.now ≡ []) }
+        ensures size { length result.now ≡ shown_by self.now.drawn (R.shown self.now.reader) }
+        ensures known { IfNone (left_in R.remaining self.now) (result.now ≡ []) }
     {
-        match self.peeked {
-            Some(_) => &[],
-            None => self.reader.ahead(),
+        if self.drawn {
+            return &[];
         }
+        self.reader.ahead()
     }
 
-    /// While a byte is peeked none are taken.
-    fn take_ahead(&mut self, count: usize) -> bool
-        ensures taken { result ≡ true → TakesFirst (left_in R.remaining self.old)
+    fn take_ahead(&mut self, count: usize)
+        requires { count ≤ shown_by self.old.drawn (R.shown self.old.reader) }
+        ensures taken { TakesFirst (left_in R.remaining self.old)
             (left_in R.remaining self.new) count }
-        ensures peeked { result ≡ true → self.old.peeked ≡ None }
-        ensures unpeeked { result ≡ true → self.new.peeked ≡ None }
-        ensures pos { result ≡ true → self.new.pos ≡ position_behind self.old.pos count }
-        ensures fewer { result ≡ false → self.new ≡ self.old }
+        ensures unpeeked { count_of_any self.old.peeked ≤ count → self.new.peeked ≡ None }
+        ensures pos { self.new.pos ≡ position_behind self.old.pos count }
         ensures no_fault { R.faults self.new.reader ≡ R.faults self.old.reader }
         ensures same_references { R.references self.new.reader ≡ R.references self.old.reader }
     {
-        if self.peeked.is_some() || !self.reader.take_ahead(count) {
-            return false;
+        if self.drawn {
+            return;
         }
+        self.reader.take_ahead(count);
+        self.peeked = None;
         self.pos = self.pos.saturating_add(count);
-        true
     }
 
     fn read_one(&mut self) -> io::Result<u8>
@@ -244,7 +275,7 @@ impl<R: ReadExt> ReadExt for PeekableReader<R> {
             (left_in R.remaining self.new) result }
         ensures bounded { IfOk result (λ b. b < 256) }
         ensures peeked { IfSome self.old.peeked
-            (λ b. (result ≡ Ok b) × (self.new.reader ≡ self.old.reader)) }
+            (λ b. result ≡ Ok b) }
         ensures unpeeked { OnOk result (self.new.peeked ≡ None) }
         ensures kept { OnErr result (self.new.peeked ≡ self.old.peeked) }
         ensures pos { OnOk result (self.new.pos ≡ position_behind self.old.pos 1) }

@@ -1,5 +1,5 @@
 //! Readers of one byte or of a piece at a time.
-ghost use Rattle.std.specs.Prelude.{◌≡◌, ℕ, List, [], ◌∷◌, true, false, IfSome, OnOk, IfErr};
+ghost use Rattle.std.specs.Prelude.{◌≡◌, ◌≤◌, ℕ, List, [], ◌∷◌, length, IfNone, IfSome, OnOk, IfErr};
 ghost use Rattle.std.specs.Io.KnownBytes.{ReadConsumes};
 ghost use Rattle.std.specs.Io.{ReadsAtMost, StartsWith};
 ghost use Rattle.picky_der_core.specs.Faults.{Fault};
@@ -15,6 +15,9 @@ pub trait ReadExt: Read {
 
     // The references that it reads through, outermost first.
     ghost references: { Self → List ℕ };
+
+    // How many bytes it shows.
+    ghost shown: { Self → ℕ };
 
     /// The next byte, and `None` at the end of the input. Each error is the device's, and takes no byte.
     fn read_next(&mut self) -> io::Result<Option<u8>>
@@ -36,24 +39,18 @@ pub trait ReadExt: Read {
         ensures same_references { references self.new ≡ references self.old };
 
     /// Bytes that are next and are here already, so that no device has to be asked for them. A reader that has none to
-    /// show shows none, also before its end.
+    /// show shows none, also before its end. Only a reader whose bytes contracts know shows any.
     fn ahead(&self) -> &[u8]
         ensures front { IfSome (Self.remaining self.now) (λ bytes. StartsWith bytes result.now) }
-    {
-        &[]
-    }
+        ensures size { length result.now ≡ shown self.now }
+        ensures known { IfNone (Self.remaining self.now) (result.now ≡ []) };
 
-    /// Takes `count` of the bytes that are here already, and answers whether as many are. If not, nothing was taken.
-    fn take_ahead(&mut self, count: usize) -> bool
-        ensures taken { result ≡ true → TakesFirst (Self.remaining self.old)
-            (Self.remaining self.new) count }
-        ensures fewer { result ≡ false → self.new ≡ self.old }
+    /// Consumes the first `count` of the bytes that are shown.
+    fn take_ahead(&mut self, count: usize)
+        requires { count ≤ shown self.old }
+        ensures taken { TakesFirst (Self.remaining self.old) (Self.remaining self.new) count }
         ensures no_fault { faults self.new ≡ faults self.old }
-        ensures same_references { references self.new ≡ references self.old }
-    {
-        let _ = count;
-        false
-    }
+        ensures same_references { references self.new ≡ references self.old };
 
     /// The next byte. At the end of the input it is an error of kind `UnexpectedEof`; any other error is the device's.
     fn read_one(&mut self) -> io::Result<u8>
@@ -75,6 +72,8 @@ impl ReadExt for &[u8] {
 
     ghost references = { λ _. [] };
 
+    ghost shown = { λ bytes. length bytes.now };
+
     fn read_next(&mut self) -> io::Result<Option<u8>> {
         let bytes = *self;
         match bytes {
@@ -94,13 +93,9 @@ impl ReadExt for &[u8] {
         *self
     }
 
-    fn take_ahead(&mut self, count: usize) -> bool {
+    fn take_ahead(&mut self, count: usize) {
         let bytes = *self;
-        if count > bytes.len() {
-            return false;
-        }
         *self = &bytes[count..];
-        true
     }
 }
 
@@ -108,6 +103,8 @@ impl<R: ReadExt> ReadExt for &mut R {
     ghost faults = { λ r. R.faults r.now };
 
     ghost references = { λ r. r.ghost_name ∷ R.references r.now };
+
+    ghost shown = { λ r. R.shown r.now };
 
     fn read_next(&mut self) -> io::Result<Option<u8>> {
         ReadExt::read_next(&mut **self)
@@ -121,7 +118,7 @@ impl<R: ReadExt> ReadExt for &mut R {
         ReadExt::ahead(&**self)
     }
 
-    fn take_ahead(&mut self, count: usize) -> bool {
+    fn take_ahead(&mut self, count: usize) {
         ReadExt::take_ahead(&mut **self, count)
     }
 }

@@ -85,6 +85,8 @@ impl<T: Read> ReadExt for Watched<T> {
 
     ghost references = { λ _. [] };
 
+    ghost shown = { λ _. 0 };
+
     fn read_next(&mut self) -> io::Result<Option<u8>> {
         let mut byte = [0];
         match self.read(&mut byte) {
@@ -96,6 +98,14 @@ impl<T: Read> ReadExt for Watched<T> {
 
     fn read_some(&mut self, buf: &mut [u8]) -> io::Result<usize> {
         Read::read(self, buf)
+    }
+
+    fn ahead(&self) -> &[u8] {
+        &[]
+    }
+
+    fn take_ahead(&mut self, count: usize) {
+        let _ = count;
     }
 }
 

@@ -1,9 +1,11 @@
 //! The order of the members of a set (X.690, 11.6).
-ghost use Rattle.std.specs.Prelude.{◌≡◌, ◌≢◌, ◌↔◌, IsTrue, None, OnOk, IfErr};
+ghost use Rattle.std.specs.Prelude.{◌≡◌, ◌≢◌, ◌↔◌, IsTrue, None, IfOk, OnOk, IfErr};
+ghost use Rattle.picky_der_de.specs.Members.{ReadsMember, RefusesMember, ReadsSeen, RefusesSeen};
 ghost use Rattle.picky_der_core.specs.Encoding.{der};
 ghost use Rattle.picky_der_input.specs.Order.{Follows, RefusesTest};
 
 use super::Deserializer;
+use crate::Deserialize;
 use picky_der_core::misc::ReadExt;
 use picky_der_core::{Asn1DerError, Result};
 use picky_der_ser::{Serialize, to_vec};
@@ -16,11 +18,65 @@ impl<R: ReadExt> Deserializer<R> {
         self.input.is_in_set()
     }
 
-    // Tests that a member of a set that was read isn't less than the one before it. No byte is drawn for it: the encoding is
-    // written again. A value that was read can be written, so only memory can be missing then. Most members are those of
-    // sequences, so this stays out of line.
+    // The next member of a set. Where the reader shows it whole, its encoding is compared before it is read. Most members are
+    // those of sequences, so this stays out of line.
     #[inline(never)]
-    pub(crate) fn test_order<T: Serialize>(&mut self, value: &T) -> Result<()>
+    pub(crate) fn next_in_set<T: Deserialize>(&mut self) -> Result<T>
+        requires had_not_failed { self.old.failed ≡ None }
+        requires whole { self.old.implicit_tag ≡ None }
+        requires in_set { self.old.sets.last ≢ None }
+        ensures ok { IfOk result (λ value. ReadsMember T.shape self.old self.new
+            (T.meaning value)) }
+        ensures err { IfErr result (RefusesMember T.meaning T.shape self.old self.new) }
+    {
+        match self.input.see_member() {
+            Ok(Some(less)) => self.read_seen(less),
+            Ok(None) => self.read_unseen(),
+            Err(error) => Err(error),
+        }
+    }
+
+    // Reads a member whose encoding was compared, and refuses one that is less than the one before it.
+    fn read_seen<T: Deserialize>(&mut self, less: bool) -> Result<T>
+        requires had_not_failed { self.old.failed ≡ None }
+        requires whole { self.old.implicit_tag ≡ None }
+        ensures ok { IfOk result (λ value. ReadsSeen less T.shape self.old self.new
+            (T.meaning value)) }
+        ensures err { IfErr result (RefusesSeen less T.meaning T.shape self.old self.new) }
+    {
+        match T::deserialize(self) {
+            Ok(value) => {
+                if less {
+                    return Err(self.fail(Asn1DerError::InvalidData));
+                }
+                Ok(value)
+            }
+            Err(error) => Err(error),
+        }
+    }
+
+    // Reads a member that the reader doesn't show whole, and compares its encoding after that.
+    fn read_unseen<T: Deserialize>(&mut self) -> Result<T>
+        requires had_not_failed { self.old.failed ≡ None }
+        requires whole { self.old.implicit_tag ≡ None }
+        requires in_set { self.old.sets.last ≢ None }
+        ensures ok { IfOk result (λ value. ReadsMember T.shape self.old self.new
+            (T.meaning value)) }
+        ensures err { IfErr result (RefusesMember T.meaning T.shape self.old self.new) }
+    {
+        let value = match T::deserialize(self) {
+            Ok(value) => value,
+            Err(error) => return Err(error),
+        };
+        match self.test_order(&value) {
+            Ok(()) => Ok(value),
+            Err(error) => Err(error),
+        }
+    }
+
+    // Tests that a member of a set that was read isn't less than the one before it. No byte is drawn for it: the encoding is
+    // written again. A value that was read can be written, so only memory can be missing then.
+    fn test_order<T: Serialize>(&mut self, value: &T) -> Result<()>
         requires had_not_failed { self.old.failed ≡ None }
         requires in_set { self.old.sets.last ≢ None }
         ensures ok { OnOk result (Follows (der (T.meaning value.now)) self.old self.new) }

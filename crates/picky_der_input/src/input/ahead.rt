@@ -3,6 +3,7 @@
 ghost use Rattle.std.specs.Prelude.{◌≡◌, ◌+◌, ◌≤◌, ◌<◌, ◌∷◌, length, true, false, None, IfNone, IfSome, IfOk};
 ghost use Rattle.std.specs.Prelude.{IfErr, OnOk};
 ghost use Rattle.picky_der_core.specs.Element.{length_octets, IsPrefix};
+ghost use Rattle.picky_der_core.specs.Peeking.{count_of_any};
 ghost use Rattle.picky_der_core.specs.Shape.{AreBytes};
 ghost use Rattle.picky_der_input.specs.Steps.{Takes, TakesBytes, Fails};
 ghost use Rattle.picky_der_input.specs.Elements.{ReadsRaw, RefusesRaw};
@@ -39,7 +40,7 @@ fn length_in_front(bytes: &[u8]) -> Option<(usize, usize)>
 
 // How many bytes the element takes that stands in front of these bytes. `None` where none stands there whole, and for those
 // whose length isn't said by at most three bytes.
-fn element_in_front(bytes: &[u8]) -> Option<usize>
+pub(super) fn element_in_front(bytes: &[u8]) -> Option<usize>
     ensures is { IfSome result (λ count. IsElementInFront bytes.now count) }
 {
     if bytes.is_empty() || Tag::from(bytes[0]).number() > Tag::MAX_NUMBER {
@@ -66,14 +67,15 @@ impl<R: ReadExt> Input<R> {
     pub(crate) fn take_ahead(&mut self, count: usize) -> bool
         requires had_not_failed { self.old.failed ≡ None }
         requires fits { count ≤ self.old.until_end }
+        requires draws { count_of_any self.old.peeked ≤ count }
         ensures taken { result ≡ true → TakesShown self.old self.new count }
         ensures implicit_tag { self.new.implicit_tag ≡ self.old.implicit_tag }
-        ensures unpeeked { result ≡ true → self.old.peeked ≡ None }
         ensures fewer { result ≡ false → self.new ≡ self.old }
     {
-        if !self.reader.take_ahead(count) {
+        if count > self.reader.ahead().len() {
             return false;
         }
+        self.reader.take_ahead(count);
         self.until_end -= count;
         true
     }
@@ -153,6 +155,7 @@ impl<R: ReadExt> Input<R> {
     // Takes `count` bytes that are ahead into a vector, and `None` where there are fewer before the innermost end.
     pub(crate) fn copy_ahead(&mut self, count: usize) -> Result<Option<Vec<u8>>>
         requires had_not_failed { self.old.failed ≡ None }
+        requires unpeeked { self.old.peeked ≡ None }
         ensures taken { IfOk result (λ some. IfSome some
             (λ bytes. TakesBytes self.old self.new count bytes.items)) }
         ensures none { IfOk result (λ some. IfNone some (self.new ≡ self.old)) }

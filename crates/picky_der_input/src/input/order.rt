@@ -1,12 +1,34 @@
 //! The order of the members of a set (X.690, 11.6).
-ghost use Rattle.std.specs.Prelude.{◌≡◌, ◌≢◌, None, ◌↔◌, IsTrue, OnOk, OnErr, IfErr};
-ghost use Rattle.picky_der_input.specs.Order.{order_of, cut_at, with_last, is_out_of_order, Follows, RefusesTest};
+ghost use Rattle.std.specs.Prelude.{◌≡◌, ◌≢◌, ◌≤◌, ◌++◌, length, take, None, ◌↔◌, IsTrue, IfNone, IfSome, IfOk, OnOk, OnErr, IfErr};
+ghost use Rattle.picky_der_core.specs.Order.{is_less};
+ghost use Rattle.picky_der_input.specs.Steps.{Fails};
+ghost use Rattle.picky_der_input.specs.Order.{order_of, cut_at, with_last, is_out_of_order, SeesMember, Follows, RefusesTest};
 
 use super::Input;
+use super::ahead::element_in_front;
 use picky_der_core::asn1::Tag;
 use picky_der_core::misc::ReadExt;
 use picky_der_core::{Asn1DerError, Result};
 use std::alloc::AllocError;
+
+// Whether a member is less than the last one.
+fn is_before(member: &[u8], last: &[u8]) -> bool
+    ensures { result ≡ is_less member.now last.now }
+{
+    member.cmp(last).is_lt()
+}
+
+// Puts a member in place of what is kept from `start` on. Without room for both nothing changes.
+fn keep(kept: &mut Vec<u8>, start: usize, member: &[u8]) -> std::result::Result<(), AllocError>
+    requires { start ≤ length kept.old.items }
+    ensures ok { OnOk result (kept.new.items ≡ take start kept.old.items ++ member.now) }
+    ensures err { OnErr result (kept.new.items ≡ kept.old.items) }
+{
+    kept.reserve(member.len())?;
+    kept.truncate(start);
+    kept.extend_from_slice(member)?;
+    Ok(())
+}
 
 impl<R: ReadExt> Input<R> {
     /// Whether the order of members is tested: the innermost end is that of a set.
@@ -46,7 +68,7 @@ impl<R: ReadExt> Input<R> {
         ensures { result ≡ is_out_of_order self.now.sets member.now }
     {
         match self.last_start {
-            Some(start) => member.cmp(&self.kept[start..]).is_lt(),
+            Some(start) => is_before(member, &self.kept[start..]),
             None => false,
         }
     }
@@ -58,12 +80,39 @@ impl<R: ReadExt> Input<R> {
             (self.new ≡ record self.old { sets = with_last self.old.sets member.now }) }
         ensures err { OnErr result ((self.new ≡ self.old) × (self.old.sets.last ≢ None)) }
     {
-        if let Some(start) = self.last_start {
-            self.kept.reserve(member.len())?;
-            self.kept.truncate(start);
-            self.kept.extend_from_slice(member)?;
+        match self.last_start {
+            Some(start) => keep(&mut self.kept, start, member),
+            None => Ok(()),
         }
-        Ok(())
+    }
+
+    /// Looks at the next member of a set before it is read, and returns whether its encoding is less than the last one. If it
+    /// isn't, it is kept as the last one. Where the reader doesn't show it whole, `None` is returned and nothing is done. No byte is
+    /// consumed.
+    ///
+    /// `OutOfMemory` where the allocation failed.
+    pub fn see_member(&mut self) -> Result<Option<bool>>
+        requires { self.old.failed ≡ None }
+        ensures seen { IfOk result (λ seen. IfSome seen (SeesMember self.old self.new)) }
+        ensures none { IfOk result (λ seen. IfNone seen (self.new ≡ self.old)) }
+        ensures err { IfErr result (λ e. (e ≡ Asn1DerError.OutOfMemory)
+            × Fails self.old self.new e) }
+    {
+        let Some(start) = self.last_start else {
+            return Ok(None);
+        };
+        let ahead = self.reader.ahead();
+        let Some(count) = element_in_front(ahead) else {
+            return Ok(None);
+        };
+        let member = &ahead[..count];
+        if is_before(member, &self.kept[start..]) {
+            return Ok(Some(true));
+        }
+        match keep(&mut self.kept, start, member) {
+            Ok(()) => Ok(Some(false)),
+            Err(_) => Err(self.fail(Asn1DerError::OutOfMemory)),
+        }
     }
 
     /// Keeps the encoding of a member that was read, where the order is tested.

@@ -1,5 +1,5 @@
 use Rattle.std.proofs.lemmas.Result.{err_from_is_err_and}
-use Rattle.picky_der_de.proofs.Members.{member_again, member_unread, member_untested}
+use Rattle.picky_der_de.proofs.Members.{member_again, member_unread}
 use Rattle.picky_der_de.proofs.sequence.Sequence.next_element.Goals as goal
 
 pub returns-in_err-is_at_end-clause-err : goal.returns-in_err-is_at_end-clause-err
@@ -11,8 +11,3 @@ pub returns-in_err-value-clause-err : goal.returns-in_err-value-clause-err
 returns-in_err-value-clause-err g c =
     let p = err_from_is_err_and c.from_residual-in_err-value.result c.from_residual-in_err-value.ensures.1 in
     rw (p.1, p.2) (member_unread c.in_err-value.ensures.err c.args.self.now.whole)
-
-pub returns-in_err-test_order-clause-err : goal.returns-in_err-test_order-clause-err
-returns-in_err-test_order-clause-err g c =
-    let p = err_from_is_err_and c.from_residual-in_err-test_order.result c.from_residual-in_err-test_order.ensures.1 in
-    rw (p.1, p.2) (member_untested c.in_ok-value.ensures.ok c.in_err-test_order.ensures.err c.args.self.now.whole)
