@@ -2,7 +2,10 @@
 #![tactic(auto)]
 
 mod age_groups;
+mod attribute;
+mod certification_request_info;
 mod change;
+mod encapsulated_content_info;
 mod encrypted_data;
 mod first_steps;
 mod general_name;
@@ -21,6 +24,8 @@ mod private_key_info;
 mod report;
 mod rsa_public_key;
 mod setting;
+mod signed_data;
+mod signer_info;
 mod stay;
 mod streams;
 mod tagged;
@@ -28,7 +33,10 @@ mod ticket;
 mod track;
 
 pub use age_groups::AgeGroups;
+pub use attribute::Attribute;
+pub use certification_request_info::CertificationRequestInfo;
 pub use change::Change;
+pub use encapsulated_content_info::EncapsulatedContentInfo;
 pub use encrypted_data::EncryptedData;
 pub use first_steps::{number, octets, small_number, text};
 pub use general_name::{GeneralName, Name};
@@ -47,6 +55,8 @@ pub use private_key_info::PrivateKeyInfo;
 pub use report::Report;
 pub use rsa_public_key::RsaPublicKey;
 pub use setting::Setting;
+pub use signed_data::SignedData;
+pub use signer_info::SignerInfo;
 pub use stay::Stay;
 pub use streams::{next_text, number_and_text};
 pub use tagged::Tagged;

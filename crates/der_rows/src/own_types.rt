@@ -4,6 +4,7 @@ use crate::answers::{RowBytes, read_as};
 use crate::kept::Kept;
 use crate::lamp::Lamp;
 use crate::nested_tags::{FourTags, SixteenTags};
+use crate::retagged;
 use crate::seen::Seen;
 use der_examples::{
     AgeGroups, EncryptedData, GeneralName, Gust, Host, Interval, Marker, Moment, Named, Noted,
@@ -18,7 +19,7 @@ use picky_asn1_der::asn1::{
 };
 use std::alloc::{AllocError, Global};
 
-/// The answer to a row that names one of these types.
+/// The answer to a row that names one of these types, or else to one that names a type of the next family.
 pub(crate) fn answer(alloc: Global, name: &str, row: &RowBytes) -> Result<String, AllocError> {
     match name {
         "TestStruct" => read_as::<TestStruct>(alloc, row),
@@ -80,6 +81,6 @@ fn answer_for_examples(alloc: Global, name: &str, row: &RowBytes) -> Result<Stri
         "ImplicitContextTag1<Seen>" => read_as::<ImplicitContextTag1<Seen>>(alloc, row),
         "FourTags" => read_as::<FourTags>(alloc, row),
         "SixteenTags" => read_as::<SixteenTags>(alloc, row),
-        _ => String::from_str(alloc, "unknown type"),
+        _ => retagged::answer(alloc, name, row),
     }
 }

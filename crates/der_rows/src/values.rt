@@ -2,6 +2,7 @@
 
 use crate::answers::{Writing, written};
 use crate::hand_written::{Discarding, Littering, Untouched};
+use crate::retagged;
 use der_examples::NumberOrFlag;
 use der_tool_lib::{AlgorithmIdentifier, SubjectPublicKeyInfo, TestStruct};
 use picky_asn1_der::Asn1RawDer;
@@ -235,6 +236,6 @@ fn application(alloc: Global, how: Writing, name: &str) -> Result<String, AllocE
             how,
             &(7u8, ApplicationTag::<u8, 31>(7)),
         ),
-        _ => String::from_str(alloc, "unknown value"),
+        _ => retagged::written_value(alloc, how, name),
     }
 }

@@ -9,7 +9,7 @@ use picky_asn1_der::asn1::{ObjectIdentifierAsn1, Tag};
 use picky_asn1_der::de::{Begins, DeserializeLayout, Struct, deserialize_struct_as};
 use picky_asn1_der::misc::{ReadExt, WriteExt};
 use picky_asn1_der::ser::{Optional, OptionalRef, SerializeMembers};
-use picky_asn1_der::{Asn1RawDer, Deserialize, Deserializer, Result, Serialize, Serializer};
+use picky_asn1_der::{Asn1RawDer, Deserialize, Deserializer, List, Result, Serialize, Serializer};
 
 /// An algorithm and its parameters, as a SEQUENCE (RFC 5280, 4.1.1.2).
 ///
@@ -66,4 +66,8 @@ impl Begins for AlgorithmIdentifier {
     fn begins_with(tag: Tag) -> bool {
         tag == Tag::SEQUENCE
     }
+}
+
+impl List for AlgorithmIdentifier {
+    ghost is_list = { λ it. tt };
 }

@@ -9,7 +9,7 @@ use picky_asn1_der::asn1::BitStringAsn1;
 use picky_asn1_der::de::DeserializeMembers;
 use picky_asn1_der::misc::{ReadExt, WriteExt};
 use picky_asn1_der::{
-    Asn1RawDer, Deserialize, Deserializer, Record, Result, Row, Serialize, Serializer, de,
+    Asn1RawDer, Deserialize, Deserializer, List, Record, Result, Row, Serialize, Serializer, de,
     from_bytes,
 };
 use std::alloc::Global;
@@ -80,4 +80,8 @@ impl Deserialize for Certificate {
     fn deserialize<R: ReadExt>(deserializer: &mut Deserializer<R>) -> Result<Certificate> {
         de::deserialize_record_as(deserializer)
     }
+}
+
+impl List for Certificate {
+    ghost is_list = { λ it. tt };
 }

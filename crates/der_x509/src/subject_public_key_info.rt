@@ -6,7 +6,9 @@ use crate::AlgorithmIdentifier;
 use picky_asn1_der::asn1::{BitStringAsn1, Tag};
 use picky_asn1_der::de::{Begins, DeserializeMembers};
 use picky_asn1_der::misc::{ReadExt, WriteExt};
-use picky_asn1_der::{Deserialize, Deserializer, Record, Result, Row, Serialize, Serializer, de};
+use picky_asn1_der::{
+    Deserialize, Deserializer, List, Record, Result, Row, Serialize, Serializer, de,
+};
 
 /// A public key and the algorithm that it is for, as a SEQUENCE (RFC 5280, 4.1.2.7).
 #[derive(Debug, Drop, PartialEq, Eq)]
@@ -57,4 +59,8 @@ impl Begins for SubjectPublicKeyInfo {
     fn begins_with(tag: Tag) -> bool {
         tag == Tag::SEQUENCE
     }
+}
+
+impl List for SubjectPublicKeyInfo {
+    ghost is_list = { λ it. tt };
 }

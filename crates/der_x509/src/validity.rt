@@ -6,7 +6,9 @@ use crate::Time;
 use picky_asn1_der::asn1::Tag;
 use picky_asn1_der::de::{Begins, DeserializeMembers};
 use picky_asn1_der::misc::{ReadExt, WriteExt};
-use picky_asn1_der::{Deserialize, Deserializer, Record, Result, Row, Serialize, Serializer, de};
+use picky_asn1_der::{
+    Deserialize, Deserializer, List, Record, Result, Row, Serialize, Serializer, de,
+};
 
 /// From when to when a certificate is good, as a SEQUENCE (RFC 5280, 4.1.2.5).
 #[derive(Debug, Drop, PartialEq, Eq)]
@@ -57,4 +59,8 @@ impl Begins for Validity {
     fn begins_with(tag: Tag) -> bool {
         tag == Tag::SEQUENCE
     }
+}
+
+impl List for Validity {
+    ghost is_list = { λ it. tt };
 }

@@ -4,7 +4,8 @@ use Rattle.std.specs.Prelude.{IsTrue}
 use Rattle.picky_der_core.specs.declared.error.Asn1DerError.{Asn1DerError}
 use Rattle.picky_der_core.specs.Faults.{Fault}
 use Rattle.picky_der_core.specs.Peeking.{in_front}
-use Rattle.picky_der_core.specs.Tag.{number_of, is_tag_number}
+use Rattle.picky_der_core.specs.Tag.{number_of, is_tag_number, is_constructed_tag}
+use Rattle.picky_der_core.specs.TagLaws.{is_constructed_tag-true}
 use Rattle.picky_der_core.specs.Tree.{Tree, Trees}
 use Rattle.picky_der_core.specs.Encoding.{der}
 use Rattle.picky_der_core.specs.EncodingLaws.{der-raw, same_encoding}
@@ -43,6 +44,7 @@ mutual
   numbers (Tree.explicit n t) r = let e : is_tag_number n ≡ true = le-leb n 30 r.0 in rw e (numbers t r.1)
   numbers (Tree.implicit n t) r = let e : is_tag_number n ≡ true = le-leb n 30 r.0 in rw e (numbers t r.2)
   numbers (Tree.application n t) r = let e : is_tag_number n ≡ true = le-leb n 30 r.0 in rw e (numbers t r.1)
+  numbers (Tree.retagged tag t) r = let e : is_constructed_tag tag ≡ true = is_constructed_tag-true tag r.0 in rw e (numbers t r.2)
   numbers (Tree.raw s) r = refl
   numbers (Tree.choice t) r = numbers t r
   numbers Tree.absent r = absurd r

@@ -1,1 +1,2 @@
 pub mod RawTags
+mod ListContents

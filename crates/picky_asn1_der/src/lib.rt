@@ -17,13 +17,14 @@ pub mod de {
 /// Writing.
 pub mod ser {
     pub use picky_der_ser::{
-        Boolean, DefaultOf, Defaulted, DefaultedRef, False, Header, Null, Number, Optional,
+        Boolean, DefaultOf, Defaulted, DefaultedRef, False, Header, List, Null, Number, Optional,
         OptionalRef, Row, Sequence, Serialize, SerializeMember, SerializeMembers, Serializer, True,
         UInt, UnsignedInteger, Utf8String, to_byte_buf, to_bytes, to_vec, to_writer,
     };
 }
 
 pub mod raw_der;
+pub mod retagged;
 pub mod round_trip;
 
 pub use picky_der_core::misc::Length;
@@ -33,5 +34,7 @@ pub use picky_der_de::{
     deserialize_as, from_bytes, from_reader, from_reader_with_max_len, next_from_bytes,
     next_from_reader,
 };
-pub use picky_der_ser::{Row, Serialize, Serializer, to_byte_buf, to_bytes, to_vec, to_writer};
+pub use picky_der_ser::{
+    List, Row, Serialize, Serializer, to_byte_buf, to_bytes, to_vec, to_writer,
+};
 pub use raw_der::Asn1RawDer;

@@ -141,6 +141,18 @@ implicit_sequence : der (Tree.implicit 1 (Tree.list ListKind.sequence (trees (Tr
 unfolding der_on_literals
 implicit_sequence = refl
 
+retagged_sequence : der (Tree.retagged 0xA1 (Tree.list ListKind.sequence (trees (Tree.unsigned 7 ∷ [])))) ≡ 0xA1 ∷ 0x03 ∷ 0x02 ∷ 0x01 ∷ 0x07 ∷ []
+unfolding der_on_literals
+retagged_sequence = refl
+
+retagged_set : der (Tree.retagged 0xA0 (set_of (Tree.unsigned 5 ∷ Tree.unsigned 3 ∷ []))) ≡ 0xA0 ∷ 0x06 ∷ 0x02 ∷ 0x01 ∷ 0x03 ∷ 0x02 ∷ 0x01 ∷ 0x05 ∷ []
+unfolding der_on_literals
+retagged_set = refl
+
+retagged_as_application : der (Tree.retagged 0x60 (Tree.list ListKind.sequence (trees []))) ≡ 0x60 ∷ 0x00 ∷ []
+unfolding der_on_literals
+retagged_as_application = refl
+
 implicit_octet_container : der (Tree.implicit 1 (Tree.octet_container (Tree.unsigned 7))) ≡ 0x81 ∷ 0x05 ∷ 0x04 ∷ 0x03 ∷ 0x02 ∷ 0x01 ∷ 0x07 ∷ []
 unfolding der_on_literals
 implicit_octet_container = refl

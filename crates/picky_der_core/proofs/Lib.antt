@@ -6,3 +6,4 @@ pub mod RefusalExamples
 pub mod ShapeExamples
 pub mod LengthSteps
 pub mod PeekedBytes
+pub mod RetaggedLists

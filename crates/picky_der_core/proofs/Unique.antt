@@ -5,7 +5,7 @@ use Rattle.std.specs.List.{concat}
 use Rattle.picky_der_core.specs.Tree.{ListKind, Tree, Trees}
 use Rattle.picky_der_core.specs.Encoding.{plain_encoding, wrapper_encoding, tree_bytes, encodings, der, boolean_content, list_content}
 use Rattle.picky_der_core.specs.Readable.{IsReadable, AreReadable, IsNoChoice}
-use Rattle.picky_der_core.specs.Shape.{Shape, Shapes, Layout, IsOf, AreOf, IsOneOf, AreMembersOf, firsts, firsts_of, next_firsts, are_apart, IsBoolean, IsUnsigned, IsNull, IsText, IsCharacter, IsBytes, IsRaw, IsList, IsOptional, IsOctetContainer, IsBitContainer, IsExplicit, IsImplicit, IsApplication, IsChoice, EachIs, FirstAndRest, FirstOrNone, IsEmpty, IsSound, AreSound, AreTold, AreMembersSound, AreMembersTold}
+use Rattle.picky_der_core.specs.Shape.{Shape, Shapes, Layout, IsOf, AreOf, IsOneOf, AreMembersOf, firsts, firsts_of, next_firsts, are_apart, IsBoolean, IsUnsigned, IsNull, IsText, IsCharacter, IsBytes, IsRaw, IsList, IsOptional, IsOctetContainer, IsBitContainer, IsExplicit, IsImplicit, IsApplication, IsRetagged, IsChoice, EachIs, FirstAndRest, FirstOrNone, IsEmpty, IsSound, AreSound, AreTold, AreMembersSound, AreMembersTold}
 use Rattle.picky_der_core.specs.ElementLaws.{tlv-same}
 use Rattle.picky_der_core.specs.EncodingLaws.{is_absent-readable, list_content-in_order, same_encoding, length-der, unsigned_content-same}
 use Rattle.picky_der_core.specs.FirstLaws.{begins_in, begins_in_one, begins_next, apart_differ, is_of-optional}
@@ -137,6 +137,15 @@ application_known k P known header (Tree.application x t) (Tree.application y u)
 application_known k P known header (Tree.application x t) _ p q r s m n e = absurd q
 application_known k P known header _ _ p q r s m n e = absurd p
 
+retagged_known : (tag : ℕ) (P : Tree → Type 0) → IsKnown false P → (header : Bool) → IsKnown header (IsRetagged tag P)
+unfolding tree_bytes
+retagged_known tag P known header (Tree.retagged x t) (Tree.retagged y u) p q r s m n e =
+    let f : x ≡ y = p.0 ∙ sym q.0 in
+    let g : t ≡ u = known t u p.1 q.1 r.2 s.2 r.1 s.1 (wrapper_encoding-same _ _ _ _ _ _ (is_absent-readable t r.2) (is_absent-readable u s.2) e) in
+    cc
+retagged_known tag P known header (Tree.retagged x t) _ p q r s m n e = absurd q
+retagged_known tag P known header _ _ p q r s m n e = absurd p
+
 raw_known : (header : Bool) → IsKnown header IsRaw
 unfolding tree_bytes
 raw_known header (Tree.raw b) (Tree.raw c) p q r s m n e = ap Tree.raw e
@@ -237,6 +246,7 @@ mutual
   known (Shape.explicit n s) = λ sound header. explicit_known n _ (known s sound true) header
   known (Shape.implicit n s) = λ sound header. implicit_known n _ (known s sound false) header
   known (Shape.application n s) = λ sound header. application_known n _ (known s sound true) header
+  known (Shape.retagged tag s) = λ sound header. retagged_known tag _ (known s sound false) header
   known Shape.raw = λ sound header. raw_known header
   known (Shape.choice ss) = λ sound header. choice_known _ (alternatives_known ss sound.0 sound.1) header
 

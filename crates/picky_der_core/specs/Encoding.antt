@@ -59,6 +59,7 @@ unfoldable mutual
   tree_bytes header (Tree.explicit n t) = wrapper_encoding (is_absent t) (0xA0 + n) (tree_bytes true t)
   tree_bytes header (Tree.implicit n t) = wrapper_encoding (is_absent t) (0x80 + n) (tree_bytes false t)
   tree_bytes header (Tree.application n t) = tlv (0x60 + n) (tree_bytes true t)
+  tree_bytes header (Tree.retagged tag t) = wrapper_encoding (is_absent t) tag (tree_bytes false t)
   tree_bytes header (Tree.raw s) = s
   tree_bytes header (Tree.choice t) = tree_bytes header t
   tree_bytes header Tree.absent = []

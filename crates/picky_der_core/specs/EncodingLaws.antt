@@ -42,6 +42,7 @@ der-absent (Tree.octet_container t) h = wrapper_encoding-absent _ _ _ h
 der-absent (Tree.bit_container t) h = wrapper_encoding-absent _ _ _ h
 der-absent (Tree.explicit n t) h = wrapper_encoding-absent _ _ _ h
 der-absent (Tree.implicit n t) h = wrapper_encoding-absent _ _ _ h
+der-absent (Tree.retagged tag t) h = wrapper_encoding-absent _ _ _ h
 der-absent (Tree.choice t) h = der-absent t h
 der-absent _ h = cc
 
@@ -61,6 +62,10 @@ der-explicit n t h = wrapper_encoding-present _ _ _ h
 pub der-implicit : (n : ℕ) (t : Tree) → is_absent t ≡ false → der (Tree.implicit n t) ≡ tlv (0x80 + n) (implicit_content t)
 unfolding der implicit_content tree_bytes
 der-implicit n t h = wrapper_encoding-present _ _ _ h
+
+pub der-retagged : (tag : ℕ) (t : Tree) → is_absent t ≡ false → der (Tree.retagged tag t) ≡ tlv tag (implicit_content t)
+unfolding der implicit_content tree_bytes
+der-retagged tag t h = wrapper_encoding-present _ _ _ h
 
 pub der-application : (n : ℕ) (t : Tree) → der (Tree.application n t) ≡ tlv (0x60 + n) (der t)
 unfolding der tree_bytes
@@ -168,6 +173,7 @@ is_absent-readable (Tree.bit_container t) r = is_absent-readable t r
 is_absent-readable (Tree.explicit n t) r = is_absent-readable t r.1
 is_absent-readable (Tree.implicit n t) r = is_absent-readable t r.2
 is_absent-readable (Tree.application n t) r = refl
+is_absent-readable (Tree.retagged tag t) r = is_absent-readable t r.2
 is_absent-readable (Tree.raw s) r = refl
 is_absent-readable (Tree.choice t) r = is_absent-readable t r
 is_absent-readable Tree.absent r = absurd r
@@ -197,6 +203,7 @@ der-element (Tree.bit_container t) r = wrapper_encoding_element t _ _ (is_absent
 der-element (Tree.explicit n t) r = wrapper_encoding_element t _ _ (is_absent-readable t r.1) (omega arith)
 der-element (Tree.implicit n t) r = wrapper_encoding_element t _ _ (is_absent-readable t r.2) (omega arith)
 der-element (Tree.application n t) r = record { tag = 0x60 + n; content = _; number = omega arith; is = refl }
+der-element (Tree.retagged tag t) r = wrapper_encoding_element t _ _ (is_absent-readable t r.2) r.0.0
 der-element (Tree.raw s) r = r
 der-element (Tree.choice t) r = der-element t r
 der-element Tree.absent r = absurd r

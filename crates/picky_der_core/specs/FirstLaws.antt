@@ -5,7 +5,7 @@ use Rattle.picky_der_core.specs.Element.{tlv}
 use Rattle.picky_der_core.specs.Tree.{ListKind, Tree, Trees}
 use Rattle.picky_der_core.specs.Encoding.{plain_encoding, tree_bytes, der, list_tag}
 use Rattle.picky_der_core.specs.Readable.{IsReadable}
-use Rattle.picky_der_core.specs.Shape.{Shape, Shapes, Layout, IsOf, IsOneOf, AreMembersOf, FirstOrNone, firsts, firsts_of, next_firsts, contains, are_apart, tags_below, tag_with_number, AreBytes, IsBoolean, IsUnsigned, IsNull, IsText, IsCharacter, IsBytes, IsRaw, IsList, IsOptional, IsOctetContainer, IsBitContainer, IsExplicit, IsImplicit, IsApplication, IsChoice}
+use Rattle.picky_der_core.specs.Shape.{Shape, Shapes, Layout, IsOf, IsOneOf, AreMembersOf, FirstOrNone, firsts, firsts_of, next_firsts, contains, are_apart, tags_below, tag_with_number, AreBytes, IsBoolean, IsUnsigned, IsNull, IsText, IsCharacter, IsBytes, IsRaw, IsList, IsOptional, IsOctetContainer, IsBitContainer, IsExplicit, IsImplicit, IsApplication, IsRetagged, IsChoice}
 use Rattle.picky_der_core.specs.EncodingLaws.{is_absent-readable, wrapper_encoding-present}
 
 -- its encoding begins with one of these bytes
@@ -161,6 +161,12 @@ application_first n P (Tree.application m t) p r =
     subst (λ k. BeginsIn (tag_with_number k (0x60 + k)) (Tree.application m t)) p.0 (begins_tlv _ _ _ (Tree.application m t) refl (contains_numbered m (0x60 + m) r.0))
 application_first n P _ p r = absurd p
 
+retagged_first : (tag : ℕ) (P : Tree → Type 0) (t : Tree) → IsRetagged tag P t → IsReadable t → BeginsIn (tag_with_number (number_of tag) tag) t
+unfolding der tree_bytes
+retagged_first tag P (Tree.retagged x t) p r =
+    subst (λ k. BeginsIn (tag_with_number (number_of k) k) (Tree.retagged x t)) p.0 (begins_tlv _ _ _ (Tree.retagged x t) (wrapper_encoding-present _ _ _ (is_absent-readable t r.2)) (contains_numbered (number_of x) x r.0.0))
+retagged_first tag P _ p r = absurd p
+
 raw_first : (t : Tree) → IsRaw t → IsReadable t → BeginsIn (tags_below 256) t
 unfolding der tree_bytes tlv
 raw_first (Tree.raw s) p r =
@@ -211,6 +217,7 @@ mutual
   begins_in (Shape.explicit n s) = explicit_first n _
   begins_in (Shape.implicit n s) = implicit_first n _
   begins_in (Shape.application n s) = application_first n _
+  begins_in (Shape.retagged tag s) = retagged_first tag _
   begins_in Shape.raw = raw_first
   begins_in (Shape.choice ss) = choice_first (IsOneOf ss) (firsts_of ss) (begins_in_one ss)
 

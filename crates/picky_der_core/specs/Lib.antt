@@ -2,6 +2,7 @@ pub mod Error
 pub mod Failure
 pub mod Equality
 pub mod Tag
+pub mod TagLaws
 pub mod Element
 pub mod Tree
 pub mod Order

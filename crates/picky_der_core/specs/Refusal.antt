@@ -5,7 +5,7 @@ use Rattle.std.specs.Int.Digits.{number_from_digits}
 use Rattle.std.specs.Str.{is_utf8}
 use Rattle.picky_der_core.specs.declared.error.Asn1DerError.{Asn1DerError}
 use Rattle.picky_der_core.specs.declared.error.Asn1DerError.TheVariants.{TruncatedData, InvalidData, UnsupportedValue}
-use Rattle.picky_der_core.specs.Tag.{number_of, is_tag_number}
+use Rattle.picky_der_core.specs.Tag.{number_of, is_tag_number, is_constructed_tag}
 
 -- ---- ends
 
@@ -66,6 +66,10 @@ header tag hard ahead rest = if is_tag_number (number_of tag) then header_with t
 -- the same with a tag by its number, as of an explicit, an implicit and an application tag
 abbrev pub numbered_header : ℕ → ℕ → Bool → ℕ → List ℕ → ReadOutcome ℕ
 numbered_header base n hard ahead rest = if is_tag_number n then header_with (base + n) hard ahead rest else Err (UnsupportedValue, rest)
+
+-- the same with a tag in place of a list's own, which has to be constructed
+abbrev pub constructed_header : ℕ → Bool → ℕ → List ℕ → ReadOutcome ℕ
+constructed_header tag hard ahead rest = if is_constructed_tag tag then header_with tag hard ahead rest else Err (UnsupportedValue, rest)
 
 -- the header of any element
 abbrev pub any_header : Bool → ℕ → List ℕ → ReadOutcome ℕ

@@ -27,6 +27,8 @@ mutual
     explicit : ℕ → Shape → Shape
     implicit : ℕ → Shape → Shape
     application : ℕ → Shape → Shape
+    -- a list under this tag, in place of its own
+    retagged : ℕ → Shape → Shape
     raw : Shape
     -- of one of these shapes
     choice : Shapes → Shape
@@ -104,6 +106,10 @@ abbrev pub IsApplication : ℕ → (Tree → Type 0) → Tree → Type 0
 IsApplication n P (Tree.application m t) = (m ≡ n) × P t
 IsApplication n P _ = ⊥
 
+abbrev pub IsRetagged : ℕ → (Tree → Type 0) → Tree → Type 0
+IsRetagged tag P (Tree.retagged x t) = (x ≡ tag) × P t
+IsRetagged tag P _ = ⊥
+
 abbrev pub IsRaw : Tree → Type 0
 IsRaw (Tree.raw s) = AreBytes s
 IsRaw _ = ⊥
@@ -148,6 +154,7 @@ abbrev mutual
   IsOf (Shape.explicit n s) = IsExplicit n (IsOf s)
   IsOf (Shape.implicit n s) = IsImplicit n (IsOf s)
   IsOf (Shape.application n s) = IsApplication n (IsOf s)
+  IsOf (Shape.retagged tag s) = IsRetagged tag (IsOf s)
   IsOf Shape.raw = IsRaw
   IsOf (Shape.choice ss) = IsChoice (IsOneOf ss)
 
@@ -196,6 +203,7 @@ abbrev mutual
   firsts (Shape.explicit n s) = tag_with_number n (0xA0 + n)
   firsts (Shape.implicit n s) = tag_with_number n (0x80 + n)
   firsts (Shape.application n s) = tag_with_number n (0x60 + n)
+  firsts (Shape.retagged tag s) = tag_with_number (number_of tag) tag
   firsts Shape.raw = tags_below 256
   firsts (Shape.choice ss) = firsts_of ss
 
@@ -245,6 +253,7 @@ abbrev mutual
   IsSound (Shape.explicit n s) = IsSound s
   IsSound (Shape.implicit n s) = IsSound s
   IsSound (Shape.application n s) = IsSound s
+  IsSound (Shape.retagged tag s) = IsSound s
   IsSound (Shape.choice ss) = AreSound ss × AreTold ss
   IsSound _ = ⊤
 

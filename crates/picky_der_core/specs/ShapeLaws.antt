@@ -2,7 +2,7 @@
 use Rattle.std.proofs.Common.{◌≡◌, ℕ, Bool, true, false, refl}
 use Rattle.picky_der_core.specs.Tree.{ListKind, Tree, Trees, is_plain}
 use Rattle.picky_der_core.specs.Readable.{IsReadable, IsNoChoice}
-use Rattle.picky_der_core.specs.Shape.{Shape, IsOf, IsBoolean, IsUnsigned, IsNull, IsText, IsCharacter, IsBytes, IsRaw, IsList, IsOctetContainer, IsBitContainer, IsExplicit, IsImplicit, IsApplication, IsChoice}
+use Rattle.picky_der_core.specs.Shape.{Shape, IsOf, IsBoolean, IsUnsigned, IsNull, IsText, IsCharacter, IsBytes, IsRaw, IsList, IsOctetContainer, IsBitContainer, IsExplicit, IsImplicit, IsApplication, IsRetagged, IsChoice}
 use Rattle.picky_der_core.specs.FirstLaws.{is_of-optional}
 
 abbrev pub is_plain_shape : Shape → Bool
@@ -70,6 +70,10 @@ application_plain : (k : ℕ) (P : Tree → Type 0) → ArePlain false (IsApplic
 application_plain k P (Tree.application m t) p r n = refl
 application_plain k P _ p r n = absurd p
 
+retagged_plain : (tag : ℕ) (P : Tree → Type 0) → ArePlain false (IsRetagged tag P)
+retagged_plain tag P (Tree.retagged x t) p r n = refl
+retagged_plain tag P _ p r n = absurd p
+
 raw_plain : ArePlain false IsRaw
 raw_plain (Tree.raw s) p r n = refl
 raw_plain _ p r n = absurd p
@@ -94,5 +98,6 @@ plain_by_shape (Shape.bit_container s) = bit_container_plain _
 plain_by_shape (Shape.explicit n s) = explicit_plain n _
 plain_by_shape (Shape.implicit n s) = implicit_plain n _
 plain_by_shape (Shape.application n s) = application_plain n _
+plain_by_shape (Shape.retagged tag s) = retagged_plain tag _
 plain_by_shape Shape.raw = raw_plain
 plain_by_shape (Shape.choice ss) = choice_plain _

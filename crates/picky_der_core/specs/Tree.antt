@@ -25,6 +25,8 @@ mutual
     explicit : ℕ → Tree → Tree
     implicit : ℕ → Tree → Tree
     application : ℕ → Tree → Tree
+    -- a list under this tag, in place of its own
+    retagged : ℕ → Tree → Tree
     -- bytes that stand as they are
     raw : List ℕ → Tree
     -- a choice was made, and this is the alternative
@@ -51,6 +53,11 @@ is_plain (Tree.bytes tag s) = true
 is_plain (Tree.list kind ts) = true
 is_plain _ = false
 
+-- it is a list
+abbrev pub IsListTree : Tree → Type 0
+IsListTree (Tree.list kind ts) = Unit {0}
+IsListTree _ = ⊥
+
 -- nothing is written of it: it isn't there, or only what can be left out stands around it
 abbrev pub is_absent : Tree → Bool
 is_absent Tree.absent = true
@@ -58,5 +65,6 @@ is_absent (Tree.octet_container t) = is_absent t
 is_absent (Tree.bit_container t) = is_absent t
 is_absent (Tree.explicit n t) = is_absent t
 is_absent (Tree.implicit n t) = is_absent t
+is_absent (Tree.retagged tag t) = is_absent t
 is_absent (Tree.choice t) = is_absent t
 is_absent _ = false

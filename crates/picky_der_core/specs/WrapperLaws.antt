@@ -1,8 +1,8 @@
 -- What is written in open wrappers.
 use Rattle.std.proofs.Common.{◌≡◌, ◌+◌, Bool, true, false, ◌&&◌, List, [], ◌∷◌, ◌++◌, refl, sym, ap, ap₂, ◌∙◌, arith}
 use Rattle.picky_der_core.specs.declared.asn1.wrapper.Wrapper.{Wrapper}
-use Rattle.picky_der_core.specs.declared.asn1.wrapper.Wrapper.TheVariants.{OctetContainer, BitContainer, Explicit, Implicit}
-use Rattle.picky_der_core.specs.Tag.{number_of, is_tag_number, IsTagNumber}
+use Rattle.picky_der_core.specs.declared.asn1.wrapper.Wrapper.TheVariants.{OctetContainer, BitContainer, Explicit, Implicit, Retagged}
+use Rattle.picky_der_core.specs.Tag.{number_of, is_tag_number, IsTagNumber, is_constructed_tag}
 use Rattle.picky_der_core.specs.Element.{tlv}
 use Rattle.picky_der_core.specs.Tree.{Tree, is_plain, is_absent}
 use Rattle.picky_der_core.specs.Encoding.{wrapper_encoding, tree_bytes, der, implicit_content, content, plain_tag}
@@ -17,12 +17,14 @@ der-wrap OctetContainer t e = wrapper_encoding-present (is_absent t) _ _ e
 der-wrap BitContainer t e = wrapper_encoding-present (is_absent t) _ _ e
 der-wrap (Explicit n) t e = wrapper_encoding-present (is_absent t) _ _ e
 der-wrap (Implicit n) t e = wrapper_encoding-present (is_absent t) _ _ e
+der-wrap (Retagged tag) t e = wrapper_encoding-present (is_absent t) _ _ e
 
 pub wrapper_tag_number : (w : Wrapper) → HasTagNumber w → IsTagNumber (number_of (wrapper_tag w))
 wrapper_tag_number OctetContainer h = omega arith
 wrapper_tag_number BitContainer h = omega arith
 wrapper_tag_number (Explicit n) h = omega arith
 wrapper_tag_number (Implicit n) h = omega arith
+wrapper_tag_number (Retagged tag) h = h.0
 
 pub is_absent-under : (ws : List Wrapper) (t : Tree) → is_absent (under ws t) ≡ is_absent t
 is_absent-under [] t = refl
@@ -30,6 +32,7 @@ is_absent-under (OctetContainer ∷ ws) t = is_absent-under ws t
 is_absent-under (BitContainer ∷ ws) t = is_absent-under ws t
 is_absent-under (Explicit n ∷ ws) t = is_absent-under ws t
 is_absent-under (Implicit n ∷ ws) t = is_absent-under ws t
+is_absent-under (Retagged tag ∷ ws) t = is_absent-under ws t
 
 -- one more wrapper is opened inside the others
 pub under-push : (ws : List Wrapper) (w : Wrapper) (t : Tree) → under (ws ++ (w ∷ [])) t ≡ under ws (wrap w t)
@@ -58,6 +61,8 @@ alike-wrap (Explicit n) t u a =
     record { written_same = λ h. ap₂ (λ b c. wrapper_encoding b (0xA0 + n) c) a.absent_same (a.written_same true); absent_same = a.absent_same; numbers_same = ap (λ b. is_tag_number n && b) a.numbers_same }
 alike-wrap (Implicit n) t u a =
     record { written_same = λ h. ap₂ (λ b c. wrapper_encoding b (0x80 + n) c) a.absent_same (a.written_same false); absent_same = a.absent_same; numbers_same = ap (λ b. is_tag_number n && b) a.numbers_same }
+alike-wrap (Retagged tag) t u a =
+    record { written_same = λ h. ap₂ (λ b c. wrapper_encoding b tag c) a.absent_same (a.written_same false); absent_same = a.absent_same; numbers_same = ap (λ b. is_constructed_tag tag && b) a.numbers_same }
 
 -- trees that are written alike are so in open wrappers
 pub alike-under : (ws : List Wrapper) (t u : Tree) → AreAlike t u → AreAlike (under ws t) (under ws u)

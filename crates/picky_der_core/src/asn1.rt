@@ -6,6 +6,7 @@ mod collections;
 mod containers;
 mod context_tags;
 mod newtype;
+mod retagged;
 mod tag;
 mod tagged_bytes;
 mod wrapper;
@@ -26,6 +27,10 @@ pub use context_tags::{
     ImplicitContextTag14, ImplicitContextTag15,
 };
 pub use newtype::Newtype;
+pub use retagged::{
+    ImplicitList0, ImplicitList1, ImplicitList2, ImplicitList3, ImplicitList4, ImplicitList5,
+    ImplicitList6, ImplicitList7, Retagged,
+};
 pub use tag::{Tag, TagClass};
 pub use tagged_bytes::{
     BitStringAsn1, BmpStringAsn1, GeneralStringAsn1, GeneralizedTimeAsn1, Ia5StringAsn1,

@@ -17,7 +17,7 @@ use Rattle.picky_der_input.specs.Steps.{Takes, Fails, IsJudged, place_in, place_
 use Rattle.picky_der_input.specs.Reading.{Concerns, Reads, Refuses}
 use Rattle.picky_der_input.specs.Ends.{Outer, Closes, with_outer_end}
 use Rattle.picky_der_input.specs.Order.{cut_at}
-use Rattle.picky_der_input.specs.Enclosures.{enclose, enclosure_tag, enclose_shape, unused_bits, implicit_number, enclosure_opening, OpensEnclosure, RefusesOpening, ReadsEnclosed, RefusesEnclosed, before_value, in_value, behind_value}
+use Rattle.picky_der_input.specs.Enclosures.{enclose, enclosure_tag, enclose_shape, unused_bits, implicit_tag_of, enclosure_opening, OpensEnclosure, RefusesOpening, ReadsEnclosed, RefusesEnclosed, before_value, in_value, behind_value}
 use Rattle.picky_der_input.proofs.Steps.{takes_then, fails_after, judged_after}
 use Rattle.picky_der_input.proofs.Refusals.{concerns_behind, failed_grows, end_below, taken_first}
 use Rattle.picky_der_input.proofs.Headers.{header_length, length_tlv}
@@ -80,7 +80,7 @@ holds : {w : Enclosure} {a b c : State} {outer : Outer} {e : Asn1DerError} {end 
 holds {w} {a} {b} {c} {outer} {e} {end} {bs} s u o f k st =
     let readable = readable_inner w u st.readable in
     let unused = unused_bits w in
-    let part = written_at (place_in (implicit_number w) b.until_end) u in
+    let part = written_at (place_in (implicit_tag_of w) b.until_end) u in
     let v = concerns_behind o.takes (failed_grows f) k in
     let header = enclosure_tag w ∷ length_octets o.size in
     let whole : written_at (place_of a) (enclose w u) ≡ tlv (enclosure_tag w) (unused ++ part) = written_enclosed a.implicit_tag a.until_end b.until_end w u readable in
@@ -89,7 +89,7 @@ holds {w} {a} {b} {c} {outer} {e} {end} {bs} s u o f k st =
     let q = header_length (enclosure_tag w) o.size (unused ++ part) (unused ++ v.rest) st.front.rest same in
     let front : v.rest ≡ part ++ st.front.rest = (same_front unused unused v.rest (part ++ st.front.rest) refl (q.1 ∙ append_assoc unused part st.front.rest)).1 in
     let fills : length part ≡ b.until_end = omega (arith, q.0, length-append unused part, o.until_end) in
-    let stands : StandsAt (place_in (implicit_number w) b.until_end) s v.rest b.until_end u = record {
+    let stands : StandsAt (place_in (implicit_tag_of w) b.until_end) s v.rest b.until_end u = record {
       of_shape = is_of_inner w s u st.of_shape;
       readable = readable;
       may_stand = may_stand_inner w u b.until_end st.readable fills;
@@ -123,7 +123,7 @@ same_size (Some n) until_end s t u x y o p r v f g e l =
 
 not_opened : {V : Type 0} (meaning : V → Tree) (s : Shape) {w : Enclosure} {a c : State} {e : Asn1DerError} {end : ℕ} {bs : List ℕ} → RefusesOpening w a c e → IsJudged a c e → Concerns a c e end bs → (v : V) → StandsAt (place_of a) (enclose_shape w s) bs end (enclose w (meaning v)) → ⊥
 not_opened meaning s {w} {a} {c} {e} {end} {bs} r j k v st =
-    let part = written_at (place_in (implicit_number w) 0) (meaning v) in
+    let part = written_at (place_in (implicit_tag_of w) 0) (meaning v) in
     let whole : written_at (place_of a) (enclose w (meaning v)) ≡ tlv (enclosure_tag w) (unused_bits w ++ part) = written_enclosed a.implicit_tag a.until_end 0 w (meaning v) (readable_inner w (meaning v) st.readable) in
     let size : length (written_at (place_of a) (enclose w (meaning v))) ≡ length (tlv (enclosure_tag w) (unused_bits w ++ part)) = ap length whole in
     let small = end_below (r.bounded j.had_not_failed) k in
@@ -174,7 +174,7 @@ whole_enclosed tag n unused part l =
 -- a value was read up to the enclosure's end
 pub reads_enclosed : {s : Shape} {w : Enclosure} {a b c d : State} {outer closed : Outer} {t : Tree} → OpensEnclosure w a b outer → Reads s b c t → Closes closed c d → closed ≡ outer → ReadsEnclosed w s a d t
 reads_enclosed {s} {w} {a} {b} {c} {d} {outer} {closed} {t} o r k same =
-    let part = written_at (place_in (implicit_number w) b.until_end) t in
+    let part = written_at (place_in (implicit_tag_of w) b.until_end) t in
     let is : written_at (place_of b) t ≡ part = ap (λ n. written_at (place_in n b.until_end) t) o.implicit_tag in
     let full : length part ≡ b.until_end = omega (arith, r.takes.until_end, k.reached, ap length is) in
     let inner : Takes b c part = subst (Takes b c) is r.takes in
@@ -183,7 +183,7 @@ reads_enclosed {s} {w} {a} {b} {c} {d} {outer} {closed} {t} o r k same =
     let bytes : enclosure_opening w o.size ++ part ≡ written_at (place_of a) (enclose w t) =
     whole_enclosed (enclosure_tag w) o.size (unused_bits w) part (omega (arith, o.until_end, full)) ∙ sym (written_enclosed a.implicit_tag a.until_end b.until_end w t r.readable) in
     let end : d ≡ with_outer_end outer c = k.same ∙ ap (λ z. with_outer_end z c) same in
-    let stands : MayStand (place_in (implicit_number w) b.until_end) t = subst (λ n. MayStand (place_in n b.until_end) t) o.implicit_tag r.may_stand in
+    let stands : MayStand (place_in (implicit_tag_of w) b.until_end) t = subst (λ n. MayStand (place_in n b.until_end) t) o.implicit_tag r.may_stand in
     record {
       reads = record {
         of_shape = is_of_enclosed w s t r.of_shape;

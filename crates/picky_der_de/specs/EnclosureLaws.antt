@@ -1,6 +1,6 @@
 -- What is known of the value in an enclosure is known of the whole.
 use Rattle.std.specs.Prelude.{◌≡◌, Bool}
-use Rattle.picky_der_core.specs.declared.asn1.wrapper.Wrapper.TheVariants.{OctetContainer, BitContainer, Explicit, Implicit}
+use Rattle.picky_der_core.specs.declared.asn1.wrapper.Wrapper.TheVariants.{OctetContainer, BitContainer, Explicit, Implicit, Retagged}
 use Rattle.picky_der_core.specs.Tree.{Tree}
 use Rattle.picky_der_core.specs.Shape.{Shape, IsSound, firsts}
 use Rattle.picky_der_input.specs.declared.enclosure.Enclosure.{Enclosure}
@@ -14,6 +14,7 @@ enclose_same (enclosure.Wrapper OctetContainer) t u e = cc
 enclose_same (enclosure.Wrapper BitContainer) t u e = cc
 enclose_same (enclosure.Wrapper (Explicit n)) t u e = cc
 enclose_same (enclosure.Wrapper (Implicit n)) t u e = cc
+enclose_same (enclosure.Wrapper (Retagged tag)) t u e = cc
 enclose_same (enclosure.Application n) t u e = cc
 
 -- readable values with one tree in an enclosure are equal
@@ -22,6 +23,7 @@ enclosed_injective (enclosure.Wrapper OctetContainer) meaning s eq known x y p q
 enclosed_injective (enclosure.Wrapper BitContainer) meaning s eq known x y p q r e = known x y p q r (enclose_same (enclosure.Wrapper BitContainer) (meaning x) (meaning y) e)
 enclosed_injective (enclosure.Wrapper (Explicit n)) meaning s eq known x y p q r e = known x y p.1 q.1 r.1 (enclose_same (enclosure.Wrapper (Explicit n)) (meaning x) (meaning y) e)
 enclosed_injective (enclosure.Wrapper (Implicit n)) meaning s eq known x y p q r e = known x y p.1 q.1 r.2 (enclose_same (enclosure.Wrapper (Implicit n)) (meaning x) (meaning y) e)
+enclosed_injective (enclosure.Wrapper (Retagged tag)) meaning s eq known x y p q r e = known x y p.1 q.1 r.2 (enclose_same (enclosure.Wrapper (Retagged tag)) (meaning x) (meaning y) e)
 enclosed_injective (enclosure.Application n) meaning s eq known x y p q r e = known x y p.1 q.1 r.1 (enclose_same (enclosure.Application n) (meaning x) (meaning y) e)
 
 pub enclosed_sound : (w : Enclosure) (s : Shape) → IsSound s → IsSound (enclose_shape w s)
@@ -29,6 +31,7 @@ enclosed_sound (enclosure.Wrapper OctetContainer) s h = h
 enclosed_sound (enclosure.Wrapper BitContainer) s h = h
 enclosed_sound (enclosure.Wrapper (Explicit n)) s h = h
 enclosed_sound (enclosure.Wrapper (Implicit n)) s h = h
+enclosed_sound (enclosure.Wrapper (Retagged tag)) s h = h
 enclosed_sound (enclosure.Application n) s h = h
 
 -- the enclosure alone says with which bytes it begins
@@ -37,4 +40,5 @@ enclosed_begun (enclosure.Wrapper OctetContainer) s t = λ b h. h
 enclosed_begun (enclosure.Wrapper BitContainer) s t = λ b h. h
 enclosed_begun (enclosure.Wrapper (Explicit n)) s t = λ b h. h
 enclosed_begun (enclosure.Wrapper (Implicit n)) s t = λ b h. h
+enclosed_begun (enclosure.Wrapper (Retagged tag)) s t = λ b h. h
 enclosed_begun (enclosure.Application n) s t = λ b h. h

@@ -7,7 +7,7 @@ use Rattle.picky_der_core.specs.Tree.{Tree}
 use Rattle.picky_der_core.specs.Encoding.{tree_bytes, der, list_tag}
 use Rattle.picky_der_core.specs.EncodingLaws.{is_absent-readable, wrapper_encoding-present}
 use Rattle.picky_der_core.specs.Readable.{IsReadable}
-use Rattle.picky_der_core.specs.Shape.{Shape, Shapes, IsOf, IsOneOf, firsts, contains, tags_below, tag_with_number, AreBytes, IsBoolean, IsUnsigned, IsNull, IsText, IsCharacter, IsBytes, IsRaw, IsList, IsOptional, IsOctetContainer, IsBitContainer, IsExplicit, IsImplicit, IsApplication, IsChoice}
+use Rattle.picky_der_core.specs.Shape.{Shape, Shapes, IsOf, IsOneOf, firsts, contains, tags_below, tag_with_number, AreBytes, IsBoolean, IsUnsigned, IsNull, IsText, IsCharacter, IsBytes, IsRaw, IsList, IsOptional, IsOctetContainer, IsBitContainer, IsExplicit, IsImplicit, IsApplication, IsRetagged, IsChoice}
 use Rattle.picky_der_core.specs.FirstLaws.{BeginsIn, contains_itself, contains_numbered, contains-tags_below, begins_plain_encoding, begins_tlv}
 use Rattle.picky_der_ser.specs.Meaning.{option_meaning}
 
@@ -24,6 +24,7 @@ firsts_in (Tree.bit_container t) = 0x03 ∷ []
 firsts_in (Tree.explicit n t) = tag_with_number n (0xA0 + n)
 firsts_in (Tree.implicit n t) = tag_with_number n (0x80 + n)
 firsts_in (Tree.application n t) = tag_with_number n (0x60 + n)
+firsts_in (Tree.retagged tag t) = tag_with_number (number_of tag) tag
 firsts_in (Tree.raw s) = tags_below 256
 firsts_in (Tree.choice t) = firsts_in t
 firsts_in Tree.absent = []
@@ -53,6 +54,7 @@ begins_in_own (Tree.bit_container t) r k = begins_tlv _ (0x00 ∷ der t) _ (Tree
 begins_in_own (Tree.explicit n t) r k = begins_tlv _ (der t) _ (Tree.explicit n t) (wrapper_encoding-present _ _ _ (is_absent-readable t r.1)) (contains_numbered n (0xA0 + n) r.0)
 begins_in_own (Tree.implicit n t) r k = begins_tlv _ _ _ (Tree.implicit n t) (wrapper_encoding-present _ _ _ (is_absent-readable t r.2)) (contains_numbered n (0x80 + n) r.0)
 begins_in_own (Tree.application n t) r k = begins_tlv _ _ _ (Tree.application n t) refl (contains_numbered n (0x60 + n) r.0)
+begins_in_own (Tree.retagged tag t) r k = begins_tlv _ _ _ (Tree.retagged tag t) (wrapper_encoding-present _ _ _ (is_absent-readable t r.2)) (contains_numbered (number_of tag) tag r.0.0)
 begins_in_own (Tree.raw s) r k =
     let bytes : AreBytes (tlv r.tag r.content) = subst AreBytes r.is k in
     begins_tlv _ _ _ (Tree.raw s) r.is (contains-tags_below r.tag 256 bytes.0 r.number)
@@ -104,6 +106,7 @@ mutual
   bytes_in (Shape.explicit n s) = apart_from_both (IsExplicit n _) (λ s p. p) (λ u p. p)
   bytes_in (Shape.implicit n s) = apart_from_both (IsImplicit n _) (λ s p. p) (λ u p. p)
   bytes_in (Shape.application n s) = apart_from_both (IsApplication n _) (λ s p. p) (λ u p. p)
+  bytes_in (Shape.retagged tag s) = apart_from_both (IsRetagged tag _) (λ s p. p) (λ u p. p)
   bytes_in Shape.raw = raw_bytes
   bytes_in (Shape.choice ss) = choice_bytes (IsOneOf ss) (bytes_in_one ss)
 

@@ -13,7 +13,7 @@ use Rattle.picky_der_input.specs.Steps.{Takes, Fails, IsJudged, IsMissing, end_i
 use Rattle.picky_der_input.specs.Reading.{Concerns, now, ever, IsJustRefused}
 use Rattle.picky_der_input.specs.Headers.{RefusesHeader}
 use Rattle.picky_der_input.specs.Ends.{Outer, innermost, with_inner_end, with_outer_end}
-use Rattle.picky_der_input.specs.Enclosures.{enclosure_tag, HasEnclosureNumber, unused_bits, counts_unused_bits, implicit_number, unused_bits_refusal, refusal_behind, opening_refusal, OpensEnclosure, RefusesOpening, BeginsEnclosure, StopsUnusedBits, count_missing, count_other, RefusesUnusedBits}
+use Rattle.picky_der_input.specs.Enclosures.{enclosure_tag, HasEnclosureNumber, unused_bits, counts_unused_bits, implicit_tag_of, unused_bits_refusal, refusal_behind, opening_refusal, OpensEnclosure, RefusesOpening, BeginsEnclosure, StopsUnusedBits, count_missing, count_other, RefusesUnusedBits}
 use Rattle.picky_der_input.proofs.Steps.{takes_then, takes_none, fails_after, judged_after}
 use Rattle.picky_der_input.proofs.Refusals.{front_consumed, concerns_behind, failed_grows, missing_here, taken_first, at_end_of}
 use Rattle.picky_der_input.proofs.Known.{front_of, just_taken, kept_known, peeked_kept}
@@ -171,11 +171,11 @@ not_refused {w} {a} {c = c} h t k =
     ∙ behind_read w h.size h.mid.until_end f.rest p.0 p.2 (omega (arith, t.until_end)) h.fits
 
 -- what stands before the value was taken
-pub opens_enclosure : {w : Enclosure} {a b c d : State} {outer : Outer} → BeginsEnclosure w a b outer → Takes b c (unused_bits w) → d ≡ record c { implicit_tag = implicit_number w } → OpensEnclosure w a d outer
+pub opens_enclosure : {w : Enclosure} {a b c d : State} {outer : Outer} → BeginsEnclosure w a b outer → Takes b c (unused_bits w) → d ≡ record c { implicit_tag = implicit_tag_of w } → OpensEnclosure w a d outer
 opens_enclosure {w} {a} {b} {c} {d} {outer} h taken is =
     let t : Takes (with_inner_end h.mid h.size Hard) c (unused_bits w) = subst (λ z. Takes z c (unused_bits w)) h.opened taken in
     let position : outer.position ≡ h.mid.taken + h.mid.until_end = ap (λ (o : Outer). o.position) h.outer_end in
-    let new : State = record c { implicit_tag = implicit_number w } in
+    let new : State = record c { implicit_tag = implicit_tag_of w } in
     let behind : Takes h.mid (with_outer_end outer new) (unused_bits w) = record {
       input = t.input;
       taken = t.taken;
@@ -204,11 +204,11 @@ opens_enclosure {w} {a} {b} {c} {d} {outer} h taken is =
     })
 
 -- an enclosure that has no count of unused bits
-pub opens_at_once : {w : Enclosure} {a b d : State} {outer : Outer} → BeginsEnclosure w a b outer → counts_unused_bits w ≡ false → d ≡ record b { implicit_tag = implicit_number w } → OpensEnclosure w a d outer
+pub opens_at_once : {w : Enclosure} {a b d : State} {outer : Outer} → BeginsEnclosure w a b outer → counts_unused_bits w ≡ false → d ≡ record b { implicit_tag = implicit_tag_of w } → OpensEnclosure w a d outer
 opens_at_once {w} {a} {b} {d} h none is =
     let nothing : Takes b b [] = takes_none b (ap (λ (s : State). s.failed) h.opened ∙ h.takes.not_failed) (ap (λ (s : State). s.peeked) h.opened ∙ h.takes.unpeeked) in
     opens_enclosure h (subst (Takes b b) (sym (no_unused w none)) nothing) is
 
 -- one that has
-pub opens_behind_count : {w : Enclosure} {a b c d : State} {outer : Outer} → BeginsEnclosure w a b outer → counts_unused_bits w ≡ true → Takes b c (0x00 ∷ []) → d ≡ record c { implicit_tag = implicit_number w } → OpensEnclosure w a d outer
+pub opens_behind_count : {w : Enclosure} {a b c d : State} {outer : Outer} → BeginsEnclosure w a b outer → counts_unused_bits w ≡ true → Takes b c (0x00 ∷ []) → d ≡ record c { implicit_tag = implicit_tag_of w } → OpensEnclosure w a d outer
 opens_behind_count {w} {a} {b} {c} h some t is = opens_enclosure h (subst (Takes b c) (sym (some_unused w some)) t) is

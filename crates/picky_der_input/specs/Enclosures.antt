@@ -4,13 +4,13 @@ use Rattle.std.specs.Io.KnownBytes.{Keeps}
 use Rattle.picky_der_core.specs.declared.error.Asn1DerError.{Asn1DerError}
 use Rattle.picky_der_core.specs.declared.error.Asn1DerError.TheVariants.{TruncatedData, InvalidData}
 use Rattle.picky_der_core.specs.declared.asn1.wrapper.Wrapper.{Wrapper}
-use Rattle.picky_der_core.specs.declared.asn1.wrapper.Wrapper.TheVariants.{OctetContainer, BitContainer, Explicit, Implicit}
+use Rattle.picky_der_core.specs.declared.asn1.wrapper.Wrapper.TheVariants.{OctetContainer, BitContainer, Explicit, Implicit, Retagged}
 use Rattle.picky_der_core.specs.Element.{length_octets, tlv}
 use Rattle.picky_der_core.specs.Tag.{IsTagNumber}
 use Rattle.picky_der_core.specs.Tree.{Tree}
 use Rattle.picky_der_core.specs.Shape.{Shape}
 use Rattle.picky_der_core.specs.Wrapper.{wrap, wrapper_tag, HasTagNumber}
-use Rattle.picky_der_core.specs.Refusal.{Refusal, ReadOutcome, header, numbered_header, error_past_end}
+use Rattle.picky_der_core.specs.Refusal.{Refusal, ReadOutcome, header, numbered_header, constructed_header, error_past_end}
 use Rattle.picky_der_input.specs.declared.enclosure.Enclosure.{Enclosure}
 use Rattle.picky_der_input.specs.declared.enclosure.Enclosure.TheVariants as enclosure
 use Rattle.picky_der_input.specs.declared.end.End.TheVariants.{Hard}
@@ -30,7 +30,7 @@ abbrev pub enclosure_tag : Enclosure → ℕ
 enclosure_tag (enclosure.Wrapper w) = wrapper_tag w
 enclosure_tag (enclosure.Application n) = 0x60 + n
 
--- its tag number, if it has one, is at most 30
+-- its tag number, if it has one, is at most 30, and a tag in place of a list's own is a constructed one
 abbrev pub HasEnclosureNumber : Enclosure → Type 0
 HasEnclosureNumber (enclosure.Wrapper w) = HasTagNumber w
 HasEnclosureNumber (enclosure.Application n) = IsTagNumber n
@@ -40,6 +40,7 @@ wrap_shape OctetContainer s = Shape.octet_container s
 wrap_shape BitContainer s = Shape.bit_container s
 wrap_shape (Explicit n) s = Shape.explicit n s
 wrap_shape (Implicit n) s = Shape.implicit n s
+wrap_shape (Retagged tag) s = Shape.retagged tag s
 
 -- the shape, in a wrapper or as it is
 abbrev pub wrap_shape_if : Option Wrapper → Shape → Shape
@@ -56,6 +57,7 @@ counts_unused_bits (enclosure.Wrapper OctetContainer) = false
 counts_unused_bits (enclosure.Wrapper BitContainer) = true
 counts_unused_bits (enclosure.Wrapper (Explicit n)) = false
 counts_unused_bits (enclosure.Wrapper (Implicit n)) = false
+counts_unused_bits (enclosure.Wrapper (Retagged tag)) = false
 counts_unused_bits (enclosure.Application n) = false
 
 -- what stands behind the header and before the value: the count of unused bits, of which there are none (8.6.2)
@@ -64,15 +66,17 @@ unused_bits (enclosure.Wrapper OctetContainer) = []
 unused_bits (enclosure.Wrapper BitContainer) = 0x00 ∷ []
 unused_bits (enclosure.Wrapper (Explicit n)) = []
 unused_bits (enclosure.Wrapper (Implicit n)) = []
+unused_bits (enclosure.Wrapper (Retagged tag)) = []
 unused_bits (enclosure.Application n) = []
 
--- the number of the implicit tag directly under which the value stands
-abbrev pub implicit_number : Enclosure → Option ℕ
-implicit_number (enclosure.Wrapper OctetContainer) = None
-implicit_number (enclosure.Wrapper BitContainer) = None
-implicit_number (enclosure.Wrapper (Explicit n)) = None
-implicit_number (enclosure.Wrapper (Implicit n)) = Some n
-implicit_number (enclosure.Application n) = None
+-- the implicit tag directly under which the value stands: the byte that replaces its own
+abbrev pub implicit_tag_of : Enclosure → Option ℕ
+implicit_tag_of (enclosure.Wrapper OctetContainer) = None
+implicit_tag_of (enclosure.Wrapper BitContainer) = None
+implicit_tag_of (enclosure.Wrapper (Explicit n)) = None
+implicit_tag_of (enclosure.Wrapper (Implicit n)) = Some (0x80 + n)
+implicit_tag_of (enclosure.Wrapper (Retagged tag)) = Some tag
+implicit_tag_of (enclosure.Application n) = None
 
 -- ---- how the opening is refused
 
@@ -87,6 +91,7 @@ enclosure_header (enclosure.Wrapper OctetContainer) hard ahead rest = header 0x0
 enclosure_header (enclosure.Wrapper BitContainer) hard ahead rest = header 0x03 hard ahead rest
 enclosure_header (enclosure.Wrapper (Explicit n)) hard ahead rest = numbered_header 0xA0 n hard ahead rest
 enclosure_header (enclosure.Wrapper (Implicit n)) hard ahead rest = numbered_header 0x80 n hard ahead rest
+enclosure_header (enclosure.Wrapper (Retagged tag)) hard ahead rest = constructed_header tag hard ahead rest
 enclosure_header (enclosure.Application n) hard ahead rest = numbered_header 0x60 n hard ahead rest
 
 abbrev pub refusal_behind : Bool → ReadOutcome ℕ → Option Refusal
@@ -113,7 +118,7 @@ pub record OpensEnclosure (w : Enclosure) (old new : State) (outer : Outer) : Ty
   pub until_end : size ≡ length (unused_bits w) + new.until_end
   pub within : new.taken + new.until_end ≤ outer.position
   pub end : new.end ≡ Hard
-  pub implicit_tag : new.implicit_tag ≡ implicit_number w
+  pub implicit_tag : new.implicit_tag ≡ implicit_tag_of w
   pub bounded : old.until_end < 2 ^ 64
   pub no_refusal : AreNotRefused (opening_refusal w old) old
 

@@ -58,7 +58,7 @@ pub record RefusesPeek (refusal : State → List ℕ → Option Refusal) (old ne
 -- the tag that is next; directly under an implicit tag it is that one, and nothing changed
 abbrev pub IdentifiesIn : Option ℕ → State → State → ℕ → Type 0
 IdentifiesIn None old new tag = Peeks old new tag
-IdentifiesIn (Some number) old new tag = (old.failed ≡ None) × (tag ≡ 0x80 + number) × (new ≡ old)
+IdentifiesIn (Some awaited) old new tag = (old.failed ≡ None) × (tag ≡ awaited) × (new ≡ old)
 
 pub record Identifies (old new : State) (tag : ℕ) : Type 0 where
   pub is : IdentifiesIn old.implicit_tag old new tag

@@ -9,7 +9,6 @@ use Rattle.picky_der_core.specs.Reader.{TellsFault}
 use Rattle.picky_der_core.specs.Peeking.{count_of_any}
 use Rattle.picky_der_core.specs.Refusal.{error_past_end}
 use Rattle.picky_der_core.specs.Shape.{AreBytes}
-use Rattle.picky_der_core.specs.Tag.{IsTagNumber}
 use Rattle.picky_der_core.specs.Reading.{Place}
 use Rattle.picky_der_input.specs.declared.end.End.{End}
 use Rattle.picky_der_input.specs.declared.end.End.TheVariants.{Limit, Soft, Hard}
@@ -56,10 +55,6 @@ pub record IsWithin (s : State) : Type 0 where
 abbrev pub IsUnpeekedIfImplicit : Option ℕ → Option ℕ → Type 0
 IsUnpeekedIfImplicit None peeked = ⊤
 IsUnpeekedIfImplicit (Some tag) peeked = peeked ≡ None
-
--- an implicit tag has a tag number
-abbrev pub IsTagNumberIfAny : Option ℕ → Type 0
-IsTagNumberIfAny number = IfSome number IsTagNumber
 
 -- ---- steps
 

@@ -1,14 +1,14 @@
 //! What stands around one value that is read.
 ghost use Rattle.std.specs.Prelude.{◌≡◌, IfNone, IfSome};
 ghost use Rattle.picky_der_core.specs.Equality.{IsEqualityOf};
-ghost use Rattle.picky_der_input.specs.Enclosures.{enclosure_tag, HasEnclosureNumber, counts_unused_bits, implicit_number};
+ghost use Rattle.picky_der_input.specs.Enclosures.{enclosure_tag, HasEnclosureNumber, counts_unused_bits, implicit_tag_of};
 
 use picky_der_core::asn1::{Tag, Wrapper};
 
 /// What stands around a value that is being read: a header, and an end that the value has to reach.
 #[derive(Debug, Clone, Copy, PartialEq, Eq)]
 pub enum Enclosure {
-    /// A container, or an explicit or implicit context tag.
+    /// A container, an explicit or implicit context tag, or a tag in place of a list's own.
     Wrapper(Wrapper),
 
     /// The application tag with this number.
@@ -21,7 +21,7 @@ impl Enclosure {
         ensures { IsEqualityOf ⟦<Enclosure as PartialEq>⟧.eq (λ enclosure. enclosure) }
     {}
 
-    // Its tag, and `None` where the tag number is past 30.
+    // Its tag, and `None` where the tag number is past 30, or a tag in place of a list's own isn't constructed.
     pub(crate) fn tag(self) -> Option<Tag>
         ensures tag { IfSome result (λ tag. tag ≡ enclosure_tag self) }
         ensures number { IfSome result (λ tag. HasEnclosureNumber self) }
@@ -42,6 +42,13 @@ impl Enclosure {
                 }
                 Some(Tag::context_specific_primitive(number))
             }
+            Enclosure::Wrapper(Wrapper::Retagged(tag)) => {
+                let tag = Tag::from(tag);
+                if tag.number() > Tag::MAX_NUMBER || !tag.is_constructed() {
+                    return None;
+                }
+                Some(tag)
+            }
             Enclosure::Application(number) => {
                 if number > Tag::MAX_NUMBER {
                     return None;
@@ -58,18 +65,25 @@ impl Enclosure {
         match self {
             Enclosure::Wrapper(Wrapper::BitContainer) => true,
             Enclosure::Wrapper(
-                Wrapper::OctetContainer | Wrapper::Explicit(_) | Wrapper::Implicit(_),
+                Wrapper::OctetContainer
+                | Wrapper::Explicit(_)
+                | Wrapper::Implicit(_)
+                | Wrapper::Retagged(_),
             )
             | Enclosure::Application(_) => false,
         }
     }
 
-    // The number of the implicit tag directly under which the value stands.
-    pub(crate) fn implicit_number(self) -> Option<u8>
-        ensures { result ≡ implicit_number self }
+    // The implicit tag directly under which the value stands: the byte that replaces its own.
+    pub(crate) fn implicit_tag(self) -> Option<u8>
+        requires { HasEnclosureNumber self }
+        ensures { result ≡ implicit_tag_of self }
     {
         match self {
-            Enclosure::Wrapper(Wrapper::Implicit(number)) => Some(number),
+            Enclosure::Wrapper(Wrapper::Implicit(number)) => {
+                Some(Tag::context_specific_primitive(number).inner())
+            }
+            Enclosure::Wrapper(Wrapper::Retagged(tag)) => Some(tag),
             Enclosure::Wrapper(
                 Wrapper::OctetContainer | Wrapper::BitContainer | Wrapper::Explicit(_),
             )

@@ -49,7 +49,7 @@ impl<R: ReadExt> Model for Input<R> {
     ghost use Rattle.picky_der_input.specs.State.{State};
     ghost use Rattle.picky_der_input.specs.Order.{cut_at};
     ghost use Rattle.picky_der_core.specs.Peeking.{count_of_any, left_in};
-    ghost use Rattle.picky_der_input.specs.Steps.{IsUnpeekedIfImplicit, IsTagNumberIfAny};
+    ghost use Rattle.picky_der_input.specs.Steps.{IsUnpeekedIfImplicit};
 
     ghost Value = { State };
 
@@ -68,8 +68,7 @@ impl<R: ReadExt> Model for Input<R> {
     } };
 
     // No more is drawn than the limit allows, and no end is past it.
-    ghost invariant = { λ d. (d.reader.pos + d.until_end < 2 ^ 64) × IsUnpeekedIfImplicit d.implicit_tag d.reader.peeked ×
-        IsTagNumberIfAny d.implicit_tag
+    ghost invariant = { λ d. (d.reader.pos + d.until_end < 2 ^ 64) × IsUnpeekedIfImplicit d.implicit_tag d.reader.peeked
         × (d.reader.pos + d.until_end ≤ d.limit) × (d.reader.pos + count_of_any d.reader.peeked ≤ d.limit)
         × IfSome d.last_start (λ start. start ≤ length d.kept.items) };
 }

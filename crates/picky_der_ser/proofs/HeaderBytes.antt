@@ -1,7 +1,7 @@
 -- The headers in front of a content are those of its encoding.
 use Rattle.std.proofs.Common.{◌≡◌, ℕ, suc, ◌+◌, ◌-◌, false, List, [], ◌∷◌, ◌++◌, length, Option, None, Some, refl, sym, ◌∙◌, ap, append_assoc, length-append, arith}
 use Rattle.picky_der_core.specs.declared.asn1.wrapper.Wrapper.{Wrapper}
-use Rattle.picky_der_core.specs.declared.asn1.wrapper.Wrapper.TheVariants.{OctetContainer, BitContainer, Explicit, Implicit}
+use Rattle.picky_der_core.specs.declared.asn1.wrapper.Wrapper.TheVariants.{OctetContainer, BitContainer, Explicit, Implicit, Retagged}
 use Rattle.picky_der_core.specs.Element.{length_octets, tlv}
 use Rattle.picky_der_core.specs.Tree.{Tree, is_absent}
 use Rattle.picky_der_core.specs.Encoding.{der, implicit_content}
@@ -30,6 +30,7 @@ wraps OctetContainer t p i = der-wrap OctetContainer t p ∙ sym (whole-tagged 0
 wraps BitContainer t p i = der-wrap BitContainer t p ∙ sym (whole-bit (der t))
 wraps (Explicit k) t p i = der-wrap (Explicit k) t p ∙ sym (whole-tagged (0xA0 + k) (der t))
 wraps (Implicit k) t p i = der-wrap (Implicit k) t p ∙ ap (tlv (0x80 + k)) i ∙ sym (whole-tagged (0x80 + k) (der t))
+wraps (Retagged tag) t p i = der-wrap (Retagged tag) t p ∙ ap (tlv tag) i ∙ sym (whole-tagged tag (der t))
 
 -- ---- the content under its own header
 
@@ -60,6 +61,7 @@ whole OctetContainer t = implicit_content-other _ refl tt
 whole BitContainer t = implicit_content-other _ refl tt
 whole (Explicit k) t = implicit_content-other _ refl tt
 whole (Implicit k) t = implicit_content-other _ refl tt
+whole (Retagged tag) t = implicit_content-other _ refl tt
 
 written_whole : (w : Wrapper) (h : Header) (c : List ℕ) → der (wrap w (tree_of h c)) ≡ wrapper_opening w (length (der (tree_of h c))) ++ der (tree_of h c)
     → der (wrap w (tree_of h c)) ≡ (wrapper_opening w (length (own_header h (length c)) + length c) ++ own_header h (length c)) ++ c
@@ -69,6 +71,9 @@ one : (w : Wrapper) (h : Header) (c : List ℕ) → der (wrap w (tree_of h c)) �
 one (Implicit k) (Tagged tag) c = der-wrap (Implicit k) (Tree.bytes tag c) refl ∙ ap (tlv (0x80 + k)) (implicit_content-plain (Tree.bytes tag c) refl) ∙ sym (whole-tagged (0x80 + k) c)
 one (Implicit k) (Application m) c = one_more (Implicit k) (own_header (Application m) (length c)) c (tree_of (Application m) c) refl (implicit_content-other _ refl tt) (own (Application m) c)
 one (Implicit k) Raw c = one_more (Implicit k) (own_header Raw (length c)) c (tree_of Raw c) refl (implicit_content-other _ refl tt) (own Raw c)
+one (Retagged other) (Tagged tag) c = der-wrap (Retagged other) (Tree.bytes tag c) refl ∙ ap (tlv other) (implicit_content-plain (Tree.bytes tag c) refl) ∙ sym (whole-tagged other c)
+one (Retagged other) (Application m) c = one_more (Retagged other) (own_header (Application m) (length c)) c (tree_of (Application m) c) refl (implicit_content-other _ refl tt) (own (Application m) c)
+one (Retagged other) Raw c = one_more (Retagged other) (own_header Raw (length c)) c (tree_of Raw c) refl (implicit_content-other _ refl tt) (own Raw c)
 one OctetContainer h c = written_whole OctetContainer h c (der-wrap OctetContainer (tree_of h c) (present h c) ∙ sym (whole-tagged 0x04 (der (tree_of h c))))
 one BitContainer h c = written_whole BitContainer h c (der-wrap BitContainer (tree_of h c) (present h c) ∙ sym (whole-bit (der (tree_of h c))))
 one (Explicit k) h c = written_whole (Explicit k) h c (der-wrap (Explicit k) (tree_of h c) (present h c) ∙ sym (whole-tagged (0xA0 + k) (der (tree_of h c))))

@@ -5,7 +5,7 @@ use mir.Val.{bool_byte}
 use Rattle.std.specs.Option.{is_some}
 use Rattle.std.proofs.lemmas.List.{take_all, reverse-append, reverse-reverse, length-reverse}
 use Rattle.picky_der_core.specs.declared.asn1.wrapper.Wrapper.{Wrapper}
-use Rattle.picky_der_core.specs.declared.asn1.wrapper.Wrapper.TheVariants.{OctetContainer, BitContainer, Explicit, Implicit}
+use Rattle.picky_der_core.specs.declared.asn1.wrapper.Wrapper.TheVariants.{OctetContainer, BitContainer, Explicit, Implicit, Retagged}
 use Rattle.picky_der_core.specs.Tag.{number_of, IsTagNumber}
 use Rattle.picky_der_core.specs.Wrapper.{HasTagNumber}
 use Rattle.picky_der_ser.specs.declared.header.Header.{Header}
@@ -41,6 +41,11 @@ joined_number (Implicit k) (Tagged tag) j n e =
     subst HasNumber q small
 joined_number (Implicit k) (Application m) j n e = cc
 joined_number (Implicit k) Raw j n e = cc
+joined_number (Retagged other) (Tagged tag) j n e =
+    let q : Tagged other ≡ j = cc in
+    subst HasNumber q n.0
+joined_number (Retagged other) (Application m) j n e = cc
+joined_number (Retagged other) Raw j n e = cc
 joined_number OctetContainer h j n e = cc
 joined_number BitContainer h j n e = cc
 joined_number (Explicit k) h j n e = cc

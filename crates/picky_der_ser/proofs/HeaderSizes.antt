@@ -3,7 +3,7 @@ use Rattle.std.proofs.Common.{ℕ, suc, ◌+◌, ◌<◌, ◌≤◌, List, [], �
 use Rattle.std.proofs.lemmas.Bool.{cases_lt}
 use Rattle.std.specs.Option.{unwrap_or}
 use Rattle.picky_der_core.specs.declared.asn1.wrapper.Wrapper.{Wrapper}
-use Rattle.picky_der_core.specs.declared.asn1.wrapper.Wrapper.TheVariants.{OctetContainer, BitContainer, Explicit, Implicit}
+use Rattle.picky_der_core.specs.declared.asn1.wrapper.Wrapper.TheVariants.{OctetContainer, BitContainer, Explicit, Implicit, Retagged}
 use Rattle.picky_der_core.specs.Element.{big_endian, length_octets}
 use Rattle.picky_der_core.specs.ElementLaws.{length_octets-short, length_octets-long}
 use Rattle.picky_der_core.specs.BigEndianLaws.{length-big_endian, below-big_endian}
@@ -31,6 +31,7 @@ opening_more OctetContainer m n h = let s = length_octets_more m n h in omega (a
 opening_more BitContainer m n h = let s = length_octets_more (suc m) (suc n) (omega arith) in omega (arith, s, length-append (length_octets (suc m)) (0x00 ∷ []), length-append (length_octets (suc n)) (0x00 ∷ []))
 opening_more (Explicit k) m n h = let s = length_octets_more m n h in omega (arith, s)
 opening_more (Implicit k) m n h = let s = length_octets_more m n h in omega (arith, s)
+opening_more (Retagged tag) m n h = let s = length_octets_more m n h in omega (arith, s)
 
 own_more : (h : Header) (m n : ℕ) → m ≤ n → length (own_header h m) ≤ length (own_header h n)
 own_more (Tagged tag) m n h = let s = length_octets_more m n h in omega (arith, s)

@@ -4,8 +4,9 @@ use Rattle.std.proofs.Math.Seq.{take-append_seam, drop-append_seam}
 use Rattle.std.specs.Prelude.{IfSome, IsTrue}
 use Rattle.std.specs.Io.KnownBytes.{Appends}
 use Rattle.picky_der_core.specs.declared.asn1.wrapper.Wrapper.{Wrapper}
-use Rattle.picky_der_core.specs.declared.asn1.wrapper.Wrapper.TheVariants.{OctetContainer, BitContainer, Explicit, Implicit}
-use Rattle.picky_der_core.specs.Tag.{number_of, is_tag_number}
+use Rattle.picky_der_core.specs.declared.asn1.wrapper.Wrapper.TheVariants.{OctetContainer, BitContainer, Explicit, Implicit, Retagged}
+use Rattle.picky_der_core.specs.Tag.{number_of, is_tag_number, is_constructed_tag}
+use Rattle.picky_der_core.specs.TagLaws.{is_constructed_tag-true}
 use Rattle.picky_der_core.specs.Writer.{AppendsTooFew}
 use Rattle.picky_der_core.specs.WriterFaults.{WriterFails}
 use Rattle.picky_der_core.specs.declared.misc.writer.WriteExt.{Ghosts}
@@ -36,6 +37,7 @@ numbers_writable (OctetContainer ∷ ws) t h k = numbers_writable ws t h.1 k
 numbers_writable (BitContainer ∷ ws) t h k = numbers_writable ws t h.1 k
 numbers_writable (Explicit n ∷ ws) t h k = let e : is_tag_number n ≡ true = le-leb n 30 h.0 in rw e (numbers_writable ws t h.1 k)
 numbers_writable (Implicit n ∷ ws) t h k = let e : is_tag_number n ≡ true = le-leb n 30 h.0 in rw e (numbers_writable ws t h.1 k)
+numbers_writable (Retagged tag ∷ ws) t h k = let e : is_constructed_tag tag ≡ true = is_constructed_tag-true tag h.0 in rw e (numbers_writable ws t h.1 k)
 
 pub writable_counted : (ws : List Wrapper) (h : Header) (c : List ℕ) → HaveTagNumbers ws × HasNumber h → length (der (under ws (tree_of h c))) < 2 ^ 64 → IsWritable (under ws (tree_of h c))
 writable_counted ws h c n fits = record { numbers = numbers_writable ws (tree_of h c) n.0 (number_writable h c n.1); fits = fits }

@@ -3,8 +3,8 @@ use Rattle.std.proofs.Common.{◌≡◌, ℕ, ◌+◌, ◌<◌, ◌^◌, Bool, t
 use Rattle.std.proofs.lemmas.Bool.{lt-leb}
 use Rattle.picky_der_core.specs.Failure.{failure_of}
 use Rattle.picky_der_core.specs.declared.asn1.wrapper.Wrapper.{Wrapper}
-use Rattle.picky_der_core.specs.declared.asn1.wrapper.Wrapper.TheVariants.{OctetContainer, BitContainer, Explicit, Implicit}
-use Rattle.picky_der_core.specs.Tag.{number_of, is_tag_number, IsTagNumber}
+use Rattle.picky_der_core.specs.declared.asn1.wrapper.Wrapper.TheVariants.{OctetContainer, BitContainer, Explicit, Implicit, Retagged}
+use Rattle.picky_der_core.specs.Tag.{number_of, is_tag_number, IsTagNumber, is_constructed_tag}
 use Rattle.picky_der_core.specs.ElementLaws.{length-tlv}
 use Rattle.picky_der_core.specs.Writer.{beginning_none}
 use Rattle.picky_der_core.specs.declared.misc.writer.WriteExt.{Ghosts}
@@ -47,6 +47,7 @@ past_under (OctetContainer ∷ ws) t e = past_under ws t e
 past_under (BitContainer ∷ ws) t e = past_under ws t e
 past_under (Explicit n ∷ ws) t e = and_false (is_tag_number n) _ (past_under ws t e)
 past_under (Implicit n ∷ ws) t e = and_false (is_tag_number n) _ (past_under ws t e)
+past_under (Retagged tag ∷ ws) t e = and_false (is_constructed_tag tag) _ (past_under ws t e)
 
 pub unwritable-by : (t : Tree) → has_tag_numbers t ≡ false → ¬ IsWritable t
 unwritable-by t e h = let q : false ≡ true = sym e ∙ h.numbers in cc

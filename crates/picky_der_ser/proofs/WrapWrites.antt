@@ -6,8 +6,9 @@ use Rattle.std.proofs.lemmas.Bool.Decides.{leb_tells}
 use Rattle.picky_der_core.specs.Failure.{failure_of}
 use Rattle.picky_der_core.specs.declared.failure.Failure.{Failure}
 use Rattle.picky_der_core.specs.declared.asn1.wrapper.Wrapper.{Wrapper}
-use Rattle.picky_der_core.specs.declared.asn1.wrapper.Wrapper.TheVariants.{OctetContainer, BitContainer, Explicit, Implicit}
+use Rattle.picky_der_core.specs.declared.asn1.wrapper.Wrapper.TheVariants.{OctetContainer, BitContainer, Explicit, Implicit, Retagged}
 use Rattle.picky_der_core.specs.Tag.{IsTagNumber}
+use Rattle.picky_der_core.specs.TagLaws.{constructed_tag_tells, is_constructed_tag-false}
 use Rattle.picky_der_core.specs.declared.misc.writer.WriteExt.{Ghosts}
 use Rattle.picky_der_core.specs.declared.error.Asn1DerError.{Asn1DerError}
 use Rattle.picky_der_core.specs.Tree.{Tree}
@@ -37,6 +38,7 @@ unnumbered (Implicit n) t h = elim (leb_tells n 30) [
   | inl few ↦ absurd (h few.1)
   | inr past ↦ rw past.0 refl
 ]
+unnumbered (Retagged tag) t h = rw (is_constructed_tag-false tag h) refl
 
 either_way : (n : ℕ) → IsTagNumber n ⊎ (IsTagNumber n → ⊥)
 either_way n = elim (leb_tells n 30) [
@@ -49,6 +51,10 @@ has_or_not OctetContainer = inl tt
 has_or_not BitContainer = inl tt
 has_or_not (Explicit n) = either_way n
 has_or_not (Implicit n) = either_way n
+has_or_not (Retagged tag) = elim (constructed_tag_tells tag) [
+  | inl constructed ↦ inl constructed.1
+  | inr other ↦ inr other.1
+]
 
 module _ {W : Type 0} (g : Ghosts W) where
   pub writes-wrapped : (w : Wrapper) (t : Tree) (old new : State W) (r : Result ℕ Asn1DerError) → IfOk r (λ n. Writes g t (record old { around = old.around ++ (w ∷ []) }) n new) → IfOk r (λ n. Writes g (wrap w t) old n new)

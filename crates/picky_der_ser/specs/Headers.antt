@@ -2,7 +2,7 @@
 use Rattle.std.specs.Prelude.{ℕ, suc, ◌+◌, ⊤, List, [], ◌∷◌, ◌++◌, length, take, ◌-◌, Option, None, Some}
 use Rattle.std.specs.Option.{unwrap_or}
 use Rattle.picky_der_core.specs.declared.asn1.wrapper.Wrapper.{Wrapper}
-use Rattle.picky_der_core.specs.declared.asn1.wrapper.Wrapper.TheVariants.{OctetContainer, BitContainer, Explicit, Implicit}
+use Rattle.picky_der_core.specs.declared.asn1.wrapper.Wrapper.TheVariants.{OctetContainer, BitContainer, Explicit, Implicit, Retagged}
 use Rattle.picky_der_core.specs.Element.{length_octets}
 use Rattle.picky_der_core.specs.Tag.{IsTagNumber, number_of}
 use Rattle.picky_der_core.specs.Wrapper.{HasTagNumber}
@@ -15,6 +15,7 @@ wrapper_opening OctetContainer n = 0x04 ∷ length_octets n
 wrapper_opening BitContainer n = 0x03 ∷ (length_octets (suc n) ++ (0x00 ∷ []))
 wrapper_opening (Explicit k) n = (0xA0 + k) ∷ length_octets n
 wrapper_opening (Implicit k) n = (0x80 + k) ∷ length_octets n
+wrapper_opening (Retagged tag) n = tag ∷ length_octets n
 
 -- the header of n bytes
 abbrev pub own_header : Header → ℕ → List ℕ
@@ -30,6 +31,7 @@ wrapper_openings (w ∷ ws) inner n = let rest = wrapper_openings ws inner n in 
 -- the header of an implicit tag directly around a tagged content, which stands in place of that content's own
 abbrev pub joint_header : Wrapper → Header → Option Header
 joint_header (Implicit k) (Tagged tag) = Some (Tagged (0x80 + k))
+joint_header (Retagged other) (Tagged tag) = Some (Tagged other)
 joint_header w h = None
 
 -- the same of the innermost wrapper

@@ -98,6 +98,7 @@ fn push_opening(out: &mut Vec<u8>, wrapper: Wrapper, len: usize) -> Result<(), A
             Tag::context_specific_primitive(number),
             len,
         ),
+        Wrapper::Retagged(tag) => push_back_to_front(out, Tag::from(tag), len),
     }
 }
 
@@ -146,6 +147,7 @@ fn joined(wrapper: Wrapper, header: &Header) -> Option<Header>
         (Wrapper::Implicit(number), Header::Tagged(_)) => Some(Header::Tagged(
             Tag::context_specific_primitive(number),
         )),
+        (Wrapper::Retagged(tag), Header::Tagged(_)) => Some(Header::Tagged(Tag::from(tag))),
         _ => None,
     }
 }

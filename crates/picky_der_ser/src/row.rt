@@ -5,7 +5,7 @@ ghost use Rattle.picky_der_core.specs.Equality.{IsThatOf};
 ghost use Rattle.picky_der_core.specs.Tree.{ListKind, Tree, Trees};
 ghost use Rattle.picky_der_ser.specs.Calls.{RefusesWrite, AddsRow, RefusesToAddRow, Writes};
 
-use crate::{Sequence, Serialize, Serializer};
+use crate::{List, Sequence, Serialize, Serializer};
 use picky_der_core::Result;
 use picky_der_core::asn1::Tag;
 use picky_der_core::misc::WriteExt;
@@ -66,4 +66,8 @@ impl<M: SerializeMembers> Serialize for Row<M> {
     fn serialize<W: WriteExt>(&self, ser: &mut Serializer<W>) -> Result<usize> {
         self.0.serialize_sequence(ser)
     }
+}
+
+impl<M: SerializeMembers> List for Row<M> {
+    ghost is_list = { λ row. tt };
 }

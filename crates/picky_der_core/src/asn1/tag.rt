@@ -1,6 +1,6 @@
 //! Identifier bytes (X.690, 8.1.2).
 ghost use Rattle.std.specs.Prelude.{◌≡◌, ◌+◌, ◌≤◌, ◌↔◌, ℕ, IsTrue, IsBitSet};
-ghost use Rattle.picky_der_core.specs.Tag.{class_of, number_of};
+ghost use Rattle.picky_der_core.specs.Tag.{class_of, number_of, is_constructed};
 
 use std::marker::Model;
 
@@ -164,7 +164,8 @@ impl Tag {
 
     /// Whether bit 6 is set: the content is made of elements.
     pub const fn is_constructed(self) -> bool
-        ensures { IsTrue result ↔ IsBitSet self 5 }
+        ensures set { IsTrue result ↔ IsBitSet self 5 }
+        ensures bit { result ≡ is_constructed self }
     {
         self.0 & 0x20 != 0
     }

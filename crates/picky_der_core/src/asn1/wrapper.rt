@@ -14,4 +14,7 @@ pub enum Wrapper {
 
     /// The implicit context tag with this number.
     Implicit(u8),
+
+    /// A list's tag that this identifier byte replaces.
+    Retagged(u8),
 }

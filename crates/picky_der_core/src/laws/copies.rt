@@ -4,7 +4,7 @@ ghost use Rattle.picky_der_core.specs.Equality.{IsKept, IsCopied};
 
 use crate::asn1::{
     Asn1SequenceOf, Asn1SetOf, BitStringAsn1Container, ByteBuf, Bytes, ExplicitContextTag,
-    ImplicitContextTag, OctetStringAsn1Container, TaggedBytes,
+    ImplicitContextTag, OctetStringAsn1Container, Retagged, TaggedBytes,
 };
 
 /// A copy of an octet string, or of bytes under one tag, has the same bytes.
@@ -23,7 +23,7 @@ pub fn lists<T: Clone>()
 {}
 
 /// A copy of a value in a wrapper holds a copy of it.
-pub fn wrappers<T: Clone, const N: u8>()
+pub fn wrappers<T: Clone, const N: u8, const TAG: u8>()
     ensures octets { IsCopied ⟦<OctetStringAsn1Container<T> as Clone>⟧.is_clone
         (λ held. held.0) T.is_clone }
     ensures bits { IsCopied ⟦<BitStringAsn1Container<T> as Clone>⟧.is_clone
@@ -31,5 +31,7 @@ pub fn wrappers<T: Clone, const N: u8>()
     ensures explicit { IsCopied ⟦<ExplicitContextTag<T, N> as Clone>⟧.is_clone
         (λ held. held.0) T.is_clone }
     ensures implicit { IsCopied ⟦<ImplicitContextTag<T, N> as Clone>⟧.is_clone
+        (λ held. held.0) T.is_clone }
+    ensures retagged { IsCopied ⟦<Retagged<T, TAG> as Clone>⟧.is_clone
         (λ held. held.0) T.is_clone }
 {}

@@ -6,7 +6,8 @@ ghost use Rattle.picky_der_core.specs.Equality.{IsEqualityOf, IsThatOf, comparis
 
 use crate::asn1::{
     Asn1SequenceOf, Asn1SetOf, BitStringAsn1Container, ByteBuf, Bytes, ExplicitContextTag,
-    ImplicitContextTag, Newtype, OctetStringAsn1Container, Tag, TagClass, TaggedBytes, Wrapper,
+    ImplicitContextTag, Newtype, OctetStringAsn1Container, Retagged, Tag, TagClass, TaggedBytes,
+    Wrapper,
 };
 use crate::{Asn1DerError, Failure};
 
@@ -26,12 +27,13 @@ pub fn lists<T: PartialEq>()
 {}
 
 /// Two values in one wrapper are equal just where they are without it.
-pub fn wrappers<T: PartialEq, const N: u8>()
+pub fn wrappers<T: PartialEq, const N: u8, const TAG: u8>()
     ensures octets { IsThatOf ⟦<OctetStringAsn1Container<T> as PartialEq>⟧.eq
         (λ held. held.0) T.eq }
     ensures bits { IsThatOf ⟦<BitStringAsn1Container<T> as PartialEq>⟧.eq (λ held. held.0) T.eq }
     ensures explicit { IsThatOf ⟦<ExplicitContextTag<T, N> as PartialEq>⟧.eq (λ held. held.0) T.eq }
     ensures implicit { IsThatOf ⟦<ImplicitContextTag<T, N> as PartialEq>⟧.eq (λ held. held.0) T.eq }
+    ensures retagged { IsThatOf ⟦<Retagged<T, TAG> as PartialEq>⟧.eq (λ held. held.0) T.eq }
 {}
 
 /// Tags are equal just where their bytes are the same, and classes where they are one class.

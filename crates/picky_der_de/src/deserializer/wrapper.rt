@@ -2,6 +2,10 @@
 ghost use Rattle.std.specs.Prelude.{◌≡◌, Some, IfOk, IfErr};
 ghost use Rattle.picky_der_core.specs.Wrapper.{wrapper_of, wrap_if, HasTagNumberIfAny};
 ghost use Rattle.picky_der_core.specs.declared.asn1.wrapper.Wrapper.{Wrapper as WrapperOf};
+ghost use Rattle.picky_der_core.specs.declared.asn1.wrapper.Wrapper.TheVariants as wrapper;
+ghost use Rattle.picky_der_core.specs.Shape.{Shape};
+ghost use Rattle.picky_der_core.specs.Tag.{IsConstructedTag};
+ghost use Rattle.picky_der_core.specs.Tree.{Tree};
 ghost use Rattle.picky_der_input.specs.declared.enclosure.Enclosure.TheVariants as enclosure;
 ghost use Rattle.picky_der_input.specs.Reading.{Reads, Refuses, AreNotRefused};
 ghost use Rattle.picky_der_input.specs.Enclosures.{wrap_shape_if, opening_refusal, RefusesEnclosed};
@@ -9,9 +13,10 @@ ghost use Rattle.picky_der_input.specs.TagNumbers.{RefusesNumber};
 
 use super::Deserializer;
 use crate::{Deserialize, Enclosure};
-use picky_der_core::asn1::Newtype;
+use picky_der_core::asn1::{Newtype, Tag, Wrapper};
 use picky_der_core::misc::ReadExt;
 use picky_der_core::{Asn1DerError, Result};
+use picky_der_ser::List;
 
 impl<R: ReadExt> Deserializer<R> {
     /// Reads the value of a newtype, in the wrapper that stands around it (X.690, 8.6.2, 8.7 and 8.14). `Newtype::Plain` has
@@ -37,5 +42,25 @@ impl<R: ReadExt> Deserializer<R> {
             Some(wrapper) => self.read_enclosed(Enclosure::Wrapper(wrapper)),
             None => T::deserialize(self),
         }
+    }
+
+    /// Reads a list under this tag, which is in place of the list's own (X.690, 8.14).
+    ///
+    /// `UnsupportedValue` for a tag that isn't constructed and for a tag number past 30: nothing is drawn then, and no memory is
+    /// taken. `InvalidData` for another tag, and for bytes left over before the list's end, none of which is drawn; the refusals of a
+    /// header and of an end; else as the list is refused.
+    pub fn deserialize_retagged<T: List + Deserialize>(&mut self, tag: Tag) -> Result<T>
+        ensures ok { IfOk result (λ value. Reads
+            (Shape.retagged tag T.shape) self.old self.new
+            (Tree.retagged tag (T.meaning value))) }
+        ensures err { IfErr result (Refuses (λ (value : T). Tree.retagged tag
+            (T.meaning value)) (Shape.retagged tag T.shape) self.old self.new) }
+        ensures no_refusal { IfOk result (λ value. AreNotRefused
+            (opening_refusal (enclosure.Wrapper (wrapper.Retagged tag)) self.old) self.old) }
+        ensures refused { IfErr result (RefusesEnclosed T.meaning T.shape
+            (enclosure.Wrapper (wrapper.Retagged tag)) self.old self.new) }
+        ensures unsupported { (IsConstructedTag tag → ⊥) → RefusesNumber self.old result self.new }
+    {
+        self.read_enclosed(Enclosure::Wrapper(Wrapper::Retagged(tag.inner())))
     }
 }

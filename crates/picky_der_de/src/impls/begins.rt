@@ -6,9 +6,9 @@ ghost use Rattle.picky_der_core.specs.Shape.{contains, tag_with_number};
 use crate::{Begins, Deserialize, DeserializeMembers};
 use picky_der_core::asn1::{
     Asn1SequenceOf, Asn1SetOf, BitStringAsn1Container, ByteBuf, ExplicitContextTag,
-    ImplicitContextTag, OctetStringAsn1Container, Tag, TaggedBytes,
+    ImplicitContextTag, OctetStringAsn1Container, Retagged, Tag, TaggedBytes,
 };
-use picky_der_ser::Row;
+use picky_der_ser::{List, Row};
 
 // Whether it is this tag, whose number has to be one of the short form.
 fn is_tag(tag: Tag, wanted: u8) -> bool
@@ -179,5 +179,11 @@ impl<T: Deserialize, const N: u8> Begins for ExplicitContextTag<T, N> {
 impl<T: Deserialize, const N: u8> Begins for ImplicitContextTag<T, N> {
     fn begins_with(tag: Tag) -> bool {
         is_numbered(tag, 0x80, N)
+    }
+}
+
+impl<T: List + Deserialize, const TAG: u8> Begins for Retagged<T, TAG> {
+    fn begins_with(tag: Tag) -> bool {
+        is_tag(tag, TAG)
     }
 }

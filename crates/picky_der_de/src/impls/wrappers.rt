@@ -8,9 +8,10 @@ use crate::{Deserialize, Deserializer};
 use picky_der_core::Result;
 use picky_der_core::asn1::{
     BitStringAsn1Container, ExplicitContextTag, ImplicitContextTag, Newtype,
-    OctetStringAsn1Container,
+    OctetStringAsn1Container, Retagged, Tag,
 };
 use picky_der_core::misc::ReadExt;
+use picky_der_ser::List;
 
 impl<T: Deserialize> Deserialize for OctetStringAsn1Container<T> {
     ghost shape = { Shape.octet_container T.shape };
@@ -61,5 +62,18 @@ impl<T: Deserialize, const N: u8> Deserialize for ImplicitContextTag<T, N> {
     fn deserialize<R: ReadExt>(de: &mut Deserializer<R>) -> Result<ImplicitContextTag<T, N>> {
         let value = de.deserialize_newtype_struct(Newtype::Implicit(N))?;
         Ok(ImplicitContextTag(value))
+    }
+}
+
+impl<T: List + Deserialize, const TAG: u8> Deserialize for Retagged<T, TAG> {
+    ghost shape = { Shape.retagged TAG T.shape };
+
+    ghost known = { known_enclosed T.known (enclosure.Wrapper (wrapper.Retagged TAG)) (λ it. it.0) };
+
+    ghost tied = { ties_enclosed T.tied (enclosure.Wrapper (wrapper.Retagged TAG)) (λ it. it.0) };
+
+    fn deserialize<R: ReadExt>(de: &mut Deserializer<R>) -> Result<Retagged<T, TAG>> {
+        let value = de.deserialize_retagged(Tag::from(TAG))?;
+        Ok(Retagged(value))
     }
 }

@@ -122,8 +122,9 @@ impl<R: ReadExt> Input<R> {
 
     /// Takes what stands before the value, and opens the enclosure's end.
     ///
-    /// `UnsupportedValue` for a tag number past 30: nothing is drawn then. `InvalidData` for another tag and for unused bits
-    /// (X.690, 8.6.2); the refusals of a header and of an end; else the reader's fault.
+    /// `UnsupportedValue` for a tag number past 30, and for a tag in place of a list's own that isn't constructed: nothing is drawn
+    /// then. `InvalidData` for another tag and for unused bits (X.690, 8.6.2); the refusals of a header and of an end; else the
+    /// reader's fault.
     pub fn open_enclosure(&mut self, enclosure: Enclosure) -> Result<Outer>
         ensures ok { IfOk result (OpensEnclosure enclosure self.old self.new) }
         ensures bounded { IfOk result (λ outer. outer.position ≤ self.new.limit) }
@@ -135,7 +136,7 @@ impl<R: ReadExt> Input<R> {
         if enclosure.has_unused_bits() {
             self.take_unused_bits()?;
         }
-        self.implicit_tag = enclosure.implicit_number();
+        self.implicit_tag = enclosure.implicit_tag();
         Ok(outer)
     }
 

@@ -56,7 +56,7 @@ impl<R: ReadExt> Input<R> {
             return Err(error);
         }
         match self.implicit_tag {
-            Some(number) => Ok(Tag::context_specific_primitive(number)),
+            Some(tag) => Ok(Tag::from(tag)),
             None => self.peek_tag(),
         }
     }
@@ -76,7 +76,7 @@ impl<R: ReadExt> Input<R> {
             return Err(error);
         }
         match self.implicit_tag {
-            Some(number) => Ok(Some(Tag::context_specific_primitive(number))),
+            Some(tag) => Ok(Some(Tag::from(tag))),
             None => self.peek_next(),
         }
     }

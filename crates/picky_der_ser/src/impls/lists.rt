@@ -6,7 +6,7 @@ ghost use Rattle.picky_der_ser.specs.Calls.{Writes, RefusesWrite};
 ghost use Rattle.picky_der_ser.specs.Meaning.{list_meaning};
 ghost use Rattle.picky_der_ser.specs.Sequences.{IsListTag, list_kind};
 
-use crate::{Sequence, Serialize, Serializer};
+use crate::{List, Sequence, Serialize, Serializer};
 use picky_der_core::Result;
 use picky_der_core::asn1::{Asn1SequenceOf, Asn1SetOf, Tag};
 use picky_der_core::misc::WriteExt;
@@ -40,12 +40,20 @@ impl<T: Serialize> Serialize for &[T] {
     }
 }
 
+impl<T: Serialize> List for &[T] {
+    ghost is_list = { λ list. tt };
+}
+
 impl<T: Serialize> Serialize for Vec<T> {
     ghost meaning = { λ list. list_meaning ListKind.sequence T.meaning list.items };
 
     fn serialize<W: WriteExt>(&self, ser: &mut Serializer<W>) -> Result<usize> {
         write_items(self, Tag::SEQUENCE, ser)
     }
+}
+
+impl<T: Serialize> List for Vec<T> {
+    ghost is_list = { λ list. tt };
 }
 
 impl<T: Serialize, const N: usize> Serialize for [T; N] {
@@ -56,6 +64,10 @@ impl<T: Serialize, const N: usize> Serialize for [T; N] {
     }
 }
 
+impl<T: Serialize, const N: usize> List for [T; N] {
+    ghost is_list = { λ list. tt };
+}
+
 impl<T: Serialize> Serialize for Asn1SequenceOf<T> {
     ghost meaning = { λ list. list_meaning ListKind.sequence T.meaning list.0.items };
 
@@ -64,10 +76,18 @@ impl<T: Serialize> Serialize for Asn1SequenceOf<T> {
     }
 }
 
+impl<T: Serialize> List for Asn1SequenceOf<T> {
+    ghost is_list = { λ list. tt };
+}
+
 impl<T: Serialize> Serialize for Asn1SetOf<T> {
     ghost meaning = { λ list. list_meaning ListKind.set T.meaning list.0.items };
 
     fn serialize<W: WriteExt>(&self, ser: &mut Serializer<W>) -> Result<usize> {
         write_items(&self.0, Tag::SET, ser)
     }
+}
+
+impl<T: Serialize> List for Asn1SetOf<T> {
+    ghost is_list = { λ list. tt };
 }

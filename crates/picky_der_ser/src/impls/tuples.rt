@@ -3,7 +3,7 @@ ghost use Rattle.std.specs.Prelude.{[], ◌∷◌};
 ghost use Rattle.picky_der_core.specs.Tree.{ListKind, Tree, trees};
 
 use crate::lent::{Eight, Five, Four, One, Seven, Six, Three, Two};
-use crate::{Serialize, SerializeMembers, Serializer};
+use crate::{List, Serialize, SerializeMembers, Serializer};
 use picky_der_core::Result;
 use picky_der_core::misc::WriteExt;
 
@@ -15,12 +15,20 @@ impl<A: Serialize> Serialize for (A,) {
     }
 }
 
+impl<A: Serialize> List for (A,) {
+    ghost is_list = { λ t. tt };
+}
+
 impl<A: Serialize, B: Serialize> Serialize for (A, B) {
     ghost meaning = { λ t. Tree.list ListKind.sequence (trees (A.meaning t.0 ∷ B.meaning t.1 ∷ [])) };
 
     fn serialize<W: WriteExt>(&self, ser: &mut Serializer<W>) -> Result<usize> {
         Two(&self.0, &self.1, &()).serialize_sequence(ser)
     }
+}
+
+impl<A: Serialize, B: Serialize> List for (A, B) {
+    ghost is_list = { λ t. tt };
 }
 
 impl<A: Serialize, B: Serialize, C: Serialize> Serialize for (A, B, C) {
@@ -31,6 +39,10 @@ impl<A: Serialize, B: Serialize, C: Serialize> Serialize for (A, B, C) {
     }
 }
 
+impl<A: Serialize, B: Serialize, C: Serialize> List for (A, B, C) {
+    ghost is_list = { λ t. tt };
+}
+
 impl<A: Serialize, B: Serialize, C: Serialize, D: Serialize> Serialize for (A, B, C, D) {
     ghost meaning = { λ t. Tree.list ListKind.sequence (trees
         (A.meaning t.0 ∷ B.meaning t.1 ∷ C.meaning t.2 ∷ D.meaning t.3 ∷ [])) };
@@ -38,6 +50,10 @@ impl<A: Serialize, B: Serialize, C: Serialize, D: Serialize> Serialize for (A, B
     fn serialize<W: WriteExt>(&self, ser: &mut Serializer<W>) -> Result<usize> {
         Four(&self.0, &self.1, &self.2, &self.3, &()).serialize_sequence(ser)
     }
+}
+
+impl<A: Serialize, B: Serialize, C: Serialize, D: Serialize> List for (A, B, C, D) {
+    ghost is_list = { λ t. tt };
 }
 
 impl<A: Serialize, B: Serialize, C: Serialize, D: Serialize, E: Serialize> Serialize
@@ -50,6 +66,11 @@ impl<A: Serialize, B: Serialize, C: Serialize, D: Serialize, E: Serialize> Seria
     }
 }
 
+impl<A: Serialize, B: Serialize, C: Serialize, D: Serialize, E: Serialize> List
+    for (A, B, C, D, E) {
+    ghost is_list = { λ t. tt };
+}
+
 impl<A: Serialize, B: Serialize, C: Serialize, D: Serialize, E: Serialize, F: Serialize> Serialize
     for (A, B, C, D, E, F) {
     ghost meaning = { λ t. Tree.list ListKind.sequence (trees
@@ -58,6 +79,11 @@ impl<A: Serialize, B: Serialize, C: Serialize, D: Serialize, E: Serialize, F: Se
     fn serialize<W: WriteExt>(&self, ser: &mut Serializer<W>) -> Result<usize> {
         Six(&self.0, &self.1, &self.2, &self.3, &self.4, &self.5, &()).serialize_sequence(ser)
     }
+}
+
+impl<A: Serialize, B: Serialize, C: Serialize, D: Serialize, E: Serialize, F: Serialize> List
+    for (A, B, C, D, E, F) {
+    ghost is_list = { λ t. tt };
 }
 
 impl<
@@ -86,6 +112,18 @@ impl<
         )
         .serialize_sequence(ser)
     }
+}
+
+impl<
+    A: Serialize,
+    B: Serialize,
+    C: Serialize,
+    D: Serialize,
+    E: Serialize,
+    F: Serialize,
+    G: Serialize,
+> List for (A, B, C, D, E, F, G) {
+    ghost is_list = { λ t. tt };
 }
 
 impl<
@@ -127,6 +165,19 @@ impl<
     F: Serialize,
     G: Serialize,
     H: Serialize,
+> List for (A, B, C, D, E, F, G, H) {
+    ghost is_list = { λ t. tt };
+}
+
+impl<
+    A: Serialize,
+    B: Serialize,
+    C: Serialize,
+    D: Serialize,
+    E: Serialize,
+    F: Serialize,
+    G: Serialize,
+    H: Serialize,
     I: Serialize,
 > Serialize for (A, B, C, D, E, F, G, H, I) {
     ghost meaning = { λ t. Tree.list ListKind.sequence (trees
@@ -152,6 +203,20 @@ impl<
     G: Serialize,
     H: Serialize,
     I: Serialize,
+> List for (A, B, C, D, E, F, G, H, I) {
+    ghost is_list = { λ t. tt };
+}
+
+impl<
+    A: Serialize,
+    B: Serialize,
+    C: Serialize,
+    D: Serialize,
+    E: Serialize,
+    F: Serialize,
+    G: Serialize,
+    H: Serialize,
+    I: Serialize,
     J: Serialize,
 > Serialize for (A, B, C, D, E, F, G, H, I, J) {
     ghost meaning = { λ t. Tree.list ListKind.sequence (trees
@@ -165,6 +230,21 @@ impl<
         )
         .serialize_sequence(ser)
     }
+}
+
+impl<
+    A: Serialize,
+    B: Serialize,
+    C: Serialize,
+    D: Serialize,
+    E: Serialize,
+    F: Serialize,
+    G: Serialize,
+    H: Serialize,
+    I: Serialize,
+    J: Serialize,
+> List for (A, B, C, D, E, F, G, H, I, J) {
+    ghost is_list = { λ t. tt };
 }
 
 impl<
@@ -205,6 +285,22 @@ impl<
     I: Serialize,
     J: Serialize,
     K: Serialize,
+> List for (A, B, C, D, E, F, G, H, I, J, K) {
+    ghost is_list = { λ t. tt };
+}
+
+impl<
+    A: Serialize,
+    B: Serialize,
+    C: Serialize,
+    D: Serialize,
+    E: Serialize,
+    F: Serialize,
+    G: Serialize,
+    H: Serialize,
+    I: Serialize,
+    J: Serialize,
+    K: Serialize,
     L: Serialize,
 > Serialize for (A, B, C, D, E, F, G, H, I, J, K, L) {
     ghost meaning = { λ t. Tree.list ListKind.sequence (trees
@@ -218,6 +314,23 @@ impl<
         )
         .serialize_sequence(ser)
     }
+}
+
+impl<
+    A: Serialize,
+    B: Serialize,
+    C: Serialize,
+    D: Serialize,
+    E: Serialize,
+    F: Serialize,
+    G: Serialize,
+    H: Serialize,
+    I: Serialize,
+    J: Serialize,
+    K: Serialize,
+    L: Serialize,
+> List for (A, B, C, D, E, F, G, H, I, J, K, L) {
+    ghost is_list = { λ t. tt };
 }
 
 impl<
@@ -264,6 +377,24 @@ impl<
     K: Serialize,
     L: Serialize,
     M: Serialize,
+> List for (A, B, C, D, E, F, G, H, I, J, K, L, M) {
+    ghost is_list = { λ t. tt };
+}
+
+impl<
+    A: Serialize,
+    B: Serialize,
+    C: Serialize,
+    D: Serialize,
+    E: Serialize,
+    F: Serialize,
+    G: Serialize,
+    H: Serialize,
+    I: Serialize,
+    J: Serialize,
+    K: Serialize,
+    L: Serialize,
+    M: Serialize,
     N: Serialize,
 > Serialize for (A, B, C, D, E, F, G, H, I, J, K, L, M, N) {
     ghost meaning = { λ t. Tree.list ListKind.sequence (trees
@@ -288,6 +419,25 @@ impl<
         )
         .serialize_sequence(ser)
     }
+}
+
+impl<
+    A: Serialize,
+    B: Serialize,
+    C: Serialize,
+    D: Serialize,
+    E: Serialize,
+    F: Serialize,
+    G: Serialize,
+    H: Serialize,
+    I: Serialize,
+    J: Serialize,
+    K: Serialize,
+    L: Serialize,
+    M: Serialize,
+    N: Serialize,
+> List for (A, B, C, D, E, F, G, H, I, J, K, L, M, N) {
+    ghost is_list = { λ t. tt };
 }
 
 impl<
@@ -348,6 +498,26 @@ impl<
     M: Serialize,
     N: Serialize,
     O: Serialize,
+> List for (A, B, C, D, E, F, G, H, I, J, K, L, M, N, O) {
+    ghost is_list = { λ t. tt };
+}
+
+impl<
+    A: Serialize,
+    B: Serialize,
+    C: Serialize,
+    D: Serialize,
+    E: Serialize,
+    F: Serialize,
+    G: Serialize,
+    H: Serialize,
+    I: Serialize,
+    J: Serialize,
+    K: Serialize,
+    L: Serialize,
+    M: Serialize,
+    N: Serialize,
+    O: Serialize,
     P: Serialize,
 > Serialize for (A, B, C, D, E, F, G, H, I, J, K, L, M, N, O, P) {
     ghost meaning = { λ t. Tree.list ListKind.sequence (trees
@@ -375,4 +545,25 @@ impl<
         )
         .serialize_sequence(ser)
     }
+}
+
+impl<
+    A: Serialize,
+    B: Serialize,
+    C: Serialize,
+    D: Serialize,
+    E: Serialize,
+    F: Serialize,
+    G: Serialize,
+    H: Serialize,
+    I: Serialize,
+    J: Serialize,
+    K: Serialize,
+    L: Serialize,
+    M: Serialize,
+    N: Serialize,
+    O: Serialize,
+    P: Serialize,
+> List for (A, B, C, D, E, F, G, H, I, J, K, L, M, N, O, P) {
+    ghost is_list = { λ t. tt };
 }

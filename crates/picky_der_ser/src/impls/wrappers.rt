@@ -1,11 +1,11 @@
 //! Containers and context tags, as they are written.
 ghost use Rattle.picky_der_core.specs.Tree.{Tree};
 
-use crate::{Serialize, Serializer};
+use crate::{List, Serialize, Serializer};
 use picky_der_core::Result;
 use picky_der_core::asn1::{
     BitStringAsn1Container, ExplicitContextTag, ImplicitContextTag, Newtype,
-    OctetStringAsn1Container,
+    OctetStringAsn1Container, Retagged, Tag,
 };
 use picky_der_core::misc::WriteExt;
 
@@ -38,5 +38,13 @@ impl<T: Serialize, const N: u8> Serialize for ImplicitContextTag<T, N> {
 
     fn serialize<W: WriteExt>(&self, ser: &mut Serializer<W>) -> Result<usize> {
         ser.serialize_newtype_struct(Newtype::Implicit(N), &self.0)
+    }
+}
+
+impl<T: List, const TAG: u8> Serialize for Retagged<T, TAG> {
+    ghost meaning = { λ x. Tree.retagged TAG (T.meaning x.0) };
+
+    fn serialize<W: WriteExt>(&self, ser: &mut Serializer<W>) -> Result<usize> {
+        ser.serialize_retagged(Tag::from(TAG), &self.0)
     }
 }

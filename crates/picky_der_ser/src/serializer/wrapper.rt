@@ -1,16 +1,18 @@
 //! Wrappers, as a serializer opens them.
 ghost use Rattle.std.specs.Prelude.{◌≡◌, true, false, [], ◌∷◌, ◌++◌, None, Err, IfOk, IfErr, OnOk};
 ghost use Rattle.picky_der_core.specs.WriterFaults.{IsOnceAtMost};
+ghost use Rattle.picky_der_core.specs.Tag.{IsConstructedTag};
+ghost use Rattle.picky_der_core.specs.Tree.{Tree};
 ghost use Rattle.picky_der_core.specs.Wrapper.{wrap, wrapper_of, wrap_if, HasTagNumber, HasTagNumberIfAny};
 ghost use Rattle.picky_der_ser.specs.Calls.{Writes, RefusesWrite, RefusesWrapper};
 
 use super::Serializer;
-use crate::Serialize;
+use crate::{List, Serialize};
 use picky_der_core::asn1::{Newtype, Tag, Wrapper};
 use picky_der_core::misc::WriteExt;
 use picky_der_core::{Asn1DerError, Result};
 
-// Whether the wrapper's tag number, if it has one, is at most 30.
+// Whether the wrapper's tag number, if it has one, is at most 30, and a tag in place of a list's own is constructed.
 fn has_tag_number(wrapper: Wrapper) -> bool
     ensures yes { result ≡ true → HasTagNumber wrapper }
     ensures no { result ≡ false → HasTagNumber wrapper → ⊥ }
@@ -18,6 +20,10 @@ fn has_tag_number(wrapper: Wrapper) -> bool
     match wrapper {
         Wrapper::OctetContainer | Wrapper::BitContainer => true,
         Wrapper::Explicit(number) | Wrapper::Implicit(number) => number <= Tag::MAX_NUMBER,
+        Wrapper::Retagged(tag) => {
+            let tag = Tag::from(tag);
+            tag.number() <= Tag::MAX_NUMBER && tag.is_constructed()
+        }
     }
 }
 
@@ -83,5 +89,22 @@ impl<W: WriteExt> Serializer<W> {
             Some(wrapper) => self.write_wrapped(wrapper, value),
             None => value.serialize(self),
         }
+    }
+
+    /// Writes a list under this tag, which is written in place of the list's own (X.690, 8.14), in the open wrappers.
+    ///
+    /// `UnsupportedValue` for a tag that isn't constructed and for a tag number past 30, which is tested before the value is
+    /// looked at: nothing is written, and no memory is taken.
+    pub fn serialize_retagged<T: List>(&mut self, tag: Tag, value: &T) -> Result<usize>
+        ensures wrote { IfOk result (λ n. Writes W.WriteExt.own
+            (Tree.retagged tag (T.meaning value.now)) self.old n self.new) }
+        ensures failed { IfErr result (λ e. RefusesWrite W.WriteExt.own
+            (Tree.retagged tag (T.meaning value.now)) self.old e self.new) }
+        ensures past { (IsConstructedTag tag → ⊥) → self.old.failed ≡ None
+            → (result ≡ Err Asn1DerError.UnsupportedValue) × (self.new.sink ≡ self.old.sink) }
+        ensures counted { IsOnceAtMost (W.faults self.old.sink) (W.faults self.new.sink) }
+        ensures goes_on { W.later self.old.sink self.new.sink }
+    {
+        self.write_wrapped(Wrapper::Retagged(tag.inner()), value)
     }
 }

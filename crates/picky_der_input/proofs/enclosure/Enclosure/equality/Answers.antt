@@ -15,6 +15,10 @@ returns c (enclosure.Wrapper (wrapper.Implicit n)) (enclosure.Wrapper (wrapper.I
   λ h. ap (λ m. enclosure.Wrapper (wrapper.Implicit m)) ((unsigned_Decides n k).0 h),
   λ e. let same : n ≡ k = cc in (unsigned_Decides n k).1 same,
 )
+returns c (enclosure.Wrapper (wrapper.Retagged n)) (enclosure.Wrapper (wrapper.Retagged k)) = (
+  λ h. ap (λ m. enclosure.Wrapper (wrapper.Retagged m)) ((unsigned_Decides n k).0 h),
+  λ e. let same : n ≡ k = cc in (unsigned_Decides n k).1 same,
+)
 returns c (enclosure.Application n) (enclosure.Application k) = (
   λ h. ap enclosure.Application ((unsigned_Decides n k).0 h),
   λ e. let same : n ≡ k = cc in (unsigned_Decides n k).1 same,

@@ -13,10 +13,10 @@ returns-in_err-take_unused_bits-clause-err g c =
 pub returns-clause-ok : goal.returns-clause-ok
 returns-clause-ok g c =
     let h = c.in_ok-outer.ensures.ok in
-    let n = c.implicit_number-self-inside in
+    let n = c.implicit_tag-self-inside in
     let counts = sym c.has_unused_bits.ensures in
     let marked = λ (before : State) (same : c.if-has_unused_bits.self ≡ before).
-    ap (λ (s : State). record s { implicit_tag = n.result }) (c.self.view_is ∙ same) ∙ ap (λ number. record before { implicit_tag = number }) n.ensures in
+    ap (λ (s : State). record s { implicit_tag = n.result }) (c.self.view_is ∙ same) ∙ ap (λ tag. record before { implicit_tag = tag }) n.ensures in
     elim c.if-has_unused_bits.branch [
       | then-has_unused_bits+in_ok-take_unused_bits w ↦ opens_behind_count h (counts ∙ w.if-has_unused_bits.true) w.in_ok-take_unused_bits.ensures.ok (marked w.take_unused_bits.new.self w.self-is)
       | else-has_unused_bits w ↦ opens_at_once h (counts ∙ w.if-has_unused_bits.false) (marked c.begin_enclosure.new.self w.self-is)

@@ -1,0 +1,66 @@
+//! Contents that are signed.
+ghost use Rattle.std.proofs.Common.{rules};
+ghost use Rattle.picky_der_core.specs.Shape.{Shape};
+ghost use Rattle.picky_der_core.specs.Tree.{ListKind, Tree};
+ghost use Rattle.picky_der_de.specs.Telling.{by_parts, tells};
+
+use picky_asn1_der::asn1::{ByteBuf, ExplicitContextTag0, ObjectIdentifierAsn1};
+use picky_asn1_der::de::{DeserializeLayout, Struct, deserialize_struct_as};
+use picky_asn1_der::misc::{ReadExt, WriteExt};
+use picky_asn1_der::ser::{Optional, OptionalRef, SerializeMembers};
+use picky_asn1_der::{Deserialize, Deserializer, Result, Serialize, Serializer};
+
+/// What is signed, as a SEQUENCE (RFC 5652, 5.2).
+#[derive(Debug, Drop, PartialEq, Eq)]
+pub struct EncapsulatedContentInfo {
+    /// The content of the object identifier of its type.
+    pub content_type: ObjectIdentifierAsn1,
+    /// The content. Where it is absent, it is sent apart from this.
+    pub content: Option<ExplicitContextTag0<ByteBuf>>,
+}
+
+type Members = (
+    ObjectIdentifierAsn1,
+    Optional<ExplicitContextTag0<ByteBuf>>,
+    (),
+);
+
+impl Serialize for EncapsulatedContentInfo {
+    ghost meaning = { λ it. Tree.list ListKind.sequence (⟦<Members as SerializeMembers>⟧.members
+        (⟦<EncapsulatedContentInfo as Struct>⟧.parts it)) };
+
+    fn serialize<W: WriteExt>(&self, serializer: &mut Serializer<W>) -> Result<usize> {
+        (&self.content_type, OptionalRef(&self.content), ()).serialize_sequence(serializer)
+    }
+}
+
+impl Struct for EncapsulatedContentInfo {
+    type Members = Members;
+
+    ghost parts = { λ it. (it.content_type, record { 0 = it.content }, tt) };
+
+    fn from_parts(members: Members) -> EncapsulatedContentInfo {
+        let (content_type, Optional(content), ()) = members;
+        EncapsulatedContentInfo {
+            content_type,
+            content,
+        }
+    }
+
+    ghost told = { Prim.search rules };
+}
+
+impl Deserialize for EncapsulatedContentInfo {
+    ghost shape = { Shape.struct_of ListKind.sequence ⟦<Members as DeserializeLayout>⟧.layout };
+
+    ghost injective = { by_parts (Shape.struct_of ListKind.sequence ⟦<Members as DeserializeLayout>⟧.layout)
+        (Prim.search (rules, tells) depth 99) };
+
+    ghost sound = { Prim.search rules depth 99 };
+
+    fn deserialize<R: ReadExt>(
+        deserializer: &mut Deserializer<R>,
+    ) -> Result<EncapsulatedContentInfo> {
+        deserialize_struct_as(deserializer)
+    }
+}

@@ -1,0 +1,72 @@
+//! Lists under tags in place of their own.
+
+use crate::answers::{RowBytes, Writing, read_as, written};
+use der_examples::{Attribute, CertificationRequestInfo, SignedData};
+use der_x509::AlgorithmIdentifier;
+use picky_asn1_der::asn1::{
+    Asn1SetOf, ExplicitContextTag0, ImplicitContextTag0, ImplicitList0, ImplicitList1,
+    ImplicitList2, ImplicitList3, ImplicitList4, ObjectIdentifierAsn1, Retagged,
+};
+use std::alloc::{AllocError, Global};
+
+/// The answer to a row that names one of these types.
+pub(crate) fn answer(alloc: Global, name: &str, row: &RowBytes) -> Result<String, AllocError> {
+    match name {
+        "ImplicitList0<Asn1SetOf<u8>>" => read_as::<ImplicitList0<Asn1SetOf<u8>>>(alloc, row),
+        "ImplicitList1<Vec<u8>>" => read_as::<ImplicitList1<Vec<u8>>>(alloc, row),
+        "ImplicitList2<(u8, bool)>" => read_as::<ImplicitList2<(u8, bool)>>(alloc, row),
+        "ImplicitList3<[u8; 2]>" => read_as::<ImplicitList3<[u8; 2]>>(alloc, row),
+        "ImplicitList4<AlgorithmIdentifier>" => read_as::<ImplicitList4<AlgorithmIdentifier>>(
+            alloc, row,
+        ),
+        "Retagged<Vec<u8>, 0x31>" => read_as::<Retagged<Vec<u8>, 0x31>>(alloc, row),
+        "Retagged<Vec<u8>, 0x60>" => read_as::<Retagged<Vec<u8>, 0x60>>(alloc, row),
+        "Retagged<Vec<u8>, 0x80>" => read_as::<Retagged<Vec<u8>, 0x80>>(alloc, row),
+        "Retagged<Vec<u8>, 0xBE>" => read_as::<Retagged<Vec<u8>, 0xBE>>(alloc, row),
+        "Retagged<Vec<u8>, 0xBF>" => read_as::<Retagged<Vec<u8>, 0xBF>>(alloc, row),
+        _ => answer_inside(alloc, name, row),
+    }
+}
+
+// The same of types that hold such lists.
+fn answer_inside(alloc: Global, name: &str, row: &RowBytes) -> Result<String, AllocError> {
+    match name {
+        "(ImplicitList0<Asn1SetOf<u8>>, ImplicitList1<Vec<u8>>)" => read_as::<
+            (ImplicitList0<Asn1SetOf<u8>>, ImplicitList1<Vec<u8>>),
+        >(alloc, row),
+        "ExplicitContextTag0<ImplicitList1<Vec<u8>>>" => read_as::<
+            ExplicitContextTag0<ImplicitList1<Vec<u8>>>,
+        >(alloc, row),
+        "ImplicitContextTag0<ImplicitList1<Vec<u8>>>" => read_as::<
+            ImplicitContextTag0<ImplicitList1<Vec<u8>>>,
+        >(alloc, row),
+        "ImplicitList0<Asn1SetOf<Attribute>>" => read_as::<ImplicitList0<Asn1SetOf<Attribute>>>(
+            alloc, row,
+        ),
+        "CertificationRequestInfo" => read_as::<CertificationRequestInfo>(alloc, row),
+        "(ObjectIdentifierAsn1, ExplicitContextTag0<SignedData>)" => read_as::<
+            (ObjectIdentifierAsn1, ExplicitContextTag0<SignedData>),
+        >(alloc, row),
+        _ => String::from_str(alloc, "unknown type"),
+    }
+}
+
+/// The answer to a row that names one of these values.
+pub(crate) fn written_value(alloc: Global, how: Writing, name: &str) -> Result<String, AllocError> {
+    match name {
+        "ImplicitList0(Asn1SetOf([5u8, 3]))" => set(alloc, how),
+        "Retagged::<[u8; 1], 0x80>([7])" => written(alloc, how, &Retagged::<[u8; 1], 0x80>([7])),
+        "Retagged::<[u8; 1], 0xBF>([7])" => written(alloc, how, &Retagged::<[u8; 1], 0xBF>([7])),
+        "(7u8, Retagged::<[u8; 1], 0x80>([7]))" => written(
+            alloc,
+            how,
+            &(7u8, Retagged::<[u8; 1], 0x80>([7])),
+        ),
+        _ => String::from_str(alloc, "unknown value"),
+    }
+}
+
+fn set(alloc: Global, how: Writing) -> Result<String, AllocError> {
+    let members = vec![in alloc; 5u8, 3]?;
+    written(alloc, how, &ImplicitList0::from(Asn1SetOf(members)))
+}
