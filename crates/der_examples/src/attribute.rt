@@ -1,8 +1,9 @@
 //! Attributes of requests and of signers.
-ghost use Rattle.std.proofs.Common.{rules};
-ghost use Rattle.picky_der_de.specs.Telling.{by_parts, tells};
+ghost use Rattle.picky_der_de.specs.Known.{by_itself};
+ghost use Rattle.picky_der_de.specs.KnownRows.{known_record};
 
 use picky_asn1_der::asn1::{Asn1SetOf, ObjectIdentifierAsn1};
+use picky_asn1_der::de::DeserializeMembers;
 use picky_asn1_der::misc::{ReadExt, WriteExt};
 use picky_asn1_der::{
     Asn1RawDer, Deserialize, Deserializer, Record, Result, Row, Serialize, Serializer, de,
@@ -41,9 +42,9 @@ impl Record for Attribute {
 impl Deserialize for Attribute {
     ghost shape = { ⟦<Row<Fields> as Deserialize>⟧.shape };
 
-    ghost injective = { by_parts ⟦<Row<Fields> as Deserialize>⟧.shape (Prim.search tells depth 99) };
+    ghost known = { known_record ⟦<Fields as DeserializeMembers>⟧.known ⟦<Self as Record>⟧.parts ⟦<Self as PartialEq>⟧.eq (λ x y h. h) };
 
-    ghost sound = { Prim.search rules depth 99 };
+    ghost tied = { by_itself };
 
     fn deserialize<R: ReadExt>(deserializer: &mut Deserializer<R>) -> Result<Attribute> {
         de::deserialize_record_as(deserializer)

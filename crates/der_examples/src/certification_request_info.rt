@@ -1,13 +1,11 @@
 //! Requests for certificates.
-ghost use Rattle.std.proofs.Common.{rules};
-ghost use Rattle.picky_der_de.specs.Telling.{by_law, by_parts, tells};
-ghost use Rattle.picky_asn1_der.specs.RawLaws.{raw_is_last};
-ghost use Rattle.der_x509.specs.contracts.subject_public_key_info.SubjectPublicKeyInfoDeserialize.TheImpl.Laws.{injective-law as key_law};
-ghost use Rattle.der_examples.specs.contracts.attribute.AttributeDeserialize.TheImpl.Laws.{injective-law as attribute_law};
+ghost use Rattle.picky_der_de.specs.Known.{by_itself};
+ghost use Rattle.picky_der_de.specs.KnownRows.{known_record};
 
 use crate::Attribute;
 use der_x509::{Name, SubjectPublicKeyInfo};
 use picky_asn1_der::asn1::{Asn1SetOf, ImplicitList0};
+use picky_asn1_der::de::DeserializeMembers;
 use picky_asn1_der::misc::{ReadExt, WriteExt};
 use picky_asn1_der::{Deserialize, Deserializer, Record, Result, Row, Serialize, Serializer, de};
 
@@ -65,13 +63,9 @@ impl Record for CertificationRequestInfo {
 impl Deserialize for CertificationRequestInfo {
     ghost shape = { ⟦<Row<Fields> as Deserialize>⟧.shape };
 
-    ghost injective = { by_parts ⟦<Row<Fields> as Deserialize>⟧.shape (Prim.search (
-      tells,
-      by_law ⟦<SubjectPublicKeyInfo as Deserialize>⟧.shape key_law,
-      by_law ⟦<Attribute as Deserialize>⟧.shape attribute_law,
-    ) depth 99) };
+    ghost known = { known_record ⟦<Fields as DeserializeMembers>⟧.known ⟦<Self as Record>⟧.parts ⟦<Self as PartialEq>⟧.eq (λ x y h. h) };
 
-    ghost sound = { Prim.search (rules, raw_is_last) depth 99 };
+    ghost tied = { by_itself };
 
     fn deserialize<R: ReadExt>(
         deserializer: &mut Deserializer<R>,

@@ -1,14 +1,9 @@
 //! Signed contents.
-ghost use Rattle.std.proofs.Common.{rules};
-ghost use Rattle.picky_der_core.specs.Shape.{Shape, Layout};
+ghost use Rattle.std.specs.Prelude.{refl};
+ghost use Rattle.picky_der_core.specs.Shape.{Shape};
 ghost use Rattle.picky_der_core.specs.Tree.{ListKind, Tree};
-ghost use Rattle.picky_der_de.specs.LayoutLaws.{maybe_begun};
-ghost use Rattle.picky_der_de.specs.Telling.{by_law, by_parts, tells_struct, tells_list, tells_retagged, tells_unsigned, tells_raw};
-ghost use Rattle.picky_der_de.specs.Telling.{tell_required, tell_maybe, tell_last_required};
-ghost use Rattle.picky_asn1_der.specs.RawLaws.{raw_is_last};
-ghost use Rattle.der_x509.specs.contracts.algorithm_identifier.AlgorithmIdentifierDeserialize.TheImpl.Laws.{injective-law as algorithm_law};
-ghost use Rattle.der_examples.specs.contracts.encapsulated_content_info.EncapsulatedContentInfoDeserialize.TheImpl.Laws.{injective-law as content_law};
-ghost use Rattle.der_examples.specs.contracts.signer_info.SignerInfoDeserialize.TheImpl.Laws.{injective-law as signer_law};
+ghost use Rattle.picky_der_de.specs.Known.{by_itself};
+ghost use Rattle.picky_der_de.specs.KnownLayouts.{known_struct};
 
 use crate::{EncapsulatedContentInfo, SignerInfo};
 use der_x509::AlgorithmIdentifier;
@@ -96,33 +91,16 @@ impl Struct for SignedData {
         }
     }
 
-    ghost told = { Prim.search rules };
+    ghost told = { refl };
 }
 
 impl Deserialize for SignedData {
     ghost shape = { Shape.struct_of ListKind.sequence ⟦<Members as DeserializeLayout>⟧.layout };
 
-    ghost injective = { let told_algorithms = tells_list ⟦<AlgorithmIdentifier as Serialize>⟧.meaning
-        ⟦<AlgorithmIdentifier as Deserialize>⟧.shape ⟦<AlgorithmIdentifier as PartialEq>⟧.eq
-        (by_law ⟦<AlgorithmIdentifier as Deserialize>⟧.shape algorithm_law) ListKind.set in
-        let told_elements = tells_list ⟦<Asn1RawDer as Serialize>⟧.meaning ⟦<Asn1RawDer as Deserialize>⟧.shape
-        ⟦<Asn1RawDer as PartialEq>⟧.eq (λ v w. tells_raw v.0.items w.0.items) ListKind.set in
-        let told_signers = tells_list ⟦<SignerInfo as Serialize>⟧.meaning ⟦<SignerInfo as Deserialize>⟧.shape
-        ⟦<SignerInfo as PartialEq>⟧.eq (by_law ⟦<SignerInfo as Deserialize>⟧.shape signer_law) ListKind.set in
-        let begun_by_lists = maybe_begun ⟦<ImplicitList1<Asn1SetOf<Asn1RawDer>> as Serialize>⟧.meaning
-        ⟦<ImplicitList1<Asn1SetOf<Asn1RawDer>> as Deserialize>⟧.shape
-        (Layout.required ⟦<Asn1SetOf<SignerInfo> as Deserialize>⟧.shape Layout.empty) (λ v b h. h) in
-        by_parts (Shape.struct_of ListKind.sequence ⟦<Members as DeserializeLayout>⟧.layout) (λ x y. tells_struct (Prim.search rules) (
-        tell_required (tells_unsigned _ x.version y.version) (
-        tell_required (told_algorithms x.digest_algorithms.0.items y.digest_algorithms.0.items) (
-        tell_required (by_law ⟦<EncapsulatedContentInfo as Deserialize>⟧.shape content_law x.content y.content) (
-        tell_maybe (λ v b h. h) (λ v w. tells_retagged (told_elements v.0.0.items w.0.0.items))
-        (begun_by_lists x.revocation_lists _ (λ b h. h)) (begun_by_lists y.revocation_lists _ (λ b h. h)) (
-        tell_maybe (λ v b h. h) (λ v w. tells_retagged (told_elements v.0.0.items w.0.0.items)) (λ b h. h) (λ b h. h) (
-        tell_last_required (told_signers x.signer_infos.0.items y.signer_infos.0.items)) x.revocation_lists y.revocation_lists)
-        x.certificates y.certificates))))) };
+    ghost known = { known_struct ⟦<Members as DeserializeLayout>⟧.known refl ⟦<Self as Struct>⟧.parts ⟦<Self as PartialEq>⟧.eq
+        (λ x y h. h) (λ x y. tt) };
 
-    ghost sound = { Prim.search (rules, raw_is_last) depth 99 };
+    ghost tied = { by_itself };
 
     fn deserialize<R: ReadExt>(deserializer: &mut Deserializer<R>) -> Result<SignedData> {
         deserialize_struct_as(deserializer)

@@ -1,12 +1,9 @@
 //! Signers and their signatures.
-ghost use Rattle.std.proofs.Common.{rules};
+ghost use Rattle.std.specs.Prelude.{refl};
 ghost use Rattle.picky_der_core.specs.Shape.{Shape};
 ghost use Rattle.picky_der_core.specs.Tree.{ListKind, Tree};
-ghost use Rattle.picky_der_de.specs.Telling.{by_law, by_parts, tells_struct, tells_list, tells_retagged, tells_unsigned, tells_raw, tells_bytes};
-ghost use Rattle.picky_der_de.specs.Telling.{tell_required, tell_maybe, tell_last_maybe};
-ghost use Rattle.der_examples.specs.contracts.attribute.AttributeDeserialize.TheImpl.Laws.{injective-law as attribute_law};
-ghost use Rattle.picky_asn1_der.specs.RawLaws.{raw_is_last};
-ghost use Rattle.der_x509.specs.contracts.algorithm_identifier.AlgorithmIdentifierDeserialize.TheImpl.Laws.{injective-law as algorithm_law};
+ghost use Rattle.picky_der_de.specs.Known.{by_itself};
+ghost use Rattle.picky_der_de.specs.KnownLayouts.{known_struct};
 
 use crate::Attribute;
 use der_x509::AlgorithmIdentifier;
@@ -101,25 +98,16 @@ impl Struct for SignerInfo {
         }
     }
 
-    ghost told = { Prim.search rules };
+    ghost told = { refl };
 }
 
 impl Deserialize for SignerInfo {
     ghost shape = { Shape.struct_of ListKind.sequence ⟦<Members as DeserializeLayout>⟧.layout };
 
-    ghost injective = { let told_attributes = tells_list ⟦<Attribute as Serialize>⟧.meaning ⟦<Attribute as Deserialize>⟧.shape
-        ⟦<Attribute as PartialEq>⟧.eq (by_law ⟦<Attribute as Deserialize>⟧.shape attribute_law) ListKind.set in
-        by_parts (Shape.struct_of ListKind.sequence ⟦<Members as DeserializeLayout>⟧.layout) (λ x y. tells_struct (Prim.search rules) (
-        tell_required (tells_unsigned _ x.version y.version) (
-        tell_required (tells_raw x.identifier.0.items y.identifier.0.items) (
-        tell_required (by_law ⟦<AlgorithmIdentifier as Deserialize>⟧.shape algorithm_law x.digest_algorithm y.digest_algorithm) (
-        tell_maybe (λ v b h. h) (λ v w. tells_retagged (told_attributes v.0.0.items w.0.0.items)) (λ b h. h) (λ b h. h) (
-        tell_required (by_law ⟦<AlgorithmIdentifier as Deserialize>⟧.shape algorithm_law x.signature_algorithm y.signature_algorithm) (
-        tell_required tells_bytes (
-        tell_last_maybe (λ v b h. h) (λ v w. tells_retagged (told_attributes v.0.0.items w.0.0.items)) x.unsigned_attributes
-        y.unsigned_attributes))) x.signed_attributes y.signed_attributes))))) };
+    ghost known = { known_struct ⟦<Members as DeserializeLayout>⟧.known refl ⟦<Self as Struct>⟧.parts ⟦<Self as PartialEq>⟧.eq
+        (λ x y h. h) (λ x y. tt) };
 
-    ghost sound = { Prim.search (rules, raw_is_last) depth 99 };
+    ghost tied = { by_itself };
 
     fn deserialize<R: ReadExt>(deserializer: &mut Deserializer<R>) -> Result<SignerInfo> {
         deserialize_struct_as(deserializer)
