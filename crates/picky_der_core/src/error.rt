@@ -3,7 +3,7 @@ ghost use Rattle.std.specs.Prelude.{◌≡◌};
 ghost use Rattle.std.specs.IoError.{error_kind};
 ghost use Rattle.picky_der_core.specs.Error.{error_of_kind};
 
-use std::alloc::AllocError;
+use std::alloc::{AllocError, AllocFailed};
 use std::io::{self, ErrorKind};
 use thiserror::Error;
 
@@ -79,6 +79,17 @@ impl From<AllocError> for Asn1DerError {
     ghost from_gives = { λ e k. k ≡ OutOfMemory };
 
     fn from(_error: AllocError) -> Self {
+        Self::OutOfMemory
+    }
+}
+
+/// Out of memory. The value that could not be stored is dropped.
+impl<T: Drop> From<AllocFailed<T>> for Asn1DerError {
+    ghost use Rattle.picky_der_core.specs.declared.error.Asn1DerError.TheVariants.{OutOfMemory};
+
+    ghost from_gives = { λ e k. k ≡ OutOfMemory };
+
+    fn from(_failed: AllocFailed<T>) -> Self {
         Self::OutOfMemory
     }
 }
