@@ -6,11 +6,12 @@ pub mod application_tag;
 /// Reading.
 pub mod de {
     pub use picky_der_de::{
-        Alike, Alternatives, Begins, Boolean, Choice, DEFAULT_MAX_LEN, Deserialize,
+        Alike, Alternatives, Begins, Boolean, Choice, DEFAULT_MAX_LEN, DecodeError, Deserialize,
         DeserializeLayout, DeserializeMember, DeserializeMembers, Deserializer, Enclosure, End,
         NoneOf, Null, OneOf, OneOf4, Record, Sequence, Struct, UInt, UnsignedInteger, Utf8String,
         deserialize_as, deserialize_choice_as, deserialize_record_as, deserialize_struct_as,
-        from_bytes, from_reader, from_reader_with_max_len, next_from_bytes, next_from_reader,
+        from_bytes, from_der, from_reader, from_reader_with_max_len, next_from_bytes,
+        next_from_reader,
     };
 }
 
@@ -30,9 +31,9 @@ pub mod round_trip;
 pub use picky_der_core::misc::Length;
 pub use picky_der_core::{Asn1DerError, Result, asn1, laws, misc};
 pub use picky_der_de::{
-    Alike, Alternatives, Choice, Deserialize, Deserializer, NoneOf, OneOf, OneOf4, Record,
-    deserialize_as, from_bytes, from_reader, from_reader_with_max_len, next_from_bytes,
-    next_from_reader,
+    Alike, Alternatives, Choice, DecodeError, Deserialize, Deserializer, NoneOf, OneOf, OneOf4,
+    Record, deserialize_as, from_bytes, from_der, from_reader, from_reader_with_max_len,
+    next_from_bytes, next_from_reader,
 };
 pub use picky_der_ser::{
     List, Row, Serialize, Serializer, to_byte_buf, to_bytes, to_vec, to_writer,

@@ -17,7 +17,7 @@ use Rattle.picky_der_core.specs.Peeking.{in_front, count_of_any}
 use Rattle.picky_der_input.specs.Steps.{IsJudged}
 use Rattle.picky_der_input.specs.Reading.{Reads, Refuses, now, ever}
 use Rattle.picky_der_de.specs.InjectiveLaws.{IsInjective}
-use Rattle.picky_der_de.specs.Entry.{any_length, HasNoFront, ReaderView, ReadsFront, Draws, RefusesFront, RefusesNextValue}
+use Rattle.picky_der_de.specs.Entry.{any_length, IsFront, HasNoFront, ReaderView, ReadsFront, Draws, RefusesFront, RefusesNextValue}
 use Rattle.picky_der_input.proofs.Refusals.{front_consumed}
 
 -- ---- what is left in the reader
@@ -176,3 +176,13 @@ slice_refused meaning s {limit = limit} {after = after} {bytes = bytes} k none s
   first = λ cut ahead b left is. h.first (still ∙ sym none) cut ahead b left (k ∙ ap Some is);
   no_fault = h.other (still ∙ sym none);
 }
+
+abbrev whole_slice : List ℕ → ReaderView
+whole_slice bytes = record { input = Some bytes; faults = [] }
+
+module _ {V : Type 0} (meaning : V → Tree) (s : Shape) {old new : State} {bytes : List ℕ} (left : Option (List ℕ)) (after : List Fault) (is : old ≡ fresh (Some bytes) (length bytes) [] []) (input : new.input ≡ in_front new.peeked left) (faults : after ≡ new.faults) where
+  pub front_read : (eq : V → V → Bool) → IsSound s → IsInjective meaning s eq → (v : V) → Reads s old new (meaning v) → IsFront meaning s eq bytes (length bytes) v
+  front_read eq sound known v r = (reads_front meaning s (whole_slice bytes) (record { input = left; faults = after }) is input faults eq sound known v r).front bytes refl
+
+  pub front_refused : {e : Asn1DerError} → after ≡ [] → Refuses meaning s old new e → HasNoFront meaning s bytes (length bytes) e
+  front_refused none r = slice_refused meaning s {before = whole_slice bytes} {after = record { input = left; faults = after }} refl refl none (refuses_front meaning s (whole_slice bytes) (record { input = left; faults = after }) is input faults r)

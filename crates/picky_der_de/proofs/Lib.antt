@@ -1,5 +1,6 @@
 pub mod Options
 pub mod EntryReads
+pub mod WholeInputs
 pub mod EnclosureReads
 pub mod Peeked
 pub mod SeenMembers

@@ -16,6 +16,7 @@ pub mod Firsts
 pub mod Choices
 pub mod FourChoices
 pub mod Entry
+pub mod Whole
 pub mod Lending
 pub mod ArrayLaws
 pub mod SequenceState

@@ -18,6 +18,7 @@ mod row;
 mod sequence;
 mod several;
 mod values;
+mod whole;
 
 pub use alike::{Alike, deserialize_as};
 pub use alternatives::{Alternatives, NoneOf, OneOf};
@@ -34,3 +35,4 @@ pub use record::{Record, deserialize_record_as};
 pub use row::DeserializeMembers;
 pub use sequence::Sequence;
 pub use values::{next_from_bytes, next_from_reader};
+pub use whole::{DecodeError, from_der};
