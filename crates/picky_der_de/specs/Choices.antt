@@ -68,25 +68,16 @@ module _ {A B : Type 0} (m : A → Tree) (n : B → Tree) (s : Shape) (ss : Shap
     differ : (a : A) (b : B) → IsReadable (m a) → IsOf s (n b) ⊎ IsOneOf ss (n b) → m a ≡ n b → ⊥
     differ a b r p e = no_other a r (subst (IsOneOf ss) (sym e) (of_other b (subst IsReadable e r) p))
 
-  pub this_or_other_injective : {p : A → A → Bool} {q : B → B → Bool} (eq : OneOf A B → OneOf A B → Bool) → ((a c : A) → p a c ≡ true → eq (This a) (This c) ≡ true) → ((b d : B) → q b d ≡ true → eq (Other b) (Other d) ≡ true)
-      → IsInjective m s p → AreKnownApart n ss q → AreKnownApart (chosen_of m n) (Shapes.more s ss) eq
-  this_or_other_injective eq f g k l told (This a) (This c) o p r e =
+  pub this_or_other_injective : {p : A → A → Bool} {q : B → B → Bool} → IsInjective m s p → AreKnownApart n ss q → AreKnownApart (chosen_of m n) (Shapes.more s ss) (equal_this_or_other p q)
+  this_or_other_injective k l told (This a) (This c) o p r e =
       let r' = subst IsReadable e r in
-      f a c (k a c (of_this told.0 a r o) (of_this told.0 c r' p) r e)
-  this_or_other_injective eq f g k l told (This a) (Other d) o p r e = absurd (differ told.0 a d r p e)
-  this_or_other_injective eq f g k l told (Other b) (This c) o p r e = absurd (differ told.0 c b (subst IsReadable e r) o (sym e))
-  this_or_other_injective eq f g k l told (Other b) (Other d) o p r e =
+      k a c (of_this told.0 a r o) (of_this told.0 c r' p) r e
+  this_or_other_injective k l told (This a) (Other d) o p r e = absurd (differ told.0 a d r p e)
+  this_or_other_injective k l told (Other b) (This c) o p r e = absurd (differ told.0 c b (subst IsReadable e r) o (sym e))
+  this_or_other_injective k l told (Other b) (Other d) o p r e =
       let r' = subst IsReadable e r in
-      g b d (l told.1 b d (of_other told.0 b r o) (of_other told.0 d r' p) r e)
+      l told.1 b d (of_other told.0 b r o) (of_other told.0 d r' p) r e
 
--- ---- the choice of them
-
-module _ {P : Type 0} (m : P → Tree) (ss : Shapes) where
-  pub choice_injective : (eq : P → P → Bool) → AreTold ss → AreKnownApart m ss eq → (p q : P) {t u : Tree} {b : Bool} → t ≡ Tree.choice (m p) → u ≡ Tree.choice (m q) → (eq p q ≡ true → b ≡ true)
-      → IsOf (Shape.choice ss) t → IsOf (Shape.choice ss) u → IsReadable t → t ≡ u → b ≡ true
-  choice_injective eq told known p q e f same o k r d =
-      let c : m p ≡ m q = cc in
-      same (known told p q (subst (IsOf (Shape.choice ss)) e o) (subst (IsOf (Shape.choice ss)) f k) (subst IsReadable e r) c)
-
-  pub choice_begins : ((p : P) → IsBegunBy (firsts_of ss) (m p)) → (p : P) {t : Tree} → t ≡ Tree.choice (m p) → IsBegunBy (firsts_of ss) t
-  choice_begins begins p e = subst (IsBegunBy (firsts_of ss)) (sym e) (begins p)
+-- of the choice of them
+pub choice_injective : {P : Type 0} (m : P → Tree) (ss : Shapes) (eq : P → P → Bool) → AreTold ss → AreKnownApart m ss eq → IsInjective (λ p. Tree.choice (m p)) (Shape.choice ss) eq
+choice_injective m ss eq told known p q o k r e = let f : m p ≡ m q = cc in known told p q o k r f

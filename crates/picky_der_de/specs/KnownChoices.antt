@@ -1,5 +1,5 @@
 -- What is known of choices: the values of alternatives.
-use Rattle.std.specs.Prelude.{◌≡◌, Bool, true, ◌&&◌, refl}
+use Rattle.std.specs.Prelude.{◌≡◌, Bool, true, ◌&&◌}
 use Rattle.std.proofs.Common.{ap, subst, ◌∙◌}
 use Rattle.std.proofs.lemmas.Bool.{and_parts}
 use Rattle.picky_der_core.specs.Tree.{Tree}
@@ -7,7 +7,7 @@ use Rattle.picky_der_core.specs.Shape.{Shape, Shapes, AreTold, AreSound, firsts,
 use Rattle.picky_der_de.specs.declared.alternatives.OneOf.{OneOf}
 use Rattle.picky_der_de.specs.declared.alternatives.OneOf.TheVariants.{This, Other}
 use Rattle.picky_der_de.specs.Firsts.{IsBegunBy}
-use Rattle.picky_der_de.specs.Choices.{chosen_of, equal_this_or_other, AreKnownApart, begins_this_or_other, this_or_other_injective, choice_injective, choice_begins}
+use Rattle.picky_der_de.specs.Choices.{chosen_of, equal_this_or_other, AreKnownApart, begins_this_or_other, this_or_other_injective, choice_injective}
 use Rattle.picky_der_de.specs.Known.{Known, Ties}
 
 pub record KnownChoice (V : Type 0) (ss : Shapes) : Type 0 where
@@ -28,7 +28,7 @@ known_this_or_other {s = s} {ss = ss} a b = record {
   chosen = chosen_of a.meaning b.chosen;
   equal = equal_this_or_other a.equal b.equal;
   begun = begins_this_or_other a.meaning b.chosen s ss a.begun b.begun;
-  apart = this_or_other_injective a.meaning b.chosen s ss a.begun b.begun (equal_this_or_other a.equal b.equal) (λ a c h. h) (λ b d h. h) a.injective b.apart;
+  apart = this_or_other_injective a.meaning b.chosen s ss a.begun b.begun a.injective b.apart;
   sound = (a.sound, b.sound);
 }
 
@@ -47,9 +47,9 @@ module _ {V P : Type 0} {ss : Shapes} (c : KnownChoice P ss) (told : are_told ss
   known_choice eq same = record {
     meaning = λ v. Tree.choice (c.chosen (parts v));
     equal = eq;
-    injective = λ v w. choice_injective c.chosen ss c.equal (alternatives_told ss told) c.apart (parts v) (parts w) refl refl (same v w);
+    injective = λ v w o k r e. same v w (choice_injective c.chosen ss c.equal (alternatives_told ss told) c.apart (parts v) (parts w) o k r e);
     sound = (c.sound, alternatives_told ss told);
-    begun = λ v. choice_begins c.chosen ss c.begun (parts v) refl;
+    begun = λ v. c.begun (parts v);
   }
 
 -- ---- ties, of what the chosen values mean and of the `==`

@@ -1,7 +1,8 @@
 -- What is known of values that hold others of one type: options, lists, arrays and enclosures.
-use Rattle.std.specs.Prelude.{◌≡◌, ℕ, List, [], ◌∷◌, Bool, true, false, ◌&&◌, Option, Some, None, map, refl}
+use Rattle.std.specs.Prelude.{◌≡◌, ℕ, List, [], ◌∷◌, Bool, true, Option, Some, None, map, refl}
 use Rattle.std.specs.Option.{option_eq}
 use Rattle.std.proofs.Common.{ap}
+use Rattle.std.proofs.lemmas.Bool.{and_parts}
 use lib.Pointwise.{pointwise}
 use Rattle.picky_der_core.specs.Tree.{ListKind, Tree, trees}
 use Rattle.picky_der_core.specs.Shape.{Shape}
@@ -58,12 +59,9 @@ module _ {A : Type 0} (p q : A → A → Bool) (so : (x y : A) → p x y ≡ tru
   pointwise_so [] [] h = refl
   pointwise_so [] (y ∷ ys) h = h
   pointwise_so (x ∷ xs) [] h = h
-  pointwise_so (x ∷ xs) (y ∷ ys) h = and_so (p x y) (q x y) (so x y) (pointwise p xs ys) (pointwise q xs ys) (pointwise_so xs ys) h where
-    and_so : (a b : Bool) → (a ≡ true → b ≡ true) → (c d : Bool) → (c ≡ true → d ≡ true) → (a && c) ≡ true → (b && d) ≡ true
-    and_so true b g c d k h = both (g refl) (k h)
-    and_so false b g c d k h = cc
+  pointwise_so (x ∷ xs) (y ∷ ys) h = let parts = and_parts (p x y) (pointwise p xs ys) h in both (so x y parts.0) (pointwise_so xs ys parts.1)
 
-  option_so : (x y : Option A) → option_eq p x y ≡ true → option_eq q x y ≡ true
+  pub option_so : (x y : Option A) → option_eq p x y ≡ true → option_eq q x y ≡ true
   option_so None None h = refl
   option_so None (Some y) h = h
   option_so (Some x) None h = h

@@ -1,5 +1,5 @@
 -- What is known of layouts: members of which some may be absent.
-use Rattle.std.specs.Prelude.{◌≡◌, List, [], ◌∷◌, ℕ, Bool, true, false, ◌&&◌, ◌||◌, Option, Some, None, map, if◌then◌else◌, IsTrue, ⊤, refl}
+use Rattle.std.specs.Prelude.{◌≡◌, List, [], ◌∷◌, ℕ, Bool, true, false, ◌&&◌, ◌||◌, Option, Some, map, IsTrue, ⊤, refl}
 use Rattle.std.specs.Option.{option_eq}
 use Rattle.std.proofs.Common.{ap, subst}
 use Rattle.std.proofs.lemmas.Bool.{and_parts, or_left, or_right}
@@ -9,8 +9,9 @@ use Rattle.picky_der_ser.specs.Meaning.{maybe_more, unless_default}
 use Rattle.picky_der_ser.specs.Defaults.{IsOne}
 use Rattle.picky_der_de.specs.InjectiveLaws.{list_members}
 use Rattle.picky_der_de.specs.Layouts.{Presence, always, perhaps, component_then}
-use Rattle.picky_der_de.specs.LayoutLaws.{IsComponent, AreComponents, always_there, perhaps_there, no_components, behind, equal_so, lead}
+use Rattle.picky_der_de.specs.LayoutLaws.{IsComponent, AreComponents, always_there, perhaps_there, same_unless_default, no_components, behind, equal_so, lead}
 use Rattle.picky_der_de.specs.Known.{Known, Ties}
+use Rattle.picky_der_de.specs.KnownContainers.{option_so}
 use Rattle.picky_der_de.specs.KnownMembers.{AreTrue, conjunction, conjunction_true, TiesMembers, TiesMember}
 
 -- ---- by what two members are equal
@@ -55,17 +56,6 @@ pub record KnownMember (V W : Type 0) (presence : Presence) (s : Shape) : Type 0
   pub item : V → Option W
   pub is : IsComponent presence in_front (λ x y. passes (test x y)) meaning s equal_item item (λ w. false)
 
-module _ {A : Type 0} (p q : A → A → Bool) (left_out : A → Bool) (one : IsOne q left_out) where
-  equal_or_default_by : (x y : A) (a b : Bool) → left_out x ≡ a → left_out y ≡ b → option_eq p (if a then None else Some x) (if b then None else Some y) ≡ true → (p x y || q x y) ≡ true
-  equal_or_default_by x y true true d e h = or_right (p x y) (q x y) (one x y d e)
-  equal_or_default_by x y true false d e h = cc
-  equal_or_default_by x y false true d e h = cc
-  equal_or_default_by x y false false d e h = or_left (p x y) (q x y) h
-
-  -- what is written of two values is equal, or nothing is since both are the default
-  pub equal_or_default : (x y : A) → option_eq p (unless_default left_out x) (unless_default left_out y) ≡ true → (p x y || q x y) ≡ true
-  equal_or_default x y h = equal_or_default_by x y (left_out x) (left_out y) refl refl h
-
 module _ {A : Type 0} {s : Shape} (a : Known A s) where
   abbrev pub known_always : KnownMember A A always s
   known_always = record {
@@ -92,7 +82,8 @@ module _ {A : Type 0} {s : Shape} (a : Known A s) where
   known_perhaps item = known_maybe item (λ x y. plain (option_eq a.equal (item x) (item y))) (λ x y h. h)
 
   abbrev pub known_default : {V : Type 0} (left_out : A → Bool) (eq : A → A → Bool) → IsOne eq left_out → (value : V → A) → KnownMember V A perhaps s
-  known_default left_out eq one value = known_maybe (λ v. unless_default left_out (value v)) (λ x y. defaulted (a.equal (value x) (value y)) (eq (value x) (value y))) (λ x y h. equal_or_default a.equal eq left_out one (value x) (value y) h)
+  known_default left_out eq one value = known_maybe (λ v. unless_default left_out (value v)) (λ x y. defaulted (a.equal (value x) (value y)) (eq (value x) (value y)))
+      (λ x y. same_unless_default a.equal (λ v w. a.equal v w || eq v w) left_out (λ v w p q. or_right (a.equal v w) (eq v w) (one v w p q)) (λ v w. or_left (a.equal v w) (eq v w)) (value x) (value y))
 
 -- ---- members, one after another
 
@@ -121,7 +112,7 @@ module _ {P : Type 0} {l : Layout} where
 
 -- ---- the first byte distinguishes what may be absent: a test, which computes
 
--- after the last member nothing has to be told apart
+-- after the last member nothing comes, so nothing has to be distinguished
 abbrev are_apart_or_last : List ℕ → List ℕ → Bool
 are_apart_or_last fs [] = true
 are_apart_or_last fs (g ∷ gs) = are_apart fs (g ∷ gs)
@@ -173,13 +164,8 @@ pub ties_perhaps : {A V : Type 0} {m n : A → Tree} {p q : A → A → Bool} (i
     → TiesMember (λ v. maybe_more m (item v)) (λ x y. option_eq p (item x) (item y)) (λ v. maybe_more n (item v)) (λ x y. option_eq q (item x) (item y))
 ties_perhaps {A} {V} {p = p} {q = q} item t = record {
   in_front = ap {B = V → Trees → Trees} (λ (k : A → Tree) (v : V). maybe_more k (item v)) t.meaning;
-  equal = λ x y h. so (item x) (item y) h;
-} where
-  so : (x y : Option A) → option_eq p x y ≡ true → option_eq q x y ≡ true
-  so None None h = refl
-  so None (Some y) h = h
-  so (Some x) None h = h
-  so (Some x) (Some y) h = t.equal x y h
+  equal = λ x y. option_so p q t.equal (item x) (item y);
+}
 
 pub ties_default : {A V : Type 0} {m n : A → Tree} {p q r : A → A → Bool} (left_out : A → Bool) (value : V → A) → Ties m p n q → ((x y : A) → r x y ≡ true → q x y ≡ true)
     → TiesMember (λ v. maybe_more m (unless_default left_out (value v))) (λ x y. p (value x) (value y) || r (value x) (value y)) (λ v. maybe_more n (unless_default left_out (value v))) (λ x y. q (value x) (value y))

@@ -67,16 +67,16 @@ module _ {V : Type 0} (meaning : V → Tree) (s : Shape) (l : Layout) (begins : 
 
 -- ---- members with a default
 
--- two values are equal where the options of what isn't left out are
-equal_unless_default : {V : Type 0} (eq : V → V → Bool) (left_out : V → Bool) → IsOne eq left_out → (x y : V) (p q : Bool) → left_out x ≡ p → left_out y ≡ q
-    → option_eq eq (if p then None else Some x) (if q then None else Some y) ≡ true → eq x y ≡ true
-equal_unless_default eq left_out one x y true true p q h = one x y p q
-equal_unless_default eq left_out one x y true false p q h = cc
-equal_unless_default eq left_out one x y false true p q h = cc
-equal_unless_default eq left_out one x y false false p q h = h
+-- two values are the same where what isn't left out of them is equal, or where both are the default
+module _ {V : Type 0} (eq same : V → V → Bool) (left_out : V → Bool) (one : IsOne same left_out) (equal : (x y : V) → eq x y ≡ true → same x y ≡ true) where
+  by_left_out : (x y : V) (p q : Bool) → left_out x ≡ p → left_out y ≡ q → option_eq eq (if p then None else Some x) (if q then None else Some y) ≡ true → same x y ≡ true
+  by_left_out x y true true p q h = one x y p q
+  by_left_out x y true false p q h = cc
+  by_left_out x y false true p q h = cc
+  by_left_out x y false false p q h = equal x y h
 
-same_unless_default : {V : Type 0} (eq : V → V → Bool) (left_out : V → Bool) → IsOne eq left_out → (x y : V) → option_eq eq (unless_default left_out x) (unless_default left_out y) ≡ true → eq x y ≡ true
-same_unless_default eq left_out one x y h = equal_unless_default eq left_out one x y (left_out x) (left_out y) refl refl h
+  pub same_unless_default : (x y : V) → option_eq eq (unless_default left_out x) (unless_default left_out y) ≡ true → same x y ≡ true
+  same_unless_default x y h = by_left_out x y (left_out x) (left_out y) refl refl h
 
 -- ---- one member
 
@@ -136,7 +136,7 @@ module _ {W : Type 0} (meaning : W → Tree) (s : Shape) (eq : W → W → Bool)
     stands = λ v ts. refl;
     there = λ v. tt;
     written = λ v. not_out (value v) (left_out (value v)) refl;
-    equal = λ x y h. same_unless_default eq left_out one (value x) (value y) h;
+    equal = λ x y h. same_unless_default eq eq left_out one (λ v w k. k) (value x) (value y) h;
     begins = begins;
     injective = injective;
     by_tree = by_tree;

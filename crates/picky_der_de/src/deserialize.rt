@@ -14,7 +14,7 @@ pub trait Deserialize: Serialize + PartialEq + Drop + Sized {
     // The trees of its values.
     ghost shape: { Shape };
 
-    // What is known of them: they tell the values.
+    // What is known of its values: which trees they mean, and that these distinguish them.
     ghost known: { Known Self shape };
 
     /// Reads a value, and takes just the bytes of its encoding. Directly under an implicit tag these are its content's.

@@ -9,7 +9,8 @@ ghost use Rattle.picky_der_de.specs.Layouts.{Presence, always, perhaps, Lacks, R
 ghost use Rattle.picky_der_de.specs.LayoutLaws.{IsComponent, always_there, perhaps_there, with_default};
 ghost use Rattle.picky_der_de.specs.Known.{begun_of, injective_of};
 ghost use Rattle.picky_der_de.specs.KnownMembers.{TiesMember, ties_always};
-ghost use Rattle.picky_der_de.specs.KnownLayouts.{KnownMember, known_always, known_perhaps, known_default, passes, ties_perhaps, ties_default};
+ghost use Rattle.picky_der_de.specs.KnownLayouts.{KnownMember, known_always, known_perhaps, known_default, passes};
+ghost use Rattle.picky_der_de.specs.KnownLayouts.{ties_perhaps, ties_default};
 
 use crate::{Begins, Sequence};
 use picky_der_core::Result;
