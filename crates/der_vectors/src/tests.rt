@@ -21,3 +21,4 @@ mod sets;
 mod tags;
 mod tool;
 mod values;
+mod whole;

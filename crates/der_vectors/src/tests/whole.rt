@@ -1,0 +1,75 @@
+//! Whole inputs, where they are refused, and how that is shown.
+
+use der_examples::NumberOrFlag;
+use der_fixtures::bytes_of;
+use picky_asn1_der::Asn1DerError::{InvalidData, TruncatedData, UnsupportedValue};
+use picky_asn1_der::asn1::ByteBuf;
+use picky_asn1_der::{Asn1DerError, DecodeError, Deserialize, Result as DerResult, from_der};
+use std::alloc::{AllocError, Global};
+use std::test::Fail;
+
+// Where and with which error these bytes are refused.
+fn refused<T: Deserialize>(alloc: Global, row: &str) -> Result<Option<DecodeError>, AllocError> {
+    let bytes = bytes_of(alloc, row)?;
+    Ok(from_der::<T>(alloc, &bytes).err())
+}
+
+#[test]
+fn a_whole_input_is_one_value(rt: HostRuntime) -> Result<(), Fail> {
+    let bytes = bytes_of(rt.alloc(), "02 02 00 80")?;
+    same!(rt; from_der(rt.alloc(), &bytes), Ok(128u8));
+    Ok(())
+}
+
+// By the rules of what is read before a refusal: the tag for a foreign tag, the length for one that reaches past the end, the
+// content for one that isn't canonical, and nothing for bytes after the value or for a choice whose tag is only looked at.
+#[test]
+fn a_refusal_says_where_it_came(rt: HostRuntime) -> Result<(), Fail> {
+    let alloc = rt.alloc();
+    for (row, error, position) in [
+        ("", TruncatedData, 0),
+        ("04 01 07", InvalidData, 1),
+        ("02 03 01 00", TruncatedData, 2),
+        ("02 02 00 7F", InvalidData, 4),
+        ("02 02 01 00", UnsupportedValue, 4),
+        ("02 01 07 05 00", InvalidData, 3),
+    ] {
+        let wanted = Some(DecodeError { error, position });
+        same!(rt; refused::<u8>(alloc, row)?, wanted, row);
+    }
+    let foreign = DecodeError {
+        error: InvalidData,
+        position: 2,
+    };
+    same!(rt; refused::<Vec<NumberOrFlag>>(alloc, "30 02 05 00")?, Some(foreign));
+    let second = DecodeError {
+        error: InvalidData,
+        position: 6,
+    };
+    same!(rt; refused::<Vec<ByteBuf>>(alloc, "30 06 04 01 AA 02 01 05")?, Some(second));
+    Ok(())
+}
+
+#[test]
+fn a_refusal_is_shown_with_its_place(rt: HostRuntime) -> Result<(), Fail> {
+    let refusal = DecodeError {
+        error: InvalidData,
+        position: 8,
+    };
+    let text = format!(in rt.alloc(); "{refusal}")?;
+    same!(rt; text.as_str(), "InvalidData at byte 8");
+    same!(rt; Asn1DerError::from(refusal), InvalidData);
+    Ok(())
+}
+
+// One number in a list, by `?` on what a vector answers that can't grow.
+fn listed(alloc: Global, number: u8) -> DerResult<Vec<u8>> {
+    let mut numbers = Vec::new(alloc);
+    numbers.push(number)?;
+    Ok(numbers)
+}
+
+#[test]
+fn a_push_is_followed_by_a_question_mark(rt: HostRuntime) {
+    same!(rt; listed(rt.alloc(), 7).map(|numbers| numbers.len()), Ok(1));
+}
