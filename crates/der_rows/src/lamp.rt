@@ -1,8 +1,9 @@
 //! A struct all of whose members have defaults.
-ghost use Rattle.std.proofs.Common.{rules};
+ghost use Rattle.std.specs.Prelude.{refl};
 ghost use Rattle.picky_der_core.specs.Shape.{Shape};
 ghost use Rattle.picky_der_core.specs.Tree.{ListKind, Tree};
-ghost use Rattle.picky_der_de.specs.Telling.{by_parts, tells};
+ghost use Rattle.picky_der_de.specs.Known.{by_itself};
+ghost use Rattle.picky_der_de.specs.KnownLayouts.{known_struct};
 
 use picky_asn1_der::asn1::ExplicitContextTag0;
 use picky_asn1_der::de::{DeserializeLayout, Struct, deserialize_struct_as};
@@ -62,16 +63,16 @@ impl Struct for Lamp {
         }
     }
 
-    ghost told = { Prim.search rules };
+    ghost told = { refl };
 }
 
 impl Deserialize for Lamp {
     ghost shape = { Shape.struct_of ListKind.sequence ⟦<Members as DeserializeLayout>⟧.layout };
 
-    ghost injective = { by_parts (Shape.struct_of ListKind.sequence ⟦<Members as DeserializeLayout>⟧.layout)
-        (Prim.search (rules, tells) depth 99) };
+    ghost known = { known_struct ⟦<Members as DeserializeLayout>⟧.known refl ⟦<Self as Struct>⟧.parts ⟦<Self as PartialEq>⟧.eq
+        (λ x y h. h) (λ x y. (λ h. h, (λ h. h, (λ h. h, tt)))) };
 
-    ghost sound = { Prim.search rules depth 99 };
+    ghost tied = { by_itself };
 
     fn deserialize<R: ReadExt>(deserializer: &mut Deserializer<R>) -> Result<Lamp> {
         deserialize_struct_as(deserializer)

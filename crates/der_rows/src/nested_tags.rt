@@ -1,5 +1,5 @@
 //! Explicit tags in one another.
-ghost use Rattle.picky_der_de.specs.Telling.{by_parts, tells};
+ghost use Rattle.picky_der_de.specs.Known.{by_itself, known_as};
 
 use picky_asn1_der::asn1::ExplicitContextTag;
 use picky_asn1_der::misc::{ReadExt, WriteExt};
@@ -45,9 +45,9 @@ impl Alike for LastEight {
 impl Deserialize for LastEight {
     ghost shape = { ⟦<Eight as Deserialize>⟧.shape };
 
-    ghost injective = { by_parts ⟦<Eight as Deserialize>⟧.shape (Prim.search tells depth 99) };
+    ghost known = { known_as ⟦<Eight as Deserialize>⟧.known (λ x. x.0) };
 
-    ghost sound = { tt };
+    ghost tied = { by_itself };
 
     fn deserialize<R: ReadExt>(deserializer: &mut Deserializer<R>) -> Result<LastEight> {
         deserialize_as(deserializer)

@@ -7,9 +7,9 @@ use crate::nested_tags::{FourTags, SixteenTags};
 use crate::retagged;
 use crate::seen::Seen;
 use der_examples::{
-    AgeGroups, EncryptedData, GeneralName, Gust, Host, Interval, Marker, Moment, Named, Noted,
-    NumberOrFlag, Place, Point, PrincipalName, PrivateKeyInfo, Report, RsaPublicKey, Setting, Stay,
-    Tagged, Ticket, Track,
+    AgeGroups, Change, EncryptedData, GeneralName, Gust, Host, Interval, Marker, Moment, Named,
+    Noted, NumberOrFlag, Place, Point, PrincipalName, PrivateKeyInfo, Report, RsaPublicKey,
+    Setting, Stay, Tagged, Ticket, Track,
 };
 use der_tool_lib::{AlgorithmIdentifier, SubjectPublicKeyInfo, TestStruct};
 use der_x509::{Extension, TbsCertificate, Version};
@@ -50,6 +50,7 @@ fn answer_for_examples(alloc: Global, name: &str, row: &RowBytes) -> Result<Stri
     match name {
         "NumberOrFlag" => read_as::<NumberOrFlag>(alloc, row),
         "Setting" => read_as::<Setting>(alloc, row),
+        "Change" => read_as::<Change>(alloc, row),
         "Place" => read_as::<Place>(alloc, row),
         "Point" => read_as::<Point>(alloc, row),
         "Interval" => read_as::<Interval>(alloc, row),

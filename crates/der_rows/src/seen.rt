@@ -1,8 +1,8 @@
 //! A look at the tag in front of a value.
-ghost use Rattle.std.specs.Prelude.{nat_eq};
+ghost use Rattle.std.specs.Prelude.{◌^◌, ◌-◌, nat_eq};
 ghost use Rattle.std.proofs.Common.{rules};
 ghost use Rattle.picky_der_core.specs.Tree.{Tree};
-ghost use Rattle.picky_der_de.specs.InjectiveLaws.{unsigned_injective};
+ghost use Rattle.picky_der_de.specs.Known.{by_itself, known_number};
 
 use picky_asn1_der::misc::{ReadExt, WriteExt};
 use picky_asn1_der::{Deserialize, Deserializer, Result, Serialize, Serializer};
@@ -36,9 +36,9 @@ impl Serialize for Seen {
 impl Deserialize for Seen {
     ghost shape = { ⟦<u8 as Deserialize>⟧.shape };
 
-    ghost injective = { λ x y p q r e. unsigned_injective x.number y.number e };
+    ghost known = { known_number (2 ^ 8 - 1) (λ x. x.number) (λ x y. nat_eq x.number y.number) (λ x y h. h) };
 
-    ghost sound = { tt };
+    ghost tied = { by_itself };
 
     fn deserialize<R: ReadExt>(deserializer: &mut Deserializer<R>) -> Result<Seen> {
         let tag = match deserializer.deserialize_identifier() {
