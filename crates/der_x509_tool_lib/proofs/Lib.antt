@@ -1,4 +1,4 @@
-pub mod Fronts
+pub mod Examined
 pub mod Lines
 pub mod Trimming
 pub mod Gathering

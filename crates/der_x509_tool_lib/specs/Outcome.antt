@@ -1,8 +1,9 @@
 -- What comes of reading bytes as a certificate.
-use Rattle.std.specs.Prelude.{◌≡◌, ◌≢◌, ℕ, ◌<◌, List, length, IsTrue}
+use Rattle.std.specs.Prelude.{◌≡◌, ◌≢◌, ℕ, ◌<◌, List, length, take, IsTrue}
 use Rattle.picky_der_core.specs.declared.error.Asn1DerError.TheVariants.{OutOfMemory}
-use Rattle.picky_der_core.specs.Encoding.{der}
-use Rattle.picky_der_de.specs.Entry.{IsFront, HasNoFront}
+use Rattle.picky_der_core.specs.Reading.{ReadsFrom}
+use Rattle.picky_der_de.specs.declared.whole.DecodeError.{DecodeError}
+use Rattle.picky_der_de.specs.Whole.{IsWhole, IsNoEncoding}
 use Rattle.der_x509.specs.declared.certificate.Certificate.{Certificate}
 use Rattle.der_x509.specs.declared.tbs_certificate.TbsCertificate.{TbsCertificate}
 use Rattle.der_x509.specs.contracts.certificate.CertificateSerialize.TheImpl as certificate_written
@@ -12,59 +13,52 @@ use Rattle.der_x509.specs.contracts.tbs_certificate.TbsCertificateSerialize.TheI
 use Rattle.der_x509.specs.contracts.tbs_certificate.TbsCertificateDeserialize.TheImpl as signed_read
 use Rattle.der_x509.specs.contracts.tbs_certificate.TbsCertificatePartialEq.TheImpl as signed_compared
 use Rattle.der_x509_tool_lib.specs.declared.outcome.Reading.{Reading}
-use Rattle.der_x509_tool_lib.specs.declared.outcome.RefusalAt.{RefusalAt}
 use Rattle.der_x509_tool_lib.specs.declared.outcome.Outcome.{Outcome}
 use Rattle.der_x509_tool_lib.specs.declared.outcome.Outcome.TheVariants as outcome
 
 -- ---- the two parts
 
--- the certificate that `from_bytes` answers of these bytes
+-- the certificate whose encoding the bytes are
 abbrev pub IsCertificate : List ℕ → Certificate → Type 0
-IsCertificate bytes c = IsFront certificate_written.ghosts.meaning certificate_read.ghosts.shape certificate_compared.ghosts.eq bytes (length bytes) c
+IsCertificate bytes c = IsWhole certificate_written.ghosts.meaning certificate_read.ghosts.shape certificate_compared.ghosts.eq bytes c
 
--- what is written of it
-abbrev pub certificate_encoding : Certificate → List ℕ
-certificate_encoding c = der (certificate_written.ghosts.meaning c)
+-- they are none's, as was found at this position
+abbrev pub IsNoCertificate : List ℕ → DecodeError → Type 0
+IsNoCertificate bytes r = IsNoEncoding certificate_written.ghosts.meaning certificate_read.ghosts.shape bytes r.error r.position
 
 -- the bytes of what is signed
 abbrev pub signed_bytes : Certificate → List ℕ
 signed_bytes c = c.tbs_certificate.0.items
 
--- the value that `from_bytes` answers of these
+-- the value whose encoding these are
 abbrev pub IsTbsCertificate : List ℕ → TbsCertificate → Type 0
-IsTbsCertificate bytes t = IsFront signed_written.ghosts.meaning signed_read.ghosts.shape signed_compared.ghosts.eq bytes (length bytes) t
-
-abbrev pub signed_encoding : TbsCertificate → List ℕ
-signed_encoding t = der (signed_written.ghosts.meaning t)
+IsTbsCertificate bytes t = IsWhole signed_written.ghosts.meaning signed_read.ghosts.shape signed_compared.ghosts.eq bytes t
 
 -- ---- the outcomes
 
 -- The bytes are a certificate, and both it and what is signed of it are written as they were read.
 pub record IsReading (bytes : List ℕ) (r : Reading) : Type 0 where
-  pub front : IsCertificate bytes r.certificate
-  pub whole : certificate_encoding r.certificate ≡ bytes
+  pub certificate : IsCertificate bytes r.certificate
   pub signed : IsTbsCertificate (signed_bytes r.certificate) r.tbs_certificate
-  pub signed_whole : signed_encoding r.tbs_certificate ≡ signed_bytes r.certificate
   pub same : IsTrue r.is_same
 
--- `from_bytes` answers this error in place of a certificate
-pub record IsRefused (bytes : List ℕ) (r : RefusalAt) : Type 0 where
-  pub refused : HasNoFront certificate_written.ghosts.meaning certificate_read.ghosts.shape bytes (length bytes) r.error
+-- the bytes are no certificate, and begin with none
+pub record IsRefused (bytes : List ℕ) (r : DecodeError) : Type 0 where
+  pub refused : IsNoCertificate bytes r
+  pub none : (c : Certificate) → ReadsFrom certificate_written.ghosts.meaning certificate_read.ghosts.shape bytes (length bytes) c → ⊥
   pub memory : r.error ≢ OutOfMemory
 
--- a certificate stands at the front, and bytes behind it
+-- so many of the bytes are a certificate, and others follow it
 pub record IsLeftOver (bytes : List ℕ) (taken : ℕ) : Type 0 where
   pub certificate : Certificate
-  pub front : IsCertificate bytes certificate
-  pub size : taken ≡ length (certificate_encoding certificate)
+  pub front : IsCertificate (take taken bytes) certificate
   pub more : taken < length bytes
 
--- the bytes are a certificate, of whose signed bytes `from_bytes` answers this error
-pub record IsRefusedSigned (bytes : List ℕ) (r : RefusalAt) : Type 0 where
+-- the bytes are a certificate, whose signed bytes are refused
+pub record IsRefusedSigned (bytes : List ℕ) (r : DecodeError) : Type 0 where
   pub certificate : Certificate
-  pub front : IsCertificate bytes certificate
-  pub whole : certificate_encoding certificate ≡ bytes
-  pub refused : HasNoFront signed_written.ghosts.meaning signed_read.ghosts.shape (signed_bytes certificate) (length (signed_bytes certificate)) r.error
+  pub whole : IsCertificate bytes certificate
+  pub refused : IsNoEncoding signed_written.ghosts.meaning signed_read.ghosts.shape (signed_bytes certificate) r.error r.position
   pub memory : r.error ≢ OutOfMemory
 
 abbrev pub IsOutcome : List ℕ → Outcome → Type 0

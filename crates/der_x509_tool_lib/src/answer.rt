@@ -25,7 +25,7 @@ pub fn line_of(alloc: Global, bytes: &[u8]) -> Result<String>
         }
         Outcome::Refused(refusal) => {
             let error = refusal.error;
-            let taken = refusal.taken;
+            let taken = refusal.position;
             let reason = format!(in alloc; " {error} after {taken} bytes")?;
             joined(alloc, "refused", &reason, "")
         }
@@ -36,7 +36,7 @@ pub fn line_of(alloc: Global, bytes: &[u8]) -> Result<String>
         }
         Outcome::RefusedSigned(refusal) => {
             let error = refusal.error;
-            let taken = refusal.taken;
+            let taken = refusal.position;
             let reason = format!(in alloc; " {error} after {taken} bytes of what is signed")?;
             joined(alloc, "refused", &reason, "")
         }

@@ -9,5 +9,5 @@ mod pem;
 mod text;
 
 pub use answer::line_of;
-pub use outcome::{Outcome, Reading, RefusalAt, examine};
+pub use outcome::{Outcome, Reading, examine};
 pub use pem::run;

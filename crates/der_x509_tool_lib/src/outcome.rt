@@ -1,14 +1,12 @@
 //! What comes of reading bytes as a certificate.
-ghost use Rattle.std.specs.Prelude.{◌≡◌, ◌≢◌, ◌≤◌, ◌↔◌, length, IfOk, IfErr, IsTrue};
+ghost use Rattle.std.specs.Prelude.{◌≡◌, ◌≢◌, ◌↔◌, IfOk, IfErr, IsTrue};
 ghost use Rattle.picky_der_core.specs.Encoding.{der};
 ghost use Rattle.picky_der_core.specs.Readable.{IsWritable};
-ghost use Rattle.picky_der_de.specs.Entry.{IsFront, HasNoFront};
-ghost use Rattle.der_x509_tool_lib.specs.Outcome.{IsCertificate, certificate_encoding, IsOutcome};
+ghost use Rattle.der_x509_tool_lib.specs.Outcome.{IsCertificate, IsNoCertificate, IsOutcome};
 
 use der_x509::{Certificate, TbsCertificate};
-use picky_asn1_der::{Asn1DerError, Deserialize, Deserializer, Result, Serialize, to_vec};
+use picky_asn1_der::{Asn1DerError, DecodeError, Result, Serialize, from_der, to_vec};
 use std::alloc::Global;
-use std::result;
 
 /// A certificate that was read, whole and member by member.
 #[derive(Debug, Drop, PartialEq, Eq)]
@@ -21,26 +19,17 @@ pub struct Reading {
     pub is_same: bool,
 }
 
-/// Why something wasn't read.
-#[derive(Debug, Clone, Copy, PartialEq, Eq)]
-pub struct RefusalAt {
-    /// The error, which isn't `OutOfMemory`.
-    pub error: Asn1DerError,
-    /// How many bytes were taken by then.
-    pub taken: usize,
-}
-
 /// What came of reading bytes as a certificate.
 #[derive(Debug, Drop, PartialEq, Eq)]
 pub enum Outcome {
     /// The bytes are a certificate.
     Read(Reading),
-    /// No certificate stands at their front.
-    Refused(RefusalAt),
-    /// So many of them are a certificate, and others stand behind it.
+    /// They don't begin with one. The error isn't `OutOfMemory`.
+    Refused(DecodeError),
+    /// So many of them are a certificate, and others follow it.
     LeftOver(usize),
-    /// They are a certificate, but what it has as signed isn't what X.509 says. The count is of the bytes of this part.
-    RefusedSigned(RefusalAt),
+    /// They are a certificate, but what it has as signed isn't what X.509 says. The position is one in this part.
+    RefusedSigned(DecodeError),
 }
 
 /// Reads bytes as a certificate, reads what is signed of it, and writes both again. The only error is `OutOfMemory`.
@@ -51,26 +40,37 @@ pub fn examine(alloc: Global, bytes: &[u8]) -> Result<Outcome>
     ensures ok { IfOk result (IsOutcome bytes.now) }
     ensures err { IfErr result (λ e. e ≡ Asn1DerError.OutOfMemory) }
 {
-    match read_front::<Certificate>(alloc, bytes) {
-        Ok((certificate, taken)) => {
-            if taken != bytes.len() {
-                return Ok(Outcome::LeftOver(taken));
-            }
-            examine_signed(alloc, bytes, certificate)
+    match from_der::<Certificate>(alloc, bytes) {
+        Ok(certificate) => examine_signed(alloc, bytes, certificate),
+        Err(refusal) => not_read(alloc, bytes, reported(refusal)?),
+    }
+}
+
+// What comes of bytes that are refused: a certificate and others after it, or none.
+fn not_read(alloc: Global, bytes: &[u8], refusal: DecodeError) -> Result<Outcome>
+    requires refused { IsNoCertificate bytes.now refusal }
+    requires memory { refusal.error ≢ Asn1DerError.OutOfMemory }
+    ensures ok { IfOk result (IsOutcome bytes.now) }
+    ensures err { IfErr result (λ e. e ≡ Asn1DerError.OutOfMemory) }
+{
+    let position = refusal.position;
+    match from_der::<Certificate>(alloc, &bytes[..position]) {
+        Ok(_) => Ok(Outcome::LeftOver(position)),
+        Err(front) => {
+            reported(front)?;
+            Ok(Outcome::Refused(refusal))
         }
-        Err(refusal) => Ok(Outcome::Refused(reported(refusal)?)),
     }
 }
 
 // What comes of the bytes of this certificate, which was read whole.
 fn examine_signed(alloc: Global, bytes: &[u8], certificate: Certificate) -> Result<Outcome>
-    requires front { IsCertificate bytes.now certificate }
-    requires whole { certificate_encoding certificate ≡ bytes.now }
+    requires whole { IsCertificate bytes.now certificate }
     ensures ok { IfOk result (IsOutcome bytes.now) }
     ensures err { IfErr result (λ e. e ≡ Asn1DerError.OutOfMemory) }
 {
-    match read_front::<TbsCertificate>(alloc, &certificate.tbs_certificate.0) {
-        Ok((tbs_certificate, _taken)) => {
+    match from_der::<TbsCertificate>(alloc, &certificate.tbs_certificate.0) {
+        Ok(tbs_certificate) => {
             let is_same = is_written_as(alloc, &certificate, bytes)?;
             let signed = &certificate.tbs_certificate.0;
             let signed_is_same = is_written_as(alloc, &tbs_certificate, signed)?;
@@ -81,26 +81,6 @@ fn examine_signed(alloc: Global, bytes: &[u8], certificate: Certificate) -> Resu
             }))
         }
         Err(refusal) => Ok(Outcome::RefusedSigned(reported(refusal)?)),
-    }
-}
-
-// The value at the front of the bytes, and how many of them were taken.
-fn read_front<T: Deserialize>(alloc: Global, bytes: &[u8]) -> result::Result<(T, usize), RefusalAt>
-    ensures front { IfOk result (λ front. IsFront T.meaning T.shape T.eq bytes.now
-        (length bytes.now) front.0) }
-    ensures taken { IfOk result (λ front. front.1 ≡ length (der (T.meaning front.0))) }
-    ensures err { IfErr result (λ refusal. HasNoFront T.meaning T.shape bytes.now
-        (length bytes.now) refusal.error) }
-    ensures within { IfErr result (λ refusal. refusal.taken ≤ length bytes.now) }
-{
-    let mut de = Deserializer::new_from_bytes(alloc, bytes);
-    let outcome = T::deserialize(&mut de);
-    let taken = de.taken();
-    // No effect at run time. The proof reads from it that a slice has no faults.
-    let _ = de.into_reader();
-    match outcome {
-        Ok(value) => Ok((value, taken)),
-        Err(error) => Err(RefusalAt { error, taken }),
     }
 }
 
@@ -115,7 +95,7 @@ fn is_written_as<T: Serialize>(alloc: Global, value: &T, bytes: &[u8]) -> Result
 }
 
 // The refusal, unless it is that of memory.
-fn reported(refusal: RefusalAt) -> Result<RefusalAt>
+fn reported(refusal: DecodeError) -> Result<DecodeError>
     ensures ok { IfOk result (λ r. (r ≡ refusal) × (r.error ≢ Asn1DerError.OutOfMemory)) }
     ensures err { IfErr result (λ e. e ≡ Asn1DerError.OutOfMemory) }
 {

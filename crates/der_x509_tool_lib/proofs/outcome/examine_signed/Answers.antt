@@ -1,26 +1,21 @@
 use Rattle.std.proofs.Common.{◌≡◌, true, false, sym, ◌∙◌, arith}
 use Rattle.std.specs.Prelude.{IsTrue}
 use Rattle.der_x509_tool_lib.specs.Outcome.{IsTbsCertificate, signed_bytes}
-use Rattle.der_x509_tool_lib.proofs.Fronts.{front_writable, front_element}
+use Rattle.der_x509_tool_lib.proofs.Examined.{whole_writable}
 use Rattle.der_x509_tool_lib.proofs.outcome.examine_signed.Goals as goal
 use Rattle.der_x509_tool_lib.proofs.outcome.examine_signed.Goals.{then-is_same, else-is_same}
 
 pub is_written_as-requires-in-Ok : goal.is_written_as-requires-in-Ok
-is_written_as-requires-in-Ok c = front_writable c.in-Ok.ensures.front (omega arith)
+is_written_as-requires-in-Ok c = whole_writable c.in-Ok.ensures.ok (omega arith)
 
--- Both are what was read: the certificate by its count, and what is signed because it is one element.
 pub returns-after-is_same-clause-ok : goal.returns-after-is_same-clause-ok
 returns-after-is_same-clause-ok c =
-    let certificate = c.requires.front in
-    let signed : IsTbsCertificate (signed_bytes c.args.certificate) c.in-Ok.tbs_certificate = rw c.deref.ensures.value at c.in-Ok.ensures.front in
-    let signed_whole = front_element signed certificate.reads.readable.1.0 in
-    let first : IsTrue c.in_ok-is_same-in-Ok.is_same = c.in_ok-is_same-in-Ok.ensures.ok.1 c.requires.whole in
-    let second : IsTrue c.in_ok-signed_is_same-in-Ok.signed_is_same = c.in_ok-signed_is_same-in-Ok.ensures.ok.1 (signed_whole ∙ sym c.deref-in-Ok.ensures.value) in
+    let signed : IsTbsCertificate (signed_bytes c.args.certificate) c.in-Ok.tbs_certificate = rw c.deref.ensures.value at c.in-Ok.ensures.ok in
+    let first : IsTrue c.in_ok-is_same-in-Ok.is_same = c.in_ok-is_same-in-Ok.ensures.ok.1 (sym c.requires.is.encoding) in
+    let second : IsTrue c.in_ok-signed_is_same-in-Ok.signed_is_same = c.in_ok-signed_is_same-in-Ok.ensures.ok.1 (sym signed.is.encoding ∙ sym c.deref-in-Ok.ensures.value) in
     record {
-      front = certificate;
-      whole = c.requires.whole;
+      certificate = c.requires;
       signed = signed;
-      signed_whole = signed_whole;
       same = elim c.if-is_same.branch [
         | then-is_same w ↦ rw w.result-is second
         | else-is_same w ↦ let q : true ≡ false = sym first ∙ w.if-is_same.false in cc
@@ -32,8 +27,7 @@ returns-in_ok-reported-in-Err-clause-ok c =
     let reported = c.in_ok-reported-in-Err.ensures.ok in
     record {
       certificate = c.args.certificate;
-      front = c.requires.front;
-      whole = c.requires.whole;
+      whole = c.requires;
       refused = rw reported.0 (rw c.deref.ensures.value at c.in-Err.ensures.err);
       memory = reported.1;
     }
