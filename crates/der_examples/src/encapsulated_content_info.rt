@@ -5,8 +5,8 @@ ghost use Rattle.picky_der_core.specs.Tree.{ListKind, Tree};
 ghost use Rattle.picky_der_de.specs.Known.{by_itself};
 ghost use Rattle.picky_der_de.specs.KnownLayouts.{known_struct};
 
-use picky_asn1_der::asn1::{ByteBuf, ExplicitContextTag0, ObjectIdentifierAsn1};
-use picky_asn1_der::de::{DeserializeLayout, Struct, deserialize_struct_as};
+use picky_asn1_der::asn1::{ByteBuf, ExplicitContextTag0, ObjectIdentifierAsn1, Tag};
+use picky_asn1_der::de::{Begins, DeserializeLayout, Struct, deserialize_struct_as};
 use picky_asn1_der::misc::{ReadExt, WriteExt};
 use picky_asn1_der::ser::{Optional, OptionalRef, SerializeMembers};
 use picky_asn1_der::{Deserialize, Deserializer, Result, Serialize, Serializer};
@@ -63,5 +63,11 @@ impl Deserialize for EncapsulatedContentInfo {
         deserializer: &mut Deserializer<R>,
     ) -> Result<EncapsulatedContentInfo> {
         deserialize_struct_as(deserializer)
+    }
+}
+
+impl Begins for EncapsulatedContentInfo {
+    fn begins_with(tag: Tag) -> bool {
+        tag == Tag::SEQUENCE
     }
 }
