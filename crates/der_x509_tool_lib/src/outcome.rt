@@ -54,13 +54,11 @@ fn not_read(alloc: Global, bytes: &[u8], refusal: DecodeError) -> Result<Outcome
     ensures err { IfErr result (λ e. e ≡ Asn1DerError.OutOfMemory) }
 {
     let position = refusal.position;
-    match from_der::<Certificate>(alloc, &bytes[..position]) {
-        Ok(_) => Ok(Outcome::LeftOver(position)),
-        Err(front) => {
-            reported(front)?;
-            Ok(Outcome::Refused(refusal))
-        }
+    if let Err(front) = from_der::<Certificate>(alloc, &bytes[..position]) {
+        reported(front)?;
+        return Ok(Outcome::Refused(refusal));
     }
+    Ok(Outcome::LeftOver(position))
 }
 
 // What comes of the bytes of this certificate, which was read whole.
