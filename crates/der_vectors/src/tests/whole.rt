@@ -5,11 +5,11 @@ use der_fixtures::bytes_of;
 use picky_asn1_der::Asn1DerError::{InvalidData, TruncatedData, UnsupportedValue};
 use picky_asn1_der::asn1::ByteBuf;
 use picky_asn1_der::{Asn1DerError, DecodeError, Deserialize, Result as DerResult, from_der};
-use std::alloc::{AllocError, Global};
+use std::alloc::Global;
 use std::test::Fail;
 
 // Where and with which error these bytes are refused.
-fn refused<T: Deserialize>(alloc: Global, row: &str) -> Result<Option<DecodeError>, AllocError> {
+fn refused<T: Deserialize>(alloc: Global, row: &str) -> Result<Option<DecodeError>, Fail> {
     let bytes = bytes_of(alloc, row)?;
     Ok(from_der::<T>(alloc, &bytes).err())
 }
