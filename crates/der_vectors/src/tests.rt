@@ -10,7 +10,6 @@ macro_rules! same {
 
 mod checks;
 mod contents;
-mod defaults;
 mod entry_calls;
 mod equality;
 mod errors;

@@ -1,53 +1,61 @@
 //! What the entry calls answer one after another, and what they leave in a slice and in a device.
 
-use der_fixtures::{SlowReader, SlowWriter, bytes_of, text_of};
+use der_fixtures::{SlowReader, SlowWriter};
 use picky_asn1_der::Asn1DerError::{InvalidData, InvalidSink, TruncatedData};
 use picky_asn1_der::asn1::{ByteBuf, Bytes, PrintableStringAsn1};
 use picky_asn1_der::misc::{PeekableReader, ReadExt, Watched};
 use picky_asn1_der::round_trip::{read_back, written_back};
 use picky_asn1_der::{
-    Length, Serializer, de, from_bytes, from_reader, from_reader_with_max_len, next_from_reader,
-    to_writer,
+    Length, Result as DerResult, Serializer, de, from_bytes, from_reader, from_reader_with_max_len,
+    next_from_reader, to_writer,
 };
-use std::alloc::Global;
+use std::alloc::{AllocError, Global};
 use std::test::Fail;
 
 #[test]
 fn a_value_goes_there_and_back(rt: HostRuntime) -> Result<(), Fail> {
     same!(rt; read_back(rt.alloc(), &128u8), Ok(128));
-    let bytes = bytes_of(rt.alloc(), "02 02 00 80 05 00")?;
-    let again = written_back::<u8>(rt.alloc(), &bytes)?;
-    same!(rt; text_of(rt.alloc(), &again)?.as_str(), "02 02 00 80");
-    let cut = bytes_of(rt.alloc(), "02 02 00")?;
-    same!(rt; written_back::<u8>(rt.alloc(), &cut).err(), Some(TruncatedData));
+    let again = written_back::<u8>(rt.alloc(), &[0x02, 0x02, 0x00, 0x80, 0x05, 0x00])?;
+    same!(rt; again.as_slice(), [0x02, 0x02, 0x00, 0x80].as_slice());
+    same!(rt; written_back::<u8>(rt.alloc(), &[0x02, 0x02, 0x00]).err(), Some(TruncatedData));
     Ok(())
 }
 
 #[test]
-fn a_writer_takes_one_value_after_another(rt: HostRuntime) -> Result<(), Fail> {
+fn a_writer_takes_one_value_after_another(rt: HostRuntime) {
     let mut writer = Watched::new(SlowWriter::new(rt.alloc()));
     same!(rt; to_writer(rt.alloc(), &Bytes(&[0xAA]), &mut writer), Ok(3));
     same!(rt; to_writer(rt.alloc(), &(), &mut writer), Ok(2));
-    let taken = text_of(rt.alloc(), writer.get_ref().taken())?;
-    same!(rt; taken.as_str(), "04 01 AA 05 00");
-    Ok(())
+    same!(rt; writer.get_ref().taken(), [0x04, 0x01, 0xAA, 0x05, 0x00].as_slice());
+}
+
+// The bytes of the next text, which is read below this limit.
+fn next_printable(
+    alloc: Global,
+    reader: &mut PeekableReader<&[u8]>,
+    limit: usize,
+) -> DerResult<Vec<u8>> {
+    let text: PrintableStringAsn1 = from_reader_with_max_len(alloc, reader, limit)?;
+    Ok(text.0)
 }
 
 #[test]
-fn a_reader_gives_one_value_after_another(rt: HostRuntime) -> Result<(), Fail> {
+fn a_reader_gives_one_value_after_another(rt: HostRuntime) {
     let alloc = rt.alloc();
-    let bytes = bytes_of(alloc, "0C 02 C3 A9 13 01 41 05 00")?;
-    let mut reader = PeekableReader::new(bytes.as_slice());
-    same!(rt; reader.peek_one()?, 0x0C);
+    let bytes: &[u8] = &[0x0C, 0x02, 0xC3, 0xA9, 0x13, 0x01, 0x41, 0x05, 0x00];
+    let mut reader = PeekableReader::new(bytes);
+    same!(rt; reader.peek_one().ok(), Some(0x0C));
     same!(rt; from_reader(alloc, &mut reader), Ok('é'));
-    let text: PrintableStringAsn1 = from_reader_with_max_len(alloc, &mut reader, 3)?;
-    same!(rt; text.0.as_slice(), b"A".as_slice());
+    same!(rt; next_printable(alloc, &mut reader, 3).is_ok_and(|text| text.as_slice() == b"A".as_slice()), true);
     same!(rt; reader.pos(), 7);
     same!(rt; from_reader(alloc, &mut reader), Ok(()));
-    same!(rt; reader.read_next()?, None);
+    same!(rt; reader.read_next().ok(), Some(None));
+}
+
+#[test]
+fn limits_and_lengths_are_public(rt: HostRuntime) {
     same!(rt; de::DEFAULT_MAX_LEN, 10240);
     same!(rt; Length::encoded_len(290), 3);
-    Ok(())
 }
 
 #[test]
@@ -61,51 +69,59 @@ fn a_slice_is_filled_by_each_call(rt: HostRuntime) {
     same!(rt; room, [0x02, 0x01, 0x07, 0x05, 0x00, 0x05]);
 }
 
-// This header, and so many zero bytes.
-fn zeros_behind(alloc: Global, header: &str, zeros: usize) -> Result<Vec<u8>, Fail> {
-    let mut bytes = bytes_of(alloc, header)?;
-    bytes.resize(bytes.len().saturating_add(zeros), 0)?;
+// This header, and zero bytes up to this length.
+fn with_zeros(alloc: Global, header: &[u8], len: usize) -> Result<Vec<u8>, AllocError> {
+    let mut bytes = Vec::from_slice(alloc, header)?;
+    bytes.resize(len, 0)?;
     Ok(bytes)
 }
 
 #[test]
-fn from_reader_draws_10240_bytes_at_most(rt: HostRuntime) -> Result<(), Fail> {
-    let alloc = rt.alloc();
-    let whole = zeros_behind(alloc, "04 82 27 FC", 10236)?;
+fn from_reader_reads_10240_bytes_at_most(rt: HostRuntime) -> Result<(), Fail> {
+    let whole = with_zeros(rt.alloc(), &[0x04, 0x82, 0x27, 0xFC], 10240)?;
     let mut reader = Watched::new(SlowReader::new(&whole));
-    let octets: ByteBuf = from_reader(alloc, &mut reader)?;
-    same!(rt; octets.0.len(), 10236);
-    assert!(rt; octets.0.iter().all(|byte| *byte == 0));
+    let octets = from_reader::<ByteBuf, _>(rt.alloc(), &mut reader);
+    same!(rt; octets.is_ok_and(|it| whole.ends_with(&it.0) && it.0.len() == 10236), true);
     same!(rt; reader.get_ref().given(), 10240);
-
-    let past = zeros_behind(alloc, "04 82 27 FD", 10237)?;
-    let mut reader = Watched::new(SlowReader::new(&past));
-    let refused = from_reader::<ByteBuf, _>(alloc, &mut reader);
-    same!(rt; refused.err(), Some(TruncatedData));
-    same!(rt; reader.get_ref().given(), 4);
-    let octets: ByteBuf = from_bytes(alloc, &past)?;
-    same!(rt; octets.0.len(), 10237);
     Ok(())
 }
 
-// A foreign tag, one behind a member, and a member that isn't the shortest: no byte is drawn behind what shows it.
 #[test]
-fn nothing_is_drawn_behind_a_refusal(rt: HostRuntime) -> Result<(), Fail> {
-    let alloc = rt.alloc();
-    for (row, drawn) in [
-        ("05 00 05 00", 1),
-        ("30 06 02 01 07 05 00 05", 6),
-        ("30 06 02 02 00 7F 05 00", 6),
-    ] {
-        let bytes = bytes_of(alloc, row)?;
-        let mut reader = Watched::new(SlowReader::new(&bytes));
-        let refused = from_reader::<(u8, bool), _>(alloc, &mut reader);
-        same!(rt; refused.err(), Some(InvalidData));
-        same!(rt; reader.get_ref().given(), drawn);
-        let mut reader = Watched::new(SlowReader::new(&bytes));
-        let refused = next_from_reader::<(u8, bool), _>(alloc, &mut reader, 8);
-        same!(rt; refused.err(), Some(InvalidData));
-        same!(rt; reader.get_ref().given(), drawn);
-    }
+fn from_reader_reads_nothing_of_a_content_that_is_longer(rt: HostRuntime) -> Result<(), Fail> {
+    let past = with_zeros(rt.alloc(), &[0x04, 0x82, 0x27, 0xFD], 10241)?;
+    let mut reader = Watched::new(SlowReader::new(&past));
+    let refused = from_reader::<ByteBuf, _>(rt.alloc(), &mut reader);
+    same!(rt; refused.err(), Some(TruncatedData));
+    same!(rt; reader.get_ref().given(), 4);
+    let octets = from_bytes::<ByteBuf>(rt.alloc(), &past);
+    same!(rt; octets.is_ok_and(|it| it.0.len() == 10237), true);
     Ok(())
+}
+
+// A foreign tag, one after a member, and a member that isn't the shortest, each with how many bytes are read up to the one that
+// shows it.
+const REFUSED: [(&[u8], usize); 3] = [
+    (&[0x05, 0x00, 0x05, 0x00], 1),
+    (&[0x30, 0x06, 0x02, 0x01, 0x07, 0x05, 0x00, 0x05], 6),
+    (&[0x30, 0x06, 0x02, 0x02, 0x00, 0x7F, 0x05, 0x00], 6),
+];
+
+#[test]
+fn no_byte_is_read_after_one_that_shows_a_refusal(rt: HostRuntime) {
+    for (bytes, given) in REFUSED {
+        let mut reader = Watched::new(SlowReader::new(bytes));
+        let refused = from_reader::<(u8, bool), _>(rt.alloc(), &mut reader);
+        same!(rt; refused.err(), Some(InvalidData));
+        same!(rt; reader.get_ref().given(), given);
+    }
+}
+
+#[test]
+fn no_byte_of_the_next_value_is_read_after_it_either(rt: HostRuntime) {
+    for (bytes, given) in REFUSED {
+        let mut reader = Watched::new(SlowReader::new(bytes));
+        let refused = next_from_reader::<(u8, bool), _>(rt.alloc(), &mut reader, 8);
+        same!(rt; refused.err(), Some(InvalidData));
+        same!(rt; reader.get_ref().given(), given);
+    }
 }

@@ -1,58 +1,52 @@
 //! Lengths alone.
 
-use der_fixtures::{bytes_of, text_of};
 use picky_asn1_der::Asn1DerError::{InvalidData, TruncatedData, UnsupportedValue};
 use picky_asn1_der::Length;
-use picky_asn1_der::misc::BufSink;
+use picky_asn1_der::misc::SliceSink;
 use std::process::Abort;
-use std::test::Fail;
 
 // The length is written as these bytes, and read from them.
-fn is_written_as(
-    rt: &(impl Abort + AllocGlobal),
-    len: usize,
-    row: &str,
-    count: usize,
-) -> Result<(), Fail> {
-    let mut out = Vec::new(rt.alloc());
-    let mut sink = BufSink::new(&mut out);
-    same!(rt; Length::serialize(len, &mut sink), Ok(count), len);
+fn is_written_as(rt: &(impl Abort + AllocGlobal), len: usize, bytes: &[u8]) {
+    let mut room = [0; 9];
+    let mut sink = SliceSink::new(&mut room);
+    same!(rt; Length::serialize(len, &mut sink), Ok(bytes.len()), len);
     drop(sink);
-    same!(rt; text_of(rt.alloc(), &out)?.as_str(), row);
-    same!(rt; Length::encoded_len(len), count, len);
-    let mut rest = out.as_slice();
-    same!(rt; Length::deserialized(&mut rest), Ok(len), row);
-    same!(rt; rest.is_empty(), true, row);
-    Ok(())
+    same!(rt; room.starts_with(bytes), true, len);
+    same!(rt; Length::encoded_len(len), bytes.len(), len);
+    let mut rest = bytes;
+    same!(rt; Length::deserialized(&mut rest), Ok(len), len);
+    same!(rt; rest.is_empty(), true, len);
 }
 
 #[test]
-fn lengths_take_the_fewest_bytes(rt: HostRuntime) -> Result<(), Fail> {
-    is_written_as(&rt, 10, "0A", 1)?;
-    is_written_as(&rt, 127, "7F", 1)?;
-    is_written_as(&rt, 128, "81 80", 2)?;
-    is_written_as(&rt, 129, "81 81", 2)?;
-    is_written_as(&rt, 290, "82 01 22", 3)?;
-    is_written_as(&rt, usize::MAX, "88 FF FF FF FF FF FF FF FF", 9)
+fn lengths_take_the_fewest_bytes(rt: HostRuntime) {
+    is_written_as(&rt, 10, &[0x0A]);
+    is_written_as(&rt, 127, &[0x7F]);
+    is_written_as(&rt, 128, &[0x81, 0x80]);
+    is_written_as(&rt, 129, &[0x81, 0x81]);
+    is_written_as(&rt, 290, &[0x82, 0x01, 0x22]);
+    is_written_as(
+        &rt,
+        usize::MAX,
+        &[0x88, 0xFF, 0xFF, 0xFF, 0xFF, 0xFF, 0xFF, 0xFF, 0xFF],
+    );
 }
 
 #[test]
-fn every_other_form_is_refused(rt: HostRuntime) -> Result<(), Fail> {
-    for (row, error) in [
-        ("80", InvalidData),
-        ("81 05", InvalidData),
-        ("82 00 80", InvalidData),
-        ("89", UnsupportedValue),
-        ("FF", UnsupportedValue),
-        ("82 01", TruncatedData),
-        ("82 00", TruncatedData),
-        ("", TruncatedData),
+fn every_other_form_is_refused(rt: HostRuntime) {
+    for (bytes, error) in [
+        ([0x80].as_slice(), InvalidData),
+        ([0x81, 0x05].as_slice(), InvalidData),
+        ([0x82, 0x00, 0x80].as_slice(), InvalidData),
+        ([0x89].as_slice(), UnsupportedValue),
+        ([0xFF].as_slice(), UnsupportedValue),
+        ([0x82, 0x01].as_slice(), TruncatedData),
+        ([0x82, 0x00].as_slice(), TruncatedData),
+        ([].as_slice(), TruncatedData),
     ] {
-        let bytes = bytes_of(rt.alloc(), row)?;
-        let mut rest = bytes.as_slice();
-        same!(rt; Length::deserialized(&mut rest), Err(error), row);
+        let mut rest = bytes;
+        same!(rt; Length::deserialized(&mut rest), Err(error), bytes);
     }
-    Ok(())
 }
 
 #[test]

@@ -1,7 +1,7 @@
 //! Values that stand behind each other, in a slice and in a reader.
 
 use der_examples::{next_text, number_and_text};
-use der_fixtures::{FailingReader, SlowReader, bytes_of};
+use der_fixtures::{FailingReader, SlowReader};
 use picky_asn1_der::Asn1DerError::{InvalidData, Other, TruncatedData};
 use picky_asn1_der::misc::Watched;
 use picky_asn1_der::{next_from_bytes, next_from_reader};
@@ -9,80 +9,75 @@ use std::io::ErrorKind;
 use std::test::Fail;
 
 #[test]
-fn a_slice_has_one_value_behind_another(rt: HostRuntime) -> Result<(), Fail> {
+fn a_slice_has_one_value_behind_another(rt: HostRuntime) {
     let alloc = rt.alloc();
-    let bytes = bytes_of(alloc, "02 02 00 80 05 00 02 01")?;
-    same!(rt; next_from_bytes::<u8>(alloc, &bytes), Ok((128, 4)));
-    let second = bytes_of(alloc, "05 00 02 01")?;
-    same!(rt; next_from_bytes::<()>(alloc, &second), Ok(((), 2)));
-    same!(rt; next_from_bytes::<u8>(alloc, &second), Err(InvalidData));
-    let third = bytes_of(alloc, "02 01")?;
-    same!(rt; next_from_bytes::<u8>(alloc, &third), Err(TruncatedData));
+    let bytes: &[u8] = &[0x02, 0x02, 0x00, 0x80, 0x05, 0x00, 0x02, 0x01];
+    same!(rt; next_from_bytes::<u8>(alloc, bytes), Ok((128, 4)));
+    let second: &[u8] = &[0x05, 0x00, 0x02, 0x01];
+    same!(rt; next_from_bytes::<()>(alloc, second), Ok(((), 2)));
+    same!(rt; next_from_bytes::<u8>(alloc, second), Err(InvalidData));
+    let third: &[u8] = &[0x02, 0x01];
+    same!(rt; next_from_bytes::<u8>(alloc, third), Err(TruncatedData));
     same!(rt; next_from_bytes::<u8>(alloc, &[]), Err(TruncatedData));
-    Ok(())
 }
 
 #[test]
-fn a_reader_ends_behind_its_last_value(rt: HostRuntime) -> Result<(), Fail> {
+fn a_reader_ends_behind_its_last_value(rt: HostRuntime) {
     let alloc = rt.alloc();
-    let bytes = bytes_of(alloc, "02 01 07 02 01 08")?;
-    let mut reader = Watched::new(SlowReader::new(&bytes));
+    let bytes: &[u8] = &[0x02, 0x01, 0x07, 0x02, 0x01, 0x08];
+    let mut reader = Watched::new(SlowReader::new(bytes));
     same!(rt; next_from_reader::<u8, _>(alloc, &mut reader, 3), Ok(Some(7)));
     same!(rt; reader.get_ref().given(), 3);
     same!(rt; next_from_reader::<u8, _>(alloc, &mut reader, 3), Ok(Some(8)));
     same!(rt; next_from_reader::<u8, _>(alloc, &mut reader, 3), Ok(None));
     same!(rt; next_from_reader::<u8, _>(alloc, &mut reader, 3), Ok(None));
-    Ok(())
 }
 
 #[test]
-fn a_value_that_is_cut_short_is_no_end(rt: HostRuntime) -> Result<(), Fail> {
+fn a_value_that_is_cut_short_is_no_end(rt: HostRuntime) {
     let alloc = rt.alloc();
-    let bytes = bytes_of(alloc, "02 01 07 02 01")?;
-    let mut reader = Watched::new(SlowReader::new(&bytes));
+    let bytes: &[u8] = &[0x02, 0x01, 0x07, 0x02, 0x01];
+    let mut reader = Watched::new(SlowReader::new(bytes));
     same!(rt; next_from_reader::<u8, _>(alloc, &mut reader, 3), Ok(Some(7)));
     same!(rt; next_from_reader::<u8, _>(alloc, &mut reader, 3), Err(TruncatedData));
-    let mut reader = Watched::new(SlowReader::new(&bytes));
+    let mut reader = Watched::new(SlowReader::new(bytes));
     same!(rt; next_from_reader::<u8, _>(alloc, &mut reader, 2), Err(TruncatedData));
     same!(rt; reader.get_ref().given(), 2);
-    Ok(())
 }
 
 #[test]
-fn no_byte_is_drawn_under_a_limit_of_0(rt: HostRuntime) -> Result<(), Fail> {
+fn no_byte_is_drawn_under_a_limit_of_0(rt: HostRuntime) {
     let alloc = rt.alloc();
-    let bytes = bytes_of(alloc, "02 01 07")?;
-    let mut reader = Watched::new(SlowReader::new(&bytes));
+    let bytes: &[u8] = &[0x02, 0x01, 0x07];
+    let mut reader = Watched::new(SlowReader::new(bytes));
     same!(rt; next_from_reader::<u8, _>(alloc, &mut reader, 0), Err(TruncatedData));
     same!(rt; reader.get_ref().given(), 0);
     let mut reader: &[u8] = &[];
     same!(rt; next_from_reader::<u8, _>(alloc, &mut reader, 0), Err(TruncatedData));
-    Ok(())
 }
 
 // A fault in place of the first byte is no end, of whatever kind it is.
 #[test]
-fn a_fault_is_no_end(rt: HostRuntime) -> Result<(), Fail> {
+fn a_fault_is_no_end(rt: HostRuntime) {
     let alloc = rt.alloc();
-    let bytes = bytes_of(alloc, "02 01 07")?;
+    let bytes: &[u8] = &[0x02, 0x01, 0x07];
     for (kind, error) in [
         (ErrorKind::UnexpectedEof, TruncatedData),
         (ErrorKind::BrokenPipe, Other(ErrorKind::BrokenPipe)),
     ] {
-        let mut reader = Watched::new(FailingReader::new(&bytes, 1, kind));
+        let mut reader = Watched::new(FailingReader::new(bytes, 1, kind));
         same!(rt; next_from_reader::<u8, _>(alloc, &mut reader, 3), Err(error));
         same!(rt; next_from_reader::<u8, _>(alloc, &mut reader, 3), Ok(Some(7)));
     }
-    Ok(())
 }
 
 #[test]
 fn values_of_two_types_stand_behind_each_other(rt: HostRuntime) -> Result<(), Fail> {
     let alloc = rt.alloc();
-    let bytes = bytes_of(alloc, "02 01 07 0C 02 68 69")?;
+    let bytes: &[u8] = &[0x02, 0x01, 0x07, 0x0C, 0x02, 0x68, 0x69];
     let text = String::from_str(alloc, "hi")?;
-    same!(rt; number_and_text(alloc, &bytes), Ok((7, text)));
-    let mut reader = bytes.as_slice();
+    same!(rt; number_and_text(alloc, bytes), Ok((7, text)));
+    let mut reader = bytes;
     same!(rt; next_text(alloc, &mut reader), Err(InvalidData));
     let mut reader: &[u8] = &[];
     same!(rt; next_text(alloc, &mut reader), Ok(None));

@@ -1,7 +1,6 @@
 //! Whole inputs, where they are refused, and how that is shown.
 
 use der_examples::NumberOrFlag;
-use der_fixtures::bytes_of;
 use picky_asn1_der::Asn1DerError::{InvalidData, TruncatedData, UnsupportedValue};
 use picky_asn1_der::asn1::ByteBuf;
 use picky_asn1_der::{Asn1DerError, DecodeError, Deserialize, Result as DerResult, from_der};
@@ -9,45 +8,42 @@ use std::alloc::Global;
 use std::test::Fail;
 
 // Where and with which error these bytes are refused.
-fn refused<T: Deserialize>(alloc: Global, row: &str) -> Result<Option<DecodeError>, Fail> {
-    let bytes = bytes_of(alloc, row)?;
-    Ok(from_der::<T>(alloc, &bytes).err())
+fn refused<T: Deserialize>(alloc: Global, bytes: &[u8]) -> Option<DecodeError> {
+    from_der::<T>(alloc, bytes).err()
 }
 
 #[test]
-fn a_whole_input_is_one_value(rt: HostRuntime) -> Result<(), Fail> {
-    let bytes = bytes_of(rt.alloc(), "02 02 00 80")?;
-    same!(rt; from_der(rt.alloc(), &bytes), Ok(128u8));
-    Ok(())
+fn a_whole_input_is_one_value(rt: HostRuntime) {
+    let bytes: &[u8] = &[0x02, 0x02, 0x00, 0x80];
+    same!(rt; from_der(rt.alloc(), bytes), Ok(128u8));
 }
 
 // By the rules of what is read before a refusal: the tag for a foreign tag, the length for one that reaches past the end, the
 // content for one that isn't canonical, and nothing for bytes after the value or for a choice whose tag is only looked at.
 #[test]
-fn a_refusal_says_where_it_came(rt: HostRuntime) -> Result<(), Fail> {
+fn a_refusal_says_where_it_came(rt: HostRuntime) {
     let alloc = rt.alloc();
-    for (row, error, position) in [
-        ("", TruncatedData, 0),
-        ("04 01 07", InvalidData, 1),
-        ("02 03 01 00", TruncatedData, 2),
-        ("02 02 00 7F", InvalidData, 4),
-        ("02 02 01 00", UnsupportedValue, 4),
-        ("02 01 07 05 00", InvalidData, 3),
+    for (bytes, error, position) in [
+        ([].as_slice(), TruncatedData, 0),
+        ([0x04, 0x01, 0x07].as_slice(), InvalidData, 1),
+        ([0x02, 0x03, 0x01, 0x00].as_slice(), TruncatedData, 2),
+        ([0x02, 0x02, 0x00, 0x7F].as_slice(), InvalidData, 4),
+        ([0x02, 0x02, 0x01, 0x00].as_slice(), UnsupportedValue, 4),
+        ([0x02, 0x01, 0x07, 0x05, 0x00].as_slice(), InvalidData, 3),
     ] {
         let wanted = Some(DecodeError { error, position });
-        same!(rt; refused::<u8>(alloc, row)?, wanted, row);
+        same!(rt; refused::<u8>(alloc, bytes), wanted, bytes);
     }
     let foreign = DecodeError {
         error: InvalidData,
         position: 2,
     };
-    same!(rt; refused::<Vec<NumberOrFlag>>(alloc, "30 02 05 00")?, Some(foreign));
+    same!(rt; refused::<Vec<NumberOrFlag>>(alloc, &[0x30, 0x02, 0x05, 0x00]), Some(foreign));
     let second = DecodeError {
         error: InvalidData,
         position: 6,
     };
-    same!(rt; refused::<Vec<ByteBuf>>(alloc, "30 06 04 01 AA 02 01 05")?, Some(second));
-    Ok(())
+    same!(rt; refused::<Vec<ByteBuf>>(alloc, &[0x30, 0x06, 0x04, 0x01, 0xAA, 0x02, 0x01, 0x05]), Some(second));
 }
 
 #[test]
