@@ -1,5 +1,7 @@
 //! The answers to rows, at any type.
 
+use crate::copies::{Copied, is_copied};
+use crate::hostile::Wrong;
 use crate::{apart, growths, hostile};
 use der_fixtures::{SlowReader, SlowWriter, text_of};
 use picky_asn1_der::misc::Watched;
@@ -14,12 +16,20 @@ use std::fmt::Debug;
 pub(crate) struct RowBytes {
     pub(crate) bytes: Vec<u8>,
     pub(crate) way: Way,
+    pub(crate) trial: Trial,
+}
+
+/// Whether the encoding of what is read is tried as a hostile one, too.
+#[derive(Clone, Copy)]
+pub(crate) enum Trial {
+    Hostile,
+    None,
 }
 
 /// How the bytes of a row are read.
 #[derive(Clone, Copy)]
 pub(crate) enum Way {
-    /// From a slice. A value's encoding is tried as a hostile one, too.
+    /// From a slice.
     Slice,
     /// From a reader that gives one byte a call, with this limit.
     Reader(usize),
@@ -50,36 +60,47 @@ pub(crate) fn read_as<T: Deserialize + Debug>(
     row: &RowBytes,
 ) -> Result<String, AllocError> {
     match row.way {
-        Way::Slice => read_slice::<T>(alloc, &row.bytes),
-        Way::Reader(limit) => read_a_byte_a_call::<T>(alloc, &row.bytes, limit),
+        Way::Slice => read_slice::<T>(alloc, row),
+        Way::Reader(limit) => read_a_byte_a_call::<T>(alloc, row, limit),
         Way::Hostile => hostile::answer::<T>(alloc, &row.bytes),
         Way::Apart => apart::answer::<T>(alloc, &row.bytes),
         Way::Growing => growths::read::<T>(alloc, &row.bytes),
     }
 }
 
-fn read_slice<T: Deserialize + Debug>(alloc: Global, bytes: &[u8]) -> Result<String, AllocError> {
-    let mut de = Deserializer::new_from_bytes(alloc, bytes);
+/// The same of a type with a `clone` of its own. The copy of what is read from a slice is equal to it.
+pub(crate) fn read_copied<T: Copied + Debug>(
+    alloc: Global,
+    row: &RowBytes,
+) -> Result<String, AllocError> {
+    if matches!(row.way, Way::Slice) && !is_copied::<T>(alloc, &row.bytes) {
+        return String::from_str(alloc, "the copy differs");
+    }
+    read_as::<T>(alloc, row)
+}
+
+fn read_slice<T: Deserialize + Debug>(alloc: Global, row: &RowBytes) -> Result<String, AllocError> {
+    let mut de = Deserializer::new_from_bytes(alloc, &row.bytes);
     let outcome = T::deserialize(&mut de);
-    if from_bytes(alloc, bytes) != outcome {
+    if from_bytes(alloc, &row.bytes) != outcome {
         return format!(in alloc; "from_bytes differs");
     }
     match outcome {
-        Ok(value) => shown(alloc, de.taken(), &value),
+        Ok(value) => shown(alloc, row.trial, de.taken(), &value),
         Err(error) => format!(in alloc; "refused {error}"),
     }
 }
 
 fn read_a_byte_a_call<T: Deserialize + Debug>(
     alloc: Global,
-    bytes: &[u8],
+    row: &RowBytes,
     limit: usize,
 ) -> Result<String, AllocError> {
-    let mut reader = Watched::new(SlowReader::new(bytes));
+    let mut reader = Watched::new(SlowReader::new(&row.bytes));
     let outcome = from_reader_with_max_len::<T, _>(alloc, &mut reader, limit);
     let drawn = reader.get_ref().given();
     match outcome {
-        Ok(value) => shown(alloc, drawn, &value),
+        Ok(value) => shown(alloc, row.trial, drawn, &value),
         Err(error) => format!(in alloc; "refused {error} after {drawn}"),
     }
 }
@@ -88,6 +109,7 @@ fn read_a_byte_a_call<T: Deserialize + Debug>(
 // they must be.
 fn shown<T: Deserialize + Debug>(
     alloc: Global,
+    trial: Trial,
     taken: usize,
     value: &T,
 ) -> Result<String, AllocError> {
@@ -96,9 +118,21 @@ fn shown<T: Deserialize + Debug>(
         Err(error) => return format!(in alloc; "ok {taken} but {error} {value:?}"),
     };
     let row = text_of(alloc, &bytes)?;
-    match hostile::tried(alloc, &bytes, value) {
-        Ok(_) => format!(in alloc; "ok {taken} [{row}] {value:?}"),
+    match tried(alloc, trial, &bytes, value) {
+        Ok(()) => format!(in alloc; "ok {taken} [{row}] {value:?}"),
         Err(wrong) => format!(in alloc; "ok {taken} [{row}] {wrong:?}"),
+    }
+}
+
+fn tried<T: Deserialize>(
+    alloc: Global,
+    trial: Trial,
+    encoding: &[u8],
+    value: &T,
+) -> Result<(), Wrong> {
+    match trial {
+        Trial::Hostile => hostile::tried(alloc, encoding, value).map(|_| ()),
+        Trial::None => Ok(()),
     }
 }
 

@@ -1,7 +1,7 @@
 //! Values of one type, of which no encoding begins another.
 
 use picky_asn1_der::misc::ReadExt;
-use picky_asn1_der::{Asn1DerError, Deserialize, Deserializer, to_vec};
+use picky_asn1_der::{Deserialize, Deserializer, to_vec};
 use std::alloc::{AllocError, Global};
 
 /// How many values stand in the bytes, one behind the other, where the encoding of none begins with that of another.
@@ -20,10 +20,7 @@ fn encodings<T: Deserialize>(alloc: Global, bytes: &[u8]) -> picky_asn1_der::Res
         if de.taken() == bytes.len() {
             break;
         }
-        let encoding = next_encoding::<T, _>(alloc, &mut de)?;
-        if encodings.push(encoding).is_err() {
-            return Err(Asn1DerError::OutOfMemory);
-        }
+        encodings.push(next_encoding::<T, _>(alloc, &mut de)?)?;
     }
     Ok(encodings)
 }

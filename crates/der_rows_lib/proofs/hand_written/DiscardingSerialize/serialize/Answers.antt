@@ -1,6 +1,6 @@
 use Rattle.std.proofs.Common.{rules}
-use Rattle.der_rows.proofs.Discarded.{discarded_at}
-use Rattle.der_rows.proofs.hand_written.DiscardingSerialize.serialize.Goals as goal
+use Rattle.der_rows_lib.proofs.Discarded.{discarded_at}
+use Rattle.der_rows_lib.proofs.hand_written.DiscardingSerialize.serialize.Goals as goal
 
 pub returns-in_err-serialize_element-clause-failed : goal.returns-in_err-serialize_element-clause-failed
 returns-in_err-serialize_element-clause-failed g c =

@@ -1,6 +1,6 @@
 //! Lists, sets, arrays, tuples and rows.
 
-use crate::answers::{RowBytes, read_as};
+use crate::answers::{RowBytes, read_as, read_copied};
 use crate::wrappers;
 use picky_asn1_der::asn1::{
     Asn1SequenceOf, Asn1SetOf, ByteBuf, ExplicitContextTag0, ObjectIdentifierAsn1,
@@ -17,15 +17,15 @@ pub(crate) fn answer(alloc: Global, name: &str, row: &RowBytes) -> Result<String
         "Vec<Vec<ByteBuf>>" => read_as::<Vec<Vec<ByteBuf>>>(alloc, row),
         "Vec<Option<u8>>" => read_as::<Vec<Option<u8>>>(alloc, row),
         "Vec<Asn1RawDer>" => read_as::<Vec<Asn1RawDer>>(alloc, row),
-        "Asn1SequenceOf<u8>" => read_as::<Asn1SequenceOf<u8>>(alloc, row),
-        "Asn1SetOf<u8>" => read_as::<Asn1SetOf<u8>>(alloc, row),
-        "Asn1SetOf<u16>" => read_as::<Asn1SetOf<u16>>(alloc, row),
-        "Asn1SetOf<ByteBuf>" => read_as::<Asn1SetOf<ByteBuf>>(alloc, row),
-        "Asn1SetOf<Asn1SetOf<u8>>" => read_as::<Asn1SetOf<Asn1SetOf<u8>>>(alloc, row),
-        "Asn1SetOf<ExplicitContextTag0<Asn1SetOf<u8>>>" => read_as::<
+        "Asn1SequenceOf<u8>" => read_copied::<Asn1SequenceOf<u8>>(alloc, row),
+        "Asn1SetOf<u8>" => read_copied::<Asn1SetOf<u8>>(alloc, row),
+        "Asn1SetOf<u16>" => read_copied::<Asn1SetOf<u16>>(alloc, row),
+        "Asn1SetOf<ByteBuf>" => read_copied::<Asn1SetOf<ByteBuf>>(alloc, row),
+        "Asn1SetOf<Asn1SetOf<u8>>" => read_copied::<Asn1SetOf<Asn1SetOf<u8>>>(alloc, row),
+        "Asn1SetOf<ExplicitContextTag0<Asn1SetOf<u8>>>" => read_copied::<
             Asn1SetOf<ExplicitContextTag0<Asn1SetOf<u8>>>,
         >(alloc, row),
-        "Asn1SetOf<Vec<Asn1SetOf<u8>>>" => read_as::<Asn1SetOf<Vec<Asn1SetOf<u8>>>>(alloc, row),
+        "Asn1SetOf<Vec<Asn1SetOf<u8>>>" => read_copied::<Asn1SetOf<Vec<Asn1SetOf<u8>>>>(alloc, row),
         "[u8; 0]" => read_as::<[u8; 0]>(alloc, row),
         "[u8; 1]" => read_as::<[u8; 1]>(alloc, row),
         "[u8; 2]" => read_as::<[u8; 2]>(alloc, row),

@@ -1,6 +1,6 @@
 //! Plain values, octet strings and bytes under tags of their own, and options.
 
-use crate::answers::{RowBytes, read_as};
+use crate::answers::{RowBytes, read_as, read_copied};
 use crate::lists;
 use picky_asn1_der::Asn1RawDer;
 use picky_asn1_der::asn1::{ByteBuf, TaggedBytes};
@@ -19,11 +19,11 @@ pub(crate) fn answer(alloc: Global, name: &str, row: &RowBytes) -> Result<String
         "()" => read_as::<()>(alloc, row),
         "char" => read_as::<char>(alloc, row),
         "String" => read_as::<String>(alloc, row),
-        "ByteBuf" => read_as::<ByteBuf>(alloc, row),
-        "TaggedBytes<0x1F>" => read_as::<TaggedBytes<0x1F>>(alloc, row),
-        "TaggedBytes<0x9E>" => read_as::<TaggedBytes<0x9E>>(alloc, row),
+        "ByteBuf" => read_copied::<ByteBuf>(alloc, row),
+        "TaggedBytes<0x1F>" => read_copied::<TaggedBytes<0x1F>>(alloc, row),
+        "TaggedBytes<0x9E>" => read_copied::<TaggedBytes<0x9E>>(alloc, row),
         "Option<u8>" => read_as::<Option<u8>>(alloc, row),
-        "Asn1RawDer" => read_as::<Asn1RawDer>(alloc, row),
+        "Asn1RawDer" => read_copied::<Asn1RawDer>(alloc, row),
         _ => lists::answer(alloc, name, row),
     }
 }

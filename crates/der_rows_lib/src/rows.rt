@@ -14,6 +14,7 @@ use std::alloc::{AllocError, Global};
 /// |---|---|
 /// | `read [BYTES] as TYPE` | `ok TAKEN [BYTES] VALUE` with the bytes that the value is written as, or `refused ERROR` |
 /// | `draw LIMIT [BYTES] as TYPE` | the same of a reader of a byte a call, with the bytes drawn for TAKEN, or `refused ERROR after DRAWN` |
+/// | `quick read ..`, `quick draw ..` | the same, without a trial of the value's encoding as a [hostile](crate::hostile) one |
 /// | `hostile [BYTES] as TYPE` | how many values and errors of each kind this encoding gives with each byte replaced by each of 256 |
 /// | `apart [BYTES] as TYPE` | how many values stand one behind the other, where the encoding of none begins with that of another |
 /// | `sweep readers failing with KIND [BYTES] as TYPE` | what is answered where the reader's call 1, 2 and so on fails so, and at 0 none |
@@ -33,6 +34,7 @@ use std::alloc::{AllocError, Global};
 /// | `fill LENGTH CALLS` | the same of a writer over a slice of LENGTH bytes EE, and what the slice holds |
 /// | `tool "LINE"` | the answer of `der_tool` to that line |
 /// | `copy [BYTES] as TYPE` | `whole`, where the copy of the value is equal to it |
+/// | `tbs [BYTES] as Certificate` | what the signed part of the certificate is read as |
 /// | `grow read [BYTES] as TYPE` | `whole`, where all calls agree: on a value and its encoding, or on the error |
 /// | `grow write VALUE` | `whole`, where each call that writes does the same |
 /// | `grow tool "LINE", .. as "ANSWER", ..` | `whole`, where these are the answers of `der_tool` to these lines |
@@ -42,7 +44,7 @@ use std::alloc::{AllocError, Global};
 /// and left what it should, and `wrong CALL` where one did anything else.
 ///
 /// What stands N times in bytes and lines may be written as `N*PART`.
-pub(crate) fn answer_to(alloc: Global, row: &str) -> Result<String, AllocError> {
+pub fn answer_to(alloc: Global, row: &str) -> Result<String, AllocError> {
     if row.is_empty() || row.starts_with('#') {
         return String::from_str(alloc, row);
     }

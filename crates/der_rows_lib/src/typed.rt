@@ -1,9 +1,12 @@
 //! Rows of bytes with a type.
 
-use crate::answers::{RowBytes, Way};
+use crate::answers::{RowBytes, Trial, Way};
+use crate::calls::shown;
 use crate::notation::bytes_in;
 use crate::sweeps::Sweep;
 use crate::{copies, growths, plain, sweeps};
+use der_x509::Certificate;
+use picky_asn1_der::from_bytes;
 use std::alloc::{AllocError, Global};
 
 /// The answer to words of what is done, bytes in brackets, and ` as ` with a type.
@@ -14,12 +17,27 @@ pub(crate) fn answer(alloc: Global, row: &str) -> Result<String, AllocError> {
     if words == "copy" {
         return growths::answer(alloc, copies::copy(alloc, name, &bytes));
     }
+    if words == "tbs" {
+        return tbs(alloc, &bytes);
+    }
+    let (words, trial) = match words.strip_prefix("quick ") {
+        Some(words) => (words, Trial::None),
+        None => (words, Trial::Hostile),
+    };
     if let Some(way) = Way::named(words) {
-        return plain::answer(alloc, name, &RowBytes { bytes, way });
+        return plain::answer(alloc, name, &RowBytes { bytes, way, trial });
     }
     match Sweep::named(words) {
         Some(sweep) => sweeps::answer(alloc, name, sweep, &bytes),
         None => String::from_str(alloc, "unknown words"),
+    }
+}
+
+// What the signed part of the certificate is read as, which these bytes are.
+fn tbs(alloc: Global, bytes: &[u8]) -> Result<String, AllocError> {
+    match from_bytes::<Certificate>(alloc, bytes) {
+        Ok(certificate) => shown(alloc, &certificate.read_tbs_certificate(alloc)),
+        Err(error) => format!(in alloc; "refused {error}"),
     }
 }
 

@@ -2,7 +2,7 @@ use Rattle.std.proofs.Common.{rules}
 use Rattle.picky_der_de.proofs.PassedOn.{refusal_passed_on}
 use Rattle.picky_der_de.proofs.Peeked.{identified_refuses, refuses_identifier}
 use Rattle.picky_der_de.proofs.PlainReads.{refuses_of}
-use Rattle.der_rows.proofs.seen.SeenDeserialize.deserialize.Goals as goal
+use Rattle.der_rows_lib.proofs.seen.SeenDeserialize.deserialize.Goals as goal
 
 pub returns-in-Err-clause-err : goal.returns-in-Err-clause-err
 returns-in-Err-clause-err g c = refuses_identifier c.in-Err.ensures.err

@@ -1,6 +1,7 @@
 //! Lists under tags in place of their own.
 
-use crate::answers::{RowBytes, Writing, read_as, written};
+use crate::answers::{RowBytes, Writing, read_as, read_copied, written};
+use crate::widths;
 use der_examples::{Attribute, CertificationRequestInfo, SignedData};
 use der_x509::AlgorithmIdentifier;
 use picky_asn1_der::asn1::{
@@ -12,18 +13,18 @@ use std::alloc::{AllocError, Global};
 /// The answer to a row that names one of these types.
 pub(crate) fn answer(alloc: Global, name: &str, row: &RowBytes) -> Result<String, AllocError> {
     match name {
-        "ImplicitList0<Asn1SetOf<u8>>" => read_as::<ImplicitList0<Asn1SetOf<u8>>>(alloc, row),
-        "ImplicitList1<Vec<u8>>" => read_as::<ImplicitList1<Vec<u8>>>(alloc, row),
-        "ImplicitList2<(u8, bool)>" => read_as::<ImplicitList2<(u8, bool)>>(alloc, row),
-        "ImplicitList3<[u8; 2]>" => read_as::<ImplicitList3<[u8; 2]>>(alloc, row),
+        "ImplicitList0<Asn1SetOf<u8>>" => read_copied::<ImplicitList0<Asn1SetOf<u8>>>(alloc, row),
+        "ImplicitList1<Vec<u8>>" => read_copied::<ImplicitList1<Vec<u8>>>(alloc, row),
+        "ImplicitList2<(u8, bool)>" => read_copied::<ImplicitList2<(u8, bool)>>(alloc, row),
+        "ImplicitList3<[u8; 2]>" => read_copied::<ImplicitList3<[u8; 2]>>(alloc, row),
         "ImplicitList4<AlgorithmIdentifier>" => read_as::<ImplicitList4<AlgorithmIdentifier>>(
             alloc, row,
         ),
-        "Retagged<Vec<u8>, 0x31>" => read_as::<Retagged<Vec<u8>, 0x31>>(alloc, row),
-        "Retagged<Vec<u8>, 0x60>" => read_as::<Retagged<Vec<u8>, 0x60>>(alloc, row),
-        "Retagged<Vec<u8>, 0x80>" => read_as::<Retagged<Vec<u8>, 0x80>>(alloc, row),
-        "Retagged<Vec<u8>, 0xBE>" => read_as::<Retagged<Vec<u8>, 0xBE>>(alloc, row),
-        "Retagged<Vec<u8>, 0xBF>" => read_as::<Retagged<Vec<u8>, 0xBF>>(alloc, row),
+        "Retagged<Vec<u8>, 0x31>" => read_copied::<Retagged<Vec<u8>, 0x31>>(alloc, row),
+        "Retagged<Vec<u8>, 0x60>" => read_copied::<Retagged<Vec<u8>, 0x60>>(alloc, row),
+        "Retagged<Vec<u8>, 0x80>" => read_copied::<Retagged<Vec<u8>, 0x80>>(alloc, row),
+        "Retagged<Vec<u8>, 0xBE>" => read_copied::<Retagged<Vec<u8>, 0xBE>>(alloc, row),
+        "Retagged<Vec<u8>, 0xBF>" => read_copied::<Retagged<Vec<u8>, 0xBF>>(alloc, row),
         _ => answer_inside(alloc, name, row),
     }
 }
@@ -34,10 +35,10 @@ fn answer_inside(alloc: Global, name: &str, row: &RowBytes) -> Result<String, Al
         "(ImplicitList0<Asn1SetOf<u8>>, ImplicitList1<Vec<u8>>)" => read_as::<
             (ImplicitList0<Asn1SetOf<u8>>, ImplicitList1<Vec<u8>>),
         >(alloc, row),
-        "ExplicitContextTag0<ImplicitList1<Vec<u8>>>" => read_as::<
+        "ExplicitContextTag0<ImplicitList1<Vec<u8>>>" => read_copied::<
             ExplicitContextTag0<ImplicitList1<Vec<u8>>>,
         >(alloc, row),
-        "ImplicitContextTag0<ImplicitList1<Vec<u8>>>" => read_as::<
+        "ImplicitContextTag0<ImplicitList1<Vec<u8>>>" => read_copied::<
             ImplicitContextTag0<ImplicitList1<Vec<u8>>>,
         >(alloc, row),
         "ImplicitList0<Asn1SetOf<Attribute>>" => read_as::<ImplicitList0<Asn1SetOf<Attribute>>>(
@@ -47,7 +48,7 @@ fn answer_inside(alloc: Global, name: &str, row: &RowBytes) -> Result<String, Al
         "(ObjectIdentifierAsn1, ExplicitContextTag0<SignedData>)" => read_as::<
             (ObjectIdentifierAsn1, ExplicitContextTag0<SignedData>),
         >(alloc, row),
-        _ => String::from_str(alloc, "unknown type"),
+        _ => widths::answer(alloc, name, row),
     }
 }
 
@@ -62,7 +63,7 @@ pub(crate) fn written_value(alloc: Global, how: Writing, name: &str) -> Result<S
             how,
             &(7u8, Retagged::<[u8; 1], 0x80>([7])),
         ),
-        _ => String::from_str(alloc, "unknown value"),
+        _ => widths::written_value(alloc, how, name),
     }
 }
 

@@ -2,6 +2,7 @@
 
 use crate::calls::shown;
 use crate::reading::newtype;
+use crate::widths::serialize_members;
 use der_fixtures::{FailingWriter, WriterFault, text_of};
 use picky_asn1_der::asn1::Tag;
 use picky_asn1_der::misc::{Watched, WriteExt};
@@ -221,7 +222,19 @@ fn answer_variant<W: WriteExt>(
             alloc,
             &ser.serialize_struct_variant("Choice", 0, "A", 2),
         ),
-        _ => String::from_str(alloc, "unknown call"),
+        _ => answer_members(alloc, ser, name),
+    }
+}
+
+// Members of a sequence in one call.
+fn answer_members<W: WriteExt>(
+    alloc: Global,
+    ser: &mut Serializer<W>,
+    name: &str,
+) -> Result<String, AllocError> {
+    match serialize_members(ser, name) {
+        Some(outcome) => shown(alloc, &outcome),
+        None => String::from_str(alloc, "unknown call"),
     }
 }
 

@@ -9,6 +9,9 @@ use picky_asn1_der::{
 };
 use std::alloc::{AllocError, Global};
 
+// How many bytes are changed in front of a reader, too.
+const LONGEST_FOR_READER: usize = 4096;
+
 /// Where an encoding isn't read as it must be.
 #[derive(Clone, Copy, Debug)]
 pub(crate) enum Wrong {
@@ -166,16 +169,10 @@ fn with_others_behind(alloc: Global, front: &[u8], len: usize) -> Result<Vec<u8>
     Ok(bytes)
 }
 
-// Of an encoding of over 200 bytes only the first 16 are changed. All would take long, and behind these such a row has
-// nothing but the content of one octet string.
+// Each byte is replaced by each of 256.
 fn try_changes<T: Deserialize>(alloc: Global, encoding: &[u8]) -> Result<Tally, Wrong> {
     let mut tally = Tally::NOTHING;
-    let places = if encoding.len() > 200 {
-        16
-    } else {
-        encoding.len()
-    };
-    for place in 0..places {
+    for place in 0..encoding.len() {
         try_bytes::<T>(alloc, encoding, place, &mut tally)?;
     }
     Ok(tally)
@@ -192,21 +189,35 @@ fn try_bytes<T: Deserialize>(
         if let Some(changing) = changed.get_mut(place) {
             *changing = byte;
         }
-        let from_slice = outcome_of::<T>(alloc, Source::Slice, &changed)?;
-        let from_reader = outcome_of::<T>(alloc, Source::Reader, &changed)?;
-        if !agree(from_slice, from_reader) {
-            return Err(Wrong::Change(place, byte));
+        match outcome_of_changed::<T>(alloc, &changed)? {
+            Outcome::Wrong => return Err(Wrong::Change(place, byte)),
+            outcome => tally.count(outcome),
         }
-        tally.count(from_reader);
     }
     Ok(())
+}
+
+// The outcome from a reader that gives one byte a call, where a slice agrees. Longer bytes are read from a slice alone, since such a
+// reader takes long.
+fn outcome_of_changed<T: Deserialize>(alloc: Global, bytes: &[u8]) -> Result<Outcome, AllocError> {
+    let from_slice = outcome_of::<T>(alloc, Source::Slice, bytes)?;
+    if bytes.len() > LONGEST_FOR_READER {
+        return Ok(from_slice);
+    }
+    let from_reader = outcome_of::<T>(alloc, Source::Reader, bytes)?;
+    if agree(from_slice, from_reader) {
+        Ok(from_reader)
+    } else {
+        Ok(Outcome::Wrong)
+    }
 }
 
 // The errors may differ: bytes that are too few in a slice are refused at the length that says so, and a reader gives
 // what comes before its end.
 fn agree(from_slice: Outcome, from_reader: Outcome) -> bool {
-    let same = (from_slice == Outcome::Value) == (from_reader == Outcome::Value);
-    same && from_slice != Outcome::Wrong && from_reader != Outcome::Wrong
+    (from_slice == Outcome::Value) == (from_reader == Outcome::Value)
+        && from_slice != Outcome::Wrong
+        && from_reader != Outcome::Wrong
 }
 
 fn outcome_of<T: Deserialize>(

@@ -1,0 +1,53 @@
+//! Answers rows: a type and bytes, a value, or calls.
+//!
+//! A row names a type in its Rust spelling and bytes to be read as that type, or a value to be written. The rows and the
+//! answers that they must get were worked out by hand from the rules of the encoding.
+#![tactic(auto)]
+
+// What is answered for each part of a text, with the same between any two answers as between the parts.
+macro_rules! answer_each {
+    ($alloc:expr; $part:ident in $text:expr, $between:expr, $answer:expr) => {{
+        let mut answers = String::new($alloc);
+        for $part in $text.split($between) {
+            if !answers.is_empty() {
+                answers.push_str($between)?;
+            }
+            let answer = $answer?;
+            answers.push_str(answer.as_str())?;
+        }
+        answers
+    }};
+}
+
+mod answers;
+mod apart;
+mod calls;
+mod copies;
+mod devices;
+mod growths;
+mod hand_written;
+mod hostile;
+mod kept;
+mod lamp;
+mod lists;
+mod members;
+mod nested_tags;
+mod notation;
+mod numbered_tags;
+mod own_types;
+mod plain;
+mod reading;
+mod retagged;
+mod rows;
+mod runs;
+mod seen;
+mod streams;
+mod sweeps;
+mod tool;
+mod typed;
+mod values;
+mod widths;
+mod wrappers;
+mod writing;
+
+pub use rows::answer_to;
