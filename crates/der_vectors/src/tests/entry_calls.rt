@@ -69,6 +69,16 @@ fn a_slice_is_filled_by_each_call(rt: HostRuntime) {
     same!(rt; room, [0x02, 0x01, 0x07, 0x05, 0x00, 0x05]);
 }
 
+#[test]
+fn a_vector_grows_with_each_call(rt: HostRuntime) {
+    let mut out = Vec::new(rt.alloc());
+    let mut ser = Serializer::new_to_byte_buf(rt.alloc(), &mut out);
+    same!(rt; ser.serialize_u8(7), Ok(3));
+    same!(rt; ser.serialize_unit(), Ok(2));
+    drop(ser);
+    same!(rt; out.as_slice(), [0x02, 0x01, 0x07, 0x05, 0x00].as_slice());
+}
+
 // This header, and zero bytes up to this length.
 fn with_zeros(alloc: Global, header: &[u8], len: usize) -> Result<Vec<u8>, AllocError> {
     let mut bytes = Vec::from_slice(alloc, header)?;
