@@ -26,7 +26,7 @@ bytes_in_front (suc n) [] h = tt
 bytes_in_front (suc n) (b ∷ bs) h = (h 0, bytes_in_front n bs (λ i. h (suc i)))
 
 -- the position behind them isn't the greatest
-moved_few : (pos n : ℕ) → pos + n < 2 ^ 64 → position_behind pos n ≡ pos + n
+pub moved_few : (pos n : ℕ) → pos + n < 2 ^ 64 → position_behind pos n ≡ pos + n
 moved_few pos zero h = omega arith
 moved_few pos (suc n) h = omega arith
 

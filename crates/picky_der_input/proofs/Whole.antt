@@ -1,5 +1,5 @@
 -- Values that were ahead whole, and were taken in one step.
-use Rattle.std.proofs.Common.{◌≡◌, ℕ, ◌+◌, ◌≤◌, ◌<◌, List, [], ◌∷◌, ◌++◌, length, take, Option, Some, None, IfSome, refl, sym, ◌∙◌, ap, subst, arith, append_assoc, length-append}
+use Rattle.std.proofs.Common.{◌≡◌, ℕ, ◌+◌, ◌^◌, ◌<◌, List, ◌∷◌, ◌++◌, length, take, Option, Some, None, IfSome, refl, sym, ◌∙◌, ap, subst, arith, append_assoc, length-append}
 use Rattle.std.proofs.lemmas.Grind.{common_steps}
 use Rattle.std.specs.Io.KnownBytes.{Consumes, prepend_known}
 use Rattle.picky_der_core.specs.Element.{length_octets}
@@ -12,18 +12,17 @@ use Rattle.picky_der_core.specs.Refusal.{Judge}
 use Rattle.picky_der_input.specs.State.{State}
 use Rattle.picky_der_input.specs.Steps.{Takes}
 use Rattle.picky_der_input.specs.PlainKinds.{IsShortKind}
-use Rattle.picky_der_input.specs.Reading.{ReadsPlain}
+use Rattle.picky_der_core.specs.Tag.{number_of, IsTagNumber}
+use Rattle.picky_der_input.specs.PlainKindLaws.{bytes_kind}
+use Rattle.picky_der_input.specs.Reading.{ReadsPlain, ReadsBytes}
 use Rattle.picky_der_input.specs.Headers.{header_bytes, BeginsContent}
 use Rattle.picky_der_input.specs.Elements.{without_implicit_tag, BeginsElement, ReadsRaw}
-use Rattle.picky_der_input.specs.Ahead.{ShowsShort, ShowsElement, TakesShown}
+use Rattle.picky_der_input.specs.Ahead.{IsElementInFront}
 use Rattle.picky_der_input.proofs.PlainReads.{reads_plain}
 use Rattle.picky_der_input.proofs.Elements.{reads_raw}
+use Rattle.picky_der_input.proofs.Ahead.{at_most_one}
 
 -- ---- two steps in place of one
-
-at_most_one : (p : Option ℕ) → count_of_any p ≤ 1
-at_most_one None = omega arith
-at_most_one (Some b) = omega arith
 
 -- bytes were taken, and then others
 pub record TakesInTwo (a c : State) (x y : List ℕ) : Type 0 where
@@ -89,24 +88,45 @@ none_directly : (P : ℕ → Type 0) (d : Option ℕ) → d ≡ None → IfSome 
 none_directly P None e = tt
 none_directly P (Some number) e = absurd (let q : Some number ≡ None = e in cc)
 
+-- header and content of an element with this tag were taken
+record TakesWhole (tag : ℕ) (a c : State) (content : List ℕ) : Type 0 where
+  pub mid : State
+  pub begins : BeginsContent tag a mid (length content)
+  pub rest : Takes mid c content
+  pub implicit_tag : c.implicit_tag ≡ None
+
+takes_whole : {tag : ℕ} {a c : State} (content : List ℕ) → a.implicit_tag ≡ None → a.until_end < 2 ^ 64 → Takes a c ((tag ∷ length_octets (length content)) ++ content) → c.implicit_tag ≡ a.implicit_tag → TakesWhole tag a c content
+takes_whole {tag} {a} {c} content whole bounded t d =
+    let n = length content in
+    let q = takes_in_two (tag ∷ length_octets n) content t (omega arith) in
+    let none : c.implicit_tag ≡ None = d ∙ whole in
+    record {
+      mid = q.mid;
+      begins = record {
+        takes = rw (whole_header a.implicit_tag tag n whole) q.first;
+        implicit_tag = q.implicit_tag ∙ none;
+        fits = omega (arith, q.rest.until_end);
+        all = none_directly _ a.implicit_tag whole;
+        bounded = bounded;
+      };
+      rest = q.rest;
+      implicit_tag = none;
+    }
+
 -- a plain value of which tag, length and content were taken
 pub reads_short : {V : Type 0} {meaning : V → Tree} {s : Shape} {tag : ℕ} {judge : Judge} {a c : State} {bytes : List ℕ} → IsShortKind meaning s tag judge → (v : V)
-    → bytes ≡ content (meaning v) → judge bytes ≡ None → ShowsShort a tag bytes → TakesShown a c (length bytes + 2) → c.implicit_tag ≡ a.implicit_tag → ReadsPlain tag judge s a c (meaning v)
-reads_short {meaning = meaning} {tag = tag} {judge = judge} {a = a} {c = c} {bytes = bytes} kind v is good h t d =
-    let n = length bytes in
-    let taken : Takes a c (tag ∷ (n ∷ bytes)) = t (tag ∷ (n ∷ bytes)) (omega arith) h.shows in
-    let header : header_bytes a.implicit_tag tag n ≡ tag ∷ (n ∷ []) = whole_header a.implicit_tag tag n h.whole ∙ ap (λ z. tag ∷ z) (length_octets-short n h.short) in
-    let q = takes_in_two (tag ∷ (n ∷ [])) bytes taken (omega arith) in
-    let none : c.implicit_tag ≡ None = d ∙ h.whole in
-    let begins : BeginsContent tag a q.mid n = record {
-      takes = rw header q.first;
-      implicit_tag = q.implicit_tag ∙ none;
-      fits = omega (arith, q.rest.until_end);
-      all = none_directly _ a.implicit_tag h.whole;
-      bounded = h.bounded;
-    } in
+    → bytes ≡ content (meaning v) → judge bytes ≡ None → length bytes < 128 → a.implicit_tag ≡ None → a.until_end < 2 ^ 64 → Takes a c (tag ∷ (length bytes ∷ bytes)) → c.implicit_tag ≡ a.implicit_tag → ReadsPlain tag judge s a c (meaning v)
+reads_short {meaning = meaning} {tag = tag} {judge = judge} {a = a} {c = c} {bytes = bytes} kind v is good short whole bounded t d =
+    let h = takes_whole bytes whole bounded (rw (length_octets-short (length bytes) short) t) d in
     let w = kind.short v (ap judge (sym is) ∙ good) in
-    reads_plain kind.plain v w.of_shape w.readable begins (subst (Takes q.mid c) is q.rest) (ap length (sym is)) none
+    reads_plain kind.plain v w.of_shape w.readable h.begins (subst (Takes h.mid c) is h.rest) (ap length (sym is)) h.implicit_tag
+
+-- the content of an element of which header and content were taken
+pub reads_content : {tag : ℕ} {a c : State} {bytes : List ℕ} → IsTagNumber (number_of tag) → AreBytes bytes → a.implicit_tag ≡ None → a.until_end < 2 ^ 64
+    → Takes a c ((tag ∷ length_octets (length bytes)) ++ bytes) → c.implicit_tag ≡ a.implicit_tag → ReadsBytes tag a c bytes
+reads_content {tag} {a} {c} {bytes} number b whole bounded t d =
+    let h = takes_whole bytes whole bounded t d in
+    reads_plain (bytes_kind tag number) bytes (refl, b) (omega (arith, bounded, t.until_end, length-append (tag ∷ length_octets (length bytes)) bytes)) h.begins h.rest refl h.implicit_tag
 
 -- ---- elements
 
@@ -127,21 +147,19 @@ takes_without_implicit_tag t = record {
 }
 
 -- an element that was taken whole
-pub reads_whole : {a c : State} {all : List ℕ} → ShowsElement a all → TakesShown a c (length all) → AreBytes all → c.implicit_tag ≡ a.implicit_tag → ReadsRaw a c all
-reads_whole {a} {c} {all} h t b d =
-    let e = h.element in
+pub reads_whole : {a c : State} {all : List ℕ} → IsElementInFront all (length all) → a.implicit_tag ≡ None → a.until_end < 2 ^ 64 → Takes a c all → AreBytes all → c.implicit_tag ≡ a.implicit_tag → ReadsRaw a c all
+reads_whole {a} {c} {all} e whole bounded t b d =
     let n = length e.content in
     let is : all ≡ (e.tag ∷ length_octets n) ++ e.content = sym (take_whole all) ∙ e.is in
-    let taken : Takes a c ((e.tag ∷ length_octets n) ++ e.content) = subst (Takes a c) is (t all refl h.shows) in
-    let q = takes_in_two (e.tag ∷ length_octets n) e.content taken (omega arith) in
-    let none : c.implicit_tag ≡ None = d ∙ h.whole in
+    let q = takes_in_two (e.tag ∷ length_octets n) e.content (subst (Takes a c) is t) (omega arith) in
+    let none : c.implicit_tag ≡ None = d ∙ whole in
     let begins : BeginsElement a q.mid e.tag n = record {
       takes = takes_without_implicit_tag q.first;
       number = e.number;
       byte = e.byte;
       implicit_tag = q.implicit_tag ∙ none;
       fits = omega (arith, q.rest.until_end);
-      bounded = h.bounded;
+      bounded = bounded;
     } in
     reads_raw begins (record { takes = q.rest; count = refl; bytes = second_bytes (e.tag ∷ length_octets n) e.content (subst AreBytes is b) }) none is
   where

@@ -1,17 +1,20 @@
 //! Bytes that the reader has ahead, taken at once. Where it hasn't those that are wanted, nothing is taken, and the caller
 //! draws them one by one: so no refusal but that of memory is made here.
-ghost use Rattle.std.specs.Prelude.{◌≡◌, ◌+◌, ◌≤◌, ◌<◌, ◌∷◌, length, true, false, None, IfNone, IfSome, IfOk};
+ghost use Rattle.std.specs.Prelude.{◌≡◌, ◌+◌, ◌≤◌, ◌<◌, ◌∷◌, length, true, None, IfNone, IfSome, IfOk};
 ghost use Rattle.std.specs.Prelude.{IfErr, OnOk};
 ghost use Rattle.picky_der_core.specs.Element.{length_octets, IsPrefix};
-ghost use Rattle.picky_der_core.specs.Peeking.{count_of_any};
+ghost use Rattle.std.specs.Io.{StartsWith};
+ghost use Rattle.picky_der_core.specs.Peeking.{left_in, shown_by};
+ghost use Rattle.picky_der_core.specs.Tag.{number_of, IsTagNumber};
 ghost use Rattle.picky_der_core.specs.Shape.{AreBytes};
 ghost use Rattle.picky_der_input.specs.Steps.{Takes, TakesBytes, Fails};
 ghost use Rattle.picky_der_input.specs.Elements.{ReadsRaw, RefusesRaw};
-ghost use Rattle.picky_der_input.specs.Ahead.{TakesShown, ShowsHeader, ShowsShort, IsElementInFront, ShowsElement};
+ghost use Rattle.picky_der_input.specs.Ahead.{IsElementInFront};
+ghost use Rattle.picky_der_input.specs.Reading.{ReadsBytes, RefusesBytes};
 
 use super::Input;
 use picky_der_core::asn1::Tag;
-use picky_der_core::misc::ReadExt;
+use picky_der_core::misc::{PeekableReader, ReadExt};
 use picky_der_core::{Asn1DerError, Result};
 use std::alloc::{AllocError, Global};
 
@@ -38,6 +41,39 @@ fn length_in_front(bytes: &[u8]) -> Option<(usize, usize)>
     None
 }
 
+// The length of the content of the element with this tag that stands in front of these bytes, and that of its header. `None`
+// where it doesn't stand there whole, and for those whose length isn't said by at most three bytes.
+fn headed_in_front(bytes: &[u8], tag: Tag) -> Option<(usize, usize)>
+    ensures is { IfSome result (λ h. IsPrefix (tag ∷ length_octets h.0) bytes.now) }
+    ensures size { IfSome result (λ h. h.1 ≡ length (tag ∷ length_octets h.0)) }
+    ensures whole { IfSome result (λ h. h.1 + h.0 ≤ length bytes.now) }
+{
+    if bytes.is_empty() || bytes[0] != tag.inner() {
+        return None;
+    }
+    let (len, digits) = length_in_front(&bytes[1..])?;
+    if len + digits + 1 > bytes.len() {
+        return None;
+    }
+    Some((len, digits + 1))
+}
+
+// The content of the element with this tag that stands in front of these bytes. `None` where it doesn't stand there whole, and
+// where its length isn't one byte.
+pub(super) fn short_in_front(bytes: &[u8], tag: Tag) -> Option<&[u8]>
+    ensures is { IfSome result (λ content. IsPrefix (tag ∷ (length content.now ∷ content.now)) bytes.now) }
+    ensures short { IfSome result (λ content. length content.now < 128) }
+{
+    if bytes.len() < 2 || bytes[0] != tag.inner() || bytes[1] >= 0x80 {
+        return None;
+    }
+    let end = usize::from(bytes[1]) + 2;
+    if end > bytes.len() {
+        return None;
+    }
+    Some(&bytes[2..end])
+}
+
 // How many bytes the element takes that stands in front of these bytes. `None` where none stands there whole, and for those
 // whose length isn't said by at most three bytes.
 pub(super) fn element_in_front(bytes: &[u8]) -> Option<usize>
@@ -62,41 +98,18 @@ fn copied(alloc: Global, bytes: &[u8]) -> std::result::Result<Vec<u8>, AllocErro
     Vec::from_slice(alloc, bytes)
 }
 
+// The bytes that the reader shows before the innermost end.
+pub(super) fn near<R: ReadExt>(reader: &PeekableReader<R>, until_end: usize) -> &[u8]
+    ensures front { IfSome (left_in R.remaining reader.now) (λ left. StartsWith left result.now) }
+    ensures shown { length result.now ≤ shown_by reader.now.drawn (R.shown reader.now.reader) }
+    ensures fits { length result.now ≤ until_end }
+{
+    let ahead = reader.ahead();
+    &ahead[..ahead.len().min(until_end)]
+}
+
 impl<R: ReadExt> Input<R> {
-    // Takes `count` bytes, where the reader has as many ahead, and answers whether it has.
-    pub(crate) fn take_ahead(&mut self, count: usize) -> bool
-        requires had_not_failed { self.old.failed ≡ None }
-        requires fits { count ≤ self.old.until_end }
-        requires draws { count_of_any self.old.peeked ≤ count }
-        ensures taken { result ≡ true → TakesShown self.old self.new count }
-        ensures implicit_tag { self.new.implicit_tag ≡ self.old.implicit_tag }
-        ensures fewer { result ≡ false → self.new ≡ self.old }
-    {
-        if count > self.reader.ahead().len() {
-            return false;
-        }
-        self.reader.take_ahead(count);
-        self.until_end -= count;
-        true
-    }
-
-    // The length of the content of an element with this tag whose header is ahead, and how long this is. `None` where the
-    // content reaches past the innermost end.
-    fn header_ahead(&self, tag: Tag) -> Option<(usize, usize)>
-        ensures shown { IfSome result (λ h. ShowsHeader self.now tag h.0 h.1) }
-    {
-        let ahead = self.reader.ahead();
-        if ahead.is_empty() || ahead[0] != tag.inner() {
-            return None;
-        }
-        let (len, digits) = length_in_front(&ahead[1..])?;
-        if len + digits + 1 > self.until_end {
-            return None;
-        }
-        Some((len, digits + 1))
-    }
-
-    // Takes the header of an element with this tag that is ahead, and answers the length of the content.
+    // Takes the header of an element with this tag that is ahead whole, and answers the length of the content.
     pub(crate) fn take_header_ahead(&mut self, tag: Tag) -> Option<usize>
         requires had_not_failed { self.old.failed ≡ None }
         ensures taken { IfSome result (λ n. Takes self.old self.new (tag ∷ length_octets n)
@@ -104,52 +117,18 @@ impl<R: ReadExt> Input<R> {
         ensures implicit_tag { self.new.implicit_tag ≡ self.old.implicit_tag }
         ensures none { IfNone result (self.new ≡ self.old) }
     {
-        let (len, size) = self.header_ahead(tag)?;
-        if !self.take_ahead(size) {
-            return None;
-        }
+        let (len, size) = headed_in_front(near(&self.reader, self.until_end), tag)?;
+        self.reader.take_ahead(size);
+        self.until_end -= size;
         Some(len)
     }
 
     // Whether it hasn't failed and a value stands whole here, with its header.
-    fn wants_header(&self) -> bool
+    pub(super) fn wants_header(&self) -> bool
         ensures not_failed { result ≡ true → self.now.failed ≡ None }
         ensures whole { result ≡ true → self.now.implicit_tag ≡ None }
     {
         self.failed.is_none() && self.implicit_tag.is_none()
-    }
-
-    // The content of an element with this tag that is ahead, where its length is one byte.
-    pub(crate) fn short_ahead(&self, tag: Tag) -> Option<&[u8]>
-        ensures shown { IfSome result (λ content. ShowsShort self.now tag content.now) }
-    {
-        if !self.wants_header() {
-            return None;
-        }
-        let ahead = self.reader.ahead();
-        if ahead.len() < 2 || ahead[0] != tag.inner() || ahead[1] >= 0x80 {
-            return None;
-        }
-        let end = usize::from(ahead[1]) + 2;
-        if end > ahead.len() || end > self.until_end {
-            return None;
-        }
-        Some(&ahead[2..end])
-    }
-
-    // The next element, of any tag, where it is ahead whole.
-    fn element_ahead(&self) -> Option<&[u8]>
-        ensures shown { IfSome result (λ bytes. ShowsElement self.now bytes.now) }
-    {
-        if !self.wants_header() {
-            return None;
-        }
-        let ahead = self.reader.ahead();
-        let count = element_in_front(ahead)?;
-        if count > self.until_end {
-            return None;
-        }
-        Some(&ahead[..count])
     }
 
     // Takes `count` bytes that are ahead into a vector, and `None` where there are fewer before the innermost end.
@@ -163,17 +142,40 @@ impl<R: ReadExt> Input<R> {
         ensures err { IfErr result (λ e. (e ≡ Asn1DerError.OutOfMemory)
             × Fails self.old self.new e) }
     {
-        let ahead = self.reader.ahead();
-        if count > ahead.len() || count > self.until_end {
+        let near = near(&self.reader, self.until_end);
+        if count > near.len() {
             return Ok(None);
         }
-        let Ok(bytes) = copied(self.alloc, &ahead[..count]) else {
+        let Ok(bytes) = copied(self.alloc, &near[..count]) else {
             return Err(self.fail(Asn1DerError::OutOfMemory));
         };
-        if !self.take_ahead(count) {
+        self.reader.take_ahead(count);
+        self.until_end -= count;
+        Ok(Some(bytes))
+    }
+
+    // Takes the next element, under this tag, and its content into a vector, and `None` where it isn't ahead whole.
+    pub(crate) fn copy_content_ahead(&mut self, tag: Tag) -> Result<Option<Vec<u8>>>
+        requires number { IsTagNumber (number_of tag) }
+        ensures read { IfOk result (λ some. IfSome some
+            (λ content. ReadsBytes tag self.old self.new content.items)) }
+        ensures none { IfOk result (λ some. IfNone some (self.new ≡ self.old)) }
+        ensures err { IfErr result (RefusesBytes tag self.old self.new) }
+    {
+        if !self.wants_header() {
             return Ok(None);
         }
-        Ok(Some(bytes))
+        let near = near(&self.reader, self.until_end);
+        let Some((len, size)) = headed_in_front(near, tag) else {
+            return Ok(None);
+        };
+        let count = size + len;
+        let Ok(content) = copied(self.alloc, &near[size..count]) else {
+            return Err(self.fail(Asn1DerError::OutOfMemory));
+        };
+        self.reader.take_ahead(count);
+        self.until_end -= count;
+        Ok(Some(content))
     }
 
     // Takes the next element into a vector, and `None` where it isn't ahead whole.
@@ -183,16 +185,18 @@ impl<R: ReadExt> Input<R> {
         ensures none { IfOk result (λ some. IfNone some (self.new ≡ self.old)) }
         ensures err { IfErr result (RefusesRaw self.old self.new) }
     {
-        let Some(element) = self.element_ahead() else {
-            return Ok(None);
-        };
-        let count = element.len();
-        let Ok(bytes) = copied(self.alloc, element) else {
-            return Err(self.fail(Asn1DerError::OutOfMemory));
-        };
-        if !self.take_ahead(count) {
+        if !self.wants_header() {
             return Ok(None);
         }
+        let near = near(&self.reader, self.until_end);
+        let Some(count) = element_in_front(near) else {
+            return Ok(None);
+        };
+        let Ok(bytes) = copied(self.alloc, &near[..count]) else {
+            return Err(self.fail(Asn1DerError::OutOfMemory));
+        };
+        self.reader.take_ahead(count);
+        self.until_end -= count;
         Ok(Some(bytes))
     }
 }

@@ -21,6 +21,24 @@ impl<R: ReadExt> Input<R> {
         ensures err { IfErr result (RefusesBytes tag self.old self.new) }
         ensures unsupported { 30 < number_of tag → RefusesNumber self.old result self.new }
     {
+        if tag.number() <= Tag::MAX_NUMBER {
+            match self.copy_content_ahead(tag) {
+                Ok(Some(content)) => return Ok(content),
+                Ok(None) => {}
+                Err(error) => return Err(error),
+            }
+        }
+        self.draw_tagged_bytes(tag)
+    }
+
+    // The same, the header byte by byte.
+    #[cold]
+    #[inline(never)]
+    fn draw_tagged_bytes(&mut self, tag: Tag) -> Result<Vec<u8>>
+        ensures ok { IfOk result (λ content. ReadsBytes tag self.old self.new content.items) }
+        ensures err { IfErr result (RefusesBytes tag self.old self.new) }
+        ensures unsupported { 30 < number_of tag → RefusesNumber self.old result self.new }
+    {
         if let Some(error) = self.earlier() {
             return Err(error);
         }

@@ -5,6 +5,7 @@ ghost use Rattle.picky_der_input.specs.Reading.{ReadsPlain, RefusesPlain, ReadsB
 ghost use Rattle.picky_der_input.specs.Reading.{ReadsNull, RefusesNull};
 
 use super::Input;
+use super::ahead::{near, short_in_front};
 use crate::plain_kind::PlainKind;
 use crate::{Boolean, Null, UnsignedInteger};
 use picky_der_core::misc::ReadExt;
@@ -69,14 +70,16 @@ impl<R: ReadExt> Input<R> {
             (K.meaning (K.view value))) }
         ensures none { IfNone result (self.new ≡ self.old) }
     {
-        let content = self.short_ahead(K::TAG)?;
+        if !self.wants_header() {
+            return None;
+        }
+        let content = short_in_front(near(&self.reader, self.until_end), K::TAG)?;
         let count = content.len() + 2;
         let Ok(value) = K::of_content(content) else {
             return None;
         };
-        if !self.take_ahead(count) {
-            return None;
-        }
+        self.reader.take_ahead(count);
+        self.until_end -= count;
         Some(value)
     }
 

@@ -1,13 +1,19 @@
-use Rattle.std.proofs.Common.{◌≡◌, length, take, drop, sym, arith}
+use Rattle.std.proofs.Common.{◌≡◌, length, take, None, ◌∙◌, refl, ap, arith}
 use Rattle.std.proofs.lemmas.Grind.{common_steps}
-use Rattle.std.proofs.lemmas.List.{take-append-drop}
-use Rattle.picky_der_input.proofs.Ahead.{shown_front}
+use Rattle.picky_der_core.specs.Peeking.{count_of_any}
+use Rattle.picky_der_input.specs.State.{State}
+use Rattle.picky_der_input.proofs.Ahead.{shown_first, takes_shown}
 use Rattle.picky_der_input.proofs.input.Input.copy_ahead.Goals as goal
 
 pub returns-clause-taken : goal.returns-clause-taken
 returns-clause-taken g c =
-    let all = c.ahead-ahead.result.now in
+    let all = c.near-near.result.now in
     let n = c.args.count in
+    let e = c.take_ahead.ensures in
     let size : length (take n all) ≡ n = grind (arith, common_steps) in
-    let front = shown_front _ all (take n all) (drop n all) (sym (take-append-drop n all)) c.ahead-ahead.ensures.front in
-    rw c.in-Ok.ensures.same (record { takes = c.take_ahead.ensures.taken c.if-not-take_ahead.false (take n all) size (record { front = rw (← c.self.view_is) front }); count = size; bytes = c.copied.ensures.bytes })
+    let had_not_failed : c.self.inside.failed ≡ None = ap (λ (s : State). s.failed) c.self.view_is ∙ c.requires.had_not_failed in
+    let unpeeked : c.self.inside.reader.peeked ≡ None = ap (λ (s : State). s.peeked) c.self.view_is ∙ c.requires.unpeeked in
+    let few : count_of_any c.self.inside.reader.peeked ≡ 0 = ap count_of_any unpeeked in
+    let shown = shown_first _ all n c.near-near.ensures.front in
+    let takes = takes_shown (take n all) size shown (omega arith) (omega (arith, few)) had_not_failed c.self.invariant.0 e.taken e.unpeeked e.pos refl e.no_fault e.same_references in
+    rw (c.in-Ok.ensures.same, ← c.self.view_is) (record { takes = takes; count = size; bytes = c.copied.ensures.bytes })

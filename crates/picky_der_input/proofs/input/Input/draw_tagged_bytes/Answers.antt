@@ -4,7 +4,7 @@ use Rattle.picky_der_core.specs.Tag.{number_of}
 use Rattle.picky_der_input.proofs.Contents.{failed_same, IfOk-both}
 use Rattle.picky_der_input.proofs.PlainReads.{refuses_header, refuses_cut, reads_plain, refuses_number}
 use Rattle.picky_der_input.specs.PlainKindLaws.{bytes_kind}
-use Rattle.picky_der_input.proofs.input.Input.read_tagged_bytes.Goals as goal
+use Rattle.picky_der_input.proofs.input.Input.draw_tagged_bytes.Goals as goal
 
 pub returns-in_err-len-clause-err : goal.returns-in_err-len-clause-err
 returns-in_err-len-clause-err g c =
