@@ -48,7 +48,7 @@ fn headed_in_front(bytes: &[u8], tag: Tag) -> Option<(usize, usize)>
     ensures size { IfSome result (λ h. h.1 ≡ length (tag ∷ length_octets h.0)) }
     ensures whole { IfSome result (λ h. h.1 + h.0 ≤ length bytes.now) }
 {
-    if bytes.is_empty() || bytes[0] != tag.inner() {
+    if bytes.len() < 2 || bytes[0] != tag.inner() {
         return None;
     }
     let (len, digits) = length_in_front(&bytes[1..])?;
@@ -79,7 +79,7 @@ pub(super) fn short_in_front(bytes: &[u8], tag: Tag) -> Option<&[u8]>
 pub(super) fn element_in_front(bytes: &[u8]) -> Option<usize>
     ensures is { IfSome result (λ count. IsElementInFront bytes.now count) }
 {
-    if bytes.is_empty() || Tag::from(bytes[0]).number() > Tag::MAX_NUMBER {
+    if bytes.len() < 2 || Tag::from(bytes[0]).number() > Tag::MAX_NUMBER {
         return None;
     }
     let (len, digits) = length_in_front(&bytes[1..])?;
