@@ -1,5 +1,5 @@
 -- Values that were ahead whole, and were taken in one step.
-use Rattle.std.proofs.Common.{◌≡◌, ℕ, ◌+◌, ◌^◌, ◌<◌, List, ◌∷◌, ◌++◌, length, take, Option, Some, None, IfSome, refl, sym, ◌∙◌, ap, subst, arith, append_assoc, length-append}
+use Rattle.std.proofs.Common.{◌≡◌, ℕ, ◌+◌, ◌^◌, ◌≤◌, ◌<◌, List, ◌∷◌, ◌++◌, length, take, Option, Some, None, IfSome, refl, sym, ◌∙◌, ap, subst, arith, append_assoc, length-append}
 use Rattle.std.proofs.lemmas.Grind.{common_steps}
 use Rattle.std.specs.Io.KnownBytes.{Consumes, prepend_known}
 use Rattle.picky_der_core.specs.Element.{length_octets}
@@ -9,16 +9,18 @@ use Rattle.picky_der_core.specs.Encoding.{content}
 use Rattle.picky_der_core.specs.Shape.{Shape, AreBytes}
 use Rattle.picky_der_core.specs.Peeking.{count_of_any}
 use Rattle.picky_der_core.specs.Refusal.{Judge}
+use Rattle.picky_der_core.specs.declared.error.Asn1DerError.{Asn1DerError}
+use Rattle.picky_der_core.specs.declared.error.Asn1DerError.TheVariants.{OutOfMemory}
 use Rattle.picky_der_input.specs.State.{State}
-use Rattle.picky_der_input.specs.Steps.{Takes}
+use Rattle.picky_der_input.specs.Steps.{Takes, Fails}
 use Rattle.picky_der_input.specs.PlainKinds.{IsShortKind}
 use Rattle.picky_der_core.specs.Tag.{number_of, IsTagNumber}
 use Rattle.picky_der_input.specs.PlainKindLaws.{bytes_kind}
-use Rattle.picky_der_input.specs.Reading.{ReadsPlain, ReadsBytes}
+use Rattle.picky_der_input.specs.Reading.{ReadsPlain, ReadsBytes, RefusesBytes}
 use Rattle.picky_der_input.specs.Headers.{header_bytes, BeginsContent}
 use Rattle.picky_der_input.specs.Elements.{without_implicit_tag, BeginsElement, ReadsRaw}
 use Rattle.picky_der_input.specs.Ahead.{IsElementInFront}
-use Rattle.picky_der_input.proofs.PlainReads.{reads_plain}
+use Rattle.picky_der_input.proofs.PlainReads.{refuses_cut, reads_plain}
 use Rattle.picky_der_input.proofs.Elements.{reads_raw}
 use Rattle.picky_der_input.proofs.Ahead.{at_most_one}
 
@@ -88,6 +90,16 @@ none_directly : (P : ℕ → Type 0) (d : Option ℕ) → d ≡ None → IfSome 
 none_directly P None e = tt
 none_directly P (Some number) e = absurd (let q : Some number ≡ None = e in cc)
 
+-- the header of an element was taken
+pub begins_whole : {tag n : ℕ} {a b : State} → a.implicit_tag ≡ None → a.until_end < 2 ^ 64 → Takes a b (tag ∷ length_octets n) → b.implicit_tag ≡ None → n ≤ b.until_end → BeginsContent tag a b n
+begins_whole {tag} {n} {a} {b} whole bounded t none fits = record {
+  takes = rw (whole_header a.implicit_tag tag n whole) t;
+  implicit_tag = none;
+  fits = fits;
+  all = none_directly _ a.implicit_tag whole;
+  bounded = bounded;
+}
+
 -- header and content of an element with this tag were taken
 record TakesWhole (tag : ℕ) (a c : State) (content : List ℕ) : Type 0 where
   pub mid : State
@@ -102,13 +114,7 @@ takes_whole {tag} {a} {c} content whole bounded t d =
     let none : c.implicit_tag ≡ None = d ∙ whole in
     record {
       mid = q.mid;
-      begins = record {
-        takes = rw (whole_header a.implicit_tag tag n whole) q.first;
-        implicit_tag = q.implicit_tag ∙ none;
-        fits = omega (arith, q.rest.until_end);
-        all = none_directly _ a.implicit_tag whole;
-        bounded = bounded;
-      };
+      begins = begins_whole whole bounded q.first (q.implicit_tag ∙ none) (omega (arith, q.rest.until_end));
       rest = q.rest;
       implicit_tag = none;
     }
@@ -127,6 +133,10 @@ pub reads_content : {tag : ℕ} {a c : State} {bytes : List ℕ} → IsTagNumber
 reads_content {tag} {a} {c} {bytes} number b whole bounded t d =
     let h = takes_whole bytes whole bounded t d in
     reads_plain (bytes_kind tag number) bytes (refl, b) (omega (arith, bounded, t.until_end, length-append (tag ∷ length_octets (length bytes)) bytes)) h.begins h.rest refl h.implicit_tag
+
+-- and memory was wanted for its content
+pub refuses_for_memory : {tag n : ℕ} {a b c : State} {e : Asn1DerError} → IsTagNumber (number_of tag) → BeginsContent tag a b n → Fails b c e → e ≡ OutOfMemory → RefusesBytes tag a c e
+refuses_for_memory {tag} number h f is = refuses_cut (bytes_kind tag number) h (record { fails = f; short = λ j. absurd (j.memory is) })
 
 -- ---- elements
 

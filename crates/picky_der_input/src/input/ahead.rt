@@ -171,6 +171,9 @@ impl<R: ReadExt> Input<R> {
         };
         let count = size + len;
         let Ok(content) = copied(self.alloc, &near[size..count]) else {
+            // As where the content is drawn behind it, the header was read.
+            self.reader.take_ahead(size);
+            self.until_end -= size;
             return Err(self.fail(Asn1DerError::OutOfMemory));
         };
         self.reader.take_ahead(count);
