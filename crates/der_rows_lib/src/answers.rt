@@ -2,12 +2,11 @@
 
 use crate::copies::{Copied, is_copied};
 use crate::hostile::Wrong;
+use crate::reads::{below_limit, by_deserializer, by_from_bytes};
 use crate::{apart, growths, hostile};
-use der_fixtures::{SlowReader, SlowWriter, text_of};
+use der_fixtures::{SlowWriter, text_of};
 use picky_asn1_der::misc::Watched;
-use picky_asn1_der::{
-    Deserialize, Deserializer, Serialize, from_bytes, from_reader_with_max_len, to_vec, to_writer,
-};
+use picky_asn1_der::{Deserialize, Serialize, to_vec, to_writer};
 use std::alloc::{AllocError, Global};
 use std::fmt::Debug;
 
@@ -80,13 +79,12 @@ pub(crate) fn read_copied<T: Copied + Debug>(
 }
 
 fn read_slice<T: Deserialize + Debug>(alloc: Global, row: &RowBytes) -> Result<String, AllocError> {
-    let mut de = Deserializer::new_from_bytes(alloc, &row.bytes);
-    let outcome = T::deserialize(&mut de);
-    if from_bytes(alloc, &row.bytes) != outcome {
+    let (outcome, taken) = by_deserializer::<T>(alloc, &row.bytes);
+    if by_from_bytes(alloc, &row.bytes) != outcome {
         return format!(in alloc; "from_bytes differs");
     }
     match outcome {
-        Ok(value) => shown(alloc, row.trial, de.taken(), &value),
+        Ok(value) => shown(alloc, row.trial, taken, &value),
         Err(error) => format!(in alloc; "refused {error}"),
     }
 }
@@ -96,9 +94,7 @@ fn read_a_byte_a_call<T: Deserialize + Debug>(
     row: &RowBytes,
     limit: usize,
 ) -> Result<String, AllocError> {
-    let mut reader = Watched::new(SlowReader::new(&row.bytes));
-    let outcome = from_reader_with_max_len::<T, _>(alloc, &mut reader, limit);
-    let drawn = reader.get_ref().given();
+    let (outcome, drawn) = below_limit::<T>(alloc, &row.bytes, limit);
     match outcome {
         Ok(value) => shown(alloc, row.trial, drawn, &value),
         Err(error) => format!(in alloc; "refused {error} after {drawn}"),

@@ -1,6 +1,7 @@
 //! Values that have a `clone` of their own.
 
 use crate::growths::{Stop, is};
+use crate::reads::by_from_bytes;
 use picky_asn1_der::Asn1DerError::OutOfMemory;
 use picky_asn1_der::application_tag::ApplicationTag;
 use picky_asn1_der::asn1::{
@@ -8,7 +9,7 @@ use picky_asn1_der::asn1::{
     ExplicitContextTag0, ImplicitContextTag, ImplicitContextTag1, ImplicitList1,
     OctetStringAsn1Container, Retagged, TaggedBytes,
 };
-use picky_asn1_der::{Asn1RawDer, Deserialize, List, Result as DerResult, from_bytes};
+use picky_asn1_der::{Asn1RawDer, Deserialize, List, Result as DerResult};
 use std::alloc::Global;
 use std::fmt::Debug;
 
@@ -86,7 +87,7 @@ impl<T: List + Deserialize + Clone, const TAG: u8> Copied for Retagged<T, TAG> {
 
 /// Whether the copy of the value is equal to it, that the bytes are read as. Bytes that are refused have none.
 pub(crate) fn is_copied<T: Copied>(alloc: Global, bytes: &[u8]) -> bool {
-    match from_bytes::<T>(alloc, bytes) {
+    match by_from_bytes::<T>(alloc, bytes) {
         Ok(value) => value.copied() == Ok(value),
         Err(_) => true,
     }
@@ -131,7 +132,7 @@ fn copy_wrapped(alloc: Global, name: &str, bytes: &[u8]) -> Result<(), Stop> {
 }
 
 fn copy_as<T: Copied>(alloc: Global, bytes: &[u8]) -> Result<(), Stop> {
-    match from_bytes::<T>(alloc, bytes) {
+    match by_from_bytes::<T>(alloc, bytes) {
         Ok(value) => is("clone", value.copied(), &value),
         Err(OutOfMemory) => Err(Stop::Refused("from_bytes")),
         Err(_) => Err(Stop::Wrong("from_bytes")),

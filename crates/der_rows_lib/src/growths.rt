@@ -3,12 +3,12 @@
 //! Nothing in this program refuses any: `tools/refuse-growths` has one request of a run refused, and another in the next run.
 //! Calls that meet no refusal do what the row says, and the one that meets it has to answer so.
 
-use der_fixtures::SlowReader;
+use crate::reads::{by_from_bytes, by_from_reader};
 use picky_asn1_der::Asn1DerError::OutOfMemory;
-use picky_asn1_der::misc::{SliceSink, Watched};
+use picky_asn1_der::misc::SliceSink;
 use picky_asn1_der::{
     Asn1DerError, Deserialize, Deserializer, Result as DerResult, Serialize, Serializer,
-    from_bytes, from_reader, to_byte_buf, to_bytes, to_vec, to_writer,
+    to_byte_buf, to_bytes, to_vec, to_writer,
 };
 use std::alloc::{AllocError, Global};
 
@@ -60,9 +60,8 @@ fn read_and_written<T: Deserialize>(
         Ok(read) => read,
         Err(error) => return are_refused::<T>(alloc, bytes, error),
     };
-    is("from_bytes", from_bytes(alloc, bytes), &value)?;
-    let mut reader = Watched::new(SlowReader::new(bytes));
-    is("from_reader", from_reader(alloc, &mut reader), &value)?;
+    is("from_bytes", by_from_bytes(alloc, bytes), &value)?;
+    is("from_reader", by_from_reader(alloc, bytes), &value)?;
     skip(alloc, bytes, taken)?;
     let wanted = Wanted {
         encoding: bytes.get(..taken).unwrap_or(bytes),
@@ -77,13 +76,8 @@ fn are_refused<T: Deserialize>(
     bytes: &[u8],
     error: Asn1DerError,
 ) -> Result<(), Stop> {
-    is_refused("from_bytes", from_bytes::<T>(alloc, bytes), error)?;
-    let mut reader = Watched::new(SlowReader::new(bytes));
-    is_refused(
-        "from_reader",
-        from_reader::<T, _>(alloc, &mut reader),
-        error,
-    )
+    is_refused("from_bytes", by_from_bytes::<T>(alloc, bytes), error)?;
+    is_refused("from_reader", by_from_reader::<T>(alloc, bytes), error)
 }
 
 fn is_refused<T: Drop>(

@@ -1,12 +1,9 @@
 //! Encodings that are cut short, read behind a limit, and changed at one place.
 
-use der_fixtures::SlowReader;
+use crate::reads::{below_limit, by_deserializer, by_from_bytes, by_from_reader};
 use picky_asn1_der::Asn1DerError::{InvalidData, TruncatedData, UnsupportedValue};
-use picky_asn1_der::misc::Watched;
-use picky_asn1_der::{
-    Asn1DerError, Deserialize, Deserializer, from_bytes, from_reader, from_reader_with_max_len,
-    to_vec,
-};
+use picky_asn1_der::de::DEFAULT_MAX_LEN;
+use picky_asn1_der::{Asn1DerError, Deserialize, to_vec};
 use std::alloc::{AllocError, Global};
 
 // How many bytes are changed in front of a reader, too.
@@ -107,7 +104,7 @@ impl Tally {
 
 /// What becomes of this encoding, changed at each place, where all else is read as it must be.
 pub(crate) fn answer<T: Deserialize>(alloc: Global, encoding: &[u8]) -> Result<String, AllocError> {
-    match from_bytes::<T>(alloc, encoding) {
+    match by_from_bytes::<T>(alloc, encoding) {
         Ok(value) => match tried(alloc, encoding, &value) {
             Ok(tally) => tally.shown(alloc),
             Err(wrong) => format!(in alloc; "{wrong:?}"),
@@ -131,9 +128,8 @@ pub(crate) fn tried<T: Deserialize>(
 fn try_fronts<T: Deserialize>(alloc: Global, encoding: &[u8]) -> Result<(), Wrong> {
     for len in 0..encoding.len() {
         let front = &encoding[..len];
-        let mut reader = Watched::new(SlowReader::new(front));
-        let from_slice = from_bytes::<T>(alloc, front);
-        let from_reader = from_reader::<T, _>(alloc, &mut reader);
+        let from_slice = by_from_bytes::<T>(alloc, front);
+        let from_reader = by_from_reader::<T>(alloc, front);
         let errors = (from_slice.err(), from_reader.err());
         if errors != (Some(TruncatedData), Some(TruncatedData)) {
             return Err(Wrong::Front(len));
@@ -147,9 +143,7 @@ fn try_limits<T: Deserialize>(alloc: Global, encoding: &[u8], value: &T) -> Resu
     let len = encoding.len();
     let input = with_others_behind(alloc, encoding, len)?;
     for limit in 0..len.saturating_add(4) {
-        let mut reader = Watched::new(SlowReader::new(&input));
-        let outcome = from_reader_with_max_len::<T, _>(alloc, &mut reader, limit);
-        let drawn = reader.get_ref().given();
+        let (outcome, drawn) = below_limit::<T>(alloc, &input, limit);
         let right = match &outcome {
             Ok(read) => limit >= len && drawn == len && read == value,
             Err(error) => limit < len && drawn <= limit && *error == TruncatedData,
@@ -260,29 +254,13 @@ fn read<T: Deserialize>(
     bytes: &[u8],
 ) -> (picky_asn1_der::Result<T>, usize) {
     match source {
-        Source::Slice => read_slice(alloc, bytes),
-        Source::Reader => read_a_byte_a_call(alloc, bytes),
+        Source::Slice => {
+            let (answer, taken) = by_deserializer(alloc, bytes);
+            let used = if answer.is_ok() { taken } else { bytes.len() };
+            (answer, used)
+        }
+        Source::Reader => below_limit(alloc, bytes, DEFAULT_MAX_LEN),
     }
-}
-
-fn read_slice<T: Deserialize>(alloc: Global, bytes: &[u8]) -> (picky_asn1_der::Result<T>, usize) {
-    let mut de = Deserializer::new_from_bytes(alloc, bytes);
-    let answer = T::deserialize(&mut de);
-    let used = if answer.is_ok() {
-        de.taken()
-    } else {
-        bytes.len()
-    };
-    (answer, used)
-}
-
-fn read_a_byte_a_call<T: Deserialize>(
-    alloc: Global,
-    bytes: &[u8],
-) -> (picky_asn1_der::Result<T>, usize) {
-    let mut reader = Watched::new(SlowReader::new(bytes));
-    let answer = from_reader(alloc, &mut reader);
-    (answer, reader.get_ref().given())
 }
 
 // The value is written as this many bytes of the front.

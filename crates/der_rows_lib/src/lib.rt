@@ -37,6 +37,7 @@ mod numbered_tags;
 mod own_types;
 mod plain;
 mod reading;
+mod reads;
 mod retagged;
 mod rows;
 mod runs;
