@@ -1,4 +1,5 @@
 //! Whole values, read from slices and readers.
+ghost use Rattle.picky_der_de.specs.declared.entry.TheConstants.{DEFAULT_MAX_LEN};
 ghost use Rattle.std.specs.Prelude.{◌≡◌, length, IfOk, IfErr};
 ghost use Rattle.picky_der_de.specs.Entry.{IsFront, HasNoFront, ReadsFront, RefusesFront, view_of};
 
@@ -42,9 +43,9 @@ pub fn from_bytes<T: Deserialize>(alloc: Global, bytes: &[u8]) -> Result<T>
 /// `TruncatedData` where more bytes behind those that were drawn could make a value; any other is final.
 /// What was drawn by then isn't given back.
 pub fn from_reader<T: Deserialize, R: ReadExt>(alloc: Global, reader: &mut R) -> Result<T>
-    ensures ok { IfOk result (ReadsFront T.meaning T.shape T.eq 10240
+    ensures ok { IfOk result (ReadsFront T.meaning T.shape T.eq DEFAULT_MAX_LEN
         (view_of R.remaining R.faults reader.old) (view_of R.remaining R.faults reader.new)) }
-    ensures err { IfErr result (RefusesFront T.meaning T.shape 10240
+    ensures err { IfErr result (RefusesFront T.meaning T.shape DEFAULT_MAX_LEN
         (view_of R.remaining R.faults reader.old) (view_of R.remaining R.faults reader.new)) }
     ensures same_references { R.references reader.new ≡ R.references reader.old }
 {
