@@ -57,6 +57,13 @@ pub enum WriterFault {
     TakesNothing,
 }
 
+impl WriterFault {
+    /// A copy is the same fault.
+    pub fn copies()
+        ensures { (fault copy : _) → ⟦<WriterFault as Clone>⟧.is_clone fault copy → copy ≡ fault }
+    {}
+}
+
 /// Takes one byte a call, but that one of its calls is refused. The call behind that one takes a byte again.
 #[derive(Drop)]
 pub struct FailingWriter {

@@ -1,5 +1,6 @@
 //! What a line asks for.
 ghost use Rattle.std.specs.Prelude.{◌≡◌, ◌≢◌, MatchOption};
+ghost use Rattle.picky_der_core.specs.Equality.{IsKept};
 ghost use Rattle.der_tool_lib.specs.Line.{query_of, word_for, Asks, AsksTyped, IsBehind, IsNumberOf};
 
 use crate::ValueType;
@@ -19,6 +20,11 @@ pub enum Request<'a> {
 }
 
 impl<'a> Request<'a> {
+    /// A copy is the same request.
+    pub fn copies()
+        ensures { IsKept ⟦<Request<'a> as Clone>⟧.is_clone (λ request. request) }
+    {}
+
     /// What the line asks for. The byte that ends the line is no part of it.
     ///
     /// Words are parted by exactly one space, and nothing is trimmed.

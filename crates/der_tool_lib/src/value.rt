@@ -1,5 +1,6 @@
 //! Values that lines name, read and written again.
 ghost use Rattle.std.specs.Prelude.{◌≡◌, IfOk, IfErr, string_bytes};
+ghost use Rattle.picky_der_core.specs.Equality.{IsKept};
 ghost use Rattle.der_tool_lib.specs.Value.{AnswersRead};
 
 mod named;
@@ -53,6 +54,13 @@ pub enum ValueType {
 
     /// A `SubjectPublicKeyInfo`.
     Spki,
+}
+
+impl ValueType {
+    /// A copy names the same type.
+    pub fn copies()
+        ensures { IsKept ⟦<ValueType as Clone>⟧.is_clone (λ named. named) }
+    {}
 }
 
 /// The answer to a line that asks for a value of the type to be read from these bytes: how many were taken and the value

@@ -1,5 +1,6 @@
 //! Versions of certificates.
 ghost use Rattle.std.specs.Prelude.{◌≡◌, ◌<◌, ◌^◌, ◌-◌, IfSome, IfNone, refl};
+ghost use Rattle.picky_der_core.specs.Equality.{IsKept};
 ghost use Rattle.picky_der_core.specs.Tree.{Tree};
 ghost use Rattle.picky_der_de.specs.Known.{by_itself, known_number};
 ghost use Rattle.der_x509.specs.declared.version.Version.TheVariants as version;
@@ -24,6 +25,11 @@ pub enum Version {
 }
 
 impl Version {
+    /// A copy is the same version.
+    pub fn copies()
+        ensures { IsKept ⟦<Version as Clone>⟧.is_clone (λ version. version) }
+    {}
+
     // The version with this number.
     fn of(number: u8) -> Option<Version>
         ensures some { IfSome result (λ v. version_number v ≡ number) }

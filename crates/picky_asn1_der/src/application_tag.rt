@@ -1,6 +1,6 @@
 //! Application tags around values (X.690, 8.14).
 ghost use Rattle.std.specs.Prelude.{◌≡◌, IfOk, IfErr};
-ghost use Rattle.picky_der_core.specs.Equality.{IsThatOf};
+ghost use Rattle.picky_der_core.specs.Equality.{IsThatOf, IsCopied};
 ghost use Rattle.picky_der_core.specs.Tree.{Tree};
 ghost use Rattle.picky_der_core.specs.Shape.{Shape};
 ghost use Rattle.picky_der_input.specs.declared.enclosure.Enclosure.TheVariants as enclosure;
@@ -21,6 +21,11 @@ where
 /// Two values under one application tag are equal just where they are without it.
 pub fn equality<V: Debug + PartialEq, const T: u8>()
     ensures { IsThatOf ⟦<ApplicationTag<V, T> as PartialEq>⟧.eq (λ tagged. tagged.0) V.eq }
+{}
+
+/// A copy of a value under an application tag holds a copy of it.
+pub fn copies<V: Debug + PartialEq + Clone, const T: u8>()
+    ensures { IsCopied ⟦<ApplicationTag<V, T> as Clone>⟧.is_clone (λ tagged. tagged.0) V.is_clone }
 {}
 
 impl<V: Debug + PartialEq + Clone, const T: u8> ApplicationTag<V, T> {

@@ -1,5 +1,6 @@
 //! Whole inputs: bytes that are the encoding of one value and nothing else.
 ghost use Rattle.std.specs.Prelude.{◌≡◌, length, IfOk, IfErr};
+ghost use Rattle.picky_der_core.specs.Equality.{IsKept};
 ghost use Rattle.picky_der_de.specs.Whole.{IsWhole, IsNoEncoding};
 
 use crate::{Deserialize, Deserializer};
@@ -16,6 +17,13 @@ pub struct DecodeError {
     pub error: Asn1DerError,
     /// How many bytes were taken by then.
     pub position: usize,
+}
+
+impl DecodeError {
+    /// A copy is the same error at the same position.
+    pub fn copies()
+        ensures { IsKept ⟦<DecodeError as Clone>⟧.is_clone (λ refusal. refusal) }
+    {}
 }
 
 /// The error alone.

@@ -1,6 +1,6 @@
 //! What stands around one value that is read.
 ghost use Rattle.std.specs.Prelude.{◌≡◌, IfNone, IfSome};
-ghost use Rattle.picky_der_core.specs.Equality.{IsEqualityOf};
+ghost use Rattle.picky_der_core.specs.Equality.{IsEqualityOf, IsKept};
 ghost use Rattle.picky_der_input.specs.Enclosures.{enclosure_tag, HasEnclosureNumber, counts_unused_bits, implicit_tag_of};
 
 use picky_der_core::asn1::{Tag, Wrapper};
@@ -19,6 +19,11 @@ impl Enclosure {
     /// Two are equal just where they are one kind with one number.
     pub fn equality()
         ensures { IsEqualityOf ⟦<Enclosure as PartialEq>⟧.eq (λ enclosure. enclosure) }
+    {}
+
+    /// A copy is the same enclosure.
+    pub fn copies()
+        ensures { IsKept ⟦<Enclosure as Clone>⟧.is_clone (λ enclosure. enclosure) }
     {}
 
     // Its tag, and `None` where the tag number is past 30, or a tag in place of a list's own isn't constructed.

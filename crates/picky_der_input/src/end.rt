@@ -1,6 +1,6 @@
 //! What kinds of ends there are before which a value has to be complete.
 ghost use Rattle.std.specs.Prelude.{◌≡◌};
-ghost use Rattle.picky_der_core.specs.Equality.{IsEqualityOf};
+ghost use Rattle.picky_der_core.specs.Equality.{IsEqualityOf, IsKept};
 ghost use Rattle.picky_der_input.specs.Steps.{error_at_end};
 
 use picky_der_core::Asn1DerError;
@@ -22,6 +22,11 @@ impl End {
     /// Two are equal just where they are one kind of end.
     pub fn equality()
         ensures { IsEqualityOf ⟦<End as PartialEq>⟧.eq (λ end. end) }
+    {}
+
+    /// A copy is the same kind of end.
+    pub fn copies()
+        ensures { IsKept ⟦<End as Clone>⟧.is_clone (λ end. end) }
     {}
 
     // The error of a byte that is missing there, and of a length that reaches past it.

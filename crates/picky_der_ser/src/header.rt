@@ -2,7 +2,7 @@
 ghost use Rattle.std.specs.Prelude.{◌≡◌, ◌+◌, ◌^◌, ◌<◌, ◌≤◌, ◌∷◌, ◌++◌, reverse, take, drop, vec_len};
 ghost use Rattle.std.specs.Prelude.{[], IfSome, IsSome, OnOk};
 ghost use Rattle.picky_der_core.specs.Element.{length_octets};
-ghost use Rattle.picky_der_core.specs.Equality.{IsEqualityOf};
+ghost use Rattle.picky_der_core.specs.Equality.{IsEqualityOf, IsKept};
 ghost use Rattle.picky_der_core.specs.Wrapper.{HasTagNumber};
 ghost use Rattle.picky_der_ser.specs.Heading.{is_set};
 ghost use Rattle.picky_der_ser.specs.Headers.{wrapper_opening, own_header, headers, joint_header};
@@ -30,6 +30,11 @@ impl Header {
     /// Two are equal just where they are one kind with one tag or number.
     pub fn equality()
         ensures { IsEqualityOf ⟦<Header as PartialEq>⟧.eq (λ header. header) }
+    {}
+
+    /// A copy is the same header.
+    pub fn copies()
+        ensures { IsKept ⟦<Header as Clone>⟧.is_clone (λ header. header) }
     {}
 
     // Whether the members of what stands under it are put in order.

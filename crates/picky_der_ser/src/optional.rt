@@ -1,6 +1,7 @@
 //! Members of a sequence that may be absent.
+ghost use Rattle.std.specs.Prelude.{◌≡◌, MatchOption, IsSomeAnd};
 ghost use Rattle.std.specs.Option.{option_eq};
-ghost use Rattle.picky_der_core.specs.Equality.{IsThatOf};
+ghost use Rattle.picky_der_core.specs.Equality.{IsThatOf, IsCopied};
 ghost use Rattle.picky_der_ser.specs.Meaning.{maybe_more};
 
 use crate::{Sequence, Serialize, SerializeMember};
@@ -16,6 +17,15 @@ impl<T: PartialEq> Optional<T> {
     /// Two are equal just where both are absent, or both are there and equal.
     pub fn equality()
         ensures { IsThatOf ⟦<Optional<T> as PartialEq>⟧.eq (λ member. member.0) (option_eq T.eq) }
+    {}
+}
+
+impl<T: Clone> Optional<T> {
+    /// A copy of an absent one is absent, and a copy of one that is there is there and holds a copy.
+    pub fn copies()
+        ensures { IsCopied ⟦<Optional<T> as Clone>⟧.is_clone (λ member. member.0)
+            (λ member copy. MatchOption member (copy ≡ None)
+            (λ value. IsSomeAnd copy (T.is_clone value))) }
     {}
 }
 

@@ -1,7 +1,7 @@
 //! Sequences of members of any types.
 ghost use Rattle.std.specs.Prelude.{◌≡◌, IfOk, IfErr, OnOk};
 ghost use Rattle.picky_der_core.specs.WriterFaults.{IsOnceAtMost};
-ghost use Rattle.picky_der_core.specs.Equality.{IsThatOf};
+ghost use Rattle.picky_der_core.specs.Equality.{IsThatOf, IsCopied};
 ghost use Rattle.picky_der_core.specs.Tree.{ListKind, Tree, Trees};
 ghost use Rattle.picky_der_ser.specs.Calls.{RefusesWrite, AddsRow, RefusesToAddRow, Writes};
 
@@ -57,6 +57,13 @@ impl<M: PartialEq> Row<M> {
     /// Two rows are equal just where their members are.
     pub fn equality()
         ensures { IsThatOf ⟦<Row<M> as PartialEq>⟧.eq (λ row. row.0) M.eq }
+    {}
+}
+
+impl<M: Clone> Row<M> {
+    /// A copy of a row holds a copy of its members.
+    pub fn copies()
+        ensures { IsCopied ⟦<Row<M> as Clone>⟧.is_clone (λ row. row.0) M.is_clone }
     {}
 }
 

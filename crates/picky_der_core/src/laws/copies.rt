@@ -4,8 +4,10 @@ ghost use Rattle.picky_der_core.specs.Equality.{IsKept, IsCopied};
 
 use crate::asn1::{
     Asn1SequenceOf, Asn1SetOf, BitStringAsn1Container, ByteBuf, Bytes, ExplicitContextTag,
-    ImplicitContextTag, OctetStringAsn1Container, Retagged, TaggedBytes,
+    ImplicitContextTag, Newtype, OctetStringAsn1Container, Retagged, Tag, TagClass, TaggedBytes,
+    Wrapper,
 };
+use crate::{Asn1DerError, Failure};
 
 /// A copy of an octet string, or of bytes under one tag, has the same bytes.
 pub fn bytes<const TAG: u8>()
@@ -34,4 +36,22 @@ pub fn wrappers<T: Clone, const N: u8, const TAG: u8>()
         (λ held. held.0) T.is_clone }
     ensures retagged { IsCopied ⟦<Retagged<T, TAG> as Clone>⟧.is_clone
         (λ held. held.0) T.is_clone }
+{}
+
+/// A copy of a tag, or of a class of tags, is the same one.
+pub fn tags()
+    ensures tag { IsKept ⟦<Tag as Clone>⟧.is_clone (λ tag. tag) }
+    ensures class { IsKept ⟦<TagClass as Clone>⟧.is_clone (λ class. class) }
+{}
+
+/// A copy of a wrapper, or of what a newtype names, is the same one.
+pub fn newtypes()
+    ensures newtype { IsKept ⟦<Newtype as Clone>⟧.is_clone (λ newtype. newtype) }
+    ensures wrapper { IsKept ⟦<Wrapper as Clone>⟧.is_clone (λ wrapper. wrapper) }
+{}
+
+/// A copy of an error, or of what is kept of one, is the same one.
+pub fn errors()
+    ensures error { IsKept ⟦<Asn1DerError as Clone>⟧.is_clone (λ error. error) }
+    ensures failure { IsKept ⟦<Failure as Clone>⟧.is_clone (λ failure. failure) }
 {}
