@@ -1,3 +1,4 @@
+pub mod OneLine
 pub mod Examined
 pub mod Lines
 pub mod Trimming

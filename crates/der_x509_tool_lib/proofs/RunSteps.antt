@@ -12,6 +12,7 @@ use Rattle.der_tool_lib.proofs.RunSteps.{line_push, lines_push, text_of_lines-pu
 use Rattle.der_x509_tool_lib.specs.Blocks.{BeginsBlock, none, HasAnswers, answers_at_end, IsBlockLinesOf, WritesBlockLines}
 use Rattle.der_x509_tool_lib.specs.Run.{WritesSome, TakesPemLine, stays_outside, begins, begins_again, goes_on, ends, AnswersPemLine, AnswersEnd, text_in, WroteBlockLines, WroteAllButEnd, WroteSomeBlockLines, at_line, at_end}
 use Rattle.der_x509_tool_lib.proofs.Gathering.{text_of_lines-append, take_more}
+use Rattle.der_x509_tool_lib.proofs.OneLine.{are_answers}
 
 -- all of the input was drawn
 whole_text : {bytes text : List ℕ} (a b c d : Option (List ℕ)) → Consumes a b bytes → IsAtEnd b → IsBlockLinesOf bytes text → Appends c d text → WritesBlockLines a c d
@@ -182,6 +183,7 @@ module _ {a b c d : Option (List ℕ)} {kept : List ℕ} {open_text : Option (Li
     open_text = e.after;
     answers = h.answers ++ e.answers;
     has_answers = all_answers e.takes;
+    are_answers = are_answers e.after (all_answers e.takes);
     is = ap text_of_lines (sym (append_assoc h.answers e.answers (answers_at_end e.after)));
   }
 

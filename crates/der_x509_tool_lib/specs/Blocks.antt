@@ -133,8 +133,8 @@ abbrev pub answers_at_end : Option (List ℕ) → List (List ℕ)
 answers_at_end None = []
 answers_at_end (Some text) = no_end ∷ []
 
--- The text that answers an input: the lines of its blocks, in order, each ended by the byte 0A. What stands behind the last
--- such byte of the input is a line, too.
+-- The text that answers an input: the lines of its blocks, in order, each ended by the byte 0A. No answer has this byte inside, so
+-- the text has exactly as many lines as the input has blocks. What stands behind the last such byte of the input is a line, too.
 pub record IsBlockLinesOf (input text : List ℕ) : Type 0 where
   pub lines : List (List ℕ)
   pub are_lines : AreLines lines
@@ -142,6 +142,7 @@ pub record IsBlockLinesOf (input text : List ℕ) : Type 0 where
   pub open_text : Option (List ℕ)
   pub answers : List (List ℕ)
   pub has_answers : HasAnswers lines open_text answers
+  pub are_answers : AreLines (answers ++ answers_at_end open_text)
   pub is : text ≡ text_of_lines (answers ++ answers_at_end open_text)
 
 -- the text of the known bytes of an input was written

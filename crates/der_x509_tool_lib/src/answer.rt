@@ -1,7 +1,9 @@
 //! The line of a certificate.
 ghost use Rattle.std.specs.Prelude.{◌≡◌, ◌++◌, IfOk, IfErr, string_bytes};
-ghost use Rattle.der_x509_tool_lib.specs.Answer.{IsLineOf, sameness_of};
+ghost use Rattle.der_x509_tool_lib.specs.Answer.{IsLineOf, IsRefusal, sameness_of};
+ghost use Rattle.der_x509_tool_lib.specs.Line.{IsOneLine};
 
+use crate::line::Line;
 use crate::names::push_name;
 use crate::object_identifier::push_object_identifier;
 use crate::text::push_text_or_bytes;
@@ -11,7 +13,7 @@ use picky_asn1_der::{Asn1DerError, Result};
 use std::alloc::{AllocError, Global};
 use std::result;
 
-/// What is printed of the bytes of a certificate, without the byte that ends the line. The only error is `OutOfMemory`.
+/// What is printed of the bytes of a certificate: one line, without the byte that ends it. The only error is `OutOfMemory`.
 ///
 /// Of a certificate that was read these are its subject, the times, the key's algorithm and how many extensions it has.
 pub fn line_of(alloc: Global, bytes: &[u8]) -> Result<String>
@@ -26,21 +28,37 @@ pub fn line_of(alloc: Global, bytes: &[u8]) -> Result<String>
         Outcome::Refused(refusal) => {
             let error = refusal.error;
             let taken = refusal.position;
-            let reason = format!(in alloc; " {error} after {taken} bytes")?;
-            joined(alloc, "refused", &reason, "")
+            let mut reason = Line::new(alloc);
+            write!(reason, " {error} after {taken} bytes")?;
+            refused(alloc, reason)
         }
         Outcome::LeftOver(taken) => {
             let left = bytes.len().saturating_sub(taken);
-            let reason = format!(in alloc; ": {left} bytes behind the {taken} of the certificate")?;
-            joined(alloc, "refused", &reason, "")
+            let mut reason = Line::new(alloc);
+            write!(
+                reason,
+                ": {left} bytes behind the {taken} of the certificate"
+            )?;
+            refused(alloc, reason)
         }
         Outcome::RefusedSigned(refusal) => {
             let error = refusal.error;
             let taken = refusal.position;
-            let reason = format!(in alloc; " {error} after {taken} bytes of what is signed")?;
-            joined(alloc, "refused", &reason, "")
+            let mut reason = Line::new(alloc);
+            write!(reason, " {error} after {taken} bytes of what is signed")?;
+            refused(alloc, reason)
         }
     }
+}
+
+// The line that says why bytes are refused.
+fn refused(alloc: Global, reason: Line) -> Result<String>
+    ensures ok { IfOk result (λ line. IsRefusal (string_bytes line)) }
+    ensures one_line { IfOk result (λ line. IsOneLine (string_bytes line)) }
+    ensures err { IfErr result (λ e. e ≡ Asn1DerError.OutOfMemory) }
+{
+    let text = reason.into_string();
+    joined(alloc, "refused", &text, "")
 }
 
 // The three texts, one behind the other.
@@ -63,28 +81,30 @@ fn sameness(is_same: bool) -> &'static str
 }
 
 // The subject, the times, the key's algorithm, and how many extensions there are.
-fn members_of(alloc: Global, signed: &TbsCertificate) -> result::Result<String, AllocError> {
-    let mut text = String::new(alloc);
-    push_name(alloc, &mut text, &signed.subject)?;
-    text.push_str("; ")?;
-    push_time(&mut text, &signed.validity.not_before)?;
-    text.push_str(" to ")?;
-    push_time(&mut text, &signed.validity.not_after)?;
-    text.push_str("; ")?;
+fn members_of(alloc: Global, signed: &TbsCertificate) -> result::Result<String, AllocError>
+    ensures { IfOk result (λ text. IsOneLine (string_bytes text)) }
+{
+    let mut line = Line::new(alloc);
+    push_name(alloc, &mut line, &signed.subject)?;
+    line.push_str("; ")?;
+    push_time(&mut line, &signed.validity.not_before)?;
+    line.push_str(" to ")?;
+    push_time(&mut line, &signed.validity.not_after)?;
+    line.push_str("; ")?;
     let algorithm = &signed.subject_public_key_info.algorithm.algorithm;
-    push_object_identifier(alloc, &mut text, &algorithm.0)?;
+    push_object_identifier(alloc, &mut line, &algorithm.0)?;
     let count = match &signed.extensions {
         Some(extensions) => extensions.0.len(),
         None => 0,
     };
-    write!(text, "; {count} extensions")?;
-    Ok(text)
+    write!(line, "; {count} extensions")?;
+    Ok(line.into_string())
 }
 
 // The text of a time.
-fn push_time(text: &mut String, time: &Time) -> result::Result<(), AllocError> {
+fn push_time(line: &mut Line, time: &Time) -> result::Result<(), AllocError> {
     match time {
-        Time::Utc(time) => push_text_or_bytes(text, &time.0),
-        Time::Generalized(time) => push_text_or_bytes(text, &time.0),
+        Time::Utc(time) => push_text_or_bytes(line, &time.0),
+        Time::Generalized(time) => push_text_or_bytes(line, &time.0),
     }
 }

@@ -2,6 +2,7 @@
 #![tactic(auto)]
 
 mod answer;
+mod line;
 mod names;
 mod object_identifier;
 mod outcome;

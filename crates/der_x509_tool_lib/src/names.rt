@@ -1,5 +1,6 @@
 //! Names as text.
 
+use crate::line::Line;
 use crate::object_identifier::push_object_identifier;
 use crate::text::{push_bytes, push_text};
 use der_x509::{Attribute, Name};
@@ -8,7 +9,7 @@ use picky_asn1_der::{Asn1DerError, from_bytes};
 use std::alloc::{AllocError, Global};
 
 // Appends a name: its steps from the root down, with `, ` between them, and between the attributes of one step ` + `.
-pub(crate) fn push_name(alloc: Global, line: &mut String, name: &Name) -> Result<(), AllocError> {
+pub(crate) fn push_name(alloc: Global, line: &mut Line, name: &Name) -> Result<(), AllocError> {
     for (place, step) in name.iter().enumerate() {
         if place != 0 {
             line.push_str(", ")?;
@@ -18,7 +19,7 @@ pub(crate) fn push_name(alloc: Global, line: &mut String, name: &Name) -> Result
     Ok(())
 }
 
-fn push_step(alloc: Global, line: &mut String, attributes: &[Attribute]) -> Result<(), AllocError> {
+fn push_step(alloc: Global, line: &mut Line, attributes: &[Attribute]) -> Result<(), AllocError> {
     for (place, attribute) in attributes.iter().enumerate() {
         if place != 0 {
             line.push_str(" + ")?;
@@ -31,7 +32,7 @@ fn push_step(alloc: Global, line: &mut String, attributes: &[Attribute]) -> Resu
 }
 
 // The short name of an attribute's type (RFC 4514, 3), or its object identifier.
-fn push_kind(alloc: Global, line: &mut String, content: &[u8]) -> Result<(), AllocError> {
+fn push_kind(alloc: Global, line: &mut Line, content: &[u8]) -> Result<(), AllocError> {
     let name = match content {
         [0x55, 0x04, 0x03] => "CN",
         [0x55, 0x04, 0x06] => "C",
@@ -47,7 +48,7 @@ fn push_kind(alloc: Global, line: &mut String, content: &[u8]) -> Result<(), All
 }
 
 // The text of a UTF8String or a PrintableString, and any other element as bytes.
-fn push_value(alloc: Global, line: &mut String, element: &[u8]) -> Result<(), AllocError> {
+fn push_value(alloc: Global, line: &mut Line, element: &[u8]) -> Result<(), AllocError> {
     match text_of(alloc, element)? {
         Some(text) => push_text(line, &text),
         None => push_bytes(line, element),

@@ -1,5 +1,6 @@
 //! Object identifiers as text.
 
+use crate::line::Line;
 use crate::text::push_bytes;
 use std::alloc::{AllocError, Global};
 
@@ -7,7 +8,7 @@ use std::alloc::{AllocError, Global};
 // one with a number of 2^64 or more, is appended as bytes.
 pub(crate) fn push_object_identifier(
     alloc: Global,
-    line: &mut String,
+    line: &mut Line,
     content: &[u8],
 ) -> Result<(), AllocError> {
     match dotted_form(alloc, content)? {

@@ -1,12 +1,14 @@
 use Rattle.std.proofs.Common.{◌∙◌, ◌++◌, ap}
 use Rattle.std.specs.Prelude.{codes}
 use Rattle.std.proofs.lemmas.Result.{MatchResult-weaker}
+use Rattle.der_x509_tool_lib.specs.Line.{IsOneLine}
 use Rattle.der_x509_tool_lib.proofs.Lines.{read_line}
 use Rattle.der_x509_tool_lib.proofs.answer.line_of.Goals as goal
 
 pub returns-in_ok-members-in-Read-clause-ok : goal.returns-in_ok-members-in-Read-clause-ok
 returns-in_ok-members-in-Read-clause-ok c =
     let members = c.deref.result.now in
+    let one_line : IsOneLine members = rw c.deref.ensures c.in_ok-members-in-Read.ensures in
     MatchResult-weaker c.joined.result c.joined.ensures.ok
-    (λ line h. read_line c.in-Read.reading members _ (rw c.in-Read.is at c.in_ok-reading.ensures.ok) (h ∙ ap (λ s. codes "ok " ++ (members ++ s)) c.sameness.ensures))
+    (λ line h. read_line c.in-Read.reading members _ (rw c.in-Read.is at c.in_ok-reading.ensures.ok) one_line (h ∙ ap (λ s. codes "ok " ++ (members ++ s)) c.sameness.ensures))
     (λ e h. tt)
