@@ -1,0 +1,146 @@
+"""The lines that the programs are given, and what they answer."""
+import base64
+import binascii
+import re
+import textwrap
+from dataclasses import dataclass
+from pathlib import Path
+
+from elements import is_text
+from structures import TYPES
+from walk import Walk
+
+BLOCK = re.compile(r"^-----BEGIN CERTIFICATE-----\n([A-Za-z0-9+/=\n]*)-----END CERTIFICATE-----$", re.MULTILINE)
+
+# the short names of RFC 4514 that der_x509_tool prints
+NAMES = {"2.5.4.3": "CN", "2.5.4.6": "C", "2.5.4.7": "L", "2.5.4.8": "ST", "2.5.4.9": "STREET", "2.5.4.10": "O", "2.5.4.11": "OU"}
+
+
+@dataclass(frozen=True)
+class Line:
+    """The word of a type of der_tool, or `certificate`, and bytes."""
+
+    word: str
+    data: bytes
+
+    def text(self) -> str:
+        """The line as the programs are given it."""
+        return f"read {self.word} {self.data.hex()}"
+
+    def block(self) -> str:
+        """The bytes in PEM."""
+        inner = textwrap.wrap(base64.b64encode(self.data).decode(), 64)
+        return "\n".join(["-----BEGIN CERTIFICATE-----", *inner, "-----END CERTIFICATE-----", ""])
+
+
+@dataclass(frozen=True)
+class Answer:
+    """Whether a program read a value, and what it says of it."""
+
+    is_read: bool
+    value: str = ""
+
+    def __str__(self) -> str:
+        return f"read {self.value}" if self.is_read else "refused"
+
+
+REFUSED = Answer(False)
+
+
+def read_lines(path: Path) -> list[Line]:
+    """The lines of a file that ask for a value of bytes."""
+    lines = []
+    for text in path.read_text(encoding="utf-8").splitlines():
+        asked = re.fullmatch(r"read (\S+) ((?:[0-9A-Fa-f]{2})*)", text)
+        if asked and asked[1] in TYPES:
+            lines.append(Line(asked[1], bytes.fromhex(asked[2])))
+    return lines
+
+
+def read_certificates(path: Path) -> list[Line]:
+    """The certificates in PEM of a file, but for blocks that are no base64."""
+    lines = []
+    for block in BLOCK.findall(path.read_text(encoding="utf-8")):
+        try:
+            lines.append(Line("certificate", base64.b64decode(block.replace("\n", ""), validate=True)))
+        except binascii.Error:
+            pass
+    return lines
+
+
+def own_answer(line: Line, text: str) -> Answer:
+    """What der_tool or der_x509_tool answered by this text."""
+    first, _, value = text.partition(" ")
+    if first == "ok":
+        return Answer(True, f"{len(line.data)} {value}" if line.word == "certificate" else value)
+    if not first.startswith("refused"):
+        raise ValueError(f"an answer of no known form: {text}")
+    return REFUSED
+
+
+def answer_of_peer(line: Line, text: str) -> Answer:
+    """What another program answered by this text."""
+    first, _, value = text.partition(" ")
+    if first == "refused":
+        return REFUSED
+    if first != "ok":
+        raise ValueError(f"an answer of no known form: {text}")
+    if line.word != "certificate":
+        return Answer(True, value)
+    size, *parts = value.split(" ")
+    return Answer(True, f"{size} {certificate_line(*parts)}")
+
+
+def certificate_line(name: str, begin: str, end: str, algorithm: str, count: str) -> str:
+    """What der_x509_tool prints of a certificate with these members (docs/X509.md)."""
+    times = f"{readable(bytes.fromhex(begin))} to {readable(bytes.fromhex(end))}"
+    return f"{name_text(name)}; {times}; {dotted(algorithm)}; {count} extensions; same bytes"
+
+
+def name_text(name: str) -> str:
+    """The text of a name whose attributes are `STEP:OID:ELEMENT`."""
+    steps: dict[int, list[str]] = {}
+    for attribute in name.split(",") if name != "-" else []:
+        step, kind, element = attribute.split(":")
+        text = f"{NAMES.get(kind) or dotted(kind)}={value_text(bytes.fromhex(element))}"
+        steps.setdefault(int(step), []).append(text)
+    return ", ".join(" + ".join(steps.get(it, [])) for it in range(max(steps, default=-1) + 1))
+
+
+def dotted(kind: str) -> str:
+    """An object identifier, which is printed by its bytes where a number of its encoding is 2^64 or more."""
+    first, second, *others = map(int, kind.split("."))
+    numbers = [40 * first + second, *others]
+    return kind if max(numbers) < 2**64 else "#" + b"".join(map(base_128, numbers)).hex().upper()
+
+
+def base_128(number: int) -> bytes:
+    """A number of an object identifier (X.690, 8.19.2)."""
+    digits = [number % 128]
+    while number := number // 128:
+        digits.append(number % 128 + 128)
+    return bytes(reversed(digits))
+
+
+def value_text(element: bytes) -> str:
+    """The text of a UTF8String or of a PrintableString in ASCII, or the bytes of another element."""
+    walk = Walk(element)
+    content = walk.content(walk.header(0, len(element)))
+    encoding = {0x0C: "utf-8", 0x13: "ascii"}.get(element[0])
+    if encoding and is_text(content, encoding):
+        return readable(content)
+    return f"#{element.hex().upper()}"
+
+
+def readable(content: bytes) -> str:
+    """Bytes as text on one line, with a backslash before what has a meaning there, or as their digits where they are no UTF-8."""
+    if not is_text(content):
+        return f"#{content.hex().upper()}"
+    return "".join(map(escaped, content.decode()))
+
+
+def escaped(character: str) -> str:
+    """A character of a text."""
+    if character < " " or "\x7f" <= character <= "\x9f":
+        return "".join(f"\\{byte:02X}" for byte in character.encode())
+    return f"\\{character}" if character in '"#+,;<=>\\' else character
