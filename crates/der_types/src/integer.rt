@@ -25,7 +25,7 @@ pub struct Integer {
 }
 
 /// Whether bytes are the content of an INTEGER: there is one at least, and the first nine bits are neither all 0 nor all 1 (X.690, 8.3.2).
-pub fn is_integer(bytes: &[u8]) -> bool
+pub(crate) fn is_integer(bytes: &[u8]) -> bool
     ensures { result ≡ is_integer bytes.now }
 {
     match bytes {
