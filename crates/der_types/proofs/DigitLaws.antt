@@ -6,10 +6,9 @@ use Rattle.std.proofs.Math.Nat.{pow-le-pow_right, pow-zero}
 use Rattle.std.proofs.lemmas.Bool.{cases_lt, eqb-false}
 use Rattle.std.proofs.lemmas.Int.Digits.{number_push}
 use Rattle.std.proofs.lemmas.List.{map_more, length-map, drop-map}
-use Rattle.picky_der_core.specs.declared.error.Asn1DerError.TheVariants.{InvalidData, UnsupportedValue}
 use Rattle.picky_der_core.specs.Encoding.{unsigned_content}
 use Rattle.picky_der_core.specs.Shape.{AreBytes}
-use Rattle.der_types.specs.Integer.{is_integer, is_negative, turned_byte, turned_if, behind_sign, integer_content, bits_of, content_bits, integer_value}
+use Rattle.der_types.specs.Integer.{is_integer, is_negative, turned_byte, turned_if, behind_sign, integer_content, content_bits, integer_value}
 use Rattle.der_types.specs.IntegerLaws.{content-value, value-content, is_integer-content}
 use Rattle.der_types.specs.ContentTests.{int_error}
 
@@ -42,25 +41,6 @@ more_digits_fit k m n d l h b =
 -- the bits, where the sign is known
 bits_as : (bs : List ℕ) (t : Bool) → is_negative bs ≡ t → content_bits bs ≡ number_from_digits 256 (turned_if t bs)
 bits_as bs t e = ap (λ t. number_from_digits 256 (turned_if t bs)) e
-
--- a sign alone counts nothing
-sign_counts_nothing : (b : ℕ) (bs : List ℕ) → (b == 0x00 || b == 0xFF) ≡ true → number_from_digits 256 (turned_if (is_negative (b ∷ bs)) bs) ≡ content_bits (b ∷ bs)
-sign_counts_nothing b bs e = by_zero (b == 0x00) refl e
-  where
-    Counts : ℕ → Type 0
-    Counts b = number_from_digits 256 (turned_if (is_negative (b ∷ bs)) bs) ≡ content_bits (b ∷ bs)
-
-    by_zero : (z : Bool) → (b == 0x00) ≡ z → (z || b == 0xFF) ≡ true → number_from_digits 256 (turned_if (is_negative (b ∷ bs)) bs) ≡ content_bits (b ∷ bs)
-    by_zero true f g = subst Counts (sym (eqb-true b 0x00 f)) refl
-    by_zero false f g = subst Counts (sym (eqb-true b 0xFF g)) refl
-
-pub behind_sign-bits : (bs : List ℕ) → number_from_digits 256 (turned_if (is_negative bs) (behind_sign bs)) ≡ content_bits bs
-behind_sign-bits [] = refl
-behind_sign-bits (b ∷ bs) = by_sign (b == 0x00 || b == 0xFF) refl
-  where
-    by_sign : (t : Bool) → (b == 0x00 || b == 0xFF) ≡ t → number_from_digits 256 (turned_if (is_negative (b ∷ bs)) (cond t bs (b ∷ bs))) ≡ content_bits (b ∷ bs)
-    by_sign true e = sign_counts_nothing b bs e
-    by_sign false e = refl
 
 -- what a number counts in front of bytes
 number_after-least : (n : ℕ) (bs : List ℕ) → n * 256 ^ length bs ≤ number_from_digits_after 256 n bs
@@ -118,20 +98,6 @@ content_negative n start t bytes turned e f g =
 
 -- ---- numbers of a type
 
-bits_of-complement : (t : Bool) (n : ℕ) → bits_of (complement_if t n) ≡ n
-bits_of-complement false n = refl
-bits_of-complement true n = refl
-
--- a number past 128 bits fits no type
-pub past_fits : (fits : ℤ → Bool) → ((z : ℤ) → fits z ≡ true → bits_of z < 2 ^ 128) → (content : List ℕ) → 2 ^ 128 ≤ content_bits content → fits (integer_value content) ≡ false
-past_fits fits narrow content h = by_fit (fits (integer_value content)) refl
-  where
-    by_fit : (t : Bool) → fits (integer_value content) ≡ t → t ≡ false
-    by_fit false e = refl
-    by_fit true e =
-        let same = bits_of-complement (is_negative content) (content_bits content) in
-        absurd (omega (arith, narrow (integer_value content) e, same))
-
 -- the number is that of the content
 pub content_as : {N : Type 0} (number : N → ℤ) (content : List ℕ) (r : Option N) → AreBytes content → is_integer content ≡ true → IfSome r (λ n. number n ≡ integer_value content) → IfSome r (λ n. content ≡ integer_content (number n))
 content_as number content None p e h = tt
@@ -146,12 +112,6 @@ no_content_as fits content None h = λ z fit e.
     cc
 
 -- ---- how a content is judged
-
-pub int_error-invalid : (fits : ℤ → Bool) (content : List ℕ) → is_integer content ≡ false → int_error fits content ≡ Some InvalidData
-int_error-invalid fits content e = rw e refl
-
-pub int_error-large : (fits : ℤ → Bool) (content : List ℕ) → is_integer content ≡ true → fits (integer_value content) ≡ false → int_error fits content ≡ Some UnsupportedValue
-int_error-large fits content e f = rw (e, f) refl
 
 pub int_error-none : (fits : ℤ → Bool) (content : List ℕ) → is_integer content ≡ true → fits (integer_value content) ≡ true → int_error fits content ≡ None
 int_error-none fits content e f = rw (e, f) refl
