@@ -24,7 +24,8 @@ pub struct Integer {
     ghost canonical: { is_integer content.items ≡ true },
 }
 
-/// Whether bytes are the content of an INTEGER: there is one at least, and the first nine bits are neither all 0 nor all 1 (X.690, 8.3.2).
+/// Whether bytes are the content of an INTEGER: there is one at least (X.690, 8.3.1), and if there are more, the first nine bits are
+/// neither all 0 nor all 1 (8.3.2).
 pub(crate) fn is_integer(bytes: &[u8]) -> bool
     ensures { result ≡ is_integer bytes.now }
 {
