@@ -7,7 +7,7 @@ ghost use Rattle.der_types.specs.IntLaws.{signed_is_narrow, unsigned_is_narrow};
 
 /// A number of at most 128 bits beside the sign: `bits`, or `-(bits + 1)` if it is negative.
 #[derive(Debug, Clone, Copy, PartialEq, Eq)]
-pub struct Bits {
+pub struct SignedBits {
     /// Whether the number is negative.
     pub is_negative: bool,
     /// Its bits, of a negative number each turned.
@@ -22,11 +22,11 @@ pub trait Int: Sized + Copy {
     ghost fits: { ℤ → Bool };
 
     /// The number as a sign and bits.
-    fn into_bits(self) -> Bits
+    fn into_bits(self) -> SignedBits
         ensures { complement_if result.is_negative result.bits ≡ number self };
 
     /// The number with this sign and these bits, or `None` if it doesn't fit the type.
-    fn from_bits(bits: Bits) -> Option<Self>
+    fn from_bits(bits: SignedBits) -> Option<Self>
         ensures some { IfSome result (λ it. number it ≡ complement_if bits.is_negative bits.bits) }
         ensures fits { OnSome result (fits (complement_if bits.is_negative bits.bits) ≡ true) }
         ensures none { IfNone result (fits (complement_if bits.is_negative bits.bits) ≡ false) };
@@ -40,16 +40,16 @@ impl Int for i8 {
 
     ghost fits = { fits_signed 8 };
 
-    fn into_bits(self) -> Bits {
+    fn into_bits(self) -> SignedBits {
         let is_negative = self < 0;
         let bits = if is_negative { -1 - self } else { self };
-        Bits {
+        SignedBits {
             is_negative,
             bits: bits as u128,
         }
     }
 
-    fn from_bits(bits: Bits) -> Option<i8> {
+    fn from_bits(bits: SignedBits) -> Option<i8> {
         match i8::try_from(bits.bits) {
             Ok(number) if bits.is_negative => Some(-1 - number),
             Ok(number) => Some(number),
@@ -65,16 +65,16 @@ impl Int for i16 {
 
     ghost fits = { fits_signed 16 };
 
-    fn into_bits(self) -> Bits {
+    fn into_bits(self) -> SignedBits {
         let is_negative = self < 0;
         let bits = if is_negative { -1 - self } else { self };
-        Bits {
+        SignedBits {
             is_negative,
             bits: bits as u128,
         }
     }
 
-    fn from_bits(bits: Bits) -> Option<i16> {
+    fn from_bits(bits: SignedBits) -> Option<i16> {
         match i16::try_from(bits.bits) {
             Ok(number) if bits.is_negative => Some(-1 - number),
             Ok(number) => Some(number),
@@ -90,16 +90,16 @@ impl Int for i32 {
 
     ghost fits = { fits_signed 32 };
 
-    fn into_bits(self) -> Bits {
+    fn into_bits(self) -> SignedBits {
         let is_negative = self < 0;
         let bits = if is_negative { -1 - self } else { self };
-        Bits {
+        SignedBits {
             is_negative,
             bits: bits as u128,
         }
     }
 
-    fn from_bits(bits: Bits) -> Option<i32> {
+    fn from_bits(bits: SignedBits) -> Option<i32> {
         match i32::try_from(bits.bits) {
             Ok(number) if bits.is_negative => Some(-1 - number),
             Ok(number) => Some(number),
@@ -115,16 +115,16 @@ impl Int for i64 {
 
     ghost fits = { fits_signed 64 };
 
-    fn into_bits(self) -> Bits {
+    fn into_bits(self) -> SignedBits {
         let is_negative = self < 0;
         let bits = if is_negative { -1 - self } else { self };
-        Bits {
+        SignedBits {
             is_negative,
             bits: bits as u128,
         }
     }
 
-    fn from_bits(bits: Bits) -> Option<i64> {
+    fn from_bits(bits: SignedBits) -> Option<i64> {
         match i64::try_from(bits.bits) {
             Ok(number) if bits.is_negative => Some(-1 - number),
             Ok(number) => Some(number),
@@ -140,16 +140,16 @@ impl Int for i128 {
 
     ghost fits = { fits_signed 128 };
 
-    fn into_bits(self) -> Bits {
+    fn into_bits(self) -> SignedBits {
         let is_negative = self < 0;
         let bits = if is_negative { -1 - self } else { self };
-        Bits {
+        SignedBits {
             is_negative,
             bits: bits as u128,
         }
     }
 
-    fn from_bits(bits: Bits) -> Option<i128> {
+    fn from_bits(bits: SignedBits) -> Option<i128> {
         match i128::try_from(bits.bits) {
             Ok(number) if bits.is_negative => Some(-1 - number),
             Ok(number) => Some(number),
@@ -165,14 +165,14 @@ impl Int for u8 {
 
     ghost fits = { fits_unsigned 8 };
 
-    fn into_bits(self) -> Bits {
-        Bits {
+    fn into_bits(self) -> SignedBits {
+        SignedBits {
             is_negative: false,
             bits: u128::from(self),
         }
     }
 
-    fn from_bits(bits: Bits) -> Option<u8> {
+    fn from_bits(bits: SignedBits) -> Option<u8> {
         if bits.is_negative {
             return None;
         }
@@ -190,14 +190,14 @@ impl Int for u16 {
 
     ghost fits = { fits_unsigned 16 };
 
-    fn into_bits(self) -> Bits {
-        Bits {
+    fn into_bits(self) -> SignedBits {
+        SignedBits {
             is_negative: false,
             bits: u128::from(self),
         }
     }
 
-    fn from_bits(bits: Bits) -> Option<u16> {
+    fn from_bits(bits: SignedBits) -> Option<u16> {
         if bits.is_negative {
             return None;
         }
@@ -215,14 +215,14 @@ impl Int for u32 {
 
     ghost fits = { fits_unsigned 32 };
 
-    fn into_bits(self) -> Bits {
-        Bits {
+    fn into_bits(self) -> SignedBits {
+        SignedBits {
             is_negative: false,
             bits: u128::from(self),
         }
     }
 
-    fn from_bits(bits: Bits) -> Option<u32> {
+    fn from_bits(bits: SignedBits) -> Option<u32> {
         if bits.is_negative {
             return None;
         }
@@ -240,14 +240,14 @@ impl Int for u64 {
 
     ghost fits = { fits_unsigned 64 };
 
-    fn into_bits(self) -> Bits {
-        Bits {
+    fn into_bits(self) -> SignedBits {
+        SignedBits {
             is_negative: false,
             bits: u128::from(self),
         }
     }
 
-    fn from_bits(bits: Bits) -> Option<u64> {
+    fn from_bits(bits: SignedBits) -> Option<u64> {
         if bits.is_negative {
             return None;
         }
@@ -265,14 +265,14 @@ impl Int for u128 {
 
     ghost fits = { fits_unsigned 128 };
 
-    fn into_bits(self) -> Bits {
-        Bits {
+    fn into_bits(self) -> SignedBits {
+        SignedBits {
             is_negative: false,
             bits: self,
         }
     }
 
-    fn from_bits(bits: Bits) -> Option<u128> {
+    fn from_bits(bits: SignedBits) -> Option<u128> {
         if bits.is_negative {
             return None;
         }

@@ -11,6 +11,6 @@ mod numbers;
 
 pub use contents::{Contents, deserialize_contents_as};
 pub use enumerated::Enumerated;
-pub use int::{Bits, Int};
+pub use int::{Int, SignedBits};
 pub use integer::Integer;
 pub use numbers::{deserialize_int, serialize_int};
