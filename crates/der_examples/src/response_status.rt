@@ -1,0 +1,113 @@
+//! An ENUMERATED whose values have names.
+ghost use Rattle.std.proofs.Common.{lit≤};
+ghost use Rattle.std.specs.Prelude.{◌≡◌, [], ◌∷◌, refl};
+ghost use Rattle.picky_der_core.specs.Tree.{Tree};
+ghost use Rattle.picky_der_core.specs.Shape.{Shape};
+ghost use Rattle.picky_der_de.specs.Known.{known_bytes, by_itself, ties_so};
+ghost use Rattle.der_examples.specs.declared.response_status.ResponseStatus.TheVariants as status;
+ghost use Rattle.der_examples.specs.ResponseStatus.{status_number, is_status};
+
+use der_types::{Contents, deserialize_contents_as};
+use picky_asn1_der::asn1::Tag;
+use picky_asn1_der::de::Begins;
+use picky_asn1_der::misc::{ReadExt, WriteExt};
+use picky_asn1_der::{Deserialize, Deserializer, Result, Serialize, Serializer};
+
+/// How a request for the status of a certificate was answered, as an ENUMERATED (RFC 6960, 4.2.1). Another content is `InvalidData`.
+#[derive(Debug, Clone, Copy, PartialEq, Eq)]
+pub enum ResponseStatus {
+    /// The response has the status, the number 0.
+    Successful,
+    /// The request is malformed, 1.
+    MalformedRequest,
+    /// The responder failed, 2.
+    InternalError,
+    /// The responder can't answer now, 3.
+    TryLater,
+    /// The request has to be signed, 5.
+    SigRequired,
+    /// The requester may not ask, 6.
+    Unauthorized,
+}
+
+impl ResponseStatus {
+    // The number of the status.
+    fn number(self) -> u8
+        ensures { result ≡ status_number self }
+    {
+        match self {
+            ResponseStatus::Successful => 0,
+            ResponseStatus::MalformedRequest => 1,
+            ResponseStatus::InternalError => 2,
+            ResponseStatus::TryLater => 3,
+            ResponseStatus::SigRequired => 5,
+            ResponseStatus::Unauthorized => 6,
+        }
+    }
+}
+
+impl Contents for ResponseStatus {
+    ghost TAG = { 0x0A };
+
+    ghost is_content = { is_status };
+
+    ghost content = { λ it. status_number it ∷ [] };
+
+    const TAG: u8 = 0x0A;
+
+    fn from_content(content: Vec<u8>) -> Option<ResponseStatus> {
+        match content.as_slice() {
+            [0] => Some(ResponseStatus::Successful),
+            [1] => Some(ResponseStatus::MalformedRequest),
+            [2] => Some(ResponseStatus::InternalError),
+            [3] => Some(ResponseStatus::TryLater),
+            [5] => Some(ResponseStatus::SigRequired),
+            [6] => Some(ResponseStatus::Unauthorized),
+            _ => None,
+        }
+    }
+
+    ghost short = { lit≤ tt };
+
+    ghost valid = { elim [
+      | status.Successful ↦ refl
+      | status.MalformedRequest ↦ refl
+      | status.InternalError ↦ refl
+      | status.TryLater ↦ refl
+      | status.SigRequired ↦ refl
+      | status.Unauthorized ↦ refl
+    ] };
+}
+
+impl Serialize for ResponseStatus {
+    ghost meaning = { λ it. Tree.bytes 0x0A (status_number it ∷ []) };
+
+    fn serialize<W: WriteExt>(&self, serializer: &mut Serializer<W>) -> Result<usize> {
+        serializer.serialize_tagged_bytes(Tag::from(0x0A), &[self.number()])
+    }
+}
+
+impl Deserialize for ResponseStatus {
+    ghost shape = { Shape.bytes 0x0A };
+
+    ghost known = { known_bytes 0x0A (λ it. status_number it ∷ []) };
+
+    ghost tied = { ties_so by_itself (elim [
+      | status.Successful ↦ elim [ status.Successful ↦ λ h. h | _ ↦ λ h. h ]
+      | status.MalformedRequest ↦ elim [ status.MalformedRequest ↦ λ h. h | _ ↦ λ h. h ]
+      | status.InternalError ↦ elim [ status.InternalError ↦ λ h. h | _ ↦ λ h. h ]
+      | status.TryLater ↦ elim [ status.TryLater ↦ λ h. h | _ ↦ λ h. h ]
+      | status.SigRequired ↦ elim [ status.SigRequired ↦ λ h. h | _ ↦ λ h. h ]
+      | status.Unauthorized ↦ elim [ status.Unauthorized ↦ λ h. h | _ ↦ λ h. h ]
+    ]) };
+
+    fn deserialize<R: ReadExt>(deserializer: &mut Deserializer<R>) -> Result<ResponseStatus> {
+        deserialize_contents_as(deserializer)
+    }
+}
+
+impl Begins for ResponseStatus {
+    fn begins_with(tag: Tag) -> bool {
+        tag.inner() == 0x0A
+    }
+}

@@ -1,0 +1,4 @@
+pub mod Integer
+pub mod IntegerLaws
+pub mod IntLaws
+pub mod ContentTests

@@ -1,0 +1,89 @@
+//! Values of enumerated types.
+ghost use Rattle.std.proofs.Common.{lit≤};
+ghost use Rattle.std.specs.Prelude.{◌≡◌, true, false, IfSome, IfNone, IfOk, IfErr};
+ghost use Rattle.picky_der_core.specs.Tree.{Tree};
+ghost use Rattle.picky_der_core.specs.Shape.{Shape};
+ghost use Rattle.picky_der_input.specs.Reading.{Reads, Refuses};
+ghost use Rattle.picky_der_de.specs.Known.{known_bytes, by_itself};
+ghost use Rattle.der_types.specs.Integer.{is_integer};
+ghost use Rattle.der_types.specs.ContentTests.{ReadsContent, RefusesContent};
+
+use crate::{Contents, Integer, deserialize_contents_as};
+use picky_der_core::asn1::Tag;
+use picky_der_core::misc::{ReadExt, WriteExt};
+use picky_der_core::{Asn1DerError, Result};
+use picky_der_de::{Begins, Deserialize, Deserializer};
+use picky_der_ser::{Serialize, Serializer};
+
+/// An ENUMERATED (X.690, 8.4): the integer that the value is associated with, whose content it has under the tag 0A.
+#[derive(Debug, Drop, PartialEq, Eq, Hash)]
+pub struct Enumerated(pub Integer);
+
+impl Enumerated {
+    /// A copy, on the same allocator. `OutOfMemory` if the allocation fails.
+    pub fn clone(&self) -> Result<Enumerated>
+        ensures same { IfOk result (λ copy. copy.0.content.items ≡ self.now.0.content.items) }
+        ensures memory { IfErr result (λ e. e ≡ Asn1DerError.OutOfMemory) }
+    {
+        Ok(Enumerated(self.0.clone()?))
+    }
+}
+
+impl Contents for Enumerated {
+    ghost TAG = { 0x0A };
+
+    ghost is_content = { is_integer };
+
+    ghost content = { λ it. it.0.content.items };
+
+    const TAG: u8 = 0x0A;
+
+    fn from_content(content: Vec<u8>) -> Option<Enumerated>
+        ensures some { IfSome result (λ it. it.0.content.items ≡ content.items) }
+        ensures none { IfNone result (is_integer content.items ≡ false) }
+    {
+        match Integer::from_content(content) {
+            Some(number) => Some(Enumerated(number)),
+            None => None,
+        }
+    }
+
+    ghost short = { lit≤ tt };
+
+    ghost valid = { λ it. it.0.canonical };
+}
+
+impl Serialize for Enumerated {
+    ghost meaning = { λ it. Tree.bytes 0x0A it.0.content.items };
+
+    fn serialize<W: WriteExt>(&self, serializer: &mut Serializer<W>) -> Result<usize> {
+        serializer.serialize_tagged_bytes(Tag::from(0x0A), self.0.content())
+    }
+}
+
+impl Deserialize for Enumerated {
+    ghost shape = { Shape.bytes 0x0A };
+
+    ghost known = { known_bytes 0x0A (λ it. it.0.content.items) };
+
+    ghost tied = { by_itself };
+
+    fn deserialize<R: ReadExt>(deserializer: &mut Deserializer<R>) -> Result<Enumerated>
+        ensures ok { IfOk result (λ it. Reads (Shape.bytes 0x0A) deserializer.old deserializer.new
+            (Tree.bytes 0x0A it.0.content.items)) }
+        ensures err { IfErr result (Refuses ⟦<Enumerated as Serialize>⟧.meaning (Shape.bytes 0x0A)
+            deserializer.old deserializer.new) }
+        ensures read { IfOk result (λ it. ReadsContent 0x0A is_integer deserializer.old
+            deserializer.new it.0.content.items) }
+        ensures refused { IfErr result (RefusesContent ⟦<Enumerated as Contents>⟧.content 0x0A
+            is_integer deserializer.old deserializer.new) }
+    {
+        deserialize_contents_as(deserializer)
+    }
+}
+
+impl Begins for Enumerated {
+    fn begins_with(tag: Tag) -> bool {
+        tag.inner() == 0x0A
+    }
+}

@@ -1,0 +1,137 @@
+//! Integers of any size.
+ghost use Rattle.std.proofs.Common.{lit≤};
+ghost use Rattle.std.specs.Prelude.{◌≡◌, ◌≢◌, ℤ, true, false, IfSome, IfNone, IfOk, IfErr};
+ghost use Rattle.picky_der_core.specs.Tree.{Tree};
+ghost use Rattle.picky_der_core.specs.Shape.{Shape};
+ghost use Rattle.picky_der_input.specs.Reading.{Reads, Refuses};
+ghost use Rattle.picky_der_de.specs.Known.{known_bytes, by_itself};
+ghost use Rattle.der_types.specs.Integer.{is_integer, integer_content};
+ghost use Rattle.der_types.specs.ContentTests.{ReadsContent, RefusesContent};
+
+use crate::digits::{IntContent, number_of};
+use crate::{Contents, Int, deserialize_contents_as};
+use picky_der_core::asn1::Tag;
+use picky_der_core::misc::{ReadExt, WriteExt};
+use picky_der_core::{Asn1DerError, Result};
+use picky_der_de::{Begins, Deserialize, Deserializer};
+use picky_der_ser::{Serialize, Serializer};
+use std::alloc::Global;
+
+/// An INTEGER of any size and sign (X.690, 8.3), as its content: two's complement in the fewest bytes.
+#[derive(Debug, Drop, PartialEq, Eq, Hash)]
+pub struct Integer {
+    content: Vec<u8>,
+    ghost canonical: { is_integer content.items ≡ true },
+}
+
+/// Whether bytes are the content of an INTEGER: there is one at least (X.690, 8.3.1), and if there are more, the first nine bits are
+/// neither all 0 nor all 1 (8.3.2).
+pub(crate) fn is_integer(bytes: &[u8]) -> bool
+    ensures { result ≡ is_integer bytes.now }
+{
+    match bytes {
+        [] => false,
+        [_] => true,
+        [first, second, ..] if *second < 0x80 => *first != 0x00,
+        [first, ..] => *first != 0xFF,
+    }
+}
+
+impl Integer {
+    /// Its content.
+    pub fn content(&self) -> &[u8]
+        ensures { result.now ≡ self.now.content.items }
+    {
+        &self.content
+    }
+
+    /// The integer that is this number. `OutOfMemory` if the allocation fails.
+    pub fn from_int<N: Int>(alloc: Global, number: N) -> Result<Integer>
+        ensures ok { IfOk result (λ it. it.content.items ≡ integer_content (N.number number)) }
+        ensures err { IfErr result (λ e. e ≡ Asn1DerError.OutOfMemory) }
+    {
+        let content = IntContent::of(number.into_bits());
+        Ok(Integer {
+            content: content.as_slice().to_vec(alloc)?,
+        })
+    }
+
+    /// The number, or `None` if it doesn't fit the type.
+    pub fn to_int<N: Int>(&self) -> Option<N>
+        ensures some { IfSome result (λ n. self.now.content.items ≡ integer_content (N.number n)) }
+        ensures none { IfNone result ((z : ℤ) → N.fits z ≡ true
+            → self.now.content.items ≢ integer_content z) }
+    {
+        number_of(&self.content)
+    }
+
+    /// A copy, on the same allocator. `OutOfMemory` if the allocation fails.
+    pub fn clone(&self) -> Result<Integer>
+        ensures same { IfOk result (λ copy. copy.content.items ≡ self.now.content.items) }
+        ensures memory { IfErr result (λ e. e ≡ Asn1DerError.OutOfMemory) }
+    {
+        Ok(Integer {
+            content: self.content.clone()?,
+        })
+    }
+}
+
+impl Contents for Integer {
+    ghost TAG = { 0x02 };
+
+    ghost is_content = { is_integer };
+
+    ghost content = { λ it. it.content.items };
+
+    const TAG: u8 = 0x02;
+
+    fn from_content(content: Vec<u8>) -> Option<Integer>
+        ensures some { IfSome result (λ it. it.content ≡ content) }
+        ensures none { IfNone result (is_integer content.items ≡ false) }
+    {
+        if is_integer(&content) {
+            Some(Integer { content })
+        } else {
+            None
+        }
+    }
+
+    ghost short = { lit≤ tt };
+
+    ghost valid = { λ it. it.canonical };
+}
+
+impl Serialize for Integer {
+    ghost meaning = { λ it. Tree.bytes 0x02 it.content.items };
+
+    fn serialize<W: WriteExt>(&self, serializer: &mut Serializer<W>) -> Result<usize> {
+        serializer.serialize_tagged_bytes(Tag::INTEGER, &self.content)
+    }
+}
+
+impl Deserialize for Integer {
+    ghost shape = { Shape.bytes 0x02 };
+
+    ghost known = { known_bytes 0x02 (λ it. it.content.items) };
+
+    ghost tied = { by_itself };
+
+    fn deserialize<R: ReadExt>(deserializer: &mut Deserializer<R>) -> Result<Integer>
+        ensures ok { IfOk result (λ it. Reads (Shape.bytes 0x02) deserializer.old deserializer.new
+            (Tree.bytes 0x02 it.content.items)) }
+        ensures err { IfErr result (Refuses ⟦<Integer as Serialize>⟧.meaning (Shape.bytes 0x02)
+            deserializer.old deserializer.new) }
+        ensures read { IfOk result (λ it. ReadsContent 0x02 is_integer deserializer.old
+            deserializer.new it.content.items) }
+        ensures refused { IfErr result (RefusesContent ⟦<Integer as Contents>⟧.content 0x02
+            is_integer deserializer.old deserializer.new) }
+    {
+        deserialize_contents_as(deserializer)
+    }
+}
+
+impl Begins for Integer {
+    fn begins_with(tag: Tag) -> bool {
+        tag == Tag::INTEGER
+    }
+}

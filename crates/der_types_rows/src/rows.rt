@@ -1,0 +1,152 @@
+//! Rows: `read i16 02 02 FF 7F` and `write i16 -129`, and `fit` and `make` for the same by a value of `Integer`.
+
+use der_fixtures::{bytes_of, text_of};
+use der_types::{Enumerated, Int, Integer, deserialize_int, serialize_int};
+use picky_der_core::{Asn1DerError, Result as DerResult};
+use picky_der_de::{Deserialize, Deserializer, from_bytes};
+use picky_der_ser::{Serialize, Serializer, to_vec};
+use std::alloc::{AllocError, Global};
+use std::fmt::Display;
+use std::str::FromStr;
+
+/// The answer to a row: the number, or the bytes, or the error.
+pub(crate) fn answer_to(alloc: Global, row: &str) -> Result<String, AllocError> {
+    let Some((verb, rest)) = row.split_once(" ") else {
+        return String::from_str(alloc, row);
+    };
+    let Some((name, rest)) = rest.split_once(" ") else {
+        return String::from_str(alloc, "no type");
+    };
+    let (is_written, way) = match verb {
+        "read" => (false, Way::Number),
+        "fit" => (false, Way::Value),
+        "write" => (true, Way::Number),
+        "make" => (true, Way::Value),
+        // a heading
+        _ => return String::from_str(alloc, row),
+    };
+    if is_written {
+        return write(alloc, way, name, rest);
+    }
+    match bytes_of(alloc, rest) {
+        Ok(bytes) => read(alloc, way, name, &bytes),
+        Err(_) => String::from_str(alloc, "no bytes"),
+    }
+}
+
+// How a number is read and written.
+#[derive(Clone, Copy)]
+enum Way {
+    // Alone.
+    Number,
+    // As an `Integer`.
+    Value,
+}
+
+// What the bytes are read as.
+fn read(alloc: Global, way: Way, name: &str, bytes: &[u8]) -> Result<String, AllocError> {
+    match name {
+        "i8" => read_int::<i8>(alloc, way, bytes),
+        "i16" => read_int::<i16>(alloc, way, bytes),
+        "i32" => read_int::<i32>(alloc, way, bytes),
+        "i64" => read_int::<i64>(alloc, way, bytes),
+        "i128" => read_int::<i128>(alloc, way, bytes),
+        "u8" => read_int::<u8>(alloc, way, bytes),
+        "u16" => read_int::<u16>(alloc, way, bytes),
+        "u32" => read_int::<u32>(alloc, way, bytes),
+        "u64" => read_int::<u64>(alloc, way, bytes),
+        "u128" => read_int::<u128>(alloc, way, bytes),
+        "Integer" => read_integer(alloc, bytes),
+        "Enumerated" => read_enumerated(alloc, bytes),
+        _ => String::from_str(alloc, "no type"),
+    }
+}
+
+fn read_int<N: Int + Display>(alloc: Global, way: Way, bytes: &[u8]) -> Result<String, AllocError> {
+    let mut deserializer = Deserializer::new_from_bytes(alloc, bytes);
+    let outcome = match way {
+        Way::Number => deserialize_int::<N, _>(&mut deserializer),
+        Way::Value => fit(Integer::deserialize(&mut deserializer)),
+    };
+    match outcome {
+        Ok(number) => format!(in alloc; "{number}"),
+        Err(error) => format!(in alloc; "refused {error}"),
+    }
+}
+
+// The number of an integer, with the error that there is none of the type.
+fn fit<N: Int>(integer: DerResult<Integer>) -> DerResult<N> {
+    match integer?.to_int() {
+        Some(number) => Ok(number),
+        None => Err(Asn1DerError::UnsupportedValue),
+    }
+}
+
+// A copy of what is read is written again.
+fn read_integer(alloc: Global, bytes: &[u8]) -> Result<String, AllocError> {
+    match from_bytes::<Integer>(alloc, bytes).and_then(|it| it.clone()) {
+        Ok(copy) => written(alloc, &copy),
+        Err(error) => format!(in alloc; "refused {error}"),
+    }
+}
+
+fn read_enumerated(alloc: Global, bytes: &[u8]) -> Result<String, AllocError> {
+    match from_bytes::<Enumerated>(alloc, bytes).and_then(|it| it.clone()) {
+        Ok(copy) => written(alloc, &copy),
+        Err(error) => format!(in alloc; "refused {error}"),
+    }
+}
+
+// What a number is written as.
+fn write(alloc: Global, way: Way, name: &str, number: &str) -> Result<String, AllocError> {
+    match name {
+        "i8" => write_int::<i8>(alloc, way, number),
+        "i16" => write_int::<i16>(alloc, way, number),
+        "i32" => write_int::<i32>(alloc, way, number),
+        "i64" => write_int::<i64>(alloc, way, number),
+        "i128" => write_int::<i128>(alloc, way, number),
+        "u8" => write_int::<u8>(alloc, way, number),
+        "u16" => write_int::<u16>(alloc, way, number),
+        "u32" => write_int::<u32>(alloc, way, number),
+        "u64" => write_int::<u64>(alloc, way, number),
+        "u128" => write_int::<u128>(alloc, way, number),
+        _ => String::from_str(alloc, "no type"),
+    }
+}
+
+fn write_int<N: Int + FromStr>(alloc: Global, way: Way, text: &str) -> Result<String, AllocError>
+where
+    N::Err: Drop,
+{
+    let Ok(number) = N::from_str(text) else {
+        return String::from_str(alloc, "no number");
+    };
+    match way {
+        Way::Number => write_alone(alloc, number),
+        Way::Value => match Integer::from_int(alloc, number) {
+            Ok(integer) => written(alloc, &integer),
+            Err(error) => format!(in alloc; "{error}"),
+        },
+    }
+}
+
+fn write_alone<N: Int>(alloc: Global, number: N) -> Result<String, AllocError> {
+    let mut room = [0; 19];
+    let mut serializer = Serializer::new_to_bytes(alloc, &mut room);
+    let outcome = serialize_int(&mut serializer, number);
+    drop(serializer);
+    match outcome {
+        Ok(len) => match room.get(..len) {
+            Some(bytes) => text_of(alloc, bytes),
+            None => String::from_str(alloc, "too long"),
+        },
+        Err(error) => format!(in alloc; "{error}"),
+    }
+}
+
+fn written<T: Serialize>(alloc: Global, value: &T) -> Result<String, AllocError> {
+    match to_vec(alloc, value) {
+        Ok(bytes) => text_of(alloc, &bytes),
+        Err(error) => format!(in alloc; "{error}"),
+    }
+}
