@@ -1,0 +1,3 @@
+pub mod ContentReads
+pub mod DottedLemmas
+pub mod OidTexts

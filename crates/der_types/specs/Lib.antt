@@ -1,0 +1,10 @@
+pub mod Arcs
+pub mod BitString
+pub mod BitStringLaws
+pub mod ContentTests
+pub mod Dotted
+pub mod ObjectIdentifier
+pub mod ObjectIdentifierLaws
+pub mod RelativeOid
+pub mod SubidentifierLaws
+pub mod Subidentifiers
