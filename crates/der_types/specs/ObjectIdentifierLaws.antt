@@ -1,12 +1,6 @@
 -- Each list of arcs has one content, and each content is one of a list of arcs.
-use Rattle.std.proofs.Common.{◌≡◌, ℕ, zero, suc, ◌+◌, ◌-◌, ◌*◌, ◌/◌, ◌%◌, ◌<◌, ◌≤◌, Bool, true, false, not, ◌&&◌, ◌||◌, List, [], ◌∷◌, ◌++◌, length, map, nat_lt, ◌==◌, refl, sym, ap, subst, ◌∙◌, arith, inl, inr, lt-ltb, le-ltb, ltb-true, ne_eqb, eqb-true, append_assoc, append-nil}
-use Rattle.std.specs.List.{flat_map}
-use Rattle.std.specs.Int.Digits.{digits_of, number_from_digits, number_from_digits_after, AllBelowBase}
-use Rattle.std.proofs.lemmas.Bool.{cases_lt, eqb-false}
-use Rattle.std.proofs.lemmas.Bool.Decides.{nat_tests}
-use Rattle.std.proofs.lemmas.Int.Digits.{digits_of_step, number_digits_of, all_below_base_digits_of, first_digits_of}
-use Rattle.std.proofs.lemmas.Nat.{div-mul-add, mod-mul-add}
-use Rattle.std.proofs.lemmas.List.{map-append}
+use Rattle.std.proofs.Common.{◌≡◌, ℕ, ◌+◌, ◌-◌, ◌*◌, ◌/◌, ◌%◌, Bool, true, false, ◌&&◌, ◌||◌, List, [], ◌∷◌, ◌++◌, nat_lt, ◌==◌, refl, sym, ap, ◌∙◌, arith, inl, inr, lt-ltb, le-ltb, ltb-true, eqb-true}
+use Rattle.std.proofs.lemmas.Bool.{cases_lt}
 use Rattle.picky_der_core.specs.Shape.{AreBytes}
 use Rattle.der_types.specs.Subidentifiers.{subidentifiers, numbers_behind}
 use Rattle.der_types.specs.SubidentifierLaws.{marked-zero, content-numbers, numbers-content, valid_subidentifiers, subidentifier-some}

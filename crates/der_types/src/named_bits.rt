@@ -1,6 +1,6 @@
 //! Bits that have names, as those of a set of flags.
 ghost use Rattle.std.proofs.Common.{rules};
-ghost use Rattle.std.specs.Prelude.{◌≡◌, true, false, length, slice_index_or, IfSome, IfNone, IfOk, IfErr};
+ghost use Rattle.std.specs.Prelude.{◌≡◌, true, false, slice_index_or, IfSome, IfNone, IfOk, IfErr};
 ghost use Rattle.picky_der_core.specs.Tree.{Tree};
 ghost use Rattle.picky_der_core.specs.Shape.{Shape};
 ghost use Rattle.picky_der_input.specs.Reading.{Reads, Refuses};

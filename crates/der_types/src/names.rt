@@ -1,4 +1,5 @@
 //! Object identifiers that are often met, by their contents. Comparing with one costs no memory: `oid.is(names::KEY_USAGE)`.
+ghost use Rattle.std.specs.Prelude.{◌≡◌, ◌≢◌, All, Any, IfSome, IfNone};
 
 // The attributes of names (RFC 5280, A.1).
 
@@ -338,12 +339,21 @@ static NAMES: [(&[u8], &str); 78] = [
     (SHA224, "sha224"),
 ];
 
-/// The name of the object identifier with this content, as `commonName`, if it is one of those above.
-pub fn name_of(content: &[u8]) -> Option<&'static str> {
-    for (known, name) in &NAMES {
+// The name that the table has for this content.
+fn name_in<'a>(table: &[(&[u8], &'a str)], content: &[u8]) -> Option<&'a str>
+    ensures some { IfSome result (λ name. Any (λ entry. (entry.0.now ≡ content.now)
+        × (entry.1.now ≡ name.now)) table.now) }
+    ensures none { IfNone result (All (λ entry. entry.0.now ≢ content.now) table.now) }
+{
+    for (known, name) in table {
         if *known == content {
             return Some(*name);
         }
     }
     None
+}
+
+/// The name of the object identifier with this content, as `commonName`, if it is one of those above.
+pub fn name_of(content: &[u8]) -> Option<&'static str> {
+    name_in(&NAMES, content)
 }

@@ -1,4 +1,4 @@
-use Rattle.std.proofs.Common.{◌≡◌, ◌∙◌, sym, length, inr, lit<}
+use Rattle.std.proofs.Common.{◌∙◌, sym, length, inr, lit<}
 use Rattle.std.proofs.lemmas.Iterator.Consumers.{YieldsList-turn, YieldsList-end}
 use Rattle.std.proofs.lemmas.Iterator.Splits.{YieldsList-from_str_split}
 use Rattle.der_types.proofs.DottedLemmas.{refuses_text, error_passed_on}

@@ -1,8 +1,8 @@
-use Rattle.std.proofs.Common.{◌≡◌, ◌++◌, ◌∷◌, [], map, sym, ap, ◌∙◌, append-nil, true, refl}
+use Rattle.std.proofs.Common.{◌≡◌, ◌++◌, ◌∷◌, map, sym, ap, ◌∙◌, append-nil, true, refl}
 use Rattle.std.proofs.lemmas.Grind.{put_two}
 use Rattle.der_types.specs.Arcs.{arcs_left}
-use Rattle.der_types.specs.Dotted.{arc_text, dotted_or_marked, fitted}
-use Rattle.der_types.proofs.DottedLemmas.{behind_points, dotted_or_marked-cons}
+use Rattle.der_types.specs.Dotted.{dotted_or_marked, fitted}
+use Rattle.der_types.proofs.DottedLemmas.{dotted_or_marked-cons}
 use Rattle.der_types.proofs.arcs.ArcsDisplay.fmt.Goals as goal
 
 pub returns-clause-writes : goal.returns-clause-writes

@@ -1,4 +1,4 @@
-use Rattle.std.proofs.Common.{◌≡◌, ◌==◌, ◌<◌, false, length, ◌∙◌, ap, sym, arith}
+use Rattle.std.proofs.Common.{◌≡◌, ◌==◌, false, length, ◌∙◌, ap, sym, arith}
 use Rattle.std.proofs.lemmas.Bool.{eqb-false}
 use Rattle.der_types.specs.RelativeOid.{is_relative_oid}
 use Rattle.der_types.proofs.OidTexts.{valid_relative}

@@ -1,5 +1,4 @@
-use Rattle.std.proofs.Common.{◌≡◌, ◌^◌, ◌<◌, true, length, rules, sym, ap, ◌∙◌, subst, refl, arith}
-use Rattle.picky_der_core.specs.Tree.{Tree}
+use Rattle.std.proofs.Common.{◌^◌, ◌<◌, length, rules, sym, ap, ◌∙◌, subst, arith}
 use Rattle.picky_der_input.specs.Reading.{ReadsBytes, RefusesBytes}
 use Rattle.picky_der_de.proofs.PassedOn.{passed_on, refusal_passed_on}
 use Rattle.der_types.specs.declared.relative_oid.RelativeOid.{RelativeOid}
