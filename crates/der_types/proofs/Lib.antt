@@ -1,2 +1,4 @@
 pub mod DigitLaws
 pub mod ContentReads
+pub mod DottedLemmas
+pub mod OidTexts

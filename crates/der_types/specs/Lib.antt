@@ -2,3 +2,12 @@ pub mod Integer
 pub mod IntegerLaws
 pub mod IntLaws
 pub mod ContentTests
+pub mod Arcs
+pub mod BitString
+pub mod BitStringLaws
+pub mod Dotted
+pub mod ObjectIdentifier
+pub mod ObjectIdentifierLaws
+pub mod RelativeOid
+pub mod SubidentifierLaws
+pub mod Subidentifiers

@@ -1,0 +1,160 @@
+//! Bit strings.
+ghost use Rattle.std.proofs.Common.{rules};
+ghost use Rattle.std.specs.Prelude.{◌≡◌, ◌⊎◌, ◌∷◌, ◌<◌, ◌==◌, true, false, drop, length, slice_index, slice_get, IfSome, IfNone, IfOk, IfErr};
+ghost use Rattle.picky_der_core.specs.Tree.{Tree};
+ghost use Rattle.picky_der_core.specs.Shape.{Shape};
+ghost use Rattle.picky_der_input.specs.Reading.{Reads, Refuses};
+ghost use Rattle.picky_der_de.specs.Known.{known_bytes, by_itself};
+ghost use Rattle.der_types.specs.ContentTests.{ReadsContent, RefusesContent};
+ghost use Rattle.der_types.specs.BitString.{is_bit_string, bit_string_content, bits_of};
+
+use crate::bits::{bit_of, content_of, is_bit_string, len_of};
+use crate::{Contents, deserialize_contents_as};
+use picky_der_core::asn1::Tag;
+use picky_der_core::misc::{ReadExt, WriteExt};
+use picky_der_core::{Asn1DerError, Result};
+use picky_der_de::{Begins, Deserialize, Deserializer};
+use picky_der_ser::{Serialize, Serializer};
+use std::alloc::Global;
+
+/// A bit string (X.690, 8.6), by its content: how many bits of the last byte are unused, and the bytes. Up to 7 bits are unused, and
+/// these are zero (11.2.1).
+#[derive(Debug, Drop, PartialEq, Eq, Hash)]
+pub struct BitString {
+    content: Vec<u8>,
+    ghost canonical: { is_bit_string content.items ≡ true },
+}
+
+impl BitString {
+    /// The bits of these bytes, from the highest one of the first byte on, without this many of the last byte.
+    ///
+    /// `InvalidData` where more than 7 are unused, or one that is unused isn't zero, or some are and there is no byte; and
+    /// `OutOfMemory`.
+    pub fn from_bytes(alloc: Global, bytes: &[u8], unused: u8) -> Result<BitString>
+        ensures ok { IfOk result (λ it. it.content.items ≡ unused ∷ bytes.now) }
+        ensures err { IfErr result (λ e. (e ≡ Asn1DerError.OutOfMemory)
+            ⊎ (is_bit_string (unused ∷ bytes.now) ≡ false) × (e ≡ Asn1DerError.InvalidData)) }
+    {
+        let mut content = Vec::new(alloc);
+        content.push(unused)?;
+        content.extend_from_slice(bytes)?;
+        match BitString::from_content(content) {
+            Some(value) => Ok(value),
+            None => Err(Asn1DerError::InvalidData),
+        }
+    }
+
+    /// These bits, in order. `OutOfMemory` where the allocation fails.
+    pub fn from_bits(alloc: Global, bits: &[bool]) -> Result<BitString>
+        ensures ok { IfOk result (λ it. it.content.items ≡ bit_string_content bits.now) }
+        ensures err { IfErr result (λ e. e ≡ Asn1DerError.OutOfMemory) }
+    {
+        let content = content_of(alloc, bits)?;
+        Ok(BitString { content })
+    }
+
+    /// A copy, on the same allocator. `OutOfMemory` where the allocation fails.
+    pub fn clone(&self) -> Result<BitString>
+        ensures same { IfOk result (λ copy. copy.content.items ≡ self.now.content.items) }
+        ensures memory { IfErr result (λ e. e ≡ Asn1DerError.OutOfMemory) }
+    {
+        let content = self.content.clone()?;
+        Ok(BitString { content })
+    }
+
+    /// How many bits of the last byte are unused, up to 7.
+    pub fn unused(&self) -> u8
+        ensures value { result ≡ slice_index self.now.content.items 0 }
+        ensures few { result < 8 }
+    {
+        self.content[0]
+    }
+
+    /// The bytes, in which the bits that are unused are zero.
+    pub fn bytes(&self) -> &[u8]
+        ensures { result.now ≡ drop 1 self.now.content.items }
+    {
+        &self.content[1..]
+    }
+
+    /// How many bits there are. It is a `u128`, since eight times the length of a vector can be above `u64::MAX`.
+    pub fn len(&self) -> u128
+        ensures { result ≡ length (bits_of self.now.content.items) }
+    {
+        len_of(&self.content)
+    }
+
+    /// Whether there are none.
+    pub fn is_empty(&self) -> bool
+        ensures { result ≡ (length (bits_of self.now.content.items) == 0) }
+    {
+        self.len() == 0
+    }
+
+    /// The bit with this index, of which 0 is the first (X.690, 8.6.2.1). `None` where there are fewer.
+    pub fn bit(&self, index: usize) -> Option<bool>
+        ensures { result ≡ slice_get (bits_of self.now.content.items) index }
+    {
+        bit_of(&self.content, index)
+    }
+}
+
+impl Contents for BitString {
+    ghost TAG = { 0x03 };
+
+    ghost is_content = { is_bit_string };
+
+    ghost content = { λ it. it.content.items };
+
+    const TAG: u8 = 0x03;
+
+    fn from_content(content: Vec<u8>) -> Option<BitString>
+        ensures some { IfSome result (λ it. it.content ≡ content) }
+        ensures none { IfNone result (is_bit_string content.items ≡ false) }
+    {
+        if is_bit_string(&content) {
+            Some(BitString { content })
+        } else {
+            None
+        }
+    }
+
+    ghost short = { Prim.search rules };
+
+    ghost valid = { λ it. it.canonical };
+}
+
+impl Serialize for BitString {
+    ghost meaning = { λ it. Tree.bytes 0x03 it.content.items };
+
+    fn serialize<W: WriteExt>(&self, serializer: &mut Serializer<W>) -> Result<usize> {
+        serializer.serialize_tagged_bytes(Tag::BIT_STRING, &self.content)
+    }
+}
+
+impl Deserialize for BitString {
+    ghost shape = { Shape.bytes 0x03 };
+
+    ghost known = { known_bytes 0x03 (λ it. it.content.items) };
+
+    ghost tied = { by_itself };
+
+    fn deserialize<R: ReadExt>(deserializer: &mut Deserializer<R>) -> Result<BitString>
+        ensures ok { IfOk result (λ it. Reads (Shape.bytes 0x03) deserializer.old deserializer.new
+            (Tree.bytes 0x03 it.content.items)) }
+        ensures err { IfErr result (Refuses ⟦<BitString as Serialize>⟧.meaning (Shape.bytes 0x03)
+            deserializer.old deserializer.new) }
+        ensures read { IfOk result (λ it. ReadsContent 0x03 is_bit_string deserializer.old
+            deserializer.new it.content.items) }
+        ensures refused { IfErr result (RefusesContent ⟦<BitString as Contents>⟧.content 0x03 is_bit_string
+            deserializer.old deserializer.new) }
+    {
+        deserialize_contents_as(deserializer)
+    }
+}
+
+impl Begins for BitString {
+    fn begins_with(tag: Tag) -> bool {
+        tag == Tag::BIT_STRING
+    }
+}

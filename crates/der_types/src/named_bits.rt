@@ -1,0 +1,117 @@
+//! Bits that have names, as those of a set of flags.
+ghost use Rattle.std.proofs.Common.{rules};
+ghost use Rattle.std.specs.Prelude.{◌≡◌, true, false, slice_index_or, IfSome, IfNone, IfOk, IfErr};
+ghost use Rattle.picky_der_core.specs.Tree.{Tree};
+ghost use Rattle.picky_der_core.specs.Shape.{Shape};
+ghost use Rattle.picky_der_input.specs.Reading.{Reads, Refuses};
+ghost use Rattle.picky_der_de.specs.Known.{known_bytes, by_itself};
+ghost use Rattle.der_types.specs.ContentTests.{ReadsContent, RefusesContent};
+ghost use Rattle.der_types.specs.BitString.{is_named_bits, bit_string_content, without_zeros, bits_of};
+
+use crate::bits::{bit_of, content_of, is_named_bits, without_zeros};
+use crate::{Contents, deserialize_contents_as};
+use picky_der_core::asn1::Tag;
+use picky_der_core::misc::{ReadExt, WriteExt};
+use picky_der_core::{Asn1DerError, Result};
+use picky_der_de::{Begins, Deserialize, Deserializer};
+use picky_der_ser::{Serialize, Serializer};
+use std::alloc::Global;
+
+/// A bit string whose bits have names in its definition, as a set of flags: `KeyUsage` of RFC 5280, 4.2.1.3 is one. No zero bit is
+/// behind the last one (X.690, 11.2.2), so a set has one encoding. A bit that isn't there is zero.
+///
+/// The names are an enum of one's own with the numbers of the bits, as `KeyCertSign = 5`, and `bits.bit(Usage::KeyCertSign as usize)`
+/// asks for one.
+#[derive(Debug, Drop, PartialEq, Eq, Hash)]
+pub struct NamedBits {
+    content: Vec<u8>,
+    ghost canonical: { is_named_bits content.items ≡ true },
+}
+
+impl NamedBits {
+    /// These bits, in order; zeros at the end are left out. `OutOfMemory` where the allocation fails.
+    pub fn from_bits(alloc: Global, bits: &[bool]) -> Result<NamedBits>
+        ensures ok { IfOk result (λ it. it.content.items
+            ≡ bit_string_content (without_zeros bits.now)) }
+        ensures err { IfErr result (λ e. e ≡ Asn1DerError.OutOfMemory) }
+    {
+        let content = content_of(alloc, without_zeros(bits))?;
+        Ok(NamedBits { content })
+    }
+
+    /// A copy, on the same allocator. `OutOfMemory` where the allocation fails.
+    pub fn clone(&self) -> Result<NamedBits>
+        ensures same { IfOk result (λ copy. copy.content.items ≡ self.now.content.items) }
+        ensures memory { IfErr result (λ e. e ≡ Asn1DerError.OutOfMemory) }
+    {
+        let content = self.content.clone()?;
+        Ok(NamedBits { content })
+    }
+
+    /// The bit with this number, of which 0 is the first.
+    pub fn bit(&self, number: usize) -> bool
+        ensures { result ≡ slice_index_or (bits_of self.now.content.items) number false }
+    {
+        bit_of(&self.content, number).unwrap_or(false)
+    }
+}
+
+impl Contents for NamedBits {
+    ghost TAG = { 0x03 };
+
+    ghost is_content = { is_named_bits };
+
+    ghost content = { λ it. it.content.items };
+
+    const TAG: u8 = 0x03;
+
+    fn from_content(content: Vec<u8>) -> Option<NamedBits>
+        ensures some { IfSome result (λ it. it.content ≡ content) }
+        ensures none { IfNone result (is_named_bits content.items ≡ false) }
+    {
+        if is_named_bits(&content) {
+            Some(NamedBits { content })
+        } else {
+            None
+        }
+    }
+
+    ghost short = { Prim.search rules };
+
+    ghost valid = { λ it. it.canonical };
+}
+
+impl Serialize for NamedBits {
+    ghost meaning = { λ it. Tree.bytes 0x03 it.content.items };
+
+    fn serialize<W: WriteExt>(&self, serializer: &mut Serializer<W>) -> Result<usize> {
+        serializer.serialize_tagged_bytes(Tag::BIT_STRING, &self.content)
+    }
+}
+
+impl Deserialize for NamedBits {
+    ghost shape = { Shape.bytes 0x03 };
+
+    ghost known = { known_bytes 0x03 (λ it. it.content.items) };
+
+    ghost tied = { by_itself };
+
+    fn deserialize<R: ReadExt>(deserializer: &mut Deserializer<R>) -> Result<NamedBits>
+        ensures ok { IfOk result (λ it. Reads (Shape.bytes 0x03) deserializer.old deserializer.new
+            (Tree.bytes 0x03 it.content.items)) }
+        ensures err { IfErr result (Refuses ⟦<NamedBits as Serialize>⟧.meaning (Shape.bytes 0x03)
+            deserializer.old deserializer.new) }
+        ensures read { IfOk result (λ it. ReadsContent 0x03 is_named_bits deserializer.old
+            deserializer.new it.content.items) }
+        ensures refused { IfErr result (RefusesContent ⟦<NamedBits as Contents>⟧.content 0x03 is_named_bits
+            deserializer.old deserializer.new) }
+    {
+        deserialize_contents_as(deserializer)
+    }
+}
+
+impl Begins for NamedBits {
+    fn begins_with(tag: Tag) -> bool {
+        tag == Tag::BIT_STRING
+    }
+}

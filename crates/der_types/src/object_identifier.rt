@@ -1,0 +1,185 @@
+//! Object identifiers.
+ghost use Rattle.std.proofs.Common.{rules};
+ghost use Rattle.std.specs.Prelude.{◌≡◌, ◌↔◌, ◌⊎◌, Some, true, false, map, IsTrue, IfSome, IfNone, OnOk, IfOk, IfErr};
+ghost use Rattle.picky_der_core.specs.Tree.{Tree};
+ghost use Rattle.picky_der_core.specs.Shape.{Shape};
+ghost use Rattle.picky_der_input.specs.Reading.{Reads, Refuses};
+ghost use Rattle.picky_der_de.specs.Known.{known_bytes, by_itself};
+ghost use Rattle.der_types.specs.ContentTests.{ReadsContent, RefusesContent};
+ghost use Rattle.der_types.specs.Dotted.{dotted_or_marked, fitted};
+ghost use Rattle.der_types.specs.Arcs.{arcs_left};
+ghost use Rattle.der_types.specs.ObjectIdentifier.{is_object_identifier, are_arcs, object_identifier_content, arcs_of, arcs_error, RefusesArcs, IsText, RefusesOidText};
+
+use crate::dotted::arcs_of_text;
+use crate::subidentifiers::{is_subidentifiers, push_subidentifier, push_subidentifiers};
+use crate::{Arcs, Contents, OidError, deserialize_contents_as};
+use picky_der_core::asn1::Tag;
+use picky_der_core::misc::{ReadExt, WriteExt};
+use picky_der_core::{Asn1DerError, Result};
+use picky_der_de::{Begins, Deserialize, Deserializer};
+use picky_der_ser::{Serialize, Serializer};
+use std::alloc::{AllocError, Global};
+use std::fmt;
+
+/// An object identifier (X.690, 8.19), by its content. No number in it begins with a needless 80, and the last one ends.
+///
+/// It prints as its arcs with points between them, as `2.5.4.3`; an arc above `u64::MAX` prints as `(above 64 bits)`.
+#[derive(Debug, Drop, PartialEq, Eq, Hash)]
+pub struct ObjectIdentifier {
+    content: Vec<u8>,
+    ghost canonical: { is_object_identifier content.items ≡ true },
+}
+
+// Why these are no arcs of an object identifier, if they aren't.
+fn arcs_error(arcs: &[u64]) -> Option<OidError>
+    ensures { result ≡ arcs_error arcs.now }
+{
+    match arcs {
+        [first, _, ..] if *first > 2 => Some(OidError::FirstArc),
+        [first, second, ..] if *first < 2 && *second >= 40 => Some(OidError::SecondArc),
+        [_, _, ..] => None,
+        _ => Some(OidError::TooFewArcs),
+    }
+}
+
+// The content of arcs, or no bytes of fewer than two.
+fn content_of(alloc: Global, arcs: &[u64]) -> std::result::Result<Vec<u8>, AllocError>
+    ensures { IfOk result (λ content. content.items ≡ object_identifier_content arcs.now) }
+{
+    let mut content = Vec::new(alloc);
+    if let [first, second, others @ ..] = arcs {
+        let number = u128::from(*first) * 40 + u128::from(*second);
+        push_subidentifier(&mut content, number)?;
+        push_subidentifiers(&mut content, others)?;
+    }
+    Ok(content)
+}
+
+impl ObjectIdentifier {
+    /// The object identifier with these arcs.
+    ///
+    /// `TooFewArcs`, `FirstArc` and `SecondArc` where they aren't arcs of one (X.690, 8.19.4), and `OutOfMemory`.
+    pub fn from_arcs(alloc: Global, arcs: &[u64]) -> std::result::Result<ObjectIdentifier, OidError>
+        ensures arcs { OnOk result (are_arcs arcs.now ≡ true) }
+        ensures ok { IfOk result (λ it. it.content.items ≡ object_identifier_content arcs.now) }
+        ensures err { IfErr result (λ e. (e ≡ OidError.OutOfMemory) ⊎ RefusesArcs arcs.now e) }
+    {
+        match arcs_error(arcs) {
+            Some(error) => Err(error),
+            None => {
+                let content = content_of(alloc, arcs)?;
+                Ok(ObjectIdentifier { content })
+            }
+        }
+    }
+
+    /// The object identifier that the text is, as `2.5.4.3`: its arcs in decimal, with points between them.
+    ///
+    /// `NotANumber` where a part isn't a decimal number, or has a needless 0 in front; `ArcTooLarge` where one is above
+    /// `u64::MAX`; else the errors of `from_arcs`.
+    pub fn from_str(alloc: Global, text: &str) -> std::result::Result<ObjectIdentifier, OidError>
+        ensures ok { IfOk result (λ it. IsText text.now it.content.items) }
+        ensures err { IfErr result (λ e. (e ≡ OidError.OutOfMemory) ⊎ RefusesOidText text.now e) }
+    {
+        let arcs = arcs_of_text(alloc, text)?;
+        ObjectIdentifier::from_arcs(alloc, &arcs)
+    }
+
+    /// A copy, on the same allocator. `OutOfMemory` where the allocation fails.
+    pub fn clone(&self) -> Result<ObjectIdentifier>
+        ensures same { IfOk result (λ copy. copy.content.items ≡ self.now.content.items) }
+        ensures memory { IfErr result (λ e. e ≡ Asn1DerError.OutOfMemory) }
+    {
+        let content = self.content.clone()?;
+        Ok(ObjectIdentifier { content })
+    }
+
+    /// The bytes of its content (X.690, 8.19.2), as they are behind the tag and the length.
+    pub fn content(&self) -> &[u8]
+        ensures { result.now ≡ self.now.content.items }
+    {
+        &self.content
+    }
+
+    /// Whether it is the one with this content, as `oid.is(names::KEY_USAGE)`.
+    pub fn is(&self, content: &[u8]) -> bool
+        ensures { IsTrue result ↔ (self.now.content.items ≡ content.now) }
+    {
+        self.content.as_slice() == content
+    }
+
+    /// Its arcs, in order; `ArcTooLarge` in place of one above `u64::MAX`.
+    pub fn arcs(&self) -> Arcs<'_>
+        ensures { arcs_left result ≡ arcs_of self.now.content.items }
+    {
+        Arcs::of_object_identifier(&self.content)
+    }
+}
+
+impl fmt::Display for ObjectIdentifier {
+    ghost output = { λ it. Some (dotted_or_marked (map fitted (arcs_of it.content.items))) };
+
+    fn fmt<W: fmt::Write>(&self, f: &mut fmt::Formatter<W>) -> fmt::Result {
+        self.arcs().fmt(f)
+    }
+}
+
+impl Contents for ObjectIdentifier {
+    ghost TAG = { 0x06 };
+
+    ghost is_content = { is_object_identifier };
+
+    ghost content = { λ it. it.content.items };
+
+    const TAG: u8 = 0x06;
+
+    fn from_content(content: Vec<u8>) -> Option<ObjectIdentifier>
+        ensures some { IfSome result (λ it. it.content ≡ content) }
+        ensures none { IfNone result (is_object_identifier content.items ≡ false) }
+    {
+        if is_subidentifiers(&content) {
+            Some(ObjectIdentifier { content })
+        } else {
+            None
+        }
+    }
+
+    ghost short = { Prim.search rules };
+
+    ghost valid = { λ it. it.canonical };
+}
+
+impl Serialize for ObjectIdentifier {
+    ghost meaning = { λ it. Tree.bytes 0x06 it.content.items };
+
+    fn serialize<W: WriteExt>(&self, serializer: &mut Serializer<W>) -> Result<usize> {
+        serializer.serialize_tagged_bytes(Tag::OID, &self.content)
+    }
+}
+
+impl Deserialize for ObjectIdentifier {
+    ghost shape = { Shape.bytes 0x06 };
+
+    ghost known = { known_bytes 0x06 (λ it. it.content.items) };
+
+    ghost tied = { by_itself };
+
+    fn deserialize<R: ReadExt>(deserializer: &mut Deserializer<R>) -> Result<ObjectIdentifier>
+        ensures ok { IfOk result (λ it. Reads (Shape.bytes 0x06) deserializer.old deserializer.new
+            (Tree.bytes 0x06 it.content.items)) }
+        ensures err { IfErr result (Refuses ⟦<ObjectIdentifier as Serialize>⟧.meaning (Shape.bytes 0x06)
+            deserializer.old deserializer.new) }
+        ensures read { IfOk result (λ it. ReadsContent 0x06 is_object_identifier deserializer.old
+            deserializer.new it.content.items) }
+        ensures refused { IfErr result (RefusesContent ⟦<ObjectIdentifier as Contents>⟧.content 0x06 is_object_identifier
+            deserializer.old deserializer.new) }
+    {
+        deserialize_contents_as(deserializer)
+    }
+}
+
+impl Begins for ObjectIdentifier {
+    fn begins_with(tag: Tag) -> bool {
+        tag == Tag::OID
+    }
+}

@@ -1,0 +1,161 @@
+//! Relative object identifiers.
+ghost use Rattle.std.specs.Prelude.{◌≡◌, ◌⊎◌, Some, true, false, map, IfSome, IfNone, OnOk, IfOk, IfErr};
+ghost use Rattle.std.proofs.Common.{rules};
+ghost use Rattle.picky_der_core.specs.Tree.{Tree};
+ghost use Rattle.picky_der_core.specs.Shape.{Shape};
+ghost use Rattle.picky_der_input.specs.Reading.{Reads, Refuses};
+ghost use Rattle.picky_der_de.specs.Known.{known_bytes, by_itself};
+ghost use Rattle.der_types.specs.ContentTests.{ReadsContent, RefusesContent};
+ghost use Rattle.der_types.specs.Subidentifiers.{numbers_behind};
+ghost use Rattle.der_types.specs.Dotted.{dotted_or_marked, fitted, RefusesText};
+ghost use Rattle.der_types.specs.Arcs.{arcs_left};
+ghost use Rattle.der_types.specs.RelativeOid.{is_relative_oid, are_relative_arcs, relative_oid_content, IsRelativeText};
+
+use crate::dotted::arcs_of_text;
+use crate::subidentifiers::{is_subidentifiers, push_subidentifiers};
+use crate::{Arcs, Contents, OidError, deserialize_contents_as};
+use picky_der_core::asn1::Tag;
+use picky_der_core::misc::{ReadExt, WriteExt};
+use picky_der_core::{Asn1DerError, Result};
+use picky_der_de::{Begins, Deserialize, Deserializer};
+use picky_der_ser::{Serialize, Serializer};
+use std::alloc::{AllocError, Global};
+use std::fmt;
+
+/// The arcs behind those of an object identifier that both sides know (X.690, 8.20), by the content. No number in it begins with
+/// a needless 80, and the last one ends.
+///
+/// It prints as its arcs with points between them, as `8571.3.2`; an arc above `u64::MAX` prints as `(above 64 bits)`.
+#[derive(Debug, Drop, PartialEq, Eq, Hash)]
+pub struct RelativeOid {
+    content: Vec<u8>,
+    ghost canonical: { is_relative_oid content.items ≡ true },
+}
+
+// The content of arcs.
+fn content_of(alloc: Global, arcs: &[u64]) -> std::result::Result<Vec<u8>, AllocError>
+    ensures { IfOk result (λ content. content.items ≡ relative_oid_content arcs.now) }
+{
+    let mut content = Vec::new(alloc);
+    push_subidentifiers(&mut content, arcs)?;
+    Ok(content)
+}
+
+impl RelativeOid {
+    /// Those with these arcs. `TooFewArcs` where there is none, and `OutOfMemory`.
+    pub fn from_arcs(alloc: Global, arcs: &[u64]) -> std::result::Result<RelativeOid, OidError>
+        ensures arcs { OnOk result (are_relative_arcs arcs.now ≡ true) }
+        ensures ok { IfOk result (λ it. it.content.items ≡ relative_oid_content arcs.now) }
+        ensures err { IfErr result (λ e. (e ≡ OidError.OutOfMemory)
+            ⊎ (are_relative_arcs arcs.now ≡ false) × (e ≡ OidError.TooFewArcs)) }
+    {
+        if arcs.is_empty() {
+            return Err(OidError::TooFewArcs);
+        }
+        let content = content_of(alloc, arcs)?;
+        Ok(RelativeOid { content })
+    }
+
+    /// Those that the text is, as `8571.3.2`: the arcs in decimal, with points between them.
+    ///
+    /// `NotANumber` where a part isn't a decimal number, or has a needless 0 in front; `ArcTooLarge` where one is above
+    /// `u64::MAX`; and `OutOfMemory`.
+    pub fn from_str(alloc: Global, text: &str) -> std::result::Result<RelativeOid, OidError>
+        ensures ok { IfOk result (λ it. IsRelativeText text.now it.content.items) }
+        ensures err { IfErr result (λ e. (e ≡ OidError.OutOfMemory) ⊎ RefusesText text.now e) }
+    {
+        let arcs = arcs_of_text(alloc, text)?;
+        RelativeOid::from_arcs(alloc, &arcs)
+    }
+
+    /// A copy, on the same allocator. `OutOfMemory` where the allocation fails.
+    pub fn clone(&self) -> Result<RelativeOid>
+        ensures same { IfOk result (λ copy. copy.content.items ≡ self.now.content.items) }
+        ensures memory { IfErr result (λ e. e ≡ Asn1DerError.OutOfMemory) }
+    {
+        let content = self.content.clone()?;
+        Ok(RelativeOid { content })
+    }
+
+    /// The bytes of its content (X.690, 8.20.2), as they are behind the tag and the length.
+    pub fn content(&self) -> &[u8]
+        ensures { result.now ≡ self.now.content.items }
+    {
+        &self.content
+    }
+
+    /// Its arcs, in order; `ArcTooLarge` in place of one above `u64::MAX`.
+    pub fn arcs(&self) -> Arcs<'_>
+        ensures { arcs_left result ≡ numbers_behind 0 self.now.content.items }
+    {
+        Arcs::of_relative_oid(&self.content)
+    }
+}
+
+impl fmt::Display for RelativeOid {
+    ghost output = { λ it. Some (dotted_or_marked (map fitted (numbers_behind 0 it.content.items))) };
+
+    fn fmt<W: fmt::Write>(&self, f: &mut fmt::Formatter<W>) -> fmt::Result {
+        self.arcs().fmt(f)
+    }
+}
+
+impl Contents for RelativeOid {
+    ghost TAG = { 0x0D };
+
+    ghost is_content = { is_relative_oid };
+
+    ghost content = { λ it. it.content.items };
+
+    const TAG: u8 = 0x0D;
+
+    fn from_content(content: Vec<u8>) -> Option<RelativeOid>
+        ensures some { IfSome result (λ it. it.content ≡ content) }
+        ensures none { IfNone result (is_relative_oid content.items ≡ false) }
+    {
+        if is_subidentifiers(&content) {
+            Some(RelativeOid { content })
+        } else {
+            None
+        }
+    }
+
+    ghost short = { Prim.search rules };
+
+    ghost valid = { λ it. it.canonical };
+}
+
+impl Serialize for RelativeOid {
+    ghost meaning = { λ it. Tree.bytes 0x0D it.content.items };
+
+    fn serialize<W: WriteExt>(&self, serializer: &mut Serializer<W>) -> Result<usize> {
+        serializer.serialize_tagged_bytes(Tag::from(0x0D), &self.content)
+    }
+}
+
+impl Deserialize for RelativeOid {
+    ghost shape = { Shape.bytes 0x0D };
+
+    ghost known = { known_bytes 0x0D (λ it. it.content.items) };
+
+    ghost tied = { by_itself };
+
+    fn deserialize<R: ReadExt>(deserializer: &mut Deserializer<R>) -> Result<RelativeOid>
+        ensures ok { IfOk result (λ it. Reads (Shape.bytes 0x0D) deserializer.old deserializer.new
+            (Tree.bytes 0x0D it.content.items)) }
+        ensures err { IfErr result (Refuses ⟦<RelativeOid as Serialize>⟧.meaning (Shape.bytes 0x0D)
+            deserializer.old deserializer.new) }
+        ensures read { IfOk result (λ it. ReadsContent 0x0D is_relative_oid deserializer.old
+            deserializer.new it.content.items) }
+        ensures refused { IfErr result (RefusesContent ⟦<RelativeOid as Contents>⟧.content 0x0D is_relative_oid
+            deserializer.old deserializer.new) }
+    {
+        deserialize_contents_as(deserializer)
+    }
+}
+
+impl Begins for RelativeOid {
+    fn begins_with(tag: Tag) -> bool {
+        tag == Tag::from(0x0D)
+    }
+}
