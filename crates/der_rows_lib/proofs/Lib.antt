@@ -1,1 +1,1 @@
-pub mod Discarded
+pub mod LeftOpen

@@ -19,7 +19,7 @@ impl Serialize for Untouched {
     }
 }
 
-/// Writes 7, and then begins a sequence that it leaves open.
+/// Writes 7, and then begins a sequence that it leaves open with a member in it.
 #[derive(Drop)]
 pub(crate) struct Littering;
 
@@ -30,7 +30,7 @@ impl Serialize for Littering {
 
     fn serialize<W: WriteExt>(&self, serializer: &mut Serializer<W>) -> Result<usize> {
         let count = serializer.serialize_u8(7)?;
-        ser::Sequence::serialize_lazy(serializer, Tag::SEQUENCE);
+        ser::Sequence::serialize_lazy(serializer, Tag::SEQUENCE).serialize_element(&1u8)?;
         Ok(count)
     }
 }

@@ -38,6 +38,7 @@ fn hand_written(alloc: Global, how: Writing, name: &str) -> Result<String, Alloc
             &ImplicitContextTag1::from(Untouched),
         ),
         "[Untouched]" => written(alloc, how, &[Untouched]),
+        "Littering" => written(alloc, how, &Littering),
         "vec![Littering]" => littering(alloc, how),
         "(Discarding, 7u8)" => written(alloc, how, &(Discarding, 7u8)),
         _ => bytes(alloc, how, name),

@@ -4,6 +4,7 @@ ghost use Rattle.picky_der_core.specs.Equality.{IsThatOf, IsCopied};
 ghost use Rattle.picky_der_core.specs.Tree.{Tree};
 ghost use Rattle.picky_der_core.specs.Shape.{Shape};
 ghost use Rattle.picky_der_input.specs.declared.enclosure.Enclosure.TheVariants as enclosure;
+ghost use Rattle.picky_der_ser.specs.Calls.{WritesWhole};
 ghost use Rattle.picky_der_de.specs.KnownContainers.{known_enclosed, ties_enclosed};
 
 use crate::asn1::Tag;
@@ -49,7 +50,10 @@ impl<V: Debug + PartialEq, const T: u8> From<V> for ApplicationTag<V, T> {
 impl<V: Serialize + Debug + PartialEq, const T: u8> Serialize for ApplicationTag<V, T> {
     ghost meaning = { λ x. Tree.application T (V.meaning x.0) };
 
-    fn serialize<W: WriteExt>(&self, ser: &mut Serializer<W>) -> Result<usize> {
+    fn serialize<W: WriteExt>(&self, ser: &mut Serializer<W>) -> Result<usize>
+        ensures whole { WritesWhole W.WriteExt.own
+            (Tree.application T (V.meaning self.now.0)) ser.old result ser.new }
+    {
         ser.serialize_application(T, &self.0)
     }
 }

@@ -6,6 +6,7 @@ ghost use Rattle.std.specs.Hash as fed;
 ghost use Rattle.picky_der_core.specs.Equality.{IsEqualityOf, IsThatOf, IsKept};
 ghost use Rattle.picky_der_core.specs.Tree.{Tree};
 ghost use Rattle.picky_der_core.specs.Shape.{Shape};
+ghost use Rattle.picky_der_ser.specs.Calls.{WritesPlain};
 ghost use Rattle.picky_der_input.specs.Reading.{Reads, Refuses};
 ghost use Rattle.picky_der_input.specs.Elements.{RefusesRaw};
 ghost use Rattle.picky_der_de.specs.Known.{known_raw, by_itself};
@@ -69,7 +70,10 @@ impl fmt::Debug for Asn1RawDer {
 impl Serialize for Asn1RawDer {
     ghost meaning = { λ raw. Tree.raw raw.0.items };
 
-    fn serialize<W: WriteExt>(&self, ser: &mut Serializer<W>) -> Result<usize> {
+    fn serialize<W: WriteExt>(&self, ser: &mut Serializer<W>) -> Result<usize>
+        ensures plain { WritesPlain W.WriteExt.own
+            (Tree.raw self.now.0.items) ser.old result ser.new }
+    {
         ser.serialize_raw(&self.0)
     }
 }

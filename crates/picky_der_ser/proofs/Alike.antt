@@ -21,7 +21,7 @@ excuse_of_part part (no_way m n) = no_way m (λ h. n (part h))
 
 module _ {W : Type 0} (g : Ghosts W) where
   excuse-alike : (t u : Tree) (rest : List ℕ) (old new : W) (e : Asn1DerError) → AreAlike t u → Excuse g t rest old e new → Excuse g u rest old e new
-  excuse-alike t u rest old new e a (no_memory m s) = no_memory m s
+  excuse-alike t u rest old new e a (no_memory m) = no_memory m
   excuse-alike t u rest old new e a (unwritable m n s) = unwritable m (λ h. n (writable-alike u t (alike-sym t u a) h)) s
   excuse-alike t u rest old new e a (no_sink h k f) = no_sink (writable-alike t u a h) k f
 
@@ -69,6 +69,7 @@ module _ {W : Type 0} (g : Ghosts W) where
         wrote = writes-alike (Tree.bytes (plain_tag t) (content t)) t old new r a k.wrote;
         failed = fails-alike (Tree.bytes (plain_tag t) (content t)) t old new r a k.failed;
         outside = outside-alike (Tree.bytes (plain_tag t) (content t)) t old new r a k.outside;
+        untouched = k.untouched;
         refuses_unwritable = refuses_unwritable-alike (Tree.bytes (plain_tag t) (content t)) t old new r a k.refuses_unwritable;
         counted = k.counted;
         goes_on = k.goes_on;

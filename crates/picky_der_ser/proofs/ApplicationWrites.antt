@@ -16,7 +16,7 @@ use Rattle.picky_der_core.specs.WrapperLaws.{AreAlike, alike-under, der-alike}
 use Rattle.picky_der_ser.specs.declared.header.Header.TheVariants.{Application}
 use Rattle.picky_der_ser.specs.Headers.{headers}
 use Rattle.picky_der_ser.specs.State.{State, Level, with_member, final_content}
-use Rattle.picky_der_ser.specs.Calls.{MemoryExcuse, Writes, RefusesWrite, OpensLevel, AddsMember, RefusesToAdd, WritesContent, EndsLevel}
+use Rattle.picky_der_ser.specs.Calls.{UntouchedUnlessFailed, MemoryExcuse, Writes, RefusesWrite, OpensLevel, AddsMember, RefusesToAdd, WritesContent, EndsLevel}
 use Rattle.picky_der_ser.proofs.Alike.{writes-alike, fails-alike}
 use Rattle.picky_der_ser.proofs.HeaderBytes.{der-headers}
 use Rattle.picky_der_ser.proofs.ListBytes.{numbers_inside, second_of}
@@ -79,6 +79,9 @@ module _ {W : Type 0} (g : Ghosts W) (n : ℕ) (t : Tree) (old now : State W) (o
       let whole = fails-alike g _ _ old new r (alike_application n t h.writable.numbers) (fails_whatever g _ old new _ r (ended d new r h f).failed) in
       subst (λ v. IfErr v (λ m. RefusesWrite g (Tree.application n t) old m new)) i whole
 
+  pub application_untouched : (d new : State W) (r : Result ℕ Asn1DerError) (e : Asn1DerError) → AddsMember g t now d → EndsLevel g d r new → r ≡ Err e → UntouchedUnlessFailed g old.sink e new.sink
+  application_untouched d new r e h f i = subst (λ v. IfErr v (λ m. UntouchedUnlessFailed g old.sink m new.sink)) i (ended d new r h f).untouched
+
   pub application_refused : (new : State W) (d e : Asn1DerError) → RefusesToAdd g t now e new → d ≡ e → RefusesWrite g (Tree.application n t) old d new
   application_refused new d e h i =
       let sink : new.sink ≡ old.sink = h.same ∙ ap (λ (s : State W). s.sink) o.opened in
@@ -94,4 +97,4 @@ module _ {W : Type 0} (g : Ghosts W) where
       let refused = refused_unwritable g old.inside u old.sink (unwritable-by u (past_under old.around (Tree.application n t) past)) in
       record { failed = refl; again = rw f tt; reason = rw f refused }
 
-pub ruleset application = (application_wrote, application_failed, application_refused, application_past)
+pub ruleset application = (application_wrote, application_failed, application_untouched, application_refused, application_past)

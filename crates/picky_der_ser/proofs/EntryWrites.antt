@@ -35,7 +35,7 @@ full_kind = refl
 
 module _ {V W : Type 0} (h : Ghosts V) (g : Ghosts W) (now : V → W) (told : (v : V) → h.written v ≡ g.written (now v)) (faults : (v : V) → h.faults v ≡ g.faults (now v)) (answers : (k : ErrorKind) → h.answers k → g.answers k) where
   excuse-references : (t : Tree) (rest : List ℕ) (old new : V) (e : Asn1DerError) → Excuse h t rest old e new → Excuse g t rest (now old) e (now new)
-  excuse-references t rest old new e (no_memory m s) = no_memory m (ap now s)
+  excuse-references t rest old new e (no_memory m) = no_memory m
   excuse-references t rest old new e (unwritable m n s) = unwritable m n (ap now s)
   excuse-references t rest old new e (no_sink w some f) =
       no_sink w some (record { rose = omega (arith, f.rose, faults old, faults new); kind = f.kind; answered = answers f.kind f.answered; is = f.is })
@@ -63,12 +63,12 @@ over j front old new e h f =
 
 module _ (g : Ghosts BufSink) (told : (s : BufSink) → g.written s ≡ Some (take (position_of s) (vector_of s).now.items)) (only : (k : ErrorKind) → g.answers k → k ≡ kind.OutOfMemory) where
   vec_excuse : (t : Tree) (old new : BufSink) (e : Asn1DerError) (rest : List ℕ) → Excuse g t rest old e new → MemoryExcuse (IsWritable t) e
-  vec_excuse t old new e rest (no_memory m s) = no_room m
+  vec_excuse t old new e rest (no_memory m) = no_room m
   vec_excuse t old new e rest (unwritable m n s) = no_way m n
   vec_excuse t old new e rest (no_sink h some f) = no_room (f.is ∙ ap error_of_kind (only f.kind f.answered) ∙ memory_kind)
 
   vec_nothing : (t : Tree) (old new : BufSink) (e : Asn1DerError) (front rest : List ℕ) → position_of old ≡ 0 → take (position_of new) (vector_of new).now.items ≡ front → Excuse g t rest old e new → e ≡ UnsupportedValue → front ≡ []
-  vec_nothing t old new e front rest start is (no_memory m s) u = cc
+  vec_nothing t old new e front rest start is (no_memory m) u = cc
   vec_nothing t old new e front rest start is (unwritable m n s) u = sym is ∙ ap (λ k. take k (vector_of new).now.items) (ap position_of s ∙ start)
   vec_nothing t old new e front rest start is (no_sink h some f) u =
       let m : e ≡ OutOfMemory = f.is ∙ ap error_of_kind (only f.kind f.answered) ∙ memory_kind in
@@ -109,7 +109,7 @@ module _ (g : Ghosts SliceSink) (told : (s : SliceSink) → g.written s ≡ Some
 
   slice_excuse : (t : Tree) (old new : SliceSink) (e : Asn1DerError) → filled_of old ≡ 0 → IsLater old new → (b : AppendsBeginning (Some (written_of old)) (Some (written_of new)) (der t))
       → Excuse g t b.rest old e new → SliceExcuse t (slice_of old).now e (slice_of new).now
-  slice_excuse t old new e start later b (no_memory m s) = without_memory m (ap (λ (s : SliceSink). (slice_of s).now) s)
+  slice_excuse t old new e start later b (no_memory m) = without_memory m
   slice_excuse t old new e start later b (unwritable m n s) = without_form m n (ap (λ (s : SliceSink). (slice_of s).now) s)
   slice_excuse t old new e start later b (no_sink h some f) =
       let rose : faults_of old < faults_of new = omega (arith, f.rose, faults old, faults new) in

@@ -13,7 +13,7 @@ use Rattle.picky_der_core.specs.WrapperLaws.{AreAlike}
 use Rattle.picky_der_ser.specs.declared.header.Header.TheVariants.{Tagged}
 use Rattle.picky_der_ser.specs.State.{State, Level, with_member, with_members, final_content}
 use Rattle.picky_der_ser.specs.Sequences.{IsListTag, list_kind}
-use Rattle.picky_der_ser.specs.Calls.{MemoryExcuse, no_room, no_way, RefusesIn, Writes, RefusesWrite, OpensLevel, RefusesBefore, AddsMember, RefusesToAdd, WritesContent, EndsLevel}
+use Rattle.picky_der_ser.specs.Calls.{UntouchedUnlessFailed, MemoryExcuse, no_room, no_way, RefusesIn, Writes, RefusesWrite, OpensLevel, RefusesBefore, AddsMember, RefusesToAdd, WritesContent, EndsLevel}
 use Rattle.picky_der_ser.proofs.Alike.{writes-alike, fails-alike}
 use Rattle.picky_der_ser.proofs.PlainWrites.{refused_unwritable}
 use Rattle.picky_der_ser.proofs.StateWrites.{refused_memory}
@@ -123,3 +123,6 @@ module _ {W : Type 0} (g : Ghosts W) where
   list_failed kind all old now new r e h i a =
       let whole = fails-alike g _ _ old new r (same_list kind all old now a) (fails_whatever _ old new _ r (ended kind all old now new r h a).failed) in
       subst (λ v. IfErr v (λ m. RefusesWrite g (Tree.list kind all) old m new)) i whole
+
+  pub list_untouched : (kind : ListKind) (all : Trees) (old now new : State W) (r : Result ℕ Asn1DerError) (e : Asn1DerError) → EndsLevel g now r new → r ≡ Err e → Awaits kind Trees.none all old now → UntouchedUnlessFailed g old.sink e new.sink
+  list_untouched kind all old now new r e h i a = subst (λ v. IfErr v (λ m. UntouchedUnlessFailed g old.sink m new.sink)) i (ended kind all old now new r h a).untouched

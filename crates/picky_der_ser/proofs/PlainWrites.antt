@@ -67,6 +67,7 @@ module _ {W : Type 0} (g : Ghosts W) where
         wrote = tt;
         failed = record { failed = refl; again = rw f tt; reason = rw f refused };
         outside = λ w. absurd (unwritable-by t past w);
+        untouched = record { same = λ well. refl };
         refuses_unwritable = λ n failed. (refl, refl);
         counted = (omega arith, omega arith);
         goes_on = later;

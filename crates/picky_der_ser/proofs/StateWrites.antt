@@ -15,7 +15,7 @@ use Rattle.picky_der_core.specs.Wrapper.{under}
 use Rattle.picky_der_ser.specs.Heading.{tree_of}
 use Rattle.picky_der_ser.specs.Headers.{HasNumber, HaveTagNumbers}
 use Rattle.picky_der_ser.specs.State.{State, Level, with_bytes}
-use Rattle.picky_der_ser.specs.Calls.{AddsIn, SinkWrites, SinkRefuses, RefusesIn, no_memory, no_room, Writes, RefusesWrite, WritesPlain, WritesContent}
+use Rattle.picky_der_ser.specs.Calls.{AddsIn, UntouchedUnlessFailed, SinkWrites, SinkRefuses, RefusesIn, no_memory, no_room, Writes, RefusesWrite, WritesPlain, WritesContent}
 use Rattle.picky_der_ser.proofs.LevelWrites.{wrote_by, refused_by, writable_counted}
 
 module _ {W : Type 0} (g : Ghosts W) where
@@ -46,7 +46,7 @@ module _ {W : Type 0} (g : Ghosts W) where
 
   -- anywhere: out of memory
   pub refused_memory : (inside : List Level) (t : Tree) (sink : W) → RefusesIn g inside t sink OutOfMemory sink
-  refused_memory [] t sink = record { begins = beginning_none (g.written sink) (der t); excuse = no_memory refl refl }
+  refused_memory [] t sink = record { begins = beginning_none (g.written sink) (der t); excuse = no_memory refl }
   refused_memory (l ∷ ls) t sink = (no_room refl, refl)
 
   pub fails_memory : (t : Tree) (old new : State W) (e : Asn1DerError) → old.failed ≡ None → e ≡ OutOfMemory → new.failed ≡ Some (failure_of e) → new.sink ≡ old.sink → RefusesWrite g t old e new
@@ -60,29 +60,31 @@ module _ {W : Type 0} (g : Ghosts W) where
   pub plain_outside : (t : Tree) (old new : State W) (mid : W) (levels : List Level) (r s : Result ℕ Asn1DerError) → s ≡ r → new.sink ≡ mid → new.inside ≡ levels → IsWritable t → old.failed ≡ None → old.inside ≡ []
       → OnOk r (levels ≡ []) → OnOk r ((new.around ≡ []) × (new.failed ≡ old.failed)) → IfErr r (λ e. new.failed ≡ Some (failure_of e))
       → IfOk r (λ n. SinkWrites g (under old.around t) old.sink n mid) → IfErr r (λ e. SinkRefuses g (under old.around t) old.sink e mid) → IfErr r (λ e. old.around ≡ [] → WriterFails g old.sink e mid)
-      → OnOk r (g.faults mid ≡ g.faults old.sink) → IsOnceAtMost (g.faults old.sink) (g.faults mid) → g.later old.sink mid → WritesPlain g t old s new
-  plain_outside t old new mid levels (Ok n) s is same x w f i j a b h k m q c l = rw is (record {
+      → IfErr r (λ e. UntouchedUnlessFailed g old.sink e mid) → OnOk r (g.faults mid ≡ g.faults old.sink) → IsOnceAtMost (g.faults old.sink) (g.faults mid) → g.later old.sink mid → WritesPlain g t old s new
+  plain_outside t old new mid levels (Ok n) s is same x w f i j a b h k m u q c l = rw is (record {
     wrote = writes_outside t old new n f i (x ∙ j) a.0 (a.1 ∙ f) (subst (λ v. SinkWrites g (under old.around t) old.sink n v) (sym same) h) (ap g.faults same ∙ q);
     failed = tt;
     outside = tt;
+    untouched = tt;
     refuses_unwritable = λ no. absurd (no w);
     counted = subst (λ v. IsOnceAtMost (g.faults old.sink) (g.faults v)) (sym same) c;
     goes_on = subst (g.later old.sink) (sym same) l;
   })
-  plain_outside t old new mid levels (Err e) s is same x w f i j a b h k m q c l = rw is (record {
+  plain_outside t old new mid levels (Err e) s is same x w f i j a b h k m u q c l = rw is (record {
     wrote = tt;
     failed = fails_outside t old new e f i b (subst (λ v. SinkRefuses g (under old.around t) old.sink e v) (sym same) k);
     outside = λ p y z bare. subst (λ v. WriterFails g old.sink e v) (sym same) (m bare);
+    untouched = subst (λ v. UntouchedUnlessFailed g old.sink e v) (sym same) u;
     refuses_unwritable = λ no. absurd (no w);
     counted = subst (λ v. IsOnceAtMost (g.faults old.sink) (g.faults v)) (sym same) c;
     goes_on = subst (g.later old.sink) (sym same) l;
   })
 
   pub plain_inside : (t : Tree) (old new : State W) (n : ℕ) → IsWritable t → Writes g t old n new → IsOnceAtMost (g.faults old.sink) (g.faults new.sink) → g.later old.sink new.sink → WritesPlain g t old (Ok n) new
-  plain_inside t old new n w h c l = record { wrote = h; failed = tt; outside = tt; refuses_unwritable = λ no. absurd (no w); counted = c; goes_on = l }
+  plain_inside t old new n w h c l = record { wrote = h; failed = tt; outside = tt; untouched = tt; refuses_unwritable = λ no. absurd (no w); counted = c; goes_on = l }
 
-  pub plain_refused : (t : Tree) (old new : State W) (e : Asn1DerError) → IsWritable t → old.inside ≢ [] → RefusesWrite g t old e new → IsOnceAtMost (g.faults old.sink) (g.faults new.sink) → g.later old.sink new.sink → WritesPlain g t old (Err e) new
-  plain_refused t old new e w some h c l = record { wrote = tt; failed = h; outside = λ x y inside around. absurd (some inside); refuses_unwritable = λ no. absurd (no w); counted = c; goes_on = l }
+  pub plain_refused : (t : Tree) (old new : State W) (e : Asn1DerError) → IsWritable t → old.inside ≢ [] → RefusesWrite g t old e new → new.sink ≡ old.sink → IsOnceAtMost (g.faults old.sink) (g.faults new.sink) → g.later old.sink new.sink → WritesPlain g t old (Err e) new
+  plain_refused t old new e w some h same c l = record { wrote = tt; failed = h; outside = λ x y inside around. absurd (some inside); untouched = record { same = λ well. same }; refuses_unwritable = λ no. absurd (no w); counted = c; goes_on = l }
 
   -- without wrappers, the sink took an element
   pub bare_wrote : (t : Tree) (ws : List Wrapper) (bs : List ℕ) (old new : W) (r : Result ℕ Asn1DerError) → ws ≡ [] → IsWritable t → bs ≡ der t → IfOk r (λ n. n ≡ length bs) → OnOk r (Appends (g.written old) (g.written new) bs) → IfOk r (λ n. SinkWrites g (under ws t) old n new)
@@ -90,6 +92,15 @@ module _ {W : Type 0} (g : Ghosts W) where
 
   pub bare_refused : (t : Tree) (ws : List Wrapper) (bs : List ℕ) (old new : W) (r : Result ℕ Asn1DerError) → ws ≡ [] → IsWritable t → bs ≡ der t → OnErr r (AppendsTooFew (g.written old) (g.written new) bs) → IfErr r (λ e. WriterFails g old e new) → IfErr r (λ e. SinkRefuses g (under ws t) old e new)
   bare_refused t ws bs old new r e w is begins fault = subst (λ vs. IfErr r (λ k. SinkRefuses g (under vs t) old k new)) (sym e) (refused_by g t bs old new r w is begins fault)
+
+  -- what only a fault of the sink stops
+  pub untouched_by_fault : (old new : W) (r : Result ℕ Asn1DerError) → IfErr r (λ e. WriterFails g old e new) → IfErr r (λ e. UntouchedUnlessFailed g old e new)
+  untouched_by_fault old new (Ok n) h = tt
+  untouched_by_fault old new (Err e) h = record { same = λ well. absurd (well h) }
+
+  -- behind the settling of an outcome the sink is as it was before it
+  pub untouched_settled : (old mid new : W) (r s : Result ℕ Asn1DerError) → s ≡ r → new ≡ mid → IfErr r (λ e. UntouchedUnlessFailed g old e mid) → IfErr s (λ e. UntouchedUnlessFailed g old e new)
+  untouched_settled old mid new r s same kept h = rw (same, kept) h
 
   pub bare_fault : (ws : List Wrapper) (old new : W) (r : Result ℕ Asn1DerError) → IfErr r (λ e. WriterFails g old e new) → IfErr r (λ e. ws ≡ [] → WriterFails g old e new)
   bare_fault ws old new (Ok n) h = tt
@@ -120,6 +131,7 @@ module _ {W : Type 0} (g : Ghosts W) where
             record {
               wrote = writes_inside (tree_of l.header (content l)) (record old { around = l.around }) new n f some (λ k ks e. z l k ks refl e) s a b writable y;
               failed = tt;
+              untouched = tt;
               counted = let same = ap g.faults s in (omega (arith, same), omega (arith, same));
               goes_on = subst (g.later old.sink) (sym s) later;
             }

@@ -45,11 +45,16 @@ module _ {W : Type 0} (g : Ghosts W) where
   abbrev pub Adds : State W → State W → List ℕ → Type 0
   Adds old new bs = AddsIn old.inside new.inside old.sink new.sink bs
 
-  -- Why a serializer that hadn't failed may refuse to write a tree to its sink. Only where the sink failed it was touched. `rest` is what of the encoding wasn't written: at least a byte after a fault of the sink.
+  -- Why a serializer that hadn't failed may refuse to write a tree to its sink. `rest` is what of the encoding wasn't written: at least a byte after a fault of the sink.
   pub data Excuse (t : Tree) (rest : List ℕ) (old : W) (e : Asn1DerError) (new : W) : Type 0 where
-    no_memory : e ≡ OutOfMemory → new ≡ old → Excuse t rest old e new
+    -- what was written before may stay
+    no_memory : e ≡ OutOfMemory → Excuse t rest old e new
     unwritable : e ≡ UnsupportedValue → ¬ IsWritable t → new ≡ old → Excuse t rest old e new
     no_sink : IsWritable t → 0 < length rest → WriterFails g old e new → Excuse t rest old e new
+
+  -- unless the sink failed itself it is as it was
+  pub record UntouchedUnlessFailed (old : W) (e : Asn1DerError) (new : W) : Type 0 where
+    pub same : (WriterFails g old e new → ⊥) → new ≡ old
 
   -- the tree was written to the sink, and n is its length
   pub record SinkWrites (t : Tree) (old : W) (n : ℕ) (new : W) : Type 0 where
@@ -96,6 +101,7 @@ module _ {W : Type 0} (g : Ghosts W) where
     pub wrote : IfOk r (λ n. Writes t old n new)
     pub failed : IfErr r (λ e. RefusesWrite t old e new)
     pub outside : IfErr r (λ e. OnlySinkFails t old e new)
+    pub untouched : IfErr r (λ e. UntouchedUnlessFailed old.sink e new.sink)
     pub refuses_unwritable : RefusesUnwritable t old r new
     pub counted : IsOnceAtMost (g.faults old.sink) (g.faults new.sink)
     pub goes_on : g.later old.sink new.sink
@@ -170,12 +176,17 @@ module _ {W : Type 0} (g : Ghosts W) where
     pub same : new.sink ≡ old
     pub failed : new.failed ≡ Some f
 
-  -- the call wrote this content under the header in the wrappers of the state before, or stopped
-  pub record WritesContent (header : Header) (content : List ℕ) (old : State W) (r : Result ℕ Asn1DerError) (new : State W) : Type 0 where
-    pub wrote : IfOk r (λ n. Writes (tree_of header content) old n new)
-    pub failed : IfErr r (λ e. RefusesWrite (tree_of header content) old e new)
+  -- the call wrote the tree in the wrappers of the state before, or stopped; unless the sink failed itself it wrote all or nothing
+  pub record WritesWhole (t : Tree) (old : State W) (r : Result ℕ Asn1DerError) (new : State W) : Type 0 where
+    pub wrote : IfOk r (λ n. Writes t old n new)
+    pub failed : IfErr r (λ e. RefusesWrite t old e new)
+    pub untouched : IfErr r (λ e. UntouchedUnlessFailed old.sink e new.sink)
     pub counted : IsOnceAtMost (g.faults old.sink) (g.faults new.sink)
     pub goes_on : g.later old.sink new.sink
+
+  -- so of this content under the header
+  abbrev pub WritesContent : Header → List ℕ → State W → Result ℕ Asn1DerError → State W → Type 0
+  WritesContent header content = WritesWhole (tree_of header content)
 
   -- the level that was opened last has ended
   pub record EndsLevel (old : State W) (r : Result ℕ Asn1DerError) (new : State W) : Type 0 where

@@ -25,7 +25,7 @@ pub record VecRefuses (t : Tree) (old : List ℕ) (e : Asn1DerError) (new : List
 
 -- why a tree isn't written into a slice
 pub data SliceExcuse (t : Tree) (old : List ℕ) (e : Asn1DerError) (new : List ℕ) : Type 0 where
-  without_memory : e ≡ OutOfMemory → new ≡ old → SliceExcuse t old e new
+  without_memory : e ≡ OutOfMemory → SliceExcuse t old e new
   without_form : e ≡ UnsupportedValue → ¬ IsWritable t → new ≡ old → SliceExcuse t old e new
   without_room : e ≡ InvalidSink → IsWritable t → length old < length (der t) → new ≡ take (length old) (der t) → SliceExcuse t old e new
 

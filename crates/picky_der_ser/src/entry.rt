@@ -16,8 +16,9 @@ use std::alloc::Global;
 /// Fills the slice with the value's canonical encoding, and answers its length. Bytes past the encoding stay.
 ///
 /// A slice that is too short is filled with the encoding's first bytes, and the answer is `InvalidSink`.
-/// `UnsupportedValue` where the value can't be written, and `OutOfMemory` where memory was refused: then the slice stays as
-/// it was.
+/// `UnsupportedValue` where the value can't be written: then the slice stays as it was. `OutOfMemory` where memory was
+/// refused: then it may hold a beginning of the encoding, if the value's type asks for memory after it began to write. No type
+/// of this library does, unless it holds one that does.
 pub fn to_bytes<T: Serialize>(alloc: Global, value: &T, buf: &mut [u8]) -> Result<usize>
     ensures ok { IfOk result (λ n. Overwrites (T.meaning value.now) buf.old n buf.new) }
     ensures fits { OnOk result (length (der (T.meaning value.now)) ≤ length buf.old) }
@@ -64,8 +65,10 @@ pub fn to_vec<T: Serialize>(alloc: Global, value: &T) -> Result<Vec<u8>>
 
 /// Appends the value's canonical encoding to what the writer has taken, and answers its length.
 ///
-/// `OutOfMemory` where memory was refused, and `UnsupportedValue` where the value can't be written: then nothing was
-/// appended. Else the error of the writer: then a beginning of the encoding was, and at least one byte is missing.
+/// `UnsupportedValue` where the value can't be written: then nothing was appended. The error of the writer, where it failed:
+/// then a beginning of the encoding was, and at least one byte is missing. `OutOfMemory` where memory was refused: then a
+/// beginning may have been appended, if the value's type asks for memory after it began to write. No type of this library does,
+/// unless it holds one that does.
 pub fn to_writer<T: Serialize, W: WriteExt>(
     alloc: Global,
     value: &T,

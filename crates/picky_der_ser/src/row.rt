@@ -3,7 +3,7 @@ ghost use Rattle.std.specs.Prelude.{◌≡◌, IfOk, IfErr, OnOk};
 ghost use Rattle.picky_der_core.specs.WriterFaults.{IsOnceAtMost};
 ghost use Rattle.picky_der_core.specs.Equality.{IsThatOf, IsCopied};
 ghost use Rattle.picky_der_core.specs.Tree.{ListKind, Tree, Trees};
-ghost use Rattle.picky_der_ser.specs.Calls.{RefusesWrite, AddsRow, RefusesToAddRow, Writes};
+ghost use Rattle.picky_der_ser.specs.Calls.{UntouchedUnlessFailed, RefusesWrite, AddsRow, RefusesToAddRow, Writes, WritesWhole};
 
 use crate::{List, Sequence, Serialize, Serializer};
 use picky_der_core::Result;
@@ -31,6 +31,8 @@ pub trait SerializeMembers {
             (Tree.list ListKind.sequence (members self.now)) ser.old n ser.new) }
         ensures failed { IfErr result (λ e. RefusesWrite W.WriteExt.own
             (Tree.list ListKind.sequence (members self.now)) ser.old e ser.new) }
+        ensures untouched { IfErr result (λ e. UntouchedUnlessFailed W.WriteExt.own
+            ser.old.sink e ser.new.sink) }
         ensures counted { IsOnceAtMost (W.faults ser.old.sink) (W.faults ser.new.sink) }
         ensures goes_on { W.later ser.old.sink ser.new.sink }
     {
@@ -70,7 +72,10 @@ impl<M: Clone> Row<M> {
 impl<M: SerializeMembers> Serialize for Row<M> {
     ghost meaning = { λ row. Tree.list ListKind.sequence (M.members row.0) };
 
-    fn serialize<W: WriteExt>(&self, ser: &mut Serializer<W>) -> Result<usize> {
+    fn serialize<W: WriteExt>(&self, ser: &mut Serializer<W>) -> Result<usize>
+        ensures whole { WritesWhole W.WriteExt.own
+            (Tree.list ListKind.sequence (M.members self.now.0)) ser.old result ser.new }
+    {
         self.0.serialize_sequence(ser)
     }
 }

@@ -31,9 +31,10 @@ pub trait Serialize {
     /// those of the wrappers included.
     ///
     /// An implementation passes on the errors of the calls that it makes, and makes none of its own: the serializer
-    /// has failed with what is answered. `UnsupportedValue` where the value can't be written, and `OutOfMemory` where the
-    /// serializer was refused memory: then nothing is written. Else the sink's fault, which of a vector is `OutOfMemory`
-    /// too: then a beginning of the encoding may be written.
+    /// has failed with what is answered. `UnsupportedValue` where the value can't be written: then nothing is written.
+    /// `OutOfMemory` where the serializer was refused memory, or the sink's fault, which of a vector is `OutOfMemory`
+    /// too: then a beginning of the encoding may be written. Where only memory was refused, the plain values, the lists and the
+    /// rows of this library leave the sink as it was (`untouched`).
     fn serialize<W: WriteExt>(&self, ser: &mut Serializer<W>) -> Result<usize>
         ensures wrote { IfOk result (λ n. Writes W.WriteExt.own
             (meaning self.now) ser.old n ser.new) }
@@ -47,8 +48,8 @@ pub trait Serialize {
 ///
 /// A call that writes a value answers `UnsupportedValue` for one that can't be written; `OutOfMemory` where memory is
 /// refused, which only wrappers, sequences and application tags take; and else the sink's fault: `InvalidSink` where it
-/// took too few bytes, or the kind that it told. Only before a fault of the sink a beginning of the encoding may have been
-/// written, and else nothing was.
+/// took too few bytes, or the kind that it told. A beginning of the encoding may have been written before a fault of the sink,
+/// or by a value of a type of one's own before memory was refused to it. Else nothing was written.
 #[derive(Drop)]
 pub struct Serializer<W: WriteExt> {
     sink: W,

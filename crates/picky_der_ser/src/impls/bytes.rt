@@ -1,8 +1,6 @@
 //! What octet strings and bytes under tags of their own mean.
-ghost use Rattle.std.specs.Prelude.{IfOk, IfErr};
-ghost use Rattle.picky_der_core.specs.WriterFaults.{IsOnceAtMost};
 ghost use Rattle.picky_der_core.specs.Tree.{Tree};
-ghost use Rattle.picky_der_ser.specs.Calls.{Writes, RefusesWrite, WritesPlain};
+ghost use Rattle.picky_der_ser.specs.Calls.{WritesPlain};
 
 use crate::{Serialize, Serializer};
 use picky_der_core::Result;
@@ -13,12 +11,6 @@ impl Serialize for ByteBuf {
     ghost meaning = { λ b. Tree.bytes 0x04 b.0.items };
 
     fn serialize<W: WriteExt>(&self, ser: &mut Serializer<W>) -> Result<usize>
-        ensures wrote { IfOk result (λ n. Writes W.WriteExt.own (Tree.bytes 0x04 self.now.0.items)
-            ser.old n ser.new) }
-        ensures failed { IfErr result (λ e. RefusesWrite W.WriteExt.own
-            (Tree.bytes 0x04 self.now.0.items) ser.old e ser.new) }
-        ensures counted { IsOnceAtMost (W.faults ser.old.sink) (W.faults ser.new.sink) }
-        ensures goes_on { W.later ser.old.sink ser.new.sink }
         ensures plain { WritesPlain W.WriteExt.own (Tree.bytes 0x04 self.now.0.items)
             ser.old result ser.new }
     {
@@ -30,12 +22,6 @@ impl Serialize for Bytes<'_> {
     ghost meaning = { λ b. Tree.bytes 0x04 b.0.now };
 
     fn serialize<W: WriteExt>(&self, ser: &mut Serializer<W>) -> Result<usize>
-        ensures wrote { IfOk result (λ n. Writes W.WriteExt.own (Tree.bytes 0x04 self.now.0.now)
-            ser.old n ser.new) }
-        ensures failed { IfErr result (λ e. RefusesWrite W.WriteExt.own
-            (Tree.bytes 0x04 self.now.0.now) ser.old e ser.new) }
-        ensures counted { IsOnceAtMost (W.faults ser.old.sink) (W.faults ser.new.sink) }
-        ensures goes_on { W.later ser.old.sink ser.new.sink }
         ensures plain { WritesPlain W.WriteExt.own (Tree.bytes 0x04 self.now.0.now)
             ser.old result ser.new }
     {
@@ -47,12 +33,6 @@ impl<const TAG: u8> Serialize for TaggedBytes<TAG> {
     ghost meaning = { λ b. Tree.bytes TAG b.0.items };
 
     fn serialize<W: WriteExt>(&self, ser: &mut Serializer<W>) -> Result<usize>
-        ensures wrote { IfOk result (λ n. Writes W.WriteExt.own (Tree.bytes TAG self.now.0.items)
-            ser.old n ser.new) }
-        ensures failed { IfErr result (λ e. RefusesWrite W.WriteExt.own
-            (Tree.bytes TAG self.now.0.items) ser.old e ser.new) }
-        ensures counted { IsOnceAtMost (W.faults ser.old.sink) (W.faults ser.new.sink) }
-        ensures goes_on { W.later ser.old.sink ser.new.sink }
         ensures plain { WritesPlain W.WriteExt.own (Tree.bytes TAG self.now.0.items)
             ser.old result ser.new }
     {

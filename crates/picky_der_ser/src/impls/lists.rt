@@ -2,7 +2,7 @@
 ghost use Rattle.std.specs.Prelude.{IfOk, IfErr};
 ghost use Rattle.picky_der_core.specs.WriterFaults.{IsOnceAtMost};
 ghost use Rattle.picky_der_core.specs.Tree.{ListKind};
-ghost use Rattle.picky_der_ser.specs.Calls.{Writes, RefusesWrite};
+ghost use Rattle.picky_der_ser.specs.Calls.{UntouchedUnlessFailed, Writes, RefusesWrite, WritesWhole};
 ghost use Rattle.picky_der_ser.specs.Meaning.{list_meaning};
 ghost use Rattle.picky_der_ser.specs.Sequences.{IsListTag, list_kind};
 
@@ -22,6 +22,8 @@ fn write_items<T: Serialize, W: WriteExt>(
         (list_meaning (list_kind tag) T.meaning items.now) ser.old n ser.new) }
     ensures failed { IfErr result (λ e. RefusesWrite W.WriteExt.own
         (list_meaning (list_kind tag) T.meaning items.now) ser.old e ser.new) }
+    ensures untouched { IfErr result (λ e. UntouchedUnlessFailed W.WriteExt.own
+        ser.old.sink e ser.new.sink) }
     ensures counted { IsOnceAtMost (W.faults ser.old.sink) (W.faults ser.new.sink) }
     ensures goes_on { W.later ser.old.sink ser.new.sink }
 {
@@ -35,7 +37,10 @@ fn write_items<T: Serialize, W: WriteExt>(
 impl<T: Serialize> Serialize for &[T] {
     ghost meaning = { λ list. list_meaning ListKind.sequence T.meaning list.now };
 
-    fn serialize<W: WriteExt>(&self, ser: &mut Serializer<W>) -> Result<usize> {
+    fn serialize<W: WriteExt>(&self, ser: &mut Serializer<W>) -> Result<usize>
+        ensures whole { WritesWhole W.WriteExt.own
+            (list_meaning ListKind.sequence T.meaning self.now.now) ser.old result ser.new }
+    {
         write_items(self, Tag::SEQUENCE, ser)
     }
 }
@@ -47,7 +52,10 @@ impl<T: Serialize> List for &[T] {
 impl<T: Serialize> Serialize for Vec<T> {
     ghost meaning = { λ list. list_meaning ListKind.sequence T.meaning list.items };
 
-    fn serialize<W: WriteExt>(&self, ser: &mut Serializer<W>) -> Result<usize> {
+    fn serialize<W: WriteExt>(&self, ser: &mut Serializer<W>) -> Result<usize>
+        ensures whole { WritesWhole W.WriteExt.own
+            (list_meaning ListKind.sequence T.meaning self.now.items) ser.old result ser.new }
+    {
         write_items(self, Tag::SEQUENCE, ser)
     }
 }
@@ -59,7 +67,10 @@ impl<T: Serialize> List for Vec<T> {
 impl<T: Serialize, const N: usize> Serialize for [T; N] {
     ghost meaning = { λ list. list_meaning ListKind.sequence T.meaning list };
 
-    fn serialize<W: WriteExt>(&self, ser: &mut Serializer<W>) -> Result<usize> {
+    fn serialize<W: WriteExt>(&self, ser: &mut Serializer<W>) -> Result<usize>
+        ensures whole { WritesWhole W.WriteExt.own
+            (list_meaning ListKind.sequence T.meaning self.now) ser.old result ser.new }
+    {
         write_items(self.as_slice(), Tag::SEQUENCE, ser)
     }
 }
@@ -71,7 +82,10 @@ impl<T: Serialize, const N: usize> List for [T; N] {
 impl<T: Serialize> Serialize for Asn1SequenceOf<T> {
     ghost meaning = { λ list. list_meaning ListKind.sequence T.meaning list.0.items };
 
-    fn serialize<W: WriteExt>(&self, ser: &mut Serializer<W>) -> Result<usize> {
+    fn serialize<W: WriteExt>(&self, ser: &mut Serializer<W>) -> Result<usize>
+        ensures whole { WritesWhole W.WriteExt.own
+            (list_meaning ListKind.sequence T.meaning self.now.0.items) ser.old result ser.new }
+    {
         write_items(&self.0, Tag::SEQUENCE, ser)
     }
 }
@@ -83,7 +97,10 @@ impl<T: Serialize> List for Asn1SequenceOf<T> {
 impl<T: Serialize> Serialize for Asn1SetOf<T> {
     ghost meaning = { λ list. list_meaning ListKind.set T.meaning list.0.items };
 
-    fn serialize<W: WriteExt>(&self, ser: &mut Serializer<W>) -> Result<usize> {
+    fn serialize<W: WriteExt>(&self, ser: &mut Serializer<W>) -> Result<usize>
+        ensures whole { WritesWhole W.WriteExt.own
+            (list_meaning ListKind.set T.meaning self.now.0.items) ser.old result ser.new }
+    {
         write_items(&self.0, Tag::SET, ser)
     }
 }

@@ -1,8 +1,6 @@
 //! What bools and numbers mean.
-ghost use Rattle.std.specs.Prelude.{IfOk, IfErr};
-ghost use Rattle.picky_der_core.specs.WriterFaults.{IsOnceAtMost};
 ghost use Rattle.picky_der_core.specs.Tree.{Tree};
-ghost use Rattle.picky_der_ser.specs.Calls.{Writes, RefusesWrite, WritesPlain};
+ghost use Rattle.picky_der_ser.specs.Calls.{WritesPlain};
 
 use crate::{Serialize, Serializer};
 use picky_der_core::Result;
@@ -13,12 +11,6 @@ impl Serialize for bool {
 
     #[inline(always)]
     fn serialize<W: WriteExt>(&self, ser: &mut Serializer<W>) -> Result<usize>
-        ensures wrote { IfOk result (λ n. Writes W.WriteExt.own (Tree.boolean self.now)
-            ser.old n ser.new) }
-        ensures failed { IfErr result (λ e. RefusesWrite W.WriteExt.own (Tree.boolean self.now)
-            ser.old e ser.new) }
-        ensures counted { IsOnceAtMost (W.faults ser.old.sink) (W.faults ser.new.sink) }
-        ensures goes_on { W.later ser.old.sink ser.new.sink }
         ensures plain { WritesPlain W.WriteExt.own (Tree.boolean self.now) ser.old result ser.new }
     {
         ser.serialize_bool(*self)
@@ -30,12 +22,6 @@ impl Serialize for u8 {
 
     #[inline(always)]
     fn serialize<W: WriteExt>(&self, ser: &mut Serializer<W>) -> Result<usize>
-        ensures wrote { IfOk result (λ n. Writes W.WriteExt.own (Tree.unsigned self.now)
-            ser.old n ser.new) }
-        ensures failed { IfErr result (λ e. RefusesWrite W.WriteExt.own (Tree.unsigned self.now)
-            ser.old e ser.new) }
-        ensures counted { IsOnceAtMost (W.faults ser.old.sink) (W.faults ser.new.sink) }
-        ensures goes_on { W.later ser.old.sink ser.new.sink }
         ensures plain { WritesPlain W.WriteExt.own (Tree.unsigned self.now) ser.old result ser.new }
     {
         ser.serialize_u8(*self)
@@ -47,12 +33,6 @@ impl Serialize for u16 {
 
     #[inline(always)]
     fn serialize<W: WriteExt>(&self, ser: &mut Serializer<W>) -> Result<usize>
-        ensures wrote { IfOk result (λ n. Writes W.WriteExt.own (Tree.unsigned self.now)
-            ser.old n ser.new) }
-        ensures failed { IfErr result (λ e. RefusesWrite W.WriteExt.own (Tree.unsigned self.now)
-            ser.old e ser.new) }
-        ensures counted { IsOnceAtMost (W.faults ser.old.sink) (W.faults ser.new.sink) }
-        ensures goes_on { W.later ser.old.sink ser.new.sink }
         ensures plain { WritesPlain W.WriteExt.own (Tree.unsigned self.now) ser.old result ser.new }
     {
         ser.serialize_u16(*self)
@@ -64,12 +44,6 @@ impl Serialize for u32 {
 
     #[inline(always)]
     fn serialize<W: WriteExt>(&self, ser: &mut Serializer<W>) -> Result<usize>
-        ensures wrote { IfOk result (λ n. Writes W.WriteExt.own (Tree.unsigned self.now)
-            ser.old n ser.new) }
-        ensures failed { IfErr result (λ e. RefusesWrite W.WriteExt.own (Tree.unsigned self.now)
-            ser.old e ser.new) }
-        ensures counted { IsOnceAtMost (W.faults ser.old.sink) (W.faults ser.new.sink) }
-        ensures goes_on { W.later ser.old.sink ser.new.sink }
         ensures plain { WritesPlain W.WriteExt.own (Tree.unsigned self.now) ser.old result ser.new }
     {
         ser.serialize_u32(*self)
@@ -81,12 +55,6 @@ impl Serialize for u64 {
 
     #[inline(always)]
     fn serialize<W: WriteExt>(&self, ser: &mut Serializer<W>) -> Result<usize>
-        ensures wrote { IfOk result (λ n. Writes W.WriteExt.own (Tree.unsigned self.now)
-            ser.old n ser.new) }
-        ensures failed { IfErr result (λ e. RefusesWrite W.WriteExt.own (Tree.unsigned self.now)
-            ser.old e ser.new) }
-        ensures counted { IsOnceAtMost (W.faults ser.old.sink) (W.faults ser.new.sink) }
-        ensures goes_on { W.later ser.old.sink ser.new.sink }
         ensures plain { WritesPlain W.WriteExt.own (Tree.unsigned self.now) ser.old result ser.new }
     {
         ser.serialize_u64(*self)
@@ -98,12 +66,6 @@ impl Serialize for u128 {
 
     #[inline(always)]
     fn serialize<W: WriteExt>(&self, ser: &mut Serializer<W>) -> Result<usize>
-        ensures wrote { IfOk result (λ n. Writes W.WriteExt.own (Tree.unsigned self.now)
-            ser.old n ser.new) }
-        ensures failed { IfErr result (λ e. RefusesWrite W.WriteExt.own (Tree.unsigned self.now)
-            ser.old e ser.new) }
-        ensures counted { IsOnceAtMost (W.faults ser.old.sink) (W.faults ser.new.sink) }
-        ensures goes_on { W.later ser.old.sink ser.new.sink }
         ensures plain { WritesPlain W.WriteExt.own (Tree.unsigned self.now) ser.old result ser.new }
     {
         ser.serialize_u128(*self)
@@ -115,12 +77,6 @@ impl Serialize for usize {
 
     #[inline(always)]
     fn serialize<W: WriteExt>(&self, ser: &mut Serializer<W>) -> Result<usize>
-        ensures wrote { IfOk result (λ n. Writes W.WriteExt.own (Tree.unsigned self.now)
-            ser.old n ser.new) }
-        ensures failed { IfErr result (λ e. RefusesWrite W.WriteExt.own (Tree.unsigned self.now)
-            ser.old e ser.new) }
-        ensures counted { IsOnceAtMost (W.faults ser.old.sink) (W.faults ser.new.sink) }
-        ensures goes_on { W.later ser.old.sink ser.new.sink }
         ensures plain { WritesPlain W.WriteExt.own (Tree.unsigned self.now) ser.old result ser.new }
     {
         ser.serialize_u128(*self as u128)

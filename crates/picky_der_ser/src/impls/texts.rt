@@ -1,8 +1,7 @@
 //! What characters and texts mean.
-ghost use Rattle.std.specs.Prelude.{encode_utf8, string_bytes, IfOk, IfErr};
-ghost use Rattle.picky_der_core.specs.WriterFaults.{IsOnceAtMost};
+ghost use Rattle.std.specs.Prelude.{encode_utf8, string_bytes};
 ghost use Rattle.picky_der_core.specs.Tree.{Tree};
-ghost use Rattle.picky_der_ser.specs.Calls.{Writes, RefusesWrite, WritesPlain};
+ghost use Rattle.picky_der_ser.specs.Calls.{WritesPlain};
 
 use crate::{Serialize, Serializer};
 use picky_der_core::Result;
@@ -12,12 +11,6 @@ impl Serialize for char {
     ghost meaning = { λ c. Tree.text (encode_utf8 c) };
 
     fn serialize<W: WriteExt>(&self, ser: &mut Serializer<W>) -> Result<usize>
-        ensures wrote { IfOk result (λ n. Writes W.WriteExt.own (Tree.text (encode_utf8 self.now))
-            ser.old n ser.new) }
-        ensures failed { IfErr result (λ e. RefusesWrite W.WriteExt.own
-            (Tree.text (encode_utf8 self.now)) ser.old e ser.new) }
-        ensures counted { IsOnceAtMost (W.faults ser.old.sink) (W.faults ser.new.sink) }
-        ensures goes_on { W.later ser.old.sink ser.new.sink }
         ensures plain { WritesPlain W.WriteExt.own (Tree.text (encode_utf8 self.now))
             ser.old result ser.new }
     {
@@ -29,12 +22,6 @@ impl Serialize for &str {
     ghost meaning = { λ s. Tree.text s.now };
 
     fn serialize<W: WriteExt>(&self, ser: &mut Serializer<W>) -> Result<usize>
-        ensures wrote { IfOk result (λ n. Writes W.WriteExt.own (Tree.text self.now.now)
-            ser.old n ser.new) }
-        ensures failed { IfErr result (λ e. RefusesWrite W.WriteExt.own (Tree.text self.now.now)
-            ser.old e ser.new) }
-        ensures counted { IsOnceAtMost (W.faults ser.old.sink) (W.faults ser.new.sink) }
-        ensures goes_on { W.later ser.old.sink ser.new.sink }
         ensures plain { WritesPlain W.WriteExt.own (Tree.text self.now.now) ser.old result ser.new }
     {
         ser.serialize_str(self)
@@ -45,12 +32,6 @@ impl Serialize for String {
     ghost meaning = { λ s. Tree.text (string_bytes s) };
 
     fn serialize<W: WriteExt>(&self, ser: &mut Serializer<W>) -> Result<usize>
-        ensures wrote { IfOk result (λ n. Writes W.WriteExt.own (Tree.text (string_bytes self.now))
-            ser.old n ser.new) }
-        ensures failed { IfErr result (λ e. RefusesWrite W.WriteExt.own
-            (Tree.text (string_bytes self.now)) ser.old e ser.new) }
-        ensures counted { IsOnceAtMost (W.faults ser.old.sink) (W.faults ser.new.sink) }
-        ensures goes_on { W.later ser.old.sink ser.new.sink }
         ensures plain { WritesPlain W.WriteExt.own (Tree.text (string_bytes self.now))
             ser.old result ser.new }
     {

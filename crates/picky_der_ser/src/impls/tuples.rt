@@ -1,6 +1,7 @@
 //! What tuples mean.
 ghost use Rattle.std.specs.Prelude.{[], ◌∷◌};
 ghost use Rattle.picky_der_core.specs.Tree.{ListKind, Tree, trees};
+ghost use Rattle.picky_der_ser.specs.Calls.{WritesWhole};
 
 use crate::lent::{Eight, Five, Four, One, Seven, Six, Three, Two};
 use crate::{List, Serialize, SerializeMembers, Serializer};
@@ -10,7 +11,10 @@ use picky_der_core::misc::WriteExt;
 impl<A: Serialize> Serialize for (A,) {
     ghost meaning = { λ t. Tree.list ListKind.sequence (trees (A.meaning t.0 ∷ [])) };
 
-    fn serialize<W: WriteExt>(&self, ser: &mut Serializer<W>) -> Result<usize> {
+    fn serialize<W: WriteExt>(&self, ser: &mut Serializer<W>) -> Result<usize>
+        ensures whole { WritesWhole W.WriteExt.own (Tree.list ListKind.sequence (trees
+            (A.meaning self.now.0 ∷ []))) ser.old result ser.new }
+    {
         One(&self.0, &()).serialize_sequence(ser)
     }
 }
@@ -22,7 +26,10 @@ impl<A: Serialize> List for (A,) {
 impl<A: Serialize, B: Serialize> Serialize for (A, B) {
     ghost meaning = { λ t. Tree.list ListKind.sequence (trees (A.meaning t.0 ∷ B.meaning t.1 ∷ [])) };
 
-    fn serialize<W: WriteExt>(&self, ser: &mut Serializer<W>) -> Result<usize> {
+    fn serialize<W: WriteExt>(&self, ser: &mut Serializer<W>) -> Result<usize>
+        ensures whole { WritesWhole W.WriteExt.own (Tree.list ListKind.sequence (trees
+            (A.meaning self.now.0 ∷ B.meaning self.now.1 ∷ []))) ser.old result ser.new }
+    {
         Two(&self.0, &self.1, &()).serialize_sequence(ser)
     }
 }
@@ -34,7 +41,11 @@ impl<A: Serialize, B: Serialize> List for (A, B) {
 impl<A: Serialize, B: Serialize, C: Serialize> Serialize for (A, B, C) {
     ghost meaning = { λ t. Tree.list ListKind.sequence (trees (A.meaning t.0 ∷ B.meaning t.1 ∷ C.meaning t.2 ∷ [])) };
 
-    fn serialize<W: WriteExt>(&self, ser: &mut Serializer<W>) -> Result<usize> {
+    fn serialize<W: WriteExt>(&self, ser: &mut Serializer<W>) -> Result<usize>
+        ensures whole { WritesWhole W.WriteExt.own (Tree.list ListKind.sequence (trees
+            (A.meaning self.now.0 ∷ B.meaning self.now.1 ∷ C.meaning self.now.2 ∷
+            []))) ser.old result ser.new }
+    {
         Three(&self.0, &self.1, &self.2, &()).serialize_sequence(ser)
     }
 }
@@ -47,7 +58,11 @@ impl<A: Serialize, B: Serialize, C: Serialize, D: Serialize> Serialize for (A, B
     ghost meaning = { λ t. Tree.list ListKind.sequence (trees
         (A.meaning t.0 ∷ B.meaning t.1 ∷ C.meaning t.2 ∷ D.meaning t.3 ∷ [])) };
 
-    fn serialize<W: WriteExt>(&self, ser: &mut Serializer<W>) -> Result<usize> {
+    fn serialize<W: WriteExt>(&self, ser: &mut Serializer<W>) -> Result<usize>
+        ensures whole { WritesWhole W.WriteExt.own (Tree.list ListKind.sequence (trees
+            (A.meaning self.now.0 ∷ B.meaning self.now.1 ∷ C.meaning self.now.2 ∷
+            D.meaning self.now.3 ∷ []))) ser.old result ser.new }
+    {
         Four(&self.0, &self.1, &self.2, &self.3, &()).serialize_sequence(ser)
     }
 }
@@ -61,7 +76,11 @@ impl<A: Serialize, B: Serialize, C: Serialize, D: Serialize, E: Serialize> Seria
     ghost meaning = { λ t. Tree.list ListKind.sequence (trees
         (A.meaning t.0 ∷ B.meaning t.1 ∷ C.meaning t.2 ∷ D.meaning t.3 ∷ E.meaning t.4 ∷ [])) };
 
-    fn serialize<W: WriteExt>(&self, ser: &mut Serializer<W>) -> Result<usize> {
+    fn serialize<W: WriteExt>(&self, ser: &mut Serializer<W>) -> Result<usize>
+        ensures whole { WritesWhole W.WriteExt.own (Tree.list ListKind.sequence (trees
+            (A.meaning self.now.0 ∷ B.meaning self.now.1 ∷ C.meaning self.now.2 ∷
+            D.meaning self.now.3 ∷ E.meaning self.now.4 ∷ []))) ser.old result ser.new }
+    {
         Five(&self.0, &self.1, &self.2, &self.3, &self.4, &()).serialize_sequence(ser)
     }
 }
@@ -76,7 +95,12 @@ impl<A: Serialize, B: Serialize, C: Serialize, D: Serialize, E: Serialize, F: Se
     ghost meaning = { λ t. Tree.list ListKind.sequence (trees
         (A.meaning t.0 ∷ B.meaning t.1 ∷ C.meaning t.2 ∷ D.meaning t.3 ∷ E.meaning t.4 ∷ F.meaning t.5 ∷ [])) };
 
-    fn serialize<W: WriteExt>(&self, ser: &mut Serializer<W>) -> Result<usize> {
+    fn serialize<W: WriteExt>(&self, ser: &mut Serializer<W>) -> Result<usize>
+        ensures whole { WritesWhole W.WriteExt.own (Tree.list ListKind.sequence (trees
+            (A.meaning self.now.0 ∷ B.meaning self.now.1 ∷ C.meaning self.now.2 ∷
+            D.meaning self.now.3 ∷ E.meaning self.now.4 ∷ F.meaning self.now.5 ∷
+            []))) ser.old result ser.new }
+    {
         Six(&self.0, &self.1, &self.2, &self.3, &self.4, &self.5, &()).serialize_sequence(ser)
     }
 }
@@ -99,7 +123,12 @@ impl<
         (A.meaning t.0 ∷ B.meaning t.1 ∷ C.meaning t.2 ∷ D.meaning t.3 ∷ E.meaning t.4 ∷ F.meaning t.5
         ∷ G.meaning t.6 ∷ [])) };
 
-    fn serialize<W: WriteExt>(&self, ser: &mut Serializer<W>) -> Result<usize> {
+    fn serialize<W: WriteExt>(&self, ser: &mut Serializer<W>) -> Result<usize>
+        ensures whole { WritesWhole W.WriteExt.own (Tree.list ListKind.sequence (trees
+            (A.meaning self.now.0 ∷ B.meaning self.now.1 ∷ C.meaning self.now.2 ∷
+            D.meaning self.now.3 ∷ E.meaning self.now.4 ∷ F.meaning self.now.5 ∷
+            G.meaning self.now.6 ∷ []))) ser.old result ser.new }
+    {
         Seven(
             &self.0,
             &self.1,
@@ -140,7 +169,12 @@ impl<
         (A.meaning t.0 ∷ B.meaning t.1 ∷ C.meaning t.2 ∷ D.meaning t.3 ∷ E.meaning t.4 ∷ F.meaning t.5
         ∷ G.meaning t.6 ∷ H.meaning t.7 ∷ [])) };
 
-    fn serialize<W: WriteExt>(&self, ser: &mut Serializer<W>) -> Result<usize> {
+    fn serialize<W: WriteExt>(&self, ser: &mut Serializer<W>) -> Result<usize>
+        ensures whole { WritesWhole W.WriteExt.own (Tree.list ListKind.sequence (trees
+            (A.meaning self.now.0 ∷ B.meaning self.now.1 ∷ C.meaning self.now.2 ∷
+            D.meaning self.now.3 ∷ E.meaning self.now.4 ∷ F.meaning self.now.5 ∷
+            G.meaning self.now.6 ∷ H.meaning self.now.7 ∷ []))) ser.old result ser.new }
+    {
         Eight(
             &self.0,
             &self.1,
@@ -184,7 +218,13 @@ impl<
         (A.meaning t.0 ∷ B.meaning t.1 ∷ C.meaning t.2 ∷ D.meaning t.3 ∷ E.meaning t.4 ∷ F.meaning t.5
         ∷ G.meaning t.6 ∷ H.meaning t.7 ∷ I.meaning t.8 ∷ [])) };
 
-    fn serialize<W: WriteExt>(&self, ser: &mut Serializer<W>) -> Result<usize> {
+    fn serialize<W: WriteExt>(&self, ser: &mut Serializer<W>) -> Result<usize>
+        ensures whole { WritesWhole W.WriteExt.own (Tree.list ListKind.sequence (trees
+            (A.meaning self.now.0 ∷ B.meaning self.now.1 ∷ C.meaning self.now.2 ∷
+            D.meaning self.now.3 ∷ E.meaning self.now.4 ∷ F.meaning self.now.5 ∷
+            G.meaning self.now.6 ∷ H.meaning self.now.7 ∷ I.meaning self.now.8 ∷
+            []))) ser.old result ser.new }
+    {
         let others = One(&self.8, &());
         Eight(
             &self.0, &self.1, &self.2, &self.3, &self.4, &self.5, &self.6, &self.7, &others,
@@ -223,7 +263,13 @@ impl<
         (A.meaning t.0 ∷ B.meaning t.1 ∷ C.meaning t.2 ∷ D.meaning t.3 ∷ E.meaning t.4 ∷ F.meaning t.5
         ∷ G.meaning t.6 ∷ H.meaning t.7 ∷ I.meaning t.8 ∷ J.meaning t.9 ∷ [])) };
 
-    fn serialize<W: WriteExt>(&self, ser: &mut Serializer<W>) -> Result<usize> {
+    fn serialize<W: WriteExt>(&self, ser: &mut Serializer<W>) -> Result<usize>
+        ensures whole { WritesWhole W.WriteExt.own (Tree.list ListKind.sequence (trees
+            (A.meaning self.now.0 ∷ B.meaning self.now.1 ∷ C.meaning self.now.2 ∷
+            D.meaning self.now.3 ∷ E.meaning self.now.4 ∷ F.meaning self.now.5 ∷
+            G.meaning self.now.6 ∷ H.meaning self.now.7 ∷ I.meaning self.now.8 ∷
+            J.meaning self.now.9 ∷ []))) ser.old result ser.new }
+    {
         let others = Two(&self.8, &self.9, &());
         Eight(
             &self.0, &self.1, &self.2, &self.3, &self.4, &self.5, &self.6, &self.7, &others,
@@ -264,7 +310,13 @@ impl<
         (A.meaning t.0 ∷ B.meaning t.1 ∷ C.meaning t.2 ∷ D.meaning t.3 ∷ E.meaning t.4 ∷ F.meaning t.5
         ∷ G.meaning t.6 ∷ H.meaning t.7 ∷ I.meaning t.8 ∷ J.meaning t.9 ∷ K.meaning t.10 ∷ [])) };
 
-    fn serialize<W: WriteExt>(&self, ser: &mut Serializer<W>) -> Result<usize> {
+    fn serialize<W: WriteExt>(&self, ser: &mut Serializer<W>) -> Result<usize>
+        ensures whole { WritesWhole W.WriteExt.own (Tree.list ListKind.sequence (trees
+            (A.meaning self.now.0 ∷ B.meaning self.now.1 ∷ C.meaning self.now.2 ∷
+            D.meaning self.now.3 ∷ E.meaning self.now.4 ∷ F.meaning self.now.5 ∷
+            G.meaning self.now.6 ∷ H.meaning self.now.7 ∷ I.meaning self.now.8 ∷
+            J.meaning self.now.9 ∷ K.meaning self.now.10 ∷ []))) ser.old result ser.new }
+    {
         let others = Three(&self.8, &self.9, &self.10, &());
         Eight(
             &self.0, &self.1, &self.2, &self.3, &self.4, &self.5, &self.6, &self.7, &others,
@@ -307,7 +359,14 @@ impl<
         (A.meaning t.0 ∷ B.meaning t.1 ∷ C.meaning t.2 ∷ D.meaning t.3 ∷ E.meaning t.4 ∷ F.meaning t.5
         ∷ G.meaning t.6 ∷ H.meaning t.7 ∷ I.meaning t.8 ∷ J.meaning t.9 ∷ K.meaning t.10 ∷ L.meaning t.11 ∷ [])) };
 
-    fn serialize<W: WriteExt>(&self, ser: &mut Serializer<W>) -> Result<usize> {
+    fn serialize<W: WriteExt>(&self, ser: &mut Serializer<W>) -> Result<usize>
+        ensures whole { WritesWhole W.WriteExt.own (Tree.list ListKind.sequence (trees
+            (A.meaning self.now.0 ∷ B.meaning self.now.1 ∷ C.meaning self.now.2 ∷
+            D.meaning self.now.3 ∷ E.meaning self.now.4 ∷ F.meaning self.now.5 ∷
+            G.meaning self.now.6 ∷ H.meaning self.now.7 ∷ I.meaning self.now.8 ∷
+            J.meaning self.now.9 ∷ K.meaning self.now.10 ∷ L.meaning self.now.11 ∷
+            []))) ser.old result ser.new }
+    {
         let others = Four(&self.8, &self.9, &self.10, &self.11, &());
         Eight(
             &self.0, &self.1, &self.2, &self.3, &self.4, &self.5, &self.6, &self.7, &others,
@@ -354,7 +413,16 @@ impl<
         ∷ I.meaning t.1.1.1.1.1.1.1.1.0 ∷ J.meaning t.1.1.1.1.1.1.1.1.1.0 ∷ K.meaning t.1.1.1.1.1.1.1.1.1.1.0
         ∷ L.meaning t.1.1.1.1.1.1.1.1.1.1.1.0 ∷ M.meaning t.1.1.1.1.1.1.1.1.1.1.1.1.0 ∷ [])) };
 
-    fn serialize<W: WriteExt>(&self, ser: &mut Serializer<W>) -> Result<usize> {
+    fn serialize<W: WriteExt>(&self, ser: &mut Serializer<W>) -> Result<usize>
+        ensures whole { WritesWhole W.WriteExt.own (Tree.list ListKind.sequence (trees
+            (A.meaning self.now.0 ∷ B.meaning self.now.1.0 ∷ C.meaning self.now.1.1.0 ∷
+            D.meaning self.now.1.1.1.0 ∷ E.meaning self.now.1.1.1.1.0 ∷
+            F.meaning self.now.1.1.1.1.1.0 ∷ G.meaning self.now.1.1.1.1.1.1.0 ∷
+            H.meaning self.now.1.1.1.1.1.1.1.0 ∷ I.meaning self.now.1.1.1.1.1.1.1.1.0 ∷
+            J.meaning self.now.1.1.1.1.1.1.1.1.1.0 ∷ K.meaning self.now.1.1.1.1.1.1.1.1.1.1.0 ∷
+            L.meaning self.now.1.1.1.1.1.1.1.1.1.1.1.0 ∷
+            M.meaning self.now.1.1.1.1.1.1.1.1.1.1.1.1.0 ∷ []))) ser.old result ser.new }
+    {
         let others = Five(&self.8, &self.9, &self.10, &self.11, &self.12, &());
         Eight(
             &self.0, &self.1, &self.2, &self.3, &self.4, &self.5, &self.6, &self.7, &others,
@@ -404,7 +472,17 @@ impl<
         ∷ L.meaning t.1.1.1.1.1.1.1.1.1.1.1.0 ∷ M.meaning t.1.1.1.1.1.1.1.1.1.1.1.1.0
         ∷ N.meaning t.1.1.1.1.1.1.1.1.1.1.1.1.1.0 ∷ [])) };
 
-    fn serialize<W: WriteExt>(&self, ser: &mut Serializer<W>) -> Result<usize> {
+    fn serialize<W: WriteExt>(&self, ser: &mut Serializer<W>) -> Result<usize>
+        ensures whole { WritesWhole W.WriteExt.own (Tree.list ListKind.sequence (trees
+            (A.meaning self.now.0 ∷ B.meaning self.now.1.0 ∷ C.meaning self.now.1.1.0 ∷
+            D.meaning self.now.1.1.1.0 ∷ E.meaning self.now.1.1.1.1.0 ∷
+            F.meaning self.now.1.1.1.1.1.0 ∷ G.meaning self.now.1.1.1.1.1.1.0 ∷
+            H.meaning self.now.1.1.1.1.1.1.1.0 ∷ I.meaning self.now.1.1.1.1.1.1.1.1.0 ∷
+            J.meaning self.now.1.1.1.1.1.1.1.1.1.0 ∷ K.meaning self.now.1.1.1.1.1.1.1.1.1.1.0 ∷
+            L.meaning self.now.1.1.1.1.1.1.1.1.1.1.1.0 ∷
+            M.meaning self.now.1.1.1.1.1.1.1.1.1.1.1.1.0 ∷
+            N.meaning self.now.1.1.1.1.1.1.1.1.1.1.1.1.1.0 ∷ []))) ser.old result ser.new }
+    {
         let others = Six(
             &self.8,
             &self.9,
@@ -464,7 +542,18 @@ impl<
         ∷ L.meaning t.1.1.1.1.1.1.1.1.1.1.1.0 ∷ M.meaning t.1.1.1.1.1.1.1.1.1.1.1.1.0
         ∷ N.meaning t.1.1.1.1.1.1.1.1.1.1.1.1.1.0 ∷ O.meaning t.1.1.1.1.1.1.1.1.1.1.1.1.1.1.0 ∷ [])) };
 
-    fn serialize<W: WriteExt>(&self, ser: &mut Serializer<W>) -> Result<usize> {
+    fn serialize<W: WriteExt>(&self, ser: &mut Serializer<W>) -> Result<usize>
+        ensures whole { WritesWhole W.WriteExt.own (Tree.list ListKind.sequence (trees
+            (A.meaning self.now.0 ∷ B.meaning self.now.1.0 ∷ C.meaning self.now.1.1.0 ∷
+            D.meaning self.now.1.1.1.0 ∷ E.meaning self.now.1.1.1.1.0 ∷
+            F.meaning self.now.1.1.1.1.1.0 ∷ G.meaning self.now.1.1.1.1.1.1.0 ∷
+            H.meaning self.now.1.1.1.1.1.1.1.0 ∷ I.meaning self.now.1.1.1.1.1.1.1.1.0 ∷
+            J.meaning self.now.1.1.1.1.1.1.1.1.1.0 ∷ K.meaning self.now.1.1.1.1.1.1.1.1.1.1.0 ∷
+            L.meaning self.now.1.1.1.1.1.1.1.1.1.1.1.0 ∷
+            M.meaning self.now.1.1.1.1.1.1.1.1.1.1.1.1.0 ∷
+            N.meaning self.now.1.1.1.1.1.1.1.1.1.1.1.1.1.0 ∷
+            O.meaning self.now.1.1.1.1.1.1.1.1.1.1.1.1.1.1.0 ∷ []))) ser.old result ser.new }
+    {
         let others = Seven(
             &self.8,
             &self.9,
@@ -528,7 +617,19 @@ impl<
         ∷ N.meaning t.1.1.1.1.1.1.1.1.1.1.1.1.1.0 ∷ O.meaning t.1.1.1.1.1.1.1.1.1.1.1.1.1.1.0
         ∷ P.meaning t.1.1.1.1.1.1.1.1.1.1.1.1.1.1.1.0 ∷ [])) };
 
-    fn serialize<W: WriteExt>(&self, ser: &mut Serializer<W>) -> Result<usize> {
+    fn serialize<W: WriteExt>(&self, ser: &mut Serializer<W>) -> Result<usize>
+        ensures whole { WritesWhole W.WriteExt.own (Tree.list ListKind.sequence (trees
+            (A.meaning self.now.0 ∷ B.meaning self.now.1.0 ∷ C.meaning self.now.1.1.0 ∷
+            D.meaning self.now.1.1.1.0 ∷ E.meaning self.now.1.1.1.1.0 ∷
+            F.meaning self.now.1.1.1.1.1.0 ∷ G.meaning self.now.1.1.1.1.1.1.0 ∷
+            H.meaning self.now.1.1.1.1.1.1.1.0 ∷ I.meaning self.now.1.1.1.1.1.1.1.1.0 ∷
+            J.meaning self.now.1.1.1.1.1.1.1.1.1.0 ∷ K.meaning self.now.1.1.1.1.1.1.1.1.1.1.0 ∷
+            L.meaning self.now.1.1.1.1.1.1.1.1.1.1.1.0 ∷
+            M.meaning self.now.1.1.1.1.1.1.1.1.1.1.1.1.0 ∷
+            N.meaning self.now.1.1.1.1.1.1.1.1.1.1.1.1.1.0 ∷
+            O.meaning self.now.1.1.1.1.1.1.1.1.1.1.1.1.1.1.0 ∷
+            P.meaning self.now.1.1.1.1.1.1.1.1.1.1.1.1.1.1.1.0 ∷ []))) ser.old result ser.new }
+    {
         let others = Eight(
             &self.8,
             &self.9,

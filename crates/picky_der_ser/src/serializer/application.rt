@@ -2,7 +2,7 @@
 ghost use Rattle.std.specs.Prelude.{◌≡◌, ◌<◌, None, Err, IfOk, IfErr};
 ghost use Rattle.picky_der_core.specs.WriterFaults.{IsOnceAtMost};
 ghost use Rattle.picky_der_core.specs.Tree.{Tree};
-ghost use Rattle.picky_der_ser.specs.Calls.{Writes, RefusesWrite};
+ghost use Rattle.picky_der_ser.specs.Calls.{UntouchedUnlessFailed, Writes, RefusesWrite};
 
 use super::Serializer;
 use crate::{Header, Serialize};
@@ -22,6 +22,8 @@ impl<W: WriteExt> Serializer<W> {
             (Tree.application number (T.meaning value.now)) self.old n self.new) }
         ensures failed { IfErr result (λ e. RefusesWrite W.WriteExt.own
             (Tree.application number (T.meaning value.now)) self.old e self.new) }
+        ensures untouched { IfErr result (λ e. UntouchedUnlessFailed W.WriteExt.own self.old.sink e
+            self.new.sink) }
         ensures past { 30 < number → self.old.failed ≡ None
             → (result ≡ Err Asn1DerError.UnsupportedValue) × (self.new.sink ≡ self.old.sink) }
         ensures counted { IsOnceAtMost (W.faults self.old.sink) (W.faults self.new.sink) }

@@ -6,7 +6,7 @@ ghost use Rattle.picky_der_core.specs.Wrapper.{under};
 ghost use Rattle.picky_der_ser.specs.Heading.{tree_of};
 ghost use Rattle.picky_der_ser.specs.Headers.{HasNumber};
 ghost use Rattle.picky_der_ser.specs.State.{Level, at_next_member};
-ghost use Rattle.picky_der_ser.specs.Calls.{SinkWrites, SinkRefuses, RefusesToEnter, OpensLevel};
+ghost use Rattle.picky_der_ser.specs.Calls.{UntouchedUnlessFailed, SinkWrites, SinkRefuses, RefusesToEnter, OpensLevel};
 ghost use Rattle.picky_der_ser.specs.Calls.{AddsMember, RefusesToAdd, WritesContent, EndsLevel};
 
 use super::Serializer;
@@ -37,6 +37,8 @@ impl<W: WriteExt> Serializer<W> {
         ensures refused { IfErr result (λ e. IfSome self.old.pending
             (λ l. SinkRefuses W.WriteExt.own (under l.around (tree_of l.header content.now))
             self.old.sink e self.new.sink)) }
+        ensures untouched { IfErr result (λ e. UntouchedUnlessFailed W.WriteExt.own self.old.sink e
+            self.new.sink) }
         ensures counted { IsOnceAtMost (W.faults self.old.sink) (W.faults self.new.sink) }
         ensures no_fault { OnOk result (W.faults self.new.sink ≡ W.faults self.old.sink) }
         ensures goes_on { W.later self.old.sink self.new.sink }
@@ -61,6 +63,8 @@ impl<W: WriteExt> Serializer<W> {
         ensures refused { IfErr result (λ e. IfSome self.old.pending
             (λ l. SinkRefuses W.WriteExt.own (under l.around (tree_of l.header l.content)) self.old.sink
             e self.new.sink)) }
+        ensures untouched { IfErr result (λ e. UntouchedUnlessFailed W.WriteExt.own self.old.sink e
+            self.new.sink) }
         ensures counted { IsOnceAtMost (W.faults self.old.sink) (W.faults self.new.sink) }
         ensures no_fault { OnOk result (W.faults self.new.sink ≡ W.faults self.old.sink) }
         ensures goes_on { W.later self.old.sink self.new.sink }

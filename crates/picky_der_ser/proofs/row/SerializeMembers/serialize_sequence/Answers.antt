@@ -1,7 +1,7 @@
 use Rattle.std.proofs.Common.{rules, refl, arith}
 use Rattle.std.proofs.lemmas.Result.{err_from_is_err_and}
 use Rattle.picky_der_core.specs.Tree.{ListKind}
-use Rattle.picky_der_ser.proofs.Members.{list_opened, list_wrote, list_failed}
+use Rattle.picky_der_ser.proofs.Members.{list_opened, list_wrote, list_failed, list_untouched}
 use Rattle.picky_der_ser.proofs.RowWrites.{row_gained, row_rejected, row_untouched}
 use Rattle.picky_der_ser.proofs.row.SerializeMembers.serialize_sequence.Goals as goal
 
@@ -41,6 +41,21 @@ returns-clause-failed g c =
     let all = g.Self.SerializeMembers.members c.args.self.now in
     let a = row_gained g.W.WriteExt ListKind.sequence all all _ _ _ c.in_ok-serialize_members.ensures.added (list_opened g.W.WriteExt ListKind.sequence all _ _ c.serialize_lazy-sequence.ensures.opened) in
     grind (arith, list_failed, a)
+
+pub returns-in_err-serialize_members-clause-untouched :
+    goal.returns-in_err-serialize_members-clause-untouched
+returns-in_err-serialize_members-clause-untouched g c =
+    let all = g.Self.SerializeMembers.members c.args.self.now in
+    let a = list_opened g.W.WriteExt ListKind.sequence all _ _ c.serialize_lazy-sequence.ensures.opened in
+    let p = err_from_is_err_and c.from_residual.result c.from_residual.ensures.1 in
+    let h = row_untouched g.W.WriteExt ListKind.sequence all all _ _ _ _ c.in_err-serialize_members.ensures.err a in
+    search (rules, h)
+
+pub returns-clause-untouched : goal.returns-clause-untouched
+returns-clause-untouched g c =
+    let all = g.Self.SerializeMembers.members c.args.self.now in
+    let a = row_gained g.W.WriteExt ListKind.sequence all all _ _ _ c.in_ok-serialize_members.ensures.added (list_opened g.W.WriteExt ListKind.sequence all _ _ c.serialize_lazy-sequence.ensures.opened) in
+    grind (arith, list_untouched, a)
 
 pub returns-clause-counted : goal.returns-clause-counted
 returns-clause-counted g c =

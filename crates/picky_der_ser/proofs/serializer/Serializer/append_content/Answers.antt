@@ -30,4 +30,4 @@ returns-in-Err g c =
     let fits = writable-content c.args.header c.args.content.now c.requires.number (omega arith) in
     let failed = rw (← c.self.view_is) at c.requires.had_not_failed in
     let inside = rw (← c.self.view_is) at c.requires.inside in
-    rw (← c.self.view_is, c.fail.ensures.same, c.fail.ensures.error) (plain_refused w t _ _ _ fits inside (fails_memory w t _ _ _ failed refl refl refl) (omega arith) (g.met.W.WriteExt.later_refl _))
+    rw (← c.self.view_is, c.fail.ensures.same, c.fail.ensures.error) (plain_refused w t _ _ _ fits inside (fails_memory w t _ _ _ failed refl refl refl) refl (omega arith) (g.met.W.WriteExt.later_refl _))

@@ -16,10 +16,11 @@ returns g c =
     let fits = writable-content c.args.header c.args.content.now c.requires.number (omega arith) in
     let wrote = rw is at e.wrote in
     let refused = rw is at e.refused in
+    let untouched = rw is at e.untouched in
     let no_fault = rw is at e.no_fault in
     let counted = rw is at e.counted in
     let later = rw is at e.goes_on in
     let failed : c.put_behind_headers-outcome.new.self.failed ≡ old.failed = e.kept.1 ∙ ap (λ s. s.failed) is in
     let settled = subst (λ f. OnOk r ((new.around ≡ []) × (new.failed ≡ f))) failed c.settle.ensures.ok in
     plain_outside w t old new _ _ r _ c.settle.ensures.same c.settle.ensures.sink.0 c.settle.ensures.sink.1 fits c.requires.had_not_failed c.requires.outside e.still_outside settled c.settle.ensures.err
-    wrote refused (wrapped_fault w old.around _ _ r c.requires.wrapped) no_fault counted later
+    wrote refused (wrapped_fault w old.around _ _ r c.requires.wrapped) untouched no_fault counted later
