@@ -1,21 +1,23 @@
 -- What an entry call tells from what reading tells.
-use Rattle.std.proofs.Common.{◌≡◌, ◌≢◌, ◌⊎◌, ℕ, ◌+◌, ◌<◌, Bool, List, [], ◌∷◌, ◌++◌, length, Option, Some, None, IfSome, Result, Ok, Err, IfErr, refl, sym, ◌∙◌, subst, ap, inl, inr, arith, length-append, append_assoc, append-nil}
+use Rattle.std.proofs.Common.{◌≡◌, ◌≢◌, ◌⊎◌, ℕ, ◌+◌, ◌<◌, ◌^◌, Bool, List, [], ◌∷◌, ◌++◌, length, Option, Some, None, IfSome, Result, Ok, Err, IfErr, refl, sym, ◌∙◌, subst, ap, inl, inr, arith, length-append, append_assoc, append-nil}
 use Rattle.std.specs.Io.KnownBytes.{Consumes}
+use Rattle.std.proofs.KnownBytes.{Consumes-nil}
 use Rattle.picky_der_core.specs.declared.error.Asn1DerError.{Asn1DerError}
 use Rattle.picky_der_core.specs.declared.error.Asn1DerError.TheVariants.{TruncatedData, InvalidData, UnsupportedValue, UnsupportedType, InvalidSink, Message, Other, OutOfMemory}
 use Rattle.picky_der_core.specs.Element.{IsPrefix}
 use Rattle.picky_der_core.specs.Tree.{Tree}
 use Rattle.picky_der_core.specs.Encoding.{der}
 use Rattle.picky_der_core.specs.Shape.{Shape, IsSound}
-use Rattle.picky_der_core.specs.Reading.{Place, StandsAt, IsMendable}
+use Rattle.picky_der_core.specs.Reading.{Place, StandsAt, ReadsFrom, IsMendable}
 use Rattle.picky_der_core.specs.Faults.{Fault}
 use Rattle.picky_der_core.specs.Reader.{TellsFault}
 use Rattle.picky_der_core.specs.ReaderLaws.{not_more}
 use Rattle.picky_der_core.proofs.Unique.{same_tree}
 use Rattle.picky_der_input.specs.State.{State, fresh}
 use Rattle.picky_der_core.specs.Peeking.{in_front, count_of_any}
-use Rattle.picky_der_input.specs.Steps.{IsJudged}
-use Rattle.picky_der_input.specs.Reading.{Reads, Refuses, now, ever}
+use Rattle.picky_der_input.specs.Steps.{IsJudged, IsOther}
+use Rattle.picky_der_input.specs.Reading.{Reads, Refuses, now}
+use Rattle.picky_der_input.specs.FinalRefusals.{not_mendable}
 use Rattle.picky_der_de.specs.InjectiveLaws.{IsInjective}
 use Rattle.picky_der_de.specs.Entry.{any_length, IsFront, HasNoFront, ReaderView, ReadsFront, Draws, RefusesFront, RefusesNextValue}
 use Rattle.picky_der_input.proofs.Refusals.{front_consumed}
@@ -130,13 +132,8 @@ module _ {V : Type 0} (meaning : V → Tree) (s : Shape) {old new : State} {refe
   -- no bytes behind those that were drawn make a value, unless more bytes are asked for
   final : {e : Asn1DerError} → Refuses meaning s (start_state before limit references) new e → new.faults ≡ before.faults → e ≢ OutOfMemory → (d rest : List ℕ) → before.input ≡ Some (d ++ rest) → after.input ≡ Some rest → IsMendable meaning s Place.whole d any_length → e ≡ TruncatedData
   final {e} h same memory d rest k still m =
-      let t = meaning m.value in
-      let drawn = gone h d rest k still in
       let judged : IsJudged (start_state before limit references) new e = record { had_not_failed = refl; faults = same; memory = memory } in
-      unless_truncated e (λ other. elim m.agrees [
-        | inl p ↦ h.none judged any_length d (ever other refl d [] rest k drawn (sym (append-nil d))) m.value (record { of_shape = m.of_shape; readable = m.readable; may_stand = tt; within = m.within; front = p })
-        | inr p ↦ h.none judged any_length (der t) (ever other refl d p.rest rest k drawn p.is) m.value (record { of_shape = m.of_shape; readable = m.readable; may_stand = tt; within = m.within; front = record { rest = []; is = sym (append-nil (der t)) } })
-      ])
+      unless_truncated e (λ other. not_mendable h judged other d rest k (gone h d rest k still) m)
 
   -- where none was read, none stands
   pub refuses_front : {e : Asn1DerError} → Refuses meaning s old new e → RefusesFront meaning s limit before after e
@@ -155,11 +152,32 @@ module _ {V : Type 0} (meaning : V → Tree) (s : Shape) {old new : State} {refe
   pub refuses_next_value : {e : Asn1DerError} → Refuses meaning s old new e → (IsJudged old new e → 0 < old.until_end → IfSome old.input (λ bytes. 0 < length bytes)) → RefusesNextValue meaning s limit before after e
   refuses_next_value {e} refused ahead = record {
     refuses = refuses_front refused;
-    ahead = λ until_end same memory none.
+    ahead = λ until_end same memory none mendable.
         let some : IsJudged (start_state before limit references) new e → 0 < limit → IfSome before.input (λ bytes. 0 < length bytes) = subst (λ (o : State). IsJudged o new e → 0 < o.until_end → IfSome o.input (λ bytes. 0 < length bytes)) is ahead in
         let bytes : IfSome (Some []) (λ (bytes : List ℕ). 0 < length bytes) = subst (λ i. IfSome i (λ bytes. 0 < length bytes)) none (some (record { had_not_failed = refl; faults = sym faults ∙ same; memory = memory }) until_end) in
         omega (arith, bytes);
   }
+
+-- ---- refused whatever comes
+
+-- what begins with no bytes at all is any value
+mends_nothing : {V : Type 0} {meaning : V → Tree} {s : Shape} {limit : ℕ} (v : V) {input : List ℕ} → limit < 2 ^ 64 → ReadsFrom meaning s input limit v → IsMendable meaning s Place.whole [] any_length
+mends_nothing {meaning = meaning} v small h = record { value = v; of_shape = h.of_shape; readable = h.readable; may_stand = tt; within = omega (arith, h.within); agrees = inr (record { rest = der (meaning v); is = refl }) }
+
+-- where no bytes make a value, nothing has to be drawn
+pub refused_always : {V : Type 0} (meaning : V → Tree) (s : Shape) {limit : ℕ} (view : ReaderView) {e : Asn1DerError} → limit < 2 ^ 64 → e ≢ TruncatedData → (IsOther e → ⊥) → (e ≢ OutOfMemory → IsMendable meaning s Place.whole [] any_length → ⊥)
+    → RefusesNextValue meaning s limit view view e
+refused_always meaning s view small cut no_fault never = record {
+  refuses = record {
+    none = λ same memory input k v stands. never memory (mends_nothing v small stands);
+    final = λ same memory d left k still m. absurd (never memory (record { value = m.value; of_shape = m.of_shape; readable = m.readable; may_stand = tt; within = m.within; agrees = inr (record { rest = der (meaning m.value); is = refl }) }));
+    first = λ same is. absurd (cut is);
+    drawn = record { bytes = []; are = Consumes-nil view.input; within = omega arith };
+    faults = TellsFault.no_fault refl;
+    other = λ same. no_fault;
+  };
+  ahead = λ until_end same memory none. never memory;
+}
 
 -- ---- of a slice
 

@@ -76,7 +76,7 @@ pub record HasNoneLeft (limit : ℕ) (old new : ReaderView) : Type 0 where
   pub input : Keeps old.input new.input
   pub faults : new.faults ≡ old.faults
 
--- the next value is refused, which isn't where none is left
+-- The next value is refused. This isn't where none is left, unless no bytes make a value of the type.
 pub record RefusesNextValue {V : Type 0} (meaning : V → Tree) (s : Shape) (limit : ℕ) (old new : ReaderView) (e : Asn1DerError) : Type 0 where
   pub refuses : RefusesFront meaning s limit old new e
-  pub ahead : 0 < limit → new.faults ≡ old.faults → e ≢ OutOfMemory → old.input ≡ Some [] → ⊥
+  pub ahead : 0 < limit → new.faults ≡ old.faults → e ≢ OutOfMemory → old.input ≡ Some [] → IsMendable meaning s Place.whole [] any_length → ⊥

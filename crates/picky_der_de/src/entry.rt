@@ -26,8 +26,8 @@ fn read_from<T: Deserialize, R: ReadExt>(alloc: Global, reader: R, max_len: usiz
 
 /// The value at the front of a slice. Bytes behind it are left alone.
 ///
-/// An error other than `OutOfMemory` means that no value of the type stands there. It is `TruncatedData` where more bytes
-/// behind the slice could make one; any other is final.
+/// An error other than `OutOfMemory` means that no readable value of the type's shape stands there. It is `TruncatedData` where
+/// more bytes behind the slice could make one; any other is final.
 pub fn from_bytes<T: Deserialize>(alloc: Global, bytes: &[u8]) -> Result<T>
     ensures ok { IfOk result (IsFront T.meaning T.shape T.eq bytes.now (length bytes.now)) }
     ensures err { IfErr result (HasNoFront T.meaning T.shape bytes.now (length bytes.now)) }
@@ -39,7 +39,7 @@ pub fn from_bytes<T: Deserialize>(alloc: Global, bytes: &[u8]) -> Result<T>
 /// reader.
 ///
 /// An error is what a fault of the reader becomes, where the reader failed; `OutOfMemory` where memory was refused; and
-/// else it means that no value of the type stands there within the limit. It is `Other` only where the reader failed, and
+/// else it means that no readable value of the type's shape stands there within the limit. It is `Other` only where the reader failed, and
 /// `TruncatedData` where more bytes behind those that were drawn could make a value; any other is final.
 /// What was drawn by then isn't given back.
 pub fn from_reader<T: Deserialize, R: ReadExt>(alloc: Global, reader: &mut R) -> Result<T>

@@ -1,14 +1,16 @@
 //! Values that stand behind each other.
-ghost use Rattle.std.specs.Prelude.{◌≡◌, ◌<◌, ◌≤◌, length, None, IfNone, IfSome, IfOk, IfErr};
+ghost use Rattle.std.specs.Prelude.{◌≡◌, ◌≢◌, ◌<◌, ◌≤◌, [], length, None, IfNone, IfSome, IfOk, IfErr};
 ghost use Rattle.picky_der_core.specs.Encoding.{der};
 ghost use Rattle.picky_der_input.specs.LookAhead.{HasEnded};
 ghost use Rattle.picky_der_input.specs.Reading.{Reads, Refuses};
-ghost use Rattle.picky_der_input.specs.Steps.{IsJudged};
-ghost use Rattle.picky_der_de.specs.Entry.{IsFront, HasNoFront, ReadsFront, HasNoneLeft, RefusesNextValue, view_of};
+ghost use Rattle.picky_der_core.specs.Reading.{Place, IsMendable};
+ghost use Rattle.picky_der_input.specs.Steps.{IsJudged, IsOther};
+ghost use Rattle.picky_der_de.specs.Entry.{IsFront, HasNoFront, ReadsFront, HasNoneLeft, RefusesNextValue};
+ghost use Rattle.picky_der_de.specs.Entry.{view_of, any_length};
 
-use crate::{Deserialize, Deserializer, from_reader_with_max_len};
-use picky_der_core::Result;
+use crate::{Deserialize, Deserializer, from_bytes, from_reader_with_max_len};
 use picky_der_core::misc::ReadExt;
+use picky_der_core::{Asn1DerError, Result};
 use std::alloc::Global;
 
 /// The value at the front of a slice, and how many bytes its encoding has. The next value stands behind these.
@@ -71,11 +73,23 @@ fn read_next_from<T: Deserialize, R: ReadExt>(
     (next, de.into_reader())
 }
 
+// Why values of the type are refused whatever comes, as those are whose tag number is past 30. `None` where some can be read.
+fn refused_always<T: Deserialize>(alloc: Global) -> Option<Asn1DerError>
+    ensures never { IfSome result (λ e. e ≢ Asn1DerError.OutOfMemory
+        → IsMendable T.meaning T.shape Place.whole [] any_length → ⊥) }
+    ensures kind { IfSome result (λ e. e ≢ Asn1DerError.TruncatedData × (IsOther e → ⊥)) }
+{
+    match from_bytes::<T>(alloc, &[]) {
+        Ok(_) | Err(Asn1DerError::TruncatedData) => None,
+        Err(error) => Some(error),
+    }
+}
+
 /// The next of several values that a reader has left, in at most `max_len` bytes, and `None` where it has none left. Bytes
 /// behind the value are left in the reader.
 ///
 /// It is refused as `from_reader_with_max_len` refuses it. So a value that is cut short is `TruncatedData`, and so is a limit
-/// of 0.
+/// of 0. A type of which no value can be read, as one that asks for a tag number past 30, is refused before a byte is read.
 pub fn next_from_reader<T: Deserialize, R: ReadExt>(
     alloc: Global,
     reader: &mut R,
@@ -91,6 +105,9 @@ pub fn next_from_reader<T: Deserialize, R: ReadExt>(
         (view_of R.remaining R.faults reader.old) (view_of R.remaining R.faults reader.new)) }
     ensures same_references { R.references reader.new ≡ R.references reader.old }
 {
+    if let Some(error) = refused_always::<T>(alloc) {
+        return Err(error);
+    }
     let (next, _reader) = read_next_from::<T, &mut R>(alloc, reader, max_len);
     next
 }

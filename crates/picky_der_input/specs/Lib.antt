@@ -13,3 +13,4 @@ pub mod Elements
 pub mod Ends
 pub mod Enclosures
 pub mod Ahead
+pub mod FinalRefusals

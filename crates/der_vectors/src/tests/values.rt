@@ -2,7 +2,8 @@
 
 use der_examples::{next_text, number_and_text};
 use der_fixtures::{FailingReader, SlowReader};
-use picky_asn1_der::Asn1DerError::{InvalidData, Other, TruncatedData};
+use picky_asn1_der::Asn1DerError::{InvalidData, Other, TruncatedData, UnsupportedValue};
+use picky_asn1_der::asn1::TaggedBytes;
 use picky_asn1_der::misc::Watched;
 use picky_asn1_der::{next_from_bytes, next_from_reader};
 use std::io::ErrorKind;
@@ -54,6 +55,16 @@ fn no_byte_is_drawn_under_a_limit_of_0(rt: HostRuntime) {
     same!(rt; reader.get_ref().given(), 0);
     let mut reader: &[u8] = &[];
     same!(rt; next_from_reader::<u8, _>(alloc, &mut reader, 0), Err(TruncatedData));
+}
+
+// No value has a tag number past 30, so the next byte isn't looked at.
+#[test]
+fn what_is_never_read_takes_no_byte(rt: HostRuntime) {
+    let alloc = rt.alloc();
+    let bytes: &[u8] = &[0x02, 0x01, 0x07];
+    let mut reader = Watched::new(SlowReader::new(bytes));
+    same!(rt; next_from_reader::<TaggedBytes<0x1F>, _>(alloc, &mut reader, 3), Err(UnsupportedValue));
+    same!(rt; reader.get_ref().given(), 0);
 }
 
 // A fault in place of the first byte is no end, of whatever kind it is.
