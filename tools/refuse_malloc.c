@@ -1,5 +1,5 @@
-// A `malloc` in front of the C library's that refuses one request: that whose number stands in REFUSE, counted from the start of the
-// program. tools/refuse-growths builds it.
+// A `malloc` in front of the C library's that refuses one request: that whose number is in REFUSE, counted from the start of the
+// program. It refuses each request of more bytes than LARGEST, too, where that is given. tools/refuse-growths builds it.
 #include <errno.h>
 #include <stdlib.h>
 
@@ -9,22 +9,25 @@ void *__libc_realloc(void *block, size_t size);
 void *__libc_memalign(size_t alignment, size_t size);
 
 static long requests, refused;
+static size_t largest;
 
 __attribute__((constructor)) static void begin(void) {
     const char *number = getenv("REFUSE");
+    const char *bytes = getenv("LARGEST");
     refused = number ? atol(number) : 0;
+    largest = bytes ? strtoul(bytes, NULL, 10) : (size_t)-1;
     requests = 0;
 }
 
-static int is_refused(void) { return ++requests == refused; }
+static int is_refused(size_t size) { return ++requests == refused || size > largest; }
 
-void *malloc(size_t size) { return is_refused() ? NULL : __libc_malloc(size); }
+void *malloc(size_t size) { return is_refused(size) ? NULL : __libc_malloc(size); }
 
-void *calloc(size_t count, size_t size) { return is_refused() ? NULL : __libc_calloc(count, size); }
+void *calloc(size_t count, size_t size) { return is_refused(count * size) ? NULL : __libc_calloc(count, size); }
 
-void *realloc(void *block, size_t size) { return is_refused() ? NULL : __libc_realloc(block, size); }
+void *realloc(void *block, size_t size) { return is_refused(size) ? NULL : __libc_realloc(block, size); }
 
-void *aligned_alloc(size_t alignment, size_t size) { return is_refused() ? NULL : __libc_memalign(alignment, size); }
+void *aligned_alloc(size_t alignment, size_t size) { return is_refused(size) ? NULL : __libc_memalign(alignment, size); }
 
 int posix_memalign(void **block, size_t alignment, size_t size) {
     *block = aligned_alloc(alignment, size);

@@ -6,8 +6,8 @@ use picky_asn1_der::de::DEFAULT_MAX_LEN;
 use picky_asn1_der::{Asn1DerError, Deserialize, to_vec};
 use std::alloc::{AllocError, Global};
 
-// How many bytes are changed in front of a reader, too.
-const LONGEST_FOR_READER: usize = 4096;
+// Longer encodings are read once for each change, from a slice alone, since all else takes long.
+const LONGEST_READ_AGAIN: usize = 4096;
 
 /// Where an encoding isn't read as it must be.
 #[derive(Clone, Copy, Debug)]
@@ -191,18 +191,32 @@ fn try_bytes<T: Deserialize>(
     Ok(())
 }
 
-// The outcome from a reader that gives one byte a call, where a slice agrees. Longer bytes are read from a slice alone, since such a
-// reader takes long.
+// The outcome from a reader that gives one byte a call, where a slice agrees.
 fn outcome_of_changed<T: Deserialize>(alloc: Global, bytes: &[u8]) -> Result<Outcome, AllocError> {
-    let from_slice = outcome_of::<T>(alloc, Source::Slice, bytes)?;
-    if bytes.len() > LONGEST_FOR_READER {
-        return Ok(from_slice);
+    if bytes.len() > LONGEST_READ_AGAIN {
+        return Ok(outcome_at_once::<T>(alloc, bytes));
     }
+    let from_slice = outcome_of::<T>(alloc, Source::Slice, bytes)?;
     let from_reader = outcome_of::<T>(alloc, Source::Reader, bytes)?;
     if agree(from_slice, from_reader) {
         Ok(from_reader)
     } else {
         Ok(Outcome::Wrong)
+    }
+}
+
+// The outcome from a slice, whatever stands behind.
+fn outcome_at_once<T: Deserialize>(alloc: Global, bytes: &[u8]) -> Outcome {
+    let (answer, used) = read::<T>(alloc, Source::Slice, bytes);
+    match answer {
+        Ok(value) => {
+            if is_written_as(alloc, &value, bytes, used) {
+                Outcome::Value
+            } else {
+                Outcome::Wrong
+            }
+        }
+        Err(error) => Outcome::refused(error),
     }
 }
 
