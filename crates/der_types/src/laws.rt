@@ -1,12 +1,12 @@
 //! Laws of what the types mean: they speak of no code, so that their bodies are empty.
 ghost use Rattle.std.specs.Prelude.{◌≡◌, ℕ, ℤ, Bool, List, true};
 ghost use Rattle.picky_der_core.specs.Shape.{AreBytes};
-ghost use Rattle.picky_der_core.specs.Equality.{IsEqualityOf};
+ghost use Rattle.picky_der_core.specs.Equality.{IsEqualityOf, IsKept};
 ghost use Rattle.der_types.specs.BitString.{is_bit_string, bit_string_content, bits_of, is_named_bits, without_zeros};
 ghost use Rattle.der_types.specs.Integer.{is_integer, integer_content, integer_value, twos_complement};
 ghost use Rattle.der_types.specs.ObjectIdentifier.{is_object_identifier, object_identifier_content, are_arcs, arcs_of};
 
-use crate::{Enumerated, Integer};
+use crate::{Arcs, Enumerated, Integer, OidError, SignedBits};
 
 /// Each whole number has one content, each content that passes the test is that of a number, and the bits of a number's content
 /// count as its value (X.690, 8.3).
@@ -22,6 +22,13 @@ pub fn integers()
 pub fn equality()
     ensures integer { IsEqualityOf ⟦<Integer as PartialEq>⟧.eq (λ it. it.content.items) }
     ensures enumerated { IsEqualityOf ⟦<Enumerated as PartialEq>⟧.eq (λ it. it.0.content.items) }
+{}
+
+/// A copy of a number's bits, of arcs that are left, or of an error is the same.
+pub fn copies()
+    ensures bits { IsKept ⟦<SignedBits as Clone>⟧.is_clone (λ bits. bits) }
+    ensures arcs { IsKept ⟦<Arcs<'static> as Clone>⟧.is_clone (λ arcs. arcs) }
+    ensures error { IsKept ⟦<OidError as Clone>⟧.is_clone (λ error. error) }
 {}
 
 /// Each list of arcs has a content, each content is one of a list of arcs, and no two have the same.

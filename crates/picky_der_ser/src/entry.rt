@@ -17,8 +17,8 @@ use std::alloc::Global;
 ///
 /// A slice that is too short is filled with the encoding's first bytes, and the answer is `InvalidSink`.
 /// `UnsupportedValue` where the value can't be written: then the slice stays as it was. `OutOfMemory` where memory was
-/// refused: then it may hold a beginning of the encoding, if the value's type asks for memory after it began to write. No type
-/// of this library does, unless it holds one that does.
+/// refused: then it may hold a beginning of the encoding, if the value's type asks for memory after it began to write, as plain
+/// values, lists, rows, tuples and application tags never do.
 pub fn to_bytes<T: Serialize>(alloc: Global, value: &T, buf: &mut [u8]) -> Result<usize>
     ensures ok { IfOk result (λ n. Overwrites (T.meaning value.now) buf.old n buf.new) }
     ensures fits { OnOk result (length (der (T.meaning value.now)) ≤ length buf.old) }
@@ -67,8 +67,8 @@ pub fn to_vec<T: Serialize>(alloc: Global, value: &T) -> Result<Vec<u8>>
 ///
 /// `UnsupportedValue` where the value can't be written: then nothing was appended. The error of the writer, where it failed:
 /// then a beginning of the encoding was, and at least one byte is missing. `OutOfMemory` where memory was refused: then a
-/// beginning may have been appended, if the value's type asks for memory after it began to write. No type of this library does,
-/// unless it holds one that does.
+/// beginning may have been appended, if the value's type asks for memory after it began to write, as plain values, lists, rows,
+/// tuples and application tags never do.
 pub fn to_writer<T: Serialize, W: WriteExt>(
     alloc: Global,
     value: &T,
