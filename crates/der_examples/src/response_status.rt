@@ -83,7 +83,7 @@ impl Serialize for ResponseStatus {
     ghost meaning = { λ it. Tree.bytes 0x0A (status_number it ∷ []) };
 
     fn serialize<W: WriteExt>(&self, serializer: &mut Serializer<W>) -> Result<usize> {
-        serializer.serialize_tagged_bytes(Tag::from(0x0A), &[self.number()])
+        serializer.serialize_tagged_bytes(Tag::ENUMERATED, &[self.number()])
     }
 }
 

@@ -57,7 +57,7 @@ impl Serialize for Enumerated {
     ghost meaning = { λ it. Tree.bytes 0x0A it.0.content.items };
 
     fn serialize<W: WriteExt>(&self, serializer: &mut Serializer<W>) -> Result<usize> {
-        serializer.serialize_tagged_bytes(Tag::from(0x0A), self.0.content())
+        serializer.serialize_tagged_bytes(Tag::ENUMERATED, self.0.content())
     }
 }
 

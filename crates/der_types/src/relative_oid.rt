@@ -129,7 +129,7 @@ impl Serialize for RelativeOid {
     ghost meaning = { λ it. Tree.bytes 0x0D it.content.items };
 
     fn serialize<W: WriteExt>(&self, serializer: &mut Serializer<W>) -> Result<usize> {
-        serializer.serialize_tagged_bytes(Tag::from(0x0D), &self.content)
+        serializer.serialize_tagged_bytes(Tag::RELATIVE_OID, &self.content)
     }
 }
 
@@ -156,6 +156,6 @@ impl Deserialize for RelativeOid {
 
 impl Begins for RelativeOid {
     fn begins_with(tag: Tag) -> bool {
-        tag == Tag::from(0x0D)
+        tag == Tag::RELATIVE_OID
     }
 }

@@ -54,14 +54,23 @@ impl Tag {
     /// An object identifier (8.19).
     pub const OID: Tag = Tag(0x06);
 
+    /// An enumeration (8.4).
+    pub const ENUMERATED: Tag = Tag(0x0A);
+
     /// A text in UTF-8 (8.23).
     pub const UTF8_STRING: Tag = Tag(0x0C);
+
+    /// An object identifier relative to another one (8.20).
+    pub const RELATIVE_OID: Tag = Tag(0x0D);
 
     /// A text of digits and spaces (8.23).
     pub const NUMERIC_STRING: Tag = Tag(0x12);
 
     /// A text of letters, digits and a few signs (8.23).
     pub const PRINTABLE_STRING: Tag = Tag(0x13);
+
+    /// A text in the character sets of teletex (8.23).
+    pub const TELETEX_STRING: Tag = Tag(0x14);
 
     /// A text in ASCII (8.23).
     pub const IA5_STRING: Tag = Tag(0x16);
@@ -72,8 +81,14 @@ impl Tag {
     /// A time with a year of four digits (8.25).
     pub const GENERALIZED_TIME: Tag = Tag(0x18);
 
+    /// A text in ASCII without control characters (8.23).
+    pub const VISIBLE_STRING: Tag = Tag(0x1A);
+
     /// A text of any registered character sets (8.23).
     pub const GENERAL_STRING: Tag = Tag(0x1B);
+
+    /// A text in UTF-32 (8.23).
+    pub const UNIVERSAL_STRING: Tag = Tag(0x1C);
 
     /// A text in UTF-16 without surrogates (8.23).
     pub const BMP_STRING: Tag = Tag(0x1E);
