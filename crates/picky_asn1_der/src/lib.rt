@@ -8,19 +8,20 @@ pub mod de {
     pub use picky_der_de::{
         Alike, Alternatives, Begins, Boolean, Choice, DEFAULT_MAX_LEN, DecodeError, Deserialize,
         DeserializeLayout, DeserializeMember, DeserializeMembers, Deserializer, Enclosure, End,
-        NoneOf, Null, OneOf, OneOf4, Record, Sequence, Struct, UInt, UnsignedInteger, Utf8String,
-        deserialize_as, deserialize_choice_as, deserialize_record_as, deserialize_struct_as,
-        from_bytes, from_der, from_reader, from_reader_with_max_len, next_from_bytes,
-        next_from_reader,
+        Int, NoneOf, Null, OneOf, OneOf4, Record, Sequence, Struct, TryAlike, UInt,
+        UnsignedInteger, Utf8String, deserialize_as, deserialize_choice_as, deserialize_record_as,
+        deserialize_struct_as, from_bytes, from_der, from_reader, from_reader_with_max_len,
+        next_from_bytes, next_from_reader, try_deserialize_as,
     };
 }
 
 /// Writing.
 pub mod ser {
     pub use picky_der_ser::{
-        Boolean, DefaultOf, Defaulted, DefaultedRef, False, Header, List, Null, Number, Optional,
-        OptionalRef, Row, Sequence, Serialize, SerializeMember, SerializeMembers, Serializer, True,
-        UInt, UnsignedInteger, Utf8String, to_byte_buf, to_bytes, to_vec, to_writer,
+        Boolean, DefaultOf, Defaulted, DefaultedRef, False, Header, Int, List, Null, Number,
+        Optional, OptionalRef, Row, Sequence, Serialize, SerializeMember, SerializeMembers,
+        Serializer, SignedNumber, True, UInt, UnsignedInteger, Utf8String, to_byte_buf, to_bytes,
+        to_vec, to_writer,
     };
 }
 
@@ -32,8 +33,8 @@ pub use picky_der_core::misc::Length;
 pub use picky_der_core::{Asn1DerError, Result, asn1, laws, misc};
 pub use picky_der_de::{
     Alike, Alternatives, Choice, DecodeError, Deserialize, Deserializer, NoneOf, OneOf, OneOf4,
-    Record, deserialize_as, from_bytes, from_der, from_reader, from_reader_with_max_len,
-    next_from_bytes, next_from_reader,
+    Record, TryAlike, deserialize_as, from_bytes, from_der, from_reader, from_reader_with_max_len,
+    next_from_bytes, next_from_reader, try_deserialize_as,
 };
 pub use picky_der_ser::{
     List, Row, Serialize, Serializer, to_byte_buf, to_bytes, to_vec, to_writer,

@@ -7,3 +7,4 @@ pub mod ShapeExamples
 pub mod LengthSteps
 pub mod PeekedBytes
 pub mod RetaggedLists
+pub mod DigitLaws

@@ -7,6 +7,7 @@ pub mod Element
 pub mod Tree
 pub mod Order
 pub mod Encoding
+pub mod Integer
 pub mod Readable
 pub mod Shape
 pub mod Wrapper
@@ -31,6 +32,8 @@ pub mod SliceSink
 pub mod SliceSinkLaws
 pub mod WriterFaults
 pub mod UnsignedLaws
+pub mod IntegerLaws
+pub mod IntLaws
 pub mod BooleanLaws
 pub mod Lengths
 pub mod LengthLaws

@@ -1,11 +1,12 @@
 -- Which reads are refused, and with which error.
-use Rattle.std.specs.Prelude.{ℕ, ◌+◌, ◌-◌, Bool, true, ◌&&◌, ◌||◌, List, [], ◌∷◌, length, take, drop, nat_lt, ◌==◌, Option, Some, None, Result, Ok, Err, chars, if◌then◌else◌}
+use Rattle.std.specs.Prelude.{ℕ, ℤ, ◌+◌, ◌-◌, Bool, true, not, ◌&&◌, ◌||◌, List, [], ◌∷◌, length, take, drop, nat_lt, ◌==◌, Option, Some, None, Result, Ok, Err, chars, if◌then◌else◌}
 use Rattle.std.specs.Option.{option_map}
 use Rattle.std.specs.Int.Digits.{number_from_digits}
 use Rattle.std.specs.Str.{is_utf8}
 use Rattle.picky_der_core.specs.declared.error.Asn1DerError.{Asn1DerError}
 use Rattle.picky_der_core.specs.declared.error.Asn1DerError.TheVariants.{TruncatedData, InvalidData, UnsupportedValue}
 use Rattle.picky_der_core.specs.Tag.{number_of, is_tag_number, is_constructed_tag}
+use Rattle.picky_der_core.specs.Integer.{is_integer, integer_value}
 
 -- ---- ends
 
@@ -101,6 +102,11 @@ unsigned_error most (b ∷ []) = if nat_lt b 0x80 then number_error most (b ∷ 
 unsigned_error most (b ∷ c ∷ bs) =
     if nat_lt b 0x80 then (if b == 0 then (if nat_lt c 0x80 then Some InvalidData else number_error most (c ∷ bs)) else number_error most (b ∷ c ∷ bs))
     else Some UnsupportedValue
+
+-- A content that isn't one of an INTEGER is invalid, and a number that a type doesn't have isn't supported. No type has one of more
+-- than 17 bytes.
+abbrev pub int_error : (ℤ → Bool) → Judge
+int_error fits bs = if is_integer bs then (if nat_lt 17 (length bs) || not (fits (integer_value bs)) then Some UnsupportedValue else None) else Some InvalidData
 
 abbrev pub null_error : Judge
 null_error [] = None

@@ -29,7 +29,7 @@ pub use context_tags::{
 pub use newtype::Newtype;
 pub use retagged::{
     ImplicitList0, ImplicitList1, ImplicitList2, ImplicitList3, ImplicitList4, ImplicitList5,
-    ImplicitList6, ImplicitList7, Retagged,
+    ImplicitList6, ImplicitList7, Retagged, SetOfAsGiven,
 };
 pub use tag::{Tag, TagClass};
 pub use tagged_bytes::{

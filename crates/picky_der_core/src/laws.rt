@@ -1,5 +1,8 @@
 //! The laws of canonical DER: each is the contract of a function without arguments, over the definitions alone.
 //! Beside them stand those of `==` and of copies.
+ghost use Rattle.std.specs.Prelude.{◌≡◌, ℤ, List, ℕ, true};
+ghost use Rattle.picky_der_core.specs.Shape.{AreBytes};
+ghost use Rattle.picky_der_core.specs.Integer.{is_integer, integer_content, integer_value, twos_complement};
 ghost use Rattle.picky_der_core.specs.Laws.{LengthBothWays, WrapperLengths, FirstsTell, UniqueReadability, OneValue, RoundTrip};
 ghost use Rattle.picky_der_core.specs.Laws.{SameBytes, OneInside, SetOrder};
 
@@ -50,4 +53,14 @@ pub fn one_inside()
 /// Sets of the same members, each as often, in any order, have the same encoding (X.690, 11.6).
 pub fn set_order()
     ensures { SetOrder }
+{}
+
+/// Each whole number has one content, each content that passes the test is that of a number, and the bits of a number's content
+/// count as its value (X.690, 8.3).
+pub fn integers()
+    ensures made { (z : ℤ) → is_integer (integer_content z) ≡ true }
+    ensures all { (bs : List ℕ) → AreBytes bs → is_integer bs ≡ true
+        → integer_content (integer_value bs) ≡ bs }
+    ensures one { (y z : ℤ) → integer_content y ≡ integer_content z → y ≡ z }
+    ensures value { (z : ℤ) → twos_complement (integer_content z) ≡ z }
 {}

@@ -4,10 +4,13 @@
 pub mod asn1;
 mod error;
 mod failure;
+mod int;
+pub mod integer;
 pub mod laws;
 pub mod misc;
 mod uint;
 
 pub use error::{Asn1DerError, Result};
 pub use failure::Failure;
+pub use int::{Int, SignedBits};
 pub use uint::UInt;

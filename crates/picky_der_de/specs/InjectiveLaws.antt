@@ -1,12 +1,16 @@
 -- A tree tells its value.
-use Rattle.std.specs.Prelude.{◌≡◌, ℕ, List, [], ◌∷◌, Bool, true, false, ◌&&◌, map, nat_eq, Some, None, encode_utf8, refl}
+use Rattle.std.specs.Prelude.{◌≡◌, ℕ, ℤ, List, [], ◌∷◌, Bool, true, false, ◌&&◌, map, nat_eq, Some, None, encode_utf8, refl}
 use Rattle.std.specs.Option.{option_eq}
+use Rattle.std.specs.Ordering.{int_eq}
+use Rattle.std.proofs.lemmas.Bool.Decides.{Decides-int_eq}
 use mathlib.Core.Bool.{beq}
 use lib.Pointwise.{pointwise}
 use lib.Dec.{eqb}
 use Rattle.std.proofs.Common.{eq-eqb, ap, subst, ◌++◌}
 use Rattle.std.proofs.lemmas.Str.{encode_same}
 use Rattle.picky_der_core.specs.Tree.{ListKind, Tree, Trees, trees}
+use Rattle.picky_der_core.specs.Integer.{content_within, int_tree}
+use Rattle.picky_der_core.specs.IntLaws.{same_within}
 use Rattle.picky_der_core.specs.Readable.{IsReadable, AreReadable}
 use Rattle.picky_der_core.specs.Shape.{Shape, IsOf, EachIs}
 use Rattle.picky_der_core.specs.FirstLaws.{is_of-optional}
@@ -24,6 +28,9 @@ boolean_injective false true e = let q : false ≡ true = cc in cc
 
 pub unsigned_injective : (x y : ℕ) → Tree.unsigned x ≡ Tree.unsigned y → nat_eq x y ≡ true
 unsigned_injective x y e = let q : x ≡ y = cc in eq-eqb x y q
+
+pub int_injective : (fits : ℤ → Bool) (x y : ℤ) → int_tree fits x ≡ int_tree fits y → int_eq x y ≡ true
+int_injective fits x y e = let q : content_within fits x ≡ content_within fits y = cc in (Decides-int_eq x y).1 (same_within fits x y q)
 
 same_bytes : (x y : List ℕ) → x ≡ y → pointwise eqb x y ≡ true
 same_bytes [] [] e = refl

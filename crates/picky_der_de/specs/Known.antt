@@ -1,13 +1,15 @@
 -- What is known of a type's values: which tree each means, and that the tree distinguishes them. It is one value, so that of a type is made of those of its parts.
-use Rattle.std.specs.Prelude.{◌≡◌, ℕ, List, Bool, true, nat_eq, encode_utf8, refl}
+use Rattle.std.specs.Prelude.{◌≡◌, ℕ, ℤ, List, Bool, true, nat_eq, encode_utf8, refl}
+use Rattle.std.specs.Ordering.{int_eq}
 use Rattle.std.proofs.Common.{ap, subst}
 use lib.Pointwise.{pointwise}
 use lib.Dec.{eqb}
 use mathlib.Core.Bool.{beq}
 use Rattle.picky_der_core.specs.Tree.{Tree}
 use Rattle.picky_der_core.specs.Shape.{Shape, IsSound, firsts}
+use Rattle.picky_der_core.specs.Integer.{int_tree}
 use Rattle.picky_der_de.specs.Firsts.{IsBegunBy}
-use Rattle.picky_der_de.specs.InjectiveLaws.{IsInjective, boolean_injective, unsigned_injective, bytes_injective, raw_injective, text_injective, character_injective}
+use Rattle.picky_der_de.specs.InjectiveLaws.{IsInjective, boolean_injective, unsigned_injective, int_injective, bytes_injective, raw_injective, text_injective, character_injective}
 
 pub record Known (V : Type 0) (s : Shape) : Type 0 where
   -- what a value means
@@ -59,6 +61,10 @@ known_number most number eq same = record { meaning = λ v. Tree.unsigned (numbe
 
 abbrev pub known_unsigned : (most : ℕ) → Known ℕ (Shape.unsigned most)
 known_unsigned most = known_number most (λ n. n) nat_eq (λ x y h. h)
+
+-- an integer type, by the numbers that it has
+abbrev pub known_int : (fits : ℤ → Bool) → Known ℤ (Shape.bytes 0x02)
+known_int fits = record { meaning = int_tree fits; equal = int_eq; injective = λ x y p q r e. int_injective fits x y e; sound = tt; begun = λ v b h. h }
 
 abbrev pub known_null : {V : Type 0} → Known V Shape.null
 known_null = record { meaning = λ v. Tree.null; equal = λ x y. true; injective = λ x y p q r e. refl; sound = tt; begun = λ v b h. h }

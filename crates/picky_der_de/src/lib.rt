@@ -20,7 +20,7 @@ mod several;
 mod values;
 mod whole;
 
-pub use alike::{Alike, deserialize_as};
+pub use alike::{Alike, TryAlike, deserialize_as, try_deserialize_as};
 pub use alternatives::{Alternatives, NoneOf, OneOf};
 pub use alternatives4::OneOf4;
 pub use begins::Begins;
@@ -30,7 +30,7 @@ pub use deserializer::Deserializer;
 pub use entry::{DEFAULT_MAX_LEN, from_bytes, from_reader, from_reader_with_max_len};
 pub use layout::{DeserializeLayout, Struct, deserialize_struct_as};
 pub use member::DeserializeMember;
-pub use picky_der_input::{Boolean, Enclosure, End, Null, UInt, UnsignedInteger, Utf8String};
+pub use picky_der_input::{Boolean, Enclosure, End, Int, Null, UInt, UnsignedInteger, Utf8String};
 pub use record::{Record, deserialize_record_as};
 pub use row::DeserializeMembers;
 pub use sequence::Sequence;

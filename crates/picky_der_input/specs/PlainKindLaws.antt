@@ -1,17 +1,20 @@
 -- What holds of each kind of plain value.
-use Rattle.std.proofs.Common.{◌≡◌, ℕ, ◌^◌, ◌<◌, Bool, inl, inr, List, [], ◌∷◌, length, take, Some, None, true, false, ◌==◌, encode_utf8, refl, sym, ◌∙◌, ap, arith, lt-ltb}
+use Rattle.std.proofs.Common.{◌≡◌, ℕ, ℤ, ◌^◌, ◌<◌, ◌≤◌, Bool, cond, inl, inr, List, [], ◌∷◌, length, take, Some, None, true, false, ◌==◌, encode_utf8, refl, sym, ◌∙◌, ap, subst, arith, lt-ltb}
 use Rattle.std.proofs.lemmas.Bool.{cases_lt}
 use Rattle.std.proofs.lemmas.Bool.Decides.{nat_tests}
 use Rattle.std.proofs.lemmas.Grind.{common_steps}
-use Rattle.picky_der_core.specs.declared.error.Asn1DerError.TheVariants.{UnsupportedValue}
+use Rattle.picky_der_core.specs.declared.error.Asn1DerError.TheVariants.{InvalidData, UnsupportedValue}
 use Rattle.picky_der_core.specs.Tree.{Tree}
-use Rattle.picky_der_core.specs.Shape.{Shape, IsFirst}
-use Rattle.picky_der_core.specs.Encoding.{boolean_content, unsigned_content}
+use Rattle.picky_der_core.specs.Shape.{Shape, IsFirst, AreBytes}
+use Rattle.picky_der_core.specs.Encoding.{content, boolean_content, unsigned_content}
 use Rattle.picky_der_core.specs.EncodingLaws.{number-unsigned_content}
 use Rattle.picky_der_core.specs.Tag.{number_of, is_tag_number, IsTagNumber}
-use Rattle.picky_der_core.specs.Refusal.{boolean_error, number_error, unsigned_error, null_error, text_error, character_error, bytes_error}
+use Rattle.picky_der_core.specs.Refusal.{boolean_error, number_error, unsigned_error, int_error, null_error, text_error, character_error, bytes_error}
 use Rattle.picky_der_core.specs.BooleanLaws.{boolean_error-content}
 use Rattle.picky_der_core.specs.UnsignedLaws.{unsigned_error-content, content-unsigned_error, AreBytes-unsigned_content, length-unsigned_content}
+use Rattle.picky_der_core.specs.Integer.{is_integer, bits_of, int_tree}
+use Rattle.picky_der_core.specs.IntegerLaws.{AreBytes-content}
+use Rattle.picky_der_core.specs.IntLaws.{within-fits, fits-within, length-integer_content, int_error-content, content-int_error}
 use Rattle.picky_der_input.specs.PlainKinds.{IsPlainKind, IsShort, IsShortKind}
 use Rattle.picky_der_input.specs.TextLaws.{text_good, character_good, character_by_front, length_character, one_character}
 
@@ -128,6 +131,54 @@ unsigned_short most n e =
 
 pub short_unsigned : (most : ℕ) → IsShortKind Tree.unsigned (Shape.unsigned most) 0x02 (unsigned_error most)
 short_unsigned most = record { plain = unsigned_kind most; by_front = unsigned_by_front most; short = unsigned_short most }
+
+-- ---- integers of any type
+
+-- a content of 18 bytes or more is refused by its first two
+int_too_long : (fits : ℤ → Bool) (b d : ℕ) (bs : List ℕ) → 16 ≤ length bs → int_error fits (b ∷ d ∷ bs) ≡ cond (is_integer (b ∷ d ∷ [])) (Some UnsupportedValue) (Some InvalidData)
+int_too_long fits b d bs h = rw (lt-ltb 17 (length (b ∷ d ∷ bs)) (omega arith)) refl
+
+int_few : (fits : ℤ → Bool) (b d : ℕ) (bs : List ℕ) → length bs < 16 → int_error fits (b ∷ d ∷ take 16 bs) ≡ int_error fits (b ∷ d ∷ bs)
+int_few fits b d bs few = let all : take 16 bs ≡ bs = grind (arith, common_steps) in ap (λ x. int_error fits (b ∷ d ∷ x)) all
+
+int_many : (fits : ℤ → Bool) (b d : ℕ) (bs : List ℕ) → 16 ≤ length bs → int_error fits (b ∷ d ∷ take 16 bs) ≡ int_error fits (b ∷ d ∷ bs)
+int_many fits b d bs many =
+    let long : length (take 16 bs) ≡ 16 = grind (arith, common_steps) in
+    int_too_long fits b d (take 16 bs) (omega arith) ∙ sym (int_too_long fits b d bs many)
+
+take_behind : (b d : ℕ) (bs : List ℕ) → take 18 (b ∷ d ∷ bs) ≡ b ∷ d ∷ take 16 bs
+take_behind b d bs = refl
+
+int_by_front : (fits : ℤ → Bool) (c : List ℕ) → int_error fits (take 18 c) ≡ int_error fits c
+int_by_front fits [] = refl
+int_by_front fits (b ∷ []) = refl
+int_by_front fits (b ∷ d ∷ bs) = ap (int_error fits) (take_behind b d bs) ∙ elim (cases_lt (length bs) 16) [
+  | inl few ↦ int_few fits b d bs few
+  | inr many ↦ int_many fits b d bs many
+]
+
+module _ (fits : ℤ → Bool) (narrow : (z : ℤ) → fits z ≡ true → bits_of z < 2 ^ 128) where
+  int_judged : (z : ℤ) → fits z ≡ true → int_error fits (content (int_tree fits z)) ≡ None
+  int_judged z f = ap (int_error fits) (within-fits fits z f) ∙ int_error-content fits z f (narrow z f)
+
+  int_kind : IsPlainKind (int_tree fits) (Shape.bytes 0x02) 0x02 (int_error fits)
+  int_kind = record {
+    number = omega arith;
+    first = refl;
+    plain = λ z. refl;
+    tagged = λ z. refl;
+    no_choice = λ z. tt;
+    judged = λ z o. int_judged z (fits-within fits z o.1);
+  }
+
+  int_short : (z : ℤ) → int_error fits (content (int_tree fits z)) ≡ None → IsShort (Shape.bytes 0x02) (int_tree fits z)
+  int_short z e =
+      let f = content-int_error fits z e in
+      let is = within-fits fits z f in
+      record { of_shape = (refl, subst AreBytes (sym is) (AreBytes-content z)); readable = omega arith; short = omega (arith, ap length is, length-integer_content z (narrow z f)) }
+
+  pub short_int : IsShortKind (int_tree fits) (Shape.bytes 0x02) 0x02 (int_error fits)
+  short_int = record { plain = int_kind; by_front = int_by_front fits; short = int_short }
 
 pub short_null : IsShortKind (λ (_ : Unit {0}). Tree.null) Shape.null 0x05 null_error
 short_null = record { plain = null_kind; by_front = null_by_front; short = λ _ e. record { of_shape = tt; readable = tt; short = omega arith } }

@@ -1,12 +1,13 @@
 -- What reading a value of a type does.
-use Rattle.std.specs.Prelude.{◌≡◌, ◌≢◌, ℕ, Bool, ◌+◌, ◌<◌, List, ◌∷◌, ◌++◌, length, take, drop, Option, Some, None, encode_utf8}
+use Rattle.std.specs.Prelude.{◌≡◌, ◌≢◌, ℕ, ℤ, Bool, ◌+◌, ◌<◌, List, ◌∷◌, ◌++◌, length, take, drop, Option, Some, None, encode_utf8}
 use Rattle.picky_der_core.specs.declared.error.Asn1DerError.{Asn1DerError}
 use Rattle.picky_der_core.specs.declared.error.Asn1DerError.TheVariants.{TruncatedData}
 use Rattle.picky_der_core.specs.Tree.{Tree}
 use Rattle.picky_der_core.specs.Readable.{IsReadable}
 use Rattle.picky_der_core.specs.Shape.{Shape, IsOf, IsFirst}
+use Rattle.picky_der_core.specs.Integer.{integer_tree, int_tree}
 use Rattle.picky_der_core.specs.Reading.{written_at, MayStand, StandsAt}
-use Rattle.picky_der_core.specs.Refusal.{Judge, Refusal, plain_refusal, inside_refusal, boolean_error, unsigned_error, null_error, text_error, character_error, bytes_error}
+use Rattle.picky_der_core.specs.Refusal.{Judge, Refusal, plain_refusal, inside_refusal, boolean_error, unsigned_error, int_error, null_error, text_error, character_error, bytes_error}
 use Rattle.picky_der_input.specs.State.{State}
 use Rattle.picky_der_input.specs.Steps.{Takes, Fails, IsJudged, drawn_count, mendable_limit, place_of, is_hard}
 
@@ -93,6 +94,13 @@ ReadsUnsigned most old new n = ReadsPlain 0x02 (unsigned_error most) (Shape.unsi
 
 abbrev pub RefusesUnsigned : ℕ → State → State → Asn1DerError → Type 0
 RefusesUnsigned most old new e = RefusesPlain Tree.unsigned 0x02 (unsigned_error most) (Shape.unsigned most) old new e
+
+-- a number of an integer type, by a test of which numbers it has
+abbrev pub ReadsInt : (ℤ → Bool) → State → State → ℤ → Type 0
+ReadsInt fits old new z = ReadsPlain 0x02 (int_error fits) (Shape.bytes 0x02) old new (integer_tree z)
+
+abbrev pub RefusesInt : (ℤ → Bool) → State → State → Asn1DerError → Type 0
+RefusesInt fits old new e = RefusesPlain (int_tree fits) 0x02 (int_error fits) (Shape.bytes 0x02) old new e
 
 abbrev pub ReadsBytes : ℕ → State → State → List ℕ → Type 0
 ReadsBytes tag old new bs = ReadsPlain tag bytes_error (Shape.bytes tag) old new (Tree.bytes tag bs)

@@ -2,6 +2,7 @@
 //! the crate above.
 #![tactic(auto)]
 
+mod any_integer;
 mod boolean;
 mod enclosure;
 mod end;
@@ -17,5 +18,5 @@ pub use end::End;
 pub use input::{Input, Outer};
 pub use integer::UnsignedInteger;
 pub use null::Null;
-pub use picky_der_core::UInt;
+pub use picky_der_core::{Int, UInt};
 pub use utf8_string::Utf8String;

@@ -3,12 +3,16 @@ ghost use Rattle.std.proofs.Common.{rules};
 ghost use Rattle.std.specs.Prelude.{◌≡◌, Bool, true, IsTrue, not, nat_eq};
 ghost use mathlib.Core.Bool.{beq};
 ghost use Rattle.picky_der_core.specs.Equality.{IsThatOf};
+ghost use Rattle.picky_der_core.specs.declared.asn1.wrapper.Wrapper.TheVariants as wrapper;
 ghost use Rattle.picky_der_ser.specs.Meaning.{maybe_more, unless_default};
-ghost use Rattle.picky_der_ser.specs.Defaults.{IsByTree, IsOne, numbers_by_tree, one_false, one_true, one_number, explicit_by_tree};
+ghost use Rattle.picky_der_ser.specs.Defaults.{IsByTree, IsOne, numbers_by_tree, one_false, one_true, one_number, wrapped_by_tree};
+ghost use Rattle.picky_der_ser.specs.Defaults.{ints_by_tree, one_int};
+ghost use Rattle.picky_der_core.specs.Integer.{fits_signed};
+ghost use Rattle.std.specs.Ordering.{int_eq};
 
-use crate::{Sequence, Serialize, SerializeMember};
+use crate::{List, Sequence, Serialize, SerializeMember};
 use picky_der_core::Result;
-use picky_der_core::asn1::ExplicitContextTag;
+use picky_der_core::asn1::{ExplicitContextTag, ImplicitContextTag, Retagged};
 use picky_der_core::misc::WriteExt;
 use std::marker::PhantomData;
 
@@ -116,6 +120,9 @@ pub struct True;
 
 /// The default `N` of an INTEGER, 255 at most.
 pub struct Number<const N: u8>;
+
+/// The default `N` of an INTEGER that is read as a signed type, from -128 to 127.
+pub struct SignedNumber<const N: i8>;
 
 impl DefaultOf<bool> for False {
     ghost left_out = { not };
@@ -277,6 +284,106 @@ impl<const N: u8> DefaultOf<usize> for Number<N> {
     ghost equal_so = { λ x y h. h };
 }
 
+impl<const N: i8> DefaultOf<i8> for SignedNumber<N> {
+    ghost left_out = { λ number. int_eq number N };
+
+    ghost equal = { int_eq };
+
+    fn is_default(value: &i8) -> bool {
+        *value == N
+    }
+
+    fn default() -> i8 {
+        N
+    }
+
+    ghost by_tree = { ints_by_tree (fits_signed 8) N };
+
+    ghost one = { one_int N };
+
+    ghost equal_so = { λ x y h. h };
+}
+
+impl<const N: i8> DefaultOf<i16> for SignedNumber<N> {
+    ghost left_out = { λ number. int_eq number N };
+
+    ghost equal = { int_eq };
+
+    fn is_default(value: &i16) -> bool {
+        *value == i16::from(N)
+    }
+
+    fn default() -> i16 {
+        i16::from(N)
+    }
+
+    ghost by_tree = { ints_by_tree (fits_signed 16) N };
+
+    ghost one = { one_int N };
+
+    ghost equal_so = { λ x y h. h };
+}
+
+impl<const N: i8> DefaultOf<i32> for SignedNumber<N> {
+    ghost left_out = { λ number. int_eq number N };
+
+    ghost equal = { int_eq };
+
+    fn is_default(value: &i32) -> bool {
+        *value == i32::from(N)
+    }
+
+    fn default() -> i32 {
+        i32::from(N)
+    }
+
+    ghost by_tree = { ints_by_tree (fits_signed 32) N };
+
+    ghost one = { one_int N };
+
+    ghost equal_so = { λ x y h. h };
+}
+
+impl<const N: i8> DefaultOf<i64> for SignedNumber<N> {
+    ghost left_out = { λ number. int_eq number N };
+
+    ghost equal = { int_eq };
+
+    fn is_default(value: &i64) -> bool {
+        *value == i64::from(N)
+    }
+
+    fn default() -> i64 {
+        i64::from(N)
+    }
+
+    ghost by_tree = { ints_by_tree (fits_signed 64) N };
+
+    ghost one = { one_int N };
+
+    ghost equal_so = { λ x y h. h };
+}
+
+impl<const N: i8> DefaultOf<i128> for SignedNumber<N> {
+    ghost left_out = { λ number. int_eq number N };
+
+    ghost equal = { int_eq };
+
+    fn is_default(value: &i128) -> bool {
+        *value == i128::from(N)
+    }
+
+    fn default() -> i128 {
+        i128::from(N)
+    }
+
+    ghost by_tree = { ints_by_tree (fits_signed 128) N };
+
+    ghost one = { one_int N };
+
+    ghost equal_so = { λ x y h. h };
+}
+
 /// A default is one under an explicit tag, too.
 impl<T: Serialize + PartialEq, D: DefaultOf<T>, const N: u8> DefaultOf<ExplicitContextTag<T, N>>
     for D {
@@ -292,7 +399,50 @@ impl<T: Serialize + PartialEq, D: DefaultOf<T>, const N: u8> DefaultOf<ExplicitC
         ExplicitContextTag(D::default())
     }
 
-    ghost by_tree = { λ x y d. explicit_by_tree N T.meaning D.left_out D.by_tree x.0 y.0 d };
+    ghost by_tree = { λ x y d. wrapped_by_tree (wrapper.Explicit N) T.meaning D.left_out D.by_tree x.0 y.0 d };
+
+    ghost one = { λ x y. D.one x.0 y.0 };
+
+    ghost equal_so = { λ x y h. D.equal_so x.0 y.0 h };
+}
+
+/// A default is one under an implicit tag, too.
+impl<T: Serialize + PartialEq, D: DefaultOf<T>, const N: u8> DefaultOf<ImplicitContextTag<T, N>>
+    for D {
+    ghost left_out = { λ tagged. D.left_out tagged.0 };
+
+    ghost equal = { λ x y. D.equal x.0 y.0 };
+
+    fn is_default(value: &ImplicitContextTag<T, N>) -> bool {
+        D::is_default(&value.0)
+    }
+
+    fn default() -> ImplicitContextTag<T, N> {
+        ImplicitContextTag(D::default())
+    }
+
+    ghost by_tree = { λ x y d. wrapped_by_tree (wrapper.Implicit N) T.meaning D.left_out D.by_tree x.0 y.0 d };
+
+    ghost one = { λ x y. D.one x.0 y.0 };
+
+    ghost equal_so = { λ x y h. D.equal_so x.0 y.0 h };
+}
+
+/// A default is one under the tag of a list in place of its own, too.
+impl<T: List + PartialEq, D: DefaultOf<T>, const TAG: u8> DefaultOf<Retagged<T, TAG>> for D {
+    ghost left_out = { λ tagged. D.left_out tagged.0 };
+
+    ghost equal = { λ x y. D.equal x.0 y.0 };
+
+    fn is_default(value: &Retagged<T, TAG>) -> bool {
+        D::is_default(&value.0)
+    }
+
+    fn default() -> Retagged<T, TAG> {
+        Retagged(D::default())
+    }
+
+    ghost by_tree = { λ x y d. wrapped_by_tree (wrapper.Retagged TAG) T.meaning D.left_out D.by_tree x.0 y.0 d };
 
     ghost one = { λ x y. D.one x.0 y.0 };
 

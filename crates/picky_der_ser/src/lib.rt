@@ -26,7 +26,7 @@ mod wide;
 mod wrapper_stack;
 
 pub use boolean::Boolean;
-pub use default::{DefaultOf, Defaulted, DefaultedRef, False, Number, True};
+pub use default::{DefaultOf, Defaulted, DefaultedRef, False, Number, SignedNumber, True};
 pub use entry::{to_byte_buf, to_bytes, to_vec, to_writer};
 pub use header::Header;
 pub use integer::UnsignedInteger;
@@ -34,7 +34,7 @@ pub use list::List;
 pub use member::SerializeMember;
 pub use null::Null;
 pub use optional::{Optional, OptionalRef};
-pub use picky_der_core::UInt;
+pub use picky_der_core::{Int, UInt};
 pub use row::{Row, SerializeMembers};
 pub use sequence::Sequence;
 pub use serializer::{Serialize, Serializer};

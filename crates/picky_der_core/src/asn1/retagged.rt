@@ -46,3 +46,7 @@ pub type ImplicitList5<T> = Retagged<T, 0xA5>;
 pub type ImplicitList6<T> = Retagged<T, 0xA6>;
 /// A list under the implicit context tag 7, `A7`.
 pub type ImplicitList7<T> = Retagged<T, 0xA7>;
+
+/// A SET OF whose members are read in any order and written in that: for data that isn't DER, where X.690 (11.6) wants them in
+/// ascending order. `Asn1SetOf` writes them in that order, and refuses any other.
+pub type SetOfAsGiven<T> = Retagged<Vec<T>, 0x31>;

@@ -7,7 +7,7 @@ use crate::asn1::{
     ImplicitContextTag, Newtype, OctetStringAsn1Container, Retagged, Tag, TagClass, TaggedBytes,
     Wrapper,
 };
-use crate::{Asn1DerError, Failure};
+use crate::{Asn1DerError, Failure, SignedBits};
 
 /// A copy of an octet string, or of bytes under one tag, has the same bytes.
 pub fn bytes<const TAG: u8>()
@@ -54,4 +54,9 @@ pub fn newtypes()
 pub fn errors()
     ensures error { IsKept ⟦<Asn1DerError as Clone>⟧.is_clone (λ error. error) }
     ensures failure { IsKept ⟦<Failure as Clone>⟧.is_clone (λ failure. failure) }
+{}
+
+/// A copy of a sign and bits is the same.
+pub fn numbers()
+    ensures { IsKept ⟦<SignedBits as Clone>⟧.is_clone (λ bits. bits) }
 {}

@@ -9,7 +9,7 @@ use crate::asn1::{
     ImplicitContextTag, Newtype, OctetStringAsn1Container, Retagged, Tag, TagClass, TaggedBytes,
     Wrapper,
 };
-use crate::{Asn1DerError, Failure};
+use crate::{Asn1DerError, Failure, SignedBits};
 
 /// Octet strings, and bytes under one tag, are equal just where their bytes are the same.
 pub fn bytes<const TAG: u8>()
@@ -52,4 +52,9 @@ pub fn newtypes()
 pub fn errors()
     ensures error { IsEqualityOf ⟦<Asn1DerError as PartialEq>⟧.eq comparison_of }
     ensures failure { IsEqualityOf ⟦<Failure as PartialEq>⟧.eq (λ failure. failure) }
+{}
+
+/// Signs and bits are equal exactly if both are the same.
+pub fn numbers()
+    ensures { IsEqualityOf ⟦<SignedBits as PartialEq>⟧.eq (λ bits. bits) }
 {}

@@ -1,11 +1,14 @@
 //! Bools, numbers and nulls.
 ghost use Rattle.std.specs.Prelude.{◌^◌, ◌-◌, IfOk, IfErr, OnOk};
+ghost use Rattle.picky_der_core.specs.Shape.{Shape};
+ghost use Rattle.picky_der_core.specs.Integer.{int_tree};
 ghost use Rattle.picky_der_input.specs.Steps.{TakesNoMemory};
+ghost use Rattle.picky_der_input.specs.Reading.{Reads, ReadsInt, RefusesInt};
 ghost use Rattle.picky_der_input.specs.Reading.{ReadsBoolean, RefusesBoolean, ReadsUnsigned, RefusesUnsigned, ReadsNull, RefusesNull};
 
 use super::Deserializer;
-use picky_der_core::Result;
 use picky_der_core::misc::ReadExt;
+use picky_der_core::{Int, Result};
 
 impl<R: ReadExt> Deserializer<R> {
     /// Reads a bool (X.690, 8.2 and 11.1).
@@ -67,6 +70,20 @@ impl<R: ReadExt> Deserializer<R> {
         ensures memory { IfErr result (TakesNoMemory self.old self.new) }
     {
         self.input.read_unsigned()
+    }
+
+    /// Reads an INTEGER that an integer type has, signed or not (X.690, 8.3).
+    ///
+    /// `InvalidData` for another tag, and for a content that isn't two's complement in the fewest bytes; `UnsupportedValue` for
+    /// a number that the type doesn't have; the refusals of a header and of an end; else the reader's fault.
+    pub fn deserialize_int<N: Int>(&mut self) -> Result<N>
+        ensures ok { IfOk result (λ value. ReadsInt N.fits self.old self.new (N.number value)) }
+        ensures meant { IfOk result (λ value. Reads (Shape.bytes 0x02) self.old self.new
+            (int_tree N.fits (N.number value))) }
+        ensures err { IfErr result (RefusesInt N.fits self.old self.new) }
+        ensures memory { IfErr result (TakesNoMemory self.old self.new) }
+    {
+        self.input.read_int()
     }
 
     /// Reads a null (X.690, 8.8).

@@ -68,6 +68,36 @@ impl Begins for usize {
     }
 }
 
+impl Begins for i8 {
+    fn begins_with(tag: Tag) -> bool {
+        tag == Tag::INTEGER
+    }
+}
+
+impl Begins for i16 {
+    fn begins_with(tag: Tag) -> bool {
+        tag == Tag::INTEGER
+    }
+}
+
+impl Begins for i32 {
+    fn begins_with(tag: Tag) -> bool {
+        tag == Tag::INTEGER
+    }
+}
+
+impl Begins for i64 {
+    fn begins_with(tag: Tag) -> bool {
+        tag == Tag::INTEGER
+    }
+}
+
+impl Begins for i128 {
+    fn begins_with(tag: Tag) -> bool {
+        tag == Tag::INTEGER
+    }
+}
+
 impl Begins for () {
     fn begins_with(tag: Tag) -> bool {
         tag == Tag::NULL

@@ -2,9 +2,11 @@
 ghost use Rattle.std.specs.Prelude.{◌^◌, ◌-◌, IfOk, IfErr};
 ghost use Rattle.picky_der_core.specs.Tree.{Tree};
 ghost use Rattle.picky_der_core.specs.Shape.{Shape};
+ghost use Rattle.picky_der_core.specs.Integer.{fits_signed, int_tree};
 ghost use Rattle.picky_der_input.specs.Steps.{TakesNoMemory};
 ghost use Rattle.picky_der_input.specs.Reading.{Reads, Refuses, RefusesBoolean, ReadsUnsigned, RefusesUnsigned};
-ghost use Rattle.picky_der_de.specs.Known.{known_boolean, known_unsigned, by_itself};
+ghost use Rattle.picky_der_input.specs.Reading.{ReadsInt, RefusesInt};
+ghost use Rattle.picky_der_de.specs.Known.{known_boolean, known_unsigned, known_int, by_itself};
 
 use crate::{Deserialize, Deserializer};
 use picky_der_core::Result;
@@ -141,5 +143,105 @@ impl Deserialize for usize {
         ensures memory { IfErr result (TakesNoMemory de.old de.new) }
     {
         Ok(de.deserialize_u64()? as usize)
+    }
+}
+
+impl Deserialize for i8 {
+    ghost shape = { Shape.bytes 0x02 };
+
+    ghost known = { known_int (fits_signed 8) };
+
+    ghost tied = { by_itself };
+
+    fn deserialize<R: ReadExt>(de: &mut Deserializer<R>) -> Result<i8>
+        ensures ok { IfOk result (λ value. Reads (Shape.bytes 0x02) de.old de.new
+            (int_tree (fits_signed 8) value)) }
+        ensures err { IfErr result (Refuses (int_tree (fits_signed 8)) (Shape.bytes 0x02)
+            de.old de.new) }
+        ensures read { IfOk result (ReadsInt (fits_signed 8) de.old de.new) }
+        ensures refused { IfErr result (RefusesInt (fits_signed 8) de.old de.new) }
+        ensures memory { IfErr result (TakesNoMemory de.old de.new) }
+    {
+        de.deserialize_int()
+    }
+}
+
+impl Deserialize for i16 {
+    ghost shape = { Shape.bytes 0x02 };
+
+    ghost known = { known_int (fits_signed 16) };
+
+    ghost tied = { by_itself };
+
+    fn deserialize<R: ReadExt>(de: &mut Deserializer<R>) -> Result<i16>
+        ensures ok { IfOk result (λ value. Reads (Shape.bytes 0x02) de.old de.new
+            (int_tree (fits_signed 16) value)) }
+        ensures err { IfErr result (Refuses (int_tree (fits_signed 16)) (Shape.bytes 0x02)
+            de.old de.new) }
+        ensures read { IfOk result (ReadsInt (fits_signed 16) de.old de.new) }
+        ensures refused { IfErr result (RefusesInt (fits_signed 16) de.old de.new) }
+        ensures memory { IfErr result (TakesNoMemory de.old de.new) }
+    {
+        de.deserialize_int()
+    }
+}
+
+impl Deserialize for i32 {
+    ghost shape = { Shape.bytes 0x02 };
+
+    ghost known = { known_int (fits_signed 32) };
+
+    ghost tied = { by_itself };
+
+    fn deserialize<R: ReadExt>(de: &mut Deserializer<R>) -> Result<i32>
+        ensures ok { IfOk result (λ value. Reads (Shape.bytes 0x02) de.old de.new
+            (int_tree (fits_signed 32) value)) }
+        ensures err { IfErr result (Refuses (int_tree (fits_signed 32)) (Shape.bytes 0x02)
+            de.old de.new) }
+        ensures read { IfOk result (ReadsInt (fits_signed 32) de.old de.new) }
+        ensures refused { IfErr result (RefusesInt (fits_signed 32) de.old de.new) }
+        ensures memory { IfErr result (TakesNoMemory de.old de.new) }
+    {
+        de.deserialize_int()
+    }
+}
+
+impl Deserialize for i64 {
+    ghost shape = { Shape.bytes 0x02 };
+
+    ghost known = { known_int (fits_signed 64) };
+
+    ghost tied = { by_itself };
+
+    fn deserialize<R: ReadExt>(de: &mut Deserializer<R>) -> Result<i64>
+        ensures ok { IfOk result (λ value. Reads (Shape.bytes 0x02) de.old de.new
+            (int_tree (fits_signed 64) value)) }
+        ensures err { IfErr result (Refuses (int_tree (fits_signed 64)) (Shape.bytes 0x02)
+            de.old de.new) }
+        ensures read { IfOk result (ReadsInt (fits_signed 64) de.old de.new) }
+        ensures refused { IfErr result (RefusesInt (fits_signed 64) de.old de.new) }
+        ensures memory { IfErr result (TakesNoMemory de.old de.new) }
+    {
+        de.deserialize_int()
+    }
+}
+
+impl Deserialize for i128 {
+    ghost shape = { Shape.bytes 0x02 };
+
+    ghost known = { known_int (fits_signed 128) };
+
+    ghost tied = { by_itself };
+
+    fn deserialize<R: ReadExt>(de: &mut Deserializer<R>) -> Result<i128>
+        ensures ok { IfOk result (λ value. Reads (Shape.bytes 0x02) de.old de.new
+            (int_tree (fits_signed 128) value)) }
+        ensures err { IfErr result (Refuses (int_tree (fits_signed 128)) (Shape.bytes 0x02)
+            de.old de.new) }
+        ensures read { IfOk result (ReadsInt (fits_signed 128) de.old de.new) }
+        ensures refused { IfErr result (RefusesInt (fits_signed 128) de.old de.new) }
+        ensures memory { IfErr result (TakesNoMemory de.old de.new) }
+    {
+        de.deserialize_int()
     }
 }

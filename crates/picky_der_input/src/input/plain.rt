@@ -1,15 +1,19 @@
 //! Bools, numbers and nulls: a header, a content, and its judge.
 ghost use Rattle.std.specs.Prelude.{◌≡◌, None, IfNone, IfSome, IfOk, IfErr, OnOk};
+ghost use Rattle.picky_der_core.specs.Shape.{Shape};
+ghost use Rattle.picky_der_core.specs.Integer.{int_tree};
 ghost use Rattle.picky_der_input.specs.Steps.{TakesNoMemory};
+ghost use Rattle.picky_der_input.specs.Reading.{Reads, ReadsInt, RefusesInt};
 ghost use Rattle.picky_der_input.specs.Reading.{ReadsPlain, RefusesPlain, ReadsBoolean, RefusesBoolean, ReadsUnsigned, RefusesUnsigned};
 ghost use Rattle.picky_der_input.specs.Reading.{ReadsNull, RefusesNull};
 
 use super::Input;
 use super::ahead::{near, short_in_front};
+use crate::any_integer::AnyInteger;
 use crate::plain_kind::PlainKind;
 use crate::{Boolean, Null, UnsignedInteger};
 use picky_der_core::misc::ReadExt;
-use picky_der_core::{Result, UInt};
+use picky_der_core::{Int, Result, UInt};
 
 impl<R: ReadExt> Input<R> {
     /// Reads a bool (X.690, 8.2 and 11.1).
@@ -36,6 +40,20 @@ impl<R: ReadExt> Input<R> {
         ensures memory { IfErr result (TakesNoMemory self.old self.new) }
     {
         self.read_plain::<UnsignedInteger, T>()
+    }
+
+    /// Reads an INTEGER that an integer type has, signed or not (X.690, 8.3).
+    ///
+    /// `InvalidData` for another tag, and for a content that isn't two's complement in the fewest bytes; `UnsupportedValue` for
+    /// a number that the type doesn't have; the refusals of a header and of an end; else the reader's fault.
+    pub fn read_int<N: Int>(&mut self) -> Result<N>
+        ensures ok { IfOk result (λ value. ReadsInt N.fits self.old self.new (N.number value)) }
+        ensures meant { IfOk result (λ value. Reads (Shape.bytes 0x02) self.old self.new
+            (int_tree N.fits (N.number value))) }
+        ensures err { IfErr result (RefusesInt N.fits self.old self.new) }
+        ensures memory { IfErr result (TakesNoMemory self.old self.new) }
+    {
+        self.read_plain::<AnyInteger, N>()
     }
 
     /// Reads a null (X.690, 8.8).

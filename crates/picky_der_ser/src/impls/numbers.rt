@@ -1,5 +1,6 @@
 //! What bools and numbers mean.
 ghost use Rattle.picky_der_core.specs.Tree.{Tree};
+ghost use Rattle.picky_der_core.specs.Integer.{fits_signed, integer_tree, int_tree};
 ghost use Rattle.picky_der_ser.specs.Calls.{WritesPlain};
 
 use crate::{Serialize, Serializer};
@@ -80,5 +81,65 @@ impl Serialize for usize {
         ensures plain { WritesPlain W.WriteExt.own (Tree.unsigned self.now) ser.old result ser.new }
     {
         ser.serialize_u128(*self as u128)
+    }
+}
+
+impl Serialize for i8 {
+    ghost meaning = { int_tree (fits_signed 8) };
+
+    fn serialize<W: WriteExt>(&self, ser: &mut Serializer<W>) -> Result<usize>
+        ensures plain { WritesPlain W.WriteExt.own (integer_tree self.now) ser.old result ser.new }
+        ensures meant { WritesPlain W.WriteExt.own (int_tree (fits_signed 8) self.now)
+            ser.old result ser.new }
+    {
+        ser.serialize_int(*self)
+    }
+}
+
+impl Serialize for i16 {
+    ghost meaning = { int_tree (fits_signed 16) };
+
+    fn serialize<W: WriteExt>(&self, ser: &mut Serializer<W>) -> Result<usize>
+        ensures plain { WritesPlain W.WriteExt.own (integer_tree self.now) ser.old result ser.new }
+        ensures meant { WritesPlain W.WriteExt.own (int_tree (fits_signed 16) self.now)
+            ser.old result ser.new }
+    {
+        ser.serialize_int(*self)
+    }
+}
+
+impl Serialize for i32 {
+    ghost meaning = { int_tree (fits_signed 32) };
+
+    fn serialize<W: WriteExt>(&self, ser: &mut Serializer<W>) -> Result<usize>
+        ensures plain { WritesPlain W.WriteExt.own (integer_tree self.now) ser.old result ser.new }
+        ensures meant { WritesPlain W.WriteExt.own (int_tree (fits_signed 32) self.now)
+            ser.old result ser.new }
+    {
+        ser.serialize_int(*self)
+    }
+}
+
+impl Serialize for i64 {
+    ghost meaning = { int_tree (fits_signed 64) };
+
+    fn serialize<W: WriteExt>(&self, ser: &mut Serializer<W>) -> Result<usize>
+        ensures plain { WritesPlain W.WriteExt.own (integer_tree self.now) ser.old result ser.new }
+        ensures meant { WritesPlain W.WriteExt.own (int_tree (fits_signed 64) self.now)
+            ser.old result ser.new }
+    {
+        ser.serialize_int(*self)
+    }
+}
+
+impl Serialize for i128 {
+    ghost meaning = { int_tree (fits_signed 128) };
+
+    fn serialize<W: WriteExt>(&self, ser: &mut Serializer<W>) -> Result<usize>
+        ensures plain { WritesPlain W.WriteExt.own (integer_tree self.now) ser.old result ser.new }
+        ensures meant { WritesPlain W.WriteExt.own (int_tree (fits_signed 128) self.now)
+            ser.old result ser.new }
+    {
+        ser.serialize_int(*self)
     }
 }

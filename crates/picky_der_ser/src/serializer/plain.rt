@@ -2,6 +2,7 @@
 ghost use Rattle.std.specs.Prelude.{◌≡◌, ◌≢◌, [], encode_utf8};
 ghost use Rattle.picky_der_core.specs.Tag.{number_of, IsTagNumber};
 ghost use Rattle.picky_der_core.specs.Tree.{Tree};
+ghost use Rattle.picky_der_core.specs.Integer.{integer_tree, int_tree};
 ghost use Rattle.picky_der_ser.specs.Heading.{tree_of};
 ghost use Rattle.picky_der_ser.specs.Headers.{HasNumber};
 ghost use Rattle.picky_der_ser.specs.Calls.{WritesPlain};
@@ -10,8 +11,9 @@ use super::Serializer;
 use crate::sink::put_element;
 use crate::{Boolean, Header, Null, UnsignedInteger, Utf8String};
 use picky_der_core::asn1::Tag;
+use picky_der_core::integer::IntContent;
 use picky_der_core::misc::WriteExt;
-use picky_der_core::{Asn1DerError, Result};
+use picky_der_core::{Asn1DerError, Int, Result};
 
 impl<W: WriteExt> Serializer<W> {
     // Writes a plain element in the open wrappers. Mostly it is a short one in a level and in no wrapper.
@@ -136,6 +138,17 @@ impl<W: WriteExt> Serializer<W> {
         ensures { WritesPlain W.WriteExt.own (Tree.unsigned value) self.old result self.new }
     {
         UnsignedInteger::serialize(value, self)
+    }
+
+    /// Writes a number of an integer type, signed or not, as an INTEGER (X.690, 8.3).
+    pub fn serialize_int<N: Int>(&mut self, number: N) -> Result<usize>
+        ensures written { WritesPlain W.WriteExt.own (integer_tree (N.number number))
+            self.old result self.new }
+        ensures meant { WritesPlain W.WriteExt.own (int_tree N.fits (N.number number))
+            self.old result self.new }
+    {
+        let content = IntContent::of(number.into_bits());
+        self.write_plain(Tag::INTEGER, content.as_slice())
     }
 
     /// Writes an octet string (X.690, 8.7).

@@ -1,5 +1,4 @@
-use Rattle.std.proofs.Common.{refl, sym, ◌∙◌, arith, length}
-use Rattle.picky_der_core.specs.Encoding.{der}
+use Rattle.std.proofs.Common.{sym, ◌∙◌, arith}
 use Rattle.picky_der_de.specs.Known.{injective_of}
 use Rattle.picky_der_de.proofs.EntryReads.{front_read}
 use Rattle.picky_der_de.proofs.WholeInputs.{taken_all, is_whole, left_over, no_encoding}
