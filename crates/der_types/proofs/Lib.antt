@@ -1,4 +1,3 @@
-pub mod DigitLaws
 pub mod ContentReads
 pub mod DottedLemmas
 pub mod OidTexts

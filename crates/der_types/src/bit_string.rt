@@ -1,6 +1,7 @@
 //! Bit strings.
 ghost use Rattle.std.proofs.Common.{rules};
 ghost use Rattle.std.specs.Prelude.{◌≡◌, ◌⊎◌, ◌∷◌, ◌<◌, ◌==◌, true, false, drop, length, slice_index, slice_get, IfSome, IfNone, IfOk, IfErr};
+ghost use Rattle.std.specs.Cmp.Lexicographic.{bytes_decides};
 ghost use Rattle.picky_der_core.specs.Tree.{Tree};
 ghost use Rattle.picky_der_core.specs.Shape.{Shape};
 ghost use Rattle.picky_der_input.specs.Reading.{Reads, Refuses};
@@ -119,16 +120,26 @@ impl Contents for BitString {
         }
     }
 
+    fn serialize_under<W: WriteExt>(
+        &self,
+        tag: Tag,
+        serializer: &mut Serializer<W>,
+    ) -> Result<usize> {
+        serializer.serialize_tagged_bytes(tag, &self.content)
+    }
+
     ghost short = { Prim.search rules };
 
     ghost valid = { λ it. it.canonical };
+
+    ghost same = { λ x y e. (bytes_decides x.content.items y.content.items).1 e };
 }
 
 impl Serialize for BitString {
     ghost meaning = { λ it. Tree.bytes 0x03 it.content.items };
 
     fn serialize<W: WriteExt>(&self, serializer: &mut Serializer<W>) -> Result<usize> {
-        serializer.serialize_tagged_bytes(Tag::BIT_STRING, &self.content)
+        self.serialize_under(Tag::BIT_STRING, serializer)
     }
 }
 

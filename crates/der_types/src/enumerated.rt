@@ -1,11 +1,12 @@
 //! Values of enumerated types.
 ghost use Rattle.std.proofs.Common.{lit≤};
 ghost use Rattle.std.specs.Prelude.{◌≡◌, true, false, IfSome, IfNone, IfOk, IfErr};
+ghost use Rattle.std.specs.Cmp.Lexicographic.{bytes_decides};
 ghost use Rattle.picky_der_core.specs.Tree.{Tree};
 ghost use Rattle.picky_der_core.specs.Shape.{Shape};
 ghost use Rattle.picky_der_input.specs.Reading.{Reads, Refuses};
 ghost use Rattle.picky_der_de.specs.Known.{known_bytes, by_itself};
-ghost use Rattle.der_types.specs.Integer.{is_integer};
+ghost use Rattle.picky_der_core.specs.Integer.{is_integer};
 ghost use Rattle.der_types.specs.ContentTests.{ReadsContent, RefusesContent};
 
 use crate::{Contents, Integer, deserialize_contents_as};
@@ -48,16 +49,26 @@ impl Contents for Enumerated {
         }
     }
 
+    fn serialize_under<W: WriteExt>(
+        &self,
+        tag: Tag,
+        serializer: &mut Serializer<W>,
+    ) -> Result<usize> {
+        serializer.serialize_tagged_bytes(tag, self.0.content())
+    }
+
     ghost short = { lit≤ tt };
 
     ghost valid = { λ it. it.0.canonical };
+
+    ghost same = { λ x y e. (bytes_decides x.0.content.items y.0.content.items).1 e };
 }
 
 impl Serialize for Enumerated {
     ghost meaning = { λ it. Tree.bytes 0x0A it.0.content.items };
 
     fn serialize<W: WriteExt>(&self, serializer: &mut Serializer<W>) -> Result<usize> {
-        serializer.serialize_tagged_bytes(Tag::ENUMERATED, self.0.content())
+        self.serialize_under(Tag::ENUMERATED, serializer)
     }
 }
 

@@ -1,18 +1,19 @@
 //! Integers of any size.
 ghost use Rattle.std.proofs.Common.{lit≤};
 ghost use Rattle.std.specs.Prelude.{◌≡◌, ◌≢◌, ℤ, true, false, IfSome, IfNone, IfOk, IfErr};
+ghost use Rattle.std.specs.Cmp.Lexicographic.{bytes_decides};
 ghost use Rattle.picky_der_core.specs.Tree.{Tree};
 ghost use Rattle.picky_der_core.specs.Shape.{Shape};
 ghost use Rattle.picky_der_input.specs.Reading.{Reads, Refuses};
 ghost use Rattle.picky_der_de.specs.Known.{known_bytes, by_itself};
-ghost use Rattle.der_types.specs.Integer.{is_integer, integer_content};
+ghost use Rattle.picky_der_core.specs.Integer.{is_integer, integer_content};
 ghost use Rattle.der_types.specs.ContentTests.{ReadsContent, RefusesContent};
 
-use crate::digits::{IntContent, number_of};
-use crate::{Contents, Int, deserialize_contents_as};
+use crate::{Contents, deserialize_contents_as};
 use picky_der_core::asn1::Tag;
+use picky_der_core::integer::{IntContent, is_integer, number_of};
 use picky_der_core::misc::{ReadExt, WriteExt};
-use picky_der_core::{Asn1DerError, Result};
+use picky_der_core::{Asn1DerError, Int, Result};
 use picky_der_de::{Begins, Deserialize, Deserializer};
 use picky_der_ser::{Serialize, Serializer};
 use std::alloc::Global;
@@ -22,19 +23,6 @@ use std::alloc::Global;
 pub struct Integer {
     content: Vec<u8>,
     ghost canonical: { is_integer content.items ≡ true },
-}
-
-/// Whether bytes are the content of an INTEGER: there is one at least (X.690, 8.3.1), and if there are more, the first nine bits are
-/// neither all 0 nor all 1 (8.3.2).
-pub(crate) fn is_integer(bytes: &[u8]) -> bool
-    ensures { result ≡ is_integer bytes.now }
-{
-    match bytes {
-        [] => false,
-        [_] => true,
-        [first, second, ..] if *second < 0x80 => *first != 0x00,
-        [first, ..] => *first != 0xFF,
-    }
 }
 
 impl Integer {
@@ -96,16 +84,26 @@ impl Contents for Integer {
         }
     }
 
+    fn serialize_under<W: WriteExt>(
+        &self,
+        tag: Tag,
+        serializer: &mut Serializer<W>,
+    ) -> Result<usize> {
+        serializer.serialize_tagged_bytes(tag, &self.content)
+    }
+
     ghost short = { lit≤ tt };
 
     ghost valid = { λ it. it.canonical };
+
+    ghost same = { λ x y e. (bytes_decides x.content.items y.content.items).1 e };
 }
 
 impl Serialize for Integer {
     ghost meaning = { λ it. Tree.bytes 0x02 it.content.items };
 
     fn serialize<W: WriteExt>(&self, serializer: &mut Serializer<W>) -> Result<usize> {
-        serializer.serialize_tagged_bytes(Tag::INTEGER, &self.content)
+        self.serialize_under(Tag::INTEGER, serializer)
     }
 }
 

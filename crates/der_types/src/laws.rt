@@ -1,22 +1,29 @@
 //! Laws of what the types mean: they speak of no code, so that their bodies are empty.
-ghost use Rattle.std.specs.Prelude.{◌≡◌, ℕ, ℤ, Bool, List, true};
-ghost use Rattle.picky_der_core.specs.Shape.{AreBytes};
+ghost use Rattle.std.specs.Prelude.{◌≡◌, ◌≤◌, ℕ, Bool, List, [], ◌∷◌, length, true, chars, IsUtf8};
+ghost use Rattle.std.specs.List.{list_all};
+ghost use Rattle.std.specs.Ordering.{nat_cmp};
+ghost use Rattle.std.specs.Char.Escape.{encode_utf16};
+ghost use Rattle.picky_der_core.specs.Readable.{IsReadable};
+ghost use Rattle.picky_der_core.specs.Shape.{AreBytes, IsOf};
 ghost use Rattle.picky_der_core.specs.Equality.{IsEqualityOf, IsKept};
 ghost use Rattle.der_types.specs.BitString.{is_bit_string, bit_string_content, bits_of, is_named_bits, without_zeros};
-ghost use Rattle.der_types.specs.Integer.{is_integer, integer_content, integer_value, twos_complement};
+ghost use Rattle.der_types.specs.CharacterStrings.{string_content, characters, is_string_content, is_ia5, is_bmp};
+ghost use Rattle.der_types.specs.declared.width.Width.{Width};
+ghost use Rattle.der_types.specs.RelativeOid.{are_relative_arcs, is_relative_oid, relative_oid_content};
+ghost use Rattle.der_types.specs.Subidentifiers.{numbers_behind};
+ghost use Rattle.der_types.specs.TagOrder.{AreInTagOrder, member_encodings};
+ghost use Rattle.der_types.specs.DateTimes.{seconds_of};
+ghost use Rattle.der_types.specs.GeneralizedTimes.{ticks};
 ghost use Rattle.der_types.specs.ObjectIdentifier.{is_object_identifier, object_identifier_content, are_arcs, arcs_of};
+ghost use Rattle.der_types.specs.TimeChoice.{date_time_of};
+ghost use Rattle.der_types.specs.TimeContents.{is_utc_time, fraction_of};
+ghost use Rattle.der_types.specs.TimeValues.{utc_content};
 
-use crate::{Arcs, Enumerated, Integer, OidError, SignedBits};
-
-/// Each whole number has one content, each content that passes the test is that of a number, and the bits of a number's content
-/// count as its value (X.690, 8.3).
-pub fn integers()
-    ensures made { (z : ℤ) → is_integer (integer_content z) ≡ true }
-    ensures all { (bs : List ℕ) → AreBytes bs → is_integer bs ≡ true
-        → integer_content (integer_value bs) ≡ bs }
-    ensures one { (y z : ℤ) → integer_content y ≡ integer_content z → y ≡ z }
-    ensures value { (z : ℤ) → twos_complement (integer_content z) ≡ z }
-{}
+use crate::{
+    Arcs, CharacterSet, DateTime, Enumerated, GeneralizedTime, Integer, LaterTime, OidError,
+    RestrictedString, TagOrdered, Time, UtcTime, Width,
+};
+pub use picky_der_core::laws::integers;
 
 /// Two values are equal by `==` exactly if their contents are the same.
 pub fn equality()
@@ -24,11 +31,15 @@ pub fn equality()
     ensures enumerated { IsEqualityOf ⟦<Enumerated as PartialEq>⟧.eq (λ it. it.0.content.items) }
 {}
 
-/// A copy of a number's bits, of arcs that are left, or of an error is the same.
+/// A copy of arcs that are left, of an error, of a width, or of a date and time is the same.
 pub fn copies()
-    ensures bits { IsKept ⟦<SignedBits as Clone>⟧.is_clone (λ bits. bits) }
     ensures arcs { IsKept ⟦<Arcs<'static> as Clone>⟧.is_clone (λ arcs. arcs) }
     ensures error { IsKept ⟦<OidError as Clone>⟧.is_clone (λ error. error) }
+    ensures width { IsKept ⟦<Width as Clone>⟧.is_clone (λ width. width) }
+    ensures date_time { IsKept ⟦<DateTime as Clone>⟧.is_clone (λ at. at) }
+    ensures utc_time { IsKept ⟦<UtcTime as Clone>⟧.is_clone (λ time. time) }
+    ensures later_time { IsKept ⟦<LaterTime as Clone>⟧.is_clone (λ time. time) }
+    ensures time { IsKept ⟦<Time as Clone>⟧.is_clone (λ time. time) }
 {}
 
 /// Each list of arcs has a content, each content is one of a list of arcs, and no two have the same.
@@ -39,6 +50,21 @@ pub fn object_identifiers()
         → object_identifier_content (arcs_of bs) ≡ bs }
     ensures one { (a b : List ℕ) → are_arcs a ≡ true → are_arcs b ≡ true
         → object_identifier_content a ≡ object_identifier_content b → a ≡ b }
+{}
+
+/// Each list of at least one arc has a content as a RELATIVE-OID, each content is one of such a list, and no two have the same.
+pub fn relative_oids()
+    ensures made { (arcs : List ℕ) → are_relative_arcs arcs ≡ true
+        → is_relative_oid (relative_oid_content arcs) ≡ true }
+    ensures all { (bs : List ℕ) → AreBytes bs → is_relative_oid bs ≡ true
+        → relative_oid_content (numbers_behind 0 bs) ≡ bs }
+    ensures one { (a b : List ℕ) → relative_oid_content a ≡ relative_oid_content b → a ≡ b }
+{}
+
+/// The members of a SET that is read back begin with tags in the order of tags (X.690, 10.3), none of which is there twice.
+pub fn sets<T: TagOrdered>()
+    ensures order { (value : T) → IsOf T.shape (T.meaning value) → IsReadable (T.meaning value)
+        → AreInTagOrder (member_encodings (T.meaning value)) }
 {}
 
 /// Each list of bits has a content, each content is one of a list of bits, and no two have the same.
@@ -55,4 +81,63 @@ pub fn named_bits()
     ensures made { (bits : List Bool)
         → is_named_bits (bit_string_content (without_zeros bits)) ≡ true }
     ensures all { (bs : List ℕ) → is_named_bits bs ≡ true → is_bit_string bs ≡ true }
+{}
+
+/// Two strings of a set are equal by `==` exactly if their contents are the same.
+pub fn string_equality<S: CharacterSet>()
+    ensures { IsEqualityOf ⟦<RestrictedString<S> as PartialEq>⟧.eq (λ it. it.content.items) }
+{}
+
+/// A text whose characters are all of a set has a content, each content is that of its characters, and no two texts have the same.
+pub fn character_strings()
+    ensures made { (width : Width) (is_character : ℕ → Bool) (text : List ℕ)
+        → is_string_content width is_character (string_content width text)
+        ≡ list_all is_character text }
+    ensures all { (width : Width) (is_character : ℕ → Bool) (bs : List ℕ) → AreBytes bs
+        → is_string_content width is_character bs ≡ true
+        → string_content width (characters width bs) ≡ bs }
+    ensures each { (width : Width) (is_character : ℕ → Bool) (bs : List ℕ)
+        → is_string_content width is_character bs ≡ true
+        → list_all is_character (characters width bs) ≡ true }
+    ensures text { (width : Width) (text : List ℕ)
+        → characters width (string_content width text) ≡ text }
+    ensures one { (width : Width) (a b : List ℕ)
+        → string_content width a ≡ string_content width b → a ≡ b }
+{}
+
+/// The content of a text in ASCII is the text's UTF-8, and a character of a BMPString is one code unit of UTF-16.
+pub fn unicode_contents()
+    ensures ascii { (text : List ℕ) → IsUtf8 text → list_all is_ia5 (chars text) ≡ true
+        → string_content Width.One (chars text) ≡ text }
+    ensures bmp { (c : ℕ) → is_bmp c ≡ true → encode_utf16 c ≡ c ∷ [] }
+{}
+
+/// Dates and times are in the order of the seconds that they are since the year 0 began, and equal exactly if these are the same.
+pub fn date_times()
+    ensures order { (x y : DateTime) → ⟦<DateTime as Ord>⟧.cmp x y
+        ≡ nat_cmp (seconds_of x) (seconds_of y) }
+    ensures equality { IsEqualityOf ⟦<DateTime as PartialEq>⟧.eq seconds_of }
+{}
+
+/// Each second of the years 1950 to 2049 has a content as a UTCTime, and no two have the same (X.690, 11.8).
+pub fn utc_times()
+    ensures made { (t : DateTime) → 1950 ≤ t.year → t.year ≤ 2049
+        → is_utc_time (utc_content t) ≡ true }
+    ensures one { (t u : DateTime) → 1950 ≤ t.year → t.year ≤ 2049 → 1950 ≤ u.year → u.year ≤ 2049
+        → utc_content t ≡ utc_content u → seconds_of t ≡ seconds_of u }
+{}
+
+/// Times are in the order of the 10^k-ths of a second that they are since the year 0 began, for each k that is no less than the number of
+/// digits of either fraction. They are equal exactly if their contents are the same.
+pub fn generalized_times()
+    ensures order { (k : ℕ) (x y : GeneralizedTime) → length (fraction_of x.content.items) ≤ k
+        → length (fraction_of y.content.items) ≤ k
+        → ⟦<GeneralizedTime as Ord>⟧.cmp x y ≡ nat_cmp (ticks k x) (ticks k y) }
+    ensures equality { IsEqualityOf ⟦<GeneralizedTime as PartialEq>⟧.eq (λ it. it.content.items) }
+{}
+
+/// Times of RFC 5280 are in the order of their dates and times.
+pub fn times()
+    ensures order { (x y : Time) → ⟦<Time as Ord>⟧.cmp x y
+        ≡ nat_cmp (seconds_of (date_time_of x)) (seconds_of (date_time_of y)) }
 {}

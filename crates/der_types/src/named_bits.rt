@@ -1,6 +1,7 @@
 //! Bits that have names, as those of a set of flags.
 ghost use Rattle.std.proofs.Common.{rules};
 ghost use Rattle.std.specs.Prelude.{◌≡◌, true, false, slice_index_or, IfSome, IfNone, IfOk, IfErr};
+ghost use Rattle.std.specs.Cmp.Lexicographic.{bytes_decides};
 ghost use Rattle.picky_der_core.specs.Tree.{Tree};
 ghost use Rattle.picky_der_core.specs.Shape.{Shape};
 ghost use Rattle.picky_der_input.specs.Reading.{Reads, Refuses};
@@ -76,16 +77,26 @@ impl Contents for NamedBits {
         }
     }
 
+    fn serialize_under<W: WriteExt>(
+        &self,
+        tag: Tag,
+        serializer: &mut Serializer<W>,
+    ) -> Result<usize> {
+        serializer.serialize_tagged_bytes(tag, &self.content)
+    }
+
     ghost short = { Prim.search rules };
 
     ghost valid = { λ it. it.canonical };
+
+    ghost same = { λ x y e. (bytes_decides x.content.items y.content.items).1 e };
 }
 
 impl Serialize for NamedBits {
     ghost meaning = { λ it. Tree.bytes 0x03 it.content.items };
 
     fn serialize<W: WriteExt>(&self, serializer: &mut Serializer<W>) -> Result<usize> {
-        serializer.serialize_tagged_bytes(Tag::BIT_STRING, &self.content)
+        self.serialize_under(Tag::BIT_STRING, serializer)
     }
 }
 

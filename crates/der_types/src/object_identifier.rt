@@ -1,6 +1,7 @@
 //! Object identifiers.
 ghost use Rattle.std.proofs.Common.{rules};
 ghost use Rattle.std.specs.Prelude.{◌≡◌, ◌↔◌, ◌⊎◌, Some, true, false, map, IsTrue, IfSome, IfNone, OnOk, IfOk, IfErr};
+ghost use Rattle.std.specs.Cmp.Lexicographic.{bytes_decides};
 ghost use Rattle.picky_der_core.specs.Tree.{Tree};
 ghost use Rattle.picky_der_core.specs.Shape.{Shape};
 ghost use Rattle.picky_der_input.specs.Reading.{Reads, Refuses};
@@ -144,16 +145,26 @@ impl Contents for ObjectIdentifier {
         }
     }
 
+    fn serialize_under<W: WriteExt>(
+        &self,
+        tag: Tag,
+        serializer: &mut Serializer<W>,
+    ) -> Result<usize> {
+        serializer.serialize_tagged_bytes(tag, &self.content)
+    }
+
     ghost short = { Prim.search rules };
 
     ghost valid = { λ it. it.canonical };
+
+    ghost same = { λ x y e. (bytes_decides x.content.items y.content.items).1 e };
 }
 
 impl Serialize for ObjectIdentifier {
     ghost meaning = { λ it. Tree.bytes 0x06 it.content.items };
 
     fn serialize<W: WriteExt>(&self, serializer: &mut Serializer<W>) -> Result<usize> {
-        serializer.serialize_tagged_bytes(Tag::OID, &self.content)
+        self.serialize_under(Tag::OID, serializer)
     }
 }
 

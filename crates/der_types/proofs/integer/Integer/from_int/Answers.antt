@@ -1,6 +1,6 @@
 use Rattle.std.proofs.Common.{◌≡◌, rules, ap, ◌∙◌}
-use Rattle.der_types.specs.Integer.{is_integer, integer_content}
-use Rattle.der_types.specs.IntegerLaws.{is_integer-content}
+use Rattle.picky_der_core.specs.Integer.{is_integer, integer_content}
+use Rattle.picky_der_core.specs.IntegerLaws.{is_integer-content}
 use Rattle.der_types.proofs.integer.Integer.from_int.Goals as goal
 
 pub invariant_of-result : goal.invariant_of-result

@@ -1,0 +1,56 @@
+-- Constraints (X.680, 49), and how values that they don't allow are refused.
+use Rattle.std.specs.Prelude.{◌≡◌, ℕ, ◌+◌, ℤ, pos, negsuc, Bool, false, ◌&&◌, ◌⊎◌, nat_le, List, []}
+use Rattle.picky_der_core.specs.declared.error.Asn1DerError.{Asn1DerError}
+use Rattle.picky_der_core.specs.declared.error.Asn1DerError.TheVariants.{InvalidData}
+use Rattle.picky_der_core.specs.Tree.{Tree, Trees}
+use Rattle.picky_der_core.specs.Shape.{Shape}
+use Rattle.picky_der_input.specs.State.{State}
+use Rattle.picky_der_input.specs.Refusing.{FailsAs}
+use Rattle.picky_der_input.specs.Reading.{Reads, Refuses}
+
+-- ---- which values are allowed
+
+-- a size from the least to the most (X.680, 51.5)
+abbrev pub is_size : ℕ → ℕ → ℕ → Bool
+is_size least most n = nat_le least n && nat_le n most
+
+-- a number from the least to the most (X.680, 51.4)
+abbrev pub is_between : ℕ → ℕ → ℤ → Bool
+is_between least most (pos n) = is_size least most n
+is_between least most (negsuc n) = false
+
+-- ---- refusals
+
+module _ {V : Type 0} (meaning : V → Tree) (s : Shape) (allows : V → Bool) (old new : State) (e : Asn1DerError) where
+  -- a value was read, and isn't allowed
+  pub record IsNotAllowed : Type 0 where
+    pub value : V
+    pub behind : State
+    pub reads : Reads s old behind (meaning value)
+    pub refused : allows value ≡ false
+    pub fails : FailsAs InvalidData behind e new
+
+  -- no value of the type stands there, or one that isn't allowed
+  abbrev pub RefusesConstrained : Type 0
+  RefusesConstrained = Refuses meaning s old new e ⊎ IsNotAllowed
+
+-- ---- what trees tell of sizes
+
+-- how many members a list has
+abbrev pub member_count : Trees → ℕ
+member_count Trees.none = 0
+member_count (Trees.more t ts) = 1 + member_count ts
+
+abbrev pub list_size : Tree → ℕ
+list_size (Tree.list kind ts) = member_count ts
+list_size _ = 0
+
+-- the bytes of a text or of a content
+abbrev pub tree_bytes : Tree → List ℕ
+tree_bytes (Tree.text s) = s
+tree_bytes (Tree.bytes tag s) = s
+tree_bytes _ = []
+
+abbrev pub tree_number : Tree → ℕ
+tree_number (Tree.unsigned n) = n
+tree_number _ = 0

@@ -1,0 +1,48 @@
+//! Types whose values are those of another type that a constraint allows (X.680, 49).
+ghost use Rattle.std.specs.Prelude.{◌≡◌, Bool, true, false, IfSome, IfNone, IfOk, IfErr};
+ghost use Rattle.picky_der_input.specs.Reading.{Reads, Refuses};
+ghost use Rattle.der_types.specs.Constraints.{RefusesConstrained};
+
+use picky_der_core::misc::ReadExt;
+use picky_der_core::{Asn1DerError, Result};
+use picky_der_de::{Deserialize, Deserializer};
+
+/// A type whose values are those of another type that a constraint allows.
+pub trait Constrained: Sized {
+    /// The type that is constrained.
+    type Of: Deserialize;
+
+    // The value of that type, and which of these are allowed.
+    ghost unconstrained: { Self → Self.Of };
+
+    ghost allows: { Self.Of → Bool };
+
+    /// The value, or `None` if the constraint doesn't allow it.
+    fn constrain(value: Self::Of) -> Option<Self>
+        ensures some { IfSome result (λ it. unconstrained it ≡ value) }
+        ensures none { IfNone result (allows value ≡ false) };
+
+    // Each value is allowed.
+    ghost kept: { (it : Self) → allows (unconstrained it) ≡ true };
+
+    // The encoding decides whether a value is allowed.
+    ghost told: { (x y : Self.Of) → Self.Of.meaning x ≡ Self.Of.meaning y → allows x ≡ allows y };
+}
+
+/// Reads a value of the type that is constrained: the whole body of `Deserialize::deserialize` for such a type.
+///
+/// A value that the constraint doesn't allow is `InvalidData`; its element is read completely before. Every other refusal is that of
+/// the type that is constrained.
+pub fn deserialize_constrained_as<C: Constrained, R: ReadExt>(de: &mut Deserializer<R>) -> Result<C>
+    ensures ok { IfOk result (λ it. Reads C.Of.shape de.old de.new (C.Of.meaning (C.unconstrained it))) }
+    ensures err { IfErr result (Refuses (λ it. C.Of.meaning (C.unconstrained it)) C.Of.shape de.old
+        de.new) }
+    ensures refused { IfErr result (RefusesConstrained C.Of.meaning C.Of.shape C.allows de.old
+        de.new) }
+{
+    let value = C::Of::deserialize(de)?;
+    match C::constrain(value) {
+        Some(it) => Ok(it),
+        None => Err(de.refuse(Asn1DerError::InvalidData)),
+    }
+}

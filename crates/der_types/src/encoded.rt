@@ -1,0 +1,98 @@
+//! Values of open types: each with its encoding, so that its type may be another one than its neighbour's.
+ghost use Rattle.std.proofs.Common.{rules};
+ghost use Rattle.std.specs.Prelude.{◌≡◌, IfOk, IfErr};
+ghost use Rattle.std.specs.Cmp.Rules.{comparing};
+ghost use Rattle.std.specs.Ordering.{on};
+ghost use Rattle.picky_der_core.specs.Tree.{Tree};
+ghost use Rattle.picky_der_core.specs.Shape.{Shape};
+ghost use Rattle.picky_der_de.specs.Known.{known_raw, by_itself};
+ghost use Rattle.picky_der_de.specs.Twins.{TellsNone};
+ghost use Rattle.picky_der_de.specs.Whole.{IsEncodingOf};
+
+use picky_asn1_der::Asn1RawDer;
+use picky_der_core::misc::{ReadExt, WriteExt};
+use picky_der_core::{Asn1DerError, Result};
+use picky_der_de::{Deserialize, Deserializer, TryAlike, from_der, try_deserialize_as};
+use picky_der_ser::{Serialize, Serializer};
+
+/// A value of the type `T` with its encoding, as a type has it whose other members say what `T` is (ASN.1's ANY DEFINED BY). Two are
+/// equal exactly if their encodings are.
+///
+/// An element that is no encoding of a `T` is `InvalidData`; it is read completely before.
+#[derive(Debug, Drop)]
+pub struct Encoded<T: Deserialize> {
+    encoding: Asn1RawDer,
+    value: T,
+    ghost is: { ∥ IsEncodingOf T.meaning T.shape encoding.0.items value ∥₁ },
+}
+
+impl<T: Deserialize> Encoded<T> {
+    /// The value whose encoding is exactly this one. `InvalidData` if there is none, and `OutOfMemory` if an allocation fails.
+    pub fn from_encoding(encoding: Asn1RawDer) -> Result<Encoded<T>>
+        ensures ok { IfOk result (λ it. it.encoding ≡ encoding) }
+        ensures err { IfErr result (TellsNone ⟦<Asn1RawDer as Serialize>⟧.meaning
+            ⟦<Encoded<T> as TryAlike>⟧.parts encoding) }
+    {
+        match from_der(*encoding.0.allocator(), &encoding.0) {
+            Ok(value) => Ok(Encoded { encoding, value }),
+            Err(refusal) if refusal.error == Asn1DerError::OutOfMemory => {
+                Err(Asn1DerError::OutOfMemory)
+            }
+            Err(_) => Err(Asn1DerError::InvalidData),
+        }
+    }
+
+    /// The encoding.
+    pub fn encoding(&self) -> &Asn1RawDer
+        ensures { result.now ≡ self.now.encoding }
+    {
+        &self.encoding
+    }
+
+    /// The value.
+    pub fn value(&self) -> &T
+        ensures { result.now ≡ self.now.value }
+    {
+        &self.value
+    }
+}
+
+impl<T: Deserialize> PartialEq for Encoded<T> {
+    ghost eq = { on (λ it. it.encoding) ⟦<Asn1RawDer as PartialEq>⟧.eq };
+
+    ghost laws = { Prim.search (comparing, rules) };
+
+    fn eq(&self, other: &Encoded<T>) -> bool {
+        self.encoding == other.encoding
+    }
+}
+
+impl<T: Deserialize> Serialize for Encoded<T> {
+    ghost meaning = { λ it. Tree.raw it.encoding.0.items };
+
+    fn serialize<W: WriteExt>(&self, serializer: &mut Serializer<W>) -> Result<usize> {
+        self.encoding.serialize(serializer)
+    }
+}
+
+impl<T: Deserialize> TryAlike for Encoded<T> {
+    type As = Asn1RawDer;
+
+    ghost parts = { λ it. it.encoding };
+
+    fn try_from_parts(encoding: Asn1RawDer) -> Result<Encoded<T>> {
+        Encoded::from_encoding(encoding)
+    }
+}
+
+impl<T: Deserialize> Deserialize for Encoded<T> {
+    ghost shape = { Shape.raw };
+
+    ghost known = { known_raw (λ it. it.encoding.0.items) };
+
+    ghost tied = { by_itself };
+
+    fn deserialize<R: ReadExt>(deserializer: &mut Deserializer<R>) -> Result<Encoded<T>> {
+        try_deserialize_as(deserializer)
+    }
+}

@@ -1,0 +1,234 @@
+//! Times whose year has four digits.
+ghost use Rattle.std.proofs.Common.{lit≤, rules};
+ghost use Rattle.std.specs.Prelude.{◌≡◌, ◌≤◌, ◌<◌, ◌⊎◌, ◌==◌, [], true, false, refl, length, IfSome, IfNone, IfOk, IfErr};
+ghost use Rattle.std.specs.Cmp.{partial_order_from_own_ties};
+ghost use Rattle.std.specs.Cmp.Rules.{comparing};
+ghost use Rattle.std.specs.Cmp.Lexicographic.{pointwise, slice_cmp, bytes_decides};
+ghost use Rattle.std.specs.Ordering.{on, nat_cmp, as_partial_cmp};
+ghost use Rattle.std.specs.Hash as fed;
+ghost use Rattle.picky_der_core.specs.Tree.{Tree};
+ghost use Rattle.picky_der_core.specs.Shape.{Shape};
+ghost use Rattle.picky_der_input.specs.Reading.{Reads, Refuses};
+ghost use Rattle.picky_der_de.specs.Known.{by_itself};
+ghost use Rattle.der_types.specs.ContentTests.{ReadsContent, RefusesContent};
+ghost use Rattle.der_types.specs.TimeContents.{is_generalized_time, fraction_of};
+
+use crate::time_contents::{content_of, date_time_at, is_generalized_time, year_at_first};
+use crate::{Contents, DateTime, deserialize_contents_as};
+use picky_der_core::asn1::Tag;
+use picky_der_core::misc::{ReadExt, WriteExt};
+use picky_der_core::{Asn1DerError, Result};
+use picky_der_de::{Begins, Deserialize, Deserializer};
+use picky_der_ser::{Serialize, Serializer};
+use std::alloc::Global;
+use std::cmp::Ordering;
+use std::hash::{Hash, Hasher};
+
+/// A GeneralizedTime (X.690, 8.26, 11.7), by its content: `YYYYMMDDHHMMSSZ` of the years 0 to 9999. Before the Z a fraction of a
+/// second may be, of any length: a point and digits, of which the last isn't 0. Its order is that of time.
+#[derive(Debug, Drop)]
+pub struct GeneralizedTime {
+    content: Vec<u8>,
+    ghost canonical: { is_generalized_time content.items ≡ true },
+}
+
+impl GeneralizedTime {
+    ghost use Rattle.der_types.specs.TimeValues.{generalized_content};
+    ghost use Rattle.der_types.specs.GeneralizedTimes.{time_key};
+
+    /// This second, without a fraction. `OutOfMemory` if the allocation fails.
+    pub fn from_date_time(alloc: Global, at: DateTime) -> Result<GeneralizedTime>
+        ensures ok { IfOk result (λ it. it.content.items ≡ generalized_content at []) }
+        ensures err { IfErr result (λ e. e ≡ Asn1DerError.OutOfMemory) }
+    {
+        let content = content_of(at);
+        Ok(GeneralizedTime {
+            content: content.as_slice().to_vec(alloc)?,
+        })
+    }
+
+    /// Its content.
+    pub fn content(&self) -> &[u8]
+        ensures { result.now ≡ self.now.content.items }
+    {
+        &self.content
+    }
+
+    /// The digits of the fraction, in ASCII; none if there is no fraction.
+    pub fn fraction(&self) -> &[u8]
+        ensures { result.now ≡ fraction_of self.now.content.items }
+    {
+        let len = self.content.len();
+        if len == 15 {
+            return &[];
+        }
+        &self.content[15..len - 1]
+    }
+
+    /// Its date and time without the fraction.
+    pub fn whole_seconds(&self) -> DateTime
+        ensures { generalized_content result (fraction_of self.now.content.items)
+            ≡ self.now.content.items }
+    {
+        date_time_at(&self.content, 4, year_at_first(&self.content))
+    }
+
+    /// Its date and time, or `None` if it has a fraction.
+    pub fn date_time(&self) -> Option<DateTime>
+        ensures some { IfSome result (λ at. generalized_content at [] ≡ self.now.content.items) }
+        ensures none { IfNone result (15 < length self.now.content.items) }
+    {
+        if self.content.len() > 15 {
+            return None;
+        }
+        Some(self.whole_seconds())
+    }
+
+    /// A copy, on the same allocator. `OutOfMemory` if the allocation fails.
+    pub fn clone(&self) -> Result<GeneralizedTime>
+        ensures same { IfOk result (λ copy. copy.content.items ≡ self.now.content.items) }
+        ensures memory { IfErr result (λ e. e ≡ Asn1DerError.OutOfMemory) }
+    {
+        Ok(GeneralizedTime {
+            content: self.content.clone()?,
+        })
+    }
+
+    // The content without the Z. Bytes of one are in the order of time: a point is below each digit, and the end below all.
+    fn key(&self) -> &[u8]
+        ensures { result.now ≡ time_key self.now }
+    {
+        &self.content[..self.content.len() - 1]
+    }
+}
+
+impl PartialEq for GeneralizedTime {
+    ghost use Rattle.der_types.specs.GeneralizedTimes.{time_key};
+
+    ghost eq = { on time_key (pointwise ◌==◌) };
+
+    ghost laws = { Prim.search (comparing, rules) };
+
+    fn eq(&self, other: &GeneralizedTime) -> bool {
+        self.key() == other.key()
+    }
+}
+
+impl Eq for GeneralizedTime {
+    ghost laws = { Prim.search (comparing, rules) };
+}
+
+impl Ord for GeneralizedTime {
+    ghost use Rattle.der_types.specs.GeneralizedTimes.{time_key};
+
+    ghost cmp = { on time_key (slice_cmp nat_cmp) };
+
+    ghost total = { Prim.search (comparing, rules) };
+
+    ghost matches_partial_cmp = { λ x y. refl };
+
+    ghost matches_eq = { Prim.search (comparing, rules) };
+
+    fn cmp(&self, other: &GeneralizedTime) -> Ordering {
+        self.key().cmp(other.key())
+    }
+}
+
+impl PartialOrd for GeneralizedTime {
+    ghost use Rattle.der_types.specs.GeneralizedTimes.{time_key};
+
+    ghost partial_cmp = { as_partial_cmp (on time_key (slice_cmp nat_cmp)) };
+
+    ghost laws = { partial_order_from_own_ties (Prim.search (comparing, rules)) (Prim.search (comparing, rules)) };
+
+    fn partial_cmp(&self, other: &GeneralizedTime) -> Option<Ordering> {
+        Some(self.cmp(other))
+    }
+}
+
+impl Hash for GeneralizedTime {
+    ghost use Rattle.der_types.specs.GeneralizedTimes.{time_key};
+
+    ghost hash_input = { λ t. fed.slice fed.u8 (time_key t) };
+
+    ghost respects_eq = { (fed.on_Alike time_key (fed.same_Alike (fed.slice fed.u8) bytes_decides)).fed };
+
+    fn hash<H: Hasher>(&self, state: &mut H) {
+        self.key().hash(state);
+    }
+}
+
+impl Contents for GeneralizedTime {
+    ghost use Rattle.der_types.specs.GeneralizedTimeLaws.{same-equal};
+
+    ghost TAG = { 0x18 };
+
+    ghost is_content = { is_generalized_time };
+
+    ghost content = { λ it. it.content.items };
+
+    const TAG: u8 = 0x18;
+
+    fn from_content(content: Vec<u8>) -> Option<GeneralizedTime>
+        ensures some { IfSome result (λ it. it.content ≡ content) }
+        ensures none { IfNone result (is_generalized_time content.items ≡ false) }
+    {
+        if is_generalized_time(&content) {
+            Some(GeneralizedTime { content })
+        } else {
+            None
+        }
+    }
+
+    fn serialize_under<W: WriteExt>(
+        &self,
+        tag: Tag,
+        serializer: &mut Serializer<W>,
+    ) -> Result<usize> {
+        serializer.serialize_tagged_bytes(tag, &self.content)
+    }
+
+    ghost short = { lit≤ tt };
+
+    ghost valid = { λ it. it.canonical };
+
+    ghost same = { same-equal };
+}
+
+impl Serialize for GeneralizedTime {
+    ghost meaning = { λ it. Tree.bytes 0x18 it.content.items };
+
+    fn serialize<W: WriteExt>(&self, serializer: &mut Serializer<W>) -> Result<usize> {
+        self.serialize_under(Tag::GENERALIZED_TIME, serializer)
+    }
+}
+
+impl Deserialize for GeneralizedTime {
+    ghost use Rattle.der_types.specs.KnownContents.{known_contents};
+    ghost use Rattle.der_types.specs.GeneralizedTimeLaws.{same-equal};
+
+    ghost shape = { Shape.bytes 0x18 };
+
+    ghost known = { known_contents 0x18 (λ it. it.content.items) ⟦<GeneralizedTime as PartialEq>⟧.eq same-equal };
+
+    ghost tied = { by_itself };
+
+    fn deserialize<R: ReadExt>(deserializer: &mut Deserializer<R>) -> Result<GeneralizedTime>
+        ensures ok { IfOk result (λ it. Reads (Shape.bytes 0x18) deserializer.old deserializer.new
+            (Tree.bytes 0x18 it.content.items)) }
+        ensures err { IfErr result (Refuses ⟦<GeneralizedTime as Serialize>⟧.meaning (Shape.bytes 0x18)
+            deserializer.old deserializer.new) }
+        ensures read { IfOk result (λ it. ReadsContent 0x18 is_generalized_time deserializer.old
+            deserializer.new it.content.items) }
+        ensures refused { IfErr result (RefusesContent ⟦<GeneralizedTime as Contents>⟧.content 0x18
+            is_generalized_time deserializer.old deserializer.new) }
+    {
+        deserialize_contents_as(deserializer)
+    }
+}
+
+impl Begins for GeneralizedTime {
+    fn begins_with(tag: Tag) -> bool {
+        tag == Tag::GENERALIZED_TIME
+    }
+}

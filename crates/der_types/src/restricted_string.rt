@@ -1,0 +1,229 @@
+//! Restricted character strings.
+ghost use Rattle.std.specs.Prelude.{◌≡◌, ◌⊎◌, ◌==◌, true, false, length, chars, Some, IfSome, IfNone, IfOk, OnOk, IfErr};
+ghost use Rattle.std.specs.Cmp.Lexicographic.{bytes_decides};
+ghost use Rattle.std.specs.List.{list_all};
+ghost use Rattle.std.specs.Str.{encode_utf8_all};
+ghost use Rattle.picky_der_core.specs.Tree.{Tree};
+ghost use Rattle.picky_der_core.specs.Shape.{Shape};
+ghost use Rattle.picky_der_input.specs.Reading.{Reads, Refuses};
+ghost use Rattle.picky_der_de.specs.Known.{known_bytes, by_itself};
+ghost use Rattle.der_types.specs.ContentTests.{ReadsContent, RefusesContent};
+ghost use Rattle.der_types.specs.CharacterStrings.{string_content, characters, is_string_content};
+
+use crate::character_sets::{Bmp, General, Ia5, Numeric, Printable, Teletex, Universal, Visible};
+use crate::characters::{char_of, content_of, count_of, is_content, split_character};
+use crate::{Ascii, CharacterSet, Contents, Unicode, deserialize_contents_as};
+use picky_der_core::asn1::Tag;
+use picky_der_core::misc::{ReadExt, WriteExt};
+use picky_der_core::{Asn1DerError, Result};
+use picky_der_de::{Begins, Deserialize, Deserializer};
+use picky_der_ser::{Serialize, Serializer};
+use std::alloc::Global;
+use std::fmt;
+use std::marker::PhantomData;
+
+/// A restricted character string (X.690, 8.23), as its content: the characters of a set, each in as many bytes.
+///
+/// It prints as its text, where the set is one of Unicode.
+#[derive(Drop)]
+#[derive_where(Debug, PartialEq, Eq, Hash)]
+pub struct RestrictedString<S: CharacterSet> {
+    content: Vec<u8>,
+    #[derive_where(skip)]
+    set: PhantomData<S>,
+    ghost canonical: { is_string_content S.WIDTH S.is_character content.items ≡ true },
+}
+
+/// A text of digits and spaces.
+pub type NumericString = RestrictedString<Numeric>;
+
+/// A text of letters, digits, spaces and `'()+,-./:=?`.
+pub type PrintableString = RestrictedString<Printable>;
+
+/// A text in the character sets of teletex (T61String), as any bytes: which characters they are isn't looked at.
+pub type TeletexString = RestrictedString<Teletex>;
+
+/// A text in ASCII.
+pub type Ia5String = RestrictedString<Ia5>;
+
+/// A text in ASCII without control characters (ISO646String).
+pub type VisibleString = RestrictedString<Visible>;
+
+/// A text in any registered character sets, as any bytes: which characters they are isn't looked at.
+pub type GeneralString = RestrictedString<General>;
+
+/// A text in Unicode of four bytes a character.
+pub type UniversalString = RestrictedString<Universal>;
+
+/// A text of characters up to FFFF, of two bytes each.
+pub type BmpString = RestrictedString<Bmp>;
+
+impl<S: CharacterSet> RestrictedString<S> {
+    /// The string with this content. `InvalidData` if the bytes aren't whole characters of the set, and `OutOfMemory` if the
+    /// allocation fails.
+    pub fn from_bytes(alloc: Global, bytes: &[u8]) -> Result<RestrictedString<S>>
+        ensures ok { IfOk result (λ it. it.content.items ≡ bytes.now) }
+        ensures err { IfErr result (λ e. (e ≡ Asn1DerError.OutOfMemory)
+            ⊎ (is_string_content S.WIDTH S.is_character bytes.now ≡ false)
+            × (e ≡ Asn1DerError.InvalidData)) }
+    {
+        match RestrictedString::from_content(bytes.to_vec(alloc)?) {
+            Some(string) => Ok(string),
+            None => Err(Asn1DerError::InvalidData),
+        }
+    }
+
+    /// Its content.
+    pub fn as_bytes(&self) -> &[u8]
+        ensures { result.now ≡ self.now.content.items }
+    {
+        &self.content
+    }
+
+    /// How many characters it has.
+    pub fn len(&self) -> usize
+        ensures { result ≡ length (characters S.WIDTH self.now.content.items) }
+    {
+        count_of(S::WIDTH, &self.content)
+    }
+
+    /// Whether it has none.
+    pub fn is_empty(&self) -> bool
+        ensures { result ≡ (length (characters S.WIDTH self.now.content.items) == 0) }
+    {
+        self.len() == 0
+    }
+
+    /// A copy, on the same allocator. `OutOfMemory` if the allocation fails.
+    pub fn clone(&self) -> Result<RestrictedString<S>>
+        ensures same { IfOk result (λ copy. copy.content.items ≡ self.now.content.items) }
+        ensures memory { IfErr result (λ e. e ≡ Asn1DerError.OutOfMemory) }
+    {
+        Ok(RestrictedString {
+            content: self.content.clone()?,
+            set: PhantomData,
+        })
+    }
+}
+
+impl<S: Unicode> RestrictedString<S> {
+    /// The string that is this text. `InvalidData` if a character of it isn't one of the set, and `OutOfMemory` if an allocation
+    /// fails.
+    pub fn from_str(alloc: Global, text: &str) -> Result<RestrictedString<S>>
+        ensures ok { IfOk result (λ it. it.content.items
+            ≡ string_content S.WIDTH (chars text.now)) }
+        ensures each { OnOk result (list_all S.is_character (chars text.now) ≡ true) }
+        ensures err { IfErr result (λ e. (e ≡ Asn1DerError.OutOfMemory)
+            ⊎ (list_all S.is_character (chars text.now) ≡ false)
+            × (e ≡ Asn1DerError.InvalidData)) }
+    {
+        match content_of::<S>(alloc, text)? {
+            Some(content) => Ok(RestrictedString {
+                content,
+                set: PhantomData,
+            }),
+            None => Err(Asn1DerError::InvalidData),
+        }
+    }
+}
+
+impl<S: Ascii> RestrictedString<S> {
+    /// Its text.
+    pub fn as_str(&self) -> &str
+        ensures { result.now ≡ self.now.content.items }
+    {
+        match str::from_utf8(&self.content) {
+            Ok(text) => text,
+            Err(_) => unreachable!(),
+        }
+    }
+}
+
+impl<S: Unicode> fmt::Display for RestrictedString<S> {
+    ghost output = { λ it. Some (encode_utf8_all (characters S.WIDTH it.content.items)) };
+
+    fn fmt<W: fmt::Write>(&self, f: &mut fmt::Formatter<W>) -> fmt::Result {
+        let width = S::WIDTH;
+        let mut rest = self.content.as_slice();
+        while let Some((code, behind)) = split_character(width, rest) {
+            f.write_char(char_of(code))?;
+            rest = behind;
+        }
+        Ok(())
+    }
+}
+
+impl<S: CharacterSet> Contents for RestrictedString<S> {
+    ghost TAG = { S.TAG };
+
+    ghost is_content = { is_string_content S.WIDTH S.is_character };
+
+    ghost content = { λ it. it.content.items };
+
+    const TAG: u8 = S::TAG;
+
+    fn from_content(content: Vec<u8>) -> Option<RestrictedString<S>>
+        ensures some { IfSome result (λ it. it.content ≡ content) }
+        ensures none { IfNone result (is_string_content S.WIDTH S.is_character content.items
+            ≡ false) }
+    {
+        if is_content::<S>(&content) {
+            Some(RestrictedString {
+                content,
+                set: PhantomData,
+            })
+        } else {
+            None
+        }
+    }
+
+    fn serialize_under<W: WriteExt>(
+        &self,
+        tag: Tag,
+        serializer: &mut Serializer<W>,
+    ) -> Result<usize> {
+        serializer.serialize_tagged_bytes(tag, &self.content)
+    }
+
+    ghost short = { S.short };
+
+    ghost valid = { λ it. it.canonical };
+
+    ghost same = { λ x y e. (bytes_decides x.content.items y.content.items).1 e };
+}
+
+impl<S: CharacterSet> Serialize for RestrictedString<S> {
+    ghost meaning = { λ it. Tree.bytes S.TAG it.content.items };
+
+    fn serialize<W: WriteExt>(&self, serializer: &mut Serializer<W>) -> Result<usize> {
+        self.serialize_under(Tag::from(S::TAG), serializer)
+    }
+}
+
+impl<S: CharacterSet> Deserialize for RestrictedString<S> {
+    ghost shape = { Shape.bytes S.TAG };
+
+    ghost known = { known_bytes S.TAG (λ it. it.content.items) };
+
+    ghost tied = { by_itself };
+
+    fn deserialize<R: ReadExt>(deserializer: &mut Deserializer<R>) -> Result<RestrictedString<S>>
+        ensures ok { IfOk result (λ it. Reads (Shape.bytes S.TAG) deserializer.old deserializer.new
+            (Tree.bytes S.TAG it.content.items)) }
+        ensures err { IfErr result (Refuses ⟦<RestrictedString<S> as Serialize>⟧.meaning
+            (Shape.bytes S.TAG) deserializer.old deserializer.new) }
+        ensures read { IfOk result (λ it. ReadsContent S.TAG
+            (is_string_content S.WIDTH S.is_character) deserializer.old deserializer.new
+            it.content.items) }
+        ensures refused { IfErr result (RefusesContent ⟦<RestrictedString<S> as Contents>⟧.content
+            S.TAG (is_string_content S.WIDTH S.is_character) deserializer.old deserializer.new) }
+    {
+        deserialize_contents_as(deserializer)
+    }
+}
+
+impl<S: CharacterSet> Begins for RestrictedString<S> {
+    fn begins_with(tag: Tag) -> bool {
+        tag.inner() == S::TAG
+    }
+}

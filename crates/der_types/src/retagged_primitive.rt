@@ -1,0 +1,84 @@
+//! Primitive values under another tag in place of their own (X.690, 8.14).
+ghost use Rattle.std.specs.Prelude.{◌≡◌, IfOk, IfErr};
+ghost use Rattle.picky_der_core.specs.Tree.{Tree};
+ghost use Rattle.picky_der_core.specs.Shape.{Shape};
+ghost use Rattle.picky_der_input.specs.Reading.{Reads, Refuses};
+ghost use Rattle.picky_der_de.specs.Known.{known_bytes};
+ghost use Rattle.der_types.specs.ContentTests.{ReadsContent, RefusesContent};
+ghost use Rattle.der_types.specs.PrimitiveTag.{primitive_tag};
+ghost use Rattle.der_types.specs.ContentLaws.{ties_content};
+
+use crate::Contents;
+use crate::contents::deserialize_contents_under;
+use picky_der_core::Result;
+use picky_der_core::asn1::Tag;
+use picky_der_core::misc::{ReadExt, WriteExt};
+use picky_der_de::{Begins, Deserialize, Deserializer};
+use picky_der_ser::{Serialize, Serializer};
+
+/// A primitive value under the tag `TAG` in place of its own. This is an implicit tag by X.690, 8.14: `40+n` is
+/// `[APPLICATION n] IMPLICIT`, `80+n` the context tag n and `C0+n` is `[PRIVATE n] IMPLICIT`.
+///
+/// `TAG` is a whole identifier byte, which has to be primitive (bit 6 is clear) with a number of at most 30. Else a value is
+/// refused with `UnsupportedValue`, where it is written and where it is read. `Retagged` does the same for lists.
+#[derive(Debug, Drop, PartialEq, Eq, Hash)]
+pub struct RetaggedPrimitive<T, const TAG: u8>(pub T);
+
+// This identifier byte; in place of one that is constructed, that of the long form, which isn't supported.
+fn primitive_tag(tag: u8) -> Tag
+    ensures { result ≡ primitive_tag tag }
+{
+    let tag = Tag::from(tag);
+    if tag.is_constructed() {
+        Tag::from(0x1F)
+    } else {
+        tag
+    }
+}
+
+impl<T, const TAG: u8> From<T> for RetaggedPrimitive<T, TAG> {
+    ghost from_gives = { λ value tagged. tagged.0 ≡ value };
+
+    fn from(value: T) -> RetaggedPrimitive<T, TAG> {
+        RetaggedPrimitive(value)
+    }
+}
+
+impl<T: Contents, const TAG: u8> Serialize for RetaggedPrimitive<T, TAG> {
+    ghost meaning = { λ tagged. Tree.bytes (primitive_tag TAG) (T.content tagged.0) };
+
+    fn serialize<W: WriteExt>(&self, serializer: &mut Serializer<W>) -> Result<usize> {
+        self.0.serialize_under(primitive_tag(TAG), serializer)
+    }
+}
+
+impl<T: Contents, const TAG: u8> Deserialize for RetaggedPrimitive<T, TAG> {
+    ghost shape = { Shape.bytes (primitive_tag TAG) };
+
+    ghost known = { known_bytes (primitive_tag TAG) (λ tagged. T.content tagged.0) };
+
+    ghost tied = { ties_content (primitive_tag TAG) (λ tagged. T.content tagged.0) (λ x y e. T.same x.0 y.0 e) };
+
+    fn deserialize<R: ReadExt>(
+        deserializer: &mut Deserializer<R>,
+    ) -> Result<RetaggedPrimitive<T, TAG>>
+        ensures ok { IfOk result (λ it. Reads (Shape.bytes (primitive_tag TAG)) deserializer.old deserializer.new
+            (Tree.bytes (primitive_tag TAG) (T.content it.0))) }
+        ensures err { IfErr result (Refuses ⟦<RetaggedPrimitive<T, TAG> as Serialize>⟧.meaning (Shape.bytes (primitive_tag TAG))
+            deserializer.old deserializer.new) }
+        ensures read { IfOk result (λ it. ReadsContent (primitive_tag TAG) T.is_content deserializer.old
+            deserializer.new (T.content it.0)) }
+        ensures refused { IfErr result (RefusesContent (λ (it : RetaggedPrimitive T TAG). T.content it.0) (primitive_tag TAG) T.is_content
+            deserializer.old deserializer.new) }
+    {
+        let value = deserialize_contents_under(primitive_tag(TAG), deserializer)?;
+        Ok(RetaggedPrimitive(value))
+    }
+}
+
+impl<T: Contents, const TAG: u8> Begins for RetaggedPrimitive<T, TAG> {
+    fn begins_with(tag: Tag) -> bool {
+        let wanted = primitive_tag(TAG);
+        wanted.number() <= Tag::MAX_NUMBER && tag == wanted
+    }
+}

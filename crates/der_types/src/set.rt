@@ -1,0 +1,71 @@
+//! Sets of different members.
+ghost use Rattle.std.proofs.Common.{rules};
+ghost use Rattle.std.specs.Prelude.{◌≡◌, true};
+ghost use Rattle.picky_der_core.specs.Tree.{Tree};
+ghost use Rattle.picky_der_core.specs.Shape.{Shape};
+ghost use Rattle.picky_der_core.specs.declared.asn1.wrapper.Wrapper.TheVariants as wrapper;
+ghost use Rattle.picky_der_input.specs.declared.enclosure.Enclosure.TheVariants as enclosure;
+ghost use Rattle.picky_der_de.specs.KnownContainers.{known_enclosed, ties_enclosed};
+ghost use Rattle.der_types.specs.TagOrder.{is_in_tag_order};
+
+use picky_der_core::Result;
+use picky_der_core::asn1::Tag;
+use picky_der_core::misc::{ReadExt, WriteExt};
+use picky_der_de::{Begins, Deserialize, Deserializer};
+use picky_der_ser::{List, Serialize, Serializer};
+
+/// A SEQUENCE of different members, each of which has tags before those of the members after it in the order of tags (X.680,
+/// 8.6): universal, application, context-specific and private ones, and in each class by their numbers.
+///
+/// The order is computed when the program is checked: `ghost ordered = { refl };` is the whole implementation.
+pub trait TagOrdered: List + Deserialize {
+    // The members of its shape are in that order.
+    ghost ordered: { is_in_tag_order Self.shape ≡ true };
+}
+
+/// A SET of different members (X.690, 8.11) under the tag `TAG` in place of its own tag 31: the members of the struct `T` in their order,
+/// which is that of their tags (10.3).
+///
+/// `TAG` is a whole identifier byte, as that of `Retagged`, and a value is refused as one of `Retagged` is. A set whose members are in
+/// another order is refused by the tag of the first one that isn't where it belongs.
+#[derive(Debug, Drop, PartialEq, Eq)]
+pub struct RetaggedSet<T, const TAG: u8>(pub T);
+
+/// A SET of different members under its own tag.
+pub type Asn1Set<T> = RetaggedSet<T, 0x31>;
+
+impl<T, const TAG: u8> From<T> for RetaggedSet<T, TAG> {
+    ghost from_gives = { λ value set. set.0 ≡ value };
+
+    fn from(value: T) -> RetaggedSet<T, TAG> {
+        RetaggedSet(value)
+    }
+}
+
+impl<T: TagOrdered, const TAG: u8> Serialize for RetaggedSet<T, TAG> {
+    ghost meaning = { λ set. Tree.retagged TAG (T.meaning set.0) };
+
+    fn serialize<W: WriteExt>(&self, serializer: &mut Serializer<W>) -> Result<usize> {
+        serializer.serialize_retagged(Tag::from(TAG), &self.0)
+    }
+}
+
+impl<T: TagOrdered, const TAG: u8> Deserialize for RetaggedSet<T, TAG> {
+    ghost shape = { Shape.retagged TAG T.shape };
+
+    ghost known = { known_enclosed T.known (enclosure.Wrapper (wrapper.Retagged TAG)) (λ set. set.0) };
+
+    ghost tied = { ties_enclosed T.tied (enclosure.Wrapper (wrapper.Retagged TAG)) (λ set. set.0) };
+
+    fn deserialize<R: ReadExt>(deserializer: &mut Deserializer<R>) -> Result<RetaggedSet<T, TAG>> {
+        let members = deserializer.deserialize_retagged(Tag::from(TAG))?;
+        Ok(RetaggedSet(members))
+    }
+}
+
+impl<T: TagOrdered, const TAG: u8> Begins for RetaggedSet<T, TAG> {
+    fn begins_with(tag: Tag) -> bool {
+        let number = Tag::from(TAG).number();
+        number <= Tag::MAX_NUMBER && tag.inner() == TAG
+    }
+}

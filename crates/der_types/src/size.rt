@@ -1,0 +1,102 @@
+//! The sizes of values.
+ghost use Rattle.std.proofs.Common.{ap};
+ghost use Rattle.std.specs.Prelude.{◌≡◌, ℕ, length, chars, string_bytes};
+ghost use Rattle.picky_der_core.specs.Tree.{ListKind};
+ghost use Rattle.der_types.specs.BitString.{bits_of};
+ghost use Rattle.der_types.specs.CharacterStrings.{characters};
+ghost use Rattle.der_types.specs.Constraints.{tree_bytes};
+ghost use Rattle.der_types.specs.ConstraintLaws.{same_length};
+
+use crate::{BitString, CharacterSet, RestrictedString};
+use picky_der_core::asn1::{Asn1SequenceOf, Asn1SetOf, ByteBuf};
+use picky_der_ser::Serialize;
+
+/// A type whose values have a size, as a size constraint counts it (X.680, 51.5.3).
+pub trait Size: Serialize {
+    // The size of a value.
+    ghost size: { Self → ℕ };
+
+    /// How many bits, bytes, characters or members the value has. It is a `u128` for a bit string's sake.
+    fn size(&self) -> u128
+        ensures { result ≡ size self.now };
+
+    // The encoding decides the size.
+    ghost told: { (x y : Self) → Self.meaning x ≡ Self.meaning y → size x ≡ size y };
+}
+
+// How many characters a text has.
+fn char_count(text: &str) -> usize
+    ensures { result ≡ length (chars text.now) }
+{
+    text.chars().count()
+}
+
+impl Size for BitString {
+    ghost size = { λ it. length (bits_of it.content.items) };
+
+    fn size(&self) -> u128 {
+        self.len()
+    }
+
+    ghost told = { λ x y e. ap (λ t. length (bits_of (tree_bytes t))) e };
+}
+
+impl Size for ByteBuf {
+    ghost size = { λ it. length it.0.items };
+
+    fn size(&self) -> u128 {
+        self.0.len() as u128
+    }
+
+    ghost told = { λ x y e. ap (λ t. length (tree_bytes t)) e };
+}
+
+impl Size for String {
+    ghost size = { λ it. length (chars (string_bytes it)) };
+
+    fn size(&self) -> u128 {
+        char_count(self.as_str()) as u128
+    }
+
+    ghost told = { λ x y e. ap (λ t. length (chars (tree_bytes t))) e };
+}
+
+impl<S: CharacterSet> Size for RestrictedString<S> {
+    ghost size = { λ it. length (characters S.WIDTH it.content.items) };
+
+    fn size(&self) -> u128 {
+        self.len() as u128
+    }
+
+    ghost told = { λ x y e. ap (λ t. length (characters S.WIDTH (tree_bytes t))) e };
+}
+
+impl<T: Serialize> Size for Vec<T> {
+    ghost size = { λ it. length it.items };
+
+    fn size(&self) -> u128 {
+        self.len() as u128
+    }
+
+    ghost told = { λ x y e. same_length ListKind.sequence T.meaning x.items y.items e };
+}
+
+impl<T: Serialize> Size for Asn1SequenceOf<T> {
+    ghost size = { λ it. length it.0.items };
+
+    fn size(&self) -> u128 {
+        self.0.len() as u128
+    }
+
+    ghost told = { λ x y e. same_length ListKind.sequence T.meaning x.0.items y.0.items e };
+}
+
+impl<T: Serialize> Size for Asn1SetOf<T> {
+    ghost size = { λ it. length it.0.items };
+
+    fn size(&self) -> u128 {
+        self.0.len() as u128
+    }
+
+    ghost told = { λ x y e. same_length ListKind.set T.meaning x.0.items y.0.items e };
+}

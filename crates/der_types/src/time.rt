@@ -1,0 +1,104 @@
+//! Times of RFC 5280.
+ghost use Rattle.std.specs.Prelude.{◌≡◌, ◌<◌, refl, IfSome, IfNone};
+ghost use Rattle.picky_der_core.specs.Shape.{Shape};
+ghost use Rattle.picky_der_de.specs.declared.alternatives.OneOf.TheVariants.{This, Other};
+ghost use Rattle.picky_der_de.specs.Known.{by_itself};
+ghost use Rattle.picky_der_de.specs.KnownChoices.{known_choice};
+ghost use Rattle.der_types.specs.declared.time.Time.TheVariants.{Utc, Generalized};
+
+use crate::{DateTime, LaterTime, UtcTime};
+use picky_der_core::Result;
+use picky_der_core::asn1::Tag;
+use picky_der_core::misc::{ReadExt, WriteExt};
+use picky_der_de::OneOf::{Other, This};
+use picky_der_de::{
+    Alternatives, Begins, Choice, Deserialize, Deserializer, NoneOf, OneOf, deserialize_choice_as,
+};
+use picky_der_ser::{Serialize, Serializer};
+
+/// A time of a certificate (RFC 5280, 4.1.2.5), as a CHOICE: a second of the years 1950 to 9999. Each has one form, by its year. Its
+/// order is that of time.
+#[derive(Debug, Clone, Copy, PartialEq, Eq, PartialOrd, Ord, Hash)]
+pub enum Time {
+    /// A UTCTime: up to 2049.
+    Utc(UtcTime),
+    /// A GeneralizedTime: from 2050 on.
+    Generalized(LaterTime),
+}
+
+impl Time {
+    ghost use Rattle.der_types.specs.TimeChoice.{date_time_of};
+
+    /// This second, or `None` where its year is before 1950.
+    pub fn new(at: DateTime) -> Option<Time>
+        ensures some { IfSome result (λ it. date_time_of it ≡ at) }
+        ensures none { IfNone result (at.year < 1950) }
+    {
+        if let Some(time) = LaterTime::new(at) {
+            return Some(Time::Generalized(time));
+        }
+        match UtcTime::new(at) {
+            Some(time) => Some(Time::Utc(time)),
+            None => None,
+        }
+    }
+
+    /// Its date and time.
+    pub fn date_time(self) -> DateTime
+        ensures { result ≡ date_time_of self }
+    {
+        match self {
+            Time::Utc(time) => time.date_time(),
+            Time::Generalized(time) => time.date_time(),
+        }
+    }
+}
+
+type Parts = OneOf<UtcTime, OneOf<LaterTime, NoneOf>>;
+
+impl Choice for Time {
+    type Alternatives = Parts;
+
+    ghost parts = { elim [ Utc time ↦ This time | Generalized time ↦ Other (This time) ] };
+
+    fn from_parts(value: Parts) -> Time {
+        match value {
+            This(time) => Time::Utc(time),
+            Other(This(time)) => Time::Generalized(time),
+        }
+    }
+
+    ghost told = { refl };
+}
+
+impl Serialize for Time {
+    ghost meaning = { λ it. ⟦<Parts as Alternatives>⟧.meaning (⟦<Time as Choice>⟧.parts it) };
+
+    fn serialize<W: WriteExt>(&self, serializer: &mut Serializer<W>) -> Result<usize> {
+        match self {
+            Time::Utc(time) => serializer.serialize_choice(time),
+            Time::Generalized(time) => serializer.serialize_choice(time),
+        }
+    }
+}
+
+impl Deserialize for Time {
+    ghost shape = { Shape.choice ⟦<Parts as Alternatives>⟧.shapes };
+
+    ghost known = { known_choice ⟦<Parts as Alternatives>⟧.known refl ⟦<Self as Choice>⟧.parts ⟦<Self as PartialEq>⟧.eq (elim [
+      | Utc x ↦ elim [ Utc y ↦ λ h. h | _ ↦ λ h. h ]
+      | Generalized x ↦ elim [ Generalized y ↦ λ h. h | _ ↦ λ h. h ]
+    ]) };
+
+    ghost tied = { by_itself };
+
+    fn deserialize<R: ReadExt>(deserializer: &mut Deserializer<R>) -> Result<Time> {
+        deserialize_choice_as(deserializer)
+    }
+}
+
+impl Begins for Time {
+    fn begins_with(tag: Tag) -> bool {
+        <Parts as Alternatives>::begins_with(tag)
+    }
+}

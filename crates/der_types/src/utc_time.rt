@@ -1,0 +1,143 @@
+//! Times whose year has two digits.
+ghost use Rattle.std.proofs.Common.{lit≤};
+ghost use Rattle.std.specs.Prelude.{◌≡◌, ◌<◌, ◌≤◌, ◌⊎◌, drop, true, false, refl, IfSome, IfNone, IfOk, IfErr};
+ghost use Rattle.picky_der_core.specs.Tree.{Tree};
+ghost use Rattle.picky_der_core.specs.Shape.{Shape};
+ghost use Rattle.picky_der_input.specs.Reading.{Reads, Refuses};
+ghost use Rattle.picky_der_de.specs.Known.{by_itself};
+ghost use Rattle.der_types.specs.ContentTests.{ReadsContent, RefusesContent};
+
+use crate::time_contents::{content_of, date_time_at, full_year, is_utc_time, number_at};
+use crate::{Contents, DateTime, deserialize_contents_as};
+use picky_der_core::Result;
+use picky_der_core::asn1::Tag;
+use picky_der_core::misc::{ReadExt, WriteExt};
+use picky_der_de::{Begins, Deserialize, Deserializer};
+use picky_der_ser::{Serialize, Serializer};
+
+/// A UTCTime (X.690, 8.25, 11.8) as DER and RFC 5280 (4.1.2.5.1) have it: `YYMMDDHHMMSSZ`, a second of the years 1950 to 2049. Its
+/// order is that of time.
+#[derive(Debug, Clone, Copy, PartialEq, Eq, PartialOrd, Ord, Hash)]
+pub struct UtcTime {
+    at: DateTime,
+    ghost first: { 1950 ≤ at.year },
+    ghost last: { at.year ≤ 2049 },
+}
+
+impl UtcTime {
+    ghost use Rattle.der_types.specs.TimeContents.{is_utc_time};
+    ghost use Rattle.der_types.specs.TimeValues.{utc_content};
+
+    // The time with this content.
+    fn of(content: &[u8]) -> Option<UtcTime>
+        ensures some { IfSome result (λ it. utc_content it.at ≡ content.now) }
+        ensures none { IfNone result (is_utc_time content.now ≡ false) }
+    {
+        if is_utc_time(content) {
+            let year = full_year(number_at(content, 0));
+            let at = date_time_at(content, 2, year);
+            Some(UtcTime { at })
+        } else {
+            None
+        }
+    }
+
+    /// This second, or `None` where its year isn't from 1950 to 2049.
+    pub fn new(at: DateTime) -> Option<UtcTime>
+        ensures some { IfSome result (λ it. it.at ≡ at) }
+        ensures none { IfNone result ((at.year < 1950) ⊎ (2049 < at.year)) }
+    {
+        if at.year < 1950 {
+            return None;
+        }
+        if at.year > 2049 {
+            return None;
+        }
+        Some(UtcTime { at })
+    }
+
+    /// Its date and time.
+    pub fn date_time(self) -> DateTime
+        ensures { result ≡ self.at }
+    {
+        self.at
+    }
+}
+
+impl Contents for UtcTime {
+    ghost use Rattle.der_types.specs.TimeContents.{is_utc_time};
+    ghost use Rattle.der_types.specs.TimeValues.{utc_content};
+    ghost use Rattle.der_types.specs.TimeLaws.{utc-same, utc-valid};
+
+    ghost TAG = { 0x17 };
+
+    ghost is_content = { is_utc_time };
+
+    ghost content = { λ it. utc_content it.at };
+
+    const TAG: u8 = 0x17;
+
+    fn from_content(content: Vec<u8>) -> Option<UtcTime>
+        ensures some { IfSome result (λ it. utc_content it.at ≡ content.items) }
+        ensures none { IfNone result (is_utc_time content.items ≡ false) }
+    {
+        UtcTime::of(&content)
+    }
+
+    fn serialize_under<W: WriteExt>(
+        &self,
+        tag: Tag,
+        serializer: &mut Serializer<W>,
+    ) -> Result<usize> {
+        let content = content_of(self.at);
+        serializer.serialize_tagged_bytes(tag, &content[2..])
+    }
+
+    ghost short = { lit≤ tt };
+
+    ghost valid = { λ it. utc-valid it.at it.first it.last };
+
+    ghost same = { λ x y. utc-same x.at y.at x.first x.last y.first y.last };
+}
+
+impl Serialize for UtcTime {
+    ghost use Rattle.der_types.specs.TimeValues.{utc_content};
+
+    ghost meaning = { λ it. Tree.bytes 0x17 (utc_content it.at) };
+
+    fn serialize<W: WriteExt>(&self, serializer: &mut Serializer<W>) -> Result<usize> {
+        self.serialize_under(Tag::UTC_TIME, serializer)
+    }
+}
+
+impl Deserialize for UtcTime {
+    ghost use Rattle.der_types.specs.TimeContents.{is_utc_time};
+    ghost use Rattle.der_types.specs.TimeValues.{utc_content};
+    ghost use Rattle.der_types.specs.KnownContents.{known_contents};
+    ghost use Rattle.der_types.specs.TimeLaws.{utc-same};
+
+    ghost shape = { Shape.bytes 0x17 };
+
+    ghost known = { known_contents 0x17 (λ it. utc_content it.at) ⟦<UtcTime as PartialEq>⟧.eq (λ x y. utc-same x.at y.at x.first x.last y.first y.last) };
+
+    ghost tied = { by_itself };
+
+    fn deserialize<R: ReadExt>(deserializer: &mut Deserializer<R>) -> Result<UtcTime>
+        ensures ok { IfOk result (λ it. Reads (Shape.bytes 0x17) deserializer.old deserializer.new
+            (Tree.bytes 0x17 (utc_content it.at))) }
+        ensures err { IfErr result (Refuses ⟦<UtcTime as Serialize>⟧.meaning (Shape.bytes 0x17)
+            deserializer.old deserializer.new) }
+        ensures read { IfOk result (λ it. ReadsContent 0x17 is_utc_time deserializer.old
+            deserializer.new (utc_content it.at)) }
+        ensures refused { IfErr result (RefusesContent ⟦<UtcTime as Contents>⟧.content 0x17 is_utc_time
+            deserializer.old deserializer.new) }
+    {
+        deserialize_contents_as(deserializer)
+    }
+}
+
+impl Begins for UtcTime {
+    fn begins_with(tag: Tag) -> bool {
+        tag == Tag::UTC_TIME
+    }
+}

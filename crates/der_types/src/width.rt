@@ -1,0 +1,12 @@
+//! How many bytes a character has.
+
+/// How many bytes each character of a string type has, the most significant one first.
+#[derive(Debug, Clone, Copy, PartialEq, Eq)]
+pub enum Width {
+    /// One.
+    One,
+    /// Two.
+    Two,
+    /// Four.
+    Four,
+}
