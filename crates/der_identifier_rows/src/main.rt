@@ -1,7 +1,10 @@
-//! Answers each row on standard input by a line on standard output: object identifiers and bit strings, and how they are written.
+//! Prints a line for each row on standard input: object identifiers, bit strings, key usages and character strings, and how they are
+//! written.
 #![tactic(auto)]
 
 mod rows;
+mod strings;
+mod usages;
 
 use rows::answer_to;
 use std::io;

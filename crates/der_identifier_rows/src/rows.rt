@@ -1,21 +1,23 @@
 //! The rows.
 
+use crate::{strings, usages};
 use der_fixtures::{bytes_of, text_of};
 use der_types::{BitString, NamedBits, ObjectIdentifier, RelativeOid, names};
+use der_x509::KeyUsage;
 use picky_der_de::{Deserialize, from_der};
 use picky_der_ser::{Serialize, to_vec};
 use std::alloc::{AllocError, Global};
 
-// The encoding, or the error.
-fn written<T: Serialize>(alloc: Global, value: &T) -> Result<String, AllocError> {
+/// The encoding, or the error.
+pub fn written<T: Serialize>(alloc: Global, value: &T) -> Result<String, AllocError> {
     match to_vec(alloc, value) {
         Ok(bytes) => text_of(alloc, &bytes),
         Err(error) => format!(in alloc; "{error}"),
     }
 }
 
-// The value that these bytes, in hexadecimal, are; or the error, as a text.
-fn read<T: Deserialize>(alloc: Global, text: &str) -> Result<Result<T, String>, AllocError> {
+/// The value that these bytes, in hexadecimal, are; or the error, as a text.
+pub fn read<T: Deserialize>(alloc: Global, text: &str) -> Result<Result<T, String>, AllocError> {
     let bytes = match bytes_of(alloc, text) {
         Ok(bytes) => bytes,
         Err(error) => return Ok(Err(format!(in alloc; "{error}")?)),
@@ -113,6 +115,10 @@ pub fn answer_to(alloc: Global, row: &str) -> Result<String, AllocError> {
             Ok(bits) => written(alloc, &bits),
             Err(error) => format!(in alloc; "{error}"),
         },
+        "usage" => match KeyUsage::from_flags(alloc, &usages::flags_of(alloc, text)?) {
+            Ok(usage) => written(alloc, &usage),
+            Err(error) => format!(in alloc; "{error}"),
+        },
         "read-oid" => match read::<ObjectIdentifier>(alloc, text)? {
             Ok(oid) => shown(alloc, &oid),
             Err(error) => Ok(error),
@@ -129,6 +135,14 @@ pub fn answer_to(alloc: Global, row: &str) -> Result<String, AllocError> {
             Ok(bits) => numbers_of(alloc, &bits),
             Err(error) => Ok(error),
         },
+        "read-usage" => match read::<KeyUsage>(alloc, text)? {
+            Ok(usage) => usages::names_of(alloc, &usage),
+            Err(error) => Ok(error),
+        },
+        "text" => strings::text(alloc, text),
+        "string" => strings::string(alloc, text),
+        "characters" => strings::characters(alloc, text),
+        "bounded" => strings::bounded(alloc, text),
         _ => String::from_str(alloc, word),
     }
 }

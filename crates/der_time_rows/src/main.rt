@@ -1,0 +1,16 @@
+//! Answers each row on standard input by a line on standard output: what times are read as, and how they are written.
+#![tactic(auto)]
+
+mod rows;
+
+use rows::answer_to;
+use std::io;
+
+fn main(rt: HostRuntime) -> io::Result<()> {
+    let lines = io::read_to_string(rt.alloc(), rt.reader())?;
+    for row in lines.lines() {
+        let answer = answer_to(rt.alloc(), row)?;
+        println!(rt; "{answer}")?;
+    }
+    Ok(())
+}
