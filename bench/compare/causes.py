@@ -11,11 +11,22 @@ class Rule:
     clause: str
     refused_by: frozenset[str]
     changed_by: frozenset[str] = frozenset()
+    # whether this repository's program refuses certificates alone that break it, since der_tool's types don't check contents
+    is_of_certificates: bool = False
+
+    def is_refused_by(self, program: str, word: str) -> bool:
+        """Whether the program refuses a line of this word that breaks the rule."""
+        return program in self.refused_by or program == THIS and self.is_of_certificates and word == "certificate"
 
 
 def rule(clause: str, *refused_by: str, changed_by: tuple[str, ...] = ()) -> Rule:
     """A rule of this clause, the programs that refuse what breaks it, and those that read it and write another encoding."""
     return Rule(clause, frozenset(refused_by), frozenset(changed_by))
+
+
+def content_rule(clause: str, *refused_by: str, changed_by: tuple[str, ...] = ()) -> Rule:
+    """The same of a rule that this repository's types of certificates check, and those of der_tool don't."""
+    return Rule(clause, frozenset(refused_by), frozenset(changed_by), is_of_certificates=True)
 
 
 STRICT = (THIS, PYCA)
@@ -32,13 +43,13 @@ RULES = {
     "needless digit of a tag number": rule("X.690, 8.1.2.4.2", *STRICT, changed_by=(OPENSSL,)),
     "tag number in the long form": rule("DEFINITIONS: tags up to the number 30", THIS),
     "version other than 0 to 2": rule("RFC 5280, 4.1", THIS),
-    "content of an object identifier": rule("X.690, 8.19.2", PYCA, OPENSSL),
-    "serial number not in its shortest form": rule("X.690, 8.3", PYCA, OPENSSL),
-    "bit string without the count of unused bits": rule("X.690, 8.6.2.2", PYCA, OPENSSL),
-    "more than seven unused bits": rule("X.690, 8.6.2.2", PYCA, OPENSSL),
-    "unused bits where there are none": rule("X.690, 8.6.2.3", PYCA, changed_by=(OPENSSL,)),
-    "unused bits that aren't zero": rule("X.690, 11.2.1", PYCA, changed_by=(OPENSSL,)),
-    "content of a time": rule("X.690, 11.7 and 11.8", PYCA),
+    "content of an object identifier": content_rule("X.690, 8.19.2", PYCA, OPENSSL),
+    "serial number not in its shortest form": content_rule("X.690, 8.3", PYCA, OPENSSL),
+    "bit string without the count of unused bits": content_rule("X.690, 8.6.2.2", PYCA, OPENSSL),
+    "more than seven unused bits": content_rule("X.690, 8.6.2.2", PYCA, OPENSSL),
+    "unused bits where there are none": content_rule("X.690, 8.6.2.3", PYCA, changed_by=(OPENSSL,)),
+    "unused bits that aren't zero": content_rule("X.690, 11.2.1", PYCA, changed_by=(OPENSSL,)),
+    "content of a time": content_rule("X.690, 11.7 and 11.8", PYCA),
     "object identifier of more than 63 bytes": rule("a limit of pyca's", PYCA),
     "any BOOLEAN that isn't one byte": rule("X.690, 8.2.1", OPENSSL),
     "any INTEGER or ENUMERATED not in its shortest form": rule("X.690, 8.3 and 8.4", OPENSSL),

@@ -12,6 +12,11 @@ from walk import Walk
 
 BLOCK = re.compile(r"^-----BEGIN CERTIFICATE-----\n([A-Za-z0-9+/=\n]*)-----END CERTIFICATE-----$", re.MULTILINE)
 
+NAMED = Path(__file__).resolve().parents[2] / "crates/der_types/src/names.rt"
+
+# the names of common object identifiers, as the comments of this file say them
+COMMON = {dotted: name for name, dotted in re.findall(r"^/// `(\S+)`, ([0-9.]+)\.$", NAMED.read_text(encoding="utf-8"), re.MULTILINE)}
+
 # the short names of RFC 4514 that der_x509_tool prints
 NAMES = {"2.5.4.3": "CN", "2.5.4.6": "C", "2.5.4.7": "L", "2.5.4.8": "ST", "2.5.4.9": "STREET", "2.5.4.10": "O", "2.5.4.11": "OU"}
 
@@ -93,8 +98,7 @@ def answer_of_peer(line: Line, text: str) -> Answer:
 
 def certificate_line(name: str, begin: str, end: str, algorithm: str, count: str) -> str:
     """What der_x509_tool prints of a certificate with these members (docs/X509.md)."""
-    times = f"{readable(bytes.fromhex(begin))} to {readable(bytes.fromhex(end))}"
-    return f"{name_text(name)}; {times}; {dotted(algorithm)}; {count} extensions; same bytes"
+    return f"{name_text(name)}; {begin} to {end}; {identified(algorithm)}; {count} extensions; same bytes"
 
 
 def name_text(name: str) -> str:
@@ -102,16 +106,17 @@ def name_text(name: str) -> str:
     steps: dict[int, list[str]] = {}
     for attribute in name.split(",") if name != "-" else []:
         step, kind, element = attribute.split(":")
-        text = f"{NAMES.get(kind) or dotted(kind)}={value_text(bytes.fromhex(element))}"
+        text = f"{NAMES.get(kind) or identified(kind)}={value_text(bytes.fromhex(element))}"
         steps.setdefault(int(step), []).append(text)
     return ", ".join(" + ".join(steps.get(it, [])) for it in range(max(steps, default=-1) + 1))
 
 
-def dotted(kind: str) -> str:
-    """An object identifier, which is printed by its bytes where a number of its encoding is 2^64 or more."""
+def identified(kind: str) -> str:
+    """An object identifier, with its name if it is a common one, or by its bytes if an arc is 2^64 or more."""
     first, second, *others = map(int, kind.split("."))
-    numbers = [40 * first + second, *others]
-    return kind if max(numbers) < 2**64 else "#" + b"".join(map(base_128, numbers)).hex().upper()
+    if max(second, *others, 0) >= 2**64:
+        return "#" + b"".join(map(base_128, [40 * first + second, *others])).hex().upper()
+    return f"{COMMON[kind]} ({kind})" if kind in COMMON else kind
 
 
 def base_128(number: int) -> bytes:

@@ -15,6 +15,7 @@
 #include <stdlib.h>
 #include <string.h>
 #include <sys/types.h>
+#include <time.h>
 
 typedef struct {
     ASN1_INTEGER *size;
@@ -165,13 +166,24 @@ static void print_name(const X509_NAME *name)
         printf("-");
 }
 
+/* Prints a date, as 2026-11-27T23:12:00Z. A time with a fraction is printed as it is, and one that is none as the digits of its bytes. */
 static void print_time(const ASN1_TIME *time)
 {
+    const unsigned char *content = ASN1_STRING_get0_data(time);
+    int size = ASN1_STRING_length(time);
+    struct tm moment;
+
     printf(" ");
-    print_hex(ASN1_STRING_get0_data(time), ASN1_STRING_length(time));
+    if (!ASN1_TIME_to_tm(time, &moment))
+        print_hex(content, size);
+    else if (memchr(content, '.', size) != NULL)
+        printf("%.*s", size, content);
+    else
+        printf("%04d-%02d-%02dT%02d:%02d:%02dZ", moment.tm_year + 1900, moment.tm_mon + 1, moment.tm_mday, moment.tm_hour,
+               moment.tm_min, moment.tm_sec);
 }
 
-/* Prints the subject, the two times as the digits of their bytes, the object identifier of the key, and how many extensions there are. */
+/* Prints the subject, the two times, the object identifier of the key, and how many extensions there are. */
 static void print_certificate(const X509 *certificate)
 {
     ASN1_OBJECT *algorithm = NULL;

@@ -200,13 +200,11 @@ READERS: dict[str, Callable[[bytes], bytes]] = {
 
 
 def time_text(time: Time) -> str:
-    """The content of a time in its one form of DER (X.690, 11.7 and 11.8), in hexadecimal."""
+    """A time as a date, as 2026-11-27T23:12:00Z, and one with a fraction by its content (X.690, 11.7)."""
     moment = time.as_datetime()
-    year = f"{moment.year:04}"
-    if isinstance(time, asn1.UTCTime):
-        year = year[2:]
-    fraction = f".{moment.microsecond:06}".rstrip("0") if moment.microsecond else ""
-    return f"{year}{moment:%m%d%H%M%S}{fraction}Z".encode().hex()
+    if moment.microsecond:
+        return f"{moment.year:04}{moment:%m%d%H%M%S}" + f".{moment.microsecond:06}".rstrip("0") + "Z"
+    return f"{moment.year:04}-{moment:%m-%dT%H:%M:%S}Z"
 
 
 def certificate_text(certificate: Certificate) -> str:

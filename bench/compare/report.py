@@ -36,10 +36,10 @@ class Compared:
         return len(set(self.verdicts())) == 1
 
 
-def explains(rules: Iterable[Rule], verdicts: tuple[str, ...]) -> bool:
-    """Whether these rules, as the only ones that are broken, lead to these verdicts."""
+def explains(rules: Iterable[Rule], word: str, verdicts: tuple[str, ...]) -> bool:
+    """Whether these rules, as the only ones that are broken, lead to these verdicts on a line of this word."""
     for program, verdict in zip(PROGRAMS, verdicts, strict=True):
-        if (verdict == "refuses") != any(program in it.refused_by for it in rules):
+        if (verdict == "refuses") != any(it.is_refused_by(program, word) for it in rules):
             return False
         if verdict == "other value" and not any(program in it.changed_by for it in rules):
             return False
@@ -48,17 +48,18 @@ def explains(rules: Iterable[Rule], verdicts: tuple[str, ...]) -> bool:
 
 def cause_of(compared: Compared) -> tuple[str, ...]:
     """The rule by which the programs differ, several where none does alone, or none where they agree."""
-    broken = broken_rules(compared.line.word, compared.line.data)
+    word = compared.line.word
+    broken = broken_rules(word, compared.line.data)
     verdicts = compared.verdicts()
     if broken is None:
         return () if set(verdicts) == {"refuses"} else UNCLASSIFIED
     names = sorted(broken, key=list(RULES).index)
-    if not explains([RULES[it] for it in names], verdicts):
+    if not explains([RULES[it] for it in names], word, verdicts):
         return UNCLASSIFIED
     if compared.is_agreed():
         return ()
     for name in names:
-        if explains([RULES[name]], verdicts):
+        if explains([RULES[name]], word, verdicts):
             return (name,)
     return tuple(names)
 

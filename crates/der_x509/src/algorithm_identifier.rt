@@ -5,7 +5,8 @@ ghost use Rattle.picky_der_core.specs.Tree.{ListKind, Tree};
 ghost use Rattle.picky_der_de.specs.Known.{by_itself};
 ghost use Rattle.picky_der_de.specs.KnownLayouts.{known_struct};
 
-use picky_asn1_der::asn1::{ObjectIdentifierAsn1, Tag};
+use der_types::ObjectIdentifier;
+use picky_asn1_der::asn1::Tag;
 use picky_asn1_der::de::{Begins, DeserializeLayout, Struct, deserialize_struct_as};
 use picky_asn1_der::misc::{ReadExt, WriteExt};
 use picky_asn1_der::ser::{Optional, OptionalRef, SerializeMembers};
@@ -16,13 +17,13 @@ use picky_asn1_der::{Asn1RawDer, Deserialize, Deserializer, List, Result, Serial
 /// Absent parameters are no NULL: that is an element like any other.
 #[derive(Debug, Drop, PartialEq, Eq)]
 pub struct AlgorithmIdentifier {
-    /// The content of the object identifier, which isn't checked.
-    pub algorithm: ObjectIdentifierAsn1,
+    /// Which algorithm it is.
+    pub algorithm: ObjectIdentifier,
     /// The element of the parameters.
     pub parameters: Option<Asn1RawDer>,
 }
 
-type Members = (ObjectIdentifierAsn1, Optional<Asn1RawDer>, ());
+type Members = (ObjectIdentifier, Optional<Asn1RawDer>, ());
 
 impl Serialize for AlgorithmIdentifier {
     ghost meaning = { λ it. Tree.list ListKind.sequence (⟦<Members as SerializeMembers>⟧.members

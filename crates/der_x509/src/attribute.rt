@@ -2,7 +2,7 @@
 ghost use Rattle.picky_der_de.specs.Known.{by_itself};
 ghost use Rattle.picky_der_de.specs.KnownRows.{known_record};
 
-use picky_asn1_der::asn1::ObjectIdentifierAsn1;
+use der_types::ObjectIdentifier;
 use picky_asn1_der::de::DeserializeMembers;
 use picky_asn1_der::misc::{ReadExt, WriteExt};
 use picky_asn1_der::{
@@ -12,13 +12,13 @@ use picky_asn1_der::{
 /// An attribute, as a SEQUENCE of its type and its value (RFC 5280, 4.1.2.4).
 #[derive(Debug, Drop, PartialEq, Eq)]
 pub struct Attribute {
-    /// The content of the object identifier of its type, which isn't checked.
-    pub kind: ObjectIdentifierAsn1,
+    /// Which attribute it is.
+    pub kind: ObjectIdentifier,
     /// The value, an element of any type: the header tells which string it is.
     pub value: Asn1RawDer,
 }
 
-type Fields = (ObjectIdentifierAsn1, Asn1RawDer, ());
+type Fields = (ObjectIdentifier, Asn1RawDer, ());
 
 impl Serialize for Attribute {
     ghost meaning = { λ it. ⟦<Row<Fields> as Serialize>⟧.meaning (record { 0 = ⟦<Attribute as Record>⟧.parts it }) };

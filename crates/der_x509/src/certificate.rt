@@ -5,7 +5,7 @@ ghost use Rattle.picky_der_de.specs.Known.{by_itself};
 ghost use Rattle.picky_der_de.specs.KnownRows.{known_record};
 
 use crate::{AlgorithmIdentifier, TbsCertificate};
-use picky_asn1_der::asn1::BitStringAsn1;
+use der_types::BitString;
 use picky_asn1_der::de::DeserializeMembers;
 use picky_asn1_der::misc::{ReadExt, WriteExt};
 use picky_asn1_der::{
@@ -21,8 +21,8 @@ pub struct Certificate {
     pub tbs_certificate: Asn1RawDer,
     /// How it is signed.
     pub signature_algorithm: AlgorithmIdentifier,
-    /// The content of the bit string of the signature, which isn't checked.
-    pub signature: BitStringAsn1,
+    /// The signature.
+    pub signature: BitString,
 }
 
 impl Certificate {
@@ -40,7 +40,7 @@ impl Certificate {
     }
 }
 
-type Fields = (Asn1RawDer, AlgorithmIdentifier, BitStringAsn1, ());
+type Fields = (Asn1RawDer, AlgorithmIdentifier, BitString, ());
 
 impl Serialize for Certificate {
     ghost meaning = { λ it. ⟦<Row<Fields> as Serialize>⟧.meaning (record { 0 = ⟦<Certificate as Record>⟧.parts it }) };

@@ -5,7 +5,8 @@ ghost use Rattle.picky_der_core.specs.Tree.{ListKind, Tree};
 ghost use Rattle.picky_der_de.specs.Known.{by_itself};
 ghost use Rattle.picky_der_de.specs.KnownLayouts.{known_struct};
 
-use picky_asn1_der::asn1::{ByteBuf, ObjectIdentifierAsn1};
+use der_types::ObjectIdentifier;
+use picky_asn1_der::asn1::ByteBuf;
 use picky_asn1_der::de::{DeserializeLayout, Struct, deserialize_struct_as};
 use picky_asn1_der::misc::{ReadExt, WriteExt};
 use picky_asn1_der::ser::{Defaulted, DefaultedRef, False, SerializeMembers};
@@ -14,15 +15,15 @@ use picky_asn1_der::{Deserialize, Deserializer, Result, Serialize, Serializer};
 /// An extension, as a SEQUENCE (RFC 5280, 4.1.2.9).
 #[derive(Debug, Drop, PartialEq, Eq)]
 pub struct Extension {
-    /// The content of the object identifier that tells what is said, which isn't checked.
-    pub id: ObjectIdentifierAsn1,
-    /// Whether who doesn't know it has to refuse the certificate: FALSE by default.
+    /// Which extension it is.
+    pub id: ObjectIdentifier,
+    /// Whether a program that doesn't know it has to refuse the certificate: FALSE by default.
     pub critical: bool,
-    /// The encoding of what is said.
+    /// The encoding of its value, whose type `id` says: `from_der::<KeyUsage>` reads that of `names::KEY_USAGE`.
     pub value: ByteBuf,
 }
 
-type Members = (ObjectIdentifierAsn1, Defaulted<bool, False>, ByteBuf, ());
+type Members = (ObjectIdentifier, Defaulted<bool, False>, ByteBuf, ());
 
 impl Serialize for Extension {
     ghost meaning = { λ it. Tree.list ListKind.sequence (⟦<Members as SerializeMembers>⟧.members

@@ -3,7 +3,8 @@ ghost use Rattle.picky_der_de.specs.Known.{by_itself};
 ghost use Rattle.picky_der_de.specs.KnownRows.{known_record};
 
 use crate::AlgorithmIdentifier;
-use picky_asn1_der::asn1::{BitStringAsn1, Tag};
+use der_types::BitString;
+use picky_asn1_der::asn1::Tag;
 use picky_asn1_der::de::{Begins, DeserializeMembers};
 use picky_asn1_der::misc::{ReadExt, WriteExt};
 use picky_asn1_der::{
@@ -15,11 +16,11 @@ use picky_asn1_der::{
 pub struct SubjectPublicKeyInfo {
     /// What the key is for.
     pub algorithm: AlgorithmIdentifier,
-    /// The content of the bit string, which isn't checked: how many bits at the end are unused, and the key.
-    pub subject_public_key: BitStringAsn1,
+    /// The key.
+    pub subject_public_key: BitString,
 }
 
-type Fields = (AlgorithmIdentifier, BitStringAsn1, ());
+type Fields = (AlgorithmIdentifier, BitString, ());
 
 impl Serialize for SubjectPublicKeyInfo {
     ghost meaning = { λ it. ⟦<Row<Fields> as Serialize>⟧.meaning (record { 0 = ⟦<SubjectPublicKeyInfo as Record>⟧.parts it }) };

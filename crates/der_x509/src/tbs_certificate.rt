@@ -9,9 +9,9 @@ use crate::{
     AlgorithmIdentifier, Attribute, Extension, Extensions, Name, RelativeName,
     SubjectPublicKeyInfo, V1, Validity, Version,
 };
+use der_types::{BitString, Integer};
 use picky_asn1_der::asn1::{
-    BitStringAsn1, ExplicitContextTag0, ExplicitContextTag3, ImplicitContextTag1,
-    ImplicitContextTag2, IntegerAsn1,
+    ExplicitContextTag0, ExplicitContextTag3, ImplicitContextTag1, ImplicitContextTag2,
 };
 use picky_asn1_der::de::{DeserializeLayout, Struct, deserialize_struct_as};
 use picky_asn1_der::misc::{ReadExt, WriteExt};
@@ -23,8 +23,8 @@ use picky_asn1_der::{Deserialize, Deserializer, Result, Serialize, Serializer};
 pub struct TbsCertificate {
     /// The version: V1 by default.
     pub version: ExplicitContextTag0<Version>,
-    /// The content of the number that the issuer gave it, which isn't checked and of any length.
-    pub serial_number: IntegerAsn1,
+    /// The number that the issuer gave it, of any length and sign. RFC 5280, 4.1.2.2 wants a positive one of at most 20 bytes.
+    pub serial_number: Integer,
     /// How it is signed.
     pub signature: AlgorithmIdentifier,
     /// The name of who signs it.
@@ -36,27 +36,27 @@ pub struct TbsCertificate {
     /// The key.
     pub subject_public_key_info: SubjectPublicKeyInfo,
     /// What tells the issuer from others of that name.
-    pub issuer_unique_id: Option<ImplicitContextTag1<BitStringAsn1>>,
+    pub issuer_unique_id: Option<ImplicitContextTag1<BitString>>,
     /// What tells the subject from others of that name.
-    pub subject_unique_id: Option<ImplicitContextTag2<BitStringAsn1>>,
+    pub subject_unique_id: Option<ImplicitContextTag2<BitString>>,
     /// What else is said.
     pub extensions: Option<ExplicitContextTag3<Extensions>>,
 }
 
 type Members = (
     Defaulted<ExplicitContextTag0<Version>, V1>,
-    IntegerAsn1,
+    Integer,
     AlgorithmIdentifier,
     Name,
     Validity,
     Name,
     SubjectPublicKeyInfo,
-    Optional<ImplicitContextTag1<BitStringAsn1>>,
+    Optional<ImplicitContextTag1<BitString>>,
     OtherMembers,
 );
 
 type OtherMembers = (
-    Optional<ImplicitContextTag2<BitStringAsn1>>,
+    Optional<ImplicitContextTag2<BitString>>,
     Optional<ExplicitContextTag3<Extensions>>,
     (),
 );

@@ -6,24 +6,28 @@ ghost use Rattle.picky_der_de.specs.Known.{by_itself};
 ghost use Rattle.picky_der_de.specs.KnownChoices.{known_choice};
 ghost use Rattle.der_x509.specs.declared.time.Time.TheVariants.{Utc, Generalized};
 
+use der_types::{GeneralizedTime, UtcTime};
 use picky_asn1_der::OneOf::{Other, This};
-use picky_asn1_der::asn1::{GeneralizedTimeAsn1, Tag, UtcTimeAsn1};
+use picky_asn1_der::asn1::Tag;
 use picky_asn1_der::de::{Begins, deserialize_choice_as};
 use picky_asn1_der::misc::{ReadExt, WriteExt};
 use picky_asn1_der::{
     Alternatives, Choice, Deserialize, Deserializer, NoneOf, OneOf, Result, Serialize, Serializer,
 };
 
-/// A time, as a CHOICE (RFC 5280, 4.1.2.5). That its text is a time isn't checked.
+/// A time, as a CHOICE (RFC 5280, 4.1.2.5): any that DER allows (X.690, 11.7, 11.8).
+///
+/// RFC 5280 wants a UTCTime up to 2049, and no fraction of a second. `Time` of `der_types` checks that, too. A certificate that
+/// Debian trusts has a GeneralizedTime of 2011.
 #[derive(Debug, Drop, PartialEq, Eq)]
 pub enum Time {
-    /// A UTCTime: the year has two digits.
-    Utc(UtcTimeAsn1),
-    /// A GeneralizedTime: the year has four digits.
-    Generalized(GeneralizedTimeAsn1),
+    /// A UTCTime, of the years 1950 to 2049.
+    Utc(UtcTime),
+    /// A GeneralizedTime, whose year has four digits.
+    Generalized(GeneralizedTime),
 }
 
-type Parts = OneOf<UtcTimeAsn1, OneOf<GeneralizedTimeAsn1, NoneOf>>;
+type Parts = OneOf<UtcTime, OneOf<GeneralizedTime, NoneOf>>;
 
 impl Choice for Time {
     type Alternatives = Parts;

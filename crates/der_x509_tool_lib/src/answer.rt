@@ -8,6 +8,7 @@ use crate::names::push_name;
 use crate::object_identifier::push_object_identifier;
 use crate::text::push_text_or_bytes;
 use crate::{Outcome, examine};
+use der_types::DateTime;
 use der_x509::{TbsCertificate, Time};
 use picky_asn1_der::{Asn1DerError, Result};
 use std::alloc::{AllocError, Global};
@@ -92,7 +93,7 @@ fn members_of(alloc: Global, signed: &TbsCertificate) -> result::Result<String, 
     push_time(&mut line, &signed.validity.not_after)?;
     line.push_str("; ")?;
     let algorithm = &signed.subject_public_key_info.algorithm.algorithm;
-    push_object_identifier(alloc, &mut line, &algorithm.0)?;
+    push_object_identifier(&mut line, algorithm)?;
     let count = match &signed.extensions {
         Some(extensions) => extensions.0.len(),
         None => 0,
@@ -101,10 +102,17 @@ fn members_of(alloc: Global, signed: &TbsCertificate) -> result::Result<String, 
     Ok(line.into_string())
 }
 
-// The text of a time.
+// The date and time, as 2026-11-27T23:12:00Z. A time with a fraction of a second is appended as it is.
 fn push_time(line: &mut Line, time: &Time) -> result::Result<(), AllocError> {
     match time {
-        Time::Utc(time) => push_text_or_bytes(line, &time.0),
-        Time::Generalized(time) => push_text_or_bytes(line, &time.0),
+        Time::Utc(time) => push_date_time(line, time.date_time()),
+        Time::Generalized(time) => match time.date_time() {
+            Some(at) => push_date_time(line, at),
+            None => push_text_or_bytes(line, time.content()),
+        },
     }
+}
+
+fn push_date_time(line: &mut Line, at: DateTime) -> result::Result<(), AllocError> {
+    write!(line, "{at}")
 }

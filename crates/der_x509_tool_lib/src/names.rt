@@ -3,10 +3,22 @@
 use crate::line::Line;
 use crate::object_identifier::push_object_identifier;
 use crate::text::{push_bytes, push_text};
+use der_types::{ObjectIdentifier, names};
 use der_x509::{Attribute, Name};
 use picky_asn1_der::asn1::{PrintableStringAsn1, Tag};
 use picky_asn1_der::{Asn1DerError, from_bytes};
 use std::alloc::{AllocError, Global};
+
+// The names of attributes that have short ones.
+static SHORT_NAMES: [(&[u8], &str); 7] = [
+    (names::COMMON_NAME, "CN"),
+    (names::COUNTRY_NAME, "C"),
+    (names::LOCALITY_NAME, "L"),
+    (names::STATE_OR_PROVINCE_NAME, "ST"),
+    (names::STREET_ADDRESS, "STREET"),
+    (names::ORGANIZATION_NAME, "O"),
+    (names::ORGANIZATIONAL_UNIT_NAME, "OU"),
+];
 
 // Appends a name: its steps from the root down, with `, ` between them, and between the attributes of one step ` + `.
 pub(crate) fn push_name(alloc: Global, line: &mut Line, name: &Name) -> Result<(), AllocError> {
@@ -24,7 +36,7 @@ fn push_step(alloc: Global, line: &mut Line, attributes: &[Attribute]) -> Result
         if place != 0 {
             line.push_str(" + ")?;
         }
-        push_kind(alloc, line, &attribute.kind.0)?;
+        push_kind(line, &attribute.kind)?;
         line.push('=')?;
         push_value(alloc, line, &attribute.value.0)?;
     }
@@ -32,19 +44,13 @@ fn push_step(alloc: Global, line: &mut Line, attributes: &[Attribute]) -> Result
 }
 
 // The short name of an attribute's type (RFC 4514, 3), or its object identifier.
-fn push_kind(alloc: Global, line: &mut Line, content: &[u8]) -> Result<(), AllocError> {
-    let name = match content {
-        [0x55, 0x04, 0x03] => "CN",
-        [0x55, 0x04, 0x06] => "C",
-        [0x55, 0x04, 0x07] => "L",
-        [0x55, 0x04, 0x08] => "ST",
-        [0x55, 0x04, 0x09] => "STREET",
-        [0x55, 0x04, 0x0A] => "O",
-        [0x55, 0x04, 0x0B] => "OU",
-        _ => return push_object_identifier(alloc, line, content),
-    };
-    line.push_str(name)?;
-    Ok(())
+fn push_kind(line: &mut Line, kind: &ObjectIdentifier) -> Result<(), AllocError> {
+    for (known, name) in &SHORT_NAMES {
+        if kind.is(*known) {
+            return line.push_str(*name);
+        }
+    }
+    push_object_identifier(line, kind)
 }
 
 // The text of a UTF8String or a PrintableString, and any other element as bytes.

@@ -5,6 +5,9 @@ use Rattle.der_x509_tool_lib.proofs.Examined.{whole_writable}
 use Rattle.der_x509_tool_lib.proofs.outcome.examine_signed.Goals as goal
 use Rattle.der_x509_tool_lib.proofs.outcome.examine_signed.Goals.{then-is_same, else-is_same}
 
+pub is_written_as-requires : goal.is_written_as-requires
+is_written_as-requires c = whole_writable c.requires.whole (omega arith)
+
 pub is_written_as-requires-in-Ok : goal.is_written_as-requires-in-Ok
 is_written_as-requires-in-Ok c = whole_writable c.in-Ok.ensures.ok (omega arith)
 
