@@ -17,6 +17,7 @@ mod moment;
 mod named;
 mod noted;
 mod number_or_flag;
+mod personnel_record;
 mod place;
 mod point;
 mod principal_name;
@@ -49,6 +50,10 @@ pub use moment::Moment;
 pub use named::Named;
 pub use noted::Noted;
 pub use number_or_flag::NumberOrFlag;
+pub use personnel_record::{
+    ChildInformation, EmployeeNumber, PersonName, PersonnelMembers, PersonnelRecord, RecordDate,
+    TaggedName,
+};
 pub use place::Place;
 pub use point::Point;
 pub use principal_name::PrincipalName;

@@ -67,6 +67,14 @@ impl Contents for ResponseStatus {
         }
     }
 
+    fn serialize_under<W: WriteExt>(
+        &self,
+        tag: Tag,
+        serializer: &mut Serializer<W>,
+    ) -> Result<usize> {
+        serializer.serialize_tagged_bytes(tag, &[self.number()])
+    }
+
     ghost short = { lit≤ tt };
 
     ghost valid = { elim [
@@ -77,13 +85,22 @@ impl Contents for ResponseStatus {
       | status.SigRequired ↦ refl
       | status.Unauthorized ↦ refl
     ] };
+
+    ghost same = { elim [
+      | status.Successful ↦ elim [ status.Successful ↦ λ e. refl | _ ↦ λ e. cc ]
+      | status.MalformedRequest ↦ elim [ status.MalformedRequest ↦ λ e. refl | _ ↦ λ e. cc ]
+      | status.InternalError ↦ elim [ status.InternalError ↦ λ e. refl | _ ↦ λ e. cc ]
+      | status.TryLater ↦ elim [ status.TryLater ↦ λ e. refl | _ ↦ λ e. cc ]
+      | status.SigRequired ↦ elim [ status.SigRequired ↦ λ e. refl | _ ↦ λ e. cc ]
+      | status.Unauthorized ↦ elim [ status.Unauthorized ↦ λ e. refl | _ ↦ λ e. cc ]
+    ] };
 }
 
 impl Serialize for ResponseStatus {
     ghost meaning = { λ it. Tree.bytes 0x0A (status_number it ∷ []) };
 
     fn serialize<W: WriteExt>(&self, serializer: &mut Serializer<W>) -> Result<usize> {
-        serializer.serialize_tagged_bytes(Tag::ENUMERATED, &[self.number()])
+        self.serialize_under(Tag::ENUMERATED, serializer)
     }
 }
 

@@ -17,6 +17,8 @@ mod lengths;
 mod pieces;
 mod raw_elements;
 mod sets;
+mod signed;
+mod tagged_forms;
 mod tags;
 mod tool;
 mod values;

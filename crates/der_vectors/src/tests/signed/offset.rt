@@ -1,0 +1,81 @@
+//! A struct of signed integers with defaults.
+ghost use Rattle.std.specs.Prelude.{refl};
+ghost use Rattle.picky_der_core.specs.Shape.{Shape};
+ghost use Rattle.picky_der_core.specs.Tree.{ListKind, Tree};
+ghost use Rattle.picky_der_de.specs.Known.{by_itself};
+ghost use Rattle.picky_der_de.specs.KnownLayouts.{known_struct};
+
+use picky_asn1_der::asn1::ExplicitContextTag0;
+use picky_asn1_der::de::{DeserializeLayout, Struct, deserialize_struct_as};
+use picky_asn1_der::misc::{ReadExt, WriteExt};
+use picky_asn1_der::ser::{Defaulted, DefaultedRef, SerializeMembers, SignedNumber};
+use picky_asn1_der::{Deserialize, Deserializer, Result, Serialize, Serializer};
+
+// A difference of times: -1 hour by default, and `[0] EXPLICIT` 7 seconds.
+#[derive(Debug, Drop, PartialEq, Eq)]
+pub(crate) struct Offset {
+    hours: i8,
+    seconds: ExplicitContextTag0<i64>,
+}
+
+impl Offset {
+    pub(crate) fn new(hours: i8, seconds: i64) -> Offset {
+        Offset {
+            hours,
+            seconds: ExplicitContextTag0::from(seconds),
+        }
+    }
+}
+
+type Members = (
+    Defaulted<i8, SignedNumber<-1>>,
+    Defaulted<ExplicitContextTag0<i64>, SignedNumber<7>>,
+    (),
+);
+
+impl Serialize for Offset {
+    ghost meaning = { λ it. Tree.list ListKind.sequence (⟦<Members as SerializeMembers>⟧.members
+        (⟦<Offset as Struct>⟧.parts it)) };
+
+    fn serialize<W: WriteExt>(&self, serializer: &mut Serializer<W>) -> Result<usize> {
+        (
+            DefaultedRef::<i8, SignedNumber<-1>>::new(&self.hours),
+            DefaultedRef::<ExplicitContextTag0<i64>, SignedNumber<7>>::new(&self.seconds),
+            (),
+        )
+            .serialize_sequence(serializer)
+    }
+}
+
+impl Struct for Offset {
+    type Members = Members;
+
+    ghost parts = { λ it. (
+      record { value = it.hours; default = record {} },
+      record { value = it.seconds; default = record {} },
+      tt,
+    ) };
+
+    fn from_parts(members: Members) -> Offset {
+        let (hours, seconds, ()) = members;
+        Offset {
+            hours: hours.value,
+            seconds: seconds.value,
+        }
+    }
+
+    ghost told = { refl };
+}
+
+impl Deserialize for Offset {
+    ghost shape = { Shape.struct_of ListKind.sequence ⟦<Members as DeserializeLayout>⟧.layout };
+
+    ghost known = { known_struct ⟦<Members as DeserializeLayout>⟧.known refl ⟦<Self as Struct>⟧.parts ⟦<Self as PartialEq>⟧.eq
+        (λ x y h. h) (λ x y. (λ h. h, (λ h. h, tt))) };
+
+    ghost tied = { by_itself };
+
+    fn deserialize<R: ReadExt>(deserializer: &mut Deserializer<R>) -> Result<Offset> {
+        deserialize_struct_as(deserializer)
+    }
+}
