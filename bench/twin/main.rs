@@ -2,8 +2,8 @@
 use picky_der_core::Result;
 use picky_der_core::asn1::ByteBuf;
 use picky_der_core::misc::{ReadExt, WriteExt};
-use picky_der_de::{Deserialize, Deserializer, Record, deserialize_record_as, from_bytes};
-use picky_der_ser::{Serialize, Serializer, to_vec};
+use picky_der_de::{Deserialize, Deserializer, Struct, deserialize_struct_as, from_bytes};
+use picky_der_ser::{Serialize, SerializeMembers, Serializer, to_vec};
 use rattle_std::alloc::Global;
 use rattle_std::prelude::*;
 use std::hint::black_box;
@@ -15,26 +15,26 @@ struct TestStruct {
     tuple: (usize, ()),
 }
 
-type Fields = (u8, ByteBuf, (usize, ()), ());
+type Members = (u8, ByteBuf, (usize, ()), ());
 
-impl Serialize for TestStruct {
-    fn serialize<W: WriteExt>(&self, serializer: &mut Serializer<W>) -> Result<usize> {
-        (&self.number, &self.vec, &self.tuple).serialize(serializer)
+impl Struct for TestStruct {
+    type Members = Members;
+
+    fn from_parts(members: Members) -> TestStruct {
+        let (number, vec, tuple, ()) = members;
+        TestStruct { number, vec, tuple }
     }
 }
 
-impl Record for TestStruct {
-    type Fields = Fields;
-
-    fn from_parts(fields: Fields) -> TestStruct {
-        let (number, vec, tuple, ()) = fields;
-        TestStruct { number, vec, tuple }
+impl Serialize for TestStruct {
+    fn serialize<W: WriteExt>(&self, serializer: &mut Serializer<W>) -> Result<usize> {
+        (&self.number, &self.vec, &self.tuple, ()).serialize_sequence(serializer)
     }
 }
 
 impl Deserialize for TestStruct {
     fn deserialize<R: ReadExt>(deserializer: &mut Deserializer<R>) -> Result<TestStruct> {
-        deserialize_record_as(deserializer)
+        deserialize_struct_as(deserializer)
     }
 }
 

@@ -4,6 +4,9 @@ pub mod alloc {
     #[derive(Debug, Clone, Copy, PartialEq, Eq)]
     pub struct AllocError;
 
+    #[derive(Debug, Clone, Copy)]
+    pub struct AllocFailed<T>(pub T);
+
     #[derive(Debug, Clone, Copy, PartialEq, Eq)]
     pub struct Global;
 }

@@ -1,11 +1,14 @@
 //! A struct of seventeen fields, more than a tuple has.
+ghost use Rattle.std.specs.Prelude.{refl};
 ghost use Rattle.picky_der_de.specs.Known.{by_itself};
-ghost use Rattle.picky_der_de.specs.KnownRows.{known_record};
+ghost use Rattle.picky_der_de.specs.KnownMembers.{known_struct, sequence_of, sequence_shape};
 
-use picky_asn1_der::de::DeserializeMembers;
 use picky_asn1_der::misc::{ReadExt, WriteExt};
-use picky_asn1_der::ser::{Sequence, SerializeMembers};
-use picky_asn1_der::{Deserialize, Deserializer, Record, Result, Row, Serialize, Serializer, de};
+use picky_asn1_der::ser::Sequence;
+use picky_asn1_der::{
+    Deserialize, DeserializeMembers, Deserializer, Result, Serialize, SerializeMembers, Serializer,
+    Struct, deserialize_struct_as,
+};
 
 /// How many people are how old, as a SEQUENCE of seventeen INTEGERs.
 #[derive(Debug, Drop, PartialEq, Eq)]
@@ -46,7 +49,7 @@ pub struct AgeGroups {
     pub from_80: u32,
 }
 
-type Fields = (
+type Members = (
     u32,
     u32,
     u32,
@@ -58,8 +61,60 @@ type Fields = (
     (u32, u32, u32, u32, u32, u32, u32, u32, (u32, ())),
 );
 
+impl Struct for AgeGroups {
+    type Members = Members;
+
+    ghost parts = { λ it. (
+      it.under_5,
+      it.from_5,
+      it.from_10,
+      it.from_15,
+      it.from_20,
+      it.from_25,
+      it.from_30,
+      it.from_35,
+      (
+        it.from_40,
+        it.from_45,
+        it.from_50,
+        it.from_55,
+        it.from_60,
+        it.from_65,
+        it.from_70,
+        it.from_75,
+        (it.from_80, tt),
+      ),
+    ) };
+
+    fn from_parts(members: Members) -> AgeGroups {
+        let (under_5, from_5, from_10, from_15, from_20, from_25, from_30, from_35, others) =
+            members;
+        let (from_40, from_45, from_50, from_55, from_60, from_65, from_70, from_75, last) = others;
+        let (from_80, ()) = last;
+        AgeGroups {
+            under_5,
+            from_5,
+            from_10,
+            from_15,
+            from_20,
+            from_25,
+            from_30,
+            from_35,
+            from_40,
+            from_45,
+            from_50,
+            from_55,
+            from_60,
+            from_65,
+            from_70,
+            from_75,
+            from_80,
+        }
+    }
+}
+
 impl Serialize for AgeGroups {
-    ghost meaning = { λ it. ⟦<Row<Fields> as Serialize>⟧.meaning (record { 0 = ⟦<AgeGroups as Record>⟧.parts it }) };
+    ghost meaning = { sequence_of ⟦<Members as SerializeMembers>⟧.members ⟦<Self as Struct>⟧.parts };
 
     fn serialize<W: WriteExt>(&self, serializer: &mut Serializer<W>) -> Result<usize> {
         (
@@ -97,66 +152,15 @@ impl SerializeMembers for Last<'_> {
     }
 }
 
-impl Record for AgeGroups {
-    type Fields = Fields;
-
-    ghost parts = { λ it. (
-      it.under_5,
-      it.from_5,
-      it.from_10,
-      it.from_15,
-      it.from_20,
-      it.from_25,
-      it.from_30,
-      it.from_35,
-      (
-        it.from_40,
-        it.from_45,
-        it.from_50,
-        it.from_55,
-        it.from_60,
-        it.from_65,
-        it.from_70,
-        it.from_75,
-        (it.from_80, tt),
-      ),
-    ) };
-
-    fn from_parts(fields: Fields) -> AgeGroups {
-        let (under_5, from_5, from_10, from_15, from_20, from_25, from_30, from_35, others) =
-            fields;
-        let (from_40, from_45, from_50, from_55, from_60, from_65, from_70, from_75, last) = others;
-        let (from_80, ()) = last;
-        AgeGroups {
-            under_5,
-            from_5,
-            from_10,
-            from_15,
-            from_20,
-            from_25,
-            from_30,
-            from_35,
-            from_40,
-            from_45,
-            from_50,
-            from_55,
-            from_60,
-            from_65,
-            from_70,
-            from_75,
-            from_80,
-        }
-    }
-}
-
 impl Deserialize for AgeGroups {
-    ghost shape = { ⟦<Row<Fields> as Deserialize>⟧.shape };
+    ghost shape = { sequence_shape ⟦<Members as DeserializeMembers>⟧.layout };
 
-    ghost known = { known_record ⟦<Fields as DeserializeMembers>⟧.known ⟦<Self as Record>⟧.parts ⟦<Self as PartialEq>⟧.eq (λ x y h. h) };
-
-    ghost tied = { by_itself };
+    ghost known = { known_struct ⟦<Members as DeserializeMembers>⟧.known refl ⟦<Self as Struct>⟧.parts ⟦<Self as PartialEq>⟧.eq
+        (λ x y h. h) (λ x y. refl) };
 
     fn deserialize<R: ReadExt>(deserializer: &mut Deserializer<R>) -> Result<AgeGroups> {
-        de::deserialize_record_as(deserializer)
+        deserialize_struct_as(deserializer)
     }
+
+    ghost tied = { by_itself };
 }

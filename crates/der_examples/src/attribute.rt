@@ -1,12 +1,13 @@
 //! Attributes of requests and of signers.
+ghost use Rattle.std.specs.Prelude.{refl};
 ghost use Rattle.picky_der_de.specs.Known.{by_itself};
-ghost use Rattle.picky_der_de.specs.KnownRows.{known_record};
+ghost use Rattle.picky_der_de.specs.KnownMembers.{known_struct, sequence_of, sequence_shape};
 
 use picky_asn1_der::asn1::{Asn1SetOf, ObjectIdentifierAsn1};
-use picky_asn1_der::de::DeserializeMembers;
 use picky_asn1_der::misc::{ReadExt, WriteExt};
 use picky_asn1_der::{
-    Asn1RawDer, Deserialize, Deserializer, Record, Result, Row, Serialize, Serializer, de,
+    Asn1RawDer, Deserialize, DeserializeMembers, Deserializer, Result, Serialize, SerializeMembers,
+    Serializer, Struct, deserialize_struct_as,
 };
 
 /// An attribute with its values, as a SEQUENCE (RFC 2986, 4.1, and RFC 5652, 5.3).
@@ -18,35 +19,36 @@ pub struct Attribute {
     pub values: Asn1SetOf<Asn1RawDer>,
 }
 
-type Fields = (ObjectIdentifierAsn1, Asn1SetOf<Asn1RawDer>, ());
+type Members = (ObjectIdentifierAsn1, Asn1SetOf<Asn1RawDer>, ());
 
-impl Serialize for Attribute {
-    ghost meaning = { λ it. ⟦<Row<Fields> as Serialize>⟧.meaning (record { 0 = ⟦<Attribute as Record>⟧.parts it }) };
-
-    fn serialize<W: WriteExt>(&self, serializer: &mut Serializer<W>) -> Result<usize> {
-        (&self.kind, &self.values).serialize(serializer)
-    }
-}
-
-impl Record for Attribute {
-    type Fields = Fields;
+impl Struct for Attribute {
+    type Members = Members;
 
     ghost parts = { λ it. (it.kind, it.values, tt) };
 
-    fn from_parts(fields: Fields) -> Attribute {
-        let (kind, values, ()) = fields;
+    fn from_parts(members: Members) -> Attribute {
+        let (kind, values, ()) = members;
         Attribute { kind, values }
     }
 }
 
+impl Serialize for Attribute {
+    ghost meaning = { sequence_of ⟦<Members as SerializeMembers>⟧.members ⟦<Self as Struct>⟧.parts };
+
+    fn serialize<W: WriteExt>(&self, serializer: &mut Serializer<W>) -> Result<usize> {
+        (&self.kind, &self.values, ()).serialize_sequence(serializer)
+    }
+}
+
 impl Deserialize for Attribute {
-    ghost shape = { ⟦<Row<Fields> as Deserialize>⟧.shape };
+    ghost shape = { sequence_shape ⟦<Members as DeserializeMembers>⟧.layout };
 
-    ghost known = { known_record ⟦<Fields as DeserializeMembers>⟧.known ⟦<Self as Record>⟧.parts ⟦<Self as PartialEq>⟧.eq (λ x y h. h) };
-
-    ghost tied = { by_itself };
+    ghost known = { known_struct ⟦<Members as DeserializeMembers>⟧.known refl ⟦<Self as Struct>⟧.parts ⟦<Self as PartialEq>⟧.eq
+        (λ x y h. h) (λ x y. refl) };
 
     fn deserialize<R: ReadExt>(deserializer: &mut Deserializer<R>) -> Result<Attribute> {
-        de::deserialize_record_as(deserializer)
+        deserialize_struct_as(deserializer)
     }
+
+    ghost tied = { by_itself };
 }

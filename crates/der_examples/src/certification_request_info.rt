@@ -1,13 +1,16 @@
 //! Requests for certificates.
+ghost use Rattle.std.specs.Prelude.{refl};
 ghost use Rattle.picky_der_de.specs.Known.{by_itself};
-ghost use Rattle.picky_der_de.specs.KnownRows.{known_record};
+ghost use Rattle.picky_der_de.specs.KnownMembers.{known_struct, sequence_of, sequence_shape};
 
 use crate::Attribute;
 use der_x509::{Name, SubjectPublicKeyInfo};
 use picky_asn1_der::asn1::{Asn1SetOf, ImplicitList0};
-use picky_asn1_der::de::DeserializeMembers;
 use picky_asn1_der::misc::{ReadExt, WriteExt};
-use picky_asn1_der::{Deserialize, Deserializer, Record, Result, Row, Serialize, Serializer, de};
+use picky_asn1_der::{
+    Deserialize, DeserializeMembers, Deserializer, Result, Serialize, SerializeMembers, Serializer,
+    Struct, deserialize_struct_as,
+};
 
 /// What is signed of a request for a certificate, as a SEQUENCE (RFC 2986, 4.1).
 #[derive(Debug, Drop, PartialEq, Eq)]
@@ -22,7 +25,7 @@ pub struct CertificationRequestInfo {
     pub attributes: ImplicitList0<Asn1SetOf<Attribute>>,
 }
 
-type Fields = (
+type Members = (
     u8,
     Name,
     SubjectPublicKeyInfo,
@@ -30,27 +33,13 @@ type Fields = (
     (),
 );
 
-impl Serialize for CertificationRequestInfo {
-    ghost meaning = { λ it. ⟦<Row<Fields> as Serialize>⟧.meaning (record { 0 = ⟦<CertificationRequestInfo as Record>⟧.parts it }) };
-
-    fn serialize<W: WriteExt>(&self, serializer: &mut Serializer<W>) -> Result<usize> {
-        (
-            &self.version,
-            &self.subject,
-            &self.public_key,
-            &self.attributes,
-        )
-            .serialize(serializer)
-    }
-}
-
-impl Record for CertificationRequestInfo {
-    type Fields = Fields;
+impl Struct for CertificationRequestInfo {
+    type Members = Members;
 
     ghost parts = { λ it. (it.version, it.subject, it.public_key, it.attributes, tt) };
 
-    fn from_parts(fields: Fields) -> CertificationRequestInfo {
-        let (version, subject, public_key, attributes, ()) = fields;
+    fn from_parts(members: Members) -> CertificationRequestInfo {
+        let (version, subject, public_key, attributes, ()) = members;
         CertificationRequestInfo {
             version,
             subject,
@@ -60,16 +49,32 @@ impl Record for CertificationRequestInfo {
     }
 }
 
+impl Serialize for CertificationRequestInfo {
+    ghost meaning = { sequence_of ⟦<Members as SerializeMembers>⟧.members ⟦<Self as Struct>⟧.parts };
+
+    fn serialize<W: WriteExt>(&self, serializer: &mut Serializer<W>) -> Result<usize> {
+        (
+            &self.version,
+            &self.subject,
+            &self.public_key,
+            &self.attributes,
+            (),
+        )
+            .serialize_sequence(serializer)
+    }
+}
+
 impl Deserialize for CertificationRequestInfo {
-    ghost shape = { ⟦<Row<Fields> as Deserialize>⟧.shape };
+    ghost shape = { sequence_shape ⟦<Members as DeserializeMembers>⟧.layout };
 
-    ghost known = { known_record ⟦<Fields as DeserializeMembers>⟧.known ⟦<Self as Record>⟧.parts ⟦<Self as PartialEq>⟧.eq (λ x y h. h) };
-
-    ghost tied = { by_itself };
+    ghost known = { known_struct ⟦<Members as DeserializeMembers>⟧.known refl ⟦<Self as Struct>⟧.parts ⟦<Self as PartialEq>⟧.eq
+        (λ x y h. h) (λ x y. refl) };
 
     fn deserialize<R: ReadExt>(
         deserializer: &mut Deserializer<R>,
     ) -> Result<CertificationRequestInfo> {
-        de::deserialize_record_as(deserializer)
+        deserialize_struct_as(deserializer)
     }
+
+    ghost tied = { by_itself };
 }

@@ -1,15 +1,15 @@
 //! A struct with members that are choices of a number, a text and a list.
 ghost use Rattle.std.specs.Prelude.{refl};
-ghost use Rattle.picky_der_core.specs.Shape.{Shape};
-ghost use Rattle.picky_der_core.specs.Tree.{ListKind, Tree};
 ghost use Rattle.picky_der_de.specs.Known.{by_itself};
-ghost use Rattle.picky_der_de.specs.KnownLayouts.{known_struct};
+ghost use Rattle.picky_der_de.specs.KnownMembers.{known_struct, sequence_of, sequence_shape};
 
 use crate::Setting;
-use picky_asn1_der::de::{DeserializeLayout, Struct, deserialize_struct_as};
 use picky_asn1_der::misc::{ReadExt, WriteExt};
-use picky_asn1_der::ser::{Optional, OptionalRef, SerializeMembers};
-use picky_asn1_der::{Deserialize, Deserializer, Result, Serialize, Serializer};
+use picky_asn1_der::ser::{Optional, OptionalRef};
+use picky_asn1_der::{
+    Deserialize, DeserializeMembers, Deserializer, Result, Serialize, SerializeMembers, Serializer,
+    Struct, deserialize_struct_as,
+};
 
 /// A change of a setting, as a SEQUENCE.
 #[derive(Debug, Drop, PartialEq, Eq)]
@@ -24,15 +24,6 @@ pub struct Change {
 
 type Members = (Setting, bool, Optional<Setting>, ());
 
-impl Serialize for Change {
-    ghost meaning = { λ it. Tree.list ListKind.sequence (⟦<Members as SerializeMembers>⟧.members
-        (⟦<Change as Struct>⟧.parts it)) };
-
-    fn serialize<W: WriteExt>(&self, serializer: &mut Serializer<W>) -> Result<usize> {
-        (&self.to, &self.is_final, OptionalRef(&self.from), ()).serialize_sequence(serializer)
-    }
-}
-
 impl Struct for Change {
     type Members = Members;
 
@@ -46,19 +37,25 @@ impl Struct for Change {
             from: from.0,
         }
     }
+}
 
-    ghost told = { refl };
+impl Serialize for Change {
+    ghost meaning = { sequence_of ⟦<Members as SerializeMembers>⟧.members ⟦<Self as Struct>⟧.parts };
+
+    fn serialize<W: WriteExt>(&self, serializer: &mut Serializer<W>) -> Result<usize> {
+        (&self.to, &self.is_final, OptionalRef(&self.from), ()).serialize_sequence(serializer)
+    }
 }
 
 impl Deserialize for Change {
-    ghost shape = { Shape.struct_of ListKind.sequence ⟦<Members as DeserializeLayout>⟧.layout };
+    ghost shape = { sequence_shape ⟦<Members as DeserializeMembers>⟧.layout };
 
-    ghost known = { known_struct ⟦<Members as DeserializeLayout>⟧.known refl ⟦<Self as Struct>⟧.parts ⟦<Self as PartialEq>⟧.eq
-        (λ x y h. h) (λ x y. tt) };
-
-    ghost tied = { by_itself };
+    ghost known = { known_struct ⟦<Members as DeserializeMembers>⟧.known refl ⟦<Self as Struct>⟧.parts ⟦<Self as PartialEq>⟧.eq
+        (λ x y h. h) (λ x y. refl) };
 
     fn deserialize<R: ReadExt>(deserializer: &mut Deserializer<R>) -> Result<Change> {
         deserialize_struct_as(deserializer)
     }
+
+    ghost tied = { by_itself };
 }

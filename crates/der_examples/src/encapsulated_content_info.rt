@@ -1,15 +1,15 @@
 //! Contents that are signed.
 ghost use Rattle.std.specs.Prelude.{refl};
-ghost use Rattle.picky_der_core.specs.Shape.{Shape};
-ghost use Rattle.picky_der_core.specs.Tree.{ListKind, Tree};
 ghost use Rattle.picky_der_de.specs.Known.{by_itself};
-ghost use Rattle.picky_der_de.specs.KnownLayouts.{known_struct};
+ghost use Rattle.picky_der_de.specs.KnownMembers.{known_struct, sequence_of, sequence_shape};
 
-use picky_asn1_der::asn1::{ByteBuf, ExplicitContextTag0, ObjectIdentifierAsn1, Tag};
-use picky_asn1_der::de::{Begins, DeserializeLayout, Struct, deserialize_struct_as};
+use picky_asn1_der::asn1::{ByteBuf, ExplicitContextTag0, ObjectIdentifierAsn1};
 use picky_asn1_der::misc::{ReadExt, WriteExt};
-use picky_asn1_der::ser::{Optional, OptionalRef, SerializeMembers};
-use picky_asn1_der::{Deserialize, Deserializer, Result, Serialize, Serializer};
+use picky_asn1_der::ser::{Optional, OptionalRef};
+use picky_asn1_der::{
+    Deserialize, DeserializeMembers, Deserializer, Result, Serialize, SerializeMembers, Serializer,
+    Struct, deserialize_struct_as,
+};
 
 /// What is signed, as a SEQUENCE (RFC 5652, 5.2).
 #[derive(Debug, Drop, PartialEq, Eq)]
@@ -26,15 +26,6 @@ type Members = (
     (),
 );
 
-impl Serialize for EncapsulatedContentInfo {
-    ghost meaning = { λ it. Tree.list ListKind.sequence (⟦<Members as SerializeMembers>⟧.members
-        (⟦<EncapsulatedContentInfo as Struct>⟧.parts it)) };
-
-    fn serialize<W: WriteExt>(&self, serializer: &mut Serializer<W>) -> Result<usize> {
-        (&self.content_type, OptionalRef(&self.content), ()).serialize_sequence(serializer)
-    }
-}
-
 impl Struct for EncapsulatedContentInfo {
     type Members = Members;
 
@@ -47,27 +38,27 @@ impl Struct for EncapsulatedContentInfo {
             content,
         }
     }
+}
 
-    ghost told = { refl };
+impl Serialize for EncapsulatedContentInfo {
+    ghost meaning = { sequence_of ⟦<Members as SerializeMembers>⟧.members ⟦<Self as Struct>⟧.parts };
+
+    fn serialize<W: WriteExt>(&self, serializer: &mut Serializer<W>) -> Result<usize> {
+        (&self.content_type, OptionalRef(&self.content), ()).serialize_sequence(serializer)
+    }
 }
 
 impl Deserialize for EncapsulatedContentInfo {
-    ghost shape = { Shape.struct_of ListKind.sequence ⟦<Members as DeserializeLayout>⟧.layout };
+    ghost shape = { sequence_shape ⟦<Members as DeserializeMembers>⟧.layout };
 
-    ghost known = { known_struct ⟦<Members as DeserializeLayout>⟧.known refl ⟦<Self as Struct>⟧.parts ⟦<Self as PartialEq>⟧.eq
-        (λ x y h. h) (λ x y. tt) };
-
-    ghost tied = { by_itself };
+    ghost known = { known_struct ⟦<Members as DeserializeMembers>⟧.known refl ⟦<Self as Struct>⟧.parts ⟦<Self as PartialEq>⟧.eq
+        (λ x y h. h) (λ x y. refl) };
 
     fn deserialize<R: ReadExt>(
         deserializer: &mut Deserializer<R>,
     ) -> Result<EncapsulatedContentInfo> {
         deserialize_struct_as(deserializer)
     }
-}
 
-impl Begins for EncapsulatedContentInfo {
-    fn begins_with(tag: Tag) -> bool {
-        tag == Tag::SEQUENCE
-    }
+    ghost tied = { by_itself };
 }

@@ -92,8 +92,6 @@ impl Choice for GeneralName {
             Later(Later(This(identifier))) => GeneralName::RegisteredId(identifier),
         }
     }
-
-    ghost told = { refl };
 }
 
 impl Serialize for GeneralName {

@@ -1,49 +1,54 @@
 //! A struct with an option of a list.
+ghost use Rattle.std.specs.Prelude.{refl};
 ghost use Rattle.picky_der_de.specs.Known.{by_itself};
-ghost use Rattle.picky_der_de.specs.KnownRows.{known_record};
+ghost use Rattle.picky_der_de.specs.KnownMembers.{known_struct, sequence_of, sequence_shape};
 
-use picky_asn1_der::de::DeserializeMembers;
 use picky_asn1_der::misc::{ReadExt, WriteExt};
-use picky_asn1_der::{Deserialize, Deserializer, Record, Result, Row, Serialize, Serializer, de};
+use picky_asn1_der::ser::{Optional, OptionalRef};
+use picky_asn1_der::{
+    Deserialize, DeserializeMembers, Deserializer, Result, Serialize, SerializeMembers, Serializer,
+    Struct, deserialize_struct_as,
+};
 
 /// A gust of wind, as a SEQUENCE of an INTEGER and a SEQUENCE of texts.
 #[derive(Debug, Drop, PartialEq, Eq)]
 pub struct Gust {
     /// Whole meters in a second.
     pub speed: u8,
-    /// What was noted of it. As each optional member, it has to be there to be read back.
+    /// What was noted of it, if anything was.
     pub notes: Option<Vec<String>>,
 }
 
-type Fields = (u8, Option<Vec<String>>, ());
+type Members = (u8, Optional<Vec<String>>, ());
 
-impl Serialize for Gust {
-    ghost meaning = { λ it. ⟦<Row<Fields> as Serialize>⟧.meaning (record { 0 = ⟦<Gust as Record>⟧.parts it }) };
+impl Struct for Gust {
+    type Members = Members;
 
-    fn serialize<W: WriteExt>(&self, serializer: &mut Serializer<W>) -> Result<usize> {
-        (&self.speed, &self.notes).serialize(serializer)
-    }
-}
+    ghost parts = { λ it. (it.speed, record { 0 = it.notes }, tt) };
 
-impl Record for Gust {
-    type Fields = Fields;
-
-    ghost parts = { λ it. (it.speed, it.notes, tt) };
-
-    fn from_parts(fields: Fields) -> Gust {
-        let (speed, notes, ()) = fields;
+    fn from_parts(members: Members) -> Gust {
+        let (speed, Optional(notes), ()) = members;
         Gust { speed, notes }
     }
 }
 
+impl Serialize for Gust {
+    ghost meaning = { sequence_of ⟦<Members as SerializeMembers>⟧.members ⟦<Self as Struct>⟧.parts };
+
+    fn serialize<W: WriteExt>(&self, serializer: &mut Serializer<W>) -> Result<usize> {
+        (&self.speed, OptionalRef(&self.notes), ()).serialize_sequence(serializer)
+    }
+}
+
 impl Deserialize for Gust {
-    ghost shape = { ⟦<Row<Fields> as Deserialize>⟧.shape };
+    ghost shape = { sequence_shape ⟦<Members as DeserializeMembers>⟧.layout };
 
-    ghost known = { known_record ⟦<Fields as DeserializeMembers>⟧.known ⟦<Self as Record>⟧.parts ⟦<Self as PartialEq>⟧.eq (λ x y h. h) };
-
-    ghost tied = { by_itself };
+    ghost known = { known_struct ⟦<Members as DeserializeMembers>⟧.known refl ⟦<Self as Struct>⟧.parts ⟦<Self as PartialEq>⟧.eq
+        (λ x y h. h) (λ x y. refl) };
 
     fn deserialize<R: ReadExt>(deserializer: &mut Deserializer<R>) -> Result<Gust> {
-        de::deserialize_record_as(deserializer)
+        deserialize_struct_as(deserializer)
     }
+
+    ghost tied = { by_itself };
 }

@@ -42,8 +42,6 @@ impl Choice for Host {
             Fourth(address) => Host::Address(address),
         }
     }
-
-    ghost told = { refl };
 }
 
 impl Serialize for Host {

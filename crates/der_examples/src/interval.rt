@@ -1,10 +1,14 @@
 //! A struct that is written and read member by member.
+ghost use Rattle.std.specs.Prelude.{refl};
+ghost use Rattle.picky_der_core.specs.Tree.{ListKind};
+ghost use Rattle.picky_der_core.specs.Shape.{Shape};
 ghost use Rattle.picky_der_de.specs.Known.{by_itself};
-ghost use Rattle.picky_der_de.specs.KnownRows.{known_record};
+ghost use Rattle.picky_der_de.specs.KnownMembers.{known_struct, sequence_of};
 
-use picky_asn1_der::de::DeserializeMembers;
 use picky_asn1_der::misc::{ReadExt, WriteExt};
-use picky_asn1_der::{Deserialize, Deserializer, Result, Row, Serialize, Serializer};
+use picky_asn1_der::{
+    Deserialize, DeserializeMembers, Deserializer, Result, Serialize, SerializeMembers, Serializer,
+};
 
 /// The numbers from one to another, as a SEQUENCE of two INTEGERs.
 #[derive(Debug, Drop, PartialEq, Eq)]
@@ -15,10 +19,10 @@ pub struct Interval {
     pub last: u32,
 }
 
-type Fields = (u32, u32, ());
+type Members = (u32, u32, ());
 
 impl Serialize for Interval {
-    ghost meaning = { λ it. ⟦<Row<Fields> as Serialize>⟧.meaning (record { 0 = (it.first, it.last, tt) }) };
+    ghost meaning = { sequence_of ⟦<Members as SerializeMembers>⟧.members (λ it. (it.first, it.last, tt)) };
 
     fn serialize<W: WriteExt>(&self, serializer: &mut Serializer<W>) -> Result<usize> {
         let mut members = serializer.serialize_struct("Interval", 2)?;
@@ -29,10 +33,10 @@ impl Serialize for Interval {
 }
 
 impl Deserialize for Interval {
-    ghost shape = { ⟦<Row<Fields> as Deserialize>⟧.shape };
+    ghost shape = { Shape.fields ListKind.sequence ⟦<Members as DeserializeMembers>⟧.layout };
 
-    ghost known = { known_record ⟦<Fields as DeserializeMembers>⟧.known (λ it. (it.first, it.last, tt)) ⟦<Self as PartialEq>⟧.eq
-        (λ x y h. h) };
+    ghost known = { known_struct ⟦<Members as DeserializeMembers>⟧.known refl (λ it. (it.first, it.last, tt)) ⟦<Self as PartialEq>⟧.eq
+        (λ x y h. h) (λ x y. refl) };
 
     ghost tied = { by_itself };
 

@@ -1,11 +1,14 @@
 //! A struct of structs.
+ghost use Rattle.std.specs.Prelude.{refl};
 ghost use Rattle.picky_der_de.specs.Known.{by_itself};
-ghost use Rattle.picky_der_de.specs.KnownRows.{known_record};
+ghost use Rattle.picky_der_de.specs.KnownMembers.{known_struct, sequence_of, sequence_shape};
 
 use crate::{Named, Point};
-use picky_asn1_der::de::DeserializeMembers;
 use picky_asn1_der::misc::{ReadExt, WriteExt};
-use picky_asn1_der::{Deserialize, Deserializer, Record, Result, Row, Serialize, Serializer, de};
+use picky_asn1_der::{
+    Deserialize, DeserializeMembers, Deserializer, Result, Serialize, SerializeMembers, Serializer,
+    Struct, deserialize_struct_as,
+};
 
 /// A point with a label, as a SEQUENCE of the two.
 #[derive(Debug, Drop, PartialEq, Eq)]
@@ -16,35 +19,36 @@ pub struct Marker {
     pub at: Point,
 }
 
-type Fields = (Named<u8>, Point, ());
+type Members = (Named<u8>, Point, ());
 
-impl Serialize for Marker {
-    ghost meaning = { λ it. ⟦<Row<Fields> as Serialize>⟧.meaning (record { 0 = ⟦<Marker as Record>⟧.parts it }) };
-
-    fn serialize<W: WriteExt>(&self, serializer: &mut Serializer<W>) -> Result<usize> {
-        (&self.label, &self.at).serialize(serializer)
-    }
-}
-
-impl Record for Marker {
-    type Fields = Fields;
+impl Struct for Marker {
+    type Members = Members;
 
     ghost parts = { λ it. (it.label, it.at, tt) };
 
-    fn from_parts(fields: Fields) -> Marker {
-        let (label, at, ()) = fields;
+    fn from_parts(members: Members) -> Marker {
+        let (label, at, ()) = members;
         Marker { label, at }
     }
 }
 
+impl Serialize for Marker {
+    ghost meaning = { sequence_of ⟦<Members as SerializeMembers>⟧.members ⟦<Self as Struct>⟧.parts };
+
+    fn serialize<W: WriteExt>(&self, serializer: &mut Serializer<W>) -> Result<usize> {
+        (&self.label, &self.at, ()).serialize_sequence(serializer)
+    }
+}
+
 impl Deserialize for Marker {
-    ghost shape = { ⟦<Row<Fields> as Deserialize>⟧.shape };
+    ghost shape = { sequence_shape ⟦<Members as DeserializeMembers>⟧.layout };
 
-    ghost known = { known_record ⟦<Fields as DeserializeMembers>⟧.known ⟦<Self as Record>⟧.parts ⟦<Self as PartialEq>⟧.eq (λ x y h. h) };
-
-    ghost tied = { by_itself };
+    ghost known = { known_struct ⟦<Members as DeserializeMembers>⟧.known refl ⟦<Self as Struct>⟧.parts ⟦<Self as PartialEq>⟧.eq
+        (λ x y h. h) (λ x y. refl) };
 
     fn deserialize<R: ReadExt>(deserializer: &mut Deserializer<R>) -> Result<Marker> {
-        de::deserialize_record_as(deserializer)
+        deserialize_struct_as(deserializer)
     }
+
+    ghost tied = { by_itself };
 }

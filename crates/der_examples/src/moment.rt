@@ -1,10 +1,13 @@
 //! A struct of seven fields.
+ghost use Rattle.std.specs.Prelude.{refl};
 ghost use Rattle.picky_der_de.specs.Known.{by_itself};
-ghost use Rattle.picky_der_de.specs.KnownRows.{known_record};
+ghost use Rattle.picky_der_de.specs.KnownMembers.{known_struct, sequence_of, sequence_shape};
 
-use picky_asn1_der::de::DeserializeMembers;
 use picky_asn1_der::misc::{ReadExt, WriteExt};
-use picky_asn1_der::{Deserialize, Deserializer, Record, Result, Row, Serialize, Serializer, de};
+use picky_asn1_der::{
+    Deserialize, DeserializeMembers, Deserializer, Result, Serialize, SerializeMembers, Serializer,
+    Struct, deserialize_struct_as,
+};
 
 /// A moment of a day, as a SEQUENCE of seven INTEGERs.
 #[derive(Debug, Drop, PartialEq, Eq)]
@@ -25,32 +28,15 @@ pub struct Moment {
     pub millisecond: u16,
 }
 
-type Fields = (u16, u8, u8, u8, u8, u8, u16, ());
+type Members = (u16, u8, u8, u8, u8, u8, u16, ());
 
-impl Serialize for Moment {
-    ghost meaning = { λ it. ⟦<Row<Fields> as Serialize>⟧.meaning (record { 0 = ⟦<Moment as Record>⟧.parts it }) };
-
-    fn serialize<W: WriteExt>(&self, serializer: &mut Serializer<W>) -> Result<usize> {
-        (
-            &self.year,
-            &self.month,
-            &self.day,
-            &self.hour,
-            &self.minute,
-            &self.second,
-            &self.millisecond,
-        )
-            .serialize(serializer)
-    }
-}
-
-impl Record for Moment {
-    type Fields = Fields;
+impl Struct for Moment {
+    type Members = Members;
 
     ghost parts = { λ it. (it.year, it.month, it.day, it.hour, it.minute, it.second, it.millisecond, tt) };
 
-    fn from_parts(fields: Fields) -> Moment {
-        let (year, month, day, hour, minute, second, millisecond, ()) = fields;
+    fn from_parts(members: Members) -> Moment {
+        let (year, month, day, hour, minute, second, millisecond, ()) = members;
         Moment {
             year,
             month,
@@ -63,14 +49,33 @@ impl Record for Moment {
     }
 }
 
+impl Serialize for Moment {
+    ghost meaning = { sequence_of ⟦<Members as SerializeMembers>⟧.members ⟦<Self as Struct>⟧.parts };
+
+    fn serialize<W: WriteExt>(&self, serializer: &mut Serializer<W>) -> Result<usize> {
+        (
+            &self.year,
+            &self.month,
+            &self.day,
+            &self.hour,
+            &self.minute,
+            &self.second,
+            &self.millisecond,
+            (),
+        )
+            .serialize_sequence(serializer)
+    }
+}
+
 impl Deserialize for Moment {
-    ghost shape = { ⟦<Row<Fields> as Deserialize>⟧.shape };
+    ghost shape = { sequence_shape ⟦<Members as DeserializeMembers>⟧.layout };
 
-    ghost known = { known_record ⟦<Fields as DeserializeMembers>⟧.known ⟦<Self as Record>⟧.parts ⟦<Self as PartialEq>⟧.eq (λ x y h. h) };
-
-    ghost tied = { by_itself };
+    ghost known = { known_struct ⟦<Members as DeserializeMembers>⟧.known refl ⟦<Self as Struct>⟧.parts ⟦<Self as PartialEq>⟧.eq
+        (λ x y h. h) (λ x y. refl) };
 
     fn deserialize<R: ReadExt>(deserializer: &mut Deserializer<R>) -> Result<Moment> {
-        de::deserialize_record_as(deserializer)
+        deserialize_struct_as(deserializer)
     }
+
+    ghost tied = { by_itself };
 }

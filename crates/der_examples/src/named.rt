@@ -1,12 +1,15 @@
 //! A struct with a field of any type.
+ghost use Rattle.std.specs.Prelude.{refl};
 ghost use Rattle.picky_der_de.specs.Known.{by_itself};
+ghost use Rattle.picky_der_de.specs.KnownMembers.{known_of_members, sequence_of, sequence_shape};
 ghost use Rattle.picky_der_de.specs.KnownMembers.{ties_field, ties_none, ties_sequence};
-ghost use Rattle.picky_der_de.specs.KnownRows.{known_row};
 
 use picky_asn1_der::asn1::ByteBuf;
-use picky_asn1_der::de::DeserializeMembers;
 use picky_asn1_der::misc::{ReadExt, WriteExt};
-use picky_asn1_der::{Deserialize, Deserializer, Record, Result, Row, Serialize, Serializer, de};
+use picky_asn1_der::{
+    Deserialize, DeserializeMembers, Deserializer, Result, Serialize, SerializeMembers, Serializer,
+    Struct, deserialize_struct_as,
+};
 
 /// A value under a name, as a SEQUENCE of an OCTET STRING and the value.
 #[derive(Debug, Drop, PartialEq, Eq)]
@@ -17,35 +20,35 @@ pub struct Named<T> {
     pub value: T,
 }
 
-type Fields<T> = (ByteBuf, T, ());
+type Members<T> = (ByteBuf, T, ());
 
-impl<T: Serialize> Serialize for Named<T> {
-    ghost meaning = { λ it. ⟦<Row<Fields<T>> as Serialize>⟧.meaning (record { 0 = (it.name, it.value, tt) }) };
-
-    fn serialize<W: WriteExt>(&self, serializer: &mut Serializer<W>) -> Result<usize> {
-        (&self.name, &self.value).serialize(serializer)
-    }
-}
-
-impl<T: Deserialize> Record for Named<T> {
-    type Fields = Fields<T>;
+impl<T: Deserialize> Struct for Named<T> {
+    type Members = Members<T>;
 
     ghost parts = { λ it. (it.name, it.value, tt) };
 
-    fn from_parts(fields: Fields<T>) -> Named<T> {
-        let (name, value, ()) = fields;
+    fn from_parts(members: Members<T>) -> Named<T> {
+        let (name, value, ()) = members;
         Named { name, value }
     }
 }
 
+impl<T: Serialize> Serialize for Named<T> {
+    ghost meaning = { sequence_of ⟦<Members<T> as SerializeMembers>⟧.members (λ it. (it.name, it.value, tt)) };
+
+    fn serialize<W: WriteExt>(&self, serializer: &mut Serializer<W>) -> Result<usize> {
+        (&self.name, &self.value, ()).serialize_sequence(serializer)
+    }
+}
+
 impl<T: Deserialize> Deserialize for Named<T> {
-    ghost shape = { ⟦<Row<Fields<T>> as Deserialize>⟧.shape };
+    ghost shape = { sequence_shape ⟦<Members<T> as DeserializeMembers>⟧.layout };
 
-    ghost known = { known_row ⟦<Fields<T> as DeserializeMembers>⟧.known ⟦<Self as Record>⟧.parts };
-
-    ghost tied = { ties_sequence ⟦<Self as Record>⟧.parts (ties_field (λ x. x.0) by_itself (ties_field (λ x. x.1) T.tied ties_none)) };
+    ghost known = { known_of_members ⟦<Members<T> as DeserializeMembers>⟧.known refl ⟦<Self as Struct>⟧.parts };
 
     fn deserialize<R: ReadExt>(deserializer: &mut Deserializer<R>) -> Result<Named<T>> {
-        de::deserialize_record_as(deserializer)
+        deserialize_struct_as(deserializer)
     }
+
+    ghost tied = { ties_sequence ⟦<Self as Struct>⟧.parts (ties_field (λ x. x.0) by_itself (ties_field (λ x. x.1) T.tied ties_none)) };
 }

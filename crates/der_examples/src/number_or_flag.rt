@@ -36,8 +36,6 @@ impl Choice for NumberOrFlag {
             Other(This(flag)) => NumberOrFlag::Flag(flag),
         }
     }
-
-    ghost told = { refl };
 }
 
 impl Serialize for NumberOrFlag {

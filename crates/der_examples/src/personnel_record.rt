@@ -1,21 +1,18 @@
 //! A record of personnel, the example of X.690's annex A: sets of different members, and tags of an application in place of a type's own.
 ghost use Rattle.std.specs.Prelude.{refl};
-ghost use Rattle.picky_der_core.specs.Shape.{Shape};
-ghost use Rattle.picky_der_core.specs.Tree.{ListKind, Tree};
 ghost use Rattle.picky_der_de.specs.Known.{by_itself};
-ghost use Rattle.picky_der_de.specs.KnownLayouts.{known_struct};
-ghost use Rattle.picky_der_de.specs.KnownRows.{known_record};
+ghost use Rattle.picky_der_de.specs.KnownMembers.{known_struct, sequence_of, sequence_shape};
 
 use der_types::{Asn1Set, Integer, RetaggedPrimitive, RetaggedSet, TagOrdered, VisibleString};
 use picky_asn1_der::asn1::{
     ExplicitContextTag0, ExplicitContextTag1, ExplicitContextTag2, ImplicitList3, Retagged,
 };
-use picky_asn1_der::de::{
-    DeserializeLayout, DeserializeMembers, Struct, deserialize_record_as, deserialize_struct_as,
-};
 use picky_asn1_der::misc::{ReadExt, WriteExt};
-use picky_asn1_der::ser::{Optional, OptionalRef, SerializeMembers};
-use picky_asn1_der::{Deserialize, Deserializer, List, Record, Result, Row, Serialize, Serializer};
+use picky_asn1_der::ser::{Optional, OptionalRef};
+use picky_asn1_der::{
+    Deserialize, DeserializeMembers, Deserializer, List, Result, Serialize, SerializeMembers,
+    Serializer, Struct, deserialize_struct_as,
+};
 
 /// The name of a person, as a SEQUENCE.
 #[derive(Debug, Drop, PartialEq, Eq)]
@@ -66,23 +63,15 @@ pub struct PersonnelMembers {
 /// The record of an employee, `[APPLICATION 0] IMPLICIT SET`.
 pub type PersonnelRecord = RetaggedSet<PersonnelMembers, 0x60>;
 
-type NameFields = (VisibleString, VisibleString, VisibleString, ());
+type NameMembers = (VisibleString, VisibleString, VisibleString, ());
 
-impl Serialize for PersonName {
-    ghost meaning = { λ it. ⟦<Row<NameFields> as Serialize>⟧.meaning (record { 0 = ⟦<PersonName as Record>⟧.parts it }) };
-
-    fn serialize<W: WriteExt>(&self, serializer: &mut Serializer<W>) -> Result<usize> {
-        (&self.given_name, &self.initial, &self.family_name).serialize(serializer)
-    }
-}
-
-impl Record for PersonName {
-    type Fields = NameFields;
+impl Struct for PersonName {
+    type Members = NameMembers;
 
     ghost parts = { λ it. (it.given_name, it.initial, it.family_name, tt) };
 
-    fn from_parts(fields: NameFields) -> PersonName {
-        let (given_name, initial, family_name, ()) = fields;
+    fn from_parts(members: NameMembers) -> PersonName {
+        let (given_name, initial, family_name, ()) = members;
         PersonName {
             given_name,
             initial,
@@ -91,39 +80,40 @@ impl Record for PersonName {
     }
 }
 
+impl Serialize for PersonName {
+    ghost meaning = { sequence_of ⟦<NameMembers as SerializeMembers>⟧.members ⟦<Self as Struct>⟧.parts };
+
+    fn serialize<W: WriteExt>(&self, serializer: &mut Serializer<W>) -> Result<usize> {
+        (&self.given_name, &self.initial, &self.family_name, ()).serialize_sequence(serializer)
+    }
+}
+
 impl Deserialize for PersonName {
-    ghost shape = { ⟦<Row<NameFields> as Deserialize>⟧.shape };
+    ghost shape = { sequence_shape ⟦<NameMembers as DeserializeMembers>⟧.layout };
 
-    ghost known = { known_record ⟦<NameFields as DeserializeMembers>⟧.known ⟦<Self as Record>⟧.parts ⟦<Self as PartialEq>⟧.eq (λ x y h. h) };
-
-    ghost tied = { by_itself };
+    ghost known = { known_struct ⟦<NameMembers as DeserializeMembers>⟧.known refl ⟦<Self as Struct>⟧.parts ⟦<Self as PartialEq>⟧.eq
+        (λ x y h. h) (λ x y. refl) };
 
     fn deserialize<R: ReadExt>(deserializer: &mut Deserializer<R>) -> Result<PersonName> {
-        deserialize_record_as(deserializer)
+        deserialize_struct_as(deserializer)
     }
+
+    ghost tied = { by_itself };
 }
 
 impl List for PersonName {
     ghost is_list = { λ it. tt };
 }
 
-type ChildFields = (TaggedName, ExplicitContextTag0<RecordDate>, ());
+type ChildMembers = (TaggedName, ExplicitContextTag0<RecordDate>, ());
 
-impl Serialize for ChildInformation {
-    ghost meaning = { λ it. ⟦<Row<ChildFields> as Serialize>⟧.meaning (record { 0 = ⟦<ChildInformation as Record>⟧.parts it }) };
-
-    fn serialize<W: WriteExt>(&self, serializer: &mut Serializer<W>) -> Result<usize> {
-        (&self.name, &self.date_of_birth).serialize(serializer)
-    }
-}
-
-impl Record for ChildInformation {
-    type Fields = ChildFields;
+impl Struct for ChildInformation {
+    type Members = ChildMembers;
 
     ghost parts = { λ it. (it.name, it.date_of_birth, tt) };
 
-    fn from_parts(fields: ChildFields) -> ChildInformation {
-        let (name, date_of_birth, ()) = fields;
+    fn from_parts(members: ChildMembers) -> ChildInformation {
+        let (name, date_of_birth, ()) = members;
         ChildInformation {
             name,
             date_of_birth,
@@ -131,16 +121,25 @@ impl Record for ChildInformation {
     }
 }
 
+impl Serialize for ChildInformation {
+    ghost meaning = { sequence_of ⟦<ChildMembers as SerializeMembers>⟧.members ⟦<Self as Struct>⟧.parts };
+
+    fn serialize<W: WriteExt>(&self, serializer: &mut Serializer<W>) -> Result<usize> {
+        (&self.name, &self.date_of_birth, ()).serialize_sequence(serializer)
+    }
+}
+
 impl Deserialize for ChildInformation {
-    ghost shape = { ⟦<Row<ChildFields> as Deserialize>⟧.shape };
+    ghost shape = { sequence_shape ⟦<ChildMembers as DeserializeMembers>⟧.layout };
 
-    ghost known = { known_record ⟦<ChildFields as DeserializeMembers>⟧.known ⟦<Self as Record>⟧.parts ⟦<Self as PartialEq>⟧.eq (λ x y h. h) };
-
-    ghost tied = { by_itself };
+    ghost known = { known_struct ⟦<ChildMembers as DeserializeMembers>⟧.known refl ⟦<Self as Struct>⟧.parts ⟦<Self as PartialEq>⟧.eq
+        (λ x y h. h) (λ x y. refl) };
 
     fn deserialize<R: ReadExt>(deserializer: &mut Deserializer<R>) -> Result<ChildInformation> {
-        deserialize_record_as(deserializer)
+        deserialize_struct_as(deserializer)
     }
+
+    ghost tied = { by_itself };
 }
 
 impl List for ChildInformation {
@@ -160,24 +159,6 @@ type Members = (
     Optional<ImplicitList3<Vec<Asn1Set<ChildInformation>>>>,
     (),
 );
-
-impl Serialize for PersonnelMembers {
-    ghost meaning = { λ it. Tree.list ListKind.sequence (⟦<Members as SerializeMembers>⟧.members
-        (⟦<PersonnelMembers as Struct>⟧.parts it)) };
-
-    fn serialize<W: WriteExt>(&self, serializer: &mut Serializer<W>) -> Result<usize> {
-        (
-            &self.name,
-            &self.number,
-            &self.title,
-            &self.date_of_hire,
-            &self.name_of_spouse,
-            OptionalRef(&self.children),
-            (),
-        )
-            .serialize_sequence(serializer)
-    }
-}
 
 impl Struct for PersonnelMembers {
     type Members = Members;
@@ -203,21 +184,36 @@ impl Struct for PersonnelMembers {
             children,
         }
     }
+}
 
-    ghost told = { refl };
+impl Serialize for PersonnelMembers {
+    ghost meaning = { sequence_of ⟦<Members as SerializeMembers>⟧.members ⟦<Self as Struct>⟧.parts };
+
+    fn serialize<W: WriteExt>(&self, serializer: &mut Serializer<W>) -> Result<usize> {
+        (
+            &self.name,
+            &self.number,
+            &self.title,
+            &self.date_of_hire,
+            &self.name_of_spouse,
+            OptionalRef(&self.children),
+            (),
+        )
+            .serialize_sequence(serializer)
+    }
 }
 
 impl Deserialize for PersonnelMembers {
-    ghost shape = { Shape.struct_of ListKind.sequence ⟦<Members as DeserializeLayout>⟧.layout };
+    ghost shape = { sequence_shape ⟦<Members as DeserializeMembers>⟧.layout };
 
-    ghost known = { known_struct ⟦<Members as DeserializeLayout>⟧.known refl ⟦<Self as Struct>⟧.parts ⟦<Self as PartialEq>⟧.eq
-        (λ x y h. h) (λ x y. tt) };
-
-    ghost tied = { by_itself };
+    ghost known = { known_struct ⟦<Members as DeserializeMembers>⟧.known refl ⟦<Self as Struct>⟧.parts ⟦<Self as PartialEq>⟧.eq
+        (λ x y h. h) (λ x y. refl) };
 
     fn deserialize<R: ReadExt>(deserializer: &mut Deserializer<R>) -> Result<PersonnelMembers> {
         deserialize_struct_as(deserializer)
     }
+
+    ghost tied = { by_itself };
 }
 
 impl List for PersonnelMembers {

@@ -43,8 +43,6 @@ impl Choice for Place {
             Other(This(sign)) => Place::By(sign),
         }
     }
-
-    ghost told = { refl };
 }
 
 impl Serialize for Place {

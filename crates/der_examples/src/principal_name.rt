@@ -1,11 +1,14 @@
 //! A name in parts.
+ghost use Rattle.std.specs.Prelude.{refl};
 ghost use Rattle.picky_der_de.specs.Known.{by_itself};
-ghost use Rattle.picky_der_de.specs.KnownRows.{known_record};
+ghost use Rattle.picky_der_de.specs.KnownMembers.{known_struct, sequence_of, sequence_shape};
 
 use picky_asn1_der::asn1::{ExplicitContextTag0, ExplicitContextTag1, GeneralStringAsn1};
-use picky_asn1_der::de::DeserializeMembers;
 use picky_asn1_der::misc::{ReadExt, WriteExt};
-use picky_asn1_der::{Deserialize, Deserializer, Record, Result, Row, Serialize, Serializer, de};
+use picky_asn1_der::{
+    Deserialize, DeserializeMembers, Deserializer, Result, Serialize, SerializeMembers, Serializer,
+    Struct, deserialize_struct_as,
+};
 
 /// The name of a client or a server, as a SEQUENCE (RFC 4120, 5.2.2).
 #[derive(Debug, Drop, PartialEq, Eq)]
@@ -16,27 +19,19 @@ pub struct PrincipalName {
     pub name_string: ExplicitContextTag1<Vec<GeneralStringAsn1>>,
 }
 
-type Fields = (
+type Members = (
     ExplicitContextTag0<u32>,
     ExplicitContextTag1<Vec<GeneralStringAsn1>>,
     (),
 );
 
-impl Serialize for PrincipalName {
-    ghost meaning = { λ it. ⟦<Row<Fields> as Serialize>⟧.meaning (record { 0 = ⟦<PrincipalName as Record>⟧.parts it }) };
-
-    fn serialize<W: WriteExt>(&self, serializer: &mut Serializer<W>) -> Result<usize> {
-        (&self.name_type, &self.name_string).serialize(serializer)
-    }
-}
-
-impl Record for PrincipalName {
-    type Fields = Fields;
+impl Struct for PrincipalName {
+    type Members = Members;
 
     ghost parts = { λ it. (it.name_type, it.name_string, tt) };
 
-    fn from_parts(fields: Fields) -> PrincipalName {
-        let (name_type, name_string, ()) = fields;
+    fn from_parts(members: Members) -> PrincipalName {
+        let (name_type, name_string, ()) = members;
         PrincipalName {
             name_type,
             name_string,
@@ -44,14 +39,23 @@ impl Record for PrincipalName {
     }
 }
 
+impl Serialize for PrincipalName {
+    ghost meaning = { sequence_of ⟦<Members as SerializeMembers>⟧.members ⟦<Self as Struct>⟧.parts };
+
+    fn serialize<W: WriteExt>(&self, serializer: &mut Serializer<W>) -> Result<usize> {
+        (&self.name_type, &self.name_string, ()).serialize_sequence(serializer)
+    }
+}
+
 impl Deserialize for PrincipalName {
-    ghost shape = { ⟦<Row<Fields> as Deserialize>⟧.shape };
+    ghost shape = { sequence_shape ⟦<Members as DeserializeMembers>⟧.layout };
 
-    ghost known = { known_record ⟦<Fields as DeserializeMembers>⟧.known ⟦<Self as Record>⟧.parts ⟦<Self as PartialEq>⟧.eq (λ x y h. h) };
-
-    ghost tied = { by_itself };
+    ghost known = { known_struct ⟦<Members as DeserializeMembers>⟧.known refl ⟦<Self as Struct>⟧.parts ⟦<Self as PartialEq>⟧.eq
+        (λ x y h. h) (λ x y. refl) };
 
     fn deserialize<R: ReadExt>(deserializer: &mut Deserializer<R>) -> Result<PrincipalName> {
-        de::deserialize_record_as(deserializer)
+        deserialize_struct_as(deserializer)
     }
+
+    ghost tied = { by_itself };
 }

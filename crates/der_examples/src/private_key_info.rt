@@ -1,16 +1,16 @@
 //! A private key, whose attributes may be absent.
 ghost use Rattle.std.specs.Prelude.{refl};
-ghost use Rattle.picky_der_core.specs.Shape.{Shape};
-ghost use Rattle.picky_der_core.specs.Tree.{ListKind, Tree};
 ghost use Rattle.picky_der_de.specs.Known.{by_itself};
-ghost use Rattle.picky_der_de.specs.KnownLayouts.{known_struct};
+ghost use Rattle.picky_der_de.specs.KnownMembers.{known_struct, sequence_of, sequence_shape};
 
 use der_x509::AlgorithmIdentifier;
 use picky_asn1_der::asn1::{ByteBuf, TaggedBytes};
-use picky_asn1_der::de::{DeserializeLayout, Struct, deserialize_struct_as};
 use picky_asn1_der::misc::{ReadExt, WriteExt};
-use picky_asn1_der::ser::{Optional, OptionalRef, SerializeMembers};
-use picky_asn1_der::{Deserialize, Deserializer, Result, Serialize, Serializer};
+use picky_asn1_der::ser::{Optional, OptionalRef};
+use picky_asn1_der::{
+    Deserialize, DeserializeMembers, Deserializer, Result, Serialize, SerializeMembers, Serializer,
+    Struct, deserialize_struct_as,
+};
 
 /// A private key with its algorithm, as a SEQUENCE (RFC 5208, 5).
 #[derive(Debug, Drop, PartialEq, Eq)]
@@ -33,22 +33,6 @@ type Members = (
     (),
 );
 
-impl Serialize for PrivateKeyInfo {
-    ghost meaning = { λ it. Tree.list ListKind.sequence (⟦<Members as SerializeMembers>⟧.members
-        (⟦<PrivateKeyInfo as Struct>⟧.parts it)) };
-
-    fn serialize<W: WriteExt>(&self, serializer: &mut Serializer<W>) -> Result<usize> {
-        (
-            &self.version,
-            &self.algorithm,
-            &self.key,
-            OptionalRef(&self.attributes),
-            (),
-        )
-            .serialize_sequence(serializer)
-    }
-}
-
 impl Struct for PrivateKeyInfo {
     type Members = Members;
 
@@ -63,19 +47,32 @@ impl Struct for PrivateKeyInfo {
             attributes: attributes.0,
         }
     }
+}
 
-    ghost told = { refl };
+impl Serialize for PrivateKeyInfo {
+    ghost meaning = { sequence_of ⟦<Members as SerializeMembers>⟧.members ⟦<Self as Struct>⟧.parts };
+
+    fn serialize<W: WriteExt>(&self, serializer: &mut Serializer<W>) -> Result<usize> {
+        (
+            &self.version,
+            &self.algorithm,
+            &self.key,
+            OptionalRef(&self.attributes),
+            (),
+        )
+            .serialize_sequence(serializer)
+    }
 }
 
 impl Deserialize for PrivateKeyInfo {
-    ghost shape = { Shape.struct_of ListKind.sequence ⟦<Members as DeserializeLayout>⟧.layout };
+    ghost shape = { sequence_shape ⟦<Members as DeserializeMembers>⟧.layout };
 
-    ghost known = { known_struct ⟦<Members as DeserializeLayout>⟧.known refl ⟦<Self as Struct>⟧.parts ⟦<Self as PartialEq>⟧.eq
-        (λ x y h. h) (λ x y. tt) };
-
-    ghost tied = { by_itself };
+    ghost known = { known_struct ⟦<Members as DeserializeMembers>⟧.known refl ⟦<Self as Struct>⟧.parts ⟦<Self as PartialEq>⟧.eq
+        (λ x y h. h) (λ x y. refl) };
 
     fn deserialize<R: ReadExt>(deserializer: &mut Deserializer<R>) -> Result<PrivateKeyInfo> {
         deserialize_struct_as(deserializer)
     }
+
+    ghost tied = { by_itself };
 }

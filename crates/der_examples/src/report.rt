@@ -1,12 +1,16 @@
 //! A struct of sixteen fields.
+ghost use Rattle.std.specs.Prelude.{refl};
 ghost use Rattle.picky_der_de.specs.Known.{by_itself};
-ghost use Rattle.picky_der_de.specs.KnownRows.{known_record};
+ghost use Rattle.picky_der_de.specs.KnownMembers.{known_struct, sequence_of, sequence_shape};
 
 use crate::{Gust, Moment};
 use picky_asn1_der::asn1::{Asn1SetOf, ByteBuf, ExplicitContextTag, OctetStringAsn1Container};
-use picky_asn1_der::de::DeserializeMembers;
 use picky_asn1_der::misc::{ReadExt, WriteExt};
-use picky_asn1_der::{Deserialize, Deserializer, Record, Result, Row, Serialize, Serializer, de};
+use picky_asn1_der::ser::Element;
+use picky_asn1_der::{
+    Deserialize, DeserializeMembers, Deserializer, Result, Serialize, SerializeMembers, Serializer,
+    Struct, deserialize_struct_as,
+};
 
 /// What a weather station reports, as a SEQUENCE of sixteen members.
 #[derive(Debug, Drop, PartialEq, Eq)]
@@ -19,7 +23,7 @@ pub struct Report {
     pub moment: Moment,
     /// Whether nobody looked at it.
     pub automatic: bool,
-    /// The height over the sea in meters.
+    /// The height over the sea in meters. It has to be there to be read back, since the next member is an INTEGER, too.
     pub height: Option<u16>,
     /// In pascals.
     pub pressure: u32,
@@ -45,12 +49,12 @@ pub struct Report {
     pub gusts: Vec<Gust>,
 }
 
-type Fields = (
+type Members = (
     String,
     u32,
     Moment,
     bool,
-    Option<u16>,
+    Element<Option<u16>>,
     u32,
     u8,
     u128,
@@ -67,50 +71,33 @@ type Fields = (
     ),
 );
 
-impl Serialize for Report {
-    ghost meaning = { λ it. ⟦<Row<Fields> as Serialize>⟧.meaning (record { 0 = ⟦<Report as Record>⟧.parts it }) };
-
-    fn serialize<W: WriteExt>(&self, serializer: &mut Serializer<W>) -> Result<usize> {
-        (
-            &self.station,
-            &self.number,
-            &self.moment,
-            &self.automatic,
-            &self.height,
-            &self.pressure,
-            &self.humidity,
-            &self.serial,
-            &self.seal,
-            &self.grade,
-            &self.reserved,
-            &self.days,
-            &self.offsets,
-            &self.authors,
-            &self.sealed,
-            &self.gusts,
-        )
-            .serialize(serializer)
-    }
-}
-
-impl Record for Report {
-    type Fields = Fields;
+impl Struct for Report {
+    type Members = Members;
 
     ghost parts = { λ it. (
       it.station,
       it.number,
       it.moment,
       it.automatic,
-      it.height,
+      record { 0 = it.height },
       it.pressure,
       it.humidity,
       it.serial,
       (it.seal, it.grade, it.reserved, it.days, it.offsets, it.authors, it.sealed, it.gusts, tt),
     ) };
 
-    fn from_parts(fields: Fields) -> Report {
-        let (station, number, moment, automatic, height, pressure, humidity, serial, others) =
-            fields;
+    fn from_parts(members: Members) -> Report {
+        let (
+            station,
+            number,
+            moment,
+            automatic,
+            Element(height),
+            pressure,
+            humidity,
+            serial,
+            others,
+        ) = members;
         let (seal, grade, reserved, days, offsets, authors, sealed, gusts, ()) = others;
         Report {
             station,
@@ -133,14 +120,42 @@ impl Record for Report {
     }
 }
 
+impl Serialize for Report {
+    ghost meaning = { sequence_of ⟦<Members as SerializeMembers>⟧.members ⟦<Self as Struct>⟧.parts };
+
+    fn serialize<W: WriteExt>(&self, serializer: &mut Serializer<W>) -> Result<usize> {
+        (
+            &self.station,
+            &self.number,
+            &self.moment,
+            &self.automatic,
+            &self.height,
+            &self.pressure,
+            &self.humidity,
+            &self.serial,
+            &self.seal,
+            &self.grade,
+            &self.reserved,
+            &self.days,
+            &self.offsets,
+            &self.authors,
+            &self.sealed,
+            &self.gusts,
+            (),
+        )
+            .serialize_sequence(serializer)
+    }
+}
+
 impl Deserialize for Report {
-    ghost shape = { ⟦<Row<Fields> as Deserialize>⟧.shape };
+    ghost shape = { sequence_shape ⟦<Members as DeserializeMembers>⟧.layout };
 
-    ghost known = { known_record ⟦<Fields as DeserializeMembers>⟧.known ⟦<Self as Record>⟧.parts ⟦<Self as PartialEq>⟧.eq (λ x y h. h) };
-
-    ghost tied = { by_itself };
+    ghost known = { known_struct ⟦<Members as DeserializeMembers>⟧.known refl ⟦<Self as Struct>⟧.parts ⟦<Self as PartialEq>⟧.eq
+        (λ x y h. h) (λ x y. refl) };
 
     fn deserialize<R: ReadExt>(deserializer: &mut Deserializer<R>) -> Result<Report> {
-        de::deserialize_record_as(deserializer)
+        deserialize_struct_as(deserializer)
     }
+
+    ghost tied = { by_itself };
 }

@@ -1,11 +1,14 @@
 //! The numbers of a public key.
+ghost use Rattle.std.specs.Prelude.{refl};
 ghost use Rattle.picky_der_de.specs.Known.{by_itself};
-ghost use Rattle.picky_der_de.specs.KnownRows.{known_record};
+ghost use Rattle.picky_der_de.specs.KnownMembers.{known_struct, sequence_of, sequence_shape};
 
 use picky_asn1_der::asn1::IntegerAsn1;
-use picky_asn1_der::de::DeserializeMembers;
 use picky_asn1_der::misc::{ReadExt, WriteExt};
-use picky_asn1_der::{Deserialize, Deserializer, Record, Result, Row, Serialize, Serializer, de};
+use picky_asn1_der::{
+    Deserialize, DeserializeMembers, Deserializer, Result, Serialize, SerializeMembers, Serializer,
+    Struct, deserialize_struct_as,
+};
 
 /// A public key of RSA, as a SEQUENCE (RFC 8017, A.1.1).
 #[derive(Debug, Drop, PartialEq, Eq)]
@@ -16,23 +19,15 @@ pub struct RsaPublicKey {
     pub public_exponent: IntegerAsn1,
 }
 
-type Fields = (IntegerAsn1, IntegerAsn1, ());
+type Members = (IntegerAsn1, IntegerAsn1, ());
 
-impl Serialize for RsaPublicKey {
-    ghost meaning = { λ it. ⟦<Row<Fields> as Serialize>⟧.meaning (record { 0 = ⟦<RsaPublicKey as Record>⟧.parts it }) };
-
-    fn serialize<W: WriteExt>(&self, serializer: &mut Serializer<W>) -> Result<usize> {
-        (&self.modulus, &self.public_exponent).serialize(serializer)
-    }
-}
-
-impl Record for RsaPublicKey {
-    type Fields = Fields;
+impl Struct for RsaPublicKey {
+    type Members = Members;
 
     ghost parts = { λ it. (it.modulus, it.public_exponent, tt) };
 
-    fn from_parts(fields: Fields) -> RsaPublicKey {
-        let (modulus, public_exponent, ()) = fields;
+    fn from_parts(members: Members) -> RsaPublicKey {
+        let (modulus, public_exponent, ()) = members;
         RsaPublicKey {
             modulus,
             public_exponent,
@@ -40,14 +35,23 @@ impl Record for RsaPublicKey {
     }
 }
 
+impl Serialize for RsaPublicKey {
+    ghost meaning = { sequence_of ⟦<Members as SerializeMembers>⟧.members ⟦<Self as Struct>⟧.parts };
+
+    fn serialize<W: WriteExt>(&self, serializer: &mut Serializer<W>) -> Result<usize> {
+        (&self.modulus, &self.public_exponent, ()).serialize_sequence(serializer)
+    }
+}
+
 impl Deserialize for RsaPublicKey {
-    ghost shape = { ⟦<Row<Fields> as Deserialize>⟧.shape };
+    ghost shape = { sequence_shape ⟦<Members as DeserializeMembers>⟧.layout };
 
-    ghost known = { known_record ⟦<Fields as DeserializeMembers>⟧.known ⟦<Self as Record>⟧.parts ⟦<Self as PartialEq>⟧.eq (λ x y h. h) };
-
-    ghost tied = { by_itself };
+    ghost known = { known_struct ⟦<Members as DeserializeMembers>⟧.known refl ⟦<Self as Struct>⟧.parts ⟦<Self as PartialEq>⟧.eq
+        (λ x y h. h) (λ x y. refl) };
 
     fn deserialize<R: ReadExt>(deserializer: &mut Deserializer<R>) -> Result<RsaPublicKey> {
-        de::deserialize_record_as(deserializer)
+        deserialize_struct_as(deserializer)
     }
+
+    ghost tied = { by_itself };
 }

@@ -39,8 +39,6 @@ impl Choice for Setting {
             Other(Other(This(numbers))) => Setting::Numbers(numbers),
         }
     }
-
-    ghost told = { refl };
 }
 
 impl Serialize for Setting {

@@ -1,17 +1,17 @@
 //! Signed contents.
 ghost use Rattle.std.specs.Prelude.{refl};
-ghost use Rattle.picky_der_core.specs.Shape.{Shape};
-ghost use Rattle.picky_der_core.specs.Tree.{ListKind, Tree};
 ghost use Rattle.picky_der_de.specs.Known.{by_itself};
-ghost use Rattle.picky_der_de.specs.KnownLayouts.{known_struct};
+ghost use Rattle.picky_der_de.specs.KnownMembers.{known_struct, sequence_of, sequence_shape};
 
 use crate::{EncapsulatedContentInfo, SignerInfo};
 use der_x509::AlgorithmIdentifier;
 use picky_asn1_der::asn1::{Asn1SetOf, ImplicitList0, ImplicitList1};
-use picky_asn1_der::de::{DeserializeLayout, Struct, deserialize_struct_as};
 use picky_asn1_der::misc::{ReadExt, WriteExt};
-use picky_asn1_der::ser::{Optional, OptionalRef, SerializeMembers};
-use picky_asn1_der::{Asn1RawDer, Deserialize, Deserializer, Result, Serialize, Serializer};
+use picky_asn1_der::ser::{Optional, OptionalRef};
+use picky_asn1_der::{
+    Asn1RawDer, Deserialize, DeserializeMembers, Deserializer, Result, Serialize, SerializeMembers,
+    Serializer, Struct, deserialize_struct_as,
+};
 
 /// A content and its signatures, as a SEQUENCE (RFC 5652, 5.1).
 #[derive(Debug, Drop, PartialEq, Eq)]
@@ -39,24 +39,6 @@ type Members = (
     Asn1SetOf<SignerInfo>,
     (),
 );
-
-impl Serialize for SignedData {
-    ghost meaning = { λ it. Tree.list ListKind.sequence (⟦<Members as SerializeMembers>⟧.members
-        (⟦<SignedData as Struct>⟧.parts it)) };
-
-    fn serialize<W: WriteExt>(&self, serializer: &mut Serializer<W>) -> Result<usize> {
-        (
-            &self.version,
-            &self.digest_algorithms,
-            &self.content,
-            OptionalRef(&self.certificates),
-            OptionalRef(&self.revocation_lists),
-            &self.signer_infos,
-            (),
-        )
-            .serialize_sequence(serializer)
-    }
-}
 
 impl Struct for SignedData {
     type Members = Members;
@@ -90,19 +72,34 @@ impl Struct for SignedData {
             signer_infos,
         }
     }
+}
 
-    ghost told = { refl };
+impl Serialize for SignedData {
+    ghost meaning = { sequence_of ⟦<Members as SerializeMembers>⟧.members ⟦<Self as Struct>⟧.parts };
+
+    fn serialize<W: WriteExt>(&self, serializer: &mut Serializer<W>) -> Result<usize> {
+        (
+            &self.version,
+            &self.digest_algorithms,
+            &self.content,
+            OptionalRef(&self.certificates),
+            OptionalRef(&self.revocation_lists),
+            &self.signer_infos,
+            (),
+        )
+            .serialize_sequence(serializer)
+    }
 }
 
 impl Deserialize for SignedData {
-    ghost shape = { Shape.struct_of ListKind.sequence ⟦<Members as DeserializeLayout>⟧.layout };
+    ghost shape = { sequence_shape ⟦<Members as DeserializeMembers>⟧.layout };
 
-    ghost known = { known_struct ⟦<Members as DeserializeLayout>⟧.known refl ⟦<Self as Struct>⟧.parts ⟦<Self as PartialEq>⟧.eq
-        (λ x y h. h) (λ x y. tt) };
-
-    ghost tied = { by_itself };
+    ghost known = { known_struct ⟦<Members as DeserializeMembers>⟧.known refl ⟦<Self as Struct>⟧.parts ⟦<Self as PartialEq>⟧.eq
+        (λ x y h. h) (λ x y. refl) };
 
     fn deserialize<R: ReadExt>(deserializer: &mut Deserializer<R>) -> Result<SignedData> {
         deserialize_struct_as(deserializer)
     }
+
+    ghost tied = { by_itself };
 }

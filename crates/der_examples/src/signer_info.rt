@@ -1,17 +1,17 @@
 //! Signers and their signatures.
 ghost use Rattle.std.specs.Prelude.{refl};
-ghost use Rattle.picky_der_core.specs.Shape.{Shape};
-ghost use Rattle.picky_der_core.specs.Tree.{ListKind, Tree};
 ghost use Rattle.picky_der_de.specs.Known.{by_itself};
-ghost use Rattle.picky_der_de.specs.KnownLayouts.{known_struct};
+ghost use Rattle.picky_der_de.specs.KnownMembers.{known_struct, sequence_of, sequence_shape};
 
 use crate::Attribute;
 use der_x509::AlgorithmIdentifier;
 use picky_asn1_der::asn1::{Asn1SetOf, ByteBuf, ImplicitList0, ImplicitList1};
-use picky_asn1_der::de::{DeserializeLayout, Struct, deserialize_struct_as};
 use picky_asn1_der::misc::{ReadExt, WriteExt};
-use picky_asn1_der::ser::{Optional, OptionalRef, SerializeMembers};
-use picky_asn1_der::{Asn1RawDer, Deserialize, Deserializer, Result, Serialize, Serializer};
+use picky_asn1_der::ser::{Optional, OptionalRef};
+use picky_asn1_der::{
+    Asn1RawDer, Deserialize, DeserializeMembers, Deserializer, Result, Serialize, SerializeMembers,
+    Serializer, Struct, deserialize_struct_as,
+};
 
 /// A signer, and its signature, as a SEQUENCE (RFC 5652, 5.3).
 #[derive(Debug, Drop, PartialEq, Eq)]
@@ -42,25 +42,6 @@ type Members = (
     Optional<ImplicitList1<Asn1SetOf<Attribute>>>,
     (),
 );
-
-impl Serialize for SignerInfo {
-    ghost meaning = { λ it. Tree.list ListKind.sequence (⟦<Members as SerializeMembers>⟧.members
-        (⟦<SignerInfo as Struct>⟧.parts it)) };
-
-    fn serialize<W: WriteExt>(&self, serializer: &mut Serializer<W>) -> Result<usize> {
-        (
-            &self.version,
-            &self.identifier,
-            &self.digest_algorithm,
-            OptionalRef(&self.signed_attributes),
-            &self.signature_algorithm,
-            &self.signature,
-            OptionalRef(&self.unsigned_attributes),
-            (),
-        )
-            .serialize_sequence(serializer)
-    }
-}
 
 impl Struct for SignerInfo {
     type Members = Members;
@@ -97,19 +78,35 @@ impl Struct for SignerInfo {
             unsigned_attributes,
         }
     }
+}
 
-    ghost told = { refl };
+impl Serialize for SignerInfo {
+    ghost meaning = { sequence_of ⟦<Members as SerializeMembers>⟧.members ⟦<Self as Struct>⟧.parts };
+
+    fn serialize<W: WriteExt>(&self, serializer: &mut Serializer<W>) -> Result<usize> {
+        (
+            &self.version,
+            &self.identifier,
+            &self.digest_algorithm,
+            OptionalRef(&self.signed_attributes),
+            &self.signature_algorithm,
+            &self.signature,
+            OptionalRef(&self.unsigned_attributes),
+            (),
+        )
+            .serialize_sequence(serializer)
+    }
 }
 
 impl Deserialize for SignerInfo {
-    ghost shape = { Shape.struct_of ListKind.sequence ⟦<Members as DeserializeLayout>⟧.layout };
+    ghost shape = { sequence_shape ⟦<Members as DeserializeMembers>⟧.layout };
 
-    ghost known = { known_struct ⟦<Members as DeserializeLayout>⟧.known refl ⟦<Self as Struct>⟧.parts ⟦<Self as PartialEq>⟧.eq
-        (λ x y h. h) (λ x y. tt) };
-
-    ghost tied = { by_itself };
+    ghost known = { known_struct ⟦<Members as DeserializeMembers>⟧.known refl ⟦<Self as Struct>⟧.parts ⟦<Self as PartialEq>⟧.eq
+        (λ x y h. h) (λ x y. refl) };
 
     fn deserialize<R: ReadExt>(deserializer: &mut Deserializer<R>) -> Result<SignerInfo> {
         deserialize_struct_as(deserializer)
     }
+
+    ghost tied = { by_itself };
 }

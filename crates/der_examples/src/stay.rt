@@ -1,11 +1,14 @@
 //! A struct whose fields are structs and nothing else.
+ghost use Rattle.std.specs.Prelude.{refl};
 ghost use Rattle.picky_der_de.specs.Known.{by_itself};
-ghost use Rattle.picky_der_de.specs.KnownRows.{known_record};
+ghost use Rattle.picky_der_de.specs.KnownMembers.{known_struct, sequence_of, sequence_shape};
 
 use crate::Moment;
-use picky_asn1_der::de::DeserializeMembers;
 use picky_asn1_der::misc::{ReadExt, WriteExt};
-use picky_asn1_der::{Deserialize, Deserializer, Record, Result, Row, Serialize, Serializer, de};
+use picky_asn1_der::{
+    Deserialize, DeserializeMembers, Deserializer, Result, Serialize, SerializeMembers, Serializer,
+    Struct, deserialize_struct_as,
+};
 
 /// A time spent somewhere, as a SEQUENCE of its two ends.
 #[derive(Debug, Drop, PartialEq, Eq)]
@@ -16,35 +19,36 @@ pub struct Stay {
     pub to: Moment,
 }
 
-type Fields = (Moment, Moment, ());
+type Members = (Moment, Moment, ());
 
-impl Serialize for Stay {
-    ghost meaning = { λ it. ⟦<Row<Fields> as Serialize>⟧.meaning (record { 0 = ⟦<Stay as Record>⟧.parts it }) };
-
-    fn serialize<W: WriteExt>(&self, serializer: &mut Serializer<W>) -> Result<usize> {
-        (&self.from, &self.to).serialize(serializer)
-    }
-}
-
-impl Record for Stay {
-    type Fields = Fields;
+impl Struct for Stay {
+    type Members = Members;
 
     ghost parts = { λ it. (it.from, it.to, tt) };
 
-    fn from_parts(fields: Fields) -> Stay {
-        let (from, to, ()) = fields;
+    fn from_parts(members: Members) -> Stay {
+        let (from, to, ()) = members;
         Stay { from, to }
     }
 }
 
+impl Serialize for Stay {
+    ghost meaning = { sequence_of ⟦<Members as SerializeMembers>⟧.members ⟦<Self as Struct>⟧.parts };
+
+    fn serialize<W: WriteExt>(&self, serializer: &mut Serializer<W>) -> Result<usize> {
+        (&self.from, &self.to, ()).serialize_sequence(serializer)
+    }
+}
+
 impl Deserialize for Stay {
-    ghost shape = { ⟦<Row<Fields> as Deserialize>⟧.shape };
+    ghost shape = { sequence_shape ⟦<Members as DeserializeMembers>⟧.layout };
 
-    ghost known = { known_record ⟦<Fields as DeserializeMembers>⟧.known ⟦<Self as Record>⟧.parts ⟦<Self as PartialEq>⟧.eq (λ x y h. h) };
-
-    ghost tied = { by_itself };
+    ghost known = { known_struct ⟦<Members as DeserializeMembers>⟧.known refl ⟦<Self as Struct>⟧.parts ⟦<Self as PartialEq>⟧.eq
+        (λ x y h. h) (λ x y. refl) };
 
     fn deserialize<R: ReadExt>(deserializer: &mut Deserializer<R>) -> Result<Stay> {
-        de::deserialize_record_as(deserializer)
+        deserialize_struct_as(deserializer)
     }
+
+    ghost tied = { by_itself };
 }

@@ -1,12 +1,15 @@
 //! Structs under tags, as fields.
+ghost use Rattle.std.specs.Prelude.{refl};
 ghost use Rattle.picky_der_de.specs.Known.{by_itself};
-ghost use Rattle.picky_der_de.specs.KnownRows.{known_record};
+ghost use Rattle.picky_der_de.specs.KnownMembers.{known_struct, sequence_of, sequence_shape};
 
 use crate::{Named, Point};
 use picky_asn1_der::asn1::{ExplicitContextTag, ImplicitContextTag};
-use picky_asn1_der::de::DeserializeMembers;
 use picky_asn1_der::misc::{ReadExt, WriteExt};
-use picky_asn1_der::{Deserialize, Deserializer, Record, Result, Row, Serialize, Serializer, de};
+use picky_asn1_der::{
+    Deserialize, DeserializeMembers, Deserializer, Result, Serialize, SerializeMembers, Serializer,
+    Struct, deserialize_struct_as,
+};
 
 /// A label and a point that may be told apart by their tags: `[0] EXPLICIT` and `[1] IMPLICIT`.
 #[derive(Debug, Drop, PartialEq, Eq)]
@@ -17,39 +20,40 @@ pub struct Tagged {
     pub at: ImplicitContextTag<Point, 1>,
 }
 
-type Fields = (
+type Members = (
     ExplicitContextTag<Named<u8>, 0>,
     ImplicitContextTag<Point, 1>,
     (),
 );
 
-impl Serialize for Tagged {
-    ghost meaning = { λ it. ⟦<Row<Fields> as Serialize>⟧.meaning (record { 0 = ⟦<Tagged as Record>⟧.parts it }) };
-
-    fn serialize<W: WriteExt>(&self, serializer: &mut Serializer<W>) -> Result<usize> {
-        (&self.label, &self.at).serialize(serializer)
-    }
-}
-
-impl Record for Tagged {
-    type Fields = Fields;
+impl Struct for Tagged {
+    type Members = Members;
 
     ghost parts = { λ it. (it.label, it.at, tt) };
 
-    fn from_parts(fields: Fields) -> Tagged {
-        let (label, at, ()) = fields;
+    fn from_parts(members: Members) -> Tagged {
+        let (label, at, ()) = members;
         Tagged { label, at }
     }
 }
 
+impl Serialize for Tagged {
+    ghost meaning = { sequence_of ⟦<Members as SerializeMembers>⟧.members ⟦<Self as Struct>⟧.parts };
+
+    fn serialize<W: WriteExt>(&self, serializer: &mut Serializer<W>) -> Result<usize> {
+        (&self.label, &self.at, ()).serialize_sequence(serializer)
+    }
+}
+
 impl Deserialize for Tagged {
-    ghost shape = { ⟦<Row<Fields> as Deserialize>⟧.shape };
+    ghost shape = { sequence_shape ⟦<Members as DeserializeMembers>⟧.layout };
 
-    ghost known = { known_record ⟦<Fields as DeserializeMembers>⟧.known ⟦<Self as Record>⟧.parts ⟦<Self as PartialEq>⟧.eq (λ x y h. h) };
-
-    ghost tied = { by_itself };
+    ghost known = { known_struct ⟦<Members as DeserializeMembers>⟧.known refl ⟦<Self as Struct>⟧.parts ⟦<Self as PartialEq>⟧.eq
+        (λ x y h. h) (λ x y. refl) };
 
     fn deserialize<R: ReadExt>(deserializer: &mut Deserializer<R>) -> Result<Tagged> {
-        de::deserialize_record_as(deserializer)
+        deserialize_struct_as(deserializer)
     }
+
+    ghost tied = { by_itself };
 }

@@ -1,6 +1,7 @@
 //! A ticket, under its application tag.
+ghost use Rattle.std.specs.Prelude.{refl};
 ghost use Rattle.picky_der_de.specs.Known.{by_itself};
-ghost use Rattle.picky_der_de.specs.KnownRows.{known_record};
+ghost use Rattle.picky_der_de.specs.KnownMembers.{known_struct, sequence_of, sequence_shape};
 
 use crate::{EncryptedData, PrincipalName};
 use picky_asn1_der::application_tag::ApplicationTag;
@@ -8,9 +9,11 @@ use picky_asn1_der::asn1::{
     ExplicitContextTag0, ExplicitContextTag1, ExplicitContextTag2, ExplicitContextTag3,
     GeneralStringAsn1,
 };
-use picky_asn1_der::de::DeserializeMembers;
 use picky_asn1_der::misc::{ReadExt, WriteExt};
-use picky_asn1_der::{Deserialize, Deserializer, Record, Result, Row, Serialize, Serializer, de};
+use picky_asn1_der::{
+    Deserialize, DeserializeMembers, Deserializer, Result, Serialize, SerializeMembers, Serializer,
+    Struct, deserialize_struct_as,
+};
 
 /// A ticket: its body under the application tag 1.
 pub type Ticket = ApplicationTag<TicketBody, 1>;
@@ -28,7 +31,7 @@ pub struct TicketBody {
     pub enc_part: ExplicitContextTag3<EncryptedData>,
 }
 
-type Fields = (
+type Members = (
     ExplicitContextTag0<u8>,
     ExplicitContextTag1<GeneralStringAsn1>,
     ExplicitContextTag2<PrincipalName>,
@@ -36,21 +39,13 @@ type Fields = (
     (),
 );
 
-impl Serialize for TicketBody {
-    ghost meaning = { λ it. ⟦<Row<Fields> as Serialize>⟧.meaning (record { 0 = ⟦<TicketBody as Record>⟧.parts it }) };
-
-    fn serialize<W: WriteExt>(&self, serializer: &mut Serializer<W>) -> Result<usize> {
-        (&self.tkt_vno, &self.realm, &self.sname, &self.enc_part).serialize(serializer)
-    }
-}
-
-impl Record for TicketBody {
-    type Fields = Fields;
+impl Struct for TicketBody {
+    type Members = Members;
 
     ghost parts = { λ it. (it.tkt_vno, it.realm, it.sname, it.enc_part, tt) };
 
-    fn from_parts(fields: Fields) -> TicketBody {
-        let (tkt_vno, realm, sname, enc_part, ()) = fields;
+    fn from_parts(members: Members) -> TicketBody {
+        let (tkt_vno, realm, sname, enc_part, ()) = members;
         TicketBody {
             tkt_vno,
             realm,
@@ -60,14 +55,23 @@ impl Record for TicketBody {
     }
 }
 
+impl Serialize for TicketBody {
+    ghost meaning = { sequence_of ⟦<Members as SerializeMembers>⟧.members ⟦<Self as Struct>⟧.parts };
+
+    fn serialize<W: WriteExt>(&self, serializer: &mut Serializer<W>) -> Result<usize> {
+        (&self.tkt_vno, &self.realm, &self.sname, &self.enc_part, ()).serialize_sequence(serializer)
+    }
+}
+
 impl Deserialize for TicketBody {
-    ghost shape = { ⟦<Row<Fields> as Deserialize>⟧.shape };
+    ghost shape = { sequence_shape ⟦<Members as DeserializeMembers>⟧.layout };
 
-    ghost known = { known_record ⟦<Fields as DeserializeMembers>⟧.known ⟦<Self as Record>⟧.parts ⟦<Self as PartialEq>⟧.eq (λ x y h. h) };
-
-    ghost tied = { by_itself };
+    ghost known = { known_struct ⟦<Members as DeserializeMembers>⟧.known refl ⟦<Self as Struct>⟧.parts ⟦<Self as PartialEq>⟧.eq
+        (λ x y h. h) (λ x y. refl) };
 
     fn deserialize<R: ReadExt>(deserializer: &mut Deserializer<R>) -> Result<TicketBody> {
-        de::deserialize_record_as(deserializer)
+        deserialize_struct_as(deserializer)
     }
+
+    ghost tied = { by_itself };
 }

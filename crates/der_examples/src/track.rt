@@ -1,12 +1,15 @@
 //! A struct with lists.
+ghost use Rattle.std.specs.Prelude.{refl};
 ghost use Rattle.picky_der_de.specs.Known.{by_itself};
-ghost use Rattle.picky_der_de.specs.KnownRows.{known_record};
+ghost use Rattle.picky_der_de.specs.KnownMembers.{known_struct, sequence_of, sequence_shape};
 
 use crate::Point;
 use picky_asn1_der::asn1::{Asn1SetOf, ByteBuf, ExplicitContextTag};
-use picky_asn1_der::de::DeserializeMembers;
 use picky_asn1_der::misc::{ReadExt, WriteExt};
-use picky_asn1_der::{Deserialize, Deserializer, Record, Result, Row, Serialize, Serializer, de};
+use picky_asn1_der::{
+    Deserialize, DeserializeMembers, Deserializer, Result, Serialize, SerializeMembers, Serializer,
+    Struct, deserialize_struct_as,
+};
 
 /// A track through points, as a SEQUENCE of its members.
 #[derive(Debug, Drop, PartialEq, Eq)]
@@ -21,7 +24,7 @@ pub struct Track {
     pub names: ExplicitContextTag<Asn1SetOf<ByteBuf>, 0>,
 }
 
-type Fields = (
+type Members = (
     bool,
     Vec<Point>,
     [u16; 2],
@@ -29,21 +32,13 @@ type Fields = (
     (),
 );
 
-impl Serialize for Track {
-    ghost meaning = { λ it. ⟦<Row<Fields> as Serialize>⟧.meaning (record { 0 = ⟦<Track as Record>⟧.parts it }) };
-
-    fn serialize<W: WriteExt>(&self, serializer: &mut Serializer<W>) -> Result<usize> {
-        (&self.closed, &self.points, &self.days, &self.names).serialize(serializer)
-    }
-}
-
-impl Record for Track {
-    type Fields = Fields;
+impl Struct for Track {
+    type Members = Members;
 
     ghost parts = { λ it. (it.closed, it.points, it.days, it.names, tt) };
 
-    fn from_parts(fields: Fields) -> Track {
-        let (closed, points, days, names, ()) = fields;
+    fn from_parts(members: Members) -> Track {
+        let (closed, points, days, names, ()) = members;
         Track {
             closed,
             points,
@@ -53,14 +48,23 @@ impl Record for Track {
     }
 }
 
+impl Serialize for Track {
+    ghost meaning = { sequence_of ⟦<Members as SerializeMembers>⟧.members ⟦<Self as Struct>⟧.parts };
+
+    fn serialize<W: WriteExt>(&self, serializer: &mut Serializer<W>) -> Result<usize> {
+        (&self.closed, &self.points, &self.days, &self.names, ()).serialize_sequence(serializer)
+    }
+}
+
 impl Deserialize for Track {
-    ghost shape = { ⟦<Row<Fields> as Deserialize>⟧.shape };
+    ghost shape = { sequence_shape ⟦<Members as DeserializeMembers>⟧.layout };
 
-    ghost known = { known_record ⟦<Fields as DeserializeMembers>⟧.known ⟦<Self as Record>⟧.parts ⟦<Self as PartialEq>⟧.eq (λ x y h. h) };
-
-    ghost tied = { by_itself };
+    ghost known = { known_struct ⟦<Members as DeserializeMembers>⟧.known refl ⟦<Self as Struct>⟧.parts ⟦<Self as PartialEq>⟧.eq
+        (λ x y h. h) (λ x y. refl) };
 
     fn deserialize<R: ReadExt>(deserializer: &mut Deserializer<R>) -> Result<Track> {
-        de::deserialize_record_as(deserializer)
+        deserialize_struct_as(deserializer)
     }
+
+    ghost tied = { by_itself };
 }

@@ -1,11 +1,12 @@
 //! A struct with an element that is kept as it is.
+ghost use Rattle.std.specs.Prelude.{refl};
 ghost use Rattle.picky_der_de.specs.Known.{by_itself};
-ghost use Rattle.picky_der_de.specs.KnownRows.{known_record};
+ghost use Rattle.picky_der_de.specs.KnownMembers.{known_struct, sequence_of, sequence_shape};
 
-use picky_asn1_der::de::DeserializeMembers;
 use picky_asn1_der::misc::{ReadExt, WriteExt};
 use picky_asn1_der::{
-    Asn1RawDer, Deserialize, Deserializer, Record, Result, Row, Serialize, Serializer, de,
+    Asn1RawDer, Deserialize, DeserializeMembers, Deserializer, Result, Serialize, SerializeMembers,
+    Serializer, Struct, deserialize_struct_as,
 };
 
 /// A number, and an element that isn't looked at.
@@ -15,35 +16,36 @@ pub(crate) struct Kept {
     element: Asn1RawDer,
 }
 
-type Fields = (u8, Asn1RawDer, ());
+type Members = (u8, Asn1RawDer, ());
 
-impl Serialize for Kept {
-    ghost meaning = { λ it. ⟦<Row<Fields> as Serialize>⟧.meaning (record { 0 = ⟦<Kept as Record>⟧.parts it }) };
-
-    fn serialize<W: WriteExt>(&self, serializer: &mut Serializer<W>) -> Result<usize> {
-        (&self.number, &self.element).serialize(serializer)
-    }
-}
-
-impl Record for Kept {
-    type Fields = Fields;
+impl Struct for Kept {
+    type Members = Members;
 
     ghost parts = { λ it. (it.number, it.element, tt) };
 
-    fn from_parts(fields: Fields) -> Kept {
-        let (number, element, ()) = fields;
+    fn from_parts(members: Members) -> Kept {
+        let (number, element, ()) = members;
         Kept { number, element }
     }
 }
 
+impl Serialize for Kept {
+    ghost meaning = { sequence_of ⟦<Members as SerializeMembers>⟧.members ⟦<Self as Struct>⟧.parts };
+
+    fn serialize<W: WriteExt>(&self, serializer: &mut Serializer<W>) -> Result<usize> {
+        (&self.number, &self.element, ()).serialize_sequence(serializer)
+    }
+}
+
 impl Deserialize for Kept {
-    ghost shape = { ⟦<Row<Fields> as Deserialize>⟧.shape };
+    ghost shape = { sequence_shape ⟦<Members as DeserializeMembers>⟧.layout };
 
-    ghost known = { known_record ⟦<Fields as DeserializeMembers>⟧.known ⟦<Self as Record>⟧.parts ⟦<Self as PartialEq>⟧.eq (λ x y h. h) };
-
-    ghost tied = { by_itself };
+    ghost known = { known_struct ⟦<Members as DeserializeMembers>⟧.known refl ⟦<Self as Struct>⟧.parts ⟦<Self as PartialEq>⟧.eq
+        (λ x y h. h) (λ x y. refl) };
 
     fn deserialize<R: ReadExt>(deserializer: &mut Deserializer<R>) -> Result<Kept> {
-        de::deserialize_record_as(deserializer)
+        deserialize_struct_as(deserializer)
     }
+
+    ghost tied = { by_itself };
 }

@@ -1,15 +1,15 @@
 //! A struct all of whose members have defaults.
 ghost use Rattle.std.specs.Prelude.{refl};
-ghost use Rattle.picky_der_core.specs.Shape.{Shape};
-ghost use Rattle.picky_der_core.specs.Tree.{ListKind, Tree};
 ghost use Rattle.picky_der_de.specs.Known.{by_itself};
-ghost use Rattle.picky_der_de.specs.KnownLayouts.{known_struct};
+ghost use Rattle.picky_der_de.specs.KnownMembers.{known_struct, sequence_of, sequence_shape};
 
 use picky_asn1_der::asn1::ExplicitContextTag0;
-use picky_asn1_der::de::{DeserializeLayout, Struct, deserialize_struct_as};
 use picky_asn1_der::misc::{ReadExt, WriteExt};
-use picky_asn1_der::ser::{Defaulted, DefaultedRef, Number, SerializeMembers, True};
-use picky_asn1_der::{Deserialize, Deserializer, Result, Serialize, Serializer};
+use picky_asn1_der::ser::{Defaulted, DefaultedRef, Number, True};
+use picky_asn1_der::{
+    Deserialize, DeserializeMembers, Deserializer, Result, Serialize, SerializeMembers, Serializer,
+    Struct, deserialize_struct_as,
+};
 
 /// How a lamp shines, as a SEQUENCE.
 #[derive(Debug, Drop, PartialEq, Eq)]
@@ -29,21 +29,6 @@ type Members = (
     (),
 );
 
-impl Serialize for Lamp {
-    ghost meaning = { λ it. Tree.list ListKind.sequence (⟦<Members as SerializeMembers>⟧.members
-        (⟦<Lamp as Struct>⟧.parts it)) };
-
-    fn serialize<W: WriteExt>(&self, serializer: &mut Serializer<W>) -> Result<usize> {
-        (
-            DefaultedRef::<u8, Number<5>>::new(&self.brightness),
-            DefaultedRef::<bool, True>::new(&self.is_on),
-            DefaultedRef::<ExplicitContextTag0<u16>, Number<7>>::new(&self.delay),
-            (),
-        )
-            .serialize_sequence(serializer)
-    }
-}
-
 impl Struct for Lamp {
     type Members = Members;
 
@@ -62,19 +47,31 @@ impl Struct for Lamp {
             delay: delay.value,
         }
     }
+}
 
-    ghost told = { refl };
+impl Serialize for Lamp {
+    ghost meaning = { sequence_of ⟦<Members as SerializeMembers>⟧.members ⟦<Self as Struct>⟧.parts };
+
+    fn serialize<W: WriteExt>(&self, serializer: &mut Serializer<W>) -> Result<usize> {
+        (
+            DefaultedRef::<u8, Number<5>>::new(&self.brightness),
+            DefaultedRef::<bool, True>::new(&self.is_on),
+            DefaultedRef::<ExplicitContextTag0<u16>, Number<7>>::new(&self.delay),
+            (),
+        )
+            .serialize_sequence(serializer)
+    }
 }
 
 impl Deserialize for Lamp {
-    ghost shape = { Shape.struct_of ListKind.sequence ⟦<Members as DeserializeLayout>⟧.layout };
+    ghost shape = { sequence_shape ⟦<Members as DeserializeMembers>⟧.layout };
 
-    ghost known = { known_struct ⟦<Members as DeserializeLayout>⟧.known refl ⟦<Self as Struct>⟧.parts ⟦<Self as PartialEq>⟧.eq
-        (λ x y h. h) (λ x y. (λ h. h, (λ h. h, (λ h. h, tt)))) };
-
-    ghost tied = { by_itself };
+    ghost known = { known_struct ⟦<Members as DeserializeMembers>⟧.known refl ⟦<Self as Struct>⟧.parts ⟦<Self as PartialEq>⟧.eq
+        (λ x y h. h) (λ x y. refl) };
 
     fn deserialize<R: ReadExt>(deserializer: &mut Deserializer<R>) -> Result<Lamp> {
         deserialize_struct_as(deserializer)
     }
+
+    ghost tied = { by_itself };
 }

@@ -39,6 +39,7 @@ mod plain;
 mod reading;
 mod reads;
 mod retagged;
+mod row;
 mod rows;
 mod runs;
 mod seen;

@@ -1,11 +1,12 @@
 //! Lists, sets, arrays, tuples and rows.
 
 use crate::answers::{RowBytes, read_as, read_copied};
+use crate::row::Row;
 use crate::wrappers;
+use picky_asn1_der::Asn1RawDer;
 use picky_asn1_der::asn1::{
     Asn1SequenceOf, Asn1SetOf, ByteBuf, ExplicitContextTag0, ObjectIdentifierAsn1,
 };
-use picky_asn1_der::{Asn1RawDer, Row};
 use std::alloc::{AllocError, Global};
 
 /// The answer to a row that names one of these types, or else to one that names a type of the next family.

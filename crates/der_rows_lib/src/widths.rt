@@ -1,15 +1,15 @@
 //! Tuples, rows and structs of the widths that no other row has.
 ghost use Rattle.std.specs.Prelude.{refl};
-ghost use Rattle.picky_der_core.specs.Shape.{Shape};
-ghost use Rattle.picky_der_core.specs.Tree.{ListKind, Tree};
 ghost use Rattle.picky_der_de.specs.Known.{by_itself};
-ghost use Rattle.picky_der_de.specs.KnownLayouts.{known_struct};
+ghost use Rattle.picky_der_de.specs.KnownMembers.{known_struct, sequence_of, sequence_shape};
 
 use crate::answers::{RowBytes, Writing, read_as, written};
-use picky_asn1_der::de::{DeserializeLayout, Struct, deserialize_struct_as};
+use crate::row::Row;
 use picky_asn1_der::misc::{ReadExt, WriteExt};
-use picky_asn1_der::ser::SerializeMembers;
-use picky_asn1_der::{Deserialize, Deserializer, Result as DerResult, Row, Serialize, Serializer};
+use picky_asn1_der::{
+    Deserialize, DeserializeMembers, Deserializer, Result as DerResult, Serialize,
+    SerializeMembers, Serializer, Struct, deserialize_struct_as,
+};
 use std::alloc::{AllocError, Global};
 
 /// The answer to a row that names one of these types.
@@ -232,42 +232,6 @@ type Six = (u8, u8, u8, u8, u8, u8, Seven);
 
 type Seven = (u8, u8, u8, u8, u8, u8, u8, ());
 
-impl Serialize for Eighteen {
-    ghost meaning = { λ it. Tree.list ListKind.sequence (⟦<Five as SerializeMembers>⟧.members
-        (⟦<Eighteen as Struct>⟧.parts it)) };
-
-    fn serialize<W: WriteExt>(&self, serializer: &mut Serializer<W>) -> DerResult<usize> {
-        let seven = (
-            self.twelfth,
-            self.thirteenth,
-            self.fourteenth,
-            self.fifteenth,
-            self.sixteenth,
-            self.seventeenth,
-            self.eighteenth,
-            (),
-        );
-        let six = (
-            self.sixth,
-            self.seventh,
-            self.eighth,
-            self.ninth,
-            self.tenth,
-            self.eleventh,
-            seven,
-        );
-        (
-            self.first,
-            self.second,
-            self.third,
-            self.fourth,
-            self.fifth,
-            six,
-        )
-            .serialize_sequence(serializer)
-    }
-}
-
 impl Struct for Eighteen {
     type Members = Five;
 
@@ -314,19 +278,52 @@ impl Struct for Eighteen {
             eighteenth,
         }
     }
+}
 
-    ghost told = { refl };
+impl Serialize for Eighteen {
+    ghost meaning = { sequence_of ⟦<Five as SerializeMembers>⟧.members ⟦<Self as Struct>⟧.parts };
+
+    fn serialize<W: WriteExt>(&self, serializer: &mut Serializer<W>) -> DerResult<usize> {
+        let seven = (
+            self.twelfth,
+            self.thirteenth,
+            self.fourteenth,
+            self.fifteenth,
+            self.sixteenth,
+            self.seventeenth,
+            self.eighteenth,
+            (),
+        );
+        let six = (
+            self.sixth,
+            self.seventh,
+            self.eighth,
+            self.ninth,
+            self.tenth,
+            self.eleventh,
+            seven,
+        );
+        (
+            self.first,
+            self.second,
+            self.third,
+            self.fourth,
+            self.fifth,
+            six,
+        )
+            .serialize_sequence(serializer)
+    }
 }
 
 impl Deserialize for Eighteen {
-    ghost shape = { Shape.struct_of ListKind.sequence ⟦<Five as DeserializeLayout>⟧.layout };
+    ghost shape = { sequence_shape ⟦<Five as DeserializeMembers>⟧.layout };
 
-    ghost known = { known_struct ⟦<Five as DeserializeLayout>⟧.known refl ⟦<Self as Struct>⟧.parts ⟦<Self as PartialEq>⟧.eq
-        (λ x y h. h) (λ x y. tt) };
-
-    ghost tied = { by_itself };
+    ghost known = { known_struct ⟦<Five as DeserializeMembers>⟧.known refl ⟦<Self as Struct>⟧.parts ⟦<Self as PartialEq>⟧.eq
+        (λ x y h. h) (λ x y. refl) };
 
     fn deserialize<R: ReadExt>(deserializer: &mut Deserializer<R>) -> DerResult<Eighteen> {
         deserialize_struct_as(deserializer)
     }
+
+    ghost tied = { by_itself };
 }

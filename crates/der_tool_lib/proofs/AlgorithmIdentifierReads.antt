@@ -12,9 +12,8 @@ use Rattle.picky_der_core.specs.Shape.{Shape, IsOf, EachIs}
 use Rattle.picky_der_de.specs.State.{State}
 use Rattle.picky_der_de.specs.Reading.{Reads, Refuses}
 use Rattle.picky_der_de.specs.Ends.{Outer, Closes, RefusesClose, OpensList, RefusesList}
-use Rattle.picky_der_de.specs.Members.{ReadsMember, RefusesMember, HasNoMore}
-use Rattle.picky_der_de.proofs.Rows.{row_read, row_reads}
-use Rattle.picky_der_de.proofs.Rests.{behind_first, RefusesRest, FirstIsUnread, nothing, first, IsAhead, rest_unopened, rest_refused, rest_head, rest_next, rest_left, rest_closed, member_as, row_last, row_ended, reads_as}
+use Rattle.picky_der_de.specs.Members.{ReadsMember, RefusesMember, HasNoMore, RefusesRest}
+use Rattle.picky_der_de.proofs.Rests.{behind_first, FirstIsUnread, nothing, first, IsAhead, rest_unopened, rest_refused, rest_head, rest_next, rest_left, rest_closed, member_as, row_read, row_reads, row_last, row_ended, reads_as}
 use Rattle.picky_der_ser.specs.Meaning.{list_meaning}
 use Rattle.picky_asn1_der.specs.declared.raw_der.Asn1RawDer.{Asn1RawDer}
 use Rattle.der_tool_lib.specs.declared.algorithm_identifier.AlgorithmIdentifier.{AlgorithmIdentifier}

@@ -1,12 +1,15 @@
 //! Public keys, as certificates hold them.
+ghost use Rattle.std.specs.Prelude.{refl};
 ghost use Rattle.picky_der_de.specs.Known.{by_itself};
-ghost use Rattle.picky_der_de.specs.KnownRows.{known_record};
+ghost use Rattle.picky_der_de.specs.KnownMembers.{known_struct, sequence_of, sequence_shape};
 
 use crate::AlgorithmIdentifier;
 use picky_asn1_der::asn1::BitStringAsn1;
-use picky_asn1_der::de::DeserializeMembers;
 use picky_asn1_der::misc::{ReadExt, WriteExt};
-use picky_asn1_der::{Deserialize, Deserializer, Record, Result, Row, Serialize, Serializer, de};
+use picky_asn1_der::{
+    Deserialize, DeserializeMembers, Deserializer, Result, Serialize, SerializeMembers, Serializer,
+    Struct, deserialize_struct_as,
+};
 
 /// A public key and the algorithm that it is for, as a SEQUENCE (RFC 5280, 4.1.2.7).
 #[derive(Debug, Drop, PartialEq, Eq)]
@@ -19,23 +22,15 @@ pub struct SubjectPublicKeyInfo {
     pub subject_public_key: BitStringAsn1,
 }
 
-type Fields = (AlgorithmIdentifier, BitStringAsn1, ());
+type Members = (AlgorithmIdentifier, BitStringAsn1, ());
 
-impl Serialize for SubjectPublicKeyInfo {
-    ghost meaning = { λ it. ⟦<Row<Fields> as Serialize>⟧.meaning (record { 0 = ⟦<SubjectPublicKeyInfo as Record>⟧.parts it }) };
-
-    fn serialize<W: WriteExt>(&self, serializer: &mut Serializer<W>) -> Result<usize> {
-        (&self.algorithm, &self.subject_public_key).serialize(serializer)
-    }
-}
-
-impl Record for SubjectPublicKeyInfo {
-    type Fields = Fields;
+impl Struct for SubjectPublicKeyInfo {
+    type Members = Members;
 
     ghost parts = { λ it. (it.algorithm, it.subject_public_key, tt) };
 
-    fn from_parts(fields: Fields) -> SubjectPublicKeyInfo {
-        let (algorithm, subject_public_key, ()) = fields;
+    fn from_parts(members: Members) -> SubjectPublicKeyInfo {
+        let (algorithm, subject_public_key, ()) = members;
         SubjectPublicKeyInfo {
             algorithm,
             subject_public_key,
@@ -43,14 +38,23 @@ impl Record for SubjectPublicKeyInfo {
     }
 }
 
+impl Serialize for SubjectPublicKeyInfo {
+    ghost meaning = { sequence_of ⟦<Members as SerializeMembers>⟧.members ⟦<Self as Struct>⟧.parts };
+
+    fn serialize<W: WriteExt>(&self, serializer: &mut Serializer<W>) -> Result<usize> {
+        (&self.algorithm, &self.subject_public_key, ()).serialize_sequence(serializer)
+    }
+}
+
 impl Deserialize for SubjectPublicKeyInfo {
-    ghost shape = { ⟦<Row<Fields> as Deserialize>⟧.shape };
+    ghost shape = { sequence_shape ⟦<Members as DeserializeMembers>⟧.layout };
 
-    ghost known = { known_record ⟦<Fields as DeserializeMembers>⟧.known ⟦<Self as Record>⟧.parts ⟦<Self as PartialEq>⟧.eq (λ x y h. h) };
-
-    ghost tied = { by_itself };
+    ghost known = { known_struct ⟦<Members as DeserializeMembers>⟧.known refl ⟦<Self as Struct>⟧.parts ⟦<Self as PartialEq>⟧.eq
+        (λ x y h. h) (λ x y. refl) };
 
     fn deserialize<R: ReadExt>(deserializer: &mut Deserializer<R>) -> Result<SubjectPublicKeyInfo> {
-        de::deserialize_record_as(deserializer)
+        deserialize_struct_as(deserializer)
     }
+
+    ghost tied = { by_itself };
 }

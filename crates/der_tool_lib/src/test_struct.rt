@@ -1,11 +1,14 @@
 //! A structure of three fields.
+ghost use Rattle.std.specs.Prelude.{refl};
 ghost use Rattle.picky_der_de.specs.Known.{by_itself};
-ghost use Rattle.picky_der_de.specs.KnownRows.{known_record};
+ghost use Rattle.picky_der_de.specs.KnownMembers.{known_struct, sequence_of, sequence_shape};
 
 use picky_asn1_der::asn1::ByteBuf;
-use picky_asn1_der::de::DeserializeMembers;
 use picky_asn1_der::misc::{ReadExt, WriteExt};
-use picky_asn1_der::{Deserialize, Deserializer, Record, Result, Row, Serialize, Serializer, de};
+use picky_asn1_der::{
+    Deserialize, DeserializeMembers, Deserializer, Result, Serialize, SerializeMembers, Serializer,
+    Struct, deserialize_struct_as,
+};
 
 /// A number, an octet string, and a pair, as a SEQUENCE.
 #[derive(Debug, Drop, PartialEq, Eq)]
@@ -18,35 +21,36 @@ pub struct TestStruct {
     pub tuple: (usize, ()),
 }
 
-type Fields = (u8, ByteBuf, (usize, ()), ());
+type Members = (u8, ByteBuf, (usize, ()), ());
 
-impl Serialize for TestStruct {
-    ghost meaning = { λ it. ⟦<Row<Fields> as Serialize>⟧.meaning (record { 0 = ⟦<TestStruct as Record>⟧.parts it }) };
-
-    fn serialize<W: WriteExt>(&self, serializer: &mut Serializer<W>) -> Result<usize> {
-        (&self.number, &self.vec, &self.tuple).serialize(serializer)
-    }
-}
-
-impl Record for TestStruct {
-    type Fields = Fields;
+impl Struct for TestStruct {
+    type Members = Members;
 
     ghost parts = { λ it. (it.number, it.vec, it.tuple, tt) };
 
-    fn from_parts(fields: Fields) -> TestStruct {
-        let (number, vec, tuple, ()) = fields;
+    fn from_parts(members: Members) -> TestStruct {
+        let (number, vec, tuple, ()) = members;
         TestStruct { number, vec, tuple }
     }
 }
 
+impl Serialize for TestStruct {
+    ghost meaning = { sequence_of ⟦<Members as SerializeMembers>⟧.members ⟦<Self as Struct>⟧.parts };
+
+    fn serialize<W: WriteExt>(&self, serializer: &mut Serializer<W>) -> Result<usize> {
+        (&self.number, &self.vec, &self.tuple, ()).serialize_sequence(serializer)
+    }
+}
+
 impl Deserialize for TestStruct {
-    ghost shape = { ⟦<Row<Fields> as Deserialize>⟧.shape };
+    ghost shape = { sequence_shape ⟦<Members as DeserializeMembers>⟧.layout };
 
-    ghost known = { known_record ⟦<Fields as DeserializeMembers>⟧.known ⟦<Self as Record>⟧.parts ⟦<Self as PartialEq>⟧.eq (λ x y h. h) };
-
-    ghost tied = { by_itself };
+    ghost known = { known_struct ⟦<Members as DeserializeMembers>⟧.known refl ⟦<Self as Struct>⟧.parts ⟦<Self as PartialEq>⟧.eq
+        (λ x y h. h) (λ x y. refl) };
 
     fn deserialize<R: ReadExt>(deserializer: &mut Deserializer<R>) -> Result<TestStruct> {
-        de::deserialize_record_as(deserializer)
+        deserialize_struct_as(deserializer)
     }
+
+    ghost tied = { by_itself };
 }

@@ -3,7 +3,7 @@ use Rattle.std.specs.Prelude.{ℕ, ◌+◌, ◌*◌, ◌/◌, ◌%◌, ◌<◌, 
 use Rattle.std.specs.List.{AllByRecursion, list_all}
 use Rattle.picky_der_core.specs.Tree.{ListKind, Tree, Trees}
 use Rattle.picky_der_core.specs.Encoding.{encodings}
-use Rattle.picky_der_core.specs.Shape.{Shape, Shapes, Layout, firsts, firsts_of}
+use Rattle.picky_der_core.specs.Shape.{Shape, Layout, firsts}
 
 -- an identifier byte's place in the order: by its class, and then by its number
 abbrev pub tag_place : ℕ → ℕ
@@ -38,10 +38,6 @@ layout_firsts Layout.empty = []
 layout_firsts (Layout.required s l) = firsts s ++ layout_firsts l
 layout_firsts (Layout.maybe s l) = firsts s ++ layout_firsts l
 
-abbrev pub are_fields_in_order : Shapes → Bool
-are_fields_in_order Shapes.none = true
-are_fields_in_order (Shapes.more s ss) = are_before (firsts s) (firsts_of ss) && are_fields_in_order ss
-
 abbrev pub is_layout_in_order : Layout → Bool
 is_layout_in_order Layout.empty = true
 is_layout_in_order (Layout.required s l) = are_before (firsts s) (layout_firsts l) && is_layout_in_order l
@@ -49,6 +45,5 @@ is_layout_in_order (Layout.maybe s l) = are_before (firsts s) (layout_firsts l) 
 
 -- a SEQUENCE of different members, each with tags before those of the members after it
 abbrev pub is_in_tag_order : Shape → Bool
-is_in_tag_order (Shape.fields ListKind.sequence ss) = are_fields_in_order ss
-is_in_tag_order (Shape.struct_of ListKind.sequence l) = is_layout_in_order l
+is_in_tag_order (Shape.fields ListKind.sequence l) = is_layout_in_order l
 is_in_tag_order _ = false

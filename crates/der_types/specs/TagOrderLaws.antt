@@ -5,9 +5,9 @@ use Rattle.std.specs.List.{AllByRecursion, list_all}
 use Rattle.picky_der_core.specs.Tree.{ListKind, Tree, Trees}
 use Rattle.picky_der_core.specs.Encoding.{encodings, der, tree_bytes}
 use Rattle.picky_der_core.specs.Readable.{IsReadable, AreReadable}
-use Rattle.picky_der_core.specs.Shape.{Shape, Shapes, Layout, IsOf, AreOf, AreMembersOf, firsts, firsts_of, contains}
+use Rattle.picky_der_core.specs.Shape.{Shape, Layout, IsOf, AreMembersOf, firsts, contains}
 use Rattle.picky_der_core.specs.FirstLaws.{BeginsIn, begins_in, contains-append_left, contains-append_right}
-use Rattle.der_types.specs.TagOrder.{tag_place, leading, AreInTagOrder, member_encodings, are_before, layout_firsts, are_fields_in_order, is_layout_in_order, is_in_tag_order}
+use Rattle.der_types.specs.TagOrder.{tag_place, leading, AreInTagOrder, member_encodings, are_before, layout_firsts, is_layout_in_order, is_in_tag_order}
 
 -- ---- lists of first bytes
 
@@ -34,16 +34,6 @@ module _ (x : ℕ) (xs ys : List ℕ) (apart : are_before xs ys ≡ true) (is : 
   after : (fs : List ℕ) (t : Tree) → ((b : ℕ) → contains fs b ≡ true → contains ys b ≡ true) → BeginsIn fs t → tag_place x < tag_place (leading (der t))
   after fs t among b = subst (λ e. tag_place x < tag_place (leading e)) (sym b.is) (before x b.first xs ys apart is (among b.first b.listed))
 
-  fields_after : (ss : Shapes) (ts : Trees) → ((b : ℕ) → contains (firsts_of ss) b ≡ true → contains ys b ≡ true) → AreOf ss ts → AreReadable ts → AllByRecursion (λ y. tag_place x < tag_place (leading y)) (encodings ts)
-  unfolding der tree_bytes
-  fields_after Shapes.none Trees.none among p r = tt
-  fields_after Shapes.none (Trees.more t ts) among p r = absurd p
-  fields_after (Shapes.more s ss) Trees.none among p r = absurd p
-  fields_after (Shapes.more s ss) (Trees.more t ts) among p r = (
-    after (firsts s) t (λ b c. among b (contains-append_left b (firsts s) (firsts_of ss) c)) (begins_in s t p.0 r.0),
-    fields_after ss ts (λ b c. among b (contains-append_right b (firsts s) (firsts_of ss) c)) p.1 r.1,
-  )
-
   members_after : (l : Layout) (ts : Trees) → ((b : ℕ) → contains (layout_firsts l) b ≡ true → contains ys b ≡ true) → AreMembersOf l ts → AreReadable ts → AllByRecursion (λ y. tag_place x < tag_place (leading y)) (encodings ts)
   unfolding der tree_bytes
   members_after Layout.empty Trees.none among p r = tt
@@ -62,19 +52,6 @@ module _ (x : ℕ) (xs ys : List ℕ) (apart : are_before xs ys ≡ true) (is : 
 
 -- ---- members in order
 
-fields_in_order : (ss : Shapes) (ts : Trees) → are_fields_in_order ss ≡ true → AreOf ss ts → AreReadable ts → AreInTagOrder (encodings ts)
-unfolding der tree_bytes
-fields_in_order Shapes.none Trees.none h p r = tt
-fields_in_order Shapes.none (Trees.more t ts) h p r = absurd p
-fields_in_order (Shapes.more s ss) Trees.none h p r = absurd p
-fields_in_order (Shapes.more s ss) (Trees.more t ts) h p r =
-    let parts = and_parts (are_before (firsts s) (firsts_of ss)) (are_fields_in_order ss) h in
-    let b = begins_in s t p.0 r.0 in (
-      subst (λ e. AllByRecursion (λ y. tag_place (leading e) < tag_place (leading y)) (encodings ts)) (sym b.is) (fields_after b.first (firsts s) (firsts_of ss) parts.0 b.listed ss ts (λ c i. i) p.1 r.1),
-      fields_in_order ss ts parts.1 p.1 r.1,
-    )
-
--- the first member, and those after it
 first_in_order : (s : Shape) (l : Layout) (t : Tree) (ts : Trees) → are_before (firsts s) (layout_firsts l) ≡ true → IsOf s t → IsReadable t → AreMembersOf l ts → AreReadable ts → AllByRecursion (λ y. tag_place (leading (der t)) < tag_place (leading y)) (encodings ts)
 first_in_order s l t ts h p q r k =
     let b = begins_in s t p q in
@@ -96,8 +73,6 @@ members_in_order (Layout.maybe s l) ts h (inr p) r = members_in_order l ts (and_
 
 -- of each list of such a shape
 pub in_tag_order : (s : Shape) (t : Tree) → is_in_tag_order s ≡ true → IsOf s t → IsReadable t → AreInTagOrder (member_encodings t)
-in_tag_order (Shape.fields ListKind.sequence ss) (Tree.list kind ts) h p r = fields_in_order ss ts h p.1 r.1
-in_tag_order (Shape.fields ListKind.sequence ss) _ h p r = absurd p
-in_tag_order (Shape.struct_of ListKind.sequence l) (Tree.list kind ts) h p r = members_in_order l ts h p.1 r.1
-in_tag_order (Shape.struct_of ListKind.sequence l) _ h p r = absurd p
+in_tag_order (Shape.fields ListKind.sequence l) (Tree.list kind ts) h p r = members_in_order l ts h p.1 r.1
+in_tag_order (Shape.fields ListKind.sequence l) _ h p r = absurd p
 in_tag_order _ t h p r = cc

@@ -67,8 +67,6 @@ impl Choice for Time {
             Other(This(time)) => Time::Generalized(time),
         }
     }
-
-    ghost told = { refl };
 }
 
 impl Serialize for Time {

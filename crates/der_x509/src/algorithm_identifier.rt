@@ -1,16 +1,17 @@
 //! Which algorithm something is for, or was made by.
 ghost use Rattle.std.specs.Prelude.{refl};
-ghost use Rattle.picky_der_core.specs.Shape.{Shape};
-ghost use Rattle.picky_der_core.specs.Tree.{ListKind, Tree};
 ghost use Rattle.picky_der_de.specs.Known.{by_itself};
-ghost use Rattle.picky_der_de.specs.KnownLayouts.{known_struct};
+ghost use Rattle.picky_der_de.specs.KnownMembers.{known_struct, sequence_of, sequence_shape};
 
 use der_types::ObjectIdentifier;
 use picky_asn1_der::asn1::Tag;
-use picky_asn1_der::de::{Begins, DeserializeLayout, Struct, deserialize_struct_as};
+use picky_asn1_der::de::Begins;
 use picky_asn1_der::misc::{ReadExt, WriteExt};
-use picky_asn1_der::ser::{Optional, OptionalRef, SerializeMembers};
-use picky_asn1_der::{Asn1RawDer, Deserialize, Deserializer, List, Result, Serialize, Serializer};
+use picky_asn1_der::ser::{Optional, OptionalRef};
+use picky_asn1_der::{
+    Asn1RawDer, Deserialize, DeserializeMembers, Deserializer, List, Result, Serialize,
+    SerializeMembers, Serializer, Struct, deserialize_struct_as,
+};
 
 /// An algorithm and its parameters, as a SEQUENCE (RFC 5280, 4.1.1.2).
 ///
@@ -25,15 +26,6 @@ pub struct AlgorithmIdentifier {
 
 type Members = (ObjectIdentifier, Optional<Asn1RawDer>, ());
 
-impl Serialize for AlgorithmIdentifier {
-    ghost meaning = { λ it. Tree.list ListKind.sequence (⟦<Members as SerializeMembers>⟧.members
-        (⟦<AlgorithmIdentifier as Struct>⟧.parts it)) };
-
-    fn serialize<W: WriteExt>(&self, serializer: &mut Serializer<W>) -> Result<usize> {
-        (&self.algorithm, OptionalRef(&self.parameters), ()).serialize_sequence(serializer)
-    }
-}
-
 impl Struct for AlgorithmIdentifier {
     type Members = Members;
 
@@ -46,21 +38,27 @@ impl Struct for AlgorithmIdentifier {
             parameters,
         }
     }
+}
 
-    ghost told = { refl };
+impl Serialize for AlgorithmIdentifier {
+    ghost meaning = { sequence_of ⟦<Members as SerializeMembers>⟧.members ⟦<Self as Struct>⟧.parts };
+
+    fn serialize<W: WriteExt>(&self, serializer: &mut Serializer<W>) -> Result<usize> {
+        (&self.algorithm, OptionalRef(&self.parameters), ()).serialize_sequence(serializer)
+    }
 }
 
 impl Deserialize for AlgorithmIdentifier {
-    ghost shape = { Shape.struct_of ListKind.sequence ⟦<Members as DeserializeLayout>⟧.layout };
+    ghost shape = { sequence_shape ⟦<Members as DeserializeMembers>⟧.layout };
 
-    ghost known = { known_struct ⟦<Members as DeserializeLayout>⟧.known refl ⟦<Self as Struct>⟧.parts ⟦<Self as PartialEq>⟧.eq
-        (λ x y h. h) (λ x y. tt) };
-
-    ghost tied = { by_itself };
+    ghost known = { known_struct ⟦<Members as DeserializeMembers>⟧.known refl ⟦<Self as Struct>⟧.parts ⟦<Self as PartialEq>⟧.eq
+        (λ x y h. h) (λ x y. refl) };
 
     fn deserialize<R: ReadExt>(deserializer: &mut Deserializer<R>) -> Result<AlgorithmIdentifier> {
         deserialize_struct_as(deserializer)
     }
+
+    ghost tied = { by_itself };
 }
 
 impl Begins for AlgorithmIdentifier {

@@ -1,12 +1,13 @@
 //! Attributes of names.
+ghost use Rattle.std.specs.Prelude.{refl};
 ghost use Rattle.picky_der_de.specs.Known.{by_itself};
-ghost use Rattle.picky_der_de.specs.KnownRows.{known_record};
+ghost use Rattle.picky_der_de.specs.KnownMembers.{known_struct, sequence_of, sequence_shape};
 
 use der_types::ObjectIdentifier;
-use picky_asn1_der::de::DeserializeMembers;
 use picky_asn1_der::misc::{ReadExt, WriteExt};
 use picky_asn1_der::{
-    Asn1RawDer, Deserialize, Deserializer, Record, Result, Row, Serialize, Serializer, de,
+    Asn1RawDer, Deserialize, DeserializeMembers, Deserializer, Result, Serialize, SerializeMembers,
+    Serializer, Struct, deserialize_struct_as,
 };
 
 /// An attribute, as a SEQUENCE of its type and its value (RFC 5280, 4.1.2.4).
@@ -18,35 +19,36 @@ pub struct Attribute {
     pub value: Asn1RawDer,
 }
 
-type Fields = (ObjectIdentifier, Asn1RawDer, ());
+type Members = (ObjectIdentifier, Asn1RawDer, ());
 
-impl Serialize for Attribute {
-    ghost meaning = { λ it. ⟦<Row<Fields> as Serialize>⟧.meaning (record { 0 = ⟦<Attribute as Record>⟧.parts it }) };
-
-    fn serialize<W: WriteExt>(&self, serializer: &mut Serializer<W>) -> Result<usize> {
-        (&self.kind, &self.value).serialize(serializer)
-    }
-}
-
-impl Record for Attribute {
-    type Fields = Fields;
+impl Struct for Attribute {
+    type Members = Members;
 
     ghost parts = { λ it. (it.kind, it.value, tt) };
 
-    fn from_parts(fields: Fields) -> Attribute {
-        let (kind, value, ()) = fields;
+    fn from_parts(members: Members) -> Attribute {
+        let (kind, value, ()) = members;
         Attribute { kind, value }
     }
 }
 
+impl Serialize for Attribute {
+    ghost meaning = { sequence_of ⟦<Members as SerializeMembers>⟧.members ⟦<Self as Struct>⟧.parts };
+
+    fn serialize<W: WriteExt>(&self, serializer: &mut Serializer<W>) -> Result<usize> {
+        (&self.kind, &self.value, ()).serialize_sequence(serializer)
+    }
+}
+
 impl Deserialize for Attribute {
-    ghost shape = { ⟦<Row<Fields> as Deserialize>⟧.shape };
+    ghost shape = { sequence_shape ⟦<Members as DeserializeMembers>⟧.layout };
 
-    ghost known = { known_record ⟦<Fields as DeserializeMembers>⟧.known ⟦<Self as Record>⟧.parts ⟦<Self as PartialEq>⟧.eq (λ x y h. h) };
-
-    ghost tied = { by_itself };
+    ghost known = { known_struct ⟦<Members as DeserializeMembers>⟧.known refl ⟦<Self as Struct>⟧.parts ⟦<Self as PartialEq>⟧.eq
+        (λ x y h. h) (λ x y. refl) };
 
     fn deserialize<R: ReadExt>(deserializer: &mut Deserializer<R>) -> Result<Attribute> {
-        de::deserialize_record_as(deserializer)
+        deserialize_struct_as(deserializer)
     }
+
+    ghost tied = { by_itself };
 }

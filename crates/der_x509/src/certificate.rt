@@ -1,16 +1,16 @@
 //! Certificates.
 ghost use Rattle.std.specs.Prelude.{length, IfOk, IfErr};
+ghost use Rattle.std.specs.Prelude.{refl};
 ghost use Rattle.picky_der_de.specs.Entry.{IsFront, HasNoFront};
 ghost use Rattle.picky_der_de.specs.Known.{by_itself};
-ghost use Rattle.picky_der_de.specs.KnownRows.{known_record};
+ghost use Rattle.picky_der_de.specs.KnownMembers.{known_struct, sequence_of, sequence_shape};
 
 use crate::{AlgorithmIdentifier, TbsCertificate};
 use der_types::BitString;
-use picky_asn1_der::de::DeserializeMembers;
 use picky_asn1_der::misc::{ReadExt, WriteExt};
 use picky_asn1_der::{
-    Asn1RawDer, Deserialize, Deserializer, List, Record, Result, Row, Serialize, Serializer, de,
-    from_bytes,
+    Asn1RawDer, Deserialize, DeserializeMembers, Deserializer, List, Result, Serialize,
+    SerializeMembers, Serializer, Struct, deserialize_struct_as, from_bytes,
 };
 use std::alloc::Global;
 
@@ -40,28 +40,15 @@ impl Certificate {
     }
 }
 
-type Fields = (Asn1RawDer, AlgorithmIdentifier, BitString, ());
+type Members = (Asn1RawDer, AlgorithmIdentifier, BitString, ());
 
-impl Serialize for Certificate {
-    ghost meaning = { λ it. ⟦<Row<Fields> as Serialize>⟧.meaning (record { 0 = ⟦<Certificate as Record>⟧.parts it }) };
-
-    fn serialize<W: WriteExt>(&self, serializer: &mut Serializer<W>) -> Result<usize> {
-        (
-            &self.tbs_certificate,
-            &self.signature_algorithm,
-            &self.signature,
-        )
-            .serialize(serializer)
-    }
-}
-
-impl Record for Certificate {
-    type Fields = Fields;
+impl Struct for Certificate {
+    type Members = Members;
 
     ghost parts = { λ it. (it.tbs_certificate, it.signature_algorithm, it.signature, tt) };
 
-    fn from_parts(fields: Fields) -> Certificate {
-        let (tbs_certificate, signature_algorithm, signature, ()) = fields;
+    fn from_parts(members: Members) -> Certificate {
+        let (tbs_certificate, signature_algorithm, signature, ()) = members;
         Certificate {
             tbs_certificate,
             signature_algorithm,
@@ -70,16 +57,31 @@ impl Record for Certificate {
     }
 }
 
+impl Serialize for Certificate {
+    ghost meaning = { sequence_of ⟦<Members as SerializeMembers>⟧.members ⟦<Self as Struct>⟧.parts };
+
+    fn serialize<W: WriteExt>(&self, serializer: &mut Serializer<W>) -> Result<usize> {
+        (
+            &self.tbs_certificate,
+            &self.signature_algorithm,
+            &self.signature,
+            (),
+        )
+            .serialize_sequence(serializer)
+    }
+}
+
 impl Deserialize for Certificate {
-    ghost shape = { ⟦<Row<Fields> as Deserialize>⟧.shape };
+    ghost shape = { sequence_shape ⟦<Members as DeserializeMembers>⟧.layout };
 
-    ghost known = { known_record ⟦<Fields as DeserializeMembers>⟧.known ⟦<Self as Record>⟧.parts ⟦<Self as PartialEq>⟧.eq (λ x y h. h) };
-
-    ghost tied = { by_itself };
+    ghost known = { known_struct ⟦<Members as DeserializeMembers>⟧.known refl ⟦<Self as Struct>⟧.parts ⟦<Self as PartialEq>⟧.eq
+        (λ x y h. h) (λ x y. refl) };
 
     fn deserialize<R: ReadExt>(deserializer: &mut Deserializer<R>) -> Result<Certificate> {
-        de::deserialize_record_as(deserializer)
+        deserialize_struct_as(deserializer)
     }
+
+    ghost tied = { by_itself };
 }
 
 impl List for Certificate {

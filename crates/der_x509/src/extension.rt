@@ -1,16 +1,16 @@
 //! Extensions of certificates.
 ghost use Rattle.std.specs.Prelude.{refl};
-ghost use Rattle.picky_der_core.specs.Shape.{Shape};
-ghost use Rattle.picky_der_core.specs.Tree.{ListKind, Tree};
 ghost use Rattle.picky_der_de.specs.Known.{by_itself};
-ghost use Rattle.picky_der_de.specs.KnownLayouts.{known_struct};
+ghost use Rattle.picky_der_de.specs.KnownMembers.{known_struct, sequence_of, sequence_shape};
 
 use der_types::ObjectIdentifier;
 use picky_asn1_der::asn1::ByteBuf;
-use picky_asn1_der::de::{DeserializeLayout, Struct, deserialize_struct_as};
 use picky_asn1_der::misc::{ReadExt, WriteExt};
-use picky_asn1_der::ser::{Defaulted, DefaultedRef, False, SerializeMembers};
-use picky_asn1_der::{Deserialize, Deserializer, Result, Serialize, Serializer};
+use picky_asn1_der::ser::{Defaulted, DefaultedRef, False};
+use picky_asn1_der::{
+    Deserialize, DeserializeMembers, Deserializer, Result, Serialize, SerializeMembers, Serializer,
+    Struct, deserialize_struct_as,
+};
 
 /// An extension, as a SEQUENCE (RFC 5280, 4.1.2.9).
 #[derive(Debug, Drop, PartialEq, Eq)]
@@ -25,21 +25,6 @@ pub struct Extension {
 
 type Members = (ObjectIdentifier, Defaulted<bool, False>, ByteBuf, ());
 
-impl Serialize for Extension {
-    ghost meaning = { λ it. Tree.list ListKind.sequence (⟦<Members as SerializeMembers>⟧.members
-        (⟦<Extension as Struct>⟧.parts it)) };
-
-    fn serialize<W: WriteExt>(&self, serializer: &mut Serializer<W>) -> Result<usize> {
-        (
-            &self.id,
-            DefaultedRef::<bool, False>::new(&self.critical),
-            &self.value,
-            (),
-        )
-            .serialize_sequence(serializer)
-    }
-}
-
 impl Struct for Extension {
     type Members = Members;
 
@@ -53,21 +38,33 @@ impl Struct for Extension {
             value,
         }
     }
+}
 
-    ghost told = { refl };
+impl Serialize for Extension {
+    ghost meaning = { sequence_of ⟦<Members as SerializeMembers>⟧.members ⟦<Self as Struct>⟧.parts };
+
+    fn serialize<W: WriteExt>(&self, serializer: &mut Serializer<W>) -> Result<usize> {
+        (
+            &self.id,
+            DefaultedRef::<bool, False>::new(&self.critical),
+            &self.value,
+            (),
+        )
+            .serialize_sequence(serializer)
+    }
 }
 
 impl Deserialize for Extension {
-    ghost shape = { Shape.struct_of ListKind.sequence ⟦<Members as DeserializeLayout>⟧.layout };
+    ghost shape = { sequence_shape ⟦<Members as DeserializeMembers>⟧.layout };
 
-    ghost known = { known_struct ⟦<Members as DeserializeLayout>⟧.known refl ⟦<Self as Struct>⟧.parts ⟦<Self as PartialEq>⟧.eq
-        (λ x y h. h) (λ x y. (λ h. h, tt)) };
-
-    ghost tied = { by_itself };
+    ghost known = { known_struct ⟦<Members as DeserializeMembers>⟧.known refl ⟦<Self as Struct>⟧.parts ⟦<Self as PartialEq>⟧.eq
+        (λ x y h. h) (λ x y. refl) };
 
     fn deserialize<R: ReadExt>(deserializer: &mut Deserializer<R>) -> Result<Extension> {
         deserialize_struct_as(deserializer)
     }
+
+    ghost tied = { by_itself };
 }
 
 /// All extensions of a certificate: a SEQUENCE OF them.

@@ -1,9 +1,7 @@
 //! What is signed of a certificate.
 ghost use Rattle.std.specs.Prelude.{refl};
-ghost use Rattle.picky_der_core.specs.Shape.{Shape};
-ghost use Rattle.picky_der_core.specs.Tree.{ListKind, Tree};
 ghost use Rattle.picky_der_de.specs.Known.{by_itself};
-ghost use Rattle.picky_der_de.specs.KnownLayouts.{known_struct};
+ghost use Rattle.picky_der_de.specs.KnownMembers.{known_struct, sequence_of, sequence_shape};
 
 use crate::{
     AlgorithmIdentifier, Attribute, Extension, Extensions, Name, RelativeName,
@@ -13,10 +11,12 @@ use der_types::{BitString, Integer};
 use picky_asn1_der::asn1::{
     ExplicitContextTag0, ExplicitContextTag3, ImplicitContextTag1, ImplicitContextTag2,
 };
-use picky_asn1_der::de::{DeserializeLayout, Struct, deserialize_struct_as};
 use picky_asn1_der::misc::{ReadExt, WriteExt};
-use picky_asn1_der::ser::{Defaulted, DefaultedRef, Optional, OptionalRef, SerializeMembers};
-use picky_asn1_der::{Deserialize, Deserializer, Result, Serialize, Serializer};
+use picky_asn1_der::ser::{Defaulted, DefaultedRef, Optional, OptionalRef};
+use picky_asn1_der::{
+    Deserialize, DeserializeMembers, Deserializer, Result, Serialize, SerializeMembers, Serializer,
+    Struct, deserialize_struct_as,
+};
 
 /// What is signed of a certificate, as a SEQUENCE (RFC 5280, 4.1).
 #[derive(Debug, Drop, PartialEq, Eq)]
@@ -61,28 +61,6 @@ type OtherMembers = (
     (),
 );
 
-impl Serialize for TbsCertificate {
-    ghost meaning = { λ it. Tree.list ListKind.sequence (⟦<Members as SerializeMembers>⟧.members
-        (⟦<TbsCertificate as Struct>⟧.parts it)) };
-
-    fn serialize<W: WriteExt>(&self, serializer: &mut Serializer<W>) -> Result<usize> {
-        (
-            DefaultedRef::<ExplicitContextTag0<Version>, V1>::new(&self.version),
-            &self.serial_number,
-            &self.signature,
-            &self.issuer,
-            &self.validity,
-            &self.subject,
-            &self.subject_public_key_info,
-            OptionalRef(&self.issuer_unique_id),
-            OptionalRef(&self.subject_unique_id),
-            OptionalRef(&self.extensions),
-            (),
-        )
-            .serialize_sequence(serializer)
-    }
-}
-
 impl Struct for TbsCertificate {
     type Members = Members;
 
@@ -124,19 +102,38 @@ impl Struct for TbsCertificate {
             extensions,
         }
     }
+}
 
-    ghost told = { refl };
+impl Serialize for TbsCertificate {
+    ghost meaning = { sequence_of ⟦<Members as SerializeMembers>⟧.members ⟦<Self as Struct>⟧.parts };
+
+    fn serialize<W: WriteExt>(&self, serializer: &mut Serializer<W>) -> Result<usize> {
+        (
+            DefaultedRef::<ExplicitContextTag0<Version>, V1>::new(&self.version),
+            &self.serial_number,
+            &self.signature,
+            &self.issuer,
+            &self.validity,
+            &self.subject,
+            &self.subject_public_key_info,
+            OptionalRef(&self.issuer_unique_id),
+            OptionalRef(&self.subject_unique_id),
+            OptionalRef(&self.extensions),
+            (),
+        )
+            .serialize_sequence(serializer)
+    }
 }
 
 impl Deserialize for TbsCertificate {
-    ghost shape = { Shape.struct_of ListKind.sequence ⟦<Members as DeserializeLayout>⟧.layout };
+    ghost shape = { sequence_shape ⟦<Members as DeserializeMembers>⟧.layout };
 
-    ghost known = { known_struct ⟦<Members as DeserializeLayout>⟧.known refl ⟦<Self as Struct>⟧.parts ⟦<Self as PartialEq>⟧.eq
-        (λ x y h. h) (λ x y. (λ h. h, tt)) };
-
-    ghost tied = { by_itself };
+    ghost known = { known_struct ⟦<Members as DeserializeMembers>⟧.known refl ⟦<Self as Struct>⟧.parts ⟦<Self as PartialEq>⟧.eq
+        (λ x y h. h) (λ x y. refl) };
 
     fn deserialize<R: ReadExt>(deserializer: &mut Deserializer<R>) -> Result<TbsCertificate> {
         deserialize_struct_as(deserializer)
     }
+
+    ghost tied = { by_itself };
 }

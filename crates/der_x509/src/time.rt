@@ -40,8 +40,6 @@ impl Choice for Time {
             Other(This(time)) => Time::Generalized(time),
         }
     }
-
-    ghost told = { refl };
 }
 
 impl Serialize for Time {

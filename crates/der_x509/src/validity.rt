@@ -1,13 +1,15 @@
 //! Periods of validity.
+ghost use Rattle.std.specs.Prelude.{refl};
 ghost use Rattle.picky_der_de.specs.Known.{by_itself};
-ghost use Rattle.picky_der_de.specs.KnownRows.{known_record};
+ghost use Rattle.picky_der_de.specs.KnownMembers.{known_struct, sequence_of, sequence_shape};
 
 use crate::Time;
 use picky_asn1_der::asn1::Tag;
-use picky_asn1_der::de::{Begins, DeserializeMembers};
+use picky_asn1_der::de::Begins;
 use picky_asn1_der::misc::{ReadExt, WriteExt};
 use picky_asn1_der::{
-    Deserialize, Deserializer, List, Record, Result, Row, Serialize, Serializer, de,
+    Deserialize, DeserializeMembers, Deserializer, List, Result, Serialize, SerializeMembers,
+    Serializer, Struct, deserialize_struct_as,
 };
 
 /// From when to when a certificate is good, as a SEQUENCE (RFC 5280, 4.1.2.5).
@@ -19,23 +21,15 @@ pub struct Validity {
     pub not_after: Time,
 }
 
-type Fields = (Time, Time, ());
+type Members = (Time, Time, ());
 
-impl Serialize for Validity {
-    ghost meaning = { λ it. ⟦<Row<Fields> as Serialize>⟧.meaning (record { 0 = ⟦<Validity as Record>⟧.parts it }) };
-
-    fn serialize<W: WriteExt>(&self, serializer: &mut Serializer<W>) -> Result<usize> {
-        (&self.not_before, &self.not_after).serialize(serializer)
-    }
-}
-
-impl Record for Validity {
-    type Fields = Fields;
+impl Struct for Validity {
+    type Members = Members;
 
     ghost parts = { λ it. (it.not_before, it.not_after, tt) };
 
-    fn from_parts(fields: Fields) -> Validity {
-        let (not_before, not_after, ()) = fields;
+    fn from_parts(members: Members) -> Validity {
+        let (not_before, not_after, ()) = members;
         Validity {
             not_before,
             not_after,
@@ -43,16 +37,25 @@ impl Record for Validity {
     }
 }
 
+impl Serialize for Validity {
+    ghost meaning = { sequence_of ⟦<Members as SerializeMembers>⟧.members ⟦<Self as Struct>⟧.parts };
+
+    fn serialize<W: WriteExt>(&self, serializer: &mut Serializer<W>) -> Result<usize> {
+        (&self.not_before, &self.not_after, ()).serialize_sequence(serializer)
+    }
+}
+
 impl Deserialize for Validity {
-    ghost shape = { ⟦<Row<Fields> as Deserialize>⟧.shape };
+    ghost shape = { sequence_shape ⟦<Members as DeserializeMembers>⟧.layout };
 
-    ghost known = { known_record ⟦<Fields as DeserializeMembers>⟧.known ⟦<Self as Record>⟧.parts ⟦<Self as PartialEq>⟧.eq (λ x y h. h) };
-
-    ghost tied = { by_itself };
+    ghost known = { known_struct ⟦<Members as DeserializeMembers>⟧.known refl ⟦<Self as Struct>⟧.parts ⟦<Self as PartialEq>⟧.eq
+        (λ x y h. h) (λ x y. refl) };
 
     fn deserialize<R: ReadExt>(deserializer: &mut Deserializer<R>) -> Result<Validity> {
-        de::deserialize_record_as(deserializer)
+        deserialize_struct_as(deserializer)
     }
+
+    ghost tied = { by_itself };
 }
 
 impl Begins for Validity {

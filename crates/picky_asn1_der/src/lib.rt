@@ -7,19 +7,19 @@ pub mod application_tag;
 pub mod de {
     pub use picky_der_de::{
         Alike, Alternatives, Begins, Boolean, Choice, DEFAULT_MAX_LEN, DecodeError, Deserialize,
-        DeserializeLayout, DeserializeMember, DeserializeMembers, Deserializer, Enclosure, End,
-        Int, NoneOf, Null, OneOf, OneOf4, Record, Sequence, Struct, TryAlike, UInt,
-        UnsignedInteger, Utf8String, deserialize_as, deserialize_choice_as, deserialize_record_as,
-        deserialize_struct_as, from_bytes, from_der, from_reader, from_reader_with_max_len,
-        next_from_bytes, next_from_reader, try_deserialize_as,
+        DeserializeMember, DeserializeMembers, Deserializer, Enclosure, End, Int, NoneOf, Null,
+        OneOf, OneOf4, Sequence, Struct, TryAlike, UInt, UnsignedInteger, Utf8String,
+        deserialize_as, deserialize_choice_as, deserialize_struct_as, from_bytes, from_der,
+        from_reader, from_reader_with_max_len, next_from_bytes, next_from_reader,
+        try_deserialize_as,
     };
 }
 
 /// Writing.
 pub mod ser {
     pub use picky_der_ser::{
-        Boolean, DefaultOf, Defaulted, DefaultedRef, False, Header, Int, List, Null, Number,
-        Optional, OptionalRef, Row, Sequence, Serialize, SerializeMember, SerializeMembers,
+        Boolean, DefaultOf, Defaulted, DefaultedRef, Element, False, Header, Int, List, Null,
+        Number, Optional, OptionalRef, Sequence, Serialize, SerializeMember, SerializeMembers,
         Serializer, SignedNumber, True, UInt, UnsignedInteger, Utf8String, to_byte_buf, to_bytes,
         to_vec, to_writer,
     };
@@ -32,11 +32,12 @@ pub mod round_trip;
 pub use picky_der_core::misc::Length;
 pub use picky_der_core::{Asn1DerError, Result, asn1, laws, misc};
 pub use picky_der_de::{
-    Alike, Alternatives, Choice, DecodeError, Deserialize, Deserializer, NoneOf, OneOf, OneOf4,
-    Record, TryAlike, deserialize_as, from_bytes, from_der, from_reader, from_reader_with_max_len,
-    next_from_bytes, next_from_reader, try_deserialize_as,
+    Alike, Alternatives, Choice, DecodeError, Deserialize, DeserializeMembers, Deserializer,
+    NoneOf, OneOf, OneOf4, Struct, TryAlike, deserialize_as, deserialize_struct_as, from_bytes,
+    from_der, from_reader, from_reader_with_max_len, next_from_bytes, next_from_reader,
+    try_deserialize_as,
 };
 pub use picky_der_ser::{
-    List, Row, Serialize, Serializer, to_byte_buf, to_bytes, to_vec, to_writer,
+    List, Serialize, SerializeMembers, Serializer, to_byte_buf, to_bytes, to_vec, to_writer,
 };
 pub use raw_der::Asn1RawDer;

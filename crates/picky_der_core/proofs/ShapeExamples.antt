@@ -25,8 +25,11 @@ two_numbers sound = let untold = sound.1.0 in cc
 abbrev struct : Tree
 struct = Tree.list ListKind.sequence (trees (Tree.unsigned 7 ∷ Tree.bytes 0x04 (0x54 ∷ 0x65 ∷ []) ∷ Tree.list ListKind.sequence (trees (Tree.unsigned 4 ∷ Tree.null ∷ [])) ∷ []))
 
+abbrev pair_shape : Shape
+pair_shape = Shape.fields ListKind.sequence (Layout.required (Shape.unsigned 0xFFFF_FFFF_FFFF_FFFF) (Layout.required Shape.null Layout.empty))
+
 abbrev struct_shape : Shape
-struct_shape = Shape.fields ListKind.sequence (shapes (Shape.unsigned 255 ∷ Shape.bytes 0x04 ∷ Shape.fields ListKind.sequence (shapes (Shape.unsigned 0xFFFF_FFFF_FFFF_FFFF ∷ Shape.null ∷ [])) ∷ []))
+struct_shape = Shape.fields ListKind.sequence (Layout.required (Shape.unsigned 255) (Layout.required (Shape.bytes 0x04) (Layout.required pair_shape Layout.empty)))
 
 struct_is_of : IsOf struct_shape struct
 struct_is_of = ((refl, ((omega arith, omega arith), ((refl, (omega arith, (omega arith, tt))), ((refl, ((omega arith, omega arith), (tt, tt))), tt)))))
@@ -37,7 +40,7 @@ struct_is_readable = (tt, (tt, (omega arith, ((tt, (tt, (tt, tt))), tt))))
 -- ---- a struct of an identifier, a flag that may be missing, and bytes
 
 abbrev flagged_shape : Shape
-flagged_shape = Shape.struct_of ListKind.sequence (Layout.required (Shape.bytes 0x06) (Layout.maybe Shape.boolean (Layout.required (Shape.bytes 0x04) Layout.empty)))
+flagged_shape = Shape.fields ListKind.sequence (Layout.required (Shape.bytes 0x06) (Layout.maybe Shape.boolean (Layout.required (Shape.bytes 0x04) Layout.empty)))
 
 flagged_is_sound : IsSound flagged_shape
 flagged_is_sound = ((tt, (tt, (tt, tt))), (refl, tt))
@@ -50,14 +53,14 @@ unflagged_is_of = (refl, ((refl, tt), inr ((refl, tt), tt)))
 
 -- ---- members that may be missing and aren't told: from the next one, and from the one behind another that may be missing
 
-untold_member : IsSound (Shape.struct_of ListKind.sequence (Layout.maybe (Shape.unsigned 255) (Layout.required (Shape.unsigned 65535) Layout.empty))) → ⊥
+untold_member : IsSound (Shape.fields ListKind.sequence (Layout.maybe (Shape.unsigned 255) (Layout.required (Shape.unsigned 65535) Layout.empty))) → ⊥
 untold_member sound = let untold = sound.1.0 in cc
 
-untold_behind : IsSound (Shape.struct_of ListKind.sequence (Layout.maybe Shape.null (Layout.maybe Shape.boolean (Layout.required Shape.null Layout.empty)))) → ⊥
+untold_behind : IsSound (Shape.fields ListKind.sequence (Layout.maybe Shape.null (Layout.maybe Shape.boolean (Layout.required Shape.null Layout.empty)))) → ⊥
 untold_behind sound = let untold = sound.1.0 in cc
 
 -- behind a member that is always there it may come again
-told_behind_required : IsSound (Shape.struct_of ListKind.sequence (Layout.maybe Shape.null (Layout.required Shape.boolean (Layout.maybe Shape.null Layout.empty))))
+told_behind_required : IsSound (Shape.fields ListKind.sequence (Layout.maybe Shape.null (Layout.required Shape.boolean (Layout.maybe Shape.null Layout.empty))))
 told_behind_required = ((tt, (tt, (tt, tt))), (refl, (refl, tt)))
 
 -- ---- alternatives that aren't told: null, and an element

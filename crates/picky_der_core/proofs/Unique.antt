@@ -5,7 +5,7 @@ use Rattle.std.specs.List.{concat}
 use Rattle.picky_der_core.specs.Tree.{ListKind, Tree, Trees}
 use Rattle.picky_der_core.specs.Encoding.{plain_encoding, wrapper_encoding, tree_bytes, encodings, der, boolean_content, list_content}
 use Rattle.picky_der_core.specs.Readable.{IsReadable, AreReadable, IsNoChoice}
-use Rattle.picky_der_core.specs.Shape.{Shape, Shapes, Layout, IsOf, AreOf, IsOneOf, AreMembersOf, firsts, firsts_of, next_firsts, are_apart, IsBoolean, IsUnsigned, IsNull, IsText, IsCharacter, IsBytes, IsRaw, IsList, IsOptional, IsOctetContainer, IsBitContainer, IsExplicit, IsImplicit, IsApplication, IsRetagged, IsChoice, EachIs, FirstAndRest, FirstOrNone, IsEmpty, IsSound, AreSound, AreTold, AreMembersSound, AreMembersTold}
+use Rattle.picky_der_core.specs.Shape.{Shape, Shapes, Layout, IsOf, IsOneOf, AreMembersOf, firsts, firsts_of, next_firsts, are_apart, IsBoolean, IsUnsigned, IsNull, IsText, IsCharacter, IsBytes, IsRaw, IsList, IsOptional, IsOctetContainer, IsBitContainer, IsExplicit, IsImplicit, IsApplication, IsRetagged, IsChoice, EachIs, FirstAndRest, FirstOrNone, IsEmpty, IsSound, AreSound, AreTold, AreMembersSound, AreMembersTold}
 use Rattle.picky_der_core.specs.ElementLaws.{tlv-same}
 use Rattle.picky_der_core.specs.EncodingLaws.{is_absent-readable, list_content-in_order, same_encoding, length-der, unsigned_content-same}
 use Rattle.picky_der_core.specs.FirstLaws.{begins_in, begins_in_one, begins_next, apart_differ, is_of-optional}
@@ -238,8 +238,7 @@ mutual
   known Shape.text = λ sound header. text_known header
   known (Shape.bytes tag) = λ sound header. bytes_known tag header
   known (Shape.list_of kind s) = λ sound header. list_known kind _ (each_known _ (known s sound true)) header
-  known (Shape.fields kind ss) = λ sound header. list_known kind _ (fields_known ss sound) header
-  known (Shape.struct_of kind l) = λ sound header. list_known kind _ (members_known l sound.0 sound.1) header
+  known (Shape.fields kind l) = λ sound header. list_known kind _ (members_known l sound.0 sound.1) header
   known (Shape.optional s) = λ sound header. optional_known _ header (known s sound header)
   known (Shape.octet_container s) = λ sound header. octet_container_known _ (known s sound true) header
   known (Shape.bit_container s) = λ sound header. bit_container_known _ (known s sound true) header
@@ -249,10 +248,6 @@ mutual
   known (Shape.retagged tag s) = λ sound header. retagged_known tag _ (known s sound false) header
   known Shape.raw = λ sound header. raw_known header
   known (Shape.choice ss) = λ sound header. choice_known _ (alternatives_known ss sound.0 sound.1) header
-
-  fields_known : (ss : Shapes) → AreSound ss → AreKnown (AreOf ss)
-  fields_known Shapes.none = λ sound. empty_known
-  fields_known (Shapes.more s ss) = λ sound. first_and_rest_known _ _ (known s sound.0 true) (fields_known ss sound.1)
 
   members_known : (l : Layout) → AreMembersSound l → AreMembersTold l → AreKnown (AreMembersOf l)
   members_known Layout.empty = λ sound apart. empty_known

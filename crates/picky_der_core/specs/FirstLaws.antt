@@ -209,8 +209,7 @@ mutual
   begins_in Shape.text = text_first
   begins_in (Shape.bytes tag) = bytes_first tag
   begins_in (Shape.list_of kind s) = list_first kind _
-  begins_in (Shape.fields kind ss) = list_first kind _
-  begins_in (Shape.struct_of kind l) = list_first kind _
+  begins_in (Shape.fields kind l) = list_first kind _
   begins_in (Shape.optional s) = λ t p r. begins_in s t (is_of-optional (IsOf s) t p r) r
   begins_in (Shape.octet_container s) = octet_container_first _
   begins_in (Shape.bit_container s) = bit_container_first _

@@ -17,10 +17,8 @@ mutual
     bytes : ℕ → Shape
     -- a list whose members are all of one shape
     list_of : ListKind → Shape → Shape
-    -- a list of one member for each shape, in order
-    fields : ListKind → Shapes → Shape
-    -- a list of the members of a layout, of which some may be missing
-    struct_of : ListKind → Layout → Shape
+    -- a list of these members, of which some may be missing
+    fields : ListKind → Layout → Shape
     optional : Shape → Shape
     octet_container : Shape → Shape
     bit_container : Shape → Shape
@@ -33,6 +31,7 @@ mutual
     -- of one of these shapes
     choice : Shapes → Shape
 
+  -- which alternatives a choice has
   pub data Shapes : Type 0 where
     none : Shapes
     more : Shape → Shapes → Shapes
@@ -146,8 +145,7 @@ abbrev mutual
   IsOf Shape.text = IsText
   IsOf (Shape.bytes tag) = IsBytes tag
   IsOf (Shape.list_of kind s) = IsList kind (EachIs (IsOf s))
-  IsOf (Shape.fields kind ss) = IsList kind (AreOf ss)
-  IsOf (Shape.struct_of kind l) = IsList kind (AreMembersOf l)
+  IsOf (Shape.fields kind l) = IsList kind (AreMembersOf l)
   IsOf (Shape.optional s) = IsOptional (IsOf s)
   IsOf (Shape.octet_container s) = IsOctetContainer (IsOf s)
   IsOf (Shape.bit_container s) = IsBitContainer (IsOf s)
@@ -157,11 +155,6 @@ abbrev mutual
   IsOf (Shape.retagged tag s) = IsRetagged tag (IsOf s)
   IsOf Shape.raw = IsRaw
   IsOf (Shape.choice ss) = IsChoice (IsOneOf ss)
-
-  -- one tree for each shape, in order
-  pub AreOf : Shapes → Trees → Type 0
-  AreOf Shapes.none = IsEmpty
-  AreOf (Shapes.more s ss) = FirstAndRest (IsOf s) (AreOf ss)
 
   -- the members that are there, in order
   pub AreMembersOf : Layout → Trees → Type 0
@@ -195,8 +188,7 @@ abbrev mutual
   firsts Shape.text = 0x0C ∷ []
   firsts (Shape.bytes tag) = tag_with_number (number_of tag) tag
   firsts (Shape.list_of kind s) = list_tag kind ∷ []
-  firsts (Shape.fields kind ss) = list_tag kind ∷ []
-  firsts (Shape.struct_of kind l) = list_tag kind ∷ []
+  firsts (Shape.fields kind l) = list_tag kind ∷ []
   firsts (Shape.optional s) = firsts s
   firsts (Shape.octet_container s) = 0x04 ∷ []
   firsts (Shape.bit_container s) = 0x03 ∷ []
@@ -245,8 +237,7 @@ AreMembersTold (Layout.maybe s l) = IsTrue (are_apart (firsts s) (next_firsts l)
 abbrev mutual
   pub IsSound : Shape → Type 0
   IsSound (Shape.list_of kind s) = IsSound s
-  IsSound (Shape.fields kind ss) = AreSound ss
-  IsSound (Shape.struct_of kind l) = AreMembersSound l × AreMembersTold l
+  IsSound (Shape.fields kind l) = AreMembersSound l × AreMembersTold l
   IsSound (Shape.optional s) = IsSound s
   IsSound (Shape.octet_container s) = IsSound s
   IsSound (Shape.bit_container s) = IsSound s

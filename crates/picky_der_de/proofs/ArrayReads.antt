@@ -1,43 +1,51 @@
 -- Arrays, read and refused: as many members of one shape as there are slots.
-use Rattle.std.proofs.Common.{◌≡◌, ℕ, suc, ◌+◌, ◌-◌, ◌<◌, List, [], ◌∷◌, ◌++◌, length, map, None, sym, subst, arith, length-append}
+use Rattle.std.proofs.Common.{◌≡◌, ℕ, zero, suc, ◌+◌, ◌-◌, ◌<◌, List, [], ◌∷◌, ◌++◌, length, map, drop, None, refl, sym, subst, arith, length-append}
 use Rattle.picky_der_core.specs.declared.error.Asn1DerError.{Asn1DerError}
-use Rattle.picky_der_core.specs.Tree.{Tree, trees}
+use Rattle.picky_der_core.specs.Tree.{ListKind, Tree, trees}
 use Rattle.picky_der_core.specs.Readable.{AreReadable}
-use Rattle.picky_der_core.specs.Encoding.{encodings}
-use Rattle.picky_der_core.specs.Shape.{Shape, IsOf, AreOf, EachIs}
+use Rattle.picky_der_core.specs.Encoding.{encodings, list_tag}
+use Rattle.picky_der_core.specs.Shape.{Shape, IsOf, IsFirst, AreMembersOf, EachIs}
 use Rattle.picky_der_input.specs.State.{State}
-use Rattle.picky_der_input.specs.Steps.{Takes, IsJudged}
+use Rattle.picky_der_input.specs.Steps.{Takes, Fails, IsJudged}
 use Rattle.picky_der_input.specs.Order.{AreInOrder, without_order}
-use Rattle.picky_der_de.specs.Members.{ReadsMember, RefusesMember, members_encoding, StandBefore, ReadsRow, RefusesRow}
-use Rattle.picky_der_de.specs.ArrayLaws.{times}
+use Rattle.picky_der_input.specs.Reading.{Refuses}
+use Rattle.picky_der_input.specs.Ends.{Outer, OpensList, RefusesList}
+use Rattle.picky_der_de.specs.Members.{ReadsMember, RefusesMember, members_encoding, StandUpToEnd, ReadsRow, RefusesRest}
+use Rattle.picky_der_de.specs.ArrayLaws.{times, array_of}
 use Rattle.picky_der_input.proofs.Steps.{takes_none, takes_then}
-use Rattle.picky_der_input.proofs.Order.{fails_behind, judged_behind}
-use Rattle.picky_der_de.proofs.Members.{members_encoding-none, takes_member, member_not_implicit, next_order, next_member, no_member}
+use Rattle.picky_der_de.proofs.MemberReads.{members_encoding-none, takes_member, member_not_implicit, none_left}
+use Rattle.picky_der_de.proofs.Rests.{FirstIsUnread, unread_first, IsAhead, Follow, rest_head, rest_after, rest_unopened, rest_refused}
 use Rattle.picky_der_de.proofs.ListReads.{members_encoding-push, each-push, readable-push, LeadOn, leads-none, leads-push, leads-all}
 
 -- ---- refused
 
--- the values of a list, as members
+-- so many values of a list, as members
 abbrev pub RefusesTimes : {V : Type 0} → (V → Tree) → ℕ → Shape → State → State → Asn1DerError → Type 0
-RefusesTimes meaning n s old new e = RefusesRow (λ vs. trees (map meaning vs)) (times n s) old new e
+RefusesTimes meaning n s = RefusesRest (λ vs. AreMembersOf (times n s) (trees (map meaning vs))) (λ vs. trees (map meaning vs))
+
+-- something is left
+pub times_left : {V : Type 0} (meaning : V → Tree) (s : Shape) {c d : State} {e : Asn1DerError} → Fails c d e → 0 < c.until_end → RefusesTimes meaning zero s c d e
+times_left {V} meaning s {c} {d} {e} f left = record { fails = f; none = none }
+  where
+    none : IsJudged c d e → (vs : List V) → AreMembersOf (times zero s) (trees (map meaning vs)) → AreReadable (trees (map meaning vs)) → AreInOrder c.sets (encodings (trees (map meaning vs))) → StandUpToEnd c d e (members_encoding (trees (map meaning vs))) → ⊥
+    none j [] of_shape readable order w = none_left left w
+    none j (v ∷ vs) of_shape readable order w = of_shape
 
 -- the next member was refused
 pub times_refused : {V : Type 0} {meaning : V → Tree} {s : Shape} {c d : State} {e : Asn1DerError} (n : ℕ) → RefusesMember meaning s c d e → RefusesTimes meaning (suc n) s c d e
-times_refused {V} {meaning} {s} {c} {d} {e} n r = record { fails = r.fails; none = none }
+times_refused {V} {meaning} {s} {c} n = rest_head unread
   where
-    none : IsJudged c d e → (vs : List V) → AreOf (times (suc n) s) (trees (map meaning vs)) → AreReadable (trees (map meaning vs)) → AreInOrder c.sets (encodings (trees (map meaning vs))) → StandBefore c d e (members_encoding (trees (map meaning vs))) → ⊥
-    none j [] of_shape readable order w = of_shape
-    none j (v ∷ vs) of_shape readable order w = no_member v (trees (map meaning vs)) r j of_shape.0 readable.0 order w
+    unread : (vs : List V) → AreMembersOf (times (suc n) s) (trees (map meaning vs)) → AreReadable (trees (map meaning vs)) → FirstIsUnread meaning s (IsAhead c) (trees (map meaning vs))
+    unread [] p readable = absurd p
+    unread (v ∷ vs) p readable = unread_first v p.0 readable.0
 
--- a member was read, and those behind it were refused
+-- a member was read, and those after it were refused
 pub times_next : {V : Type 0} {meaning : V → Tree} {s : Shape} {b c d : State} {t : Tree} {e : Asn1DerError} (n : ℕ) → ReadsMember s b c t → RefusesTimes meaning n s c d e → RefusesTimes meaning (suc n) s b d e
-times_next {V} {meaning} {s} {b} {c} {d} {t} {e} n r h = record { fails = fails_behind (takes_member r) h.fails; none = none }
+times_next {V} {meaning} {s} n = rest_after (drop 1) follow
   where
-    none : IsJudged b d e → (vs : List V) → AreOf (times (suc n) s) (trees (map meaning vs)) → AreReadable (trees (map meaning vs)) → AreInOrder b.sets (encodings (trees (map meaning vs))) → StandBefore b d e (members_encoding (trees (map meaning vs))) → ⊥
-    none j [] of_shape readable order w = of_shape
-    none j (v ∷ vs) of_shape readable order w =
-        let us = trees (map meaning vs) in
-        h.none (judged_behind (takes_member r) j) vs of_shape.1 readable.1 (next_order (meaning v) us readable.0 r h.fails w order) (next_member (meaning v) us readable.0 r h.fails w)
+    follow : (vs : List V) → AreMembersOf (times (suc n) s) (trees (map meaning vs)) → Follow (AreMembersOf (times n s) (trees (map meaning (drop 1 vs)))) (trees (map meaning (drop 1 vs))) (trees (map meaning vs))
+    follow [] p = absurd p
+    follow (v ∷ vs) p = (p.1, refl)
 
 -- ---- members so far
 
@@ -69,13 +77,13 @@ first_more meaning s {a} {b} {c} vs v h r = record {
   refuses = λ n d e w. subst (λ m. RefusesTimes meaning m s a d e) (omega (arith, length-append vs (v ∷ []))) (h.refuses (suc n) d e (times_next n r w));
 }
 
-each_times : {V : Type 0} (meaning : V → Tree) (s : Shape) (vs : List V) → EachIs (IsOf s) (trees (map meaning vs)) → AreOf (times (length vs) s) (trees (map meaning vs))
+each_times : {V : Type 0} (meaning : V → Tree) (s : Shape) (vs : List V) → EachIs (IsOf s) (trees (map meaning vs)) → AreMembersOf (times (length vs) s) (trees (map meaning vs))
 each_times meaning s [] h = tt
 each_times meaning s (v ∷ vs) h = (h.0, each_times meaning s vs h.1)
 
 pub first_all : {V : Type 0} (meaning : V → Tree) (s : Shape) {a b : State} (n : ℕ) (vs : List V) → length vs ≡ n → ReadsFirst meaning s a b vs → ReadsRow (times n s) a b (trees (map meaning vs))
 first_all meaning s {a} {b} n vs same h = record {
-  of_shape = subst (λ m. AreOf (times m s) (trees (map meaning vs))) same (each_times meaning s vs h.of_shape);
+  of_shape = subst (λ m. AreMembersOf (times m s) (trees (map meaning vs))) same (each_times meaning s vs h.of_shape);
   readable = h.readable;
   order = leads-all meaning a b vs h.leads;
   takes = h.takes;
@@ -85,3 +93,17 @@ first_all meaning s {a} {b} n vs same h = record {
 -- the next member was refused
 pub first_refused : {V : Type 0} {meaning : V → Tree} {s : Shape} {a b d : State} {e : Asn1DerError} (n : ℕ) (vs : List V) → ReadsFirst meaning s a b vs → length vs < n → RefusesMember meaning s b d e → RefusesTimes meaning n s a d e
 first_refused {V} {meaning} {s} {a} {b} {d} {e} n vs h l r = subst (λ m. RefusesTimes meaning m s a d e) (omega arith) (h.refuses (suc (n - suc (length vs))) d e (times_refused (n - suc (length vs)) r))
+
+-- all were read, and something is left after them
+pub first_left : {V : Type 0} {meaning : V → Tree} {s : Shape} {a b d : State} {e : Asn1DerError} (n : ℕ) (vs : List V) → length vs ≡ n → ReadsFirst meaning s a b vs → Fails b d e → 0 < b.until_end → RefusesTimes meaning n s a d e
+first_left {V} {meaning} {s} {a} {b} {d} {e} n vs same h f left = subst (λ m. RefusesTimes meaning m s a d e) (omega arith) (h.refuses zero d e (times_left meaning s f left))
+
+array_first : (n : ℕ) (s : Shape) → IsFirst (array_of n s) (list_tag ListKind.sequence)
+array_first n s = refl
+
+module _ {V : Type 0} (meaning : V → Tree) (n : ℕ) (s : Shape) {a : State} where
+  pub array_unopened : {c : State} {e : Asn1DerError} → RefusesList 0x30 a c e → Refuses (λ vs. Tree.list ListKind.sequence (trees (map meaning vs))) (array_of n s) a c e
+  array_unopened h = rest_unopened {kind = ListKind.sequence} (array_first n s) h
+
+  pub array_refused : {b c : State} {outer : Outer} {e : Asn1DerError} → OpensList 0x30 a b outer → RefusesTimes meaning n s b c e → Refuses (λ vs. Tree.list ListKind.sequence (trees (map meaning vs))) (array_of n s) a c e
+  array_refused o r = rest_refused {kind = ListKind.sequence} (array_first n s) (λ v of_shape. of_shape.1) o r

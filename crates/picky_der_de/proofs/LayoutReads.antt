@@ -25,9 +25,10 @@ use Rattle.picky_der_de.specs.LayoutLaws.{IsThere, IsComponent, AreComponents, f
 use Rattle.picky_der_input.proofs.Steps.{takes_none, takes_then}
 use Rattle.picky_der_input.proofs.Order.{fails_behind, judged_behind}
 use Rattle.picky_der_input.proofs.Refusals.{missing_here}
+use Rattle.picky_der_de.proofs.Rests.{FirstIsUnread, IsAhead, Follow, unread_first, rest_head, rest_after}
 use Rattle.picky_der_de.proofs.Peeked.{peeks_takes, peeks_fails, peeks_judged, peeks_concerns, peeks_front}
-use Rattle.picky_der_de.proofs.Members.{members_encoding-more, members_encoding-none, no_members_in_order, takes_member, member_ahead, members_lead, next_order, next_up_to_end, none_left, list_refused, list_unopened, list_reads}
-use Rattle.picky_der_de.proofs.Members.{no_member as no_value_there, same_member}
+use Rattle.picky_der_de.proofs.MemberReads.{members_encoding-more, members_encoding-none, no_members_in_order, takes_member, member_ahead, members_lead, next_order, next_up_to_end, none_left, list_refused, list_unopened, list_reads}
+use Rattle.picky_der_de.proofs.MemberReads.{no_member as no_value_there, same_member}
 
 -- ---- looks
 
@@ -160,23 +161,19 @@ layout_none {b} d = record {
 -- ---- a member that is always there
 
 module _ {V W : Type 0} (meaning : W → Tree) {s : Shape} {l : Layout} (item : V → Option W) (there : (v : V) → IfNone (item v) ⊥) where
-  -- refused, whatever is there and whatever is behind it
-  always_refused : (others : V → Trees) {b d : State} {e : Asn1DerError} → Fails b d e
-      → (AreMembersTold l → IsJudged b d e → (v : V) (w : W) → IsOf s (meaning w) → AreMembersOf l (others v) → IsReadable (meaning w) → AreReadable (others v) → AreInOrder b.sets (encodings (Trees.more (meaning w) (others v))) → StandUpToEnd b d e (members_encoding (Trees.more (meaning w) (others v))) → ⊥)
-      → RefusesLayout (λ v. maybe_more meaning (item v) (others v)) (Layout.required s l) b d e
-  always_refused others {b} {d} {e} fails none = record { fails = fails; none = λ told j v. by_option told j v (item v) (there v) }
-    where
-      by_option : AreMembersTold l → IsJudged b d e → (v : V) (o : Option W) → IfNone o ⊥ → AreMembersOf (Layout.required s l) (maybe_more meaning o (others v)) → AreReadable (maybe_more meaning o (others v)) → AreInOrder b.sets (encodings (maybe_more meaning o (others v))) → StandUpToEnd b d e (members_encoding (maybe_more meaning o (others v))) → ⊥
-      by_option told j v None t are readable order w = t
-      by_option told j v (Some x) t are readable order w = none told j v x are.0 are.1 readable.0 readable.1 order w
-
   required_head : (others : V → Trees) {c d : State} {e : Asn1DerError} → RefusesMember meaning s c d e → RefusesLayout (λ v. maybe_more meaning (item v) (others v)) (Layout.required s l) c d e
-  required_head others r = always_refused others r.fails (λ told j v x of_shape are readable behind order w. no_value_there x (others v) r j of_shape readable order w.stand)
+  required_head others {c} r = record { rest = rest_head (λ v p. unread v (item v) (there v) p.1) r }
+    where
+      unread : (v : V) (o : Option W) → IfNone o ⊥ → AreMembersOf (Layout.required s l) (maybe_more meaning o (others v)) → AreReadable (maybe_more meaning o (others v)) → FirstIsUnread meaning s (IsAhead c) (maybe_more meaning o (others v))
+      unread v None t are readable = absurd t
+      unread v (Some w) t are readable = unread_first w are.0 readable.0
 
   required_next : {U : Type 0} (others : U → Trees) (rest : V → U) {b c d : State} {t : Tree} {e : Asn1DerError} → ReadsMember s b c t → RefusesLayout others l c d e → RefusesLayout (λ v. maybe_more meaning (item v) (others (rest v))) (Layout.required s l) b d e
-  required_next others rest r h = always_refused (λ v. others (rest v)) (fails_behind (takes_member r) h.fails)
-      (λ told j v x of_shape are readable behind order w.
-      h.none told (judged_behind (takes_member r) j) (rest v) are behind (next_order (meaning x) (others (rest v)) readable r h.fails w.stand order) (next_up_to_end (meaning x) (others (rest v)) readable r h.fails w))
+  required_next others rest r h = record { rest = rest_after rest (λ v p. follow v (item v) (there v) p.0 p.1) r h.rest }
+    where
+      follow : (v : V) (o : Option W) → IfNone o ⊥ → AreMembersTold l → AreMembersOf (Layout.required s l) (maybe_more meaning o (others (rest v))) → Follow (AreMembersTold l × AreMembersOf l (others (rest v))) (others (rest v)) (maybe_more meaning o (others (rest v)))
+      follow v None t told are = absurd t
+      follow v (Some w) t told are = ((told, are.1), refl)
 
 member_then : {s : Shape} {l : Layout} {a b c d : State} {t : Tree} {ts : Trees} → PeeksAtMost a b → ReadsMember s b c t → ReadsLayout l c d ts → Passes a d (members_encoding (Trees.more t ts))
 member_then {a = a} {c = c} {d = d} {t = t} {ts = ts} q r h =
@@ -222,15 +219,19 @@ module _ {V W U : Type 0} (meaning : W → Tree) (others : U → Trees) (s : Sha
       → (AreMembersTold (Layout.maybe s l) → IsJudged b d e → (u : U) → AreMembersOf l (others u) → AreReadable (others u) → Stand b d e (others u) → ⊥)
       → RefusesLayout (λ v. maybe_more meaning (part v) (others (rest v))) (Layout.maybe s l) b d e
   refused_by {b} {d} {e} fails f g = record {
-    fails = fails;
-    none = λ told j v are readable order w. by_option (Stand b d e) told (f told j) (g told j) (part v) (rest v) are readable (order, w);
+    rest = record {
+      fails = fails;
+      none = λ j v p readable order w. by_option (Stand b d e) p.0 (f p.0 j) (g p.0 j) (part v) (rest v) p.1 readable (order, w);
+    };
   }
 
   -- no tag was there, or the member was refused
   maybe_head : {b d : State} {e : Asn1DerError} → b.implicit_tag ≡ None → RefusesOptional meaning s b d e → RefusesLayout (λ v. maybe_more meaning (part v) (others (rest v))) (Layout.maybe s l) b d e
   maybe_head {b} {d} {e} whole (no_tag h ahead) = record {
-    fails = h.refuses.fails;
-    none = λ told j v are readable order w. no_bytes (ahead j.had_not_failed) w (missing_here (h.missing j).1 w.stand.concerns);
+    rest = record {
+      fails = h.refuses.fails;
+      none = λ j v p readable order w. no_bytes (ahead j.had_not_failed) w (missing_here (h.missing j).1 w.stand.concerns);
+    };
   } where
     no_bytes : {bytes : List ℕ} → 0 < b.until_end → (w : StandUpToEnd b d e bytes) → (b.until_end ≡ 0) ⊎ (w.stand.seen ≡ []) → ⊥
     no_bytes ahead w (inl z) = omega (arith, ahead, z)
@@ -243,10 +244,10 @@ module _ {V W U : Type 0} (meaning : W → Tree) (others : U → Trees) (s : Sha
 
   -- it was read, and those behind it were refused
   there_next : {b c d : State} {t : Tree} {e : Asn1DerError} → ReadsMember s b c t → RefusesLayout others l c d e → RefusesLayout (λ v. maybe_more meaning (part v) (others (rest v))) (Layout.maybe s l) b d e
-  there_next r n = refused_by (fails_behind (takes_member r) n.fails)
+  there_next r n = refused_by (fails_behind (takes_member r) n.rest.fails)
       (λ told j w u o a readable st.
-      n.none told.1 (judged_behind (takes_member r) j) u a readable.1 (next_order (meaning w) (others u) readable.0 r n.fails st.1.stand st.0) (next_up_to_end (meaning w) (others u) readable.0 r n.fails st.1))
-      (λ told j u a readable st. not_absent_read s l (others u) told.0 r n.fails a readable st.1)
+      n.rest.none (judged_behind (takes_member r) j) u (told.1, a) readable.1 (next_order (meaning w) (others u) readable.0 r n.rest.fails st.1.stand st.0) (next_up_to_end (meaning w) (others u) readable.0 r n.rest.fails st.1))
+      (λ told j u a readable st. not_absent_read s l (others u) told.0 r n.rest.fails a readable st.1)
 
 -- it can't be there, and what stands stands behind the look
 record Skips (s : Shape) (b c : State) : Type 0 where
@@ -282,9 +283,9 @@ absent_next : {V W U : Type 0} (meaning : W → Tree) (others : U → Trees) (s 
     → {b c d : State} {e : Asn1DerError} → b.implicit_tag ≡ None → Lacks s b c → RefusesLayout others l c d e → RefusesLayout (λ v. maybe_more meaning (part v) (others (rest v))) (Layout.maybe s l) b d e
 absent_next meaning others s l part rest begins begin {b} {c} {d} {e} whole h n =
     let k : Skips s b c = skips whole h in
-    refused_by meaning others s l part rest begins begin (k.fails d e n.fails)
-    (λ told j w u o a readable st. k.not d e (meaning w) (others u) n.fails o readable.0 st.1)
-    (λ told j u a readable st. n.none told.1 (k.judged d e j) u a readable (subst (λ x. AreInOrder x (encodings (others u))) (sym k.sets) st.0) (k.stands d e (members_encoding (others u)) st.1))
+    refused_by meaning others s l part rest begins begin (k.fails d e n.rest.fails)
+    (λ told j w u o a readable st. k.not d e (meaning w) (others u) n.rest.fails o readable.0 st.1)
+    (λ told j u a readable st. n.rest.none (k.judged d e j) u (told.1, a) readable (subst (λ x. AreInOrder x (encodings (others u))) (sym k.sets) st.0) (k.stands d e (members_encoding (others u)) st.1))
 
 -- it was read, and those behind it
 there_read : {s : Shape} {l : Layout} {b c d : State} {t : Tree} {ts : Trees} → ReadsMember s b c t → ReadsLayout l c d ts → ReadsLayout (Layout.maybe s l) b d (Trees.more t ts)
@@ -353,17 +354,21 @@ module _ {V W U : Type 0} (meaning : W → Tree) (left_out : W → Bool) (others
   default_head : {b d : State} {e : Asn1DerError} → b.implicit_tag ≡ None → RefusesDefault meaning left_out s b d e → RefusesLayout (λ v. maybe_more meaning (item v) (others (rest v))) (Layout.maybe s l) b d e
   default_head whole (as_optional h) = maybe_head meaning others s l item rest begins begin whole h
   default_head whole (written_out c x is r _ f) = record {
-    fails = fails_behind (takes_member r) f;
-    none = λ told j v are readable order w. left_out_found x is r f told (item v) (rest v) (written v) are readable w;
+    rest = record {
+      fails = fails_behind (takes_member r) f;
+      none = λ j v p readable order w. left_out_found x is r f p.0 (item v) (rest v) (written v) p.1 readable w;
+    };
   }
 
 -- ---- a member, always there or not
 
 refuses_alike : {V : Type 0} {members others : V → Trees} {l : Layout} {b d : State} {e : Asn1DerError} → ((v : V) → members v ≡ others v) → RefusesLayout others l b d e → RefusesLayout members l b d e
 refuses_alike {l = l} {b = b} {d = d} {e = e} is h = record {
-  fails = h.fails;
-  none = λ told j v are readable order w.
-      h.none told j v (subst (AreMembersOf l) (is v) are) (subst AreReadable (is v) readable) (subst (λ ts. AreInOrder b.sets (encodings ts)) (is v) order) (subst (λ ts. StandUpToEnd b d e (members_encoding ts)) (is v) w);
+  rest = record {
+    fails = h.rest.fails;
+    none = λ j v p readable order w.
+        h.rest.none j v (p.0, subst (AreMembersOf l) (is v) p.1) (subst AreReadable (is v) readable) (subst (λ ts. AreInOrder b.sets (encodings ts)) (is v) order) (subst (λ ts. StandUpToEnd b d e (members_encoding ts)) (is v) w);
+  };
 }
 
 module _ {W X : Type 0} {presence : Presence} {in_front : X → Trees → Trees} {eq : X → X → Bool} {meaning : W → Tree} {s : Shape} {eq_item : W → W → Bool} {item : X → Option W} {left_out : W → Bool}
@@ -395,7 +400,7 @@ module _ {W X : Type 0} {presence : Presence} {in_front : X → Trees → Trees}
 
 -- ---- the whole list
 
-layout_first : (kind : ListKind) (l : Layout) → IsFirst (Shape.struct_of kind l) (list_tag kind)
+layout_first : (kind : ListKind) (l : Layout) → IsFirst (Shape.fields kind l) (list_tag kind)
 layout_first ListKind.sequence l = refl
 layout_first ListKind.set l = refl
 
@@ -403,23 +408,23 @@ opened_peeks_at_most : (kind : ListKind) {a b : State} {outer : Outer} → Opens
 opened_peeks_at_most kind o = peeks_at_most_here (ap (λ (s : State). s.failed) o.opened ∙ o.begins.takes.not_failed) (ap (λ (s : State). s.peeked) o.opened ∙ o.begins.takes.unpeeked)
 
 -- there is no header
-pub layout_unopened : {V : Type 0} {members : V → Trees} {l : Layout} {kind : ListKind} {a c : State} {e : Asn1DerError} → RefusesList (list_tag kind) a c e → Refuses (λ v. Tree.list kind (members v)) (Shape.struct_of kind l) a c e
-layout_unopened {members = members} {l = l} {kind = kind} h = list_unopened kind members (Shape.struct_of kind l) (layout_first kind l) h
+pub layout_unopened : {V : Type 0} {members : V → Trees} {l : Layout} {kind : ListKind} {a c : State} {e : Asn1DerError} → RefusesList (list_tag kind) a c e → Refuses (λ v. Tree.list kind (members v)) (Shape.fields kind l) a c e
+layout_unopened {members = members} {l = l} {kind = kind} h = list_unopened kind members (Shape.fields kind l) (layout_first kind l) h
 
 -- the members were refused
 pub layout_refused : {V U : Type 0} {members : U → Trees} {l : Layout} {kind : ListKind} {a b c : State} {outer : Outer} {e : Asn1DerError} (part : V → U) → AreMembersTold l → OpensList (list_tag kind) a b outer → RefusesLayout members l b c e
-    → Refuses (λ v. Tree.list kind (members (part v))) (Shape.struct_of kind l) a c e
-layout_refused {members = members} {l = l} {kind = kind} part told o r = list_refused kind (λ v. members (part v)) (Shape.struct_of kind l) (layout_first kind l) o r.fails (λ j v of_shape readable order w. r.none told j (part v) of_shape.1 readable order w)
+    → Refuses (λ v. Tree.list kind (members (part v))) (Shape.fields kind l) a c e
+layout_refused {members = members} {l = l} {kind = kind} part told o r = list_refused kind (λ v. members (part v)) (Shape.fields kind l) (layout_first kind l) o r.rest.fails (λ j v of_shape readable order w. r.rest.none j (part v) (told, of_shape.1) readable order w)
 
 -- something is left behind the members
 pub layout_left : {V : Type 0} {members : V → Trees} {l : Layout} {kind : ListKind} {a b c d : State} {outer : Outer} {ts : Trees} {e : Asn1DerError} → AreMembersTold l → OpensList (list_tag kind) a b outer → ReadsLayout l b c ts → RefusesClose c d e
-    → Refuses (λ v. Tree.list kind (members v)) (Shape.struct_of kind l) a d e
+    → Refuses (λ v. Tree.list kind (members v)) (Shape.fields kind l) a d e
 layout_left {members = members} {l = l} {kind = kind} {b = b} {d = d} {e = e} told o r h =
     let left = h.left (peeks_at_most_not_failed (r.passes b (opened_peeks_at_most kind o)).peeks_at_most) in
-    list_refused kind members (Shape.struct_of kind l) (layout_first kind l) o (r.fails d e h.fails) (λ j v of_shape readable order w. r.full told d e h.fails left.0 (members v) of_shape.1 readable w)
+    list_refused kind members (Shape.fields kind l) (layout_first kind l) o (r.fails d e h.fails) (λ j v of_shape readable order w. r.full told d e h.fails left.0 (members v) of_shape.1 readable w)
 
 -- the members were read, and the list was closed
-pub layout_reads : {l : Layout} {kind : ListKind} {a b c d : State} {outer closed : Outer} {ts : Trees} → OpensList (list_tag kind) a b outer → ReadsLayout l b c ts → Closes closed c d → closed ≡ outer → Reads (Shape.struct_of kind l) a d (Tree.list kind ts)
+pub layout_reads : {l : Layout} {kind : ListKind} {a b c d : State} {outer closed : Outer} {ts : Trees} → OpensList (list_tag kind) a b outer → ReadsLayout l b c ts → Closes closed c d → closed ≡ outer → Reads (Shape.fields kind l) a d (Tree.list kind ts)
 layout_reads {kind = kind} {b = b} {ts = ts} o r k back =
     let q = r.passes b (opened_peeks_at_most kind o) in
     let takes = subst (λ z. Takes (without_order b) (without_order z) (members_encoding ts)) (sym (no_peek_at_end q.peeks_at_most k.reached)) q.takes in

@@ -6,8 +6,7 @@ pub mod Peeked
 pub mod SeenMembers
 pub mod Choices
 pub mod OtherValues
-pub mod Members
-pub mod Rows
+pub mod MemberReads
 pub mod PassedOn
 pub mod Rests
 pub mod LayoutReads

@@ -1,5 +1,5 @@
 -- Lists of values of one type, read and refused.
-use Rattle.std.proofs.Common.{◌≡◌, ◌<◌, ℕ, List, [], ◌∷◌, ◌++◌, map, None, inl, inr, refl, sym, ◌∙◌, ap, subst, arith, append_assoc, append-nil}
+use Rattle.std.proofs.Common.{◌≡◌, ℕ, List, [], ◌∷◌, ◌++◌, map, drop, None, inl, inr, refl, sym, ◌∙◌, ap, subst, arith, append_assoc, append-nil}
 use Rattle.picky_der_core.specs.declared.error.Asn1DerError.{Asn1DerError}
 use Rattle.picky_der_core.specs.declared.error.Asn1DerError.TheVariants.{OutOfMemory}
 use Rattle.picky_der_core.specs.Tag.{number_of, IsTagNumber}
@@ -13,10 +13,11 @@ use Rattle.picky_der_input.specs.Steps.{Takes, Fails, IsJudged}
 use Rattle.picky_der_input.specs.Order.{AreInOrder, without_order}
 use Rattle.picky_der_input.specs.Reading.{Reads, Refuses}
 use Rattle.picky_der_input.specs.Ends.{Outer, Closes, RefusesClose, OpensList, RefusesList}
-use Rattle.picky_der_de.specs.Members.{ReadsMember, RefusesMember, HasNoMore, members_encoding, StandBefore, StandUpToEnd, BreaksOrder, RefusesTaken, ReadsAll, RefusesAll}
+use Rattle.picky_der_de.specs.Members.{ReadsMember, RefusesMember, HasNoMore, members_encoding, StandBefore, BreaksOrder, RefusesTaken, ReadsAll, RefusesAll}
+use Rattle.picky_der_de.proofs.Rests.{FirstIsUnread, nothing, unread_first, IsAhead, Follow, rest_head, rest_after}
 use Rattle.picky_der_input.proofs.Steps.{takes_none, takes_then}
-use Rattle.picky_der_input.proofs.Order.{fails_behind, judged_behind, order_none}
-use Rattle.picky_der_de.proofs.Members.{members_encoding-more, members_encoding-none, takes_member, member_not_implicit, member_leads, member_ahead, next_order, next_member, next_up_to_end, same_member, order_ahead, order_behind, no_members_in_order, no_member, no_member_in_order, member_refused_less, none_left, list_refused, list_unopened, list_reads}
+use Rattle.picky_der_input.proofs.Order.{judged_behind, order_none}
+use Rattle.picky_der_de.proofs.MemberReads.{members_encoding-more, members_encoding-none, takes_member, member_not_implicit, member_leads, next_member, same_member, order_ahead, order_behind, no_members_in_order, no_member_in_order, member_refused_less, list_refused, list_unopened, list_reads}
 
 -- ---- one member more behind others
 
@@ -61,47 +62,45 @@ leads-all meaning a b vs h = subst (AreInOrder a.sets) (append-nil (encodings (t
 -- ---- refused
 
 -- the next member was refused
-pub all_refused : {V : Type 0} {meaning : V → Tree} {s : Shape} {c d : State} {e : Asn1DerError} → RefusesMember meaning s c d e → (c.failed ≡ None → 0 < c.until_end) → RefusesAll meaning s c d e
-all_refused {V} {meaning} {s} {c} {d} {e} r ahead = record { fails = r.fails; lesser = lesser; none = none }
+pub all_refused : {V : Type 0} {meaning : V → Tree} {s : Shape} {c d : State} {e : Asn1DerError} → RefusesMember meaning s c d e → IsAhead c → RefusesAll meaning s c d e
+all_refused {V} {meaning} {s} {c} {d} {e} r ahead = record { rest = rest_head unread r; lesser = lesser }
   where
+    unread : (vs : List V) → EachIs (IsOf s) (trees (map meaning vs)) → AreReadable (trees (map meaning vs)) → FirstIsUnread meaning s (IsAhead c) (trees (map meaning vs))
+    unread [] p readable = nothing ahead
+    unread (v ∷ vs) p readable = unread_first v p.0 readable.0
+
     lesser : IsJudged c d e → (vs : List V) (v : V) → BreaksOrder meaning s (AreInOrder c.sets) vs v → StandBefore c d e (members_encoding (trees (map meaning (vs ++ v ∷ [])))) → RefusesTaken c d e (members_encoding (trees (map meaning (vs ++ v ∷ []))))
     lesser j [] v h w = subst (RefusesTaken c d e) (sym (members_encoding-one (meaning v))) (member_refused_less v Trees.none r j h.of_shape.0 h.readable.0 w).taken
     lesser j (u ∷ us) v h w = absurd (no_member_in_order u (trees (map meaning (us ++ v ∷ []))) (trees (map meaning us)) r j h.of_shape.0 h.readable.0 h.in_order w)
 
-    none : IsJudged c d e → (vs : List V) → EachIs (IsOf s) (trees (map meaning vs)) → AreReadable (trees (map meaning vs)) → AreInOrder c.sets (encodings (trees (map meaning vs))) → StandUpToEnd c d e (members_encoding (trees (map meaning vs))) → ⊥
-    none j [] of_shape readable order w = none_left (ahead j.had_not_failed) w
-    none j (v ∷ vs) of_shape readable order w = no_member v (trees (map meaning vs)) r j of_shape.0 readable.0 order w.stand
-
--- a member was read, and those behind it were refused
+-- a member was read, and those after it were refused
 pub all_next : {V : Type 0} {meaning : V → Tree} {s : Shape} {b c d : State} {t : Tree} {e : Asn1DerError} → ReadsMember s b c t → RefusesAll meaning s c d e → RefusesAll meaning s b d e
-all_next {V} {meaning} {s} {b} {c} {d} {t} {e} r h = record { fails = fails_behind (takes_member r) h.fails; lesser = lesser; none = none }
+all_next {V} {meaning} {s} {b} {c} {d} {t} {e} r h = record { rest = rest_after (drop 1) follow r h.rest; lesser = lesser }
   where
+    follow : (vs : List V) → EachIs (IsOf s) (trees (map meaning vs)) → Follow (EachIs (IsOf s) (trees (map meaning (drop 1 vs)))) (trees (map meaning (drop 1 vs))) (trees (map meaning vs))
+    follow [] p = tt
+    follow (v ∷ vs) p = (p.1, refl)
+
     lesser : IsJudged b d e → (vs : List V) (v : V) → BreaksOrder meaning s (AreInOrder b.sets) vs v → StandBefore b d e (members_encoding (trees (map meaning (vs ++ v ∷ [])))) → RefusesTaken b d e (members_encoding (trees (map meaning (vs ++ v ∷ []))))
     lesser j [] v k w =
-        let same = (same_member (meaning v) Trees.none k.readable.0 r h.fails w).0 in
+        let same = (same_member (meaning v) Trees.none k.readable.0 r h.rest.fails w).0 in
         absurd (k.broken (order_ahead (meaning v) Trees.none same r (no_members_in_order c.sets)))
     lesser j (u ∷ us) v k w =
         let others = trees (map meaning (us ++ v ∷ [])) in
-        let same = (same_member (meaning u) others k.readable.0 r h.fails w).0 in
+        let same = (same_member (meaning u) others k.readable.0 r h.rest.fails w).0 in
         let rest : BreaksOrder meaning s (AreInOrder c.sets) us v = record {
           of_shape = k.of_shape.1;
           readable = k.readable.1;
           in_order = order_behind (meaning u) (trees (map meaning us)) same r k.in_order;
           broken = λ o. k.broken (order_ahead (meaning u) others same r o);
         } in
-        let q = h.lesser (judged_behind (takes_member r) j) us v rest (next_member (meaning u) others k.readable.0 r h.fails w) in
+        let q = h.lesser (judged_behind (takes_member r) j) us v rest (next_member (meaning u) others k.readable.0 r h.rest.fails w) in
         let parts : members_encoding (Trees.more (meaning u) others) ≡ der t ++ members_encoding others = members_encoding-more (meaning u) others ∙ ap (λ x. x ++ members_encoding others) same in
         record { mid = q.mid; takes = subst (Takes (without_order b) (without_order q.mid)) (sym parts) (takes_then (takes_member r) q.takes); error = q.error; same = q.same }
 
-    none : IsJudged b d e → (vs : List V) → EachIs (IsOf s) (trees (map meaning vs)) → AreReadable (trees (map meaning vs)) → AreInOrder b.sets (encodings (trees (map meaning vs))) → StandUpToEnd b d e (members_encoding (trees (map meaning vs))) → ⊥
-    none j [] of_shape readable order w = none_left (member_ahead r) w
-    none j (v ∷ vs) of_shape readable order w =
-        let us = trees (map meaning vs) in
-        h.none (judged_behind (takes_member r) j) vs of_shape.1 readable.1 (next_order (meaning v) us readable.0 r h.fails w.stand order) (next_up_to_end (meaning v) us readable.0 r h.fails w)
-
 -- memory was wanted
 pub all_for_memory : {V : Type 0} {meaning : V → Tree} {s : Shape} {c d : State} {e : Asn1DerError} → Fails c d e → e ≡ OutOfMemory → RefusesAll meaning s c d e
-all_for_memory f is = record { fails = f; lesser = λ j. absurd (j.memory is); none = λ j. absurd (j.memory is) }
+all_for_memory f is = record { rest = record { fails = f; none = λ j. absurd (j.memory is) }; lesser = λ j. absurd (j.memory is) }
 
 -- ---- members so far
 
@@ -160,14 +159,13 @@ list_numbered (inr is) = rw is (omega arith)
 module _ {V W : Type 0} (meaning : W → Tree) (s : Shape) {tag : ℕ} (is : IsListTag tag) (items : V → List W) {a : State} where
   -- there is no header
   pub list_of_unopened : {c : State} {e : Asn1DerError} → RefusesList tag a c e → Refuses (λ v. Tree.list (list_kind tag) (trees (map meaning (items v)))) (Shape.list_of (list_kind tag) s) a c e
-  list_of_unopened {c} {e} h =
-      list_unopened (list_kind tag) (λ v. trees (map meaning (items v))) (Shape.list_of (list_kind tag) s) (list_first (list_kind tag) s) (subst (λ t. RefusesList t a c e) (sym (list_tagged is)) h)
+  list_of_unopened {c} {e} h = list_unopened (list_kind tag) (λ v. trees (map meaning (items v))) (Shape.list_of (list_kind tag) s) (list_first (list_kind tag) s) (subst (λ t. RefusesList t a c e) (sym (list_tagged is)) h)
 
   -- a member was refused
   pub list_of_refused : {b c : State} {outer : Outer} {e : Asn1DerError} → OpensList tag a b outer → RefusesAll meaning s b c e → Refuses (λ v. Tree.list (list_kind tag) (trees (map meaning (items v)))) (Shape.list_of (list_kind tag) s) a c e
   list_of_refused {b} {outer = outer} h r =
-      list_refused (list_kind tag) (λ v. trees (map meaning (items v))) (Shape.list_of (list_kind tag) s) (list_first (list_kind tag) s) (subst (λ t. OpensList t a b outer) (sym (list_tagged is)) h) r.fails
-      (λ j v of_shape readable order w. r.none j (items v) of_shape.1 readable order w)
+      list_refused (list_kind tag) (λ v. trees (map meaning (items v))) (Shape.list_of (list_kind tag) s) (list_first (list_kind tag) s) (subst (λ t. OpensList t a b outer) (sym (list_tagged is)) h) r.rest.fails
+      (λ j v of_shape readable order w. r.rest.none j (items v) of_shape.1 readable order w)
 
 -- nothing is left behind the last member
 pub all_closed : {V : Type 0} {meaning : V → Tree} {s : Shape} {b c d : State} {vs : List V} {e : Asn1DerError} → ReadsAll meaning s b c vs → RefusesClose c d e → ⊥

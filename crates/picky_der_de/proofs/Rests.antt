@@ -1,31 +1,28 @@
--- The rest of a sequence's members, from one member on up to its end: for types whose values don't all have as many members.
+-- Members from one on up to the end of their list, read and refused: those of rows, lists, arrays and layouts, and of types whose values
+-- don't all have as many.
 -- Each call gives one record, and one lemma takes it.
-use Rattle.std.proofs.Common.{◌≡◌, ◌<◌, ◌∷◌, ◌++◌, None, sym, ◌∙◌, ap, subst, arith}
+use Rattle.std.specs.Prelude.{⊤}
+use Rattle.std.proofs.Common.{◌≡◌, ◌<◌, ◌∷◌, ◌++◌, None, refl, sym, ◌∙◌, ap, subst, arith}
 use Rattle.picky_der_core.specs.declared.error.Asn1DerError.{Asn1DerError}
 use Rattle.picky_der_core.specs.Tree.{ListKind, Tree, Trees}
 use Rattle.picky_der_core.specs.Encoding.{tree_bytes, der, encodings, list_tag}
 use Rattle.picky_der_core.specs.Readable.{IsReadable, AreReadable}
-use Rattle.picky_der_core.specs.Shape.{Shape, Shapes, IsOf, IsFirst}
+use Rattle.picky_der_core.specs.Shape.{Shape, Layout, IsOf, IsFirst}
 use Rattle.picky_der_core.specs.Reading.{written_at, MayStand}
 use Rattle.picky_der_input.specs.State.{State}
-use Rattle.picky_der_input.specs.Steps.{Takes, Fails, IsJudged, place_in}
-use Rattle.picky_der_input.specs.Order.{AreInOrder, Follows}
+use Rattle.picky_der_input.specs.Steps.{Takes, IsJudged, place_in}
+use Rattle.picky_der_input.specs.Order.{AreInOrder, Follows, without_order}
 use Rattle.picky_der_input.specs.Reading.{Reads, Refuses}
-use Rattle.picky_der_input.specs.Ends.{Outer, RefusesClose, OpensList, RefusesList}
-use Rattle.picky_der_de.specs.Members.{ReadsMember, RefusesMember, HasNoMore, members_encoding, StandUpToEnd, ReadsRow}
+use Rattle.picky_der_input.specs.Ends.{Outer, Closes, RefusesClose, OpensList, RefusesList}
+use Rattle.picky_der_de.specs.Members.{ReadsMember, RefusesMember, HasNoMore, members_encoding, StandUpToEnd, RefusesRest, ReadsRow}
+use Rattle.picky_der_input.proofs.Steps.{takes_none, takes_then}
 use Rattle.picky_der_input.proofs.Order.{fails_behind, judged_behind}
-use Rattle.picky_der_de.proofs.Members.{members_encoding-more, takes_member, member_not_implicit, member_ahead, next_order, next_up_to_end, no_member, none_left, list_refused, list_unopened}
-use Rattle.picky_der_de.proofs.Rows.{row_none, row_read}
+use Rattle.picky_der_de.proofs.MemberReads.{members_encoding-more, members_encoding-none, no_members_in_order, takes_member, members_lead, member_not_implicit, member_ahead, next_order, next_up_to_end, no_member, none_left, list_refused, list_unopened, list_reads}
 
 -- the members behind the first one
 abbrev pub behind_first : Trees → Trees
 behind_first Trees.none = Trees.none
 behind_first (Trees.more t ts) = ts
-
--- no value of which P holds stands there by its members, which would be all up to the end
-pub record RefusesRest {V : Type 0} (P : V → Type 0) (members : V → Trees) (old new : State) (e : Asn1DerError) : Type 0 where
-  pub fails : Fails old new e
-  pub none : IsJudged old new e → (v : V) → P v → AreReadable (members v) → AreInOrder old.sets (encodings (members v)) → StandUpToEnd old new e (members_encoding (members v)) → ⊥
 
 -- ---- refused
 
@@ -34,6 +31,9 @@ pub record RefusesRest {V : Type 0} (P : V → Type 0) (members : V → Trees) (
 pub data FirstIsUnread {W : Type 0} (meaning : W → Tree) (s : Shape) (Ahead : Type 0) : Trees → Type 0 where
   nothing : Ahead → FirstIsUnread meaning s Ahead Trees.none
   first : (w : W) (t : Tree) (ts : Trees) → IsOf s (meaning w) → IsReadable (meaning w) → der t ≡ der (meaning w) → FirstIsUnread meaning s Ahead (Trees.more t ts)
+
+pub unread_first : {W : Type 0} {meaning : W → Tree} {s : Shape} {Ahead : Type 0} (w : W) {ts : Trees} → IsOf s (meaning w) → IsReadable (meaning w) → FirstIsUnread meaning s Ahead (Trees.more (meaning w) ts)
+unread_first {meaning = meaning} w {ts} of_shape readable = first w (meaning w) ts of_shape readable refl
 
 -- something is left, unless the deserializer had failed
 abbrev pub IsAhead : State → Type 0
@@ -60,28 +60,35 @@ first_refused {meaning = meaning} {c = c} {d = d} {e = e} ts r j (first v t us o
     let as_value = members_encoding-more t us ∙ ap (λ x. x ++ members_encoding us) same ∙ sym (members_encoding-more (meaning v) us) in
     no_member v us r j of_shape readable (subst (AreInOrder c.sets) (encodings-as t (meaning v) us same) order) (subst (StandUpToEnd c d e) as_value w).stand
 
-behind_refused : {s : Shape} {b c d : State} {t : Tree} {e : Asn1DerError} (ts : Trees) → ReadsMember s b c t → Fails c d e → AreReadable ts → StandUpToEnd b d e (members_encoding ts) → StandUpToEnd c d e (members_encoding (behind_first ts))
-behind_refused Trees.none r f readable w = absurd (none_left (member_ahead r) w)
-behind_refused (Trees.more u us) r f readable w = next_up_to_end u us readable.0 r f w
+-- these members follow a first one, and so it holds of them, unless there are none
+abbrev pub Follow : Type 0 → Trees → Trees → Type 0
+Follow Holds others Trees.none = ⊤
+Follow Holds others (Trees.more t ts) = Holds × (ts ≡ others)
 
-behind_in_order : {s : Shape} {b c d : State} {t : Tree} {e : Asn1DerError} (ts : Trees) → ReadsMember s b c t → Fails c d e → AreReadable ts → StandUpToEnd b d e (members_encoding ts) → AreInOrder b.sets (encodings ts) → AreInOrder c.sets (encodings (behind_first ts))
-behind_in_order Trees.none r f readable w order = absurd (none_left (member_ahead r) w)
-behind_in_order (Trees.more u us) r f readable w order = next_order u us readable.0 r f w.stand order
+follow_first : (Holds : Type 0) (ts : Trees) → Holds → Follow Holds (behind_first ts) ts
+follow_first Holds Trees.none h = tt
+follow_first Holds (Trees.more t ts) h = (h, refl)
 
 module _ {V : Type 0} {P : V → Type 0} {members : V → Trees} where
   -- the next member was refused
   pub rest_head : {W : Type 0} {meaning : W → Tree} {s : Shape} {c d : State} {e : Asn1DerError} → ((v : V) → P v → AreReadable (members v) → FirstIsUnread meaning s (IsAhead c) (members v)) → RefusesMember meaning s c d e → RefusesRest P members c d e
   rest_head unread r = record { fails = r.fails; none = λ j v p readable order w. first_refused (members v) r j (unread v p readable) order w }
 
-  -- a member was read, and those behind it were refused
-  pub rest_next : {s : Shape} {b c d : State} {t : Tree} {e : Asn1DerError} → ReadsMember s b c t → RefusesRest P (λ v. behind_first (members v)) c d e → RefusesRest P members b d e
-  rest_next r h = record {
+  -- a member was read, and those after it were refused
+  pub rest_after : {U : Type 0} {Q : U → Type 0} {others : U → Trees} (part : V → U) {s : Shape} {b c d : State} {t : Tree} {e : Asn1DerError} → ((v : V) → P v → Follow (Q (part v)) (others (part v)) (members v)) → ReadsMember s b c t → RefusesRest Q others c d e → RefusesRest P members b d e
+  rest_after {U} {Q} {others} part {s} {b} {c} {d} {t} {e} follow r h = record {
     fails = fails_behind (takes_member r) h.fails;
-    none = λ j v p readable order w. h.none (judged_behind (takes_member r) j) v p (readable_behind (members v) readable) (behind_in_order (members v) r h.fails readable w order) (behind_refused (members v) r h.fails readable w);
+    none = λ j v p. none j (part v) (members v) (follow v p);
   } where
-    readable_behind : (ts : Trees) → AreReadable ts → AreReadable (behind_first ts)
-    readable_behind Trees.none q = tt
-    readable_behind (Trees.more u us) q = q.1
+    none : IsJudged b d e → (u : U) (ts : Trees) → Follow (Q u) (others u) ts → AreReadable ts → AreInOrder b.sets (encodings ts) → StandUpToEnd b d e (members_encoding ts) → ⊥
+    none j u Trees.none f readable order w = none_left (member_ahead r) w
+    none j u (Trees.more x xs) f readable order w =
+        h.none (judged_behind (takes_member r) j) u f.0 (subst AreReadable f.1 readable.1)
+        (subst (λ ts. AreInOrder c.sets (encodings ts)) f.1 (next_order x xs readable.0 r h.fails w.stand order))
+        (subst (λ ts. StandUpToEnd c d e (members_encoding ts)) f.1 (next_up_to_end x xs readable.0 r h.fails w))
+
+  pub rest_next : {s : Shape} {b c d : State} {t : Tree} {e : Asn1DerError} → ReadsMember s b c t → RefusesRest P (λ v. behind_first (members v)) c d e → RefusesRest P members b d e
+  rest_next r h = rest_after (λ v. v) (λ v p. follow_first (P v) (members v) p) r h
 
   -- a member was read which is the last one of all values, and something is left behind it
   pub rest_left : {s : Shape} {b c d : State} {t : Tree} {e : Asn1DerError} → ((v : V) → behind_first (members v) ≡ Trees.none) → ReadsMember s b c t → RefusesClose c d e → RefusesRest P members b d e
@@ -111,13 +118,37 @@ member_as {b = b} {c = c} {t = t} u of_shape readable same r = record {
   follows = subst (λ m. Follows m r.mid c) same r.follows;
 }
 
+-- no member was read
+pub row_none : {c : State} → c.failed ≡ None → c.peeked ≡ None → c.implicit_tag ≡ None → ReadsRow Layout.empty c c Trees.none
+row_none {c = c} f p d = record {
+  of_shape = tt;
+  readable = tt;
+  order = no_members_in_order c.sets;
+  takes = subst (Takes (without_order c) (without_order c)) (sym members_encoding-none) (takes_none (without_order c) f p);
+  implicit_tag = d;
+}
+
+-- a member was read, and those behind it
+pub row_read : {s : Shape} {l : Layout} {b c d : State} {t : Tree} {ts : Trees} → ReadsMember s b c t → ReadsRow l c d ts → ReadsRow (Layout.required s l) b d (Trees.more t ts)
+row_read {b = b} {d = d} {t = t} {ts = ts} r h = record {
+  of_shape = (r.reads.of_shape, h.of_shape);
+  readable = (r.reads.readable, h.readable);
+  order = members_lead ts r h.order;
+  takes = subst (Takes (without_order b) (without_order d)) (sym (members_encoding-more t ts)) (takes_then (takes_member r) h.takes);
+  implicit_tag = h.implicit_tag;
+}
+
+-- the members were read, and the sequence was closed
+pub row_reads : {l : Layout} {kind : ListKind} {a b c d : State} {outer closed : Outer} {ts : Trees} → OpensList (list_tag kind) a b outer → ReadsRow l b c ts → Closes closed c d → closed ≡ outer → Reads (Shape.fields kind l) a d (Tree.list kind ts)
+row_reads {ts = ts} h r k same = list_reads ts h r.order r.takes r.implicit_tag k same (refl, r.of_shape) r.readable
+
 -- a member was read, and it may be the last one
-pub row_last : {s : Shape} {b c : State} {t : Tree} → ReadsMember s b c t → ReadsRow (Shapes.more s Shapes.none) b c (Trees.more t Trees.none)
+pub row_last : {s : Shape} {b c : State} {t : Tree} → ReadsMember s b c t → ReadsRow (Layout.required s Layout.empty) b c (Trees.more t Trees.none)
 row_last r = row_read r (row_none (takes_member r).not_failed (takes_member r).unpeeked (member_not_implicit r))
 
 -- a member was read, and there was no more
-pub row_ended : {s : Shape} {b c d : State} {t : Tree} → ReadsMember s b c t → HasNoMore c d → ReadsRow (Shapes.more s Shapes.none) b d (Trees.more t Trees.none)
-row_ended {s = s} {b = b} {t = t} r n = subst (λ z. ReadsRow (Shapes.more s Shapes.none) b z (Trees.more t Trees.none)) (sym n.same) (row_last r)
+pub row_ended : {s : Shape} {b c d : State} {t : Tree} → ReadsMember s b c t → HasNoMore c d → ReadsRow (Layout.required s Layout.empty) b d (Trees.more t Trees.none)
+row_ended {s = s} {b = b} {t = t} r n = subst (λ z. ReadsRow (Layout.required s Layout.empty) b z (Trees.more t Trees.none)) (sym n.same) (row_last r)
 
 -- what was read is of another shape too
 pub reads_as : {s as_shape : Shape} {a b : State} {t : Tree} → IsOf as_shape t → Reads s a b t → Reads as_shape a b t

@@ -13,7 +13,7 @@ use Rattle.picky_der_input.specs.Reading.{Reads, Refuses}
 use Rattle.picky_der_input.proofs.Order.{concerns_alike, judged_alike, fails_alike}
 use Rattle.picky_der_input.proofs.Refusals.{front_consumed}
 use Rattle.picky_der_de.specs.Members.{ReadsMember, RefusesMember}
-use Rattle.picky_der_de.proofs.Members.{takes_whole, member_unread, member_untested}
+use Rattle.picky_der_de.proofs.MemberReads.{takes_whole, member_unread, member_untested}
 
 with_sets : (c : State) (x : OpenSets) → c.sets ≡ x → c ≡ record c { sets = x }
 with_sets c x e = subst (λ (y : OpenSets). c ≡ record c { sets = y }) e refl

@@ -21,7 +21,7 @@ use Rattle.picky_der_input.proofs.Ends.{judged_with_inner_end}
 use Rattle.picky_der_input.proofs.Headers.{header-read}
 use Rattle.picky_der_input.proofs.Refusals.{front_consumed}
 use Rattle.picky_der_de.specs.Members.{members_encoding, StandBefore, BreaksOrder, RefusesAll, RefusesUnordered}
-use Rattle.picky_der_de.proofs.Members.{opened_in_order, whole_in_order}
+use Rattle.picky_der_de.proofs.MemberReads.{opened_in_order, whole_in_order}
 
 -- the headers at the front of the same bytes are one, and what is behind them too
 same_header : (d : Option ℕ) (n m until_end left : ℕ) (x y : List ℕ) → until_end ≡ length (header_bytes d 0x31 m) + left → IfSome d (λ number. n ≡ until_end) → IfSome d (λ number. m ≡ left)

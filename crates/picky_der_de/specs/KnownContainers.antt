@@ -12,7 +12,7 @@ use Rattle.picky_der_input.specs.Enclosures.{enclose, enclose_shape}
 use Rattle.picky_der_de.specs.Firsts.{option_begun}
 use Rattle.picky_der_de.specs.InjectiveLaws.{option_injective, list_injective, both}
 use Rattle.picky_der_de.specs.EnclosureLaws.{enclosed_injective, enclosed_sound, enclosed_begun}
-use Rattle.picky_der_de.specs.ArrayLaws.{times, times_sound, array_injective}
+use Rattle.picky_der_de.specs.ArrayLaws.{array_of, array_sound, array_injective}
 use Rattle.picky_der_de.specs.Known.{Known, Ties, ties_made}
 
 module _ {A : Type 0} {s : Shape} (a : Known A s) where
@@ -34,12 +34,12 @@ module _ {A : Type 0} {s : Shape} (a : Known A s) where
     begun = λ v b h. h;
   }
 
-  abbrev pub known_array : {V : Type 0} (n : ℕ) (items : V → List A) → Known V (Shape.fields ListKind.sequence (times n s))
+  abbrev pub known_array : {V : Type 0} (n : ℕ) (items : V → List A) → Known V (array_of n s)
   known_array n items = record {
     meaning = λ v. Tree.list ListKind.sequence (trees (map a.meaning (items v)));
     equal = λ x y. pointwise a.equal (items x) (items y);
     injective = λ x y p q r e. array_injective a.meaning s a.equal a.injective n (items x) (items y) p.1 q.1 r.1 e;
-    sound = times_sound n s a.sound;
+    sound = array_sound n s a.sound;
     begun = λ v b h. h;
   }
 

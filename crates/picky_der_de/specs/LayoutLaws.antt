@@ -113,6 +113,19 @@ module _ {W : Type 0} (meaning : W → Tree) (s : Shape) (eq : W → W → Bool)
     sound = sound;
   }
 
+  -- a part of a value
+  pub part_there : {V : Type 0} (part : V → W) → IsComponent always (λ v. Trees.more (meaning (part v))) (λ x y. eq (part x) (part y)) meaning s eq (λ v. Some (part v)) (λ _. false)
+  part_there part = record {
+    stands = λ v ts. refl;
+    there = λ v. tt;
+    written = λ v. refl;
+    equal = λ x y h. h;
+    begins = begins;
+    injective = injective;
+    by_tree = none_by_tree meaning;
+    sound = sound;
+  }
+
   -- a value that may be missing
   pub perhaps_there : {V : Type 0} (item : V → Option W) (eq_member : V → V → Bool) → ((x y : V) → option_eq eq (item x) (item y) ≡ true → eq_member x y ≡ true) → IsComponent perhaps (λ v. maybe_more meaning (item v)) eq_member meaning s eq item (λ _. false)
   perhaps_there {V} item eq_member same = record {

@@ -7,12 +7,12 @@ use Rattle.picky_der_core.specs.Encoding.{encodings}
 use Rattle.picky_der_core.specs.Readable.{AreReadable}
 use Rattle.picky_der_core.specs.Shape.{Shape, Layout, IsFirst, AreMembersOf, AreMembersTold}
 use Rattle.picky_der_input.specs.State.{State}
-use Rattle.picky_der_input.specs.Steps.{Takes, Fails, IsJudged}
+use Rattle.picky_der_input.specs.Steps.{Takes, Fails}
 use Rattle.picky_der_input.specs.Order.{AreInOrder, without_order}
 use Rattle.picky_der_input.specs.Refusing.{FailsAs}
 use Rattle.picky_der_input.specs.LookAhead.{Peeks, Identifies, RefusesIdentifier}
 use Rattle.picky_der_de.specs.Firsts.{IsBegunBy}
-use Rattle.picky_der_de.specs.Members.{ReadsMember, RefusesMember, HasNoMore, members_encoding, StandUpToEnd}
+use Rattle.picky_der_de.specs.Members.{ReadsMember, RefusesMember, HasNoMore, members_encoding, StandUpToEnd, RefusesRest}
 
 -- ---- one member that may be missing
 
@@ -72,10 +72,9 @@ pub record ReadsLayout (l : Layout) (old new : State) (ts : Trees) : Type 0 wher
   pub fails : (last : State) (e : Asn1DerError) → Fails new last e → Fails old last e
   pub full : AreMembersTold l → (last : State) (e : Asn1DerError) → Fails new last e → 0 < new.until_end → (us : Trees) → AreMembersOf l us → AreReadable us → StandUpToEnd old last e (members_encoding us) → ⊥
 
--- no values stand there as members up to the end
+-- no values stand there as members up to the end, where the first byte distinguishes missing members
 pub record RefusesLayout {V : Type 0} (members : V → Trees) (l : Layout) (old new : State) (e : Asn1DerError) : Type 0 where
-  pub fails : Fails old new e
-  pub none : AreMembersTold l → IsJudged old new e → (v : V) → AreMembersOf l (members v) → AreReadable (members v) → AreInOrder old.sets (encodings (members v)) → StandUpToEnd old new e (members_encoding (members v)) → ⊥
+  pub rest : RefusesRest (λ v. AreMembersTold l × AreMembersOf l (members v)) members old new e
 
 -- ---- laws
 

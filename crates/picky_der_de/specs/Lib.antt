@@ -17,9 +17,7 @@ pub mod InjectiveLaws
 pub mod Known
 pub mod KnownChoices
 pub mod KnownContainers
-pub mod KnownLayouts
 pub mod KnownMembers
-pub mod KnownRows
 pub mod LayoutLaws
 pub mod Layouts
 pub mod Lending

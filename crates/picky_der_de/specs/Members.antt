@@ -7,7 +7,7 @@ use Rattle.picky_der_core.specs.Order.{IsAscending}
 use Rattle.picky_der_core.specs.Tree.{Tree, Trees, trees}
 use Rattle.picky_der_core.specs.Encoding.{der, encodings}
 use Rattle.picky_der_core.specs.Readable.{AreReadable}
-use Rattle.picky_der_core.specs.Shape.{Shape, Shapes, IsOf, AreOf, EachIs}
+use Rattle.picky_der_core.specs.Shape.{Shape, Layout, IsOf, AreMembersOf, EachIs}
 use Rattle.picky_der_input.specs.declared.end.End.TheVariants.{Soft}
 use Rattle.picky_der_input.specs.State.{State}
 use Rattle.picky_der_input.specs.Steps.{Takes, Fails, IsJudged, failed_with}
@@ -68,19 +68,18 @@ pub record StandUpToEnd (old new : State) (e : Asn1DerError) (bytes : List ℕ) 
   pub stand : StandBefore old new e bytes
   pub fills : length bytes ≡ old.until_end
 
--- these members were read, one for each shape
-pub record ReadsRow (ss : Shapes) (old new : State) (ts : Trees) : Type 0 where
-  pub of_shape : AreOf ss ts
+-- these members were read, and the one after them wasn't looked at
+pub record ReadsRow (l : Layout) (old new : State) (ts : Trees) : Type 0 where
+  pub of_shape : AreMembersOf l ts
   pub readable : AreReadable ts
   pub order : AreInOrder old.sets (encodings ts)
   pub takes : Takes (without_order old) (without_order new) (members_encoding ts)
   pub implicit_tag : new.implicit_tag ≡ None
 
--- no values stand there as members, whatever is behind them
-pub record RefusesRow {V : Type 0} (members : V → Trees) (ss : Shapes) (old new : State) (e : Asn1DerError) : Type 0 where
+-- no value of which P holds stands there by its members, which would be all up to the end
+pub record RefusesRest {V : Type 0} (P : V → Type 0) (members : V → Trees) (old new : State) (e : Asn1DerError) : Type 0 where
   pub fails : Fails old new e
-  pub none : IsJudged old new e → (v : V) → AreOf ss (members v) → AreReadable (members v) → AreInOrder old.sets (encodings (members v))
-      → StandBefore old new e (members_encoding (members v)) → ⊥
+  pub none : IsJudged old new e → (v : V) → P v → AreReadable (members v) → AreInOrder old.sets (encodings (members v)) → StandUpToEnd old new e (members_encoding (members v)) → ⊥
 
 -- all members up to the end were read
 pub record ReadsAll {V : Type 0} (meaning : V → Tree) (s : Shape) (old new : State) (vs : List V) : Type 0 where
@@ -108,11 +107,9 @@ pub record RefusesTaken (old new : State) (e : Asn1DerError) (bytes : List ℕ) 
 -- No values stand there as members up to the end, as many as there may be. Where one breaks the order of those before it, it
 -- was refused for that as soon as it was read.
 pub record RefusesAll {V : Type 0} (meaning : V → Tree) (s : Shape) (old new : State) (e : Asn1DerError) : Type 0 where
-  pub fails : Fails old new e
+  pub rest : RefusesRest (λ vs. EachIs (IsOf s) (trees (map meaning vs))) (λ vs. trees (map meaning vs)) old new e
   pub lesser : IsJudged old new e → (vs : List V) (v : V) → BreaksOrder meaning s (AreInOrder old.sets) vs v → StandBefore old new e (members_encoding (trees (map meaning (vs ++ v ∷ []))))
       → RefusesTaken old new e (members_encoding (trees (map meaning (vs ++ v ∷ []))))
-  pub none : IsJudged old new e → (vs : List V) → EachIs (IsOf s) (trees (map meaning vs)) → AreReadable (trees (map meaning vs)) → AreInOrder old.sets (encodings (trees (map meaning vs)))
-      → StandUpToEnd old new e (members_encoding (trees (map meaning vs))) → ⊥
 
 -- ---- sets out of order
 

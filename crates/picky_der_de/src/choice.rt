@@ -20,17 +20,15 @@ pub trait Choice: Sized {
     /// The choice of this value.
     fn from_parts(value: Self::Alternatives) -> Self
         ensures { parts result ≡ value };
-
-    // No byte begins two alternatives.
-    ghost told: { are_told Self.Alternatives.shapes ≡ true };
 }
 
 /// Reads a choice, which is the whole body of `Deserialize::deserialize` of such a type: the first byte says which alternative
-/// it is.
+/// it is. No byte may begin two alternatives.
 ///
 /// `InvalidData` for a first byte that is of none, and directly under an implicit tag, where no byte distinguishes them; else
 /// as `deserialize_enum` and the alternative's own `deserialize` refuse it.
 pub fn deserialize_choice_as<T: Choice, R: ReadExt>(de: &mut Deserializer<R>) -> Result<T>
+    requires told { are_told T.Alternatives.shapes ≡ true }
     ensures ok { IfOk result (λ value. Reads (Shape.choice T.Alternatives.shapes) de.old de.new
         (Tree.choice (T.Alternatives.chosen (T.parts value)))) }
     ensures err { IfErr result (Refuses

@@ -7,5 +7,4 @@ mod lists;
 mod numbers;
 mod options;
 mod texts;
-mod tuples;
 mod wrappers;

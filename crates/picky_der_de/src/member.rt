@@ -6,16 +6,15 @@ ghost use Rattle.picky_der_core.specs.Tree.{Tree};
 ghost use Rattle.picky_der_ser.specs.Meaning.{unless_default};
 ghost use Rattle.picky_der_de.specs.Members.{ReadsMember};
 ghost use Rattle.picky_der_de.specs.Layouts.{Presence, always, perhaps, Lacks, RefusesComponent};
-ghost use Rattle.picky_der_de.specs.LayoutLaws.{IsComponent, always_there, perhaps_there, with_default};
+ghost use Rattle.picky_der_de.specs.LayoutLaws.{IsComponent, always_there, part_there, perhaps_there, with_default};
 ghost use Rattle.picky_der_de.specs.Known.{begun_of, injective_of};
-ghost use Rattle.picky_der_de.specs.KnownMembers.{TiesMember, ties_always};
-ghost use Rattle.picky_der_de.specs.KnownLayouts.{KnownMember, known_always, known_perhaps, known_default, passes};
-ghost use Rattle.picky_der_de.specs.KnownLayouts.{ties_perhaps, ties_default};
+ghost use Rattle.picky_der_de.specs.KnownMembers.{KnownMember, known_always, known_element, known_perhaps, known_default, passes};
+ghost use Rattle.picky_der_de.specs.KnownMembers.{TiesMember, ties_always, ties_element, ties_perhaps, ties_default};
 
-use crate::{Begins, Sequence};
+use crate::{Begins, Deserialize, Sequence};
 use picky_der_core::Result;
 use picky_der_core::misc::ReadExt;
-use picky_der_ser::{DefaultOf, Defaulted, Optional, SerializeMember};
+use picky_der_ser::{DefaultOf, Defaulted, Element, Optional, SerializeMember};
 
 /// A member of a struct that is read back: a value, which is always there, or one that may be absent, as `Optional` and
 /// `Defaulted` are.
@@ -65,7 +64,7 @@ pub trait DeserializeMember: SerializeMember + PartialEq + Drop + Sized {
     ghost tied: { TiesMember known.in_front (λ x y. passes (known.test x y)) Self.in_front Self.eq };
 }
 
-impl<T: Begins> DeserializeMember for T {
+impl<T: Deserialize> DeserializeMember for T {
     type Item = T;
 
     ghost shape = { T.shape };
@@ -89,6 +88,34 @@ impl<T: Begins> DeserializeMember for T {
     ghost is_component = { always_there T.meaning T.shape T.eq (begun_of T.known T.tied) (injective_of T.known T.tied) T.known.sound };
 
     ghost tied = { ties_always T.tied };
+}
+
+impl<T: Deserialize> DeserializeMember for Element<T> {
+    type Item = T;
+
+    ghost shape = { T.shape };
+
+    ghost item_meaning = { T.meaning };
+
+    ghost item_eq = { T.eq };
+
+    ghost presence = { always };
+
+    ghost item = { λ element. Some element.0 };
+
+    ghost left_out = { λ _. false };
+
+    ghost known = { known_element T.known (λ element. element.0) };
+
+    fn deserialize_member<R: ReadExt>(sequence: &mut Sequence<'_, R>) -> Result<Element<T>> {
+        let value = sequence.next_field::<T>()?;
+        Ok(Element(value))
+    }
+
+    ghost is_component = { part_there T.meaning T.shape T.eq (begun_of T.known T.tied) (injective_of T.known T.tied) T.known.sound
+        (λ element. element.0) };
+
+    ghost tied = { ties_element (λ element. element.0) T.tied };
 }
 
 impl<T: Begins> DeserializeMember for Optional<T> {

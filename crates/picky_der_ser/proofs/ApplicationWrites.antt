@@ -21,7 +21,7 @@ use Rattle.picky_der_ser.proofs.Alike.{writes-alike, fails-alike}
 use Rattle.picky_der_ser.proofs.HeaderBytes.{der-headers}
 use Rattle.picky_der_ser.proofs.ListBytes.{numbers_inside, second_of}
 use Rattle.picky_der_ser.proofs.SetBytes.{final_content-uncut}
-use Rattle.picky_der_ser.proofs.Members.{refused_part, writes_whatever, fails_whatever}
+use Rattle.picky_der_ser.proofs.MemberWrites.{refused_part, writes_whatever, fails_whatever}
 use Rattle.picky_der_ser.proofs.PlainWrites.{past_under, unwritable-by, refused_unwritable}
 
 -- around the bytes of a tree it is written as around the tree

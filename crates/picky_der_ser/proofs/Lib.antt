@@ -15,7 +15,7 @@ pub mod EntryWrites
 pub mod Seams
 pub mod SetBytes
 pub mod ListBytes
-pub mod Members
+pub mod MemberWrites
 pub mod Items
 pub mod ApplicationWrites
 mod RowWrites

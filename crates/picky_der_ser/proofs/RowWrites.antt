@@ -12,7 +12,7 @@ use Rattle.picky_der_ser.specs.State.{State, Level, with_member, with_members}
 use Rattle.picky_der_ser.specs.Calls.{AreWritable, MemoryExcuse, RefusesWrite, AddsMember, AddsMembers, AddsRow, RefusesToAddRow, AddsInFront}
 use Rattle.picky_der_ser.proofs.Alike.{excuse_of_part}
 use Rattle.picky_der_ser.proofs.ListBytes.{before, before_next, member_writable}
-use Rattle.picky_der_ser.proofs.Members.{Awaits, level_with, list_gained, list_stopped}
+use Rattle.picky_der_ser.proofs.MemberWrites.{Awaits, level_with, list_gained, list_stopped}
 
 -- a member, and those behind it
 members_behind : (l : Level) (t : Tree) (ts : Trees) → with_members (with_member l (der t)) (encodings ts) ≡ with_members l (encodings (Trees.more t ts))

@@ -6,5 +6,4 @@ mod numbers;
 mod options;
 mod references;
 mod texts;
-mod tuples;
 mod wrappers;

@@ -9,7 +9,7 @@ use picky_asn1_der::asn1::{
 };
 use picky_asn1_der::de::{Enclosure, End};
 use picky_asn1_der::ser::{Defaulted, False, Header, Optional};
-use picky_asn1_der::{Asn1DerError, Asn1RawDer, NoneOf, OneOf, OneOf4, Row};
+use picky_asn1_der::{Asn1DerError, Asn1RawDer, NoneOf, OneOf, OneOf4};
 use picky_der_core::Failure;
 use std::io::ErrorKind;
 use std::process::Abort;
@@ -73,14 +73,7 @@ fn values_in_wrappers_differ(rt: HostRuntime) {
         &[ImplicitContextTag::<u8, 1>(5), ImplicitContextTag(6)],
     );
     all_differ(&rt, &[ApplicationTag::<u8, 10>(5), ApplicationTag(6)]);
-    all_differ(
-        &rt,
-        &[
-            Row((5u8, true, ())),
-            Row((6, true, ())),
-            Row((5, false, ())),
-        ],
-    );
+    all_differ(&rt, &[(5u8, true, ()), (6, true, ()), (5, false, ())]);
 }
 
 #[test]

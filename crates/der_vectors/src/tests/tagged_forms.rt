@@ -19,7 +19,10 @@ const IN_ANOTHER_ORDER: &str =
     "60 81 85 61 10 1A 04 4A 6F 68 6E 1A 01 50 1A 05 53 6D 69 74 68 A0 0A 1A 08 44 69 72 65 63 74 6F 72 42 01 33 A1 0A 43 08 31 39 37 31 30 39 31 37 A2 12 61 10 1A 04 4D 61 72 79 1A 01 54 1A 05 53 6D 69 74 68 A3 42 31 1F 61 11 1A 05 52 61 6C 70 68 1A 01 54 1A 05 53 6D 69 74 68 A0 0A 43 08 31 39 35 37 31 31 31 31 31 1F 61 11 1A 05 53 75 73 61 6E 1A 01 42 1A 05 4A 6F 6E 65 73 A0 0A 43 08 31 39 35 39 30 37 31 37";
 
 // The value of these bytes, which is written as them.
-fn read_back<T: Deserialize>(rt: &(impl Abort + AllocGlobal), text: &str) -> Result<T, Fail> {
+pub(crate) fn read_back<T: Deserialize>(
+    rt: &(impl Abort + AllocGlobal),
+    text: &str,
+) -> Result<T, Fail> {
     let bytes = bytes_of(rt.alloc(), text)?;
     let value: T = from_bytes(rt.alloc(), &bytes)?;
     same!(*rt; to_vec(rt.alloc(), &value)?.as_slice(), bytes.as_slice(), text);
@@ -27,7 +30,7 @@ fn read_back<T: Deserialize>(rt: &(impl Abort + AllocGlobal), text: &str) -> Res
 }
 
 // Reading these bytes as a value of the type fails with this error.
-fn is_refused<T: Deserialize>(
+pub(crate) fn is_refused<T: Deserialize>(
     rt: &(impl Abort + AllocGlobal),
     text: &str,
     error: Asn1DerError,

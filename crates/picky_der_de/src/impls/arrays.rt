@@ -4,7 +4,7 @@ ghost use Rattle.picky_der_core.specs.Tree.{ListKind, Tree};
 ghost use Rattle.picky_der_core.specs.Shape.{Shape};
 ghost use Rattle.picky_der_ser.specs.Meaning.{list_meaning};
 ghost use Rattle.picky_der_input.specs.Reading.{Reads, Refuses};
-ghost use Rattle.picky_der_de.specs.ArrayLaws.{times};
+ghost use Rattle.picky_der_de.specs.ArrayLaws.{array_of};
 ghost use Rattle.picky_der_de.specs.KnownContainers.{known_array, ties_list};
 
 use crate::{Deserialize, Deserializer};
@@ -16,11 +16,10 @@ fn read_into<T: Deserialize + Copy, R: ReadExt>(
     slots: &mut [T],
     de: &mut Deserializer<R>,
 ) -> Result<()>
-    ensures ok { OnOk result (Reads (Shape.fields ListKind.sequence
-        (times (length slots.old) T.shape)) de.old de.new
+    ensures ok { OnOk result (Reads (array_of (length slots.old) T.shape) de.old de.new
         (list_meaning ListKind.sequence T.meaning slots.new)) }
     ensures err { IfErr result (Refuses (list_meaning ListKind.sequence T.meaning)
-        (Shape.fields ListKind.sequence (times (length slots.old) T.shape)) de.old de.new) }
+        (array_of (length slots.old) T.shape) de.old de.new) }
 {
     let mut members = de.deserialize_seq()?;
     for at in 0..slots.len() {
@@ -58,7 +57,7 @@ fn read_filled<V: Fill, R: ReadExt>(de: &mut Deserializer<R>) -> Result<V>
 impl<T: Deserialize + Copy + Default, const N: usize> Fill for [T; N] {
     ghost meaning = { list_meaning ListKind.sequence T.meaning };
 
-    ghost shape = { Shape.fields ListKind.sequence (times N T.shape) };
+    ghost shape = { array_of N T.shape };
 
     fn unread() -> [T; N] {
         [T::default(); N]
@@ -70,7 +69,7 @@ impl<T: Deserialize + Copy + Default, const N: usize> Fill for [T; N] {
 }
 
 impl<T: Deserialize + Copy + Default, const N: usize> Deserialize for [T; N] {
-    ghost shape = { Shape.fields ListKind.sequence (times N T.shape) };
+    ghost shape = { array_of N T.shape };
 
     ghost known = { known_array T.known N (λ it. it) };
 

@@ -3,12 +3,12 @@ ghost use Rattle.std.specs.Prelude.{◌↔◌, ◌+◌, ◌≤◌, IsTrue};
 ghost use Rattle.picky_der_core.specs.Tag.{number_of};
 ghost use Rattle.picky_der_core.specs.Shape.{contains, tag_with_number};
 
-use crate::{Begins, Deserialize, DeserializeMembers};
+use crate::{Begins, Deserialize};
 use picky_der_core::asn1::{
     Asn1SequenceOf, Asn1SetOf, BitStringAsn1Container, ByteBuf, ExplicitContextTag,
     ImplicitContextTag, OctetStringAsn1Container, Retagged, Tag, TaggedBytes,
 };
-use picky_der_ser::{List, Row};
+use picky_der_ser::List;
 
 // Whether it is this tag, whose number has to be one of the short form.
 fn is_tag(tag: Tag, wanted: u8) -> bool
@@ -153,36 +153,6 @@ impl<T: Deserialize> Begins for Asn1SetOf<T> {
 }
 
 impl<T: Deserialize + Copy + Default, const N: usize> Begins for [T; N] {
-    fn begins_with(tag: Tag) -> bool {
-        tag == Tag::SEQUENCE
-    }
-}
-
-impl<A: Deserialize> Begins for (A,) {
-    fn begins_with(tag: Tag) -> bool {
-        tag == Tag::SEQUENCE
-    }
-}
-
-impl<A: Deserialize, B: Deserialize> Begins for (A, B) {
-    fn begins_with(tag: Tag) -> bool {
-        tag == Tag::SEQUENCE
-    }
-}
-
-impl<A: Deserialize, B: Deserialize, C: Deserialize> Begins for (A, B, C) {
-    fn begins_with(tag: Tag) -> bool {
-        tag == Tag::SEQUENCE
-    }
-}
-
-impl<A: Deserialize, B: Deserialize, C: Deserialize, D: Deserialize> Begins for (A, B, C, D) {
-    fn begins_with(tag: Tag) -> bool {
-        tag == Tag::SEQUENCE
-    }
-}
-
-impl<M: DeserializeMembers> Begins for Row<M> {
     fn begins_with(tag: Tag) -> bool {
         tag == Tag::SEQUENCE
     }

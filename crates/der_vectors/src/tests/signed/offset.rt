@@ -1,15 +1,15 @@
 //! A struct of signed integers with defaults.
 ghost use Rattle.std.specs.Prelude.{refl};
-ghost use Rattle.picky_der_core.specs.Shape.{Shape};
-ghost use Rattle.picky_der_core.specs.Tree.{ListKind, Tree};
 ghost use Rattle.picky_der_de.specs.Known.{by_itself};
-ghost use Rattle.picky_der_de.specs.KnownLayouts.{known_struct};
+ghost use Rattle.picky_der_de.specs.KnownMembers.{known_struct, sequence_of, sequence_shape};
 
 use picky_asn1_der::asn1::ExplicitContextTag0;
-use picky_asn1_der::de::{DeserializeLayout, Struct, deserialize_struct_as};
 use picky_asn1_der::misc::{ReadExt, WriteExt};
-use picky_asn1_der::ser::{Defaulted, DefaultedRef, SerializeMembers, SignedNumber};
-use picky_asn1_der::{Deserialize, Deserializer, Result, Serialize, Serializer};
+use picky_asn1_der::ser::{Defaulted, DefaultedRef, SignedNumber};
+use picky_asn1_der::{
+    Deserialize, DeserializeMembers, Deserializer, Result, Serialize, SerializeMembers, Serializer,
+    Struct, deserialize_struct_as,
+};
 
 // A difference of times: -1 hour by default, and `[0] EXPLICIT` 7 seconds.
 #[derive(Debug, Drop, PartialEq, Eq)]
@@ -33,20 +33,6 @@ type Members = (
     (),
 );
 
-impl Serialize for Offset {
-    ghost meaning = { λ it. Tree.list ListKind.sequence (⟦<Members as SerializeMembers>⟧.members
-        (⟦<Offset as Struct>⟧.parts it)) };
-
-    fn serialize<W: WriteExt>(&self, serializer: &mut Serializer<W>) -> Result<usize> {
-        (
-            DefaultedRef::<i8, SignedNumber<-1>>::new(&self.hours),
-            DefaultedRef::<ExplicitContextTag0<i64>, SignedNumber<7>>::new(&self.seconds),
-            (),
-        )
-            .serialize_sequence(serializer)
-    }
-}
-
 impl Struct for Offset {
     type Members = Members;
 
@@ -63,19 +49,30 @@ impl Struct for Offset {
             seconds: seconds.value,
         }
     }
+}
 
-    ghost told = { refl };
+impl Serialize for Offset {
+    ghost meaning = { sequence_of ⟦<Members as SerializeMembers>⟧.members ⟦<Self as Struct>⟧.parts };
+
+    fn serialize<W: WriteExt>(&self, serializer: &mut Serializer<W>) -> Result<usize> {
+        (
+            DefaultedRef::<i8, SignedNumber<-1>>::new(&self.hours),
+            DefaultedRef::<ExplicitContextTag0<i64>, SignedNumber<7>>::new(&self.seconds),
+            (),
+        )
+            .serialize_sequence(serializer)
+    }
 }
 
 impl Deserialize for Offset {
-    ghost shape = { Shape.struct_of ListKind.sequence ⟦<Members as DeserializeLayout>⟧.layout };
+    ghost shape = { sequence_shape ⟦<Members as DeserializeMembers>⟧.layout };
 
-    ghost known = { known_struct ⟦<Members as DeserializeLayout>⟧.known refl ⟦<Self as Struct>⟧.parts ⟦<Self as PartialEq>⟧.eq
-        (λ x y h. h) (λ x y. (λ h. h, (λ h. h, tt))) };
-
-    ghost tied = { by_itself };
+    ghost known = { known_struct ⟦<Members as DeserializeMembers>⟧.known refl ⟦<Self as Struct>⟧.parts ⟦<Self as PartialEq>⟧.eq
+        (λ x y h. h) (λ x y. refl) };
 
     fn deserialize<R: ReadExt>(deserializer: &mut Deserializer<R>) -> Result<Offset> {
         deserialize_struct_as(deserializer)
     }
+
+    ghost tied = { by_itself };
 }

@@ -1,7 +1,7 @@
 use Rattle.std.proofs.Common.{rules, refl, arith, [], ◌∷◌}
 use Rattle.std.proofs.lemmas.Result.{err_from_is_err_and}
 use Rattle.picky_der_core.specs.Tree.{ListKind, Tree, Trees, trees}
-use Rattle.picky_der_ser.proofs.Members.{list_opened, list_gained, list_refused, list_wrote, list_failed}
+use Rattle.picky_der_ser.proofs.MemberWrites.{list_opened, list_gained, list_refused, list_wrote, list_failed}
 use Rattle.der_examples.specs.declared.interval.Interval.{Interval}
 use Rattle.der_examples.proofs.interval.IntervalSerialize.serialize.Goals as goal
 

@@ -1,4 +1,4 @@
-use Rattle.picky_der_de.proofs.Members.{member_untested}
+use Rattle.picky_der_de.proofs.MemberReads.{member_untested}
 use Rattle.picky_der_de.proofs.deserializer.Deserializer.read_unseen.Goals as goal
 
 pub returns-in-Err-test_order-clause-err : goal.returns-in-Err-test_order-clause-err

@@ -1,14 +1,13 @@
-use Rattle.std.proofs.Common.{rules, ◌∙◌, ◌<◌, length, take, map, refl, subst, arith}
+use Rattle.std.proofs.Common.{rules, ◌∙◌, ◌<◌, length, take, refl, subst, arith}
 use Rattle.std.proofs.lemmas.List.{take_more_set, take_all, length-set, length-take-le}
 use Rattle.std.proofs.lemmas.Result.{IfErr-weaker, on_ok_weaker}
-use Rattle.picky_der_core.specs.Tree.{trees}
 use Rattle.picky_der_de.proofs.PassedOn.{refusal_passed_on, reads_at, refuses_at}
-use Rattle.picky_der_de.proofs.Rows.{row_unopened, row_refused, row_left, row_reads}
-use Rattle.picky_der_de.proofs.ArrayReads.{ReadsFirst, first_none, first_more, first_all, first_refused}
+use Rattle.picky_der_de.proofs.Rests.{row_reads}
+use Rattle.picky_der_de.proofs.ArrayReads.{ReadsFirst, first_none, first_more, first_all, first_refused, first_left, array_unopened, array_refused}
 use Rattle.picky_der_de.proofs.impls.arrays.read_into.Goals as goal
 
 pub returns-in_err-members-clause-err : goal.returns-in_err-members-clause-err
-returns-in_err-members-clause-err g c = refusal_passed_on _ c.from_residual.ensures.1 refl (row_unopened {members = λ vs. trees (map g.T.Serialize.meaning vs)} (rw c.in_err-members.was at c.deserialize_seq.follows.holds-at-none))
+returns-in_err-members-clause-err g c = refusal_passed_on _ c.from_residual.ensures.1 refl (array_unopened g.T.Serialize.meaning (length c.args.slots.now) g.T.Deserialize.shape (rw c.in_err-members.was at c.deserialize_seq.follows.holds-at-none))
 
 pub loop-at-init : goal.loop-at-init
 loop-at-init g c = record {
@@ -24,7 +23,7 @@ returns-in_err-slots-clause-err g c =
     let i = c.loop-at.invariant in
     let l = length-take-le c.loop-at.at c.loop-at.slots i.within in
     let h = first_refused (length c.args.slots.now) _ i.first (omega (arith, l, i.same_length, c.loop-at-test.true)) c.in_err-slots.ensures.err in
-    refusal_passed_on _ c.from_residual-in_err-slots.ensures.1 (search rules) (row_refused {members = λ vs. trees (map g.T.Serialize.meaning vs)} c.in_ok-members.ensures.ok h)
+    refusal_passed_on _ c.from_residual-in_err-slots.ensures.1 (search rules) (array_refused g.T.Serialize.meaning (length c.args.slots.now) g.T.Deserialize.shape c.in_ok-members.ensures.ok h)
 
 pub loop-at-preserved : goal.loop-at-preserved
 loop-at-preserved g c =
@@ -53,5 +52,4 @@ returns-clause-err g c =
     let i = c.loop-at.invariant in
     let all = take_all c.loop-at.at c.loop-at.slots (omega (arith, i.same_length, c.loop-at-test.false)) in
     let first = subst (ReadsFirst g.T.Serialize.meaning g.T.Deserialize.shape c.in_ok-members.members.de.now c.loop-at.members.de.now) all i.first in
-    let row = first_all g.T.Serialize.meaning g.T.Deserialize.shape (length c.args.slots.now) c.loop-at.slots i.same_length first in
-    IfErr-weaker c.end.result _ _ (λ e k. refuses_at (row_left {members = λ vs. trees (map g.T.Serialize.meaning vs)} c.in_ok-members.ensures.ok row k) (search rules)) c.end.ensures.err
+    IfErr-weaker c.end.result _ _ (λ e k. refuses_at (array_refused g.T.Serialize.meaning (length c.args.slots.now) g.T.Deserialize.shape c.in_ok-members.ensures.ok (first_left (length c.args.slots.now) c.loop-at.slots i.same_length first k.fails (k.left first.takes.not_failed).0)) (search rules)) c.end.ensures.err

@@ -1,7 +1,7 @@
 use Rattle.std.proofs.Common.{◌∙◌, refl, arith}
 use Rattle.std.proofs.lemmas.Result.{err_from_is_err_and}
 use Rattle.picky_der_core.specs.EncodingLaws.{length-der}
-use Rattle.picky_der_de.proofs.Members.{takes_member}
+use Rattle.picky_der_de.proofs.MemberReads.{takes_member}
 use Rattle.picky_der_de.proofs.ListReads.{all_refused, all_next, all_for_memory, some_none, some_more, some_all}
 use Rattle.picky_der_de.proofs.sequence.Sequence.collect.Goals as goal
 

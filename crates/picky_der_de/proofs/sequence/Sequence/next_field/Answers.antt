@@ -1,5 +1,5 @@
 use Rattle.std.proofs.Common.{arith}
-use Rattle.picky_der_de.proofs.Members.{member_ahead, member_missing}
+use Rattle.picky_der_de.proofs.MemberReads.{member_ahead, member_missing}
 use Rattle.picky_der_de.proofs.sequence.Sequence.next_field.Goals as goal
 
 pub returns-in-Some-clause-at_end : goal.returns-in-Some-clause-at_end

@@ -2,7 +2,7 @@ use Rattle.std.proofs.Common.{rules, map, refl, subst, arith}
 use Rattle.std.proofs.lemmas.Result.{err_from_is_err_and}
 use Rattle.picky_der_core.specs.Tree.{trees}
 use Rattle.picky_der_ser.specs.Sequences.{list_kind}
-use Rattle.picky_der_ser.proofs.Members.{Awaits, list_opened_by, list_gained, list_refused, list_wrote, list_failed, list_untouched}
+use Rattle.picky_der_ser.proofs.MemberWrites.{Awaits, list_opened_by, list_gained, list_refused, list_wrote, list_failed, list_untouched}
 use Rattle.picky_der_ser.proofs.Items.{item_at, items_end}
 use Rattle.picky_der_ser.proofs.impls.lists.write_items.Goals as goal
 

@@ -1,7 +1,7 @@
 use Rattle.std.proofs.Common.{◌≡◌, drop, map}
 use Rattle.picky_der_core.specs.Tree.{trees}
 use Rattle.picky_der_ser.specs.Sequences.{list_kind}
-use Rattle.picky_der_ser.proofs.Members.{Awaits}
+use Rattle.picky_der_ser.proofs.MemberWrites.{Awaits}
 use Rattle.picky_der_ser.proofs.impls.lists.write_items.Given as goal
 
 abbrev pub invariant-loop-item : goal.invariant-loop-item

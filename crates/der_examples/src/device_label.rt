@@ -1,0 +1,76 @@
+//! A struct whose members have constraints.
+ghost use Rattle.std.specs.Prelude.{refl};
+ghost use Rattle.picky_der_de.specs.Known.{by_itself};
+ghost use Rattle.picky_der_de.specs.KnownMembers.{known_struct, sequence_of, sequence_shape};
+
+use der_types::{Ia5String, InRange, NumericString, PrintableString, WithSize};
+use picky_asn1_der::misc::{ReadExt, WriteExt};
+use picky_asn1_der::{
+    Deserialize, DeserializeMembers, Deserializer, Result, Serialize, SerializeMembers, Serializer,
+    Struct, deserialize_struct_as,
+};
+
+/// What is on the label of a device, as a SEQUENCE. A value that isn't within the bounds of its member is `InvalidData`.
+#[derive(Debug, Drop, PartialEq, Eq)]
+pub struct DeviceLabel {
+    /// The country where it was made, `PrintableString (SIZE (2))`, as `countryName` of X.520.
+    pub country: WithSize<PrintableString, 2, 2>,
+    /// The serial number, `INTEGER (0..65536)`.
+    pub serial: InRange<u32, 0, 65536>,
+    /// The number of the article, `NumericString`.
+    pub article: NumericString,
+    /// Where help is given, `SEQUENCE SIZE (1..4) OF IA5String`.
+    pub contacts: WithSize<Vec<Ia5String>, 1, 4>,
+}
+
+type Members = (
+    WithSize<PrintableString, 2, 2>,
+    InRange<u32, 0, 65536>,
+    NumericString,
+    WithSize<Vec<Ia5String>, 1, 4>,
+    (),
+);
+
+impl Struct for DeviceLabel {
+    type Members = Members;
+
+    ghost parts = { λ it. (it.country, it.serial, it.article, it.contacts, tt) };
+
+    fn from_parts(members: Members) -> DeviceLabel {
+        let (country, serial, article, contacts, ()) = members;
+        DeviceLabel {
+            country,
+            serial,
+            article,
+            contacts,
+        }
+    }
+}
+
+impl Serialize for DeviceLabel {
+    ghost meaning = { sequence_of ⟦<Members as SerializeMembers>⟧.members ⟦<Self as Struct>⟧.parts };
+
+    fn serialize<W: WriteExt>(&self, serializer: &mut Serializer<W>) -> Result<usize> {
+        (
+            &self.country,
+            &self.serial,
+            &self.article,
+            &self.contacts,
+            (),
+        )
+            .serialize_sequence(serializer)
+    }
+}
+
+impl Deserialize for DeviceLabel {
+    ghost shape = { sequence_shape ⟦<Members as DeserializeMembers>⟧.layout };
+
+    ghost known = { known_struct ⟦<Members as DeserializeMembers>⟧.known refl ⟦<Self as Struct>⟧.parts ⟦<Self as PartialEq>⟧.eq
+        (λ x y h. h) (λ x y. refl) };
+
+    fn deserialize<R: ReadExt>(deserializer: &mut Deserializer<R>) -> Result<DeviceLabel> {
+        deserialize_struct_as(deserializer)
+    }
+
+    ghost tied = { by_itself };
+}

@@ -1,0 +1,207 @@
+//! A choice of twelve, as a field of a struct, and a list of these.
+ghost use Rattle.std.specs.Prelude.{refl};
+ghost use Rattle.picky_der_core.specs.Shape.{Shape};
+ghost use Rattle.picky_der_de.specs.declared.alternatives4.OneOf4.TheVariants.{First, Second, Third, Fourth, Later};
+ghost use Rattle.picky_der_de.specs.Known.{by_itself};
+ghost use Rattle.picky_der_de.specs.KnownChoices.{known_choice};
+ghost use Rattle.picky_der_de.specs.KnownMembers.{known_struct, sequence_of, sequence_shape};
+ghost use Rattle.der_examples.specs.declared.script.Command.TheVariants.{Move, Wait, Follow, Lift, Say, Adjust, Stop, Load};
+ghost use Rattle.der_examples.specs.declared.script.Command.TheVariants.{Speeds, Repeat, Mark, Forget};
+
+use crate::{Marker, Point, Setting};
+use picky_asn1_der::OneOf4::{First, Fourth, Later, Second, Third};
+use picky_asn1_der::asn1::{
+    Asn1SetOf, ByteBuf, ExplicitContextTag0, ExplicitContextTag2, ExplicitContextTag5,
+    ExplicitContextTag10, ExplicitContextTag11, ImplicitContextTag1, ImplicitContextTag3,
+    ImplicitContextTag4, ImplicitContextTag6, ImplicitContextTag7, ImplicitContextTag9, Retagged,
+    Tag,
+};
+use picky_asn1_der::de::{Begins, deserialize_choice_as};
+use picky_asn1_der::misc::{ReadExt, WriteExt};
+use picky_asn1_der::{
+    Alternatives, Choice, Deserialize, DeserializeMembers, Deserializer, NoneOf, OneOf4, Result,
+    Serialize, SerializeMembers, Serializer, Struct, deserialize_struct_as,
+};
+
+/// What a plotter is to do, as a CHOICE of twelve.
+#[derive(Debug, Drop, PartialEq, Eq)]
+pub enum Command {
+    /// `[0] EXPLICIT`: go to a point.
+    Move(ExplicitContextTag0<Point>),
+    /// `[1] IMPLICIT INTEGER`: wait so many seconds.
+    Wait(ImplicitContextTag1<u32>),
+    /// `[2] EXPLICIT SEQUENCE OF`: go to each point.
+    Follow(ExplicitContextTag2<Vec<Point>>),
+    /// `[3] IMPLICIT BOOLEAN`: whether the pen is up from now on.
+    Lift(ImplicitContextTag3<bool>),
+    /// `[4] IMPLICIT UTF8String`: show a text.
+    Say(ImplicitContextTag4<String>),
+    /// `[5] EXPLICIT`, a CHOICE: set the pen.
+    Adjust(ExplicitContextTag5<Setting>),
+    /// `[6] IMPLICIT NULL`: stop.
+    Stop(ImplicitContextTag6<()>),
+    /// `[7] IMPLICIT OCTET STRING`: load a font.
+    Load(ImplicitContextTag7<ByteBuf>),
+    /// `[8] IMPLICIT SEQUENCE OF INTEGER`: the speeds from now on.
+    Speeds(Retagged<Vec<u16>, 0xA8>),
+    /// `[9] IMPLICIT INTEGER`: repeat what was done so many times.
+    Repeat(ImplicitContextTag9<u64>),
+    /// `[10] EXPLICIT`: mark a point.
+    Mark(ExplicitContextTag10<Marker>),
+    /// `[11] EXPLICIT SET OF OCTET STRING`: forget these names.
+    Forget(ExplicitContextTag11<Asn1SetOf<ByteBuf>>),
+}
+
+type Parts = OneOf4<
+    ExplicitContextTag0<Point>,
+    ImplicitContextTag1<u32>,
+    ExplicitContextTag2<Vec<Point>>,
+    ImplicitContextTag3<bool>,
+    OneOf4<
+        ImplicitContextTag4<String>,
+        ExplicitContextTag5<Setting>,
+        ImplicitContextTag6<()>,
+        ImplicitContextTag7<ByteBuf>,
+        OneOf4<
+            Retagged<Vec<u16>, 0xA8>,
+            ImplicitContextTag9<u64>,
+            ExplicitContextTag10<Marker>,
+            ExplicitContextTag11<Asn1SetOf<ByteBuf>>,
+            NoneOf,
+        >,
+    >,
+>;
+
+impl Choice for Command {
+    type Alternatives = Parts;
+
+    ghost parts = { elim [
+      | Move x ↦ First x
+      | Wait x ↦ Second x
+      | Follow x ↦ Third x
+      | Lift x ↦ Fourth x
+      | Say x ↦ Later (First x)
+      | Adjust x ↦ Later (Second x)
+      | Stop x ↦ Later (Third x)
+      | Load x ↦ Later (Fourth x)
+      | Speeds x ↦ Later (Later (First x))
+      | Repeat x ↦ Later (Later (Second x))
+      | Mark x ↦ Later (Later (Third x))
+      | Forget x ↦ Later (Later (Fourth x))
+    ] };
+
+    fn from_parts(value: Parts) -> Command {
+        match value {
+            First(point) => Command::Move(point),
+            Second(seconds) => Command::Wait(seconds),
+            Third(points) => Command::Follow(points),
+            Fourth(up) => Command::Lift(up),
+            Later(First(text)) => Command::Say(text),
+            Later(Second(setting)) => Command::Adjust(setting),
+            Later(Third(nothing)) => Command::Stop(nothing),
+            Later(Fourth(font)) => Command::Load(font),
+            Later(Later(First(speeds))) => Command::Speeds(speeds),
+            Later(Later(Second(times))) => Command::Repeat(times),
+            Later(Later(Third(marker))) => Command::Mark(marker),
+            Later(Later(Fourth(names))) => Command::Forget(names),
+        }
+    }
+}
+
+impl Serialize for Command {
+    ghost meaning = { λ v. ⟦<Parts as Alternatives>⟧.meaning (⟦<Command as Choice>⟧.parts v) };
+
+    fn serialize<W: WriteExt>(&self, serializer: &mut Serializer<W>) -> Result<usize> {
+        match self {
+            Command::Move(point) => serializer.serialize_choice(point),
+            Command::Wait(seconds) => serializer.serialize_choice(seconds),
+            Command::Follow(points) => serializer.serialize_choice(points),
+            Command::Lift(up) => serializer.serialize_choice(up),
+            Command::Say(text) => serializer.serialize_choice(text),
+            Command::Adjust(setting) => serializer.serialize_choice(setting),
+            Command::Stop(nothing) => serializer.serialize_choice(nothing),
+            Command::Load(font) => serializer.serialize_choice(font),
+            Command::Speeds(speeds) => serializer.serialize_choice(speeds),
+            Command::Repeat(times) => serializer.serialize_choice(times),
+            Command::Mark(marker) => serializer.serialize_choice(marker),
+            Command::Forget(names) => serializer.serialize_choice(names),
+        }
+    }
+}
+
+impl Deserialize for Command {
+    ghost shape = { Shape.choice ⟦<Parts as Alternatives>⟧.shapes };
+
+    ghost known = { known_choice ⟦<Parts as Alternatives>⟧.known refl ⟦<Self as Choice>⟧.parts ⟦<Self as PartialEq>⟧.eq (elim [
+      | Move x ↦ elim [ Move y ↦ λ h. h | _ ↦ λ h. h ]
+      | Wait x ↦ elim [ Wait y ↦ λ h. h | _ ↦ λ h. h ]
+      | Follow x ↦ elim [ Follow y ↦ λ h. h | _ ↦ λ h. h ]
+      | Lift x ↦ elim [ Lift y ↦ λ h. h | _ ↦ λ h. h ]
+      | Say x ↦ elim [ Say y ↦ λ h. h | _ ↦ λ h. h ]
+      | Adjust x ↦ elim [ Adjust y ↦ λ h. h | _ ↦ λ h. h ]
+      | Stop x ↦ elim [ Stop y ↦ λ h. h | _ ↦ λ h. h ]
+      | Load x ↦ elim [ Load y ↦ λ h. h | _ ↦ λ h. h ]
+      | Speeds x ↦ elim [ Speeds y ↦ λ h. h | _ ↦ λ h. h ]
+      | Repeat x ↦ elim [ Repeat y ↦ λ h. h | _ ↦ λ h. h ]
+      | Mark x ↦ elim [ Mark y ↦ λ h. h | _ ↦ λ h. h ]
+      | Forget x ↦ elim [ Forget y ↦ λ h. h | _ ↦ λ h. h ]
+    ]) };
+
+    ghost tied = { by_itself };
+
+    fn deserialize<R: ReadExt>(deserializer: &mut Deserializer<R>) -> Result<Command> {
+        deserialize_choice_as(deserializer)
+    }
+}
+
+impl Begins for Command {
+    fn begins_with(tag: Tag) -> bool {
+        <Parts as Alternatives>::begins_with(tag)
+    }
+}
+
+/// A command and when it is due, as a SEQUENCE.
+#[derive(Debug, Drop, PartialEq, Eq)]
+pub struct Step {
+    /// How many seconds after the start.
+    pub at: u32,
+    /// What is to be done.
+    pub command: Command,
+}
+
+/// What a plotter is to do: a SEQUENCE OF steps.
+pub type Script = Vec<Step>;
+
+type Members = (u32, Command, ());
+
+impl Struct for Step {
+    type Members = Members;
+
+    ghost parts = { λ it. (it.at, it.command, tt) };
+
+    fn from_parts(members: Members) -> Step {
+        let (at, command, ()) = members;
+        Step { at, command }
+    }
+}
+
+impl Serialize for Step {
+    ghost meaning = { sequence_of ⟦<Members as SerializeMembers>⟧.members ⟦<Self as Struct>⟧.parts };
+
+    fn serialize<W: WriteExt>(&self, serializer: &mut Serializer<W>) -> Result<usize> {
+        (&self.at, &self.command, ()).serialize_sequence(serializer)
+    }
+}
+
+impl Deserialize for Step {
+    ghost shape = { sequence_shape ⟦<Members as DeserializeMembers>⟧.layout };
+
+    ghost known = { known_struct ⟦<Members as DeserializeMembers>⟧.known refl ⟦<Self as Struct>⟧.parts ⟦<Self as PartialEq>⟧.eq
+        (λ x y h. h) (λ x y. refl) };
+
+    fn deserialize<R: ReadExt>(deserializer: &mut Deserializer<R>) -> Result<Step> {
+        deserialize_struct_as(deserializer)
+    }
+
+    ghost tied = { by_itself };
+}

@@ -1,0 +1,113 @@
+//! A signed value of any type, and a struct with three of these.
+ghost use Rattle.std.specs.Prelude.{refl};
+ghost use Rattle.picky_der_de.specs.Known.{by_itself};
+ghost use Rattle.picky_der_de.specs.KnownMembers.{known_of_members, known_struct, sequence_of, sequence_shape};
+ghost use Rattle.picky_der_de.specs.KnownMembers.{ties_field, ties_none, ties_sequence};
+
+use crate::{Point, Script};
+use der_types::BitString;
+use der_x509::AlgorithmIdentifier;
+use picky_asn1_der::misc::{ReadExt, WriteExt};
+use picky_asn1_der::{
+    Deserialize, DeserializeMembers, Deserializer, Result, Serialize, SerializeMembers, Serializer,
+    Struct, deserialize_struct_as,
+};
+
+/// A value and its signature, as a SEQUENCE in the form of a certificate (RFC 5280, 4.1). The signature isn't verified.
+#[derive(Debug, Drop, PartialEq, Eq)]
+pub struct Signed<T> {
+    /// What is signed.
+    pub content: T,
+    /// How it is signed.
+    pub algorithm: AlgorithmIdentifier,
+    /// The signature.
+    pub signature: BitString,
+}
+
+type Members<T> = (T, AlgorithmIdentifier, BitString, ());
+
+impl<T: Deserialize> Struct for Signed<T> {
+    type Members = Members<T>;
+
+    ghost parts = { λ it. (it.content, it.algorithm, it.signature, tt) };
+
+    fn from_parts(members: Members<T>) -> Signed<T> {
+        let (content, algorithm, signature, ()) = members;
+        Signed {
+            content,
+            algorithm,
+            signature,
+        }
+    }
+}
+
+impl<T: Serialize> Serialize for Signed<T> {
+    ghost meaning = { sequence_of ⟦<Members<T> as SerializeMembers>⟧.members (λ it. (it.content, it.algorithm, it.signature, tt)) };
+
+    fn serialize<W: WriteExt>(&self, serializer: &mut Serializer<W>) -> Result<usize> {
+        (&self.content, &self.algorithm, &self.signature, ()).serialize_sequence(serializer)
+    }
+}
+
+impl<T: Deserialize> Deserialize for Signed<T> {
+    ghost shape = { sequence_shape ⟦<Members<T> as DeserializeMembers>⟧.layout };
+
+    ghost known = { known_of_members ⟦<Members<T> as DeserializeMembers>⟧.known refl ⟦<Self as Struct>⟧.parts };
+
+    fn deserialize<R: ReadExt>(deserializer: &mut Deserializer<R>) -> Result<Signed<T>> {
+        deserialize_struct_as(deserializer)
+    }
+
+    ghost tied = { ties_sequence ⟦<Self as Struct>⟧.parts (ties_field (λ x. x.0) T.tied
+        (ties_field (λ x. x.1) (by_itself {eq = ⟦<AlgorithmIdentifier as PartialEq>⟧.eq})
+        (ties_field (λ x. x.2) (by_itself {eq = ⟦<BitString as PartialEq>⟧.eq}) ties_none))) };
+}
+
+/// Three signed values, as a SEQUENCE.
+#[derive(Debug, Drop, PartialEq, Eq)]
+pub struct Bundle {
+    /// A number.
+    pub number: Signed<u32>,
+    /// A point.
+    pub point: Signed<Point>,
+    /// What is to be done.
+    pub commands: Signed<Script>,
+}
+
+type BundleMembers = (Signed<u32>, Signed<Point>, Signed<Script>, ());
+
+impl Struct for Bundle {
+    type Members = BundleMembers;
+
+    ghost parts = { λ it. (it.number, it.point, it.commands, tt) };
+
+    fn from_parts(members: BundleMembers) -> Bundle {
+        let (number, point, commands, ()) = members;
+        Bundle {
+            number,
+            point,
+            commands,
+        }
+    }
+}
+
+impl Serialize for Bundle {
+    ghost meaning = { sequence_of ⟦<BundleMembers as SerializeMembers>⟧.members ⟦<Self as Struct>⟧.parts };
+
+    fn serialize<W: WriteExt>(&self, serializer: &mut Serializer<W>) -> Result<usize> {
+        (&self.number, &self.point, &self.commands, ()).serialize_sequence(serializer)
+    }
+}
+
+impl Deserialize for Bundle {
+    ghost shape = { sequence_shape ⟦<BundleMembers as DeserializeMembers>⟧.layout };
+
+    ghost known = { known_struct ⟦<BundleMembers as DeserializeMembers>⟧.known refl ⟦<Self as Struct>⟧.parts ⟦<Self as PartialEq>⟧.eq
+        (λ x y h. h) (λ x y. refl) };
+
+    fn deserialize<R: ReadExt>(deserializer: &mut Deserializer<R>) -> Result<Bundle> {
+        deserialize_struct_as(deserializer)
+    }
+
+    ghost tied = { by_itself };
+}

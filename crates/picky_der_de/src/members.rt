@@ -1,0 +1,86 @@
+//! All members of a SEQUENCE, as they are read, and structs of them.
+ghost use Rattle.std.specs.Prelude.{◌≡◌, ◌∷◌, [], true, None, map, IfOk, IfErr};
+ghost use Rattle.picky_der_core.specs.Shape.{Layout};
+ghost use Rattle.picky_der_input.specs.Reading.{Reads, Refuses};
+ghost use Rattle.picky_der_de.specs.Layouts.{ReadsLayout, RefusesLayout};
+ghost use Rattle.picky_der_de.specs.KnownMembers.{KnownMembers, are_members_told, known_none, passes, sequence_of, sequence_shape};
+ghost use Rattle.picky_der_de.specs.KnownMembers.{TiesMembers, ties_none, ties_tuple};
+
+use crate::{Deserializer, Sequence};
+use picky_der_core::Result;
+use picky_der_core::misc::ReadExt;
+use picky_der_ser::SerializeMembers;
+
+/// Members of a sequence that are read back, of which some may be absent: none, as `()`, or up to eight and those after them, as
+/// `(A, Optional<B>, C, ())`.
+pub trait DeserializeMembers: SerializeMembers + PartialEq + Drop + Sized {
+    ghost use Rattle.picky_der_de.specs.SequenceState.{borrowed_by, outer_of, state_of};
+
+    // The shapes of the members, and which may be missing.
+    ghost layout: { Layout };
+
+    // What is known of the members: which trees they mean, and that these distinguish them.
+    ghost known: { KnownMembers Self layout };
+
+    /// Reads the members, from a sequence that hasn't failed and in which none is awaited directly under an implicit tag.
+    /// One that is always there is refused as `next_field` refuses it, one that may be absent as `next_optional` does, and one
+    /// with a default as `next_or_default` does. What is left after the last one may be looked at, and isn't read.
+    fn deserialize_members<R: ReadExt>(sequence: &mut Sequence<'_, R>) -> Result<Self>
+        requires had_not_failed { (state_of sequence.old).failed ≡ None }
+        requires implicit_tag { (state_of sequence.old).implicit_tag ≡ None }
+        ensures same_reference { borrowed_by sequence.new ≡ borrowed_by sequence.old }
+        ensures outer { outer_of sequence.new ≡ outer_of sequence.old }
+        ensures ok { IfOk result (λ row. ReadsLayout layout (state_of sequence.old)
+            (state_of sequence.new) (Self.members row)) }
+        ensures err { IfErr result (RefusesLayout Self.members layout (state_of sequence.old)
+            (state_of sequence.new)) };
+
+    // It is known of what they mean to `SerializeMembers`, and of their `==`.
+    ghost tied: { TiesMembers known.members (λ x y. map passes (known.tests x y)) Self.members (λ x y. Self.eq x y ∷ []) };
+}
+
+impl DeserializeMembers for () {
+    ghost layout = { Layout.empty };
+
+    ghost known = { known_none };
+
+    fn deserialize_members<R: ReadExt>(_sequence: &mut Sequence<'_, R>) -> Result<()> {
+        Ok(())
+    }
+
+    ghost tied = { ties_tuple ties_none };
+}
+
+/// A type whose values are those of the members of a SEQUENCE, as a struct's are.
+///
+/// Each combination of members has to be a value of the type. A type that leaves some out is read by the calls of the deserializer.
+pub trait Struct: Sized {
+    /// The members, as `(A, Optional<B>, ())` of one that is always there and one that may be absent. Those after the eighth
+    /// are the last field, again a tuple.
+    type Members: DeserializeMembers;
+
+    // The members of a value.
+    ghost parts: { Self → Self.Members };
+
+    /// The value with these members.
+    fn from_parts(members: Self::Members) -> Self
+        ensures { parts result ≡ members };
+}
+
+/// Reads a sequence of these members, which is the whole body of `Deserialize::deserialize` of such a type. No byte may begin a
+/// member that may be absent and one that may come instead of it.
+///
+/// `InvalidData` for what is left after the members, and for a default that is written out (X.690, 11.5); else as
+/// `deserialize_seq`, `next_field` and `next_optional` refuse them.
+pub fn deserialize_struct_as<T: Struct, R: ReadExt>(de: &mut Deserializer<R>) -> Result<T>
+    requires told { are_members_told T.Members.layout ≡ true }
+    ensures ok { IfOk result (λ value. Reads (sequence_shape T.Members.layout) de.old de.new
+        (sequence_of T.Members.members T.parts value)) }
+    ensures err { IfErr result (Refuses (sequence_of T.Members.members T.parts)
+        (sequence_shape T.Members.layout) de.old de.new) }
+{
+    let mut sequence = de.deserialize_seq()?;
+    let members = T::Members::deserialize_members(&mut sequence)?;
+    sequence.end()?;
+    Ok(T::from_parts(members))
+}

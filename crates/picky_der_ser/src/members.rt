@@ -1,0 +1,96 @@
+//! Members of a SEQUENCE: one, and all of them in a tuple.
+ghost use Rattle.std.specs.Prelude.{◌≡◌, IfOk, IfErr, OnOk};
+ghost use Rattle.picky_der_core.specs.WriterFaults.{IsOnceAtMost};
+ghost use Rattle.picky_der_core.specs.Equality.{IsThatOf};
+ghost use Rattle.picky_der_core.specs.Tree.{ListKind, Tree, Trees};
+ghost use Rattle.picky_der_ser.specs.Calls.{UntouchedUnlessFailed, RefusesWrite, AddsRow, RefusesToAddRow, Writes};
+ghost use Rattle.picky_der_ser.specs.Calls.{AddsInFront, RefusesInFront};
+
+use crate::{Sequence, Serialize, Serializer};
+use picky_der_core::Result;
+use picky_der_core::asn1::Tag;
+use picky_der_core::misc::WriteExt;
+
+/// A member of a row: a value, which is always there, or one that may be absent.
+pub trait SerializeMember {
+    ghost use Rattle.picky_der_ser.specs.SequenceState.{borrowed_by, state_of};
+
+    // The members behind it, with this one in front of them where it is there.
+    ghost in_front: { Self → Trees → Trees };
+
+    /// Adds the member to the sequence, where it is there. It is refused as `serialize_element` refuses one.
+    fn serialize_member<W: WriteExt>(&self, sequence: &mut Sequence<'_, W>) -> Result<()>
+        ensures same_reference { borrowed_by sequence.new ≡ borrowed_by sequence.old }
+        ensures added { OnOk result (AddsInFront W.WriteExt.own (in_front self.now)
+            (state_of sequence.old) (state_of sequence.new)) }
+        ensures err { IfErr result (λ e. RefusesInFront W.WriteExt.own (in_front self.now)
+            (state_of sequence.old) e (state_of sequence.new)) };
+}
+
+impl<T: Serialize> SerializeMember for T {
+    ghost in_front = { λ value. Trees.more (T.meaning value) };
+
+    fn serialize_member<W: WriteExt>(&self, sequence: &mut Sequence<'_, W>) -> Result<()> {
+        sequence.serialize_element(self)
+    }
+}
+
+/// An element of a tuple, as a member: a value of any type, written as it is. One that is absent isn't read back, so the members of a
+/// struct that may be absent are `Optional`.
+#[derive(Debug, Drop, PartialEq, Eq)]
+pub struct Element<T>(pub T);
+
+impl<T: PartialEq> Element<T> {
+    /// Two are equal exactly where their values are.
+    pub fn equality()
+        ensures { IsThatOf ⟦<Element<T> as PartialEq>⟧.eq (λ element. element.0) T.eq }
+    {}
+}
+
+impl<T: Serialize> SerializeMember for Element<T> {
+    ghost in_front = { λ element. Trees.more (T.meaning element.0) };
+
+    fn serialize_member<W: WriteExt>(&self, sequence: &mut Sequence<'_, W>) -> Result<()> {
+        sequence.serialize_element(&self.0)
+    }
+}
+
+/// Members of a sequence: none, as `()`, or up to sixteen and those behind them, as `(A, B, C, ())`.
+pub trait SerializeMembers {
+    ghost use Rattle.picky_der_ser.specs.SequenceState.{borrowed_by, state_of};
+
+    // What the members mean, in their order.
+    ghost members: { Self → Trees };
+
+    /// Adds the members to the sequence. They are refused as `serialize_element` refuses one.
+    fn serialize_members<W: WriteExt>(&self, sequence: &mut Sequence<'_, W>) -> Result<()>
+        ensures same_reference { borrowed_by sequence.new ≡ borrowed_by sequence.old }
+        ensures added { OnOk result (AddsRow W.WriteExt.own (members self.now)
+            (state_of sequence.old) (state_of sequence.new)) }
+        ensures err { IfErr result (λ e. RefusesToAddRow W.WriteExt.own (members self.now)
+            (state_of sequence.old) e (state_of sequence.new)) };
+
+    /// Writes the members as a sequence, as the whole body of `Serialize::serialize` of a struct. It is refused as that is.
+    fn serialize_sequence<W: WriteExt>(&self, ser: &mut Serializer<W>) -> Result<usize>
+        ensures wrote { IfOk result (λ n. Writes W.WriteExt.own
+            (Tree.list ListKind.sequence (members self.now)) ser.old n ser.new) }
+        ensures failed { IfErr result (λ e. RefusesWrite W.WriteExt.own
+            (Tree.list ListKind.sequence (members self.now)) ser.old e ser.new) }
+        ensures untouched { IfErr result (λ e. UntouchedUnlessFailed W.WriteExt.own
+            ser.old.sink e ser.new.sink) }
+        ensures counted { IsOnceAtMost (W.faults ser.old.sink) (W.faults ser.new.sink) }
+        ensures goes_on { W.later ser.old.sink ser.new.sink }
+    {
+        let mut sequence = Sequence::serialize_lazy(ser, Tag::SEQUENCE);
+        self.serialize_members(&mut sequence)?;
+        sequence.end()
+    }
+}
+
+impl SerializeMembers for () {
+    ghost members = { λ _. Trees.none };
+
+    fn serialize_members<W: WriteExt>(&self, _sequence: &mut Sequence<'_, W>) -> Result<()> {
+        Ok(())
+    }
+}
