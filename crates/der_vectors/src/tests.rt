@@ -10,9 +10,13 @@ macro_rules! same {
 
 mod checks;
 mod contents;
+mod device_labels;
 mod entry_calls;
 mod equality;
 mod errors;
+mod jiff_times;
+mod key_algorithms;
+mod larger_types;
 mod lengths;
 mod pieces;
 mod raw_elements;

@@ -1,0 +1,2 @@
+mod Fractions
+mod SameDays
