@@ -1,7 +1,7 @@
 //! A look at the tag in front of a value.
-ghost use Rattle.std.specs.Prelude.{◌^◌, ◌-◌, nat_eq};
+ghost use Rattle.std.specs.Prelude.{◌^◌, ◌-◌, nat_eq, refl};
 ghost use Rattle.std.proofs.Common.{rules};
-ghost use Rattle.picky_der_core.specs.Tree.{Tree};
+ghost use Rattle.picky_der_core.specs.Integer.{unsigned_tree};
 ghost use Rattle.picky_der_de.specs.Known.{by_itself, known_number};
 
 use picky_asn1_der::misc::{ReadExt, WriteExt};
@@ -26,7 +26,7 @@ impl PartialEq for Seen {
 }
 
 impl Serialize for Seen {
-    ghost meaning = { λ x. Tree.unsigned x.number };
+    ghost meaning = { λ x. unsigned_tree (2 ^ 8 - 1) x.number };
 
     fn serialize<W: WriteExt>(&self, serializer: &mut Serializer<W>) -> Result<usize> {
         serializer.serialize_u8(self.number)
@@ -36,7 +36,7 @@ impl Serialize for Seen {
 impl Deserialize for Seen {
     ghost shape = { ⟦<u8 as Deserialize>⟧.shape };
 
-    ghost known = { known_number (2 ^ 8 - 1) (λ x. x.number) (λ x y. nat_eq x.number y.number) (λ x y h. h) };
+    ghost known = { known_number (2 ^ 8 - 1) refl (λ x. x.number) (λ x y. nat_eq x.number y.number) (λ x y h. h) };
 
     ghost tied = { by_itself };
 

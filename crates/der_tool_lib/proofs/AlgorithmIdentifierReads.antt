@@ -47,7 +47,7 @@ module _ {a b : State} {outer : Outer} (opened : OpensList 0x30 a b outer) where
 
   -- the first member is no object identifier
   pub no_algorithm : {c : State} {e : Asn1DerError} → RefusesMember (λ (x : TaggedBytes 0x06). Tree.bytes 0x06 x.0.items) (Shape.bytes 0x06) b c e → RefusesAlgorithm a c e
-  no_algorithm r = refused (rest_head (λ v bytes readable. first v.algorithm _ _ (refl, content_bytes 0x06 v.algorithm.0.items bytes.0) (omega arith) (same_element v.algorithm.0.items)) r)
+  no_algorithm r = refused (rest_head (λ v bytes readable. let content = content_bytes 0x06 v.algorithm.0.items bytes.0 in first v.algorithm _ _ (refl, content) (omega arith, content) (same_element v.algorithm.0.items)) r)
 
   module _ {s : Shape} {c : State} {t : Tree} (algorithm : ReadsMember s b c t) where
     -- the parameters are no element
@@ -71,7 +71,9 @@ module _ {a b : State} {outer : Outer} (opened : OpensList 0x30 a b outer) where
 
 -- the object identifier was read as its element
 algorithm_read : {b c : State} (x : List ℕ) → length x < 2 ^ 64 → ReadsMember (Shape.bytes 0x06) b c (Tree.bytes 0x06 x) → ReadsMember Shape.raw b c (Tree.raw (tlv 0x06 x))
-algorithm_read x small r = member_as (Tree.raw (tlv 0x06 x)) (element_bytes 0x06 x (omega arith) small r.reads.of_shape.1) (record { tag = 0x06; content = x; number = omega arith; is = refl }) (sym (same_element x)) r
+algorithm_read x small r =
+    let bytes = element_bytes 0x06 x (omega arith) small r.reads.of_shape.1 in
+    member_as (Tree.raw (tlv 0x06 x)) bytes (record { tag = 0x06; content = x; number = omega arith; is = refl }, bytes) (sym (same_element x)) r
 
 pub reads_algorithm : {a b c d f : State} {outer closed : Outer} (x : List ℕ) (p : Option Asn1RawDer) → length x < 2 ^ 64 → OpensList 0x30 a b outer → ReadsMember (Shape.bytes 0x06) b c (Tree.bytes 0x06 x)
     → IfSome p (λ v. ReadsMember Shape.raw c d (Tree.raw v.0.items)) → IfNone p (HasNoMore c d) → Closes closed d f → closed ≡ outer → Reads shape a f (list_meaning ListKind.sequence Tree.raw (tlv 0x06 x ∷ of_parameters p))

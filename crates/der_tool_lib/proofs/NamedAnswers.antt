@@ -9,7 +9,8 @@ use Rattle.picky_der_core.specs.declared.error.Asn1DerError.TheVariants as error
 use Rattle.picky_der_core.specs.Element.{IsPrefix}
 use Rattle.picky_der_core.specs.Tree.{Tree, trees}
 use Rattle.picky_der_core.specs.Encoding.{der}
-use Rattle.picky_der_core.specs.Readable.{has_tag_numbers, have_tag_numbers, IsWritable}
+use Rattle.picky_der_core.specs.Readable.{IsWritable}
+use Rattle.picky_der_core.specs.ReadableLaws.{readable-writable}
 use Rattle.picky_der_core.specs.Reading.{Place, StandsAt}
 use Rattle.picky_der_core.specs.Refusal.{plain_refusal, element_refusal, error_of}
 use Rattle.picky_der_de.specs.State.{State, fresh}
@@ -39,32 +40,12 @@ answers_read {type} {old} {new} {bytes} {answer} {digits} {taken} {t} v is r sam
     let text : digits ≡ encode_lower (der u) = d ∙ ap (λ x. encode_lower (der x)) (sym same) in
     read v stands (a ∙ ap (λ m. codes "ok " ++ (decimal m ++ (codes " " ++ digits))) size ∙ ap (λ x. codes "ok " ++ (decimal (length (der u)) ++ (codes " " ++ x))) text)
 
--- raw elements have no tag numbers of their own
-raw_numbers : (ss : List (List ℕ)) → IsTrue (have_tag_numbers (trees (map Tree.raw ss)))
-raw_numbers [] = refl
-raw_numbers (s ∷ ss) = raw_numbers ss
-
-numbers : (type : ValueType) (v : (description_of type).Value) → IsTrue (has_tag_numbers ((description_of type).meaning v))
-numbers named.Bool v = refl
-numbers named.U8 v = refl
-numbers named.U16 v = refl
-numbers named.U32 v = refl
-numbers named.U64 v = refl
-numbers named.U128 v = refl
-numbers named.Null v = refl
-numbers named.Char v = refl
-numbers named.Text v = refl
-numbers named.Octets v = refl
-numbers named.Raw v = refl
-numbers named.Test v = refl
-numbers named.Spki v = rw (raw_numbers (elements v.algorithm)) refl
-
 -- what was read can be written
 pub writable_read : (type : ValueType) {old new : State} {bytes : List ℕ} {taken : ℕ} {t : Tree} (v : (description_of type).Value) → old ≡ fresh (Some bytes) (length bytes) [] [] → ReadsNamed type old new v → (description_of type).meaning v ≡ t
     → taken ≡ new.taken → taken < 2 ^ 64 → IsWritable t
 writable_read type {new = new} v is r same n small =
     let h = subst (λ o. ReadsNamed type o new v) is r in
-    subst IsWritable same (record { numbers = numbers type v; fits = omega (arith, h.takes.taken, n, small) })
+    subst IsWritable same (readable-writable ((description_of type).meaning v) h.readable (omega (arith, h.takes.taken, n, small)))
 
 -- ---- refusals
 

@@ -5,8 +5,10 @@ use Rattle.std.proofs.Common.{ap}
 use Rattle.picky_der_core.specs.Element.{tlv}
 use Rattle.picky_der_core.specs.ElementLaws.{tlv-same}
 use Rattle.picky_der_core.specs.Tree.{ListKind, Tree, trees}
+use Rattle.picky_der_core.specs.Readable.{IsReadable}
+use Rattle.picky_der_core.specs.Shape.{Shape, IsOf}
 use Rattle.picky_der_ser.specs.Meaning.{list_meaning}
-use Rattle.picky_der_de.specs.InjectiveLaws.{both, raw_injective, bytes_injective, list_members, first_member, other_members}
+use Rattle.picky_der_de.specs.InjectiveLaws.{both, items_of_shape, raw_injective, bytes_injective, list_members, first_member, other_members}
 use Rattle.picky_asn1_der.specs.declared.raw_der.Asn1RawDer.{Asn1RawDer}
 use Rattle.picky_asn1_der.specs.contracts.raw_der.Asn1RawDerPartialEq.TheImpl as compared_raw
 use Rattle.der_tool_lib.specs.declared.algorithm_identifier.AlgorithmIdentifier.{AlgorithmIdentifier}
@@ -27,3 +29,7 @@ algorithm_injective x y e =
     let element : tlv 0x06 x.algorithm.0.items ≡ tlv 0x06 y.algorithm.0.items = cc in
     let contents = tlv-same 0x06 0x06 x.algorithm.0.items y.algorithm.0.items element in
     both (bytes_injective x.algorithm.0.items y.algorithm.0.items (ap (Tree.bytes 0x06) contents.1)) (parameters_injective x.parameters y.parameters (other_members members))
+
+-- readable ones are of the shape
+pub algorithm_has_shape : (x : AlgorithmIdentifier) → IsReadable (list_meaning ListKind.sequence Tree.raw (elements x)) → IsOf (Shape.list_of ListKind.sequence Shape.raw) (list_meaning ListKind.sequence Tree.raw (elements x))
+algorithm_has_shape x r = (refl, items_of_shape Tree.raw Shape.raw (λ s q. q.1) (elements x) r.1)

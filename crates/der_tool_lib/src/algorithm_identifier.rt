@@ -4,7 +4,7 @@ ghost use Rattle.picky_der_core.specs.Shape.{Shape};
 ghost use Rattle.picky_der_ser.specs.Meaning.{list_meaning};
 ghost use Rattle.picky_der_de.specs.Known.{by_itself};
 ghost use Rattle.der_tool_lib.specs.AlgorithmIdentifier.{elements};
-ghost use Rattle.der_tool_lib.specs.AlgorithmIdentifierLaws.{algorithm_injective};
+ghost use Rattle.der_tool_lib.specs.AlgorithmIdentifierLaws.{algorithm_injective, algorithm_has_shape};
 
 use picky_asn1_der::asn1::ObjectIdentifierAsn1;
 use picky_asn1_der::misc::{ReadExt, WriteExt};
@@ -37,6 +37,7 @@ impl Deserialize for AlgorithmIdentifier {
     ghost known = { record {
       meaning = ⟦<Self as Serialize>⟧.meaning;
       equal = ⟦<Self as PartialEq>⟧.eq;
+      has_shape = λ a r. algorithm_has_shape a r;
       injective = λ x y p q r e. algorithm_injective x y e;
       sound = tt;
       begun = λ x b h. h;

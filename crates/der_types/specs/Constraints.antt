@@ -50,7 +50,3 @@ abbrev pub tree_bytes : Tree → List ℕ
 tree_bytes (Tree.text s) = s
 tree_bytes (Tree.bytes tag s) = s
 tree_bytes _ = []
-
-abbrev pub tree_number : Tree → ℕ
-tree_number (Tree.unsigned n) = n
-tree_number _ = 0

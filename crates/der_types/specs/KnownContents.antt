@@ -1,5 +1,5 @@
 -- What is known of a type whose values are told by their contents.
-use Rattle.std.specs.Prelude.{◌≡◌, ℕ, List, Bool, true}
+use Rattle.std.specs.Prelude.{◌≡◌, ℕ, List, Bool, true, refl}
 use Rattle.picky_der_core.specs.Tree.{Tree}
 use Rattle.picky_der_core.specs.Shape.{Shape}
 use Rattle.picky_der_de.specs.Known.{Known}
@@ -12,6 +12,7 @@ abbrev pub known_contents : {V : Type 0} (tag : ℕ) (content : V → List ℕ) 
 known_contents tag content eq same = record {
   meaning = λ v. Tree.bytes tag (content v);
   equal = eq;
+  has_shape = λ v r. (refl, r.1);
   injective = λ x y p q r e. same x y (same_bytes (content x) (content y) e);
   sound = tt;
   begun = λ v b h. h;

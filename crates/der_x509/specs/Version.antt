@@ -1,7 +1,7 @@
 -- The numbers that versions mean.
-use Rattle.std.specs.Prelude.{ℕ, ◌≤◌, Bool, true, false, refl}
+use Rattle.std.specs.Prelude.{ℕ, ◌^◌, ◌-◌, ◌≤◌, Bool, true, false, refl}
 use Rattle.std.proofs.Common.{arith}
-use Rattle.picky_der_core.specs.Tree.{Tree}
+use Rattle.picky_der_core.specs.Integer.{unsigned_tree}
 use Rattle.picky_der_ser.specs.Defaults.{IsByTree}
 use Rattle.der_x509.specs.declared.version.Version.{Version}
 use Rattle.der_x509.specs.declared.version.Version.TheVariants.{V1, V2, V3}
@@ -21,7 +21,7 @@ is_v1 V1 = true
 is_v1 V2 = false
 is_v1 V3 = false
 
-pub v1_by_tree : IsByTree (λ v. Tree.unsigned (version_number v)) is_v1
+pub v1_by_tree : IsByTree (λ v. unsigned_tree (2 ^ 8 - 1) (version_number v)) is_v1
 v1_by_tree V1 V1 h = (λ k. refl, λ e. refl)
 v1_by_tree V1 V2 h = (λ k. cc, λ e. cc)
 v1_by_tree V1 V3 h = (λ k. cc, λ e. cc)

@@ -1,7 +1,7 @@
 //! Versions of certificates.
 ghost use Rattle.std.specs.Prelude.{◌≡◌, ◌<◌, ◌^◌, ◌-◌, IfSome, IfNone, refl};
 ghost use Rattle.picky_der_core.specs.Equality.{IsKept};
-ghost use Rattle.picky_der_core.specs.Tree.{Tree};
+ghost use Rattle.picky_der_core.specs.Integer.{unsigned_tree};
 ghost use Rattle.picky_der_de.specs.Known.{by_itself, known_number};
 ghost use Rattle.der_x509.specs.declared.version.Version.TheVariants as version;
 ghost use Rattle.der_x509.specs.Version.{version_number, is_v1, v1_by_tree};
@@ -45,7 +45,7 @@ impl Version {
 }
 
 impl Serialize for Version {
-    ghost meaning = { λ v. Tree.unsigned (version_number v) };
+    ghost meaning = { λ v. unsigned_tree (2 ^ 8 - 1) (version_number v) };
 
     fn serialize<W: WriteExt>(&self, serializer: &mut Serializer<W>) -> Result<usize> {
         serializer.serialize_u8(match self {
@@ -59,7 +59,7 @@ impl Serialize for Version {
 impl Deserialize for Version {
     ghost shape = { ⟦<u8 as Deserialize>⟧.shape };
 
-    ghost known = { known_number (2 ^ 8 - 1) version_number ⟦<Self as PartialEq>⟧.eq (elim [
+    ghost known = { known_number (2 ^ 8 - 1) refl version_number ⟦<Self as PartialEq>⟧.eq (elim [
       | version.V1 ↦ elim [ version.V1 ↦ λ h. h | _ ↦ λ h. h ]
       | version.V2 ↦ elim [ version.V2 ↦ λ h. h | _ ↦ λ h. h ]
       | version.V3 ↦ elim [ version.V3 ↦ λ h. h | _ ↦ λ h. h ]

@@ -1,15 +1,14 @@
 -- What is known of bytes that were read whole, and of those that were refused.
-use Rattle.std.proofs.Common.{◌≡◌, ◌≢◌, ℕ, ◌^◌, ◌<◌, ◌⊎◌, inl, inr, Bool, true, List, [], ◌++◌, length, refl, sym, subst, ◌∙◌, ap, arith, le-leb, append-nil}
-use Rattle.std.specs.Prelude.{IsTrue, take}
+use Rattle.std.proofs.Common.{◌≡◌, ◌≢◌, ℕ, ◌^◌, ◌<◌, ◌⊎◌, inl, inr, Bool, List, [], ◌++◌, length, refl, sym, subst, ◌∙◌, ap, arith, append-nil}
+use Rattle.std.specs.Prelude.{take}
 use Rattle.std.proofs.Math.Nat.{eq-or-lt_of_le}
 use Rattle.std.proofs.Math.Seq.{take-length, take-append_seam}
 use Rattle.picky_der_core.specs.declared.error.Asn1DerError.{Asn1DerError}
 use Rattle.picky_der_core.specs.declared.error.Asn1DerError.TheVariants.{OutOfMemory}
-use Rattle.picky_der_core.specs.Tag.{number_of, is_tag_number, is_constructed_tag}
-use Rattle.picky_der_core.specs.TagLaws.{is_constructed_tag-true}
-use Rattle.picky_der_core.specs.Tree.{Tree, Trees}
+use Rattle.picky_der_core.specs.Tree.{Tree}
 use Rattle.picky_der_core.specs.Encoding.{der}
-use Rattle.picky_der_core.specs.Readable.{IsReadable, AreReadable, IsWritable, has_tag_numbers, have_tag_numbers}
+use Rattle.picky_der_core.specs.Readable.{IsWritable}
+use Rattle.picky_der_core.specs.ReadableLaws.{readable-writable}
 use Rattle.picky_der_core.specs.Reading.{ReadsFrom}
 use Rattle.picky_der_core.specs.Shape.{Shape}
 use Rattle.picky_der_de.specs.Whole.{IsWhole, IsNoEncoding}
@@ -34,30 +33,8 @@ module _ {V : Type 0} {meaning : V → Tree} {s : Shape} {bytes : List ℕ} {e :
 
 -- ---- writing again
 
-mutual
-  numbers : (t : Tree) → IsReadable t → IsTrue (has_tag_numbers t)
-  numbers (Tree.boolean b) r = refl
-  numbers (Tree.unsigned n) r = refl
-  numbers Tree.null r = refl
-  numbers (Tree.text s) r = refl
-  numbers (Tree.bytes tag s) r = le-leb (number_of tag) 30 r
-  numbers (Tree.list kind ts) r = all_numbers ts r.1
-  numbers (Tree.octet_container t) r = numbers t r
-  numbers (Tree.bit_container t) r = numbers t r
-  numbers (Tree.explicit n t) r = let e : is_tag_number n ≡ true = le-leb n 30 r.0 in rw e (numbers t r.1)
-  numbers (Tree.implicit n t) r = let e : is_tag_number n ≡ true = le-leb n 30 r.0 in rw e (numbers t r.2)
-  numbers (Tree.application n t) r = let e : is_tag_number n ≡ true = le-leb n 30 r.0 in rw e (numbers t r.1)
-  numbers (Tree.retagged tag t) r = let e : is_constructed_tag tag ≡ true = is_constructed_tag-true tag r.0 in rw e (numbers t r.2)
-  numbers (Tree.raw s) r = refl
-  numbers (Tree.choice t) r = numbers t r
-  numbers Tree.absent r = absurd r
-
-  all_numbers : (ts : Trees) → AreReadable ts → IsTrue (have_tag_numbers ts)
-  all_numbers Trees.none r = refl
-  all_numbers (Trees.more t ts) r = let e : has_tag_numbers t ≡ true = numbers t r.0 in rw e (all_numbers ts r.1)
-
 -- what was read can be written
 pub whole_writable : {V : Type 0} {meaning : V → Tree} {s : Shape} {eq : V → V → Bool} {bytes : List ℕ} {v : V} → IsWhole meaning s eq bytes v → length bytes < 2 ^ 64 → IsWritable (meaning v)
 whole_writable {meaning = meaning} {bytes = bytes} {v = v} w small =
     let size : length bytes ≡ length (der (meaning v)) = ap length w.is.encoding in
-    record { numbers = numbers (meaning v) w.is.readable; fits = omega (arith, size, small) }
+    readable-writable (meaning v) w.is.readable (omega (arith, size, small))

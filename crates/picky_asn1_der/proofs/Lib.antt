@@ -1,2 +1,3 @@
 pub mod RawTags
 mod ListContents
+mod RoundTrips

@@ -11,11 +11,15 @@ ghost use Rattle.picky_der_ser.specs.Calls.{MemoryExcuse};
 use crate::{Asn1DerError, Deserialize, Result, from_bytes, to_vec};
 use std::alloc::Global;
 
+/// A readable value of a type is of its shape.
+pub fn readable_has_shape<T: Deserialize>()
+    ensures { (value : T) → IsReadable (T.meaning value) → IsOf T.shape (T.meaning value) }
+{}
+
 /// Writes a value and reads it back: it is equal to the value, and means the same tree.
 ///
-/// `OutOfMemory` where memory was refused, and `UnsupportedValue` where the value can't be written.
+/// `OutOfMemory` where an allocation failed, and `UnsupportedValue` where the encoding is longer than `usize::MAX`.
 pub fn read_back<T: Deserialize>(alloc: Global, value: &T) -> Result<T>
-    requires of_shape { IsOf T.shape (T.meaning value.now) }
     requires readable { IsReadable (T.meaning value.now) }
     ensures equal { IfOk result (λ back. T.eq back value.now ≡ true) }
     ensures same { IfOk result (λ back. T.meaning back ≡ T.meaning value.now) }
@@ -27,15 +31,14 @@ pub fn read_back<T: Deserialize>(alloc: Global, value: &T) -> Result<T>
 
 /// Reads the value at the front of some bytes and writes it again: what is written is what was read, byte for byte.
 ///
-/// `OutOfMemory` where memory was refused; any other error means that no value that can be written stands there.
+/// `OutOfMemory` where an allocation failed; any other error means that no value stands there.
 pub fn written_back<T: Deserialize>(alloc: Global, bytes: &[u8]) -> Result<Vec<u8>>
     ensures written { IfOk result (λ again. (v : T)
         × ReadsFrom T.meaning T.shape bytes.now (length bytes.now) v
         × (again.items ≡ der (T.meaning v))) }
     ensures same { IfOk result (λ again. IsPrefix again.items bytes.now) }
     ensures err { IfErr result (λ e. e ≢ Asn1DerError.OutOfMemory → (v : T)
-        → ReadsFrom T.meaning T.shape bytes.now (length bytes.now) v
-        → IsWritable (T.meaning v) → ⊥) }
+        → ReadsFrom T.meaning T.shape bytes.now (length bytes.now) v → ⊥) }
 {
     let value: T = from_bytes(alloc, bytes)?;
     to_vec(alloc, &value)

@@ -35,7 +35,7 @@ struct_is_of : IsOf struct_shape struct
 struct_is_of = ((refl, ((omega arith, omega arith), ((refl, (omega arith, (omega arith, tt))), ((refl, ((omega arith, omega arith), (tt, tt))), tt)))))
 
 struct_is_readable : IsReadable struct
-struct_is_readable = (tt, (tt, (omega arith, ((tt, (tt, (tt, tt))), tt))))
+struct_is_readable = (tt, (tt, ((omega arith, (omega arith, (omega arith, tt))), ((tt, (tt, (tt, tt))), tt))))
 
 -- ---- a struct of an identifier, a flag that may be missing, and bytes
 
@@ -76,7 +76,7 @@ as_raw = inr (inl (omega arith, (omega arith, tt)))
 
 raw_is_readable : IsReadable (Tree.choice (Tree.raw (0x05 ∷ 0x00 ∷ [])))
 unfolding der_on_literals
-raw_is_readable = record { tag = 0x05; content = []; number = omega arith; is = refl }
+raw_is_readable = (record { tag = 0x05; content = []; number = omega arith; is = refl }, (omega arith, (omega arith, tt)))
 
 same_encoding : der (Tree.choice Tree.null) ≡ der (Tree.choice (Tree.raw (0x05 ∷ 0x00 ∷ [])))
 unfolding der_on_literals

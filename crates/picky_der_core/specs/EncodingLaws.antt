@@ -196,7 +196,7 @@ der-element (Tree.boolean b) r = plain_encoding_element _ _ (omega arith)
 der-element (Tree.unsigned n) r = plain_encoding_element _ _ (omega arith)
 der-element Tree.null r = plain_encoding_element _ _ (omega arith)
 der-element (Tree.text s) r = plain_encoding_element _ _ (omega arith)
-der-element (Tree.bytes tag s) r = plain_encoding_element _ _ r
+der-element (Tree.bytes tag s) r = plain_encoding_element _ _ r.0
 der-element (Tree.list kind ts) r = plain_encoding_element _ _ (list_tag_number kind)
 der-element (Tree.octet_container t) r = wrapper_encoding_element t _ _ (is_absent-readable t r) (omega arith)
 der-element (Tree.bit_container t) r = wrapper_encoding_element t _ _ (is_absent-readable t r) (omega arith)
@@ -204,22 +204,22 @@ der-element (Tree.explicit n t) r = wrapper_encoding_element t _ _ (is_absent-re
 der-element (Tree.implicit n t) r = wrapper_encoding_element t _ _ (is_absent-readable t r.2) (omega arith)
 der-element (Tree.application n t) r = record { tag = 0x60 + n; content = _; number = omega arith; is = refl }
 der-element (Tree.retagged tag t) r = wrapper_encoding_element t _ _ (is_absent-readable t r.2) r.0.0
-der-element (Tree.raw s) r = r
+der-element (Tree.raw s) r = r.0
 der-element (Tree.choice t) r = der-element t r
 der-element Tree.absent r = absurd r
 
--- no encoding of a readable tree begins another
+-- no element begins another
+pub same_element : (b c x y : List ℕ) → IsElement b → IsElement c → b ++ x ≡ c ++ y → (b ≡ c) × (x ≡ y)
+same_element b c x y p q e =
+    let h : tlv p.tag p.content ++ x ≡ tlv q.tag q.content ++ y = ap (λ z. z ++ x) (sym p.is) ∙ e ∙ ap (λ z. z ++ y) q.is in
+    let parts = tlv_prefix p.tag q.tag p.content q.content x y h in
+    let tag : p.tag ≡ q.tag = parts.0 in
+    let content : p.content ≡ q.content = parts.1 in
+    (p.is ∙ (cc) ∙ sym q.is, parts.2)
+
+-- so no encoding of a readable tree begins another
 pub same_encoding : (t u : Tree) (a b : List ℕ) → IsReadable t → IsReadable u → der t ++ a ≡ der u ++ b → (der t ≡ der u) × (a ≡ b)
-same_encoding t u a b r q e =
-    let p = der-element t r in
-    let s = der-element u q in
-    let f : der t ≡ tlv p.tag p.content = p.is in
-    let g : der u ≡ tlv s.tag s.content = s.is in
-    let h : tlv p.tag p.content ++ a ≡ tlv s.tag s.content ++ b = cc in
-    let parts = tlv_prefix p.tag s.tag p.content s.content a b h in
-    let x : p.tag ≡ s.tag = parts.0 in
-    let c : p.content ≡ s.content = parts.1 in
-    (cc, parts.2)
+same_encoding t u a b r q e = same_element (der t) (der u) a b (der-element t r) (der-element u q) e
 
 -- it isn't empty
 pub length-der : (t : Tree) → IsReadable t → 0 < length (der t)

@@ -124,7 +124,7 @@ character_first _ p r = absurd p
 bytes_first : (tag : ℕ) (t : Tree) → IsBytes tag t → IsReadable t → BeginsIn (tag_with_number (number_of tag) tag) t
 unfolding der tree_bytes
 bytes_first tag (Tree.bytes x s) p r =
-    subst (λ n. BeginsIn (tag_with_number (number_of n) n) (Tree.bytes x s)) p.0 (begins_plain_encoding x _ _ (Tree.bytes x s) refl (contains_numbered (number_of x) x r))
+    subst (λ n. BeginsIn (tag_with_number (number_of n) n) (Tree.bytes x s)) p.0 (begins_plain_encoding x _ _ (Tree.bytes x s) refl (contains_numbered (number_of x) x r.0))
 bytes_first tag _ p r = absurd p
 
 list_first : (kind : ListKind) (P : Trees → Type 0) (t : Tree) → IsList kind P t → IsReadable t → BeginsIn (list_tag kind ∷ []) t
@@ -170,8 +170,9 @@ retagged_first tag P _ p r = absurd p
 raw_first : (t : Tree) → IsRaw t → IsReadable t → BeginsIn (tags_below 256) t
 unfolding der tree_bytes tlv
 raw_first (Tree.raw s) p r =
-    let bytes : AreBytes (tlv r.tag r.content) = subst AreBytes r.is p in
-    begins_tlv _ _ _ (Tree.raw s) r.is (contains-tags_below r.tag 256 bytes.0 r.number)
+    let element = r.0 in
+    let bytes : AreBytes (tlv element.tag element.content) = subst AreBytes element.is r.1 in
+    begins_tlv _ _ _ (Tree.raw s) element.is (contains-tags_below element.tag 256 bytes.0 element.number)
 raw_first _ p r = absurd p
 
 -- a readable tree of an optional shape is there

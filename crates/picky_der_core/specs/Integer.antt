@@ -73,3 +73,12 @@ content_within fits z = if fits z then integer_content z else 0xFF ∷ 0x100 ∷
 -- what a number of a type means: `integer_tree z`, and for a number that the type doesn't have what is never read
 abbrev pub int_tree : (ℤ → Bool) → ℤ → Tree
 int_tree fits z = Tree.bytes 0x02 (content_within fits z)
+
+-- A number that an unsigned type doesn't have means what is never read, since no tag has the number 31.
+abbrev pub within : Bool → Tree → Tree
+within true t = t
+within false t = Tree.explicit 31 t
+
+-- what a number of an unsigned type means, by the greatest that it has: `Tree.unsigned n`
+abbrev pub unsigned_tree : ℕ → ℕ → Tree
+unsigned_tree most n = within (not (nat_lt most n)) (Tree.unsigned n)

@@ -20,6 +20,7 @@ pub mod EncodingLaws
 pub mod WrapperLaws
 pub mod FirstLaws
 pub mod ShapeLaws
+pub mod ReadableLaws
 pub mod Laws
 pub mod Faults
 pub mod Reader
@@ -34,6 +35,7 @@ pub mod WriterFaults
 pub mod UnsignedLaws
 pub mod IntegerLaws
 pub mod IntLaws
+pub mod UnsignedTreeLaws
 pub mod BooleanLaws
 pub mod Lengths
 pub mod LengthLaws

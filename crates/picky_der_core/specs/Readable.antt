@@ -1,10 +1,11 @@
 -- Which trees are read back, and which are written.
-use Rattle.std.specs.Prelude.{ℕ, ◌<◌, ◌^◌, Bool, true, ◌&&◌, List, length, ⊤, IsTrue}
+use Rattle.std.specs.Prelude.{ℕ, ◌<◌, ◌^◌, Bool, true, ◌&&◌, List, length, IsUtf8, ⊤, IsTrue}
 use Rattle.picky_der_core.specs.Tag.{number_of, is_tag_number, IsTagNumber, IsConstructedTag, is_constructed_tag}
 use Rattle.picky_der_core.specs.Tree.{ListKind, Tree, Trees}
 use Rattle.picky_der_core.specs.Order.{IsAscending}
 use Rattle.picky_der_core.specs.Element.{IsElement}
 use Rattle.picky_der_core.specs.Encoding.{encodings, der}
+use Rattle.picky_der_core.specs.Shape.{AreBytes}
 
 -- no choice stands here
 abbrev pub IsNoChoice : Tree → Type 0
@@ -17,14 +18,15 @@ IsInOrder ListKind.sequence members = ⊤
 IsInOrder ListKind.set members = IsAscending members
 
 -- Nothing in it is absent, each raw part is one element, each tag number is at most 30, each tag in place of a list's own is
--- constructed, no choice stands directly under an implicit tag, and the members of each set stand in ascending order.
+-- constructed, no choice stands directly under an implicit tag, and the members of each set stand in ascending order. As in every value
+-- that a program has, each byte is a byte and each text is UTF-8.
 abbrev mutual
   pub IsReadable : Tree → Type 0
   IsReadable (Tree.boolean b) = ⊤
   IsReadable (Tree.unsigned n) = ⊤
   IsReadable Tree.null = ⊤
-  IsReadable (Tree.text s) = ⊤
-  IsReadable (Tree.bytes tag s) = IsTagNumber (number_of tag)
+  IsReadable (Tree.text s) = IsUtf8 s
+  IsReadable (Tree.bytes tag s) = IsTagNumber (number_of tag) × AreBytes s
   IsReadable (Tree.list kind ts) = IsInOrder kind (encodings ts) × AreReadable ts
   IsReadable (Tree.octet_container t) = IsReadable t
   IsReadable (Tree.bit_container t) = IsReadable t
@@ -32,7 +34,7 @@ abbrev mutual
   IsReadable (Tree.implicit n t) = IsTagNumber n × IsNoChoice t × IsReadable t
   IsReadable (Tree.application n t) = IsTagNumber n × IsReadable t
   IsReadable (Tree.retagged tag t) = IsConstructedTag tag × IsNoChoice t × IsReadable t
-  IsReadable (Tree.raw s) = IsElement s
+  IsReadable (Tree.raw s) = IsElement s × AreBytes s
   IsReadable (Tree.choice t) = IsReadable t
   IsReadable Tree.absent = ⊥
 

@@ -6,12 +6,14 @@ use Rattle.picky_der_core.specs.Readable.{AreReadable}
 use Rattle.picky_der_core.specs.Encoding.{encodings, list_tag}
 use Rattle.picky_der_core.specs.Shape.{Shape, IsOf, IsFirst, AreMembersOf, EachIs}
 use Rattle.picky_der_input.specs.State.{State}
-use Rattle.picky_der_input.specs.Steps.{Takes, Fails, IsJudged}
+use Rattle.picky_der_input.specs.Steps.{Takes, Fails, IsJudged, place_of}
 use Rattle.picky_der_input.specs.Order.{AreInOrder, without_order}
-use Rattle.picky_der_input.specs.Reading.{Refuses}
+use Rattle.picky_der_input.specs.Reading.{Reads, Refuses}
 use Rattle.picky_der_input.specs.Ends.{Outer, OpensList, RefusesList}
 use Rattle.picky_der_de.specs.Members.{ReadsMember, RefusesMember, members_encoding, StandUpToEnd, ReadsRow, RefusesRest}
-use Rattle.picky_der_de.specs.ArrayLaws.{times, array_of}
+use Rattle.picky_der_core.specs.Reading.{StandsAt}
+use Rattle.picky_der_ser.specs.Meaning.{list_meaning, array_meaning}
+use Rattle.picky_der_de.specs.ArrayLaws.{times, array_of, array_meaning-list, array_meaning-readable}
 use Rattle.picky_der_input.proofs.Steps.{takes_none, takes_then}
 use Rattle.picky_der_de.proofs.MemberReads.{members_encoding-none, takes_member, member_not_implicit, none_left}
 use Rattle.picky_der_de.proofs.Rests.{FirstIsUnread, unread_first, IsAhead, Follow, rest_head, rest_after, rest_unopened, rest_refused}
@@ -107,3 +109,16 @@ module _ {V : Type 0} (meaning : V → Tree) (n : ℕ) (s : Shape) {a : State} w
 
   pub array_refused : {b c : State} {outer : Outer} {e : Asn1DerError} → OpensList 0x30 a b outer → RefusesTimes meaning n s b c e → Refuses (λ vs. Tree.list ListKind.sequence (trees (map meaning vs))) (array_of n s) a c e
   array_refused o r = rest_refused {kind = ListKind.sequence} (array_first n s) (λ v of_shape. of_shape.1) o r
+
+  -- by what arrays mean
+  pub array_reads : {b : State} (vs : List V) → length vs ≡ n → Reads (array_of n s) a b (list_meaning ListKind.sequence meaning vs) → Reads (array_of n s) a b (array_meaning n meaning vs)
+  array_reads {b} vs full h = subst (Reads (array_of n s) a b) (sym (array_meaning-list meaning n vs full)) h
+
+  pub array_refuses : {b : State} {e : Asn1DerError} (slots : ℕ) → slots ≡ n → Refuses (list_meaning ListKind.sequence meaning) (array_of slots s) a b e → Refuses (array_meaning n meaning) (array_of n s) a b e
+  array_refuses {b} {e} slots same r =
+      let h = subst (λ m. Refuses (list_meaning ListKind.sequence meaning) (array_of m s) a b e) same r in
+      record {
+        fails = h.fails;
+        none = λ j end bs k vs st. h.none j end bs k vs (subst (StandsAt (place_of a) (array_of n s) bs end) (array_meaning-readable meaning n vs st.readable) st);
+        first = h.first;
+      }

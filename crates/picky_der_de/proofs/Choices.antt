@@ -12,7 +12,7 @@ use Rattle.picky_der_input.specs.Reading.{Concerns, Reads, Refuses}
 use Rattle.picky_der_input.specs.LookAhead.{Peeks, HidesChoice, no_byte, implicit, RefusesChoice}
 use Rattle.picky_der_de.specs.declared.alternatives.OneOf.{OneOf}
 use Rattle.picky_der_de.specs.declared.alternatives.OneOf.TheVariants.{This, Other}
-use Rattle.picky_der_de.specs.Firsts.{IsBegunBy, begins_among, bytes_in_one}
+use Rattle.picky_der_de.specs.Firsts.{IsBegunBy, begins_among}
 use Rattle.picky_der_de.specs.Choices.{chosen_of, ReadsBehind, RefusesBehind, of_this, of_other}
 use Rattle.picky_der_input.proofs.Refusals.{missing_first}
 use Rattle.picky_der_de.proofs.Peeked.{no_implicit_tag, peeks_takes, peeks_fails, peeks_judged, peeks_concerns, peeks_front, peeked_first, is_whole, nothing_whole}
@@ -32,7 +32,7 @@ alternative {u = u} o st = record {
 -- the first byte there is one with which it begins
 stands_begun : {ss : Shapes} {bs left : List ℕ} {end x : ℕ} {u : Tree} (fs : List ℕ) → IsBegunBy fs u → StandsAt Place.whole (Shape.choice ss) bs end (Tree.choice u) → bs ≡ x ∷ left → contains fs x ≡ true
 stands_begun {ss} {bs} {left} {end} {x} {u} fs f st e =
-    let h = begins_among fs u f st.readable (bytes_in_one ss u st.of_shape) in
+    let h = begins_among fs u f st.readable in
     let d = der-choice u ∙ h.is in
     let q : h.first ∷ (h.others ++ st.front.rest) ≡ x ∷ left = sym (ap (λ z. z ++ st.front.rest) d) ∙ sym st.front.is ∙ e in
     let same : h.first ≡ x = cc in

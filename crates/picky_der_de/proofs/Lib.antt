@@ -6,6 +6,7 @@ pub mod Peeked
 pub mod SeenMembers
 pub mod Choices
 pub mod OtherValues
+pub mod NumberReads
 pub mod MemberReads
 pub mod PassedOn
 pub mod Rests

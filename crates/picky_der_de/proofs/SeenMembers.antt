@@ -4,7 +4,7 @@ use Rattle.picky_der_core.specs.declared.error.Asn1DerError.{Asn1DerError}
 use Rattle.picky_der_core.specs.declared.error.Asn1DerError.TheVariants.{InvalidData, OutOfMemory}
 use Rattle.picky_der_core.specs.Tree.{Tree}
 use Rattle.picky_der_core.specs.Encoding.{der}
-use Rattle.picky_der_core.specs.EncodingLaws.{der-raw, same_encoding}
+use Rattle.picky_der_core.specs.EncodingLaws.{der-element, same_element}
 use Rattle.picky_der_core.specs.Shape.{Shape}
 use Rattle.picky_der_input.specs.State.{OpenSets, State}
 use Rattle.picky_der_input.specs.Steps.{Takes, Fails, failed_with}
@@ -57,8 +57,7 @@ module _ {before a : State} {less : Bool} (h : SeesMember before a less) (whole 
   seen_is_read {s} {c} {t} r =
       let m : Takes before (record c { sets = before.sets }) (der t) = takes_whole (reads_before r) was_whole in
       let p = front_consumed before.input c.input (der t) (h.member ++ h.left) m.input h.known in
-      let e : der (Tree.raw h.member) ++ h.left ≡ der t ++ p.0 = ap (λ x. x ++ h.left) (der-raw h.member) ∙ p.2 in
-      sym (same_encoding (Tree.raw h.member) t h.left p.0 h.element r.readable e).0 ∙ der-raw h.member
+      sym (same_element h.member (der t) h.left p.0 h.element (der-element t r.readable) p.2).0
 
   refuses_before : {V : Type 0} {meaning : V → Tree} {s : Shape} {c : State} {e : Asn1DerError} → Refuses meaning s a c e → Refuses meaning s before c e
   refuses_before {V} {meaning} {s} {c} {e} r =

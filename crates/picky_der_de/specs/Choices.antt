@@ -12,8 +12,8 @@ use Rattle.picky_der_input.specs.Reading.{Reads, Refuses}
 use Rattle.picky_der_input.specs.LookAhead.{Peeks}
 use Rattle.picky_der_de.specs.declared.alternatives.OneOf.{OneOf}
 use Rattle.picky_der_de.specs.declared.alternatives.OneOf.TheVariants.{This, Other}
-use Rattle.picky_der_de.specs.Firsts.{IsBegunBy, begins_among, bytes_in, bytes_in_one}
-use Rattle.picky_der_de.specs.InjectiveLaws.{IsInjective}
+use Rattle.picky_der_de.specs.Firsts.{IsBegunBy, begins_among}
+use Rattle.picky_der_de.specs.InjectiveLaws.{IsInjective, HasShape}
 
 -- what a value of one alternative, or of those behind it, means
 abbrev pub chosen_of : {A B : Type 0} → (A → Tree) → (B → Tree) → OneOf A B → Tree
@@ -51,7 +51,7 @@ module _ {A B : Type 0} (m : A → Tree) (n : B → Tree) (s : Shape) (ss : Shap
   module _ (w : IsTrue (are_apart (firsts s) (firsts_of ss))) where
     -- a value of this alternative is of no other's shape
     no_other : (a : A) → IsReadable (m a) → IsOneOf ss (m a) → ⊥
-    no_other a r o = apart_differ (firsts s) (firsts_of ss) (m a) (m a) w (begins_among (firsts s) (m a) (this a) r (bytes_in_one ss (m a) o)) (begins_in_one ss (m a) o r) refl
+    no_other a r o = apart_differ (firsts s) (firsts_of ss) (m a) (m a) w (begins_among (firsts s) (m a) (this a) r) (begins_in_one ss (m a) o r) refl
 
     pub of_this : (a : A) → IsReadable (m a) → IsOf s (m a) ⊎ IsOneOf ss (m a) → IsOf s (m a)
     of_this a r (inl o) = o
@@ -59,7 +59,7 @@ module _ {A B : Type 0} (m : A → Tree) (n : B → Tree) (s : Shape) (ss : Shap
 
     -- one of another isn't of this one's
     no_this : (b : B) → IsReadable (n b) → IsOf s (n b) → ⊥
-    no_this b r o = apart_differ (firsts s) (firsts_of ss) (n b) (n b) w (begins_in s (n b) o r) (begins_among (firsts_of ss) (n b) (other b) r (bytes_in s (n b) o)) refl
+    no_this b r o = apart_differ (firsts s) (firsts_of ss) (n b) (n b) w (begins_in s (n b) o r) (begins_among (firsts_of ss) (n b) (other b) r) refl
 
     pub of_other : (b : B) → IsReadable (n b) → IsOf s (n b) ⊎ IsOneOf ss (n b) → IsOneOf ss (n b)
     of_other b r (inl o) = absurd (no_this b r o)
@@ -77,6 +77,11 @@ module _ {A B : Type 0} (m : A → Tree) (n : B → Tree) (s : Shape) (ss : Shap
   this_or_other_injective k l told (Other b) (Other d) o p r e =
       let r' = subst IsReadable e r in
       l told.1 b d (of_other told.0 b r o) (of_other told.0 d r' p) r e
+
+-- readable values of alternatives are of their shapes
+pub this_or_other_has_shape : {A B : Type 0} (m : A → Tree) (n : B → Tree) (s : Shape) (ss : Shapes) → HasShape m s → ((b : B) → IsReadable (n b) → IsOneOf ss (n b)) → (v : OneOf A B) → IsReadable (chosen_of m n v) → IsOneOf (Shapes.more s ss) (chosen_of m n v)
+this_or_other_has_shape m n s ss this other (This a) r = inl (this a r)
+this_or_other_has_shape m n s ss this other (Other b) r = inr (other b r)
 
 -- of the choice of them
 pub choice_injective : {P : Type 0} (m : P → Tree) (ss : Shapes) (eq : P → P → Bool) → AreTold ss → AreKnownApart m ss eq → IsInjective (λ p. Tree.choice (m p)) (Shape.choice ss) eq

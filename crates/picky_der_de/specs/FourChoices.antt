@@ -27,6 +27,7 @@ module _ {A B C D E : Type 0} where
         chosen = λ v. all.chosen (one_by_one v);
         equal = λ x y. all.equal (one_by_one x) (one_by_one y);
         begun = λ v. all.begun (one_by_one v);
+        has_shape = λ v. all.has_shape (one_by_one v);
         apart = λ told x y. all.apart told (one_by_one x) (one_by_one y);
         sound = all.sound;
       }

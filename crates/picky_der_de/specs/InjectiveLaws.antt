@@ -1,16 +1,17 @@
 -- A tree tells its value.
-use Rattle.std.specs.Prelude.{◌≡◌, ℕ, ℤ, List, [], ◌∷◌, Bool, true, false, ◌&&◌, map, nat_eq, Some, None, encode_utf8, refl}
+use Rattle.std.specs.Prelude.{◌≡◌, ℕ, ℤ, List, [], ◌∷◌, Bool, true, false, ◌&&◌, map, length, nat_eq, Some, None, encode_utf8, refl}
 use Rattle.std.specs.Option.{option_eq}
 use Rattle.std.specs.Ordering.{int_eq}
 use Rattle.std.proofs.lemmas.Bool.Decides.{Decides-int_eq}
 use mathlib.Core.Bool.{beq}
 use lib.Pointwise.{pointwise}
 use lib.Dec.{eqb}
-use Rattle.std.proofs.Common.{eq-eqb, ap, subst, ◌++◌}
-use Rattle.std.proofs.lemmas.Str.{encode_same}
+use Rattle.std.proofs.Common.{eq-eqb, ap, subst, sym, inr, ◌++◌, append-nil}
+use Rattle.std.proofs.lemmas.Str.{encode_same, chars_from_encodes}
 use Rattle.picky_der_core.specs.Tree.{ListKind, Tree, Trees, trees}
-use Rattle.picky_der_core.specs.Integer.{content_within, int_tree}
+use Rattle.picky_der_core.specs.Integer.{content_within, int_tree, unsigned_tree}
 use Rattle.picky_der_core.specs.IntLaws.{same_within}
+use Rattle.picky_der_core.specs.UnsignedTreeLaws.{unsigned_tree-same}
 use Rattle.picky_der_core.specs.Readable.{IsReadable, AreReadable}
 use Rattle.picky_der_core.specs.Shape.{Shape, IsOf, EachIs}
 use Rattle.picky_der_core.specs.FirstLaws.{is_of-optional}
@@ -20,14 +21,18 @@ use Rattle.picky_der_ser.specs.Meaning.{option_meaning}
 abbrev pub IsInjective : {V : Type 0} → (V → Tree) → Shape → (V → V → Bool) → Type 0
 IsInjective {V} meaning s eq = (x y : V) → IsOf s (meaning x) → IsOf s (meaning y) → IsReadable (meaning x) → meaning x ≡ meaning y → eq x y ≡ true
 
+-- a readable value of the type is of its shape
+abbrev pub HasShape : {V : Type 0} → (V → Tree) → Shape → Type 0
+HasShape {V} meaning s = (v : V) → IsReadable (meaning v) → IsOf s (meaning v)
+
 pub boolean_injective : (x y : Bool) → Tree.boolean x ≡ Tree.boolean y → beq x y ≡ true
 boolean_injective true true e = refl
 boolean_injective false false e = refl
 boolean_injective true false e = let q : true ≡ false = cc in cc
 boolean_injective false true e = let q : false ≡ true = cc in cc
 
-pub unsigned_injective : (x y : ℕ) → Tree.unsigned x ≡ Tree.unsigned y → nat_eq x y ≡ true
-unsigned_injective x y e = let q : x ≡ y = cc in eq-eqb x y q
+pub unsigned_injective : (most x y : ℕ) → unsigned_tree most x ≡ unsigned_tree most y → nat_eq x y ≡ true
+unsigned_injective most x y e = eq-eqb x y (unsigned_tree-same most x y e)
 
 pub int_injective : (fits : ℤ → Bool) (x y : ℤ) → int_tree fits x ≡ int_tree fits y → int_eq x y ≡ true
 int_injective fits x y e = let q : content_within fits x ≡ content_within fits y = cc in (Decides-int_eq x y).1 (same_within fits x y q)
@@ -62,7 +67,21 @@ option_injective meaning s eq known (Some x) None p q r e = absurd (subst IsRead
 option_injective meaning s eq known (Some x) (Some y) p q r e =
     known x y (is_of-optional (IsOf s) (meaning x) p r) (is_of-optional (IsOf s) (meaning y) q (subst IsReadable e r)) r e
 
+pub option_has_shape : {V : Type 0} (meaning : V → Tree) (s : Shape) → HasShape meaning s → HasShape (option_meaning meaning) (Shape.optional s)
+option_has_shape meaning s has None r = absurd r
+option_has_shape meaning s has (Some x) r = inr (has x r)
+
+-- ---- characters
+
+-- a readable one is a text of one character
+pub character_has_shape : HasShape (λ c. Tree.text (encode_utf8 c)) Shape.character
+character_has_shape c r = (r, ap length (sym (chars_from_encodes (c ∷ []) (encode_utf8 c) r (append-nil (encode_utf8 c)))))
+
 -- ---- lists
+
+pub items_of_shape : {V : Type 0} (meaning : V → Tree) (s : Shape) → HasShape meaning s → (vs : List V) → AreReadable (trees (map meaning vs)) → EachIs (IsOf s) (trees (map meaning vs))
+items_of_shape meaning s has [] r = tt
+items_of_shape meaning s has (v ∷ vs) r = (has v r.0, items_of_shape meaning s has vs r.1)
 
 -- values of which P holds are known by their trees, so lists of such values are
 module _ {V : Type 0} (meaning : V → Tree) (eq : V → V → Bool) (P : V → Type 0) (All : List V → Type 0) (parted : (v : V) (vs : List V) → All (v ∷ vs) → P v × All vs) (known : (x y : V) → P x → P y → meaning x ≡ meaning y → eq x y ≡ true) where

@@ -168,7 +168,7 @@ module _ {A : Type 0} {s : Shape} (a : Known A s) where
     equal_item = a.equal;
     item = λ v. Some v;
     there = is_there s;
-    is = always_there a.meaning s a.equal a.begun a.injective a.sound;
+    is = always_there a.meaning s a.equal a.begun a.has_shape a.injective a.sound;
   }
 
   -- an element of a tuple
@@ -180,7 +180,7 @@ module _ {A : Type 0} {s : Shape} (a : Known A s) where
     equal_item = a.equal;
     item = λ v. Some (part v);
     there = true;
-    is = part_there a.meaning s a.equal a.begun a.injective a.sound part;
+    is = part_there a.meaning s a.equal a.begun a.has_shape a.injective a.sound part;
   }
 
   -- of which an item is there, or none
@@ -192,7 +192,7 @@ module _ {A : Type 0} {s : Shape} (a : Known A s) where
     equal_item = a.equal;
     item = item;
     there = is_there s;
-    is = perhaps_there a.meaning s a.equal a.begun a.injective a.sound item (λ x y. passes (test x y)) same;
+    is = perhaps_there a.meaning s a.equal a.begun a.has_shape a.injective a.sound item (λ x y. passes (test x y)) same;
   }
 
   abbrev pub known_perhaps : {V : Type 0} (item : V → Option A) → KnownMember V A perhaps s
@@ -279,6 +279,7 @@ module _ {P S : Type 0} {l : Layout} (known : KnownMembers P l) where
   known_sequence told parts eq same = record {
     meaning = sequence_of known.members parts;
     equal = eq;
+    has_shape = λ v r. (refl, known.are.has_layout (parts v) r.1);
     injective = λ x y p q r e. same x y (known.are.injective (members_told l told) (parts x) (parts y) p.1 q.1 r.1 (list_members e));
     sound = (known.are.sound, members_told l told);
     begun = λ v b h. h;

@@ -8,26 +8,19 @@ use Rattle.picky_der_core.specs.Shape.{Shape, Layout, IsOf, IsSound, AreMembersO
 use Rattle.picky_der_core.specs.FirstLaws.{begins_in, begins_next, apart_differ, contains-append_left, contains-append_right}
 use Rattle.picky_der_ser.specs.Meaning.{maybe_more, unless_default}
 use Rattle.picky_der_ser.specs.Defaults.{IsByTree, IsOne}
-use Rattle.picky_der_de.specs.Firsts.{IsBegunBy, BytesIn, bytes_in, begins_among}
-use Rattle.picky_der_de.specs.InjectiveLaws.{IsInjective, first_member, other_members}
+use Rattle.picky_der_de.specs.Firsts.{IsBegunBy, begins_among}
+use Rattle.picky_der_de.specs.InjectiveLaws.{IsInjective, HasShape, first_member, other_members}
 use Rattle.picky_der_de.specs.Layouts.{Presence, always, perhaps, component_then, AreBegunBy}
-
--- the first member that is there is made of bytes, where it is a raw part
-bytes_next : (l : Layout) (t : Tree) (ts : Trees) → AreMembersOf l (Trees.more t ts) → BytesIn t
-bytes_next Layout.empty t ts p = absurd p
-bytes_next (Layout.required s l) t ts p = bytes_in s t p.0
-bytes_next (Layout.maybe s l) t ts (inl p) = bytes_in s t p.0
-bytes_next (Layout.maybe s l) t ts (inr q) = bytes_next l t ts q
 
 module _ (s : Shape) (l : Layout) (apart : are_apart (firsts s) (next_firsts l) ≡ true) where
   -- a member that begins as the one that may be missing is that one
   pub first_is_present : (t : Tree) (ts : Trees) → IsBegunBy (firsts s) t → IsReadable t → FirstOrNone (IsOf s) (AreMembersOf l) (Trees.more t ts) → IsOf s t × AreMembersOf l ts
   first_is_present t ts f r (inl p) = p
-  first_is_present t ts f r (inr q) = absurd (apart_differ (firsts s) (next_firsts l) t t apart (begins_among (firsts s) t f r (bytes_next l t ts q)) (begins_next l t ts q r) refl)
+  first_is_present t ts f r (inr q) = absurd (apart_differ (firsts s) (next_firsts l) t t apart (begins_among (firsts s) t f r) (begins_next l t ts q r) refl)
 
   not_first : (ts : Trees) → AreBegunBy (next_firsts l) ts → AreReadable ts → FirstAndRest (IsOf s) (AreMembersOf l) ts → ⊥
   not_first Trees.none f r p = absurd p
-  not_first (Trees.more t ts) f r p = apart_differ (firsts s) (next_firsts l) t t apart (begins_in s t p.0 r.0) (begins_among (next_firsts l) t f r.0 (bytes_in s t p.0)) refl
+  not_first (Trees.more t ts) f r p = apart_differ (firsts s) (next_firsts l) t t apart (begins_in s t p.0 r.0) (begins_among (next_firsts l) t f r.0) refl
 
   -- members that begin as those behind it are these
   pub first_is_absent : (ts : Trees) → AreBegunBy (next_firsts l) ts → AreReadable ts → FirstOrNone (IsOf s) (AreMembersOf l) ts → AreMembersOf l ts
@@ -92,6 +85,7 @@ pub record IsComponent {V W : Type 0} (presence : Presence) (in_front : V → Tr
   pub written : (v : V) → IfSome (item v) (λ w. left_out w ≡ false)
   pub equal : (x y : V) → option_eq eq_item (item x) (item y) ≡ true → eq x y ≡ true
   pub begins : (w : W) → IsBegunBy (firsts s) (meaning w)
+  pub has_shape : HasShape meaning s
   pub injective : IsInjective meaning s eq_item
   pub by_tree : IsByTree meaning left_out
   pub sound : IsSound s
@@ -99,7 +93,7 @@ pub record IsComponent {V W : Type 0} (presence : Presence) (in_front : V → Tr
 none_by_tree : {W : Type 0} (meaning : W → Tree) → IsByTree meaning (λ _. false)
 none_by_tree meaning x y h = cc
 
-module _ {W : Type 0} (meaning : W → Tree) (s : Shape) (eq : W → W → Bool) (begins : (w : W) → IsBegunBy (firsts s) (meaning w)) (injective : IsInjective meaning s eq) (sound : IsSound s) where
+module _ {W : Type 0} (meaning : W → Tree) (s : Shape) (eq : W → W → Bool) (begins : (w : W) → IsBegunBy (firsts s) (meaning w)) (has_shape : HasShape meaning s) (injective : IsInjective meaning s eq) (sound : IsSound s) where
   -- a value
   pub always_there : IsComponent always (λ w. Trees.more (meaning w)) eq meaning s eq (λ w. Some w) (λ _. false)
   always_there = record {
@@ -108,6 +102,7 @@ module _ {W : Type 0} (meaning : W → Tree) (s : Shape) (eq : W → W → Bool)
     written = λ v. refl;
     equal = λ x y h. h;
     begins = begins;
+    has_shape = has_shape;
     injective = injective;
     by_tree = none_by_tree meaning;
     sound = sound;
@@ -121,6 +116,7 @@ module _ {W : Type 0} (meaning : W → Tree) (s : Shape) (eq : W → W → Bool)
     written = λ v. refl;
     equal = λ x y h. h;
     begins = begins;
+    has_shape = has_shape;
     injective = injective;
     by_tree = none_by_tree meaning;
     sound = sound;
@@ -134,6 +130,7 @@ module _ {W : Type 0} (meaning : W → Tree) (s : Shape) (eq : W → W → Bool)
     written = λ v. none_out (item v);
     equal = same;
     begins = begins;
+    has_shape = has_shape;
     injective = injective;
     by_tree = none_by_tree meaning;
     sound = sound;
@@ -151,6 +148,7 @@ module _ {W : Type 0} (meaning : W → Tree) (s : Shape) (eq : W → W → Bool)
     written = λ v. not_out (value v) (left_out (value v)) refl;
     equal = λ x y h. same_unless_default eq eq left_out one (λ v w k. k) (value x) (value y) h;
     begins = begins;
+    has_shape = has_shape;
     injective = injective;
     by_tree = by_tree;
     sound = sound;
@@ -164,20 +162,22 @@ module _ {W : Type 0} (meaning : W → Tree) (s : Shape) (eq : W → W → Bool)
 pub record AreComponents {V : Type 0} (members : V → Trees) (l : Layout) (AreEqual : V → V → Type 0) : Type 0 where
   -- the first that is there begins with no other byte
   pub begins : (v : V) → AreBegunBy (next_firsts l) (members v)
+  -- readable members are of the layout
+  pub has_layout : (v : V) → AreReadable (members v) → AreMembersOf l (members v)
   -- two rows of readable members with the same trees are equal, where missing members are told by the first byte
   pub injective : AreMembersTold l → (x y : V) → AreMembersOf l (members x) → AreMembersOf l (members y) → AreReadable (members x) → members x ≡ members y → AreEqual x y
   -- the choices in the shapes are told by their first byte
   pub sound : AreMembersSound l
 
 pub no_components : {V : Type 0} → AreComponents (λ (v : V). Trees.none) Layout.empty (λ x y. ⊤)
-no_components = record { begins = λ v. tt; injective = λ told x y p q r e. tt; sound = tt }
+no_components = record { begins = λ v. tt; has_layout = λ v r. tt; injective = λ told x y p q r e. tt; sound = tt }
 
 -- as part of others
 pub behind : {V U : Type 0} {members : U → Trees} {l : Layout} {AreEqual : U → U → Type 0} (part : V → U) → AreComponents members l AreEqual → AreComponents (λ v. members (part v)) l (λ x y. AreEqual (part x) (part y))
-behind part c = record { begins = λ v. c.begins (part v); injective = λ told x y. c.injective told (part x) (part y); sound = c.sound }
+behind part c = record { begins = λ v. c.begins (part v); has_layout = λ v. c.has_layout (part v); injective = λ told x y. c.injective told (part x) (part y); sound = c.sound }
 
 pub equal_so : {V : Type 0} {members : V → Trees} {l : Layout} {AreAlike AreEqual : V → V → Type 0} → ((x y : V) → AreAlike x y → AreEqual x y) → AreComponents members l AreAlike → AreComponents members l AreEqual
-equal_so f c = record { begins = c.begins; injective = λ told x y p q r e. f x y (c.injective told x y p q r e); sound = c.sound }
+equal_so f c = record { begins = c.begins; has_layout = c.has_layout; injective = λ told x y p q r e. f x y (c.injective told x y p q r e); sound = c.sound }
 
 -- a member in front of the others
 module _ {V W X : Type 0} {presence : Presence} {in_front : X → Trees → Trees} {eq : X → X → Bool} {meaning : W → Tree} {s : Shape} {eq_item : W → W → Bool} {item : X → Option W} {left_out : W → Bool} {others : V → Trees} {l : Layout} {AreEqual : V → V → Type 0} (first : V → X)
@@ -197,6 +197,12 @@ module _ {V W X : Type 0} {presence : Presence} {in_front : X → Trees → Tree
   injective_by always (Some v) (Some w) x y t k told p q r e = (c.injective v w p.0 q.0 r.0 (first_member e), cs.injective told x y p.1 q.1 r.1 (other_members e))
   injective_by perhaps a b x y t k told p q r e = maybe_told meaning s l c.begins told eq_item (AreEqual x y) c.injective (others x) (others y) (cs.begins x) (cs.begins y) (cs.injective told.1 x y) a b p q r e
 
+  layout_by : (p : Presence) (o : Option W) (v : V) → IsThere p o → AreReadable (maybe_more meaning o (others v)) → AreMembersOf (component_then p s l) (maybe_more meaning o (others v))
+  layout_by always None v t r = absurd t
+  layout_by always (Some w) v t r = (c.has_shape w r.0, cs.has_layout v r.1)
+  layout_by perhaps None v t r = inr (cs.has_layout v r)
+  layout_by perhaps (Some w) v t r = inl (c.has_shape w r.0, cs.has_layout v r.1)
+
   sound_by : (p : Presence) → AreMembersSound (component_then p s l)
   sound_by always = (c.sound, cs.sound)
   sound_by perhaps = (c.sound, cs.sound)
@@ -204,6 +210,7 @@ module _ {V W X : Type 0} {presence : Presence} {in_front : X → Trees → Tree
   pub lead : AreComponents (λ v. in_front (first v) (others v)) (component_then presence s l) (λ x y. (eq (first x) (first y) ≡ true) × AreEqual x y)
   lead = record {
     begins = λ v. subst (AreBegunBy (next_firsts (component_then presence s l))) (sym (stand v)) (begun_by presence (item (first v)) v (c.there (first v)));
+    has_layout = λ v r. subst (AreMembersOf (component_then presence s l)) (sym (stand v)) (layout_by presence (item (first v)) v (c.there (first v)) (subst AreReadable (stand v) r));
     injective = λ told x y p q r e.
         let same = injective_by presence (item (first x)) (item (first y)) x y (c.there (first x)) (c.there (first y)) told (subst (AreMembersOf (component_then presence s l)) (stand x) p) (subst (AreMembersOf (component_then presence s l)) (stand y) q) (subst AreReadable (stand x) r) (sym (stand x) ∙ e ∙ stand y) in
         (c.equal (first x) (first y) same.0, same.1);

@@ -7,7 +7,7 @@ ghost use Rattle.picky_der_ser.specs.Meaning.{unless_default};
 ghost use Rattle.picky_der_de.specs.Members.{ReadsMember};
 ghost use Rattle.picky_der_de.specs.Layouts.{Presence, always, perhaps, Lacks, RefusesComponent};
 ghost use Rattle.picky_der_de.specs.LayoutLaws.{IsComponent, always_there, part_there, perhaps_there, with_default};
-ghost use Rattle.picky_der_de.specs.Known.{begun_of, injective_of};
+ghost use Rattle.picky_der_de.specs.Known.{begun_of, has_shape_of, injective_of};
 ghost use Rattle.picky_der_de.specs.KnownMembers.{KnownMember, known_always, known_element, known_perhaps, known_default, passes};
 ghost use Rattle.picky_der_de.specs.KnownMembers.{TiesMember, ties_always, ties_element, ties_perhaps, ties_default};
 
@@ -85,7 +85,7 @@ impl<T: Deserialize> DeserializeMember for T {
         sequence.next_field::<T>()
     }
 
-    ghost is_component = { always_there T.meaning T.shape T.eq (begun_of T.known T.tied) (injective_of T.known T.tied) T.known.sound };
+    ghost is_component = { always_there T.meaning T.shape T.eq (begun_of T.known T.tied) (has_shape_of T.known T.tied) (injective_of T.known T.tied) T.known.sound };
 
     ghost tied = { ties_always T.tied };
 }
@@ -112,7 +112,7 @@ impl<T: Deserialize> DeserializeMember for Element<T> {
         Ok(Element(value))
     }
 
-    ghost is_component = { part_there T.meaning T.shape T.eq (begun_of T.known T.tied) (injective_of T.known T.tied) T.known.sound
+    ghost is_component = { part_there T.meaning T.shape T.eq (begun_of T.known T.tied) (has_shape_of T.known T.tied) (injective_of T.known T.tied) T.known.sound
         (λ element. element.0) };
 
     ghost tied = { ties_element (λ element. element.0) T.tied };
@@ -140,7 +140,7 @@ impl<T: Begins> DeserializeMember for Optional<T> {
         Ok(Optional(value))
     }
 
-    ghost is_component = { perhaps_there T.meaning T.shape T.eq (begun_of T.known T.tied) (injective_of T.known T.tied) T.known.sound
+    ghost is_component = { perhaps_there T.meaning T.shape T.eq (begun_of T.known T.tied) (has_shape_of T.known T.tied) (injective_of T.known T.tied) T.known.sound
         (λ member. member.0) (λ x y. option_eq T.eq x.0 y.0) (λ x y h. h) };
 
     ghost tied = { ties_perhaps (λ member. member.0) T.tied };
@@ -168,7 +168,7 @@ impl<T: Begins, D: DefaultOf<T>> DeserializeMember for Defaulted<T, D> {
         Ok(Defaulted::new(value))
     }
 
-    ghost is_component = { with_default T.meaning T.shape T.eq (begun_of T.known T.tied) (injective_of T.known T.tied) T.known.sound
+    ghost is_component = { with_default T.meaning T.shape T.eq (begun_of T.known T.tied) (has_shape_of T.known T.tied) (injective_of T.known T.tied) T.known.sound
         D.left_out D.by_tree (λ x y a b. D.equal_so x y (D.one x y a b)) (λ member. member.value) };
 
     ghost tied = { ties_default D.left_out (λ member. member.value) T.tied D.equal_so };

@@ -85,17 +85,18 @@ first_tag x tag c rest left e = let q : tag ∷ left ≡ x ∷ ((length_octets (
 stands_tagged : {place : Place} {bs left : List ℕ} {end tag : ℕ} (s : List ℕ) → bs ≡ tag ∷ left → StandsAt place Shape.raw bs end (Tree.raw s)
     → IsTagNumber (number_of tag) × ((content : List ℕ) × StandsAt Place.whole (Shape.bytes tag) bs end (Tree.bytes tag content))
 stands_tagged {place} {bs} {left} {end} {tag} s e st =
-    let r : IsElement s = st.readable in
+    let r : IsElement s = st.readable.0 in
     let same : der (Tree.bytes r.tag r.content) ≡ written_at place (Tree.raw s) = der-bytes r.tag r.content ∙ sym r.is ∙ sym (written_raw place s) in
     let is : bs ≡ der (Tree.bytes r.tag r.content) ++ st.front.rest = st.front.is ∙ ap (λ z. z ++ st.front.rest) (sym same) in
+    let bytes = content_bytes r.tag r.content (subst AreBytes r.is st.of_shape) in
     let first : r.tag ≡ tag = first_tag r.tag tag r.content st.front.rest left (sym e ∙ is ∙ ap (λ z. z ++ st.front.rest) (der-bytes r.tag r.content)) in
     subst (λ z. IsTagNumber (number_of z) × ((content : List ℕ) × StandsAt Place.whole (Shape.bytes z) bs end (Tree.bytes z content))) first (
       r.number,
       (
         r.content,
         record {
-          of_shape = (refl, content_bytes r.tag r.content (subst AreBytes r.is st.of_shape));
-          readable = r.number;
+          of_shape = (refl, bytes);
+          readable = (r.number, bytes);
           may_stand = tt;
           within = omega (arith, st.within, ap length same);
           front = record { rest = st.front.rest; is = is };
@@ -153,7 +154,7 @@ raw_missing {a} {c} {e} f m i t p = record {
 } where
   none : IsJudged a c e → {end : ℕ} {bs : List ℕ} → Concerns a c e end bs → (s : List ℕ) → StandsAt (place_of a) Shape.raw bs end (Tree.raw s) → ⊥
   none j {end} {bs} w s st =
-      let r : IsElement s = st.readable in
+      let r : IsElement s = st.readable.0 in
       let size = ap length (written_raw (place_of a) s ∙ r.is) in
       let whole = length_tlv r.tag r.content in
       elim (missing_here (m j) (concerns_without_implicit_tag w)) [
@@ -200,13 +201,14 @@ is_tlv tag n content size = rw size refl
 
 pub reads_raw : {a b c : State} {tag n : ℕ} {content all : List ℕ} → BeginsElement a b tag n → TakesBytes b c n content → c.implicit_tag ≡ None → all ≡ (tag ∷ length_octets n) ++ content → ReadsRaw a c all
 reads_raw {a} {b} {c} {tag} {n} {content} {all} h t d is =
-    let plain = reads_plain (bytes_kind tag h.number) content (refl, t.bytes) h.number (begins_tagged h) t.takes t.count d in
+    let plain = reads_plain (bytes_kind tag h.number) content (refl, t.bytes) (h.number, t.bytes) (begins_tagged h) t.takes t.count d in
     let whole : tlv tag content ≡ all = is_tlv tag n content t.count ∙ sym is in
     let small : n < 2 ^ 64 = omega (arith, h.fits, h.takes.until_end, h.bounded) in
+    let bytes = subst AreBytes (sym is) (h.byte, bytes_then (length_octets n) content (length_bytes n small) t.bytes) in
     record {
       reads = record {
-        of_shape = subst AreBytes (sym is) (h.byte, bytes_then (length_octets n) content (length_bytes n small) t.bytes);
-        readable = record { tag = tag; content = content; number = h.number; is = sym whole };
+        of_shape = bytes;
+        readable = (record { tag = tag; content = content; number = h.number; is = sym whole }, bytes);
         may_stand = raw_may_stand a.implicit_tag a.until_end all;
         takes = subst (Takes a c) (der-bytes tag content ∙ whole ∙ sym (written_raw (place_of a) all)) (takes_with_implicit_tag plain.reads.takes);
         implicit_tag = d;

@@ -132,7 +132,7 @@ pub reads_content : {tag : ℕ} {a c : State} {bytes : List ℕ} → IsTagNumber
     → Takes a c ((tag ∷ length_octets (length bytes)) ++ bytes) → c.implicit_tag ≡ a.implicit_tag → ReadsBytes tag a c bytes
 reads_content {tag} {a} {c} {bytes} number b whole bounded t d =
     let h = takes_whole bytes whole bounded t d in
-    reads_plain (bytes_kind tag number) bytes (refl, b) (omega (arith, bounded, t.until_end, length-append (tag ∷ length_octets (length bytes)) bytes)) h.begins h.rest refl h.implicit_tag
+    reads_plain (bytes_kind tag number) bytes (refl, b) (number, b) h.begins h.rest refl h.implicit_tag
 
 -- and memory was wanted for its content
 pub refuses_for_memory : {tag n : ℕ} {a b c : State} {e : Asn1DerError} → IsTagNumber (number_of tag) → BeginsContent tag a b n → Fails b c e → e ≡ OutOfMemory → RefusesBytes tag a c e

@@ -175,7 +175,8 @@ module _ (fits : ℤ → Bool) (narrow : (z : ℤ) → fits z ≡ true → bits_
   int_short z e =
       let f = content-int_error fits z e in
       let is = within-fits fits z f in
-      record { of_shape = (refl, subst AreBytes (sym is) (AreBytes-content z)); readable = omega arith; short = omega (arith, ap length is, length-integer_content z (narrow z f)) }
+      let bytes = subst AreBytes (sym is) (AreBytes-content z) in
+      record { of_shape = (refl, bytes); readable = (omega arith, bytes); short = omega (arith, ap length is, length-integer_content z (narrow z f)) }
 
   pub short_int : IsShortKind (int_tree fits) (Shape.bytes 0x02) 0x02 (int_error fits)
   short_int = record { plain = int_kind; by_front = int_by_front fits; short = int_short }
@@ -184,4 +185,4 @@ pub short_null : IsShortKind (λ (_ : Unit {0}). Tree.null) Shape.null 0x05 null
 short_null = record { plain = null_kind; by_front = null_by_front; short = λ _ e. record { of_shape = tt; readable = tt; short = omega arith } }
 
 pub short_character : IsShortKind (λ c. Tree.text (encode_utf8 c)) Shape.character 0x0C character_error
-short_character = record { plain = character_kind; by_front = character_by_front; short = λ c e. record { of_shape = one_character (encode_utf8 c) e; readable = tt; short = length_character c } }
+short_character = record { plain = character_kind; by_front = character_by_front; short = λ c e. let one = one_character (encode_utf8 c) e in record { of_shape = one; readable = one.0; short = length_character c } }

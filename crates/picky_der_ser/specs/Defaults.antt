@@ -8,8 +8,9 @@ use Rattle.picky_der_core.specs.declared.asn1.wrapper.Wrapper.{Wrapper}
 use Rattle.picky_der_core.specs.declared.asn1.wrapper.Wrapper.TheVariants.{OctetContainer, BitContainer, Explicit, Implicit, Retagged}
 use Rattle.picky_der_core.specs.Tree.{Tree}
 use Rattle.picky_der_core.specs.Wrapper.{wrap}
-use Rattle.picky_der_core.specs.Integer.{content_within, int_tree}
+use Rattle.picky_der_core.specs.Integer.{content_within, int_tree, unsigned_tree}
 use Rattle.picky_der_core.specs.IntLaws.{same_within}
+use Rattle.picky_der_core.specs.UnsignedTreeLaws.{unsigned_tree-same}
 
 -- a value is the default just where it means the tree that the default means
 abbrev pub IsByTree : {V : Type 0} → (V → Tree) → (V → Bool) → Type 0
@@ -19,10 +20,11 @@ IsByTree {V} meaning left_out = (x y : V) → IsTrue (left_out x) → IsTrue (le
 abbrev pub IsOne : {V : Type 0} → (V → V → Bool) → (V → Bool) → Type 0
 IsOne {V} eq left_out = (x y : V) → IsTrue (left_out x) → IsTrue (left_out y) → IsTrue (eq x y)
 
-pub numbers_by_tree : (n : ℕ) → IsByTree Tree.unsigned (λ x. nat_eq x n)
-numbers_by_tree n x y h =
+-- numbers of an unsigned type, by the greatest that it has
+pub numbers_by_tree : (most n : ℕ) → IsByTree (unsigned_tree most) (λ x. nat_eq x n)
+numbers_by_tree most n x y h =
     let x_is : x ≡ n = eqb-true x n h in
-    (λ k. ap Tree.unsigned (x_is ∙ sym (eqb-true y n k)), λ e. let y_is : y ≡ n = cc in eq-eqb y n y_is)
+    (λ k. ap (unsigned_tree most) (x_is ∙ sym (eqb-true y n k)), λ e. eq-eqb y n (sym (unsigned_tree-same most x y e) ∙ x_is))
 
 pub one_number : (n : ℕ) → IsOne nat_eq (λ x. nat_eq x n)
 one_number n x y h k = eq-eqb x y (eqb-true x n h ∙ sym (eqb-true y n k))

@@ -1,6 +1,6 @@
 //! Members of a sequence that are left out where they have the default value.
 ghost use Rattle.std.proofs.Common.{rules};
-ghost use Rattle.std.specs.Prelude.{◌≡◌, Bool, true, IsTrue, not, nat_eq};
+ghost use Rattle.std.specs.Prelude.{◌≡◌, ◌^◌, ◌-◌, Bool, true, IsTrue, not, nat_eq};
 ghost use mathlib.Core.Bool.{beq};
 ghost use Rattle.picky_der_core.specs.Equality.{IsThatOf};
 ghost use Rattle.picky_der_core.specs.declared.asn1.wrapper.Wrapper.TheVariants as wrapper;
@@ -177,7 +177,7 @@ impl<const N: u8> DefaultOf<u8> for Number<N> {
         N
     }
 
-    ghost by_tree = { numbers_by_tree N };
+    ghost by_tree = { numbers_by_tree (2 ^ 8 - 1) N };
 
     ghost one = { one_number N };
 
@@ -197,7 +197,7 @@ impl<const N: u8> DefaultOf<u16> for Number<N> {
         u16::from(N)
     }
 
-    ghost by_tree = { numbers_by_tree N };
+    ghost by_tree = { numbers_by_tree (2 ^ 16 - 1) N };
 
     ghost one = { one_number N };
 
@@ -217,7 +217,7 @@ impl<const N: u8> DefaultOf<u32> for Number<N> {
         u32::from(N)
     }
 
-    ghost by_tree = { numbers_by_tree N };
+    ghost by_tree = { numbers_by_tree (2 ^ 32 - 1) N };
 
     ghost one = { one_number N };
 
@@ -237,7 +237,7 @@ impl<const N: u8> DefaultOf<u64> for Number<N> {
         u64::from(N)
     }
 
-    ghost by_tree = { numbers_by_tree N };
+    ghost by_tree = { numbers_by_tree (2 ^ 64 - 1) N };
 
     ghost one = { one_number N };
 
@@ -257,7 +257,7 @@ impl<const N: u8> DefaultOf<u128> for Number<N> {
         u128::from(N)
     }
 
-    ghost by_tree = { numbers_by_tree N };
+    ghost by_tree = { numbers_by_tree (2 ^ 128 - 1) N };
 
     ghost one = { one_number N };
 
@@ -277,7 +277,7 @@ impl<const N: u8> DefaultOf<usize> for Number<N> {
         N as usize
     }
 
-    ghost by_tree = { numbers_by_tree N };
+    ghost by_tree = { numbers_by_tree (2 ^ 64 - 1) N };
 
     ghost one = { one_number N };
 

@@ -1,5 +1,8 @@
 //! The types that lines name, as they are read.
-ghost use Rattle.std.specs.Prelude.{◌≡◌, IfOk, IfErr, string_bytes, refl};
+ghost use Rattle.std.proofs.Common.{sym};
+ghost use Rattle.std.specs.Prelude.{◌≡◌, ◌^◌, ◌-◌, IfOk, IfErr, string_bytes, refl};
+ghost use Rattle.picky_der_core.specs.Shape.{IsOf};
+ghost use Rattle.picky_der_core.specs.UnsignedTreeLaws.{unsigned_tree-within};
 ghost use Rattle.der_tool_lib.specs.Value.{description_of};
 ghost use Rattle.der_tool_lib.specs.Reads.{ReadsNamed, RefusesNamed};
 
@@ -21,8 +24,9 @@ pub(super) trait Named: Deserialize {
         ensures ok { IfOk result (λ value. ReadsNamed named de.old de.new (described_as value)) }
         ensures err { IfErr result (RefusesNamed named de.old de.new) };
 
-    // It means the same there.
-    ghost same_meaning: { (v : Self) → (description_of named).meaning (described_as v) ≡ Self.meaning v };
+    // One of the shape means the same there.
+    ghost same_meaning: { (v : Self) → IsOf (description_of named).shape ((description_of named).meaning (described_as v))
+        → (description_of named).meaning (described_as v) ≡ Self.meaning v };
 }
 
 impl Named for bool {
@@ -32,7 +36,7 @@ impl Named for bool {
 
     ghost described_as = { λ v. v };
 
-    ghost same_meaning = { λ v. refl };
+    ghost same_meaning = { λ v of_shape. refl };
 
     fn read<R: ReadExt>(de: &mut Deserializer<R>) -> Result<bool> {
         de.deserialize_bool()
@@ -46,7 +50,7 @@ impl Named for u8 {
 
     ghost described_as = { λ v. v };
 
-    ghost same_meaning = { λ v. refl };
+    ghost same_meaning = { λ v of_shape. sym (unsigned_tree-within (2 ^ 8 - 1) v of_shape.0) };
 
     fn read<R: ReadExt>(de: &mut Deserializer<R>) -> Result<u8> {
         de.deserialize_u8()
@@ -60,7 +64,7 @@ impl Named for u16 {
 
     ghost described_as = { λ v. v };
 
-    ghost same_meaning = { λ v. refl };
+    ghost same_meaning = { λ v of_shape. sym (unsigned_tree-within (2 ^ 16 - 1) v of_shape.0) };
 
     fn read<R: ReadExt>(de: &mut Deserializer<R>) -> Result<u16> {
         de.deserialize_u16()
@@ -74,7 +78,7 @@ impl Named for u32 {
 
     ghost described_as = { λ v. v };
 
-    ghost same_meaning = { λ v. refl };
+    ghost same_meaning = { λ v of_shape. sym (unsigned_tree-within (2 ^ 32 - 1) v of_shape.0) };
 
     fn read<R: ReadExt>(de: &mut Deserializer<R>) -> Result<u32> {
         de.deserialize_u32()
@@ -88,7 +92,7 @@ impl Named for u64 {
 
     ghost described_as = { λ v. v };
 
-    ghost same_meaning = { λ v. refl };
+    ghost same_meaning = { λ v of_shape. sym (unsigned_tree-within (2 ^ 64 - 1) v of_shape.0) };
 
     fn read<R: ReadExt>(de: &mut Deserializer<R>) -> Result<u64> {
         de.deserialize_u64()
@@ -102,7 +106,7 @@ impl Named for u128 {
 
     ghost described_as = { λ v. v };
 
-    ghost same_meaning = { λ v. refl };
+    ghost same_meaning = { λ v of_shape. sym (unsigned_tree-within (2 ^ 128 - 1) v of_shape.0) };
 
     fn read<R: ReadExt>(de: &mut Deserializer<R>) -> Result<u128> {
         de.deserialize_u128()
@@ -116,7 +120,7 @@ impl Named for () {
 
     ghost described_as = { λ v. v };
 
-    ghost same_meaning = { λ v. refl };
+    ghost same_meaning = { λ v of_shape. refl };
 
     fn read<R: ReadExt>(de: &mut Deserializer<R>) -> Result<()> {
         de.deserialize_unit()
@@ -130,7 +134,7 @@ impl Named for char {
 
     ghost described_as = { λ v. v };
 
-    ghost same_meaning = { λ v. refl };
+    ghost same_meaning = { λ v of_shape. refl };
 
     fn read<R: ReadExt>(de: &mut Deserializer<R>) -> Result<char> {
         de.deserialize_char()
@@ -144,7 +148,7 @@ impl Named for String {
 
     ghost described_as = { λ v. string_bytes v };
 
-    ghost same_meaning = { λ v. refl };
+    ghost same_meaning = { λ v of_shape. refl };
 
     fn read<R: ReadExt>(de: &mut Deserializer<R>) -> Result<String> {
         de.deserialize_string()
@@ -158,7 +162,7 @@ impl Named for ByteBuf {
 
     ghost described_as = { λ v. v.0.items };
 
-    ghost same_meaning = { λ v. refl };
+    ghost same_meaning = { λ v of_shape. refl };
 
     fn read<R: ReadExt>(de: &mut Deserializer<R>) -> Result<ByteBuf> {
         Ok(ByteBuf(de.deserialize_byte_buf()?))
@@ -172,7 +176,7 @@ impl Named for Asn1RawDer {
 
     ghost described_as = { λ v. v.0.items };
 
-    ghost same_meaning = { λ v. refl };
+    ghost same_meaning = { λ v of_shape. refl };
 
     fn read<R: ReadExt>(de: &mut Deserializer<R>) -> Result<Asn1RawDer> {
         Ok(Asn1RawDer(de.deserialize_raw()?))
@@ -186,7 +190,7 @@ impl Named for TestStruct {
 
     ghost described_as = { λ v. v };
 
-    ghost same_meaning = { λ v. refl };
+    ghost same_meaning = { λ v of_shape. refl };
 
     fn read<R: ReadExt>(de: &mut Deserializer<R>) -> Result<TestStruct> {
         TestStruct::deserialize(de)
@@ -200,7 +204,7 @@ impl Named for SubjectPublicKeyInfo {
 
     ghost described_as = { λ v. v };
 
-    ghost same_meaning = { λ v. refl };
+    ghost same_meaning = { λ v of_shape. refl };
 
     fn read<R: ReadExt>(de: &mut Deserializer<R>) -> Result<SubjectPublicKeyInfo> {
         SubjectPublicKeyInfo::deserialize(de)

@@ -2,10 +2,10 @@
 ghost use Rattle.std.specs.Prelude.{length, IfOk, IfErr, OnOk};
 ghost use Rattle.picky_der_core.specs.Tree.{ListKind, Tree};
 ghost use Rattle.picky_der_core.specs.Shape.{Shape};
-ghost use Rattle.picky_der_ser.specs.Meaning.{list_meaning};
+ghost use Rattle.picky_der_ser.specs.Meaning.{list_meaning, array_meaning};
 ghost use Rattle.picky_der_input.specs.Reading.{Reads, Refuses};
 ghost use Rattle.picky_der_de.specs.ArrayLaws.{array_of};
-ghost use Rattle.picky_der_de.specs.KnownContainers.{known_array, ties_list};
+ghost use Rattle.picky_der_de.specs.KnownContainers.{known_array, ties_array};
 
 use crate::{Deserialize, Deserializer};
 use picky_der_core::Result;
@@ -55,7 +55,7 @@ fn read_filled<V: Fill, R: ReadExt>(de: &mut Deserializer<R>) -> Result<V>
 }
 
 impl<T: Deserialize + Copy + Default, const N: usize> Fill for [T; N] {
-    ghost meaning = { list_meaning ListKind.sequence T.meaning };
+    ghost meaning = { array_meaning N T.meaning };
 
     ghost shape = { array_of N T.shape };
 
@@ -73,7 +73,7 @@ impl<T: Deserialize + Copy + Default, const N: usize> Deserialize for [T; N] {
 
     ghost known = { known_array T.known N (λ it. it) };
 
-    ghost tied = { ties_list T.tied ListKind.sequence (λ it. it) };
+    ghost tied = { ties_array T.tied N (λ it. it) };
 
     fn deserialize<R: ReadExt>(de: &mut Deserializer<R>) -> Result<[T; N]> {
         read_filled(de)

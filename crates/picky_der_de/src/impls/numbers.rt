@@ -1,8 +1,8 @@
 //! Bools and numbers, as they are read.
-ghost use Rattle.std.specs.Prelude.{◌^◌, ◌-◌, IfOk, IfErr};
+ghost use Rattle.std.specs.Prelude.{◌^◌, ◌-◌, IfOk, IfErr, refl};
 ghost use Rattle.picky_der_core.specs.Tree.{Tree};
 ghost use Rattle.picky_der_core.specs.Shape.{Shape};
-ghost use Rattle.picky_der_core.specs.Integer.{fits_signed, int_tree};
+ghost use Rattle.picky_der_core.specs.Integer.{fits_signed, int_tree, unsigned_tree};
 ghost use Rattle.picky_der_input.specs.Steps.{TakesNoMemory};
 ghost use Rattle.picky_der_input.specs.Reading.{Reads, Refuses, RefusesBoolean, ReadsUnsigned, RefusesUnsigned};
 ghost use Rattle.picky_der_input.specs.Reading.{ReadsInt, RefusesInt};
@@ -34,14 +34,19 @@ impl Deserialize for bool {
 impl Deserialize for u8 {
     ghost shape = { Shape.unsigned (2 ^ 8 - 1) };
 
-    ghost known = { known_unsigned (2 ^ 8 - 1) };
+    ghost known = { known_unsigned (2 ^ 8 - 1) refl };
 
     ghost tied = { by_itself };
 
+    #[tactic(auto, using(crate::proofs::NumberReads::reads_within))]
     fn deserialize<R: ReadExt>(de: &mut Deserializer<R>) -> Result<u8>
         ensures ok { IfOk result (λ value. Reads (Shape.unsigned (2 ^ 8 - 1)) de.old de.new
             (Tree.unsigned value)) }
         ensures err { IfErr result (Refuses (λ value. Tree.unsigned value)
+            (Shape.unsigned (2 ^ 8 - 1)) de.old de.new) }
+        ensures meant { IfOk result (λ value. Reads (Shape.unsigned (2 ^ 8 - 1)) de.old de.new
+            (unsigned_tree (2 ^ 8 - 1) value)) }
+        ensures none { IfErr result (Refuses (unsigned_tree (2 ^ 8 - 1))
             (Shape.unsigned (2 ^ 8 - 1)) de.old de.new) }
         ensures refused { IfErr result (RefusesUnsigned (2 ^ 8 - 1) de.old de.new) }
         ensures memory { IfErr result (TakesNoMemory de.old de.new) }
@@ -53,14 +58,19 @@ impl Deserialize for u8 {
 impl Deserialize for u16 {
     ghost shape = { Shape.unsigned (2 ^ 16 - 1) };
 
-    ghost known = { known_unsigned (2 ^ 16 - 1) };
+    ghost known = { known_unsigned (2 ^ 16 - 1) refl };
 
     ghost tied = { by_itself };
 
+    #[tactic(auto, using(crate::proofs::NumberReads::reads_within))]
     fn deserialize<R: ReadExt>(de: &mut Deserializer<R>) -> Result<u16>
         ensures ok { IfOk result (λ value. Reads (Shape.unsigned (2 ^ 16 - 1)) de.old de.new
             (Tree.unsigned value)) }
         ensures err { IfErr result (Refuses (λ value. Tree.unsigned value)
+            (Shape.unsigned (2 ^ 16 - 1)) de.old de.new) }
+        ensures meant { IfOk result (λ value. Reads (Shape.unsigned (2 ^ 16 - 1)) de.old de.new
+            (unsigned_tree (2 ^ 16 - 1) value)) }
+        ensures none { IfErr result (Refuses (unsigned_tree (2 ^ 16 - 1))
             (Shape.unsigned (2 ^ 16 - 1)) de.old de.new) }
         ensures refused { IfErr result (RefusesUnsigned (2 ^ 16 - 1) de.old de.new) }
         ensures memory { IfErr result (TakesNoMemory de.old de.new) }
@@ -72,14 +82,19 @@ impl Deserialize for u16 {
 impl Deserialize for u32 {
     ghost shape = { Shape.unsigned (2 ^ 32 - 1) };
 
-    ghost known = { known_unsigned (2 ^ 32 - 1) };
+    ghost known = { known_unsigned (2 ^ 32 - 1) refl };
 
     ghost tied = { by_itself };
 
+    #[tactic(auto, using(crate::proofs::NumberReads::reads_within))]
     fn deserialize<R: ReadExt>(de: &mut Deserializer<R>) -> Result<u32>
         ensures ok { IfOk result (λ value. Reads (Shape.unsigned (2 ^ 32 - 1)) de.old de.new
             (Tree.unsigned value)) }
         ensures err { IfErr result (Refuses (λ value. Tree.unsigned value)
+            (Shape.unsigned (2 ^ 32 - 1)) de.old de.new) }
+        ensures meant { IfOk result (λ value. Reads (Shape.unsigned (2 ^ 32 - 1)) de.old de.new
+            (unsigned_tree (2 ^ 32 - 1) value)) }
+        ensures none { IfErr result (Refuses (unsigned_tree (2 ^ 32 - 1))
             (Shape.unsigned (2 ^ 32 - 1)) de.old de.new) }
         ensures refused { IfErr result (RefusesUnsigned (2 ^ 32 - 1) de.old de.new) }
         ensures memory { IfErr result (TakesNoMemory de.old de.new) }
@@ -91,14 +106,19 @@ impl Deserialize for u32 {
 impl Deserialize for u64 {
     ghost shape = { Shape.unsigned (2 ^ 64 - 1) };
 
-    ghost known = { known_unsigned (2 ^ 64 - 1) };
+    ghost known = { known_unsigned (2 ^ 64 - 1) refl };
 
     ghost tied = { by_itself };
 
+    #[tactic(auto, using(crate::proofs::NumberReads::reads_within))]
     fn deserialize<R: ReadExt>(de: &mut Deserializer<R>) -> Result<u64>
         ensures ok { IfOk result (λ value. Reads (Shape.unsigned (2 ^ 64 - 1)) de.old de.new
             (Tree.unsigned value)) }
         ensures err { IfErr result (Refuses (λ value. Tree.unsigned value)
+            (Shape.unsigned (2 ^ 64 - 1)) de.old de.new) }
+        ensures meant { IfOk result (λ value. Reads (Shape.unsigned (2 ^ 64 - 1)) de.old de.new
+            (unsigned_tree (2 ^ 64 - 1) value)) }
+        ensures none { IfErr result (Refuses (unsigned_tree (2 ^ 64 - 1))
             (Shape.unsigned (2 ^ 64 - 1)) de.old de.new) }
         ensures refused { IfErr result (RefusesUnsigned (2 ^ 64 - 1) de.old de.new) }
         ensures memory { IfErr result (TakesNoMemory de.old de.new) }
@@ -110,14 +130,19 @@ impl Deserialize for u64 {
 impl Deserialize for u128 {
     ghost shape = { Shape.unsigned (2 ^ 128 - 1) };
 
-    ghost known = { known_unsigned (2 ^ 128 - 1) };
+    ghost known = { known_unsigned (2 ^ 128 - 1) refl };
 
     ghost tied = { by_itself };
 
+    #[tactic(auto, using(crate::proofs::NumberReads::reads_within))]
     fn deserialize<R: ReadExt>(de: &mut Deserializer<R>) -> Result<u128>
         ensures ok { IfOk result (λ value. Reads (Shape.unsigned (2 ^ 128 - 1)) de.old de.new
             (Tree.unsigned value)) }
         ensures err { IfErr result (Refuses (λ value. Tree.unsigned value)
+            (Shape.unsigned (2 ^ 128 - 1)) de.old de.new) }
+        ensures meant { IfOk result (λ value. Reads (Shape.unsigned (2 ^ 128 - 1)) de.old de.new
+            (unsigned_tree (2 ^ 128 - 1) value)) }
+        ensures none { IfErr result (Refuses (unsigned_tree (2 ^ 128 - 1))
             (Shape.unsigned (2 ^ 128 - 1)) de.old de.new) }
         ensures refused { IfErr result (RefusesUnsigned (2 ^ 128 - 1) de.old de.new) }
         ensures memory { IfErr result (TakesNoMemory de.old de.new) }
@@ -129,16 +154,21 @@ impl Deserialize for u128 {
 impl Deserialize for usize {
     ghost shape = { Shape.unsigned (2 ^ 64 - 1) };
 
-    ghost known = { known_unsigned (2 ^ 64 - 1) };
+    ghost known = { known_unsigned (2 ^ 64 - 1) refl };
 
     ghost tied = { by_itself };
 
+    #[tactic(auto, using(crate::proofs::NumberReads::reads_within))]
     fn deserialize<R: ReadExt>(de: &mut Deserializer<R>) -> Result<usize>
         ensures ok { IfOk result (λ value. Reads (Shape.unsigned (2 ^ 64 - 1)) de.old de.new
             (Tree.unsigned value)) }
         ensures err { IfErr result (Refuses (λ value. Tree.unsigned value)
             (Shape.unsigned (2 ^ 64 - 1)) de.old de.new) }
         ensures number { IfOk result (ReadsUnsigned (2 ^ 64 - 1) de.old de.new) }
+        ensures meant { IfOk result (λ value. Reads (Shape.unsigned (2 ^ 64 - 1)) de.old de.new
+            (unsigned_tree (2 ^ 64 - 1) value)) }
+        ensures none { IfErr result (Refuses (unsigned_tree (2 ^ 64 - 1))
+            (Shape.unsigned (2 ^ 64 - 1)) de.old de.new) }
         ensures refused { IfErr result (RefusesUnsigned (2 ^ 64 - 1) de.old de.new) }
         ensures memory { IfErr result (TakesNoMemory de.old de.new) }
     {

@@ -3,7 +3,7 @@ ghost use Rattle.std.specs.Prelude.{IfOk, IfErr};
 ghost use Rattle.picky_der_core.specs.WriterFaults.{IsOnceAtMost};
 ghost use Rattle.picky_der_core.specs.Tree.{ListKind};
 ghost use Rattle.picky_der_ser.specs.Calls.{UntouchedUnlessFailed, Writes, RefusesWrite, WritesWhole};
-ghost use Rattle.picky_der_ser.specs.Meaning.{list_meaning};
+ghost use Rattle.picky_der_ser.specs.Meaning.{list_meaning, array_meaning};
 ghost use Rattle.picky_der_ser.specs.Sequences.{IsListTag, list_kind};
 
 use crate::{List, Sequence, Serialize, Serializer};
@@ -65,11 +65,13 @@ impl<T: Serialize> List for Vec<T> {
 }
 
 impl<T: Serialize, const N: usize> Serialize for [T; N] {
-    ghost meaning = { λ list. list_meaning ListKind.sequence T.meaning list };
+    ghost meaning = { array_meaning N T.meaning };
 
     fn serialize<W: WriteExt>(&self, ser: &mut Serializer<W>) -> Result<usize>
         ensures whole { WritesWhole W.WriteExt.own
             (list_meaning ListKind.sequence T.meaning self.now) ser.old result ser.new }
+        ensures meant { WritesWhole W.WriteExt.own (array_meaning N T.meaning self.now)
+            ser.old result ser.new }
     {
         write_items(self.as_slice(), Tag::SEQUENCE, ser)
     }

@@ -1,6 +1,8 @@
 //! What bools and numbers mean.
 ghost use Rattle.picky_der_core.specs.Tree.{Tree};
-ghost use Rattle.picky_der_core.specs.Integer.{fits_signed, integer_tree, int_tree};
+ghost use Rattle.std.specs.Prelude.{◌^◌, ◌-◌};
+ghost use Rattle.picky_der_core.specs.Integer.{fits_signed, integer_tree, int_tree, unsigned_tree};
+ghost use Rattle.picky_der_core.specs.UnsignedTreeLaws.{unsigned_tree-within};
 ghost use Rattle.picky_der_ser.specs.Calls.{WritesPlain};
 
 use crate::{Serialize, Serializer};
@@ -19,66 +21,78 @@ impl Serialize for bool {
 }
 
 impl Serialize for u8 {
-    ghost meaning = { λ n. Tree.unsigned n };
+    ghost meaning = { unsigned_tree (2 ^ 8 - 1) };
 
     #[inline(always)]
     fn serialize<W: WriteExt>(&self, ser: &mut Serializer<W>) -> Result<usize>
         ensures plain { WritesPlain W.WriteExt.own (Tree.unsigned self.now) ser.old result ser.new }
+        ensures meant { WritesPlain W.WriteExt.own (unsigned_tree (2 ^ 8 - 1) self.now)
+            ser.old result ser.new }
     {
         ser.serialize_u8(*self)
     }
 }
 
 impl Serialize for u16 {
-    ghost meaning = { λ n. Tree.unsigned n };
+    ghost meaning = { unsigned_tree (2 ^ 16 - 1) };
 
     #[inline(always)]
     fn serialize<W: WriteExt>(&self, ser: &mut Serializer<W>) -> Result<usize>
         ensures plain { WritesPlain W.WriteExt.own (Tree.unsigned self.now) ser.old result ser.new }
+        ensures meant { WritesPlain W.WriteExt.own (unsigned_tree (2 ^ 16 - 1) self.now)
+            ser.old result ser.new }
     {
         ser.serialize_u16(*self)
     }
 }
 
 impl Serialize for u32 {
-    ghost meaning = { λ n. Tree.unsigned n };
+    ghost meaning = { unsigned_tree (2 ^ 32 - 1) };
 
     #[inline(always)]
     fn serialize<W: WriteExt>(&self, ser: &mut Serializer<W>) -> Result<usize>
         ensures plain { WritesPlain W.WriteExt.own (Tree.unsigned self.now) ser.old result ser.new }
+        ensures meant { WritesPlain W.WriteExt.own (unsigned_tree (2 ^ 32 - 1) self.now)
+            ser.old result ser.new }
     {
         ser.serialize_u32(*self)
     }
 }
 
 impl Serialize for u64 {
-    ghost meaning = { λ n. Tree.unsigned n };
+    ghost meaning = { unsigned_tree (2 ^ 64 - 1) };
 
     #[inline(always)]
     fn serialize<W: WriteExt>(&self, ser: &mut Serializer<W>) -> Result<usize>
         ensures plain { WritesPlain W.WriteExt.own (Tree.unsigned self.now) ser.old result ser.new }
+        ensures meant { WritesPlain W.WriteExt.own (unsigned_tree (2 ^ 64 - 1) self.now)
+            ser.old result ser.new }
     {
         ser.serialize_u64(*self)
     }
 }
 
 impl Serialize for u128 {
-    ghost meaning = { λ n. Tree.unsigned n };
+    ghost meaning = { unsigned_tree (2 ^ 128 - 1) };
 
     #[inline(always)]
     fn serialize<W: WriteExt>(&self, ser: &mut Serializer<W>) -> Result<usize>
         ensures plain { WritesPlain W.WriteExt.own (Tree.unsigned self.now) ser.old result ser.new }
+        ensures meant { WritesPlain W.WriteExt.own (unsigned_tree (2 ^ 128 - 1) self.now)
+            ser.old result ser.new }
     {
         ser.serialize_u128(*self)
     }
 }
 
 impl Serialize for usize {
-    ghost meaning = { λ n. Tree.unsigned n };
+    ghost meaning = { unsigned_tree (2 ^ 64 - 1) };
 
     #[inline(always)]
     fn serialize<W: WriteExt>(&self, ser: &mut Serializer<W>) -> Result<usize>
         ensures plain { WritesPlain W.WriteExt.own (Tree.unsigned self.now) ser.old result ser.new }
+        ensures meant { WritesPlain W.WriteExt.own (unsigned_tree (2 ^ 64 - 1) self.now)
+            ser.old result ser.new }
     {
         ser.serialize_u128(*self as u128)
     }

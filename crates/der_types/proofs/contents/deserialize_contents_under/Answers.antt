@@ -28,14 +28,14 @@ returns-in-Some-clause-read g c =
     let read = c.in_ok-bytes.ensures.ok in
     let good = ap g.T.Contents.is_content (sym is) ∙ g.met.T.Contents.valid c.in-Some.value in
     subst (λ x. ReadsPlain c.args.tag (content_error g.T.Contents.is_content) (Shape.bytes c.args.tag) c.args.de.now c.deserialize_tagged_bytes.new.self (Tree.bytes c.args.tag x)) (sym is)
-    (reads_judged (content_error g.T.Contents.is_content) read.reads.readable small (passes g.T.Contents.is_content bytes.items good) read.reads)
+    (reads_judged (content_error g.T.Contents.is_content) read.reads.readable.0 small (passes g.T.Contents.is_content bytes.items good) read.reads)
 
 none : (g : Over) (c : After-refuse g) → RefusesContent g.T.Contents.content c.args.tag g.T.Contents.is_content c.args.de.now c.refuse.new.self c.refuse.result
 none g c =
     let bytes = c.in_ok-bytes.bytes in
     let small : length bytes.items < 2 ^ 64 = omega (arith, bytes.small, bytes.ok) in
     let read = c.in_ok-bytes.ensures.ok in
-    refuses_judged g.T.Contents.content (content_error g.T.Contents.is_content) InvalidData read.reads.readable small (λ e. cc)
+    refuses_judged g.T.Contents.content (content_error g.T.Contents.is_content) InvalidData read.reads.readable.0 small (λ e. cc)
     (λ v. passes g.T.Contents.is_content (g.T.Contents.content v) (g.met.T.Contents.valid v)) (fails g.T.Contents.is_content bytes.items c.in-None.ensures.none) read.reads c.refuse.ensures.is c.refuse.ensures.fails
 
 pub returns-in-None-clause-refused : goal.returns-in-None-clause-refused

@@ -1,12 +1,13 @@
-use Rattle.std.proofs.Common.{rules, refl, arith, [], ◌∷◌}
+use Rattle.std.proofs.Common.{rules, refl, arith, ◌^◌, ◌-◌, [], ◌∷◌}
 use Rattle.std.proofs.lemmas.Result.{err_from_is_err_and}
-use Rattle.picky_der_core.specs.Tree.{ListKind, Tree, Trees, trees}
+use Rattle.picky_der_core.specs.Tree.{ListKind, Trees, trees}
+use Rattle.picky_der_core.specs.Integer.{unsigned_tree}
 use Rattle.picky_der_ser.proofs.MemberWrites.{list_opened, list_gained, list_refused, list_wrote, list_failed}
 use Rattle.der_examples.specs.declared.interval.Interval.{Interval}
 use Rattle.der_examples.proofs.interval.IntervalSerialize.serialize.Goals as goal
 
 abbrev members : Interval → Trees
-members it = trees (Tree.unsigned it.first ∷ Tree.unsigned it.last ∷ [])
+members it = trees (unsigned_tree (2 ^ 32 - 1) it.first ∷ unsigned_tree (2 ^ 32 - 1) it.last ∷ [])
 
 pub returns-in_err-serialize_field-clause-failed :
     goal.returns-in_err-serialize_field-clause-failed

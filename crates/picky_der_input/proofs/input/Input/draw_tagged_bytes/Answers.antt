@@ -14,7 +14,7 @@ returns-in_err-len-clause-err g c =
 pub returns-clause-ok : goal.returns-clause-ok
 returns-clause-ok g c =
     let h = c.in_ok-len.ensures.ok in
-    IfOk-both c.draw_vec.result c.draw_vec.ensures.ok c.draw_vec.ensures.implicit_tag (λ v k d. reads_plain (bytes_kind c.args.tag (omega arith)) v.items (refl, k.2) (omega arith) h k.0 k.1 (d ∙ h.implicit_tag))
+    IfOk-both c.draw_vec.result c.draw_vec.ensures.ok c.draw_vec.ensures.implicit_tag (λ v k d. reads_plain (bytes_kind c.args.tag (omega arith)) v.items (refl, k.2) (omega arith, k.2) h k.0 k.1 (d ∙ h.implicit_tag))
 
 pub returns-clause-err : goal.returns-clause-err
 returns-clause-err g c = MatchResult-weaker c.draw_vec.result c.draw_vec.ensures.err (λ v k. tt) (λ e k. refuses_cut (bytes_kind c.args.tag (omega arith)) c.in_ok-len.ensures.ok k)
@@ -23,4 +23,4 @@ pub returns-then-number-gt-MAX_NUMBER-clause-err : goal.returns-then-number-gt-M
 returns-then-number-gt-MAX_NUMBER-clause-err g c =
     let f = c.fail.ensures in
     let past : 30 < number_of c.args.tag = omega (arith, c.if-number-gt-MAX_NUMBER.true, c.number.ensures) in
-    refuses_number past (λ v o r. omega (arith, past, r)) f.fails f.error (failed_same c.args.self.now f.error f.same)
+    refuses_number past (λ v o r. omega (arith, past, r.0)) f.fails f.error (failed_same c.args.self.now f.error f.same)

@@ -22,7 +22,8 @@ returns-in-Ok-clause-ok g c =
     let h = c.in_ok-len.ensures.ok in
     let k = c.in_ok-content.ensures in
     let same : string_bytes c.in-Ok.text ≡ c.in_ok-content.content.items = ap (λ (v : Vec ℕ Global). v.items) c.in-Ok.ensures.ok in
-    rw same (reads_plain text_kind c.in_ok-content.content.items (subst IsUtf8 same (IsUtf8-string_bytes c.in-Ok.text)) tt h k.ok.0 k.ok.1 (k.implicit_tag ∙ h.implicit_tag))
+    let utf8 = subst IsUtf8 same (IsUtf8-string_bytes c.in-Ok.text) in
+    rw same (reads_plain text_kind c.in_ok-content.content.items utf8 utf8 h k.ok.0 k.ok.1 (k.implicit_tag ∙ h.implicit_tag))
 
 pub returns-clause-err : goal.returns-clause-err
 returns-clause-err g c =
