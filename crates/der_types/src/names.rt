@@ -257,8 +257,8 @@ pub const SHA512: &[u8] = &[0x60, 0x86, 0x48, 0x01, 0x65, 0x03, 0x04, 0x02, 0x03
 /// `sha224`, 2.16.840.1.101.3.4.2.4.
 pub const SHA224: &[u8] = &[0x60, 0x86, 0x48, 0x01, 0x65, 0x03, 0x04, 0x02, 0x04];
 
-// Each with its name.
-static NAMES: [(&[u8], &str); 78] = [
+// Each attribute of a name with its name.
+static ATTRIBUTES: [(&[u8], &str); 18] = [
     (COMMON_NAME, "commonName"),
     (SURNAME, "surname"),
     (SERIAL_NUMBER, "serialNumber"),
@@ -277,6 +277,10 @@ static NAMES: [(&[u8], &str); 78] = [
     (PSEUDONYM, "pseudonym"),
     (DOMAIN_COMPONENT, "domainComponent"),
     (EMAIL_ADDRESS, "emailAddress"),
+];
+
+// Each extension with its name.
+static EXTENSIONS: [(&[u8], &str); 20] = [
     (SUBJECT_KEY_IDENTIFIER, "subjectKeyIdentifier"),
     (KEY_USAGE, "keyUsage"),
     (SUBJECT_ALT_NAME, "subjectAltName"),
@@ -297,6 +301,10 @@ static NAMES: [(&[u8], &str); 78] = [
     (INHIBIT_ANY_POLICY, "inhibitAnyPolicy"),
     (AUTHORITY_INFO_ACCESS, "authorityInfoAccess"),
     (SUBJECT_INFO_ACCESS, "subjectInfoAccess"),
+];
+
+// Each purpose, and each way to reach an authority, with its name.
+static PURPOSES: [(&[u8], &str); 8] = [
     (SERVER_AUTH, "serverAuth"),
     (CLIENT_AUTH, "clientAuth"),
     (CODE_SIGNING, "codeSigning"),
@@ -305,14 +313,10 @@ static NAMES: [(&[u8], &str); 78] = [
     (OCSP_SIGNING, "OCSPSigning"),
     (OCSP, "ocsp"),
     (CA_ISSUERS, "caIssuers"),
-    (RSA_ENCRYPTION, "rsaEncryption"),
-    (SHA1_WITH_RSA_ENCRYPTION, "sha1WithRSAEncryption"),
-    (MGF1, "mgf1"),
-    (RSASSA_PSS, "rsassaPss"),
-    (SHA256_WITH_RSA_ENCRYPTION, "sha256WithRSAEncryption"),
-    (SHA384_WITH_RSA_ENCRYPTION, "sha384WithRSAEncryption"),
-    (SHA512_WITH_RSA_ENCRYPTION, "sha512WithRSAEncryption"),
-    (SHA224_WITH_RSA_ENCRYPTION, "sha224WithRSAEncryption"),
+];
+
+// Each content of CMS, and each attribute of one and of a request, with its name.
+static CONTENTS: [(&[u8], &str); 8] = [
     (DATA, "data"),
     (SIGNED_DATA, "signedData"),
     (ENVELOPED_DATA, "envelopedData"),
@@ -321,6 +325,18 @@ static NAMES: [(&[u8], &str); 78] = [
     (SIGNING_TIME, "signingTime"),
     (CHALLENGE_PASSWORD, "challengePassword"),
     (EXTENSION_REQUEST, "extensionRequest"),
+];
+
+// Each algorithm, curve and digest with its name.
+static ALGORITHMS: [(&[u8], &str); 24] = [
+    (RSA_ENCRYPTION, "rsaEncryption"),
+    (SHA1_WITH_RSA_ENCRYPTION, "sha1WithRSAEncryption"),
+    (MGF1, "mgf1"),
+    (RSASSA_PSS, "rsassaPss"),
+    (SHA256_WITH_RSA_ENCRYPTION, "sha256WithRSAEncryption"),
+    (SHA384_WITH_RSA_ENCRYPTION, "sha384WithRSAEncryption"),
+    (SHA512_WITH_RSA_ENCRYPTION, "sha512WithRSAEncryption"),
+    (SHA224_WITH_RSA_ENCRYPTION, "sha224WithRSAEncryption"),
     (EC_PUBLIC_KEY, "ecPublicKey"),
     (SECP256R1, "secp256r1"),
     (ECDSA_WITH_SHA256, "ecdsa-with-SHA256"),
@@ -339,7 +355,7 @@ static NAMES: [(&[u8], &str); 78] = [
     (SHA224, "sha224"),
 ];
 
-// The name that the table has for this content.
+// The name that a table has for this content.
 fn name_in<'a>(table: &[(&[u8], &'a str)], content: &[u8]) -> Option<&'a str>
     ensures some { IfSome result (λ name. Any (λ entry. (entry.0.now ≡ content.now)
         × (entry.1.now ≡ name.now)) table.now) }
@@ -355,5 +371,9 @@ fn name_in<'a>(table: &[(&[u8], &'a str)], content: &[u8]) -> Option<&'a str>
 
 /// The name of the object identifier with this content, as `commonName`, if it is one of those above.
 pub fn name_of(content: &[u8]) -> Option<&'static str> {
-    name_in(&NAMES, content)
+    name_in(&ATTRIBUTES, content)
+        .or_else(|| name_in(&EXTENSIONS, content))
+        .or_else(|| name_in(&PURPOSES, content))
+        .or_else(|| name_in(&CONTENTS, content))
+        .or_else(|| name_in(&ALGORITHMS, content))
 }
