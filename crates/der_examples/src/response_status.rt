@@ -5,7 +5,7 @@ ghost use Rattle.picky_der_core.specs.Tree.{Tree};
 ghost use Rattle.picky_der_core.specs.Shape.{Shape};
 ghost use Rattle.picky_der_de.specs.Known.{known_bytes, by_itself, ties_so};
 ghost use Rattle.der_examples.specs.declared.response_status.ResponseStatus.TheVariants as status;
-ghost use Rattle.der_examples.specs.ResponseStatus.{status_number, is_status};
+ghost use Rattle.der_examples.specs.ResponseStatus.{status_number, is_status, same_status};
 
 use der_types::{Contents, deserialize_contents_as};
 use picky_asn1_der::asn1::Tag;
@@ -86,14 +86,7 @@ impl Contents for ResponseStatus {
       | status.Unauthorized ↦ refl
     ] };
 
-    ghost same = { elim [
-      | status.Successful ↦ elim [ status.Successful ↦ λ e. refl | _ ↦ λ e. cc ]
-      | status.MalformedRequest ↦ elim [ status.MalformedRequest ↦ λ e. refl | _ ↦ λ e. cc ]
-      | status.InternalError ↦ elim [ status.InternalError ↦ λ e. refl | _ ↦ λ e. cc ]
-      | status.TryLater ↦ elim [ status.TryLater ↦ λ e. refl | _ ↦ λ e. cc ]
-      | status.SigRequired ↦ elim [ status.SigRequired ↦ λ e. refl | _ ↦ λ e. cc ]
-      | status.Unauthorized ↦ elim [ status.Unauthorized ↦ λ e. refl | _ ↦ λ e. cc ]
-    ] };
+    ghost same = { same_status };
 }
 
 impl Serialize for ResponseStatus {
