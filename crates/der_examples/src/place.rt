@@ -59,10 +59,8 @@ impl Serialize for Place {
 impl Deserialize for Place {
     ghost shape = { Shape.choice ⟦<Parts as Alternatives>⟧.shapes };
 
-    ghost known = { known_choice ⟦<Parts as Alternatives>⟧.known refl ⟦<Self as Choice>⟧.parts ⟦<Self as PartialEq>⟧.eq (elim [
-      | At x ↦ elim [ At y ↦ λ h. h | _ ↦ λ h. h ]
-      | By x ↦ elim [ By y ↦ λ h. h | _ ↦ λ h. h ]
-    ]) };
+    ghost known = { known_choice ⟦<Parts as Alternatives>⟧.known refl ⟦<Self as Choice>⟧.parts ⟦<Self as PartialEq>⟧.eq
+        (elim [ At _ ↦ elim [ At _ ↦ λ h. h | _ ↦ λ h. h ] | _ ↦ elim [ At _ ↦ λ h. h | _ ↦ λ h. h ] ]) };
 
     ghost tied = { by_itself };
 

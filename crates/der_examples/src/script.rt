@@ -132,20 +132,8 @@ impl Serialize for Command {
 impl Deserialize for Command {
     ghost shape = { Shape.choice ⟦<Parts as Alternatives>⟧.shapes };
 
-    ghost known = { known_choice ⟦<Parts as Alternatives>⟧.known refl ⟦<Self as Choice>⟧.parts ⟦<Self as PartialEq>⟧.eq (elim [
-      | Move x ↦ elim [ Move y ↦ λ h. h | _ ↦ λ h. h ]
-      | Wait x ↦ elim [ Wait y ↦ λ h. h | _ ↦ λ h. h ]
-      | Follow x ↦ elim [ Follow y ↦ λ h. h | _ ↦ λ h. h ]
-      | Lift x ↦ elim [ Lift y ↦ λ h. h | _ ↦ λ h. h ]
-      | Say x ↦ elim [ Say y ↦ λ h. h | _ ↦ λ h. h ]
-      | Adjust x ↦ elim [ Adjust y ↦ λ h. h | _ ↦ λ h. h ]
-      | Stop x ↦ elim [ Stop y ↦ λ h. h | _ ↦ λ h. h ]
-      | Load x ↦ elim [ Load y ↦ λ h. h | _ ↦ λ h. h ]
-      | Speeds x ↦ elim [ Speeds y ↦ λ h. h | _ ↦ λ h. h ]
-      | Repeat x ↦ elim [ Repeat y ↦ λ h. h | _ ↦ λ h. h ]
-      | Mark x ↦ elim [ Mark y ↦ λ h. h | _ ↦ λ h. h ]
-      | Forget x ↦ elim [ Forget y ↦ λ h. h | _ ↦ λ h. h ]
-    ]) };
+    ghost known = { known_choice ⟦<Parts as Alternatives>⟧.known refl ⟦<Self as Choice>⟧.parts ⟦<Self as PartialEq>⟧.eq
+        (elim [ Move _ ↦ elim [ Move _ ↦ λ h. h | _ ↦ λ h. h ] | _ ↦ elim [ Move _ ↦ λ h. h | _ ↦ λ h. h ] ]) };
 
     ghost tied = { by_itself };
 

@@ -56,11 +56,8 @@ impl Serialize for Setting {
 impl Deserialize for Setting {
     ghost shape = { Shape.choice ⟦<Parts as Alternatives>⟧.shapes };
 
-    ghost known = { known_choice ⟦<Parts as Alternatives>⟧.known refl ⟦<Self as Choice>⟧.parts ⟦<Self as PartialEq>⟧.eq (elim [
-      | Number x ↦ elim [ Number y ↦ λ h. h | _ ↦ λ h. h ]
-      | Text x ↦ elim [ Text y ↦ λ h. h | _ ↦ λ h. h ]
-      | Numbers x ↦ elim [ Numbers y ↦ λ h. h | _ ↦ λ h. h ]
-    ]) };
+    ghost known = { known_choice ⟦<Parts as Alternatives>⟧.known refl ⟦<Self as Choice>⟧.parts ⟦<Self as PartialEq>⟧.eq
+        (elim [ Number _ ↦ elim [ Number _ ↦ λ h. h | _ ↦ λ h. h ] | _ ↦ elim [ Number _ ↦ λ h. h | _ ↦ λ h. h ] ]) };
 
     ghost tied = { by_itself };
 

@@ -56,10 +56,8 @@ impl Serialize for Time {
 impl Deserialize for Time {
     ghost shape = { Shape.choice ⟦<Parts as Alternatives>⟧.shapes };
 
-    ghost known = { known_choice ⟦<Parts as Alternatives>⟧.known refl ⟦<Self as Choice>⟧.parts ⟦<Self as PartialEq>⟧.eq (elim [
-      | Utc x ↦ elim [ Utc y ↦ λ h. h | _ ↦ λ h. h ]
-      | Generalized x ↦ elim [ Generalized y ↦ λ h. h | _ ↦ λ h. h ]
-    ]) };
+    ghost known = { known_choice ⟦<Parts as Alternatives>⟧.known refl ⟦<Self as Choice>⟧.parts ⟦<Self as PartialEq>⟧.eq
+        (elim [ Utc _ ↦ elim [ Utc _ ↦ λ h. h | _ ↦ λ h. h ] | _ ↦ elim [ Utc _ ↦ λ h. h | _ ↦ λ h. h ] ]) };
 
     ghost tied = { by_itself };
 

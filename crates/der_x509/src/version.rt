@@ -59,11 +59,8 @@ impl Serialize for Version {
 impl Deserialize for Version {
     ghost shape = { ⟦<u8 as Deserialize>⟧.shape };
 
-    ghost known = { known_number (2 ^ 8 - 1) refl version_number ⟦<Self as PartialEq>⟧.eq (elim [
-      | version.V1 ↦ elim [ version.V1 ↦ λ h. h | _ ↦ λ h. h ]
-      | version.V2 ↦ elim [ version.V2 ↦ λ h. h | _ ↦ λ h. h ]
-      | version.V3 ↦ elim [ version.V3 ↦ λ h. h | _ ↦ λ h. h ]
-    ]) };
+    ghost known = { known_number (2 ^ 8 - 1) refl version_number ⟦<Self as PartialEq>⟧.eq
+        (elim [ version.V1 ↦ elim [ version.V1 ↦ λ h. h | _ ↦ λ h. h ] | _ ↦ elim [ version.V1 ↦ λ h. h | _ ↦ λ h. h ] ]) };
 
     ghost tied = { by_itself };
 
