@@ -1,5 +1,5 @@
 -- Numbers and the bytes that they are read from.
-use Rattle.std.proofs.Common.{◌≡◌, ℕ, suc, ◌+◌, ◌*◌, ◌^◌, ◌<◌, ◌≤◌, false, List, [], ◌∷◌, length, get_or, nat_lt, None, refl, sym, arith, ap, ◌∙◌, add-one}
+use Rattle.std.proofs.Common.{◌≡◌, ℕ, suc, ◌+◌, ◌*◌, ◌^◌, ◌<◌, ◌≤◌, true, false, List, [], ◌∷◌, length, get_or, nat_lt, None, refl, sym, arith, ap, ◌∙◌, add-one}
 use Rattle.std.specs.Int.Digits.{number_from_digits}
 use Rattle.std.proofs.lemmas.Bool.Decides.{nat_tests}
 use Rattle.std.proofs.Math.Nat.{pow-suc, pow-le-pow_right}
@@ -32,3 +32,11 @@ content_of_number n content digits bytes same short e f =
     let b : nat_lt n (number_from_digits 256 digits) ≡ false = grind (arith, nat_tests) in
     let none : number_error n digits ≡ None = rw (a, b) refl in
     (content-unsigned_error n content bytes (same n ∙ none)).0 ∙ ap unsigned_content (sym f ∙ sym e)
+
+-- the content of one byte that isn't that of a negative number
+pub content_of_digit : (n : ℕ) (content : List ℕ) → 1 ≤ length content → length content < 2 → get_or content 0 0 < 0x80 → n ≡ get_or content 0 0 → content ≡ unsigned_content n
+content_of_digit n [] some one small e = absurd (omega arith)
+content_of_digit n (b ∷ []) some one small e =
+    let a : nat_lt b 0x80 ≡ true = grind (arith, nat_tests) in
+    content_of_number n (b ∷ []) (b ∷ []) (omega arith, tt) (λ most. rw a refl) (omega arith) (omega arith) refl
+content_of_digit n (b ∷ d ∷ bs) some one small e = absurd (omega arith)

@@ -35,10 +35,6 @@ fn value_of(digits: &[u8]) -> u128
     requires { length digits.now ≤ 16 }
     ensures { result ≡ number_from_digits 256 digits.now }
 {
-    // Most numbers have one, and a loop takes longer.
-    if let [digit] = digits {
-        return u128::from(*digit);
-    }
     let mut number = 0;
     for digit in digits {
         number = number * 256 + u128::from(*digit);
@@ -60,6 +56,10 @@ impl UnsignedInteger {
         ensures fault { IfErr result (λ e. unsigned_error T.greatest content.now ≡ Some e) }
         ensures no_device { IfErr result IsOfContent }
     {
+        // Most numbers have one byte, and then no other test is needed.
+        if let [digit @ 0x00..=0x7F] = content {
+            return T::from_u128(u128::from(*digit));
+        }
         let digits = digits_of(content)?;
         if digits.len() > 16 {
             return Err(Asn1DerError::UnsupportedValue);

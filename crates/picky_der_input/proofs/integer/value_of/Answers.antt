@@ -9,11 +9,11 @@ overflow_mul-number c = omega (arith, more_bytes_fit c.loop-digit.digit-index 16
 pub overflow_add-number : goal.overflow_add-number
 overflow_add-number c =
     let d = c.type_inv.digits c.loop-digit.digit-index in
-    omega (arith, more_bytes_fit c.loop-digit.digit-index 16 c.loop-digit.number c.from-in-loop-digit.result (omega arith) c.loop-digit.invariant.1 (omega (arith, d)))
+    omega (arith, more_bytes_fit c.loop-digit.digit-index 16 c.loop-digit.number c.from.result (omega arith) c.loop-digit.invariant.1 (omega (arith, d)))
 
 pub loop-digit-preserved : goal.loop-digit-preserved
 loop-digit-preserved c =
     let d = c.type_inv.digits c.loop-digit.digit-index in
     let i = c.loop-digit.invariant in
     let more = number_more 256 c.args.digits.now c.loop-digit.digit-index c.loop-digit-test.true in
-    (omega (arith, i.0, more, c.from-in-loop-digit.ensures), more_bytes c.loop-digit.digit-index c.loop-digit.number c.from-in-loop-digit.result i.1 (omega (arith, d)))
+    (omega (arith, i.0, more, c.from.ensures), more_bytes c.loop-digit.digit-index c.loop-digit.number c.from.result i.1 (omega (arith, d)))
