@@ -1,5 +1,5 @@
 //! A reader whose next byte can be looked at.
-ghost use Rattle.std.specs.Prelude.{◌≡◌, ◌<◌, ◌≤◌, ◌∷◌, [], false, length, drop, Ok, None, Some, IfNone, IfSome, IfOk};
+ghost use Rattle.std.specs.Prelude.{◌≡◌, ◌+◌, ◌<◌, ◌≤◌, ◌^◌, ◌∷◌, [], false, length, drop, Ok, None, Some, IfNone, IfSome, IfOk};
 ghost use Rattle.std.specs.Prelude.{OnOk, IfErr, OnErr};
 ghost use Rattle.std.specs.Io.KnownBytes.{Consumes, Keeps, IsAtEnd, ReadConsumes};
 ghost use Rattle.std.specs.Io.{ReadsAtMost, StartsWith};
@@ -111,6 +111,25 @@ impl<R: ReadExt> PeekableReader<R> {
         ensures { result ≡ self.now.pos }
     {
         self.pos
+    }
+
+    /// Consumes the first `count` of the bytes that are shown, as `take_ahead` does, where the position has room for them.
+    pub fn take_few(&mut self, count: usize)
+        requires shown { count ≤ shown_by self.old.drawn (R.shown self.old.reader) }
+        requires room { self.old.pos + count < 2 ^ 64 }
+        ensures taken { TakesFirst (left_in R.remaining self.old)
+            (left_in R.remaining self.new) count }
+        ensures unpeeked { count_of_any self.old.peeked ≤ count → self.new.peeked ≡ None }
+        ensures pos { self.new.pos ≡ position_behind self.old.pos count }
+        ensures no_fault { R.faults self.new.reader ≡ R.faults self.old.reader }
+        ensures same_references { R.references self.new.reader ≡ R.references self.old.reader }
+    {
+        if self.drawn {
+            return;
+        }
+        self.reader.take_ahead(count);
+        self.peeked = None;
+        self.pos += count;
     }
 
     /// The inner reader, after a byte that was peeked.

@@ -118,7 +118,7 @@ impl<R: ReadExt> Input<R> {
         ensures none { IfNone result (self.new ≡ self.old) }
     {
         let (len, size) = headed_in_front(near(&self.reader, self.until_end), tag)?;
-        self.reader.take_ahead(size);
+        self.reader.take_few(size);
         self.until_end -= size;
         Some(len)
     }
@@ -149,7 +149,7 @@ impl<R: ReadExt> Input<R> {
         let Ok(bytes) = copied(self.alloc, &near[..count]) else {
             return Err(self.fail(Asn1DerError::OutOfMemory));
         };
-        self.reader.take_ahead(count);
+        self.reader.take_few(count);
         self.until_end -= count;
         Ok(Some(bytes))
     }
@@ -172,11 +172,11 @@ impl<R: ReadExt> Input<R> {
         let count = size + len;
         let Ok(content) = copied(self.alloc, &near[size..count]) else {
             // As where the content is drawn behind it, the header was read.
-            self.reader.take_ahead(size);
+            self.reader.take_few(size);
             self.until_end -= size;
             return Err(self.fail(Asn1DerError::OutOfMemory));
         };
-        self.reader.take_ahead(count);
+        self.reader.take_few(count);
         self.until_end -= count;
         Ok(Some(content))
     }
@@ -198,7 +198,7 @@ impl<R: ReadExt> Input<R> {
         let Ok(bytes) = copied(self.alloc, &near[..count]) else {
             return Err(self.fail(Asn1DerError::OutOfMemory));
         };
-        self.reader.take_ahead(count);
+        self.reader.take_few(count);
         self.until_end -= count;
         Ok(Some(bytes))
     }

@@ -96,7 +96,7 @@ impl<R: ReadExt> Input<R> {
         let Ok(value) = K::of_content(content) else {
             return None;
         };
-        self.reader.take_ahead(count);
+        self.reader.take_few(count);
         self.until_end -= count;
         Some(value)
     }

@@ -9,7 +9,7 @@ pub returns-clause-taken : goal.returns-clause-taken
 returns-clause-taken g c =
     let all = c.near-near.result.now in
     let n = c.args.count in
-    let e = c.take_ahead.ensures in
+    let e = c.take_few.ensures in
     let size : length (take n all) ≡ n = grind (arith, common_steps) in
     let had_not_failed : c.self.inside.failed ≡ None = ap (λ (s : State). s.failed) c.self.view_is ∙ c.requires.had_not_failed in
     let unpeeked : c.self.inside.reader.peeked ≡ None = ap (λ (s : State). s.peeked) c.self.view_is ∙ c.requires.unpeeked in

@@ -13,7 +13,7 @@ returns-clause-read g c =
     let size = c.in-Some.size in
     let n = c.in-Some.len in
     let h = c.in-Some.ensures in
-    let e = c.take_ahead-2.ensures in
+    let e = c.take_few-2.ensures in
     let back : size + n - size ≡ n = omega arith in
     let bytes : AreBytes (take n (drop size all)) = subst (λ k. AreBytes (take k (drop size all))) back c.copied.ensures.bytes in
     let few : count_of_any c.self.inside.reader.peeked ≤ 1 = at_most_one c.self.inside.reader.peeked in
@@ -27,7 +27,7 @@ returns-clause-read g c =
 pub returns-in_default-copied-clause-err : goal.returns-in_default-copied-clause-err
 returns-in_default-copied-clause-err g c =
     let h = c.in-Some.ensures in
-    let e = c.take_ahead.ensures in
+    let e = c.take_few.ensures in
     let f = c.fail.ensures in
     let few : count_of_any c.self.inside.reader.peeked ≤ 1 = at_most_one c.self.inside.reader.peeked in
     let had_not_failed : c.self.inside.failed ≡ None = ap (λ (s : State). s.failed) c.self.view_is ∙ c.if-not-wants_header.ensures.not_failed refl in

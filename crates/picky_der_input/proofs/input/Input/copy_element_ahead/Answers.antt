@@ -10,7 +10,7 @@ pub returns-clause-read : goal.returns-clause-read
 returns-clause-read g c =
     let all = c.near-near.result.now in
     let n = c.in-Some.count in
-    let e = c.take_ahead.ensures in
+    let e = c.take_few.ensures in
     let h = c.in-Some.ensures.is in
     let size : length (take n all) ≡ n = grind (arith, common_steps, h.fits) in
     let few : count_of_any c.self.inside.reader.peeked ≤ 1 = at_most_one c.self.inside.reader.peeked in

@@ -8,7 +8,7 @@ use Rattle.picky_der_input.proofs.input.Input.short_plain.Goals as goal
 pub returns-clause-read : goal.returns-clause-read
 returns-clause-read g c =
     let k = c.in-Ok.ensures in
-    let e = c.take_ahead.ensures in
+    let e = c.take_few.ensures in
     let h = rw c.TAG.ensures at c.in_ok-content.ensures in
     let few : count_of_any c.self.inside.reader.peeked ≤ 1 = at_most_one c.self.inside.reader.peeked in
     let had_not_failed : c.self.inside.failed ≡ None = ap (λ (s : State). s.failed) c.self.view_is ∙ c.if-not-wants_header.ensures.not_failed refl in

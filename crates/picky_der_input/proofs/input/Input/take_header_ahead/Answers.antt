@@ -8,7 +8,7 @@ use Rattle.picky_der_input.proofs.input.Input.take_header_ahead.Goals as goal
 pub returns-clause-taken : goal.returns-clause-taken
 returns-clause-taken g c =
     let h = c.in_ok-len.ensures in
-    let e = c.take_ahead.ensures in
+    let e = c.take_few.ensures in
     let few : count_of_any c.self.inside.reader.peeked ≤ 1 = at_most_one c.self.inside.reader.peeked in
     let had_not_failed : c.self.inside.failed ≡ None = ap (λ (s : State). s.failed) c.self.view_is ∙ c.requires.had_not_failed in
     let shown = shown_prefix _ h.is c.near.ensures.front in
