@@ -1,5 +1,5 @@
 //! What reads values of any type from an input.
-ghost use Rattle.std.specs.Prelude.{◌≡◌, [], length, false, None, Some};
+ghost use Rattle.std.specs.Prelude.{◌≡◌, ℕ, List, [], length, false, Option, None, Some};
 ghost use Rattle.picky_der_core.specs.Failure.{failure_of};
 ghost use Rattle.picky_der_core.specs.Peeking.{in_front};
 ghost use Rattle.picky_der_input.specs.State.{fresh};
@@ -48,6 +48,14 @@ impl<'a> Deserializer<&'a [u8]> {
         ensures { result ≡ fresh (Some bytes.now) (length bytes.now) [] [] }
     {
         Deserializer::new_from_reader(alloc, bytes, bytes.len())
+    }
+
+    // A slice has no faults, and a byte that was peeked is the first of those that are left.
+    pub(crate) fn has_no_faults(&self)
+        ensures no_fault { self.now.faults ≡ [] }
+        ensures left { (left : Option (List ℕ)) × (self.now.input ≡ in_front self.now.peeked left) }
+    {
+        self.input.has_no_faults();
     }
 }
 

@@ -32,7 +32,11 @@ pub fn from_bytes<T: Deserialize>(alloc: Global, bytes: &[u8]) -> Result<T>
     ensures ok { IfOk result (IsFront T.meaning T.shape T.eq bytes.now (length bytes.now)) }
     ensures err { IfErr result (HasNoFront T.meaning T.shape bytes.now (length bytes.now)) }
 {
-    read_from::<T, &[u8]>(alloc, bytes, bytes.len()).0
+    let mut de = Deserializer::new_from_bytes(alloc, bytes);
+    let result = T::deserialize(&mut de);
+    // No effect at run time.
+    de.has_no_faults();
+    result
 }
 
 /// The value at the front of what a reader has left, in at most `DEFAULT_MAX_LEN` bytes. Bytes behind it are left in the

@@ -47,8 +47,8 @@ pub fn from_der<T: Deserialize>(alloc: Global, bytes: &[u8]) -> Result<T, Decode
     let mut de = Deserializer::new_from_bytes(alloc, bytes);
     let outcome = T::deserialize(&mut de);
     let position = de.taken();
-    // No effect at run time. The proof reads from it that a slice has no faults.
-    let _ = de.into_reader();
+    // No effect at run time.
+    de.has_no_faults();
     match outcome {
         Ok(value) => {
             if position < bytes.len() {

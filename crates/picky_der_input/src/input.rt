@@ -1,5 +1,5 @@
 //! The input, and how far it may be read.
-ghost use Rattle.std.specs.Prelude.{◌≡◌, ◌<◌, ◌^◌, length, None, Some, IfNone, IfSome};
+ghost use Rattle.std.specs.Prelude.{◌≡◌, ◌<◌, ◌^◌, ℕ, List, [], length, Option, None, Some, IfNone, IfSome};
 ghost use Rattle.picky_der_input.specs.State.{fresh};
 ghost use Rattle.std.specs.IoError.{error_kind};
 ghost use Rattle.picky_der_core.specs.Error.{error_of_kind};
@@ -71,6 +71,16 @@ impl<R: ReadExt> Model for Input<R> {
     ghost invariant = { λ d. (d.reader.pos + d.until_end < 2 ^ 64) × IsUnpeekedIfImplicit d.implicit_tag d.reader.peeked
         × (d.reader.pos + d.until_end ≤ d.limit) × (d.reader.pos + count_of_any d.reader.peeked ≤ d.limit)
         × IfSome d.last_start (λ start. start ≤ length d.kept.items) };
+}
+
+impl Input<&[u8]> {
+    /// A slice has no faults, and a byte that was peeked is the first of those that are left.
+    pub fn has_no_faults(&self)
+        ensures no_fault { self.now.faults ≡ [] }
+        ensures left { (left : Option (List ℕ)) × (self.now.input ≡ in_front self.now.peeked left) }
+    {
+        self.reader.peeked_is_left();
+    }
 }
 
 impl<R: ReadExt> Input<R> {

@@ -1,10 +1,20 @@
-use Rattle.std.proofs.Common.{refl}
+use Rattle.std.proofs.Common.{[], refl, sym}
 use Rattle.std.proofs.lemmas.Result.{MatchResult-weaker}
-use Rattle.picky_der_de.proofs.EntryReads.{slice_refused}
+use Rattle.picky_der_de.specs.Known.{injective_of}
+use Rattle.picky_der_de.proofs.EntryReads.{front_read, front_refused}
 use Rattle.picky_der_de.proofs.entry.from_bytes.Goals as goal
 
 pub returns-clause-ok : goal.returns-clause-ok
-returns-clause-ok g c = MatchResult-weaker c.read_from.result.0 c.read_from.ensures.ok (λ v h. h.front c.args.bytes.now refl) (λ e h. tt)
+returns-clause-ok g c =
+    let d = g.T.Deserialize in
+    let slice = c.has_no_faults.ensures in
+    MatchResult-weaker c.deserialize-result.result c.deserialize-result.ensures.ok
+    (λ v r. front_read g.T.Serialize.meaning d.shape slice.left.0 [] c.new_from_bytes-de.ensures slice.left.1 (sym slice.no_fault) g.T.PartialEq.eq d.known.sound (injective_of d.known g.met.T.Deserialize.tied) v r)
+    (λ e h. tt)
 
 pub returns-clause-err : goal.returns-clause-err
-returns-clause-err g c = MatchResult-weaker c.read_from.result.0 c.read_from.ensures.err (λ v h. tt) (λ e h. slice_refused g.T.Serialize.meaning g.T.Deserialize.shape refl refl refl h)
+returns-clause-err g c =
+    let slice = c.has_no_faults.ensures in
+    MatchResult-weaker c.deserialize-result.result c.deserialize-result.ensures.err
+    (λ v h. tt)
+    (λ e r. front_refused g.T.Serialize.meaning g.T.Deserialize.shape slice.left.0 [] c.new_from_bytes-de.ensures slice.left.1 (sym slice.no_fault) refl r)

@@ -1,4 +1,4 @@
-use Rattle.std.proofs.Common.{sym, ◌∙◌, arith}
+use Rattle.std.proofs.Common.{[], sym, ◌∙◌, arith}
 use Rattle.picky_der_de.specs.Known.{injective_of}
 use Rattle.picky_der_de.proofs.EntryReads.{front_read}
 use Rattle.picky_der_de.proofs.WholeInputs.{taken_all, is_whole, left_over, no_encoding}
@@ -7,15 +7,17 @@ use Rattle.picky_der_de.proofs.whole.from_der.Goals as goal
 pub returns-then-position-bytes-clause-err : goal.returns-then-position-bytes-clause-err
 returns-then-position-bytes-clause-err g c =
     let d = g.T.Deserialize in
-    let front = front_read g.T.Serialize.meaning d.shape _ _ c.new_from_bytes-de.ensures c.into_reader.ensures.input c.into_reader.ensures.faults g.T.PartialEq.eq d.known.sound (injective_of d.known g.met.T.Deserialize.tied) _ c.in-Ok.ensures.ok in
+    let slice = c.has_no_faults.ensures in
+    let front = front_read g.T.Serialize.meaning d.shape slice.left.0 [] c.new_from_bytes-de.ensures slice.left.1 (sym slice.no_fault) g.T.PartialEq.eq d.known.sound (injective_of d.known g.met.T.Deserialize.tied) _ c.in-Ok.ensures.ok in
     left_over front (c.taken-position.ensures.taken ∙ taken_all c.new_from_bytes-de.ensures c.in-Ok.ensures.ok) d.known.sound (λ same. omega (arith, same, c.if-position-bytes.true))
 
-pub returns-else-position-bytes-clause-ok : goal.returns-else-position-bytes-clause-ok
-returns-else-position-bytes-clause-ok g c =
+pub returns-in-Ok-clause-ok : goal.returns-in-Ok-clause-ok
+returns-in-Ok-clause-ok g c =
     let d = g.T.Deserialize in
-    let front = front_read g.T.Serialize.meaning d.shape _ _ c.new_from_bytes-de.ensures c.into_reader.ensures.input c.into_reader.ensures.faults g.T.PartialEq.eq d.known.sound (injective_of d.known g.met.T.Deserialize.tied) _ c.in-Ok.ensures.ok in
+    let slice = c.has_no_faults.ensures in
+    let front = front_read g.T.Serialize.meaning d.shape slice.left.0 [] c.new_from_bytes-de.ensures slice.left.1 (sym slice.no_fault) g.T.PartialEq.eq d.known.sound (injective_of d.known g.met.T.Deserialize.tied) _ c.in-Ok.ensures.ok in
     let size = c.taken-position.ensures.taken ∙ taken_all c.new_from_bytes-de.ensures c.in-Ok.ensures.ok in
     is_whole front size (omega (arith, front.reads.within, size, c.if-position-bytes.false))
 
-pub returns-in-Err-clause-err : goal.returns-in-Err-clause-err
-returns-in-Err-clause-err g c = no_encoding g.T.Serialize.meaning g.T.Deserialize.shape c.new_from_bytes-de.ensures (sym c.into_reader.ensures.faults) c.taken-position.ensures.taken c.in-Err.ensures.err
+pub returns-clause-err : goal.returns-clause-err
+returns-clause-err g c = no_encoding g.T.Serialize.meaning g.T.Deserialize.shape c.new_from_bytes-de.ensures c.has_no_faults.ensures.no_fault c.taken-position.ensures.taken c.in-Err.ensures.err
