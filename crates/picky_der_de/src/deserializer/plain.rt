@@ -15,6 +15,7 @@ impl<R: ReadExt> Deserializer<R> {
     ///
     /// `InvalidData` for another tag and for a content other than one byte `00` or `FF`; `TruncatedData` for an empty
     /// content; the refusals of a header and of an end; else the reader's fault.
+    #[inline(always)]
     pub fn deserialize_bool(&mut self) -> Result<bool>
         ensures ok { IfOk result (ReadsBoolean self.old self.new) }
         ensures err { IfErr result (RefusesBoolean self.old self.new) }
@@ -28,6 +29,7 @@ impl<R: ReadExt> Deserializer<R> {
     /// `InvalidData` for another tag and for a needless 00 in front; `UnsupportedValue` for a negative number and past
     /// the greatest one; `TruncatedData` for an empty content; the refusals of a header and of an end; else the
     /// reader's fault.
+    #[inline(always)]
     pub fn deserialize_u8(&mut self) -> Result<u8>
         ensures ok { IfOk result (ReadsUnsigned (2 ^ 8 - 1) self.old self.new) }
         ensures err { IfErr result (RefusesUnsigned (2 ^ 8 - 1) self.old self.new) }
@@ -37,6 +39,7 @@ impl<R: ReadExt> Deserializer<R> {
     }
 
     /// Reads a number of 16 bits. It is refused as one of 8 bits is.
+    #[inline(always)]
     pub fn deserialize_u16(&mut self) -> Result<u16>
         ensures ok { IfOk result (ReadsUnsigned (2 ^ 16 - 1) self.old self.new) }
         ensures err { IfErr result (RefusesUnsigned (2 ^ 16 - 1) self.old self.new) }
@@ -46,6 +49,7 @@ impl<R: ReadExt> Deserializer<R> {
     }
 
     /// Reads a number of 32 bits. It is refused as one of 8 bits is.
+    #[inline(always)]
     pub fn deserialize_u32(&mut self) -> Result<u32>
         ensures ok { IfOk result (ReadsUnsigned (2 ^ 32 - 1) self.old self.new) }
         ensures err { IfErr result (RefusesUnsigned (2 ^ 32 - 1) self.old self.new) }
@@ -55,6 +59,7 @@ impl<R: ReadExt> Deserializer<R> {
     }
 
     /// Reads a number of 64 bits. It is refused as one of 8 bits is.
+    #[inline(always)]
     pub fn deserialize_u64(&mut self) -> Result<u64>
         ensures ok { IfOk result (ReadsUnsigned (2 ^ 64 - 1) self.old self.new) }
         ensures err { IfErr result (RefusesUnsigned (2 ^ 64 - 1) self.old self.new) }
@@ -64,6 +69,7 @@ impl<R: ReadExt> Deserializer<R> {
     }
 
     /// Reads a number of 128 bits. It is refused as one of 8 bits is.
+    #[inline(always)]
     pub fn deserialize_u128(&mut self) -> Result<u128>
         ensures ok { IfOk result (ReadsUnsigned (2 ^ 128 - 1) self.old self.new) }
         ensures err { IfErr result (RefusesUnsigned (2 ^ 128 - 1) self.old self.new) }
@@ -90,6 +96,7 @@ impl<R: ReadExt> Deserializer<R> {
     ///
     /// `InvalidData` for another tag and for a content that isn't empty; the refusals of a header and of an end; else
     /// the reader's fault.
+    #[inline(always)]
     pub fn deserialize_unit(&mut self) -> Result<()>
         ensures ok { OnOk result (ReadsNull self.old self.new) }
         ensures err { IfErr result (RefusesNull self.old self.new) }
@@ -99,6 +106,7 @@ impl<R: ReadExt> Deserializer<R> {
     }
 
     /// Reads a struct without fields as a null, and is refused so. The name isn't used.
+    #[inline(always)]
     pub fn deserialize_unit_struct(&mut self, _name: &'static str) -> Result<()>
         ensures ok { OnOk result (ReadsNull self.old self.new) }
         ensures err { IfErr result (RefusesNull self.old self.new) }

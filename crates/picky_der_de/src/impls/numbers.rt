@@ -19,6 +19,7 @@ impl Deserialize for bool {
 
     ghost tied = { by_itself };
 
+    #[inline(always)]
     fn deserialize<R: ReadExt>(de: &mut Deserializer<R>) -> Result<bool>
         ensures ok { IfOk result (λ value. Reads Shape.boolean de.old de.new
             (Tree.boolean value)) }
@@ -38,6 +39,7 @@ impl Deserialize for u8 {
 
     ghost tied = { by_itself };
 
+    #[inline(always)]
     #[tactic(auto, using(crate::proofs::NumberReads::reads_within))]
     fn deserialize<R: ReadExt>(de: &mut Deserializer<R>) -> Result<u8>
         ensures ok { IfOk result (λ value. Reads (Shape.unsigned (2 ^ 8 - 1)) de.old de.new
@@ -62,6 +64,7 @@ impl Deserialize for u16 {
 
     ghost tied = { by_itself };
 
+    #[inline(always)]
     #[tactic(auto, using(crate::proofs::NumberReads::reads_within))]
     fn deserialize<R: ReadExt>(de: &mut Deserializer<R>) -> Result<u16>
         ensures ok { IfOk result (λ value. Reads (Shape.unsigned (2 ^ 16 - 1)) de.old de.new
@@ -86,6 +89,7 @@ impl Deserialize for u32 {
 
     ghost tied = { by_itself };
 
+    #[inline(always)]
     #[tactic(auto, using(crate::proofs::NumberReads::reads_within))]
     fn deserialize<R: ReadExt>(de: &mut Deserializer<R>) -> Result<u32>
         ensures ok { IfOk result (λ value. Reads (Shape.unsigned (2 ^ 32 - 1)) de.old de.new
@@ -110,6 +114,7 @@ impl Deserialize for u64 {
 
     ghost tied = { by_itself };
 
+    #[inline(always)]
     #[tactic(auto, using(crate::proofs::NumberReads::reads_within))]
     fn deserialize<R: ReadExt>(de: &mut Deserializer<R>) -> Result<u64>
         ensures ok { IfOk result (λ value. Reads (Shape.unsigned (2 ^ 64 - 1)) de.old de.new
@@ -134,6 +139,7 @@ impl Deserialize for u128 {
 
     ghost tied = { by_itself };
 
+    #[inline(always)]
     #[tactic(auto, using(crate::proofs::NumberReads::reads_within))]
     fn deserialize<R: ReadExt>(de: &mut Deserializer<R>) -> Result<u128>
         ensures ok { IfOk result (λ value. Reads (Shape.unsigned (2 ^ 128 - 1)) de.old de.new
@@ -158,6 +164,7 @@ impl Deserialize for usize {
 
     ghost tied = { by_itself };
 
+    #[inline(always)]
     #[tactic(auto, using(crate::proofs::NumberReads::reads_within))]
     fn deserialize<R: ReadExt>(de: &mut Deserializer<R>) -> Result<usize>
         ensures ok { IfOk result (λ value. Reads (Shape.unsigned (2 ^ 64 - 1)) de.old de.new

@@ -20,6 +20,7 @@ impl<R: ReadExt> Input<R> {
     ///
     /// `InvalidData` for another tag and for a content other than one byte `00` or `FF`; `TruncatedData` for an empty
     /// content; the refusals of a header and of an end; else the reader's fault.
+    #[inline(always)]
     pub fn read_bool(&mut self) -> Result<bool>
         ensures ok { IfOk result (ReadsBoolean self.old self.new) }
         ensures err { IfErr result (RefusesBoolean self.old self.new) }
@@ -33,6 +34,7 @@ impl<R: ReadExt> Input<R> {
     /// `InvalidData` for another tag and for a needless 00 in front; `UnsupportedValue` for a negative number and past
     /// the greatest one; `TruncatedData` for an empty content; the refusals of a header and of an end; else the
     /// reader's fault.
+    #[inline(always)]
     pub fn read_unsigned<T: UInt>(&mut self) -> Result<T>
         ensures ok { IfOk result (λ value. ReadsUnsigned T.greatest self.old self.new
             (T.number value)) }
@@ -60,6 +62,7 @@ impl<R: ReadExt> Input<R> {
     ///
     /// `InvalidData` for another tag and for a content that isn't empty; the refusals of a header and of an end; else
     /// the reader's fault.
+    #[inline(always)]
     pub fn read_unit(&mut self) -> Result<()>
         ensures ok { OnOk result (ReadsNull self.old self.new) }
         ensures err { IfErr result (RefusesNull self.old self.new) }
@@ -69,6 +72,7 @@ impl<R: ReadExt> Input<R> {
     }
 
     // Reads a value of this kind.
+    #[inline(always)]
     pub(super) fn read_plain<K: PlainKind<V>, V: Copy>(&mut self) -> Result<V>
         ensures ok { IfOk result (λ value. ReadsPlain K.TAG K.judge K.shape self.old self.new
             (K.meaning (K.view value))) }
@@ -83,6 +87,7 @@ impl<R: ReadExt> Input<R> {
     }
 
     // Reads a value that is ahead whole.
+    #[inline(always)]
     fn short_plain<K: PlainKind<V>, V: Copy>(&mut self) -> Option<V>
         ensures read { IfSome result (λ value. ReadsPlain K.TAG K.judge K.shape self.old self.new
             (K.meaning (K.view value))) }
