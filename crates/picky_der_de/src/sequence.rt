@@ -207,6 +207,7 @@ impl<R: ReadExt> Deserializer<R> {
     ghost use Rattle.picky_der_de.specs.Lending.{LendsList};
 
     // Begins a sequence or set under this tag.
+    #[inline(always)]
     pub(crate) fn begin_list(&mut self, tag: Tag) -> Result<Sequence<'_, R>>
         requires { IsTagNumber (number_of tag) }
         ensures* rests { sem 𝓛 (LendsList R.row R.ReadExt.own R.Read tag self.entry result) }

@@ -21,6 +21,7 @@ impl<R: ReadExt> Deserializer<R> {
     /// is a soft one until the sequence is closed.
     ///
     /// `InvalidData` for another tag; else the refusals of a header and of an end, and the reader's fault.
+    #[inline(always)]
     pub fn deserialize_seq(&mut self) -> Result<Sequence<'_, R>>
         ensures* rests { sem 𝓛 (LendsList R.row R.ReadExt.own R.Read 0x30 self.entry result) }
         ensures same_reference { IfOk result (λ q. borrowed_by q ≡ self.entry.ghost_name) }

@@ -16,6 +16,7 @@ use picky_der_input::Outer;
 impl<R: ReadExt> Deserializer<R> {
     // Takes the header of a sequence or set under this tag, and opens its end. Directly under an implicit tag the header
     // was that tag's.
+    #[inline(always)]
     pub(crate) fn open_list(&mut self, tag: Tag) -> Result<Outer>
         requires number { IsTagNumber (number_of tag) }
         ensures ok { IfOk result (λ outer. OpensList tag self.old self.new outer) }

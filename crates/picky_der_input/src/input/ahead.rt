@@ -1,6 +1,6 @@
 //! Bytes that the reader has ahead, taken at once. Where it hasn't those that are wanted, nothing is taken, and the caller
 //! draws them one by one: so no refusal but that of memory is made here.
-ghost use Rattle.std.specs.Prelude.{◌≡◌, ◌+◌, ◌≤◌, ◌<◌, ◌∷◌, length, true, None, IfNone, IfSome, IfOk};
+ghost use Rattle.std.specs.Prelude.{◌≡◌, ◌+◌, ◌≤◌, ◌<◌, ◌^◌, ◌∷◌, length, true, None, IfNone, IfSome, IfOk};
 ghost use Rattle.std.specs.Prelude.{IfErr, OnOk};
 ghost use Rattle.picky_der_core.specs.Element.{length_octets, IsPrefix};
 ghost use Rattle.std.specs.Io.{StartsWith};
@@ -127,6 +127,7 @@ impl<R: ReadExt> Input<R> {
     pub(super) fn wants_header(&self) -> bool
         ensures not_failed { result ≡ true → self.now.failed ≡ None }
         ensures whole { result ≡ true → self.now.implicit_tag ≡ None }
+        ensures bounded { self.now.until_end < 2 ^ 64 }
     {
         self.failed.is_none() && self.implicit_tag.is_none()
     }

@@ -1,5 +1,5 @@
 //! Lengths and headers.
-ghost use Rattle.std.specs.Prelude.{◌≡◌, ◌≤◌, ◌∷◌, ◌<◌, ◌^◌, None, IfOk, IfErr, OnOk};
+ghost use Rattle.std.specs.Prelude.{◌≡◌, ◌≤◌, ◌∷◌, ◌<◌, ◌^◌, None, IfNone, IfSome, IfOk, IfErr, OnOk};
 ghost use Rattle.picky_der_core.specs.Element.{length_octets};
 ghost use Rattle.picky_der_core.specs.Tag.{number_of, IsTagNumber};
 ghost use Rattle.picky_der_input.specs.Steps.{Takes, StopsShort, TakesNoMemory};
@@ -110,7 +110,36 @@ impl<R: ReadExt> Input<R> {
 
     // The length of the content of a plain value with this tag. Directly under an implicit tag the header is that tag's,
     // and all before its end is the content.
+    #[inline(always)]
     pub(crate) fn begin(&mut self, tag: Tag) -> Result<usize>
+        requires number { IsTagNumber (number_of tag) }
+        ensures ok { IfOk result (BeginsContent tag self.old self.new) }
+        ensures err { IfErr result (RefusesBegin tag self.old self.new) }
+        ensures memory { IfErr result (TakesNoMemory self.old self.new) }
+    {
+        match self.begin_ahead(tag) {
+            Some(len) => Ok(len),
+            None => self.draw_begin(tag),
+        }
+    }
+
+    // The same, where the header is ahead whole.
+    #[inline(always)]
+    fn begin_ahead(&mut self, tag: Tag) -> Option<usize>
+        ensures some { IfSome result (BeginsContent tag self.old self.new) }
+        ensures none { IfNone result (self.new ≡ self.old) }
+    {
+        if !self.wants_header() {
+            return None;
+        }
+        self.take_header_ahead(tag)
+    }
+
+    // The same, where nothing of it is known: it has failed, or stands directly under an implicit tag, or its header isn't
+    // ahead whole.
+    #[cold]
+    #[inline(never)]
+    fn draw_begin(&mut self, tag: Tag) -> Result<usize>
         requires number { IsTagNumber (number_of tag) }
         ensures ok { IfOk result (BeginsContent tag self.old self.new) }
         ensures err { IfErr result (RefusesBegin tag self.old self.new) }
@@ -123,6 +152,6 @@ impl<R: ReadExt> Input<R> {
             self.implicit_tag = None;
             return Ok(self.until_end);
         }
-        self.read_header(tag)
+        self.draw_header(tag)
     }
 }

@@ -55,6 +55,7 @@ impl<R: ReadExt> Input<R> {
     /// was that tag's. Of a set the order of the members is tested from here on (X.690, 11.6).
     ///
     /// `InvalidData` for another tag; the refusals of a header and of an end; else the reader's fault.
+    #[inline(always)]
     pub fn open_list(&mut self, tag: Tag) -> Result<Outer>
         requires number { IsTagNumber (number_of tag) }
         ensures ok { IfOk result (λ outer. OpensList tag self.old self.new outer) }

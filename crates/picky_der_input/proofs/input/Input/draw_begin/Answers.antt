@@ -1,5 +1,5 @@
 use Rattle.std.proofs.Common.{rules}
-use Rattle.picky_der_input.proofs.input.Input.begin.Goals as goal
+use Rattle.picky_der_input.proofs.input.Input.draw_begin.Goals as goal
 
 pub returns-then-is_some-clause-ok : goal.returns-then-is_some-clause-ok
 returns-then-is_some-clause-ok c = search rules
