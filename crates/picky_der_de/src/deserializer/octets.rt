@@ -21,6 +21,7 @@ impl<R: ReadExt> Deserializer<R> {
     /// `UnsupportedValue` for a tag whose number is 31, which announces the long form: nothing is drawn then, and no
     /// memory is taken. `InvalidData` for another tag; the refusals of a header and of an end; `OutOfMemory` where
     /// memory is refused; else the reader's fault.
+    #[inline(always)]
     pub fn deserialize_tagged_bytes(&mut self, tag: Tag) -> Result<Vec<u8>>
         ensures ok { IfOk result (λ content. ReadsBytes tag self.old self.new content.items) }
         ensures err { IfErr result (RefusesBytes tag self.old self.new) }
@@ -30,6 +31,7 @@ impl<R: ReadExt> Deserializer<R> {
     }
 
     /// Reads an octet string (X.690, 8.7) into one vector. It is refused as any tagged bytes are.
+    #[inline(always)]
     pub fn deserialize_byte_buf(&mut self) -> Result<Vec<u8>>
         ensures ok { IfOk result (λ content. ReadsBytes 0x04 self.old self.new content.items) }
         ensures err { IfErr result (RefusesBytes 0x04 self.old self.new) }

@@ -20,6 +20,7 @@ impl Deserialize for ByteBuf {
 
     ghost tied = { by_itself };
 
+    #[inline(always)]
     fn deserialize<R: ReadExt>(de: &mut Deserializer<R>) -> Result<ByteBuf>
         ensures ok { IfOk result (λ value. Reads (Shape.bytes 0x04) de.old de.new
             (Tree.bytes 0x04 value.0.items)) }
@@ -38,6 +39,7 @@ impl<const TAG: u8> Deserialize for TaggedBytes<TAG> {
 
     ghost tied = { by_itself };
 
+    #[inline(always)]
     fn deserialize<R: ReadExt>(de: &mut Deserializer<R>) -> Result<TaggedBytes<TAG>>
         ensures ok { IfOk result (λ value. Reads (Shape.bytes TAG) de.old de.new
             (Tree.bytes TAG value.0.items)) }

@@ -156,6 +156,7 @@ impl<R: ReadExt> Input<R> {
     }
 
     // Takes the next element, under this tag, and its content into a vector, and `None` where it isn't ahead whole.
+    #[inline(always)]
     pub(crate) fn copy_content_ahead(&mut self, tag: Tag) -> Result<Option<Vec<u8>>>
         requires number { IsTagNumber (number_of tag) }
         ensures read { IfOk result (λ some. IfSome some

@@ -16,6 +16,7 @@ impl<R: ReadExt> Input<R> {
     /// `UnsupportedValue` for a tag whose number is 31, which announces the long form: nothing is drawn then, and no
     /// memory is taken. `InvalidData` for another tag; the refusals of a header and of an end; `OutOfMemory` where
     /// memory is refused; else the reader's fault.
+    #[inline(always)]
     pub fn read_tagged_bytes(&mut self, tag: Tag) -> Result<Vec<u8>>
         ensures ok { IfOk result (λ content. ReadsBytes tag self.old self.new content.items) }
         ensures err { IfErr result (RefusesBytes tag self.old self.new) }
