@@ -54,6 +54,10 @@ impl<R: ReadExt> Input<R> {
     pub(super) fn leave_set(&mut self, outer: Option<usize>)
         ensures { self.new ≡ record self.old { sets = cut_at outer self.old.sets.around } }
     {
+        // Most ends are around no set and in none.
+        if self.last_start.is_none() && outer.is_none() {
+            return;
+        }
         if let Some(begin) = self.last_start {
             self.kept.truncate(begin);
         }
