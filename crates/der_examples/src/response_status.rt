@@ -3,7 +3,8 @@ ghost use Rattle.std.proofs.Common.{lit≤};
 ghost use Rattle.std.specs.Prelude.{◌≡◌, [], ◌∷◌, refl};
 ghost use Rattle.picky_der_core.specs.Tree.{Tree};
 ghost use Rattle.picky_der_core.specs.Shape.{Shape};
-ghost use Rattle.picky_der_de.specs.Known.{known_bytes, by_itself, ties_so};
+ghost use Rattle.picky_der_de.specs.Known.{by_itself};
+ghost use Rattle.der_types.specs.KnownContents.{known_contents};
 ghost use Rattle.der_examples.specs.declared.response_status.ResponseStatus.TheVariants as status;
 ghost use Rattle.der_examples.specs.ResponseStatus.{status_number, is_status, same_status};
 
@@ -100,16 +101,9 @@ impl Serialize for ResponseStatus {
 impl Deserialize for ResponseStatus {
     ghost shape = { Shape.bytes 0x0A };
 
-    ghost known = { known_bytes 0x0A (λ it. status_number it ∷ []) };
+    ghost known = { known_contents 0x0A (λ it. status_number it ∷ []) ⟦<Self as PartialEq>⟧.eq same_status };
 
-    ghost tied = { ties_so by_itself (elim [
-      | status.Successful ↦ elim [ status.Successful ↦ λ h. h | _ ↦ λ h. h ]
-      | status.MalformedRequest ↦ elim [ status.MalformedRequest ↦ λ h. h | _ ↦ λ h. h ]
-      | status.InternalError ↦ elim [ status.InternalError ↦ λ h. h | _ ↦ λ h. h ]
-      | status.TryLater ↦ elim [ status.TryLater ↦ λ h. h | _ ↦ λ h. h ]
-      | status.SigRequired ↦ elim [ status.SigRequired ↦ λ h. h | _ ↦ λ h. h ]
-      | status.Unauthorized ↦ elim [ status.Unauthorized ↦ λ h. h | _ ↦ λ h. h ]
-    ]) };
+    ghost tied = { by_itself };
 
     fn deserialize<R: ReadExt>(deserializer: &mut Deserializer<R>) -> Result<ResponseStatus> {
         deserialize_contents_as(deserializer)
