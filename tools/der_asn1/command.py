@@ -1,0 +1,134 @@
+"""The command line.
+
+    der_asn1 --report [--types] [OPTION ..] MODULE.asn1 ..
+    der_asn1 --out crates/NAME [--type TYPE,..] [--check] [--allow-raw] [--allow-wider] [OPTION ..] MODULE.asn1 ..
+
+`--report` prints for each module how many of its types are expressed exactly, and which features of the library are missing for the
+others. `--types` adds a line for each type.
+
+`--out` writes a crate of all types of the modules, or of those after `--type` and what they need, and prints its line of `crates.txt`.
+`--check` writes nothing, and fails where a file isn't what would be written. A type that would be kept as bytes, or in part, is an error
+without `--allow-raw`, and one that would have more values than the notation without `--allow-wider`. An open type is any element.
+
+A file after `--import` is read for the names that the modules import. `--strict` refuses what the standard doesn't allow, where it is
+accepted else. The status is 1 if there is an error.
+"""
+import argparse
+import os
+import sys
+
+from . import tree
+from .emit_crate import Crate, difference, reached, refusals, values_of, write
+from .meaning import lacks
+from .meaning_types import Meanings
+from .parse_modules import read_file
+from .report import report_of, types_table, whole
+from .scopes import Program
+from .source import NotationError, Problems, Severity
+
+# types inside of each other, each of which takes some calls
+_DEPTH = 10000
+
+NEEDS = "der_types picky_asn1_der picky_der_core picky_der_ser picky_der_de"
+
+
+def arguments(words):
+    """The options and the files."""
+    parser = argparse.ArgumentParser(prog="der_asn1", description="Compiles ASN.1 notation to types of this library.")
+    parser.add_argument("files", nargs="+", metavar="MODULE.asn1", help="a file with one or more modules; imports are found among all files")
+    what = parser.add_mutually_exclusive_group(required=True)
+    what.add_argument("--report", action="store_true", help="print how well each module is expressed")
+    what.add_argument("--out", metavar="FOLDER", help="write a crate, whose name is that of the folder")
+    parser.add_argument("--types", action="store_true", help="print a line for each type in the report, too")
+    parser.add_argument("--type", action="append", default=[], metavar="TYPE,..", help="write these types and what they need")
+    parser.add_argument("--check", action="store_true", help="write nothing, and fail where a file is another one")
+    parser.add_argument("--allow-raw", action="store_true", help="keep as bytes what the library has no type for")
+    parser.add_argument("--allow-wider", action="store_true", help="use a type that has more values, where it should be one of its own")
+    parser.add_argument("--import", action="append", default=[], dest="imported", metavar="OTHER.asn1", help="a file for what the modules import")
+    parser.add_argument("--strict", action="store_true", help="refuse what the standard doesn't allow, where it is accepted else")
+    return parser.parse_args(words)
+
+
+def read(files, problems):
+    """The modules of the files. A file that can't be read on is an error."""
+    modules = []
+    for path in files:
+        try:
+            modules += read_file(path, problems)
+        except NotationError as error:
+            problems.add(error.problem)
+        except OSError as error:
+            sys.exit(f"{path}: {error.strerror}")
+    return modules
+
+
+def said(problems):
+    """Prints the warnings and the errors. Returns whether there is an error."""
+    for severity in (Severity.WARNING, Severity.ERROR):
+        for it in problems.of(severity):
+            print(it, file=sys.stderr)
+    return bool(problems.of(Severity.ERROR))
+
+
+def main(words=None):
+    """Runs the command. Returns 1 if there is an error, else 0."""
+    sys.setrecursionlimit(_DEPTH)
+    options = arguments(words)
+    problems = Problems(options.strict)
+    modules, imported = read(options.files, problems), read(options.imported, problems)
+    if options.out:
+        return written(options, modules, imported, problems)
+    found = report_of(modules, problems, imported)
+    failed = said(problems)
+    if options.types:
+        print("\n".join([*types_table(found), ""]))
+    print("\n".join(whole(found)))
+    return 1 if failed else 0
+
+
+def written(options, modules, imported, problems):
+    """Writes the crate, or compares it with what is there."""
+    name = os.path.basename(os.path.abspath(options.out))
+    crate = crate_of(name, modules, imported, chosen(options), problems)
+    for place, text in refusals(crate.types, options.allow_raw, options.allow_wider):
+        problems.error(place, text, "docs/YOUR_TYPES.md")
+    if said(problems):
+        return 1
+    files = crate.files()
+    if options.check:
+        wrong = difference(options.out, files)
+        for path in wrong:
+            print(f"{options.out}/{path} isn't what would be written")
+        return 1 if wrong else 0
+    write(options.out, files)
+    print(f"{name}: {NEEDS}")
+    return 0
+
+
+def chosen(options):
+    """The names after `--type`."""
+    return [name for it in options.type for name in it.split(",") if name]
+
+
+def crate_of(name, modules, imported, names, problems):
+    """The crate of all types of the modules, or of those with these names."""
+    program = Program(modules, problems, imported)
+    meanings = Meanings(program)
+    found, missing = [], set(names)
+    for module in modules:
+        for it in module.assignments:
+            if isinstance(it, tree.TypeAssignment) and not it.parameters and (not names or it.name in names):
+                missing.discard(it.name)
+                meaning = meanings.of_assignment(it, module)
+                if meaning.rust is None:
+                    problems.error(it.place, f"`{it.name}` has no type: {', '.join(lacks(meaning))}", "docs/YOUR_TYPES.md")
+                else:
+                    found.append(meaning.rust.text)
+    for it in sorted(missing):
+        problems.error(modules[0].place if modules else None, f"no module has a type `{it}`", "X.680, 14.1")
+    types = reached(meanings.declarations, found)
+    for it in types.values():
+        wanted = meanings.declarations.renamed.get(it.name)
+        if wanted:
+            problems.warn(it.place, f"`{it.source}` is called `{it.name}`, since another type is called `{wanted}`", "docs/ASN1.md")
+    return Crate(name, types, [] if names else values_of(program, modules))

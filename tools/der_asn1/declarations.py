@@ -1,0 +1,156 @@
+"""The types of Rust that a crate declares: structs, choices and names of other types."""
+from dataclasses import dataclass, field
+
+from .features import Level
+from .source import Place
+from .tree import Presence
+from .wording import camel
+
+
+@dataclass(frozen=True)
+class Hint:
+    """What a type is called after. A type that is all of an assignment has the key of that, and the comment above it."""
+
+    text: str
+    key: tuple = ()
+    comment: str = ""
+
+    def part(self, name):
+        """What a part of the type is called after."""
+        return Hint(f"{self.text}-{name}")
+
+
+@dataclass
+class Field:
+    """A member of a struct, or an alternative of a choice. `default` is the type of the library that says its default."""
+
+    name: str
+    type_text: str
+    presence: Presence = Presence.REQUIRED
+    default: str = ""
+    notation: str = ""
+    comment: str = ""
+
+
+@dataclass
+class Declaration:
+    """A type that has a name: where it is defined, under which name, and with which comment."""
+
+    name: str
+    place: Place
+    module: str
+    source: str
+    comment: str = ""
+    level: Level = Level.EXACT
+    lacks: list = field(default_factory=list)
+
+    def differences(self):
+        """Why its values, or those of a part, aren't those of the notation. An open type is any element, as the notation says."""
+        return [it for it in self.lacks if not it.startswith("open types")]
+
+    def parts(self):
+        """What the type is made of."""
+        return []
+
+    def has_parts_of(self, other):
+        """Whether both are of one kind and made of the same."""
+        return type(self) is type(other) and self.parts() == other.parts()
+
+
+@dataclass
+class StructDeclaration(Declaration):
+    """A SEQUENCE, or the members of a SET in the order of their tags."""
+
+    fields: list = field(default_factory=list)
+    is_set: bool = False
+
+    def parts(self):
+        """Its members."""
+        return self.fields
+
+
+@dataclass
+class ChoiceDeclaration(Declaration):
+    """A CHOICE."""
+
+    variants: list = field(default_factory=list)
+
+    def parts(self):
+        """Its alternatives."""
+        return self.variants
+
+
+@dataclass
+class Item:
+    """An item of an enumeration. `source` is its name in the module."""
+
+    name: str
+    source: str
+    number: int
+    comment: str = ""
+
+
+@dataclass
+class EnumDeclaration(Declaration):
+    """An ENUMERATED that isn't extensible. `defaults` are the items that are the default of a member, each by the name of its type."""
+
+    items: list = field(default_factory=list)
+    defaults: dict = field(default_factory=dict)
+
+    def parts(self):
+        """Its items."""
+        return self.items
+
+
+@dataclass
+class AliasDeclaration(Declaration):
+    """A name of another type."""
+
+    type_text: str = ""
+    notation: str = ""
+
+    def parts(self):
+        """The type that it is a name of."""
+        return self.type_text
+
+
+class Declarations:
+    """All types that are declared, by their names."""
+
+    def __init__(self):
+        self.by_name, self.by_place, self.keys = {}, {}, {}
+        self.renamed = {}  # the name that was wanted, by the one that a type has in its place
+
+    def fresh(self, wanted, key):
+        """A name for what has this key: the one that is wanted, with a number after it if another type has that."""
+        first, number = camel(wanted), 1
+        name, between = first, "No" if first[-1].isdigit() else ""
+        while self.keys.setdefault(name.lower(), key) != key:
+            number += 1
+            name = f"{first}{between}{number}"
+        if name != first:
+            self.renamed[name] = first
+        return name
+
+    def same(self, declared):
+        """The type that was declared from the same place with the same parts, as by other arguments of its parameters, or None."""
+        return next((it for it in self.by_place.get(declared.place, []) if it.has_parts_of(declared)), None)
+
+    def default_item(self, declared, item):
+        """The name of the type that says that this item of an enumeration is the default. It is declared with the enumeration."""
+        name = self.fresh(f"{declared.name}-{item.source}", (declared.name, item.name, "DEFAULT"))
+        declared.defaults[name] = item
+        return name
+
+    def without_aliases(self, name):
+        """The struct, choice or enumeration that a name is one of, through names of other types, or None."""
+        found = self.by_name.get(name)
+        while isinstance(found, AliasDeclaration):
+            found = self.by_name.get(found.type_text)
+        return found
+
+    def add(self, declaration):
+        """Declares a type, once."""
+        if declaration.name not in self.by_name:
+            self.by_name[declaration.name] = declaration
+            self.by_place.setdefault(declaration.place, []).append(declaration)

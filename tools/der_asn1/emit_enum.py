@@ -1,0 +1,298 @@
+"""An enumeration as a file of a crate, with the file of terms that its contracts cite, in the form of docs/YOUR_TYPES.md."""
+from .emit_imports import imports
+from .emit_struct import sentence
+from .layout import STEP, comment, signature
+from .wording import file_stem, snake
+
+_TWO = STEP * 2
+_THREE = STEP * 3
+
+# numbers whose content is one byte (X.690, 8.3 and 8.4), and that are that byte
+ONE_BYTE = range(128)
+
+_GHOST_IMPORTS = """ghost use Rattle.std.proofs.Common.{lit≤};
+ghost use Rattle.std.specs.Prelude.{◌≡◌, [], ◌∷◌, refl};
+ghost use Rattle.picky_der_core.specs.Tree.{Tree};
+ghost use Rattle.picky_der_core.specs.Shape.{Shape};
+ghost use Rattle.picky_der_de.specs.Known.{by_itself};
+ghost use Rattle.der_types.specs.KnownContents.{known_contents};
+""".splitlines()
+
+_PROOF_IMPORTS = """use Rattle.std.proofs.Common.{◌∙◌}
+use Rattle.std.proofs.lemmas.Bool.{eq-eqb}
+""".splitlines()
+
+_DEFAULT_IMPORTS = """use Rattle.picky_der_core.specs.Tree.{Tree}
+use Rattle.picky_der_ser.specs.Defaults.{IsByTree}
+""".splitlines()
+# that two items are the default just where their trees are the same
+_SAME, _OTHER = "(λ k. refl, λ e. refl)", "(λ k. cc, λ e. cc)"
+
+_NAMES = """Contents deserialize_contents_as Tag Begins ReadExt WriteExt Deserialize Deserializer Result Serialize Serializer""".split()
+
+
+def number_term(declared):
+    """The name of the term that is the number of a value."""
+    return f"{snake(declared.name)}_number"
+
+
+def test_term(declared):
+    """The name of the term that is the test of a content."""
+    return f"is_{snake(declared.name)}"
+
+
+def same_proof(declared):
+    """The name of the proof that values with one content are equal."""
+    return f"same_{snake(declared.name)}"
+
+
+def default_term(name):
+    """The name of the term that is the test of a default."""
+    return f"is_default_{snake(name)}"
+
+
+def default_proof(name):
+    """The name of the proof that the encoding distinguishes the default."""
+    return f"{snake(name)}_by_tree"
+
+
+def enum_file(declared, crate):
+    """The lines of the file of an enumeration."""
+    own = f"ghost use Rattle.{crate}.specs"
+    terms = [number_term(declared), test_term(declared), same_proof(declared)]
+    terms += [term(it) for it in declared.defaults for term in (default_term, default_proof)]
+    return [
+        f"//! {declared.source} of {declared.module}.",
+        *_GHOST_IMPORTS,
+        f"{own}.declared.{file_stem(declared.name)}.{declared.name}.TheVariants as variant;",
+        f"{own}.{declared.name}.{{{', '.join(terms)}}};",
+        "",
+        *imports([*_NAMES, *(["DefaultOf"] if declared.defaults else [])], ()),
+        "",
+        *definition(declared),
+        "",
+        *number_impl(declared),
+        "",
+        *contents_impl(declared),
+        "",
+        *serialize_impl(declared),
+        "",
+        *deserialize_impl(declared),
+        "",
+        *begins_impl(declared),
+        *(line for name, it in declared.defaults.items() for line in ["", *default_lines(declared, name, it)]),
+    ]
+
+
+def definition(declared):
+    """The enum with its comments: those of the module, and the number of each item."""
+    text = f"{sentence(declared.comment)} `{declared.source}` of {declared.module}, as an ENUMERATED. Another content is `InvalidData`."
+    lines = [*comment("", "///", text), "#[derive(Debug, Clone, Copy, PartialEq, Eq)]", f"pub enum {declared.name} {{"]
+    for it in declared.items:
+        lines += comment(STEP, "///", f"{sentence(it.comment)} `{it.source}`, {it.number}.")
+        lines.append(f"{STEP}{it.name},")
+    return [*lines, "}"]
+
+
+def number_impl(declared):
+    """The number of a value, as a function."""
+    return [
+        f"impl {declared.name} {{",
+        f"{STEP}// The number of the value.",
+        f"{STEP}fn number(self) -> u8",
+        f"{_TWO}ensures {{ result ≡ {number_term(declared)} self }}",
+        f"{STEP}{{",
+        f"{_TWO}match self {{",
+        *(f"{_THREE}{declared.name}::{it.name} => {it.number}," for it in declared.items),
+        f"{_TWO}}}",
+        f"{STEP}}}",
+        "}",
+    ]
+
+
+def contents_impl(declared):
+    """The implementation of `Contents`."""
+    return [
+        f"impl Contents for {declared.name} {{",
+        f"{STEP}ghost TAG = {{ 0x0A }};",
+        "",
+        f"{STEP}ghost is_content = {{ {test_term(declared)} }};",
+        "",
+        f"{STEP}ghost content = {{ λ it. {number_term(declared)} it ∷ [] }};",
+        "",
+        f"{STEP}const TAG: u8 = 0x0A;",
+        "",
+        *signature(STEP, "from_content", ["content: Vec<u8>"], f"Option<{declared.name}>"),
+        f"{_TWO}match content.as_slice() {{",
+        *(f"{_THREE}[{it.number}] => Some({declared.name}::{it.name})," for it in declared.items),
+        f"{_THREE}_ => None,",
+        f"{_TWO}}}",
+        f"{STEP}}}",
+        "",
+        *signature(STEP, "serialize_under", ["&self", "tag: Tag", "serializer: &mut Serializer<W>"], "Result<usize>", "<W: WriteExt>"),
+        f"{_TWO}serializer.serialize_tagged_bytes(tag, &[self.number()])",
+        f"{STEP}}}",
+        "",
+        f"{STEP}ghost short = {{ lit≤ tt }};",
+        "",
+        f"{STEP}ghost valid = {{ elim [",
+        *(f"{STEP}  | variant.{it.name} ↦ refl" for it in declared.items),
+        f"{STEP}] }};",
+        "",
+        f"{STEP}ghost same = {{ {same_proof(declared)} }};",
+        "}",
+    ]
+
+
+def serialize_impl(declared):
+    """The implementation of `Serialize`."""
+    return [
+        f"impl Serialize for {declared.name} {{",
+        f"{STEP}ghost meaning = {{ λ it. Tree.bytes 0x0A ({number_term(declared)} it ∷ []) }};",
+        "",
+        *signature(STEP, "serialize", ["&self", "serializer: &mut Serializer<W>"], "Result<usize>", "<W: WriteExt>"),
+        f"{_TWO}self.serialize_under(Tag::ENUMERATED, serializer)",
+        f"{STEP}}}",
+        "}",
+    ]
+
+
+def deserialize_impl(declared):
+    """The implementation of `Deserialize`."""
+    return [
+        f"impl Deserialize for {declared.name} {{",
+        f"{STEP}ghost shape = {{ Shape.bytes 0x0A }};",
+        "",
+        f"{STEP}ghost known = {{ known_contents 0x0A (λ it. {number_term(declared)} it ∷ []) ⟦<Self as PartialEq>⟧.eq {same_proof(declared)} }};",
+        "",
+        f"{STEP}ghost tied = {{ by_itself }};",
+        "",
+        *signature(STEP, "deserialize", ["deserializer: &mut Deserializer<R>"], f"Result<{declared.name}>", "<R: ReadExt>"),
+        f"{_TWO}deserialize_contents_as(deserializer)",
+        f"{STEP}}}",
+        "}",
+    ]
+
+
+def begins_impl(declared):
+    """What an enumeration needs to be a member that may be absent, or an alternative."""
+    return [
+        f"impl Begins for {declared.name} {{",
+        f"{STEP}fn begins_with(tag: Tag) -> bool {{",
+        f"{_TWO}tag.inner() == 0x0A",
+        f"{STEP}}}",
+        "}",
+    ]
+
+
+def default_lines(declared, name, item):
+    """The type that says that an item is the default of a member."""
+    cases = []
+    for it in declared.items:
+        same, other = ("λ h k. k", "λ h k. k") if it is item else ("λ h k. refl", "λ h k. h")
+        rest = f" | _ ↦ {other}" if len(declared.items) > 1 else ""
+        cases.append(f"{STEP}  | variant.{it.name} ↦ elim [ variant.{it.name} ↦ {same}{rest} ]")
+    return [
+        *comment("", "///", f"The default `{item.source}` of `{declared.source}`."),
+        f"pub struct {name};",
+        "",
+        f"impl DefaultOf<{declared.name}> for {name} {{",
+        f"{STEP}ghost left_out = {{ {default_term(name)} }};",
+        "",
+        f"{STEP}ghost equal = {{ ⟦<{declared.name} as PartialEq>⟧.eq }};",
+        "",
+        f"{STEP}ghost one = {{ elim [",
+        *cases,
+        f"{STEP}] }};",
+        "",
+        f"{STEP}fn is_default(value: &{declared.name}) -> bool {{",
+        f"{_TWO}matches!(*value, {declared.name}::{item.name})",
+        f"{STEP}}}",
+        "",
+        f"{STEP}fn default() -> {declared.name} {{",
+        f"{_TWO}{declared.name}::{item.name}",
+        f"{STEP}}}",
+        "",
+        f"{STEP}ghost by_tree = {{ {default_proof(name)} }};",
+        "",
+        f"{STEP}ghost equal_so = {{ λ x y h. h }};",
+        "}",
+    ]
+
+
+def default_terms(declared, name, item):
+    """The terms of a default: the test of it, and the proof that the encoding distinguishes it."""
+    test, proof = default_term(name), default_proof(name)
+    lines = ["", f"abbrev pub {test} : {declared.name} → Bool"]
+    lines += [f"{test} {it.name} = {'true' if it is item else 'false'}" for it in declared.items]
+    lines += ["", f"pub {proof} : IsByTree (λ it. Tree.bytes 0x0A ({number_term(declared)} it ∷ [])) {test}"]
+    for it in declared.items:
+        if it is item:
+            lines += [f"{proof} {it.name} {other.name} h = {_SAME if other is item else _OTHER}" for other in declared.items]
+        else:
+            lines.append(f"{proof} {it.name} y h = cc")
+    return lines
+
+
+def enum_terms(declared, crate):
+    """The lines of the file of terms: the number of each value, and the test of a content."""
+    home = f"Rattle.{crate}.specs.declared.{file_stem(declared.name)}.{declared.name}"
+    names = ", ".join(it.name for it in declared.items)
+    number, test = number_term(declared), test_term(declared)
+    return [
+        f"-- The numbers of {declared.source} of {declared.module}.",
+        f"use Rattle.std.specs.Prelude.{{{', '.join(prelude(declared))}}}",
+        *_PROOF_IMPORTS,
+        *(_DEFAULT_IMPORTS if declared.defaults else []),
+        f"use {home}.{{{declared.name}}}",
+        f"use {home}.TheVariants.{{{names}}}",
+        f"use Rattle.{crate}.specs.contracts.{file_stem(declared.name)}.{declared.name}PartialEq.TheImpl as compared",
+        "",
+        f"abbrev pub {number} : {declared.name} → ℕ",
+        *(f"{number} {it.name} = {it.number}" for it in declared.items),
+        "",
+        "-- the content is one of these numbers",
+        f"abbrev pub {test} : List ℕ → Bool",
+        f"{test} (n ∷ []) = {number_test(declared)}",
+        f"{test} _ = false",
+        *same_terms(declared),
+        *(line for name, it in declared.defaults.items() for line in default_terms(declared, name, it)),
+    ]
+
+
+def same_terms(declared):
+    """The proof that values with one content are equal, by their numbers."""
+    name, number, same = declared.name, number_term(declared), same_proof(declared)
+    rest = " | _ ↦ refl" if len(declared.items) > 1 else ""
+    return [
+        "",
+        "-- two are equal where their numbers are",
+        f"equal_by_number : (x y : {name}) → compared.ghosts.eq x y ≡ ({number} x == {number} y)",
+        *(f"equal_by_number {it.name} = elim [ {it.name} ↦ refl{rest} ]" for it in declared.items),
+        "",
+        f"pub {same} : (x y : {name}) → {number} x ∷ [] ≡ {number} y ∷ [] → compared.ghosts.eq x y ≡ true",
+        f"{same} x y e = equal_by_number x y ∙ eq-eqb _ _ cc",
+    ]
+
+
+def run_length(declared):
+    """How many numbers from 0 on are all there."""
+    numbers, length = {it.number for it in declared.items}, 0
+    while length in numbers:
+        length += 1
+    return length
+
+
+def number_test(declared):
+    """The test of a number: whether it is below the length of the first run, or one of the others."""
+    length = run_length(declared)
+    others = sorted(it.number for it in declared.items if it.number >= length)
+    return " || ".join([*([f"nat_lt n {length}"] if length else []), *(f"n == {it}" for it in others)])
+
+
+def prelude(declared):
+    """The names of the prelude that the file of terms uses."""
+    test = number_test(declared)
+    found = ["◌||◌"] if "||" in test else []
+    runs = ["nat_lt"] if "nat_lt" in test else []
+    return ["ℕ", "Bool", "true", "false", *found, "◌==◌", *runs, "List", "[]", "◌∷◌", "◌≡◌", "refl"]

@@ -1,0 +1,66 @@
+"""How well a type is expressed, and what the library lacks for it."""
+from enum import Enum, IntEnum
+
+
+class Level(IntEnum):
+    """How well a type of the library expresses a type of the notation, the best level first."""
+
+    EXACT = 0  # its encodings are exactly those of the notation's values
+    NEAR = 1  # all of it has a type, and some values differ: a default, an extension
+    OPEN = 2  # an open type in it is any element
+    PARTLY_RAW = 3  # something in it is kept as bytes
+    RAW = 4  # all of it is kept as bytes
+    REFUSED = 5  # there is no type
+
+    @property
+    def shown(self):
+        """The level as a table says it."""
+        return self.name.lower().replace("_", " ")
+
+
+class Feature(Enum):
+    """What the library lacks for a type, with the level that the type has for it."""
+
+    OPEN_TABLE = ("open types with a table of objects, as a choice by the identifier", Level.OPEN)
+    OPEN_ANY = ("open types without a table: any element is all that the notation says", Level.OPEN)
+    EXTENSION = ("extension markers: members and alternatives of later versions", Level.NEAR)
+    DEFAULT_INTEGER = ("DEFAULT of an INTEGER without bounds", Level.NEAR)
+    DEFAULT_CONSTRAINED = ("DEFAULT of a constrained type", Level.NEAR)
+    DEFAULT_OTHER = ("DEFAULT of bits, strings, identifiers and structures", Level.NEAR)
+    ENCODING = ("contents in another encoding than DER", Level.NEAR)
+    NAMED_BITS_SIZE = ("the size of named bits", Level.NEAR)
+    UNKNOWN_BOUND = ("a constraint with a name that isn't defined", Level.NEAR)
+    RECURSION = ("recursive types", Level.PARTLY_RAW)
+    IMPORT = ("a module that isn't given", Level.PARTLY_RAW)
+    UNDEFINED = ("a name that isn't defined, or isn't a type", Level.PARTLY_RAW)
+    FOREIGN_TAG = ("an IMPLICIT tag that isn't a context tag over UTF8String, REAL or a container", Level.RAW)
+    AMBIGUOUS = ("members or alternatives that no first byte distinguishes", Level.RAW)
+    SET_ORDER = ("a SET whose members have no fixed order", Level.RAW)
+    RARE = ("REAL, EMBEDDED PDV and CHARACTER STRING", Level.RAW)
+    NO_VALUES = ("a type without values", Level.RAW)
+    LONG_TAG = ("tags with a number above 30", Level.REFUSED)
+    NOT_READ = ("not read", Level.REFUSED)
+
+    def __init__(self, text, level):
+        self.text, self.level = text, level
+
+
+# what no type of a library could change
+OUTSIDE = frozenset((Feature.IMPORT, Feature.UNDEFINED, Feature.UNKNOWN_BOUND, Feature.NOT_READ, Feature.AMBIGUOUS, Feature.NO_VALUES))
+
+
+class Note(Enum):
+    """What an exact type needs or leaves open. The first five are types that a crate has to have of its own."""
+
+    ENUMERATION = "an enum of its own with `Contents`, which is written"
+    WIDE_ENUMERATION = "an enum of its own with numbers of more than a byte"
+    CONSTRAINT = "a type of its own with `Constrained`"
+    ALPHABET = "a `CharacterSet` of its own"
+    DEFAULT = "a `DefaultOf` of its own"
+    CHARACTERS = "TeletexString or GeneralString, whose characters aren't checked"
+    USER_CONSTRAINT = "CONSTRAINED BY, which says something in words alone"
+
+    @property
+    def is_own(self):
+        """Whether a crate needs a type of its own for it, which this compiler doesn't write."""
+        return self in (Note.WIDE_ENUMERATION, Note.CONSTRAINT, Note.ALPHABET, Note.DEFAULT)

@@ -1,0 +1,149 @@
+"""The types of the library, and what may be around each."""
+from dataclasses import dataclass
+from enum import Enum, auto
+from typing import Optional
+
+ANY_FIRST = frozenset(it for it in range(256) if it & 0x1F != 0x1F)
+
+# the identifier byte of each simple type (X.680, 8.6; X.690, 8.1.2), with the bit of a constructed one
+UNIVERSAL_TAGS = {
+    "BOOLEAN": 0x01,
+    "INTEGER": 0x02,
+    "BIT STRING": 0x03,
+    "OCTET STRING": 0x04,
+    "NULL": 0x05,
+    "OBJECT IDENTIFIER": 0x06,
+    "ObjectDescriptor": 0x07,
+    "EXTERNAL": 0x28,
+    "REAL": 0x09,
+    "ENUMERATED": 0x0A,
+    "EMBEDDED PDV": 0x2B,
+    "UTF8String": 0x0C,
+    "RELATIVE-OID": 0x0D,
+    "SEQUENCE": 0x30,
+    "SET": 0x31,
+    "NumericString": 0x12,
+    "PrintableString": 0x13,
+    "TeletexString": 0x14,
+    "T61String": 0x14,
+    "VideotexString": 0x15,
+    "IA5String": 0x16,
+    "UTCTime": 0x17,
+    "GeneralizedTime": 0x18,
+    "GraphicString": 0x19,
+    "VisibleString": 0x1A,
+    "ISO646String": 0x1A,
+    "GeneralString": 0x1B,
+    "UniversalString": 0x1C,
+    "CHARACTER STRING": 0x3D,
+    "BMPString": 0x1E,
+}
+
+# the restricted strings and the other types with `Contents` of der_types
+CONTENTS_TYPES = {
+    "OBJECT IDENTIFIER": "ObjectIdentifier",
+    "RELATIVE-OID": "RelativeOid",
+    "NumericString": "NumericString",
+    "PrintableString": "PrintableString",
+    "TeletexString": "TeletexString",
+    "T61String": "TeletexString",
+    "IA5String": "Ia5String",
+    "VisibleString": "VisibleString",
+    "ISO646String": "VisibleString",
+    "GeneralString": "GeneralString",
+    "UniversalString": "UniversalString",
+    "BMPString": "BmpString",
+    "UTCTime": "UtcTime",
+    "GeneralizedTime": "GeneralizedTime",
+}
+# of these every byte is read, whatever character it is of
+UNCHECKED_CHARACTERS = frozenset(("TeletexString", "T61String", "GeneralString"))
+# strings of which der_types has no name: a set of characters of one's own has any byte
+OTHER_STRINGS = frozenset(("VideotexString", "GraphicString", "ObjectDescriptor"))
+
+MAX_TAG = 30
+LAST_NAMED_TAG = 15
+LAST_NAMED_LIST = 7
+U64_MAX = 2**64 - 1
+DEFAULT_UNSIGNED = range(0, 256)
+DEFAULT_SIGNED = range(-128, 128)
+WIDTHS = (8, 16, 32, 64, 128)
+
+
+class Core(Enum):
+    """What a type is underneath, which decides what may be around it."""
+
+    BOOL = auto()
+    NULL = auto()
+    UNSIGNED = auto()  # u8 to u128
+    SIGNED = auto()  # i8 to i128
+    CONTENTS = auto()  # with `Contents`
+    NUMBER = auto()  # Integer, which has `Contents` and `WholeNumber`
+    OCTETS = auto()
+    UTF8 = auto()
+    CONTAINER = auto()
+    BYTES = auto()  # TaggedBytes: any content
+    LIST = auto()  # with `List`
+    SET = auto()  # Asn1Set
+    CHOICE = auto()
+    ELEMENT = auto()  # Asn1RawDer: any element
+    EXPLICIT = auto()
+    APPLICATION = auto()
+    IMPLICIT = auto()
+    RETAGGED = auto()
+
+
+@dataclass(frozen=True)
+class Rust:
+    """A type as Rust has it. `firsts` are the bytes that an encoding may begin with; `inner` is what a tag is around.
+
+    `bounded` says that a type of a constraint is around it, or should be, and `own` that its content has a type of one's own.
+    `is_foreign` says that it is under an IMPLICIT tag of another class than context.
+    """
+
+    text: str
+    core: Core
+    firsts: frozenset
+    inner: Optional["Rust"] = None
+    bounded: bool = False
+    is_open: bool = False
+    own: bool = False
+    is_foreign: bool = False
+
+    def is_constructed(self):
+        """Whether its encoding is constructed, where it has one tag alone (X.690, 8.14.3)."""
+        return all(it & 0x20 for it in self.firsts)
+
+
+def tagged_bytes(tag):
+    """Any content under this identifier byte."""
+    return Rust(f"TaggedBytes<0x{tag:02X}>", Core.BYTES, frozenset((tag,)))
+
+
+def any_element():
+    """Any element, as it is."""
+    return Rust("Asn1RawDer", Core.ELEMENT, ANY_FIRST, is_open=True)
+
+
+def context_tag(mode, inner, number):
+    """ExplicitContextTag or ImplicitContextTag, by the short name if there is one."""
+    name = f"{mode}ContextTag"
+    return f"{name}{number}<{inner.text}>" if number <= LAST_NAMED_TAG else f"{name}<{inner.text}, {number}>"
+
+
+def retagged(inner, tag):
+    """Retagged, by the short name if there is one."""
+    number = tag & 0x1F
+    if tag & 0xE0 == 0xA0 and number <= LAST_NAMED_LIST:
+        return f"ImplicitList{number}<{inner.text}>"
+    return f"Retagged<{inner.text}, 0x{tag:02X}>"
+
+
+def unsigned_for(high):
+    """The least unsigned type that holds these numbers, or None."""
+    return next((f"u{it}" for it in WIDTHS if high < 2**it), None)
+
+
+def signed_exactly(low, high):
+    """The signed type that has just these numbers, or None."""
+    return next((f"i{it}" for it in WIDTHS if (low, high) == (-(2 ** (it - 1)), 2 ** (it - 1) - 1)), None)

@@ -1,0 +1,74 @@
+"""The types of the library for constraints (X.680, 51): integers, sizes, and what needs a type of one's own."""
+from dataclasses import replace
+
+from .features import Feature, Note
+from .intervals import ALL, INFINITY, NATURAL
+from .library import U64_MAX, UNIVERSAL_TAGS, Core, Rust, signed_exactly, unsigned_for
+
+_INTEGER_FIRST = frozenset((UNIVERSAL_TAGS["INTEGER"],))
+_SIZED = frozenset((Core.CONTENTS, Core.OCTETS, Core.UTF8, Core.LIST))
+
+
+def whole_number_limits(limits):
+    """The numbers that an INTEGER has, and whether a constraint says something that isn't about numbers."""
+    return limits.numbers, limits.other or limits.alphabet or limits.size != NATURAL
+
+
+def integer(meaning, limits):
+    """The meaning of an INTEGER with these limits, made by `meaning`."""
+    numbers, other = limits
+    any_size = Rust("Integer", Core.NUMBER, _INTEGER_FIRST)
+    if not numbers.pairs:
+        return meaning(any_size).lacking(Feature.NO_VALUES)
+    if numbers.is_all():
+        found = meaning(any_size)
+    elif not numbers.is_one_range():
+        found = meaning(replace(any_size, bounded=True, inner=any_size)).noting(Note.CONSTRAINT)
+    else:
+        found = _range(meaning, numbers.low, numbers.high, any_size)
+    return found.noting(Note.CONSTRAINT) if other else found
+
+
+def _range(meaning, low, high, any_size):
+    """An INTEGER of one range: a width of Rust, `InRange`, or a type of one's own."""
+    signed = signed_exactly(low, high)
+    if signed:
+        return meaning(Rust(signed, Core.SIGNED, _INTEGER_FIRST))
+    width = unsigned_for(high) if low >= 0 and high != INFINITY else None
+    if width and low == 0 and high == 2 ** int(width[1:]) - 1:
+        return meaning(Rust(width, Core.UNSIGNED, _INTEGER_FIRST))
+    if width and high <= U64_MAX:
+        plain = Rust(width, Core.UNSIGNED, _INTEGER_FIRST)
+        return meaning(Rust(f"InRange<{width}, {low}, {high}>", Core.UNSIGNED, _INTEGER_FIRST, plain, bounded=True))
+    own = replace(any_size, bounded=True, inner=any_size)
+    return meaning(own).noting(Note.CONSTRAINT)
+
+
+def bounded(found, limits):
+    """The same meaning with types around it for the size, the characters, and all else that a constraint says."""
+    if found.rust is None:
+        return found
+    if limits.unknown:
+        found = found.lacking(Feature.UNKNOWN_BOUND)
+    if limits.alphabet and found.rust.core is Core.CONTENTS:
+        found = found.noting(Note.ALPHABET)
+        found = replace(found, notes=found.notes - {Note.CHARACTERS})
+    elif limits.alphabet:
+        found = found.as_(replace(found.rust, bounded=True, inner=found.rust)).noting(Note.CONSTRAINT)
+    if limits.size != NATURAL:
+        found = _sized(found, limits.size)
+    if limits.other or limits.numbers != ALL:
+        found = found.as_(replace(found.rust, bounded=True, inner=found.rust)).noting(Note.CONSTRAINT)
+    return found
+
+
+def _sized(found, size):
+    """`WithSize`, or a type of one's own if the sizes aren't one range or the type has no size in the library."""
+    rust = found.rust
+    if not size.pairs:
+        return found.lacking(Feature.NO_VALUES)
+    if rust.core not in _SIZED or not size.is_one_range() or rust.own or rust.bounded:
+        return found.as_(replace(rust, bounded=True, inner=rust)).noting(Note.CONSTRAINT)
+    high = "{ usize::MAX }" if size.high == INFINITY else size.high
+    text = f"WithSize<{rust.text}, {size.low}, {high}>"
+    return found.as_(replace(rust, text=text, bounded=True, inner=rust))

@@ -1,0 +1,300 @@
+"""The meanings of SEQUENCE, SET and CHOICE (X.680, 25, 27 and 29)."""
+from dataclasses import dataclass, replace
+
+from . import tree
+from .declarations import ChoiceDeclaration, EnumDeclaration, Field, Item, StructDeclaration
+from .emit_enum import ONE_BYTE
+from .features import Feature, Level, Note
+from .library import DEFAULT_SIGNED, DEFAULT_UNSIGNED, UNIVERSAL_TAGS, Core, Rust, any_element, tagged_bytes
+from .members import ResolvedMember, is_extensible, members_of
+from .meaning import Meaning, lacks
+from .source import NotationError
+from .values import enumerated_numbers, integer_of, named_numbers, value_of
+from .wording import snake, variant
+
+
+@dataclass(frozen=True)
+class Part:
+    """A member or an alternative with its meaning."""
+
+    resolved: ResolvedMember
+    meaning: Meaning
+
+    @property
+    def firsts(self):
+        """The bytes that its encoding may begin with."""
+        return self.meaning.rust.firsts
+
+    def is_unknown(self):
+        """Whether nothing is known of its tag, since its type isn't given."""
+        return self.meaning.rust.is_open and bool(self.meaning.features & {Feature.IMPORT, Feature.UNDEFINED})
+
+    @property
+    def name(self):
+        """Its name in the module."""
+        return self.resolved.member.name
+
+
+def parts_of(meanings, type_, scope, hint):
+    """The members or alternatives with their meanings."""
+    found = []
+    for it in members_of(meanings.program, type_, scope):
+        meaning = meanings.of_type(it.member.type, it.scope, hint.part(it.member.name))
+        found.append(Part(it, meaning))
+    return found
+
+
+def structure(meanings, type_, scope, hint):
+    """A SEQUENCE or SET of members."""
+    first = UNIVERSAL_TAGS[type_.form.value]
+    try:
+        parts = parts_of(meanings, type_, scope, hint)
+    except NotationError as error:
+        meanings.program.problems.add(error.problem)
+        return Meaning(tagged_bytes(first), Level.RAW).lacking(Feature.UNDEFINED)
+    if not parts:
+        return empty(type_, scope, first)
+    if any(it.meaning.rust is None for it in parts):
+        return _raw(tagged_bytes(first), parts)
+    if type_.form is tree.Form.SET:
+        parts = in_tag_order(parts)
+        if parts is None:
+            return Meaning(tagged_bytes(first)).lacking(Feature.SET_ORDER)
+    if not are_distinct(meanings, parts, type_.form):
+        return _raw(tagged_bytes(first), parts, *ambiguity(parts))
+    return declared_struct(meanings, type_, scope, hint, parts)
+
+
+def declared_struct(meanings, type_, scope, hint, parts):
+    """The struct of these members, which is declared. A SET has the type of the library around it."""
+    found = Meaning(None).containing(*(it.meaning for it in parts))
+    fields = []
+    for it in parts:
+        default = default_of(meanings, it)
+        found = found.lacking(*default.features).noting(*default.notes)
+        fields.append(field_of(it, default.type_text))
+    if is_extensible(type_, scope):
+        found = found.lacking(Feature.EXTENSION)
+    is_set = type_.form is tree.Form.SET
+    declared = StructDeclaration("", type_.place, scope.module.name, hint.text, fields=unique(fields), is_set=is_set)
+    name = declare(meanings, declared, type_, scope, hint, found, "members")
+    record = Rust(name, Core.LIST, frozenset((UNIVERSAL_TAGS["SEQUENCE"],)))
+    return found.as_(Rust(f"Asn1Set<{name}>", Core.SET, frozenset((UNIVERSAL_TAGS["SET"],)), record) if is_set else record)
+
+
+def declare(meanings, declared, type_, scope, hint, meaning, suffix):
+    """Keeps a declaration, and returns its name, which is that of an equal one if there is one.
+
+    The name is that of its assignment, or one with a suffix if a tag or a SET is around it.
+    """
+    equal = meanings.declarations.same(declared)
+    if equal:
+        return equal.name
+    is_inside = type_.tags or isinstance(declared, StructDeclaration) and declared.is_set
+    if hint.key and not is_inside:
+        declared.name = meanings.declarations.fresh(hint.text, hint.key)
+    else:
+        wanted = f"{hint.text}-{suffix}" if hint.key else hint.text
+        declared.name = meanings.declarations.fresh(wanted, (*scope.key, str(type_.place)))
+    declared.comment, declared.level, declared.lacks = hint.comment, meaning.level, lacks(meaning)
+    meanings.declarations.add(declared)
+    return declared.name
+
+
+def field_of(part, default=""):
+    """A member as a field. One with a default that the library hasn't is as one that may be absent."""
+    member = part.resolved.member
+    presence = tree.Presence.REQUIRED
+    if default:
+        presence = tree.Presence.DEFAULT
+    elif part.resolved.may_be_absent():
+        presence = tree.Presence.OPTIONAL
+    return Field(snake(part.name), part.meaning.rust.text, presence, default, member.text, member.comment)
+
+
+def variant_of(part):
+    """An alternative as a variant."""
+    member = part.resolved.member
+    return Field(variant(part.name), part.meaning.rust.text, notation=member.text, comment=member.comment)
+
+
+def unique(fields):
+    """The same fields with a number after a name that another one has."""
+    taken = set()
+    for it in fields:
+        number, name = 1, it.name
+        while it.name in taken:
+            number += 1
+            it.name = f"{name}_{number}"
+        taken.add(it.name)
+    return fields
+
+
+def empty(type_, scope, first):
+    """A SEQUENCE or SET without members, which is a list of none, or of any that later versions have."""
+    name = "Vec" if type_.form is tree.Form.SEQUENCE else "Asn1SetOf"
+    firsts = frozenset((first,))
+    if is_extensible(type_, scope):
+        return Meaning(Rust(f"{name}<Asn1RawDer>", Core.LIST, firsts)).lacking(Feature.EXTENSION)
+    return Meaning(Rust(f"WithSize<{name}<()>, 0, 0>", Core.LIST, firsts, bounded=True))
+
+
+def _raw(rust, parts, *features):
+    """A type that is kept as bytes for what is missing in its parts."""
+    found = Meaning(rust, Level.RAW).lacking(*features)
+    return replace(found, features=found.features.union(*(it.meaning.features for it in parts)))
+
+
+# ---- what tells members apart
+
+
+def are_distinct(meanings, parts, form):
+    """Whether the next byte says which member comes (X.680, 25.6 and 27.3)."""
+    for index, it in enumerate(parts):
+        if not it.resolved.may_be_absent():
+            continue
+        for later in parts[index + 1 :]:
+            if it.firsts & later.firsts:
+                if it.is_unknown() or later.is_unknown():
+                    return False
+                clause = "X.680, 25.6" if form is tree.Form.SEQUENCE else "X.680, 27.3"
+                text = f"`{it.name}` may be absent, and `{later.name}`, which may come in its place, can begin with the same tag"
+                meanings.program.problems.warn(it.resolved.member.place, text, clause)
+                return False
+            if not later.resolved.may_be_absent():
+                break
+    return True
+
+
+def ambiguity(parts):
+    """What is missing where no first byte distinguishes these parts: nothing more, if the type of one isn't given."""
+    return () if any(it.is_unknown() for it in parts) else (Feature.AMBIGUOUS,)
+
+
+def in_tag_order(parts):
+    """The members of a SET in the order of their tags (X.690, 10.3). None if it depends on the value."""
+    ordered = sorted(parts, key=lambda it: min(map(tag_key, it.firsts)))
+    for before, after in zip(ordered, ordered[1:]):
+        if max(map(tag_key, before.firsts)) >= min(map(tag_key, after.firsts)):
+            return None
+    return ordered
+
+
+def tag_key(first):
+    """The class and the number of a tag (X.680, 8.6)."""
+    return first & 0xC0, first & 0x1F
+
+
+# ---- defaults
+
+
+@dataclass(frozen=True)
+class Default:
+    """The type of the library that says a default, or what is missing for it."""
+
+    type_text: str = ""
+    features: tuple = ()
+    notes: tuple = ()
+
+
+def default_of(meanings, part):
+    """The default of a member. It may be one of its own; or else the member is read as OPTIONAL is."""
+    member, scope = part.resolved.member, part.resolved.scope
+    if member.presence is not tree.Presence.DEFAULT:
+        return Default()
+    rust = part.meaning.rust
+    while rust.core in (Core.EXPLICIT, Core.IMPLICIT) and rust.inner and not rust.is_foreign:
+        rust = rust.inner
+    item = item_of(meanings, member.default, scope, rust)
+    if item:
+        return Default(item)
+    if rust.core in (Core.UNSIGNED, Core.SIGNED, Core.NUMBER):
+        number = number_of(meanings.program, member, scope)
+        if number is not None:
+            return number_default(rust, number)
+    value, _ = value_of(meanings.program, member.default, scope)
+    if rust.core is Core.BOOL and isinstance(value, tree.BooleanValue) and not rust.bounded:
+        return Default("True" if value.truth else "False")
+    if rust.own and rust.core is Core.CONTENTS and not rust.bounded:
+        return Default(notes=(Note.DEFAULT,))
+    return Default(features=(Feature.DEFAULT_OTHER,))
+
+
+def item_of(meanings, value, scope, rust):
+    """The type that says that a named item of an enumeration is the default (X.680, 20.8), or None."""
+    declared = meanings.declarations.without_aliases(rust.text)
+    if not isinstance(declared, EnumDeclaration) or rust.bounded:
+        return None
+    items = {it.source: it for it in declared.items}
+    if isinstance(value, tree.NamedValue) and value.name not in items:
+        value, _ = value_of(meanings.program, value, scope)
+    item = items.get(value.name) if isinstance(value, tree.NamedValue) else None
+    return item and meanings.declarations.default_item(declared, item)
+
+
+def number_of(program, member, scope):
+    """The number that is a default, or None. The named numbers of the type come before values with the same names (X.680, 19.12)."""
+    named = named_numbers(program, member.type, scope)
+    number = integer_of(program, member.default, scope, named)
+    return number if number is not None else integer_of(program, *value_of(program, member.default, scope), named)
+
+
+def number_default(rust, number):
+    """The default of an INTEGER."""
+    if rust.core is Core.NUMBER and not rust.bounded:
+        return Default(features=(Feature.DEFAULT_INTEGER,))
+    allowed, name = (DEFAULT_UNSIGNED, "Number") if rust.core is Core.UNSIGNED else (DEFAULT_SIGNED, "SignedNumber")
+    if number not in allowed or rust.bounded:
+        return Default(features=(Feature.DEFAULT_CONSTRAINED,))
+    return Default(f"{name}<{number}>")
+
+
+# ---- enumerations
+
+
+def enumeration(meanings, type_, scope, hint):
+    """An enum of the crate's own. One with a number of more than a byte is any number, which the library has a type for."""
+    numbers = enumerated_numbers(meanings.program, type_.items, scope)
+    first = frozenset((UNIVERSAL_TAGS["ENUMERATED"],))
+    if len(set(numbers)) < len(numbers):
+        meanings.program.problems.error(type_.place, "two items of the enumeration have the same number", "X.680, 20.3")
+    if not all(it in ONE_BYTE for it in numbers) or len(set(numbers)) < len(numbers):
+        return Meaning(Rust("Enumerated", Core.CONTENTS, first, own=True)).noting(Note.WIDE_ENUMERATION)
+    items = [Item(variant(it.name), it.name, number, it.comment) for it, number in zip(type_.items, numbers)]
+    declared = EnumDeclaration("", type_.place, scope.module.name, hint.text, items=unique(items))
+    found = Meaning(None).noting(Note.ENUMERATION)
+    name = declare(meanings, declared, type_, scope, hint, found, "values")
+    return found.as_(Rust(name, Core.CONTENTS, first, own=True))
+
+
+# ---- choices
+
+
+def choice(meanings, type_, scope, hint):
+    """A CHOICE."""
+    parts = parts_of(meanings, type_, scope, hint)
+    if not parts:
+        return Meaning(any_element()).lacking(Feature.EXTENSION if is_extensible(type_, scope) else Feature.NO_VALUES)
+    if any(it.meaning.rust is None for it in parts):
+        return _raw(any_element(), parts)
+    firsts = frozenset()
+    for it in parts:
+        if firsts & it.firsts and not any(part.is_unknown() for part in parts):
+            text = f"`{it.name}` can begin with the same tag as an alternative before it"
+            meanings.program.problems.warn(it.resolved.member.place, text, "X.680, 29.3")
+        if firsts & it.firsts:
+            return _raw(any_element(), parts, *ambiguity(parts))
+        firsts |= it.firsts
+    return declared_choice(meanings, type_, scope, hint, parts)
+
+
+def declared_choice(meanings, type_, scope, hint, parts):
+    """The choice of these alternatives, which is declared."""
+    firsts = frozenset().union(*(it.firsts for it in parts))
+    found = Meaning(None).containing(*(it.meaning for it in parts))
+    if is_extensible(type_, scope):
+        found = found.lacking(Feature.EXTENSION)
+    variants = unique([variant_of(it) for it in parts])
+    declared = ChoiceDeclaration("", type_.place, scope.module.name, hint.text, variants=variants)
+    name = declare(meanings, declared, type_, scope, hint, found, "choice")
+    return found.as_(Rust(name, Core.CHOICE, firsts, is_open=True))

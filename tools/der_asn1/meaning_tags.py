@@ -1,0 +1,64 @@
+"""The types of the library for tags (X.680, 31.2; X.690, 8.14)."""
+from dataclasses import replace
+
+from .features import Feature, Level, Note
+from .library import MAX_TAG, Core, Rust, context_tag, retagged, tagged_bytes
+from .tree import TagClass, TagMode
+
+_CONSTRUCTED = 0x20
+
+
+def wrapped(meaning, tag_class, number, mode):
+    """The meaning of a type under a tag."""
+    if number > MAX_TAG:
+        return replace(meaning.lacking(Feature.LONG_TAG), rust=None)
+    if meaning.rust is None:
+        return meaning
+    inner = meaning.rust
+    if mode is TagMode.EXPLICIT or inner.is_open:
+        return meaning.as_(explicit(inner, tag_class, number))
+    if inner.core in (Core.IMPLICIT, Core.RETAGGED):
+        inner = inner.inner
+    if inner.core in (Core.EXPLICIT, Core.APPLICATION):
+        return meaning.as_(explicit(inner.inner, tag_class, number))
+    tag = tag_class.value | number
+    if inner.core is Core.BYTES:
+        return meaning.as_(tagged_bytes(tag | (_CONSTRUCTED if inner.is_constructed() else 0)))
+    if inner.core is Core.SET:
+        text = f"RetaggedSet<{inner.inner.text}, 0x{tag | _CONSTRUCTED:02X}>"
+        return meaning.as_(Rust(text, Core.RETAGGED, frozenset((tag | _CONSTRUCTED,)), inner))
+    if inner.core is Core.LIST:
+        tag |= _CONSTRUCTED
+        return meaning.as_(Rust(retagged(inner, tag), Core.RETAGGED, frozenset((tag,)), inner))
+    if tag_class is TagClass.CONTEXT:
+        return meaning.as_(Rust(context_tag("Implicit", inner, number), Core.IMPLICIT, frozenset((tag,)), inner))
+    return primitive(meaning, inner, tag)
+
+
+def explicit(inner, tag_class, number):
+    """An EXPLICIT tag. One that is private or universal is a list of one member under that tag."""
+    tag = tag_class.value | _CONSTRUCTED | number
+    firsts = frozenset((tag,))
+    if tag_class is TagClass.CONTEXT:
+        return Rust(context_tag("Explicit", inner, number), Core.EXPLICIT, firsts, inner)
+    if tag_class is TagClass.APPLICATION:
+        return Rust(f"ApplicationTag<{inner.text}, {number}>", Core.APPLICATION, firsts, inner)
+    return Rust(f"Retagged<({inner.text},), 0x{tag:02X}>", Core.EXPLICIT, firsts, inner)
+
+
+def primitive(meaning, inner, tag):
+    """An IMPLICIT tag of another class than context over a primitive type."""
+    firsts = frozenset((tag,))
+    if inner.core is Core.OCTETS:
+        found = meaning.as_(tagged_bytes(tag))
+        return found.noting(Note.CONSTRAINT) if inner.bounded else found
+    if inner.core in (Core.BOOL, Core.NULL):
+        return meaning.as_(replace(tagged_bytes(tag), bounded=True)).noting(Note.CONSTRAINT)
+    if inner.core in (Core.UNSIGNED, Core.SIGNED):
+        rust = Rust(f"RetaggedPrimitive<Integer, 0x{tag:02X}>", Core.IMPLICIT, firsts, inner, bounded=True, is_foreign=True)
+        return meaning.as_(rust).noting(Note.CONSTRAINT)
+    if inner.core in (Core.CONTENTS, Core.NUMBER):
+        content = inner.inner if inner.bounded and inner.inner else inner
+        rust = Rust(f"RetaggedPrimitive<{content.text}, 0x{tag:02X}>", Core.IMPLICIT, firsts, inner, bounded=inner.bounded, is_foreign=True)
+        return meaning.as_(rust).noting(Note.CONSTRAINT) if inner.bounded else meaning.as_(rust)
+    return replace(meaning.as_(tagged_bytes(tag)).lacking(Feature.FOREIGN_TAG), level=max(Level.RAW, meaning.level))

@@ -1,0 +1,328 @@
+"""Which type of the library each type of a module is."""
+from dataclasses import replace
+
+from . import tree
+from .declarations import AliasDeclaration, Declarations, Hint
+from .features import Feature, Level, Note
+from .library import CONTENTS_TYPES, OTHER_STRINGS, UNCHECKED_CHARACTERS, UNIVERSAL_TAGS, Core, Rust, any_element, tagged_bytes
+from .meaning import Meaning, lacks
+from .meaning_bounds import bounded, integer, whole_number_limits
+from .meaning_structures import choice, enumeration, structure
+from .meaning_tags import wrapped
+from .members import selected
+from .objects import BUILT_IN_CLASSES, class_named, set_of
+from .parse_modules import read_text
+from .scopes import BUILT_IN_ANY, Binding, Found, Program, resolve, target_of
+from .source import Problems
+from .subtypes import Reader, ScopedConstraint, only_contents
+from .tagging import effective_mode, first_bytes, fixed_field_type
+from .values import arcs_of, integer_of
+
+# EXTERNAL and INSTANCE OF as the sequences that they are encoded as (X.690, 8.18; X.681, C.7)
+_ASSOCIATED_TYPES = """
+Associated-Types DEFINITIONS EXPLICIT TAGS ::= BEGIN
+External ::= [UNIVERSAL 8] IMPLICIT SEQUENCE {
+    direct-reference OBJECT IDENTIFIER OPTIONAL,
+    indirect-reference INTEGER OPTIONAL,
+    data-value-descriptor ObjectDescriptor OPTIONAL,
+    encoding CHOICE {
+        single-ASN1-type [0] ANY,
+        octet-aligned [1] IMPLICIT OCTET STRING,
+        arbitrary [2] IMPLICIT BIT STRING } }
+Instance-Of ::= [UNIVERSAL 8] IMPLICIT SEQUENCE { type-id OBJECT IDENTIFIER, value [0] EXPLICIT ANY }
+END
+"""
+_DER = [2, 1, 2, 1]  # the object identifier of DER (X.690, 12.2)
+ASSOCIATED = Program(read_text(_ASSOCIATED_TYPES, "associated types", Problems()), Problems())
+
+
+def in_words(meaning, constraints):
+    """The same with a note if a constraint says something in words alone (X.682, 9)."""
+    said = any(isinstance(it.constraint, tree.UserConstraint) for it in constraints)
+    return meaning.noting(Note.USER_CONSTRAINT) if said else meaning
+
+
+def instance_name(found):
+    """The name of an assignment, with those of the types that are given for its parameters."""
+    given = [type_name(it.argument.type) for _, it in found.scope.bindings if it.argument.type]
+    return "-".join(it for it in [found.assignment.name, *given] if it)
+
+
+def type_name(type_):
+    """The name of a type that is given for a parameter, or nothing if it has none."""
+    named = {tree.IntegerType: "INTEGER", tree.BitStringType: "BIT-STRING", tree.EnumeratedType: "ENUMERATED", tree.AnyType: "ANY"}
+    return named.get(type(type_), getattr(type_, "name", "").replace(" ", "-"))
+
+
+def alias(name, found, type_, meaning):
+    """The declaration of a name of another type."""
+    source, comment = found.assignment.name, " ".join(found.assignment.comment)
+    declared = AliasDeclaration(name, found.assignment.place, found.scope.module.name, source, comment)
+    declared.level, declared.lacks = meaning.level, lacks(meaning)
+    declared.type_text, declared.notation = meaning.rust.text, type_.text
+    return declared
+
+
+class Meanings:
+    """The meanings of the types of a program. Each assignment is worked out once."""
+
+    def __init__(self, program, declarations=None):
+        self.program = program
+        self.declarations = declarations or Declarations()
+        self.known, self.busy = {}, []
+
+    # ---- assignments
+
+    def of_assignment(self, assignment, module):
+        """The meaning of a type that has a name."""
+        return self.of_found(Found(assignment, self.program.scope_of(module)), assignment.type)
+
+    def of_found(self, found, type_):
+        """The meaning of what a name stands for, with this name. The edge back of a recursion is raw."""
+        key = (*found.scope.key, found.assignment.name)
+        if key in self.known:
+            return self.known[key]
+        if key in self.busy:
+            return self.raw(type_, found.scope, Feature.RECURSION)
+        self.busy.append(key)
+        try:
+            meaning = self.of_type(type_, found.scope, Hint(instance_name(found), key, " ".join(found.assignment.comment)))
+        finally:
+            self.busy.pop()
+        if meaning.rust:
+            meaning = self.named(meaning, key, found, type_)
+        self.known[key] = meaning
+        return meaning
+
+    def named(self, meaning, key, found, type_):
+        """The same under the name of its assignment, which is declared if the type has another name or none."""
+        declared = self.declarations.by_name.get(meaning.rust.text)
+        if declared and declared.place == type_.place:
+            return meaning
+        name = self.declarations.fresh(instance_name(found), key)
+        self.declarations.add(alias(name, found, type_, meaning))
+        return meaning.as_(replace(meaning.rust, text=name))
+
+    def raw(self, type_, scope, *features):
+        """A type that is kept as bytes: under its tag, if it has only one."""
+        firsts = first_bytes(self.program, type_, scope)
+        if firsts is not None and len(firsts) == 1:
+            return Meaning(tagged_bytes(*firsts), Level.RAW).lacking(*features)
+        return Meaning(any_element(), Level.RAW).lacking(*features)
+
+    def unknown(self, feature):
+        """A type of which nothing is known."""
+        return Meaning(any_element()).lacking(feature)
+
+    # ---- types
+
+    def of_type(self, type_, scope, hint, outer=()):
+        """The meaning of a type as it is written, with the constraints of names that lead to it."""
+        constraints = (*(ScopedConstraint(it, scope) for it in type_.constraints), *outer)
+        meaning = self.untagged(type_, scope, hint, constraints)
+        inner = replace(type_, tags=[])
+        for tag in reversed(type_.tags):
+            number = integer_of(self.program, tag.number, scope)
+            if number is None:
+                return self.unknown(Feature.UNDEFINED)
+            meaning = wrapped(meaning, tag.tag_class, number, effective_mode(self.program, tag, inner, scope))
+            inner = None
+        return meaning
+
+    def untagged(self, type_, scope, hint, constraints):
+        """The meaning of a type without its tags."""
+        reader = getattr(self, "of_" + type(type_).__name__.lower())
+        return reader(type_, scope, hint, constraints)
+
+    def limits(self, constraints, type_, scope):
+        """What the constraints of a type leave."""
+        name = type_.name if isinstance(type_, tree.SimpleType) else ""
+        return Reader(self.program, getattr(type_, "named", []), name).limits(constraints)
+
+    def checked(self, meaning, type_, scope, constraints):
+        """The same with types around it that check its constraints."""
+        return bounded(in_words(meaning, constraints), self.limits(constraints, type_, scope))
+
+    # ---- types without parts
+
+    def of_simpletype(self, type_, scope, hint, constraints):
+        name, tag = type_.name, UNIVERSAL_TAGS[type_.name]
+        firsts = frozenset((tag,))
+        if name == "EXTERNAL":
+            return self.of_associated("External")
+        if name in ("REAL", "EMBEDDED PDV", "CHARACTER STRING"):
+            return Meaning(tagged_bytes(tag)).lacking(Feature.RARE)
+        if name == "OCTET STRING":
+            return self.of_octets(type_, scope, hint, constraints)
+        simple = {"BOOLEAN": ("bool", Core.BOOL), "NULL": ("()", Core.NULL), "UTF8String": ("String", Core.UTF8)}
+        if name in simple:
+            meaning = Meaning(Rust(*simple[name], firsts))
+        elif name in OTHER_STRINGS:
+            meaning = Meaning(replace(tagged_bytes(tag), core=Core.CONTENTS)).noting(Note.ALPHABET)
+        else:
+            meaning = Meaning(Rust(CONTENTS_TYPES[name], Core.CONTENTS, firsts))
+        if name in UNCHECKED_CHARACTERS:
+            meaning = meaning.noting(Note.CHARACTERS)
+        return self.checked(meaning, type_, scope, constraints)
+
+    def of_integertype(self, type_, scope, hint, constraints):
+        limits = self.limits(constraints, type_, scope)
+        meaning = in_words(integer(Meaning, whole_number_limits(limits)), constraints)
+        return meaning.lacking(Feature.UNKNOWN_BOUND) if limits.unknown else meaning
+
+    def of_enumeratedtype(self, type_, scope, hint, constraints):
+        """An enum of its own, or any number if later versions may have others (X.680, 20)."""
+        firsts = frozenset((UNIVERSAL_TAGS["ENUMERATED"],))
+        if type_.extensible or scope.module.extensibility_implied:
+            meaning = Meaning(Rust("Enumerated", Core.CONTENTS, firsts))
+        else:
+            meaning = enumeration(self, type_, scope, hint)
+        return self.checked(meaning, type_, scope, constraints)
+
+    def of_bitstringtype(self, type_, scope, hint, constraints):
+        firsts = frozenset((UNIVERSAL_TAGS["BIT STRING"],))
+        contents = only_contents(constraints)
+        if contents and contents.constraint.type is not None:
+            return self.checked(self.container(contents, "BitStringAsn1Container", firsts, hint), type_, scope, constraints)
+        if not type_.named:
+            return self.checked(Meaning(Rust("BitString", Core.CONTENTS, firsts)), type_, scope, constraints)
+        meaning = Meaning(Rust("NamedBits", Core.CONTENTS, firsts))
+        limits = self.limits(constraints, type_, scope)
+        if limits.size.pairs and limits.size.high != float("inf"):
+            meaning = meaning.lacking(Feature.NAMED_BITS_SIZE)
+        return meaning.noting(Note.CONSTRAINT) if limits.other else meaning
+
+    def of_octets(self, type_, scope, hint, constraints):
+        firsts = frozenset((UNIVERSAL_TAGS["OCTET STRING"],))
+        contents = only_contents(constraints)
+        if contents and contents.constraint.type is not None:
+            return self.checked(self.container(contents, "OctetStringAsn1Container", firsts, hint), type_, scope, constraints)
+        return self.checked(Meaning(Rust("ByteBuf", Core.OCTETS, firsts)), type_, scope, constraints)
+
+    def container(self, contents, name, firsts, hint):
+        """A string with the encoding of a value in it (X.682, 11). One of another encoding than DER is kept as it is."""
+        encoded_by = contents.constraint.encoded_by
+        if encoded_by is not None and arcs_of(self.program, encoded_by, contents.scope) != _DER:
+            return Meaning(tagged_bytes(*firsts)).lacking(Feature.ENCODING)
+        inner = self.of_type(contents.constraint.type, contents.scope, hint.part("content"))
+        if inner.rust is None:
+            return self.unknown(Feature.UNDEFINED).containing(inner)
+        return Meaning(Rust(f"{name}<{inner.rust.text}>", Core.CONTAINER, firsts, inner.rust)).containing(inner)
+
+    # ---- names
+
+    def of_referencetype(self, type_, scope, hint, constraints):
+        found = self.program.find(type_.name, scope, type_.module, type_.place)
+        if isinstance(found, Binding):
+            return self.of_binding(found, hint, constraints)
+        if found is None:
+            return self.not_found(type_, scope)
+        if class_named(self.program, type_.name, scope):
+            return self.unknown(Feature.OPEN_ANY)
+        target = target_of(self.program, type_, scope)
+        if target is None or isinstance(found.assignment, tree.UnreadAssignment):
+            return self.unknown(Feature.UNDEFINED)
+        if isinstance(found.assignment, tree.SetAssignment):
+            return self.of_type(target.type, target.scope, hint, constraints).noting(Note.CONSTRAINT)
+        named = Found(found.assignment, target.scope)
+        if not constraints:
+            return self.of_found(named, target.type)
+        return self.constrained_reference(named, target, constraints)
+
+    def constrained_reference(self, found, target, constraints):
+        """A name with constraints after it: what the name stands for, with them."""
+        base = resolve(self.program, target.type, target.scope)
+        if isinstance(base.type, (tree.StructureType, tree.ChoiceType)):
+            return self.checked(self.of_found(found, target.type), base.type, base.scope, constraints)
+        key = (*target.scope.key, found.assignment.name)
+        if key in self.busy:
+            return self.raw(target.type, target.scope, Feature.RECURSION)
+        self.busy.append(key)
+        try:
+            return self.of_type(target.type, target.scope, Hint(found.assignment.name), constraints)
+        finally:
+            self.busy.pop()
+
+    def of_binding(self, found, hint, constraints):
+        """What is given for a parameter."""
+        if found.argument.type is None:
+            return self.unknown(Feature.OPEN_ANY)
+        return self.of_type(found.argument.type, found.scope, hint, constraints)
+
+    def not_found(self, type_, scope):
+        """A name that isn't defined here: an open type of other compilers, or one of a module that isn't given."""
+        if type_.name in BUILT_IN_ANY or type_.name in BUILT_IN_CLASSES:
+            return self.unknown(Feature.OPEN_ANY)
+        source = type_.module or self.program.source_of(type_.name, scope.module)
+        if source and self.program.module_named(source, scope.module) is None:
+            return self.unknown(Feature.IMPORT)
+        self.program.problems.error(type_.place, f"`{type_.name}` isn't defined", "X.680, 14.1")
+        return self.unknown(Feature.UNDEFINED)
+
+    def of_selectiontype(self, type_, scope, hint, constraints):
+        """The type of an alternative (X.680, 30)."""
+        found = selected(self.program, type_, scope)
+        if found:
+            return self.of_type(found.member.type, found.scope, hint, constraints)
+        self.program.problems.error(type_.place, f"there is no alternative `{type_.name}`", "X.680, 30.3")
+        return self.unknown(Feature.UNDEFINED)
+
+    # ---- open types
+
+    def of_anytype(self, type_, scope, hint, constraints):
+        return self.unknown(Feature.OPEN_ANY)
+
+    def of_objectfieldtype(self, type_, scope, hint, constraints):
+        return self.unknown(Feature.OPEN_ANY)
+
+    def of_fieldtype(self, type_, scope, hint, constraints):
+        """A field of a class: a type of its own, or an open type (X.681, 14.2)."""
+        fixed = fixed_field_type(self.program, type_, scope)
+        tables = [it for it in constraints if isinstance(it.constraint, tree.TableConstraint)]
+        others = tuple(it for it in constraints if not isinstance(it.constraint, tree.TableConstraint))
+        if fixed:
+            meaning = self.of_type(*fixed, hint, others)
+            return meaning.noting(Note.CONSTRAINT) if any(self.is_closed(type_, it) for it in tables) else meaning
+        for it in others:
+            root = getattr(it.constraint, "root", None)
+            if isinstance(root, tree.ContainedSubtype):
+                found = self.of_type(root.type, it.scope, hint)
+                return found.as_(replace(found.rust, is_open=True)) if found.rust else found
+        known = any(self.objects(type_, it).objects for it in tables)
+        return self.unknown(Feature.OPEN_TABLE if known else Feature.OPEN_ANY)
+
+    def objects(self, type_, table):
+        """The objects of a table constraint (X.682, 10)."""
+        class_ = class_named(self.program, type_.class_name, table.scope)
+        return set_of(self.program, table.constraint.tokens, class_, table.scope)
+
+    def is_closed(self, type_, table):
+        """Whether a table has all objects that there will be."""
+        found = self.objects(type_, table)
+        return found.complete and not found.extensible and bool(found.objects)
+
+    def of_associated(self, name):
+        """EXTERNAL or INSTANCE OF, by the sequence that it is encoded as."""
+        found = ASSOCIATED.find(name, ASSOCIATED.scope_of(ASSOCIATED.modules[0]))
+        return Meanings(ASSOCIATED, self.declarations).of_found(found, found.assignment.type)
+
+    def of_instanceoftype(self, type_, scope, hint, constraints):
+        return self.of_associated("Instance-Of")
+
+    # ---- constructed types
+
+    def of_structuretype(self, type_, scope, hint, constraints):
+        return self.checked(structure(self, type_, scope, hint), type_, scope, constraints)
+
+    def of_choicetype(self, type_, scope, hint, constraints):
+        return self.checked(choice(self, type_, scope, hint), type_, scope, constraints)
+
+    def of_listtype(self, type_, scope, hint, constraints):
+        """SEQUENCE OF and SET OF (X.680, 26 and 28)."""
+        element = self.of_type(type_.element, scope, hint.part("item"))
+        firsts = frozenset((UNIVERSAL_TAGS[type_.form.value],))
+        if element.rust is None:
+            return Meaning(tagged_bytes(*firsts), Level.RAW).containing(replace(element, level=Level.RAW))
+        name = "Vec" if type_.form is tree.Form.SEQUENCE else "Asn1SetOf"
+        found = Meaning(Rust(f"{name}<{element.rust.text}>", Core.LIST, firsts, element.rust)).containing(element)
+        return self.checked(found, type_, scope, constraints)

@@ -1,0 +1,163 @@
+"""Names, across the modules that are given (X.680, 13 and 14; X.683, 9)."""
+import os
+from dataclasses import dataclass, field
+from typing import Optional
+
+from . import tree
+
+# Names for an element of any type, which compilers of others have without a definition.
+BUILT_IN_ANY = frozenset(("heim_any", "heim_any_set", "HEIM_ANY", "HEIM_ANY_SET"))
+
+
+@dataclass(frozen=True)
+class Binding:
+    """What a parameter stands for, and where the names in it are looked up."""
+
+    argument: tree.Argument
+    scope: "Scope"
+
+
+@dataclass(frozen=True)
+class Scope:
+    """Where names are looked up: a module, and the parameters of the assignment that the names are in."""
+
+    module: tree.Module = field(hash=False, compare=False)
+    key: tuple = ()
+    bindings: tuple = field(default=(), hash=False, compare=False)
+
+    def binding(self, name):
+        """What a parameter stands for, or None if the name is none."""
+        return next((it for known, it in self.bindings if known == name), None)
+
+
+@dataclass(frozen=True)
+class Found:
+    """An assignment, and the scope of the names in it."""
+
+    assignment: tree.Assignment
+    scope: Scope
+
+
+class Program:
+    """The modules that are given, by their names. The `imported` ones are there for what the others import."""
+
+    def __init__(self, modules, problems, imported=()):
+        self.modules, self.problems = modules, problems
+        self.by_name, self.by_stem, self.indexes = {}, {}, {}
+        for module in modules:
+            self.add(module, True)
+        for module in imported:
+            self.add(module, False)
+
+    def add(self, module, is_own):
+        """Makes a module known by its name and that of its file. The first one of a name has it."""
+        first = self.by_name.setdefault(module.name.lower(), module)
+        if is_own and first is not module:
+            self.problems.deviation(module.place, f"the module `{module.name}` is in {first.path}, too, which is used", "X.680, 13.1")
+        self.by_stem.setdefault(os.path.splitext(os.path.basename(module.path))[0].lower(), module)
+        self.indexes[id(module)] = self.index(module)
+
+    def index(self, module):
+        """The assignments of a module by their names. A name has one of them (X.680, 13.10)."""
+        found = {}
+        for it in module.assignments:
+            if it.name in found and not isinstance(it, tree.UnreadAssignment):
+                first = found[it.name].place
+                self.problems.deviation(it.place, f"`{it.name}` is assigned at {first.line}:{first.column} too, which is used", "X.680, 13.10")
+            found.setdefault(it.name, it)
+        return found
+
+    def module_named(self, name, asking=None):
+        """The module with this name, or else in a file with this name. It isn't the module that asks."""
+        found = self.by_name.get(name.lower()) or self.by_stem.get(name.lower())
+        return None if found is asking else found
+
+    def scope_of(self, module):
+        """The scope of a module's own names."""
+        return Scope(module, (module.path, module.name))
+
+    def source_of(self, name, module):
+        """The name of the module that a name is imported from, or None."""
+        return next((it.module for it in module.imports if it.name == name), None)
+
+    def find(self, name, scope, module_name=None, place=None):
+        """The assignment or the binding of a name, or None. A name at a place may be one that isn't imported, though it should be."""
+        if module_name is None and scope.binding(name):
+            return scope.binding(name)
+        home = scope.module if module_name is None else self.module_named(module_name)
+        found = self.find_in(name, home, ())
+        return found or self.find_unimported(name, scope.module, place) if place else found
+
+    def find_unimported(self, name, module, place):
+        """The assignment of a name that isn't imported: the only one of that name, in the module's folder or else anywhere."""
+        if self.source_of(name, module):
+            return None
+        homes = [it for it in self.modules if it is not module and name in self.indexes[id(it)]]
+        near = [it for it in homes if os.path.dirname(it.path) == os.path.dirname(module.path)]
+        homes = near or homes
+        if len(homes) != 1:
+            return None
+        self.problems.deviation(place, f"`{name}` of the module `{homes[0].name}` isn't imported", "X.680, 13.16")
+        return self.find_in(name, homes[0], ())
+
+    def find_in(self, name, module, visited):
+        """The assignment of a name that is seen in a module."""
+        if module is None or id(module) in visited:
+            return None
+        found = self.indexes[id(module)].get(name)
+        if found:
+            return Found(found, self.scope_of(module))
+        source = self.source_of(name, module)
+        return self.find_in(name, self.module_named(source, module), (*visited, id(module))) if source else None
+
+    def apply(self, found, arguments, scope):
+        """The scope inside of a parameterized assignment with these arguments, or None if there are too few (X.683, 9.7)."""
+        parameters = found.assignment.parameters
+        if len(arguments) != len(parameters):
+            return None
+        bindings = tuple((it.name, self.bind(argument, scope)) for it, argument in zip(parameters, arguments))
+        key = (*found.scope.key, found.assignment.name, *((it.argument.text, it.scope.key) for _, it in bindings))
+        return Scope(found.scope.module, key, bindings)
+
+    def bind(self, argument, scope):
+        """The binding of an argument. One that is a parameter itself is what that one stands for."""
+        name = None
+        if isinstance(argument.type, tree.ReferenceType) and not argument.type.arguments and not argument.type.tags:
+            name = argument.type.name
+        elif isinstance(argument.value, tree.NamedValue):
+            name = argument.value.name
+        elif argument.set_tokens and len(argument.set_tokens) == 1:
+            name = argument.set_tokens[0].text
+        return (name and scope.binding(name)) or Binding(argument, scope)
+
+
+@dataclass(frozen=True)
+class Resolved:
+    """A type that is no reference, with the constraints of the references on the way and the scope of its names."""
+
+    type: Optional[tree.Type]
+    scope: Scope
+
+
+def resolve(program, type_, scope, depth=0):
+    """The type that names without tags lead to. None in place of the type if a name leads nowhere."""
+    if not isinstance(type_, tree.ReferenceType) or depth > 40:
+        return Resolved(type_ if depth <= 40 else None, scope)
+    target = target_of(program, type_, scope)
+    return resolve(program, target.type, target.scope, depth + 1) if target else Resolved(None, scope)
+
+
+def target_of(program, reference, scope):
+    """What a reference to a type names: the type and its scope, or None."""
+    found = program.find(reference.name, scope, reference.module, reference.place)
+    if isinstance(found, Binding):
+        return Resolved(found.argument.type, found.scope) if found.argument.type else None
+    if found is None or not isinstance(found.assignment, (tree.TypeAssignment, tree.SetAssignment)):
+        return None
+    inside = found.scope
+    if found.assignment.parameters or reference.arguments:
+        inside = program.apply(found, reference.arguments or [], scope)
+    if inside is None:
+        wanted, given = len(found.assignment.parameters), len(reference.arguments or [])
+        program.problems.error(reference.place, f"`{reference.name}` has {wanted} parameters, and {given} arguments are given", "X.683, 9.7")
+    return Resolved(found.assignment.type, inside) if inside else None

@@ -1,0 +1,399 @@
+"""The files of a crate, compared with those that were written by hand in this repository."""
+import contextlib
+import io
+import os
+import re
+import tempfile
+import unittest
+
+from .. import command, emit_crate
+from ..emit_choice import parts_type, pattern, place, term
+from ..layout import assigned, comment, filled, item_lines, natural, tuple_lines, type_lines
+from ..wording import joined, snake
+from . import given
+
+ROOT = os.path.dirname(os.path.dirname(os.path.dirname(os.path.dirname(os.path.realpath(__file__)))))
+
+
+def crate_of(body, *names, header="EXPLICIT TAGS"):
+    """The crate `der_examples` of these types."""
+    one = given(body, header)
+    found = [one.meaning(it).rust.text for it in names]
+    return emit_crate.Crate("der_examples", emit_crate.reached(one.meanings.declarations, found), [])
+
+
+def items(text):
+    """The items of a file without comments and imports: each is what is between empty lines at the top level."""
+    lines = [it for it in text.split("\n") if not it.strip().startswith("//")]
+    found, now = [], []
+    for line in [*lines, ""]:
+        if not line and (not now or now[-1] in ("}", ");", ">;") or now[-1].endswith(";") and not now[-1].startswith(" ")):
+            found.append("\n".join(now))
+            now = []
+        else:
+            now.append(line)
+    return [it for it in found if it and not re.match("(ghost )?use ", it)]
+
+
+def by_hand(path):
+    """A file of the repository."""
+    with open(os.path.join(ROOT, "crates", path), encoding="utf-8") as it:
+        return it.read()
+
+
+class AsByHand(unittest.TestCase):
+    """Each item that is written is one of a file by hand, but for those in `more`."""
+
+    maxDiff = None
+
+    def check(self, body, name, path, more=(), replaced=(), header="EXPLICIT TAGS"):
+        text = crate_of(body, name, header=header).files()[f"src/{os.path.basename(path)}"]
+        for before, after in replaced:
+            text = text.replace(before, after)
+        hand = items(by_hand(path))
+        for item in items(text):
+            if item.split(" {")[0] not in more:
+                self.assertIn(item, hand)
+
+    def without(self, name):
+        """The implementations that a struct by hand has only where it needs them."""
+        return (f"impl Begins for {name}", f"impl List for {name}")
+
+    def test_a_struct(self):
+        body = """Point ::= SEQUENCE { x INTEGER (0..4294967295), y INTEGER (0..4294967295), hidden BOOLEAN }"""
+        self.check(body, "Point", "der_examples/src/point.rt", self.without("Point"))
+
+    def test_a_default(self):
+        body = "Extension ::= SEQUENCE { id OBJECT IDENTIFIER, critical BOOLEAN DEFAULT FALSE, value OCTET STRING }"
+        self.check(body, "Extension", "der_x509/src/extension.rt", self.without("Extension"))
+
+    def test_an_open_type_that_may_be_absent(self):
+        body = "AlgorithmIdentifier ::= SEQUENCE { algorithm OBJECT IDENTIFIER, parameters ANY DEFINED BY algorithm OPTIONAL }"
+        self.check(body, "AlgorithmIdentifier", "der_x509/src/algorithm_identifier.rt")
+
+    def test_constraints(self):
+        body = """DeviceLabel ::= SEQUENCE { country PrintableString (SIZE (2)), serial INTEGER (0..65536), article NumericString,
+            contacts SEQUENCE SIZE (1..4) OF IA5String }"""
+        self.check(body, "DeviceLabel", "der_examples/src/device_label.rt", self.without("DeviceLabel"))
+
+    def test_lists_under_tags(self):
+        body = """SignedData ::= SEQUENCE { version INTEGER (0..255), digest-algorithms SET OF AlgorithmIdentifier,
+            content EncapsulatedContentInfo, certificates [0] IMPLICIT SET OF ANY OPTIONAL,
+            revocation-lists [1] IMPLICIT SET OF ANY OPTIONAL, signer-infos SET OF SignerInfo }
+            AlgorithmIdentifier ::= SEQUENCE { a NULL } EncapsulatedContentInfo ::= SEQUENCE { a NULL } SignerInfo ::= SEQUENCE { a NULL }"""
+        self.check(body, "SignedData", "der_examples/src/signed_data.rt", self.without("SignedData"))
+
+    def test_twenty_members(self):
+        body = """Vessel ::= SEQUENCE { name UTF8String, number INTEGER (0..4294967295), call-sign [0] UTF8String OPTIONAL,
+            tonnage INTEGER (0..18446744073709551615), is-military BOOLEAN DEFAULT FALSE, home Point, decks INTEGER (0..255),
+            owner [1] Setting OPTIONAL, seal OCTET STRING OPTIONAL, engine Setting, speeds SEQUENCE OF INTEGER (0..65535),
+            berth [2] Point OPTIONAL, size SEQUENCE { a NULL }, is-moored BOOLEAN, flag NumberOrFlag, pilot UTF8String OPTIONAL,
+            tugs SEQUENCE OF INTEGER (0..65535) OPTIONAL, draught INTEGER (0..4294967295), chart OCTET STRING,
+            remark [3] UTF8String OPTIONAL }
+            Point ::= SEQUENCE { x NULL }
+            Setting ::= CHOICE { a INTEGER, b UTF8String }
+            NumberOrFlag ::= CHOICE { a INTEGER, b BOOLEAN }"""
+        self.check(body, "Vessel", "der_examples/src/vessel.rt", self.without("Vessel"), [("VesselSize", "(u16, u16)")])
+
+    def test_the_members_of_a_set(self):
+        body = """Personnel ::= [APPLICATION 0] IMPLICIT SET { title [0] VisibleString, name TaggedName, number EmployeeNumber,
+            date-of-hire [1] RecordDate, name-of-spouse [2] TaggedName, children [3] IMPLICIT SEQUENCE OF C OPTIONAL }
+            TaggedName ::= [APPLICATION 1] IMPLICIT SEQUENCE { a NULL }
+            EmployeeNumber ::= [APPLICATION 2] IMPLICIT INTEGER
+            RecordDate ::= [APPLICATION 3] IMPLICIT VisibleString
+            C ::= SET { a NULL }"""
+        crate = crate_of(body, "Personnel")
+        hand = items(by_hand("der_examples/src/personnel_record.rt"))
+        text = crate.files()["src/personnel_members.rt"]
+        for item in items(text.replace("<C>", "<Asn1Set<ChildInformation>>")):
+            if not item.startswith("impl Begins"):
+                self.assertIn(item, hand)
+        aliases = crate.files()["src/aliases.rt"]
+        self.assertIn("pub type Personnel = RetaggedSet<PersonnelMembers, 0x60>;\n", aliases)
+        self.assertIn("pub type EmployeeNumber = RetaggedPrimitive<Integer, 0x42>;\n", aliases)
+
+    def test_a_choice_of_two(self):
+        body = "NumberOrFlag ::= CHOICE { number INTEGER (0..255), flag BOOLEAN }"
+        changes = [("Number x ↦ This x", "Number n ↦ This n"), ("Flag x ↦ Other (This x)", "Flag b ↦ Other (This b)")]
+        self.check(body, "NumberOrFlag", "der_examples/src/number_or_flag.rt", replaced=changes)
+
+    def test_a_choice_of_three(self):
+        body = "Setting ::= CHOICE { number INTEGER (0..18446744073709551615), text UTF8String, numbers SEQUENCE OF INTEGER (0..65535) }"
+        changes = [("Number x ↦ This x", "Number n ↦ This n"), ("Text x ↦ Other (This x)", "Text s ↦ Other (This s)")]
+        self.check(body, "Setting", "der_examples/src/setting.rt", replaced=changes)
+
+    def test_a_choice_of_four(self):
+        body = "Host ::= CHOICE { email UTF8String, domain [2] IMPLICIT IA5String, owner SEQUENCE OF OCTET STRING, address OCTET STRING }"
+        changes = [("Ia5String", "Ia5StringAsn1"), ("Email x ↦ First x", "Email e ↦ First e"), ("Domain x ↦ Second x", "Domain d ↦ Second d")]
+        changes += [("Owner x ↦ Third x", "Owner o ↦ Third o"), ("Address x ↦ Fourth x", "Address a ↦ Fourth a")]
+        self.check(body, "Host", "der_examples/src/host.rt", replaced=changes)
+
+    def test_a_choice_of_twelve(self):
+        body = """Command ::= CHOICE { move [0] Point, wait [1] IMPLICIT INTEGER (0..4294967295), follow [2] SEQUENCE OF Point,
+            lift [3] IMPLICIT BOOLEAN, say [4] IMPLICIT UTF8String, adjust [5] Setting, stop [6] IMPLICIT NULL,
+            load [7] IMPLICIT OCTET STRING, speeds [8] IMPLICIT SEQUENCE OF INTEGER (0..65535),
+            repeat [9] IMPLICIT INTEGER (0..18446744073709551615), mark [10] Marker, forget [11] SET OF OCTET STRING }
+            Point ::= SEQUENCE { x NULL } Marker ::= SEQUENCE { x NULL }
+            Setting ::= CHOICE { a INTEGER, b UTF8String }"""
+        text = crate_of(body, "Command").files()["src/command.rt"]
+        hand = items(by_hand("der_examples/src/script.rt"))
+        for item in items(text):
+            if not item.startswith(("impl Choice", "impl Serialize")):
+                self.assertIn(item, hand)
+        self.assertIn("      | Forget x ↦ Later (Later (Fourth x))\n", text)
+        self.assertIn("            Later(Later(Fourth(forget))) => Command::Forget(forget),\n", text)
+
+
+    def test_an_enumeration(self):
+        body = """ResponseStatus ::= ENUMERATED { successful(0), malformedRequest(1), internalError(2), tryLater(3), sigRequired(5),
+            unauthorized(6) }"""
+        changes = [("variant.", "status."), ("response_status_number", "status_number"), ("is_response_status", "is_status"), ("same_response_status", "same_status")]
+        self.check(body, "ResponseStatus", "der_examples/src/response_status.rt", replaced=changes)
+
+    def test_the_terms_of_an_enumeration(self):
+        body = """ResponseStatus ::= ENUMERATED { successful(0), malformedRequest(1), internalError(2), tryLater(3), sigRequired(5),
+            unauthorized(6) }"""
+        text = crate_of(body, "ResponseStatus").files()["specs/ResponseStatus.antt"]
+        text = text.replace("response_status_number", "status_number").replace("is_response_status", "is_status").replace("same_response_status", "same_status")
+        self.assertEqual(by_hand("der_examples/specs/ResponseStatus.antt").split("\n")[1:], text.split("\n")[1:])
+        self.assertEqual("pub mod ResponseStatus\n", crate_of(body, "ResponseStatus").files()["specs/Lib.antt"])
+
+
+class Defaults(unittest.TestCase):
+    def test_a_named_number_comes_before_a_value(self):
+        text = crate_of("A ::= SEQUENCE { a INTEGER { one(1) } (0..255) DEFAULT one } one INTEGER ::= 7", "A").files()["src/a.rt"]
+        self.assertIn("Defaulted<u8, Number<1>>", text)
+
+    def test_an_item_of_an_enumeration(self):
+        body = """A ::= SEQUENCE { a E DEFAULT y, b [0] F DEFAULT v, c [1] IMPLICIT E DEFAULT y } E ::= ENUMERATED { x(3), y(9) } F ::= E v F ::= x
+            y INTEGER ::= 5"""
+        files = crate_of(body, "A").files()
+        members = "type Members = (\n    Defaulted<E, EY>,\n    Defaulted<ExplicitContextTag0<F>, EX>,\n    Defaulted<ImplicitContextTag1<E>, EY>,"
+        self.assertIn(members, files["src/a.rt"])
+        self.assertIn("use crate::{E, EX, EY, F};\n", files["src/a.rt"])
+        self.assertIn("pub use e::{E, EX, EY};\n", files["src/lib.rt"])
+        self.assertEqual(["EY", "EX"], re.findall(r"pub struct (\w+);", files["src/e.rt"]))
+        self.assertIn("        matches!(*value, E::Y)\n", files["src/e.rt"])
+        terms = files["specs/E.antt"]
+        self.assertIn("is_default_ey X = false\nis_default_ey Y = true\n", terms)
+        self.assertIn("ey_by_tree X y h = cc\ney_by_tree Y X h = (λ k. cc, λ e. cc)\ney_by_tree Y Y h = (λ k. refl, λ e. refl)\n", terms)
+
+    def test_the_default_by_hand(self):
+        body = "A ::= SEQUENCE { a Version DEFAULT v1 } Version ::= ENUMERATED { v1(0), v2(1), v3(2) }"
+        files, hand = crate_of(body, "A").files(), items(by_hand("der_x509/src/version.rt"))
+        text = files["src/version.rt"].replace("variant.", "version.").replace("is_default_version_v1", "is_v1").replace("version_v1_", "v1_")
+        (found,) = [it for it in items(text.replace("VersionV1", "V1")) if it.startswith("impl DefaultOf")]
+        self.assertIn(found, hand)
+
+
+class Imports(unittest.TestCase):
+    def test_of_a_struct(self):
+        text = crate_of("A ::= SEQUENCE { a B, b [10] INTEGER OPTIONAL, c [2] ANY OPTIONAL } B ::= SEQUENCE { a NULL }", "A").files()["src/a.rt"]
+        found = text[text.index("use crate") : text.index("use picky_asn1_der::{")]
+        self.assertEqual(
+            [
+                "use crate::B;",
+                "use der_types::Integer;",
+                "use picky_asn1_der::asn1::{ExplicitContextTag2, ExplicitContextTag10, Tag};",
+                "use picky_asn1_der::de::Begins;",
+                "use picky_asn1_der::misc::{ReadExt, WriteExt};",
+                "use picky_asn1_der::ser::{Optional, OptionalRef};",
+            ],
+            found.strip().split("\n"),
+        )
+
+    def test_variants_that_other_names_hide(self):
+        text = crate_of("A ::= CHOICE { other NULL, this BOOLEAN }", "A").files()["src/a.rt"]
+        self.assertIn("ghost use Rattle.der_examples.specs.declared.a.A.TheVariants as variant;\n", text)
+        self.assertIn("elim [ variant.Other x ↦ This x | variant.This x ↦ Other (This x) ]", text)
+        self.assertIn("This(other) => A::Other(other),", text)
+
+
+class Comments(unittest.TestCase):
+    def test_those_of_the_module_and_the_notation(self):
+        body = "-- What it is.\nA ::= SEQUENCE {\n  a [0] IMPLICIT NULL OPTIONAL, -- only sometimes\n  b BOOLEAN DEFAULT TRUE\n}"
+        text = crate_of(body, "A").files()["src/a.rt"]
+        self.assertIn("/// What it is. `A` of M, as a SEQUENCE.\n", text)
+        self.assertIn("    /// only sometimes. `[0] IMPLICIT NULL OPTIONAL`.\n", text)
+        self.assertIn("    /// `BOOLEAN DEFAULT TRUE`.\n", text)
+
+    def test_a_default_that_isnt_one(self):
+        text = crate_of("A ::= SEQUENCE { a INTEGER DEFAULT 0 }", "A").files()["src/a.rt"]
+        wanted = "as a SEQUENCE.\n///\n/// The values aren't exactly those of the notation: DEFAULT of an INTEGER without bounds.\n#[derive"
+        self.assertIn(wanted, text)
+        self.assertIn("/// `INTEGER DEFAULT 0`. A default that is written out is read, too.\n    pub a: Option<Integer>,\n", text)
+
+
+    def test_an_open_type_is_what_the_notation_says(self):
+        self.assertNotIn("aren't exactly", crate_of("A ::= SEQUENCE { a ANY }", "A").files()["src/a.rt"])
+
+    def test_another_name_of_a_type_that_has_more_values(self):
+        text = crate_of("A ::= INTEGER (0..MAX)", "A").files()["src/aliases.rt"]
+        self.assertIn("/// The values aren't exactly those of the notation: a type of its own with `Constrained`.\npub type A = Integer;\n", text)
+
+
+class Names(unittest.TestCase):
+    def test_words_of_proofs(self):
+        self.assertIn("    TheType(()),\n", crate_of("A ::= CHOICE { type NULL, b BOOLEAN }", "A").files()["src/a.rt"])
+        self.assertEqual(["AsnType"], list(crate_of("Type ::= SEQUENCE { a NULL }", "Type").types))
+
+    def test_words_of_rust(self):
+        text = crate_of("A ::= SEQUENCE { type NULL, serial-Number NULL, n2 NULL }", "A").files()["src/a.rt"]
+        self.assertEqual(["type_", "serial_number", "n2"], re.findall(r"pub (\w+):", text))
+
+    def test_members_that_are_called_as_a_variable_is(self):
+        body = "A ::= SEQUENCE { others NULL, " + ", ".join(f"a{it} NULL" for it in range(8)) + " }"
+        text = crate_of(body, "A").files()["src/a.rt"]
+        self.assertIn("let (others, a0, a1, a2, a3, a4, a5, a6, others_members) = members;\n        let (a7, ()) = others_members;\n", text)
+        text = crate_of("A ::= CHOICE { serializer NULL, b BOOLEAN }", "A").files()["src/a.rt"]
+        self.assertIn("A::Serializer(it) => serializer.serialize_choice(it),", text)
+
+    def test_names_that_are_the_same_in_rust(self):
+        crate = crate_of("TYPED-DATA ::= SEQUENCE { a TypedData } TypedData ::= SEQUENCE { a NULL }", "TYPED-DATA", "TypedData")
+        self.assertEqual(["TypedData", "TypedData2"], sorted(crate.types))
+
+    def test_instances_that_are_the_same_are_one_type(self):
+        body = """C ::= CLASS { &id INTEGER, &Type }
+            A { C : Set } ::= SEQUENCE { id C.&id ({Set}), it C.&Type ({Set}{@id}) }
+            B ::= SEQUENCE { a A { {...} }, b A { {One} } }
+            One C ::= { ... }"""
+        self.assertEqual(["A", "B"], sorted(crate_of(body, "B").types))
+
+    def test_instances_have_the_names_of_their_types(self):
+        body = "A { T } ::= SEQUENCE { it T } B ::= SEQUENCE { a A { INTEGER }, b A { Own } } Own ::= SEQUENCE { a NULL }"
+        self.assertEqual(["AInteger", "AOwn", "B", "Own"], sorted(crate_of(body, "B").types))
+
+    def test_a_struct_under_a_tag_has_a_name_of_its_own(self):
+        crate = crate_of("A ::= [APPLICATION 1] SEQUENCE { a SEQUENCE OF SEQUENCE { b NULL } }", "A")
+        self.assertEqual(["A", "AAItem", "AMembers"], sorted(crate.types))
+        self.assertIn("pub type A = ApplicationTag<AMembers, 1>;\n", crate.files()["src/aliases.rt"])
+
+    def test_a_file_that_has_another_use(self):
+        self.assertIn("src/values_type.rt", crate_of("Values ::= SEQUENCE { a NULL }", "Values").files())
+
+    def test_only_what_is_reached_is_written(self):
+        self.assertEqual(["A", "B"], sorted(crate_of("A ::= SEQUENCE { b B } B ::= INTEGER C ::= NULL", "A").types))
+
+
+    def test_abbreviations(self):
+        pairs = [("dNSName", "DnsName"), ("iPAddress", "IpAddress"), ("cA", "Ca"), ("rfc822Name", "Rfc822Name"), ("TBSCertificate", "TbsCertificate")]
+        self.assertEqual([it for _, it in pairs], [joined(it) for it, _ in pairs])
+        self.assertEqual(["dns_name", "crl_sign", "x_axis", "e_type"], [snake(it) for it in ("dNSName", "cRLSign", "xAxis", "e-TYPE")])
+
+
+def golden_files(folder):
+    """The files of a stored crate, by their paths in it. Each has `.txt` after its name, since a crate has to be in `crates`."""
+    found = {}
+    for home, _, names in os.walk(folder):
+        for it in names:
+            path = os.path.join(home, it)
+            with open(path, encoding="utf-8") as file:
+                found[os.path.relpath(path, folder).removesuffix(".txt")] = file.read()
+    return found
+
+
+class Golden(unittest.TestCase):
+    """The crates of small modules. Each was read before it was stored, and `tools/der_asn1/golden` writes it anew."""
+
+    maxDiff = None
+
+    def test_each(self):
+        folder = os.path.join(os.path.dirname(os.path.realpath(__file__)), "golden")
+        modules = sorted(it for it in os.listdir(folder) if it.endswith(".asn1"))
+        self.assertEqual(7, len(modules))
+        for it in modules:
+            with self.subTest(it), tempfile.TemporaryDirectory() as there:
+                name, printed = os.path.splitext(it)[0], io.StringIO()
+                crate = os.path.join(there, name)
+                with contextlib.redirect_stdout(io.StringIO()), contextlib.redirect_stderr(printed):
+                    status = command.main(["--strict", "--out", crate, os.path.join(folder, it)])
+                self.assertEqual((0, ""), (status, printed.getvalue()))
+                self.assertEqual(golden_files(os.path.join(folder, name)), golden_files(crate))
+
+
+class Values(unittest.TestCase):
+    def test_object_identifiers(self):
+        one = given("id-at OBJECT IDENTIFIER ::= { 2 5 4 }\nid-rsa OBJECT IDENTIFIER ::= { iso(1) member-body(2) us(840) 113549 }\nn INTEGER ::= 5")
+        found = emit_crate.values_of(one.program, one.program.modules)
+        self.assertEqual([("ID_AT", [0x55, 0x04]), ("ID_RSA", [0x2A, 0x86, 0x48, 0x86, 0xF7, 0x0D])], [(it.name, it.content()) for it in found])
+
+    def test_their_file(self):
+        one = given("id-at OBJECT IDENTIFIER ::= { 2 5 4 }")
+        lines = emit_crate.value_file(emit_crate.values_of(one.program, one.program.modules))
+        self.assertEqual(["", "/// `id-at`, 2.5.4.", "pub const ID_AT: &[u8] = &[0x55, 0x04];"], lines[1:])
+
+
+class Files(unittest.TestCase):
+    def test_the_root(self):
+        text = crate_of("A ::= SEQUENCE { b B } B ::= INTEGER", "A").files()["src/lib.rt"]
+        self.assertTrue(text.startswith("//! Types of M, made by tools/der_asn1.\n#![tactic(auto)]\n\n"))
+        self.assertTrue(text.endswith("\n\nmod a;\nmod aliases;\n\npub use a::A;\npub use aliases::B;\n"))
+
+    def test_more_than_a_hundred_names(self):
+        for count, wanted in ((100, "pub use aliases::{\n"), (101, "pub use aliases::T0;\npub use aliases::T1;\n")):
+            body = "\n".join(f"T{it} ::= INTEGER" for it in range(count))
+            text = crate_of(body, *(f"T{it}" for it in range(count))).files()["src/lib.rt"]
+            self.assertIn(wanted, text)
+
+    def test_writing_and_checking(self):
+        files = crate_of("A ::= SEQUENCE { b NULL }", "A").files()
+        with tempfile.TemporaryDirectory() as folder:
+            self.assertEqual(sorted(files), emit_crate.difference(folder, files))
+            emit_crate.write(folder, files)
+            self.assertEqual([], emit_crate.difference(folder, files))
+
+
+class Layout(unittest.TestCase):
+    def test_the_order_of_names(self):
+        self.assertEqual(["info_entry", "info2_entry", "infos"], sorted(["infos", "info2_entry", "info_entry"], key=natural))
+        self.assertEqual(["Tag2", "Tag10", "V1", "Validity", "a_b"], sorted(["a_b", "Tag10", "V1", "Tag2", "Validity"], key=natural))
+
+    def test_a_list_on_one_line_or_on_many(self):
+        self.assertEqual(["type A = (b, c);"], tuple_lines("", "type A = ", ["b", "c"], ";"))
+        long = tuple_lines("", "type A = ", ["b" * 30, "c" * 29], ";")
+        self.assertEqual(["type A = (", f"    {'b' * 30},", f"    {'c' * 29},", ");"], long)
+
+    def test_an_item_that_is_too_long_is_broken_at_its_arguments(self):
+        name = "x" * 60
+        self.assertEqual([f"    D::<A, B>::new(&{name}),"], item_lines("    ", f"D::<A, B>::new(&{name})"))
+        name = "x" * 90
+        self.assertEqual(["    D::<A, B>::new(", f"        &{name},", "    ),"], item_lines("    ", f"D::<A, B>::new(&{name})"))
+
+    def test_imports_are_filled(self):
+        lines = filled("", "use a::", [f"name_{it}" for it in range(20)], ";")
+        self.assertTrue(all(len(it) <= 100 for it in lines))
+        self.assertEqual(("use a::{", "};"), (lines[0], lines[-1]))
+
+    def test_the_width_of_imports(self):
+        for width, count in ((98, 1), (99, 3)):
+            self.assertEqual(count, len(filled("", "use a::", ["A" * (width - 13), "B"], ";")))
+
+    def test_comments_are_wrapped(self):
+        self.assertTrue(all(len(it) <= 100 and it.startswith("    /// ") for it in comment("    ", "///", "word " * 50)))
+
+    def test_a_type_after_a_name(self):
+        self.assertEqual(["pub type A = B<C>;"], assigned("", "pub type A =", "B<C>", ";"))
+        name = "N" * 60
+        self.assertEqual([f"pub type {name} =", f"    {'B' * 40};"], assigned("", f"pub type {name} =", "B" * 40, ";"))
+        broken = [f"pub type {name} = WithSize<", f"    {'B' * 20},", "    1,", "    { usize::MAX },", ">;"]
+        self.assertEqual(broken, assigned("", f"pub type {name} =", f"WithSize<{'B' * 20}, 1, {{ usize::MAX }}>", ";"))
+
+    def test_types_are_broken_at_their_arguments(self):
+        inner = f"OneOf<{'B' * 50}, NoneOf>"
+        lines = type_lines("", "type Parts = ", f"OneOf<{'A' * 50}, {inner}>", ";")
+        self.assertEqual(["type Parts = OneOf<", f"    {'A' * 50},", f"    {inner},", ">;"], lines)
+
+
+class Alternatives(unittest.TestCase):
+    def test_places(self):
+        self.assertEqual([["This"], ["Other", "This"], ["Other", "Other", "This"]], [place(it, 3) for it in range(3)])
+        self.assertEqual([["First"], ["Fourth"], ["Later", "This"]], [place(it, 5) for it in (0, 3, 4)])
+        self.assertEqual(["Later", "Later", "Fourth"], place(11, 12))
+
+    def test_types(self):
+        self.assertEqual("OneOf<A, NoneOf>", parts_type(["A"]))
+        self.assertEqual("OneOf4<A, B, C, D, OneOf<E, NoneOf>>", parts_type(list("ABCDE")))
+
+    def test_terms_and_patterns(self):
+        self.assertEqual("Later (Later (This x))", term(["Later", "Later", "This"], "x"))
+        self.assertEqual("Later(Later(This(x)))", pattern(["Later", "Later", "This"], "x"))

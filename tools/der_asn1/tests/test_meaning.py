@@ -1,0 +1,308 @@
+"""Which type of the library each type of the notation is, and what is missing: by docs/YOUR_TYPES.md, X.680 and X.690."""
+import unittest
+
+from ..declarations import Hint
+from ..features import Feature, Level, Note
+from ..library import ANY_FIRST
+from . import Given, given, module_text
+
+# a type that is exact, and the type of the library
+EXACT = [
+    ("BOOLEAN", "bool"),
+    ("NULL", "()"),
+    ("INTEGER", "Integer"),
+    ("INTEGER { v1(0) }", "Integer"),
+    ("INTEGER (0..255)", "u8"),
+    ("INTEGER (0..65535)", "u16"),
+    ("INTEGER (0..4294967295)", "u32"),
+    ("INTEGER (0..18446744073709551615)", "u64"),
+    ("INTEGER (-128..127)", "i8"),
+    ("INTEGER (-2147483648..2147483647)", "i32"),
+    ("INTEGER (0..200)", "InRange<u8, 0, 200>"),
+    ("INTEGER (1..256)", "InRange<u16, 1, 256>"),
+    ("INTEGER (5)", "InRange<u8, 5, 5>"),
+    ("INTEGER (1 | 2 | 3..7)", "InRange<u8, 1, 7>"),
+    ("INTEGER (0..999999)", "InRange<u32, 0, 999999>"),
+    ("INTEGER (0..10) (5..20)", "InRange<u8, 5, 10>"),
+    ("INTEGER (0..10 EXCEPT 9..10)", "InRange<u8, 0, 8>"),
+    ("INTEGER (0..10, ...)", "Integer"),
+    ("INTEGER (MIN..MAX)", "Integer"),
+    ("INTEGER { top(9) } (0..top)", "InRange<u8, 0, 9>"),
+    ("OBJECT IDENTIFIER", "ObjectIdentifier"),
+    ("RELATIVE-OID", "RelativeOid"),
+    ("OCTET STRING", "ByteBuf"),
+    ("OCTET STRING (SIZE (1..20))", "WithSize<ByteBuf, 1, 20>"),
+    ("OCTET STRING (SIZE (1..20, ...))", "ByteBuf"),
+    ("BIT STRING", "BitString"),
+    ("BIT STRING (SIZE (32))", "WithSize<BitString, 32, 32>"),
+    ("BIT STRING { a(0) }", "NamedBits"),
+    ("UTF8String", "String"),
+    ("UTF8String (SIZE (1..MAX))", "WithSize<String, 1, { usize::MAX }>"),
+    ("PrintableString (SIZE (2))", "WithSize<PrintableString, 2, 2>"),
+    ("NumericString", "NumericString"),
+    ("IA5String", "Ia5String"),
+    ("VisibleString", "VisibleString"),
+    ("ISO646String", "VisibleString"),
+    ("UniversalString", "UniversalString"),
+    ("BMPString", "BmpString"),
+    ("UTCTime", "UtcTime"),
+    ("GeneralizedTime", "GeneralizedTime"),
+    ("ENUMERATED { a, ... }", "Enumerated"),
+    ("SEQUENCE OF NULL", "Vec<()>"),
+    ("SET OF NULL", "Asn1SetOf<()>"),
+    ("SEQUENCE SIZE (1..MAX) OF INTEGER", "WithSize<Vec<Integer>, 1, { usize::MAX }>"),
+    ("OCTET STRING (CONTAINING INTEGER)", "OctetStringAsn1Container<Integer>"),
+    ("OCTET STRING (CONTAINING INTEGER ENCODED BY { joint-iso-itu-t asn1(1) 2 1 })", "OctetStringAsn1Container<Integer>"),
+    ("BIT STRING (CONTAINING NULL)", "BitStringAsn1Container<()>"),
+    ("[3] NULL", "ExplicitContextTag3<()>"),
+    ("[16] NULL", "ExplicitContextTag<(), 16>"),
+    ("[3] IMPLICIT NULL", "ImplicitContextTag3<()>"),
+    ("[16] IMPLICIT INTEGER", "ImplicitContextTag<Integer, 16>"),
+    ("[3] IMPLICIT OCTET STRING (SIZE (4))", "ImplicitContextTag3<WithSize<ByteBuf, 4, 4>>"),
+    ("[3] IMPLICIT OCTET STRING (CONTAINING NULL)", "ImplicitContextTag3<OctetStringAsn1Container<()>>"),
+    ("[3] IMPLICIT SEQUENCE OF NULL", "ImplicitList3<Vec<()>>"),
+    ("[8] IMPLICIT SET OF NULL", "Retagged<Asn1SetOf<()>, 0xA8>"),
+    ("[APPLICATION 3] NULL", "ApplicationTag<(), 3>"),
+    ("[APPLICATION 3] IMPLICIT SEQUENCE OF NULL", "Retagged<Vec<()>, 0x63>"),
+    ("[APPLICATION 3] IMPLICIT OBJECT IDENTIFIER", "RetaggedPrimitive<ObjectIdentifier, 0x43>"),
+    ("[PRIVATE 3] IMPLICIT INTEGER", "RetaggedPrimitive<Integer, 0xC3>"),
+    ("[APPLICATION 3] IMPLICIT OCTET STRING", "TaggedBytes<0x43>"),
+    ("[PRIVATE 3] EXPLICIT NULL", "Retagged<((),), 0xE3>"),
+    ("[1] IMPLICIT [2] EXPLICIT NULL", "ExplicitContextTag1<()>"),
+    ("[1] IMPLICIT [2] IMPLICIT NULL", "ImplicitContextTag1<()>"),
+    ("[1] IMPLICIT [2] IMPLICIT SEQUENCE OF NULL", "ImplicitList1<Vec<()>>"),
+    ("[1] EXPLICIT [2] IMPLICIT NULL", "ExplicitContextTag1<ImplicitContextTag2<()>>"),
+    ("SEQUENCE { a NULL }", "T"),
+    ("SET { a NULL }", "Asn1Set<T>"),
+    ("[1] IMPLICIT SET { a NULL }", "RetaggedSet<T, 0xA1>"),
+    ("[1] IMPLICIT SEQUENCE { a NULL }", "ImplicitList1<T>"),
+    ("SEQUENCE {}", "WithSize<Vec<()>, 0, 0>"),
+    ("CHOICE { a NULL, b [0] NULL }", "T"),
+    ("SEQUENCE { a BOOLEAN DEFAULT FALSE, b INTEGER (0..255) DEFAULT 5 }", "T"),
+    ("SEQUENCE { a [0] BOOLEAN DEFAULT TRUE }", "T"),
+    ("SEQUENCE { a ENUMERATED { x, y } DEFAULT x }", "T"),
+    ("SEQUENCE { a INTEGER { v1(0) } (0..255) DEFAULT v1 }", "T"),
+    ("SEQUENCE { a [0] IMPLICIT INTEGER (-128..127) DEFAULT -128 }", "T"),
+    ("SEQUENCE { a INTEGER OPTIONAL, b NULL OPTIONAL }", "T"),
+]
+
+# a type that needs a type of a crate's own for it to be exact
+OWN = [
+    ("ENUMERATED { a, b }", Note.ENUMERATION),
+    ("ENUMERATED { a(-1), b }", Note.WIDE_ENUMERATION),
+    ("ENUMERATED { a(127) }", Note.ENUMERATION),
+    ("ENUMERATED { a(128) }", Note.WIDE_ENUMERATION),
+    ("INTEGER (-5..5)", Note.CONSTRAINT),
+    ("INTEGER (0..MAX)", Note.CONSTRAINT),
+    ("INTEGER (1 | 5)", Note.CONSTRAINT),
+    ("OCTET STRING (SIZE (1 | 5))", Note.CONSTRAINT),
+    ('PrintableString (FROM ("A".."Z"))', Note.ALPHABET),
+    ("GeneralString (IA5String)", Note.ALPHABET),
+    ("GraphicString", Note.ALPHABET),
+    ("BOOLEAN (TRUE)", Note.CONSTRAINT),
+    ("OCTET STRING (CONTAINING INTEGER) (SIZE (3))", Note.CONSTRAINT),
+    ("SEQUENCE { a NULL OPTIONAL } (WITH COMPONENTS { a PRESENT })", Note.CONSTRAINT),
+    ("[APPLICATION 1] IMPLICIT INTEGER (0..255)", Note.CONSTRAINT),
+    ("[APPLICATION 1] IMPLICIT NULL", Note.CONSTRAINT),
+    ("SEQUENCE { a ENUMERATED { x(500), y } DEFAULT x }", Note.DEFAULT),
+    ("TeletexString", Note.CHARACTERS),
+    ("GeneralString", Note.CHARACTERS),
+    ("INTEGER (CONSTRAINED BY {})", Note.USER_CONSTRAINT),
+]
+
+# a type that isn't exact, its level, and the feature that is missing
+MISSING = [
+    ("ANY", Level.OPEN, Feature.OPEN_ANY),
+    ("SEQUENCE { a OBJECT IDENTIFIER, b ANY DEFINED BY a OPTIONAL }", Level.OPEN, Feature.OPEN_ANY),
+    ("SEQUENCE { a NULL, ... }", Level.NEAR, Feature.EXTENSION),
+    ("CHOICE { a NULL, ... }", Level.NEAR, Feature.EXTENSION),
+    ("SEQUENCE { a INTEGER DEFAULT 0 }", Level.NEAR, Feature.DEFAULT_INTEGER),
+    ("SEQUENCE { a INTEGER { v1(0) } DEFAULT v1 }", Level.NEAR, Feature.DEFAULT_INTEGER),
+    ("SEQUENCE { a INTEGER (0..5) DEFAULT 0 }", Level.NEAR, Feature.DEFAULT_CONSTRAINED),
+    ("SEQUENCE { a INTEGER (0..65535) DEFAULT 256 }", Level.NEAR, Feature.DEFAULT_CONSTRAINED),
+    ("SEQUENCE { a BIT STRING { x(0) } DEFAULT {} }", Level.NEAR, Feature.DEFAULT_OTHER),
+    ("OCTET STRING (CONTAINING INTEGER ENCODED BY { 2 1 1 })", Level.NEAR, Feature.ENCODING),
+    ("BIT STRING { a(0) } (SIZE (1..9))", Level.NEAR, Feature.NAMED_BITS_SIZE),
+    ("INTEGER (0..missing)", Level.NEAR, Feature.UNKNOWN_BOUND),
+    ("REAL", Level.RAW, Feature.RARE),
+    ("SEQUENCE { a REAL }", Level.PARTLY_RAW, Feature.RARE),
+    ("SEQUENCE { a Missing }", Level.PARTLY_RAW, Feature.UNDEFINED),
+    ("SEQUENCE { a T OPTIONAL }", Level.PARTLY_RAW, Feature.RECURSION),
+    ("[31] NULL", Level.REFUSED, Feature.LONG_TAG),
+    ("SEQUENCE { a [31] NULL }", Level.RAW, Feature.LONG_TAG),
+    ("SEQUENCE { a NULL OPTIONAL, b NULL }", Level.RAW, Feature.AMBIGUOUS),
+    ("CHOICE { a NULL, b NULL }", Level.RAW, Feature.AMBIGUOUS),
+    ("SET { a CHOICE { x BOOLEAN, y NULL }, b INTEGER }", Level.RAW, Feature.SET_ORDER),
+    ("[APPLICATION 1] IMPLICIT UTF8String", Level.RAW, Feature.FOREIGN_TAG),
+    ("INTEGER (1..0)", Level.RAW, Feature.NO_VALUES),
+    ("EXTERNAL", Level.OPEN, Feature.OPEN_ANY),
+]
+
+
+class Tables(unittest.TestCase):
+    def test_exact_types(self):
+        for notation, text in EXACT:
+            with self.subTest(notation):
+                one = given(f"T ::= {notation}")
+                assignment, module = one.assignment("T")
+                found = one.meanings.of_type(assignment.type, one.program.scope_of(module), Hint("T"))
+                self.assertEqual((text, Level.EXACT, frozenset()), (found.rust.text, found.level, found.features))
+                self.assertEqual([], one.problems.found)
+
+    def test_types_of_ones_own(self):
+        for notation, note in OWN:
+            with self.subTest(notation):
+                found = given(f"T ::= {notation}").meaning("T")
+                self.assertEqual(Level.EXACT, found.level)
+                self.assertIn(note, found.notes)
+
+    def test_missing_features(self):
+        for notation, level, feature in MISSING:
+            with self.subTest(notation):
+                found = given(f"T ::= {notation}").meaning("T")
+                self.assertEqual((level, {feature}), (found.level, set(found.features)))
+
+
+class Sets(unittest.TestCase):
+    def test_the_order_of_the_text_doesnt_matter(self):
+        self.assertEqual(Level.EXACT, given("T ::= SET { b [1] NULL, a INTEGER, c [APPLICATION 0] NULL }").meaning("T").level)
+
+    def test_a_choice_between_its_neighbours_is_in_order(self):
+        found = given("T ::= SET { a BOOLEAN, b CHOICE { x INTEGER, y NULL }, c OBJECT IDENTIFIER }").meaning("T")
+        self.assertEqual(Level.EXACT, found.level)
+
+
+class Parts(unittest.TestCase):
+    def test_a_type_is_as_good_as_its_parts(self):
+        one = given("T ::= SEQUENCE { a U, b V }\nU ::= ANY\nV ::= SEQUENCE { a NULL, ... }")
+        self.assertEqual({Feature.OPEN_ANY, Feature.EXTENSION}, one.meaning("T").features)
+        self.assertEqual(Level.OPEN, one.meaning("T").level)
+
+    def test_what_is_raw_is_a_raw_part(self):
+        one = given("T ::= SEQUENCE { a U }\nU ::= REAL")
+        self.assertEqual((Level.RAW, Level.PARTLY_RAW), (one.meaning("U").level, one.meaning("T").level))
+
+    def test_constraints_after_a_name(self):
+        one = given("T ::= U (0..255)\nU ::= INTEGER")
+        assignment, module = one.assignment("T")
+        self.assertEqual("u8", one.meanings.of_type(assignment.type, one.program.scope_of(module), Hint("T")).rust.text)
+
+    def test_constraints_below_a_tag(self):
+        one = given("T ::= U (0..255)\nU ::= [2] IMPLICIT INTEGER")
+        assignment, module = one.assignment("T")
+        self.assertEqual("ImplicitContextTag2<u8>", one.meanings.of_type(assignment.type, one.program.scope_of(module), Hint("T")).rust.text)
+
+    def test_an_optional_member_may_be_followed_by_one_of_another_tag(self):
+        self.assertEqual(Level.EXACT, given("T ::= SEQUENCE { a NULL OPTIONAL, b INTEGER, c NULL OPTIONAL }").meaning("T").level)
+
+    def test_an_open_type_that_may_be_absent_is_last(self):
+        self.assertEqual({Feature.OPEN_ANY}, given("T ::= SEQUENCE { a NULL, b ANY OPTIONAL }").meaning("T").features)
+        found = given("T ::= SEQUENCE { a ANY OPTIONAL, b NULL }").meaning("T")
+        self.assertEqual((Level.RAW, {Feature.OPEN_ANY, Feature.AMBIGUOUS}), (found.level, found.features))
+
+    def test_a_place_of_what_cant_be_distinguished(self):
+        one = given("T ::= SEQUENCE {\n  a NULL OPTIONAL,\n  b CHOICE { x NULL, y INTEGER }\n}")
+        one.meaning("T")
+        text = "`a` may be absent, and `b`, which may come in its place, can begin with the same tag"
+        self.assertEqual([f"0.asn1:3:3: warning: {text} (X.680, 25.6)"], [str(it) for it in one.problems.found])
+
+    def test_a_place_of_alternatives_that_cant_be_distinguished(self):
+        one = given("T ::= CHOICE {\n  a NULL,\n  b NULL\n}")
+        one.meaning("T")
+        self.assertEqual(
+            ["0.asn1:4:3: warning: `b` can begin with the same tag as an alternative before it (X.680, 29.3)"],
+            [str(it) for it in one.problems.found],
+        )
+
+    def test_a_recursion_keeps_the_tag_of_its_edge(self):
+        one = given("T ::= CHOICE { a [0] IMPLICIT SET OF T, b [1] NULL }")
+        self.assertEqual(({Feature.RECURSION}, Level.PARTLY_RAW), (set(one.meaning("T").features), one.meaning("T").level))
+        self.assertEqual({0xA0, 0xA1}, one.meaning("T").rust.firsts)
+
+    def test_a_module_that_isnt_given(self):
+        one = Given("M DEFINITIONS ::= BEGIN IMPORTS U FROM N; T ::= SEQUENCE { a U } END")
+        self.assertEqual(({Feature.IMPORT}, ANY_FIRST), (set(one.meaning("T").features), frozenset(range(256)) & ANY_FIRST))
+        self.assertEqual([], one.problems.found)
+
+    def test_additions_may_be_absent(self):
+        one = given("T ::= SEQUENCE { a NULL, ..., [[2: b INTEGER ]], c [0] NULL }")
+        self.assertEqual({Feature.EXTENSION}, one.meaning("T").features)
+
+    def test_implied_extensibility(self):
+        found = given("T ::= SEQUENCE { a NULL }", "AUTOMATIC TAGS EXTENSIBILITY IMPLIED").meaning("T")
+        self.assertEqual({Feature.EXTENSION}, found.features)
+
+
+class Parameters(unittest.TestCase):
+    def test_a_type(self):
+        one = given("Signed { ToBeSigned } ::= SEQUENCE { it ToBeSigned, signature BIT STRING }\nT ::= Signed { INTEGER }\nU ::= Signed { ANY }")
+        self.assertEqual((Level.EXACT, Level.OPEN), (one.meaning("T").level, one.meaning("U").level))
+
+    def test_a_bound(self):
+        one = given("Text { INTEGER : top } ::= UTF8String (SIZE (1..top))\nT ::= SEQUENCE { a Text { 5 } }")
+        assignment, module = one.assignment("T")
+        member = assignment.type.members[0].type
+        found = one.meanings.of_type(member, one.program.scope_of(module), Hint("a"))
+        self.assertEqual(Level.EXACT, found.level)
+
+    def test_a_parameter_of_a_parameter(self):
+        one = given("A { X } ::= B { X }\nB { Y } ::= SEQUENCE { a Y }\nT ::= A { REAL }")
+        self.assertEqual({Feature.RARE}, one.meaning("T").features)
+
+    def test_names_in_arguments_are_of_the_module_that_gives_them(self):
+        two = Given(
+            "M DEFINITIONS ::= BEGIN IMPORTS A FROM N; T ::= A { Own } Own ::= BOOLEAN END",
+            "N DEFINITIONS ::= BEGIN A { X } ::= SEQUENCE { a X } Own ::= REAL END",
+        )
+        self.assertEqual(Level.EXACT, two.meaning("T").level)
+
+
+class OpenTypes(unittest.TestCase):
+    BODY = """ALGORITHM ::= CLASS { &id OBJECT IDENTIFIER UNIQUE, &Type OPTIONAL } WITH SYNTAX { OID &id [PARMS &Type] }
+Known ALGORITHM ::= { { OID { 1 2 3 } PARMS NULL }, ... }
+Only ALGORITHM ::= { { OID { 1 2 3 } PARMS NULL } }
+"""
+
+    def meaning(self, notation):
+        return given(f"{self.BODY}T ::= {notation}").meaning("T")
+
+    def test_an_identifier_of_a_set_that_others_join(self):
+        found = self.meaning("ALGORITHM.&id ({Known})")
+        self.assertEqual((Level.EXACT, frozenset()), (found.level, found.notes))
+
+    def test_an_identifier_of_a_closed_set(self):
+        self.assertEqual({Note.CONSTRAINT}, self.meaning("ALGORITHM.&id ({Only})").notes)
+
+    def test_a_type_by_a_table(self):
+        found = self.meaning("SEQUENCE { a ALGORITHM.&id ({Known}), b ALGORITHM.&Type ({Known}{@a}) OPTIONAL }")
+        self.assertEqual(({Feature.OPEN_TABLE}, Level.OPEN), (set(found.features), found.level))
+
+    def test_a_type_without_a_table(self):
+        self.assertEqual({Feature.OPEN_ANY}, self.meaning("ALGORITHM.&Type").features)
+
+    def test_a_set_that_is_a_parameter(self):
+        body = f"""{self.BODY}AlgorithmIdentifier {{ ALGORITHM : Set }} ::= SEQUENCE {{
+            algorithm ALGORITHM.&id ({{Set}}), parameters ALGORITHM.&Type ({{Set}}{{@algorithm}}) OPTIONAL }}
+T ::= AlgorithmIdentifier {{ {{Known}} }}
+U ::= AlgorithmIdentifier {{ {{...}} }}"""
+        one = given(body)
+        self.assertEqual(({Feature.OPEN_TABLE}, {Feature.OPEN_ANY}), (one.meaning("T").features, one.meaning("U").features))
+
+    def test_a_type_that_a_constraint_fixes(self):
+        found = self.meaning("TYPE-IDENTIFIER.&Type (INTEGER)")
+        self.assertEqual((Level.EXACT, True), (found.level, found.rust.is_open))
+
+    def test_instance_of(self):
+        self.assertEqual({Feature.OPEN_ANY}, self.meaning("INSTANCE OF TYPE-IDENTIFIER").features)
+
+    def test_implicit_over_an_open_type_is_explicit(self):
+        found = self.meaning("[2] IMPLICIT ALGORITHM.&Type")
+        self.assertEqual({0xA2}, found.rust.firsts)
+
+
+class Selection(unittest.TestCase):
+    def test_of_an_alternative(self):
+        one = Given(module_text("C ::= CHOICE { a INTEGER, b REAL }\nT ::= a < C\nU ::= c < C"))
+        self.assertEqual(Level.EXACT, one.meaning("T").level)
+        one.meaning("U")
+        self.assertEqual(["0.asn1:4:7: error: there is no alternative `c` (X.680, 30.3)"], [str(it) for it in one.problems.found])

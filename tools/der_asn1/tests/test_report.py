@@ -1,0 +1,162 @@
+"""The table, the list of missing features, and the command line."""
+import contextlib
+import io
+import os
+import tempfile
+import unittest
+
+from .. import command, report
+from ..features import Level
+from ..parse_modules import read_text
+from ..source import Problems
+from . import module_text
+
+RARE = "REAL, EMBEDDED PDV and CHARACTER STRING"
+OWN = "an enum of its own with numbers of more than a byte"
+
+BODY = """A ::= BOOLEAN
+B ::= SEQUENCE { a ANY, ... }
+C ::= ANY
+D ::= SEQUENCE { a REAL }
+E ::= [31] NULL
+F { X } ::= SEQUENCE { a X }
+G ::= 5
+v INTEGER ::= 5
+CLASS-A ::= CLASS { &id INTEGER }"""
+
+
+class Reports(unittest.TestCase):
+    def setUp(self):
+        problems = Problems()
+        self.found = report.report_of(read_text(module_text(BODY), "m.asn1", problems), problems)
+
+    def test_a_row_for_each_type(self):
+        wanted = [("A", Level.EXACT), ("B", Level.OPEN), ("C", Level.OPEN), ("D", Level.PARTLY_RAW), ("E", Level.REFUSED), ("G", Level.REFUSED)]
+        self.assertEqual(wanted, [(it.name, it.level) for it in self.found.rows])
+
+    def test_what_isnt_counted(self):
+        self.assertEqual((1, 1), (self.found.templates, self.found.values))
+
+    def test_the_table(self):
+        first, module, total = report.table(self.found)
+        self.assertEqual("types exact near open partly raw raw refused".split(), first.split())
+        self.assertEqual("M 6 1 0 2 1 0 2".split(), module.split())
+        self.assertEqual("in all 6 1 0 2 1 0 2".split(), total.split())
+
+    def test_the_greedy_list(self):
+        self.assertEqual(["1", "2", "3", "4", "5"], [it.split()[0] for it in report.greedy(self.found)])
+        self.assertIn("open types without a table", report.greedy(self.found)[1])
+
+    def test_how_many_each_feature_stops(self):
+        lines = report.features_table(self.found)
+        self.assertEqual(["2", "1", "open"], lines[1].split()[:3])
+
+    def test_a_line_for_each_type(self):
+        self.assertIn("M.A: exact, A", report.types_table(self.found))
+        self.assertIn("M.E: refused, no type; tags with a number above 30", report.types_table(self.found))
+
+    def test_shares(self):
+        self.assertEqual("1 of 4 (25.0 %)", report.share(1, 4))
+        self.assertEqual("0 of 0 (0.0 %)", report.share(0, 0))
+
+
+class Command(unittest.TestCase):
+    def run_on(self, texts, *options):
+        """The status, the output and the errors of the command over files with these texts."""
+        with tempfile.TemporaryDirectory() as folder:
+            paths = []
+            for name, text in texts.items():
+                paths.append(os.path.join(folder, name))
+                with open(paths[-1], "w", encoding="utf-8") as it:
+                    it.write(text)
+            words = [it.replace("{folder}", folder) for it in options]
+            out, err = io.StringIO(), io.StringIO()
+            with contextlib.redirect_stdout(out), contextlib.redirect_stderr(err):
+                status = command.main([*words, *(it for it in paths if not any(it in word for word in words))])
+            return status, out.getvalue(), err.getvalue().replace(folder + os.sep, "")
+
+    def test_a_module(self):
+        status, out, err = self.run_on({"m.asn1": module_text("T ::= NULL")}, "--report")
+        self.assertEqual((0, ""), (status, err))
+        self.assertIn("1 of 1 (100.0 %) exact\n", out)
+
+    def test_an_error_has_its_place(self):
+        status, out, err = self.run_on({"m.asn1": module_text("T ::= 5\nU ::= NULL")}, "--report")
+        self.assertEqual((1, "m.asn1:2:7: error: expected a type, found `5` (X.680, 17.1)\n"), (status, err))
+        self.assertIn("1 of 2 (50.0 %) exact\n", out)
+
+    def test_a_file_that_cant_be_read_on(self):
+        status, _, err = self.run_on({"m.asn1": "M"}, "--report")
+        self.assertEqual((1, "m.asn1:1:2: error: expected `DEFINITIONS`, found the end of the file (X.680, 13.1)\n"), (status, err))
+
+    def test_strict(self):
+        texts = {"m.asn1": module_text("T ::= SEQUENCE { A NULL }")}
+        self.assertEqual(0, self.run_on(texts, "--report")[0])
+        status, _, err = self.run_on(texts, "--report", "--strict")
+        self.assertEqual((1, "m.asn1:2:18: error: the name begins with a small letter: `A` (X.680, 12.3)\n"), (status, err))
+
+    def test_an_import(self):
+        texts = {
+            "m.asn1": "M DEFINITIONS ::= BEGIN IMPORTS U FROM N; T ::= SEQUENCE { a U } END",
+            "n.asn1": "N DEFINITIONS ::= BEGIN U ::= NULL V ::= REAL END",
+        }
+        _, out, _ = self.run_on(texts, "--report", "--import", "{folder}/n.asn1")
+        self.assertIn("1 of 1 (100.0 %) exact\n", out)
+
+    def test_types(self):
+        _, out, _ = self.run_on({"m.asn1": module_text("T ::= NULL")}, "--report", "--types")
+        self.assertIn("M.T: exact, T\n", out)
+
+    def test_a_crate_is_written_and_checked(self):
+        with tempfile.TemporaryDirectory() as folder:
+            out = os.path.join(folder, "mine")
+            texts = {"m.asn1": module_text("T ::= SEQUENCE { a U } U ::= INTEGER V ::= NULL\nid OBJECT IDENTIFIER ::= { 2 5 }")}
+            self.assertEqual(1, self.run_on(texts, "--out", out, "--check")[0])
+            status, printed, _ = self.run_on(texts, "--out", out)
+            self.assertEqual((0, "mine: der_types picky_asn1_der picky_der_core picky_der_ser picky_der_de\n"), (status, printed))
+            self.assertEqual(["aliases.rt", "lib.rt", "t.rt", "values.rt"], sorted(os.listdir(os.path.join(out, "src"))))
+            self.assertEqual((0, "", ""), self.run_on(texts, "--out", out, "--check"))
+            open(os.path.join(out, "src", "other.rt"), "w", encoding="utf-8").close()
+            self.assertEqual((1, f"{out}/src/other.rt isn't what would be written\n", ""), self.run_on(texts, "--out", out, "--check"))
+            os.remove(os.path.join(out, "src", "other.rt"))
+            with open(os.path.join(out, "src", "t.rt"), "a", encoding="utf-8") as it:
+                it.write("\n")
+            self.assertEqual((1, f"{out}/src/t.rt isn't what would be written\n", ""), self.run_on(texts, "--out", out, "--check"))
+
+    def test_some_types_of_a_crate(self):
+        with tempfile.TemporaryDirectory() as folder:
+            texts = {"m.asn1": module_text("T ::= SEQUENCE { a U } U ::= SEQUENCE { a NULL } V ::= REAL")}
+            self.assertEqual(0, self.run_on(texts, "--out", folder, "--type", "T")[0])
+            self.assertEqual(["lib.rt", "t.rt", "u.rt"], sorted(os.listdir(os.path.join(folder, "src"))))
+
+    def test_types_that_are_called_the_same_in_rust(self):
+        with tempfile.TemporaryDirectory() as folder:
+            texts = {"m.asn1": module_text("TYPED-DATA ::= SEQUENCE { a TypedData }\nTypedData ::= NULL")}
+            _, _, err = self.run_on(texts, "--out", folder)
+            text = "`TYPED-DATA` is called `TypedData2`, since another type is called `TypedData`"
+            self.assertEqual(f"m.asn1:2:16: warning: {text} (docs/ASN1.md)\n", err)
+
+    def test_what_a_crate_refuses(self):
+        for notation, options, wanted in (
+            ("T ::= REAL", [], f"2:1: error: `T` would be kept as bytes, or a part of it: {RARE}. `--allow-raw` allows it"),
+            ("T ::= ENUMERATED { a(128) }", [], f"2:1: error: `T` would have more values than the notation: {OWN}. `--allow-wider` allows it"),
+            ("T ::= [31] NULL", [], "2:1: error: `T` has no type: tags with a number above 30"),
+            ("T ::= NULL", ["--type", "U"], "1:1: error: no module has a type `U`"),
+            ("T ::= SEQUENCE { " + ", ".join(f"a{it} [{it % 30}] NULL" for it in range(33)) + " }", [], "2:7: error: `T` has more than 32 members"),
+        ):
+            with self.subTest(notation), tempfile.TemporaryDirectory() as folder:
+                status, _, err = self.run_on({"m.asn1": module_text(notation)}, "--out", folder, *options)
+                self.assertEqual((1, f"m.asn1:{wanted}"), (status, err.rsplit(" (", 1)[0]))
+                self.assertEqual([], os.listdir(folder))
+
+    def test_what_a_crate_allows(self):
+        raw, wider = ("T ::= REAL", "--allow-raw", "TaggedBytes<0x09>"), ("T ::= ENUMERATED { a(128) }", "--allow-wider", "Enumerated")
+        for notation, option, wanted in (raw, wider):
+            with self.subTest(notation), tempfile.TemporaryDirectory() as folder:
+                self.assertEqual(0, self.run_on({"m.asn1": module_text(notation)}, "--out", folder, option)[0])
+                with open(os.path.join(folder, "src", "aliases.rt"), encoding="utf-8") as it:
+                    self.assertIn(f"pub type T = {wanted};\n", it.read())
+
+    def test_the_same_input_gives_the_same_output(self):
+        texts = {"m.asn1": module_text(BODY)}
+        self.assertEqual(self.run_on(texts, "--report")[1], self.run_on(texts, "--report")[1])
