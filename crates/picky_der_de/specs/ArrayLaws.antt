@@ -72,4 +72,4 @@ module _ {V : Type 0} (meaning : V → Tree) (s : Shape) (n : ℕ) where
       let x = there (length xs == n) (trees (map meaning xs)) r.1 in
       let y = there (length ys == n) (trees (map meaning ys)) (subst AreReadable f r.1) in
       list_injective meaning s eq known {k = ListKind.sequence} {l = ListKind.sequence} xs ys (slots_each n s _ (subst (AreMembersOf (times n s)) x p.1)) (slots_each n s _ (subst (AreMembersOf (times n s)) y q.1)) (subst AreReadable x r.1)
-        (ap (Tree.list ListKind.sequence) (sym x ∙ f ∙ y))
+      (ap (Tree.list ListKind.sequence) (sym x ∙ f ∙ y))
