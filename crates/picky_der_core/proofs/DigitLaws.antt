@@ -6,8 +6,8 @@ use Rattle.std.proofs.Math.Nat.{pow-le-pow_right, pow-zero}
 use Rattle.std.proofs.lemmas.Bool.{cases_lt, eqb-false}
 use Rattle.std.proofs.lemmas.Int.Digits.{number_push}
 use Rattle.std.proofs.lemmas.List.{map_more, length-map, drop-map}
-use Rattle.picky_der_core.specs.Encoding.{unsigned_content}
-use Rattle.picky_der_core.specs.Shape.{AreBytes}
+use Rattle.picky_der_core.specs.Element.{AreBytes}
+use Rattle.picky_der_core.specs.Primitive.{unsigned_content}
 use Rattle.picky_der_core.specs.Integer.{is_integer, is_negative, turned_byte, turned_if, behind_sign, integer_content, content_bits, integer_value}
 use Rattle.picky_der_core.specs.IntegerLaws.{content-value, value-content}
 

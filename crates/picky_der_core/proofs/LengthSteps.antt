@@ -9,10 +9,9 @@ use Rattle.std.proofs.lemmas.Int.Digits.{number_push, number_lt}
 use Rattle.std.proofs.Math.Nat.{pow-le-pow_right}
 use Rattle.picky_der_core.specs.declared.error.Asn1DerError.{Asn1DerError}
 use Rattle.picky_der_core.specs.declared.error.Asn1DerError.TheVariants.{TruncatedData, InvalidData}
-use Rattle.picky_der_core.specs.Element.{length_octets, IsPrefix}
+use Rattle.picky_der_core.specs.Element.{length_octets, IsPrefix, AreBytes}
 use Rattle.picky_der_core.specs.ElementLaws.{bytes_then}
 use Rattle.picky_der_core.specs.Error.{error_of_kind}
-use Rattle.picky_der_core.specs.Shape.{AreBytes}
 use Rattle.picky_der_core.specs.Faults.{Fault}
 use Rattle.picky_der_core.specs.Reader.{IsFaultOrEnd}
 use Rattle.picky_der_core.specs.ReaderLaws.{not_more}

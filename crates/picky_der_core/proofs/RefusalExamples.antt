@@ -1,7 +1,8 @@
 -- Worked examples of refusals: the definitions compute them.
 use Rattle.std.proofs.Common.{◌≡◌, true, false, [], ◌∷◌, replicate, refl, Some, None, Ok, Err}
 use Rattle.picky_der_core.specs.declared.error.Asn1DerError.TheVariants.{TruncatedData, InvalidData, UnsupportedValue}
-use Rattle.picky_der_core.specs.Refusal.{length_of, error_of, plain_refusal, inside_refusal, header_refusal, numbered_header, refusal_of, element_refusal, boolean_error, unsigned_error, null_error, text_error, character_error, bytes_error}
+use Rattle.picky_der_core.specs.declared.asn1.wrapper.Wrapper.TheVariants.{Explicit}
+use Rattle.picky_der_core.specs.Refusal.{length_of, error_of, plain_refusal, inside_refusal, header_refusal, wrapper_header, refusal_of, element_refusal, boolean_error, unsigned_error, null_error, text_error, character_error, bytes_error}
 use Rattle.picky_der_core.proofs.OnLiterals.{text_on_literals}
 
 -- ---- lengths
@@ -130,7 +131,7 @@ sequence_header = refl
 sequence_header_alone : error_of (header_refusal 0x30 false 5 (0x30 ∷ 0x03 ∷ [])) ≡ None
 sequence_header_alone = refl
 
-explicit_of_32 : refusal_of (numbered_header 0xA0 32 false 2 (0xC0 ∷ 0x00 ∷ [])) ≡ Some (UnsupportedValue, 0xC0 ∷ 0x00 ∷ [])
+explicit_of_32 : refusal_of (wrapper_header (Explicit 32) false 2 (0xC0 ∷ 0x00 ∷ [])) ≡ Some (UnsupportedValue, 0xC0 ∷ 0x00 ∷ [])
 explicit_of_32 = refl
 
 raw_of_long_tag : error_of (element_refusal false 4 (0x1F ∷ 0x81 ∷ 0x00 ∷ 0x00 ∷ [])) ≡ Some UnsupportedValue

@@ -1,5 +1,7 @@
 -- Worked examples of shapes, and what the laws would fail without.
 use Rattle.std.proofs.Common.{◌≡◌, ℕ, false, List, [], ◌∷◌, ◌++◌, inl, inr, refl, arith}
+use Rattle.picky_der_core.specs.declared.asn1.wrapper.Wrapper.TheVariants.{Implicit}
+use Rattle.picky_der_core.specs.Primitive.{Primitive, PrimitiveShape}
 use Rattle.picky_der_core.specs.Tree.{ListKind, Tree, trees}
 use Rattle.picky_der_core.specs.Order.{is_less}
 use Rattle.picky_der_core.specs.OrderLaws.{IsSortedBy-one, IsSortedBy-cons, IsSortedBy-broken}
@@ -10,26 +12,26 @@ use Rattle.picky_der_core.proofs.OnLiterals.{der_on_literals}
 
 -- ---- choices that are told by the first byte, and one that isn't
 
-number_or_flag : IsSound (Shape.choice (shapes (Shape.unsigned 255 ∷ Shape.boolean ∷ [])))
+number_or_flag : IsSound (Shape.choice (shapes (Shape.primitive (PrimitiveShape.unsigned 255) ∷ (Shape.primitive PrimitiveShape.boolean) ∷ [])))
 number_or_flag = ((tt, (tt, tt)), (refl, (refl, tt)))
 
-raw_or_long_tag : IsSound (Shape.choice (shapes (Shape.raw ∷ Shape.bytes 0x1F ∷ [])))
+raw_or_long_tag : IsSound (Shape.choice (shapes (Shape.raw ∷ Shape.primitive (PrimitiveShape.bytes 0x1F) ∷ [])))
 unfolding tags_below
 raw_or_long_tag = ((tt, (tt, tt)), (refl, (refl, tt)))
 
-two_numbers : IsSound (Shape.choice (shapes (Shape.unsigned 255 ∷ Shape.unsigned 65535 ∷ []))) → ⊥
+two_numbers : IsSound (Shape.choice (shapes (Shape.primitive (PrimitiveShape.unsigned 255) ∷ Shape.primitive (PrimitiveShape.unsigned 65535) ∷ []))) → ⊥
 two_numbers sound = let untold = sound.1.0 in cc
 
 -- ---- a struct of a number, bytes, and a pair
 
 abbrev struct : Tree
-struct = Tree.list ListKind.sequence (trees (Tree.unsigned 7 ∷ Tree.bytes 0x04 (0x54 ∷ 0x65 ∷ []) ∷ Tree.list ListKind.sequence (trees (Tree.unsigned 4 ∷ Tree.null ∷ [])) ∷ []))
+struct = Tree.list ListKind.sequence (trees (Tree.primitive (Primitive.unsigned 7) ∷ Tree.primitive (Primitive.bytes 0x04 (0x54 ∷ 0x65 ∷ [])) ∷ Tree.list ListKind.sequence (trees (Tree.primitive (Primitive.unsigned 4) ∷ (Tree.primitive Primitive.null) ∷ [])) ∷ []))
 
 abbrev pair_shape : Shape
-pair_shape = Shape.fields ListKind.sequence (Layout.required (Shape.unsigned 0xFFFF_FFFF_FFFF_FFFF) (Layout.required Shape.null Layout.empty))
+pair_shape = Shape.fields ListKind.sequence (Layout.required (Shape.primitive (PrimitiveShape.unsigned 0xFFFF_FFFF_FFFF_FFFF)) (Layout.required (Shape.primitive PrimitiveShape.null) Layout.empty))
 
 abbrev struct_shape : Shape
-struct_shape = Shape.fields ListKind.sequence (Layout.required (Shape.unsigned 255) (Layout.required (Shape.bytes 0x04) (Layout.required pair_shape Layout.empty)))
+struct_shape = Shape.fields ListKind.sequence (Layout.required (Shape.primitive (PrimitiveShape.unsigned 255)) (Layout.required (Shape.primitive (PrimitiveShape.bytes 0x04)) (Layout.required pair_shape Layout.empty)))
 
 struct_is_of : IsOf struct_shape struct
 struct_is_of = ((refl, ((omega arith, omega arith), ((refl, (omega arith, (omega arith, tt))), ((refl, ((omega arith, omega arith), (tt, tt))), tt)))))
@@ -40,35 +42,35 @@ struct_is_readable = (tt, (tt, ((omega arith, (omega arith, (omega arith, tt))),
 -- ---- a struct of an identifier, a flag that may be missing, and bytes
 
 abbrev flagged_shape : Shape
-flagged_shape = Shape.fields ListKind.sequence (Layout.required (Shape.bytes 0x06) (Layout.maybe Shape.boolean (Layout.required (Shape.bytes 0x04) Layout.empty)))
+flagged_shape = Shape.fields ListKind.sequence (Layout.required (Shape.primitive (PrimitiveShape.bytes 0x06)) (Layout.maybe (Shape.primitive PrimitiveShape.boolean) (Layout.required (Shape.primitive (PrimitiveShape.bytes 0x04)) Layout.empty)))
 
 flagged_is_sound : IsSound flagged_shape
 flagged_is_sound = ((tt, (tt, (tt, tt))), (refl, tt))
 
-flagged_is_of : IsOf flagged_shape (Tree.list ListKind.sequence (trees (Tree.bytes 0x06 [] ∷ Tree.boolean false ∷ Tree.bytes 0x04 [] ∷ [])))
+flagged_is_of : IsOf flagged_shape (Tree.list ListKind.sequence (trees (Tree.primitive (Primitive.bytes 0x06 []) ∷ Tree.primitive (Primitive.boolean false) ∷ Tree.primitive (Primitive.bytes 0x04 []) ∷ [])))
 flagged_is_of = (refl, ((refl, tt), inl (tt, ((refl, tt), tt))))
 
-unflagged_is_of : IsOf flagged_shape (Tree.list ListKind.sequence (trees (Tree.bytes 0x06 [] ∷ Tree.bytes 0x04 [] ∷ [])))
+unflagged_is_of : IsOf flagged_shape (Tree.list ListKind.sequence (trees (Tree.primitive (Primitive.bytes 0x06 []) ∷ Tree.primitive (Primitive.bytes 0x04 []) ∷ [])))
 unflagged_is_of = (refl, ((refl, tt), inr ((refl, tt), tt)))
 
 -- ---- members that may be missing and aren't told: from the next one, and from the one behind another that may be missing
 
-untold_member : IsSound (Shape.fields ListKind.sequence (Layout.maybe (Shape.unsigned 255) (Layout.required (Shape.unsigned 65535) Layout.empty))) → ⊥
+untold_member : IsSound (Shape.fields ListKind.sequence (Layout.maybe (Shape.primitive (PrimitiveShape.unsigned 255)) (Layout.required (Shape.primitive (PrimitiveShape.unsigned 65535)) Layout.empty))) → ⊥
 untold_member sound = let untold = sound.1.0 in cc
 
-untold_behind : IsSound (Shape.fields ListKind.sequence (Layout.maybe Shape.null (Layout.maybe Shape.boolean (Layout.required Shape.null Layout.empty)))) → ⊥
+untold_behind : IsSound (Shape.fields ListKind.sequence (Layout.maybe (Shape.primitive PrimitiveShape.null) (Layout.maybe (Shape.primitive PrimitiveShape.boolean) (Layout.required (Shape.primitive PrimitiveShape.null) Layout.empty)))) → ⊥
 untold_behind sound = let untold = sound.1.0 in cc
 
 -- behind a member that is always there it may come again
-told_behind_required : IsSound (Shape.fields ListKind.sequence (Layout.maybe Shape.null (Layout.required Shape.boolean (Layout.maybe Shape.null Layout.empty))))
+told_behind_required : IsSound (Shape.fields ListKind.sequence (Layout.maybe (Shape.primitive PrimitiveShape.null) (Layout.required (Shape.primitive PrimitiveShape.boolean) (Layout.maybe (Shape.primitive PrimitiveShape.null) Layout.empty))))
 told_behind_required = ((tt, (tt, (tt, tt))), (refl, (refl, tt)))
 
 -- ---- alternatives that aren't told: null, and an element
 
 abbrev null_or_raw : Shape
-null_or_raw = Shape.choice (shapes (Shape.null ∷ Shape.raw ∷ []))
+null_or_raw = Shape.choice (shapes ((Shape.primitive PrimitiveShape.null) ∷ Shape.raw ∷ []))
 
-as_null : IsOf null_or_raw (Tree.choice Tree.null)
+as_null : IsOf null_or_raw (Tree.choice (Tree.primitive Primitive.null))
 as_null = inl tt
 
 as_raw : IsOf null_or_raw (Tree.choice (Tree.raw (0x05 ∷ 0x00 ∷ [])))
@@ -78,19 +80,19 @@ raw_is_readable : IsReadable (Tree.choice (Tree.raw (0x05 ∷ 0x00 ∷ [])))
 unfolding der_on_literals
 raw_is_readable = (record { tag = 0x05; content = []; number = omega arith; is = refl }, (omega arith, (omega arith, tt)))
 
-same_encoding : der (Tree.choice Tree.null) ≡ der (Tree.choice (Tree.raw (0x05 ∷ 0x00 ∷ [])))
+same_encoding : der (Tree.choice (Tree.primitive Primitive.null)) ≡ der (Tree.choice (Tree.raw (0x05 ∷ 0x00 ∷ [])))
 unfolding der_on_literals
 same_encoding = refl
 
 -- ---- a choice directly under an implicit tag: its first byte isn't there
 
-no_first_byte : der (Tree.implicit 1 (Tree.choice (Tree.boolean false))) ≡ der (Tree.implicit 1 (Tree.choice (Tree.unsigned 0)))
+no_first_byte : der (Tree.wrapped (Implicit 1) (Tree.choice (Tree.primitive (Primitive.boolean false)))) ≡ der (Tree.wrapped (Implicit 1) (Tree.choice (Tree.primitive (Primitive.unsigned 0))))
 unfolding der_on_literals
 no_first_byte = refl
 
 -- ---- a plain value that needn't fill its implicit tag
 
-begins_another : implicit_content (Tree.unsigned 7) ++ (0x07 ∷ []) ≡ implicit_content (Tree.unsigned 0x0707)
+begins_another : implicit_content (Tree.primitive (Primitive.unsigned 7)) ++ (0x07 ∷ []) ≡ implicit_content (Tree.primitive (Primitive.unsigned 0x0707))
 unfolding der_on_literals
 begins_another = refl
 
@@ -103,10 +105,10 @@ no_element = refl
 -- ---- a set in two orders, of which one is readable
 
 abbrev ascending_set : Tree
-ascending_set = Tree.list ListKind.set (trees (Tree.unsigned 3 ∷ Tree.unsigned 5 ∷ Tree.unsigned 5 ∷ []))
+ascending_set = Tree.list ListKind.set (trees (Tree.primitive (Primitive.unsigned 3) ∷ Tree.primitive (Primitive.unsigned 5) ∷ Tree.primitive (Primitive.unsigned 5) ∷ []))
 
 abbrev other_set : Tree
-other_set = Tree.list ListKind.set (trees (Tree.unsigned 5 ∷ Tree.unsigned 3 ∷ Tree.unsigned 5 ∷ []))
+other_set = Tree.list ListKind.set (trees (Tree.primitive (Primitive.unsigned 5) ∷ Tree.primitive (Primitive.unsigned 3) ∷ Tree.primitive (Primitive.unsigned 5) ∷ []))
 
 -- the encodings of 3 and 5
 abbrev three : List ℕ

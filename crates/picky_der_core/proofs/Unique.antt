@@ -1,19 +1,18 @@
 -- Two readable trees of one sound shape that are written alike are the same tree.
-use Rattle.std.proofs.Common.{◌≡◌, ℕ, Bool, true, false, List, [], ◌∷◌, ◌++◌, length, ◌<◌, ◌⊎◌, inl, inr, refl, sym, ap, ◌∙◌, arith}
-use Rattle.std.specs.Prelude.{⊤}
+use Rattle.std.proofs.Common.{◌≡◌, ℕ, Bool, true, false, ◌&&◌, List, [], ◌∷◌, ◌++◌, length, ◌<◌, ◌⊎◌, inl, inr, refl, sym, ap, subst, ◌∙◌, arith}
 use Rattle.std.specs.List.{concat}
-use Rattle.picky_der_core.specs.Tree.{ListKind, Tree, Trees}
-use Rattle.picky_der_core.specs.Encoding.{plain_encoding, wrapper_encoding, tree_bytes, encodings, der, boolean_content, list_content}
-use Rattle.picky_der_core.specs.Readable.{IsReadable, AreReadable, IsNoChoice}
-use Rattle.picky_der_core.specs.Shape.{Shape, Shapes, Layout, IsOf, IsOneOf, AreMembersOf, firsts, firsts_of, next_firsts, are_apart, IsBoolean, IsUnsigned, IsNull, IsText, IsCharacter, IsBytes, IsRaw, IsList, IsOptional, IsOctetContainer, IsBitContainer, IsExplicit, IsImplicit, IsApplication, IsRetagged, IsChoice, EachIs, FirstAndRest, FirstOrNone, IsEmpty, IsSound, AreSound, AreTold, AreMembersSound, AreMembersTold}
+use Rattle.picky_der_core.specs.declared.asn1.wrapper.Wrapper.{Wrapper}
+use Rattle.picky_der_core.specs.Primitive.{PrimitiveShape}
+use Rattle.picky_der_core.specs.PrimitiveLaws.{primitive_content-same}
+use Rattle.picky_der_core.specs.Wrapper.{wrapper_front, keeps_header, can_vanish}
+use Rattle.picky_der_core.specs.WrapperLaws.{after_front}
+use Rattle.picky_der_core.specs.Tree.{ListKind, Tree, Trees, is_absent}
+use Rattle.picky_der_core.specs.Encoding.{plain_encoding, wrapper_encoding, tree_bytes, encodings, der, list_content}
+use Rattle.picky_der_core.specs.Readable.{IsReadable, AreReadable, IsNoChoice, IsHeadedIfChoice}
+use Rattle.picky_der_core.specs.Shape.{Shape, Shapes, Layout, IsOf, IsOneOf, AreMembersOf, firsts, firsts_of, next_firsts, are_apart, IsPrimitiveTree, IsRaw, IsList, IsWrapped, IsOptional, IsChoice, EachIs, FirstAndRest, FirstOrNone, IsEmpty, IsSound, AreSound, AreTold, AreMembersSound, AreMembersTold}
 use Rattle.picky_der_core.specs.ElementLaws.{tlv-same}
-use Rattle.picky_der_core.specs.EncodingLaws.{is_absent-readable, list_content-in_order, same_encoding, length-der, unsigned_content-same}
+use Rattle.picky_der_core.specs.EncodingLaws.{is_absent-readable, list_content-in_order, never_absent, same_encoding, length-der}
 use Rattle.picky_der_core.specs.FirstLaws.{begins_in, begins_in_one, begins_next, apart_differ, is_of-optional}
-
--- directly under an implicit tag stands no choice
-abbrev pub IsHeadedIfChoice : Bool → Tree → Type 0
-IsHeadedIfChoice true t = ⊤
-IsHeadedIfChoice false t = IsNoChoice t
 
 -- a readable tree with P is known by what is written of it
 abbrev pub IsKnown : Bool → (Tree → Type 0) → Type 0
@@ -35,51 +34,13 @@ wrapper_encoding-same false false x y c d h k e = (tlv-same x y c d e).1
 wrapper_encoding-same true _ x y c d h k e = cc
 wrapper_encoding-same false true x y c d h k e = cc
 
-boolean_content-same : (b c : Bool) → boolean_content b ≡ boolean_content c → b ≡ c
-boolean_content-same true true e = refl
-boolean_content-same false false e = refl
-boolean_content-same true false e = cc
-boolean_content-same false true e = cc
-
 -- ---- each kind of shape
 
-boolean_known : (header : Bool) → IsKnown header IsBoolean
+primitive_known : (k : PrimitiveShape) (header : Bool) → IsKnown header (IsPrimitiveTree k)
 unfolding tree_bytes
-boolean_known header (Tree.boolean b) (Tree.boolean c) p q r s m n e = ap Tree.boolean (boolean_content-same b c (plain_encoding-same header _ _ _ _ e))
-boolean_known header (Tree.boolean b) _ p q r s m n e = absurd q
-boolean_known header _ _ p q r s m n e = absurd p
-
-unsigned_known : (most : ℕ) (header : Bool) → IsKnown header (IsUnsigned most)
-unfolding tree_bytes
-unsigned_known most header (Tree.unsigned b) (Tree.unsigned c) p q r s m n e = ap Tree.unsigned (unsigned_content-same b c (plain_encoding-same header _ _ _ _ e))
-unsigned_known most header (Tree.unsigned b) _ p q r s m n e = absurd q
-unsigned_known most header _ _ p q r s m n e = absurd p
-
-null_known : (header : Bool) → IsKnown header IsNull
-null_known header Tree.null Tree.null p q r s m n e = refl
-null_known header Tree.null _ p q r s m n e = absurd q
-null_known header _ _ p q r s m n e = absurd p
-
-text_known : (header : Bool) → IsKnown header IsText
-unfolding tree_bytes
-text_known header (Tree.text b) (Tree.text c) p q r s m n e = ap Tree.text (plain_encoding-same header _ _ _ _ e)
-text_known header (Tree.text b) _ p q r s m n e = absurd q
-text_known header _ _ p q r s m n e = absurd p
-
-character_known : (header : Bool) → IsKnown header IsCharacter
-unfolding tree_bytes
-character_known header (Tree.text b) (Tree.text c) p q r s m n e = ap Tree.text (plain_encoding-same header _ _ _ _ e)
-character_known header (Tree.text b) _ p q r s m n e = absurd q
-character_known header _ _ p q r s m n e = absurd p
-
-bytes_known : (tag : ℕ) (header : Bool) → IsKnown header (IsBytes tag)
-unfolding tree_bytes
-bytes_known tag header (Tree.bytes x b) (Tree.bytes y c) p q r s m n e =
-    let f : x ≡ y = p.0 ∙ sym q.0 in
-    let g : b ≡ c = plain_encoding-same header _ _ _ _ e in
-    cc
-bytes_known tag header (Tree.bytes x b) _ p q r s m n e = absurd q
-bytes_known tag header _ _ p q r s m n e = absurd p
+primitive_known k header (Tree.primitive b) (Tree.primitive c) p q r s m n e = ap Tree.primitive (primitive_content-same k b c p q (plain_encoding-same header _ _ _ _ e))
+primitive_known k header (Tree.primitive b) _ p q r s m n e = absurd q
+primitive_known k header _ _ p q r s m n e = absurd p
 
 list_known : (kind : ListKind) (Q : Trees → Type 0) → AreKnown Q → (header : Bool) → IsKnown header (IsList kind Q)
 unfolding tree_bytes
@@ -95,56 +56,24 @@ list_known kind Q known header _ _ p q r s m n e = absurd p
 optional_known : (P : Tree → Type 0) (header : Bool) → IsKnown header P → IsKnown header (IsOptional P)
 optional_known P header known t u p q r s = known t u (is_of-optional P t p r) (is_of-optional P u q s) r s
 
-octet_container_known : (P : Tree → Type 0) → IsKnown true P → (header : Bool) → IsKnown header (IsOctetContainer P)
-unfolding tree_bytes
-octet_container_known P known header (Tree.octet_container t) (Tree.octet_container u) p q r s m n e =
-    ap Tree.octet_container (known t u p q r s tt tt (wrapper_encoding-same _ _ _ _ _ _ (is_absent-readable t r) (is_absent-readable u s) e))
-octet_container_known P known header (Tree.octet_container t) _ p q r s m n e = absurd q
-octet_container_known P known header _ _ p q r s m n e = absurd p
+-- a readable tree in a wrapper doesn't vanish
+is_written : (w : Wrapper) (t : Tree) → IsReadable t → (can_vanish w && is_absent t) ≡ false
+is_written w t r = never_absent (can_vanish w) (is_absent t) (is_absent-readable t r)
 
-bit_container_known : (P : Tree → Type 0) → IsKnown true P → (header : Bool) → IsKnown header (IsBitContainer P)
+wrapped_known : (w : Wrapper) (P : Tree → Type 0) → IsKnown (keeps_header w) P → (header : Bool) → IsKnown header (IsWrapped w P)
 unfolding tree_bytes
-bit_container_known P known header (Tree.bit_container t) (Tree.bit_container u) p q r s m n e =
-    let f : 0x00 ∷ tree_bytes true t ≡ 0x00 ∷ tree_bytes true u = wrapper_encoding-same _ _ _ _ _ _ (is_absent-readable t r) (is_absent-readable u s) e in
-    ap Tree.bit_container (known t u p q r s tt tt (cc))
-bit_container_known P known header (Tree.bit_container t) _ p q r s m n e = absurd q
-bit_container_known P known header _ _ p q r s m n e = absurd p
-
-explicit_known : (k : ℕ) (P : Tree → Type 0) → IsKnown true P → (header : Bool) → IsKnown header (IsExplicit k P)
-unfolding tree_bytes
-explicit_known k P known header (Tree.explicit x t) (Tree.explicit y u) p q r s m n e =
-    let f : x ≡ y = p.0 ∙ sym q.0 in
-    let g : t ≡ u = known t u p.1 q.1 r.1 s.1 tt tt (wrapper_encoding-same _ _ _ _ _ _ (is_absent-readable t r.1) (is_absent-readable u s.1) e) in
+wrapped_known w P known header (Tree.wrapped v t) (Tree.wrapped x u) p q r s m n e =
+    let same : v ≡ x = p.0 ∙ sym q.0 in
+    let held : wrapper_front v ++ tree_bytes (keeps_header v) t ≡ wrapper_front x ++ tree_bytes (keeps_header x) u = wrapper_encoding-same _ _ _ _ _ _ (is_written v t r.2) (is_written x u s.2) e in
+    let in_w : wrapper_front w ++ tree_bytes (keeps_header w) t ≡ wrapper_front w ++ tree_bytes (keeps_header w) u =
+    subst (λ z. wrapper_front z ++ tree_bytes (keeps_header z) t ≡ wrapper_front w ++ tree_bytes (keeps_header w) u) p.0
+    (subst (λ z. wrapper_front v ++ tree_bytes (keeps_header v) t ≡ wrapper_front z ++ tree_bytes (keeps_header z) u) q.0 held) in
+    let headed_t = subst (λ z. IsHeadedIfChoice (keeps_header z) t) p.0 r.1 in
+    let headed_u = subst (λ z. IsHeadedIfChoice (keeps_header z) u) q.0 s.1 in
+    let inner : t ≡ u = known t u p.1 q.1 r.2 s.2 headed_t headed_u (after_front w _ _ in_w) in
     cc
-explicit_known k P known header (Tree.explicit x t) _ p q r s m n e = absurd q
-explicit_known k P known header _ _ p q r s m n e = absurd p
-
-implicit_known : (k : ℕ) (P : Tree → Type 0) → IsKnown false P → (header : Bool) → IsKnown header (IsImplicit k P)
-unfolding tree_bytes
-implicit_known k P known header (Tree.implicit x t) (Tree.implicit y u) p q r s m n e =
-    let f : x ≡ y = p.0 ∙ sym q.0 in
-    let g : t ≡ u = known t u p.1 q.1 r.2 s.2 r.1 s.1 (wrapper_encoding-same _ _ _ _ _ _ (is_absent-readable t r.2) (is_absent-readable u s.2) e) in
-    cc
-implicit_known k P known header (Tree.implicit x t) _ p q r s m n e = absurd q
-implicit_known k P known header _ _ p q r s m n e = absurd p
-
-application_known : (k : ℕ) (P : Tree → Type 0) → IsKnown true P → (header : Bool) → IsKnown header (IsApplication k P)
-unfolding tree_bytes
-application_known k P known header (Tree.application x t) (Tree.application y u) p q r s m n e =
-    let f : x ≡ y = p.0 ∙ sym q.0 in
-    let g : t ≡ u = known t u p.1 q.1 r.1 s.1 tt tt (tlv-same _ _ _ _ e).1 in
-    cc
-application_known k P known header (Tree.application x t) _ p q r s m n e = absurd q
-application_known k P known header _ _ p q r s m n e = absurd p
-
-retagged_known : (tag : ℕ) (P : Tree → Type 0) → IsKnown false P → (header : Bool) → IsKnown header (IsRetagged tag P)
-unfolding tree_bytes
-retagged_known tag P known header (Tree.retagged x t) (Tree.retagged y u) p q r s m n e =
-    let f : x ≡ y = p.0 ∙ sym q.0 in
-    let g : t ≡ u = known t u p.1 q.1 r.2 s.2 r.1 s.1 (wrapper_encoding-same _ _ _ _ _ _ (is_absent-readable t r.2) (is_absent-readable u s.2) e) in
-    cc
-retagged_known tag P known header (Tree.retagged x t) _ p q r s m n e = absurd q
-retagged_known tag P known header _ _ p q r s m n e = absurd p
+wrapped_known w P known header (Tree.wrapped v t) _ p q r s m n e = absurd q
+wrapped_known w P known header _ _ p q r s m n e = absurd p
 
 raw_known : (header : Bool) → IsKnown header IsRaw
 unfolding tree_bytes
@@ -231,21 +160,11 @@ first_or_none_known s l apart known others ts us (inr p) (inl q) r v e = absurd 
 
 mutual
   pub known : (s : Shape) → IsSound s → (header : Bool) → IsKnown header (IsOf s)
-  known Shape.boolean = λ sound header. boolean_known header
-  known (Shape.unsigned most) = λ sound header. unsigned_known most header
-  known Shape.null = λ sound header. null_known header
-  known Shape.character = λ sound header. character_known header
-  known Shape.text = λ sound header. text_known header
-  known (Shape.bytes tag) = λ sound header. bytes_known tag header
+  known (Shape.primitive k) = λ sound header. primitive_known k header
   known (Shape.list_of kind s) = λ sound header. list_known kind _ (each_known _ (known s sound true)) header
   known (Shape.fields kind l) = λ sound header. list_known kind _ (members_known l sound.0 sound.1) header
+  known (Shape.wrapped w s) = λ sound header. wrapped_known w _ (known s sound (keeps_header w)) header
   known (Shape.optional s) = λ sound header. optional_known _ header (known s sound header)
-  known (Shape.octet_container s) = λ sound header. octet_container_known _ (known s sound true) header
-  known (Shape.bit_container s) = λ sound header. bit_container_known _ (known s sound true) header
-  known (Shape.explicit n s) = λ sound header. explicit_known n _ (known s sound true) header
-  known (Shape.implicit n s) = λ sound header. implicit_known n _ (known s sound false) header
-  known (Shape.application n s) = λ sound header. application_known n _ (known s sound true) header
-  known (Shape.retagged tag s) = λ sound header. retagged_known tag _ (known s sound false) header
   known Shape.raw = λ sound header. raw_known header
   known (Shape.choice ss) = λ sound header. choice_known _ (alternatives_known ss sound.0 sound.1) header
 

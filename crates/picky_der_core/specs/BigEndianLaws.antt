@@ -8,8 +8,7 @@ use Rattle.std.proofs.lemmas.Bool.{cases_lt}
 use Rattle.std.proofs.lemmas.Int.Digits.{all_below_base_digits_of, digits_of_step, first_digits_of, length-digits_of-le, number_digits_of, number_lt}
 use Rattle.std.proofs.lemmas.List.{length-replicate}
 use Rattle.std.proofs.lemmas.Nat.{pow-add, leading_top, div_below, div-mul-add, mod-mul-add}
-use Rattle.picky_der_core.specs.Element.{big_endian_within, big_endian}
-use Rattle.picky_der_core.specs.Shape.{AreBytes}
+use Rattle.picky_der_core.specs.Element.{big_endian_within, big_endian, AreBytes}
 
 -- ---- the digits of a number
 

@@ -1,7 +1,7 @@
 -- The contents that are bools.
 use Rattle.std.proofs.Common.{◌≡◌, ℕ, Bool, true, false, ◌||◌, cond, List, [], ◌∷◌, ◌==◌, ◌⊎◌, inl, inr, refl, ap, None, Some, eqb-true}
+use Rattle.picky_der_core.specs.Primitive.{boolean_content}
 use Rattle.picky_der_core.specs.declared.error.Asn1DerError.TheVariants.{InvalidData}
-use Rattle.picky_der_core.specs.Encoding.{boolean_content}
 use Rattle.picky_der_core.specs.Refusal.{boolean_error}
 
 -- the content of a bool is read

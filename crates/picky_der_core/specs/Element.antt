@@ -1,6 +1,11 @@
 -- Lengths and elements (X.690, 8.1.1 to 8.1.3 and 10.1).
-use Rattle.std.specs.Prelude.{◌≡◌, ℕ, zero, suc, ◌+◌, ◌/◌, ◌%◌, true, false, List, [], ◌∷◌, ◌++◌, length, nat_lt, ◌==◌, if◌then◌else◌}
+use Rattle.std.specs.Prelude.{◌≡◌, ℕ, zero, suc, ◌+◌, ◌/◌, ◌%◌, ◌<◌, true, false, List, [], ◌∷◌, ◌++◌, length, nat_lt, ◌==◌, if◌then◌else◌}
+use Rattle.std.specs.List.{AllByRecursion}
 use Rattle.picky_der_core.specs.Tag.{number_of, IsTagNumber}
+
+-- each number is a byte's
+abbrev pub AreBytes : List ℕ → Type 0
+AreBytes s = AllByRecursion (λ b. b < 256) s
 
 -- at most `most` of the last bytes of a number
 abbrev pub big_endian_within : ℕ → ℕ → List ℕ

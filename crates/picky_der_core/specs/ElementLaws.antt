@@ -1,9 +1,8 @@
 -- A length and an element say where they end, and what they hold.
 use Rattle.std.proofs.Common.{◌≡◌, ℕ, ◌+◌, ◌^◌, ◌<◌, ◌≤◌, Bool, true, false, cond, List, [], ◌∷◌, ◌++◌, length, nat_lt, refl, ap, arith, append_assoc, length-append, lt-ltb, ltb-true, inl, inr}
 use Rattle.std.proofs.lemmas.Bool.{ltb-false, cases_lt}
-use Rattle.picky_der_core.specs.Element.{big_endian, length_octets, tlv}
+use Rattle.picky_der_core.specs.Element.{big_endian, length_octets, tlv, AreBytes}
 use Rattle.picky_der_core.specs.BigEndianLaws.{big_endian-same, length-big_endian, AreBytes-big_endian}
-use Rattle.picky_der_core.specs.Shape.{AreBytes}
 
 -- lists that are as long and begin one list are the same
 pub same_front : (xs ys a b : List ℕ) → length xs ≡ length ys → xs ++ a ≡ ys ++ b → (xs ≡ ys) × (a ≡ b)

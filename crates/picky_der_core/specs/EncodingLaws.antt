@@ -1,19 +1,23 @@
--- The encoding of each kind of tree, and how encodings tell each other apart.
-use Rattle.std.proofs.Common.{◌≡◌, ℕ, ◌+◌, ◌<◌, Bool, true, false, cond, List, [], ◌∷◌, ◌++◌, length, nat_lt, map, refl, sym, ap, ◌∙◌, arith}
-use Rattle.std.specs.Int.Digits.{number_from_digits}
+-- The encoding of each kind of tree, and how encodings distinguish each other.
+use Rattle.std.proofs.Common.{◌≡◌, ℕ, ◌<◌, Bool, true, false, ◌&&◌, List, [], ◌∷◌, ◌++◌, length, map, refl, sym, ap, ◌∙◌, arith}
 use Rattle.std.specs.List.{concat}
+use Rattle.picky_der_core.specs.declared.asn1.wrapper.Wrapper.{Wrapper}
 use Rattle.picky_der_core.specs.Tag.{number_of, IsTagNumber}
-use Rattle.picky_der_core.specs.Element.{big_endian, tlv, IsElement}
+use Rattle.picky_der_core.specs.Element.{tlv, IsElement}
+use Rattle.picky_der_core.specs.Primitive.{Primitive, primitive_tag, primitive_content}
+use Rattle.picky_der_core.specs.PrimitiveLaws.{primitive_tag_number}
+use Rattle.picky_der_core.specs.Wrapper.{wrapper_tag, wrapper_front, keeps_header, can_vanish}
+use Rattle.picky_der_core.specs.WrapperLaws.{wrapper_tag_number}
 use Rattle.picky_der_core.specs.Tree.{ListKind, Tree, trees, is_plain, is_absent}
-use Rattle.picky_der_core.specs.Encoding.{boolean_content, as_positive, unsigned_content, list_content, list_tag, plain_encoding, wrapper_encoding, tree_bytes, encodings, der, implicit_content, content, plain_tag}
+use Rattle.picky_der_core.specs.Encoding.{list_content, list_tag, plain_encoding, wrapper_encoding, tree_bytes, encodings, der, implicit_content, with_header, content, plain_tag}
 use Rattle.picky_der_core.specs.Readable.{IsReadable, IsInOrder, IsNoChoice}
-use Rattle.picky_der_core.specs.BigEndianLaws.{number-big_endian}
+use Rattle.picky_der_core.specs.OpenWrappers.{wrapped_content}
 use Rattle.picky_der_core.specs.ElementLaws.{tlv_prefix}
 use Rattle.picky_der_core.specs.OrderLaws.{in_ascending_order-same, length-in_ascending_order}
 
 -- ---- the encoding by its kinds
 
-pub wrapper_encoding-present : (b : Bool) (x : ℕ) (c : List ℕ) → b ≡ false → wrapper_encoding b x c ≡ tlv x c
+wrapper_encoding-present : (b : Bool) (x : ℕ) (c : List ℕ) → b ≡ false → wrapper_encoding b x c ≡ tlv x c
 unfolding wrapper_encoding
 wrapper_encoding-present true x c e = cc
 wrapper_encoding-present false x c e = refl
@@ -23,53 +27,41 @@ unfolding wrapper_encoding
 wrapper_encoding-absent true x c e = refl
 wrapper_encoding-absent false x c e = cc
 
+with_header-bytes : (header : Bool) (t : Tree) → tree_bytes header t ≡ with_header header t
+unfolding der implicit_content
+with_header-bytes true t = refl
+with_header-bytes false t = refl
+
 -- a plain tree: its tag, and its content
 pub der-plain : (t : Tree) → is_plain t ≡ true → der t ≡ tlv (plain_tag t) (content t)
 unfolding der tree_bytes plain_encoding
-der-plain (Tree.boolean b) p = refl
-der-plain (Tree.unsigned n) p = refl
-der-plain Tree.null p = refl
-der-plain (Tree.text s) p = refl
-der-plain (Tree.bytes tag s) p = refl
-der-plain (Tree.list kind ts) p = refl
-der-plain _ p = cc
+der-plain (Tree.primitive p) h = refl
+der-plain (Tree.list kind ts) h = refl
+der-plain _ h = cc
+
+pub der-primitive : (p : Primitive) → der (Tree.primitive p) ≡ tlv (primitive_tag p) (primitive_content p)
+der-primitive p = der-plain (Tree.primitive p) refl
 
 -- nothing is written of what is absent
 pub der-absent : (t : Tree) → is_absent t ≡ true → der t ≡ []
 unfolding der tree_bytes
 der-absent Tree.absent h = refl
-der-absent (Tree.octet_container t) h = wrapper_encoding-absent _ _ _ h
-der-absent (Tree.bit_container t) h = wrapper_encoding-absent _ _ _ h
-der-absent (Tree.explicit n t) h = wrapper_encoding-absent _ _ _ h
-der-absent (Tree.implicit n t) h = wrapper_encoding-absent _ _ _ h
-der-absent (Tree.retagged tag t) h = wrapper_encoding-absent _ _ _ h
+der-absent (Tree.wrapped w t) h = wrapper_encoding-absent _ _ _ h
 der-absent (Tree.choice t) h = der-absent t h
 der-absent _ h = cc
 
--- the containers and tags, around something
-pub der-octet_container : (t : Tree) → is_absent t ≡ false → der (Tree.octet_container t) ≡ tlv 0x04 (der t)
+pub never_absent : (vanishes absent : Bool) → absent ≡ false → (vanishes && absent) ≡ false
+never_absent true absent h = h
+never_absent false absent h = refl
+
+-- a wrapper that doesn't vanish is one element with exactly what it holds
+pub der-wrapped : (w : Wrapper) (t : Tree) → (can_vanish w && is_absent t) ≡ false → der (Tree.wrapped w t) ≡ tlv (wrapper_tag w) (wrapped_content w t)
 unfolding der tree_bytes
-der-octet_container t h = wrapper_encoding-present _ _ _ h
+der-wrapped w t h = wrapper_encoding-present _ _ _ h ∙ ap (λ c. tlv (wrapper_tag w) (wrapper_front w ++ c)) (with_header-bytes (keeps_header w) t)
 
-pub der-bit_container : (t : Tree) → is_absent t ≡ false → der (Tree.bit_container t) ≡ tlv 0x03 (0x00 ∷ der t)
-unfolding der tree_bytes
-der-bit_container t h = wrapper_encoding-present _ _ _ h
-
-pub der-explicit : (n : ℕ) (t : Tree) → is_absent t ≡ false → der (Tree.explicit n t) ≡ tlv (0xA0 + n) (der t)
-unfolding der tree_bytes
-der-explicit n t h = wrapper_encoding-present _ _ _ h
-
-pub der-implicit : (n : ℕ) (t : Tree) → is_absent t ≡ false → der (Tree.implicit n t) ≡ tlv (0x80 + n) (implicit_content t)
-unfolding der implicit_content tree_bytes
-der-implicit n t h = wrapper_encoding-present _ _ _ h
-
-pub der-retagged : (tag : ℕ) (t : Tree) → is_absent t ≡ false → der (Tree.retagged tag t) ≡ tlv tag (implicit_content t)
-unfolding der implicit_content tree_bytes
-der-retagged tag t h = wrapper_encoding-present _ _ _ h
-
-pub der-application : (n : ℕ) (t : Tree) → der (Tree.application n t) ≡ tlv (0x60 + n) (der t)
-unfolding der tree_bytes
-der-application n t = refl
+-- as around something
+pub der-wrapped_present : (w : Wrapper) (t : Tree) → is_absent t ≡ false → der (Tree.wrapped w t) ≡ tlv (wrapper_tag w) (wrapped_content w t)
+der-wrapped_present w t h = der-wrapped w t (never_absent (can_vanish w) (is_absent t) h)
 
 pub der-raw : (s : List ℕ) → der (Tree.raw s) ≡ s
 unfolding der tree_bytes
@@ -83,13 +75,9 @@ der-choice t = refl
 
 pub implicit_content-plain : (t : Tree) → is_plain t ≡ true → implicit_content t ≡ content t
 unfolding implicit_content tree_bytes plain_encoding
-implicit_content-plain (Tree.boolean b) p = refl
-implicit_content-plain (Tree.unsigned n) p = refl
-implicit_content-plain Tree.null p = refl
-implicit_content-plain (Tree.text s) p = refl
-implicit_content-plain (Tree.bytes tag s) p = refl
-implicit_content-plain (Tree.list kind ts) p = refl
-implicit_content-plain _ p = cc
+implicit_content-plain (Tree.primitive p) h = refl
+implicit_content-plain (Tree.list kind ts) h = refl
+implicit_content-plain _ h = cc
 
 pub implicit_content-choice : (t : Tree) → implicit_content (Tree.choice t) ≡ implicit_content t
 unfolding implicit_content tree_bytes
@@ -99,35 +87,11 @@ implicit_content-choice t = refl
 pub implicit_content-other : (t : Tree) → is_plain t ≡ false → IsNoChoice t → implicit_content t ≡ der t
 unfolding implicit_content der tree_bytes
 implicit_content-other (Tree.choice t) p n = absurd n
-implicit_content-other (Tree.boolean b) p n = cc
-implicit_content-other (Tree.unsigned b) p n = cc
-implicit_content-other Tree.null p n = cc
-implicit_content-other (Tree.text b) p n = cc
-implicit_content-other (Tree.bytes x b) p n = cc
+implicit_content-other (Tree.primitive b) p n = cc
 implicit_content-other (Tree.list x b) p n = cc
 implicit_content-other _ p n = refl
 
--- ---- plain trees
-
-pub der-boolean : (b : Bool) → der (Tree.boolean b) ≡ tlv 0x01 (boolean_content b)
-unfolding der tree_bytes plain_encoding
-der-boolean b = refl
-
-pub der-unsigned : (n : ℕ) → der (Tree.unsigned n) ≡ tlv 0x02 (unsigned_content n)
-unfolding der tree_bytes plain_encoding
-der-unsigned n = refl
-
-pub der-null : der Tree.null ≡ tlv 0x05 []
-unfolding der tree_bytes plain_encoding
-der-null = refl
-
-pub der-text : (s : List ℕ) → der (Tree.text s) ≡ tlv 0x0C s
-unfolding der tree_bytes plain_encoding
-der-text s = refl
-
-pub der-bytes : (tag : ℕ) (s : List ℕ) → der (Tree.bytes tag s) ≡ tlv tag s
-unfolding der tree_bytes plain_encoding
-der-bytes tag s = refl
+-- ---- lists
 
 pub encodings-trees : (ts : List Tree) → encodings (trees ts) ≡ map der ts
 unfolding der tree_bytes
@@ -162,18 +126,9 @@ length-list_content ListKind.set members = length-in_ascending_order members
 -- ---- readable trees
 
 pub is_absent-readable : (t : Tree) → IsReadable t → is_absent t ≡ false
-is_absent-readable (Tree.boolean b) r = refl
-is_absent-readable (Tree.unsigned n) r = refl
-is_absent-readable Tree.null r = refl
-is_absent-readable (Tree.text s) r = refl
-is_absent-readable (Tree.bytes tag s) r = refl
+is_absent-readable (Tree.primitive p) r = refl
 is_absent-readable (Tree.list kind ts) r = refl
-is_absent-readable (Tree.octet_container t) r = is_absent-readable t r
-is_absent-readable (Tree.bit_container t) r = is_absent-readable t r
-is_absent-readable (Tree.explicit n t) r = is_absent-readable t r.1
-is_absent-readable (Tree.implicit n t) r = is_absent-readable t r.2
-is_absent-readable (Tree.application n t) r = refl
-is_absent-readable (Tree.retagged tag t) r = is_absent-readable t r.2
+is_absent-readable (Tree.wrapped w t) r = never_absent (can_vanish w) (is_absent t) (is_absent-readable t r.2)
 is_absent-readable (Tree.raw s) r = refl
 is_absent-readable (Tree.choice t) r = is_absent-readable t r
 is_absent-readable Tree.absent r = absurd r
@@ -182,28 +137,12 @@ list_tag_number : (kind : ListKind) → IsTagNumber (number_of (list_tag kind))
 list_tag_number ListKind.sequence = omega arith
 list_tag_number ListKind.set = omega arith
 
-plain_encoding_element : (tag : ℕ) (c : List ℕ) → IsTagNumber (number_of tag) → IsElement (plain_encoding true tag c)
-unfolding plain_encoding
-plain_encoding_element tag c h = record { tag = tag; content = c; number = h; is = refl }
-
-wrapper_encoding_element : (t : Tree) (tag : ℕ) (c : List ℕ) → is_absent t ≡ false → IsTagNumber (number_of tag) → IsElement (wrapper_encoding (is_absent t) tag c)
-wrapper_encoding_element t tag c p h = record { tag = tag; content = c; number = h; is = wrapper_encoding-present _ tag c p }
-
 -- the encoding of a readable tree is one element
 pub der-element : (t : Tree) → IsReadable t → IsElement (der t)
-unfolding der tree_bytes
-der-element (Tree.boolean b) r = plain_encoding_element _ _ (omega arith)
-der-element (Tree.unsigned n) r = plain_encoding_element _ _ (omega arith)
-der-element Tree.null r = plain_encoding_element _ _ (omega arith)
-der-element (Tree.text s) r = plain_encoding_element _ _ (omega arith)
-der-element (Tree.bytes tag s) r = plain_encoding_element _ _ r.0
-der-element (Tree.list kind ts) r = plain_encoding_element _ _ (list_tag_number kind)
-der-element (Tree.octet_container t) r = wrapper_encoding_element t _ _ (is_absent-readable t r) (omega arith)
-der-element (Tree.bit_container t) r = wrapper_encoding_element t _ _ (is_absent-readable t r) (omega arith)
-der-element (Tree.explicit n t) r = wrapper_encoding_element t _ _ (is_absent-readable t r.1) (omega arith)
-der-element (Tree.implicit n t) r = wrapper_encoding_element t _ _ (is_absent-readable t r.2) (omega arith)
-der-element (Tree.application n t) r = record { tag = 0x60 + n; content = _; number = omega arith; is = refl }
-der-element (Tree.retagged tag t) r = wrapper_encoding_element t _ _ (is_absent-readable t r.2) r.0.0
+unfolding der tree_bytes plain_encoding
+der-element (Tree.primitive p) r = record { tag = primitive_tag p; content = primitive_content p; number = primitive_tag_number p r; is = refl }
+der-element (Tree.list kind ts) r = record { tag = list_tag kind; content = list_content kind (encodings ts); number = list_tag_number kind; is = refl }
+der-element (Tree.wrapped w t) r = record { tag = wrapper_tag w; content = wrapped_content w t; number = wrapper_tag_number w r.0; is = der-wrapped_present w t (is_absent-readable t r.2) }
 der-element (Tree.raw s) r = r.0
 der-element (Tree.choice t) r = der-element t r
 der-element Tree.absent r = absurd r
@@ -225,21 +164,3 @@ same_encoding t u a b r q e = same_element (der t) (der u) a b (der-element t r)
 pub length-der : (t : Tree) → IsReadable t → 0 < length (der t)
 unfolding tlv
 length-der t r = let p = der-element t r in rw p.is (omega arith)
-
--- ---- numbers
-
-padded : (p : Bool) (b : ℕ) (bs : List ℕ) → number_from_digits 256 (cond p (b ∷ bs) (0 ∷ b ∷ bs)) ≡ number_from_digits 256 (b ∷ bs)
-padded true b bs = refl
-padded false b bs = refl
-
-number-as_positive : (bs : List ℕ) → number_from_digits 256 (as_positive bs) ≡ number_from_digits 256 bs
-number-as_positive [] = refl
-number-as_positive (b ∷ bs) = padded (nat_lt b 0x80) b bs
-
--- the content of a number gives the number back
-pub number-unsigned_content : (n : ℕ) → number_from_digits 256 (unsigned_content n) ≡ n
-unfolding unsigned_content
-number-unsigned_content n = number-as_positive (big_endian n) ∙ number-big_endian n
-
-pub unsigned_content-same : (m n : ℕ) → unsigned_content m ≡ unsigned_content n → m ≡ n
-unsigned_content-same m n e = sym (number-unsigned_content m) ∙ ap (number_from_digits 256) e ∙ number-unsigned_content n

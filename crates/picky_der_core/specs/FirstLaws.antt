@@ -1,12 +1,17 @@
 -- With which byte the encoding of a readable tree begins.
 use Rattle.std.proofs.Common.{◌≡◌, ℕ, zero, suc, ◌+◌, ◌<◌, Bool, true, false, ◌||◌, ◌&&◌, not, List, [], ◌∷◌, ◌++◌, ◌==◌, ◌⊎◌, inl, inr, refl, sym, ◌∙◌, subst, arith, eq-eqb, eqb-true, false-eqb, le-leb}
+use Rattle.picky_der_core.specs.declared.asn1.wrapper.Wrapper.{Wrapper}
 use Rattle.picky_der_core.specs.Tag.{number_of, IsTagNumber}
-use Rattle.picky_der_core.specs.Element.{tlv}
+use Rattle.picky_der_core.specs.Element.{AreBytes, tlv}
+use Rattle.picky_der_core.specs.Primitive.{PrimitiveShape, primitive_tag, shape_tag}
+use Rattle.picky_der_core.specs.PrimitiveLaws.{primitive_tag_number, primitive_tag-shape}
+use Rattle.picky_der_core.specs.Wrapper.{wrapper_tag, wrapper_number}
+use Rattle.picky_der_core.specs.WrapperLaws.{wrapper_number-small}
 use Rattle.picky_der_core.specs.Tree.{ListKind, Tree, Trees}
 use Rattle.picky_der_core.specs.Encoding.{plain_encoding, tree_bytes, der, list_tag}
 use Rattle.picky_der_core.specs.Readable.{IsReadable}
-use Rattle.picky_der_core.specs.Shape.{Shape, Shapes, Layout, IsOf, IsOneOf, AreMembersOf, FirstOrNone, firsts, firsts_of, next_firsts, contains, are_apart, tags_below, tag_with_number, AreBytes, IsBoolean, IsUnsigned, IsNull, IsText, IsCharacter, IsBytes, IsRaw, IsList, IsOptional, IsOctetContainer, IsBitContainer, IsExplicit, IsImplicit, IsApplication, IsRetagged, IsChoice}
-use Rattle.picky_der_core.specs.EncodingLaws.{is_absent-readable, wrapper_encoding-present}
+use Rattle.picky_der_core.specs.Shape.{Shape, Shapes, Layout, IsOf, IsOneOf, AreMembersOf, FirstOrNone, firsts, firsts_of, next_firsts, contains, are_apart, tags_below, tag_with_number, IsPrimitiveTree, IsRaw, IsList, IsOptional, IsWrapped, IsChoice}
+use Rattle.picky_der_core.specs.EncodingLaws.{is_absent-readable, der-wrapped_present}
 
 -- its encoding begins with one of these bytes
 pub record BeginsIn (fs : List ℕ) (t : Tree) : Type 0 where
@@ -96,36 +101,12 @@ pub begins_tlv : (tag : ℕ) (c fs : List ℕ) (t : Tree) → der t ≡ tlv tag 
 unfolding tlv
 begins_tlv tag c fs t e h = record { first = tag; others = _; is = e; listed = h }
 
-boolean_first : (t : Tree) → IsBoolean t → IsReadable t → BeginsIn (0x01 ∷ []) t
+primitive_first : (k : PrimitiveShape) (t : Tree) → IsPrimitiveTree k t → IsReadable t → BeginsIn (tag_with_number (number_of (shape_tag k)) (shape_tag k)) t
 unfolding der tree_bytes
-boolean_first (Tree.boolean b) p r = begins_plain_encoding _ _ _ (Tree.boolean b) refl refl
-boolean_first _ p r = absurd p
-
-unsigned_first : (most : ℕ) (t : Tree) → IsUnsigned most t → IsReadable t → BeginsIn (0x02 ∷ []) t
-unfolding der tree_bytes
-unsigned_first most (Tree.unsigned n) p r = begins_plain_encoding _ _ _ (Tree.unsigned n) refl refl
-unsigned_first most _ p r = absurd p
-
-null_first : (t : Tree) → IsNull t → IsReadable t → BeginsIn (0x05 ∷ []) t
-unfolding der tree_bytes
-null_first Tree.null p r = begins_plain_encoding _ _ _ Tree.null refl refl
-null_first _ p r = absurd p
-
-text_first : (t : Tree) → IsText t → IsReadable t → BeginsIn (0x0C ∷ []) t
-unfolding der tree_bytes
-text_first (Tree.text s) p r = begins_plain_encoding _ _ _ (Tree.text s) refl refl
-text_first _ p r = absurd p
-
-character_first : (t : Tree) → IsCharacter t → IsReadable t → BeginsIn (0x0C ∷ []) t
-unfolding der tree_bytes
-character_first (Tree.text s) p r = begins_plain_encoding _ _ _ (Tree.text s) refl refl
-character_first _ p r = absurd p
-
-bytes_first : (tag : ℕ) (t : Tree) → IsBytes tag t → IsReadable t → BeginsIn (tag_with_number (number_of tag) tag) t
-unfolding der tree_bytes
-bytes_first tag (Tree.bytes x s) p r =
-    subst (λ n. BeginsIn (tag_with_number (number_of n) n) (Tree.bytes x s)) p.0 (begins_plain_encoding x _ _ (Tree.bytes x s) refl (contains_numbered (number_of x) x r.0))
-bytes_first tag _ p r = absurd p
+primitive_first k (Tree.primitive q) p r =
+    let number = primitive_tag_number q r in
+    subst (λ n. BeginsIn (tag_with_number (number_of n) n) (Tree.primitive q)) (primitive_tag-shape k q p) (begins_plain_encoding _ _ _ (Tree.primitive q) refl (contains_numbered (number_of (primitive_tag q)) (primitive_tag q) number))
+primitive_first k _ p r = absurd p
 
 list_first : (kind : ListKind) (P : Trees → Type 0) (t : Tree) → IsList kind P t → IsReadable t → BeginsIn (list_tag kind ∷ []) t
 unfolding der tree_bytes
@@ -133,39 +114,11 @@ list_first kind P (Tree.list x ts) p r =
     subst (λ n. BeginsIn (list_tag n ∷ []) (Tree.list x ts)) p.0 (begins_plain_encoding _ _ _ (Tree.list x ts) refl (contains_itself (list_tag x) []))
 list_first kind P _ p r = absurd p
 
-octet_container_first : (P : Tree → Type 0) (t : Tree) → IsOctetContainer P t → IsReadable t → BeginsIn (0x04 ∷ []) t
-unfolding der tree_bytes
-octet_container_first P (Tree.octet_container t) p r = begins_tlv _ _ _ (Tree.octet_container t) (wrapper_encoding-present _ _ _ (is_absent-readable t r)) refl
-octet_container_first P _ p r = absurd p
-
-bit_container_first : (P : Tree → Type 0) (t : Tree) → IsBitContainer P t → IsReadable t → BeginsIn (0x03 ∷ []) t
-unfolding der tree_bytes
-bit_container_first P (Tree.bit_container t) p r = begins_tlv _ _ _ (Tree.bit_container t) (wrapper_encoding-present _ _ _ (is_absent-readable t r)) refl
-bit_container_first P _ p r = absurd p
-
-explicit_first : (n : ℕ) (P : Tree → Type 0) (t : Tree) → IsExplicit n P t → IsReadable t → BeginsIn (tag_with_number n (0xA0 + n)) t
-unfolding der tree_bytes
-explicit_first n P (Tree.explicit m t) p r =
-    subst (λ k. BeginsIn (tag_with_number k (0xA0 + k)) (Tree.explicit m t)) p.0 (begins_tlv _ _ _ (Tree.explicit m t) (wrapper_encoding-present _ _ _ (is_absent-readable t r.1)) (contains_numbered m (0xA0 + m) r.0))
-explicit_first n P _ p r = absurd p
-
-implicit_first : (n : ℕ) (P : Tree → Type 0) (t : Tree) → IsImplicit n P t → IsReadable t → BeginsIn (tag_with_number n (0x80 + n)) t
-unfolding der tree_bytes
-implicit_first n P (Tree.implicit m t) p r =
-    subst (λ k. BeginsIn (tag_with_number k (0x80 + k)) (Tree.implicit m t)) p.0 (begins_tlv _ _ _ (Tree.implicit m t) (wrapper_encoding-present _ _ _ (is_absent-readable t r.2)) (contains_numbered m (0x80 + m) r.0))
-implicit_first n P _ p r = absurd p
-
-application_first : (n : ℕ) (P : Tree → Type 0) (t : Tree) → IsApplication n P t → IsReadable t → BeginsIn (tag_with_number n (0x60 + n)) t
-unfolding der tree_bytes
-application_first n P (Tree.application m t) p r =
-    subst (λ k. BeginsIn (tag_with_number k (0x60 + k)) (Tree.application m t)) p.0 (begins_tlv _ _ _ (Tree.application m t) refl (contains_numbered m (0x60 + m) r.0))
-application_first n P _ p r = absurd p
-
-retagged_first : (tag : ℕ) (P : Tree → Type 0) (t : Tree) → IsRetagged tag P t → IsReadable t → BeginsIn (tag_with_number (number_of tag) tag) t
-unfolding der tree_bytes
-retagged_first tag P (Tree.retagged x t) p r =
-    subst (λ k. BeginsIn (tag_with_number (number_of k) k) (Tree.retagged x t)) p.0 (begins_tlv _ _ _ (Tree.retagged x t) (wrapper_encoding-present _ _ _ (is_absent-readable t r.2)) (contains_numbered (number_of x) x r.0.0))
-retagged_first tag P _ p r = absurd p
+wrapped_first : (w : Wrapper) (P : Tree → Type 0) (t : Tree) → IsWrapped w P t → IsReadable t → BeginsIn (tag_with_number (wrapper_number w) (wrapper_tag w)) t
+wrapped_first w P (Tree.wrapped v t) p r =
+    subst (λ x. BeginsIn (tag_with_number (wrapper_number x) (wrapper_tag x)) (Tree.wrapped v t)) p.0
+    (begins_tlv _ _ _ (Tree.wrapped v t) (der-wrapped_present v t (is_absent-readable t r.2)) (contains_numbered (wrapper_number v) (wrapper_tag v) (wrapper_number-small v r.0)))
+wrapped_first w P _ p r = absurd p
 
 raw_first : (t : Tree) → IsRaw t → IsReadable t → BeginsIn (tags_below 256) t
 unfolding der tree_bytes tlv
@@ -203,21 +156,11 @@ first_or_none_first P Q fs gs f g t ts (inr q) r = begins_right fs gs t (g t ts 
 
 mutual
   pub begins_in : (s : Shape) (t : Tree) → IsOf s t → IsReadable t → BeginsIn (firsts s) t
-  begins_in Shape.boolean = boolean_first
-  begins_in (Shape.unsigned most) = unsigned_first most
-  begins_in Shape.null = null_first
-  begins_in Shape.character = character_first
-  begins_in Shape.text = text_first
-  begins_in (Shape.bytes tag) = bytes_first tag
+  begins_in (Shape.primitive k) = primitive_first k
   begins_in (Shape.list_of kind s) = list_first kind _
   begins_in (Shape.fields kind l) = list_first kind _
+  begins_in (Shape.wrapped w s) = wrapped_first w _
   begins_in (Shape.optional s) = λ t p r. begins_in s t (is_of-optional (IsOf s) t p r) r
-  begins_in (Shape.octet_container s) = octet_container_first _
-  begins_in (Shape.bit_container s) = bit_container_first _
-  begins_in (Shape.explicit n s) = explicit_first n _
-  begins_in (Shape.implicit n s) = implicit_first n _
-  begins_in (Shape.application n s) = application_first n _
-  begins_in (Shape.retagged tag s) = retagged_first tag _
   begins_in Shape.raw = raw_first
   begins_in (Shape.choice ss) = choice_first (IsOneOf ss) (firsts_of ss) (begins_in_one ss)
 

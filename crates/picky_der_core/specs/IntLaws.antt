@@ -1,8 +1,8 @@
 -- The numbers that an integer type has, and their contents.
 use Rattle.std.proofs.Common.{◌≡◌, ℕ, ◌-◌, ◌^◌, ◌<◌, ◌≤◌, Bool, true, false, cond, List, ◌∷◌, length, Some, None, ℤ, pos, negsuc, refl, sym, ap, subst, ◌∙◌, arith, pow_mono, ltb-true, le-ltb, nat_lt, ◌||◌}
 use Rattle.std.proofs.lemmas.List.{length-map}
-use Rattle.picky_der_core.specs.Encoding.{unsigned_content}
-use Rattle.picky_der_core.specs.Shape.{AreBytes}
+use Rattle.picky_der_core.specs.Element.{AreBytes}
+use Rattle.picky_der_core.specs.Primitive.{unsigned_content}
 use Rattle.picky_der_core.specs.Refusal.{int_error}
 use Rattle.picky_der_core.specs.UnsignedLaws.{length-unsigned_content}
 use Rattle.picky_der_core.specs.Integer.{is_integer, integer_value, integer_content, turned_byte, bits_of, fits_signed, fits_unsigned, content_within, int_tree, integer_tree}

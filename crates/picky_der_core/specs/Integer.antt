@@ -2,8 +2,9 @@
 use Rattle.std.specs.Prelude.{ℕ, ◌-◌, ◌^◌, Bool, true, false, not, ◌||◌, ◌==◌, nat_lt, List, [], ◌∷◌, length, map, ℤ, pos, negsuc, ◌-ℤ◌, if◌then◌else◌}
 use Rattle.std.specs.Int.{complement_if}
 use Rattle.std.specs.Int.Digits.{number_from_digits}
+use Rattle.picky_der_core.specs.declared.asn1.wrapper.Wrapper.TheVariants.{Explicit}
+use Rattle.picky_der_core.specs.Primitive.{unsigned_content, Primitive}
 use Rattle.picky_der_core.specs.Tree.{Tree}
-use Rattle.picky_der_core.specs.Encoding.{unsigned_content}
 
 -- one byte at least (8.3.1), and the first nine bits are neither all 0 nor all 1 (8.3.2)
 abbrev pub is_integer : List ℕ → Bool
@@ -64,7 +65,7 @@ fits_unsigned k (negsuc n) = false
 -- ---- what numbers mean
 
 abbrev pub integer_tree : ℤ → Tree
-integer_tree z = Tree.bytes 0x02 (integer_content z)
+integer_tree z = Tree.primitive (Primitive.bytes 0x02 (integer_content z))
 
 -- The content of a number of a type. In place of one that the type doesn't have is a list that is no INTEGER's content, and not of bytes.
 abbrev pub content_within : (ℤ → Bool) → ℤ → List ℕ
@@ -72,13 +73,13 @@ content_within fits z = if fits z then integer_content z else 0xFF ∷ 0x100 ∷
 
 -- what a number of a type means: `integer_tree z`, and for a number that the type doesn't have what is never read
 abbrev pub int_tree : (ℤ → Bool) → ℤ → Tree
-int_tree fits z = Tree.bytes 0x02 (content_within fits z)
+int_tree fits z = Tree.primitive (Primitive.bytes 0x02 (content_within fits z))
 
 -- A number that an unsigned type doesn't have means what is never read, since no tag has the number 31.
 abbrev pub within : Bool → Tree → Tree
 within true t = t
-within false t = Tree.explicit 31 t
+within false t = Tree.wrapped (Explicit 31) t
 
--- what a number of an unsigned type means, by the greatest that it has: `Tree.unsigned n`
+-- what a number of an unsigned type means, by the greatest that it has: `Tree.primitive (Primitive.unsigned n)`
 abbrev pub unsigned_tree : ℕ → ℕ → Tree
-unsigned_tree most n = within (not (nat_lt most n)) (Tree.unsigned n)
+unsigned_tree most n = within (not (nat_lt most n)) (Tree.primitive (Primitive.unsigned n))

@@ -7,9 +7,8 @@ use Rattle.std.proofs.Math.Nat.{pow-zero}
 use Rattle.std.proofs.lemmas.Bool.{cases_lt}
 use Rattle.std.proofs.lemmas.Bool.Decides.{nat_tests}
 use Rattle.std.proofs.lemmas.List.{map-id}
-use Rattle.picky_der_core.specs.Element.{big_endian}
-use Rattle.picky_der_core.specs.Encoding.{as_positive, unsigned_content}
-use Rattle.picky_der_core.specs.Shape.{AreBytes}
+use Rattle.picky_der_core.specs.Primitive.{as_positive, unsigned_content}
+use Rattle.picky_der_core.specs.Element.{big_endian, AreBytes}
 use Rattle.picky_der_core.specs.BigEndianLaws.{number-big_endian, first-big_endian, big_endian-number}
 use Rattle.picky_der_core.specs.UnsignedLaws.{AreBytes-unsigned_content}
 use Rattle.picky_der_core.specs.Integer.{is_integer, is_negative, turned_if, integer_content, integer_value, twos_complement}

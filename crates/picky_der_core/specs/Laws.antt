@@ -1,7 +1,8 @@
 -- The laws of canonical DER, each over the definitions alone.
-use Rattle.std.specs.Prelude.{◌≡◌, ℕ, ◌+◌, ◌≤◌, ◌↔◌, List, ◌∷◌, ◌++◌, length, map, IsFalse}
+use Rattle.std.specs.Prelude.{◌≡◌, ℕ, ◌&&◌, ◌≤◌, ◌↔◌, List, ◌∷◌, ◌++◌, length, map, IsFalse}
 use Rattle.std.specs.List.{AllByRecursion, concat}
 use Rattle.std.specs.List.Sorted.{IsPermutation}
+use Rattle.picky_der_core.specs.OpenWrappers.{wrapped_content}
 use Rattle.picky_der_core.specs.declared.asn1.wrapper.Wrapper.{Wrapper}
 use Rattle.picky_der_core.specs.Tag.{number_of, IsTagNumber}
 use Rattle.picky_der_core.specs.Element.{length_octets, tlv, IsPrefix}
@@ -9,7 +10,7 @@ use Rattle.picky_der_core.specs.Tree.{ListKind, Tree, trees, is_absent}
 use Rattle.picky_der_core.specs.Encoding.{der}
 use Rattle.picky_der_core.specs.Readable.{IsReadable}
 use Rattle.picky_der_core.specs.Shape.{Shape, IsOf, IsSound, IsFirst}
-use Rattle.picky_der_core.specs.Wrapper.{wrap, wrapper_tag, wrapped_content, HasTagNumber}
+use Rattle.picky_der_core.specs.Wrapper.{wrapper_tag, can_vanish, HasTagNumber}
 use Rattle.picky_der_core.specs.Reading.{Place, StandsAt}
 
 -- a readable tree of the shape stands at the front of the input, within the limit
@@ -20,11 +21,10 @@ Stands s input limit t = StandsAt Place.whole s input limit t
 abbrev pub LengthBothWays : Type 0
 LengthBothWays = (n k : ℕ) (rest : List ℕ) → IsPrefix (length_octets n) (length_octets k ++ rest) → n ≡ k
 
--- around something, a wrapper or application tag of a number up to 30 is one element, which holds just what it should
+-- a wrapper of a number up to 30 that doesn't vanish is one element, which holds exactly what it should
 abbrev pub WrapperLengths : Type 0
 WrapperLengths =
-    ((w : Wrapper) (t : Tree) → HasTagNumber w → IsFalse (is_absent t) → IsTagNumber (number_of (wrapper_tag w)) × (der (wrap w t) ≡ tlv (wrapper_tag w) (wrapped_content w t)))
-    × ((n : ℕ) (t : Tree) → IsTagNumber n → IsTagNumber (number_of (0x60 + n)) × (der (Tree.application n t) ≡ tlv (0x60 + n) (der t)))
+    (w : Wrapper) (t : Tree) → HasTagNumber w → IsFalse (can_vanish w && is_absent t) → IsTagNumber (number_of (wrapper_tag w)) × (der (Tree.wrapped w t) ≡ tlv (wrapper_tag w) (wrapped_content w t))
 
 -- the encoding of a readable tree isn't empty, and its first byte is one of its shape's
 abbrev pub FirstsTell : Type 0

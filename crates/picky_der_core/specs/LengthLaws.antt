@@ -7,10 +7,9 @@ use Rattle.std.proofs.Math.Nat.{pow-le-pow_right}
 use Rattle.std.proofs.Math.Seq.{take-append_seam, drop-append_seam}
 use Rattle.picky_der_core.specs.declared.error.Asn1DerError.{Asn1DerError}
 use Rattle.picky_der_core.specs.declared.error.Asn1DerError.TheVariants.{InvalidData, UnsupportedValue}
-use Rattle.picky_der_core.specs.Element.{big_endian, length_octets, IsPrefix}
+use Rattle.picky_der_core.specs.Element.{big_endian, length_octets, IsPrefix, AreBytes}
 use Rattle.picky_der_core.specs.BigEndianLaws.{number-big_endian, AreBytes-big_endian, big_endian-number, big_endian-as_many, length-big_endian, big_endian-least}
 use Rattle.picky_der_core.specs.ElementLaws.{length_octets-short, length_octets-long}
-use Rattle.picky_der_core.specs.Shape.{AreBytes}
 use Rattle.picky_der_core.specs.Refusal.{Refusal, ReadOutcome, long_length, begins_with_zero, length_of}
 use Rattle.picky_der_core.specs.Lengths.{IsLongCount}
 

@@ -5,7 +5,10 @@ use Rattle.std.specs.Int.Digits.{number_from_digits}
 use Rattle.std.specs.Str.{is_utf8}
 use Rattle.picky_der_core.specs.declared.error.Asn1DerError.{Asn1DerError}
 use Rattle.picky_der_core.specs.declared.error.Asn1DerError.TheVariants.{TruncatedData, InvalidData, UnsupportedValue}
-use Rattle.picky_der_core.specs.Tag.{number_of, is_tag_number, is_constructed_tag}
+use Rattle.picky_der_core.specs.declared.asn1.wrapper.Wrapper.{Wrapper}
+use Rattle.picky_der_core.specs.Tag.{number_of, is_tag_number}
+use Rattle.picky_der_core.specs.Primitive.{PrimitiveShape}
+use Rattle.picky_der_core.specs.Wrapper.{wrapper_tag, has_tag_number}
 use Rattle.picky_der_core.specs.Integer.{is_integer, integer_value}
 
 -- ---- ends
@@ -64,13 +67,9 @@ header_with tag hard ahead (b ∷ bs) = if b == tag then length_behind hard ahea
 abbrev pub header : ℕ → Bool → ℕ → List ℕ → ReadOutcome ℕ
 header tag hard ahead rest = if is_tag_number (number_of tag) then header_with tag hard ahead rest else Err (UnsupportedValue, rest)
 
--- the same with a tag by its number, as of an explicit, an implicit and an application tag
-abbrev pub numbered_header : ℕ → ℕ → Bool → ℕ → List ℕ → ReadOutcome ℕ
-numbered_header base n hard ahead rest = if is_tag_number n then header_with (base + n) hard ahead rest else Err (UnsupportedValue, rest)
-
--- the same with a tag in place of a list's own, which has to be constructed
-abbrev pub constructed_header : ℕ → Bool → ℕ → List ℕ → ReadOutcome ℕ
-constructed_header tag hard ahead rest = if is_constructed_tag tag then header_with tag hard ahead rest else Err (UnsupportedValue, rest)
+-- the same of a wrapper
+abbrev pub wrapper_header : Wrapper → Bool → ℕ → List ℕ → ReadOutcome ℕ
+wrapper_header w hard ahead rest = if has_tag_number w then header_with (wrapper_tag w) hard ahead rest else Err (UnsupportedValue, rest)
 
 -- the header of any element
 abbrev pub any_header : Bool → ℕ → List ℕ → ReadOutcome ℕ
@@ -123,6 +122,15 @@ character_error bs = if is_utf8 bs then character_count_error (length (chars bs)
 
 abbrev pub bytes_error : Judge
 bytes_error bs = None
+
+-- those of a primitive kind
+abbrev pub content_error : PrimitiveShape → Judge
+content_error PrimitiveShape.boolean = boolean_error
+content_error (PrimitiveShape.unsigned most) = unsigned_error most
+content_error PrimitiveShape.null = null_error
+content_error PrimitiveShape.character = character_error
+content_error PrimitiveShape.text = text_error
+content_error (PrimitiveShape.bytes tag) = bytes_error
 
 -- ---- whole reads
 

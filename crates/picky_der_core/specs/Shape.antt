@@ -1,32 +1,23 @@
 -- The shapes of types, which trees are of a shape, and with which bytes their encodings begin.
-use Rattle.std.specs.Prelude.{◌≡◌, ℕ, zero, suc, ◌+◌, ◌^◌, ◌<◌, ◌≤◌, Bool, not, ◌⊎◌, List, [], ◌∷◌, ◌++◌, length, ◌==◌, IsUtf8, chars, ⊤, IsTrue, if◌then◌else◌}
-use Rattle.std.specs.List.{AllByRecursion, list_any, list_all}
+use Rattle.std.specs.Prelude.{◌≡◌, ℕ, zero, suc, Bool, not, ◌⊎◌, List, [], ◌∷◌, ◌++◌, ◌==◌, ⊤, IsTrue, if◌then◌else◌}
+use Rattle.std.specs.List.{list_any, list_all}
+use Rattle.picky_der_core.specs.declared.asn1.wrapper.Wrapper.{Wrapper}
 use Rattle.picky_der_core.specs.Tag.{number_of, is_tag_number}
+use Rattle.picky_der_core.specs.Element.{AreBytes}
+use Rattle.picky_der_core.specs.Primitive.{PrimitiveShape, IsPrimitive, shape_tag}
+use Rattle.picky_der_core.specs.Wrapper.{wrapper_tag, wrapper_number}
 use Rattle.picky_der_core.specs.Tree.{ListKind, Tree, Trees}
 use Rattle.picky_der_core.specs.Encoding.{list_tag}
 
 mutual
   pub data Shape : Type 0 where
-    boolean : Shape
-    -- with the greatest number
-    unsigned : ℕ → Shape
-    null : Shape
-    character : Shape
-    text : Shape
-    -- with the tag
-    bytes : ℕ → Shape
+    primitive : PrimitiveShape → Shape
     -- a list whose members are all of one shape
     list_of : ListKind → Shape → Shape
     -- a list of these members, of which some may be missing
     fields : ListKind → Layout → Shape
+    wrapped : Wrapper → Shape → Shape
     optional : Shape → Shape
-    octet_container : Shape → Shape
-    bit_container : Shape → Shape
-    explicit : ℕ → Shape → Shape
-    implicit : ℕ → Shape → Shape
-    application : ℕ → Shape → Shape
-    -- a list under this tag, in place of its own
-    retagged : ℕ → Shape → Shape
     raw : Shape
     -- of one of these shapes
     choice : Shapes → Shape
@@ -49,65 +40,22 @@ shapes (s ∷ ss) = Shapes.more s (shapes ss)
 
 -- ---- trees of a shape
 
-abbrev pub AreBytes : List ℕ → Type 0
-AreBytes s = AllByRecursion (λ b. b < 256) s
-
 -- the tree is of that kind, and its parts are as said
 
-abbrev pub IsBoolean : Tree → Type 0
-IsBoolean (Tree.boolean b) = ⊤
-IsBoolean _ = ⊥
-
-abbrev pub IsUnsigned : ℕ → Tree → Type 0
-IsUnsigned most (Tree.unsigned n) = (n ≤ most) × (n < 2 ^ 128)
-IsUnsigned most _ = ⊥
-
-abbrev pub IsNull : Tree → Type 0
-IsNull Tree.null = ⊤
-IsNull _ = ⊥
-
-abbrev pub IsCharacter : Tree → Type 0
-IsCharacter (Tree.text s) = IsUtf8 s × (length (chars s) ≡ 1)
-IsCharacter _ = ⊥
-
-abbrev pub IsText : Tree → Type 0
-IsText (Tree.text s) = IsUtf8 s
-IsText _ = ⊥
-
-abbrev pub IsBytes : ℕ → Tree → Type 0
-IsBytes tag (Tree.bytes x s) = (x ≡ tag) × AreBytes s
-IsBytes tag _ = ⊥
+abbrev pub IsPrimitiveTree : PrimitiveShape → Tree → Type 0
+IsPrimitiveTree k (Tree.primitive p) = IsPrimitive k p
+IsPrimitiveTree k _ = ⊥
 
 abbrev pub IsList : ListKind → (Trees → Type 0) → Tree → Type 0
 IsList kind P (Tree.list x ts) = (x ≡ kind) × P ts
 IsList kind P _ = ⊥
 
+abbrev pub IsWrapped : Wrapper → (Tree → Type 0) → Tree → Type 0
+IsWrapped w P (Tree.wrapped v t) = (v ≡ w) × P t
+IsWrapped w P _ = ⊥
+
 abbrev pub IsOptional : (Tree → Type 0) → Tree → Type 0
 IsOptional P t = (t ≡ Tree.absent) ⊎ P t
-
-abbrev pub IsOctetContainer : (Tree → Type 0) → Tree → Type 0
-IsOctetContainer P (Tree.octet_container t) = P t
-IsOctetContainer P _ = ⊥
-
-abbrev pub IsBitContainer : (Tree → Type 0) → Tree → Type 0
-IsBitContainer P (Tree.bit_container t) = P t
-IsBitContainer P _ = ⊥
-
-abbrev pub IsExplicit : ℕ → (Tree → Type 0) → Tree → Type 0
-IsExplicit n P (Tree.explicit m t) = (m ≡ n) × P t
-IsExplicit n P _ = ⊥
-
-abbrev pub IsImplicit : ℕ → (Tree → Type 0) → Tree → Type 0
-IsImplicit n P (Tree.implicit m t) = (m ≡ n) × P t
-IsImplicit n P _ = ⊥
-
-abbrev pub IsApplication : ℕ → (Tree → Type 0) → Tree → Type 0
-IsApplication n P (Tree.application m t) = (m ≡ n) × P t
-IsApplication n P _ = ⊥
-
-abbrev pub IsRetagged : ℕ → (Tree → Type 0) → Tree → Type 0
-IsRetagged tag P (Tree.retagged x t) = (x ≡ tag) × P t
-IsRetagged tag P _ = ⊥
 
 abbrev pub IsRaw : Tree → Type 0
 IsRaw (Tree.raw s) = AreBytes s
@@ -138,21 +86,11 @@ IsEmpty (Trees.more t ts) = ⊥
 -- the tree is of the shape
 abbrev mutual
   pub IsOf : Shape → Tree → Type 0
-  IsOf Shape.boolean = IsBoolean
-  IsOf (Shape.unsigned most) = IsUnsigned most
-  IsOf Shape.null = IsNull
-  IsOf Shape.character = IsCharacter
-  IsOf Shape.text = IsText
-  IsOf (Shape.bytes tag) = IsBytes tag
+  IsOf (Shape.primitive k) = IsPrimitiveTree k
   IsOf (Shape.list_of kind s) = IsList kind (EachIs (IsOf s))
   IsOf (Shape.fields kind l) = IsList kind (AreMembersOf l)
+  IsOf (Shape.wrapped w s) = IsWrapped w (IsOf s)
   IsOf (Shape.optional s) = IsOptional (IsOf s)
-  IsOf (Shape.octet_container s) = IsOctetContainer (IsOf s)
-  IsOf (Shape.bit_container s) = IsBitContainer (IsOf s)
-  IsOf (Shape.explicit n s) = IsExplicit n (IsOf s)
-  IsOf (Shape.implicit n s) = IsImplicit n (IsOf s)
-  IsOf (Shape.application n s) = IsApplication n (IsOf s)
-  IsOf (Shape.retagged tag s) = IsRetagged tag (IsOf s)
   IsOf Shape.raw = IsRaw
   IsOf (Shape.choice ss) = IsChoice (IsOneOf ss)
 
@@ -181,21 +119,11 @@ tags_below (suc b) = tag_with_number (number_of b) b ++ tags_below b
 -- the bytes with which an encoding of the shape can begin
 abbrev mutual
   pub firsts : Shape → List ℕ
-  firsts Shape.boolean = 0x01 ∷ []
-  firsts (Shape.unsigned most) = 0x02 ∷ []
-  firsts Shape.null = 0x05 ∷ []
-  firsts Shape.character = 0x0C ∷ []
-  firsts Shape.text = 0x0C ∷ []
-  firsts (Shape.bytes tag) = tag_with_number (number_of tag) tag
+  firsts (Shape.primitive k) = tag_with_number (number_of (shape_tag k)) (shape_tag k)
   firsts (Shape.list_of kind s) = list_tag kind ∷ []
   firsts (Shape.fields kind l) = list_tag kind ∷ []
+  firsts (Shape.wrapped w s) = tag_with_number (wrapper_number w) (wrapper_tag w)
   firsts (Shape.optional s) = firsts s
-  firsts (Shape.octet_container s) = 0x04 ∷ []
-  firsts (Shape.bit_container s) = 0x03 ∷ []
-  firsts (Shape.explicit n s) = tag_with_number n (0xA0 + n)
-  firsts (Shape.implicit n s) = tag_with_number n (0x80 + n)
-  firsts (Shape.application n s) = tag_with_number n (0x60 + n)
-  firsts (Shape.retagged tag s) = tag_with_number (number_of tag) tag
   firsts Shape.raw = tags_below 256
   firsts (Shape.choice ss) = firsts_of ss
 
@@ -238,13 +166,8 @@ abbrev mutual
   pub IsSound : Shape → Type 0
   IsSound (Shape.list_of kind s) = IsSound s
   IsSound (Shape.fields kind l) = AreMembersSound l × AreMembersTold l
+  IsSound (Shape.wrapped w s) = IsSound s
   IsSound (Shape.optional s) = IsSound s
-  IsSound (Shape.octet_container s) = IsSound s
-  IsSound (Shape.bit_container s) = IsSound s
-  IsSound (Shape.explicit n s) = IsSound s
-  IsSound (Shape.implicit n s) = IsSound s
-  IsSound (Shape.application n s) = IsSound s
-  IsSound (Shape.retagged tag s) = IsSound s
   IsSound (Shape.choice ss) = AreSound ss × AreTold ss
   IsSound _ = ⊤
 

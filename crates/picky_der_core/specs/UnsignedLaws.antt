@@ -7,10 +7,9 @@ use Rattle.std.proofs.Math.Nat.{pow-le-pow_right, pow-zero}
 use Rattle.std.proofs.lemmas.Nat.{pow_pos, pow-add, leading_top}
 use Rattle.std.proofs.lemmas.Bool.{cases_lt, cond_both, eqb-false}
 use Rattle.std.proofs.lemmas.Int.Digits.{number_after_lt, number_lt}
-use Rattle.picky_der_core.specs.Element.{big_endian}
-use Rattle.picky_der_core.specs.Encoding.{as_positive, unsigned_content}
+use Rattle.picky_der_core.specs.Primitive.{as_positive, unsigned_content}
+use Rattle.picky_der_core.specs.Element.{big_endian, AreBytes}
 use Rattle.picky_der_core.specs.Refusal.{number_error, unsigned_error}
-use Rattle.picky_der_core.specs.Shape.{AreBytes}
 use Rattle.picky_der_core.specs.BigEndianLaws.{number-big_endian, AreBytes-big_endian, first-big_endian, big_endian-number, length-big_endian, power_of_2, bytes_high_first-big_endian}
 use Rattle.picky_der_core.specs.declared.error.Asn1DerError.TheVariants.{InvalidData, UnsupportedValue}
 

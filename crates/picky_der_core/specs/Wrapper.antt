@@ -1,62 +1,53 @@
--- Open wrappers around a tree.
-use Rattle.std.specs.Prelude.{ℕ, ◌+◌, ⊤, List, [], ◌∷◌, Option, None, Some}
-use Rattle.picky_der_core.specs.declared.asn1.newtype.Newtype.{Newtype}
-use Rattle.picky_der_core.specs.declared.asn1.newtype.Newtype.TheVariants as newtype
+-- The wrappers, each one element around one value (X.690, 8.6.2, 8.7, 8.14): a line for each in each table.
+use Rattle.std.specs.Prelude.{ℕ, ◌+◌, Bool, true, false, List, [], ◌∷◌, ⊤, if◌then◌else◌}
 use Rattle.picky_der_core.specs.declared.asn1.wrapper.Wrapper.{Wrapper}
-use Rattle.picky_der_core.specs.declared.asn1.wrapper.Wrapper.TheVariants.{OctetContainer, BitContainer, Explicit, Implicit, Retagged}
-use Rattle.picky_der_core.specs.Tag.{IsTagNumber, IsConstructedTag}
-use Rattle.picky_der_core.specs.Tree.{Tree}
-use Rattle.picky_der_core.specs.Encoding.{der, implicit_content}
+use Rattle.picky_der_core.specs.declared.asn1.wrapper.Wrapper.TheVariants.{OctetContainer, BitContainer, Explicit, Implicit, Application, Retagged}
+use Rattle.picky_der_core.specs.Tag.{number_of, is_tag_number, IsTagNumber, is_constructed_tag, IsConstructedTag}
 
-abbrev pub wrap : Wrapper → Tree → Tree
-wrap OctetContainer t = Tree.octet_container t
-wrap BitContainer t = Tree.bit_container t
-wrap (Explicit n) t = Tree.explicit n t
-wrap (Implicit n) t = Tree.implicit n t
-wrap (Retagged tag) t = Tree.retagged tag t
-
--- the tree with the wrappers around it, the outermost first
-abbrev pub under : List Wrapper → Tree → Tree
-under [] t = t
-under (w ∷ ws) t = wrap w (under ws t)
-
--- the tag of a wrapper, and what it holds around a tree
 abbrev pub wrapper_tag : Wrapper → ℕ
 wrapper_tag OctetContainer = 0x04
 wrapper_tag BitContainer = 0x03
 wrapper_tag (Explicit n) = 0xA0 + n
 wrapper_tag (Implicit n) = 0x80 + n
+wrapper_tag (Application n) = 0x60 + n
 wrapper_tag (Retagged tag) = tag
 
-abbrev pub wrapped_content : Wrapper → Tree → List ℕ
-wrapped_content OctetContainer t = der t
-wrapped_content BitContainer t = 0x00 ∷ der t
-wrapped_content (Explicit n) t = der t
-wrapped_content (Implicit n) t = implicit_content t
-wrapped_content (Retagged tag) t = implicit_content t
+-- whether a byte before the value counts unused bits (8.6.2)
+abbrev pub counts_unused_bits : Wrapper → Bool
+counts_unused_bits BitContainer = true
+counts_unused_bits _ = false
 
--- its tag number, if it has one, is at most 30, and a tag in place of a list's own is a constructed one
+-- whether a plain value keeps its header in it
+abbrev pub keeps_header : Wrapper → Bool
+keeps_header (Implicit n) = false
+keeps_header (Retagged tag) = false
+keeps_header _ = true
+
+-- whether nothing is written of it around a value of which nothing is written
+abbrev pub can_vanish : Wrapper → Bool
+can_vanish (Application n) = false
+can_vanish _ = true
+
+-- what stands between its header and the value: there are no unused bits
+abbrev pub wrapper_front : Wrapper → List ℕ
+wrapper_front w = if counts_unused_bits w then 0x00 ∷ [] else []
+
+-- the number of its tag
+abbrev pub wrapper_number : Wrapper → ℕ
+wrapper_number OctetContainer = 4
+wrapper_number BitContainer = 3
+wrapper_number (Explicit n) = n
+wrapper_number (Implicit n) = n
+wrapper_number (Application n) = n
+wrapper_number (Retagged tag) = number_of tag
+
+-- That is at most 30, and a tag in place of a list's own is a constructed one.
 abbrev pub HasTagNumber : Wrapper → Type 0
 HasTagNumber OctetContainer = ⊤
 HasTagNumber BitContainer = ⊤
-HasTagNumber (Explicit n) = IsTagNumber n
-HasTagNumber (Implicit n) = IsTagNumber n
 HasTagNumber (Retagged tag) = IsConstructedTag tag
+HasTagNumber w = IsTagNumber (wrapper_number w)
 
--- the wrapper of a newtype, if it has one
-abbrev pub wrapper_of : Newtype → Option Wrapper
-wrapper_of newtype.Plain = None
-wrapper_of newtype.OctetContainer = Some OctetContainer
-wrapper_of newtype.BitContainer = Some BitContainer
-wrapper_of (newtype.Explicit n) = Some (Explicit n)
-wrapper_of (newtype.Implicit n) = Some (Implicit n)
-
--- the tree, in a wrapper or as it is
-abbrev pub wrap_if : Option Wrapper → Tree → Tree
-wrap_if None t = t
-wrap_if (Some w) t = wrap w t
-
--- its tag number, if it has one, is at most 30
-abbrev pub HasTagNumberIfAny : Option Wrapper → Type 0
-HasTagNumberIfAny None = ⊤
-HasTagNumberIfAny (Some w) = HasTagNumber w
+abbrev pub has_tag_number : Wrapper → Bool
+has_tag_number (Retagged tag) = is_constructed_tag tag
+has_tag_number w = is_tag_number (wrapper_number w)

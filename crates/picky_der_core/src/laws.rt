@@ -1,7 +1,7 @@
 //! The laws of canonical DER: each is the contract of a function without arguments, over the definitions alone.
 //! Beside them stand those of `==` and of copies.
 ghost use Rattle.std.specs.Prelude.{◌≡◌, ℤ, List, ℕ, true};
-ghost use Rattle.picky_der_core.specs.Shape.{AreBytes};
+ghost use Rattle.picky_der_core.specs.Element.{AreBytes};
 ghost use Rattle.picky_der_core.specs.Integer.{is_integer, integer_content, integer_value, twos_complement};
 ghost use Rattle.picky_der_core.specs.Laws.{LengthBothWays, WrapperLengths, FirstsTell, UniqueReadability, OneValue, RoundTrip};
 ghost use Rattle.picky_der_core.specs.Laws.{SameBytes, OneInside, SetOrder};
@@ -14,8 +14,8 @@ pub fn length_both_ways()
     ensures { LengthBothWays }
 {}
 
-/// Around something, a wrapper with a number up to 30 is one element that holds just what stands in it, at every depth;
-/// an application tag with such a number is so around anything.
+/// Around something, a wrapper with a number up to 30 is one element that holds exactly what it should, at every depth. An
+/// application tag is one around anything.
 pub fn wrapper_lengths()
     ensures { WrapperLengths }
 {}

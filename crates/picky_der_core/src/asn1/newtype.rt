@@ -1,6 +1,6 @@
 //! What a newtype has around its value.
+ghost use Rattle.picky_der_core.specs.OpenWrappers.{wrapper_of};
 ghost use Rattle.std.specs.Prelude.{◌≡◌};
-ghost use Rattle.picky_der_core.specs.Wrapper.{wrapper_of};
 
 use super::Wrapper;
 

@@ -1,4 +1,8 @@
 //! The wrappers that stand around a value.
+ghost use Rattle.std.specs.Prelude.{◌≡◌, true, false};
+ghost use Rattle.picky_der_core.specs.Wrapper.{wrapper_tag, counts_unused_bits, keeps_header, HasTagNumber};
+
+use super::Tag;
 
 /// A wrapper of one element around an encoding.
 #[derive(Debug, Clone, Copy, PartialEq, Eq)]
@@ -15,6 +19,62 @@ pub enum Wrapper {
     /// The implicit context tag with this number.
     Implicit(u8),
 
+    /// The explicit application tag with this number.
+    Application(u8),
+
     /// A list's tag that this identifier byte replaces.
     Retagged(u8),
+}
+
+impl Wrapper {
+    /// Whether its tag number is at most 30, and a tag in place of a list's own is constructed.
+    pub fn has_tag_number(self) -> bool
+        ensures yes { result ≡ true → HasTagNumber self }
+        ensures no { result ≡ false → HasTagNumber self → ⊥ }
+    {
+        match self {
+            Wrapper::OctetContainer | Wrapper::BitContainer => true,
+            Wrapper::Explicit(number) | Wrapper::Implicit(number) | Wrapper::Application(number) =>
+                { number <= Tag::MAX_NUMBER }
+            Wrapper::Retagged(tag) => {
+                let tag = Tag::from(tag);
+                tag.number() <= Tag::MAX_NUMBER && tag.is_constructed()
+            }
+        }
+    }
+
+    /// Its tag (X.690, 8.6.2, 8.7 and 8.14).
+    pub fn tag(self) -> Tag
+        requires { HasTagNumber self }
+        ensures { result ≡ wrapper_tag self }
+    {
+        match self {
+            Wrapper::OctetContainer => Tag::OCTET_STRING,
+            Wrapper::BitContainer => Tag::BIT_STRING,
+            Wrapper::Explicit(number) => Tag::context_specific_constructed(number),
+            Wrapper::Implicit(number) => Tag::context_specific_primitive(number),
+            Wrapper::Application(number) => Tag::application_constructed(number),
+            Wrapper::Retagged(tag) => Tag::from(tag),
+        }
+    }
+
+    /// Whether a byte before the value counts unused bits, of which there are none (X.690, 8.6.2).
+    pub fn counts_unused_bits(self) -> bool
+        ensures { result ≡ counts_unused_bits self }
+    {
+        self == Wrapper::BitContainer
+    }
+
+    /// Whether a plain value keeps its header in it: not directly under an implicit tag.
+    pub fn keeps_header(self) -> bool
+        ensures { result ≡ keeps_header self }
+    {
+        match self {
+            Wrapper::Implicit(_) | Wrapper::Retagged(_) => false,
+            Wrapper::OctetContainer
+            | Wrapper::BitContainer
+            | Wrapper::Explicit(_)
+            | Wrapper::Application(_) => true,
+        }
+    }
 }

@@ -29,6 +29,10 @@ returns-clause-wrapper c (wrapper.Implicit n) (wrapper.Implicit k) = (
   λ h. ap wrapper.Implicit ((unsigned_Decides n k).0 h),
   λ e. let same : n ≡ k = cc in (unsigned_Decides n k).1 same,
 )
+returns-clause-wrapper c (wrapper.Application n) (wrapper.Application k) = (
+  λ h. ap wrapper.Application ((unsigned_Decides n k).0 h),
+  λ e. let same : n ≡ k = cc in (unsigned_Decides n k).1 same,
+)
 returns-clause-wrapper c (wrapper.Retagged n) (wrapper.Retagged k) = (
   λ h. ap wrapper.Retagged ((unsigned_Decides n k).0 h),
   λ e. let same : n ≡ k = cc in (unsigned_Decides n k).1 same,
