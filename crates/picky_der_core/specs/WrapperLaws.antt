@@ -6,7 +6,7 @@ use Rattle.picky_der_core.specs.declared.asn1.wrapper.Wrapper.{Wrapper}
 use Rattle.picky_der_core.specs.declared.asn1.wrapper.Wrapper.TheVariants.{OctetContainer, BitContainer, Explicit, Implicit, Application, Retagged}
 use Rattle.picky_der_core.specs.Tag.{number_of, is_tag_number, IsTagNumber}
 use Rattle.picky_der_core.specs.TagLaws.{constructed_tag_tells}
-use Rattle.picky_der_core.specs.Wrapper.{wrapper_tag, wrapper_number, wrapper_front, counts_unused_bits, HasTagNumber, has_tag_number}
+use Rattle.picky_der_core.specs.Wrapper.{wrapper_tag, wrapper_number, wrapper_front, counts_unused_bits, keeps_header, HasTagNumber, has_tag_number}
 
 pub wrapper_tag_number : (w : Wrapper) → HasTagNumber w → IsTagNumber (number_of (wrapper_tag w))
 wrapper_tag_number OctetContainer h = omega arith
@@ -52,3 +52,9 @@ after_count false c d e = e
 -- what follows the front of a wrapper
 pub after_front : (w : Wrapper) (c d : List ℕ) → wrapper_front w ++ c ≡ wrapper_front w ++ d → c ≡ d
 after_front w c d e = after_count (counts_unused_bits w) c d e
+
+-- a wrapper that leaves the header of a plain value out has no front
+pub no_front : (w : Wrapper) → keeps_header w ≡ false → wrapper_front w ≡ []
+no_front (Implicit n) h = refl
+no_front (Retagged tag) h = refl
+no_front _ h = cc

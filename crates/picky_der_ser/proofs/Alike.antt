@@ -1,15 +1,15 @@
 -- What is written of trees that are written alike.
-use Rattle.std.proofs.Common.{◌≡◌, ◌<◌, ◌^◌, List, [], ◌∷◌, length, true, Option, None, Some, sym, ap, ◌∙◌, subst, Result, Ok, Err, IfOk, IfErr, ℕ}
+use Rattle.std.proofs.Common.{◌≡◌, ◌<◌, ◌^◌, List, [], ◌∷◌, length, Option, None, Some, sym, ap, ◌∙◌, subst, Result, Ok, Err, IfOk, IfErr, ℕ}
 use Rattle.std.specs.Prelude.{IfNone, IsTrue}
+use Rattle.picky_der_core.specs.Primitive.{Primitive, primitive_tag, primitive_content}
+use Rattle.picky_der_core.specs.OpenWrapperLaws.{AreAlike, alike-under, der-alike, alike-sym, alike-bytes}
 use Rattle.picky_der_core.specs.declared.failure.Failure.{Failure}
 use Rattle.picky_der_core.specs.declared.misc.writer.WriteExt.{Ghosts}
 use Rattle.picky_der_core.specs.declared.error.Asn1DerError.{Asn1DerError}
 use Rattle.picky_der_core.specs.Tree.{Tree}
-use Rattle.picky_der_core.specs.Encoding.{content, plain_tag}
 use Rattle.picky_der_core.specs.Readable.{IsWritable}
-use Rattle.picky_der_core.specs.WrapperLaws.{AreAlike, alike-under, der-alike, alike-sym, is_simple, alike-bytes}
 use Rattle.picky_der_ser.specs.State.{State, Level}
-use Rattle.picky_der_ser.specs.Calls.{Adds, Excuse, no_memory, unwritable, no_sink, MemoryExcuse, no_room, no_way, SinkRefuses, RefusesIn, Writes, RefusesWrite, OnlySinkFails, RefusesUnwritable, WritesPlain}
+use Rattle.picky_der_ser.specs.Calls.{Adds, Excuse, no_memory, unwritable, no_sink, MemoryExcuse, no_room, no_way, SinkRefuses, RefusesIn, Writes, RefusesWrite, OnlySinkFails, RefusesUnwritable, WritesPlain, WritesPrimitive}
 
 pub writable-alike : (t u : Tree) → AreAlike t u → IsWritable t → IsWritable u
 writable-alike t u a h = record { numbers = subst IsTrue a.numbers_same h.numbers; fits = subst (λ l. length l < 2 ^ 64) (der-alike t u a) h.fits }
@@ -60,17 +60,19 @@ module _ {W : Type 0} (g : Ghosts W) where
   refuses_unwritable-alike : (t u : Tree) (old new : State W) (r : Result ℕ Asn1DerError) → AreAlike t u → RefusesUnwritable g t old r new → RefusesUnwritable g u old r new
   refuses_unwritable-alike t u old new r a h = λ n. h (λ w. n (writable-alike t u a w))
 
-  -- a plain value is written as its tag and content
-  pub writes_plain-as : (t : Tree) (c : List ℕ) → is_simple t ≡ true → c ≡ content t → (old new : State W) (r : Result ℕ Asn1DerError) → WritesPlain g (Tree.bytes (plain_tag t) c) old r new → WritesPlain g t old r new
-  writes_plain-as t c p e old new r h =
-      let a = alike-bytes t p in
-      let k : WritesPlain g (Tree.bytes (plain_tag t) (content t)) old r new = subst (λ b. WritesPlain g (Tree.bytes (plain_tag t) b) old r new) e h in
+  -- a value of a primitive kind is written as bytes under its tag
+  pub writes_primitive-as : (p : Primitive) (c : List ℕ) → c ≡ primitive_content p → (old new : State W) (r : Result ℕ Asn1DerError) → WritesPrimitive g (Primitive.bytes (primitive_tag p) c) old r new → WritesPrimitive g p old r new
+  writes_primitive-as p c e old new r h =
+      let a = alike-bytes p in
+      let t = Tree.primitive (Primitive.bytes (primitive_tag p) (primitive_content p)) in
+      let u = Tree.primitive p in
+      let k : WritesPrimitive g (Primitive.bytes (primitive_tag p) (primitive_content p)) old r new = subst (λ b. WritesPrimitive g (Primitive.bytes (primitive_tag p) b) old r new) e h in
       record {
-        wrote = writes-alike (Tree.bytes (plain_tag t) (content t)) t old new r a k.wrote;
-        failed = fails-alike (Tree.bytes (plain_tag t) (content t)) t old new r a k.failed;
-        outside = outside-alike (Tree.bytes (plain_tag t) (content t)) t old new r a k.outside;
+        wrote = writes-alike t u old new r a k.wrote;
+        failed = fails-alike t u old new r a k.failed;
+        outside = outside-alike t u old new r a k.outside;
         untouched = k.untouched;
-        refuses_unwritable = refuses_unwritable-alike (Tree.bytes (plain_tag t) (content t)) t old new r a k.refuses_unwritable;
+        refuses_unwritable = refuses_unwritable-alike t u old new r a k.refuses_unwritable;
         counted = k.counted;
         goes_on = k.goes_on;
       }

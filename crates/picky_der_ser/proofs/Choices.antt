@@ -1,9 +1,9 @@
 -- Choices, which are written as the alternative that was chosen.
 use Rattle.std.proofs.Common.{ℕ, Result, IfOk, IfErr}
+use Rattle.picky_der_core.specs.OpenWrapperLaws.{AreAlike, alike-sym, alike-choice}
 use Rattle.picky_der_core.specs.declared.misc.writer.WriteExt.{Ghosts}
 use Rattle.picky_der_core.specs.declared.error.Asn1DerError.{Asn1DerError}
 use Rattle.picky_der_core.specs.Tree.{Tree}
-use Rattle.picky_der_core.specs.WrapperLaws.{AreAlike, alike-sym, alike-choice}
 use Rattle.picky_der_ser.specs.State.{State}
 use Rattle.picky_der_ser.specs.Calls.{Writes, RefusesWrite, WritesPlain}
 use Rattle.picky_der_ser.proofs.Alike.{writes-alike, fails-alike}

@@ -1,29 +1,30 @@
 -- Headers that are added from the innermost outwards, the last byte first.
-use Rattle.std.proofs.Common.{◌≡◌, ℕ, zero, suc, ◌+◌, ◌-◌, ◌≤◌, List, [], ◌∷◌, ◌++◌, length, take, drop, reverse, Option, None, Some, refl, sym, ◌∙◌, ap, subst, append_assoc, append-nil, length-append, arith}
+use Rattle.std.proofs.Common.{◌≡◌, ℕ, zero, suc, ◌+◌, ◌-◌, ◌≤◌, Bool, true, false, List, [], ◌∷◌, ◌++◌, length, take, drop, reverse, Option, None, Some, refl, sym, ◌∙◌, ap, subst, append_assoc, append-nil, length-append, arith}
+use Rattle.std.specs.Prelude.{if◌then◌else◌}
 use Rattle.std.proofs.Math.Seq.{take-append_seam, drop-append_seam}
 use mir.Val.{bool_byte}
 use Rattle.std.specs.Option.{is_some}
 use Rattle.std.proofs.lemmas.List.{take_all, reverse-append, reverse-reverse, length-reverse}
 use Rattle.picky_der_core.specs.declared.asn1.wrapper.Wrapper.{Wrapper}
-use Rattle.picky_der_core.specs.declared.asn1.wrapper.Wrapper.TheVariants.{OctetContainer, BitContainer, Explicit, Implicit, Retagged}
 use Rattle.picky_der_core.specs.Tag.{number_of, IsTagNumber}
-use Rattle.picky_der_core.specs.Wrapper.{HasTagNumber}
+use Rattle.picky_der_core.specs.Wrapper.{wrapper_tag, keeps_header, HasTagNumber}
+use Rattle.picky_der_core.specs.WrapperLaws.{wrapper_tag_number}
 use Rattle.picky_der_ser.specs.declared.header.Header.{Header}
 use Rattle.picky_der_ser.specs.declared.header.Header.TheVariants.{Tagged, Application, Raw}
 use Rattle.std.specs.Option.{unwrap_or}
-use Rattle.picky_der_ser.specs.Headers.{wrapper_opening, wrapper_openings, joint_header, innermost_joint_header, headed_wrappers, HasNumber, HaveTagNumbers}
+use Rattle.picky_der_ser.specs.Headers.{wrapper_opening, wrapper_openings, joint_header, innermost_joint_header, headed_wrappers, HasNumber, CanAllBeOpen}
 
 -- ---- tag numbers
 
-pub last_number : (ws : List Wrapper) (w : Wrapper) → HaveTagNumbers (ws ++ (w ∷ [])) → HasTagNumber w
-last_number [] w h = h.0
+pub last_number : (ws : List Wrapper) (w : Wrapper) → CanAllBeOpen (ws ++ (w ∷ [])) → HasTagNumber w
+last_number [] w h = h.0.0
 last_number (v ∷ ws) w h = last_number ws w h.1
 
-pub outer_numbers : (ws : List Wrapper) (w : Wrapper) → HaveTagNumbers (ws ++ (w ∷ [])) → HaveTagNumbers ws
+pub outer_numbers : (ws : List Wrapper) (w : Wrapper) → CanAllBeOpen (ws ++ (w ∷ [])) → CanAllBeOpen ws
 outer_numbers [] w h = tt
 outer_numbers (v ∷ ws) w h = (h.0, outer_numbers ws w h.1)
 
-pub first_numbers : (n : ℕ) (ws : List Wrapper) → HaveTagNumbers ws → HaveTagNumbers (take n ws)
+pub first_numbers : (n : ℕ) (ws : List Wrapper) → CanAllBeOpen ws → CanAllBeOpen (take n ws)
 first_numbers zero ws h = tt
 first_numbers (suc n) [] h = tt
 first_numbers (suc n) (w ∷ ws) h = (h.0, first_numbers n ws h.1)
@@ -34,32 +35,25 @@ innermost_joint_header-append (v ∷ []) w h = refl
 innermost_joint_header-append (v ∷ u ∷ ws) w h = innermost_joint_header-append (u ∷ ws) w h
 
 -- the header that is written innermost has a tag number too
-pub joined_number : (w : Wrapper) (h j : Header) → HasTagNumber w → joint_header w h ≡ Some j → HasNumber j
-joined_number (Implicit k) (Tagged tag) j n e =
-    let q : Tagged (0x80 + k) ≡ j = cc in
-    let small : IsTagNumber (number_of (0x80 + k)) = omega arith in
-    subst HasNumber q small
-joined_number (Implicit k) (Application m) j n e = cc
-joined_number (Implicit k) Raw j n e = cc
-joined_number (Retagged other) (Tagged tag) j n e =
-    let q : Tagged other ≡ j = cc in
-    subst HasNumber q n.0
-joined_number (Retagged other) (Application m) j n e = cc
-joined_number (Retagged other) Raw j n e = cc
-joined_number OctetContainer h j n e = cc
-joined_number BitContainer h j n e = cc
-joined_number (Explicit k) h j n e = cc
+tagged_number : (keeps : Bool) (tag : ℕ) (j : Header) → IsTagNumber (number_of tag) → (if keeps then None else Some (Tagged tag)) ≡ Some j → HasNumber j
+tagged_number true tag j n e = cc
+tagged_number false tag j n e = let q : Tagged tag ≡ j = cc in subst HasNumber q n
 
-pub innermost_number : (ws : List Wrapper) (h : Header) → HaveTagNumbers ws → HasNumber h → HasNumber (unwrap_or (innermost_joint_header ws h) h)
+pub joined_number : (w : Wrapper) (h j : Header) → HasTagNumber w → joint_header w h ≡ Some j → HasNumber j
+joined_number w (Tagged tag) j n e = tagged_number (keeps_header w) (wrapper_tag w) j (wrapper_tag_number w n) e
+joined_number w (Application m) j n e = cc
+joined_number w Raw j n e = cc
+
+pub innermost_number : (ws : List Wrapper) (h : Header) → CanAllBeOpen ws → HasNumber h → HasNumber (unwrap_or (innermost_joint_header ws h) h)
 innermost_number [] h n m = m
 innermost_number (w ∷ []) h n m = one (joint_header w h) refl
   where
     one : (j : Option Header) → joint_header w h ≡ j → HasNumber (unwrap_or j h)
     one None e = m
-    one (Some j) e = joined_number w h j n.0 e
+    one (Some j) e = joined_number w h j n.0.0 e
 innermost_number (w ∷ v ∷ ws) h n m = innermost_number (v ∷ ws) h n.1 m
 
-pub kept_numbers : (ws : List Wrapper) (j : Option Header) → HaveTagNumbers ws → HaveTagNumbers (headed_wrappers j ws)
+pub kept_numbers : (ws : List Wrapper) (j : Option Header) → CanAllBeOpen ws → CanAllBeOpen (headed_wrappers j ws)
 kept_numbers ws None h = h
 kept_numbers ws (Some j) h = first_numbers (length ws - 1) ws h
 

@@ -1,9 +1,9 @@
 -- The headers of a longer content are no shorter.
-use Rattle.std.proofs.Common.{ℕ, suc, ◌+◌, ◌<◌, ◌≤◌, List, [], ◌∷◌, length, inl, inr, arith, length-append}
+use Rattle.std.proofs.Common.{ℕ, ◌+◌, ◌<◌, ◌≤◌, List, [], ◌∷◌, length, inl, inr, arith, length-append}
 use Rattle.std.proofs.lemmas.Bool.{cases_lt}
 use Rattle.std.specs.Option.{unwrap_or}
 use Rattle.picky_der_core.specs.declared.asn1.wrapper.Wrapper.{Wrapper}
-use Rattle.picky_der_core.specs.declared.asn1.wrapper.Wrapper.TheVariants.{OctetContainer, BitContainer, Explicit, Implicit, Retagged}
+use Rattle.picky_der_core.specs.Wrapper.{wrapper_front}
 use Rattle.picky_der_core.specs.Element.{big_endian, length_octets}
 use Rattle.picky_der_core.specs.ElementLaws.{length_octets-short, length_octets-long}
 use Rattle.picky_der_core.specs.BigEndianLaws.{length-big_endian, below-big_endian}
@@ -27,11 +27,10 @@ length_octets_more m n h = elim (cases_lt m 0x80) [
 ]
 
 opening_more : (w : Wrapper) (m n : ℕ) → m ≤ n → length (wrapper_opening w m) ≤ length (wrapper_opening w n)
-opening_more OctetContainer m n h = let s = length_octets_more m n h in omega (arith, s)
-opening_more BitContainer m n h = let s = length_octets_more (suc m) (suc n) (omega arith) in omega (arith, s, length-append (length_octets (suc m)) (0x00 ∷ []), length-append (length_octets (suc n)) (0x00 ∷ []))
-opening_more (Explicit k) m n h = let s = length_octets_more m n h in omega (arith, s)
-opening_more (Implicit k) m n h = let s = length_octets_more m n h in omega (arith, s)
-opening_more (Retagged tag) m n h = let s = length_octets_more m n h in omega (arith, s)
+opening_more w m n h =
+    let front = wrapper_front w in
+    let s = length_octets_more (length front + m) (length front + n) (omega arith) in
+    omega (arith, s, length-append (length_octets (length front + m)) front, length-append (length_octets (length front + n)) front)
 
 own_more : (h : Header) (m n : ℕ) → m ≤ n → length (own_header h m) ≤ length (own_header h n)
 own_more (Tagged tag) m n h = let s = length_octets_more m n h in omega (arith, s)

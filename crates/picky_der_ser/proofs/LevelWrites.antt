@@ -3,10 +3,11 @@ use Rattle.std.proofs.Common.{◌≡◌, ℕ, ◌+◌, ◌<◌, ◌^◌, true, L
 use Rattle.std.proofs.Math.Seq.{take-append_seam, drop-append_seam}
 use Rattle.std.specs.Prelude.{IfSome, IsTrue}
 use Rattle.std.specs.Io.KnownBytes.{Appends}
+use Rattle.picky_der_core.specs.OpenWrappers.{under}
 use Rattle.picky_der_core.specs.declared.asn1.wrapper.Wrapper.{Wrapper}
-use Rattle.picky_der_core.specs.declared.asn1.wrapper.Wrapper.TheVariants.{OctetContainer, BitContainer, Explicit, Implicit, Retagged}
-use Rattle.picky_der_core.specs.Tag.{number_of, is_tag_number, is_constructed_tag}
-use Rattle.picky_der_core.specs.TagLaws.{is_constructed_tag-true}
+use Rattle.picky_der_core.specs.Tag.{number_of, is_tag_number}
+use Rattle.picky_der_core.specs.Wrapper.{has_tag_number}
+use Rattle.picky_der_core.specs.WrapperLaws.{has_tag_number-true}
 use Rattle.picky_der_core.specs.Writer.{AppendsTooFew}
 use Rattle.picky_der_core.specs.WriterFaults.{WriterFails}
 use Rattle.picky_der_core.specs.declared.misc.writer.WriteExt.{Ghosts}
@@ -14,11 +15,10 @@ use Rattle.picky_der_core.specs.declared.error.Asn1DerError.{Asn1DerError}
 use Rattle.picky_der_core.specs.Tree.{Tree}
 use Rattle.picky_der_core.specs.Encoding.{der}
 use Rattle.picky_der_core.specs.Readable.{has_tag_numbers, IsWritable}
-use Rattle.picky_der_core.specs.Wrapper.{under}
 use Rattle.picky_der_ser.specs.declared.header.Header.{Header}
 use Rattle.picky_der_ser.specs.declared.header.Header.TheVariants.{Tagged, Application, Raw}
 use Rattle.picky_der_ser.specs.Heading.{tree_of}
-use Rattle.picky_der_ser.specs.Headers.{headers, HasNumber, HaveTagNumbers}
+use Rattle.picky_der_ser.specs.Headers.{headers, HasNumber, CanAllBeOpen}
 use Rattle.picky_der_ser.specs.State.{Level, Stack, with_bytes}
 use Rattle.picky_der_ser.specs.Sealed.{as_raw_level}
 use Rattle.picky_der_ser.specs.Calls.{SinkWrites, SinkRefuses, no_sink}
@@ -31,18 +31,14 @@ number_writable (Tagged tag) c h = le-leb (number_of tag) 30 h
 number_writable (Application k) c h = let e : is_tag_number k ≡ true = le-leb k 30 h in rw e refl
 number_writable Raw c h = refl
 
-pub numbers_writable : (ws : List Wrapper) (t : Tree) → HaveTagNumbers ws → IsTrue (has_tag_numbers t) → IsTrue (has_tag_numbers (under ws t))
+pub numbers_writable : (ws : List Wrapper) (t : Tree) → CanAllBeOpen ws → IsTrue (has_tag_numbers t) → IsTrue (has_tag_numbers (under ws t))
 numbers_writable [] t h k = k
-numbers_writable (OctetContainer ∷ ws) t h k = numbers_writable ws t h.1 k
-numbers_writable (BitContainer ∷ ws) t h k = numbers_writable ws t h.1 k
-numbers_writable (Explicit n ∷ ws) t h k = let e : is_tag_number n ≡ true = le-leb n 30 h.0 in rw e (numbers_writable ws t h.1 k)
-numbers_writable (Implicit n ∷ ws) t h k = let e : is_tag_number n ≡ true = le-leb n 30 h.0 in rw e (numbers_writable ws t h.1 k)
-numbers_writable (Retagged tag ∷ ws) t h k = let e : is_constructed_tag tag ≡ true = is_constructed_tag-true tag h.0 in rw e (numbers_writable ws t h.1 k)
+numbers_writable (w ∷ ws) t h k = let e : has_tag_number w ≡ true = has_tag_number-true w h.0.0 in rw e (numbers_writable ws t h.1 k)
 
-pub writable_counted : (ws : List Wrapper) (h : Header) (c : List ℕ) → HaveTagNumbers ws × HasNumber h → length (der (under ws (tree_of h c))) < 2 ^ 64 → IsWritable (under ws (tree_of h c))
+pub writable_counted : (ws : List Wrapper) (h : Header) (c : List ℕ) → CanAllBeOpen ws × HasNumber h → length (der (under ws (tree_of h c))) < 2 ^ 64 → IsWritable (under ws (tree_of h c))
 writable_counted ws h c n fits = record { numbers = numbers_writable ws (tree_of h c) n.0 (number_writable h c n.1); fits = fits }
 
-writable_headed : (ws : List Wrapper) (h : Header) (c : List ℕ) → HaveTagNumbers ws × HasNumber h → length (headers ws h (length c)) + length c < 2 ^ 64 → IsWritable (under ws (tree_of h c))
+writable_headed : (ws : List Wrapper) (h : Header) (c : List ℕ) → CanAllBeOpen ws × HasNumber h → length (headers ws h (length c)) + length c < 2 ^ 64 → IsWritable (under ws (tree_of h c))
 writable_headed ws h c n fits = writable_counted ws h c n (rw (der-headers ws h c) (omega (arith, fits, length-append (headers ws h (length c)) c)))
 
 -- ---- the level that was opened last, if there is one
@@ -58,7 +54,7 @@ as_it_is l = under l.around (tree_of l.header l.content)
 abbrev pub AreEncoding : (Level → Tree) → Option Level → List ℕ → Type 0
 AreEncoding t p bs = IfSome p (λ l. IsWritable (t l) × (bs ≡ der (t l)))
 
-module _ (p : Option Level) (old new : Stack) (n : ℕ) (numbers : IfSome p (λ l. HaveTagNumbers l.around × HasNumber l.header))
+module _ (p : Option Level) (old new : Stack) (n : ℕ) (numbers : IfSome p (λ l. CanAllBeOpen l.around × HasNumber l.header))
     (added : IfSome p (λ l. new ≡ record old { pending = Some (with_bytes l (headers l.around l.header n)) })) where
   -- what it holds, with the headers of n bytes behind
   held : (bs : List ℕ) → IfSome new.pending (λ l. bs ≡ l.content) → IfSome p (λ l. bs ≡ l.content ++ headers l.around l.header n)
@@ -72,7 +68,7 @@ module _ (p : Option Level) (old new : Stack) (n : ℕ) (numbers : IfSome p (λ 
   pub encoding_behind : (front c : List ℕ) → n ≡ length c → IfSome p (λ l. l.content ≡ []) → IfSome new.pending (λ l. front ≡ l.content) → length front + length c < 2 ^ 64 → AreEncoding (with_content c) p (front ++ c)
   encoding_behind front c count empty shown fits = by_level p numbers empty (held front shown)
     where
-      by_level : (q : Option Level) → IfSome q (λ l. HaveTagNumbers l.around × HasNumber l.header) → IfSome q (λ l. l.content ≡ []) → IfSome q (λ l. front ≡ l.content ++ headers l.around l.header n) → AreEncoding (with_content c) q (front ++ c)
+      by_level : (q : Option Level) → IfSome q (λ l. CanAllBeOpen l.around × HasNumber l.header) → IfSome q (λ l. l.content ≡ []) → IfSome q (λ l. front ≡ l.content ++ headers l.around l.header n) → AreEncoding (with_content c) q (front ++ c)
       by_level None a b d = tt
       by_level (Some l) a b d =
           let is : front ≡ headers l.around l.header (length c) = d ∙ ap (λ x. x ++ headers l.around l.header n) b ∙ ap (headers l.around l.header) count in
@@ -82,7 +78,7 @@ module _ (p : Option Level) (old new : Stack) (n : ℕ) (numbers : IfSome p (λ 
   pub encoding_split : (all whole c hs : List ℕ) → n ≡ length whole → IfSome p (λ l. whole ≡ l.content) → IfSome new.pending (λ l. all ≡ l.content) → c ≡ take n all → hs ≡ drop n all → length hs + length c < 2 ^ 64 → AreEncoding as_it_is p (hs ++ c)
   encoding_split all whole c hs count was shown front back fits = by_level p numbers was (held all shown)
     where
-      by_level : (q : Option Level) → IfSome q (λ l. HaveTagNumbers l.around × HasNumber l.header) → IfSome q (λ l. whole ≡ l.content) → IfSome q (λ l. all ≡ l.content ++ headers l.around l.header n) → AreEncoding as_it_is q (hs ++ c)
+      by_level : (q : Option Level) → IfSome q (λ l. CanAllBeOpen l.around × HasNumber l.header) → IfSome q (λ l. whole ≡ l.content) → IfSome q (λ l. all ≡ l.content ++ headers l.around l.header n) → AreEncoding as_it_is q (hs ++ c)
       by_level None a b d = tt
       by_level (Some l) a b d =
           let size : n ≡ length l.content = count ∙ ap length b in
@@ -92,7 +88,7 @@ module _ (p : Option Level) (old new : Stack) (n : ℕ) (numbers : IfSome p (λ 
           (writable_headed l.around l.header l.content a (omega (arith, ap length last, ap length first, fits)), rw (last, first) (sym (der-headers l.around l.header l.content)))
 
 -- it holds its whole encoding
-pub encoding_sealed : (p : Option Level) (old new : Stack) (bs : List ℕ) → IfSome p (λ l. HaveTagNumbers l.around × HasNumber l.header) → IfSome p (λ l. new ≡ record old { pending = Some (as_raw_level l) })
+pub encoding_sealed : (p : Option Level) (old new : Stack) (bs : List ℕ) → IfSome p (λ l. CanAllBeOpen l.around × HasNumber l.header) → IfSome p (λ l. new ≡ record old { pending = Some (as_raw_level l) })
     → IfSome new.pending (λ l. bs ≡ l.content) → length bs < 2 ^ 64 → AreEncoding as_it_is p bs
 encoding_sealed None old new bs numbers is shown fits = tt
 encoding_sealed (Some l) old new bs numbers is shown fits =

@@ -2,13 +2,14 @@
 use Rattle.std.proofs.Common.{◌≡◌, ◌<◌, ◌≤◌, ◌^◌, Bool, true, false, ◌&&◌, List, [], ◌∷◌, ◌++◌, length, map, refl, sym, ap, ◌∙◌, subst, arith, length-append}
 use Rattle.std.specs.Prelude.{IsTrue}
 use Rattle.std.specs.List.{concat}
+use Rattle.picky_der_core.specs.Primitive.{Primitive}
+use Rattle.picky_der_core.specs.OpenWrapperLaws.{AreAlike, alike-under, der-alike}
+use Rattle.picky_der_core.specs.OpenWrappers.{under}
 use Rattle.picky_der_core.specs.declared.asn1.wrapper.Wrapper.{Wrapper}
 use Rattle.picky_der_core.specs.Tree.{ListKind, Tree, Trees, trees}
 use Rattle.picky_der_core.specs.Encoding.{list_content, list_tag, tree_bytes, encodings, der}
 use Rattle.picky_der_core.specs.Readable.{has_tag_numbers, have_tag_numbers, IsWritable}
-use Rattle.picky_der_core.specs.Wrapper.{under}
 use Rattle.picky_der_core.specs.EncodingLaws.{encodings-trees, length-list_content}
-use Rattle.picky_der_core.specs.WrapperLaws.{AreAlike, alike-under, der-alike}
 use Rattle.picky_der_ser.specs.declared.header.Header.TheVariants.{Tagged}
 use Rattle.picky_der_ser.specs.Headers.{headers}
 use Rattle.picky_der_ser.proofs.HeaderBytes.{der-headers}
@@ -71,13 +72,13 @@ size_at [] t us = omega (arith, length-append (der t) (concat (encodings us)))
 size_at (s ∷ ts) t us = omega (arith, size_at ts t us, length-append (der s) (concat (encodings (before ts (Trees.more t us)))))
 
 -- a list is written as bytes with its tag
-alike_by : (kind : ListKind) (ts : Trees) → IsTrue (have_tag_numbers ts) → AreAlike (Tree.bytes (list_tag kind) (list_content kind (encodings ts))) (Tree.list kind ts)
+alike_by : (kind : ListKind) (ts : Trees) → IsTrue (have_tag_numbers ts) → AreAlike (Tree.primitive (Primitive.bytes (list_tag kind) (list_content kind (encodings ts)))) (Tree.list kind ts)
 unfolding tree_bytes
 alike_by ListKind.sequence ts h = record { written_same = λ b. refl; absent_same = refl; numbers_same = sym h }
 alike_by ListKind.set ts h = record { written_same = λ b. refl; absent_same = refl; numbers_same = sym h }
 
-pub alike_list : (kind : ListKind) (ts : List Tree) → IsTrue (have_tag_numbers (trees ts)) → AreAlike (Tree.bytes (list_tag kind) (list_content kind (map der ts))) (Tree.list kind (trees ts))
-alike_list kind ts h = subst (λ bs. AreAlike (Tree.bytes (list_tag kind) (list_content kind bs)) (Tree.list kind (trees ts))) (encodings-trees ts) (alike_by kind (trees ts) h)
+pub alike_list : (kind : ListKind) (ts : List Tree) → IsTrue (have_tag_numbers (trees ts)) → AreAlike (Tree.primitive (Primitive.bytes (list_tag kind) (list_content kind (map der ts)))) (Tree.list kind (trees ts))
+alike_list kind ts h = subst (λ bs. AreAlike (Tree.primitive (Primitive.bytes (list_tag kind) (list_content kind bs))) (Tree.list kind (trees ts))) (encodings-trees ts) (alike_by kind (trees ts) h)
 
 -- a list is written only if its members are
 pub member_writable : (ws : List Wrapper) (kind : ListKind) (ts : List Tree) (t : Tree) (us : Trees) → IsWritable (under ws (Tree.list kind (before ts (Trees.more t us)))) → IsWritable t
@@ -85,7 +86,7 @@ member_writable ws kind ts t us h =
     let all = before ts (Trees.more t us) in
     let c = list_content kind (encodings all) in
     let numbers : IsTrue (have_tag_numbers all) = numbers_inside ws (Tree.list kind all) h.numbers in
-    let same : der (under ws (Tree.bytes (list_tag kind) c)) ≡ der (under ws (Tree.list kind all)) = der-alike _ _ (alike-under ws _ _ (alike_by kind all numbers)) in
+    let same : der (under ws (Tree.primitive (Primitive.bytes (list_tag kind) c))) ≡ der (under ws (Tree.list kind all)) = der-alike _ _ (alike-under ws _ _ (alike_by kind all numbers)) in
     let front = headers ws (Tagged (list_tag kind)) (length c) in
     let whole : der (under ws (Tree.list kind all)) ≡ front ++ c = sym same ∙ der-headers ws (Tagged (list_tag kind)) c in
     let fits : length (der (under ws (Tree.list kind all))) < 2 ^ 64 = h.fits in

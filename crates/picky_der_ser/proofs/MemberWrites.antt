@@ -1,6 +1,9 @@
 -- A list that is being written: the members that it has, and those that it still awaits.
 use Rattle.std.proofs.Common.{◌≡◌, ℕ, List, [], ◌∷◌, ◌++◌, map, Option, None, Some, refl, sym, ap, ◌∙◌, subst, inl, inr, Result, Ok, Err, IfOk, IfErr}
 use Rattle.std.specs.Prelude.{IfSome, IfNone, IsTrue}
+use Rattle.picky_der_core.specs.Primitive.{Primitive}
+use Rattle.picky_der_core.specs.OpenWrapperLaws.{AreAlike}
+use Rattle.picky_der_core.specs.OpenWrappers.{under}
 use Rattle.picky_der_core.specs.Failure.{failure_of}
 use Rattle.picky_der_core.specs.declared.failure.Failure.{Failure}
 use Rattle.picky_der_core.specs.declared.misc.writer.WriteExt.{Ghosts}
@@ -8,8 +11,6 @@ use Rattle.picky_der_core.specs.declared.error.Asn1DerError.{Asn1DerError}
 use Rattle.picky_der_core.specs.Tree.{ListKind, Tree, Trees, trees}
 use Rattle.picky_der_core.specs.Encoding.{list_content, list_tag, der}
 use Rattle.picky_der_core.specs.Readable.{have_tag_numbers, IsWritable}
-use Rattle.picky_der_core.specs.Wrapper.{under}
-use Rattle.picky_der_core.specs.WrapperLaws.{AreAlike}
 use Rattle.picky_der_ser.specs.declared.header.Header.TheVariants.{Tagged}
 use Rattle.picky_der_ser.specs.State.{State, Level, with_member, with_members, final_content}
 use Rattle.picky_der_ser.specs.Sequences.{IsListTag, list_kind}
@@ -110,9 +111,9 @@ module _ {W : Type 0} (g : Ghosts W) where
       let wrapped = subst (λ x. WritesContent g (Tagged (list_tag kind)) (final_content l) (record (opened_with kind a.done old) { around = x }) r new) (members_around empty bs) headed in
       subst (λ c. WritesContent g (Tagged (list_tag kind)) c (record old { pending = Some l }) r new) (final_content-members kind old.around bs) wrapped
 
-  same_list : (kind : ListKind) (all : Trees) (old now : State W) (a : Awaits kind Trees.none all old now) → AreAlike (Tree.bytes (list_tag kind) (list_content kind (map der a.done))) (Tree.list kind all)
+  same_list : (kind : ListKind) (all : Trees) (old now : State W) (a : Awaits kind Trees.none all old now) → AreAlike (Tree.primitive (Primitive.bytes (list_tag kind) (list_content kind (map der a.done)))) (Tree.list kind all)
   same_list kind all old now a =
-      subst (λ us. AreAlike (Tree.bytes (list_tag kind) (list_content kind (map der a.done))) (Tree.list kind us)) (sym (a.split ∙ before_none a.done)) (alike_list kind a.done a.numbers)
+      subst (λ us. AreAlike (Tree.primitive (Primitive.bytes (list_tag kind) (list_content kind (map der a.done)))) (Tree.list kind us)) (sym (a.split ∙ before_none a.done)) (alike_list kind a.done a.numbers)
 
   pub list_wrote : (kind : ListKind) (all : Trees) (old now new : State W) (r : Result ℕ Asn1DerError) (n : ℕ) → EndsLevel g now r new → r ≡ Ok n → Awaits kind Trees.none all old now → Writes g (Tree.list kind all) old n new
   list_wrote kind all old now new r n h e a =

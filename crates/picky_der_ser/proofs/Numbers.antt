@@ -1,9 +1,8 @@
 -- The content of a number below 128.
 use Rattle.std.proofs.Common.{◌≡◌, ℕ, zero, suc, ◌<◌, [], ◌∷◌, refl, sym, ap, ◌∙◌, arith, lt-ltb}
 use Rattle.std.specs.Int.Digits.{number_from_digits}
-use Rattle.picky_der_core.specs.Element.{big_endian}
-use Rattle.picky_der_core.specs.Encoding.{unsigned_content}
-use Rattle.picky_der_core.specs.Shape.{AreBytes}
+use Rattle.picky_der_core.specs.Primitive.{unsigned_content}
+use Rattle.picky_der_core.specs.Element.{big_endian, AreBytes}
 use Rattle.picky_der_core.specs.BigEndianLaws.{big_endian-zero, big_endian-number}
 
 -- it is one byte, the number itself

@@ -1,13 +1,13 @@
 -- The members of a row, added to a list that is being written.
 use Rattle.std.proofs.Common.{◌≡◌, List, [], ◌∷◌, ◌++◌, Option, None, Some, refl, sym, ap, ◌∙◌, subst, Result, Ok, Err, IfErr}
 use Rattle.std.specs.Prelude.{IfSome, IfNone, IsSome, OnOk}
+use Rattle.picky_der_core.specs.OpenWrappers.{under}
 use Rattle.picky_der_core.specs.declared.misc.writer.WriteExt.{Ghosts}
 use Rattle.picky_der_core.specs.declared.error.Asn1DerError.{Asn1DerError}
 use Rattle.picky_der_core.specs.declared.asn1.wrapper.Wrapper.{Wrapper}
 use Rattle.picky_der_core.specs.Tree.{ListKind, Tree, Trees}
 use Rattle.picky_der_core.specs.Encoding.{tree_bytes, encodings, der}
 use Rattle.picky_der_core.specs.Readable.{IsWritable}
-use Rattle.picky_der_core.specs.Wrapper.{under}
 use Rattle.picky_der_ser.specs.State.{State, Level, with_member, with_members}
 use Rattle.picky_der_ser.specs.Calls.{AreWritable, MemoryExcuse, RefusesWrite, AddsMember, AddsMembers, AddsRow, RefusesToAddRow, AddsInFront}
 use Rattle.picky_der_ser.proofs.Alike.{excuse_of_part}

@@ -1,6 +1,7 @@
 -- What was written, seen from the state of a serializer.
 use Rattle.std.proofs.Common.{arith, ◌≡◌, ◌≢◌, ◌<◌, ◌^◌, IfSome, Option, ℕ, List, [], ◌∷◌, length, None, Some, refl, sym, ap, ◌∙◌, subst, Result, Ok, Err, IfOk, OnOk, IfErr, OnErr}
 use Rattle.std.specs.Io.KnownBytes.{Appends}
+use Rattle.picky_der_core.specs.OpenWrappers.{under}
 use Rattle.picky_der_core.specs.Failure.{failure_of}
 use Rattle.picky_der_core.specs.declared.asn1.wrapper.Wrapper.{Wrapper}
 use Rattle.picky_der_core.specs.Writer.{AppendsTooFew, beginning_none}
@@ -11,9 +12,8 @@ use Rattle.picky_der_core.specs.declared.error.Asn1DerError.TheVariants.{OutOfMe
 use Rattle.picky_der_core.specs.Tree.{Tree}
 use Rattle.picky_der_core.specs.Encoding.{der}
 use Rattle.picky_der_core.specs.Readable.{IsWritable}
-use Rattle.picky_der_core.specs.Wrapper.{under}
 use Rattle.picky_der_ser.specs.Heading.{tree_of}
-use Rattle.picky_der_ser.specs.Headers.{HasNumber, HaveTagNumbers}
+use Rattle.picky_der_ser.specs.Headers.{HasNumber, CanAllBeOpen}
 use Rattle.picky_der_ser.specs.State.{State, Level, with_bytes}
 use Rattle.picky_der_ser.specs.Calls.{AddsIn, UntouchedUnlessFailed, SinkWrites, SinkRefuses, RefusesIn, no_memory, no_room, Writes, RefusesWrite, WritesPlain, WritesContent}
 use Rattle.picky_der_ser.proofs.LevelWrites.{wrote_by, refused_by, writable_counted}
@@ -117,12 +117,12 @@ module _ {W : Type 0} (g : Ghosts W) where
     abbrev ended : Level → List ℕ
     ended l = der (under l.around (tree_of l.header (content l)))
 
-    pub ends_inside : (old new : State W) (n : ℕ) → n < 2 ^ 64 → old.failed ≡ None → old.inside ≢ [] → IfSome old.pending (λ l. HaveTagNumbers l.around × HasNumber l.header) → IfSome old.pending (λ l. n ≡ length (ended l))
+    pub ends_inside : (old new : State W) (n : ℕ) → n < 2 ^ 64 → old.failed ≡ None → old.inside ≢ [] → IfSome old.pending (λ l. CanAllBeOpen l.around × HasNumber l.header) → IfSome old.pending (λ l. n ≡ length (ended l))
         → ((p l : Level) (ls : List Level) → old.pending ≡ Some p → old.inside ≡ l ∷ ls → new.inside ≡ with_bytes l (ended p) ∷ ls) → new.sink ≡ old.sink → new.around ≡ [] → new.failed ≡ None → g.later old.sink old.sink
         → IfSome old.pending (λ l. WritesContent g l.header (content l) (record old { around = l.around }) (Ok n) new)
     ends_inside old new n small f some numbers count added s a b later = by_level old.pending numbers count (λ l k ks. added l k ks)
       where
-        by_level : (p : Option Level) → IfSome p (λ l. HaveTagNumbers l.around × HasNumber l.header) → IfSome p (λ l. n ≡ length (ended l)) → ((l k : Level) (ks : List Level) → p ≡ Some l → old.inside ≡ k ∷ ks → new.inside ≡ with_bytes k (ended l) ∷ ks)
+        by_level : (p : Option Level) → IfSome p (λ l. CanAllBeOpen l.around × HasNumber l.header) → IfSome p (λ l. n ≡ length (ended l)) → ((l k : Level) (ks : List Level) → p ≡ Some l → old.inside ≡ k ∷ ks → new.inside ≡ with_bytes k (ended l) ∷ ks)
             → IfSome p (λ l. WritesContent g l.header (content l) (record old { around = l.around }) (Ok n) new)
         by_level None x y z = tt
         by_level (Some l) x y z =

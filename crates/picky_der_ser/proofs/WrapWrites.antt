@@ -1,63 +1,30 @@
 -- What is written in one wrapper more.
-use Rattle.std.proofs.Common.{◌≡◌, ℕ, false, List, [], ◌∷◌, ◌++◌, length, Option, None, Some, refl, sym, ap, ◌∙◌, subst, Result, Ok, Err, IfOk, IfErr, arith}
+use Rattle.std.proofs.Common.{◌≡◌, ℕ, ◌&&◌, false, List, [], ◌∷◌, ◌++◌, length, Option, None, Some, refl, sym, ap, ◌∙◌, subst, Result, Ok, Err, IfOk, IfErr, arith}
 use Rattle.std.specs.Prelude.{IfSome, IfNone, ◌⊎◌}
 use Rattle.std.proofs.Common.{inl, inr}
-use Rattle.std.proofs.lemmas.Bool.Decides.{leb_tells}
+use Rattle.picky_der_core.specs.WrapperLaws.{tag_number_tells}
+use Rattle.picky_der_core.specs.OpenWrapperLaws.{under-push}
+use Rattle.picky_der_core.specs.OpenWrappers.{under}
 use Rattle.picky_der_core.specs.Failure.{failure_of}
 use Rattle.picky_der_core.specs.declared.failure.Failure.{Failure}
 use Rattle.picky_der_core.specs.declared.asn1.wrapper.Wrapper.{Wrapper}
-use Rattle.picky_der_core.specs.declared.asn1.wrapper.Wrapper.TheVariants.{OctetContainer, BitContainer, Explicit, Implicit, Retagged}
-use Rattle.picky_der_core.specs.Tag.{IsTagNumber}
-use Rattle.picky_der_core.specs.TagLaws.{constructed_tag_tells, is_constructed_tag-false}
 use Rattle.picky_der_core.specs.declared.misc.writer.WriteExt.{Ghosts}
 use Rattle.picky_der_core.specs.declared.error.Asn1DerError.{Asn1DerError}
 use Rattle.picky_der_core.specs.Tree.{Tree}
 use Rattle.picky_der_core.specs.Encoding.{der}
 use Rattle.picky_der_core.specs.Readable.{has_tag_numbers, IsWritable}
-use Rattle.picky_der_core.specs.Wrapper.{wrap, under, HasTagNumber}
-use Rattle.picky_der_core.specs.WrapperLaws.{under-push}
-use Rattle.picky_der_ser.specs.Headers.{HaveTagNumbers}
+use Rattle.picky_der_ser.specs.Headers.{CanBeOpen, CanAllBeOpen}
 use Rattle.picky_der_ser.specs.State.{State}
 use Rattle.picky_der_ser.specs.Calls.{AddsIn, RefusesIn, Writes, RefusesWrite, RefusesWrapper}
 use Rattle.picky_der_ser.proofs.PlainWrites.{past_under, unwritable-by, refused_unwritable}
 use Rattle.picky_der_ser.proofs.StateWrites.{refused_memory}
 
-pub numbers-push : (ws : List Wrapper) (w : Wrapper) → HaveTagNumbers ws → HasTagNumber w → HaveTagNumbers (ws ++ (w ∷ []))
+pub numbers-push : (ws : List Wrapper) (w : Wrapper) → CanAllBeOpen ws → CanBeOpen w → CanAllBeOpen (ws ++ (w ∷ []))
 numbers-push [] w h k = (k, tt)
 numbers-push (v ∷ ws) w h k = (h.0, numbers-push ws w h.1 k)
 
--- whether its tag number is at most 30
-unnumbered : (w : Wrapper) (t : Tree) → (HasTagNumber w → ⊥) → has_tag_numbers (wrap w t) ≡ false
-unnumbered OctetContainer t h = absurd (h tt)
-unnumbered BitContainer t h = absurd (h tt)
-unnumbered (Explicit n) t h = elim (leb_tells n 30) [
-  | inl few ↦ absurd (h few.1)
-  | inr past ↦ rw past.0 refl
-]
-unnumbered (Implicit n) t h = elim (leb_tells n 30) [
-  | inl few ↦ absurd (h few.1)
-  | inr past ↦ rw past.0 refl
-]
-unnumbered (Retagged tag) t h = rw (is_constructed_tag-false tag h) refl
-
-either_way : (n : ℕ) → IsTagNumber n ⊎ (IsTagNumber n → ⊥)
-either_way n = elim (leb_tells n 30) [
-  | inl few ↦ inl few.1
-  | inr past ↦ inr (λ h. absurd (omega (arith, past.1)))
-]
-
-has_or_not : (w : Wrapper) → HasTagNumber w ⊎ (HasTagNumber w → ⊥)
-has_or_not OctetContainer = inl tt
-has_or_not BitContainer = inl tt
-has_or_not (Explicit n) = either_way n
-has_or_not (Implicit n) = either_way n
-has_or_not (Retagged tag) = elim (constructed_tag_tells tag) [
-  | inl constructed ↦ inl constructed.1
-  | inr other ↦ inr other.1
-]
-
 module _ {W : Type 0} (g : Ghosts W) where
-  pub writes-wrapped : (w : Wrapper) (t : Tree) (old new : State W) (r : Result ℕ Asn1DerError) → IfOk r (λ n. Writes g t (record old { around = old.around ++ (w ∷ []) }) n new) → IfOk r (λ n. Writes g (wrap w t) old n new)
+  pub writes-wrapped : (w : Wrapper) (t : Tree) (old new : State W) (r : Result ℕ Asn1DerError) → IfOk r (λ n. Writes g t (record old { around = old.around ++ (w ∷ []) }) n new) → IfOk r (λ n. Writes g (Tree.wrapped w t) old n new)
   writes-wrapped w t old new (Ok n) h =
       let u = under-push old.around w t in
       record {
@@ -71,18 +38,18 @@ module _ {W : Type 0} (g : Ghosts W) where
       }
   writes-wrapped w t old new (Err e) h = tt
 
-  pub fails-wrapped : (w : Wrapper) (t : Tree) (old new : State W) (r : Result ℕ Asn1DerError) → IfErr r (λ e. RefusesWrite g t (record old { around = old.around ++ (w ∷ []) }) e new) → IfErr r (λ e. RefusesWrite g (wrap w t) old e new)
+  pub fails-wrapped : (w : Wrapper) (t : Tree) (old new : State W) (r : Result ℕ Asn1DerError) → IfErr r (λ e. RefusesWrite g t (record old { around = old.around ++ (w ∷ []) }) e new) → IfErr r (λ e. RefusesWrite g (Tree.wrapped w t) old e new)
   fails-wrapped w t old new (Ok n) h = tt
   fails-wrapped w t old new (Err e) h =
       let u = under-push old.around w t in
       record { failed = h.failed; again = h.again; reason = subst (λ v. IfNone old.failed (RefusesIn g old.inside v old.sink e new.sink)) u h.reason }
 
   -- no wrapper was opened
-  pub fails-declined : (w : Wrapper) (t : Tree) (old new : State W) (e : Asn1DerError) → RefusesWrapper g w old e new → RefusesWrite g (wrap w t) old e new
+  pub fails-declined : (w : Wrapper) (t : Tree) (old new : State W) (e : Asn1DerError) → RefusesWrapper g w old e new → RefusesWrite g (Tree.wrapped w t) old e new
   fails-declined w t old new e h = record { failed = h.failed; again = again old.failed h.again; reason = reason old.failed refl }
     where
       u : Tree
-      u = under old.around (wrap w t)
+      u = under old.around (Tree.wrapped w t)
 
       again : (f : Option Failure) → IfSome f (λ k. failure_of e ≡ k) → IfSome f (λ k. (failure_of e ≡ k) × (new.sink ≡ old.sink))
       again None k = tt
@@ -90,7 +57,9 @@ module _ {W : Type 0} (g : Ghosts W) where
 
       reason : (f : Option Failure) → f ≡ old.failed → IfNone f (RefusesIn g old.inside u old.sink e new.sink)
       reason (Some x) q = tt
-      reason None q = elim (has_or_not w) [
-        | inl few ↦ rw (h.memory (sym q) few, h.same) (refused_memory g old.inside u old.sink)
-        | inr past ↦ rw (h.past (sym q) past, h.same) (refused_unwritable g old.inside u old.sink (unwritable-by u (past_under old.around (wrap w t) (unnumbered w t past))))
+      reason None q = elim (tag_number_tells w) [
+        | inl few ↦ rw (h.memory (sym q) few.1, h.same) (refused_memory g old.inside u old.sink)
+        | inr past ↦
+            let beyond : has_tag_numbers (Tree.wrapped w t) ≡ false = ap (λ b. b && has_tag_numbers t) past.0 in
+            rw (h.past (sym q) past.1, h.same) (refused_unwritable g old.inside u old.sink (unwritable-by u (past_under old.around (Tree.wrapped w t) beyond)))
       ]

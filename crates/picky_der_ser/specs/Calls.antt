@@ -1,5 +1,6 @@
 -- What the calls of a serializer do.
 use Rattle.std.specs.Prelude.{◌≡◌, ℕ, List, [], ◌∷◌, length, None, Some, IfSome, IfNone, Result, Err, IfOk, IfErr, ⊤, ◌<◌}
+use Rattle.picky_der_core.specs.OpenWrappers.{under}
 use Rattle.picky_der_core.specs.declared.asn1.wrapper.Wrapper.{Wrapper}
 use Rattle.std.specs.Io.KnownBytes.{Appends}
 use Rattle.picky_der_core.specs.Writer.{AppendsBeginning}
@@ -9,10 +10,11 @@ use Rattle.picky_der_core.specs.declared.error.Asn1DerError.{Asn1DerError}
 use Rattle.picky_der_core.specs.declared.failure.Failure.{Failure}
 use Rattle.picky_der_core.specs.Failure.{failure_of, IsAnswer}
 use Rattle.picky_der_core.specs.declared.error.Asn1DerError.TheVariants.{UnsupportedValue, UnsupportedType, OutOfMemory}
+use Rattle.picky_der_core.specs.Primitive.{Primitive}
 use Rattle.picky_der_core.specs.Tree.{Tree, Trees}
 use Rattle.picky_der_core.specs.Encoding.{encodings, der}
 use Rattle.picky_der_core.specs.Readable.{IsWritable}
-use Rattle.picky_der_core.specs.Wrapper.{under, HasTagNumber}
+use Rattle.picky_der_core.specs.Wrapper.{HasTagNumber}
 use Rattle.picky_der_ser.specs.declared.header.Header.{Header}
 use Rattle.picky_der_ser.specs.Heading.{tree_of}
 use Rattle.picky_der_ser.specs.State.{State, Level, with_bytes, with_member, with_members, final_content}
@@ -105,6 +107,10 @@ module _ {W : Type 0} (g : Ghosts W) where
     pub refuses_unwritable : RefusesUnwritable t old r new
     pub counted : IsOnceAtMost (g.faults old.sink) (g.faults new.sink)
     pub goes_on : g.later old.sink new.sink
+
+  -- so one of a primitive kind
+  abbrev pub WritesPrimitive : Primitive → State W → Result ℕ Asn1DerError → State W → Type 0
+  WritesPrimitive p = WritesPlain (Tree.primitive p)
 
   -- the call writes what isn't there: the open wrappers are dropped, nothing is written, and only an earlier error is answered
   pub record WritesAbsent (old : State W) (r : Result ℕ Asn1DerError) (new : State W) : Type 0 where

@@ -5,9 +5,7 @@ use Rattle.std.specs.Ordering.{int_eq}
 use Rattle.std.proofs.lemmas.Bool.Decides.{Decides-int_eq}
 use mathlib.Core.Bool.{beq}
 use Rattle.picky_der_core.specs.declared.asn1.wrapper.Wrapper.{Wrapper}
-use Rattle.picky_der_core.specs.declared.asn1.wrapper.Wrapper.TheVariants.{OctetContainer, BitContainer, Explicit, Implicit, Retagged}
 use Rattle.picky_der_core.specs.Tree.{Tree}
-use Rattle.picky_der_core.specs.Wrapper.{wrap}
 use Rattle.picky_der_core.specs.Integer.{content_within, int_tree, unsigned_tree}
 use Rattle.picky_der_core.specs.IntLaws.{same_within}
 use Rattle.picky_der_core.specs.UnsignedTreeLaws.{unsigned_tree-same}
@@ -49,13 +47,9 @@ one_true true false h k = cc
 one_true false y h k = cc
 
 -- a wrapper keeps trees apart
-wrap_injective : (w : Wrapper) (t u : Tree) → wrap w t ≡ wrap w u → t ≡ u
-wrap_injective OctetContainer t u e = cc
-wrap_injective BitContainer t u e = cc
-wrap_injective (Explicit n) t u e = cc
-wrap_injective (Implicit n) t u e = cc
-wrap_injective (Retagged tag) t u e = cc
+wrapped_injective : (w : Wrapper) (t u : Tree) → Tree.wrapped w t ≡ Tree.wrapped w u → t ≡ u
+wrapped_injective w t u e = cc
 
 -- a default is one in a wrapper, too
-pub wrapped_by_tree : (w : Wrapper) {V : Type 0} (meaning : V → Tree) (left_out : V → Bool) → IsByTree meaning left_out → (x y : V) → IsTrue (left_out x) → IsTrue (left_out y) ↔ (wrap w (meaning x) ≡ wrap w (meaning y))
-wrapped_by_tree w meaning left_out h x y d = (λ e. ap (wrap w) ((h x y d).0 e), λ e. (h x y d).1 (wrap_injective w (meaning x) (meaning y) e))
+pub wrapped_by_tree : (w : Wrapper) {V : Type 0} (meaning : V → Tree) (left_out : V → Bool) → IsByTree meaning left_out → (x y : V) → IsTrue (left_out x) → IsTrue (left_out y) ↔ (Tree.wrapped w (meaning x) ≡ Tree.wrapped w (meaning y))
+wrapped_by_tree w meaning left_out h x y d = (λ e. ap (Tree.wrapped w) ((h x y d).0 e), λ e. (h x y d).1 (wrapped_injective w (meaning x) (meaning y) e))

@@ -1,21 +1,16 @@
 -- The bytes in front of a content: the headers of the wrappers around it, and its own.
-use Rattle.std.specs.Prelude.{ℕ, suc, ◌+◌, ⊤, List, [], ◌∷◌, ◌++◌, length, take, ◌-◌, Option, None, Some}
+use Rattle.std.specs.Prelude.{ℕ, ◌+◌, ⊤, IsTrue, List, [], ◌∷◌, ◌++◌, length, take, ◌-◌, Option, None, Some, if◌then◌else◌}
 use Rattle.std.specs.Option.{unwrap_or}
 use Rattle.picky_der_core.specs.declared.asn1.wrapper.Wrapper.{Wrapper}
-use Rattle.picky_der_core.specs.declared.asn1.wrapper.Wrapper.TheVariants.{OctetContainer, BitContainer, Explicit, Implicit, Retagged}
 use Rattle.picky_der_core.specs.Element.{length_octets}
 use Rattle.picky_der_core.specs.Tag.{IsTagNumber, number_of}
-use Rattle.picky_der_core.specs.Wrapper.{HasTagNumber}
+use Rattle.picky_der_core.specs.Wrapper.{wrapper_tag, wrapper_front, keeps_header, can_vanish, HasTagNumber}
 use Rattle.picky_der_ser.specs.declared.header.Header.{Header}
 use Rattle.picky_der_ser.specs.declared.header.Header.TheVariants.{Tagged, Application, Raw}
 
--- what a wrapper puts in front of n bytes; that of a bit string is followed by the count of its unused bits
+-- what a wrapper puts in front of n bytes
 abbrev pub wrapper_opening : Wrapper → ℕ → List ℕ
-wrapper_opening OctetContainer n = 0x04 ∷ length_octets n
-wrapper_opening BitContainer n = 0x03 ∷ (length_octets (suc n) ++ (0x00 ∷ []))
-wrapper_opening (Explicit k) n = (0xA0 + k) ∷ length_octets n
-wrapper_opening (Implicit k) n = (0x80 + k) ∷ length_octets n
-wrapper_opening (Retagged tag) n = tag ∷ length_octets n
+wrapper_opening w n = wrapper_tag w ∷ (length_octets (length (wrapper_front w) + n) ++ wrapper_front w)
 
 -- the header of n bytes
 abbrev pub own_header : Header → ℕ → List ℕ
@@ -30,9 +25,8 @@ wrapper_openings (w ∷ ws) inner n = let rest = wrapper_openings ws inner n in 
 
 -- the header of an implicit tag directly around a tagged content, which stands in place of that content's own
 abbrev pub joint_header : Wrapper → Header → Option Header
-joint_header (Implicit k) (Tagged tag) = Some (Tagged (0x80 + k))
-joint_header (Retagged other) (Tagged tag) = Some (Tagged other)
-joint_header w h = None
+joint_header w (Tagged tag) = if keeps_header w then None else Some (Tagged (wrapper_tag w))
+joint_header w _ = None
 
 -- the same of the innermost wrapper
 abbrev pub innermost_joint_header : List Wrapper → Header → Option Header
@@ -55,6 +49,10 @@ HasNumber (Tagged tag) = IsTagNumber (number_of tag)
 HasNumber (Application k) = IsTagNumber k
 HasNumber Raw = ⊤
 
-abbrev pub HaveTagNumbers : List Wrapper → Type 0
-HaveTagNumbers [] = ⊤
-HaveTagNumbers (w ∷ ws) = HasTagNumber w × HaveTagNumbers ws
+-- it may be open before a value comes, of which nothing may be written
+abbrev pub CanBeOpen : Wrapper → Type 0
+CanBeOpen w = HasTagNumber w × IsTrue (can_vanish w)
+
+abbrev pub CanAllBeOpen : List Wrapper → Type 0
+CanAllBeOpen [] = ⊤
+CanAllBeOpen (w ∷ ws) = CanBeOpen w × CanAllBeOpen ws

@@ -1,13 +1,15 @@
 -- The header of a content that is being written.
 use Rattle.std.specs.Prelude.{ℕ, List, Bool, false, nat_eq}
+use Rattle.picky_der_core.specs.declared.asn1.wrapper.Wrapper.TheVariants as wrapper
+use Rattle.picky_der_core.specs.Primitive.{Primitive}
 use Rattle.picky_der_core.specs.Tree.{Tree}
 use Rattle.picky_der_ser.specs.declared.header.Header.{Header}
 use Rattle.picky_der_ser.specs.declared.header.Header.TheVariants.{Tagged, Application, Raw}
 
 -- the tree of this content under the header
 abbrev pub tree_of : Header → List ℕ → Tree
-tree_of (Tagged tag) c = Tree.bytes tag c
-tree_of (Application n) c = Tree.application n (Tree.raw c)
+tree_of (Tagged tag) c = Tree.primitive (Primitive.bytes tag c)
+tree_of (Application n) c = Tree.wrapped (wrapper.Application n) (Tree.raw c)
 tree_of Raw c = Tree.raw c
 
 -- whether the members of what stands under the header are put in order

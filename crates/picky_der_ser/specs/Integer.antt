@@ -1,6 +1,6 @@
 -- The content of a number, in an array.
+use Rattle.picky_der_core.specs.Primitive.{unsigned_content}
 use Rattle.std.specs.Prelude.{◌≡◌, ℕ, List, drop}
-use Rattle.picky_der_core.specs.Encoding.{unsigned_content}
 
 -- from `start` on stands the content of the number
 abbrev pub IsUnsignedContent : ℕ → List ℕ → ℕ → Type 0

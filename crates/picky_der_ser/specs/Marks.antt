@@ -3,7 +3,7 @@ use Rattle.std.specs.Prelude.{ℕ, ◌≢◌, ◌+◌, ◌<◌, ◌≤◌, ⊤, 
 use Rattle.picky_der_core.specs.declared.asn1.wrapper.Wrapper.{Wrapper}
 use Rattle.picky_der_ser.specs.MarkViews.{MarkView, with_mark}
 use Rattle.picky_der_ser.specs.State.{Level}
-use Rattle.picky_der_ser.specs.Headers.{headers, HasNumber, HaveTagNumbers}
+use Rattle.picky_der_ser.specs.Headers.{headers, HasNumber, CanAllBeOpen}
 use Rattle.picky_der_ser.specs.Seams.{AreSeams, last_seam}
 
 -- the level of a mark, which is the last one, where these are all bytes, seams and wrappers
@@ -46,7 +46,7 @@ pending_of false p s seams ws = level_of p s seams ws
 
 -- Each tag number is at most 30, the room for the headers stands in front of the content, and the last member begins in it.
 pub record IsMark (m : MarkView) (n : ℕ) (seams : List ℕ) (ws : List Wrapper) : Type 0 where
-  pub numbers : HaveTagNumbers (drop m.first_wrapper ws)
+  pub numbers : CanAllBeOpen (drop m.first_wrapper ws)
   pub number : HasNumber m.header
   pub room : m.at ≤ m.start
   pub outer : m.first_wrapper ≤ length ws

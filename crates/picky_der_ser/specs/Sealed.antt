@@ -1,7 +1,7 @@
 -- A level whose header stands in front of its content.
 use Rattle.std.specs.Prelude.{[]}
+use Rattle.picky_der_core.specs.OpenWrappers.{under}
 use Rattle.picky_der_core.specs.Encoding.{der}
-use Rattle.picky_der_core.specs.Wrapper.{under}
 use Rattle.picky_der_ser.specs.declared.header.Header.TheVariants.{Raw}
 use Rattle.picky_der_ser.specs.Heading.{tree_of}
 use Rattle.picky_der_ser.specs.State.{Level}

@@ -10,7 +10,7 @@ use Rattle.picky_der_core.specs.contracts.asn1.wrapper.Wrapper as wrapper
 use Rattle.picky_der_ser.specs.declared.header.Header.{Header}
 use Rattle.picky_der_ser.specs.declared.header.Header.TheVariants.{Raw}
 use Rattle.picky_der_ser.specs.contracts.header.Header as header
-use Rattle.picky_der_ser.specs.Headers.{HasNumber, HaveTagNumbers}
+use Rattle.picky_der_ser.specs.Headers.{HasNumber, CanAllBeOpen}
 use Rattle.picky_der_ser.specs.Seams.{cut_at_seams, next_seams}
 
 -- a level: a sequence, set or application tag that is open
@@ -81,7 +81,7 @@ EntersLevel old new = IfSome old.pending (λ l. new ≡ record old { inside = at
 
 -- the tag numbers of the level that was opened last, and of the wrappers around it, are at most 30
 abbrev pub HasLevelNumbers : Stack → Type 0
-HasLevelNumbers s = IfSome s.pending (λ l. HaveTagNumbers l.around × HasNumber l.header)
+HasLevelNumbers s = IfSome s.pending (λ l. CanAllBeOpen l.around × HasNumber l.header)
 
 pub record State (W : Type 0) : Type 0 where
   pub sink : W

@@ -1,8 +1,7 @@
 //! Bools (X.690, 8.2 and 11.1).
 ghost use Rattle.std.specs.Prelude.{◌≡◌};
-ghost use Rattle.picky_der_core.specs.Tree.{Tree};
-ghost use Rattle.picky_der_core.specs.Encoding.{boolean_content};
-ghost use Rattle.picky_der_ser.specs.Calls.{WritesPlain};
+ghost use Rattle.picky_der_core.specs.Primitive.{boolean_content, Primitive};
+ghost use Rattle.picky_der_ser.specs.Calls.{WritesPrimitive};
 
 use crate::Serializer;
 use picky_der_core::Result;
@@ -15,7 +14,7 @@ pub struct Boolean;
 impl Boolean {
     /// Writes a bool, as `Serializer::serialize_bool` does.
     pub fn serialize<W: WriteExt>(value: bool, ser: &mut Serializer<W>) -> Result<usize>
-        ensures { WritesPlain W.WriteExt.own (Tree.boolean value) ser.old result ser.new }
+        ensures { WritesPrimitive W.WriteExt.own (Primitive.boolean value) ser.old result ser.new }
     {
         ser.write_plain(Tag::BOOLEAN, &content_of(value))
     }

@@ -2,11 +2,12 @@
 ghost use Rattle.std.specs.Prelude.{◌≡◌, ◌≤◌, ◌<◌, ◌+◌, ◌-◌, ◌∷◌, ◌++◌, length, take, drop, vec_len};
 ghost use Rattle.std.specs.Prelude.{[], vec_capacity, OnOk};
 ghost use Rattle.std.specs.List.{slice_rotate_right};
+ghost use Rattle.picky_der_core.specs.Primitive.{Primitive};
+ghost use Rattle.picky_der_core.specs.OpenWrappers.{under};
 ghost use Rattle.picky_der_core.specs.Encoding.{der};
 ghost use Rattle.picky_der_core.specs.Tree.{Tree};
-ghost use Rattle.picky_der_core.specs.Wrapper.{under};
 ghost use Rattle.picky_der_ser.specs.Heading.{tree_of};
-ghost use Rattle.picky_der_ser.specs.Headers.{headers, HasNumber, HaveTagNumbers};
+ghost use Rattle.picky_der_ser.specs.Headers.{headers, HasNumber, CanAllBeOpen};
 ghost use Rattle.picky_der_ser.specs.Overwrite.{with_overwrite};
 
 use crate::Header;
@@ -71,7 +72,7 @@ fn push_nested(
     header: Header,
     content: &[u8],
 ) -> Result<(), AllocError>
-    requires numbers { HaveTagNumbers around.now × HasNumber header }
+    requires numbers { CanAllBeOpen around.now × HasNumber header }
     ensures ok { OnOk result (out.new.items ≡ out.old.items ++ der
         (under around.now (tree_of header content.now))) }
     ensures grows { vec_len out.old ≤ vec_len out.new }
@@ -89,7 +90,7 @@ pub(crate) fn push_enclosed(
     header: Header,
     content: &[u8],
 ) -> Result<(), AllocError>
-    requires numbers { HaveTagNumbers around.now × HasNumber header }
+    requires numbers { CanAllBeOpen around.now × HasNumber header }
     ensures ok { OnOk result (out.new.items ≡ out.old.items ++ der
         (under around.now (tree_of header content.now))) }
     ensures grows { vec_len out.old ≤ vec_len out.new }
@@ -119,8 +120,8 @@ pub(crate) fn push_short_header(out: &mut Vec<u8>, identifier: u8, len: u8)
 pub(crate) fn push_short(out: &mut Vec<u8>, tag: Tag, content: &[u8])
     requires short { length content.now < 0x80 }
     requires room { vec_len out.old + 2 + length content.now ≤ vec_capacity out.old }
-    ensures items { out.new.items ≡ out.old.items ++ der (Tree.bytes tag content.now) }
-    ensures count { length (der (Tree.bytes tag content.now)) ≡ 2 + length content.now }
+    ensures items { out.new.items ≡ out.old.items ++ der (Tree.primitive (Primitive.bytes tag content.now)) }
+    ensures count { length (der (Tree.primitive (Primitive.bytes tag content.now))) ≡ 2 + length content.now }
 {
     // There is room, so none is refused. The content of a small number, one byte, is added together with its header.
     if content.len() == 1 {
@@ -142,7 +143,7 @@ fn enclose_nested(
     around: &[Wrapper],
     header: Header,
 ) -> Result<(), AllocError>
-    requires numbers { HaveTagNumbers around.now × HasNumber header }
+    requires numbers { CanAllBeOpen around.now × HasNumber header }
     requires room { at ≤ start }
     requires within { start ≤ vec_len out.old }
     requires least { start ≤ at + length (headers around.now header 0) }
@@ -169,7 +170,7 @@ pub(crate) fn enclose(
     around: &[Wrapper],
     header: Header,
 ) -> Result<(), AllocError>
-    requires numbers { HaveTagNumbers around.now × HasNumber header }
+    requires numbers { CanAllBeOpen around.now × HasNumber header }
     requires room { at ≤ start }
     requires within { start ≤ vec_len out.old }
     requires least { start ≤ at + length (headers around.now header 0) }

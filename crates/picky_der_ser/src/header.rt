@@ -6,7 +6,7 @@ ghost use Rattle.picky_der_core.specs.Equality.{IsEqualityOf, IsKept};
 ghost use Rattle.picky_der_core.specs.Wrapper.{HasTagNumber};
 ghost use Rattle.picky_der_ser.specs.Heading.{is_set};
 ghost use Rattle.picky_der_ser.specs.Headers.{wrapper_opening, own_header, headers, joint_header};
-ghost use Rattle.picky_der_ser.specs.Headers.{innermost_joint_header, HasNumber, HaveTagNumbers};
+ghost use Rattle.picky_der_ser.specs.Headers.{innermost_joint_header, HasNumber, CanAllBeOpen};
 
 use picky_der_core::asn1::{Tag, Wrapper};
 use picky_der_core::misc::Length;
@@ -87,24 +87,11 @@ fn push_opening(out: &mut Vec<u8>, wrapper: Wrapper, len: usize) -> Result<(), A
         (out.new.items ≡ out.old.items ++ reverse (wrapper_opening wrapper len)) }
     ensures grows { vec_len out.old ≤ vec_len out.new }
 {
-    match wrapper {
-        Wrapper::OctetContainer => push_back_to_front(out, Tag::OCTET_STRING, len),
-        Wrapper::BitContainer => {
-            out.push(0x00)?;
-            push_back_to_front(out, Tag::BIT_STRING, len + 1)
-        }
-        Wrapper::Explicit(number) => push_back_to_front(
-            out,
-            Tag::context_specific_constructed(number),
-            len,
-        ),
-        Wrapper::Implicit(number) => push_back_to_front(
-            out,
-            Tag::context_specific_primitive(number),
-            len,
-        ),
-        Wrapper::Retagged(tag) => push_back_to_front(out, Tag::from(tag), len),
+    if !wrapper.counts_unused_bits() {
+        return push_back_to_front(out, wrapper.tag(), len);
     }
+    out.push(0x00)?;
+    push_back_to_front(out, wrapper.tag(), len + 1)
 }
 
 // Adds the header of a content of `len` bytes, the last byte first.
@@ -148,18 +135,15 @@ fn joined(wrapper: Wrapper, header: &Header) -> Option<Header>
     requires { HasTagNumber wrapper }
     ensures { result ≡ joint_header wrapper header.now }
 {
-    match (wrapper, header) {
-        (Wrapper::Implicit(number), Header::Tagged(_)) => Some(Header::Tagged(
-            Tag::context_specific_primitive(number),
-        )),
-        (Wrapper::Retagged(tag), Header::Tagged(_)) => Some(Header::Tagged(Tag::from(tag))),
+    match header {
+        Header::Tagged(_) if !wrapper.keeps_header() => Some(Header::Tagged(wrapper.tag())),
         _ => None,
     }
 }
 
 // The header that stands in place of the innermost wrapper's and the content's own, if one does.
 fn innermost_joined(around: &[Wrapper], header: &Header) -> Option<Header>
-    requires { HaveTagNumbers around.now }
+    requires { CanAllBeOpen around.now }
     ensures { result ≡ innermost_joint_header around.now header.now }
 {
     match around.split_last() {
@@ -196,7 +180,7 @@ fn push_nested_headers(
     header: Header,
     len: usize,
 ) -> Result<(), AllocError>
-    requires numbers { HaveTagNumbers around.now × HasNumber header }
+    requires numbers { CanAllBeOpen around.now × HasNumber header }
     requires fits { len < 2 ^ 63 }
     ensures ok { OnOk result (out.new.items ≡ out.old.items ++ headers around.now header len) }
     ensures grows { vec_len out.old ≤ vec_len out.new }
@@ -221,7 +205,7 @@ pub(crate) fn push_headers(
     header: Header,
     len: usize,
 ) -> Result<(), AllocError>
-    requires numbers { HaveTagNumbers around.now × HasNumber header }
+    requires numbers { CanAllBeOpen around.now × HasNumber header }
     requires fits { len < 2 ^ 63 }
     ensures ok { OnOk result (out.new.items ≡ out.old.items ++ headers around.now header len) }
     ensures grows { vec_len out.old ≤ vec_len out.new }

@@ -1,7 +1,7 @@
 //! Unsigned integers (X.690, 8.3).
 ghost use Rattle.std.specs.Prelude.{◌≤◌};
-ghost use Rattle.picky_der_core.specs.Tree.{Tree};
-ghost use Rattle.picky_der_ser.specs.Calls.{WritesPlain};
+ghost use Rattle.picky_der_core.specs.Primitive.{Primitive};
+ghost use Rattle.picky_der_ser.specs.Calls.{WritesPrimitive};
 ghost use Rattle.picky_der_ser.specs.Integer.{IsUnsignedContent};
 
 use crate::Serializer;
@@ -39,8 +39,8 @@ impl UnsignedInteger {
     /// Writes a number, as `Serializer::serialize_u128` does.
     #[inline(always)]
     pub fn serialize<T: UInt, W: WriteExt>(value: T, ser: &mut Serializer<W>) -> Result<usize>
-        ensures { WritesPlain W.WriteExt.own
-            (Tree.unsigned (T.number value)) ser.old result ser.new }
+        ensures { WritesPrimitive W.WriteExt.own
+            (Primitive.unsigned (T.number value)) ser.old result ser.new }
     {
         let number = value.into_u128();
         if number < 0x80 {
@@ -52,8 +52,8 @@ impl UnsignedInteger {
     // The same of more than one byte.
     #[inline(never)]
     fn serialize_wide<T: UInt, W: WriteExt>(value: T, ser: &mut Serializer<W>) -> Result<usize>
-        ensures { WritesPlain W.WriteExt.own
-            (Tree.unsigned (T.number value)) ser.old result ser.new }
+        ensures { WritesPrimitive W.WriteExt.own
+            (Primitive.unsigned (T.number value)) ser.old result ser.new }
     {
         let content = Content::of(value.into_u128());
         ser.write_plain(Tag::INTEGER, &content.bytes[content.start..])

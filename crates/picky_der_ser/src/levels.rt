@@ -1,11 +1,12 @@
 //! The levels of a serializer, in one vector.
 ghost use Rattle.std.specs.Prelude.{◌≡◌, ◌≢◌, ◌<◌, ◌≤◌, ◌^◌, ◌+◌, List, [], ◌∷◌, ◌++◌};
 ghost use Rattle.std.specs.Prelude.{true, false, length, drop, vec_len, None, Some, IfSome, IfNone, IsSome, IfOk, OnOk};
+ghost use Rattle.picky_der_core.specs.Primitive.{Primitive};
+ghost use Rattle.picky_der_core.specs.OpenWrappers.{under};
 ghost use Rattle.picky_der_core.specs.Encoding.{der};
 ghost use Rattle.picky_der_core.specs.Tree.{Tree};
-ghost use Rattle.picky_der_core.specs.Wrapper.{under, HasTagNumber};
 ghost use Rattle.picky_der_ser.specs.Heading.{tree_of};
-ghost use Rattle.picky_der_ser.specs.Headers.{headers, HasNumber, HaveTagNumbers};
+ghost use Rattle.picky_der_ser.specs.Headers.{headers, HasNumber, CanBeOpen, CanAllBeOpen};
 ghost use Rattle.picky_der_ser.specs.State.{Level, root, with_bytes, at_next_member, in_order, final_content, EntersLevel, HasLevelNumbers};
 ghost use Rattle.picky_der_ser.specs.Sealed.{as_raw_level};
 
@@ -307,10 +308,10 @@ impl Levels {
     pub(crate) fn append_short(&mut self, tag: Tag, content: &[u8]) -> bool
         ensures inside { result ≡ true → self.old.inside ≢ [] }
         ensures count { result ≡ true → length
-            (der (Tree.bytes tag content.now)) ≡ 2 + length content.now }
+            (der (Tree.primitive (Primitive.bytes tag content.now))) ≡ 2 + length content.now }
         ensures yes { result ≡ true → (l : Level) (ls : List Level) → self.old.inside ≡ l ∷ ls
             → self.new ≡ record self.old {
-              inside = with_bytes l (der (Tree.bytes tag content.now)) ∷ ls;
+              inside = with_bytes l (der (Tree.primitive (Primitive.bytes tag content.now))) ∷ ls;
               pending = None;
             } }
         ensures around { self.new.around ≡ self.old.around }
@@ -329,7 +330,7 @@ impl Levels {
     // and answers how long it is.
     pub(crate) fn append(&mut self, header: Header, content: &[u8]) -> Result<usize, AllocError>
         requires { HasNumber header }
-        ensures numbers { HaveTagNumbers self.old.around }
+        ensures numbers { CanAllBeOpen self.old.around }
         ensures count { IfOk result (λ n. n ≡ length
             (der (under self.old.around (tree_of header content.now)))) }
         ensures ok { OnOk result ((l : Level) (ls : List Level) → self.old.inside ≡ l ∷ ls
@@ -360,7 +361,7 @@ impl Levels {
 
     // Opens a wrapper inside the open ones.
     pub(crate) fn wrap(&mut self, wrapper: Wrapper) -> Result<(), AllocError>
-        requires { HasTagNumber wrapper }
+        requires { CanBeOpen wrapper }
         ensures { OnOk result (self.new ≡ record self.old {
           around = self.old.around ++
               (wrapper ∷ []);
@@ -372,7 +373,7 @@ impl Levels {
     // Closes the open wrappers.
     pub(crate) fn close_wrappers(&mut self)
         ensures closed { self.new ≡ record self.old { around = [] } }
-        ensures numbers { HaveTagNumbers self.old.around }
+        ensures numbers { CanAllBeOpen self.old.around }
     {
         self.wrappers.clear();
     }

@@ -1,6 +1,6 @@
 //! Null (X.690, 8.8).
-ghost use Rattle.picky_der_core.specs.Tree.{Tree};
-ghost use Rattle.picky_der_ser.specs.Calls.{WritesPlain};
+ghost use Rattle.picky_der_core.specs.Primitive.{Primitive};
+ghost use Rattle.picky_der_ser.specs.Calls.{WritesPrimitive};
 
 use crate::Serializer;
 use picky_der_core::Result;
@@ -13,7 +13,7 @@ pub struct Null;
 impl Null {
     /// Writes a null, as `Serializer::serialize_unit` does.
     pub fn serialize<W: WriteExt>(ser: &mut Serializer<W>) -> Result<usize>
-        ensures { WritesPlain W.WriteExt.own Tree.null ser.old result ser.new }
+        ensures { WritesPrimitive W.WriteExt.own Primitive.null ser.old result ser.new }
     {
         ser.write_plain(Tag::NULL, &[])
     }

@@ -1,7 +1,6 @@
 //! The wrappers of a serializer, in one vector.
 ghost use Rattle.std.specs.Prelude.{◌≡◌, ◌≢◌, ◌≤◌, [], ◌∷◌, ◌++◌, true, false, length, take, drop, OnOk};
-ghost use Rattle.picky_der_core.specs.Wrapper.{HasTagNumber};
-ghost use Rattle.picky_der_ser.specs.Headers.{HaveTagNumbers};
+ghost use Rattle.picky_der_ser.specs.Headers.{CanBeOpen, CanAllBeOpen};
 
 use picky_der_core::asn1::Wrapper;
 use std::alloc::{AllocError, Global};
@@ -18,7 +17,7 @@ pub(crate) struct Wrappers {
 
 impl Model for Wrappers {
     ghost use Rattle.std.specs.Prelude.{◌≤◌, length, take, drop};
-    ghost use Rattle.picky_der_ser.specs.Headers.{HaveTagNumbers};
+    ghost use Rattle.picky_der_ser.specs.Headers.{CanAllBeOpen};
     ghost use Rattle.picky_der_ser.specs.Wrappers.{KeptWrappers, kept_wrappers_code};
 
     ghost Value = { KeptWrappers };
@@ -27,7 +26,7 @@ impl Model for Wrappers {
 
     ghost view = { λ s. record { of_levels = take s.taken s.all.items; around = drop s.taken s.all.items } };
 
-    ghost invariant = { λ s. (s.taken ≤ length s.all.items) × HaveTagNumbers (drop s.taken s.all.items) };
+    ghost invariant = { λ s. (s.taken ≤ length s.all.items) × CanAllBeOpen (drop s.taken s.all.items) };
 }
 
 impl Wrappers {
@@ -51,14 +50,14 @@ impl Wrappers {
     // The open ones, the outermost first.
     pub(crate) fn open_wrappers(&self) -> &[Wrapper]
         ensures same { result.now ≡ self.now.around }
-        ensures numbers { HaveTagNumbers self.now.around }
+        ensures numbers { CanAllBeOpen self.now.around }
     {
         &self.all[self.taken..]
     }
 
     // Opens one inside the others.
     pub(crate) fn push(&mut self, wrapper: Wrapper) -> Result<(), AllocError>
-        requires { HasTagNumber wrapper }
+        requires { CanBeOpen wrapper }
         ensures ok { OnOk result (self.new ≡ record self.old {
           around = self.old.around ++
               (wrapper ∷ []);
@@ -72,7 +71,7 @@ impl Wrappers {
     // Closes the open ones.
     pub(crate) fn clear(&mut self)
         ensures closed { self.new ≡ record self.old { around = [] } }
-        ensures numbers { HaveTagNumbers self.old.around }
+        ensures numbers { CanAllBeOpen self.old.around }
     {
         self.all.truncate(self.taken);
     }
@@ -84,7 +83,7 @@ impl Wrappers {
           of_levels = self.old.of_levels ++ self.old.around;
           around = [];
         } }
-        ensures numbers { HaveTagNumbers self.old.around }
+        ensures numbers { CanAllBeOpen self.old.around }
     {
         let first = self.taken;
         self.taken = self.all.len();

@@ -1,20 +1,21 @@
 //! What bools and numbers mean.
+ghost use Rattle.picky_der_core.specs.Primitive.{Primitive};
 ghost use Rattle.picky_der_core.specs.Tree.{Tree};
 ghost use Rattle.std.specs.Prelude.{◌^◌, ◌-◌};
 ghost use Rattle.picky_der_core.specs.Integer.{fits_signed, integer_tree, int_tree, unsigned_tree};
 ghost use Rattle.picky_der_core.specs.UnsignedTreeLaws.{unsigned_tree-within};
-ghost use Rattle.picky_der_ser.specs.Calls.{WritesPlain};
+ghost use Rattle.picky_der_ser.specs.Calls.{WritesPlain, WritesPrimitive};
 
 use crate::{Serialize, Serializer};
 use picky_der_core::Result;
 use picky_der_core::misc::WriteExt;
 
 impl Serialize for bool {
-    ghost meaning = { λ b. Tree.boolean b };
+    ghost meaning = { λ b. Tree.primitive (Primitive.boolean b) };
 
     #[inline(always)]
     fn serialize<W: WriteExt>(&self, ser: &mut Serializer<W>) -> Result<usize>
-        ensures plain { WritesPlain W.WriteExt.own (Tree.boolean self.now) ser.old result ser.new }
+        ensures plain { WritesPrimitive W.WriteExt.own (Primitive.boolean self.now) ser.old result ser.new }
     {
         ser.serialize_bool(*self)
     }
@@ -25,7 +26,7 @@ impl Serialize for u8 {
 
     #[inline(always)]
     fn serialize<W: WriteExt>(&self, ser: &mut Serializer<W>) -> Result<usize>
-        ensures plain { WritesPlain W.WriteExt.own (Tree.unsigned self.now) ser.old result ser.new }
+        ensures plain { WritesPrimitive W.WriteExt.own (Primitive.unsigned self.now) ser.old result ser.new }
         ensures meant { WritesPlain W.WriteExt.own (unsigned_tree (2 ^ 8 - 1) self.now)
             ser.old result ser.new }
     {
@@ -38,7 +39,7 @@ impl Serialize for u16 {
 
     #[inline(always)]
     fn serialize<W: WriteExt>(&self, ser: &mut Serializer<W>) -> Result<usize>
-        ensures plain { WritesPlain W.WriteExt.own (Tree.unsigned self.now) ser.old result ser.new }
+        ensures plain { WritesPrimitive W.WriteExt.own (Primitive.unsigned self.now) ser.old result ser.new }
         ensures meant { WritesPlain W.WriteExt.own (unsigned_tree (2 ^ 16 - 1) self.now)
             ser.old result ser.new }
     {
@@ -51,7 +52,7 @@ impl Serialize for u32 {
 
     #[inline(always)]
     fn serialize<W: WriteExt>(&self, ser: &mut Serializer<W>) -> Result<usize>
-        ensures plain { WritesPlain W.WriteExt.own (Tree.unsigned self.now) ser.old result ser.new }
+        ensures plain { WritesPrimitive W.WriteExt.own (Primitive.unsigned self.now) ser.old result ser.new }
         ensures meant { WritesPlain W.WriteExt.own (unsigned_tree (2 ^ 32 - 1) self.now)
             ser.old result ser.new }
     {
@@ -64,7 +65,7 @@ impl Serialize for u64 {
 
     #[inline(always)]
     fn serialize<W: WriteExt>(&self, ser: &mut Serializer<W>) -> Result<usize>
-        ensures plain { WritesPlain W.WriteExt.own (Tree.unsigned self.now) ser.old result ser.new }
+        ensures plain { WritesPrimitive W.WriteExt.own (Primitive.unsigned self.now) ser.old result ser.new }
         ensures meant { WritesPlain W.WriteExt.own (unsigned_tree (2 ^ 64 - 1) self.now)
             ser.old result ser.new }
     {
@@ -77,7 +78,7 @@ impl Serialize for u128 {
 
     #[inline(always)]
     fn serialize<W: WriteExt>(&self, ser: &mut Serializer<W>) -> Result<usize>
-        ensures plain { WritesPlain W.WriteExt.own (Tree.unsigned self.now) ser.old result ser.new }
+        ensures plain { WritesPrimitive W.WriteExt.own (Primitive.unsigned self.now) ser.old result ser.new }
         ensures meant { WritesPlain W.WriteExt.own (unsigned_tree (2 ^ 128 - 1) self.now)
             ser.old result ser.new }
     {
@@ -90,7 +91,7 @@ impl Serialize for usize {
 
     #[inline(always)]
     fn serialize<W: WriteExt>(&self, ser: &mut Serializer<W>) -> Result<usize>
-        ensures plain { WritesPlain W.WriteExt.own (Tree.unsigned self.now) ser.old result ser.new }
+        ensures plain { WritesPrimitive W.WriteExt.own (Primitive.unsigned self.now) ser.old result ser.new }
         ensures meant { WritesPlain W.WriteExt.own (unsigned_tree (2 ^ 64 - 1) self.now)
             ser.old result ser.new }
     {

@@ -1,17 +1,18 @@
 //! What characters and texts mean.
 ghost use Rattle.std.specs.Prelude.{encode_utf8, string_bytes};
+ghost use Rattle.picky_der_core.specs.Primitive.{Primitive};
 ghost use Rattle.picky_der_core.specs.Tree.{Tree};
-ghost use Rattle.picky_der_ser.specs.Calls.{WritesPlain};
+ghost use Rattle.picky_der_ser.specs.Calls.{WritesPrimitive};
 
 use crate::{Serialize, Serializer};
 use picky_der_core::Result;
 use picky_der_core::misc::WriteExt;
 
 impl Serialize for char {
-    ghost meaning = { λ c. Tree.text (encode_utf8 c) };
+    ghost meaning = { λ c. Tree.primitive (Primitive.text (encode_utf8 c)) };
 
     fn serialize<W: WriteExt>(&self, ser: &mut Serializer<W>) -> Result<usize>
-        ensures plain { WritesPlain W.WriteExt.own (Tree.text (encode_utf8 self.now))
+        ensures plain { WritesPrimitive W.WriteExt.own (Primitive.text (encode_utf8 self.now))
             ser.old result ser.new }
     {
         ser.serialize_char(*self)
@@ -19,20 +20,20 @@ impl Serialize for char {
 }
 
 impl Serialize for &str {
-    ghost meaning = { λ s. Tree.text s.now };
+    ghost meaning = { λ s. Tree.primitive (Primitive.text s.now) };
 
     fn serialize<W: WriteExt>(&self, ser: &mut Serializer<W>) -> Result<usize>
-        ensures plain { WritesPlain W.WriteExt.own (Tree.text self.now.now) ser.old result ser.new }
+        ensures plain { WritesPrimitive W.WriteExt.own (Primitive.text self.now.now) ser.old result ser.new }
     {
         ser.serialize_str(self)
     }
 }
 
 impl Serialize for String {
-    ghost meaning = { λ s. Tree.text (string_bytes s) };
+    ghost meaning = { λ s. Tree.primitive (Primitive.text (string_bytes s)) };
 
     fn serialize<W: WriteExt>(&self, ser: &mut Serializer<W>) -> Result<usize>
-        ensures plain { WritesPlain W.WriteExt.own (Tree.text (string_bytes self.now))
+        ensures plain { WritesPrimitive W.WriteExt.own (Primitive.text (string_bytes self.now))
             ser.old result ser.new }
     {
         ser.serialize_str(self.as_str())

@@ -1,4 +1,5 @@
 //! Containers and context tags, as they are written.
+ghost use Rattle.picky_der_core.specs.declared.asn1.wrapper.Wrapper.TheVariants.{OctetContainer, BitContainer, Explicit, Implicit, Retagged};
 ghost use Rattle.picky_der_core.specs.Tree.{Tree};
 
 use crate::{List, Serialize, Serializer};
@@ -10,7 +11,7 @@ use picky_der_core::asn1::{
 use picky_der_core::misc::WriteExt;
 
 impl<T: Serialize> Serialize for OctetStringAsn1Container<T> {
-    ghost meaning = { λ x. Tree.octet_container (T.meaning x.0) };
+    ghost meaning = { λ x. Tree.wrapped OctetContainer (T.meaning x.0) };
 
     fn serialize<W: WriteExt>(&self, ser: &mut Serializer<W>) -> Result<usize> {
         ser.serialize_newtype_struct(Newtype::OctetContainer, &self.0)
@@ -18,7 +19,7 @@ impl<T: Serialize> Serialize for OctetStringAsn1Container<T> {
 }
 
 impl<T: Serialize> Serialize for BitStringAsn1Container<T> {
-    ghost meaning = { λ x. Tree.bit_container (T.meaning x.0) };
+    ghost meaning = { λ x. Tree.wrapped BitContainer (T.meaning x.0) };
 
     fn serialize<W: WriteExt>(&self, ser: &mut Serializer<W>) -> Result<usize> {
         ser.serialize_newtype_struct(Newtype::BitContainer, &self.0)
@@ -26,7 +27,7 @@ impl<T: Serialize> Serialize for BitStringAsn1Container<T> {
 }
 
 impl<T: Serialize, const N: u8> Serialize for ExplicitContextTag<T, N> {
-    ghost meaning = { λ x. Tree.explicit N (T.meaning x.0) };
+    ghost meaning = { λ x. Tree.wrapped (Explicit N) (T.meaning x.0) };
 
     fn serialize<W: WriteExt>(&self, ser: &mut Serializer<W>) -> Result<usize> {
         ser.serialize_newtype_struct(Newtype::Explicit(N), &self.0)
@@ -34,7 +35,7 @@ impl<T: Serialize, const N: u8> Serialize for ExplicitContextTag<T, N> {
 }
 
 impl<T: Serialize, const N: u8> Serialize for ImplicitContextTag<T, N> {
-    ghost meaning = { λ x. Tree.implicit N (T.meaning x.0) };
+    ghost meaning = { λ x. Tree.wrapped (Implicit N) (T.meaning x.0) };
 
     fn serialize<W: WriteExt>(&self, ser: &mut Serializer<W>) -> Result<usize> {
         ser.serialize_newtype_struct(Newtype::Implicit(N), &self.0)
@@ -42,7 +43,7 @@ impl<T: Serialize, const N: u8> Serialize for ImplicitContextTag<T, N> {
 }
 
 impl<T: List, const TAG: u8> Serialize for Retagged<T, TAG> {
-    ghost meaning = { λ x. Tree.retagged TAG (T.meaning x.0) };
+    ghost meaning = { λ x. Tree.wrapped (Retagged TAG) (T.meaning x.0) };
 
     fn serialize<W: WriteExt>(&self, ser: &mut Serializer<W>) -> Result<usize> {
         ser.serialize_retagged(Tag::from(TAG), &self.0)

@@ -1,5 +1,6 @@
 //! Application tags, written (X.690, 8.14).
 ghost use Rattle.std.specs.Prelude.{◌≡◌, ◌<◌, None, Err, IfOk, IfErr};
+ghost use Rattle.picky_der_core.specs.declared.asn1.wrapper.Wrapper.TheVariants.{Application};
 ghost use Rattle.picky_der_core.specs.WriterFaults.{IsOnceAtMost};
 ghost use Rattle.picky_der_core.specs.Tree.{Tree};
 ghost use Rattle.picky_der_ser.specs.Calls.{UntouchedUnlessFailed, Writes, RefusesWrite};
@@ -19,9 +20,9 @@ impl<W: WriteExt> Serializer<W> {
     #[tactic(auto, using(crate::proofs::ApplicationWrites::application))]
     pub fn serialize_application<T: Serialize>(&mut self, number: u8, value: &T) -> Result<usize>
         ensures wrote { IfOk result (λ n. Writes W.WriteExt.own
-            (Tree.application number (T.meaning value.now)) self.old n self.new) }
+            (Tree.wrapped (Application number) (T.meaning value.now)) self.old n self.new) }
         ensures failed { IfErr result (λ e. RefusesWrite W.WriteExt.own
-            (Tree.application number (T.meaning value.now)) self.old e self.new) }
+            (Tree.wrapped (Application number) (T.meaning value.now)) self.old e self.new) }
         ensures untouched { IfErr result (λ e. UntouchedUnlessFailed W.WriteExt.own self.old.sink e
             self.new.sink) }
         ensures past { 30 < number → self.old.failed ≡ None

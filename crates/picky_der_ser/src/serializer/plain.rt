@@ -1,11 +1,11 @@
 //! Plain values, written.
 ghost use Rattle.std.specs.Prelude.{◌≡◌, ◌≢◌, [], encode_utf8};
+ghost use Rattle.picky_der_core.specs.Primitive.{Primitive};
 ghost use Rattle.picky_der_core.specs.Tag.{number_of, IsTagNumber};
-ghost use Rattle.picky_der_core.specs.Tree.{Tree};
 ghost use Rattle.picky_der_core.specs.Integer.{integer_tree, int_tree};
 ghost use Rattle.picky_der_ser.specs.Heading.{tree_of};
 ghost use Rattle.picky_der_ser.specs.Headers.{HasNumber};
-ghost use Rattle.picky_der_ser.specs.Calls.{WritesPlain};
+ghost use Rattle.picky_der_ser.specs.Calls.{WritesPlain, WritesPrimitive};
 
 use super::Serializer;
 use crate::sink::put_element;
@@ -20,7 +20,7 @@ impl<W: WriteExt> Serializer<W> {
     #[inline(always)]
     pub(crate) fn write_plain(&mut self, tag: Tag, content: &[u8]) -> Result<usize>
         requires { IsTagNumber (number_of tag) }
-        ensures { WritesPlain W.WriteExt.own (Tree.bytes tag content.now) self.old result self.new }
+        ensures { WritesPrimitive W.WriteExt.own (Primitive.bytes tag content.now) self.old result self.new }
     {
         if self.failed.is_none() && self.levels.is_bare() {
             if self.levels.append_short(tag, content) {
@@ -35,7 +35,7 @@ impl<W: WriteExt> Serializer<W> {
     #[inline(never)]
     fn write_any_plain(&mut self, tag: Tag, content: &[u8]) -> Result<usize>
         requires { IsTagNumber (number_of tag) }
-        ensures { WritesPlain W.WriteExt.own (Tree.bytes tag content.now) self.old result self.new }
+        ensures { WritesPrimitive W.WriteExt.own (Primitive.bytes tag content.now) self.old result self.new }
     {
         if let Some(error) = self.earlier() {
             return Err(error);
@@ -71,7 +71,7 @@ impl<W: WriteExt> Serializer<W> {
         requires had_not_failed { self.old.failed ≡ None }
         requires outside { self.old.inside ≡ [] }
         requires bare { self.old.around ≡ [] }
-        ensures { WritesPlain W.WriteExt.own (Tree.bytes tag content.now) self.old result self.new }
+        ensures { WritesPrimitive W.WriteExt.own (Primitive.bytes tag content.now) self.old result self.new }
     {
         self.levels.give_up();
         let outcome = put_element(&mut self.sink, tag, content);
@@ -95,7 +95,7 @@ impl<W: WriteExt> Serializer<W> {
     /// the sink can refuse; the same holds for the other calls of plain values.
     #[inline(always)]
     pub fn serialize_bool(&mut self, value: bool) -> Result<usize>
-        ensures { WritesPlain W.WriteExt.own (Tree.boolean value) self.old result self.new }
+        ensures { WritesPrimitive W.WriteExt.own (Primitive.boolean value) self.old result self.new }
     {
         Boolean::serialize(value, self)
     }
@@ -103,7 +103,7 @@ impl<W: WriteExt> Serializer<W> {
     /// Writes a number of 8 bits (X.690, 8.3).
     #[inline(always)]
     pub fn serialize_u8(&mut self, value: u8) -> Result<usize>
-        ensures { WritesPlain W.WriteExt.own (Tree.unsigned value) self.old result self.new }
+        ensures { WritesPrimitive W.WriteExt.own (Primitive.unsigned value) self.old result self.new }
     {
         UnsignedInteger::serialize(value, self)
     }
@@ -111,7 +111,7 @@ impl<W: WriteExt> Serializer<W> {
     /// Writes a number of 16 bits.
     #[inline(always)]
     pub fn serialize_u16(&mut self, value: u16) -> Result<usize>
-        ensures { WritesPlain W.WriteExt.own (Tree.unsigned value) self.old result self.new }
+        ensures { WritesPrimitive W.WriteExt.own (Primitive.unsigned value) self.old result self.new }
     {
         UnsignedInteger::serialize(value, self)
     }
@@ -119,7 +119,7 @@ impl<W: WriteExt> Serializer<W> {
     /// Writes a number of 32 bits.
     #[inline(always)]
     pub fn serialize_u32(&mut self, value: u32) -> Result<usize>
-        ensures { WritesPlain W.WriteExt.own (Tree.unsigned value) self.old result self.new }
+        ensures { WritesPrimitive W.WriteExt.own (Primitive.unsigned value) self.old result self.new }
     {
         UnsignedInteger::serialize(value, self)
     }
@@ -127,7 +127,7 @@ impl<W: WriteExt> Serializer<W> {
     /// Writes a number of 64 bits.
     #[inline(always)]
     pub fn serialize_u64(&mut self, value: u64) -> Result<usize>
-        ensures { WritesPlain W.WriteExt.own (Tree.unsigned value) self.old result self.new }
+        ensures { WritesPrimitive W.WriteExt.own (Primitive.unsigned value) self.old result self.new }
     {
         UnsignedInteger::serialize(value, self)
     }
@@ -135,7 +135,7 @@ impl<W: WriteExt> Serializer<W> {
     /// Writes a number of 128 bits.
     #[inline(always)]
     pub fn serialize_u128(&mut self, value: u128) -> Result<usize>
-        ensures { WritesPlain W.WriteExt.own (Tree.unsigned value) self.old result self.new }
+        ensures { WritesPrimitive W.WriteExt.own (Primitive.unsigned value) self.old result self.new }
     {
         UnsignedInteger::serialize(value, self)
     }
@@ -153,7 +153,7 @@ impl<W: WriteExt> Serializer<W> {
 
     /// Writes an octet string (X.690, 8.7).
     pub fn serialize_bytes(&mut self, bytes: &[u8]) -> Result<usize>
-        ensures { WritesPlain W.WriteExt.own (Tree.bytes 0x04 bytes.now) self.old result self.new }
+        ensures { WritesPrimitive W.WriteExt.own (Primitive.bytes 0x04 bytes.now) self.old result self.new }
     {
         self.write_plain(Tag::OCTET_STRING, bytes)
     }
@@ -161,22 +161,22 @@ impl<W: WriteExt> Serializer<W> {
     /// Writes a null (X.690, 8.8).
     #[inline(always)]
     pub fn serialize_unit(&mut self) -> Result<usize>
-        ensures { WritesPlain W.WriteExt.own Tree.null self.old result self.new }
+        ensures { WritesPrimitive W.WriteExt.own Primitive.null self.old result self.new }
     {
         Null::serialize(self)
     }
 
     /// Writes a null for a struct without fields. The name isn't written.
     pub fn serialize_unit_struct(&mut self, _name: &'static str) -> Result<usize>
-        ensures { WritesPlain W.WriteExt.own Tree.null self.old result self.new }
+        ensures { WritesPrimitive W.WriteExt.own Primitive.null self.old result self.new }
     {
         Null::serialize(self)
     }
 
     /// Writes a character, as the text that is just it.
     pub fn serialize_char(&mut self, value: char) -> Result<usize>
-        ensures { WritesPlain W.WriteExt.own
-            (Tree.text (encode_utf8 value)) self.old result self.new }
+        ensures { WritesPrimitive W.WriteExt.own
+            (Primitive.text (encode_utf8 value)) self.old result self.new }
     {
         let mut room = [0; 4];
         Utf8String::serialize(value.encode_utf8(&mut room), self)
@@ -184,7 +184,7 @@ impl<W: WriteExt> Serializer<W> {
 
     /// Writes a text in UTF-8 (X.690, 8.23).
     pub fn serialize_str(&mut self, value: &str) -> Result<usize>
-        ensures { WritesPlain W.WriteExt.own (Tree.text value.now) self.old result self.new }
+        ensures { WritesPrimitive W.WriteExt.own (Primitive.text value.now) self.old result self.new }
     {
         Utf8String::serialize(value, self)
     }
@@ -193,7 +193,7 @@ impl<W: WriteExt> Serializer<W> {
     /// announce the long form (X.690, 8.1.2.4): this is tested before all but an earlier error, no memory is taken,
     /// and nothing is written.
     pub fn serialize_tagged_bytes(&mut self, tag: Tag, content: &[u8]) -> Result<usize>
-        ensures { WritesPlain W.WriteExt.own (Tree.bytes tag content.now) self.old result self.new }
+        ensures { WritesPrimitive W.WriteExt.own (Primitive.bytes tag content.now) self.old result self.new }
     {
         if let Some(error) = self.earlier() {
             return Err(error);

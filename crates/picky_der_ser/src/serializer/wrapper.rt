@@ -1,9 +1,11 @@
 //! Wrappers, as a serializer opens them.
-ghost use Rattle.std.specs.Prelude.{◌≡◌, true, false, [], ◌∷◌, ◌++◌, None, Err, IfOk, IfErr, OnOk};
+ghost use Rattle.std.specs.Prelude.{◌≡◌, [], ◌∷◌, ◌++◌, None, Err, IsTrue, IfOk, IfErr, OnOk};
+ghost use Rattle.picky_der_core.specs.declared.asn1.wrapper.Wrapper.TheVariants.{Retagged};
+ghost use Rattle.picky_der_core.specs.OpenWrappers.{wrapper_of, wrap_if, HasTagNumberIfAny};
 ghost use Rattle.picky_der_core.specs.WriterFaults.{IsOnceAtMost};
 ghost use Rattle.picky_der_core.specs.Tag.{IsConstructedTag};
 ghost use Rattle.picky_der_core.specs.Tree.{Tree};
-ghost use Rattle.picky_der_core.specs.Wrapper.{wrap, wrapper_of, wrap_if, HasTagNumber, HasTagNumberIfAny};
+ghost use Rattle.picky_der_core.specs.Wrapper.{can_vanish, HasTagNumber};
 ghost use Rattle.picky_der_ser.specs.Calls.{Writes, RefusesWrite, RefusesWrapper};
 
 use super::Serializer;
@@ -12,24 +14,10 @@ use picky_der_core::asn1::{Newtype, Tag, Wrapper};
 use picky_der_core::misc::WriteExt;
 use picky_der_core::{Asn1DerError, Result};
 
-// Whether the wrapper's tag number, if it has one, is at most 30, and a tag in place of a list's own is constructed.
-fn has_tag_number(wrapper: Wrapper) -> bool
-    ensures yes { result ≡ true → HasTagNumber wrapper }
-    ensures no { result ≡ false → HasTagNumber wrapper → ⊥ }
-{
-    match wrapper {
-        Wrapper::OctetContainer | Wrapper::BitContainer => true,
-        Wrapper::Explicit(number) | Wrapper::Implicit(number) => number <= Tag::MAX_NUMBER,
-        Wrapper::Retagged(tag) => {
-            let tag = Tag::from(tag);
-            tag.number() <= Tag::MAX_NUMBER && tag.is_constructed()
-        }
-    }
-}
-
 impl<W: WriteExt> Serializer<W> {
     // Opens a wrapper inside the open ones.
     fn wrap(&mut self, wrapper: Wrapper) -> Result<()>
+        requires { IsTrue (can_vanish wrapper) }
         ensures ok { OnOk result (self.new ≡ record self.old {
           around = self.old.around ++
               (wrapper ∷ []);
@@ -42,7 +30,7 @@ impl<W: WriteExt> Serializer<W> {
         if let Some(error) = self.earlier() {
             return Err(error);
         }
-        if !has_tag_number(wrapper) {
+        if !wrapper.has_tag_number() {
             return Err(self.fail(Asn1DerError::UnsupportedValue));
         }
         let Ok(()) = self.levels.wrap(wrapper) else {
@@ -53,10 +41,11 @@ impl<W: WriteExt> Serializer<W> {
 
     // Writes the value in this wrapper, inside the open ones.
     fn write_wrapped<T: Serialize>(&mut self, wrapper: Wrapper, value: &T) -> Result<usize>
+        requires { IsTrue (can_vanish wrapper) }
         ensures wrote { IfOk result (λ n. Writes W.WriteExt.own
-            (wrap wrapper (T.meaning value.now)) self.old n self.new) }
+            (Tree.wrapped wrapper (T.meaning value.now)) self.old n self.new) }
         ensures failed { IfErr result (λ e. RefusesWrite W.WriteExt.own
-            (wrap wrapper (T.meaning value.now)) self.old e self.new) }
+            (Tree.wrapped wrapper (T.meaning value.now)) self.old e self.new) }
         ensures past { (HasTagNumber wrapper → ⊥) → self.old.failed ≡ None
             → (result ≡ Err Asn1DerError.UnsupportedValue) × (self.new.sink ≡ self.old.sink) }
         ensures counted { IsOnceAtMost (W.faults self.old.sink) (W.faults self.new.sink) }
@@ -97,9 +86,9 @@ impl<W: WriteExt> Serializer<W> {
     /// looked at: nothing is written, and no memory is taken.
     pub fn serialize_retagged<T: List>(&mut self, tag: Tag, value: &T) -> Result<usize>
         ensures wrote { IfOk result (λ n. Writes W.WriteExt.own
-            (Tree.retagged tag (T.meaning value.now)) self.old n self.new) }
+            (Tree.wrapped (Retagged tag) (T.meaning value.now)) self.old n self.new) }
         ensures failed { IfErr result (λ e. RefusesWrite W.WriteExt.own
-            (Tree.retagged tag (T.meaning value.now)) self.old e self.new) }
+            (Tree.wrapped (Retagged tag) (T.meaning value.now)) self.old e self.new) }
         ensures past { (IsConstructedTag tag → ⊥) → self.old.failed ≡ None
             → (result ≡ Err Asn1DerError.UnsupportedValue) × (self.new.sink ≡ self.old.sink) }
         ensures counted { IsOnceAtMost (W.faults self.old.sink) (W.faults self.new.sink) }

@@ -1,10 +1,10 @@
 use Rattle.std.proofs.Common.{sym, ◌∙◌, ap, subst}
-use Rattle.picky_der_ser.specs.Headers.{innermost_joint_header, HaveTagNumbers}
+use Rattle.picky_der_ser.specs.Headers.{innermost_joint_header, CanAllBeOpen}
 use Rattle.picky_der_ser.proofs.HeaderLoop.{last_number, innermost_joint_header-append}
 use Rattle.picky_der_ser.proofs.header.innermost_joined.Goals as goal
 
 pub joined-requires : goal.joined-requires
-joined-requires c = last_number c.in-Some.field-0-1.now c.in-Some.wrapper.now (subst HaveTagNumbers c.in-Some.ensures.cases.0 c.requires)
+joined-requires c = last_number c.in-Some.field-0-1.now c.in-Some.wrapper.now (subst CanAllBeOpen c.in-Some.ensures.cases.0 c.requires)
 
 pub returns-in-Some : goal.returns-in-Some
 returns-in-Some c =

@@ -1,6 +1,6 @@
 use Rattle.std.proofs.Common.{◌<◌, ◌^◌, length, ap, ◌∙◌, arith, refl}
+use Rattle.picky_der_core.specs.OpenWrappers.{under}
 use Rattle.picky_der_core.specs.Encoding.{der}
-use Rattle.picky_der_core.specs.Wrapper.{under}
 use Rattle.picky_der_ser.specs.Heading.{tree_of}
 use Rattle.picky_der_ser.specs.State.{Stack}
 use Rattle.picky_der_ser.proofs.PlainWrites.{writable-content}

@@ -1,7 +1,8 @@
 use Rattle.std.proofs.Common.{sym, ap, ◌∙◌, arith}
+use Rattle.picky_der_core.specs.Primitive.{Primitive}
 use Rattle.picky_der_core.specs.Tree.{Tree}
 use Rattle.picky_der_core.specs.WriterFaults.{once_at_most}
-use Rattle.picky_der_core.specs.EncodingLaws.{der-bytes}
+use Rattle.picky_der_core.specs.EncodingLaws.{der-primitive}
 use Rattle.picky_der_ser.specs.State.{Stack}
 use Rattle.picky_der_ser.proofs.PlainWrites.{writable-bytes}
 use Rattle.picky_der_ser.proofs.StateWrites.{plain_outside, bare_wrote, bare_refused, bare_fault, untouched_by_fault, on_ok}
@@ -10,11 +11,11 @@ use Rattle.picky_der_ser.proofs.serializer.Serializer.put_plain.Goals as goal
 pub returns : goal.returns
 returns g c =
     let w = g.W.WriteExt in
-    let t = Tree.bytes c.args.tag c.args.content.now in
+    let t = Tree.primitive (Primitive.bytes c.args.tag c.args.content.now) in
     let r = c.put_element-outcome.result in
     let e = c.put_element-outcome.ensures in
     let fits = writable-bytes c.args.tag c.args.content.now c.requires.number (omega arith) in
-    let is = sym (der-bytes c.args.tag c.args.content.now) in
+    let is = sym (der-primitive (Primitive.bytes c.args.tag c.args.content.now)) in
     let failed = rw (← c.self.view_is) at c.requires.had_not_failed in
     let outside = rw (← c.self.view_is) at c.requires.outside in
     let bare = rw (← c.self.view_is) at c.requires.bare in
