@@ -34,7 +34,7 @@ impl<A: PartialEq, B: PartialEq> OneOf<A, B> {
 pub type NoneOf = Infallible;
 
 /// Alternatives of a choice, in order: none, as `NoneOf`, or one and those behind it, as `OneOf<A, B>`.
-pub trait Alternatives: Drop + Sized {
+pub trait Alternatives: Sized {
     // A shape for each alternative.
     ghost shapes: { Shapes };
 

@@ -12,7 +12,7 @@ use picky_der_ser::SerializeMembers;
 
 /// Members of a sequence that are read back, of which some may be absent: none, as `()`, or up to eight and those after them, as
 /// `(A, Optional<B>, C, ())`.
-pub trait DeserializeMembers: SerializeMembers + Drop + Sized {
+pub trait DeserializeMembers: SerializeMembers + Sized {
     ghost use Rattle.picky_der_de.specs.SequenceState.{borrowed_by, outer_of, state_of};
 
     // The shapes of the members, and which may be missing.
@@ -53,7 +53,7 @@ impl DeserializeMembers for () {
 /// A type whose values are those of the members of a SEQUENCE, as a struct's are.
 ///
 /// Each combination of members has to be a value of the type. A type that leaves some out is read by the calls of the deserializer.
-pub trait Struct: Sized {
+pub trait Struct: Drop + Sized {
     /// The members, as `(A, Optional<B>, ())` of one that is always there and one that may be absent. Those after the eighth
     /// are the last field, again a tuple.
     type Members: DeserializeMembers;
@@ -80,6 +80,7 @@ pub fn deserialize_struct_as<T: Struct, R: ReadExt>(de: &mut Deserializer<R>) ->
 {
     let mut sequence = de.deserialize_seq()?;
     let members = T::Members::deserialize_members(&mut sequence)?;
+    let value = T::from_parts(members);
     sequence.end()?;
-    Ok(T::from_parts(members))
+    Ok(value)
 }
