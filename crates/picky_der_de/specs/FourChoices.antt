@@ -1,4 +1,5 @@
 -- Alternatives four at a time, as they are one by one.
+use Rattle.std.specs.Prelude.{Bool}
 use Rattle.picky_der_core.specs.Tree.{Tree}
 use Rattle.picky_der_core.specs.Shape.{Shape, Shapes}
 use Rattle.picky_der_de.specs.declared.alternatives.OneOf.{OneOf}
@@ -20,14 +21,18 @@ module _ {A B C D E : Type 0} where
   abbrev pub chosen_of4 : (A → Tree) → (B → Tree) → (C → Tree) → (D → Tree) → (E → Tree) → OneOf4 A B C D E → Tree
   chosen_of4 a b c d e v = chosen_of a (chosen_of b (chosen_of c (chosen_of d e))) (one_by_one v)
 
-  abbrev pub known_one_of4 : {s t u w : Shape} {ss : Shapes} → Known A s → Known B t → Known C u → Known D w → KnownChoice E ss → KnownChoice (OneOf4 A B C D E) (Shapes.more s (Shapes.more t (Shapes.more u (Shapes.more w ss))))
-  known_one_of4 a b c d e =
-      let all = known_this_or_other a (known_this_or_other b (known_this_or_other c (known_this_or_other d e))) in
-      record {
-        chosen = λ v. all.chosen (one_by_one v);
-        equal = λ x y. all.equal (one_by_one x) (one_by_one y);
-        begun = λ v. all.begun (one_by_one v);
-        has_shape = λ v. all.has_shape (one_by_one v);
-        apart = λ told x y. all.apart told (one_by_one x) (one_by_one y);
-        sound = all.sound;
-      }
+  module _ {s t u w : Shape} {ss : Shapes} {chosen : E → Tree} (a : Known A s) (means_a : A → Tree) (equal_a : A → A → Bool) (b : Known B t) (means_b : B → Tree) (equal_b : B → B → Bool)
+      (c : Known C u) (means_c : C → Tree) (equal_c : C → C → Bool) (d : Known D w) (means_d : D → Tree) (equal_d : D → D → Bool) (e : KnownChoice E ss chosen) where
+    abbrev pub known_one_of4 : KnownChoice (OneOf4 A B C D E) (Shapes.more s (Shapes.more t (Shapes.more u (Shapes.more w ss)))) (chosen_of4 means_a means_b means_c means_d chosen)
+    known_one_of4 =
+        let all = known_this_or_other a means_a equal_a (known_this_or_other b means_b equal_b (known_this_or_other c means_c equal_c (known_this_or_other d means_d equal_d e))) in
+        record {
+          eq = λ x y. all.eq (one_by_one x) (one_by_one y);
+          Owed = all.Owed;
+          holds = λ o. let are = all.holds o in record {
+            begun = λ v. are.begun (one_by_one v);
+            has_shape = λ v. are.has_shape (one_by_one v);
+            apart = λ told x y. are.apart told (one_by_one x) (one_by_one y);
+            sound = are.sound;
+          };
+        }

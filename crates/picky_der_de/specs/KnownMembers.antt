@@ -1,19 +1,17 @@
--- Members one after another, of which some may be absent: what is known of them, by which tests two are equal, and how these are tied to
--- a `==`.
-use Rattle.std.specs.Prelude.{◌≡◌, List, [], ◌∷◌, ℕ, Bool, true, false, ◌&&◌, ◌||◌, Option, Some, map, IsTrue, refl}
+-- Members one after another, of which some may be absent: what is known of them, and by which tests two are equal.
+use Rattle.std.specs.Prelude.{◌≡◌, List, [], ◌∷◌, ℕ, Bool, true, false, ◌&&◌, Option, Some, IsTrue, refl, ⊤}
 use Rattle.std.specs.List.{AllByRecursion}
 use Rattle.std.specs.Option.{option_eq}
-use Rattle.std.proofs.Common.{ap, ◌∙◌, subst}
-use Rattle.std.proofs.lemmas.Bool.{and_parts, or_left, or_right}
+use Rattle.std.proofs.Common.{subst}
+use Rattle.std.proofs.lemmas.Bool.{and_parts}
 use Rattle.picky_der_core.specs.Tree.{ListKind, Tree, Trees}
 use Rattle.picky_der_core.specs.Shape.{Shape, Shapes, Layout, AreMembersTold, firsts, next_firsts, are_apart}
 use Rattle.picky_der_ser.specs.Meaning.{maybe_more, unless_default}
 use Rattle.picky_der_ser.specs.Defaults.{IsOne}
 use Rattle.picky_der_de.specs.InjectiveLaws.{list_members, both}
 use Rattle.picky_der_de.specs.Layouts.{Presence, always, perhaps, component_then}
-use Rattle.picky_der_de.specs.LayoutLaws.{IsComponent, AreComponents, always_there, part_there, perhaps_there, same_unless_default, no_components, behind, equal_so, lead}
-use Rattle.picky_der_de.specs.Known.{Known, Ties}
-use Rattle.picky_der_de.specs.KnownContainers.{option_so}
+use Rattle.picky_der_de.specs.LayoutLaws.{IsComponent, AreComponents, same_unless_default, no_components, behind, lead}
+use Rattle.picky_der_de.specs.Known.{Known, Tied, is_known}
 
 abbrev pub AreTrue : List Bool → Type 0
 AreTrue bs = AllByRecursion (λ b. b ≡ true) bs
@@ -34,100 +32,9 @@ conjunction_true [] h = refl
 conjunction_true (b ∷ []) h = h.0
 conjunction_true (b ∷ (c ∷ bs)) h = both h.0 (conjunction_true (c ∷ bs) h.1)
 
-conjunction_after_true : (before : Bool) (bs : List Bool) → before ≡ true → AreTrue bs → conjunction_after before bs ≡ true
+pub conjunction_after_true : (before : Bool) (bs : List Bool) → before ≡ true → AreTrue bs → conjunction_after before bs ≡ true
 conjunction_after_true before [] p h = p
 conjunction_after_true before (b ∷ bs) p h = conjunction_after_true (before && b) bs (both p h.0) h.1
-
-each_true : (bs : List Bool) → conjunction bs ≡ true → AreTrue bs
-each_true [] h = tt
-each_true (b ∷ []) h = (h, tt)
-each_true (b ∷ (c ∷ bs)) h = let parts = and_parts b (conjunction (c ∷ bs)) h in (parts.0, each_true (c ∷ bs) parts.1)
-
--- what is known is of these trees, and rows that pass its tests pass those
-pub record TiesMembers {P : Type 0} (known_members : P → Trees) (known_tests : P → P → List Bool) (means : P → Trees) (tests : P → P → List Bool) : Type 0 where
-  pub members : known_members ≡ means
-  pub equal : (x y : P) → AreTrue (known_tests x y) → AreTrue (tests x y)
-
-pub ties_none : {P : Type 0} → TiesMembers (λ (p : P). Trees.none) (λ x y. []) (λ p. Trees.none) (λ x y. [])
-ties_none = record { members = refl; equal = λ x y h. h }
-
--- what is written of a member before the others, and its `==`
-pub record TiesMember {V : Type 0} (known_in_front : V → Trees → Trees) (known_equal : V → V → Bool) (written : V → Trees → Trees) (eq : V → V → Bool) : Type 0 where
-  pub in_front : known_in_front ≡ written
-  pub equal : (x y : V) → known_equal x y ≡ true → eq x y ≡ true
-
--- ---- one member before others
-
-module _ {P : Type 0} {ms us : P → Trees} {ts vs : P → P → List Bool} where
-  pub ties_member : {V : Type 0} {m n : V → Trees → Trees} {p q : V → V → Bool} (first : P → V) → TiesMember m p n q → TiesMembers ms ts us vs
-      → TiesMembers (λ x. m (first x) (ms x)) (λ x y. p (first x) (first y) ∷ ts x y) (λ x. n (first x) (us x)) (λ x y. q (first x) (first y) ∷ vs x y)
-  ties_member {V} {m} {n} {p} {q} first t others = record {
-    members = ap {B = P → Trees} (λ (k : V → Trees → Trees) (x : P). k (first x) (ms x)) t.in_front ∙ ap {B = P → Trees} (λ (k : P → Trees) (x : P). n (first x) (k x)) others.members;
-    equal = λ x y h. (t.equal (first x) (first y) h.0, others.equal x y h.1);
-  }
-
-  -- where they are a part
-  pub ties_part : {V : Type 0} (part : V → P) → TiesMembers ms ts us vs → TiesMembers (λ x. ms (part x)) (λ x y. ts (part x) (part y)) (λ x. us (part x)) (λ x y. vs (part x) (part y))
-  ties_part {V} part t = record { members = ap {B = V → Trees} (λ (k : P → Trees) (x : V). k (part x)) t.members; equal = λ x y. t.equal (part x) (part y) }
-
-  -- by the `==` of a tuple
-  pub ties_tuple : TiesMembers ms ts us vs → TiesMembers ms ts us (λ x y. conjunction_after true (vs x y) ∷ [])
-  ties_tuple t = record { members = t.members; equal = λ x y h. (conjunction_after_true true (vs x y) refl (t.equal x y h), tt) }
-
-  -- a sequence of them, by the `==` of a struct
-  pub ties_sequence : {S : Type 0} (parts : S → P) → TiesMembers ms ts us vs
-      → Ties (λ s. Tree.list ListKind.sequence (ms (parts s))) (λ x y. conjunction (ts (parts x) (parts y))) (λ s. Tree.list ListKind.sequence (us (parts s))) (λ x y. conjunction (vs (parts x) (parts y)))
-  ties_sequence {S} parts t = record {
-    meaning = ap {B = S → Tree} (λ (k : P → Trees) (s : S). Tree.list ListKind.sequence (k (parts s))) t.members;
-    equal = λ x y h. conjunction_true (vs (parts x) (parts y)) (t.equal (parts x) (parts y) (each_true (ts (parts x) (parts y)) h));
-  }
-
--- one that is always there
-pub ties_always : {A : Type 0} {m n : A → Tree} {p q : A → A → Bool} → Ties m p n q → TiesMember (λ a. Trees.more (m a)) p (λ a. Trees.more (n a)) q
-ties_always {A} t = record { in_front = ap {B = A → Trees → Trees} (λ (k : A → Tree) (a : A). Trees.more (k a)) t.meaning; equal = t.equal }
-
-pub ties_element : {A V : Type 0} {m n : A → Tree} {p q : A → A → Bool} (part : V → A) → Ties m p n q → TiesMember (λ v. Trees.more (m (part v))) (λ x y. p (part x) (part y)) (λ v. Trees.more (n (part v))) (λ x y. q (part x) (part y))
-ties_element {A} {V} part t = record { in_front = ap {B = V → Trees → Trees} (λ (k : A → Tree) (v : V). Trees.more (k (part v))) t.meaning; equal = λ x y. t.equal (part x) (part y) }
-
-pub ties_field : {P A : Type 0} {ms us : P → Trees} {ts vs : P → P → List Bool} {m n : A → Tree} {p q : A → A → Bool} (first : P → A) → Ties m p n q → TiesMembers ms ts us vs
-    → TiesMembers (λ x. Trees.more (m (first x)) (ms x)) (λ x y. p (first x) (first y) ∷ ts x y) (λ x. Trees.more (n (first x)) (us x)) (λ x y. q (first x) (first y) ∷ vs x y)
-ties_field first t others = ties_member first (ties_always t) others
-
--- ---- by what two members are equal
-
-pub data Test : Type 0 where
-  plain : Bool → Test
-  -- by the `==` of the type, or, as both are the default, by that of the default
-  defaulted : Bool → Bool → Test
-
-abbrev pub passes : Test → Bool
-passes (plain p) = p
-passes (defaulted p q) = p || q
-
--- by the `==` of the type alone, and by that of the default where there is one
-abbrev pub by_type : Test → Bool
-by_type (plain p) = p
-by_type (defaulted p q) = p
-
-abbrev pub by_default : Test → Bool
-by_default (plain p) = p
-by_default (defaulted p q) = q
-
-either : (p q r : Bool) → (p ≡ true → r ≡ true) → (q ≡ true → r ≡ true) → (p || q) ≡ true → r ≡ true
-either true q r f g h = f refl
-either false q r f g h = g h
-
-first_of : {p q : Bool} {ps qs : List Bool} → (p ∷ ps) ≡ (q ∷ qs) → p ≡ q
-first_of e = cc
-
-others_of : {p q : Bool} {ps qs : List Bool} → (p ∷ ps) ≡ (q ∷ qs) → ps ≡ qs
-others_of e = cc
-
--- where both agree, what passes is equal by the type
-pub by_types : (ts : List Test) → map by_type ts ≡ map by_default ts → AreTrue (map passes ts) → AreTrue (map by_type ts)
-by_types [] agree h = tt
-by_types (plain p ∷ ts) agree h = (h.0, by_types ts (others_of agree) h.1)
-by_types (defaulted p q ∷ ts) agree h = (either p q p (λ e. e) (λ e. first_of agree ∙ e) h.0, by_types ts (others_of agree) h.1)
 
 -- ---- values that have an encoding, whatever they are: a test, which computes
 
@@ -148,90 +55,110 @@ abbrev mutual
 
 -- ---- one member
 
--- of a member V, where a W is what is written
-pub record KnownMember (V W : Type 0) (presence : Presence) (s : Shape) : Type 0 where
-  pub in_front : V → Trees → Trees
-  pub test : V → V → Test
-  pub meaning : W → Tree
-  pub equal_item : W → W → Bool
-  pub item : V → Option W
+-- What a member V says of itself, where a W is what is written, and that it is known by it where its part is what it says.
+pub record KnownMember (V : Type 0) {W : Type 0} (presence : Presence) (s : Shape) (meaning : W → Tree) (equal : W → W → Bool) (item : V → Option W) : Type 1 where
+  pub eq : V → V → Bool
   -- whether one that is always there can't be absent, as one with no encoding is
   pub there : Bool
-  pub is : IsComponent presence in_front (λ x y. passes (test x y)) meaning s equal_item item (λ w. false)
+  pub Owed : Type 0
+  pub holds : Owed → (in_front : V → Trees → Trees) → ((v : V) (ts : Trees) → in_front v ts ≡ maybe_more meaning (item v) ts) → IsComponent presence in_front eq meaning s equal item
 
-module _ {A : Type 0} {s : Shape} (a : Known A s) where
-  abbrev pub known_always : KnownMember A A always s
+-- so it stands in front of others
+pub record TiedMember {V W : Type 0} {presence : Presence} {s : Shape} {meaning : W → Tree} {equal : W → W → Bool} {item : V → Option W} (known : KnownMember V presence s meaning equal item) (in_front : V → Trees → Trees) : Type 0 where
+  pub owed : known.Owed
+  pub stands : (v : V) (ts : Trees) → in_front v ts ≡ maybe_more meaning (item v) ts
+
+pub component_of : {V W : Type 0} {presence : Presence} {s : Shape} {meaning : W → Tree} {equal : W → W → Bool} {item : V → Option W} (known : KnownMember V presence s meaning equal item) {in_front : V → Trees → Trees} → TiedMember known in_front
+    → IsComponent presence in_front known.eq meaning s equal item
+component_of known {in_front} t = known.holds t.owed in_front t.stands
+
+module _ {A : Type 0} {s : Shape} (a : Known A s) (means : A → Tree) (equal : A → A → Bool) where
+  abbrev pub known_always : KnownMember A always s means equal (λ v. Some v)
   known_always = record {
-    in_front = λ v. Trees.more (a.meaning v);
-    test = λ x y. plain (a.equal x y);
-    meaning = a.meaning;
-    equal_item = a.equal;
-    item = λ v. Some v;
+    eq = equal;
     there = is_there s;
-    is = always_there a.meaning s a.equal a.begun a.has_shape a.injective a.sound;
+    Owed = Tied a means equal;
+    holds = λ t in_front stands. record { stands = stands; there = λ v. tt; equal = λ x y h. h; is = is_known a t };
   }
 
   -- an element of a tuple
-  abbrev pub known_element : {V : Type 0} (part : V → A) → KnownMember V A always s
+  abbrev pub known_element : {V : Type 0} (part : V → A) → KnownMember V always s means equal (λ v. Some (part v))
   known_element part = record {
-    in_front = λ v. Trees.more (a.meaning (part v));
-    test = λ x y. plain (a.equal (part x) (part y));
-    meaning = a.meaning;
-    equal_item = a.equal;
-    item = λ v. Some (part v);
+    eq = λ x y. equal (part x) (part y);
     there = true;
-    is = part_there a.meaning s a.equal a.begun a.has_shape a.injective a.sound part;
+    Owed = Tied a means equal;
+    holds = λ t in_front stands. record { stands = stands; there = λ v. tt; equal = λ x y h. h; is = is_known a t };
   }
 
   -- of which an item is there, or none
-  abbrev known_maybe : {V : Type 0} (item : V → Option A) (test : V → V → Test) → ((x y : V) → option_eq a.equal (item x) (item y) ≡ true → passes (test x y) ≡ true) → KnownMember V A perhaps s
-  known_maybe item test same = record {
-    in_front = λ v. maybe_more a.meaning (item v);
-    test = test;
-    meaning = a.meaning;
-    equal_item = a.equal;
-    item = item;
+  abbrev pub known_perhaps : {V : Type 0} (item : V → Option A) → KnownMember V perhaps s means equal item
+  known_perhaps item = record {
+    eq = λ x y. option_eq equal (item x) (item y);
     there = is_there s;
-    is = perhaps_there a.meaning s a.equal a.begun a.has_shape a.injective a.sound item (λ x y. passes (test x y)) same;
+    Owed = Tied a means equal;
+    holds = λ t in_front stands. record { stands = stands; there = λ v. tt; equal = λ x y h. h; is = is_known a t };
   }
 
-  abbrev pub known_perhaps : {V : Type 0} (item : V → Option A) → KnownMember V A perhaps s
-  known_perhaps item = known_maybe item (λ x y. plain (option_eq a.equal (item x) (item y))) (λ x y h. h)
-
-  abbrev pub known_default : {V : Type 0} (left_out : A → Bool) (eq : A → A → Bool) → IsOne eq left_out → (value : V → A) → KnownMember V A perhaps s
-  known_default left_out eq one value = known_maybe (λ v. unless_default left_out (value v)) (λ x y. defaulted (a.equal (value x) (value y)) (eq (value x) (value y)))
-      (λ x y. same_unless_default a.equal (λ v w. a.equal v w || eq v w) left_out (λ v w p q. or_right (a.equal v w) (eq v w) (one v w p q)) (λ v w. or_left (a.equal v w) (eq v w)) (value x) (value y))
+  -- that is missing where it is the default, of which there is one by this `==`
+  abbrev pub known_default : {V : Type 0} (left_out : A → Bool) (same : A → A → Bool) → IsOne same left_out → (value : V → A) → KnownMember V perhaps s means equal (λ v. unless_default left_out (value v))
+  known_default left_out same one value = record {
+    eq = λ x y. equal (value x) (value y);
+    there = is_there s;
+    Owed = Tied a means equal × ((x y : A) → same x y ≡ true → equal x y ≡ true);
+    holds = λ o in_front stands. record {
+      stands = stands;
+      there = λ v. tt;
+      equal = λ x y. same_unless_default equal left_out (λ v w p q. o.1 v w (one v w p q)) (value x) (value y);
+      is = is_known a o.0;
+    };
+  }
 
 -- ---- members, one after another
 
-pub record KnownMembers (P : Type 0) (l : Layout) : Type 0 where
+pub record KnownMembers (P : Type 0) (l : Layout) : Type 1 where
   pub members : P → Trees
-  -- one of each member
-  pub tests : P → P → List Test
+  -- whether each member is equal
+  pub tests : P → P → List Bool
   -- whether each member that is always there can't be absent
   pub there : Bool
+  pub Owed : Type 0
   -- two rows of readable members with the same trees pass them, where the first byte distinguishes missing members
-  pub are : AreComponents members l (λ x y. AreTrue (map passes (tests x y)))
+  pub holds : Owed → AreComponents members l (λ x y. AreTrue (tests x y))
+
+-- the members mean these trees
+pub record TiedMembers {P : Type 0} {l : Layout} (known : KnownMembers P l) (members : P → Trees) : Type 0 where
+  pub owed : known.Owed
+  pub means : known.members ≡ members
+
+pub components_of : {P : Type 0} {l : Layout} (known : KnownMembers P l) {members : P → Trees} → TiedMembers known members → AreComponents members l (λ x y. AreTrue (known.tests x y))
+components_of {P} {l} known t = subst (λ (m : P → Trees). AreComponents m l (λ x y. AreTrue (known.tests x y))) t.means (known.holds t.owed)
 
 abbrev pub known_none : {P : Type 0} → KnownMembers P Layout.empty
-known_none = record { members = λ x. Trees.none; tests = λ x y. []; there = true; are = no_components }
+known_none = record { members = λ x. Trees.none; tests = λ x y. []; there = true; Owed = ⊤; holds = λ o. no_components }
 
 module _ {P : Type 0} {l : Layout} where
   -- one member before others
-  abbrev pub known_member : {X W : Type 0} {presence : Presence} {s : Shape} (first : P → X) → KnownMember X W presence s → KnownMembers P l → KnownMembers P (component_then presence s l)
-  known_member first a others = record {
-    members = λ x. a.in_front (first x) (others.members x);
-    tests = λ x y. a.test (first x) (first y) ∷ others.tests x y;
+  abbrev pub known_member : {X W : Type 0} {presence : Presence} {s : Shape} {meaning : W → Tree} {equal : W → W → Bool} {item : X → Option W} (first : P → X) → KnownMember X presence s meaning equal item → (X → Trees → Trees) → KnownMembers P l → KnownMembers P (component_then presence s l)
+  known_member first a in_front others = record {
+    members = λ x. in_front (first x) (others.members x);
+    tests = λ x y. a.eq (first x) (first y) ∷ others.tests x y;
     there = a.there && others.there;
-    are = lead first a.is others.are;
+    Owed = TiedMember a in_front × others.Owed;
+    holds = λ o. lead first (component_of a o.0) (others.holds o.1);
   }
 
-  abbrev pub known_field : {A : Type 0} {s : Shape} (first : P → A) → Known A s → KnownMembers P l → KnownMembers P (Layout.required s l)
-  known_field first a others = known_member first (known_always a) others
+  abbrev pub known_field : {A : Type 0} {s : Shape} (first : P → A) → Known A s → (A → Tree) → (A → A → Bool) → KnownMembers P l → KnownMembers P (Layout.required s l)
+  known_field first a means equal others = known_member first (known_always a means equal) (λ v. Trees.more (means v)) others
 
-  -- where they are a part
-  abbrev pub known_members : {V : Type 0} (part : V → P) → KnownMembers P l → KnownMembers V l
-  known_members part known = record { members = λ x. known.members (part x); tests = λ x y. known.tests (part x) (part y); there = known.there; are = behind part known.are }
+  -- where they are a part, and mean these trees
+  abbrev pub known_members : {V : Type 0} (part : V → P) → KnownMembers P l → (P → Trees) → KnownMembers V l
+  known_members part known members = record {
+    members = λ x. members (part x);
+    tests = λ x y. known.tests (part x) (part y);
+    there = known.there;
+    Owed = TiedMembers known members;
+    holds = λ t. behind part (components_of known t);
+  }
 
 -- ---- the first byte distinguishes what may be absent: a test, which computes
 
@@ -275,43 +202,23 @@ are_distinguished {l = l} known = are_members_told l && known.there
 
 module _ {P S : Type 0} {l : Layout} (known : KnownMembers P l) where
   -- with this `==`
-  abbrev known_sequence : are_members_told l ≡ true → (parts : S → P) (eq : S → S → Bool) → ((x y : S) → AreTrue (map passes (known.tests (parts x) (parts y))) → eq x y ≡ true) → Known S (sequence_shape l)
+  abbrev known_sequence : are_members_told l ≡ true → (parts : S → P) (eq : S → S → Bool) → ((x y : S) → AreTrue (known.tests (parts x) (parts y)) → eq x y ≡ true) → Known S (sequence_shape l)
   known_sequence told parts eq same = record {
     meaning = sequence_of known.members parts;
-    equal = eq;
-    has_shape = λ v r. (refl, known.are.has_layout (parts v) r.1);
-    injective = λ x y p q r e. same x y (known.are.injective (members_told l told) (parts x) (parts y) p.1 q.1 r.1 (list_members e));
-    sound = (known.are.sound, members_told l told);
-    begun = λ v b h. h;
+    eq = eq;
+    Owed = known.Owed;
+    holds = λ o. let are = known.holds o in record {
+      has_shape = λ v r. (refl, are.has_layout (parts v) r.1);
+      injective = λ x y p q r e. same x y (are.injective (members_told l told) (parts x) (parts y) p.1 q.1 r.1 (list_members e));
+      sound = (are.sound, members_told l told);
+      begun = λ v b h. h;
+    };
   }
 
-  -- With a `==` that holds where members are equal by their types. The `==` of each default is that of its type.
-  abbrev pub known_struct : are_distinguished known ≡ true → (parts : S → P) (eq : S → S → Bool) → ((x y : S) → conjunction (map by_type (known.tests (parts x) (parts y))) ≡ true → eq x y ≡ true)
-      → ((x y : S) → map by_type (known.tests (parts x) (parts y)) ≡ map by_default (known.tests (parts x) (parts y))) → Known S (sequence_shape l)
-  known_struct told parts eq same agree =
-      known_sequence (and_parts (are_members_told l) known.there told).0 parts eq (λ x y h. same x y (conjunction_true (map by_type (known.tests (parts x) (parts y))) (by_types (known.tests (parts x) (parts y)) (agree x y) h)))
+  -- with the `==` of a struct of them
+  abbrev pub known_struct : are_distinguished known ≡ true → (parts : S → P) → Known S (sequence_shape l)
+  known_struct told parts = known_sequence (and_parts (are_members_told l) known.there told).0 parts (λ x y. conjunction (known.tests (parts x) (parts y))) (λ x y. conjunction_true (known.tests (parts x) (parts y)))
 
-  -- With the `==` of a struct of them. Of members whose types are parameters nothing computes, so any may be absent.
-  abbrev pub known_of_members : are_members_told l ≡ true → (parts : S → P) → Known S (sequence_shape l)
-  known_of_members told parts = known_sequence told parts (λ x y. conjunction (map passes (known.tests (parts x) (parts y)))) (λ x y h. conjunction_true (map passes (known.tests (parts x) (parts y))) h)
-
--- ---- ties
-
-pub ties_perhaps : {A V : Type 0} {m n : A → Tree} {p q : A → A → Bool} (item : V → Option A) → Ties m p n q
-    → TiesMember (λ v. maybe_more m (item v)) (λ x y. option_eq p (item x) (item y)) (λ v. maybe_more n (item v)) (λ x y. option_eq q (item x) (item y))
-ties_perhaps {A} {V} {p = p} {q = q} item t = record {
-  in_front = ap {B = V → Trees → Trees} (λ (k : A → Tree) (v : V). maybe_more k (item v)) t.meaning;
-  equal = λ x y. option_so p q t.equal (item x) (item y);
-}
-
-pub ties_default : {A V : Type 0} {m n : A → Tree} {p q r : A → A → Bool} (left_out : A → Bool) (value : V → A) → Ties m p n q → ((x y : A) → r x y ≡ true → q x y ≡ true)
-    → TiesMember (λ v. maybe_more m (unless_default left_out (value v))) (λ x y. p (value x) (value y) || r (value x) (value y)) (λ v. maybe_more n (unless_default left_out (value v))) (λ x y. q (value x) (value y))
-ties_default {A} {V} {p = p} {q = q} {r = r} left_out value t so = record {
-  in_front = ap {B = V → Trees → Trees} (λ (k : A → Tree) (v : V). maybe_more k (unless_default left_out (value v))) t.meaning;
-  equal = λ x y. either (p (value x) (value y)) (r (value x) (value y)) (q (value x) (value y)) (t.equal (value x) (value y)) (so (value x) (value y));
-}
-
--- what the members owe whose trees and `==` these are
-pub components_of : {P : Type 0} {l : Layout} (known : KnownMembers P l) {means : P → Trees} {eq : P → P → Bool} → TiesMembers known.members (λ x y. map passes (known.tests x y)) means (λ x y. eq x y ∷ []) → AreComponents means l (λ x y. IsTrue (eq x y))
-components_of {P} {l} known {means} {eq} t =
-    equal_so (λ x y h. (t.equal x y h).0) (subst (λ (k : P → Trees). AreComponents k l (λ x y. AreTrue (map passes (known.tests x y)))) t.members known.are)
+  -- With the `==` of a tuple of them. Of elements whose types are parameters nothing computes, so any may be absent.
+  abbrev pub known_tuple : are_members_told l ≡ true → (parts : S → P) → Known S (sequence_shape l)
+  known_tuple told parts = known_sequence told parts (λ x y. conjunction_after true (known.tests (parts x) (parts y))) (λ x y. conjunction_after_true true (known.tests (parts x) (parts y)) refl)

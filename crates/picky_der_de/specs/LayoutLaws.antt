@@ -10,6 +10,7 @@ use Rattle.picky_der_ser.specs.Meaning.{maybe_more, unless_default}
 use Rattle.picky_der_ser.specs.Defaults.{IsByTree, IsOne}
 use Rattle.picky_der_de.specs.Firsts.{IsBegunBy, begins_among}
 use Rattle.picky_der_de.specs.InjectiveLaws.{IsInjective, HasShape, first_member, other_members}
+use Rattle.picky_der_de.specs.Known.{IsKnown}
 use Rattle.picky_der_de.specs.Layouts.{Presence, always, perhaps, component_then, AreBegunBy}
 
 module _ (s : Shape) (l : Layout) (apart : are_apart (firsts s) (next_firsts l) ≡ true) where
@@ -61,14 +62,14 @@ module _ {V : Type 0} (meaning : V → Tree) (s : Shape) (l : Layout) (begins : 
 -- ---- members with a default
 
 -- two values are the same where what isn't left out of them is equal, or where both are the default
-module _ {V : Type 0} (eq same : V → V → Bool) (left_out : V → Bool) (one : IsOne same left_out) (equal : (x y : V) → eq x y ≡ true → same x y ≡ true) where
-  by_left_out : (x y : V) (p q : Bool) → left_out x ≡ p → left_out y ≡ q → option_eq eq (if p then None else Some x) (if q then None else Some y) ≡ true → same x y ≡ true
+module _ {V : Type 0} (eq : V → V → Bool) (left_out : V → Bool) (one : IsOne eq left_out) where
+  by_left_out : (x y : V) (p q : Bool) → left_out x ≡ p → left_out y ≡ q → option_eq eq (if p then None else Some x) (if q then None else Some y) ≡ true → eq x y ≡ true
   by_left_out x y true true p q h = one x y p q
   by_left_out x y true false p q h = cc
   by_left_out x y false true p q h = cc
-  by_left_out x y false false p q h = equal x y h
+  by_left_out x y false false p q h = h
 
-  pub same_unless_default : (x y : V) → option_eq eq (unless_default left_out x) (unless_default left_out y) ≡ true → same x y ≡ true
+  pub same_unless_default : (x y : V) → option_eq eq (unless_default left_out x) (unless_default left_out y) ≡ true → eq x y ≡ true
   same_unless_default x y h = by_left_out x y (left_out x) (left_out y) refl refl h
 
 -- ---- one member
@@ -79,80 +80,26 @@ IsThere always o = IfNone o ⊥
 IsThere perhaps o = ⊤
 
 -- What a member owes, always there or not: the value that stands in front of the others, if one does.
-pub record IsComponent {V W : Type 0} (presence : Presence) (in_front : V → Trees → Trees) (eq : V → V → Bool) (meaning : W → Tree) (s : Shape) (eq_item : W → W → Bool) (item : V → Option W) (left_out : W → Bool) : Type 0 where
+pub record IsComponent {V W : Type 0} (presence : Presence) (in_front : V → Trees → Trees) (eq : V → V → Bool) (meaning : W → Tree) (s : Shape) (eq_item : W → W → Bool) (item : V → Option W) : Type 0 where
   pub stands : (v : V) (ts : Trees) → in_front v ts ≡ maybe_more meaning (item v) ts
   pub there : (v : V) → IsThere presence (item v)
-  pub written : (v : V) → IfSome (item v) (λ w. left_out w ≡ false)
   pub equal : (x y : V) → option_eq eq_item (item x) (item y) ≡ true → eq x y ≡ true
-  pub begins : (w : W) → IsBegunBy (firsts s) (meaning w)
-  pub has_shape : HasShape meaning s
-  pub injective : IsInjective meaning s eq_item
+  pub is : IsKnown s meaning eq_item
+
+-- the tree distinguishes a value that is left out, and none that stands there is
+pub record IsLeftOut {V W : Type 0} (meaning : W → Tree) (item : V → Option W) (left_out : W → Bool) : Type 0 where
   pub by_tree : IsByTree meaning left_out
-  pub sound : IsSound s
+  pub written : (v : V) → IfSome (item v) (λ w. left_out w ≡ false)
 
-none_by_tree : {W : Type 0} (meaning : W → Tree) → IsByTree meaning (λ _. false)
-none_by_tree meaning x y h = cc
-
-module _ {W : Type 0} (meaning : W → Tree) (s : Shape) (eq : W → W → Bool) (begins : (w : W) → IsBegunBy (firsts s) (meaning w)) (has_shape : HasShape meaning s) (injective : IsInjective meaning s eq) (sound : IsSound s) where
-  -- a value
-  pub always_there : IsComponent always (λ w. Trees.more (meaning w)) eq meaning s eq (λ w. Some w) (λ _. false)
-  always_there = record {
-    stands = λ v ts. refl;
-    there = λ v. tt;
-    written = λ v. refl;
-    equal = λ x y h. h;
-    begins = begins;
-    has_shape = has_shape;
-    injective = injective;
-    by_tree = none_by_tree meaning;
-    sound = sound;
-  }
-
-  -- a part of a value
-  pub part_there : {V : Type 0} (part : V → W) → IsComponent always (λ v. Trees.more (meaning (part v))) (λ x y. eq (part x) (part y)) meaning s eq (λ v. Some (part v)) (λ _. false)
-  part_there part = record {
-    stands = λ v ts. refl;
-    there = λ v. tt;
-    written = λ v. refl;
-    equal = λ x y h. h;
-    begins = begins;
-    has_shape = has_shape;
-    injective = injective;
-    by_tree = none_by_tree meaning;
-    sound = sound;
-  }
-
-  -- a value that may be missing
-  pub perhaps_there : {V : Type 0} (item : V → Option W) (eq_member : V → V → Bool) → ((x y : V) → option_eq eq (item x) (item y) ≡ true → eq_member x y ≡ true) → IsComponent perhaps (λ v. maybe_more meaning (item v)) eq_member meaning s eq item (λ _. false)
-  perhaps_there {V} item eq_member same = record {
-    stands = λ v ts. refl;
-    there = λ v. tt;
-    written = λ v. none_out (item v);
-    equal = same;
-    begins = begins;
-    has_shape = has_shape;
-    injective = injective;
-    by_tree = none_by_tree meaning;
-    sound = sound;
-  } where
+module _ {V W : Type 0} {meaning : W → Tree} where
+  pub none_left_out : (item : V → Option W) → IsLeftOut meaning item (λ w. false)
+  none_left_out item = record { by_tree = λ x y h. cc; written = λ v. none_out (item v) } where
     none_out : (o : Option W) → IfSome o (λ w. false ≡ false)
     none_out None = tt
     none_out (Some w) = refl
 
-  -- a value that is missing where it is the default
-  pub with_default : {V : Type 0} (left_out : W → Bool) → IsByTree meaning left_out → IsOne eq left_out → (value : V → W)
-      → IsComponent perhaps (λ v. maybe_more meaning (unless_default left_out (value v))) (λ x y. eq (value x) (value y)) meaning s eq (λ v. unless_default left_out (value v)) left_out
-  with_default {V} left_out by_tree one value = record {
-    stands = λ v ts. refl;
-    there = λ v. tt;
-    written = λ v. not_out (value v) (left_out (value v)) refl;
-    equal = λ x y h. same_unless_default eq eq left_out one (λ v w k. k) (value x) (value y) h;
-    begins = begins;
-    has_shape = has_shape;
-    injective = injective;
-    by_tree = by_tree;
-    sound = sound;
-  } where
+  pub default_left_out : (left_out : W → Bool) → IsByTree meaning left_out → (value : V → W) → IsLeftOut meaning (λ v. unless_default left_out (value v)) left_out
+  default_left_out left_out by_tree value = record { by_tree = by_tree; written = λ v. not_out (value v) (left_out (value v)) refl } where
     not_out : (w : W) (out : Bool) → left_out w ≡ out → IfSome (if out then None else Some w) (λ x. left_out x ≡ false)
     not_out w true e = tt
     not_out w false e = e
@@ -176,36 +123,33 @@ no_components = record { begins = λ v. tt; has_layout = λ v r. tt; injective =
 pub behind : {V U : Type 0} {members : U → Trees} {l : Layout} {AreEqual : U → U → Type 0} (part : V → U) → AreComponents members l AreEqual → AreComponents (λ v. members (part v)) l (λ x y. AreEqual (part x) (part y))
 behind part c = record { begins = λ v. c.begins (part v); has_layout = λ v. c.has_layout (part v); injective = λ told x y. c.injective told (part x) (part y); sound = c.sound }
 
-pub equal_so : {V : Type 0} {members : V → Trees} {l : Layout} {AreAlike AreEqual : V → V → Type 0} → ((x y : V) → AreAlike x y → AreEqual x y) → AreComponents members l AreAlike → AreComponents members l AreEqual
-equal_so f c = record { begins = c.begins; has_layout = c.has_layout; injective = λ told x y p q r e. f x y (c.injective told x y p q r e); sound = c.sound }
-
 -- a member in front of the others
-module _ {V W X : Type 0} {presence : Presence} {in_front : X → Trees → Trees} {eq : X → X → Bool} {meaning : W → Tree} {s : Shape} {eq_item : W → W → Bool} {item : X → Option W} {left_out : W → Bool} {others : V → Trees} {l : Layout} {AreEqual : V → V → Type 0} (first : V → X)
-    (c : IsComponent presence in_front eq meaning s eq_item item left_out) (cs : AreComponents others l AreEqual) where
+module _ {V W X : Type 0} {presence : Presence} {in_front : X → Trees → Trees} {eq : X → X → Bool} {meaning : W → Tree} {s : Shape} {eq_item : W → W → Bool} {item : X → Option W} {others : V → Trees} {l : Layout} {AreEqual : V → V → Type 0} (first : V → X)
+    (c : IsComponent presence in_front eq meaning s eq_item item) (cs : AreComponents others l AreEqual) where
   stand : (v : V) → in_front (first v) (others v) ≡ maybe_more meaning (item (first v)) (others v)
   stand v = c.stands (first v) (others v)
 
   begun_by : (p : Presence) (o : Option W) (v : V) → IsThere p o → AreBegunBy (next_firsts (component_then p s l)) (maybe_more meaning o (others v))
   begun_by always None v t = absurd t
-  begun_by always (Some w) v t = c.begins w
-  begun_by perhaps o v t = maybe_begun meaning s l c.begins o (others v) (cs.begins v)
+  begun_by always (Some w) v t = c.is.begun w
+  begun_by perhaps o v t = maybe_begun meaning s l c.is.begun o (others v) (cs.begins v)
 
   injective_by : (p : Presence) (a b : Option W) (x y : V) → IsThere p a → IsThere p b → AreMembersTold (component_then p s l) → AreMembersOf (component_then p s l) (maybe_more meaning a (others x)) → AreMembersOf (component_then p s l) (maybe_more meaning b (others y)) → AreReadable (maybe_more meaning a (others x))
       → maybe_more meaning a (others x) ≡ maybe_more meaning b (others y) → (option_eq eq_item a b ≡ true) × AreEqual x y
   injective_by always None b x y t k told p q r e = absurd t
   injective_by always (Some v) None x y t k told p q r e = absurd k
-  injective_by always (Some v) (Some w) x y t k told p q r e = (c.injective v w p.0 q.0 r.0 (first_member e), cs.injective told x y p.1 q.1 r.1 (other_members e))
-  injective_by perhaps a b x y t k told p q r e = maybe_told meaning s l c.begins told eq_item (AreEqual x y) c.injective (others x) (others y) (cs.begins x) (cs.begins y) (cs.injective told.1 x y) a b p q r e
+  injective_by always (Some v) (Some w) x y t k told p q r e = (c.is.injective v w p.0 q.0 r.0 (first_member e), cs.injective told x y p.1 q.1 r.1 (other_members e))
+  injective_by perhaps a b x y t k told p q r e = maybe_told meaning s l c.is.begun told eq_item (AreEqual x y) c.is.injective (others x) (others y) (cs.begins x) (cs.begins y) (cs.injective told.1 x y) a b p q r e
 
   layout_by : (p : Presence) (o : Option W) (v : V) → IsThere p o → AreReadable (maybe_more meaning o (others v)) → AreMembersOf (component_then p s l) (maybe_more meaning o (others v))
   layout_by always None v t r = absurd t
-  layout_by always (Some w) v t r = (c.has_shape w r.0, cs.has_layout v r.1)
+  layout_by always (Some w) v t r = (c.is.has_shape w r.0, cs.has_layout v r.1)
   layout_by perhaps None v t r = inr (cs.has_layout v r)
-  layout_by perhaps (Some w) v t r = inl (c.has_shape w r.0, cs.has_layout v r.1)
+  layout_by perhaps (Some w) v t r = inl (c.is.has_shape w r.0, cs.has_layout v r.1)
 
   sound_by : (p : Presence) → AreMembersSound (component_then p s l)
-  sound_by always = (c.sound, cs.sound)
-  sound_by perhaps = (c.sound, cs.sound)
+  sound_by always = (c.is.sound, cs.sound)
+  sound_by perhaps = (c.is.sound, cs.sound)
 
   pub lead : AreComponents (λ v. in_front (first v) (others v)) (component_then presence s l) (λ x y. (eq (first x) (first y) ≡ true) × AreEqual x y)
   lead = record {

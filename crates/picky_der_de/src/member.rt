@@ -1,15 +1,12 @@
 //! One member of a struct: it is always there, or it may be absent.
 ghost use Rattle.std.specs.Prelude.{◌≡◌, Bool, false, Option, Some, IfOk, IfErr, IfSome, IfNone};
-ghost use Rattle.std.specs.Option.{option_eq};
 ghost use Rattle.picky_der_core.specs.Shape.{Shape};
 ghost use Rattle.picky_der_core.specs.Tree.{Tree};
 ghost use Rattle.picky_der_ser.specs.Meaning.{unless_default};
 ghost use Rattle.picky_der_de.specs.Members.{ReadsMember};
 ghost use Rattle.picky_der_de.specs.Layouts.{Presence, always, perhaps, Lacks, RefusesComponent};
-ghost use Rattle.picky_der_de.specs.LayoutLaws.{IsComponent, always_there, part_there, perhaps_there, with_default};
-ghost use Rattle.picky_der_de.specs.Known.{begun_of, has_shape_of, injective_of};
-ghost use Rattle.picky_der_de.specs.KnownMembers.{KnownMember, known_always, known_element, known_perhaps, known_default, passes};
-ghost use Rattle.picky_der_de.specs.KnownMembers.{TiesMember, ties_always, ties_element, ties_perhaps, ties_default};
+ghost use Rattle.picky_der_de.specs.LayoutLaws.{IsLeftOut, none_left_out, default_left_out};
+ghost use Rattle.picky_der_de.specs.KnownMembers.{KnownMember, TiedMember, known_always, known_element, known_perhaps, known_default};
 
 use crate::{Begins, Deserialize, Sequence};
 use picky_der_core::Result;
@@ -18,7 +15,7 @@ use picky_der_ser::{DefaultOf, Defaulted, Element, Optional, SerializeMember};
 
 /// A member of a struct that is read back: a value, which is always there, or one that may be absent, as `Optional` and
 /// `Defaulted` are.
-pub trait DeserializeMember: SerializeMember + PartialEq + Drop + Sized {
+pub trait DeserializeMember: SerializeMember + Drop + Sized {
     ghost use Rattle.picky_der_de.specs.SequenceState.{borrowed_by, outer_of, state_of};
 
     /// The type of what stands there.
@@ -42,8 +39,8 @@ pub trait DeserializeMember: SerializeMember + PartialEq + Drop + Sized {
     // What is never written.
     ghost left_out: { Self.Item → Bool };
 
-    // What is known of the member: which trees it means, and that these distinguish it.
-    ghost known: { KnownMember Self Self.Item presence shape };
+    // What is known of the member: which trees it means, and that these distinguish it, where its parts are what they say.
+    ghost known: { KnownMember Self presence shape item_meaning item_eq item };
 
     /// Reads the member, which is refused as `next_field`, `next_optional` and `next_or_default` refuse theirs.
     fn deserialize_member<R: ReadExt>(sequence: &mut Sequence<'_, R>) -> Result<Self>
@@ -57,11 +54,11 @@ pub trait DeserializeMember: SerializeMember + PartialEq + Drop + Sized {
         ensures err { IfErr result (RefusesComponent presence item_meaning left_out shape
             (state_of sequence.old) (state_of sequence.new)) };
 
-    // What is written of it is what stands there, and it is known by that.
-    ghost is_component: { IsComponent presence Self.in_front Self.eq item_meaning shape item_eq item left_out };
+    // The tree distinguishes what is never written.
+    ghost distinguished: { IsLeftOut item_meaning item left_out };
 
-    // It is known of what is written to `SerializeMember`, and of its `==`.
-    ghost tied: { TiesMember known.in_front (λ x y. passes (known.test x y)) Self.in_front Self.eq };
+    // Its parts are, and `SerializeMember` writes what stands there.
+    ghost tied: { TiedMember known Self.in_front };
 }
 
 impl<T: Deserialize> DeserializeMember for T {
@@ -79,15 +76,15 @@ impl<T: Deserialize> DeserializeMember for T {
 
     ghost left_out = { λ _. false };
 
-    ghost known = { known_always T.known };
+    ghost known = { known_always T.known T.meaning T.eq };
 
     fn deserialize_member<R: ReadExt>(sequence: &mut Sequence<'_, R>) -> Result<T> {
         sequence.next_field::<T>()
     }
 
-    ghost is_component = { always_there T.meaning T.shape T.eq (begun_of T.known T.tied) (has_shape_of T.known T.tied) (injective_of T.known T.tied) T.known.sound };
+    ghost distinguished = { none_left_out (λ value. Some value) };
 
-    ghost tied = { ties_always T.tied };
+    ghost tied = { Prim.assumption };
 }
 
 impl<T: Deserialize> DeserializeMember for Element<T> {
@@ -105,17 +102,16 @@ impl<T: Deserialize> DeserializeMember for Element<T> {
 
     ghost left_out = { λ _. false };
 
-    ghost known = { known_element T.known (λ element. element.0) };
+    ghost known = { known_element T.known T.meaning T.eq (λ element. element.0) };
 
     fn deserialize_member<R: ReadExt>(sequence: &mut Sequence<'_, R>) -> Result<Element<T>> {
         let value = sequence.next_field::<T>()?;
         Ok(Element(value))
     }
 
-    ghost is_component = { part_there T.meaning T.shape T.eq (begun_of T.known T.tied) (has_shape_of T.known T.tied) (injective_of T.known T.tied) T.known.sound
-        (λ element. element.0) };
+    ghost distinguished = { none_left_out (λ element. Some element.0) };
 
-    ghost tied = { ties_element (λ element. element.0) T.tied };
+    ghost tied = { Prim.assumption };
 }
 
 impl<T: Begins> DeserializeMember for Optional<T> {
@@ -133,17 +129,16 @@ impl<T: Begins> DeserializeMember for Optional<T> {
 
     ghost left_out = { λ _. false };
 
-    ghost known = { known_perhaps T.known (λ member. member.0) };
+    ghost known = { known_perhaps T.known T.meaning T.eq (λ member. member.0) };
 
     fn deserialize_member<R: ReadExt>(sequence: &mut Sequence<'_, R>) -> Result<Optional<T>> {
         let value = sequence.next_optional::<T>()?;
         Ok(Optional(value))
     }
 
-    ghost is_component = { perhaps_there T.meaning T.shape T.eq (begun_of T.known T.tied) (has_shape_of T.known T.tied) (injective_of T.known T.tied) T.known.sound
-        (λ member. member.0) (λ x y. option_eq T.eq x.0 y.0) (λ x y h. h) };
+    ghost distinguished = { none_left_out (λ member. member.0) };
 
-    ghost tied = { ties_perhaps (λ member. member.0) T.tied };
+    ghost tied = { Prim.assumption };
 }
 
 impl<T: Begins, D: DefaultOf<T>> DeserializeMember for Defaulted<T, D> {
@@ -161,15 +156,14 @@ impl<T: Begins, D: DefaultOf<T>> DeserializeMember for Defaulted<T, D> {
 
     ghost left_out = { D.left_out };
 
-    ghost known = { known_default T.known D.left_out D.equal D.one (λ member. member.value) };
+    ghost known = { known_default T.known T.meaning T.eq D.left_out D.equal D.one (λ member. member.value) };
 
     fn deserialize_member<R: ReadExt>(sequence: &mut Sequence<'_, R>) -> Result<Defaulted<T, D>> {
         let value = sequence.next_or_default::<T, D>()?;
         Ok(Defaulted::new(value))
     }
 
-    ghost is_component = { with_default T.meaning T.shape T.eq (begun_of T.known T.tied) (has_shape_of T.known T.tied) (injective_of T.known T.tied) T.known.sound
-        D.left_out D.by_tree (λ x y a b. D.equal_so x y (D.one x y a b)) (λ member. member.value) };
+    ghost distinguished = { default_left_out D.left_out D.by_tree (λ member. member.value) };
 
-    ghost tied = { ties_default D.left_out (λ member. member.value) T.tied D.equal_so };
+    ghost tied = { Prim.assumption };
 }

@@ -1,10 +1,9 @@
 //! All members of a SEQUENCE, as they are read, and structs of them.
-ghost use Rattle.std.specs.Prelude.{◌≡◌, ◌∷◌, [], true, None, map, IfOk, IfErr};
+ghost use Rattle.std.specs.Prelude.{◌≡◌, true, None, IfOk, IfErr};
 ghost use Rattle.picky_der_core.specs.Shape.{Layout};
 ghost use Rattle.picky_der_input.specs.Reading.{Reads, Refuses};
 ghost use Rattle.picky_der_de.specs.Layouts.{ReadsLayout, RefusesLayout};
-ghost use Rattle.picky_der_de.specs.KnownMembers.{KnownMembers, are_members_told, known_none, passes, sequence_of, sequence_shape};
-ghost use Rattle.picky_der_de.specs.KnownMembers.{TiesMembers, ties_none, ties_tuple};
+ghost use Rattle.picky_der_de.specs.KnownMembers.{KnownMembers, TiedMembers, are_members_told, known_none, sequence_of, sequence_shape};
 
 use crate::{Deserializer, Sequence};
 use picky_der_core::Result;
@@ -13,13 +12,13 @@ use picky_der_ser::SerializeMembers;
 
 /// Members of a sequence that are read back, of which some may be absent: none, as `()`, or up to eight and those after them, as
 /// `(A, Optional<B>, C, ())`.
-pub trait DeserializeMembers: SerializeMembers + PartialEq + Drop + Sized {
+pub trait DeserializeMembers: SerializeMembers + Sized {
     ghost use Rattle.picky_der_de.specs.SequenceState.{borrowed_by, outer_of, state_of};
 
     // The shapes of the members, and which may be missing.
     ghost layout: { Layout };
 
-    // What is known of the members: which trees they mean, and that these distinguish them.
+    // What is known of the members: which trees they mean, and that these distinguish them, where their parts are what they say.
     ghost known: { KnownMembers Self layout };
 
     /// Reads the members, from a sequence that hasn't failed and in which none is awaited directly under an implicit tag.
@@ -35,8 +34,8 @@ pub trait DeserializeMembers: SerializeMembers + PartialEq + Drop + Sized {
         ensures err { IfErr result (RefusesLayout Self.members layout (state_of sequence.old)
             (state_of sequence.new)) };
 
-    // It is known of what they mean to `SerializeMembers`, and of their `==`.
-    ghost tied: { TiesMembers known.members (λ x y. map passes (known.tests x y)) Self.members (λ x y. Self.eq x y ∷ []) };
+    // Their parts are, and it is known of what they mean to `SerializeMembers`.
+    ghost tied: { TiedMembers known Self.members };
 }
 
 impl DeserializeMembers for () {
@@ -48,13 +47,13 @@ impl DeserializeMembers for () {
         Ok(())
     }
 
-    ghost tied = { ties_tuple ties_none };
+    ghost tied = { Prim.assumption };
 }
 
 /// A type whose values are those of the members of a SEQUENCE, as a struct's are.
 ///
 /// Each combination of members has to be a value of the type. A type that leaves some out is read by the calls of the deserializer.
-pub trait Struct: Sized {
+pub trait Struct: Drop + Sized {
     /// The members, as `(A, Optional<B>, ())` of one that is always there and one that may be absent. Those after the eighth
     /// are the last field, again a tuple.
     type Members: DeserializeMembers;
@@ -81,6 +80,7 @@ pub fn deserialize_struct_as<T: Struct, R: ReadExt>(de: &mut Deserializer<R>) ->
 {
     let mut sequence = de.deserialize_seq()?;
     let members = T::Members::deserialize_members(&mut sequence)?;
+    let value = T::from_parts(members);
     sequence.end()?;
-    Ok(T::from_parts(members))
+    Ok(value)
 }

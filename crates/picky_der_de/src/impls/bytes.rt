@@ -5,7 +5,7 @@ ghost use Rattle.picky_der_core.specs.Tree.{Tree};
 ghost use Rattle.picky_der_core.specs.Shape.{Shape};
 ghost use Rattle.picky_der_input.specs.Reading.{Reads, Refuses, RefusesBytes};
 ghost use Rattle.picky_der_input.specs.TagNumbers.{RefusesNumber};
-ghost use Rattle.picky_der_de.specs.Known.{known_bytes, by_itself};
+ghost use Rattle.picky_der_de.specs.Known.{known_bytes};
 
 use crate::{Deserialize, Deserializer};
 use picky_der_core::Result;
@@ -18,7 +18,7 @@ impl Deserialize for ByteBuf {
 
     ghost known = { known_bytes 0x04 (λ it. it.0.items) };
 
-    ghost tied = { by_itself };
+    ghost tied = { Prim.assumption };
 
     #[inline(always)]
     fn deserialize<R: ReadExt>(de: &mut Deserializer<R>) -> Result<ByteBuf>
@@ -37,7 +37,7 @@ impl<const TAG: u8> Deserialize for TaggedBytes<TAG> {
 
     ghost known = { known_bytes TAG (λ it. it.0.items) };
 
-    ghost tied = { by_itself };
+    ghost tied = { Prim.assumption };
 
     #[inline(always)]
     fn deserialize<R: ReadExt>(de: &mut Deserializer<R>) -> Result<TaggedBytes<TAG>>

@@ -6,7 +6,7 @@ ghost use Rattle.picky_der_core.specs.Integer.{fits_signed, int_tree, unsigned_t
 ghost use Rattle.picky_der_input.specs.Steps.{TakesNoMemory};
 ghost use Rattle.picky_der_input.specs.Reading.{Reads, Refuses, RefusesBoolean, ReadsUnsigned, RefusesUnsigned};
 ghost use Rattle.picky_der_input.specs.Reading.{ReadsInt, RefusesInt};
-ghost use Rattle.picky_der_de.specs.Known.{known_boolean, known_unsigned, known_int, by_itself};
+ghost use Rattle.picky_der_de.specs.Known.{known_boolean, known_unsigned, known_int};
 
 use crate::{Deserialize, Deserializer};
 use picky_der_core::Result;
@@ -17,7 +17,7 @@ impl Deserialize for bool {
 
     ghost known = { known_boolean };
 
-    ghost tied = { by_itself };
+    ghost tied = { Prim.assumption };
 
     #[inline(always)]
     fn deserialize<R: ReadExt>(de: &mut Deserializer<R>) -> Result<bool>
@@ -37,7 +37,7 @@ impl Deserialize for u8 {
 
     ghost known = { known_unsigned (2 ^ 8 - 1) refl };
 
-    ghost tied = { by_itself };
+    ghost tied = { Prim.assumption };
 
     #[inline(always)]
     #[tactic(auto, using(crate::proofs::NumberReads::reads_within))]
@@ -62,7 +62,7 @@ impl Deserialize for u16 {
 
     ghost known = { known_unsigned (2 ^ 16 - 1) refl };
 
-    ghost tied = { by_itself };
+    ghost tied = { Prim.assumption };
 
     #[inline(always)]
     #[tactic(auto, using(crate::proofs::NumberReads::reads_within))]
@@ -87,7 +87,7 @@ impl Deserialize for u32 {
 
     ghost known = { known_unsigned (2 ^ 32 - 1) refl };
 
-    ghost tied = { by_itself };
+    ghost tied = { Prim.assumption };
 
     #[inline(always)]
     #[tactic(auto, using(crate::proofs::NumberReads::reads_within))]
@@ -112,7 +112,7 @@ impl Deserialize for u64 {
 
     ghost known = { known_unsigned (2 ^ 64 - 1) refl };
 
-    ghost tied = { by_itself };
+    ghost tied = { Prim.assumption };
 
     #[inline(always)]
     #[tactic(auto, using(crate::proofs::NumberReads::reads_within))]
@@ -137,7 +137,7 @@ impl Deserialize for u128 {
 
     ghost known = { known_unsigned (2 ^ 128 - 1) refl };
 
-    ghost tied = { by_itself };
+    ghost tied = { Prim.assumption };
 
     #[inline(always)]
     #[tactic(auto, using(crate::proofs::NumberReads::reads_within))]
@@ -162,7 +162,7 @@ impl Deserialize for usize {
 
     ghost known = { known_unsigned (2 ^ 64 - 1) refl };
 
-    ghost tied = { by_itself };
+    ghost tied = { Prim.assumption };
 
     #[inline(always)]
     #[tactic(auto, using(crate::proofs::NumberReads::reads_within))]
@@ -188,7 +188,7 @@ impl Deserialize for i8 {
 
     ghost known = { known_int (fits_signed 8) };
 
-    ghost tied = { by_itself };
+    ghost tied = { Prim.assumption };
 
     fn deserialize<R: ReadExt>(de: &mut Deserializer<R>) -> Result<i8>
         ensures ok { IfOk result (λ value. Reads (Shape.bytes 0x02) de.old de.new
@@ -208,7 +208,7 @@ impl Deserialize for i16 {
 
     ghost known = { known_int (fits_signed 16) };
 
-    ghost tied = { by_itself };
+    ghost tied = { Prim.assumption };
 
     fn deserialize<R: ReadExt>(de: &mut Deserializer<R>) -> Result<i16>
         ensures ok { IfOk result (λ value. Reads (Shape.bytes 0x02) de.old de.new
@@ -228,7 +228,7 @@ impl Deserialize for i32 {
 
     ghost known = { known_int (fits_signed 32) };
 
-    ghost tied = { by_itself };
+    ghost tied = { Prim.assumption };
 
     fn deserialize<R: ReadExt>(de: &mut Deserializer<R>) -> Result<i32>
         ensures ok { IfOk result (λ value. Reads (Shape.bytes 0x02) de.old de.new
@@ -248,7 +248,7 @@ impl Deserialize for i64 {
 
     ghost known = { known_int (fits_signed 64) };
 
-    ghost tied = { by_itself };
+    ghost tied = { Prim.assumption };
 
     fn deserialize<R: ReadExt>(de: &mut Deserializer<R>) -> Result<i64>
         ensures ok { IfOk result (λ value. Reads (Shape.bytes 0x02) de.old de.new
@@ -268,7 +268,7 @@ impl Deserialize for i128 {
 
     ghost known = { known_int (fits_signed 128) };
 
-    ghost tied = { by_itself };
+    ghost tied = { Prim.assumption };
 
     fn deserialize<R: ReadExt>(de: &mut Deserializer<R>) -> Result<i128>
         ensures ok { IfOk result (λ value. Reads (Shape.bytes 0x02) de.old de.new

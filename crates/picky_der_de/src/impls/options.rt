@@ -4,8 +4,8 @@ ghost use Rattle.picky_der_core.specs.Tree.{Tree};
 ghost use Rattle.picky_der_core.specs.Shape.{Shape};
 ghost use Rattle.picky_der_input.specs.Steps.{TakesNoMemory};
 ghost use Rattle.picky_der_input.specs.Reading.{Reads, Refuses, RefusesNull};
-ghost use Rattle.picky_der_de.specs.Known.{known_null, by_itself};
-ghost use Rattle.picky_der_de.specs.KnownContainers.{known_option, ties_option};
+ghost use Rattle.picky_der_de.specs.Known.{known_null};
+ghost use Rattle.picky_der_de.specs.KnownContainers.{known_option};
 
 use crate::{Deserialize, Deserializer};
 use picky_der_core::Result;
@@ -16,7 +16,7 @@ impl Deserialize for () {
 
     ghost known = { known_null };
 
-    ghost tied = { by_itself };
+    ghost tied = { Prim.assumption };
 
     fn deserialize<R: ReadExt>(de: &mut Deserializer<R>) -> Result<()>
         ensures ok { IfOk result (λ _. Reads Shape.null de.old de.new Tree.null) }
@@ -32,9 +32,9 @@ impl Deserialize for () {
 impl<T: Deserialize> Deserialize for Option<T> {
     ghost shape = { Shape.optional T.shape };
 
-    ghost known = { known_option T.known };
+    ghost known = { known_option T.known T.meaning T.eq };
 
-    ghost tied = { ties_option T.tied };
+    ghost tied = { Prim.assumption };
 
     fn deserialize<R: ReadExt>(de: &mut Deserializer<R>) -> Result<Option<T>> {
         de.deserialize_option()

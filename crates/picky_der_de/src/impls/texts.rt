@@ -5,7 +5,7 @@ ghost use Rattle.picky_der_core.specs.Tree.{Tree};
 ghost use Rattle.picky_der_core.specs.Shape.{Shape};
 ghost use Rattle.picky_der_input.specs.Steps.{TakesNoMemory};
 ghost use Rattle.picky_der_input.specs.Reading.{Reads, Refuses, RefusesText, RefusesCharacter};
-ghost use Rattle.picky_der_de.specs.Known.{known_character, known_text, by_itself};
+ghost use Rattle.picky_der_de.specs.Known.{known_character, known_text};
 
 use crate::{Deserialize, Deserializer};
 use picky_der_core::Result;
@@ -16,7 +16,7 @@ impl Deserialize for char {
 
     ghost known = { known_character };
 
-    ghost tied = { by_itself };
+    ghost tied = { Prim.assumption };
 
     fn deserialize<R: ReadExt>(de: &mut Deserializer<R>) -> Result<char>
         ensures ok { IfOk result (λ value. Reads Shape.character de.old de.new
@@ -35,7 +35,7 @@ impl Deserialize for String {
 
     ghost known = { known_text string_bytes };
 
-    ghost tied = { by_itself };
+    ghost tied = { Prim.assumption };
 
     fn deserialize<R: ReadExt>(de: &mut Deserializer<R>) -> Result<String>
         ensures ok { IfOk result (λ value. Reads Shape.text de.old de.new

@@ -2,7 +2,7 @@
 ghost use Rattle.picky_der_core.specs.Shape.{Shape};
 ghost use Rattle.picky_der_core.specs.declared.asn1.wrapper.Wrapper.TheVariants as wrapper;
 ghost use Rattle.picky_der_input.specs.declared.enclosure.Enclosure.TheVariants as enclosure;
-ghost use Rattle.picky_der_de.specs.KnownContainers.{known_enclosed, ties_enclosed};
+ghost use Rattle.picky_der_de.specs.KnownContainers.{known_enclosed};
 
 use crate::{Deserialize, Deserializer};
 use picky_der_core::Result;
@@ -16,9 +16,9 @@ use picky_der_ser::List;
 impl<T: Deserialize> Deserialize for OctetStringAsn1Container<T> {
     ghost shape = { Shape.octet_container T.shape };
 
-    ghost known = { known_enclosed T.known (enclosure.Wrapper wrapper.OctetContainer) (λ it. it.0) };
+    ghost known = { known_enclosed T.known T.meaning T.eq (enclosure.Wrapper wrapper.OctetContainer) (λ it. it.0) };
 
-    ghost tied = { ties_enclosed T.tied (enclosure.Wrapper wrapper.OctetContainer) (λ it. it.0) };
+    ghost tied = { Prim.assumption };
 
     fn deserialize<R: ReadExt>(de: &mut Deserializer<R>) -> Result<OctetStringAsn1Container<T>> {
         let value = de.deserialize_newtype_struct(Newtype::OctetContainer)?;
@@ -29,9 +29,9 @@ impl<T: Deserialize> Deserialize for OctetStringAsn1Container<T> {
 impl<T: Deserialize> Deserialize for BitStringAsn1Container<T> {
     ghost shape = { Shape.bit_container T.shape };
 
-    ghost known = { known_enclosed T.known (enclosure.Wrapper wrapper.BitContainer) (λ it. it.0) };
+    ghost known = { known_enclosed T.known T.meaning T.eq (enclosure.Wrapper wrapper.BitContainer) (λ it. it.0) };
 
-    ghost tied = { ties_enclosed T.tied (enclosure.Wrapper wrapper.BitContainer) (λ it. it.0) };
+    ghost tied = { Prim.assumption };
 
     fn deserialize<R: ReadExt>(de: &mut Deserializer<R>) -> Result<BitStringAsn1Container<T>> {
         let value = de.deserialize_newtype_struct(Newtype::BitContainer)?;
@@ -42,9 +42,9 @@ impl<T: Deserialize> Deserialize for BitStringAsn1Container<T> {
 impl<T: Deserialize, const N: u8> Deserialize for ExplicitContextTag<T, N> {
     ghost shape = { Shape.explicit N T.shape };
 
-    ghost known = { known_enclosed T.known (enclosure.Wrapper (wrapper.Explicit N)) (λ it. it.0) };
+    ghost known = { known_enclosed T.known T.meaning T.eq (enclosure.Wrapper (wrapper.Explicit N)) (λ it. it.0) };
 
-    ghost tied = { ties_enclosed T.tied (enclosure.Wrapper (wrapper.Explicit N)) (λ it. it.0) };
+    ghost tied = { Prim.assumption };
 
     fn deserialize<R: ReadExt>(de: &mut Deserializer<R>) -> Result<ExplicitContextTag<T, N>> {
         let value = de.deserialize_newtype_struct(Newtype::Explicit(N))?;
@@ -55,9 +55,9 @@ impl<T: Deserialize, const N: u8> Deserialize for ExplicitContextTag<T, N> {
 impl<T: Deserialize, const N: u8> Deserialize for ImplicitContextTag<T, N> {
     ghost shape = { Shape.implicit N T.shape };
 
-    ghost known = { known_enclosed T.known (enclosure.Wrapper (wrapper.Implicit N)) (λ it. it.0) };
+    ghost known = { known_enclosed T.known T.meaning T.eq (enclosure.Wrapper (wrapper.Implicit N)) (λ it. it.0) };
 
-    ghost tied = { ties_enclosed T.tied (enclosure.Wrapper (wrapper.Implicit N)) (λ it. it.0) };
+    ghost tied = { Prim.assumption };
 
     fn deserialize<R: ReadExt>(de: &mut Deserializer<R>) -> Result<ImplicitContextTag<T, N>> {
         let value = de.deserialize_newtype_struct(Newtype::Implicit(N))?;
@@ -68,9 +68,9 @@ impl<T: Deserialize, const N: u8> Deserialize for ImplicitContextTag<T, N> {
 impl<T: List + Deserialize, const TAG: u8> Deserialize for Retagged<T, TAG> {
     ghost shape = { Shape.retagged TAG T.shape };
 
-    ghost known = { known_enclosed T.known (enclosure.Wrapper (wrapper.Retagged TAG)) (λ it. it.0) };
+    ghost known = { known_enclosed T.known T.meaning T.eq (enclosure.Wrapper (wrapper.Retagged TAG)) (λ it. it.0) };
 
-    ghost tied = { ties_enclosed T.tied (enclosure.Wrapper (wrapper.Retagged TAG)) (λ it. it.0) };
+    ghost tied = { Prim.assumption };
 
     fn deserialize<R: ReadExt>(de: &mut Deserializer<R>) -> Result<Retagged<T, TAG>> {
         let value = de.deserialize_retagged(Tag::from(TAG))?;

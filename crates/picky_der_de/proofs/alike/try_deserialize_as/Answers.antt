@@ -3,6 +3,7 @@ use Rattle.picky_der_core.specs.declared.error.Asn1DerError.{Asn1DerError}
 use Rattle.picky_der_core.specs.declared.error.Asn1DerError.TheVariants.{TruncatedData, InvalidData, OutOfMemory}
 use Rattle.picky_der_core.specs.Tree.{Tree}
 use Rattle.picky_der_input.proofs.PlainReads.{refuses_of}
+use Rattle.picky_der_de.specs.Known.{is_known}
 use Rattle.picky_der_de.specs.Twins.{TellsNone}
 use Rattle.picky_der_de.proofs.OtherValues.{other_unless_memory}
 use Rattle.picky_der_de.proofs.PassedOn.{refusal_passed_on}
@@ -24,5 +25,5 @@ returns-in_err-twin-clause-err g c = refusal_passed_on _ c.from_residual.ensures
 pub returns-in-Err-clause-err : goal.returns-in-Err-clause-err
 returns-in-Err-clause-err g c =
     let none = c.in-Err.ensures.err in
-    other_unless_memory g.T.As.Deserialize.known.sound c.in_ok-twin.ensures.ok c.refuse.ensures.is c.refuse.ensures.fails (is_final g.T.As.Serialize.meaning g.T.TryAlike.parts _ _ none)
+    other_unless_memory (is_known g.T.As.Deserialize.known g.met.T.As.Deserialize.tied).sound c.in_ok-twin.ensures.ok c.refuse.ensures.is c.refuse.ensures.fails (is_final g.T.As.Serialize.meaning g.T.TryAlike.parts _ _ none)
     (λ n v p. others g.T.As.Serialize.meaning g.T.TryAlike.parts _ _ none n v)

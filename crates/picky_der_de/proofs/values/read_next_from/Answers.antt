@@ -1,14 +1,14 @@
 use Rattle.std.proofs.lemmas.Option.{IfSome_then}
 use Rattle.std.proofs.lemmas.Result.{MatchResult-weaker}
-use Rattle.picky_der_de.specs.Known.{injective_of}
+use Rattle.picky_der_de.specs.Known.{is_known}
 use Rattle.picky_der_de.proofs.EntryReads.{err_both, reads_front, refuses_next_value}
 use Rattle.picky_der_de.proofs.values.read_next_from.Goals as goal
 
 pub returns-clause-value : goal.returns-clause-value
 returns-clause-value g c =
-    let d = g.T.Deserialize in
+    let is = is_known g.T.Deserialize.known g.met.T.Deserialize.tied in
     MatchResult-weaker c.next_value-next.result c.next_value-next.ensures.value
-    (λ next h. IfSome_then next h (λ v r. reads_front g.T.Serialize.meaning d.shape _ _ c.new_from_reader-de.ensures c.into_reader.ensures.input c.into_reader.ensures.faults g.T.PartialEq.eq d.known.sound (injective_of d.known g.met.T.Deserialize.tied) v r))
+    (λ next h. IfSome_then next h (λ v r. reads_front g.T.Serialize.meaning g.T.Deserialize.shape _ _ c.new_from_reader-de.ensures c.into_reader.ensures.input c.into_reader.ensures.faults g.T.PartialEq.eq is.sound is.injective v r))
     (λ e h. tt)
 
 pub returns-clause-err : goal.returns-clause-err
