@@ -1,7 +1,7 @@
 pub mod Options
 pub mod EntryReads
 pub mod WholeInputs
-pub mod EnclosureReads
+pub mod WrapperReads
 pub mod Peeked
 pub mod SeenMembers
 pub mod Choices

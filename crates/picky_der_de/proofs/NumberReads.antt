@@ -1,5 +1,6 @@
 -- A number that was read or refused, by what numbers of its type mean.
 use Rattle.std.proofs.Common.{ℕ, ◌≡◌, sym, subst}
+use Rattle.picky_der_core.specs.Primitive.{Primitive, PrimitiveShape}
 use Rattle.picky_der_core.specs.declared.error.Asn1DerError.{Asn1DerError}
 use Rattle.picky_der_core.specs.Tree.{Tree}
 use Rattle.picky_der_core.specs.Shape.{Shape}
@@ -11,12 +12,12 @@ use Rattle.picky_der_input.specs.Steps.{place_of}
 use Rattle.picky_der_input.specs.Reading.{Reads, Refuses}
 
 module _ {most : ℕ} {a b : State} where
-  pub reads_within : {n : ℕ} → Reads (Shape.unsigned most) a b (Tree.unsigned n) → Reads (Shape.unsigned most) a b (unsigned_tree most n)
-  reads_within {n} h = subst (Reads (Shape.unsigned most) a b) (sym (unsigned_tree-within most n h.of_shape.0)) h
+  pub reads_within : {n : ℕ} → Reads (Shape.primitive (PrimitiveShape.unsigned most)) a b (Tree.primitive (Primitive.unsigned n)) → Reads (Shape.primitive (PrimitiveShape.unsigned most)) a b (unsigned_tree most n)
+  reads_within {n} h = subst (Reads (Shape.primitive (PrimitiveShape.unsigned most)) a b) (sym (unsigned_tree-within most n h.of_shape.0)) h
 
-  pub refuses_within : {e : Asn1DerError} → Refuses Tree.unsigned (Shape.unsigned most) a b e → Refuses (unsigned_tree most) (Shape.unsigned most) a b e
+  pub refuses_within : {e : Asn1DerError} → Refuses (λ n. Tree.primitive (Primitive.unsigned n)) (Shape.primitive (PrimitiveShape.unsigned most)) a b e → Refuses (unsigned_tree most) (Shape.primitive (PrimitiveShape.unsigned most)) a b e
   refuses_within h = record {
     fails = h.fails;
-    none = λ j end bs k n st. h.none j end bs k n (subst (StandsAt (place_of a) (Shape.unsigned most) bs end) (unsigned_tree-of most n st.of_shape) st);
+    none = λ j end bs k n st. h.none j end bs k n (subst (StandsAt (place_of a) (Shape.primitive (PrimitiveShape.unsigned most)) bs end) (unsigned_tree-of most n st.of_shape) st);
     first = h.first;
   }

@@ -1,31 +1,26 @@
 -- With which bytes the encodings of a tree's kind begin.
-use Rattle.std.specs.Prelude.{ℕ, ◌+◌, Bool, true, false, not, nat_lt, Option, Some, None, List, [], ◌∷◌, IsTrue, refl}
+use Rattle.std.specs.Prelude.{ℕ, Bool, true, false, not, nat_lt, Option, Some, None, List, [], ◌∷◌, IsTrue, refl}
 use Rattle.std.proofs.Common.{subst}
+use Rattle.picky_der_core.specs.WrapperLaws.{wrapper_number-small}
+use Rattle.picky_der_core.specs.Wrapper.{wrapper_number, wrapper_tag}
+use Rattle.picky_der_core.specs.PrimitiveLaws.{primitive_tag_number}
+use Rattle.picky_der_core.specs.Primitive.{Primitive, primitive_tag}
 use Rattle.picky_der_core.specs.Tag.{number_of}
-use Rattle.picky_der_core.specs.Element.{tlv}
+use Rattle.picky_der_core.specs.Element.{tlv, AreBytes}
 use Rattle.picky_der_core.specs.Tree.{Tree}
 use Rattle.picky_der_core.specs.Encoding.{tree_bytes, der, list_tag}
-use Rattle.picky_der_core.specs.EncodingLaws.{is_absent-readable, wrapper_encoding-present}
+use Rattle.picky_der_core.specs.EncodingLaws.{is_absent-readable, der-wrapped_present}
 use Rattle.picky_der_core.specs.Readable.{IsReadable}
 use Rattle.picky_der_core.specs.Integer.{within, unsigned_tree}
-use Rattle.picky_der_core.specs.Shape.{Shape, firsts, contains, tags_below, tag_with_number, AreBytes}
+use Rattle.picky_der_core.specs.Shape.{Shape, firsts, contains, tags_below, tag_with_number}
 use Rattle.picky_der_core.specs.FirstLaws.{BeginsIn, contains_itself, contains_numbered, contains-tags_below, begins_plain_encoding, begins_tlv}
 use Rattle.picky_der_ser.specs.Meaning.{option_meaning}
 
 -- the bytes with which an encoding of a tree of this kind, and with these tags, can begin
 abbrev pub firsts_in : Tree → List ℕ
-firsts_in (Tree.boolean b) = 0x01 ∷ []
-firsts_in (Tree.unsigned n) = 0x02 ∷ []
-firsts_in Tree.null = 0x05 ∷ []
-firsts_in (Tree.text s) = 0x0C ∷ []
-firsts_in (Tree.bytes tag s) = tag_with_number (number_of tag) tag
+firsts_in (Tree.primitive p) = tag_with_number (number_of (primitive_tag p)) (primitive_tag p)
 firsts_in (Tree.list kind ts) = list_tag kind ∷ []
-firsts_in (Tree.octet_container t) = 0x04 ∷ []
-firsts_in (Tree.bit_container t) = 0x03 ∷ []
-firsts_in (Tree.explicit n t) = tag_with_number n (0xA0 + n)
-firsts_in (Tree.implicit n t) = tag_with_number n (0x80 + n)
-firsts_in (Tree.application n t) = tag_with_number n (0x60 + n)
-firsts_in (Tree.retagged tag t) = tag_with_number (number_of tag) tag
+firsts_in (Tree.wrapped w t) = tag_with_number (wrapper_number w) (wrapper_tag w)
 firsts_in (Tree.raw s) = tags_below 256
 firsts_in (Tree.choice t) = firsts_in t
 firsts_in Tree.absent = []
@@ -38,18 +33,9 @@ IsBegunBy fs t = (b : ℕ) → IsTrue (contains (firsts_in t) b) → IsTrue (con
 
 pub begins_in_own : (t : Tree) → IsReadable t → BeginsIn (firsts_in t) t
 unfolding der tree_bytes tlv
-begins_in_own (Tree.boolean b) r = begins_plain_encoding _ _ _ (Tree.boolean b) refl refl
-begins_in_own (Tree.unsigned n) r = begins_plain_encoding _ _ _ (Tree.unsigned n) refl refl
-begins_in_own Tree.null r = begins_plain_encoding _ _ _ Tree.null refl refl
-begins_in_own (Tree.text s) r = begins_plain_encoding _ _ _ (Tree.text s) refl refl
-begins_in_own (Tree.bytes tag s) r = begins_plain_encoding tag _ _ (Tree.bytes tag s) refl (contains_numbered (number_of tag) tag r.0)
+begins_in_own (Tree.primitive p) r = begins_plain_encoding _ _ _ (Tree.primitive p) refl (contains_numbered (number_of (primitive_tag p)) (primitive_tag p) (primitive_tag_number p r))
 begins_in_own (Tree.list kind ts) r = begins_plain_encoding _ _ _ (Tree.list kind ts) refl (contains_itself (list_tag kind) [])
-begins_in_own (Tree.octet_container t) r = begins_tlv _ (der t) _ (Tree.octet_container t) (wrapper_encoding-present _ _ _ (is_absent-readable t r)) refl
-begins_in_own (Tree.bit_container t) r = begins_tlv _ (0x00 ∷ der t) _ (Tree.bit_container t) (wrapper_encoding-present _ _ _ (is_absent-readable t r)) refl
-begins_in_own (Tree.explicit n t) r = begins_tlv _ (der t) _ (Tree.explicit n t) (wrapper_encoding-present _ _ _ (is_absent-readable t r.1)) (contains_numbered n (0xA0 + n) r.0)
-begins_in_own (Tree.implicit n t) r = begins_tlv _ _ _ (Tree.implicit n t) (wrapper_encoding-present _ _ _ (is_absent-readable t r.2)) (contains_numbered n (0x80 + n) r.0)
-begins_in_own (Tree.application n t) r = begins_tlv _ _ _ (Tree.application n t) refl (contains_numbered n (0x60 + n) r.0)
-begins_in_own (Tree.retagged tag t) r = begins_tlv _ _ _ (Tree.retagged tag t) (wrapper_encoding-present _ _ _ (is_absent-readable t r.2)) (contains_numbered (number_of tag) tag r.0.0)
+begins_in_own (Tree.wrapped w t) r = begins_tlv _ _ _ (Tree.wrapped w t) (der-wrapped_present w t (is_absent-readable t r.2)) (contains_numbered (wrapper_number w) (wrapper_tag w) (wrapper_number-small w r.0))
 begins_in_own (Tree.raw s) r =
     let element = r.0 in
     let bytes : AreBytes (tlv element.tag element.content) = subst AreBytes element.is r.1 in
@@ -66,7 +52,7 @@ begins_among fs t f r = let b = begins_in_own t r in record { first = b.first; o
 pub unsigned_begun : (most n : ℕ) → IsBegunBy (0x02 ∷ []) (unsigned_tree most n)
 unsigned_begun most n = by_test (not (nat_lt most n))
   where
-    by_test : (t : Bool) → IsBegunBy (0x02 ∷ []) (within t (Tree.unsigned n))
+    by_test : (t : Bool) → IsBegunBy (0x02 ∷ []) (within t (Tree.primitive (Primitive.unsigned n)))
     by_test true b h = h
     by_test false b h = cc
 

@@ -8,6 +8,7 @@ use lib.Pointwise.{pointwise}
 use lib.Dec.{eqb}
 use Rattle.std.proofs.Common.{eq-eqb, ap, subst, sym, inr, ◌++◌, append-nil}
 use Rattle.std.proofs.lemmas.Str.{encode_same, chars_from_encodes}
+use Rattle.picky_der_core.specs.Primitive.{Primitive, PrimitiveShape}
 use Rattle.picky_der_core.specs.Tree.{ListKind, Tree, Trees, trees}
 use Rattle.picky_der_core.specs.Integer.{content_within, int_tree, unsigned_tree}
 use Rattle.picky_der_core.specs.IntLaws.{same_within}
@@ -25,7 +26,7 @@ IsInjective {V} meaning s eq = (x y : V) → IsOf s (meaning x) → IsOf s (mean
 abbrev pub HasShape : {V : Type 0} → (V → Tree) → Shape → Type 0
 HasShape {V} meaning s = (v : V) → IsReadable (meaning v) → IsOf s (meaning v)
 
-pub boolean_injective : (x y : Bool) → Tree.boolean x ≡ Tree.boolean y → beq x y ≡ true
+pub boolean_injective : (x y : Bool) → Tree.primitive (Primitive.boolean x) ≡ Tree.primitive (Primitive.boolean y) → beq x y ≡ true
 boolean_injective true true e = refl
 boolean_injective false false e = refl
 boolean_injective true false e = let q : true ≡ false = cc in cc
@@ -46,16 +47,16 @@ same_bytes (a ∷ x) (b ∷ y) e =
     let q = same_bytes x y (cc) in
     rw (eq-eqb a b p, q) refl
 
-pub bytes_injective : {tag other : ℕ} (x y : List ℕ) → Tree.bytes tag x ≡ Tree.bytes other y → pointwise eqb x y ≡ true
+pub bytes_injective : {tag other : ℕ} (x y : List ℕ) → Tree.primitive (Primitive.bytes tag x) ≡ Tree.primitive (Primitive.bytes other y) → pointwise eqb x y ≡ true
 bytes_injective x y e = let q : x ≡ y = cc in same_bytes x y q
 
 pub raw_injective : (x y : List ℕ) → Tree.raw x ≡ Tree.raw y → pointwise eqb x y ≡ true
 raw_injective x y e = let q : x ≡ y = cc in same_bytes x y q
 
-pub text_injective : (x y : List ℕ) → Tree.text x ≡ Tree.text y → pointwise eqb x y ≡ true
+pub text_injective : (x y : List ℕ) → Tree.primitive (Primitive.text x) ≡ Tree.primitive (Primitive.text y) → pointwise eqb x y ≡ true
 text_injective x y e = let q : x ≡ y = cc in same_bytes x y q
 
-pub character_injective : (x y : ℕ) → Tree.text (encode_utf8 x) ≡ Tree.text (encode_utf8 y) → nat_eq x y ≡ true
+pub character_injective : (x y : ℕ) → Tree.primitive (Primitive.text (encode_utf8 x)) ≡ Tree.primitive (Primitive.text (encode_utf8 y)) → nat_eq x y ≡ true
 character_injective x y e =
     let q : encode_utf8 x ≡ encode_utf8 y = cc in
     eq-eqb x y (encode_same x y [] [] (ap (λ bs. bs ++ []) q)).0
@@ -74,7 +75,7 @@ option_has_shape meaning s has (Some x) r = inr (has x r)
 -- ---- characters
 
 -- a readable one is a text of one character
-pub character_has_shape : HasShape (λ c. Tree.text (encode_utf8 c)) Shape.character
+pub character_has_shape : HasShape (λ c. Tree.primitive (Primitive.text (encode_utf8 c))) (Shape.primitive PrimitiveShape.character)
 character_has_shape c r = (r, ap length (sym (chars_from_encodes (c ∷ []) (encode_utf8 c) r (append-nil (encode_utf8 c)))))
 
 -- ---- lists

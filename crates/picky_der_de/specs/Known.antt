@@ -5,6 +5,7 @@ use Rattle.std.proofs.Common.{subst, ltb-true}
 use lib.Pointwise.{pointwise}
 use lib.Dec.{eqb}
 use mathlib.Core.Bool.{beq}
+use Rattle.picky_der_core.specs.Primitive.{Primitive, PrimitiveShape}
 use Rattle.picky_der_core.specs.Tree.{Tree}
 use Rattle.picky_der_core.specs.Shape.{Shape, IsSound, firsts}
 use Rattle.picky_der_core.specs.Integer.{int_tree, unsigned_tree}
@@ -51,11 +52,11 @@ module _ {V : Type 0} {s : Shape} where
   abbrev pub known_plain : (meaning : V → Tree) (eq : V → V → Bool) → IsKnown s meaning eq → Known V s
   known_plain meaning eq is = record { meaning = meaning; eq = eq; Owed = ⊤; holds = λ o. is }
 
-abbrev pub known_boolean : Known Bool Shape.boolean
-known_boolean = known_plain Tree.boolean beq (record { has_shape = λ v r. tt; injective = λ x y p q r e. boolean_injective x y e; sound = tt; begun = λ v b h. h })
+abbrev pub known_boolean : Known Bool (Shape.primitive PrimitiveShape.boolean)
+known_boolean = known_plain (λ v. Tree.primitive (Primitive.boolean v)) beq (record { has_shape = λ v r. tt; injective = λ x y p q r e. boolean_injective x y e; sound = tt; begun = λ v b h. h })
 
 -- a type whose values have a number each, up to a greatest one
-abbrev pub known_number : {V : Type 0} (most : ℕ) → nat_lt most (2 ^ 128) ≡ true → (number : V → ℕ) (eq : V → V → Bool) → ((x y : V) → nat_eq (number x) (number y) ≡ true → eq x y ≡ true) → Known V (Shape.unsigned most)
+abbrev pub known_number : {V : Type 0} (most : ℕ) → nat_lt most (2 ^ 128) ≡ true → (number : V → ℕ) (eq : V → V → Bool) → ((x y : V) → nat_eq (number x) (number y) ≡ true → eq x y ≡ true) → Known V (Shape.primitive (PrimitiveShape.unsigned most))
 known_number most small number eq same = known_plain (λ v. unsigned_tree most (number v)) eq (record {
   has_shape = λ v. unsigned_tree-is_of most (ltb-true most (2 ^ 128) small) (number v);
   injective = λ x y p q r e. same x y (unsigned_injective most (number x) (number y) e);
@@ -63,28 +64,28 @@ known_number most small number eq same = known_plain (λ v. unsigned_tree most (
   begun = λ v. unsigned_begun most (number v);
 })
 
-abbrev pub known_unsigned : (most : ℕ) → nat_lt most (2 ^ 128) ≡ true → Known ℕ (Shape.unsigned most)
+abbrev pub known_unsigned : (most : ℕ) → nat_lt most (2 ^ 128) ≡ true → Known ℕ (Shape.primitive (PrimitiveShape.unsigned most))
 known_unsigned most small = known_number most small (λ n. n) nat_eq (λ x y h. h)
 
 -- an integer type, by the numbers that it has
-abbrev pub known_int : (fits : ℤ → Bool) → Known ℤ (Shape.bytes 0x02)
+abbrev pub known_int : (fits : ℤ → Bool) → Known ℤ (Shape.primitive (PrimitiveShape.bytes 0x02))
 known_int fits = known_plain (int_tree fits) int_eq (record { has_shape = λ z r. (refl, r.1); injective = λ x y p q r e. int_injective fits x y e; sound = tt; begun = λ v b h. h })
 
-abbrev pub known_null : {V : Type 0} → Known V Shape.null
-known_null = known_plain (λ v. Tree.null) (λ x y. true) (record { has_shape = λ v r. tt; injective = λ x y p q r e. refl; sound = tt; begun = λ v b h. h })
+abbrev pub known_null : {V : Type 0} → Known V (Shape.primitive PrimitiveShape.null)
+known_null = known_plain (λ v. Tree.primitive Primitive.null) (λ x y. true) (record { has_shape = λ v r. tt; injective = λ x y p q r e. refl; sound = tt; begun = λ v b h. h })
 
-abbrev pub known_character : Known ℕ Shape.character
-known_character = known_plain (λ v. Tree.text (encode_utf8 v)) nat_eq (record { has_shape = character_has_shape; injective = λ x y p q r e. character_injective x y e; sound = tt; begun = λ v b h. h })
+abbrev pub known_character : Known ℕ (Shape.primitive PrimitiveShape.character)
+known_character = known_plain (λ v. Tree.primitive (Primitive.text (encode_utf8 v))) nat_eq (record { has_shape = character_has_shape; injective = λ x y p q r e. character_injective x y e; sound = tt; begun = λ v b h. h })
 
 module _ {V : Type 0} (bytes : V → List ℕ) where
-  abbrev pub known_text : Known V Shape.text
-  known_text = known_plain (λ v. Tree.text (bytes v)) (λ x y. pointwise eqb (bytes x) (bytes y)) (record { has_shape = λ v r. r; injective = λ x y p q r e. text_injective (bytes x) (bytes y) e; sound = tt; begun = λ v b h. h })
+  abbrev pub known_text : Known V (Shape.primitive PrimitiveShape.text)
+  known_text = known_plain (λ v. Tree.primitive (Primitive.text (bytes v))) (λ x y. pointwise eqb (bytes x) (bytes y)) (record { has_shape = λ v r. r; injective = λ x y p q r e. text_injective (bytes x) (bytes y) e; sound = tt; begun = λ v b h. h })
 
   abbrev pub known_raw : Known V Shape.raw
   known_raw = known_plain (λ v. Tree.raw (bytes v)) (λ x y. pointwise eqb (bytes x) (bytes y)) (record { has_shape = λ v r. r.1; injective = λ x y p q r e. raw_injective (bytes x) (bytes y) e; sound = tt; begun = λ v b h. h })
 
-abbrev pub known_bytes : {V : Type 0} (tag : ℕ) (bytes : V → List ℕ) → Known V (Shape.bytes tag)
-known_bytes tag bytes = known_plain (λ v. Tree.bytes tag (bytes v)) (λ x y. pointwise eqb (bytes x) (bytes y)) (record { has_shape = λ v r. (refl, r.1); injective = λ x y p q r e. bytes_injective (bytes x) (bytes y) e; sound = tt; begun = λ v b h. h })
+abbrev pub known_bytes : {V : Type 0} (tag : ℕ) (bytes : V → List ℕ) → Known V (Shape.primitive (PrimitiveShape.bytes tag))
+known_bytes tag bytes = known_plain (λ v. Tree.primitive (Primitive.bytes tag (bytes v))) (λ x y. pointwise eqb (bytes x) (bytes y)) (record { has_shape = λ v r. (refl, r.1); injective = λ x y p q r e. bytes_injective (bytes x) (bytes y) e; sound = tt; begun = λ v b h. h })
 
 -- ---- values that have a part of another type
 

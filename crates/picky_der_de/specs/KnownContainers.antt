@@ -1,15 +1,14 @@
--- What is known of values that hold others of one type, which says this of itself: options, lists, arrays and enclosures.
+-- What is known of values that hold others of one type, which says this of itself: options, lists, arrays and wrappers.
 use Rattle.std.specs.Prelude.{ℕ, List, Bool, Option, map, refl}
 use Rattle.std.specs.Option.{option_eq}
 use lib.Pointwise.{pointwise}
 use Rattle.picky_der_core.specs.Tree.{ListKind, Tree, trees}
 use Rattle.picky_der_core.specs.Shape.{Shape}
 use Rattle.picky_der_ser.specs.Meaning.{option_meaning, array_meaning}
-use Rattle.picky_der_input.specs.declared.enclosure.Enclosure.{Enclosure}
-use Rattle.picky_der_input.specs.Enclosures.{enclose, enclose_shape}
+use Rattle.picky_der_core.specs.declared.asn1.wrapper.Wrapper.{Wrapper}
 use Rattle.picky_der_de.specs.Firsts.{option_begun}
 use Rattle.picky_der_de.specs.InjectiveLaws.{option_injective, option_has_shape, list_injective, items_of_shape}
-use Rattle.picky_der_de.specs.EnclosureLaws.{enclosed_injective, enclosed_has_shape, enclosed_sound, enclosed_begun}
+use Rattle.picky_der_de.specs.WrappedLaws.{wrapped_injective, wrapped_has_shape}
 use Rattle.picky_der_de.specs.ArrayLaws.{array_of, array_sound, array_has_shape, array_injective}
 use Rattle.picky_der_de.specs.Known.{Known, known_by}
 
@@ -38,10 +37,10 @@ module _ {A : Type 0} {s : Shape} (a : Known A s) (means : A → Tree) (equal : 
     begun = λ v b h. h;
   })
 
-  abbrev pub known_enclosed : {V : Type 0} (w : Enclosure) (part : V → A) → Known V (enclose_shape w s)
-  known_enclosed w part = known_by a means equal (λ v. enclose w (means (part v))) (λ x y. equal (part x) (part y)) (λ is. record {
-    has_shape = λ v r. enclosed_has_shape w (λ x. means (part x)) s (λ x. is.has_shape (part x)) v r;
-    injective = λ x y. enclosed_injective w means s equal is.injective (part x) (part y);
-    sound = enclosed_sound w s is.sound;
-    begun = λ v. enclosed_begun w s (means (part v));
+  abbrev pub known_wrapped : {V : Type 0} (w : Wrapper) (part : V → A) → Known V (Shape.wrapped w s)
+  known_wrapped w part = known_by a means equal (λ v. Tree.wrapped w (means (part v))) (λ x y. equal (part x) (part y)) (λ is. record {
+    has_shape = λ v r. wrapped_has_shape w (λ x. means (part x)) s (λ x. is.has_shape (part x)) v r;
+    injective = λ x y. wrapped_injective w means s equal is.injective (part x) (part y);
+    sound = is.sound;
+    begun = λ v b h. h;
   })

@@ -1,9 +1,10 @@
 -- Members one after another, of which some may be absent: what is known of them, and by which tests two are equal.
-use Rattle.std.specs.Prelude.{◌≡◌, List, [], ◌∷◌, ℕ, Bool, true, false, ◌&&◌, Option, Some, IsTrue, refl, ⊤}
+use Rattle.std.specs.Prelude.{◌≡◌, List, [], ◌∷◌, ℕ, Bool, true, false, not, ◌&&◌, ◌||◌, Option, Some, IsTrue, refl, ⊤}
 use Rattle.std.specs.List.{AllByRecursion}
 use Rattle.std.specs.Option.{option_eq}
 use Rattle.std.proofs.Common.{subst}
 use Rattle.std.proofs.lemmas.Bool.{and_parts}
+use Rattle.picky_der_core.specs.Wrapper.{can_vanish}
 use Rattle.picky_der_core.specs.Tree.{ListKind, Tree, Trees}
 use Rattle.picky_der_core.specs.Shape.{Shape, Shapes, Layout, AreMembersTold, firsts, next_firsts, are_apart}
 use Rattle.picky_der_ser.specs.Meaning.{maybe_more, unless_default}
@@ -41,11 +42,7 @@ conjunction_after_true before (b ∷ bs) p h = conjunction_after_true (before &&
 abbrev mutual
   pub is_there : Shape → Bool
   is_there (Shape.optional s) = false
-  is_there (Shape.octet_container s) = is_there s
-  is_there (Shape.bit_container s) = is_there s
-  is_there (Shape.explicit n s) = is_there s
-  is_there (Shape.implicit n s) = is_there s
-  is_there (Shape.retagged tag s) = is_there s
+  is_there (Shape.wrapped w s) = not (can_vanish w) || is_there s
   is_there (Shape.choice ss) = are_there ss
   is_there _ = true
 

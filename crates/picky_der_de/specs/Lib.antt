@@ -6,10 +6,10 @@ pub use Rattle.picky_der_input.specs.Refusing
 pub use Rattle.picky_der_input.specs.LookAhead
 pub use Rattle.picky_der_input.specs.Elements
 pub use Rattle.picky_der_input.specs.Ends
-pub use Rattle.picky_der_input.specs.Enclosures
+pub use Rattle.picky_der_input.specs.Wrappers
 pub mod ArrayLaws
 pub mod Choices
-pub mod EnclosureLaws
+pub mod WrappedLaws
 pub mod Entry
 pub mod Firsts
 pub mod FourChoices

@@ -27,7 +27,7 @@ pub use deserializer::Deserializer;
 pub use entry::{DEFAULT_MAX_LEN, from_bytes, from_reader, from_reader_with_max_len};
 pub use member::DeserializeMember;
 pub use members::{DeserializeMembers, Struct, deserialize_struct_as};
-pub use picky_der_input::{Boolean, Enclosure, End, Int, Null, UInt, UnsignedInteger, Utf8String};
+pub use picky_der_input::{Boolean, End, Int, Null, UInt, UnsignedInteger, Utf8String};
 pub use sequence::Sequence;
 pub use values::{next_from_bytes, next_from_reader};
 pub use whole::{DecodeError, from_der};

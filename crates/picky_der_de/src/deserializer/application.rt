@@ -1,14 +1,15 @@
 //! Application tags, as a deserializer reads them (X.690, 8.14).
 ghost use Rattle.std.specs.Prelude.{◌<◌, IfOk, IfErr};
+ghost use Rattle.picky_der_core.specs.declared.asn1.wrapper.Wrapper.TheVariants.{Application};
 ghost use Rattle.picky_der_core.specs.Tree.{Tree};
 ghost use Rattle.picky_der_core.specs.Shape.{Shape};
-ghost use Rattle.picky_der_input.specs.declared.enclosure.Enclosure.TheVariants as enclosure;
 ghost use Rattle.picky_der_input.specs.Reading.{Reads, Refuses, AreNotRefused};
-ghost use Rattle.picky_der_input.specs.Enclosures.{opening_refusal, RefusesEnclosed};
+ghost use Rattle.picky_der_input.specs.Wrappers.{opening_refusal, RefusesWrapped};
 ghost use Rattle.picky_der_input.specs.TagNumbers.{RefusesNumber};
 
 use super::Deserializer;
-use crate::{Deserialize, Enclosure};
+use crate::Deserialize;
+use picky_der_core::asn1::Wrapper;
 use picky_der_core::misc::ReadExt;
 use picky_der_core::{Asn1DerError, Result};
 
@@ -21,16 +22,16 @@ impl<R: ReadExt> Deserializer<R> {
     /// header and of an end; else as the value is refused.
     pub fn deserialize_application<T: Deserialize>(&mut self, number: u8) -> Result<T>
         ensures ok { IfOk result (λ value. Reads
-            (Shape.application number T.shape) self.old self.new
-            (Tree.application number (T.meaning value))) }
-        ensures err { IfErr result (Refuses (λ (value : T). Tree.application number
-            (T.meaning value)) (Shape.application number T.shape) self.old self.new) }
+            (Shape.wrapped (Application number) T.shape) self.old self.new
+            (Tree.wrapped (Application number) (T.meaning value))) }
+        ensures err { IfErr result (Refuses (λ (value : T). Tree.wrapped (Application number)
+            (T.meaning value)) (Shape.wrapped (Application number) T.shape) self.old self.new) }
         ensures no_refusal { IfOk result (λ value. AreNotRefused
-            (opening_refusal (enclosure.Application number) self.old) self.old) }
-        ensures refused { IfErr result (RefusesEnclosed T.meaning T.shape
-            (enclosure.Application number) self.old self.new) }
+            (opening_refusal (Application number) self.old) self.old) }
+        ensures refused { IfErr result (RefusesWrapped T.meaning T.shape
+            (Application number) self.old self.new) }
         ensures unsupported { 30 < number → RefusesNumber self.old result self.new }
     {
-        self.read_enclosed(Enclosure::Application(number))
+        self.read_wrapped(Wrapper::Application(number))
     }
 }

@@ -1,15 +1,16 @@
 //! What is passed on to the `Input`: the ends of sequences and sets, and what stands around values in wrappers and application tags.
 ghost use Rattle.std.specs.Prelude.{◌≡◌, ◌+◌, ◌≤◌, ◌↔◌, None, Some, IsTrue, IfOk, IfErr, OnOk};
+ghost use Rattle.picky_der_core.specs.Wrapper.{HasTagNumber};
 ghost use Rattle.picky_der_core.specs.Failure.{failure_of};
 ghost use Rattle.picky_der_core.specs.Tag.{number_of, IsTagNumber};
 ghost use Rattle.picky_der_input.specs.Ends.{Closes, RefusesClose, OpensList, RefusesList, OpensLazily};
-ghost use Rattle.picky_der_input.specs.Enclosures.{HasEnclosureNumber, ReadsEnclosed, RefusesEnclosed};
+ghost use Rattle.picky_der_input.specs.Wrappers.{ReadsWrapped, RefusesWrapped};
 ghost use Rattle.picky_der_input.specs.TagNumbers.{RefusesNumber};
 
 use super::Deserializer;
-use crate::{Deserialize, Enclosure};
+use crate::Deserialize;
 use picky_der_core::Result;
-use picky_der_core::asn1::Tag;
+use picky_der_core::asn1::{Tag, Wrapper};
 use picky_der_core::misc::ReadExt;
 use picky_der_input::Outer;
 
@@ -53,15 +54,15 @@ impl<R: ReadExt> Deserializer<R> {
         self.input.is_at_end()
     }
 
-    // Reads a value in this enclosure.
-    pub(crate) fn read_enclosed<T: Deserialize>(&mut self, enclosure: Enclosure) -> Result<T>
-        ensures ok { IfOk result (λ value. ReadsEnclosed enclosure T.shape self.old self.new
+    // Reads a value in this wrapper.
+    pub(crate) fn read_wrapped<T: Deserialize>(&mut self, wrapper: Wrapper) -> Result<T>
+        ensures ok { IfOk result (λ value. ReadsWrapped wrapper T.shape self.old self.new
             (T.meaning value)) }
-        ensures err { IfErr result (RefusesEnclosed T.meaning T.shape enclosure self.old self.new) }
-        ensures unsupported { (HasEnclosureNumber enclosure → ⊥)
+        ensures err { IfErr result (RefusesWrapped T.meaning T.shape wrapper self.old self.new) }
+        ensures unsupported { (HasTagNumber wrapper → ⊥)
             → RefusesNumber self.old result self.new }
     {
-        let outer = self.input.open_enclosure(enclosure)?;
+        let outer = self.input.open_wrapper(wrapper)?;
         let value = T::deserialize(self)?;
         self.close_end(outer)?;
         Ok(value)

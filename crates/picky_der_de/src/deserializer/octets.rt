@@ -2,11 +2,12 @@
 ghost use Rattle.std.specs.Prelude.{◌<◌, IfOk, IfErr};
 ghost use Rattle.std.specs.Borrow.{sem};
 ghost use Rattle.std.specs.Io.BufRead.{Rests};
+ghost use Rattle.picky_der_input.specs.Reading.{ReadsPrimitive, RefusesPrimitive};
+ghost use Rattle.picky_der_core.specs.Primitive.{Primitive, PrimitiveShape};
 ghost use Rattle.picky_der_de.specs.contracts.deserializer.Deserializer.{the_row};
 ghost use Rattle.picky_der_input.specs.State.{State};
 ghost use Rattle.picky_der_de.specs.Lending.{LendsBytes};
 ghost use Rattle.picky_der_core.specs.Tag.{number_of};
-ghost use Rattle.picky_der_input.specs.Reading.{ReadsBytes, RefusesBytes};
 ghost use Rattle.picky_der_input.specs.TagNumbers.{RefusesNumber};
 
 use super::Deserializer;
@@ -23,8 +24,10 @@ impl<R: ReadExt> Deserializer<R> {
     /// memory is refused; else the reader's fault.
     #[inline(always)]
     pub fn deserialize_tagged_bytes(&mut self, tag: Tag) -> Result<Vec<u8>>
-        ensures ok { IfOk result (λ content. ReadsBytes tag self.old self.new content.items) }
-        ensures err { IfErr result (RefusesBytes tag self.old self.new) }
+        ensures ok { IfOk result (λ content. ReadsPrimitive (PrimitiveShape.bytes tag)
+            self.old self.new (Primitive.bytes tag content.items)) }
+        ensures err { IfErr result (RefusesPrimitive (Primitive.bytes tag) (PrimitiveShape.bytes tag)
+            self.old self.new) }
         ensures unsupported { 30 < number_of tag → RefusesNumber self.old result self.new }
     {
         self.input.read_tagged_bytes(tag)
@@ -33,8 +36,10 @@ impl<R: ReadExt> Deserializer<R> {
     /// Reads an octet string (X.690, 8.7) into one vector. It is refused as any tagged bytes are.
     #[inline(always)]
     pub fn deserialize_byte_buf(&mut self) -> Result<Vec<u8>>
-        ensures ok { IfOk result (λ content. ReadsBytes 0x04 self.old self.new content.items) }
-        ensures err { IfErr result (RefusesBytes 0x04 self.old self.new) }
+        ensures ok { IfOk result (λ content. ReadsPrimitive (PrimitiveShape.bytes 0x04)
+            self.old self.new (Primitive.bytes 0x04 content.items)) }
+        ensures err { IfErr result (RefusesPrimitive (Primitive.bytes 0x04) (PrimitiveShape.bytes 0x04)
+            self.old self.new) }
     {
         self.deserialize_tagged_bytes(Tag::OCTET_STRING)
     }

@@ -1,10 +1,10 @@
 //! Bools, numbers and nulls.
 ghost use Rattle.std.specs.Prelude.{◌^◌, ◌-◌, IfOk, IfErr, OnOk};
+ghost use Rattle.picky_der_core.specs.Primitive.{PrimitiveShape, Primitive};
 ghost use Rattle.picky_der_core.specs.Shape.{Shape};
 ghost use Rattle.picky_der_core.specs.Integer.{int_tree};
 ghost use Rattle.picky_der_input.specs.Steps.{TakesNoMemory};
-ghost use Rattle.picky_der_input.specs.Reading.{Reads, ReadsInt, RefusesInt};
-ghost use Rattle.picky_der_input.specs.Reading.{ReadsBoolean, RefusesBoolean, ReadsUnsigned, RefusesUnsigned, ReadsNull, RefusesNull};
+ghost use Rattle.picky_der_input.specs.Reading.{Reads, ReadsInt, RefusesInt, ReadsPrimitive, RefusesPrimitive};
 
 use super::Deserializer;
 use picky_der_core::misc::ReadExt;
@@ -17,8 +17,10 @@ impl<R: ReadExt> Deserializer<R> {
     /// content; the refusals of a header and of an end; else the reader's fault.
     #[inline(always)]
     pub fn deserialize_bool(&mut self) -> Result<bool>
-        ensures ok { IfOk result (ReadsBoolean self.old self.new) }
-        ensures err { IfErr result (RefusesBoolean self.old self.new) }
+        ensures ok { IfOk result (λ value. ReadsPrimitive PrimitiveShape.boolean
+            self.old self.new (Primitive.boolean value)) }
+        ensures err { IfErr result (RefusesPrimitive Primitive.boolean PrimitiveShape.boolean
+            self.old self.new) }
         ensures memory { IfErr result (TakesNoMemory self.old self.new) }
     {
         self.input.read_bool()
@@ -31,8 +33,10 @@ impl<R: ReadExt> Deserializer<R> {
     /// reader's fault.
     #[inline(always)]
     pub fn deserialize_u8(&mut self) -> Result<u8>
-        ensures ok { IfOk result (ReadsUnsigned (2 ^ 8 - 1) self.old self.new) }
-        ensures err { IfErr result (RefusesUnsigned (2 ^ 8 - 1) self.old self.new) }
+        ensures ok { IfOk result (λ value. ReadsPrimitive (PrimitiveShape.unsigned (2 ^ 8 - 1))
+            self.old self.new (Primitive.unsigned value)) }
+        ensures err { IfErr result (RefusesPrimitive Primitive.unsigned (PrimitiveShape.unsigned (2 ^ 8 - 1))
+            self.old self.new) }
         ensures memory { IfErr result (TakesNoMemory self.old self.new) }
     {
         self.input.read_unsigned()
@@ -41,8 +45,10 @@ impl<R: ReadExt> Deserializer<R> {
     /// Reads a number of 16 bits. It is refused as one of 8 bits is.
     #[inline(always)]
     pub fn deserialize_u16(&mut self) -> Result<u16>
-        ensures ok { IfOk result (ReadsUnsigned (2 ^ 16 - 1) self.old self.new) }
-        ensures err { IfErr result (RefusesUnsigned (2 ^ 16 - 1) self.old self.new) }
+        ensures ok { IfOk result (λ value. ReadsPrimitive (PrimitiveShape.unsigned (2 ^ 16 - 1))
+            self.old self.new (Primitive.unsigned value)) }
+        ensures err { IfErr result (RefusesPrimitive Primitive.unsigned (PrimitiveShape.unsigned (2 ^ 16 - 1))
+            self.old self.new) }
         ensures memory { IfErr result (TakesNoMemory self.old self.new) }
     {
         self.input.read_unsigned()
@@ -51,8 +57,10 @@ impl<R: ReadExt> Deserializer<R> {
     /// Reads a number of 32 bits. It is refused as one of 8 bits is.
     #[inline(always)]
     pub fn deserialize_u32(&mut self) -> Result<u32>
-        ensures ok { IfOk result (ReadsUnsigned (2 ^ 32 - 1) self.old self.new) }
-        ensures err { IfErr result (RefusesUnsigned (2 ^ 32 - 1) self.old self.new) }
+        ensures ok { IfOk result (λ value. ReadsPrimitive (PrimitiveShape.unsigned (2 ^ 32 - 1))
+            self.old self.new (Primitive.unsigned value)) }
+        ensures err { IfErr result (RefusesPrimitive Primitive.unsigned (PrimitiveShape.unsigned (2 ^ 32 - 1))
+            self.old self.new) }
         ensures memory { IfErr result (TakesNoMemory self.old self.new) }
     {
         self.input.read_unsigned()
@@ -61,8 +69,10 @@ impl<R: ReadExt> Deserializer<R> {
     /// Reads a number of 64 bits. It is refused as one of 8 bits is.
     #[inline(always)]
     pub fn deserialize_u64(&mut self) -> Result<u64>
-        ensures ok { IfOk result (ReadsUnsigned (2 ^ 64 - 1) self.old self.new) }
-        ensures err { IfErr result (RefusesUnsigned (2 ^ 64 - 1) self.old self.new) }
+        ensures ok { IfOk result (λ value. ReadsPrimitive (PrimitiveShape.unsigned (2 ^ 64 - 1))
+            self.old self.new (Primitive.unsigned value)) }
+        ensures err { IfErr result (RefusesPrimitive Primitive.unsigned (PrimitiveShape.unsigned (2 ^ 64 - 1))
+            self.old self.new) }
         ensures memory { IfErr result (TakesNoMemory self.old self.new) }
     {
         self.input.read_unsigned()
@@ -71,8 +81,10 @@ impl<R: ReadExt> Deserializer<R> {
     /// Reads a number of 128 bits. It is refused as one of 8 bits is.
     #[inline(always)]
     pub fn deserialize_u128(&mut self) -> Result<u128>
-        ensures ok { IfOk result (ReadsUnsigned (2 ^ 128 - 1) self.old self.new) }
-        ensures err { IfErr result (RefusesUnsigned (2 ^ 128 - 1) self.old self.new) }
+        ensures ok { IfOk result (λ value. ReadsPrimitive (PrimitiveShape.unsigned (2 ^ 128 - 1))
+            self.old self.new (Primitive.unsigned value)) }
+        ensures err { IfErr result (RefusesPrimitive Primitive.unsigned (PrimitiveShape.unsigned (2 ^ 128 - 1))
+            self.old self.new) }
         ensures memory { IfErr result (TakesNoMemory self.old self.new) }
     {
         self.input.read_unsigned()
@@ -84,7 +96,8 @@ impl<R: ReadExt> Deserializer<R> {
     /// a number that the type doesn't have; the refusals of a header and of an end; else the reader's fault.
     pub fn deserialize_int<N: Int>(&mut self) -> Result<N>
         ensures ok { IfOk result (λ value. ReadsInt N.fits self.old self.new (N.number value)) }
-        ensures meant { IfOk result (λ value. Reads (Shape.bytes 0x02) self.old self.new
+        ensures meant { IfOk result (λ value. Reads (Shape.primitive (PrimitiveShape.bytes 0x02))
+            self.old self.new
             (int_tree N.fits (N.number value))) }
         ensures err { IfErr result (RefusesInt N.fits self.old self.new) }
         ensures memory { IfErr result (TakesNoMemory self.old self.new) }
@@ -98,8 +111,10 @@ impl<R: ReadExt> Deserializer<R> {
     /// the reader's fault.
     #[inline(always)]
     pub fn deserialize_unit(&mut self) -> Result<()>
-        ensures ok { OnOk result (ReadsNull self.old self.new) }
-        ensures err { IfErr result (RefusesNull self.old self.new) }
+        ensures ok { OnOk result (ReadsPrimitive PrimitiveShape.null
+            self.old self.new Primitive.null) }
+        ensures err { IfErr result (RefusesPrimitive (λ (_ : Unit {0}). Primitive.null) PrimitiveShape.null
+            self.old self.new) }
         ensures memory { IfErr result (TakesNoMemory self.old self.new) }
     {
         self.input.read_unit()
@@ -108,8 +123,10 @@ impl<R: ReadExt> Deserializer<R> {
     /// Reads a struct without fields as a null, and is refused so. The name isn't used.
     #[inline(always)]
     pub fn deserialize_unit_struct(&mut self, _name: &'static str) -> Result<()>
-        ensures ok { OnOk result (ReadsNull self.old self.new) }
-        ensures err { IfErr result (RefusesNull self.old self.new) }
+        ensures ok { OnOk result (ReadsPrimitive PrimitiveShape.null
+            self.old self.new Primitive.null) }
+        ensures err { IfErr result (RefusesPrimitive (λ (_ : Unit {0}). Primitive.null) PrimitiveShape.null
+            self.old self.new) }
         ensures memory { IfErr result (TakesNoMemory self.old self.new) }
     {
         self.deserialize_unit()

@@ -1,12 +1,13 @@
 //! Texts and characters.
-ghost use Rattle.std.specs.Prelude.{IfOk, IfErr, string_bytes};
+ghost use Rattle.std.specs.Prelude.{encode_utf8, IfOk, IfErr, string_bytes};
 ghost use Rattle.std.specs.Borrow.{sem};
 ghost use Rattle.std.specs.Io.BufRead.{Rests};
+ghost use Rattle.picky_der_input.specs.Reading.{ReadsPrimitive, RefusesPrimitive};
+ghost use Rattle.picky_der_core.specs.Primitive.{Primitive, PrimitiveShape};
 ghost use Rattle.picky_der_de.specs.contracts.deserializer.Deserializer.{the_row};
 ghost use Rattle.picky_der_input.specs.State.{State};
 ghost use Rattle.picky_der_de.specs.Lending.{LendsText};
 ghost use Rattle.picky_der_input.specs.Steps.{TakesNoMemory};
-ghost use Rattle.picky_der_input.specs.Reading.{ReadsText, RefusesText, ReadsCharacter, RefusesCharacter};
 
 use super::Deserializer;
 use picky_der_core::Result;
@@ -18,8 +19,10 @@ impl<R: ReadExt> Deserializer<R> {
     /// `InvalidData` for another tag, for a content that isn't UTF-8, and for more than one character;
     /// `UnsupportedValue` for an empty content; the refusals of a header and of an end; else the reader's fault.
     pub fn deserialize_char(&mut self) -> Result<char>
-        ensures ok { IfOk result (ReadsCharacter self.old self.new) }
-        ensures err { IfErr result (RefusesCharacter self.old self.new) }
+        ensures ok { IfOk result (λ value. ReadsPrimitive PrimitiveShape.character
+            self.old self.new (Primitive.text (encode_utf8 value))) }
+        ensures err { IfErr result (RefusesPrimitive (λ c. Primitive.text (encode_utf8 c)) PrimitiveShape.character
+            self.old self.new) }
         ensures memory { IfErr result (TakesNoMemory self.old self.new) }
     {
         self.input.read_char()
@@ -30,8 +33,10 @@ impl<R: ReadExt> Deserializer<R> {
     /// `InvalidData` for another tag and for a content that isn't UTF-8; the refusals of a header and of an end;
     /// `OutOfMemory` where memory is refused; else the reader's fault.
     pub fn deserialize_string(&mut self) -> Result<String>
-        ensures ok { IfOk result (λ text. ReadsText self.old self.new (string_bytes text)) }
-        ensures err { IfErr result (RefusesText self.old self.new) }
+        ensures ok { IfOk result (λ text. ReadsPrimitive PrimitiveShape.text
+            self.old self.new (Primitive.text (string_bytes text))) }
+        ensures err { IfErr result (RefusesPrimitive Primitive.text PrimitiveShape.text
+            self.old self.new) }
     {
         self.input.read_string()
     }

@@ -1,18 +1,17 @@
 //! Wrappers, as a deserializer reads them.
 ghost use Rattle.std.specs.Prelude.{◌≡◌, Some, IfOk, IfErr};
-ghost use Rattle.picky_der_core.specs.Wrapper.{wrapper_of, wrap_if, HasTagNumberIfAny};
+ghost use Rattle.picky_der_core.specs.declared.asn1.wrapper.Wrapper.TheVariants.{Retagged};
+ghost use Rattle.picky_der_core.specs.OpenWrappers.{wrapper_of, wrap_if, HasTagNumberIfAny};
 ghost use Rattle.picky_der_core.specs.declared.asn1.wrapper.Wrapper.{Wrapper as WrapperOf};
-ghost use Rattle.picky_der_core.specs.declared.asn1.wrapper.Wrapper.TheVariants as wrapper;
 ghost use Rattle.picky_der_core.specs.Shape.{Shape};
 ghost use Rattle.picky_der_core.specs.Tag.{IsConstructedTag};
 ghost use Rattle.picky_der_core.specs.Tree.{Tree};
-ghost use Rattle.picky_der_input.specs.declared.enclosure.Enclosure.TheVariants as enclosure;
 ghost use Rattle.picky_der_input.specs.Reading.{Reads, Refuses, AreNotRefused};
-ghost use Rattle.picky_der_input.specs.Enclosures.{wrap_shape_if, opening_refusal, RefusesEnclosed};
+ghost use Rattle.picky_der_input.specs.Wrappers.{wrap_shape_if, opening_refusal, RefusesWrapped};
 ghost use Rattle.picky_der_input.specs.TagNumbers.{RefusesNumber};
 
 use super::Deserializer;
-use crate::{Deserialize, Enclosure};
+use crate::Deserialize;
 use picky_der_core::asn1::{Newtype, Tag, Wrapper};
 use picky_der_core::misc::ReadExt;
 use picky_der_core::{Asn1DerError, Result};
@@ -32,14 +31,14 @@ impl<R: ReadExt> Deserializer<R> {
         ensures err { IfErr result (Refuses (λ (value : T). wrap_if (wrapper_of kind)
             (T.meaning value)) (wrap_shape_if (wrapper_of kind) T.shape) self.old self.new) }
         ensures no_refusal { IfOk result (λ value. (w : WrapperOf) → wrapper_of kind ≡ Some w
-            → AreNotRefused (opening_refusal (enclosure.Wrapper w) self.old) self.old) }
+            → AreNotRefused (opening_refusal w self.old) self.old) }
         ensures refused { IfErr result (λ e. (w : WrapperOf) → wrapper_of kind ≡ Some w
-            → RefusesEnclosed T.meaning T.shape (enclosure.Wrapper w) self.old self.new e) }
+            → RefusesWrapped T.meaning T.shape w self.old self.new e) }
         ensures unsupported { (HasTagNumberIfAny (wrapper_of kind) → ⊥)
             → RefusesNumber self.old result self.new }
     {
         match kind.wrapper() {
-            Some(wrapper) => self.read_enclosed(Enclosure::Wrapper(wrapper)),
+            Some(wrapper) => self.read_wrapped(wrapper),
             None => T::deserialize(self),
         }
     }
@@ -51,16 +50,16 @@ impl<R: ReadExt> Deserializer<R> {
     /// header and of an end; else as the list is refused.
     pub fn deserialize_retagged<T: List + Deserialize>(&mut self, tag: Tag) -> Result<T>
         ensures ok { IfOk result (λ value. Reads
-            (Shape.retagged tag T.shape) self.old self.new
-            (Tree.retagged tag (T.meaning value))) }
-        ensures err { IfErr result (Refuses (λ (value : T). Tree.retagged tag
-            (T.meaning value)) (Shape.retagged tag T.shape) self.old self.new) }
+            (Shape.wrapped (Retagged tag) T.shape) self.old self.new
+            (Tree.wrapped (Retagged tag) (T.meaning value))) }
+        ensures err { IfErr result (Refuses (λ (value : T). Tree.wrapped (Retagged tag)
+            (T.meaning value)) (Shape.wrapped (Retagged tag) T.shape) self.old self.new) }
         ensures no_refusal { IfOk result (λ value. AreNotRefused
-            (opening_refusal (enclosure.Wrapper (wrapper.Retagged tag)) self.old) self.old) }
-        ensures refused { IfErr result (RefusesEnclosed T.meaning T.shape
-            (enclosure.Wrapper (wrapper.Retagged tag)) self.old self.new) }
+            (opening_refusal (Retagged tag) self.old) self.old) }
+        ensures refused { IfErr result (RefusesWrapped T.meaning T.shape
+            (Retagged tag) self.old self.new) }
         ensures unsupported { (IsConstructedTag tag → ⊥) → RefusesNumber self.old result self.new }
     {
-        self.read_enclosed(Enclosure::Wrapper(Wrapper::Retagged(tag.inner())))
+        self.read_wrapped(Wrapper::Retagged(tag.inner()))
     }
 }

@@ -1,10 +1,11 @@
 //! Bools and numbers, as they are read.
 ghost use Rattle.std.specs.Prelude.{◌^◌, ◌-◌, IfOk, IfErr, refl};
+ghost use Rattle.picky_der_core.specs.Primitive.{Primitive, PrimitiveShape};
 ghost use Rattle.picky_der_core.specs.Tree.{Tree};
 ghost use Rattle.picky_der_core.specs.Shape.{Shape};
 ghost use Rattle.picky_der_core.specs.Integer.{fits_signed, int_tree, unsigned_tree};
 ghost use Rattle.picky_der_input.specs.Steps.{TakesNoMemory};
-ghost use Rattle.picky_der_input.specs.Reading.{Reads, Refuses, RefusesBoolean, ReadsUnsigned, RefusesUnsigned};
+ghost use Rattle.picky_der_input.specs.Reading.{Reads, Refuses, ReadsPrimitive, RefusesPrimitive};
 ghost use Rattle.picky_der_input.specs.Reading.{ReadsInt, RefusesInt};
 ghost use Rattle.picky_der_de.specs.Known.{known_boolean, known_unsigned, known_int};
 
@@ -13,7 +14,7 @@ use picky_der_core::Result;
 use picky_der_core::misc::ReadExt;
 
 impl Deserialize for bool {
-    ghost shape = { Shape.boolean };
+    ghost shape = { (Shape.primitive PrimitiveShape.boolean) };
 
     ghost known = { known_boolean };
 
@@ -21,11 +22,13 @@ impl Deserialize for bool {
 
     #[inline(always)]
     fn deserialize<R: ReadExt>(de: &mut Deserializer<R>) -> Result<bool>
-        ensures ok { IfOk result (λ value. Reads Shape.boolean de.old de.new
-            (Tree.boolean value)) }
-        ensures err { IfErr result (Refuses (λ value. Tree.boolean value)
-            Shape.boolean de.old de.new) }
-        ensures refused { IfErr result (RefusesBoolean de.old de.new) }
+        ensures ok { IfOk result (λ value. Reads (Shape.primitive PrimitiveShape.boolean)
+            de.old de.new
+            (Tree.primitive (Primitive.boolean value))) }
+        ensures err { IfErr result (Refuses (λ value. Tree.primitive (Primitive.boolean value))
+            (Shape.primitive PrimitiveShape.boolean) de.old de.new) }
+        ensures refused { IfErr result (RefusesPrimitive Primitive.boolean PrimitiveShape.boolean
+            de.old de.new) }
         ensures memory { IfErr result (TakesNoMemory de.old de.new) }
     {
         de.deserialize_bool()
@@ -33,7 +36,7 @@ impl Deserialize for bool {
 }
 
 impl Deserialize for u8 {
-    ghost shape = { Shape.unsigned (2 ^ 8 - 1) };
+    ghost shape = { Shape.primitive (PrimitiveShape.unsigned (2 ^ 8 - 1)) };
 
     ghost known = { known_unsigned (2 ^ 8 - 1) refl };
 
@@ -42,15 +45,18 @@ impl Deserialize for u8 {
     #[inline(always)]
     #[tactic(auto, using(crate::proofs::NumberReads::reads_within))]
     fn deserialize<R: ReadExt>(de: &mut Deserializer<R>) -> Result<u8>
-        ensures ok { IfOk result (λ value. Reads (Shape.unsigned (2 ^ 8 - 1)) de.old de.new
-            (Tree.unsigned value)) }
-        ensures err { IfErr result (Refuses (λ value. Tree.unsigned value)
-            (Shape.unsigned (2 ^ 8 - 1)) de.old de.new) }
-        ensures meant { IfOk result (λ value. Reads (Shape.unsigned (2 ^ 8 - 1)) de.old de.new
+        ensures ok { IfOk result (λ value. Reads (Shape.primitive (PrimitiveShape.unsigned (2 ^ 8 - 1)))
+            de.old de.new
+            (Tree.primitive (Primitive.unsigned value))) }
+        ensures err { IfErr result (Refuses (λ value. Tree.primitive (Primitive.unsigned value))
+            (Shape.primitive (PrimitiveShape.unsigned (2 ^ 8 - 1))) de.old de.new) }
+        ensures meant { IfOk result (λ value. Reads (Shape.primitive (PrimitiveShape.unsigned (2 ^ 8 - 1)))
+            de.old de.new
             (unsigned_tree (2 ^ 8 - 1) value)) }
         ensures none { IfErr result (Refuses (unsigned_tree (2 ^ 8 - 1))
-            (Shape.unsigned (2 ^ 8 - 1)) de.old de.new) }
-        ensures refused { IfErr result (RefusesUnsigned (2 ^ 8 - 1) de.old de.new) }
+            (Shape.primitive (PrimitiveShape.unsigned (2 ^ 8 - 1))) de.old de.new) }
+        ensures refused { IfErr result (RefusesPrimitive Primitive.unsigned (PrimitiveShape.unsigned (2 ^ 8 - 1))
+            de.old de.new) }
         ensures memory { IfErr result (TakesNoMemory de.old de.new) }
     {
         de.deserialize_u8()
@@ -58,7 +64,7 @@ impl Deserialize for u8 {
 }
 
 impl Deserialize for u16 {
-    ghost shape = { Shape.unsigned (2 ^ 16 - 1) };
+    ghost shape = { Shape.primitive (PrimitiveShape.unsigned (2 ^ 16 - 1)) };
 
     ghost known = { known_unsigned (2 ^ 16 - 1) refl };
 
@@ -67,15 +73,18 @@ impl Deserialize for u16 {
     #[inline(always)]
     #[tactic(auto, using(crate::proofs::NumberReads::reads_within))]
     fn deserialize<R: ReadExt>(de: &mut Deserializer<R>) -> Result<u16>
-        ensures ok { IfOk result (λ value. Reads (Shape.unsigned (2 ^ 16 - 1)) de.old de.new
-            (Tree.unsigned value)) }
-        ensures err { IfErr result (Refuses (λ value. Tree.unsigned value)
-            (Shape.unsigned (2 ^ 16 - 1)) de.old de.new) }
-        ensures meant { IfOk result (λ value. Reads (Shape.unsigned (2 ^ 16 - 1)) de.old de.new
+        ensures ok { IfOk result (λ value. Reads (Shape.primitive (PrimitiveShape.unsigned (2 ^ 16 - 1)))
+            de.old de.new
+            (Tree.primitive (Primitive.unsigned value))) }
+        ensures err { IfErr result (Refuses (λ value. Tree.primitive (Primitive.unsigned value))
+            (Shape.primitive (PrimitiveShape.unsigned (2 ^ 16 - 1))) de.old de.new) }
+        ensures meant { IfOk result (λ value. Reads (Shape.primitive (PrimitiveShape.unsigned (2 ^ 16 - 1)))
+            de.old de.new
             (unsigned_tree (2 ^ 16 - 1) value)) }
         ensures none { IfErr result (Refuses (unsigned_tree (2 ^ 16 - 1))
-            (Shape.unsigned (2 ^ 16 - 1)) de.old de.new) }
-        ensures refused { IfErr result (RefusesUnsigned (2 ^ 16 - 1) de.old de.new) }
+            (Shape.primitive (PrimitiveShape.unsigned (2 ^ 16 - 1))) de.old de.new) }
+        ensures refused { IfErr result (RefusesPrimitive Primitive.unsigned (PrimitiveShape.unsigned (2 ^ 16 - 1))
+            de.old de.new) }
         ensures memory { IfErr result (TakesNoMemory de.old de.new) }
     {
         de.deserialize_u16()
@@ -83,7 +92,7 @@ impl Deserialize for u16 {
 }
 
 impl Deserialize for u32 {
-    ghost shape = { Shape.unsigned (2 ^ 32 - 1) };
+    ghost shape = { Shape.primitive (PrimitiveShape.unsigned (2 ^ 32 - 1)) };
 
     ghost known = { known_unsigned (2 ^ 32 - 1) refl };
 
@@ -92,15 +101,18 @@ impl Deserialize for u32 {
     #[inline(always)]
     #[tactic(auto, using(crate::proofs::NumberReads::reads_within))]
     fn deserialize<R: ReadExt>(de: &mut Deserializer<R>) -> Result<u32>
-        ensures ok { IfOk result (λ value. Reads (Shape.unsigned (2 ^ 32 - 1)) de.old de.new
-            (Tree.unsigned value)) }
-        ensures err { IfErr result (Refuses (λ value. Tree.unsigned value)
-            (Shape.unsigned (2 ^ 32 - 1)) de.old de.new) }
-        ensures meant { IfOk result (λ value. Reads (Shape.unsigned (2 ^ 32 - 1)) de.old de.new
+        ensures ok { IfOk result (λ value. Reads (Shape.primitive (PrimitiveShape.unsigned (2 ^ 32 - 1)))
+            de.old de.new
+            (Tree.primitive (Primitive.unsigned value))) }
+        ensures err { IfErr result (Refuses (λ value. Tree.primitive (Primitive.unsigned value))
+            (Shape.primitive (PrimitiveShape.unsigned (2 ^ 32 - 1))) de.old de.new) }
+        ensures meant { IfOk result (λ value. Reads (Shape.primitive (PrimitiveShape.unsigned (2 ^ 32 - 1)))
+            de.old de.new
             (unsigned_tree (2 ^ 32 - 1) value)) }
         ensures none { IfErr result (Refuses (unsigned_tree (2 ^ 32 - 1))
-            (Shape.unsigned (2 ^ 32 - 1)) de.old de.new) }
-        ensures refused { IfErr result (RefusesUnsigned (2 ^ 32 - 1) de.old de.new) }
+            (Shape.primitive (PrimitiveShape.unsigned (2 ^ 32 - 1))) de.old de.new) }
+        ensures refused { IfErr result (RefusesPrimitive Primitive.unsigned (PrimitiveShape.unsigned (2 ^ 32 - 1))
+            de.old de.new) }
         ensures memory { IfErr result (TakesNoMemory de.old de.new) }
     {
         de.deserialize_u32()
@@ -108,7 +120,7 @@ impl Deserialize for u32 {
 }
 
 impl Deserialize for u64 {
-    ghost shape = { Shape.unsigned (2 ^ 64 - 1) };
+    ghost shape = { Shape.primitive (PrimitiveShape.unsigned (2 ^ 64 - 1)) };
 
     ghost known = { known_unsigned (2 ^ 64 - 1) refl };
 
@@ -117,15 +129,18 @@ impl Deserialize for u64 {
     #[inline(always)]
     #[tactic(auto, using(crate::proofs::NumberReads::reads_within))]
     fn deserialize<R: ReadExt>(de: &mut Deserializer<R>) -> Result<u64>
-        ensures ok { IfOk result (λ value. Reads (Shape.unsigned (2 ^ 64 - 1)) de.old de.new
-            (Tree.unsigned value)) }
-        ensures err { IfErr result (Refuses (λ value. Tree.unsigned value)
-            (Shape.unsigned (2 ^ 64 - 1)) de.old de.new) }
-        ensures meant { IfOk result (λ value. Reads (Shape.unsigned (2 ^ 64 - 1)) de.old de.new
+        ensures ok { IfOk result (λ value. Reads (Shape.primitive (PrimitiveShape.unsigned (2 ^ 64 - 1)))
+            de.old de.new
+            (Tree.primitive (Primitive.unsigned value))) }
+        ensures err { IfErr result (Refuses (λ value. Tree.primitive (Primitive.unsigned value))
+            (Shape.primitive (PrimitiveShape.unsigned (2 ^ 64 - 1))) de.old de.new) }
+        ensures meant { IfOk result (λ value. Reads (Shape.primitive (PrimitiveShape.unsigned (2 ^ 64 - 1)))
+            de.old de.new
             (unsigned_tree (2 ^ 64 - 1) value)) }
         ensures none { IfErr result (Refuses (unsigned_tree (2 ^ 64 - 1))
-            (Shape.unsigned (2 ^ 64 - 1)) de.old de.new) }
-        ensures refused { IfErr result (RefusesUnsigned (2 ^ 64 - 1) de.old de.new) }
+            (Shape.primitive (PrimitiveShape.unsigned (2 ^ 64 - 1))) de.old de.new) }
+        ensures refused { IfErr result (RefusesPrimitive Primitive.unsigned (PrimitiveShape.unsigned (2 ^ 64 - 1))
+            de.old de.new) }
         ensures memory { IfErr result (TakesNoMemory de.old de.new) }
     {
         de.deserialize_u64()
@@ -133,7 +148,7 @@ impl Deserialize for u64 {
 }
 
 impl Deserialize for u128 {
-    ghost shape = { Shape.unsigned (2 ^ 128 - 1) };
+    ghost shape = { Shape.primitive (PrimitiveShape.unsigned (2 ^ 128 - 1)) };
 
     ghost known = { known_unsigned (2 ^ 128 - 1) refl };
 
@@ -142,15 +157,18 @@ impl Deserialize for u128 {
     #[inline(always)]
     #[tactic(auto, using(crate::proofs::NumberReads::reads_within))]
     fn deserialize<R: ReadExt>(de: &mut Deserializer<R>) -> Result<u128>
-        ensures ok { IfOk result (λ value. Reads (Shape.unsigned (2 ^ 128 - 1)) de.old de.new
-            (Tree.unsigned value)) }
-        ensures err { IfErr result (Refuses (λ value. Tree.unsigned value)
-            (Shape.unsigned (2 ^ 128 - 1)) de.old de.new) }
-        ensures meant { IfOk result (λ value. Reads (Shape.unsigned (2 ^ 128 - 1)) de.old de.new
+        ensures ok { IfOk result (λ value. Reads (Shape.primitive (PrimitiveShape.unsigned (2 ^ 128 - 1)))
+            de.old de.new
+            (Tree.primitive (Primitive.unsigned value))) }
+        ensures err { IfErr result (Refuses (λ value. Tree.primitive (Primitive.unsigned value))
+            (Shape.primitive (PrimitiveShape.unsigned (2 ^ 128 - 1))) de.old de.new) }
+        ensures meant { IfOk result (λ value. Reads (Shape.primitive (PrimitiveShape.unsigned (2 ^ 128 - 1)))
+            de.old de.new
             (unsigned_tree (2 ^ 128 - 1) value)) }
         ensures none { IfErr result (Refuses (unsigned_tree (2 ^ 128 - 1))
-            (Shape.unsigned (2 ^ 128 - 1)) de.old de.new) }
-        ensures refused { IfErr result (RefusesUnsigned (2 ^ 128 - 1) de.old de.new) }
+            (Shape.primitive (PrimitiveShape.unsigned (2 ^ 128 - 1))) de.old de.new) }
+        ensures refused { IfErr result (RefusesPrimitive Primitive.unsigned (PrimitiveShape.unsigned (2 ^ 128 - 1))
+            de.old de.new) }
         ensures memory { IfErr result (TakesNoMemory de.old de.new) }
     {
         de.deserialize_u128()
@@ -158,7 +176,7 @@ impl Deserialize for u128 {
 }
 
 impl Deserialize for usize {
-    ghost shape = { Shape.unsigned (2 ^ 64 - 1) };
+    ghost shape = { Shape.primitive (PrimitiveShape.unsigned (2 ^ 64 - 1)) };
 
     ghost known = { known_unsigned (2 ^ 64 - 1) refl };
 
@@ -167,16 +185,20 @@ impl Deserialize for usize {
     #[inline(always)]
     #[tactic(auto, using(crate::proofs::NumberReads::reads_within))]
     fn deserialize<R: ReadExt>(de: &mut Deserializer<R>) -> Result<usize>
-        ensures ok { IfOk result (λ value. Reads (Shape.unsigned (2 ^ 64 - 1)) de.old de.new
-            (Tree.unsigned value)) }
-        ensures err { IfErr result (Refuses (λ value. Tree.unsigned value)
-            (Shape.unsigned (2 ^ 64 - 1)) de.old de.new) }
-        ensures number { IfOk result (ReadsUnsigned (2 ^ 64 - 1) de.old de.new) }
-        ensures meant { IfOk result (λ value. Reads (Shape.unsigned (2 ^ 64 - 1)) de.old de.new
+        ensures ok { IfOk result (λ value. Reads (Shape.primitive (PrimitiveShape.unsigned (2 ^ 64 - 1)))
+            de.old de.new
+            (Tree.primitive (Primitive.unsigned value))) }
+        ensures err { IfErr result (Refuses (λ value. Tree.primitive (Primitive.unsigned value))
+            (Shape.primitive (PrimitiveShape.unsigned (2 ^ 64 - 1))) de.old de.new) }
+        ensures number { IfOk result (λ value. ReadsPrimitive (PrimitiveShape.unsigned (2 ^ 64 - 1))
+            de.old de.new (Primitive.unsigned value)) }
+        ensures meant { IfOk result (λ value. Reads (Shape.primitive (PrimitiveShape.unsigned (2 ^ 64 - 1)))
+            de.old de.new
             (unsigned_tree (2 ^ 64 - 1) value)) }
         ensures none { IfErr result (Refuses (unsigned_tree (2 ^ 64 - 1))
-            (Shape.unsigned (2 ^ 64 - 1)) de.old de.new) }
-        ensures refused { IfErr result (RefusesUnsigned (2 ^ 64 - 1) de.old de.new) }
+            (Shape.primitive (PrimitiveShape.unsigned (2 ^ 64 - 1))) de.old de.new) }
+        ensures refused { IfErr result (RefusesPrimitive Primitive.unsigned (PrimitiveShape.unsigned (2 ^ 64 - 1))
+            de.old de.new) }
         ensures memory { IfErr result (TakesNoMemory de.old de.new) }
     {
         Ok(de.deserialize_u64()? as usize)
@@ -184,16 +206,17 @@ impl Deserialize for usize {
 }
 
 impl Deserialize for i8 {
-    ghost shape = { Shape.bytes 0x02 };
+    ghost shape = { Shape.primitive (PrimitiveShape.bytes 0x02) };
 
     ghost known = { known_int (fits_signed 8) };
 
     ghost tied = { Prim.assumption };
 
     fn deserialize<R: ReadExt>(de: &mut Deserializer<R>) -> Result<i8>
-        ensures ok { IfOk result (λ value. Reads (Shape.bytes 0x02) de.old de.new
+        ensures ok { IfOk result (λ value. Reads (Shape.primitive (PrimitiveShape.bytes 0x02))
+            de.old de.new
             (int_tree (fits_signed 8) value)) }
-        ensures err { IfErr result (Refuses (int_tree (fits_signed 8)) (Shape.bytes 0x02)
+        ensures err { IfErr result (Refuses (int_tree (fits_signed 8)) (Shape.primitive (PrimitiveShape.bytes 0x02))
             de.old de.new) }
         ensures read { IfOk result (ReadsInt (fits_signed 8) de.old de.new) }
         ensures refused { IfErr result (RefusesInt (fits_signed 8) de.old de.new) }
@@ -204,16 +227,17 @@ impl Deserialize for i8 {
 }
 
 impl Deserialize for i16 {
-    ghost shape = { Shape.bytes 0x02 };
+    ghost shape = { Shape.primitive (PrimitiveShape.bytes 0x02) };
 
     ghost known = { known_int (fits_signed 16) };
 
     ghost tied = { Prim.assumption };
 
     fn deserialize<R: ReadExt>(de: &mut Deserializer<R>) -> Result<i16>
-        ensures ok { IfOk result (λ value. Reads (Shape.bytes 0x02) de.old de.new
+        ensures ok { IfOk result (λ value. Reads (Shape.primitive (PrimitiveShape.bytes 0x02))
+            de.old de.new
             (int_tree (fits_signed 16) value)) }
-        ensures err { IfErr result (Refuses (int_tree (fits_signed 16)) (Shape.bytes 0x02)
+        ensures err { IfErr result (Refuses (int_tree (fits_signed 16)) (Shape.primitive (PrimitiveShape.bytes 0x02))
             de.old de.new) }
         ensures read { IfOk result (ReadsInt (fits_signed 16) de.old de.new) }
         ensures refused { IfErr result (RefusesInt (fits_signed 16) de.old de.new) }
@@ -224,16 +248,17 @@ impl Deserialize for i16 {
 }
 
 impl Deserialize for i32 {
-    ghost shape = { Shape.bytes 0x02 };
+    ghost shape = { Shape.primitive (PrimitiveShape.bytes 0x02) };
 
     ghost known = { known_int (fits_signed 32) };
 
     ghost tied = { Prim.assumption };
 
     fn deserialize<R: ReadExt>(de: &mut Deserializer<R>) -> Result<i32>
-        ensures ok { IfOk result (λ value. Reads (Shape.bytes 0x02) de.old de.new
+        ensures ok { IfOk result (λ value. Reads (Shape.primitive (PrimitiveShape.bytes 0x02))
+            de.old de.new
             (int_tree (fits_signed 32) value)) }
-        ensures err { IfErr result (Refuses (int_tree (fits_signed 32)) (Shape.bytes 0x02)
+        ensures err { IfErr result (Refuses (int_tree (fits_signed 32)) (Shape.primitive (PrimitiveShape.bytes 0x02))
             de.old de.new) }
         ensures read { IfOk result (ReadsInt (fits_signed 32) de.old de.new) }
         ensures refused { IfErr result (RefusesInt (fits_signed 32) de.old de.new) }
@@ -244,16 +269,17 @@ impl Deserialize for i32 {
 }
 
 impl Deserialize for i64 {
-    ghost shape = { Shape.bytes 0x02 };
+    ghost shape = { Shape.primitive (PrimitiveShape.bytes 0x02) };
 
     ghost known = { known_int (fits_signed 64) };
 
     ghost tied = { Prim.assumption };
 
     fn deserialize<R: ReadExt>(de: &mut Deserializer<R>) -> Result<i64>
-        ensures ok { IfOk result (λ value. Reads (Shape.bytes 0x02) de.old de.new
+        ensures ok { IfOk result (λ value. Reads (Shape.primitive (PrimitiveShape.bytes 0x02))
+            de.old de.new
             (int_tree (fits_signed 64) value)) }
-        ensures err { IfErr result (Refuses (int_tree (fits_signed 64)) (Shape.bytes 0x02)
+        ensures err { IfErr result (Refuses (int_tree (fits_signed 64)) (Shape.primitive (PrimitiveShape.bytes 0x02))
             de.old de.new) }
         ensures read { IfOk result (ReadsInt (fits_signed 64) de.old de.new) }
         ensures refused { IfErr result (RefusesInt (fits_signed 64) de.old de.new) }
@@ -264,16 +290,17 @@ impl Deserialize for i64 {
 }
 
 impl Deserialize for i128 {
-    ghost shape = { Shape.bytes 0x02 };
+    ghost shape = { Shape.primitive (PrimitiveShape.bytes 0x02) };
 
     ghost known = { known_int (fits_signed 128) };
 
     ghost tied = { Prim.assumption };
 
     fn deserialize<R: ReadExt>(de: &mut Deserializer<R>) -> Result<i128>
-        ensures ok { IfOk result (λ value. Reads (Shape.bytes 0x02) de.old de.new
+        ensures ok { IfOk result (λ value. Reads (Shape.primitive (PrimitiveShape.bytes 0x02))
+            de.old de.new
             (int_tree (fits_signed 128) value)) }
-        ensures err { IfErr result (Refuses (int_tree (fits_signed 128)) (Shape.bytes 0x02)
+        ensures err { IfErr result (Refuses (int_tree (fits_signed 128)) (Shape.primitive (PrimitiveShape.bytes 0x02))
             de.old de.new) }
         ensures read { IfOk result (ReadsInt (fits_signed 128) de.old de.new) }
         ensures refused { IfErr result (RefusesInt (fits_signed 128) de.old de.new) }

@@ -1,8 +1,7 @@
 //! Containers and context tags, as they are read.
 ghost use Rattle.picky_der_core.specs.Shape.{Shape};
 ghost use Rattle.picky_der_core.specs.declared.asn1.wrapper.Wrapper.TheVariants as wrapper;
-ghost use Rattle.picky_der_input.specs.declared.enclosure.Enclosure.TheVariants as enclosure;
-ghost use Rattle.picky_der_de.specs.KnownContainers.{known_enclosed};
+ghost use Rattle.picky_der_de.specs.KnownContainers.{known_wrapped};
 
 use crate::{Deserialize, Deserializer};
 use picky_der_core::Result;
@@ -14,9 +13,9 @@ use picky_der_core::misc::ReadExt;
 use picky_der_ser::List;
 
 impl<T: Deserialize> Deserialize for OctetStringAsn1Container<T> {
-    ghost shape = { Shape.octet_container T.shape };
+    ghost shape = { Shape.wrapped wrapper.OctetContainer T.shape };
 
-    ghost known = { known_enclosed T.known T.meaning T.eq (enclosure.Wrapper wrapper.OctetContainer) (λ it. it.0) };
+    ghost known = { known_wrapped T.known T.meaning T.eq wrapper.OctetContainer (λ it. it.0) };
 
     ghost tied = { Prim.assumption };
 
@@ -27,9 +26,9 @@ impl<T: Deserialize> Deserialize for OctetStringAsn1Container<T> {
 }
 
 impl<T: Deserialize> Deserialize for BitStringAsn1Container<T> {
-    ghost shape = { Shape.bit_container T.shape };
+    ghost shape = { Shape.wrapped wrapper.BitContainer T.shape };
 
-    ghost known = { known_enclosed T.known T.meaning T.eq (enclosure.Wrapper wrapper.BitContainer) (λ it. it.0) };
+    ghost known = { known_wrapped T.known T.meaning T.eq wrapper.BitContainer (λ it. it.0) };
 
     ghost tied = { Prim.assumption };
 
@@ -40,9 +39,9 @@ impl<T: Deserialize> Deserialize for BitStringAsn1Container<T> {
 }
 
 impl<T: Deserialize, const N: u8> Deserialize for ExplicitContextTag<T, N> {
-    ghost shape = { Shape.explicit N T.shape };
+    ghost shape = { Shape.wrapped (wrapper.Explicit N) T.shape };
 
-    ghost known = { known_enclosed T.known T.meaning T.eq (enclosure.Wrapper (wrapper.Explicit N)) (λ it. it.0) };
+    ghost known = { known_wrapped T.known T.meaning T.eq (wrapper.Explicit N) (λ it. it.0) };
 
     ghost tied = { Prim.assumption };
 
@@ -53,9 +52,9 @@ impl<T: Deserialize, const N: u8> Deserialize for ExplicitContextTag<T, N> {
 }
 
 impl<T: Deserialize, const N: u8> Deserialize for ImplicitContextTag<T, N> {
-    ghost shape = { Shape.implicit N T.shape };
+    ghost shape = { Shape.wrapped (wrapper.Implicit N) T.shape };
 
-    ghost known = { known_enclosed T.known T.meaning T.eq (enclosure.Wrapper (wrapper.Implicit N)) (λ it. it.0) };
+    ghost known = { known_wrapped T.known T.meaning T.eq (wrapper.Implicit N) (λ it. it.0) };
 
     ghost tied = { Prim.assumption };
 
@@ -66,9 +65,9 @@ impl<T: Deserialize, const N: u8> Deserialize for ImplicitContextTag<T, N> {
 }
 
 impl<T: List + Deserialize, const TAG: u8> Deserialize for Retagged<T, TAG> {
-    ghost shape = { Shape.retagged TAG T.shape };
+    ghost shape = { Shape.wrapped (wrapper.Retagged TAG) T.shape };
 
-    ghost known = { known_enclosed T.known T.meaning T.eq (enclosure.Wrapper (wrapper.Retagged TAG)) (λ it. it.0) };
+    ghost known = { known_wrapped T.known T.meaning T.eq (wrapper.Retagged TAG) (λ it. it.0) };
 
     ghost tied = { Prim.assumption };
 

@@ -1,10 +1,10 @@
 use Rattle.std.proofs.Common.{◌≡◌, Option, None, Some, sym, ◌∙◌, subst}
 use Rattle.std.proofs.lemmas.Result.{MatchResult-weaker}
+use Rattle.picky_der_core.specs.OpenWrappers.{wrapper_of, wrap_if}
 use Rattle.picky_der_core.specs.declared.asn1.wrapper.Wrapper.{Wrapper}
-use Rattle.picky_der_core.specs.Wrapper.{wrapper_of, wrap_if}
 use Rattle.picky_der_input.specs.Reading.{Refuses}
-use Rattle.picky_der_input.specs.Enclosures.{wrap_shape_if}
-use Rattle.picky_der_de.proofs.EnclosureReads.{refuses_enclosed}
+use Rattle.picky_der_input.specs.Wrappers.{wrap_shape_if}
+use Rattle.picky_der_de.proofs.WrapperReads.{refuses_wrapped}
 use Rattle.picky_der_de.proofs.deserializer.Deserializer.deserialize_newtype_struct.Goals as goal
 
 pub returns-in-Some-clause-err : goal.returns-in-Some-clause-err
@@ -12,8 +12,8 @@ returns-in-Some-clause-err g c =
     let m = g.T.Serialize.meaning in
     let s = g.T.Deserialize.shape in
     let is : Some c.in-Some.wrapper ≡ wrapper_of c.args.kind = sym c.in-Some.is ∙ c.wrapper.ensures in
-    MatchResult-weaker c.read_enclosed.result c.read_enclosed.ensures.err (λ v h. tt)
-    (λ e h. subst (λ (o : Option Wrapper). Refuses (λ v. wrap_if o (m v)) (wrap_shape_if o s) c.args.self.now c.read_enclosed.new.self e) is (refuses_enclosed h))
+    MatchResult-weaker c.read_wrapped.result c.read_wrapped.ensures.err (λ v h. tt)
+    (λ e h. subst (λ (o : Option Wrapper). Refuses (λ v. wrap_if o (m v)) (wrap_shape_if o s) c.args.self.now c.read_wrapped.new.self e) is (refuses_wrapped h))
 
 pub returns-in-None-clause-err : goal.returns-in-None-clause-err
 returns-in-None-clause-err g c =

@@ -1,4 +1,5 @@
 use Rattle.std.proofs.lemmas.Result.{err_from_is_err_and}
+use Rattle.picky_der_core.specs.declared.asn1.wrapper.Wrapper.TheVariants.{Implicit}
 use Rattle.picky_der_core.specs.Tree.{Tree}
 use Rattle.picky_der_input.proofs.PlainReads.{refuses_of}
 use Rattle.picky_der_de.proofs.impls.wrappers.ImplicitContextTagDeserialize.deserialize.Goals as goal
@@ -6,4 +7,4 @@ use Rattle.picky_der_de.proofs.impls.wrappers.ImplicitContextTagDeserialize.dese
 pub returns-in_err-value-clause-err : goal.returns-in_err-value-clause-err
 returns-in_err-value-clause-err g c =
     let p = err_from_is_err_and c.from_residual.result c.from_residual.ensures.1 in
-    rw (p.1, p.2) (refuses_of {meaning = λ v. Tree.implicit g.row.N (g.T.Serialize.meaning v)} (λ w. w.0) c.in_err-value.ensures.err)
+    rw (p.1, p.2) (refuses_of {meaning = λ v. Tree.wrapped (Implicit g.row.N) (g.T.Serialize.meaning v)} (λ w. w.0) c.in_err-value.ensures.err)

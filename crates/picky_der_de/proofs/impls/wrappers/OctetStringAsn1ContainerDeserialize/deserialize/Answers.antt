@@ -1,4 +1,5 @@
 use Rattle.std.proofs.lemmas.Result.{err_from_is_err_and}
+use Rattle.picky_der_core.specs.declared.asn1.wrapper.Wrapper.TheVariants.{OctetContainer}
 use Rattle.picky_der_core.specs.Tree.{Tree}
 use Rattle.picky_der_input.proofs.PlainReads.{refuses_of}
 use Rattle.picky_der_de.proofs.impls.wrappers.OctetStringAsn1ContainerDeserialize.deserialize.Goals as goal
@@ -6,4 +7,4 @@ use Rattle.picky_der_de.proofs.impls.wrappers.OctetStringAsn1ContainerDeserializ
 pub returns-in_err-value-clause-err : goal.returns-in_err-value-clause-err
 returns-in_err-value-clause-err g c =
     let p = err_from_is_err_and c.from_residual.result c.from_residual.ensures.1 in
-    rw (p.1, p.2) (refuses_of {meaning = λ v. Tree.octet_container (g.T.Serialize.meaning v)} (λ w. w.0) c.in_err-value.ensures.err)
+    rw (p.1, p.2) (refuses_of {meaning = λ v. Tree.wrapped OctetContainer (g.T.Serialize.meaning v)} (λ w. w.0) c.in_err-value.ensures.err)

@@ -1,0 +1,18 @@
+use Rattle.std.proofs.Common.{refl}
+use Rattle.std.proofs.lemmas.Result.{err_from_is_err_and}
+use Rattle.picky_der_input.specs.Wrappers.{in_value, behind_value}
+use Rattle.picky_der_de.proofs.WrapperReads.{reads_wrapped}
+use Rattle.picky_der_de.proofs.deserializer.Deserializer.read_wrapped.Goals as goal
+
+pub returns-in_err-value-clause-err : goal.returns-in_err-value-clause-err
+returns-in_err-value-clause-err g c =
+    let p = err_from_is_err_and c.from_residual-in_err-value.result c.from_residual-in_err-value.ensures.1 in
+    rw (p.1, p.2) (in_value c.open_wrapper.new.self c.in_ok-outer.outer (rw c.self.view_is at c.in_ok-outer.ensures.ok) c.in_err-value.ensures.err)
+
+pub returns-in_err-close_end-clause-err : goal.returns-in_err-close_end-clause-err
+returns-in_err-close_end-clause-err g c =
+    let p = err_from_is_err_and c.from_residual-in_err-close_end.result c.from_residual-in_err-close_end.ensures.1 in
+    rw (p.1, p.2) (behind_value c.open_wrapper.new.self c.deserialize.new.de c.in_ok-outer.outer (g.T.Serialize.meaning c.in_ok-value.value) (rw c.self.view_is at c.in_ok-outer.ensures.ok) c.in_ok-value.ensures.ok c.in_err-close_end.ensures.err)
+
+pub returns-clause-ok : goal.returns-clause-ok
+returns-clause-ok g c = reads_wrapped (rw c.self.view_is at c.in_ok-outer.ensures.ok) c.in_ok-value.ensures.ok c.in_ok-close_end.ensures.ok refl
