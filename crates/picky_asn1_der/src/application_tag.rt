@@ -1,11 +1,11 @@
 //! Application tags around values (X.690, 8.14).
 ghost use Rattle.std.specs.Prelude.{◌≡◌, IfOk, IfErr};
+ghost use Rattle.picky_der_core.specs.declared.asn1.wrapper.Wrapper.TheVariants.{Application};
 ghost use Rattle.picky_der_core.specs.Equality.{IsThatOf, IsCopied};
 ghost use Rattle.picky_der_core.specs.Tree.{Tree};
 ghost use Rattle.picky_der_core.specs.Shape.{Shape};
-ghost use Rattle.picky_der_input.specs.declared.enclosure.Enclosure.TheVariants as enclosure;
 ghost use Rattle.picky_der_ser.specs.Calls.{WritesWhole};
-ghost use Rattle.picky_der_de.specs.KnownContainers.{known_enclosed};
+ghost use Rattle.picky_der_de.specs.KnownContainers.{known_wrapped};
 
 use crate::asn1::Tag;
 use crate::de::Begins;
@@ -48,20 +48,20 @@ impl<V: Debug + PartialEq, const T: u8> From<V> for ApplicationTag<V, T> {
 }
 
 impl<V: Serialize + Debug + PartialEq, const T: u8> Serialize for ApplicationTag<V, T> {
-    ghost meaning = { λ x. Tree.application T (V.meaning x.0) };
+    ghost meaning = { λ x. Tree.wrapped (Application T) (V.meaning x.0) };
 
     fn serialize<W: WriteExt>(&self, ser: &mut Serializer<W>) -> Result<usize>
         ensures whole { WritesWhole W.WriteExt.own
-            (Tree.application T (V.meaning self.now.0)) ser.old result ser.new }
+            (Tree.wrapped (Application T) (V.meaning self.now.0)) ser.old result ser.new }
     {
         ser.serialize_application(T, &self.0)
     }
 }
 
 impl<V: Deserialize + Debug, const T: u8> Deserialize for ApplicationTag<V, T> {
-    ghost shape = { Shape.application T V.shape };
+    ghost shape = { Shape.wrapped (Application T) V.shape };
 
-    ghost known = { known_enclosed V.known V.meaning V.eq (enclosure.Application T) (λ it. it.0) };
+    ghost known = { known_wrapped V.known V.meaning V.eq (Application T) (λ it. it.0) };
 
     ghost tied = { Prim.assumption };
 

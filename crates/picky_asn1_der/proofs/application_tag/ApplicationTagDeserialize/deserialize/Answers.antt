@@ -1,4 +1,5 @@
 use Rattle.std.proofs.lemmas.Result.{err_from_is_err_and}
+use Rattle.picky_der_core.specs.declared.asn1.wrapper.Wrapper.TheVariants.{Application}
 use Rattle.picky_der_core.specs.Tree.{Tree}
 use Rattle.picky_der_input.proofs.PlainReads.{refuses_of}
 use Rattle.picky_asn1_der.proofs.application_tag.ApplicationTagDeserialize.deserialize.Goals as goal
@@ -6,4 +7,4 @@ use Rattle.picky_asn1_der.proofs.application_tag.ApplicationTagDeserialize.deser
 pub returns-in_err-value-clause-err : goal.returns-in_err-value-clause-err
 returns-in_err-value-clause-err g c =
     let p = err_from_is_err_and c.from_residual.result c.from_residual.ensures.1 in
-    rw (p.1, p.2) (refuses_of {meaning = λ v. Tree.application g.row.T (g.V.Serialize.meaning v)} (λ w. w.0) c.in_err-value.ensures.err)
+    rw (p.1, p.2) (refuses_of {meaning = λ v. Tree.wrapped (Application g.row.T) (g.V.Serialize.meaning v)} (λ w. w.0) c.in_err-value.ensures.err)
