@@ -8,7 +8,6 @@ pub mod CharacterStringLaws
 pub mod CharacterStrings
 pub mod ConstraintLaws
 pub mod Constraints
-pub mod ContentLaws
 pub mod ContentTests
 pub mod DateTimes
 pub mod Dotted

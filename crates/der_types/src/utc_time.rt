@@ -4,7 +4,6 @@ ghost use Rattle.std.specs.Prelude.{◌≡◌, ◌<◌, ◌≤◌, ◌⊎◌, dr
 ghost use Rattle.picky_der_core.specs.Tree.{Tree};
 ghost use Rattle.picky_der_core.specs.Shape.{Shape};
 ghost use Rattle.picky_der_input.specs.Reading.{Reads, Refuses};
-ghost use Rattle.picky_der_de.specs.Known.{by_itself};
 ghost use Rattle.der_types.specs.ContentTests.{ReadsContent, RefusesContent};
 
 use crate::time_contents::{content_of, date_time_at, full_year, is_utc_time, number_at};
@@ -75,6 +74,10 @@ impl Contents for UtcTime {
 
     ghost content = { λ it. utc_content it.at };
 
+    ghost equal = { ⟦<Self as PartialEq>⟧.eq };
+
+    ghost same = { λ x y. utc-same x.at y.at x.first x.last y.first y.last };
+
     const TAG: u8 = 0x17;
 
     fn from_content(content: Vec<u8>) -> Option<UtcTime>
@@ -97,7 +100,7 @@ impl Contents for UtcTime {
 
     ghost valid = { λ it. utc-valid it.at it.first it.last };
 
-    ghost same = { λ x y. utc-same x.at y.at x.first x.last y.first y.last };
+    ghost equal_so = { Prim.assumption };
 }
 
 impl Serialize for UtcTime {
@@ -114,13 +117,12 @@ impl Deserialize for UtcTime {
     ghost use Rattle.der_types.specs.TimeContents.{is_utc_time};
     ghost use Rattle.der_types.specs.TimeValues.{utc_content};
     ghost use Rattle.der_types.specs.KnownContents.{known_contents};
-    ghost use Rattle.der_types.specs.TimeLaws.{utc-same};
 
     ghost shape = { Shape.bytes 0x17 };
 
-    ghost known = { known_contents 0x17 (λ it. utc_content it.at) ⟦<UtcTime as PartialEq>⟧.eq (λ x y. utc-same x.at y.at x.first x.last y.first y.last) };
+    ghost known = { known_contents 0x17 (λ it. utc_content it.at) ⟦<Self as PartialEq>⟧.eq ⟦<Self as Contents>⟧.same };
 
-    ghost tied = { by_itself };
+    ghost tied = { Prim.assumption };
 
     fn deserialize<R: ReadExt>(deserializer: &mut Deserializer<R>) -> Result<UtcTime>
         ensures ok { IfOk result (λ it. Reads (Shape.bytes 0x17) deserializer.old deserializer.new
