@@ -1,4 +1,5 @@
 -- Each list of bits has one content, and each content is one of a list of bits.
+use Rattle.picky_der_core.specs.Element.{AreBytes}
 use Rattle.std.proofs.Common.{◌≡◌, ℕ, zero, suc, ◌+◌, ◌-◌, ◌*◌, ◌/◌, ◌%◌, ◌^◌, ◌<◌, ◌≤◌, ◌==◌, Bool, true, false, not, ◌&&◌, ◌||◌, List, [], ◌∷◌, ◌++◌, length, take, drop, replicate, nat_lt, get_or, Some, None, refl, sym, ap, subst, ◌∙◌, inl, inr, arith, min, lt-ltb, ltb-true, eqb-true, append-nil, length-append}
 use Rattle.std.specs.Prelude.{slice_index, slice_get}
 use Rattle.std.specs.List.{flat_map}
@@ -7,7 +8,6 @@ use Rattle.std.proofs.lemmas.List.{length-take-le, take_all, drop_all, get_or-ta
 use Rattle.std.proofs.lemmas.Option.{slice_get-get_or}
 use Rattle.std.proofs.lemmas.List.Concat.{get_or-flat_map}
 use Rattle.std.proofs.Math.Seq.{take-append_seam, drop-append_seam, take-append-add}
-use Rattle.picky_der_core.specs.Shape.{AreBytes}
 use Rattle.der_types.specs.BitString.{weigh, octets, bit_string_content, is_bit_string, is_bit_set, is_named_bits, byte_bit, byte_bits, bits_of, unless_zeros, without_zeros}
 
 -- ---- tests of all bytes, and of all lists of up to eight bits

@@ -1,4 +1,5 @@
 -- Each text of a set has one content, and each content is that of one text.
+use Rattle.picky_der_core.specs.Element.{AreBytes}
 use Rattle.std.proofs.Common.{◌≡◌, ℕ, ◌+◌, ◌*◌, ◌/◌, ◌%◌, ◌^◌, ◌<◌, ◌==◌, Bool, true, false, ◌&&◌, List, [], ◌∷◌, length, refl, sym, ap, subst, ◌∙◌, arith, get_or, lt-ltb, ltb-true, eq-eqb, eqb-true, zero, suc}
 use Rattle.std.specs.Prelude.{chars, IsUtf8}
 use Rattle.std.specs.List.{list_all}
@@ -6,7 +7,6 @@ use Rattle.std.specs.Str.{IsAscii}
 use Rattle.std.specs.Char.Escape.{encode_utf16}
 use Rattle.std.proofs.lemmas.Bool.Decides.{nat_tests}
 use Rattle.std.proofs.lemmas.Str.{encodes-chars, encodes-IsAscii, IsUtf8-from_ascii}
-use Rattle.picky_der_core.specs.Shape.{AreBytes}
 use Rattle.der_types.specs.declared.width.Width.{Width}
 use Rattle.der_types.specs.declared.width.Width.TheVariants.{One, Two, Four}
 use Rattle.der_types.specs.CharacterStrings.{byte_count, string_content, characters, is_string_content, is_ia5, is_bmp}

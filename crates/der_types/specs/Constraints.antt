@@ -1,5 +1,6 @@
 -- Constraints (X.680, 49), and how values that they don't allow are refused.
 use Rattle.std.specs.Prelude.{◌≡◌, ℕ, ◌+◌, ℤ, pos, negsuc, Bool, false, ◌&&◌, ◌⊎◌, nat_le, List, []}
+use Rattle.picky_der_core.specs.Primitive.{Primitive}
 use Rattle.picky_der_core.specs.declared.error.Asn1DerError.{Asn1DerError}
 use Rattle.picky_der_core.specs.declared.error.Asn1DerError.TheVariants.{InvalidData}
 use Rattle.picky_der_core.specs.Tree.{Tree, Trees}
@@ -47,6 +48,6 @@ list_size _ = 0
 
 -- the bytes of a text or of a content
 abbrev pub tree_bytes : Tree → List ℕ
-tree_bytes (Tree.text s) = s
-tree_bytes (Tree.bytes tag s) = s
+tree_bytes (Tree.primitive (Primitive.text s)) = s
+tree_bytes (Tree.primitive (Primitive.bytes tag s)) = s
 tree_bytes _ = []

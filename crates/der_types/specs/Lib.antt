@@ -16,7 +16,7 @@ pub mod GeneralizedTimes
 pub mod KnownContents
 pub mod ObjectIdentifier
 pub mod ObjectIdentifierLaws
-pub mod PrimitiveTag
+pub mod PrimitiveForm
 pub mod RelativeOid
 pub mod RelativeOidLaws
 pub mod SubidentifierLaws

@@ -1,7 +1,7 @@
 -- Each list of arcs has one content, and each content is one of a list of arcs.
+use Rattle.picky_der_core.specs.Element.{AreBytes}
 use Rattle.std.proofs.Common.{◌≡◌, ℕ, ◌+◌, ◌-◌, ◌*◌, ◌/◌, ◌%◌, Bool, true, false, ◌&&◌, ◌||◌, List, [], ◌∷◌, ◌++◌, nat_lt, ◌==◌, refl, sym, ap, ◌∙◌, arith, inl, inr, lt-ltb, le-ltb, ltb-true, eqb-true}
 use Rattle.std.proofs.lemmas.Bool.{cases_lt}
-use Rattle.picky_der_core.specs.Shape.{AreBytes}
 use Rattle.der_types.specs.Subidentifiers.{subidentifiers, numbers_behind}
 use Rattle.der_types.specs.SubidentifierLaws.{marked-zero, content-numbers, numbers-content, valid_subidentifiers, subidentifier-some}
 use Rattle.der_types.specs.ObjectIdentifier.{is_object_identifier, object_identifier_content, are_arcs, arcs_of_numbers, arcs_of}

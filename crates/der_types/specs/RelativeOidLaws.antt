@@ -1,6 +1,6 @@
 -- Each list of arcs has one content as a RELATIVE-OID, and each content is one of a list of arcs.
+use Rattle.picky_der_core.specs.Element.{AreBytes}
 use Rattle.std.proofs.Common.{◌≡◌, ℕ, Bool, true, false, List, [], ◌∷◌, ◌++◌, refl, sym, ap, ◌∙◌}
-use Rattle.picky_der_core.specs.Shape.{AreBytes}
 use Rattle.der_types.specs.Subidentifiers.{subidentifiers, numbers_behind}
 use Rattle.der_types.specs.SubidentifierLaws.{marked-zero, content-numbers, numbers-content, valid_subidentifiers, subidentifier-some}
 use Rattle.der_types.specs.RelativeOid.{is_relative_oid, relative_oid_content, are_relative_arcs}

@@ -1,4 +1,5 @@
 -- Each list of numbers has one content, and each content is one of numbers.
+use Rattle.picky_der_core.specs.Element.{AreBytes}
 use Rattle.std.proofs.Common.{◌≡◌, ℕ, zero, suc, ◌+◌, ◌-◌, ◌*◌, ◌/◌, ◌%◌, ◌<◌, ◌≤◌, Bool, true, false, not, ◌&&◌, ◌||◌, List, [], ◌∷◌, ◌++◌, map, nat_lt, ◌==◌, refl, ap, subst, ◌∙◌, arith, inl, inr, lt-ltb, le-ltb, ne_eqb, append_assoc}
 use Rattle.std.specs.Int.Digits.{digits_of, number_from_digits, number_from_digits_after, AllBelowBase}
 use Rattle.std.proofs.lemmas.Bool.{cases_lt, eqb-false}
@@ -6,7 +7,6 @@ use Rattle.std.proofs.lemmas.Bool.Decides.{nat_tests}
 use Rattle.std.proofs.lemmas.Int.Digits.{digits_of_step, number_digits_of, all_below_base_digits_of, first_digits_of}
 use Rattle.std.proofs.lemmas.Nat.{div-mul-add, mod-mul-add}
 use Rattle.std.proofs.lemmas.List.{map-append}
-use Rattle.picky_der_core.specs.Shape.{AreBytes}
 use Rattle.der_types.specs.Subidentifiers.{marked, subidentifier, subidentifiers, are_subidentifiers, is_subidentifiers, numbers_behind}
 
 -- ---- each content is one of numbers

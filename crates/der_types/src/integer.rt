@@ -2,6 +2,7 @@
 ghost use Rattle.std.proofs.Common.{lit≤};
 ghost use Rattle.std.specs.Prelude.{◌≡◌, ◌≢◌, ℤ, true, false, IfSome, IfNone, IfOk, IfErr};
 ghost use Rattle.std.specs.Cmp.Lexicographic.{bytes_decides};
+ghost use Rattle.picky_der_core.specs.Primitive.{Primitive, PrimitiveShape};
 ghost use Rattle.picky_der_core.specs.Tree.{Tree};
 ghost use Rattle.picky_der_core.specs.Shape.{Shape};
 ghost use Rattle.picky_der_input.specs.Reading.{Reads, Refuses};
@@ -104,7 +105,7 @@ impl Contents for Integer {
 }
 
 impl Serialize for Integer {
-    ghost meaning = { λ it. Tree.bytes 0x02 it.content.items };
+    ghost meaning = { λ it. Tree.primitive (Primitive.bytes 0x02 it.content.items) };
 
     fn serialize<W: WriteExt>(&self, serializer: &mut Serializer<W>) -> Result<usize> {
         self.serialize_under(Tag::INTEGER, serializer)
@@ -112,16 +113,16 @@ impl Serialize for Integer {
 }
 
 impl Deserialize for Integer {
-    ghost shape = { Shape.bytes 0x02 };
+    ghost shape = { Shape.primitive (PrimitiveShape.bytes 0x02) };
 
     ghost known = { known_bytes 0x02 (λ it. it.content.items) };
 
     ghost tied = { Prim.assumption };
 
     fn deserialize<R: ReadExt>(deserializer: &mut Deserializer<R>) -> Result<Integer>
-        ensures ok { IfOk result (λ it. Reads (Shape.bytes 0x02) deserializer.old deserializer.new
-            (Tree.bytes 0x02 it.content.items)) }
-        ensures err { IfErr result (Refuses ⟦<Integer as Serialize>⟧.meaning (Shape.bytes 0x02)
+        ensures ok { IfOk result (λ it. Reads (Shape.primitive (PrimitiveShape.bytes 0x02)) deserializer.old deserializer.new
+            (Tree.primitive (Primitive.bytes 0x02 it.content.items))) }
+        ensures err { IfErr result (Refuses ⟦<Integer as Serialize>⟧.meaning (Shape.primitive (PrimitiveShape.bytes 0x02))
             deserializer.old deserializer.new) }
         ensures read { IfOk result (λ it. ReadsContent 0x02 is_integer deserializer.old
             deserializer.new it.content.items) }

@@ -3,8 +3,9 @@ ghost use Rattle.std.specs.Prelude.{◌≡◌, ◌≤◌, ℕ, Bool, List, [], �
 ghost use Rattle.std.specs.List.{list_all};
 ghost use Rattle.std.specs.Ordering.{nat_cmp};
 ghost use Rattle.std.specs.Char.Escape.{encode_utf16};
+ghost use Rattle.picky_der_core.specs.Element.{AreBytes};
 ghost use Rattle.picky_der_core.specs.Readable.{IsReadable};
-ghost use Rattle.picky_der_core.specs.Shape.{AreBytes, IsOf};
+ghost use Rattle.picky_der_core.specs.Shape.{IsOf};
 ghost use Rattle.picky_der_core.specs.Equality.{IsEqualityOf, IsKept};
 ghost use Rattle.der_types.specs.BitString.{is_bit_string, bit_string_content, bits_of, is_named_bits, without_zeros};
 ghost use Rattle.der_types.specs.CharacterStrings.{string_content, characters, is_string_content, is_ia5, is_bmp};

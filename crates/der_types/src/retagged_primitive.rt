@@ -1,10 +1,11 @@
 //! Primitive values under another tag in place of their own (X.690, 8.14).
 ghost use Rattle.std.specs.Prelude.{◌≡◌, IfOk, IfErr};
+ghost use Rattle.picky_der_core.specs.Primitive.{Primitive, PrimitiveShape};
 ghost use Rattle.picky_der_core.specs.Tree.{Tree};
 ghost use Rattle.picky_der_core.specs.Shape.{Shape};
 ghost use Rattle.picky_der_input.specs.Reading.{Reads, Refuses};
 ghost use Rattle.der_types.specs.ContentTests.{ReadsContent, RefusesContent};
-ghost use Rattle.der_types.specs.PrimitiveTag.{primitive_tag};
+ghost use Rattle.der_types.specs.PrimitiveForm.{primitive_form};
 ghost use Rattle.der_types.specs.KnownContents.{known_content_of};
 
 use crate::Contents;
@@ -24,8 +25,8 @@ use picky_der_ser::{Serialize, Serializer};
 pub struct RetaggedPrimitive<T, const TAG: u8>(pub T);
 
 // This identifier byte; in place of one that is constructed, that of the long form, which isn't supported.
-fn primitive_tag(tag: u8) -> Tag
-    ensures { result ≡ primitive_tag tag }
+fn primitive_form(tag: u8) -> Tag
+    ensures { result ≡ primitive_form tag }
 {
     let tag = Tag::from(tag);
     if tag.is_constructed() {
@@ -44,40 +45,40 @@ impl<T, const TAG: u8> From<T> for RetaggedPrimitive<T, TAG> {
 }
 
 impl<T: Contents, const TAG: u8> Serialize for RetaggedPrimitive<T, TAG> {
-    ghost meaning = { λ tagged. Tree.bytes (primitive_tag TAG) (T.content tagged.0) };
+    ghost meaning = { λ tagged. Tree.primitive (Primitive.bytes (primitive_form TAG) (T.content tagged.0)) };
 
     fn serialize<W: WriteExt>(&self, serializer: &mut Serializer<W>) -> Result<usize> {
-        self.0.serialize_under(primitive_tag(TAG), serializer)
+        self.0.serialize_under(primitive_form(TAG), serializer)
     }
 }
 
 impl<T: Contents, const TAG: u8> Deserialize for RetaggedPrimitive<T, TAG> {
-    ghost shape = { Shape.bytes (primitive_tag TAG) };
+    ghost shape = { Shape.primitive (PrimitiveShape.bytes (primitive_form TAG)) };
 
-    ghost known = { known_content_of (primitive_tag TAG) T.content T.equal T.same T.eq (λ tagged. tagged.0) };
+    ghost known = { known_content_of (primitive_form TAG) T.content T.equal T.same T.eq (λ tagged. tagged.0) };
 
     ghost tied = { Prim.assumption };
 
     fn deserialize<R: ReadExt>(
         deserializer: &mut Deserializer<R>,
     ) -> Result<RetaggedPrimitive<T, TAG>>
-        ensures ok { IfOk result (λ it. Reads (Shape.bytes (primitive_tag TAG)) deserializer.old deserializer.new
-            (Tree.bytes (primitive_tag TAG) (T.content it.0))) }
-        ensures err { IfErr result (Refuses ⟦<RetaggedPrimitive<T, TAG> as Serialize>⟧.meaning (Shape.bytes (primitive_tag TAG))
+        ensures ok { IfOk result (λ it. Reads (Shape.primitive (PrimitiveShape.bytes (primitive_form TAG))) deserializer.old deserializer.new
+            (Tree.primitive (Primitive.bytes (primitive_form TAG) (T.content it.0)))) }
+        ensures err { IfErr result (Refuses ⟦<RetaggedPrimitive<T, TAG> as Serialize>⟧.meaning (Shape.primitive (PrimitiveShape.bytes (primitive_form TAG)))
             deserializer.old deserializer.new) }
-        ensures read { IfOk result (λ it. ReadsContent (primitive_tag TAG) T.is_content deserializer.old
+        ensures read { IfOk result (λ it. ReadsContent (primitive_form TAG) T.is_content deserializer.old
             deserializer.new (T.content it.0)) }
-        ensures refused { IfErr result (RefusesContent (λ (it : RetaggedPrimitive T TAG). T.content it.0) (primitive_tag TAG) T.is_content
+        ensures refused { IfErr result (RefusesContent (λ (it : RetaggedPrimitive T TAG). T.content it.0) (primitive_form TAG) T.is_content
             deserializer.old deserializer.new) }
     {
-        let value = deserialize_contents_under(primitive_tag(TAG), deserializer)?;
+        let value = deserialize_contents_under(primitive_form(TAG), deserializer)?;
         Ok(RetaggedPrimitive(value))
     }
 }
 
 impl<T: Contents, const TAG: u8> Begins for RetaggedPrimitive<T, TAG> {
     fn begins_with(tag: Tag) -> bool {
-        let wanted = primitive_tag(TAG);
+        let wanted = primitive_form(TAG);
         wanted.number() <= Tag::MAX_NUMBER && tag == wanted
     }
 }

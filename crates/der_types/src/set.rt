@@ -4,8 +4,7 @@ ghost use Rattle.std.specs.Prelude.{◌≡◌, true};
 ghost use Rattle.picky_der_core.specs.Tree.{Tree};
 ghost use Rattle.picky_der_core.specs.Shape.{Shape};
 ghost use Rattle.picky_der_core.specs.declared.asn1.wrapper.Wrapper.TheVariants as wrapper;
-ghost use Rattle.picky_der_input.specs.declared.enclosure.Enclosure.TheVariants as enclosure;
-ghost use Rattle.picky_der_de.specs.KnownContainers.{known_enclosed};
+ghost use Rattle.picky_der_de.specs.KnownContainers.{known_wrapped};
 ghost use Rattle.der_types.specs.TagOrder.{is_in_tag_order};
 
 use picky_der_core::Result;
@@ -43,7 +42,7 @@ impl<T, const TAG: u8> From<T> for RetaggedSet<T, TAG> {
 }
 
 impl<T: TagOrdered, const TAG: u8> Serialize for RetaggedSet<T, TAG> {
-    ghost meaning = { λ set. Tree.retagged TAG (T.meaning set.0) };
+    ghost meaning = { λ set. Tree.wrapped (wrapper.Retagged TAG) (T.meaning set.0) };
 
     fn serialize<W: WriteExt>(&self, serializer: &mut Serializer<W>) -> Result<usize> {
         serializer.serialize_retagged(Tag::from(TAG), &self.0)
@@ -51,9 +50,9 @@ impl<T: TagOrdered, const TAG: u8> Serialize for RetaggedSet<T, TAG> {
 }
 
 impl<T: TagOrdered, const TAG: u8> Deserialize for RetaggedSet<T, TAG> {
-    ghost shape = { Shape.retagged TAG T.shape };
+    ghost shape = { Shape.wrapped (wrapper.Retagged TAG) T.shape };
 
-    ghost known = { known_enclosed T.known T.meaning T.eq (enclosure.Wrapper (wrapper.Retagged TAG)) (λ set. set.0) };
+    ghost known = { known_wrapped T.known T.meaning T.eq (wrapper.Retagged TAG) (λ set. set.0) };
 
     ghost tied = { Prim.assumption };
 

@@ -1,5 +1,5 @@
 use Rattle.std.proofs.Common.{◌≡◌, false, subst, IfSome, IfNone}
-use Rattle.picky_der_core.specs.Shape.{AreBytes}
+use Rattle.picky_der_core.specs.Element.{AreBytes}
 use Rattle.picky_der_core.specs.Integer.{integer_value}
 use Rattle.picky_der_core.proofs.DigitLaws.{content_as, no_content_as}
 use Rattle.der_types.proofs.integer.Integer.to_int.Goals as goal

@@ -1,4 +1,5 @@
 use Rattle.std.proofs.lemmas.Result.{err_from_is_err_and}
+use Rattle.picky_der_core.specs.declared.asn1.wrapper.Wrapper.TheVariants.{Retagged}
 use Rattle.picky_der_core.specs.Tree.{Tree}
 use Rattle.picky_der_input.proofs.PlainReads.{refuses_of}
 use Rattle.der_types.proofs.set.RetaggedSetDeserialize.deserialize.Goals as goal
@@ -6,4 +7,4 @@ use Rattle.der_types.proofs.set.RetaggedSetDeserialize.deserialize.Goals as goal
 pub returns-in_err-members-clause-err : goal.returns-in_err-members-clause-err
 returns-in_err-members-clause-err g c =
     let p = err_from_is_err_and c.from_residual.result c.from_residual.ensures.1 in
-    rw (p.1, p.2) (refuses_of {meaning = λ v. Tree.retagged g.row.TAG (g.T.Serialize.meaning v)} (λ w. w.0) (rw c.from.ensures at c.in_err-members.ensures.err))
+    rw (p.1, p.2) (refuses_of {meaning = λ v. Tree.wrapped (Retagged g.row.TAG) (g.T.Serialize.meaning v)} (λ w. w.0) (rw c.from.ensures at c.in_err-members.ensures.err))

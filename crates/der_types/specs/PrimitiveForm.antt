@@ -3,5 +3,5 @@ use Rattle.std.specs.Prelude.{ℕ, if◌then◌else◌}
 use Rattle.picky_der_core.specs.Tag.{is_constructed}
 
 -- this identifier byte; in place of one that is constructed, that of the long form, which isn't supported
-abbrev pub primitive_tag : ℕ → ℕ
-primitive_tag tag = if is_constructed tag then 0x1F else tag
+abbrev pub primitive_form : ℕ → ℕ
+primitive_form tag = if is_constructed tag then 0x1F else tag
