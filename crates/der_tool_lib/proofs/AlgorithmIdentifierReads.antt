@@ -1,10 +1,11 @@
 -- Algorithm identifiers, read and refused.
 use Rattle.std.proofs.Common.{◌≡◌, ℕ, ◌^◌, ◌<◌, List, ◌∷◌, length, map, Option, None, Some, IfSome, IfNone, refl, sym, ◌∙◌, arith}
+use Rattle.picky_der_core.specs.Primitive.{Primitive, PrimitiveShape}
 use Rattle.picky_der_core.specs.declared.error.Asn1DerError.{Asn1DerError}
 use Rattle.picky_der_core.specs.declared.asn1.tagged_bytes.TaggedBytes.{TaggedBytes}
 use Rattle.picky_der_core.specs.Element.{tlv}
 use Rattle.picky_der_core.specs.ElementLaws.{element_bytes, content_bytes}
-use Rattle.picky_der_core.specs.EncodingLaws.{der-raw, der-bytes}
+use Rattle.picky_der_core.specs.EncodingLaws.{der-raw, der-primitive}
 use Rattle.picky_der_core.specs.Tree.{ListKind, Tree, Trees, trees}
 use Rattle.picky_der_core.specs.Encoding.{der}
 use Rattle.picky_der_core.specs.Readable.{AreReadable}
@@ -33,8 +34,8 @@ abbrev RefusesAlgorithm : State → State → Asn1DerError → Type 0
 RefusesAlgorithm = Refuses (λ a. list_meaning ListKind.sequence Tree.raw (elements a)) shape
 
 -- an object identifier, as the element that it is
-same_element : (x : List ℕ) → der (Tree.raw (tlv 0x06 x)) ≡ der (Tree.bytes 0x06 x)
-same_element x = der-raw (tlv 0x06 x) ∙ sym (der-bytes 0x06 x)
+same_element : (x : List ℕ) → der (Tree.raw (tlv 0x06 x)) ≡ der (Tree.primitive (Primitive.bytes 0x06 x))
+same_element x = der-raw (tlv 0x06 x) ∙ sym (der-primitive (Primitive.bytes 0x06 x))
 
 -- ---- refused
 
@@ -46,7 +47,7 @@ module _ {a b : State} {outer : Outer} (opened : OpensList 0x30 a b outer) where
   refused r = rest_refused {kind = ListKind.sequence} refl (λ v of_shape. of_shape.1) opened r
 
   -- the first member is no object identifier
-  pub no_algorithm : {c : State} {e : Asn1DerError} → RefusesMember (λ (x : TaggedBytes 0x06). Tree.bytes 0x06 x.0.items) (Shape.bytes 0x06) b c e → RefusesAlgorithm a c e
+  pub no_algorithm : {c : State} {e : Asn1DerError} → RefusesMember (λ (x : TaggedBytes 0x06). Tree.primitive (Primitive.bytes 0x06 x.0.items)) (Shape.primitive (PrimitiveShape.bytes 0x06)) b c e → RefusesAlgorithm a c e
   no_algorithm r = refused (rest_head (λ v bytes readable. let content = content_bytes 0x06 v.algorithm.0.items bytes.0 in first v.algorithm _ _ (refl, content) (omega arith, content) (same_element v.algorithm.0.items)) r)
 
   module _ {s : Shape} {c : State} {t : Tree} (algorithm : ReadsMember s b c t) where
@@ -70,12 +71,12 @@ module _ {a b : State} {outer : Outer} (opened : OpensList 0x30 a b outer) where
 -- ---- read
 
 -- the object identifier was read as its element
-algorithm_read : {b c : State} (x : List ℕ) → length x < 2 ^ 64 → ReadsMember (Shape.bytes 0x06) b c (Tree.bytes 0x06 x) → ReadsMember Shape.raw b c (Tree.raw (tlv 0x06 x))
+algorithm_read : {b c : State} (x : List ℕ) → length x < 2 ^ 64 → ReadsMember (Shape.primitive (PrimitiveShape.bytes 0x06)) b c (Tree.primitive (Primitive.bytes 0x06 x)) → ReadsMember Shape.raw b c (Tree.raw (tlv 0x06 x))
 algorithm_read x small r =
     let bytes = element_bytes 0x06 x (omega arith) small r.reads.of_shape.1 in
     member_as (Tree.raw (tlv 0x06 x)) bytes (record { tag = 0x06; content = x; number = omega arith; is = refl }, bytes) (sym (same_element x)) r
 
-pub reads_algorithm : {a b c d f : State} {outer closed : Outer} (x : List ℕ) (p : Option Asn1RawDer) → length x < 2 ^ 64 → OpensList 0x30 a b outer → ReadsMember (Shape.bytes 0x06) b c (Tree.bytes 0x06 x)
+pub reads_algorithm : {a b c d f : State} {outer closed : Outer} (x : List ℕ) (p : Option Asn1RawDer) → length x < 2 ^ 64 → OpensList 0x30 a b outer → ReadsMember (Shape.primitive (PrimitiveShape.bytes 0x06)) b c (Tree.primitive (Primitive.bytes 0x06 x))
     → IfSome p (λ v. ReadsMember Shape.raw c d (Tree.raw v.0.items)) → IfNone p (HasNoMore c d) → Closes closed d f → closed ≡ outer → Reads shape a f (list_meaning ListKind.sequence Tree.raw (tlv 0x06 x ∷ of_parameters p))
 reads_algorithm x None small opened algorithm read n k same =
     let row = row_ended (algorithm_read x small algorithm) n in

@@ -2,6 +2,7 @@
 use Rattle.std.specs.Prelude.{◌≡◌, map, Option, Some, None, true, refl}
 use Rattle.std.specs.Option.{option_eq}
 use Rattle.std.proofs.Common.{ap}
+use Rattle.picky_der_core.specs.Primitive.{Primitive}
 use Rattle.picky_der_core.specs.Element.{tlv}
 use Rattle.picky_der_core.specs.ElementLaws.{tlv-same}
 use Rattle.picky_der_core.specs.Tree.{ListKind, Tree, trees}
@@ -28,7 +29,7 @@ algorithm_injective x y e =
     let raw : Tree.raw (tlv 0x06 x.algorithm.0.items) ≡ Tree.raw (tlv 0x06 y.algorithm.0.items) = first_member members in
     let element : tlv 0x06 x.algorithm.0.items ≡ tlv 0x06 y.algorithm.0.items = cc in
     let contents = tlv-same 0x06 0x06 x.algorithm.0.items y.algorithm.0.items element in
-    both (bytes_injective x.algorithm.0.items y.algorithm.0.items (ap (Tree.bytes 0x06) contents.1)) (parameters_injective x.parameters y.parameters (other_members members))
+    both (bytes_injective x.algorithm.0.items y.algorithm.0.items (ap (λ c. Tree.primitive (Primitive.bytes 0x06 c)) contents.1)) (parameters_injective x.parameters y.parameters (other_members members))
 
 -- readable ones are of the shape
 pub algorithm_has_shape : (x : AlgorithmIdentifier) → IsReadable (list_meaning ListKind.sequence Tree.raw (elements x)) → IsOf (Shape.list_of ListKind.sequence Shape.raw) (list_meaning ListKind.sequence Tree.raw (elements x))

@@ -1,6 +1,7 @@
 -- Values that lines name, and the answers to their bytes.
 use Rattle.std.specs.Prelude.{◌≡◌, ℕ, ◌-◌, ◌^◌, Bool, true, false, List, ◌++◌, length, codes, decimal, encode_utf8, Some}
 use Rattle.hex.specs.Hex.{encode_lower}
+use Rattle.picky_der_core.specs.Primitive.{Primitive, PrimitiveShape, shape_tag}
 use Rattle.picky_der_core.specs.declared.error.Asn1DerError.{Asn1DerError}
 use Rattle.picky_der_core.specs.declared.error.Asn1DerError.TheVariants.{TruncatedData, OutOfMemory}
 use Rattle.picky_der_core.specs.Element.{IsPrefix}
@@ -9,7 +10,7 @@ use Rattle.picky_der_core.specs.Encoding.{der}
 use Rattle.picky_der_core.specs.Readable.{IsReadable, IsWritable}
 use Rattle.picky_der_core.specs.Shape.{Shape, IsOf}
 use Rattle.picky_der_core.specs.Reading.{ReadsFrom}
-use Rattle.picky_der_core.specs.Refusal.{Judge, boolean_error, unsigned_error, null_error, character_error, text_error, bytes_error, plain_refusal, element_refusal, error_of}
+use Rattle.picky_der_core.specs.Refusal.{Judge, content_error, plain_refusal, element_refusal, error_of}
 use Rattle.picky_der_de.specs.Steps.{IsOfContent}
 use Rattle.der_tool_lib.specs.declared.test_struct.TestStruct.{TestStruct}
 use Rattle.der_tool_lib.specs.declared.subject_public_key_info.SubjectPublicKeyInfo.{SubjectPublicKeyInfo}
@@ -39,20 +40,24 @@ pub record Description : Type 1 where
   pub shape : Shape
   pub rule : RefusalRule
 
-abbrev pub unsigned_of : ℕ → Description
-unsigned_of bits = record { Value = ℕ; meaning = Tree.unsigned; shape = Shape.unsigned (2 ^ bits - 1); rule = plain 0x02 (unsigned_error (2 ^ bits - 1)) }
+-- that of a primitive kind
+abbrev primitive_of : {V : Type 0} → (V → Primitive) → PrimitiveShape → Description
+primitive_of {V} meaning k = record { Value = V; meaning = λ v. Tree.primitive (meaning v); shape = Shape.primitive k; rule = plain (shape_tag k) (content_error k) }
+
+abbrev unsigned_of : ℕ → Description
+unsigned_of bits = primitive_of Primitive.unsigned (PrimitiveShape.unsigned (2 ^ bits - 1))
 
 abbrev pub description_of : ValueType → Description
-description_of named.Bool = record { Value = Bool; meaning = Tree.boolean; shape = Shape.boolean; rule = plain 0x01 boolean_error }
+description_of named.Bool = primitive_of Primitive.boolean PrimitiveShape.boolean
 description_of named.U8 = unsigned_of 8
 description_of named.U16 = unsigned_of 16
 description_of named.U32 = unsigned_of 32
 description_of named.U64 = unsigned_of 64
 description_of named.U128 = unsigned_of 128
-description_of named.Null = record { Value = Unit {0}; meaning = λ _. Tree.null; shape = Shape.null; rule = plain 0x05 null_error }
-description_of named.Char = record { Value = ℕ; meaning = λ c. Tree.text (encode_utf8 c); shape = Shape.character; rule = plain 0x0C character_error }
-description_of named.Text = record { Value = List ℕ; meaning = Tree.text; shape = Shape.text; rule = plain 0x0C text_error }
-description_of named.Octets = record { Value = List ℕ; meaning = Tree.bytes 0x04; shape = Shape.bytes 0x04; rule = plain 0x04 bytes_error }
+description_of named.Null = primitive_of (λ (v : Unit {0}). Primitive.null) PrimitiveShape.null
+description_of named.Char = primitive_of (λ c. Primitive.text (encode_utf8 c)) PrimitiveShape.character
+description_of named.Text = primitive_of Primitive.text PrimitiveShape.text
+description_of named.Octets = primitive_of (Primitive.bytes 0x04) (PrimitiveShape.bytes 0x04)
 description_of named.Raw = record { Value = List ℕ; meaning = Tree.raw; shape = Shape.raw; rule = element }
 description_of named.Test = record { Value = TestStruct; meaning = test_written.ghosts.meaning; shape = test_read.ghosts.shape; rule = mendable }
 description_of named.Spki = record { Value = SubjectPublicKeyInfo; meaning = spki_written.ghosts.meaning; shape = spki_read.ghosts.shape; rule = mendable }
