@@ -1,5 +1,6 @@
 //! First steps: values written and read by the entry calls.
 ghost use Rattle.std.specs.Prelude.{◌≡◌, [], ◌∷◌, length, IfOk, IfErr};
+ghost use Rattle.picky_der_core.specs.Primitive.{Primitive};
 ghost use Rattle.picky_der_core.specs.Encoding.{der};
 ghost use Rattle.picky_der_core.specs.Readable.{IsWritable};
 ghost use Rattle.picky_der_core.specs.Tree.{Tree};
@@ -15,8 +16,8 @@ use std::alloc::Global;
 
 /// An octet string: the tag 04, the length, and these bytes. `AA BB` gives `04 02 AA BB`.
 pub fn octets(alloc: Global, content: Vec<u8>) -> Result<Vec<u8>>
-    ensures ok { IfOk result (λ bytes. bytes.items ≡ der (Tree.bytes 0x04 content.items)) }
-    ensures err { IfErr result (MemoryExcuse (IsWritable (Tree.bytes 0x04 content.items))) }
+    ensures ok { IfOk result (λ bytes. bytes.items ≡ der (Tree.primitive (Primitive.bytes 0x04 content.items))) }
+    ensures err { IfErr result (MemoryExcuse (IsWritable (Tree.primitive (Primitive.bytes 0x04 content.items)))) }
 {
     to_vec(alloc, &ByteBuf::from(content))
 }

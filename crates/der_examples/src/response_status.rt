@@ -1,6 +1,7 @@
 //! An ENUMERATED whose values have names.
 ghost use Rattle.std.proofs.Common.{lit≤};
 ghost use Rattle.std.specs.Prelude.{◌≡◌, [], ◌∷◌, refl};
+ghost use Rattle.picky_der_core.specs.Primitive.{Primitive, PrimitiveShape};
 ghost use Rattle.picky_der_core.specs.Tree.{Tree};
 ghost use Rattle.picky_der_core.specs.Shape.{Shape};
 ghost use Rattle.der_types.specs.KnownContents.{known_contents};
@@ -94,7 +95,7 @@ impl Contents for ResponseStatus {
 }
 
 impl Serialize for ResponseStatus {
-    ghost meaning = { λ it. Tree.bytes 0x0A (status_number it ∷ []) };
+    ghost meaning = { λ it. Tree.primitive (Primitive.bytes 0x0A (status_number it ∷ [])) };
 
     fn serialize<W: WriteExt>(&self, serializer: &mut Serializer<W>) -> Result<usize> {
         self.serialize_under(Tag::ENUMERATED, serializer)
@@ -102,7 +103,7 @@ impl Serialize for ResponseStatus {
 }
 
 impl Deserialize for ResponseStatus {
-    ghost shape = { Shape.bytes 0x0A };
+    ghost shape = { Shape.primitive (PrimitiveShape.bytes 0x0A) };
 
     ghost known = { known_contents 0x0A (λ it. status_number it ∷ []) ⟦<Self as PartialEq>⟧.eq ⟦<Self as Contents>⟧.same };
 

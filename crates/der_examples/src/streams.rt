@@ -1,5 +1,6 @@
 //! Values that stand behind each other.
 ghost use Rattle.std.specs.Prelude.{ℕ, ◌⊎◌, drop, length, IfNone, IfSome, IfOk, IfErr};
+ghost use Rattle.picky_der_core.specs.Primitive.{Primitive};
 ghost use Rattle.picky_der_core.specs.Encoding.{der};
 ghost use Rattle.picky_der_core.specs.Tree.{Tree};
 ghost use Rattle.picky_der_de.specs.Entry.{HasNoFront, IsFront, ReadsFront, HasNoneLeft, RefusesNextValue, view_of};
@@ -16,7 +17,7 @@ pub fn number_and_text(alloc: Global, bytes: &[u8]) -> Result<(u8, String)>
     ensures number { IfOk result (λ pair. IsFront ⟦<u8 as Serialize>⟧.meaning
         ⟦<u8 as Deserialize>⟧.shape ⟦<u8 as PartialEq>⟧.eq bytes.now (length bytes.now) pair.0) }
     ensures text { IfOk result (λ pair.
-        let behind = drop (length (der (Tree.unsigned pair.0))) bytes.now in
+        let behind = drop (length (der (Tree.primitive (Primitive.unsigned pair.0)))) bytes.now in
         IsFront ⟦<String as Serialize>⟧.meaning ⟦<String as Deserialize>⟧.shape
         ⟦<String as PartialEq>⟧.eq behind (length behind) pair.1) }
     ensures err { IfErr result (λ e. HasNoFront ⟦<u8 as Serialize>⟧.meaning
@@ -24,8 +25,8 @@ pub fn number_and_text(alloc: Global, bytes: &[u8]) -> Result<(u8, String)>
         ⊎ ((number : ℕ) × IsFront ⟦<u8 as Serialize>⟧.meaning ⟦<u8 as Deserialize>⟧.shape
         ⟦<u8 as PartialEq>⟧.eq bytes.now (length bytes.now) number
         × HasNoFront ⟦<String as Serialize>⟧.meaning ⟦<String as Deserialize>⟧.shape
-        (drop (length (der (Tree.unsigned number))) bytes.now)
-        (length (drop (length (der (Tree.unsigned number))) bytes.now)) e)) }
+        (drop (length (der (Tree.primitive (Primitive.unsigned number)))) bytes.now)
+        (length (drop (length (der (Tree.primitive (Primitive.unsigned number)))) bytes.now)) e)) }
 {
     let (number, taken) = next_from_bytes(alloc, bytes)?;
     let text = from_bytes(alloc, &bytes[taken..])?;

@@ -1,5 +1,6 @@
 //! Values that write by calls of their own.
 
+ghost use Rattle.picky_der_core.specs.Primitive.{Primitive};
 use picky_asn1_der::asn1::Tag;
 use picky_asn1_der::misc::WriteExt;
 use picky_asn1_der::{Result, Serialize, Serializer, ser};
@@ -26,7 +27,7 @@ pub(crate) struct Littering;
 impl Serialize for Littering {
     ghost use Rattle.picky_der_core.specs.Tree.{Tree};
 
-    ghost meaning = { λ _. Tree.unsigned 7 };
+    ghost meaning = { λ _. Tree.primitive (Primitive.unsigned 7) };
 
     fn serialize<W: WriteExt>(&self, serializer: &mut Serializer<W>) -> Result<usize> {
         let count = serializer.serialize_u8(7)?;
