@@ -7,7 +7,7 @@ use picky_asn1_der::asn1::{
     ExplicitContextTag, ImplicitContextTag, Newtype, OctetStringAsn1Container, Tag, TagClass,
     Wrapper,
 };
-use picky_asn1_der::de::{Enclosure, End};
+use picky_asn1_der::de::End;
 use picky_asn1_der::ser::{Defaulted, False, Header, Optional};
 use picky_asn1_der::{Asn1DerError, Asn1RawDer, NoneOf, OneOf, OneOf4};
 use picky_der_core::Failure;
@@ -109,6 +109,10 @@ fn wrappers_differ(rt: HostRuntime) {
             Wrapper::Explicit(1),
             Wrapper::Implicit(0),
             Wrapper::Implicit(1),
+            Wrapper::Application(0),
+            Wrapper::Application(1),
+            Wrapper::Retagged(0xA0),
+            Wrapper::Retagged(0xA1),
         ],
     );
     all_differ(
@@ -153,16 +157,6 @@ fn errors_differ(rt: HostRuntime) {
 #[test]
 fn headers_and_ends_differ(rt: HostRuntime) {
     all_differ(&rt, &[End::Limit, End::Soft, End::Hard]);
-    all_differ(
-        &rt,
-        &[
-            Enclosure::Wrapper(Wrapper::OctetContainer),
-            Enclosure::Wrapper(Wrapper::Explicit(1)),
-            Enclosure::Wrapper(Wrapper::Explicit(2)),
-            Enclosure::Application(1),
-            Enclosure::Application(2),
-        ],
-    );
     all_differ(
         &rt,
         &[
