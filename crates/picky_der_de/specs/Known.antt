@@ -23,13 +23,12 @@ pub record IsKnown {V : Type 0} (s : Shape) (meaning : V → Tree) (eq : V → V
   -- no value begins with another byte
   pub begun : (v : V) → IsBegunBy (firsts s) (meaning v)
 
--- What a type says of its values, and that they are known by it where its parts are what they say.
+-- What a type says of its values, and that they are known by it where what is owed holds: that its parts are what they say.
 pub record Known (V : Type 0) (s : Shape) : Type 1 where
   -- what a value means
   pub meaning : V → Tree
   -- the `==` of the type
   pub eq : V → V → Bool
-  -- that its parts are what they say
   pub Owed : Type 0
   pub holds : Owed → IsKnown s meaning eq
 

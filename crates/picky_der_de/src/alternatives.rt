@@ -41,7 +41,7 @@ pub trait Alternatives: Sized {
     // What the value means that was chosen, as a value of its own type.
     ghost chosen: { Self → Tree };
 
-    // What is known of their values: that these trees distinguish them, where each alternative is what it says.
+    // What is known of their values, that these trees distinguish them, and what is owed for it.
     ghost known: { KnownChoice Self shapes chosen };
 
     // What it means as a choice.
@@ -58,7 +58,7 @@ pub trait Alternatives: Sized {
         ensures ok { IfOk result (λ value. ReadsBehind shapes tag de.old de.new (chosen value)) }
         ensures err { IfErr result (RefusesBehind chosen shapes tag de.old de.new) };
 
-    // Each is.
+    // What is owed.
     ghost owed: { known.Owed };
 }
 

@@ -14,7 +14,7 @@ pub trait Deserialize: Serialize + PartialEq + Drop + Sized {
     // The trees of its values.
     ghost shape: { Shape };
 
-    // What is known of its values: which trees they mean, and that these distinguish them, where its parts are what they say.
+    // What is known of its values, which trees they mean and that these distinguish them, and what is owed for it.
     ghost known: { Known Self shape };
 
     /// Reads a value, and takes just the bytes of its encoding. Directly under an implicit tag these are its content's.
@@ -26,6 +26,6 @@ pub trait Deserialize: Serialize + PartialEq + Drop + Sized {
         ensures ok { IfOk result (λ value. Reads shape de.old de.new (Self.meaning value)) }
         ensures err { IfErr result (Refuses Self.meaning shape de.old de.new) };
 
-    // Its parts are, and it is known of what its values mean to `Serialize`, and of their `==`.
+    // What is owed, and that it is known of what the values mean to `Serialize`, and of their `==`.
     ghost tied: { Tied known Self.meaning Self.eq };
 }

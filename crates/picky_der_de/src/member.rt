@@ -15,7 +15,7 @@ use picky_der_ser::{DefaultOf, Defaulted, Element, Optional, SerializeMember};
 
 /// A member of a struct that is read back: a value, which is always there, or one that may be absent, as `Optional` and
 /// `Defaulted` are.
-pub trait DeserializeMember: SerializeMember + Drop + Sized {
+pub trait DeserializeMember: SerializeMember + PartialEq + Drop + Sized {
     ghost use Rattle.picky_der_de.specs.SequenceState.{borrowed_by, outer_of, state_of};
 
     /// The type of what stands there.
@@ -39,7 +39,7 @@ pub trait DeserializeMember: SerializeMember + Drop + Sized {
     // What is never written.
     ghost left_out: { Self.Item → Bool };
 
-    // What is known of the member: which trees it means, and that these distinguish it, where its parts are what they say.
+    // What is known of the member, which trees it means and that these distinguish it, and what is owed for it.
     ghost known: { KnownMember Self presence shape item_meaning item_eq item };
 
     /// Reads the member, which is refused as `next_field`, `next_optional` and `next_or_default` refuse theirs.
@@ -57,7 +57,7 @@ pub trait DeserializeMember: SerializeMember + Drop + Sized {
     // The tree distinguishes what is never written.
     ghost distinguished: { IsLeftOut item_meaning item left_out };
 
-    // Its parts are, and `SerializeMember` writes what stands there.
+    // What is owed, and that `SerializeMember` writes what stands there.
     ghost tied: { TiedMember known Self.in_front };
 }
 

@@ -12,13 +12,13 @@ use picky_der_ser::SerializeMembers;
 
 /// Members of a sequence that are read back, of which some may be absent: none, as `()`, or up to eight and those after them, as
 /// `(A, Optional<B>, C, ())`.
-pub trait DeserializeMembers: SerializeMembers + Sized {
+pub trait DeserializeMembers: SerializeMembers + PartialEq + Drop + Sized {
     ghost use Rattle.picky_der_de.specs.SequenceState.{borrowed_by, outer_of, state_of};
 
     // The shapes of the members, and which may be missing.
     ghost layout: { Layout };
 
-    // What is known of the members: which trees they mean, and that these distinguish them, where their parts are what they say.
+    // What is known of the members, which trees they mean and that these distinguish them, and what is owed for it.
     ghost known: { KnownMembers Self layout };
 
     /// Reads the members, from a sequence that hasn't failed and in which none is awaited directly under an implicit tag.
@@ -34,7 +34,7 @@ pub trait DeserializeMembers: SerializeMembers + Sized {
         ensures err { IfErr result (RefusesLayout Self.members layout (state_of sequence.old)
             (state_of sequence.new)) };
 
-    // Their parts are, and it is known of what they mean to `SerializeMembers`.
+    // What is owed, and that it is known of what they mean to `SerializeMembers`.
     ghost tied: { TiedMembers known Self.members };
 }
 
@@ -53,7 +53,7 @@ impl DeserializeMembers for () {
 /// A type whose values are those of the members of a SEQUENCE, as a struct's are.
 ///
 /// Each combination of members has to be a value of the type. A type that leaves some out is read by the calls of the deserializer.
-pub trait Struct: Drop + Sized {
+pub trait Struct: Sized {
     /// The members, as `(A, Optional<B>, ())` of one that is always there and one that may be absent. Those after the eighth
     /// are the last field, again a tuple.
     type Members: DeserializeMembers;
@@ -80,7 +80,6 @@ pub fn deserialize_struct_as<T: Struct, R: ReadExt>(de: &mut Deserializer<R>) ->
 {
     let mut sequence = de.deserialize_seq()?;
     let members = T::Members::deserialize_members(&mut sequence)?;
-    let value = T::from_parts(members);
     sequence.end()?;
-    Ok(value)
+    Ok(T::from_parts(members))
 }

@@ -14,4 +14,4 @@ pub returns-in_err-end-clause-err : goal.returns-in_err-end-clause-err
 returns-in_err-end-clause-err g c = refusal_passed_on _ c.from_residual-in_err-end.ensures.1 (search rules) (layout_left (members_told g.T.Members.DeserializeMembers.layout c.requires.told) c.in_ok-sequence.ensures.ok c.in_ok-members.ensures.ok c.in_err-end.ensures.err)
 
 pub returns-clause-ok : goal.returns-clause-ok
-returns-clause-ok g c = rw c.from_parts-value.ensures (reads_at (layout_reads c.in_ok-sequence.ensures.ok c.in_ok-members.ensures.ok c.in_ok-end.ensures.ok c.in_ok-members.ensures.outer) (search rules))
+returns-clause-ok g c = rw c.from_parts.ensures (reads_at (layout_reads c.in_ok-sequence.ensures.ok c.in_ok-members.ensures.ok c.in_ok-end.ensures.ok c.in_ok-members.ensures.outer) (search rules))
