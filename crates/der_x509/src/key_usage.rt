@@ -1,7 +1,7 @@
 //! What a key may be used for.
 ghost use Rattle.std.specs.Prelude.{◌≡◌, IfOk, IfErr};
 ghost use Rattle.std.specs.List.{list_any};
-ghost use Rattle.picky_der_de.specs.Known.{by_itself, known_as};
+ghost use Rattle.picky_der_de.specs.Known.{known_as};
 ghost use Rattle.der_types.specs.BitString.{bit_string_content, without_zeros};
 ghost use Rattle.der_x509.specs.KeyUsage.{flag_number, flag_bits, has_flag};
 
@@ -98,7 +98,7 @@ impl Deserialize for KeyUsage {
 
     ghost known = { known_as ⟦<NamedBits as Deserialize>⟧.known (λ it. it.0) };
 
-    ghost tied = { by_itself };
+    ghost tied = { Prim.assumption };
 
     fn deserialize<R: ReadExt>(deserializer: &mut Deserializer<R>) -> Result<KeyUsage> {
         deserialize_as(deserializer)

@@ -2,7 +2,7 @@
 ghost use Rattle.std.specs.Prelude.{◌≡◌, ◌<◌, ◌^◌, ◌-◌, IfSome, IfNone, refl};
 ghost use Rattle.picky_der_core.specs.Equality.{IsKept};
 ghost use Rattle.picky_der_core.specs.Integer.{unsigned_tree};
-ghost use Rattle.picky_der_de.specs.Known.{by_itself, known_number};
+ghost use Rattle.picky_der_de.specs.Known.{known_number};
 ghost use Rattle.der_x509.specs.declared.version.Version.TheVariants as version;
 ghost use Rattle.der_x509.specs.Version.{version_number, is_v1, v1_by_tree};
 
@@ -62,7 +62,7 @@ impl Deserialize for Version {
     ghost known = { known_number (2 ^ 8 - 1) refl version_number ⟦<Self as PartialEq>⟧.eq
         (elim [ version.V1 ↦ elim [ version.V1 ↦ λ h. h | _ ↦ λ h. h ] | _ ↦ elim [ version.V1 ↦ λ h. h | _ ↦ λ h. h ] ]) };
 
-    ghost tied = { by_itself };
+    ghost tied = { Prim.assumption };
 
     fn deserialize<R: ReadExt>(deserializer: &mut Deserializer<R>) -> Result<Version> {
         match Version::of(u8::deserialize(deserializer)?) {
