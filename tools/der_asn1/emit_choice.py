@@ -85,7 +85,7 @@ def ghost_imports(declared, constructors, crate):
         found = [it for it in names if it in constructors]
         if found:
             lines.append(f"ghost use Rattle.picky_der_de.specs.declared.{home}.TheVariants.{{{', '.join(found)}}};")
-    lines += ["ghost use Rattle.picky_der_de.specs.Known.{by_itself};", "ghost use Rattle.picky_der_de.specs.KnownChoices.{known_choice};"]
+    lines += ["ghost use Rattle.picky_der_de.specs.KnownChoices.{known_choice};"]
     own = f"ghost use Rattle.{crate}.specs.declared.{file_stem(declared.name)}.{declared.name}.TheVariants"
     if is_hidden(declared):
         return [*lines, f"{own} as variant;"]
@@ -189,7 +189,7 @@ def deserialize_impl(declared):
         f"{STEP}ghost known = {{ {known}",
         f"{_TWO}({equal_alternatives(declared)}) }};",
         "",
-        f"{STEP}ghost tied = {{ by_itself }};",
+        f"{STEP}ghost tied = {{ Prim.assumption }};",
         "",
         *signature(STEP, "deserialize", ["deserializer: &mut Deserializer<R>"], f"Result<{declared.name}>", "<R: ReadExt>"),
         f"{_TWO}deserialize_choice_as(deserializer)",

@@ -14,7 +14,6 @@ _GHOST_IMPORTS = """ghost use Rattle.std.proofs.Common.{lit≤};
 ghost use Rattle.std.specs.Prelude.{◌≡◌, [], ◌∷◌, refl};
 ghost use Rattle.picky_der_core.specs.Tree.{Tree};
 ghost use Rattle.picky_der_core.specs.Shape.{Shape};
-ghost use Rattle.picky_der_de.specs.Known.{by_itself};
 ghost use Rattle.der_types.specs.KnownContents.{known_contents};
 """.splitlines()
 
@@ -120,6 +119,10 @@ def contents_impl(declared):
         "",
         f"{STEP}ghost content = {{ λ it. {number_term(declared)} it ∷ [] }};",
         "",
+        f"{STEP}ghost equal = {{ ⟦<Self as PartialEq>⟧.eq }};",
+        "",
+        f"{STEP}ghost same = {{ {same_proof(declared)} }};",
+        "",
         f"{STEP}const TAG: u8 = 0x0A;",
         "",
         *signature(STEP, "from_content", ["content: Vec<u8>"], f"Option<{declared.name}>"),
@@ -139,7 +142,7 @@ def contents_impl(declared):
         *(f"{STEP}  | variant.{it.name} ↦ refl" for it in declared.items),
         f"{STEP}] }};",
         "",
-        f"{STEP}ghost same = {{ {same_proof(declared)} }};",
+        f"{STEP}ghost equal_so = {{ Prim.assumption }};",
         "}",
     ]
 
@@ -163,9 +166,9 @@ def deserialize_impl(declared):
         f"impl Deserialize for {declared.name} {{",
         f"{STEP}ghost shape = {{ Shape.bytes 0x0A }};",
         "",
-        f"{STEP}ghost known = {{ known_contents 0x0A (λ it. {number_term(declared)} it ∷ []) ⟦<Self as PartialEq>⟧.eq {same_proof(declared)} }};",
+        f"{STEP}ghost known = {{ known_contents 0x0A (λ it. {number_term(declared)} it ∷ []) ⟦<Self as PartialEq>⟧.eq ⟦<Self as Contents>⟧.same }};",
         "",
-        f"{STEP}ghost tied = {{ by_itself }};",
+        f"{STEP}ghost tied = {{ Prim.assumption }};",
         "",
         *signature(STEP, "deserialize", ["deserializer: &mut Deserializer<R>"], f"Result<{declared.name}>", "<R: ReadExt>"),
         f"{_TWO}deserialize_contents_as(deserializer)",

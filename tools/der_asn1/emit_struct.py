@@ -9,7 +9,6 @@ _TWO = STEP * 2
 _THREE = STEP * 3
 
 _GHOST_IMPORTS = """ghost use Rattle.std.specs.Prelude.{refl};
-ghost use Rattle.picky_der_de.specs.Known.{by_itself};
 ghost use Rattle.picky_der_de.specs.KnownMembers.{known_struct, sequence_of, sequence_shape};
 """.splitlines()
 
@@ -248,19 +247,18 @@ def last_impl(declared):
 
 def deserialize_impl(declared):
     """The implementation of `Deserialize`."""
-    known = "known_struct ⟦<Members as DeserializeMembers>⟧.known refl ⟦<Self as Struct>⟧.parts ⟦<Self as PartialEq>⟧.eq"
+    known = "known_struct ⟦<Members as DeserializeMembers>⟧.known refl ⟦<Self as Struct>⟧.parts"
     return [
         f"impl Deserialize for {declared.name} {{",
         f"{STEP}ghost shape = {{ sequence_shape ⟦<Members as DeserializeMembers>⟧.layout }};",
         "",
-        f"{STEP}ghost known = {{ {known}",
-        f"{_TWO}(λ x y h. h) (λ x y. refl) }};",
+        f"{STEP}ghost known = {{ {known} }};",
         "",
         *signature(STEP, "deserialize", ["deserializer: &mut Deserializer<R>"], f"Result<{declared.name}>", "<R: ReadExt>"),
         f"{_TWO}deserialize_struct_as(deserializer)",
         f"{STEP}}}",
         "",
-        f"{STEP}ghost tied = {{ by_itself }};",
+        f"{STEP}ghost tied = {{ Prim.assumption }};",
         "}",
     ]
 
