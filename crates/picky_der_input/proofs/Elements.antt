@@ -2,21 +2,22 @@
 use Rattle.std.proofs.Common.{◌≡◌, ℕ, ◌<◌, ◌≤◌, ◌^◌, inl, inr, Bool, true, false, List, [], ◌∷◌, ◌++◌, length, take, Option, Some, None, refl, sym, ◌∙◌, ap, subst, arith, length-append}
 use Rattle.std.proofs.lemmas.Bool.Decides.{nat_tests}
 use Rattle.std.specs.Io.KnownBytes.{Keeps}
+use Rattle.picky_der_core.specs.Primitive.{Primitive, PrimitiveShape}
 use Rattle.picky_der_core.specs.declared.error.Asn1DerError.{Asn1DerError}
 use Rattle.picky_der_core.specs.declared.error.Asn1DerError.TheVariants.{TruncatedData, UnsupportedValue}
-use Rattle.picky_der_core.specs.Element.{length_octets, tlv, IsElement}
+use Rattle.picky_der_core.specs.Element.{length_octets, tlv, IsElement, AreBytes}
 use Rattle.picky_der_core.specs.ElementLaws.{bytes_then, length_bytes, content_bytes}
 use Rattle.picky_der_core.specs.Tag.{number_of, is_tag_number, IsTagNumber}
 use Rattle.picky_der_core.specs.Tree.{Tree}
 use Rattle.picky_der_core.specs.Encoding.{der}
-use Rattle.picky_der_core.specs.EncodingLaws.{der-raw, der-bytes, implicit_content-other}
-use Rattle.picky_der_core.specs.Shape.{Shape, AreBytes, IsFirst}
+use Rattle.picky_der_core.specs.EncodingLaws.{der-raw, der-primitive, implicit_content-other}
+use Rattle.picky_der_core.specs.Shape.{Shape, IsFirst}
 use Rattle.picky_der_core.specs.FirstLaws.{contains-tags_below}
 use Rattle.picky_der_core.specs.Reading.{Place, written_at, MayStand, StandsAt}
 use Rattle.picky_der_core.specs.Refusal.{Refusal, bytes_error, plain_refusal, element_refusal}
 use Rattle.picky_der_input.specs.State.{State}
 use Rattle.picky_der_input.specs.Steps.{Takes, TakesBytes, Fails, StopsShort, IsMissing, IsJudged, failed_with, is_hard, place_in, place_of, drawn_count}
-use Rattle.picky_der_input.specs.Reading.{Concerns, now, ever, IsJustRefused, RefusesPlain, refusal_at}
+use Rattle.picky_der_input.specs.Reading.{Concerns, now, ever, IsJustRefused, RefusesPrimitive, refusal_at}
 use Rattle.picky_der_input.specs.Headers.{BeginsContent, RefusesContentLength}
 use Rattle.picky_der_input.specs.Elements.{raw_refusal, without_implicit_tag, BeginsElement, ReadsRaw, RefusesRaw}
 use Rattle.picky_der_input.proofs.Steps.{fails_after}
@@ -83,14 +84,14 @@ first_tag x tag c rest left e = let q : tag ∷ left ≡ x ∷ ((length_octets (
 
 -- an element that stands where this tag stands is bytes under it
 stands_tagged : {place : Place} {bs left : List ℕ} {end tag : ℕ} (s : List ℕ) → bs ≡ tag ∷ left → StandsAt place Shape.raw bs end (Tree.raw s)
-    → IsTagNumber (number_of tag) × ((content : List ℕ) × StandsAt Place.whole (Shape.bytes tag) bs end (Tree.bytes tag content))
+    → IsTagNumber (number_of tag) × ((content : List ℕ) × StandsAt Place.whole (Shape.primitive (PrimitiveShape.bytes tag)) bs end (Tree.primitive (Primitive.bytes tag content)))
 stands_tagged {place} {bs} {left} {end} {tag} s e st =
     let r : IsElement s = st.readable.0 in
-    let same : der (Tree.bytes r.tag r.content) ≡ written_at place (Tree.raw s) = der-bytes r.tag r.content ∙ sym r.is ∙ sym (written_raw place s) in
-    let is : bs ≡ der (Tree.bytes r.tag r.content) ++ st.front.rest = st.front.is ∙ ap (λ z. z ++ st.front.rest) (sym same) in
+    let same : der (Tree.primitive (Primitive.bytes r.tag r.content)) ≡ written_at place (Tree.raw s) = der-primitive (Primitive.bytes r.tag r.content) ∙ sym r.is ∙ sym (written_raw place s) in
+    let is : bs ≡ der (Tree.primitive (Primitive.bytes r.tag r.content)) ++ st.front.rest = st.front.is ∙ ap (λ z. z ++ st.front.rest) (sym same) in
     let bytes = content_bytes r.tag r.content (subst AreBytes r.is st.of_shape) in
-    let first : r.tag ≡ tag = first_tag r.tag tag r.content st.front.rest left (sym e ∙ is ∙ ap (λ z. z ++ st.front.rest) (der-bytes r.tag r.content)) in
-    subst (λ z. IsTagNumber (number_of z) × ((content : List ℕ) × StandsAt Place.whole (Shape.bytes z) bs end (Tree.bytes z content))) first (
+    let first : r.tag ≡ tag = first_tag r.tag tag r.content st.front.rest left (sym e ∙ is ∙ ap (λ z. z ++ st.front.rest) (der-primitive (Primitive.bytes r.tag r.content))) in
+    subst (λ z. IsTagNumber (number_of z) × ((content : List ℕ) × StandsAt Place.whole (Shape.primitive (PrimitiveShape.bytes z)) bs end (Tree.primitive (Primitive.bytes z content)))) first (
       r.number,
       (
         r.content,
@@ -120,7 +121,7 @@ first_of_raw tag n l = contains-tags_below tag 256 l n
 
 -- bytes under the tag that was taken were refused
 refuses_tagged : {a b c : State} {e : Asn1DerError} {tag : ℕ} {x : List ℕ} → Takes (without_implicit_tag a) b (tag ∷ x) → b.taken ≤ drawn_count c → IsTagNumber (number_of tag) → tag < 256
-    → RefusesPlain (Tree.bytes tag) tag bytes_error (Shape.bytes tag) (without_implicit_tag a) c e → RefusesRaw a c e
+    → RefusesPrimitive (Primitive.bytes tag) (PrimitiveShape.bytes tag) (without_implicit_tag a) c e → RefusesRaw a c e
 refuses_tagged {a} {b} {c} {e} {tag} {x} t g n byte h = record {
   refuses = record {
     fails = fails_with_implicit_tag h.refuses.fails;
@@ -210,7 +211,7 @@ reads_raw {a} {b} {c} {tag} {n} {content} {all} h t d is =
         of_shape = bytes;
         readable = (record { tag = tag; content = content; number = h.number; is = sym whole }, bytes);
         may_stand = raw_may_stand a.implicit_tag a.until_end all;
-        takes = subst (Takes a c) (der-bytes tag content ∙ whole ∙ sym (written_raw (place_of a) all)) (takes_with_implicit_tag plain.reads.takes);
+        takes = subst (Takes a c) (der-primitive (Primitive.bytes tag content) ∙ whole ∙ sym (written_raw (place_of a) all)) (takes_with_implicit_tag plain.reads.takes);
         implicit_tag = d;
       };
       no_refusal = λ bs k.

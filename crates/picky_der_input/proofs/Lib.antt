@@ -11,7 +11,7 @@ pub mod PlainReads
 pub mod LookAhead
 pub mod Elements
 pub mod Ends
-pub mod Enclosures
+pub mod Wrappers
 pub mod Openings
 pub mod Pieces
 pub mod Ahead

@@ -3,8 +3,8 @@ use Rattle.std.proofs.Common.{◌≡◌, ℕ, suc, ◌+◌, ◌*◌, ◌^◌, �
 use Rattle.std.specs.Int.Digits.{number_from_digits}
 use Rattle.std.proofs.lemmas.Bool.Decides.{nat_tests}
 use Rattle.std.proofs.Math.Nat.{pow-suc, pow-le-pow_right}
-use Rattle.picky_der_core.specs.Encoding.{unsigned_content}
-use Rattle.picky_der_core.specs.Shape.{AreBytes}
+use Rattle.picky_der_core.specs.Element.{AreBytes}
+use Rattle.picky_der_core.specs.Primitive.{unsigned_content}
 use Rattle.picky_der_core.specs.Refusal.{unsigned_error, number_error}
 use Rattle.picky_der_core.specs.UnsignedLaws.{content-unsigned_error}
 

@@ -1,4 +1,4 @@
--- What stands before the value in an enclosure, taken and refused.
+-- What stands before the value in a wrapper, taken and refused.
 use Rattle.std.proofs.Common.{◌≡◌, ℕ, ◌+◌, ◌-◌, ◌<◌, ◌≤◌, ◌^◌, inl, inr, true, false, List, [], ◌∷◌, ◌++◌, length, take, drop, Option, Some, None, Ok, refl, sym, ◌∙◌, ap, subst, arith, append_assoc}
 use Rattle.std.proofs.lemmas.Grind.{common_steps}
 use Rattle.std.proofs.lemmas.List.{take-append-drop}
@@ -6,14 +6,15 @@ use Rattle.picky_der_core.specs.declared.error.Asn1DerError.{Asn1DerError}
 use Rattle.picky_der_core.specs.declared.error.Asn1DerError.TheVariants.{TruncatedData, UnsupportedValue, OutOfMemory}
 use Rattle.picky_der_core.specs.Element.{length_octets}
 use Rattle.picky_der_core.specs.Refusal.{Refusal}
-use Rattle.picky_der_input.specs.declared.enclosure.Enclosure.{Enclosure}
+use Rattle.picky_der_core.specs.declared.asn1.wrapper.Wrapper.{Wrapper}
+use Rattle.picky_der_core.specs.Wrapper.{wrapper_tag, wrapper_front, counts_unused_bits, HasTagNumber}
 use Rattle.picky_der_input.specs.declared.end.End.TheVariants.{Hard}
 use Rattle.picky_der_input.specs.State.{State}
 use Rattle.picky_der_input.specs.Steps.{Takes, Fails, IsJudged, IsMissing, end_is_here, input_ended, TakesNoMemory, failed_with, mendable_within, drawn_count}
 use Rattle.picky_der_input.specs.Reading.{Concerns, now, ever, IsJustRefused}
 use Rattle.picky_der_input.specs.Headers.{RefusesHeader}
 use Rattle.picky_der_input.specs.Ends.{Outer, innermost, with_inner_end, with_outer_end}
-use Rattle.picky_der_input.specs.Enclosures.{enclosure_tag, HasEnclosureNumber, unused_bits, counts_unused_bits, implicit_tag_of, unused_bits_refusal, refusal_behind, opening_refusal, OpensEnclosure, RefusesOpening, BeginsEnclosure, StopsUnusedBits, count_missing, count_other, RefusesUnusedBits}
+use Rattle.picky_der_input.specs.Wrappers.{implicit_tag_of, unused_bits_refusal, refusal_behind, opening_refusal, OpensWrapper, RefusesOpening, BeginsWrapper, StopsUnusedBits, count_missing, count_other, RefusesUnusedBits}
 use Rattle.picky_der_input.proofs.Steps.{takes_then, takes_none, fails_after, judged_after}
 use Rattle.picky_der_input.proofs.Refusals.{front_consumed, concerns_behind, failed_grows, missing_here, taken_first, at_end_of}
 use Rattle.picky_der_input.proofs.Known.{front_of, just_taken, kept_known, peeked_kept}
@@ -21,12 +22,12 @@ use Rattle.picky_der_input.proofs.Headers.{header_length}
 use Rattle.picky_der_input.proofs.PlainReads.{just_map}
 use Rattle.picky_der_input.proofs.Order.{put_back}
 use Rattle.picky_der_input.proofs.Ends.{judged_with_inner_end, fails_without_inner_end}
-use Rattle.picky_der_input.proofs.Enclosures.{some_unused, no_unused, unused_cut, unused_other, behind_read, opening_read, opening_refused, opening_unsupported}
+use Rattle.picky_der_input.proofs.Wrappers.{some_unused, no_unused, unused_cut, unused_other, behind_read, opening_read, opening_refused, opening_unsupported}
 
 -- ---- refused headers
 
 -- a tag of the long form was asked for, and nothing was taken
-pub opening_past : {w : Enclosure} {a c : State} {e : Asn1DerError} → (HasEnclosureNumber w → ⊥) → Fails a c e → e ≡ UnsupportedValue → c ≡ failed_with a e → a.until_end < 2 ^ 64 → RefusesOpening w a c e
+pub opening_past : {w : Wrapper} {a c : State} {e : Asn1DerError} → (HasTagNumber w → ⊥) → Fails a c e → e ≡ UnsupportedValue → c ≡ failed_with a e → a.until_end < 2 ^ 64 → RefusesOpening w a c e
 opening_past {w} {a} {c} {e} n f is same small = record {
   fails = f;
   none = λ j end bs k content rest number. absurd (n number);
@@ -43,10 +44,10 @@ opening_past {w} {a} {c} {e} n f is same small = record {
 }
 
 -- the header was refused
-pub opening_header : {w : Enclosure} {a c : State} {e : Asn1DerError} → HasEnclosureNumber w → RefusesHeader (enclosure_tag w) a c e → TakesNoMemory a c e → a.until_end < 2 ^ 64 → RefusesOpening w a c e
+pub opening_header : {w : Wrapper} {a c : State} {e : Asn1DerError} → HasTagNumber w → RefusesHeader (wrapper_tag w) a c e → TakesNoMemory a c e → a.until_end < 2 ^ 64 → RefusesOpening w a c e
 opening_header {w} {a} {c} {e} number h m small = record {
   fails = h.fails;
-  none = λ j end bs k content rest n below is fits. h.none j end bs k (unused_bits w ++ content) rest below is fits;
+  none = λ j end bs k content rest n below is fits. h.none j end bs k (wrapper_front w ++ content) rest below is fits;
   first = λ j k l b left q. (h.first j k l b left q, number);
   just = λ j bs k. just_map (λ rest r x. opening_refused w a rest r number x) (h.just j bs k);
   memory = m;
@@ -109,14 +110,14 @@ unused_missing n until_end rest b (input_ended some ended is) k =
     take_nothing : (m : ℕ) → take {A = ℕ} m [] ≡ []
     take_nothing m = grind (arith, common_steps)
 
-below : {w : Enclosure} {a b : State} {outer : Outer} → (h : BeginsEnclosure w a b outer) → h.size < 2 ^ 64
+below : {w : Wrapper} {a b : State} {outer : Outer} → (h : BeginsWrapper w a b outer) → h.size < 2 ^ 64
 below h = omega (arith, h.fits, h.takes.until_end, h.bounded)
 
 -- known bytes behind the header
-counted : {w : Enclosure} {a b : State} {outer : Outer} (h : BeginsEnclosure w a b outer) (y : List ℕ) → counts_unused_bits w ≡ true → opening_refusal w a ((enclosure_tag w ∷ length_octets h.size) ++ y) ≡ unused_bits_refusal h.size y
+counted : {w : Wrapper} {a b : State} {outer : Outer} (h : BeginsWrapper w a b outer) (y : List ℕ) → counts_unused_bits w ≡ true → opening_refusal w a ((wrapper_tag w ∷ length_octets h.size) ++ y) ≡ unused_bits_refusal h.size y
 counted {w} {a} h y e = opening_read w a h.size h.mid.until_end y h.number (below h) h.takes.until_end h.fits ∙ ap (λ counts. refusal_behind counts (Ok (h.size, y))) e
 
-just_unused : {w : Enclosure} {a b c : State} {outer : Outer} {e : Asn1DerError} {bs : List ℕ} (h : BeginsEnclosure w a b outer) → counts_unused_bits w ≡ true → StopsUnusedBits (with_inner_end h.mid h.size Hard) c e → a.input ≡ Some bs → IsJustRefused (opening_refusal w a) a c e bs
+just_unused : {w : Wrapper} {a b c : State} {outer : Outer} {e : Asn1DerError} {bs : List ℕ} (h : BeginsWrapper w a b outer) → counts_unused_bits w ≡ true → StopsUnusedBits (with_inner_end h.mid h.size Hard) c e → a.input ≡ Some bs → IsJustRefused (opening_refusal w a) a c e bs
 just_unused {w} {a} {c = c} {bs = bs} h counts (count_missing m i t p) k =
     let f = front_of h.takes k in
     let until_end = h.mid.until_end in
@@ -129,7 +130,7 @@ just_unused {w} {a} {c = c} {bs = bs} h counts (count_missing m i t p) k =
       used = λ more. p ∙ h.takes.unpeeked;
     }
 just_unused {w} {a} {c = c} {e = e} h counts (count_other mid x t d is same) k =
-    let header = enclosure_tag w ∷ length_octets h.size in
+    let header = wrapper_tag w ∷ length_octets h.size in
     let end = record mid { until_end = h.mid.until_end - 1; end = h.mid.end; sets = h.mid.sets } in
     let some : 0 < h.size = omega (arith, t.until_end) in
     just_alike (ap (λ (s : State). s.input) same) (ap (λ (s : State). s.taken) same) (ap (λ (s : State). s.peeked) same)
@@ -137,20 +138,20 @@ just_unused {w} {a} {c = c} {e = e} h counts (count_other mid x t d is same) k =
     ap (opening_refusal w a) (append_assoc header (x ∷ []) y) ∙ counted h (x ∷ y) counts ∙ unused_other h.size x y e some d is))
 
 -- the count of unused bits behind a header was refused
-pub opening_unused : {w : Enclosure} {a b c : State} {outer : Outer} {e : Asn1DerError} → BeginsEnclosure w a b outer → counts_unused_bits w ≡ true → RefusesUnusedBits b c e → RefusesOpening w a c e
+pub opening_unused : {w : Wrapper} {a b c : State} {outer : Outer} {e : Asn1DerError} → BeginsWrapper w a b outer → counts_unused_bits w ≡ true → RefusesUnusedBits b c e → RefusesOpening w a c e
 opening_unused {w} {a} {b} {c} {outer} {e} h counts r =
     let r' : RefusesUnusedBits (with_inner_end h.mid h.size Hard) c e = subst (λ z. RefusesUnusedBits z c e) h.opened r in
     let fails : Fails h.mid c e = fails_without_inner_end h.fits r'.fails in
     let judged : IsJudged a c e → IsJudged (with_inner_end h.mid h.size Hard) c e = λ j. judged_with_inner_end h.size Hard (judged_after h.takes j) in
-    let zero : unused_bits w ≡ 0x00 ∷ [] = some_unused w counts in
+    let zero : wrapper_front w ≡ 0x00 ∷ [] = some_unused w counts in
     record {
       fails = fails_after h.takes fails;
       none = λ j end bs k content rest n small is fits.
           let v = concerns_behind h.takes (failed_grows fails) k in
-          let q = header_length (enclosure_tag w) h.size (unused_bits w ++ content) v.rest rest (sym v.begins ∙ is) in
-          let with : unused_bits w ++ content ≡ 0x00 ∷ content = ap (λ u. u ++ content) zero in
+          let q = header_length (wrapper_tag w) h.size (wrapper_front w ++ content) v.rest rest (sym v.begins ∙ is) in
+          let with : wrapper_front w ++ content ≡ 0x00 ∷ content = ap (λ u. u ++ content) zero in
           no_container content (r'.stops (judged j)) v.concerns (q.0 ∙ ap length with) rest (q.1 ∙ ap (λ u. u ++ rest) with);
-      first = λ j k l x left q. (taken_first a.input h.mid.input (enclosure_tag w) x (length_octets h.size) left h.takes.input q, h.number);
+      first = λ j k l x left q. (taken_first a.input h.mid.input (wrapper_tag w) x (length_octets h.size) left h.takes.input q, h.number);
       just = λ j bs k. just_unused h counts (r'.stops (judged j)) k;
       memory = λ k same. r'.memory h.takes.not_failed (same ∙ sym h.takes.faults);
       bounded = λ k. h.bounded;
@@ -163,20 +164,20 @@ same_innermost {a} {b} t =
     let position : b.taken + b.until_end ≡ a.taken + a.until_end = omega (arith, t.taken, t.until_end) in
     rw (position, t.end, t.sets) refl
 
-not_refused : {w : Enclosure} {a b c : State} {outer : Outer} {bs : List ℕ} (h : BeginsEnclosure w a b outer) → Takes (with_inner_end h.mid h.size Hard) c (unused_bits w) → a.input ≡ Some bs → opening_refusal w a (take a.until_end bs) ≡ None
+not_refused : {w : Wrapper} {a b c : State} {outer : Outer} {bs : List ℕ} (h : BeginsWrapper w a b outer) → Takes (with_inner_end h.mid h.size Hard) c (wrapper_front w) → a.input ≡ Some bs → opening_refusal w a (take a.until_end bs) ≡ None
 not_refused {w} {a} {c = c} h t k =
     let f = front_of h.takes k in
-    let p = front_consumed h.mid.input c.input (unused_bits w) f.rest t.input f.known in
+    let p = front_consumed h.mid.input c.input (wrapper_front w) f.rest t.input f.known in
     ap (opening_refusal w a) f.before ∙ opening_read w a h.size h.mid.until_end (take h.mid.until_end f.rest) h.number (below h) h.takes.until_end h.fits
     ∙ behind_read w h.size h.mid.until_end f.rest p.0 p.2 (omega (arith, t.until_end)) h.fits
 
 -- what stands before the value was taken
-pub opens_enclosure : {w : Enclosure} {a b c d : State} {outer : Outer} → BeginsEnclosure w a b outer → Takes b c (unused_bits w) → d ≡ record c { implicit_tag = implicit_tag_of w } → OpensEnclosure w a d outer
-opens_enclosure {w} {a} {b} {c} {d} {outer} h taken is =
-    let t : Takes (with_inner_end h.mid h.size Hard) c (unused_bits w) = subst (λ z. Takes z c (unused_bits w)) h.opened taken in
+pub opens_wrapper : {w : Wrapper} {a b c d : State} {outer : Outer} → BeginsWrapper w a b outer → Takes b c (wrapper_front w) → d ≡ record c { implicit_tag = implicit_tag_of w } → OpensWrapper w a d outer
+opens_wrapper {w} {a} {b} {c} {d} {outer} h taken is =
+    let t : Takes (with_inner_end h.mid h.size Hard) c (wrapper_front w) = subst (λ z. Takes z c (wrapper_front w)) h.opened taken in
     let position : outer.position ≡ h.mid.taken + h.mid.until_end = ap (λ (o : Outer). o.position) h.outer_end in
     let new : State = record c { implicit_tag = implicit_tag_of w } in
-    let behind : Takes h.mid (with_outer_end outer new) (unused_bits w) = record {
+    let behind : Takes h.mid (with_outer_end outer new) (wrapper_front w) = record {
       input = t.input;
       taken = t.taken;
       until_end = omega (arith, t.taken, t.until_end, position, h.fits);
@@ -190,7 +191,7 @@ opens_enclosure {w} {a} {b} {c} {d} {outer} h taken is =
       faults = t.faults;
       references = t.references;
     } in
-    subst (λ z. OpensEnclosure w a z outer) (sym is) (record {
+    subst (λ z. OpensWrapper w a z outer) (sym is) (record {
       size = h.size;
       number = h.number;
       outer_end = h.outer_end ∙ same_innermost h.takes;
@@ -203,12 +204,12 @@ opens_enclosure {w} {a} {b} {c} {d} {outer} h taken is =
       no_refusal = λ bs k. not_refused h t k;
     })
 
--- an enclosure that has no count of unused bits
-pub opens_at_once : {w : Enclosure} {a b d : State} {outer : Outer} → BeginsEnclosure w a b outer → counts_unused_bits w ≡ false → d ≡ record b { implicit_tag = implicit_tag_of w } → OpensEnclosure w a d outer
+-- a wrapper that has no count of unused bits
+pub opens_at_once : {w : Wrapper} {a b d : State} {outer : Outer} → BeginsWrapper w a b outer → counts_unused_bits w ≡ false → d ≡ record b { implicit_tag = implicit_tag_of w } → OpensWrapper w a d outer
 opens_at_once {w} {a} {b} {d} h none is =
     let nothing : Takes b b [] = takes_none b (ap (λ (s : State). s.failed) h.opened ∙ h.takes.not_failed) (ap (λ (s : State). s.peeked) h.opened ∙ h.takes.unpeeked) in
-    opens_enclosure h (subst (Takes b b) (sym (no_unused w none)) nothing) is
+    opens_wrapper h (subst (Takes b b) (sym (no_unused w none)) nothing) is
 
 -- one that has
-pub opens_behind_count : {w : Enclosure} {a b c d : State} {outer : Outer} → BeginsEnclosure w a b outer → counts_unused_bits w ≡ true → Takes b c (0x00 ∷ []) → d ≡ record c { implicit_tag = implicit_tag_of w } → OpensEnclosure w a d outer
-opens_behind_count {w} {a} {b} {c} h some t is = opens_enclosure h (subst (Takes b c) (sym (some_unused w some)) t) is
+pub opens_behind_count : {w : Wrapper} {a b c d : State} {outer : Outer} → BeginsWrapper w a b outer → counts_unused_bits w ≡ true → Takes b c (0x00 ∷ []) → d ≡ record c { implicit_tag = implicit_tag_of w } → OpensWrapper w a d outer
+opens_behind_count {w} {a} {b} {c} h some t is = opens_wrapper h (subst (Takes b c) (sym (some_unused w some)) t) is

@@ -10,17 +10,20 @@ use Rattle.picky_der_core.specs.declared.error.Asn1DerError.TheVariants.{Truncat
 use Rattle.picky_der_core.specs.Element.{length_octets, tlv}
 use Rattle.picky_der_core.specs.ElementLaws.{same_front}
 use Rattle.picky_der_core.specs.Tag.{number_of, is_tag_number, IsTagNumber}
+use Rattle.picky_der_core.specs.Primitive.{Primitive, PrimitiveShape, primitive_content, IsPrimitive, IsReadablePrimitive, shape_tag}
+use Rattle.picky_der_core.specs.PrimitiveLaws.{primitive_tag-shape}
 use Rattle.picky_der_core.specs.Tree.{Tree, is_plain}
 use Rattle.picky_der_core.specs.Encoding.{der, implicit_content, content, plain_tag}
 use Rattle.picky_der_core.specs.EncodingLaws.{der-plain, implicit_content-plain}
-use Rattle.picky_der_core.specs.Readable.{IsReadable, IsNoChoice}
-use Rattle.picky_der_core.specs.Shape.{Shape, IsOf, IsFirst}
+use Rattle.picky_der_core.specs.FirstLaws.{contains_numbered}
+use Rattle.picky_der_core.specs.Readable.{IsNoChoice}
+use Rattle.picky_der_core.specs.Shape.{Shape, IsFirst}
 use Rattle.picky_der_core.specs.Reading.{written_at, MayStand, StandsAt}
 use Rattle.picky_der_core.specs.Refusal.{Judge, Refusal, refusal_leaving, header, header_refusal, refusal_of, content_refusal, ReadOutcome}
 use Rattle.picky_der_input.specs.State.{State}
 use Rattle.picky_der_input.specs.Steps.{Takes, TakesKept, Fails, IsCut, StopsShort, IsJudged, failed_with, is_hard, place_in, place_of, drawn_count}
 use Rattle.picky_der_input.specs.PlainKinds.{IsPlainKind, IsShortKind}
-use Rattle.picky_der_input.specs.Reading.{Concerns, Refuses, refusal_in, refusal_at, IsJustRefused, ReadsPlain, RefusesPlain}
+use Rattle.picky_der_input.specs.Reading.{Concerns, Refuses, refusal_in, refusal_at, IsJustRefused, ReadsJudged, RefusesJudged}
 use Rattle.picky_der_input.specs.Headers.{header_bytes, BeginsContent, RefusesBegin, NoElement}
 use Rattle.picky_der_input.proofs.Steps.{takes_then, fails_after, judged_after}
 use Rattle.picky_der_input.proofs.Refusals.{concerns_behind, failed_grows, cut_grows, missing_here, end_below, taken_first}
@@ -94,15 +97,18 @@ refused_in (Some number) tag judge s rest r e h = absurd (let q : Some number �
 pub just_map : {p q : List ℕ → Option Refusal} {a c : State} {e : Asn1DerError} {bs : List ℕ} → ((rest : List ℕ) (r : Refusal) → p rest ≡ Some r → q rest ≡ Some r) → IsJustRefused p a c e bs → IsJustRefused q a c e bs
 just_map {a = a} {e = e} {bs = bs} f h = record { left = h.left; refused = f (take a.until_end bs) (e, h.left) h.refused; input = h.input; kept = h.kept; used = h.used }
 
+primitive_first : (k : PrimitiveShape) → IsTagNumber (number_of (shape_tag k)) → IsFirst (Shape.primitive k) (shape_tag k)
+primitive_first k number = contains_numbered (number_of (shape_tag k)) (shape_tag k) number
+
 -- a plain value whose header was refused
-pub refuses_header : {V : Type 0} {meaning : V → Tree} {s : Shape} {tag : ℕ} {judge : Judge} {a c : State} {e : Asn1DerError} → IsPlainKind meaning s tag judge → RefusesBegin tag a c e → RefusesPlain meaning tag judge s a c e
-refuses_header {s = s} {tag = tag} {judge = judge} {a = a} kind h = record {
+pub refuses_header : {V : Type 0} {meaning : V → Primitive} {k : PrimitiveShape} {judge : Judge} {a c : State} {e : Asn1DerError} → IsPlainKind meaning k judge → RefusesBegin (shape_tag k) a c e → RefusesJudged meaning k judge a c e
+refuses_header {k = k} {judge = judge} {a = a} kind h = record {
   refuses = record {
     fails = h.fails;
-    none = λ j end bs w v st. let r = h.header j in no_plain a.implicit_tag tag a.until_end end s bs _ r.0 (end_below (h.bounded j.had_not_failed) w) (kind.plain v) (kind.tagged v) (r.1.none j end bs w) st;
-    first = λ j k d l b left q. subst (IsFirst s) (sym ((h.header j).1.first j k l b left q)) kind.first;
+    none = λ j end bs w v st. let r = h.header j in no_plain a.implicit_tag (shape_tag k) a.until_end end (Shape.primitive k) bs _ r.0 (end_below (h.bounded j.had_not_failed) w) refl (primitive_tag-shape k _ st.of_shape) (r.1.none j end bs w) st;
+    first = λ j is d l b left q. subst (IsFirst (Shape.primitive k)) (sym ((h.header j).1.first j is l b left q)) (primitive_first k kind.number);
   };
-  just = λ j bs k. let r = h.header j in just_map (λ rest x. refused_in a.implicit_tag tag judge a rest x r.0) (r.1.just j bs k);
+  just = λ j bs i. let r = h.header j in just_map (λ rest x. refused_in a.implicit_tag (shape_tag k) judge a rest x r.0) (r.1.just j bs i);
 }
 
 -- ---- tags that aren't read
@@ -112,18 +118,18 @@ unsupported_in None tag judge s rest n = let past : is_tag_number (number_of tag
 unsupported_in (Some number) tag judge s rest n = let past : is_tag_number (number_of tag) ≡ false = grind (arith, nat_tests) in rw past refl
 
 -- a tag of the long form was asked for, and nothing was taken
-pub refuses_number : {V : Type 0} {meaning : V → Tree} {s : Shape} {tag : ℕ} {judge : Judge} {a c : State} {e : Asn1DerError} → 30 < number_of tag → ((v : V) → IsOf s (meaning v) → IsReadable (meaning v) → ⊥) → Fails a c e → e ≡ UnsupportedValue → c ≡ failed_with a e
-    → RefusesPlain meaning tag judge s a c e
-refuses_number {tag = tag} {judge = judge} {a = a} n none f is same = record {
+pub refuses_number : {V : Type 0} {meaning : V → Primitive} {k : PrimitiveShape} {judge : Judge} {a c : State} {e : Asn1DerError} → 30 < number_of (shape_tag k) → ((v : V) → IsPrimitive k (meaning v) → IsReadablePrimitive (meaning v) → ⊥) → Fails a c e → e ≡ UnsupportedValue → c ≡ failed_with a e
+    → RefusesJudged meaning k judge a c e
+refuses_number {k = k} {judge = judge} {a = a} n none f is same = record {
   refuses = record {
     fails = f;
     none = λ j end bs w v st. none v st.of_shape st.readable;
-    first = λ j k l b left q. absurd (let r : UnsupportedValue ≡ TruncatedData = sym is ∙ k in cc);
+    first = λ j cut d l b left q. absurd (let r : UnsupportedValue ≡ TruncatedData = sym is ∙ cut in cc);
   };
-  just = λ j bs k. record {
+  just = λ j bs known. record {
     left = take a.until_end bs;
-    refused = unsupported_in a.implicit_tag tag judge a (take a.until_end bs) n ∙ ap (λ x. Some (x, take a.until_end bs)) (sym is);
-    input = ap (λ (s : State). s.input) same ∙ k ∙ ap (λ x. Some x) (sym (take-append-drop a.until_end bs));
+    refused = unsupported_in a.implicit_tag (shape_tag k) judge a (take a.until_end bs) n ∙ ap (λ x. Some (x, take a.until_end bs)) (sym is);
+    input = ap (λ (s : State). s.input) same ∙ known ∙ ap (λ x. Some x) (sym (take-append-drop a.until_end bs));
     kept = λ q. ap (λ (s : State). s.peeked) same;
     used = λ more. absurd (omega (arith, ap (λ (s : State). s.taken) same));
   };
@@ -154,14 +160,14 @@ pub fits_below : {a b : State} {tag n : ℕ} → BeginsContent tag a b n → n <
 fits_below h = omega (arith, h.fits, h.takes.until_end, h.bounded)
 
 -- a plain value whose header was taken
-behind_header : {V : Type 0} {meaning : V → Tree} {s : Shape} {tag n : ℕ} {judge : Judge} {a b c : State} {e : Asn1DerError} → IsPlainKind meaning s tag judge → BeginsContent tag a b n → Fails b c e
-    → (IsJudged b c e → (v : V) → IsOf s (meaning v) → SeenContent b c e n (meaning v) → ⊥) → (IsJudged b c e → (bs : List ℕ) → a.input ≡ Some bs → IsJustRefused (refusal_at tag judge a) a c e bs)
-    → RefusesPlain meaning tag judge s a c e
-behind_header {s = s} {tag = tag} {n = n} {a = a} {b = b} kind h f none just = record {
+behind_header : {V : Type 0} {meaning : V → Primitive} {k : PrimitiveShape} {n : ℕ} {judge : Judge} {a b c : State} {e : Asn1DerError} → IsPlainKind meaning k judge → BeginsContent (shape_tag k) a b n → Fails b c e
+    → (IsJudged b c e → (v : V) → IsPrimitive k (meaning v) → SeenContent b c e n (Tree.primitive (meaning v)) → ⊥) → (IsJudged b c e → (bs : List ℕ) → a.input ≡ Some bs → IsJustRefused (refusal_at (shape_tag k) judge a) a c e bs)
+    → RefusesJudged meaning k judge a c e
+behind_header {k = k} {n = n} {a = a} {b = b} kind h f none just = record {
   refuses = record {
     fails = fails_after h.takes f;
-    none = λ j end bs w v st. none (judged_after h.takes j) v st.of_shape (seen_content h (failed_grows f) (kind.plain v) (kind.tagged v) w st);
-    first = λ j k d x left l q. first_of_header s a.implicit_tag a.input b.input tag n kind.first h.takes.input d left l q;
+    none = λ j end bs w v st. none (judged_after h.takes j) v st.of_shape (seen_content h (failed_grows f) refl (primitive_tag-shape k _ st.of_shape) w st);
+    first = λ j is d x left l q. first_of_header (Shape.primitive k) a.implicit_tag a.input b.input (shape_tag k) n (primitive_first k kind.number) h.takes.input d left l q;
   };
   just = λ j. just (judged_after h.takes j);
 }
@@ -186,9 +192,9 @@ just_content_cut tag n judge {a} {b} {c} {e} i h m k =
     content_at a.implicit_tag tag n b.until_end judge a m.bytes i (fits_below h) h.takes.until_end h.fits h.all ∙ content_cut judge n m.bytes m.short ∙ ap (λ x. Some (x, [])) (sym error))
 
 -- the content ended before it was whole
-pub refuses_cut : {V : Type 0} {meaning : V → Tree} {s : Shape} {tag n : ℕ} {judge : Judge} {a b c : State} {e : Asn1DerError} → IsPlainKind meaning s tag judge → BeginsContent tag a b n → StopsShort b c n e → RefusesPlain meaning tag judge s a c e
-refuses_cut {tag = tag} {n = n} {judge = judge} kind h f =
-    behind_header kind h f.fails (λ j v o. content_missing (f.short j)) (λ j bs k. just_content_cut tag n judge kind.number h (f.short j) k)
+pub refuses_cut : {V : Type 0} {meaning : V → Primitive} {k : PrimitiveShape} {n : ℕ} {judge : Judge} {a b c : State} {e : Asn1DerError} → IsPlainKind meaning k judge → BeginsContent (shape_tag k) a b n → StopsShort b c n e → RefusesJudged meaning k judge a c e
+refuses_cut {k = k} {n = n} {judge = judge} kind h f =
+    behind_header kind h f.fails (λ j v o. content_missing (f.short j)) (λ j bs i. just_content_cut (shape_tag k) n judge kind.number h (f.short j) i)
 
 judged_none : (judge : Judge) {b c d : State} {e : Asn1DerError} {n : ℕ} {t : Tree} {x : List ℕ} → Takes b c x → length x ≡ n → c.taken ≤ drawn_count d → judge x ≡ Some e → judge (content t) ≡ None → SeenContent b d e n t → ⊥
 judged_none judge {e = e} {t = t} {x = x} h l g bad good w =
@@ -208,10 +214,10 @@ just_judged tag n judge {a} {b} {c} {d} {e} {x} i h t l bad same k =
     ∙ content_judged judge x y ∙ ap (λ r. refusal_leaving r y) bad)
 
 -- the content isn't one of the kind
-pub refuses_content : {V : Type 0} {meaning : V → Tree} {s : Shape} {tag n : ℕ} {judge : Judge} {a b c d : State} {e : Asn1DerError} {x : List ℕ} → IsPlainKind meaning s tag judge → BeginsContent tag a b n → Takes b c x → length x ≡ n
-    → Fails c d e → judge x ≡ Some e → d ≡ failed_with c e → RefusesPlain meaning tag judge s a d e
-refuses_content {meaning = meaning} {tag = tag} {n = n} {judge = judge} kind h t l f bad same =
-    behind_header kind h (fails_after t f) (λ j v o. judged_none judge t l (failed_grows f) bad (kind.judged v o)) (λ j bs k. just_judged tag n judge kind.number h t l bad same k)
+pub refuses_content : {V : Type 0} {meaning : V → Primitive} {k : PrimitiveShape} {n : ℕ} {judge : Judge} {a b c d : State} {e : Asn1DerError} {x : List ℕ} → IsPlainKind meaning k judge → BeginsContent (shape_tag k) a b n → Takes b c x → length x ≡ n
+    → Fails c d e → judge x ≡ Some e → d ≡ failed_with c e → RefusesJudged meaning k judge a d e
+refuses_content {k = k} {n = n} {judge = judge} kind h t l f bad same =
+    behind_header kind h (fails_after t f) (λ j v o. judged_none judge t l (failed_grows f) bad (kind.judged v o)) (λ j bs i. just_judged (shape_tag k) n judge kind.number h t l bad same i)
 
 -- ---- what was read
 
@@ -237,17 +243,17 @@ not_refused tag n judge {a} {b} {c} {x} {bs} i h t l good k =
     ∙ content_judged judge x y ∙ ap (λ r. refusal_leaving r y) good
 
 -- a plain value was read
-pub reads_plain : {V : Type 0} {meaning : V → Tree} {s : Shape} {tag n : ℕ} {judge : Judge} {a b c : State} → IsPlainKind meaning s tag judge → (v : V) → IsOf s (meaning v) → IsReadable (meaning v)
-    → BeginsContent tag a b n → Takes b c (content (meaning v)) → length (content (meaning v)) ≡ n → c.implicit_tag ≡ None → ReadsPlain tag judge s a c (meaning v)
-reads_plain {meaning = meaning} {tag = tag} {n = n} {judge = judge} {a = a} {b = b} kind v o r h t l d = record {
+pub reads_plain : {V : Type 0} {meaning : V → Primitive} {k : PrimitiveShape} {n : ℕ} {judge : Judge} {a b c : State} → IsPlainKind meaning k judge → (v : V) → IsPrimitive k (meaning v) → IsReadablePrimitive (meaning v)
+    → BeginsContent (shape_tag k) a b n → Takes b c (primitive_content (meaning v)) → length (primitive_content (meaning v)) ≡ n → c.implicit_tag ≡ None → ReadsJudged k judge a c (meaning v)
+reads_plain {meaning = meaning} {k = k} {n = n} {judge = judge} {a = a} {b = b} kind v o r h t l d = record {
   reads = record {
     of_shape = o;
     readable = r;
-    may_stand = may_stand a.implicit_tag tag n a.until_end b.until_end (meaning v) (kind.plain v) h.takes.until_end h.all l (kind.no_choice v);
-    takes = takes_plain a.implicit_tag a.until_end (meaning v) (kind.plain v) (kind.tagged v) h.takes t l;
+    may_stand = may_stand a.implicit_tag (shape_tag k) n a.until_end b.until_end (Tree.primitive (meaning v)) refl h.takes.until_end h.all l tt;
+    takes = takes_plain a.implicit_tag a.until_end (Tree.primitive (meaning v)) refl (primitive_tag-shape k (meaning v) o) h.takes t l;
     implicit_tag = d;
   };
-  no_refusal = λ bs k. not_refused tag n judge kind.number h t l (kind.judged v o) k;
+  no_refusal = λ bs i. not_refused (shape_tag k) n judge kind.number h t l (kind.judged v o) i;
 }
 
 -- ---- read from the first bytes
@@ -257,16 +263,16 @@ kept_whole : (kept c : List ℕ) → kept ≡ take 18 c → length kept < 18 →
 kept_whole kept c e h = grind (arith, common_steps)
 
 -- a plain value was read from what is kept of its content
-pub reads_kept : {V : Type 0} {meaning : V → Tree} {s : Shape} {tag n : ℕ} {judge : Judge} {a b c : State} {kept : List ℕ} → IsShortKind meaning s tag judge → (v : V) → BeginsContent tag a b n → TakesKept b c n kept
-    → kept ≡ content (meaning v) → judge kept ≡ None → c.implicit_tag ≡ None → ReadsPlain tag judge s a c (meaning v)
-reads_kept {meaning = meaning} {judge = judge} {b = b} {c = c} {kept = kept} kind v h k is good d =
+pub reads_kept : {V : Type 0} {meaning : V → Primitive} {k : PrimitiveShape} {n : ℕ} {judge : Judge} {a b c : State} {kept : List ℕ} → IsShortKind meaning k judge → (v : V) → BeginsContent (shape_tag k) a b n → TakesKept b c n kept
+    → kept ≡ primitive_content (meaning v) → judge kept ≡ None → c.implicit_tag ≡ None → ReadsJudged k judge a c (meaning v)
+reads_kept {meaning = meaning} {judge = judge} {b = b} {c = c} {kept = kept} kind v h t is good d =
     let w = kind.short v (ap judge (sym is) ∙ good) in
-    let whole : k.content ≡ content (meaning v) = sym (kept_whole kept k.content k.first (omega (arith, ap length is, w.short))) ∙ is in
-    reads_plain kind.plain v w.of_shape w.readable h (subst (Takes b c) whole k.takes) (ap length (sym whole) ∙ k.count) d
+    let whole : t.content ≡ primitive_content (meaning v) = sym (kept_whole kept t.content t.first (omega (arith, ap length is, w.short))) ∙ is in
+    reads_plain kind.plain v w.of_shape w.readable h (subst (Takes b c) whole t.takes) (ap length (sym whole) ∙ t.count) d
 
 -- what is kept of the content isn't one of the kind
-pub refuses_kept : {V : Type 0} {meaning : V → Tree} {s : Shape} {tag n : ℕ} {judge : Judge} {a b c d : State} {e : Asn1DerError} {kept : List ℕ} → IsShortKind meaning s tag judge → BeginsContent tag a b n → TakesKept b c n kept
-    → Fails c d e → judge kept ≡ Some e → d ≡ failed_with c e → RefusesPlain meaning tag judge s a d e
+pub refuses_kept : {V : Type 0} {meaning : V → Primitive} {k : PrimitiveShape} {n : ℕ} {judge : Judge} {a b c d : State} {e : Asn1DerError} {kept : List ℕ} → IsShortKind meaning k judge → BeginsContent (shape_tag k) a b n → TakesKept b c n kept
+    → Fails c d e → judge kept ≡ Some e → d ≡ failed_with c e → RefusesJudged meaning k judge a d e
 refuses_kept {judge = judge} kind h k f bad same =
     refuses_content kind.plain h k.takes k.count f (sym (kind.by_front k.content) ∙ ap judge (sym k.first) ∙ bad) same
 

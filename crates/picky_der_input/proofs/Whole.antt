@@ -2,11 +2,9 @@
 use Rattle.std.proofs.Common.{◌≡◌, ℕ, ◌+◌, ◌^◌, ◌≤◌, ◌<◌, List, ◌∷◌, ◌++◌, length, take, Option, Some, None, IfSome, refl, sym, ◌∙◌, ap, subst, arith, append_assoc, length-append}
 use Rattle.std.proofs.lemmas.Grind.{common_steps}
 use Rattle.std.specs.Io.KnownBytes.{Consumes, prepend_known}
-use Rattle.picky_der_core.specs.Element.{length_octets}
+use Rattle.picky_der_core.specs.Element.{length_octets, AreBytes}
 use Rattle.picky_der_core.specs.ElementLaws.{length_octets-short, second_bytes}
-use Rattle.picky_der_core.specs.Tree.{Tree}
-use Rattle.picky_der_core.specs.Encoding.{content}
-use Rattle.picky_der_core.specs.Shape.{Shape, AreBytes}
+use Rattle.picky_der_core.specs.Primitive.{Primitive, PrimitiveShape, primitive_content, shape_tag}
 use Rattle.picky_der_core.specs.Peeking.{count_of_any}
 use Rattle.picky_der_core.specs.Refusal.{Judge}
 use Rattle.picky_der_core.specs.declared.error.Asn1DerError.{Asn1DerError}
@@ -16,7 +14,7 @@ use Rattle.picky_der_input.specs.Steps.{Takes, Fails}
 use Rattle.picky_der_input.specs.PlainKinds.{IsShortKind}
 use Rattle.picky_der_core.specs.Tag.{number_of, IsTagNumber}
 use Rattle.picky_der_input.specs.PlainKindLaws.{bytes_kind}
-use Rattle.picky_der_input.specs.Reading.{ReadsPlain, ReadsBytes, RefusesBytes}
+use Rattle.picky_der_input.specs.Reading.{ReadsJudged, ReadsPrimitive, RefusesPrimitive}
 use Rattle.picky_der_input.specs.Headers.{header_bytes, BeginsContent}
 use Rattle.picky_der_input.specs.Elements.{without_implicit_tag, BeginsElement, ReadsRaw}
 use Rattle.picky_der_input.specs.Ahead.{IsElementInFront}
@@ -120,22 +118,22 @@ takes_whole {tag} {a} {c} content whole bounded t d =
     }
 
 -- a plain value of which tag, length and content were taken
-pub reads_short : {V : Type 0} {meaning : V → Tree} {s : Shape} {tag : ℕ} {judge : Judge} {a c : State} {bytes : List ℕ} → IsShortKind meaning s tag judge → (v : V)
-    → bytes ≡ content (meaning v) → judge bytes ≡ None → length bytes < 128 → a.implicit_tag ≡ None → a.until_end < 2 ^ 64 → Takes a c (tag ∷ (length bytes ∷ bytes)) → c.implicit_tag ≡ a.implicit_tag → ReadsPlain tag judge s a c (meaning v)
-reads_short {meaning = meaning} {tag = tag} {judge = judge} {a = a} {c = c} {bytes = bytes} kind v is good short whole bounded t d =
+pub reads_short : {V : Type 0} {meaning : V → Primitive} {k : PrimitiveShape} {judge : Judge} {a c : State} {bytes : List ℕ} → IsShortKind meaning k judge → (v : V)
+    → bytes ≡ primitive_content (meaning v) → judge bytes ≡ None → length bytes < 128 → a.implicit_tag ≡ None → a.until_end < 2 ^ 64 → Takes a c (shape_tag k ∷ (length bytes ∷ bytes)) → c.implicit_tag ≡ a.implicit_tag → ReadsJudged k judge a c (meaning v)
+reads_short {judge = judge} {a = a} {c = c} {bytes = bytes} kind v is good short whole bounded t d =
     let h = takes_whole bytes whole bounded (rw (length_octets-short (length bytes) short) t) d in
     let w = kind.short v (ap judge (sym is) ∙ good) in
     reads_plain kind.plain v w.of_shape w.readable h.begins (subst (Takes h.mid c) is h.rest) (ap length (sym is)) h.implicit_tag
 
 -- the content of an element of which header and content were taken
 pub reads_content : {tag : ℕ} {a c : State} {bytes : List ℕ} → IsTagNumber (number_of tag) → AreBytes bytes → a.implicit_tag ≡ None → a.until_end < 2 ^ 64
-    → Takes a c ((tag ∷ length_octets (length bytes)) ++ bytes) → c.implicit_tag ≡ a.implicit_tag → ReadsBytes tag a c bytes
+    → Takes a c ((tag ∷ length_octets (length bytes)) ++ bytes) → c.implicit_tag ≡ a.implicit_tag → ReadsPrimitive (PrimitiveShape.bytes tag) a c (Primitive.bytes tag bytes)
 reads_content {tag} {a} {c} {bytes} number b whole bounded t d =
     let h = takes_whole bytes whole bounded t d in
     reads_plain (bytes_kind tag number) bytes (refl, b) (number, b) h.begins h.rest refl h.implicit_tag
 
 -- and memory was wanted for its content
-pub refuses_for_memory : {tag n : ℕ} {a b c : State} {e : Asn1DerError} → IsTagNumber (number_of tag) → BeginsContent tag a b n → Fails b c e → e ≡ OutOfMemory → RefusesBytes tag a c e
+pub refuses_for_memory : {tag n : ℕ} {a b c : State} {e : Asn1DerError} → IsTagNumber (number_of tag) → BeginsContent tag a b n → Fails b c e → e ≡ OutOfMemory → RefusesPrimitive (Primitive.bytes tag) (PrimitiveShape.bytes tag) a c e
 refuses_for_memory {tag} number h f is = refuses_cut (bytes_kind tag number) h (record { fails = f; short = λ j. absurd (j.memory is) })
 
 -- ---- elements

@@ -11,6 +11,6 @@ pub mod TagNumbers
 pub mod LookAhead
 pub mod Elements
 pub mod Ends
-pub mod Enclosures
+pub mod Wrappers
 pub mod Ahead
 pub mod FinalRefusals

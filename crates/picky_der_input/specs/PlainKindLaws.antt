@@ -1,88 +1,40 @@
 -- What holds of each kind of plain value.
-use Rattle.std.proofs.Common.{◌≡◌, ℕ, ℤ, ◌^◌, ◌<◌, ◌≤◌, Bool, cond, inl, inr, List, [], ◌∷◌, length, take, Some, None, true, false, ◌==◌, encode_utf8, refl, sym, ◌∙◌, ap, subst, arith, lt-ltb}
+use Rattle.std.proofs.Common.{◌≡◌, ℕ, ℤ, ◌^◌, ◌<◌, ◌≤◌, Bool, cond, inl, inr, List, [], ◌∷◌, length, take, Some, None, true, false, encode_utf8, refl, sym, ◌∙◌, ap, subst, arith, lt-ltb}
 use Rattle.std.proofs.lemmas.Bool.{cases_lt}
-use Rattle.std.proofs.lemmas.Bool.Decides.{nat_tests}
 use Rattle.std.proofs.lemmas.Grind.{common_steps}
 use Rattle.picky_der_core.specs.declared.error.Asn1DerError.TheVariants.{InvalidData, UnsupportedValue}
-use Rattle.picky_der_core.specs.Tree.{Tree}
-use Rattle.picky_der_core.specs.Shape.{Shape, IsFirst, AreBytes}
-use Rattle.picky_der_core.specs.Encoding.{content, boolean_content, unsigned_content}
-use Rattle.picky_der_core.specs.EncodingLaws.{number-unsigned_content}
-use Rattle.picky_der_core.specs.Tag.{number_of, is_tag_number, IsTagNumber}
-use Rattle.picky_der_core.specs.Refusal.{boolean_error, number_error, unsigned_error, int_error, null_error, text_error, character_error, bytes_error}
+use Rattle.picky_der_core.specs.Tag.{number_of, IsTagNumber}
+use Rattle.picky_der_core.specs.Element.{AreBytes}
+use Rattle.picky_der_core.specs.Primitive.{Primitive, PrimitiveShape, primitive_content, boolean_content, unsigned_content, IsPrimitive, shape_tag}
+use Rattle.picky_der_core.specs.PrimitiveLaws.{number-unsigned_content}
+use Rattle.picky_der_core.specs.Refusal.{boolean_error, number_error, unsigned_error, int_error, null_error, text_error, character_error, bytes_error, content_error}
 use Rattle.picky_der_core.specs.BooleanLaws.{boolean_error-content}
 use Rattle.picky_der_core.specs.UnsignedLaws.{unsigned_error-content, content-unsigned_error, AreBytes-unsigned_content, length-unsigned_content}
-use Rattle.picky_der_core.specs.Integer.{is_integer, bits_of, int_tree}
+use Rattle.picky_der_core.specs.Integer.{is_integer, bits_of, content_within}
 use Rattle.picky_der_core.specs.IntegerLaws.{AreBytes-content}
 use Rattle.picky_der_core.specs.IntLaws.{within-fits, fits-within, length-integer_content, int_error-content, content-int_error}
 use Rattle.picky_der_input.specs.PlainKinds.{IsPlainKind, IsShort, IsShortKind}
 use Rattle.picky_der_input.specs.TextLaws.{text_good, character_good, character_by_front, length_character, one_character}
 
-boolean_kind : IsPlainKind Tree.boolean Shape.boolean 0x01 boolean_error
-boolean_kind = record {
-  number = omega arith;
-  first = refl;
-  plain = λ b. refl;
-  tagged = λ b. refl;
-  no_choice = λ b. tt;
-  judged = λ b o. boolean_error-content b;
-}
+-- a content of a primitive kind isn't refused
+content_judged : (k : PrimitiveShape) (p : Primitive) → IsPrimitive k p → content_error k (primitive_content p) ≡ None
+content_judged PrimitiveShape.boolean (Primitive.boolean b) o = boolean_error-content b
+content_judged (PrimitiveShape.unsigned most) (Primitive.unsigned n) o = unsigned_error-content most n o.0 o.1
+content_judged PrimitiveShape.null Primitive.null o = refl
+content_judged PrimitiveShape.character (Primitive.text s) o = character_good s o.0 o.1
+content_judged PrimitiveShape.text (Primitive.text s) o = text_good s o
+content_judged (PrimitiveShape.bytes tag) (Primitive.bytes x s) o = refl
+content_judged _ _ o = absurd o
 
-unsigned_kind : (most : ℕ) → IsPlainKind Tree.unsigned (Shape.unsigned most) 0x02 (unsigned_error most)
-unsigned_kind most = record {
-  number = omega arith;
-  first = refl;
-  plain = λ n. refl;
-  tagged = λ n. refl;
-  no_choice = λ n. tt;
-  judged = λ n o. unsigned_error-content most n o.0 o.1;
-}
+-- a primitive kind is one of plain values
+pub primitive_kind : {V : Type 0} (meaning : V → Primitive) (k : PrimitiveShape) → IsTagNumber (number_of (shape_tag k)) → IsPlainKind meaning k (content_error k)
+primitive_kind meaning k n = record { number = n; judged = λ v o. content_judged k (meaning v) o }
 
-null_kind : IsPlainKind (λ (_ : Unit {0}). Tree.null) Shape.null 0x05 null_error
-null_kind = record {
-  number = omega arith;
-  first = refl;
-  plain = λ _. refl;
-  tagged = λ _. refl;
-  no_choice = λ _. tt;
-  judged = λ _ o. refl;
-}
+pub text_kind : IsPlainKind Primitive.text PrimitiveShape.text text_error
+text_kind = primitive_kind Primitive.text PrimitiveShape.text (omega arith)
 
-pub text_kind : IsPlainKind Tree.text Shape.text 0x0C text_error
-text_kind = record {
-  number = omega arith;
-  first = refl;
-  plain = λ s. refl;
-  tagged = λ s. refl;
-  no_choice = λ s. tt;
-  judged = λ s o. text_good s o;
-}
-
-character_kind : IsPlainKind (λ c. Tree.text (encode_utf8 c)) Shape.character 0x0C character_error
-character_kind = record {
-  number = omega arith;
-  first = refl;
-  plain = λ c. refl;
-  tagged = λ c. refl;
-  no_choice = λ c. tt;
-  judged = λ c o. character_good (encode_utf8 c) o.0 o.1;
-}
-
-first_of_bytes : (tag : ℕ) → IsTagNumber (number_of tag) → IsFirst (Shape.bytes tag) tag
-first_of_bytes tag n =
-    let in_range : is_tag_number (number_of tag) ≡ true = grind (arith, nat_tests) in
-    let same : (tag == tag) ≡ true = grind (arith, nat_tests) in
-    rw (in_range, same) refl
-
-pub bytes_kind : (tag : ℕ) → IsTagNumber (number_of tag) → IsPlainKind (Tree.bytes tag) (Shape.bytes tag) tag bytes_error
-bytes_kind tag n = record {
-  number = n;
-  first = first_of_bytes tag n;
-  plain = λ s. refl;
-  tagged = λ s. refl;
-  no_choice = λ s. tt;
-  judged = λ s o. refl;
-}
+pub bytes_kind : (tag : ℕ) → IsTagNumber (number_of tag) → IsPlainKind (Primitive.bytes tag) (PrimitiveShape.bytes tag) bytes_error
+bytes_kind tag n = primitive_kind (Primitive.bytes tag) (PrimitiveShape.bytes tag) n
 
 -- ---- the first bytes tell
 
@@ -115,22 +67,32 @@ unsigned_by_front most (b ∷ d ∷ bs) = let by_front = number_by_front most d 
 
 -- ---- kinds that are read from their first bytes
 
-pub short_boolean : IsShortKind Tree.boolean Shape.boolean 0x01 boolean_error
-short_boolean = record { plain = boolean_kind; by_front = boolean_by_front; short = λ b e. record { of_shape = tt; readable = tt; short = size b } }
+pub short_boolean : IsShortKind Primitive.boolean PrimitiveShape.boolean boolean_error
+short_boolean = record { plain = primitive_kind _ PrimitiveShape.boolean (omega arith); by_front = boolean_by_front; short = λ b e. record { of_shape = tt; readable = tt; short = size b } }
   where
     size : (b : Bool) → length (boolean_content b) < 18
     size false = omega arith
     size true = omega arith
 
 -- a content that is read is that of a number of the type
-unsigned_short : (most n : ℕ) → unsigned_error most (unsigned_content n) ≡ None → IsShort (Shape.unsigned most) (Tree.unsigned n)
+unsigned_short : (most n : ℕ) → unsigned_error most (unsigned_content n) ≡ None → IsShort (PrimitiveShape.unsigned most) (Primitive.unsigned n)
 unsigned_short most n e =
     let h = content-unsigned_error most (unsigned_content n) (AreBytes-unsigned_content n) e in
     let few : n < 2 ^ 128 = omega (arith, h.2, number-unsigned_content n) in
     record { of_shape = (omega (arith, h.1, number-unsigned_content n), few); readable = tt; short = omega (arith, length-unsigned_content n few) }
 
-pub short_unsigned : (most : ℕ) → IsShortKind Tree.unsigned (Shape.unsigned most) 0x02 (unsigned_error most)
-short_unsigned most = record { plain = unsigned_kind most; by_front = unsigned_by_front most; short = unsigned_short most }
+pub short_unsigned : (most : ℕ) → IsShortKind Primitive.unsigned (PrimitiveShape.unsigned most) (unsigned_error most)
+short_unsigned most = record { plain = primitive_kind _ (PrimitiveShape.unsigned most) (omega arith); by_front = unsigned_by_front most; short = unsigned_short most }
+
+pub short_null : IsShortKind (λ (_ : Unit {0}). Primitive.null) PrimitiveShape.null null_error
+short_null = record { plain = primitive_kind _ PrimitiveShape.null (omega arith); by_front = null_by_front; short = λ _ e. record { of_shape = tt; readable = tt; short = omega arith } }
+
+pub short_character : IsShortKind (λ c. Primitive.text (encode_utf8 c)) PrimitiveShape.character character_error
+short_character = record {
+  plain = primitive_kind _ PrimitiveShape.character (omega arith);
+  by_front = character_by_front;
+  short = λ c e. let one = one_character (encode_utf8 c) e in record { of_shape = one; readable = one.0; short = length_character c };
+}
 
 -- ---- integers of any type
 
@@ -158,31 +120,19 @@ int_by_front fits (b ∷ d ∷ bs) = ap (int_error fits) (take_behind b d bs) �
 ]
 
 module _ (fits : ℤ → Bool) (narrow : (z : ℤ) → fits z ≡ true → bits_of z < 2 ^ 128) where
-  int_judged : (z : ℤ) → fits z ≡ true → int_error fits (content (int_tree fits z)) ≡ None
+  int_judged : (z : ℤ) → fits z ≡ true → int_error fits (content_within fits z) ≡ None
   int_judged z f = ap (int_error fits) (within-fits fits z f) ∙ int_error-content fits z f (narrow z f)
 
-  int_kind : IsPlainKind (int_tree fits) (Shape.bytes 0x02) 0x02 (int_error fits)
-  int_kind = record {
-    number = omega arith;
-    first = refl;
-    plain = λ z. refl;
-    tagged = λ z. refl;
-    no_choice = λ z. tt;
-    judged = λ z o. int_judged z (fits-within fits z o.1);
-  }
-
-  int_short : (z : ℤ) → int_error fits (content (int_tree fits z)) ≡ None → IsShort (Shape.bytes 0x02) (int_tree fits z)
+  int_short : (z : ℤ) → int_error fits (content_within fits z) ≡ None → IsShort (PrimitiveShape.bytes 0x02) (Primitive.bytes 0x02 (content_within fits z))
   int_short z e =
       let f = content-int_error fits z e in
       let is = within-fits fits z f in
       let bytes = subst AreBytes (sym is) (AreBytes-content z) in
       record { of_shape = (refl, bytes); readable = (omega arith, bytes); short = omega (arith, ap length is, length-integer_content z (narrow z f)) }
 
-  pub short_int : IsShortKind (int_tree fits) (Shape.bytes 0x02) 0x02 (int_error fits)
-  short_int = record { plain = int_kind; by_front = int_by_front fits; short = int_short }
-
-pub short_null : IsShortKind (λ (_ : Unit {0}). Tree.null) Shape.null 0x05 null_error
-short_null = record { plain = null_kind; by_front = null_by_front; short = λ _ e. record { of_shape = tt; readable = tt; short = omega arith } }
-
-pub short_character : IsShortKind (λ c. Tree.text (encode_utf8 c)) Shape.character 0x0C character_error
-short_character = record { plain = character_kind; by_front = character_by_front; short = λ c e. let one = one_character (encode_utf8 c) e in record { of_shape = one; readable = one.0; short = length_character c } }
+  pub short_int : IsShortKind (λ z. Primitive.bytes 0x02 (content_within fits z)) (PrimitiveShape.bytes 0x02) (int_error fits)
+  short_int = record {
+    plain = record { number = omega arith; judged = λ z o. int_judged z (fits-within fits z o.1) };
+    by_front = int_by_front fits;
+    short = int_short;
+  }

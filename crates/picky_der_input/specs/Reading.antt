@@ -1,5 +1,6 @@
 -- What reading a value of a type does.
-use Rattle.std.specs.Prelude.{◌≡◌, ◌≢◌, ℕ, ℤ, Bool, ◌+◌, ◌<◌, List, ◌∷◌, ◌++◌, length, take, drop, Option, Some, None, encode_utf8}
+use Rattle.std.specs.Prelude.{◌≡◌, ◌≢◌, ℕ, ℤ, Bool, ◌+◌, ◌<◌, List, ◌∷◌, ◌++◌, length, take, drop, Option, Some, None}
+use Rattle.picky_der_core.specs.Primitive.{Primitive, PrimitiveShape, shape_tag}
 use Rattle.picky_der_core.specs.declared.error.Asn1DerError.{Asn1DerError}
 use Rattle.picky_der_core.specs.declared.error.Asn1DerError.TheVariants.{TruncatedData}
 use Rattle.picky_der_core.specs.Tree.{Tree}
@@ -7,7 +8,7 @@ use Rattle.picky_der_core.specs.Readable.{IsReadable}
 use Rattle.picky_der_core.specs.Shape.{Shape, IsOf, IsFirst}
 use Rattle.picky_der_core.specs.Integer.{integer_tree, int_tree}
 use Rattle.picky_der_core.specs.Reading.{written_at, MayStand, StandsAt}
-use Rattle.picky_der_core.specs.Refusal.{Judge, Refusal, plain_refusal, inside_refusal, boolean_error, unsigned_error, int_error, null_error, text_error, character_error, bytes_error}
+use Rattle.picky_der_core.specs.Refusal.{Judge, Refusal, plain_refusal, inside_refusal, int_error, content_error}
 use Rattle.picky_der_input.specs.State.{State}
 use Rattle.picky_der_input.specs.Steps.{Takes, Fails, IsJudged, drawn_count, mendable_limit, place_of, is_hard}
 
@@ -82,48 +83,23 @@ pub record RefusesPlain {V : Type 0} (meaning : V → Tree) (tag : ℕ) (judge :
 
 -- ---- the kinds of plain values
 
-abbrev pub ReadsBoolean : State → State → Bool → Type 0
-ReadsBoolean old new b = ReadsPlain 0x01 boolean_error Shape.boolean old new (Tree.boolean b)
+-- a value of a primitive kind was read, by a judge of its content
+abbrev pub ReadsJudged : PrimitiveShape → Judge → State → State → Primitive → Type 0
+ReadsJudged k judge old new p = ReadsPlain (shape_tag k) judge (Shape.primitive k) old new (Tree.primitive p)
 
-abbrev pub RefusesBoolean : State → State → Asn1DerError → Type 0
-RefusesBoolean old new e = RefusesPlain Tree.boolean 0x01 boolean_error Shape.boolean old new e
+abbrev pub RefusesJudged : {V : Type 0} → (V → Primitive) → PrimitiveShape → Judge → State → State → Asn1DerError → Type 0
+RefusesJudged meaning k judge old new e = RefusesPlain (λ v. Tree.primitive (meaning v)) (shape_tag k) judge (Shape.primitive k) old new e
 
--- a number up to the greatest one of a type
-abbrev pub ReadsUnsigned : ℕ → State → State → ℕ → Type 0
-ReadsUnsigned most old new n = ReadsPlain 0x02 (unsigned_error most) (Shape.unsigned most) old new (Tree.unsigned n)
+-- by that of the kind
+abbrev pub ReadsPrimitive : PrimitiveShape → State → State → Primitive → Type 0
+ReadsPrimitive k old new p = ReadsJudged k (content_error k) old new p
 
-abbrev pub RefusesUnsigned : ℕ → State → State → Asn1DerError → Type 0
-RefusesUnsigned most old new e = RefusesPlain Tree.unsigned 0x02 (unsigned_error most) (Shape.unsigned most) old new e
+abbrev pub RefusesPrimitive : {V : Type 0} → (V → Primitive) → PrimitiveShape → State → State → Asn1DerError → Type 0
+RefusesPrimitive meaning k old new e = RefusesJudged meaning k (content_error k) old new e
 
 -- a number of an integer type, by a test of which numbers it has
 abbrev pub ReadsInt : (ℤ → Bool) → State → State → ℤ → Type 0
-ReadsInt fits old new z = ReadsPlain 0x02 (int_error fits) (Shape.bytes 0x02) old new (integer_tree z)
+ReadsInt fits old new z = ReadsPlain 0x02 (int_error fits) (Shape.primitive (PrimitiveShape.bytes 0x02)) old new (integer_tree z)
 
 abbrev pub RefusesInt : (ℤ → Bool) → State → State → Asn1DerError → Type 0
-RefusesInt fits old new e = RefusesPlain (int_tree fits) 0x02 (int_error fits) (Shape.bytes 0x02) old new e
-
-abbrev pub ReadsBytes : ℕ → State → State → List ℕ → Type 0
-ReadsBytes tag old new bs = ReadsPlain tag bytes_error (Shape.bytes tag) old new (Tree.bytes tag bs)
-
-abbrev pub RefusesBytes : ℕ → State → State → Asn1DerError → Type 0
-RefusesBytes tag old new e = RefusesPlain (Tree.bytes tag) tag bytes_error (Shape.bytes tag) old new e
-
-abbrev pub ReadsNull : State → State → Type 0
-ReadsNull old new = ReadsPlain 0x05 null_error Shape.null old new Tree.null
-
-abbrev pub RefusesNull : State → State → Asn1DerError → Type 0
-RefusesNull old new e = RefusesPlain (λ (_ : Unit {0}). Tree.null) 0x05 null_error Shape.null old new e
-
--- a text, by its bytes
-abbrev pub ReadsText : State → State → List ℕ → Type 0
-ReadsText old new s = ReadsPlain 0x0C text_error Shape.text old new (Tree.text s)
-
-abbrev pub RefusesText : State → State → Asn1DerError → Type 0
-RefusesText old new e = RefusesPlain Tree.text 0x0C text_error Shape.text old new e
-
--- a text of one character
-abbrev pub ReadsCharacter : State → State → ℕ → Type 0
-ReadsCharacter old new c = ReadsPlain 0x0C character_error Shape.character old new (Tree.text (encode_utf8 c))
-
-abbrev pub RefusesCharacter : State → State → Asn1DerError → Type 0
-RefusesCharacter old new e = RefusesPlain (λ c. Tree.text (encode_utf8 c)) 0x0C character_error Shape.character old new e
+RefusesInt fits old new e = RefusesPlain (int_tree fits) 0x02 (int_error fits) (Shape.primitive (PrimitiveShape.bytes 0x02)) old new e

@@ -1,7 +1,7 @@
 //! Integers of any type, signed or not (X.690, 8.3).
 ghost use Rattle.std.specs.Prelude.{◌≡◌, ℤ, None, Some, IfOk, OnOk, IfErr};
-ghost use Rattle.picky_der_core.specs.Shape.{Shape};
-ghost use Rattle.picky_der_core.specs.Integer.{content_within, int_tree};
+ghost use Rattle.picky_der_core.specs.Primitive.{Primitive, PrimitiveShape};
+ghost use Rattle.picky_der_core.specs.Integer.{content_within};
 ghost use Rattle.picky_der_core.specs.Refusal.{int_error};
 ghost use Rattle.picky_der_input.specs.Steps.{IsOfContent};
 ghost use Rattle.picky_der_input.specs.PlainKindLaws.{short_int};
@@ -35,15 +35,15 @@ impl<N: Int> PlainKind<N> for AnyInteger {
 
     ghost view = { N.number };
 
-    ghost meaning = { int_tree N.fits };
+    ghost meaning = { λ z. Primitive.bytes 0x02 (content_within N.fits z) };
 
-    ghost shape = { Shape.bytes 0x02 };
-
-    ghost TAG = { 0x02 };
+    ghost shape = { PrimitiveShape.bytes 0x02 };
 
     ghost judge = { int_error N.fits };
 
-    const TAG: Tag = Tag::INTEGER;
+    fn tag() -> Tag {
+        Tag::INTEGER
+    }
 
     fn of_content(content: &[u8]) -> Result<N> {
         int_of(content)

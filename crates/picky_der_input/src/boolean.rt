@@ -1,8 +1,6 @@
 //! Bools (X.690, 8.2 and 11.1).
 ghost use Rattle.std.specs.Prelude.{◌≡◌, Bool, None, Some, IfOk, OnOk, IfErr};
-ghost use Rattle.picky_der_core.specs.Tree.{Tree};
-ghost use Rattle.picky_der_core.specs.Shape.{Shape};
-ghost use Rattle.picky_der_core.specs.Encoding.{boolean_content};
+ghost use Rattle.picky_der_core.specs.Primitive.{Primitive, PrimitiveShape, boolean_content};
 ghost use Rattle.picky_der_core.specs.Refusal.{boolean_error};
 ghost use Rattle.picky_der_input.specs.Steps.{IsOfContent};
 ghost use Rattle.picky_der_input.specs.PlainKindLaws.{short_boolean};
@@ -37,15 +35,15 @@ impl PlainKind<bool> for Boolean {
 
     ghost view = { λ b. b };
 
-    ghost meaning = { Tree.boolean };
+    ghost meaning = { Primitive.boolean };
 
-    ghost shape = { Shape.boolean };
-
-    ghost TAG = { 0x01 };
+    ghost shape = { PrimitiveShape.boolean };
 
     ghost judge = { boolean_error };
 
-    const TAG: Tag = Tag::BOOLEAN;
+    fn tag() -> Tag {
+        Tag::BOOLEAN
+    }
 
     fn of_content(content: &[u8]) -> Result<bool> {
         Boolean::deserialize(content)

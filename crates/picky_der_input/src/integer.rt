@@ -1,9 +1,7 @@
 //! Unsigned integers (X.690, 8.3).
 ghost use Rattle.std.specs.Prelude.{◌≡◌, ◌≤◌, ℕ, length, None, Some, IfOk, OnOk, IfErr};
 ghost use Rattle.std.specs.Int.Digits.{number_from_digits};
-ghost use Rattle.picky_der_core.specs.Tree.{Tree};
-ghost use Rattle.picky_der_core.specs.Shape.{Shape};
-ghost use Rattle.picky_der_core.specs.Encoding.{unsigned_content};
+ghost use Rattle.picky_der_core.specs.Primitive.{Primitive, PrimitiveShape, unsigned_content};
 ghost use Rattle.picky_der_core.specs.Refusal.{unsigned_error, number_error};
 ghost use Rattle.picky_der_input.specs.Steps.{IsOfContent};
 ghost use Rattle.picky_der_input.specs.PlainKindLaws.{short_unsigned};
@@ -73,15 +71,15 @@ impl<T: UInt> PlainKind<T> for UnsignedInteger {
 
     ghost view = { T.number };
 
-    ghost meaning = { Tree.unsigned };
+    ghost meaning = { Primitive.unsigned };
 
-    ghost shape = { Shape.unsigned T.greatest };
-
-    ghost TAG = { 0x02 };
+    ghost shape = { PrimitiveShape.unsigned T.greatest };
 
     ghost judge = { unsigned_error T.greatest };
 
-    const TAG: Tag = Tag::INTEGER;
+    fn tag() -> Tag {
+        Tag::INTEGER
+    }
 
     fn of_content(content: &[u8]) -> Result<T> {
         UnsignedInteger::deserialize(content)

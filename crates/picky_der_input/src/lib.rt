@@ -4,7 +4,6 @@
 
 mod any_integer;
 mod boolean;
-mod enclosure;
 mod end;
 mod input;
 mod integer;
@@ -13,7 +12,6 @@ mod plain_kind;
 mod utf8_string;
 
 pub use boolean::Boolean;
-pub use enclosure::Enclosure;
 pub use end::End;
 pub use input::{Input, Outer};
 pub use integer::UnsignedInteger;

@@ -1,7 +1,6 @@
 //! Null (X.690, 8.8).
 ghost use Rattle.std.specs.Prelude.{◌≡◌, [], None, Some, OnOk, IfErr};
-ghost use Rattle.picky_der_core.specs.Tree.{Tree};
-ghost use Rattle.picky_der_core.specs.Shape.{Shape};
+ghost use Rattle.picky_der_core.specs.Primitive.{Primitive, PrimitiveShape};
 ghost use Rattle.picky_der_core.specs.Refusal.{null_error};
 ghost use Rattle.picky_der_input.specs.Steps.{IsOfContent};
 ghost use Rattle.picky_der_input.specs.PlainKindLaws.{short_null};
@@ -33,15 +32,15 @@ impl PlainKind<()> for Null {
 
     ghost view = { λ v. v };
 
-    ghost meaning = { λ _. Tree.null };
+    ghost meaning = { λ _. Primitive.null };
 
-    ghost shape = { Shape.null };
-
-    ghost TAG = { 0x05 };
+    ghost shape = { PrimitiveShape.null };
 
     ghost judge = { null_error };
 
-    const TAG: Tag = Tag::NULL;
+    fn tag() -> Tag {
+        Tag::NULL
+    }
 
     fn of_content(content: &[u8]) -> Result<()> {
         Null::deserialize(content)

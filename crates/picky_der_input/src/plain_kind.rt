@@ -1,8 +1,6 @@
 //! The kinds of plain values that are read from the first bytes of their contents.
-ghost use Rattle.std.specs.Prelude.{◌≡◌, ℕ, None, Some, IfOk, OnOk, IfErr};
-ghost use Rattle.picky_der_core.specs.Tree.{Tree};
-ghost use Rattle.picky_der_core.specs.Encoding.{content as content_of};
-ghost use Rattle.picky_der_core.specs.Shape.{Shape};
+ghost use Rattle.std.specs.Prelude.{◌≡◌, None, Some, IfOk, OnOk, IfErr};
+ghost use Rattle.picky_der_core.specs.Primitive.{Primitive, PrimitiveShape, primitive_content, shape_tag};
 ghost use Rattle.picky_der_core.specs.Refusal.{Judge};
 ghost use Rattle.picky_der_input.specs.Steps.{IsOfContent};
 ghost use Rattle.picky_der_input.specs.PlainKinds.{IsShortKind};
@@ -17,25 +15,25 @@ pub(crate) trait PlainKind<V> {
 
     ghost view: { V → Value };
 
-    // The tree that it means, and the trees of all values.
-    ghost meaning: { Value → Tree };
+    // What it means, and of which kind it is.
+    ghost meaning: { Value → Primitive };
 
-    ghost shape: { Shape };
+    ghost shape: { PrimitiveShape };
 
-    // The tag of each, and the error of a content that is none of theirs.
-    ghost TAG: { ℕ };
-
+    // The error of a content that is none of theirs.
     ghost judge: { Judge };
 
-    const TAG: Tag;
+    // The tag of each.
+    fn tag() -> Tag
+        ensures { result ≡ shape_tag shape };
 
     // The value with this content.
     fn of_content(content: &[u8]) -> Result<V>
-        ensures ok { IfOk result (λ value. content.now ≡ content_of (meaning (view value))) }
+        ensures ok { IfOk result (λ value. content.now ≡ primitive_content (meaning (view value))) }
         ensures right { OnOk result (judge content.now ≡ None) }
         ensures fault { IfErr result (λ e. judge content.now ≡ Some e) }
         ensures no_device { IfErr result IsOfContent };
 
     // As many bytes as are kept of a content tell its value, or its error.
-    ghost kind: { IsShortKind meaning shape TAG judge };
+    ghost kind: { IsShortKind meaning shape judge };
 }

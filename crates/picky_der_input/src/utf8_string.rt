@@ -1,7 +1,6 @@
 //! Texts in UTF-8 (X.690, 8.23).
 ghost use Rattle.std.specs.Prelude.{◌≡◌, ℕ, None, Some, IfOk, OnOk, IfErr, IsUtf8, encode_utf8};
-ghost use Rattle.picky_der_core.specs.Tree.{Tree};
-ghost use Rattle.picky_der_core.specs.Shape.{Shape};
+ghost use Rattle.picky_der_core.specs.Primitive.{Primitive, PrimitiveShape};
 ghost use Rattle.picky_der_core.specs.Refusal.{text_error, character_error};
 ghost use Rattle.picky_der_input.specs.Steps.{IsOfContent};
 ghost use Rattle.picky_der_input.specs.PlainKindLaws.{short_character};
@@ -33,15 +32,15 @@ impl PlainKind<char> for Utf8String {
 
     ghost view = { λ c. c };
 
-    ghost meaning = { λ c. Tree.text (encode_utf8 c) };
+    ghost meaning = { λ c. Primitive.text (encode_utf8 c) };
 
-    ghost shape = { Shape.character };
-
-    ghost TAG = { 0x0C };
+    ghost shape = { PrimitiveShape.character };
 
     ghost judge = { character_error };
 
-    const TAG: Tag = Tag::UTF8_STRING;
+    fn tag() -> Tag {
+        Tag::UTF8_STRING
+    }
 
     // The character that is the whole text.
     fn of_content(content: &[u8]) -> Result<char> {

@@ -2,15 +2,15 @@
 //! draws them one by one: so no refusal but that of memory is made here.
 ghost use Rattle.std.specs.Prelude.{◌≡◌, ◌+◌, ◌≤◌, ◌<◌, ◌^◌, ◌∷◌, length, true, None, IfNone, IfSome, IfOk};
 ghost use Rattle.std.specs.Prelude.{IfErr, OnOk};
-ghost use Rattle.picky_der_core.specs.Element.{length_octets, IsPrefix};
+ghost use Rattle.picky_der_core.specs.Element.{length_octets, IsPrefix, AreBytes};
 ghost use Rattle.std.specs.Io.{StartsWith};
 ghost use Rattle.picky_der_core.specs.Peeking.{left_in, shown_by};
+ghost use Rattle.picky_der_core.specs.Primitive.{Primitive, PrimitiveShape};
 ghost use Rattle.picky_der_core.specs.Tag.{number_of, IsTagNumber};
-ghost use Rattle.picky_der_core.specs.Shape.{AreBytes};
 ghost use Rattle.picky_der_input.specs.Steps.{Takes, TakesBytes, Fails};
 ghost use Rattle.picky_der_input.specs.Elements.{ReadsRaw, RefusesRaw};
 ghost use Rattle.picky_der_input.specs.Ahead.{IsElementInFront};
-ghost use Rattle.picky_der_input.specs.Reading.{ReadsBytes, RefusesBytes};
+ghost use Rattle.picky_der_input.specs.Reading.{ReadsPrimitive, RefusesPrimitive};
 
 use super::Input;
 use picky_der_core::asn1::Tag;
@@ -160,9 +160,11 @@ impl<R: ReadExt> Input<R> {
     pub(crate) fn copy_content_ahead(&mut self, tag: Tag) -> Result<Option<Vec<u8>>>
         requires number { IsTagNumber (number_of tag) }
         ensures read { IfOk result (λ some. IfSome some
-            (λ content. ReadsBytes tag self.old self.new content.items)) }
+            (λ content. ReadsPrimitive (PrimitiveShape.bytes tag) self.old self.new
+            (Primitive.bytes tag content.items))) }
         ensures none { IfOk result (λ some. IfNone some (self.new ≡ self.old)) }
-        ensures err { IfErr result (RefusesBytes tag self.old self.new) }
+        ensures err { IfErr result (RefusesPrimitive (Primitive.bytes tag) (PrimitiveShape.bytes tag)
+            self.old self.new) }
     {
         if !self.wants_header() {
             return Ok(None);

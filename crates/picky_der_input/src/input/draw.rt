@@ -1,7 +1,7 @@
 //! Bytes, drawn one at a time or in pieces.
+ghost use Rattle.picky_der_core.specs.Element.{AreBytes};
 ghost use Rattle.picky_der_core.specs.Failure.{failure_of};
 ghost use Rattle.std.specs.Prelude.{◌≡◌, ◌<◌, ◌≤◌, ◌∷◌, [], ℕ, List, length, None, Some, IfOk, IfErr, OnOk};
-ghost use Rattle.picky_der_core.specs.Shape.{AreBytes};
 ghost use Rattle.picky_der_input.specs.Steps.{Takes, TakesBytes, TakesKept, TakesBehind, GrowsByTaken, TakesPiece, StopsShort};
 ghost use Rattle.picky_der_input.specs.Steps.{Fails, IsMissing, TakesNoMemory};
 

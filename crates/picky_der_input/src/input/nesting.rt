@@ -1,16 +1,17 @@
-//! Ends, opened and closed: those of sequences, sets, wrappers and application tags, with the headers in front of them.
+//! Ends, opened and closed: those of sequences, sets and wrappers, with the headers in front of them.
 ghost use Rattle.picky_der_core.specs.Failure.{failure_of};
 ghost use Rattle.std.specs.Prelude.{◌≡◌, ◌+◌, ◌≤◌, ◌<◌, ◌↔◌, ◌∷◌, [], None, Some};
 ghost use Rattle.std.specs.Prelude.{IsTrue, IfOk, IfErr, OnOk};
 ghost use Rattle.picky_der_core.specs.Tag.{number_of, IsTagNumber};
+ghost use Rattle.picky_der_core.specs.Wrapper.{HasTagNumber};
 ghost use Rattle.picky_der_input.specs.Steps.{Takes};
 ghost use Rattle.picky_der_input.specs.Ends.{innermost, with_inner_end, Closes, RefusesClose, OpensList, RefusesList, OpensLazily};
-ghost use Rattle.picky_der_input.specs.Enclosures.{HasEnclosureNumber, BeginsEnclosure, OpensEnclosure, RefusesOpening, RefusesUnusedBits};
+ghost use Rattle.picky_der_input.specs.Wrappers.{implicit_tag_of, BeginsWrapper, OpensWrapper, RefusesOpening, RefusesUnusedBits};
 ghost use Rattle.picky_der_input.specs.TagNumbers.{RefusesNumber};
 
 use super::Input;
-use crate::{Enclosure, End};
-use picky_der_core::asn1::Tag;
+use crate::End;
+use picky_der_core::asn1::{Tag, Wrapper};
 use picky_der_core::misc::ReadExt;
 use picky_der_core::{Asn1DerError, Failure, Result};
 use std::marker::Model;
@@ -31,6 +32,17 @@ impl Model for Outer {
     ghost Value = { OuterEnd };
 
     ghost view = { λ o. record { position = o.position; kind = o.kind; last_start = o.last_start } };
+}
+
+// The implicit tag directly under which the value stands: the byte that replaces its own.
+fn implicit_tag(wrapper: Wrapper) -> Option<u8>
+    requires { HasTagNumber wrapper }
+    ensures { result ≡ implicit_tag_of wrapper }
+{
+    if wrapper.keeps_header() {
+        return None;
+    }
+    Some(wrapper.tag().inner())
 }
 
 impl<R: ReadExt> Input<R> {
@@ -91,21 +103,20 @@ impl<R: ReadExt> Input<R> {
         }
     }
 
-    // Takes the header of an enclosure, and opens its end. Directly under an implicit tag it has its own header too.
-    fn begin_enclosure(&mut self, enclosure: Enclosure) -> Result<Outer>
-        ensures ok { IfOk result (BeginsEnclosure enclosure self.old self.new) }
+    // Takes the header of a wrapper, and opens its end. Directly under an implicit tag it has its own header too.
+    fn begin_wrapper(&mut self, wrapper: Wrapper) -> Result<Outer>
+        ensures ok { IfOk result (BeginsWrapper wrapper self.old self.new) }
         ensures bounded { IfOk result (λ outer. outer.position ≤ self.new.limit) }
-        ensures err { IfErr result (RefusesOpening enclosure self.old self.new) }
-        ensures unsupported { (HasEnclosureNumber enclosure → ⊥)
-            → RefusesNumber self.old result self.new }
+        ensures err { IfErr result (RefusesOpening wrapper self.old self.new) }
+        ensures unsupported { (HasTagNumber wrapper → ⊥) → RefusesNumber self.old result self.new }
     {
         if let Some(error) = self.earlier() {
             return Err(error);
         }
-        let Some(tag) = enclosure.tag() else {
+        if !wrapper.has_tag_number() {
             return Err(self.fail(Asn1DerError::UnsupportedValue));
-        };
-        let len = self.read_header(tag)?;
+        }
+        let len = self.read_header(wrapper.tag())?;
         Ok(self.open_end(len, End::Hard))
     }
 
@@ -121,23 +132,22 @@ impl<R: ReadExt> Input<R> {
         Ok(())
     }
 
-    /// Takes what stands before the value, and opens the enclosure's end.
+    /// Takes what stands before the value, and opens the wrapper's end.
     ///
     /// `UnsupportedValue` for a tag number past 30, and for a tag in place of a list's own that isn't constructed: nothing is drawn
     /// then. `InvalidData` for another tag and for unused bits (X.690, 8.6.2); the refusals of a header and of an end; else the
     /// reader's fault.
-    pub fn open_enclosure(&mut self, enclosure: Enclosure) -> Result<Outer>
-        ensures ok { IfOk result (OpensEnclosure enclosure self.old self.new) }
+    pub fn open_wrapper(&mut self, wrapper: Wrapper) -> Result<Outer>
+        ensures ok { IfOk result (OpensWrapper wrapper self.old self.new) }
         ensures bounded { IfOk result (λ outer. outer.position ≤ self.new.limit) }
-        ensures err { IfErr result (RefusesOpening enclosure self.old self.new) }
-        ensures unsupported { (HasEnclosureNumber enclosure → ⊥)
-            → RefusesNumber self.old result self.new }
+        ensures err { IfErr result (RefusesOpening wrapper self.old self.new) }
+        ensures unsupported { (HasTagNumber wrapper → ⊥) → RefusesNumber self.old result self.new }
     {
-        let outer = self.begin_enclosure(enclosure)?;
-        if enclosure.has_unused_bits() {
+        let outer = self.begin_wrapper(wrapper)?;
+        if wrapper.counts_unused_bits() {
             self.take_unused_bits()?;
         }
-        self.implicit_tag = enclosure.implicit_tag();
+        self.implicit_tag = implicit_tag(wrapper);
         Ok(outer)
     }
 

@@ -1,7 +1,8 @@
 //! Contents that aren't looked at.
 ghost use Rattle.std.specs.Prelude.{◌<◌, IfOk, IfErr};
+ghost use Rattle.picky_der_core.specs.Primitive.{Primitive, PrimitiveShape};
 ghost use Rattle.picky_der_core.specs.Tag.{number_of};
-ghost use Rattle.picky_der_input.specs.Reading.{ReadsBytes, RefusesBytes};
+ghost use Rattle.picky_der_input.specs.Reading.{ReadsPrimitive, RefusesPrimitive};
 ghost use Rattle.picky_der_input.specs.TagNumbers.{RefusesNumber};
 
 use super::Input;
@@ -18,8 +19,10 @@ impl<R: ReadExt> Input<R> {
     /// memory is refused; else the reader's fault.
     #[inline(always)]
     pub fn read_tagged_bytes(&mut self, tag: Tag) -> Result<Vec<u8>>
-        ensures ok { IfOk result (λ content. ReadsBytes tag self.old self.new content.items) }
-        ensures err { IfErr result (RefusesBytes tag self.old self.new) }
+        ensures ok { IfOk result (λ content. ReadsPrimitive (PrimitiveShape.bytes tag) self.old self.new
+            (Primitive.bytes tag content.items)) }
+        ensures err { IfErr result (RefusesPrimitive (Primitive.bytes tag) (PrimitiveShape.bytes tag)
+            self.old self.new) }
         ensures unsupported { 30 < number_of tag → RefusesNumber self.old result self.new }
     {
         if tag.number() <= Tag::MAX_NUMBER {
@@ -36,8 +39,10 @@ impl<R: ReadExt> Input<R> {
     #[cold]
     #[inline(never)]
     fn draw_tagged_bytes(&mut self, tag: Tag) -> Result<Vec<u8>>
-        ensures ok { IfOk result (λ content. ReadsBytes tag self.old self.new content.items) }
-        ensures err { IfErr result (RefusesBytes tag self.old self.new) }
+        ensures ok { IfOk result (λ content. ReadsPrimitive (PrimitiveShape.bytes tag) self.old self.new
+            (Primitive.bytes tag content.items)) }
+        ensures err { IfErr result (RefusesPrimitive (Primitive.bytes tag) (PrimitiveShape.bytes tag)
+            self.old self.new) }
         ensures unsupported { 30 < number_of tag → RefusesNumber self.old result self.new }
     {
         if let Some(error) = self.earlier() {

@@ -1,11 +1,11 @@
 //! Bools, numbers and nulls: a header, a content, and its judge.
 ghost use Rattle.std.specs.Prelude.{◌≡◌, None, IfNone, IfSome, IfOk, IfErr, OnOk};
+ghost use Rattle.picky_der_core.specs.Primitive.{Primitive, PrimitiveShape};
 ghost use Rattle.picky_der_core.specs.Shape.{Shape};
 ghost use Rattle.picky_der_core.specs.Integer.{int_tree};
 ghost use Rattle.picky_der_input.specs.Steps.{TakesNoMemory};
 ghost use Rattle.picky_der_input.specs.Reading.{Reads, ReadsInt, RefusesInt};
-ghost use Rattle.picky_der_input.specs.Reading.{ReadsPlain, RefusesPlain, ReadsBoolean, RefusesBoolean, ReadsUnsigned, RefusesUnsigned};
-ghost use Rattle.picky_der_input.specs.Reading.{ReadsNull, RefusesNull};
+ghost use Rattle.picky_der_input.specs.Reading.{ReadsJudged, RefusesJudged, ReadsPrimitive, RefusesPrimitive};
 
 use super::Input;
 use super::ahead::{near, short_in_front};
@@ -22,8 +22,10 @@ impl<R: ReadExt> Input<R> {
     /// content; the refusals of a header and of an end; else the reader's fault.
     #[inline(always)]
     pub fn read_bool(&mut self) -> Result<bool>
-        ensures ok { IfOk result (ReadsBoolean self.old self.new) }
-        ensures err { IfErr result (RefusesBoolean self.old self.new) }
+        ensures ok { IfOk result (λ b. ReadsPrimitive PrimitiveShape.boolean self.old self.new
+            (Primitive.boolean b)) }
+        ensures err { IfErr result (RefusesPrimitive Primitive.boolean PrimitiveShape.boolean
+            self.old self.new) }
         ensures memory { IfErr result (TakesNoMemory self.old self.new) }
     {
         self.read_plain::<Boolean, bool>()
@@ -36,9 +38,10 @@ impl<R: ReadExt> Input<R> {
     /// reader's fault.
     #[inline(always)]
     pub fn read_unsigned<T: UInt>(&mut self) -> Result<T>
-        ensures ok { IfOk result (λ value. ReadsUnsigned T.greatest self.old self.new
-            (T.number value)) }
-        ensures err { IfErr result (RefusesUnsigned T.greatest self.old self.new) }
+        ensures ok { IfOk result (λ value. ReadsPrimitive (PrimitiveShape.unsigned T.greatest)
+            self.old self.new (Primitive.unsigned (T.number value))) }
+        ensures err { IfErr result (RefusesPrimitive Primitive.unsigned
+            (PrimitiveShape.unsigned T.greatest) self.old self.new) }
         ensures memory { IfErr result (TakesNoMemory self.old self.new) }
     {
         self.read_plain::<UnsignedInteger, T>()
@@ -50,7 +53,7 @@ impl<R: ReadExt> Input<R> {
     /// a number that the type doesn't have; the refusals of a header and of an end; else the reader's fault.
     pub fn read_int<N: Int>(&mut self) -> Result<N>
         ensures ok { IfOk result (λ value. ReadsInt N.fits self.old self.new (N.number value)) }
-        ensures meant { IfOk result (λ value. Reads (Shape.bytes 0x02) self.old self.new
+        ensures meant { IfOk result (λ value. Reads (Shape.primitive (PrimitiveShape.bytes 0x02)) self.old self.new
             (int_tree N.fits (N.number value))) }
         ensures err { IfErr result (RefusesInt N.fits self.old self.new) }
         ensures memory { IfErr result (TakesNoMemory self.old self.new) }
@@ -64,8 +67,10 @@ impl<R: ReadExt> Input<R> {
     /// the reader's fault.
     #[inline(always)]
     pub fn read_unit(&mut self) -> Result<()>
-        ensures ok { OnOk result (ReadsNull self.old self.new) }
-        ensures err { IfErr result (RefusesNull self.old self.new) }
+        ensures ok { OnOk result (ReadsPrimitive PrimitiveShape.null self.old self.new
+            Primitive.null) }
+        ensures err { IfErr result (RefusesPrimitive (λ (_ : Unit {0}). Primitive.null)
+            PrimitiveShape.null self.old self.new) }
         ensures memory { IfErr result (TakesNoMemory self.old self.new) }
     {
         self.read_plain::<Null, ()>()
@@ -74,10 +79,9 @@ impl<R: ReadExt> Input<R> {
     // Reads a value of this kind.
     #[inline(always)]
     pub(super) fn read_plain<K: PlainKind<V>, V: Copy>(&mut self) -> Result<V>
-        ensures ok { IfOk result (λ value. ReadsPlain K.TAG K.judge K.shape self.old self.new
+        ensures ok { IfOk result (λ value. ReadsJudged K.shape K.judge self.old self.new
             (K.meaning (K.view value))) }
-        ensures err { IfErr result (RefusesPlain K.meaning K.TAG K.judge K.shape self.old
-            self.new) }
+        ensures err { IfErr result (RefusesJudged K.meaning K.shape K.judge self.old self.new) }
         ensures memory { IfErr result (TakesNoMemory self.old self.new) }
     {
         match self.short_plain::<K, V>() {
@@ -89,14 +93,14 @@ impl<R: ReadExt> Input<R> {
     // Reads a value that is ahead whole.
     #[inline(always)]
     fn short_plain<K: PlainKind<V>, V: Copy>(&mut self) -> Option<V>
-        ensures read { IfSome result (λ value. ReadsPlain K.TAG K.judge K.shape self.old self.new
+        ensures read { IfSome result (λ value. ReadsJudged K.shape K.judge self.old self.new
             (K.meaning (K.view value))) }
         ensures none { IfNone result (self.new ≡ self.old) }
     {
         if !self.wants_header() {
             return None;
         }
-        let content = short_in_front(near(&self.reader, self.until_end), K::TAG)?;
+        let content = short_in_front(near(&self.reader, self.until_end), K::tag())?;
         let count = content.len() + 2;
         let Ok(value) = K::of_content(content) else {
             return None;
@@ -110,13 +114,12 @@ impl<R: ReadExt> Input<R> {
     #[cold]
     #[inline(never)]
     fn draw_plain<K: PlainKind<V>, V: Copy>(&mut self) -> Result<V>
-        ensures ok { IfOk result (λ value. ReadsPlain K.TAG K.judge K.shape self.old self.new
+        ensures ok { IfOk result (λ value. ReadsJudged K.shape K.judge self.old self.new
             (K.meaning (K.view value))) }
-        ensures err { IfErr result (RefusesPlain K.meaning K.TAG K.judge K.shape self.old
-            self.new) }
+        ensures err { IfErr result (RefusesJudged K.meaning K.shape K.judge self.old self.new) }
         ensures memory { IfErr result (TakesNoMemory self.old self.new) }
     {
-        let len = self.begin(K::TAG)?;
+        let len = self.begin(K::tag())?;
         let content = self.draw_kept(len)?;
         match K::of_content(&content) {
             Ok(value) => Ok(value),

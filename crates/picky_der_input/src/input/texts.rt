@@ -1,7 +1,8 @@
 //! Texts and characters.
-ghost use Rattle.std.specs.Prelude.{IfOk, IfErr, string_bytes};
+ghost use Rattle.std.specs.Prelude.{IfOk, IfErr, encode_utf8, string_bytes};
+ghost use Rattle.picky_der_core.specs.Primitive.{Primitive, PrimitiveShape};
 ghost use Rattle.picky_der_input.specs.Steps.{TakesNoMemory};
-ghost use Rattle.picky_der_input.specs.Reading.{ReadsText, RefusesText, ReadsCharacter, RefusesCharacter};
+ghost use Rattle.picky_der_input.specs.Reading.{ReadsPrimitive, RefusesPrimitive};
 
 use super::Input;
 use crate::Utf8String;
@@ -15,8 +16,10 @@ impl<R: ReadExt> Input<R> {
     /// `InvalidData` for another tag, for a content that isn't UTF-8, and for more than one character;
     /// `UnsupportedValue` for an empty content; the refusals of a header and of an end; else the reader's fault.
     pub fn read_char(&mut self) -> Result<char>
-        ensures ok { IfOk result (ReadsCharacter self.old self.new) }
-        ensures err { IfErr result (RefusesCharacter self.old self.new) }
+        ensures ok { IfOk result (λ c. ReadsPrimitive PrimitiveShape.character self.old self.new
+            (Primitive.text (encode_utf8 c))) }
+        ensures err { IfErr result (RefusesPrimitive (λ c. Primitive.text (encode_utf8 c))
+            PrimitiveShape.character self.old self.new) }
         ensures memory { IfErr result (TakesNoMemory self.old self.new) }
     {
         self.read_plain::<Utf8String, char>()
@@ -27,8 +30,9 @@ impl<R: ReadExt> Input<R> {
     /// `InvalidData` for another tag and for a content that isn't UTF-8; the refusals of a header and of an end;
     /// `OutOfMemory` where memory is refused; else the reader's fault.
     pub fn read_string(&mut self) -> Result<String>
-        ensures ok { IfOk result (λ text. ReadsText self.old self.new (string_bytes text)) }
-        ensures err { IfErr result (RefusesText self.old self.new) }
+        ensures ok { IfOk result (λ text. ReadsPrimitive PrimitiveShape.text self.old self.new
+            (Primitive.text (string_bytes text))) }
+        ensures err { IfErr result (RefusesPrimitive Primitive.text PrimitiveShape.text self.old self.new) }
     {
         let len = self.begin(Tag::UTF8_STRING)?;
         let content = self.draw_vec(len)?;

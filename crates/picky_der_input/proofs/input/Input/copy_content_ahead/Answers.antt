@@ -1,7 +1,6 @@
 use Rattle.std.proofs.Common.{◌≡◌, ◌+◌, ◌-◌, ◌<◌, ◌≤◌, ◌^◌, ◌∷◌, take, drop, None, ◌∙◌, refl, sym, subst, ap, arith}
-use Rattle.picky_der_core.specs.Element.{length_octets}
+use Rattle.picky_der_core.specs.Element.{length_octets, AreBytes}
 use Rattle.picky_der_core.specs.Peeking.{count_of_any}
-use Rattle.picky_der_core.specs.Shape.{AreBytes}
 use Rattle.picky_der_input.specs.State.{State}
 use Rattle.picky_der_input.proofs.Ahead.{at_most_one, content_shown, shown_prefix, takes_shown}
 use Rattle.picky_der_input.proofs.Whole.{begins_whole, reads_content, refuses_for_memory}

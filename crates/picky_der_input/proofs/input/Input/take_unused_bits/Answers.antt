@@ -1,6 +1,6 @@
 use Rattle.std.proofs.Common.{◌≡◌, sym, ◌∙◌}
 use Rattle.picky_der_core.specs.declared.error.Asn1DerError.TheVariants.{InvalidData, OutOfMemory}
-use Rattle.picky_der_input.specs.Enclosures.{count_other}
+use Rattle.picky_der_input.specs.Wrappers.{count_other}
 use Rattle.picky_der_input.proofs.Steps.{fails_after}
 use Rattle.picky_der_input.proofs.Contents.{failed_same}
 use Rattle.picky_der_input.proofs.input.Input.take_unused_bits.Goals as goal
