@@ -41,6 +41,7 @@ impl<N: Int> PlainKind<N> for AnyInteger {
 
     ghost judge = { int_error N.fits };
 
+    #[inline(always)]
     fn tag() -> Tag {
         Tag::INTEGER
     }

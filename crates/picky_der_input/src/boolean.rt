@@ -41,6 +41,7 @@ impl PlainKind<bool> for Boolean {
 
     ghost judge = { boolean_error };
 
+    #[inline(always)]
     fn tag() -> Tag {
         Tag::BOOLEAN
     }

@@ -77,6 +77,7 @@ impl<T: UInt> PlainKind<T> for UnsignedInteger {
 
     ghost judge = { unsigned_error T.greatest };
 
+    #[inline(always)]
     fn tag() -> Tag {
         Tag::INTEGER
     }

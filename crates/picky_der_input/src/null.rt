@@ -38,6 +38,7 @@ impl PlainKind<()> for Null {
 
     ghost judge = { null_error };
 
+    #[inline(always)]
     fn tag() -> Tag {
         Tag::NULL
     }

@@ -38,6 +38,7 @@ impl PlainKind<char> for Utf8String {
 
     ghost judge = { character_error };
 
+    #[inline(always)]
     fn tag() -> Tag {
         Tag::UTF8_STRING
     }
