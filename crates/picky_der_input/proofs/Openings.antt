@@ -17,7 +17,7 @@ use Rattle.picky_der_input.specs.Ends.{Outer, innermost, with_inner_end, with_ou
 use Rattle.picky_der_input.specs.Wrappers.{implicit_tag_of, unused_bits_refusal, refusal_behind, opening_refusal, OpensWrapper, RefusesOpening, BeginsWrapper, StopsUnusedBits, count_missing, count_other, RefusesUnusedBits}
 use Rattle.picky_der_input.proofs.Steps.{takes_then, takes_none, fails_after, judged_after}
 use Rattle.picky_der_input.proofs.Refusals.{front_consumed, concerns_behind, failed_grows, missing_here, taken_first, at_end_of}
-use Rattle.picky_der_input.proofs.Known.{front_of, just_taken, kept_known, peeked_kept}
+use Rattle.picky_der_input.proofs.Known.{front_of, just_taken, just_untaken, kept_known, peeked_kept}
 use Rattle.picky_der_input.proofs.Headers.{header_length}
 use Rattle.picky_der_input.proofs.PlainReads.{just_map}
 use Rattle.picky_der_input.proofs.Order.{put_back}
@@ -32,13 +32,7 @@ opening_past {w} {a} {c} {e} n f is same small = record {
   fails = f;
   none = λ j end bs k content rest number. absurd (n number);
   first = λ j k. absurd (let r : UnsupportedValue ≡ TruncatedData = sym is ∙ k in cc);
-  just = λ j bs k. record {
-    left = take a.until_end bs;
-    refused = opening_unsupported w a (take a.until_end bs) n ∙ ap (λ x. Some (x, take a.until_end bs)) (sym is);
-    input = ap (λ (s : State). s.input) same ∙ k ∙ ap (λ x. Some x) (sym (take-append-drop a.until_end bs));
-    kept = λ q. ap (λ (s : State). s.peeked) same;
-    used = λ more. absurd (omega (arith, ap (λ (s : State). s.taken) same));
-  };
+  just = λ j bs k. just_untaken (opening_refusal w a) same k (λ rest. opening_unsupported w a rest n ∙ ap (λ x. Some (x, rest)) (sym is));
   memory = λ k l m. let r : UnsupportedValue ≡ OutOfMemory = sym is ∙ m in cc;
   bounded = λ k. small;
 }
