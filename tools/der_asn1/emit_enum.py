@@ -12,17 +12,15 @@ ONE_BYTE = range(128)
 
 _GHOST_IMPORTS = """ghost use Rattle.std.proofs.Common.{lit≤};
 ghost use Rattle.std.specs.Prelude.{◌≡◌, [], ◌∷◌, refl};
-ghost use Rattle.picky_der_core.specs.Tree.{Tree};
-ghost use Rattle.picky_der_core.specs.Shape.{Shape};
-ghost use Rattle.der_types.specs.KnownContents.{known_contents};
+ghost use Rattle.der_types.specs.KnownContents.{contents_of, contents_shape, known_contents};
 """.splitlines()
 
 _PROOF_IMPORTS = """use Rattle.std.proofs.Common.{◌∙◌}
 use Rattle.std.proofs.lemmas.Bool.{eq-eqb}
 """.splitlines()
 
-_DEFAULT_IMPORTS = """use Rattle.picky_der_core.specs.Tree.{Tree}
-use Rattle.picky_der_ser.specs.Defaults.{IsByTree}
+_DEFAULT_IMPORTS = """use Rattle.picky_der_ser.specs.Defaults.{IsByTree}
+use Rattle.der_types.specs.KnownContents.{contents_of}
 """.splitlines()
 # that two items are the default just where their trees are the same
 _SAME, _OTHER = "(λ k. refl, λ e. refl)", "(λ k. cc, λ e. cc)"
@@ -151,7 +149,7 @@ def serialize_impl(declared):
     """The implementation of `Serialize`."""
     return [
         f"impl Serialize for {declared.name} {{",
-        f"{STEP}ghost meaning = {{ λ it. Tree.bytes 0x0A ({number_term(declared)} it ∷ []) }};",
+        f"{STEP}ghost meaning = {{ contents_of 0x0A (λ it. {number_term(declared)} it ∷ []) }};",
         "",
         *signature(STEP, "serialize", ["&self", "serializer: &mut Serializer<W>"], "Result<usize>", "<W: WriteExt>"),
         f"{_TWO}self.serialize_under(Tag::ENUMERATED, serializer)",
@@ -164,7 +162,7 @@ def deserialize_impl(declared):
     """The implementation of `Deserialize`."""
     return [
         f"impl Deserialize for {declared.name} {{",
-        f"{STEP}ghost shape = {{ Shape.bytes 0x0A }};",
+        f"{STEP}ghost shape = {{ contents_shape 0x0A }};",
         "",
         f"{STEP}ghost known = {{ known_contents 0x0A (λ it. {number_term(declared)} it ∷ []) ⟦<Self as PartialEq>⟧.eq ⟦<Self as Contents>⟧.same }};",
         "",
@@ -228,7 +226,7 @@ def default_terms(declared, name, item):
     test, proof = default_term(name), default_proof(name)
     lines = ["", f"abbrev pub {test} : {declared.name} → Bool"]
     lines += [f"{test} {it.name} = {'true' if it is item else 'false'}" for it in declared.items]
-    lines += ["", f"pub {proof} : IsByTree (λ it. Tree.bytes 0x0A ({number_term(declared)} it ∷ [])) {test}"]
+    lines += ["", f"pub {proof} : IsByTree (contents_of 0x0A (λ it. {number_term(declared)} it ∷ [])) {test}"]
     for it in declared.items:
         if it is item:
             lines += [f"{proof} {it.name} {other.name} h = {_SAME if other is item else _OTHER}" for other in declared.items]

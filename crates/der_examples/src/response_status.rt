@@ -1,10 +1,7 @@
 //! An ENUMERATED whose values have names.
 ghost use Rattle.std.proofs.Common.{lit≤};
 ghost use Rattle.std.specs.Prelude.{◌≡◌, [], ◌∷◌, refl};
-ghost use Rattle.picky_der_core.specs.Primitive.{Primitive, PrimitiveShape};
-ghost use Rattle.picky_der_core.specs.Tree.{Tree};
-ghost use Rattle.picky_der_core.specs.Shape.{Shape};
-ghost use Rattle.der_types.specs.KnownContents.{known_contents};
+ghost use Rattle.der_types.specs.KnownContents.{contents_of, contents_shape, known_contents};
 ghost use Rattle.der_examples.specs.declared.response_status.ResponseStatus.TheVariants as status;
 ghost use Rattle.der_examples.specs.ResponseStatus.{status_number, is_status, same_status};
 
@@ -95,7 +92,7 @@ impl Contents for ResponseStatus {
 }
 
 impl Serialize for ResponseStatus {
-    ghost meaning = { λ it. Tree.primitive (Primitive.bytes 0x0A (status_number it ∷ [])) };
+    ghost meaning = { contents_of 0x0A (λ it. status_number it ∷ []) };
 
     fn serialize<W: WriteExt>(&self, serializer: &mut Serializer<W>) -> Result<usize> {
         self.serialize_under(Tag::ENUMERATED, serializer)
@@ -103,7 +100,7 @@ impl Serialize for ResponseStatus {
 }
 
 impl Deserialize for ResponseStatus {
-    ghost shape = { Shape.primitive (PrimitiveShape.bytes 0x0A) };
+    ghost shape = { contents_shape 0x0A };
 
     ghost known = { known_contents 0x0A (λ it. status_number it ∷ []) ⟦<Self as PartialEq>⟧.eq ⟦<Self as Contents>⟧.same };
 

@@ -2,11 +2,8 @@
 ghost use Rattle.std.proofs.Common.{rules};
 ghost use Rattle.std.specs.Prelude.{◌≡◌, ◌⊎◌, ◌∷◌, ◌<◌, ◌==◌, true, false, drop, length, slice_index, slice_get, IfSome, IfNone, IfOk, IfErr};
 ghost use Rattle.std.specs.Cmp.Lexicographic.{bytes_decides};
-ghost use Rattle.picky_der_core.specs.Primitive.{Primitive, PrimitiveShape};
-ghost use Rattle.picky_der_core.specs.Tree.{Tree};
-ghost use Rattle.picky_der_core.specs.Shape.{Shape};
-ghost use Rattle.picky_der_input.specs.Reading.{Reads, Refuses};
 ghost use Rattle.picky_der_de.specs.Known.{known_bytes};
+ghost use Rattle.der_types.specs.KnownContents.{contents_of, contents_shape};
 ghost use Rattle.der_types.specs.ContentTests.{ReadsContent, RefusesContent};
 ghost use Rattle.der_types.specs.BitString.{is_bit_string, bit_string_content, bits_of};
 
@@ -141,7 +138,7 @@ impl Contents for BitString {
 }
 
 impl Serialize for BitString {
-    ghost meaning = { λ it. Tree.primitive (Primitive.bytes 0x03 it.content.items) };
+    ghost meaning = { contents_of 0x03 (λ it. it.content.items) };
 
     fn serialize<W: WriteExt>(&self, serializer: &mut Serializer<W>) -> Result<usize> {
         self.serialize_under(Tag::BIT_STRING, serializer)
@@ -149,17 +146,13 @@ impl Serialize for BitString {
 }
 
 impl Deserialize for BitString {
-    ghost shape = { Shape.primitive (PrimitiveShape.bytes 0x03) };
+    ghost shape = { contents_shape 0x03 };
 
     ghost known = { known_bytes 0x03 (λ it. it.content.items) };
 
     ghost tied = { Prim.assumption };
 
     fn deserialize<R: ReadExt>(deserializer: &mut Deserializer<R>) -> Result<BitString>
-        ensures ok { IfOk result (λ it. Reads (Shape.primitive (PrimitiveShape.bytes 0x03)) deserializer.old deserializer.new
-            (Tree.primitive (Primitive.bytes 0x03 it.content.items))) }
-        ensures err { IfErr result (Refuses ⟦<BitString as Serialize>⟧.meaning (Shape.primitive (PrimitiveShape.bytes 0x03))
-            deserializer.old deserializer.new) }
         ensures read { IfOk result (λ it. ReadsContent 0x03 is_bit_string deserializer.old
             deserializer.new it.content.items) }
         ensures refused { IfErr result (RefusesContent ⟦<BitString as Contents>⟧.content 0x03 is_bit_string

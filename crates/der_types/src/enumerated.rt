@@ -2,12 +2,9 @@
 ghost use Rattle.std.proofs.Common.{lit≤};
 ghost use Rattle.std.specs.Prelude.{◌≡◌, true, false, IfSome, IfNone, IfOk, IfErr};
 ghost use Rattle.std.specs.Cmp.Lexicographic.{bytes_decides};
-ghost use Rattle.picky_der_core.specs.Primitive.{Primitive, PrimitiveShape};
-ghost use Rattle.picky_der_core.specs.Tree.{Tree};
-ghost use Rattle.picky_der_core.specs.Shape.{Shape};
-ghost use Rattle.picky_der_input.specs.Reading.{Reads, Refuses};
 ghost use Rattle.picky_der_de.specs.Known.{known_bytes};
 ghost use Rattle.picky_der_core.specs.Integer.{is_integer};
+ghost use Rattle.der_types.specs.KnownContents.{contents_of, contents_shape};
 ghost use Rattle.der_types.specs.ContentTests.{ReadsContent, RefusesContent};
 
 use crate::{Contents, Integer, deserialize_contents_as};
@@ -70,7 +67,7 @@ impl Contents for Enumerated {
 }
 
 impl Serialize for Enumerated {
-    ghost meaning = { λ it. Tree.primitive (Primitive.bytes 0x0A it.0.content.items) };
+    ghost meaning = { contents_of 0x0A (λ it. it.0.content.items) };
 
     fn serialize<W: WriteExt>(&self, serializer: &mut Serializer<W>) -> Result<usize> {
         self.serialize_under(Tag::ENUMERATED, serializer)
@@ -78,17 +75,13 @@ impl Serialize for Enumerated {
 }
 
 impl Deserialize for Enumerated {
-    ghost shape = { Shape.primitive (PrimitiveShape.bytes 0x0A) };
+    ghost shape = { contents_shape 0x0A };
 
     ghost known = { known_bytes 0x0A (λ it. it.0.content.items) };
 
     ghost tied = { Prim.assumption };
 
     fn deserialize<R: ReadExt>(deserializer: &mut Deserializer<R>) -> Result<Enumerated>
-        ensures ok { IfOk result (λ it. Reads (Shape.primitive (PrimitiveShape.bytes 0x0A)) deserializer.old deserializer.new
-            (Tree.primitive (Primitive.bytes 0x0A it.0.content.items))) }
-        ensures err { IfErr result (Refuses ⟦<Enumerated as Serialize>⟧.meaning (Shape.primitive (PrimitiveShape.bytes 0x0A))
-            deserializer.old deserializer.new) }
         ensures read { IfOk result (λ it. ReadsContent 0x0A is_integer deserializer.old
             deserializer.new it.0.content.items) }
         ensures refused { IfErr result (RefusesContent ⟦<Enumerated as Contents>⟧.content 0x0A

@@ -6,10 +6,7 @@ ghost use Rattle.std.specs.Cmp.Rules.{comparing};
 ghost use Rattle.std.specs.Cmp.Lexicographic.{pointwise, slice_cmp, bytes_decides};
 ghost use Rattle.std.specs.Ordering.{on, nat_cmp, as_partial_cmp};
 ghost use Rattle.std.specs.Hash as fed;
-ghost use Rattle.picky_der_core.specs.Primitive.{Primitive, PrimitiveShape};
-ghost use Rattle.picky_der_core.specs.Tree.{Tree};
-ghost use Rattle.picky_der_core.specs.Shape.{Shape};
-ghost use Rattle.picky_der_input.specs.Reading.{Reads, Refuses};
+ghost use Rattle.der_types.specs.KnownContents.{contents_of, contents_shape};
 ghost use Rattle.der_types.specs.ContentTests.{ReadsContent, RefusesContent};
 ghost use Rattle.der_types.specs.TimeContents.{is_generalized_time, fraction_of};
 
@@ -200,7 +197,7 @@ impl Contents for GeneralizedTime {
 }
 
 impl Serialize for GeneralizedTime {
-    ghost meaning = { λ it. Tree.primitive (Primitive.bytes 0x18 it.content.items) };
+    ghost meaning = { contents_of 0x18 (λ it. it.content.items) };
 
     fn serialize<W: WriteExt>(&self, serializer: &mut Serializer<W>) -> Result<usize> {
         self.serialize_under(Tag::GENERALIZED_TIME, serializer)
@@ -208,19 +205,15 @@ impl Serialize for GeneralizedTime {
 }
 
 impl Deserialize for GeneralizedTime {
-    ghost use Rattle.der_types.specs.KnownContents.{known_contents};
+    ghost use Rattle.der_types.specs.KnownContents.{contents_of, contents_shape, known_contents};
 
-    ghost shape = { Shape.primitive (PrimitiveShape.bytes 0x18) };
+    ghost shape = { contents_shape 0x18 };
 
     ghost known = { known_contents 0x18 (λ it. it.content.items) ⟦<Self as PartialEq>⟧.eq ⟦<Self as Contents>⟧.same };
 
     ghost tied = { Prim.assumption };
 
     fn deserialize<R: ReadExt>(deserializer: &mut Deserializer<R>) -> Result<GeneralizedTime>
-        ensures ok { IfOk result (λ it. Reads (Shape.primitive (PrimitiveShape.bytes 0x18)) deserializer.old deserializer.new
-            (Tree.primitive (Primitive.bytes 0x18 it.content.items))) }
-        ensures err { IfErr result (Refuses ⟦<GeneralizedTime as Serialize>⟧.meaning (Shape.primitive (PrimitiveShape.bytes 0x18))
-            deserializer.old deserializer.new) }
         ensures read { IfOk result (λ it. ReadsContent 0x18 is_generalized_time deserializer.old
             deserializer.new it.content.items) }
         ensures refused { IfErr result (RefusesContent ⟦<GeneralizedTime as Contents>⟧.content 0x18

@@ -2,12 +2,9 @@
 ghost use Rattle.std.proofs.Common.{lit≤};
 ghost use Rattle.std.specs.Prelude.{◌≡◌, ◌≢◌, ℤ, true, false, IfSome, IfNone, IfOk, IfErr};
 ghost use Rattle.std.specs.Cmp.Lexicographic.{bytes_decides};
-ghost use Rattle.picky_der_core.specs.Primitive.{Primitive, PrimitiveShape};
-ghost use Rattle.picky_der_core.specs.Tree.{Tree};
-ghost use Rattle.picky_der_core.specs.Shape.{Shape};
-ghost use Rattle.picky_der_input.specs.Reading.{Reads, Refuses};
 ghost use Rattle.picky_der_de.specs.Known.{known_bytes};
 ghost use Rattle.picky_der_core.specs.Integer.{is_integer, integer_content};
+ghost use Rattle.der_types.specs.KnownContents.{contents_of, contents_shape};
 ghost use Rattle.der_types.specs.ContentTests.{ReadsContent, RefusesContent};
 
 use crate::{Contents, deserialize_contents_as};
@@ -105,7 +102,7 @@ impl Contents for Integer {
 }
 
 impl Serialize for Integer {
-    ghost meaning = { λ it. Tree.primitive (Primitive.bytes 0x02 it.content.items) };
+    ghost meaning = { contents_of 0x02 (λ it. it.content.items) };
 
     fn serialize<W: WriteExt>(&self, serializer: &mut Serializer<W>) -> Result<usize> {
         self.serialize_under(Tag::INTEGER, serializer)
@@ -113,17 +110,13 @@ impl Serialize for Integer {
 }
 
 impl Deserialize for Integer {
-    ghost shape = { Shape.primitive (PrimitiveShape.bytes 0x02) };
+    ghost shape = { contents_shape 0x02 };
 
     ghost known = { known_bytes 0x02 (λ it. it.content.items) };
 
     ghost tied = { Prim.assumption };
 
     fn deserialize<R: ReadExt>(deserializer: &mut Deserializer<R>) -> Result<Integer>
-        ensures ok { IfOk result (λ it. Reads (Shape.primitive (PrimitiveShape.bytes 0x02)) deserializer.old deserializer.new
-            (Tree.primitive (Primitive.bytes 0x02 it.content.items))) }
-        ensures err { IfErr result (Refuses ⟦<Integer as Serialize>⟧.meaning (Shape.primitive (PrimitiveShape.bytes 0x02))
-            deserializer.old deserializer.new) }
         ensures read { IfOk result (λ it. ReadsContent 0x02 is_integer deserializer.old
             deserializer.new it.content.items) }
         ensures refused { IfErr result (RefusesContent ⟦<Integer as Contents>⟧.content 0x02

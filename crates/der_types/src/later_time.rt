@@ -1,10 +1,7 @@
 //! Times of RFC 5280 from 2050 on.
 ghost use Rattle.std.proofs.Common.{lit≤};
 ghost use Rattle.std.specs.Prelude.{◌≡◌, ◌<◌, ◌≤◌, [], true, false, refl, IfSome, IfNone, IfOk, IfErr};
-ghost use Rattle.picky_der_core.specs.Primitive.{Primitive, PrimitiveShape};
-ghost use Rattle.picky_der_core.specs.Tree.{Tree};
-ghost use Rattle.picky_der_core.specs.Shape.{Shape};
-ghost use Rattle.picky_der_input.specs.Reading.{Reads, Refuses};
+ghost use Rattle.der_types.specs.KnownContents.{contents_of, contents_shape};
 ghost use Rattle.der_types.specs.ContentTests.{ReadsContent, RefusesContent};
 
 use crate::time_contents::{content_of, date_time_at, is_later_time, year_at_first};
@@ -102,7 +99,7 @@ impl Contents for LaterTime {
 impl Serialize for LaterTime {
     ghost use Rattle.der_types.specs.TimeValues.{generalized_content};
 
-    ghost meaning = { λ it. Tree.primitive (Primitive.bytes 0x18 (generalized_content it.at [])) };
+    ghost meaning = { contents_of 0x18 (λ it. generalized_content it.at []) };
 
     fn serialize<W: WriteExt>(&self, serializer: &mut Serializer<W>) -> Result<usize> {
         self.serialize_under(Tag::GENERALIZED_TIME, serializer)
@@ -112,19 +109,15 @@ impl Serialize for LaterTime {
 impl Deserialize for LaterTime {
     ghost use Rattle.der_types.specs.TimeContents.{is_later_time};
     ghost use Rattle.der_types.specs.TimeValues.{generalized_content};
-    ghost use Rattle.der_types.specs.KnownContents.{known_contents};
+    ghost use Rattle.der_types.specs.KnownContents.{contents_of, contents_shape, known_contents};
 
-    ghost shape = { Shape.primitive (PrimitiveShape.bytes 0x18) };
+    ghost shape = { contents_shape 0x18 };
 
     ghost known = { known_contents 0x18 (λ it. generalized_content it.at []) ⟦<Self as PartialEq>⟧.eq ⟦<Self as Contents>⟧.same };
 
     ghost tied = { Prim.assumption };
 
     fn deserialize<R: ReadExt>(deserializer: &mut Deserializer<R>) -> Result<LaterTime>
-        ensures ok { IfOk result (λ it. Reads (Shape.primitive (PrimitiveShape.bytes 0x18)) deserializer.old deserializer.new
-            (Tree.primitive (Primitive.bytes 0x18 (generalized_content it.at [])))) }
-        ensures err { IfErr result (Refuses ⟦<LaterTime as Serialize>⟧.meaning (Shape.primitive (PrimitiveShape.bytes 0x18))
-            deserializer.old deserializer.new) }
         ensures read { IfOk result (λ it. ReadsContent 0x18 is_later_time deserializer.old
             deserializer.new (generalized_content it.at [])) }
         ensures refused { IfErr result (RefusesContent ⟦<LaterTime as Contents>⟧.content 0x18 is_later_time

@@ -2,11 +2,8 @@
 ghost use Rattle.std.proofs.Common.{rules};
 ghost use Rattle.std.specs.Prelude.{◌≡◌, true, false, slice_index_or, IfSome, IfNone, IfOk, IfErr};
 ghost use Rattle.std.specs.Cmp.Lexicographic.{bytes_decides};
-ghost use Rattle.picky_der_core.specs.Primitive.{Primitive, PrimitiveShape};
-ghost use Rattle.picky_der_core.specs.Tree.{Tree};
-ghost use Rattle.picky_der_core.specs.Shape.{Shape};
-ghost use Rattle.picky_der_input.specs.Reading.{Reads, Refuses};
 ghost use Rattle.picky_der_de.specs.Known.{known_bytes};
+ghost use Rattle.der_types.specs.KnownContents.{contents_of, contents_shape};
 ghost use Rattle.der_types.specs.ContentTests.{ReadsContent, RefusesContent};
 ghost use Rattle.der_types.specs.BitString.{is_named_bits, bit_string_content, without_zeros, bits_of};
 
@@ -98,7 +95,7 @@ impl Contents for NamedBits {
 }
 
 impl Serialize for NamedBits {
-    ghost meaning = { λ it. Tree.primitive (Primitive.bytes 0x03 it.content.items) };
+    ghost meaning = { contents_of 0x03 (λ it. it.content.items) };
 
     fn serialize<W: WriteExt>(&self, serializer: &mut Serializer<W>) -> Result<usize> {
         self.serialize_under(Tag::BIT_STRING, serializer)
@@ -106,17 +103,13 @@ impl Serialize for NamedBits {
 }
 
 impl Deserialize for NamedBits {
-    ghost shape = { Shape.primitive (PrimitiveShape.bytes 0x03) };
+    ghost shape = { contents_shape 0x03 };
 
     ghost known = { known_bytes 0x03 (λ it. it.content.items) };
 
     ghost tied = { Prim.assumption };
 
     fn deserialize<R: ReadExt>(deserializer: &mut Deserializer<R>) -> Result<NamedBits>
-        ensures ok { IfOk result (λ it. Reads (Shape.primitive (PrimitiveShape.bytes 0x03)) deserializer.old deserializer.new
-            (Tree.primitive (Primitive.bytes 0x03 it.content.items))) }
-        ensures err { IfErr result (Refuses ⟦<NamedBits as Serialize>⟧.meaning (Shape.primitive (PrimitiveShape.bytes 0x03))
-            deserializer.old deserializer.new) }
         ensures read { IfOk result (λ it. ReadsContent 0x03 is_named_bits deserializer.old
             deserializer.new it.content.items) }
         ensures refused { IfErr result (RefusesContent ⟦<NamedBits as Contents>⟧.content 0x03 is_named_bits

@@ -2,11 +2,8 @@
 ghost use Rattle.std.proofs.Common.{rules};
 ghost use Rattle.std.specs.Prelude.{◌≡◌, ◌↔◌, ◌⊎◌, Some, true, false, map, IsTrue, IfSome, IfNone, OnOk, IfOk, IfErr};
 ghost use Rattle.std.specs.Cmp.Lexicographic.{bytes_decides};
-ghost use Rattle.picky_der_core.specs.Primitive.{Primitive, PrimitiveShape};
-ghost use Rattle.picky_der_core.specs.Tree.{Tree};
-ghost use Rattle.picky_der_core.specs.Shape.{Shape};
-ghost use Rattle.picky_der_input.specs.Reading.{Reads, Refuses};
 ghost use Rattle.picky_der_de.specs.Known.{known_bytes};
+ghost use Rattle.der_types.specs.KnownContents.{contents_of, contents_shape};
 ghost use Rattle.der_types.specs.ContentTests.{ReadsContent, RefusesContent};
 ghost use Rattle.der_types.specs.Dotted.{dotted_or_marked, fitted};
 ghost use Rattle.der_types.specs.Arcs.{arcs_left};
@@ -166,7 +163,7 @@ impl Contents for ObjectIdentifier {
 }
 
 impl Serialize for ObjectIdentifier {
-    ghost meaning = { λ it. Tree.primitive (Primitive.bytes 0x06 it.content.items) };
+    ghost meaning = { contents_of 0x06 (λ it. it.content.items) };
 
     fn serialize<W: WriteExt>(&self, serializer: &mut Serializer<W>) -> Result<usize> {
         self.serialize_under(Tag::OID, serializer)
@@ -174,17 +171,13 @@ impl Serialize for ObjectIdentifier {
 }
 
 impl Deserialize for ObjectIdentifier {
-    ghost shape = { Shape.primitive (PrimitiveShape.bytes 0x06) };
+    ghost shape = { contents_shape 0x06 };
 
     ghost known = { known_bytes 0x06 (λ it. it.content.items) };
 
     ghost tied = { Prim.assumption };
 
     fn deserialize<R: ReadExt>(deserializer: &mut Deserializer<R>) -> Result<ObjectIdentifier>
-        ensures ok { IfOk result (λ it. Reads (Shape.primitive (PrimitiveShape.bytes 0x06)) deserializer.old deserializer.new
-            (Tree.primitive (Primitive.bytes 0x06 it.content.items))) }
-        ensures err { IfErr result (Refuses ⟦<ObjectIdentifier as Serialize>⟧.meaning (Shape.primitive (PrimitiveShape.bytes 0x06))
-            deserializer.old deserializer.new) }
         ensures read { IfOk result (λ it. ReadsContent 0x06 is_object_identifier deserializer.old
             deserializer.new it.content.items) }
         ensures refused { IfErr result (RefusesContent ⟦<ObjectIdentifier as Contents>⟧.content 0x06 is_object_identifier

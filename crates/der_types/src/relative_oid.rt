@@ -2,11 +2,8 @@
 ghost use Rattle.std.specs.Prelude.{◌≡◌, ◌⊎◌, Some, true, false, map, IfSome, IfNone, OnOk, IfOk, IfErr};
 ghost use Rattle.std.proofs.Common.{rules};
 ghost use Rattle.std.specs.Cmp.Lexicographic.{bytes_decides};
-ghost use Rattle.picky_der_core.specs.Primitive.{Primitive, PrimitiveShape};
-ghost use Rattle.picky_der_core.specs.Tree.{Tree};
-ghost use Rattle.picky_der_core.specs.Shape.{Shape};
-ghost use Rattle.picky_der_input.specs.Reading.{Reads, Refuses};
 ghost use Rattle.picky_der_de.specs.Known.{known_bytes};
+ghost use Rattle.der_types.specs.KnownContents.{contents_of, contents_shape};
 ghost use Rattle.der_types.specs.ContentTests.{ReadsContent, RefusesContent};
 ghost use Rattle.der_types.specs.Subidentifiers.{numbers_behind};
 ghost use Rattle.der_types.specs.Dotted.{dotted_or_marked, fitted, RefusesText};
@@ -142,7 +139,7 @@ impl Contents for RelativeOid {
 }
 
 impl Serialize for RelativeOid {
-    ghost meaning = { λ it. Tree.primitive (Primitive.bytes 0x0D it.content.items) };
+    ghost meaning = { contents_of 0x0D (λ it. it.content.items) };
 
     fn serialize<W: WriteExt>(&self, serializer: &mut Serializer<W>) -> Result<usize> {
         self.serialize_under(Tag::RELATIVE_OID, serializer)
@@ -150,17 +147,13 @@ impl Serialize for RelativeOid {
 }
 
 impl Deserialize for RelativeOid {
-    ghost shape = { Shape.primitive (PrimitiveShape.bytes 0x0D) };
+    ghost shape = { contents_shape 0x0D };
 
     ghost known = { known_bytes 0x0D (λ it. it.content.items) };
 
     ghost tied = { Prim.assumption };
 
     fn deserialize<R: ReadExt>(deserializer: &mut Deserializer<R>) -> Result<RelativeOid>
-        ensures ok { IfOk result (λ it. Reads (Shape.primitive (PrimitiveShape.bytes 0x0D)) deserializer.old deserializer.new
-            (Tree.primitive (Primitive.bytes 0x0D it.content.items))) }
-        ensures err { IfErr result (Refuses ⟦<RelativeOid as Serialize>⟧.meaning (Shape.primitive (PrimitiveShape.bytes 0x0D))
-            deserializer.old deserializer.new) }
         ensures read { IfOk result (λ it. ReadsContent 0x0D is_relative_oid deserializer.old
             deserializer.new it.content.items) }
         ensures refused { IfErr result (RefusesContent ⟦<RelativeOid as Contents>⟧.content 0x0D is_relative_oid

@@ -3,11 +3,8 @@ ghost use Rattle.std.specs.Prelude.{◌≡◌, ◌⊎◌, ◌==◌, true, false,
 ghost use Rattle.std.specs.Cmp.Lexicographic.{bytes_decides};
 ghost use Rattle.std.specs.List.{list_all};
 ghost use Rattle.std.specs.Str.{encode_utf8_all};
-ghost use Rattle.picky_der_core.specs.Primitive.{Primitive, PrimitiveShape};
-ghost use Rattle.picky_der_core.specs.Tree.{Tree};
-ghost use Rattle.picky_der_core.specs.Shape.{Shape};
-ghost use Rattle.picky_der_input.specs.Reading.{Reads, Refuses};
 ghost use Rattle.picky_der_de.specs.Known.{known_bytes};
+ghost use Rattle.der_types.specs.KnownContents.{contents_of, contents_shape};
 ghost use Rattle.der_types.specs.ContentTests.{ReadsContent, RefusesContent};
 ghost use Rattle.der_types.specs.CharacterStrings.{string_content, characters, is_string_content};
 
@@ -198,7 +195,7 @@ impl<S: CharacterSet> Contents for RestrictedString<S> {
 }
 
 impl<S: CharacterSet> Serialize for RestrictedString<S> {
-    ghost meaning = { λ it. Tree.primitive (Primitive.bytes S.TAG it.content.items) };
+    ghost meaning = { contents_of S.TAG (λ it. it.content.items) };
 
     fn serialize<W: WriteExt>(&self, serializer: &mut Serializer<W>) -> Result<usize> {
         self.serialize_under(Tag::from(S::TAG), serializer)
@@ -206,17 +203,13 @@ impl<S: CharacterSet> Serialize for RestrictedString<S> {
 }
 
 impl<S: CharacterSet> Deserialize for RestrictedString<S> {
-    ghost shape = { Shape.primitive (PrimitiveShape.bytes S.TAG) };
+    ghost shape = { contents_shape S.TAG };
 
     ghost known = { known_bytes S.TAG (λ it. it.content.items) };
 
     ghost tied = { Prim.assumption };
 
     fn deserialize<R: ReadExt>(deserializer: &mut Deserializer<R>) -> Result<RestrictedString<S>>
-        ensures ok { IfOk result (λ it. Reads (Shape.primitive (PrimitiveShape.bytes S.TAG)) deserializer.old deserializer.new
-            (Tree.primitive (Primitive.bytes S.TAG it.content.items))) }
-        ensures err { IfErr result (Refuses ⟦<RestrictedString<S> as Serialize>⟧.meaning
-            (Shape.primitive (PrimitiveShape.bytes S.TAG)) deserializer.old deserializer.new) }
         ensures read { IfOk result (λ it. ReadsContent S.TAG
             (is_string_content S.WIDTH S.is_character) deserializer.old deserializer.new
             it.content.items) }

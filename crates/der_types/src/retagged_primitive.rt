@@ -1,12 +1,9 @@
 //! Primitive values under another tag in place of their own (X.690, 8.14).
-ghost use Rattle.std.specs.Prelude.{◌≡◌, IfOk, IfErr};
-ghost use Rattle.picky_der_core.specs.Primitive.{Primitive, PrimitiveShape};
-ghost use Rattle.picky_der_core.specs.Tree.{Tree};
-ghost use Rattle.picky_der_core.specs.Shape.{Shape};
 ghost use Rattle.picky_der_input.specs.Reading.{Reads, Refuses};
+ghost use Rattle.std.specs.Prelude.{◌≡◌, IfOk, IfErr};
 ghost use Rattle.der_types.specs.ContentTests.{ReadsContent, RefusesContent};
 ghost use Rattle.der_types.specs.PrimitiveForm.{primitive_form};
-ghost use Rattle.der_types.specs.KnownContents.{known_content_of};
+ghost use Rattle.der_types.specs.KnownContents.{contents_of, contents_shape, known_content_of};
 
 use crate::Contents;
 use crate::contents::deserialize_contents_under;
@@ -45,7 +42,7 @@ impl<T, const TAG: u8> From<T> for RetaggedPrimitive<T, TAG> {
 }
 
 impl<T: Contents, const TAG: u8> Serialize for RetaggedPrimitive<T, TAG> {
-    ghost meaning = { λ tagged. Tree.primitive (Primitive.bytes (primitive_form TAG) (T.content tagged.0)) };
+    ghost meaning = { contents_of (primitive_form TAG) (λ tagged. T.content tagged.0) };
 
     fn serialize<W: WriteExt>(&self, serializer: &mut Serializer<W>) -> Result<usize> {
         self.0.serialize_under(primitive_form(TAG), serializer)
@@ -53,7 +50,7 @@ impl<T: Contents, const TAG: u8> Serialize for RetaggedPrimitive<T, TAG> {
 }
 
 impl<T: Contents, const TAG: u8> Deserialize for RetaggedPrimitive<T, TAG> {
-    ghost shape = { Shape.primitive (PrimitiveShape.bytes (primitive_form TAG)) };
+    ghost shape = { contents_shape (primitive_form TAG) };
 
     ghost known = { known_content_of (primitive_form TAG) T.content T.equal T.same T.eq (λ tagged. tagged.0) };
 
@@ -62,10 +59,10 @@ impl<T: Contents, const TAG: u8> Deserialize for RetaggedPrimitive<T, TAG> {
     fn deserialize<R: ReadExt>(
         deserializer: &mut Deserializer<R>,
     ) -> Result<RetaggedPrimitive<T, TAG>>
-        ensures ok { IfOk result (λ it. Reads (Shape.primitive (PrimitiveShape.bytes (primitive_form TAG))) deserializer.old deserializer.new
-            (Tree.primitive (Primitive.bytes (primitive_form TAG) (T.content it.0)))) }
-        ensures err { IfErr result (Refuses ⟦<RetaggedPrimitive<T, TAG> as Serialize>⟧.meaning (Shape.primitive (PrimitiveShape.bytes (primitive_form TAG)))
-            deserializer.old deserializer.new) }
+        ensures ok { IfOk result (λ it. Reads (contents_shape (primitive_form TAG)) deserializer.old
+            deserializer.new (contents_of (primitive_form TAG) T.content it.0)) }
+        ensures err { IfErr result (Refuses ⟦<RetaggedPrimitive<T, TAG> as Serialize>⟧.meaning
+            (contents_shape (primitive_form TAG)) deserializer.old deserializer.new) }
         ensures read { IfOk result (λ it. ReadsContent (primitive_form TAG) T.is_content deserializer.old
             deserializer.new (T.content it.0)) }
         ensures refused { IfErr result (RefusesContent (λ (it : RetaggedPrimitive T TAG). T.content it.0) (primitive_form TAG) T.is_content

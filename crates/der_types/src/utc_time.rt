@@ -1,10 +1,7 @@
 //! Times whose year has two digits.
 ghost use Rattle.std.proofs.Common.{lit≤};
 ghost use Rattle.std.specs.Prelude.{◌≡◌, ◌<◌, ◌≤◌, ◌⊎◌, drop, true, false, refl, IfSome, IfNone, IfOk, IfErr};
-ghost use Rattle.picky_der_core.specs.Primitive.{Primitive, PrimitiveShape};
-ghost use Rattle.picky_der_core.specs.Tree.{Tree};
-ghost use Rattle.picky_der_core.specs.Shape.{Shape};
-ghost use Rattle.picky_der_input.specs.Reading.{Reads, Refuses};
+ghost use Rattle.der_types.specs.KnownContents.{contents_of, contents_shape};
 ghost use Rattle.der_types.specs.ContentTests.{ReadsContent, RefusesContent};
 
 use crate::time_contents::{content_of, date_time_at, full_year, is_utc_time, number_at};
@@ -107,7 +104,7 @@ impl Contents for UtcTime {
 impl Serialize for UtcTime {
     ghost use Rattle.der_types.specs.TimeValues.{utc_content};
 
-    ghost meaning = { λ it. Tree.primitive (Primitive.bytes 0x17 (utc_content it.at)) };
+    ghost meaning = { contents_of 0x17 (λ it. utc_content it.at) };
 
     fn serialize<W: WriteExt>(&self, serializer: &mut Serializer<W>) -> Result<usize> {
         self.serialize_under(Tag::UTC_TIME, serializer)
@@ -117,19 +114,15 @@ impl Serialize for UtcTime {
 impl Deserialize for UtcTime {
     ghost use Rattle.der_types.specs.TimeContents.{is_utc_time};
     ghost use Rattle.der_types.specs.TimeValues.{utc_content};
-    ghost use Rattle.der_types.specs.KnownContents.{known_contents};
+    ghost use Rattle.der_types.specs.KnownContents.{contents_of, contents_shape, known_contents};
 
-    ghost shape = { Shape.primitive (PrimitiveShape.bytes 0x17) };
+    ghost shape = { contents_shape 0x17 };
 
     ghost known = { known_contents 0x17 (λ it. utc_content it.at) ⟦<Self as PartialEq>⟧.eq ⟦<Self as Contents>⟧.same };
 
     ghost tied = { Prim.assumption };
 
     fn deserialize<R: ReadExt>(deserializer: &mut Deserializer<R>) -> Result<UtcTime>
-        ensures ok { IfOk result (λ it. Reads (Shape.primitive (PrimitiveShape.bytes 0x17)) deserializer.old deserializer.new
-            (Tree.primitive (Primitive.bytes 0x17 (utc_content it.at)))) }
-        ensures err { IfErr result (Refuses ⟦<UtcTime as Serialize>⟧.meaning (Shape.primitive (PrimitiveShape.bytes 0x17))
-            deserializer.old deserializer.new) }
         ensures read { IfOk result (λ it. ReadsContent 0x17 is_utc_time deserializer.old
             deserializer.new (utc_content it.at)) }
         ensures refused { IfErr result (RefusesContent ⟦<UtcTime as Contents>⟧.content 0x17 is_utc_time

@@ -4,7 +4,7 @@ ghost use Rattle.picky_der_core.specs.Primitive.{Primitive, PrimitiveShape};
 ghost use Rattle.picky_der_core.specs.Tag.{number_of};
 ghost use Rattle.picky_der_core.specs.Tree.{Tree};
 ghost use Rattle.picky_der_core.specs.Shape.{Shape};
-ghost use Rattle.picky_der_input.specs.Reading.{Reads, Refuses, RefusesPrimitive};
+ghost use Rattle.picky_der_input.specs.Reading.{Reads, Refuses, RefusesPrimitive, ReadsPrimitive};
 ghost use Rattle.picky_der_input.specs.TagNumbers.{RefusesNumber};
 ghost use Rattle.picky_der_de.specs.Known.{known_bytes};
 
@@ -23,9 +23,8 @@ impl Deserialize for ByteBuf {
 
     #[inline(always)]
     fn deserialize<R: ReadExt>(de: &mut Deserializer<R>) -> Result<ByteBuf>
-        ensures ok { IfOk result (λ value. Reads (Shape.primitive (PrimitiveShape.bytes 0x04))
-            de.old de.new
-            (Tree.primitive (Primitive.bytes 0x04 value.0.items))) }
+        ensures read { IfOk result (λ value. ReadsPrimitive (PrimitiveShape.bytes 0x04)
+            de.old de.new (Primitive.bytes 0x04 value.0.items)) }
         ensures err { IfErr result (Refuses ⟦<ByteBuf as Serialize>⟧.meaning (Shape.primitive (PrimitiveShape.bytes 0x04))
             de.old de.new) }
         ensures refused { IfErr result (RefusesPrimitive (Primitive.bytes 0x04) (PrimitiveShape.bytes 0x04)
@@ -45,8 +44,7 @@ impl<const TAG: u8> Deserialize for TaggedBytes<TAG> {
     #[inline(always)]
     fn deserialize<R: ReadExt>(de: &mut Deserializer<R>) -> Result<TaggedBytes<TAG>>
         ensures ok { IfOk result (λ value. Reads (Shape.primitive (PrimitiveShape.bytes TAG))
-            de.old de.new
-            (Tree.primitive (Primitive.bytes TAG value.0.items))) }
+            de.old de.new (Tree.primitive (Primitive.bytes TAG value.0.items))) }
         ensures err { IfErr result (Refuses ⟦<TaggedBytes<TAG> as Serialize>⟧.meaning
             (Shape.primitive (PrimitiveShape.bytes TAG)) de.old de.new) }
         ensures refused { IfErr result (RefusesPrimitive (Primitive.bytes TAG) (PrimitiveShape.bytes TAG)

@@ -14,7 +14,7 @@ use picky_der_core::Result;
 use picky_der_core::misc::ReadExt;
 
 impl Deserialize for bool {
-    ghost shape = { (Shape.primitive PrimitiveShape.boolean) };
+    ghost shape = { Shape.primitive PrimitiveShape.boolean };
 
     ghost known = { known_boolean };
 
@@ -22,11 +22,8 @@ impl Deserialize for bool {
 
     #[inline(always)]
     fn deserialize<R: ReadExt>(de: &mut Deserializer<R>) -> Result<bool>
-        ensures ok { IfOk result (λ value. Reads (Shape.primitive PrimitiveShape.boolean)
-            de.old de.new
-            (Tree.primitive (Primitive.boolean value))) }
-        ensures err { IfErr result (Refuses (λ value. Tree.primitive (Primitive.boolean value))
-            (Shape.primitive PrimitiveShape.boolean) de.old de.new) }
+        ensures read { IfOk result (λ value. ReadsPrimitive PrimitiveShape.boolean
+            de.old de.new (Primitive.boolean value)) }
         ensures refused { IfErr result (RefusesPrimitive Primitive.boolean PrimitiveShape.boolean
             de.old de.new) }
         ensures memory { IfErr result (TakesNoMemory de.old de.new) }
@@ -45,11 +42,8 @@ impl Deserialize for u8 {
     #[inline(always)]
     #[tactic(auto, using(crate::proofs::NumberReads::reads_within))]
     fn deserialize<R: ReadExt>(de: &mut Deserializer<R>) -> Result<u8>
-        ensures ok { IfOk result (λ value. Reads (Shape.primitive (PrimitiveShape.unsigned (2 ^ 8 - 1)))
-            de.old de.new
-            (Tree.primitive (Primitive.unsigned value))) }
-        ensures err { IfErr result (Refuses (λ value. Tree.primitive (Primitive.unsigned value))
-            (Shape.primitive (PrimitiveShape.unsigned (2 ^ 8 - 1))) de.old de.new) }
+        ensures read { IfOk result (λ value. ReadsPrimitive (PrimitiveShape.unsigned (2 ^ 8 - 1))
+            de.old de.new (Primitive.unsigned value)) }
         ensures meant { IfOk result (λ value. Reads (Shape.primitive (PrimitiveShape.unsigned (2 ^ 8 - 1)))
             de.old de.new
             (unsigned_tree (2 ^ 8 - 1) value)) }
@@ -73,11 +67,8 @@ impl Deserialize for u16 {
     #[inline(always)]
     #[tactic(auto, using(crate::proofs::NumberReads::reads_within))]
     fn deserialize<R: ReadExt>(de: &mut Deserializer<R>) -> Result<u16>
-        ensures ok { IfOk result (λ value. Reads (Shape.primitive (PrimitiveShape.unsigned (2 ^ 16 - 1)))
-            de.old de.new
-            (Tree.primitive (Primitive.unsigned value))) }
-        ensures err { IfErr result (Refuses (λ value. Tree.primitive (Primitive.unsigned value))
-            (Shape.primitive (PrimitiveShape.unsigned (2 ^ 16 - 1))) de.old de.new) }
+        ensures read { IfOk result (λ value. ReadsPrimitive (PrimitiveShape.unsigned (2 ^ 16 - 1))
+            de.old de.new (Primitive.unsigned value)) }
         ensures meant { IfOk result (λ value. Reads (Shape.primitive (PrimitiveShape.unsigned (2 ^ 16 - 1)))
             de.old de.new
             (unsigned_tree (2 ^ 16 - 1) value)) }
@@ -101,11 +92,8 @@ impl Deserialize for u32 {
     #[inline(always)]
     #[tactic(auto, using(crate::proofs::NumberReads::reads_within))]
     fn deserialize<R: ReadExt>(de: &mut Deserializer<R>) -> Result<u32>
-        ensures ok { IfOk result (λ value. Reads (Shape.primitive (PrimitiveShape.unsigned (2 ^ 32 - 1)))
-            de.old de.new
-            (Tree.primitive (Primitive.unsigned value))) }
-        ensures err { IfErr result (Refuses (λ value. Tree.primitive (Primitive.unsigned value))
-            (Shape.primitive (PrimitiveShape.unsigned (2 ^ 32 - 1))) de.old de.new) }
+        ensures read { IfOk result (λ value. ReadsPrimitive (PrimitiveShape.unsigned (2 ^ 32 - 1))
+            de.old de.new (Primitive.unsigned value)) }
         ensures meant { IfOk result (λ value. Reads (Shape.primitive (PrimitiveShape.unsigned (2 ^ 32 - 1)))
             de.old de.new
             (unsigned_tree (2 ^ 32 - 1) value)) }
@@ -129,11 +117,8 @@ impl Deserialize for u64 {
     #[inline(always)]
     #[tactic(auto, using(crate::proofs::NumberReads::reads_within))]
     fn deserialize<R: ReadExt>(de: &mut Deserializer<R>) -> Result<u64>
-        ensures ok { IfOk result (λ value. Reads (Shape.primitive (PrimitiveShape.unsigned (2 ^ 64 - 1)))
-            de.old de.new
-            (Tree.primitive (Primitive.unsigned value))) }
-        ensures err { IfErr result (Refuses (λ value. Tree.primitive (Primitive.unsigned value))
-            (Shape.primitive (PrimitiveShape.unsigned (2 ^ 64 - 1))) de.old de.new) }
+        ensures read { IfOk result (λ value. ReadsPrimitive (PrimitiveShape.unsigned (2 ^ 64 - 1))
+            de.old de.new (Primitive.unsigned value)) }
         ensures meant { IfOk result (λ value. Reads (Shape.primitive (PrimitiveShape.unsigned (2 ^ 64 - 1)))
             de.old de.new
             (unsigned_tree (2 ^ 64 - 1) value)) }
@@ -157,11 +142,8 @@ impl Deserialize for u128 {
     #[inline(always)]
     #[tactic(auto, using(crate::proofs::NumberReads::reads_within))]
     fn deserialize<R: ReadExt>(de: &mut Deserializer<R>) -> Result<u128>
-        ensures ok { IfOk result (λ value. Reads (Shape.primitive (PrimitiveShape.unsigned (2 ^ 128 - 1)))
-            de.old de.new
-            (Tree.primitive (Primitive.unsigned value))) }
-        ensures err { IfErr result (Refuses (λ value. Tree.primitive (Primitive.unsigned value))
-            (Shape.primitive (PrimitiveShape.unsigned (2 ^ 128 - 1))) de.old de.new) }
+        ensures read { IfOk result (λ value. ReadsPrimitive (PrimitiveShape.unsigned (2 ^ 128 - 1))
+            de.old de.new (Primitive.unsigned value)) }
         ensures meant { IfOk result (λ value. Reads (Shape.primitive (PrimitiveShape.unsigned (2 ^ 128 - 1)))
             de.old de.new
             (unsigned_tree (2 ^ 128 - 1) value)) }
@@ -185,12 +167,7 @@ impl Deserialize for usize {
     #[inline(always)]
     #[tactic(auto, using(crate::proofs::NumberReads::reads_within))]
     fn deserialize<R: ReadExt>(de: &mut Deserializer<R>) -> Result<usize>
-        ensures ok { IfOk result (λ value. Reads (Shape.primitive (PrimitiveShape.unsigned (2 ^ 64 - 1)))
-            de.old de.new
-            (Tree.primitive (Primitive.unsigned value))) }
-        ensures err { IfErr result (Refuses (λ value. Tree.primitive (Primitive.unsigned value))
-            (Shape.primitive (PrimitiveShape.unsigned (2 ^ 64 - 1))) de.old de.new) }
-        ensures number { IfOk result (λ value. ReadsPrimitive (PrimitiveShape.unsigned (2 ^ 64 - 1))
+        ensures read { IfOk result (λ value. ReadsPrimitive (PrimitiveShape.unsigned (2 ^ 64 - 1))
             de.old de.new (Primitive.unsigned value)) }
         ensures meant { IfOk result (λ value. Reads (Shape.primitive (PrimitiveShape.unsigned (2 ^ 64 - 1)))
             de.old de.new

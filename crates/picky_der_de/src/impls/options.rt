@@ -1,10 +1,10 @@
 //! Null, as it is read, and values that may be missing.
-ghost use Rattle.std.specs.Prelude.{IfOk, IfErr};
+ghost use Rattle.std.specs.Prelude.{IfErr, OnOk};
 ghost use Rattle.picky_der_core.specs.Primitive.{Primitive, PrimitiveShape};
 ghost use Rattle.picky_der_core.specs.Tree.{Tree};
 ghost use Rattle.picky_der_core.specs.Shape.{Shape};
 ghost use Rattle.picky_der_input.specs.Steps.{TakesNoMemory};
-ghost use Rattle.picky_der_input.specs.Reading.{Reads, Refuses, RefusesPrimitive};
+ghost use Rattle.picky_der_input.specs.Reading.{Reads, Refuses, RefusesPrimitive, ReadsPrimitive};
 ghost use Rattle.picky_der_de.specs.Known.{known_null};
 ghost use Rattle.picky_der_de.specs.KnownContainers.{known_option};
 
@@ -13,17 +13,15 @@ use picky_der_core::Result;
 use picky_der_core::misc::ReadExt;
 
 impl Deserialize for () {
-    ghost shape = { (Shape.primitive PrimitiveShape.null) };
+    ghost shape = { Shape.primitive PrimitiveShape.null };
 
     ghost known = { known_null };
 
     ghost tied = { Prim.assumption };
 
     fn deserialize<R: ReadExt>(de: &mut Deserializer<R>) -> Result<()>
-        ensures ok { IfOk result (λ _. Reads (Shape.primitive PrimitiveShape.null)
-            de.old de.new (Tree.primitive Primitive.null)) }
-        ensures err { IfErr result (Refuses (λ (_ : Unit {0}). (Tree.primitive Primitive.null))
-            (Shape.primitive PrimitiveShape.null) de.old de.new) }
+        ensures read { OnOk result
+            (ReadsPrimitive PrimitiveShape.null de.old de.new Primitive.null) }
         ensures refused { IfErr result (RefusesPrimitive (λ (_ : Unit {0}). Primitive.null) PrimitiveShape.null
             de.old de.new) }
         ensures memory { IfErr result (TakesNoMemory de.old de.new) }

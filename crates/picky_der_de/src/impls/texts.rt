@@ -5,7 +5,7 @@ ghost use Rattle.picky_der_core.specs.Primitive.{Primitive, PrimitiveShape};
 ghost use Rattle.picky_der_core.specs.Tree.{Tree};
 ghost use Rattle.picky_der_core.specs.Shape.{Shape};
 ghost use Rattle.picky_der_input.specs.Steps.{TakesNoMemory};
-ghost use Rattle.picky_der_input.specs.Reading.{Reads, Refuses, RefusesPrimitive};
+ghost use Rattle.picky_der_input.specs.Reading.{Reads, Refuses, RefusesPrimitive, ReadsPrimitive};
 ghost use Rattle.picky_der_de.specs.Known.{known_character, known_text};
 
 use crate::{Deserialize, Deserializer};
@@ -13,18 +13,15 @@ use picky_der_core::Result;
 use picky_der_core::misc::ReadExt;
 
 impl Deserialize for char {
-    ghost shape = { (Shape.primitive PrimitiveShape.character) };
+    ghost shape = { Shape.primitive PrimitiveShape.character };
 
     ghost known = { known_character };
 
     ghost tied = { Prim.assumption };
 
     fn deserialize<R: ReadExt>(de: &mut Deserializer<R>) -> Result<char>
-        ensures ok { IfOk result (λ value. Reads (Shape.primitive PrimitiveShape.character)
-            de.old de.new
-            (Tree.primitive (Primitive.text (encode_utf8 value)))) }
-        ensures err { IfErr result (Refuses (λ value. Tree.primitive (Primitive.text (encode_utf8 value)))
-            (Shape.primitive PrimitiveShape.character) de.old de.new) }
+        ensures read { IfOk result (λ value. ReadsPrimitive PrimitiveShape.character
+            de.old de.new (Primitive.text (encode_utf8 value))) }
         ensures refused { IfErr result (RefusesPrimitive (λ c. Primitive.text (encode_utf8 c)) PrimitiveShape.character
             de.old de.new) }
         ensures memory { IfErr result (TakesNoMemory de.old de.new) }
@@ -34,17 +31,18 @@ impl Deserialize for char {
 }
 
 impl Deserialize for String {
-    ghost shape = { (Shape.primitive PrimitiveShape.text) };
+    ghost shape = { Shape.primitive PrimitiveShape.text };
 
     ghost known = { known_text string_bytes };
 
     ghost tied = { Prim.assumption };
 
     fn deserialize<R: ReadExt>(de: &mut Deserializer<R>) -> Result<String>
-        ensures ok { IfOk result (λ value. Reads (Shape.primitive PrimitiveShape.text) de.old de.new
-            (Tree.primitive (Primitive.text (string_bytes value)))) }
-        ensures err { IfErr result (Refuses (λ (value : String Global). Tree.primitive (Primitive.text (string_bytes value))) (Shape.primitive PrimitiveShape.text)
-            de.old de.new) }
+        ensures read { IfOk result (λ value. ReadsPrimitive PrimitiveShape.text
+            de.old de.new (Primitive.text (string_bytes value))) }
+        ensures err { IfErr result (Refuses
+            (λ (value : String Global). Tree.primitive (Primitive.text (string_bytes value)))
+            (Shape.primitive PrimitiveShape.text) de.old de.new) }
         ensures refused { IfErr result (RefusesPrimitive Primitive.text PrimitiveShape.text
             de.old de.new) }
     {
