@@ -20,7 +20,7 @@ use Rattle.picky_der_input.specs.Steps.{Takes, TakesBytes, Fails, StopsShort, Is
 use Rattle.picky_der_input.specs.Reading.{Concerns, now, ever, IsJustRefused, RefusesPrimitive, refusal_at}
 use Rattle.picky_der_input.specs.Headers.{BeginsContent, RefusesContentLength}
 use Rattle.picky_der_input.specs.Elements.{raw_refusal, without_implicit_tag, BeginsElement, ReadsRaw, RefusesRaw}
-use Rattle.picky_der_input.proofs.Steps.{fails_after}
+use Rattle.picky_der_input.proofs.Steps.{takes_beside, fails_beside, fails_after}
 use Rattle.picky_der_input.proofs.Refusals.{concerns_behind, failed_grows, missing_here, missing_first, taken_first}
 use Rattle.picky_der_input.proofs.Known.{front_of, just_taken, just_missing}
 use Rattle.picky_der_input.proofs.Headers.{is_number, same_byte, length_tlv, header_unread}
@@ -30,36 +30,10 @@ use Rattle.picky_der_input.specs.PlainKindLaws.{bytes_kind}
 -- ---- without the implicit tag
 
 takes_with_implicit_tag : {a c : State} {bs : List ℕ} → Takes (without_implicit_tag a) c bs → Takes a c bs
-takes_with_implicit_tag t = record {
-  input = t.input;
-  taken = t.taken;
-  until_end = t.until_end;
-  end = t.end;
-  limit = t.limit;
-  sets = t.sets;
-  unpeeked = t.unpeeked;
-  drawn = t.drawn;
-  had_not_failed = t.had_not_failed;
-  not_failed = t.not_failed;
-  faults = t.faults;
-  references = t.references;
-}
+takes_with_implicit_tag t = takes_beside t.until_end t.end t.sets t
 
 fails_with_implicit_tag : {a c : State} {e : Asn1DerError} → Fails (without_implicit_tag a) c e → Fails a c e
-fails_with_implicit_tag f = record {
-  failed = f.failed;
-  again = λ k w. let q = f.again k w in (q.0, record { input = q.1.input; taken = q.1.taken; peeked = q.1.peeked; faults = q.1.faults });
-  faults = f.faults;
-  unpeeked = f.unpeeked;
-  other = f.other;
-  took = record { bytes = f.took.bytes; input = f.took.input; count = f.took.count };
-  grows = f.grows;
-  end = f.end;
-  limit = f.limit;
-  within = λ w. f.within (record { end = w.end; drawn = w.drawn });
-  there = f.there;
-  references = f.references;
-}
+fails_with_implicit_tag f = fails_beside (omega arith) f
 
 judged_without_implicit_tag : {a c : State} {e : Asn1DerError} → IsJudged a c e → IsJudged (without_implicit_tag a) c e
 judged_without_implicit_tag j = record { had_not_failed = j.had_not_failed; faults = j.faults; memory = j.memory }

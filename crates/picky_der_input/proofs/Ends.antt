@@ -7,11 +7,12 @@ use Rattle.picky_der_input.specs.declared.end.End.{End}
 use Rattle.picky_der_input.specs.declared.end.End.TheVariants.{Soft}
 use Rattle.picky_der_input.specs.State.{State}
 use Rattle.picky_der_input.specs.Steps.{Takes, Fails, IsJudged, mendable_within, is_hard}
-use Rattle.picky_der_input.specs.Order.{order_of, sets_inside, cut_at}
+use Rattle.picky_der_input.specs.Order.{order_of, sets_inside}
 use Rattle.picky_der_input.proofs.Order.{put_back}
 use Rattle.picky_der_input.specs.Reading.{Concerns, now, ever}
 use Rattle.picky_der_input.specs.Headers.{header_bytes, BeginsContent}
-use Rattle.picky_der_input.specs.Ends.{Outer, innermost, with_inner_end, Closes, OpensList, list_refusal_in, list_refusal}
+use Rattle.picky_der_input.specs.Ends.{Outer, innermost, with_inner_end, with_outer_end, Closes, OpensList, list_refusal_in, list_refusal}
+use Rattle.picky_der_input.proofs.Steps.{takes_beside, fails_beside}
 use Rattle.picky_der_input.proofs.Known.{front_of}
 use Rattle.picky_der_input.proofs.Headers.{header-read}
 use Rattle.picky_der_input.proofs.PlainReads.{fits_below}
@@ -55,38 +56,12 @@ judged_with_inner_end n kind j = record { had_not_failed = j.had_not_failed; fau
 
 -- a call that failed before a nearer end failed before the one around it
 pub fails_without_inner_end : {b c : State} {e : Asn1DerError} {n : ℕ} {kind : End} → n ≤ b.until_end → Fails (with_inner_end b n kind) c e → Fails b c e
-fails_without_inner_end {b} {c} {e} {n} {kind} l f = record {
-  failed = f.failed;
-  again = λ k w. let q = f.again k w in (q.0, record { input = q.1.input; taken = q.1.taken; peeked = q.1.peeked; faults = q.1.faults });
-  faults = f.faults;
-  unpeeked = f.unpeeked;
-  other = f.other;
-  took = record { bytes = f.took.bytes; input = f.took.input; count = f.took.count };
-  grows = f.grows;
-  end = omega (arith, f.end);
-  limit = f.limit;
-  within = λ w. f.within (record { end = omega (arith, w.end); drawn = w.drawn });
-  there = f.there;
-  references = f.references;
-}
+fails_without_inner_end l f = fails_beside l f
 
 -- what was taken up to an end that is closed was taken before the one around it
 pub closes_behind : {b c d : State} {n : ℕ} {kind : End} {outer : Outer} {bytes : List ℕ} → n ≤ b.until_end → outer ≡ innermost b → Takes (with_inner_end b n kind) c bytes → Closes outer c d → Takes b d bytes × (length bytes ≡ n)
 closes_behind {b} {c} {d} {n} {kind} {outer} {bytes} l back t k =
     let size : length bytes ≡ n = omega (arith, t.until_end, k.reached) in
     let position : outer.position ≡ b.taken + b.until_end = ap (λ (o : Outer). o.position) back in
-    let new : State = record c { until_end = outer.position - c.taken; end = outer.kind; sets = cut_at outer.last_start c.sets.around } in
-    let takes : Takes b new bytes = record {
-      input = t.input;
-      taken = t.taken;
-      until_end = omega (arith, t.taken, position, size);
-      end = ap (λ (o : Outer). o.kind) back;
-      limit = t.limit;
-      sets = put_back b back t.sets;
-      unpeeked = t.unpeeked;
-      drawn = t.drawn;
-      had_not_failed = t.had_not_failed;
-      not_failed = t.not_failed;
-      faults = t.faults;
-      references = t.references;
-    } in (subst (λ z. Takes b z bytes) (sym k.same) takes, size)
+    let takes : Takes b (with_outer_end outer c) bytes = takes_beside (omega (arith, t.taken, t.until_end, position, l)) (ap (λ (o : Outer). o.kind) back) (put_back b back t.sets) t in
+    (subst (λ z. Takes b z bytes) (sym k.same) takes, size)

@@ -126,7 +126,17 @@ just_taken refusal {a} {b} {c} {h} {bs} {e} t same k w =
       used = λ more. ap (λ (s : State). s.peeked) same ∙ t.unpeeked;
     }
 
--- nothing was taken
+-- nothing was taken, and nothing but the failure changed
+pub just_untaken : (refusal : List ℕ → Option Refusal) {a c : State} {bs : List ℕ} {e : Asn1DerError} → c ≡ failed_with a e → a.input ≡ Some bs → ((rest : List ℕ) → refusal rest ≡ Some (e, rest)) → IsJustRefused refusal a c e bs
+just_untaken refusal {a} {bs = bs} same k w = record {
+  left = take a.until_end bs;
+  refused = w (take a.until_end bs);
+  input = ap (λ (s : State). s.input) same ∙ k ∙ ap (λ x. Some x) (sym (take-append-drop a.until_end bs));
+  kept = λ q. ap (λ (s : State). s.peeked) same;
+  used = λ more. absurd (omega (arith, ap (λ (s : State). s.taken) same));
+}
+
+-- a byte was missing, and none was taken
 pub just_missing : (refusal : List ℕ → Option Refusal) {a c : State} {bs : List ℕ} {e : Asn1DerError} → IsMissing a e → Keeps a.input c.input → c.taken ≡ a.taken → c.peeked ≡ a.peeked → a.input ≡ Some bs
     → (missing_byte (is_hard a.end) a.until_end [] ≡ e → refusal [] ≡ Some (e, [])) → IsJustRefused refusal a c e bs
 just_missing refusal {a} {c} {bs} {e} m i n p k w =

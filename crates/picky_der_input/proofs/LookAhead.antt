@@ -1,6 +1,5 @@
 -- A look at the next byte.
-use Rattle.std.proofs.Common.{◌≡◌, ◌≢◌, ℕ, ◌<◌, List, [], take, Option, Some, None, refl, sym, ◌∙◌, ap, arith}
-use Rattle.std.proofs.lemmas.List.{take-append-drop}
+use Rattle.std.proofs.Common.{◌≡◌, ◌≢◌, ℕ, ◌<◌, List, [], Option, Some, None, refl, sym, ◌∙◌, ap}
 use Rattle.picky_der_core.specs.declared.error.Asn1DerError.{Asn1DerError}
 use Rattle.picky_der_core.specs.Failure.{failure_of}
 use Rattle.picky_der_core.specs.declared.error.Asn1DerError.TheVariants.{TruncatedData, InvalidData, OutOfMemory}
@@ -11,7 +10,7 @@ use Rattle.picky_der_input.specs.State.{State}
 use Rattle.picky_der_input.specs.Steps.{Fails, IsMissing, end_is_here, input_ended, failed_with, is_hard, error_at_end}
 use Rattle.picky_der_input.specs.LookAhead.{choice_refusal_in, choice_refusal, identifier_refusal_in, RefusesChoice, RefusesIdentifier, HidesChoice, no_byte, implicit}
 use Rattle.picky_der_input.proofs.ReaderFaults.{StopsAt, read_fails, read_missing}
-use Rattle.picky_der_input.proofs.Known.{just_missing}
+use Rattle.picky_der_input.proofs.Known.{just_untaken, just_missing}
 use Rattle.picky_der_input.proofs.PlainReads.{just_map}
 use Rattle.picky_der_input.proofs.Steps.{fails_again}
 
@@ -50,13 +49,7 @@ pub choice_under_implicit : {a c : State} {e : Asn1DerError} {number : ℕ} → 
 choice_under_implicit {a} {c} {e} {number} d f is same = record {
   refuses = record {
     fails = f;
-    just = λ j bs k. record {
-      left = take a.until_end bs;
-      refused = stands_implicit a.implicit_tag number a (take a.until_end bs) d ∙ ap (λ x. Some (x, take a.until_end bs)) (sym is);
-      input = ap (λ (s : State). s.input) same ∙ k ∙ ap (λ x. Some x) (sym (take-append-drop a.until_end bs));
-      kept = λ q. ap (λ (s : State). s.peeked) same;
-      used = λ more. absurd (omega (arith, ap (λ (s : State). s.taken) same));
-    };
+    just = λ j bs k. just_untaken (choice_refusal a) same k (λ rest. stands_implicit a.implicit_tag number a rest d ∙ ap (λ x. Some (x, rest)) (sym is));
     memory = λ n h w. let q : InvalidData ≡ OutOfMemory = sym is ∙ w in cc;
     same = rw same refl;
   };

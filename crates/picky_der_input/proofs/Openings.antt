@@ -15,9 +15,9 @@ use Rattle.picky_der_input.specs.Reading.{Concerns, now, ever, IsJustRefused}
 use Rattle.picky_der_input.specs.Headers.{RefusesHeader}
 use Rattle.picky_der_input.specs.Ends.{Outer, innermost, with_inner_end, with_outer_end}
 use Rattle.picky_der_input.specs.Wrappers.{implicit_tag_of, unused_bits_refusal, refusal_behind, opening_refusal, OpensWrapper, RefusesOpening, BeginsWrapper, StopsUnusedBits, count_missing, count_other, RefusesUnusedBits}
-use Rattle.picky_der_input.proofs.Steps.{takes_then, takes_none, fails_after, judged_after}
+use Rattle.picky_der_input.proofs.Steps.{takes_then, takes_beside, takes_none, fails_after, judged_after}
 use Rattle.picky_der_input.proofs.Refusals.{front_consumed, concerns_behind, failed_grows, missing_here, taken_first, at_end_of}
-use Rattle.picky_der_input.proofs.Known.{front_of, just_taken, kept_known, peeked_kept}
+use Rattle.picky_der_input.proofs.Known.{front_of, just_taken, just_untaken, kept_known, peeked_kept}
 use Rattle.picky_der_input.proofs.Headers.{header_length}
 use Rattle.picky_der_input.proofs.PlainReads.{just_map}
 use Rattle.picky_der_input.proofs.Order.{put_back}
@@ -32,13 +32,7 @@ opening_past {w} {a} {c} {e} n f is same small = record {
   fails = f;
   none = λ j end bs k content rest number. absurd (n number);
   first = λ j k. absurd (let r : UnsupportedValue ≡ TruncatedData = sym is ∙ k in cc);
-  just = λ j bs k. record {
-    left = take a.until_end bs;
-    refused = opening_unsupported w a (take a.until_end bs) n ∙ ap (λ x. Some (x, take a.until_end bs)) (sym is);
-    input = ap (λ (s : State). s.input) same ∙ k ∙ ap (λ x. Some x) (sym (take-append-drop a.until_end bs));
-    kept = λ q. ap (λ (s : State). s.peeked) same;
-    used = λ more. absurd (omega (arith, ap (λ (s : State). s.taken) same));
-  };
+  just = λ j bs k. just_untaken (opening_refusal w a) same k (λ rest. opening_unsupported w a rest n ∙ ap (λ x. Some (x, rest)) (sym is));
   memory = λ k l m. let r : UnsupportedValue ≡ OutOfMemory = sym is ∙ m in cc;
   bounded = λ k. small;
 }
@@ -86,20 +80,7 @@ just_alike i t p h = record { left = h.left; refused = h.refused; input = i ∙ 
 
 -- what was taken before an opened end was taken before the one around it
 takes_without_inner_end : {b c : State} {n : ℕ} {x : List ℕ} → n ≤ b.until_end → Takes (with_inner_end b n Hard) c x → Takes b (record c { until_end = b.until_end - length x; end = b.end; sets = b.sets }) x
-takes_without_inner_end l t = record {
-  input = t.input;
-  taken = t.taken;
-  until_end = omega (arith, t.until_end, l);
-  end = refl;
-  limit = t.limit;
-  sets = refl;
-  unpeeked = t.unpeeked;
-  drawn = t.drawn;
-  had_not_failed = t.had_not_failed;
-  not_failed = t.not_failed;
-  faults = t.faults;
-  references = t.references;
-}
+takes_without_inner_end l t = takes_beside (omega (arith, t.until_end, l)) refl refl t
 
 unused_missing : (n until_end : ℕ) (rest : List ℕ) (b : State) {e : Asn1DerError} → IsMissing (with_inner_end b n Hard) e → b.input ≡ Some rest → unused_bits_refusal n (take until_end rest) ≡ Some (e, take until_end rest)
 unused_missing n until_end rest b (end_is_here z is) k = ap (λ m. unused_bits_refusal m (take until_end rest)) z ∙ ap (λ x. Some (x, take until_end rest)) (sym is)
@@ -177,20 +158,7 @@ opens_wrapper {w} {a} {b} {c} {d} {outer} h taken is =
     let t : Takes (with_inner_end h.mid h.size Hard) c (wrapper_front w) = subst (λ z. Takes z c (wrapper_front w)) h.opened taken in
     let position : outer.position ≡ h.mid.taken + h.mid.until_end = ap (λ (o : Outer). o.position) h.outer_end in
     let new : State = record c { implicit_tag = implicit_tag_of w } in
-    let behind : Takes h.mid (with_outer_end outer new) (wrapper_front w) = record {
-      input = t.input;
-      taken = t.taken;
-      until_end = omega (arith, t.taken, t.until_end, position, h.fits);
-      end = ap (λ (o : Outer). o.kind) h.outer_end;
-      limit = t.limit;
-      sets = put_back h.mid h.outer_end t.sets;
-      unpeeked = t.unpeeked;
-      drawn = t.drawn;
-      had_not_failed = t.had_not_failed;
-      not_failed = t.not_failed;
-      faults = t.faults;
-      references = t.references;
-    } in
+    let behind : Takes h.mid (with_outer_end outer new) (wrapper_front w) = takes_beside (omega (arith, t.taken, t.until_end, position, h.fits)) (ap (λ (o : Outer). o.kind) h.outer_end) (put_back h.mid h.outer_end t.sets) t in
     subst (λ z. OpensWrapper w a z outer) (sym is) (record {
       size = h.size;
       number = h.number;

@@ -12,7 +12,7 @@ use Rattle.picky_der_input.specs.Steps.{Takes, Fails, IsJudged}
 use Rattle.picky_der_input.specs.Ends.{Outer, innermost}
 use Rattle.picky_der_input.specs.Order.{kept_in, order_of, sets_inside, cut_at, is_less_than, is_out_of_order, with_last, AreBehind, AreInOrder, without_order}
 use Rattle.picky_der_input.specs.Reading.{Concerns, now, ever}
-use Rattle.picky_der_input.proofs.Steps.{fails_after, judged_after}
+use Rattle.picky_der_input.proofs.Steps.{takes_beside, fails_beside, fails_after, judged_after}
 
 -- ---- sets, opened and closed
 
@@ -42,39 +42,13 @@ pub judged_alike : {b c : State} {e : Asn1DerError} (s : OpenSets) → IsJudged 
 judged_alike s j = record { had_not_failed = j.had_not_failed; faults = j.faults; memory = j.memory }
 
 pub fails_alike : {b c : State} {e : Asn1DerError} (s : OpenSets) → Fails b c e → Fails (record b { sets = s }) c e
-fails_alike s f = record {
-  failed = f.failed;
-  again = λ k w. let q = f.again k w in (q.0, record { input = q.1.input; taken = q.1.taken; peeked = q.1.peeked; faults = q.1.faults });
-  faults = f.faults;
-  unpeeked = f.unpeeked;
-  other = f.other;
-  took = record { bytes = f.took.bytes; input = f.took.input; count = f.took.count };
-  grows = f.grows;
-  end = f.end;
-  limit = f.limit;
-  within = λ w. f.within (record { end = w.end; drawn = w.drawn });
-  there = f.there;
-  references = f.references;
-}
+fails_alike s f = fails_beside (omega arith) f
 
 pub concerns_without_order : {b c : State} {e : Asn1DerError} {end : ℕ} {bs : List ℕ} → Concerns b c e end bs → Concerns (without_order b) c e end bs
 concerns_without_order {b = b} h = concerns_alike (record b.sets { last = None }) h
 
 pub takes_without_order : {a b : State} {x : List ℕ} → Takes a b x → Takes (without_order a) (without_order b) x
-takes_without_order t = record {
-  input = t.input;
-  taken = t.taken;
-  until_end = t.until_end;
-  end = t.end;
-  limit = t.limit;
-  sets = ap (λ (s : OpenSets). record s { last = None }) t.sets;
-  unpeeked = t.unpeeked;
-  drawn = t.drawn;
-  had_not_failed = t.had_not_failed;
-  not_failed = t.not_failed;
-  faults = t.faults;
-  references = t.references;
-}
+takes_without_order t = takes_beside t.until_end t.end (ap (λ (s : OpenSets). record s { last = None }) t.sets) t
 
 -- a call failed behind bytes that were taken
 pub fails_behind : {a b c : State} {x : List ℕ} {e : Asn1DerError} → Takes (without_order a) (without_order b) x → Fails b c e → Fails a c e

@@ -4,7 +4,6 @@ use Rattle.std.specs.Io.KnownBytes.{Consumes}
 use Rattle.std.proofs.Math.Seq.{take-append_seam, drop-append_seam}
 use Rattle.std.proofs.lemmas.Bool.Decides.{nat_tests}
 use Rattle.std.proofs.lemmas.Grind.{common_steps}
-use Rattle.std.proofs.lemmas.List.{take-append-drop}
 use Rattle.picky_der_core.specs.declared.error.Asn1DerError.{Asn1DerError}
 use Rattle.picky_der_core.specs.declared.error.Asn1DerError.TheVariants.{TruncatedData, UnsupportedValue}
 use Rattle.picky_der_core.specs.Element.{length_octets, tlv}
@@ -28,7 +27,7 @@ use Rattle.picky_der_input.specs.Headers.{header_bytes, BeginsContent, RefusesBe
 use Rattle.picky_der_input.proofs.Steps.{takes_then, fails_after, judged_after}
 use Rattle.picky_der_input.proofs.Refusals.{concerns_behind, failed_grows, cut_grows, missing_here, end_below, taken_first}
 use Rattle.picky_der_input.proofs.Lengths.{cut_after}
-use Rattle.picky_der_input.proofs.Known.{front_of, just_cut, just_taken, missing_before}
+use Rattle.picky_der_input.proofs.Known.{front_of, just_cut, just_taken, just_untaken, missing_before}
 use Rattle.picky_der_input.proofs.Headers.{header_length, length_tlv, header-read}
 
 -- ---- what stands behind the header
@@ -126,13 +125,7 @@ refuses_number {k = k} {judge = judge} {a = a} n none f is same = record {
     none = λ j end bs w v st. none v st.of_shape st.readable;
     first = λ j cut d l b left q. absurd (let r : UnsupportedValue ≡ TruncatedData = sym is ∙ cut in cc);
   };
-  just = λ j bs known. record {
-    left = take a.until_end bs;
-    refused = unsupported_in a.implicit_tag (shape_tag k) judge a (take a.until_end bs) n ∙ ap (λ x. Some (x, take a.until_end bs)) (sym is);
-    input = ap (λ (s : State). s.input) same ∙ known ∙ ap (λ x. Some x) (sym (take-append-drop a.until_end bs));
-    kept = λ q. ap (λ (s : State). s.peeked) same;
-    used = λ more. absurd (omega (arith, ap (λ (s : State). s.taken) same));
-  };
+  just = λ j bs known. just_untaken (refusal_at (shape_tag k) judge a) same known (λ rest. unsupported_in a.implicit_tag (shape_tag k) judge a rest n ∙ ap (λ x. Some (x, rest)) (sym is));
 }
 
 -- ---- refused contents

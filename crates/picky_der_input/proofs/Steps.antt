@@ -1,12 +1,13 @@
 -- Steps of a deserializer, one after another.
-use Rattle.std.proofs.Common.{◌≡◌, ℕ, ◌+◌, List, [], ◌++◌, length, Option, Some, None, refl, sym, subst, ◌∙◌, ap, arith, length-append}
+use Rattle.std.proofs.Common.{◌≡◌, ℕ, ◌+◌, ◌≤◌, List, [], ◌++◌, length, Option, Some, None, refl, sym, subst, ◌∙◌, ap, arith, length-append}
 use Rattle.std.specs.Io.KnownBytes.{Consumes}
 use Rattle.std.proofs.KnownBytes.{Consumes-nil, Consumes-trans, Keeps-refl}
 use Rattle.picky_der_core.specs.declared.error.Asn1DerError.{Asn1DerError}
 use Rattle.picky_der_core.specs.Failure.{failure_of}
 use Rattle.picky_der_core.specs.Peeking.{count_of_any}
 use Rattle.picky_der_core.specs.Reader.{TellsFault}
-use Rattle.picky_der_input.specs.State.{State}
+use Rattle.picky_der_input.specs.declared.end.End.{End}
+use Rattle.picky_der_input.specs.State.{OpenSets, State}
 use Rattle.picky_der_input.specs.Steps.{Takes, TakesSome, Fails, IsWithin, IsUnmoved, HasDrawn, IsJudged, drawn_count}
 
 pub takes_then : {a b c : State} {x y : List ℕ} → Takes a b x → Takes b c y → Takes a c (x ++ y)
@@ -40,6 +41,44 @@ takes_none a h p = record {
   not_failed = h;
   faults = refl;
   references = refl;
+}
+
+-- the same but for the innermost end, the sets and the implicit tag
+abbrev pub beside : State → ℕ → End → OpenSets → Option ℕ → State
+beside s n kind sets tag = record s { until_end = n; end = kind; sets = sets; implicit_tag = tag }
+
+-- what was taken before one end was taken before another
+pub takes_beside : {a c : State} {x : List ℕ} {n m : ℕ} {i j : End} {s u : OpenSets} {d g : Option ℕ} → a.until_end ≡ length x + m → j ≡ a.end → u ≡ a.sets → Takes (beside a n i s d) c x → Takes a (beside c m j u g) x
+takes_beside ends kind sets t = record {
+  input = t.input;
+  taken = t.taken;
+  until_end = ends;
+  end = kind;
+  limit = t.limit;
+  sets = sets;
+  unpeeked = t.unpeeked;
+  drawn = t.drawn;
+  had_not_failed = t.had_not_failed;
+  not_failed = t.not_failed;
+  faults = t.faults;
+  references = t.references;
+}
+
+-- a call that failed before a nearer end failed before the one around it
+pub fails_beside : {a c : State} {e : Asn1DerError} {n : ℕ} {i : End} {s : OpenSets} {d : Option ℕ} → n ≤ a.until_end → Fails (beside a n i s d) c e → Fails a c e
+fails_beside nearer f = record {
+  failed = f.failed;
+  again = λ k w. let q = f.again k w in (q.0, record { input = q.1.input; taken = q.1.taken; peeked = q.1.peeked; faults = q.1.faults });
+  faults = f.faults;
+  unpeeked = f.unpeeked;
+  other = f.other;
+  took = record { bytes = f.took.bytes; input = f.took.input; count = f.took.count };
+  grows = f.grows;
+  end = omega (arith, f.end);
+  limit = f.limit;
+  within = λ w. f.within (record { end = omega (arith, w.end); drawn = w.drawn });
+  there = f.there;
+  references = f.references;
 }
 
 pub there_after : (i j : Option (List ℕ)) (h : List ℕ) (s t n : ℕ) → Consumes i j h → t ≡ s + length h → HasDrawn j t n → HasDrawn i s n

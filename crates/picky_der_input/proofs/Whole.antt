@@ -18,6 +18,7 @@ use Rattle.picky_der_input.specs.Reading.{ReadsJudged, ReadsPrimitive, RefusesPr
 use Rattle.picky_der_input.specs.Headers.{header_bytes, BeginsContent}
 use Rattle.picky_der_input.specs.Elements.{without_implicit_tag, BeginsElement, ReadsRaw}
 use Rattle.picky_der_input.specs.Ahead.{IsElementInFront}
+use Rattle.picky_der_input.proofs.Steps.{takes_beside}
 use Rattle.picky_der_input.proofs.PlainReads.{refuses_cut, reads_plain}
 use Rattle.picky_der_input.proofs.Elements.{reads_raw}
 use Rattle.picky_der_input.proofs.Ahead.{at_most_one}
@@ -139,20 +140,7 @@ refuses_for_memory {tag} number h f is = refuses_cut (bytes_kind tag number) h (
 -- ---- elements
 
 takes_without_implicit_tag : {a b : State} {x : List ℕ} → Takes a b x → Takes (without_implicit_tag a) b x
-takes_without_implicit_tag t = record {
-  input = t.input;
-  taken = t.taken;
-  until_end = t.until_end;
-  end = t.end;
-  limit = t.limit;
-  sets = t.sets;
-  unpeeked = t.unpeeked;
-  drawn = t.drawn;
-  had_not_failed = t.had_not_failed;
-  not_failed = t.not_failed;
-  faults = t.faults;
-  references = t.references;
-}
+takes_without_implicit_tag t = takes_beside t.until_end t.end t.sets t
 
 -- an element that was taken whole
 pub reads_whole : {a c : State} {all : List ℕ} → IsElementInFront all (length all) → a.implicit_tag ≡ None → a.until_end < 2 ^ 64 → Takes a c all → AreBytes all → c.implicit_tag ≡ a.implicit_tag → ReadsRaw a c all

@@ -1,13 +1,14 @@
 -- What holds of each kind of plain value.
-use Rattle.std.proofs.Common.{◌≡◌, ℕ, ℤ, ◌^◌, ◌<◌, ◌≤◌, Bool, cond, inl, inr, List, [], ◌∷◌, length, take, Some, None, true, false, encode_utf8, refl, sym, ◌∙◌, ap, subst, arith, lt-ltb}
+use Rattle.std.proofs.Common.{◌≡◌, ℕ, ℤ, ◌^◌, ◌<◌, ◌≤◌, Bool, cond, inl, inr, List, [], ◌∷◌, length, take, nat_lt, ◌==◌, Option, Some, None, true, false, encode_utf8, refl, sym, ◌∙◌, ap, subst, arith, lt-ltb}
 use Rattle.std.proofs.lemmas.Bool.{cases_lt}
 use Rattle.std.proofs.lemmas.Grind.{common_steps}
+use Rattle.picky_der_core.specs.declared.error.Asn1DerError.{Asn1DerError}
 use Rattle.picky_der_core.specs.declared.error.Asn1DerError.TheVariants.{InvalidData, UnsupportedValue}
 use Rattle.picky_der_core.specs.Tag.{number_of, IsTagNumber}
 use Rattle.picky_der_core.specs.Element.{AreBytes}
 use Rattle.picky_der_core.specs.Primitive.{Primitive, PrimitiveShape, primitive_content, boolean_content, unsigned_content, IsPrimitive, shape_tag}
 use Rattle.picky_der_core.specs.PrimitiveLaws.{number-unsigned_content}
-use Rattle.picky_der_core.specs.Refusal.{boolean_error, number_error, unsigned_error, int_error, null_error, text_error, character_error, bytes_error, content_error}
+use Rattle.picky_der_core.specs.Refusal.{Judge, boolean_error, number_error, unsigned_error, int_error, null_error, text_error, character_error, bytes_error, content_error}
 use Rattle.picky_der_core.specs.BooleanLaws.{boolean_error-content}
 use Rattle.picky_der_core.specs.UnsignedLaws.{unsigned_error-content, content-unsigned_error, AreBytes-unsigned_content, length-unsigned_content}
 use Rattle.picky_der_core.specs.Integer.{is_integer, bits_of, content_within}
@@ -50,20 +51,29 @@ null_by_front (b ∷ bs) = refl
 number_too_long : (most : ℕ) (bs : List ℕ) → 16 < length bs → number_error most bs ≡ Some UnsupportedValue
 number_too_long most bs h = rw (lt-ltb 16 (length bs) h) refl
 
-number_by_front : (most d : ℕ) (bs : List ℕ) → (number_error most (d ∷ take 16 bs) ≡ number_error most (d ∷ bs)) × ((b : ℕ) → number_error most (b ∷ d ∷ take 16 bs) ≡ number_error most (b ∷ d ∷ bs))
-number_by_front most d bs = elim (cases_lt (length bs) 16) [
-  | inl few ↦ let all : take 16 bs ≡ bs = grind (arith, common_steps) in (ap (λ x. number_error most (d ∷ x)) all, λ b. ap (λ x. number_error most (b ∷ d ∷ x)) all)
-  | inr many ↦
-      let long : length (take 16 bs) ≡ 16 = grind (arith, common_steps) in (
-        number_too_long most (d ∷ take 16 bs) (omega arith) ∙ sym (number_too_long most (d ∷ bs) (omega arith)),
-        λ b. number_too_long most (b ∷ d ∷ take 16 bs) (omega arith) ∙ sym (number_too_long most (b ∷ d ∷ bs) (omega arith)),
-      )
+-- a content of 18 bytes or more is refused by its first two
+unsigned_too_long : (most b d : ℕ) (bs : List ℕ) → 16 ≤ length bs → unsigned_error most (b ∷ d ∷ bs) ≡ cond (nat_lt b 0x80) (cond (b == 0) (cond (nat_lt d 0x80) (Some InvalidData) (Some UnsupportedValue)) (Some UnsupportedValue)) (Some UnsupportedValue)
+unsigned_too_long most b d bs h = rw (number_too_long most (d ∷ bs) (omega arith), number_too_long most (b ∷ d ∷ bs) (omega arith)) refl
+
+int_too_long : (fits : ℤ → Bool) (b d : ℕ) (bs : List ℕ) → 16 ≤ length bs → int_error fits (b ∷ d ∷ bs) ≡ cond (is_integer (b ∷ d ∷ [])) (Some UnsupportedValue) (Some InvalidData)
+int_too_long fits b d bs h = rw (lt-ltb 17 (length (b ∷ d ∷ bs)) (omega arith)) refl
+
+-- such a judge needs no more than 16 bytes behind these
+few_behind : (judge : Judge) (e : Option Asn1DerError) (b d : ℕ) (bs : List ℕ) → ((xs : List ℕ) → 16 ≤ length xs → judge (b ∷ d ∷ xs) ≡ e) → judge (b ∷ d ∷ take 16 bs) ≡ judge (b ∷ d ∷ bs)
+few_behind judge e b d bs h = elim (cases_lt (length bs) 16) [
+  | inl few ↦ let all : take 16 bs ≡ bs = grind (arith, common_steps) in ap (λ x. judge (b ∷ d ∷ x)) all
+  | inr many ↦ let long : length (take 16 bs) ≡ 16 = grind (arith, common_steps) in h (take 16 bs) (omega arith) ∙ sym (h bs many)
 ]
 
 unsigned_by_front : (most : ℕ) (c : List ℕ) → unsigned_error most (take 18 c) ≡ unsigned_error most c
 unsigned_by_front most [] = refl
 unsigned_by_front most (b ∷ []) = refl
-unsigned_by_front most (b ∷ d ∷ bs) = let by_front = number_by_front most d bs in rw (by_front.0, by_front.1 b) refl
+unsigned_by_front most (b ∷ d ∷ bs) = few_behind (unsigned_error most) _ b d bs (unsigned_too_long most b d)
+
+int_by_front : (fits : ℤ → Bool) (c : List ℕ) → int_error fits (take 18 c) ≡ int_error fits c
+int_by_front fits [] = refl
+int_by_front fits (b ∷ []) = refl
+int_by_front fits (b ∷ d ∷ bs) = few_behind (int_error fits) _ b d bs (int_too_long fits b d)
 
 -- ---- kinds that are read from their first bytes
 
@@ -95,29 +105,6 @@ short_character = record {
 }
 
 -- ---- integers of any type
-
--- a content of 18 bytes or more is refused by its first two
-int_too_long : (fits : ℤ → Bool) (b d : ℕ) (bs : List ℕ) → 16 ≤ length bs → int_error fits (b ∷ d ∷ bs) ≡ cond (is_integer (b ∷ d ∷ [])) (Some UnsupportedValue) (Some InvalidData)
-int_too_long fits b d bs h = rw (lt-ltb 17 (length (b ∷ d ∷ bs)) (omega arith)) refl
-
-int_few : (fits : ℤ → Bool) (b d : ℕ) (bs : List ℕ) → length bs < 16 → int_error fits (b ∷ d ∷ take 16 bs) ≡ int_error fits (b ∷ d ∷ bs)
-int_few fits b d bs few = let all : take 16 bs ≡ bs = grind (arith, common_steps) in ap (λ x. int_error fits (b ∷ d ∷ x)) all
-
-int_many : (fits : ℤ → Bool) (b d : ℕ) (bs : List ℕ) → 16 ≤ length bs → int_error fits (b ∷ d ∷ take 16 bs) ≡ int_error fits (b ∷ d ∷ bs)
-int_many fits b d bs many =
-    let long : length (take 16 bs) ≡ 16 = grind (arith, common_steps) in
-    int_too_long fits b d (take 16 bs) (omega arith) ∙ sym (int_too_long fits b d bs many)
-
-take_behind : (b d : ℕ) (bs : List ℕ) → take 18 (b ∷ d ∷ bs) ≡ b ∷ d ∷ take 16 bs
-take_behind b d bs = refl
-
-int_by_front : (fits : ℤ → Bool) (c : List ℕ) → int_error fits (take 18 c) ≡ int_error fits c
-int_by_front fits [] = refl
-int_by_front fits (b ∷ []) = refl
-int_by_front fits (b ∷ d ∷ bs) = ap (int_error fits) (take_behind b d bs) ∙ elim (cases_lt (length bs) 16) [
-  | inl few ↦ int_few fits b d bs few
-  | inr many ↦ int_many fits b d bs many
-]
 
 module _ (fits : ℤ → Bool) (narrow : (z : ℤ) → fits z ≡ true → bits_of z < 2 ^ 128) where
   int_judged : (z : ℤ) → fits z ≡ true → int_error fits (content_within fits z) ≡ None

@@ -4,8 +4,7 @@ ghost use Rattle.picky_der_core.specs.Primitive.{Primitive, PrimitiveShape};
 ghost use Rattle.picky_der_core.specs.Shape.{Shape};
 ghost use Rattle.picky_der_core.specs.Integer.{int_tree};
 ghost use Rattle.picky_der_input.specs.Steps.{TakesNoMemory};
-ghost use Rattle.picky_der_input.specs.Reading.{Reads, ReadsInt, RefusesInt};
-ghost use Rattle.picky_der_input.specs.Reading.{ReadsJudged, RefusesJudged, ReadsPrimitive, RefusesPrimitive};
+ghost use Rattle.picky_der_input.specs.Reading.{Reads, ReadsInt, RefusesInt, ReadsJudged, RefusesJudged, ReadsPrimitive, RefusesPrimitive};
 
 use super::Input;
 use super::ahead::{near, short_in_front};
