@@ -5,14 +5,14 @@ use Rattle.picky_der_core.specs.declared.error.Asn1DerError.TheVariants.{OutOfMe
 use Rattle.picky_der_core.specs.Element as element
 use Rattle.picky_der_core.specs.Tree.{Tree}
 use Rattle.picky_der_core.specs.Encoding.{der}
-use Rattle.picky_der_core.specs.Encoding as encoding
+use Rattle.picky_der_core.specs.Primitive as kinds
 use Rattle.picky_der_core.specs.EncodingLaws.{der-primitive}
 use Rattle.picky_der_core.specs.Readable.{IsWritable}
 use Rattle.picky_der_ser.specs.Calls.{MemoryExcuse, no_room, no_way}
 use Rattle.der_examples.proofs.first_steps.number.Goals as goal
 
 of_128 : der (Tree.primitive (Primitive.unsigned 128)) ≡ 0x02 ∷ 0x02 ∷ 0x00 ∷ 0x80 ∷ []
-unfolding element.tlv element.length_octets element.big_endian encoding.unsigned_content
+unfolding element.tlv element.length_octets element.big_endian kinds.unsigned_content
 of_128 = der-primitive (Primitive.unsigned 128)
 
 -- it can be written, so memory alone can be missing
