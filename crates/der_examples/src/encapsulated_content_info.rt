@@ -1,6 +1,5 @@
 //! Contents that are signed.
 ghost use Rattle.std.specs.Prelude.{refl};
-ghost use Rattle.picky_der_de.specs.Known.{by_itself};
 ghost use Rattle.picky_der_de.specs.KnownMembers.{known_struct, sequence_of, sequence_shape};
 
 use picky_asn1_der::asn1::{ByteBuf, ExplicitContextTag0, ObjectIdentifierAsn1};
@@ -51,8 +50,7 @@ impl Serialize for EncapsulatedContentInfo {
 impl Deserialize for EncapsulatedContentInfo {
     ghost shape = { sequence_shape ⟦<Members as DeserializeMembers>⟧.layout };
 
-    ghost known = { known_struct ⟦<Members as DeserializeMembers>⟧.known refl ⟦<Self as Struct>⟧.parts ⟦<Self as PartialEq>⟧.eq
-        (λ x y h. h) (λ x y. refl) };
+    ghost known = { known_struct ⟦<Members as DeserializeMembers>⟧.known refl ⟦<Self as Struct>⟧.parts };
 
     fn deserialize<R: ReadExt>(
         deserializer: &mut Deserializer<R>,
@@ -60,5 +58,5 @@ impl Deserialize for EncapsulatedContentInfo {
         deserialize_struct_as(deserializer)
     }
 
-    ghost tied = { by_itself };
+    ghost tied = { Prim.assumption };
 }

@@ -3,7 +3,6 @@ ghost use Rattle.std.specs.Prelude.{refl};
 ghost use Rattle.picky_der_core.specs.Shape.{Shape};
 ghost use Rattle.picky_der_de.specs.declared.alternatives.OneOf.TheVariants.{This};
 ghost use Rattle.picky_der_de.specs.declared.alternatives4.OneOf4.TheVariants.{First, Second, Third, Fourth, Later};
-ghost use Rattle.picky_der_de.specs.Known.{by_itself};
 ghost use Rattle.picky_der_de.specs.KnownChoices.{known_choice};
 ghost use Rattle.der_examples.specs.declared.general_name.GeneralName.TheVariants.{OtherName, Rfc822Name, DnsName, X400Address};
 ghost use Rattle.der_examples.specs.declared.general_name.GeneralName.TheVariants.{DirectoryName};
@@ -118,7 +117,7 @@ impl Deserialize for GeneralName {
     ghost known = { known_choice ⟦<Parts as Alternatives>⟧.known refl ⟦<Self as Choice>⟧.parts ⟦<Self as PartialEq>⟧.eq
         (elim [ OtherName _ ↦ elim [ OtherName _ ↦ λ h. h | _ ↦ λ h. h ] | _ ↦ elim [ OtherName _ ↦ λ h. h | _ ↦ λ h. h ] ]) };
 
-    ghost tied = { by_itself };
+    ghost tied = { Prim.assumption };
 
     fn deserialize<R: ReadExt>(deserializer: &mut Deserializer<R>) -> Result<GeneralName> {
         deserialize_choice_as(deserializer)

@@ -2,7 +2,6 @@
 ghost use Rattle.std.specs.Prelude.{refl};
 ghost use Rattle.picky_der_core.specs.Shape.{Shape};
 ghost use Rattle.picky_der_de.specs.declared.alternatives4.OneOf4.TheVariants.{First, Second, Third, Fourth};
-ghost use Rattle.picky_der_de.specs.Known.{by_itself};
 ghost use Rattle.picky_der_de.specs.KnownChoices.{known_choice};
 ghost use Rattle.der_examples.specs.declared.host.Host.TheVariants.{Email, Domain, Owner, Address};
 
@@ -63,7 +62,7 @@ impl Deserialize for Host {
     ghost known = { known_choice ⟦<Parts as Alternatives>⟧.known refl ⟦<Self as Choice>⟧.parts ⟦<Self as PartialEq>⟧.eq
         (elim [ Email _ ↦ elim [ Email _ ↦ λ h. h | _ ↦ λ h. h ] | _ ↦ elim [ Email _ ↦ λ h. h | _ ↦ λ h. h ] ]) };
 
-    ghost tied = { by_itself };
+    ghost tied = { Prim.assumption };
 
     fn deserialize<R: ReadExt>(deserializer: &mut Deserializer<R>) -> Result<Host> {
         deserialize_choice_as(deserializer)

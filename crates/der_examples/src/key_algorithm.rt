@@ -3,7 +3,7 @@ ghost use Rattle.std.proofs.Common.{rules};
 ghost use Rattle.std.specs.Prelude.{◌≡◌, ◌↔◌, IsTrue, MatchOption};
 ghost use Rattle.std.specs.Cmp.Rules.{comparing};
 ghost use Rattle.std.specs.Ordering.{eq_of_both, on};
-ghost use Rattle.picky_der_de.specs.Known.{by_itself, known_as};
+ghost use Rattle.picky_der_de.specs.Known.{known_as};
 ghost use Rattle.der_types.specs.declared.names.TheConstants.{RSA_ENCRYPTION, EC_PUBLIC_KEY};
 ghost use Rattle.der_examples.specs.KeyAlgorithm.{element_of, is_null, is_curve};
 
@@ -126,7 +126,7 @@ impl Deserialize for KeyAlgorithm {
 
     ghost known = { known_as ⟦<AlgorithmIdentifier as Deserialize>⟧.known ⟦<KeyAlgorithm as TryAlike>⟧.parts };
 
-    ghost tied = { by_itself };
+    ghost tied = { Prim.assumption };
 
     fn deserialize<R: ReadExt>(deserializer: &mut Deserializer<R>) -> Result<KeyAlgorithm> {
         try_deserialize_as(deserializer)

@@ -1,11 +1,10 @@
 //! A struct with a field of any type.
 ghost use Rattle.std.specs.Prelude.{refl};
-ghost use Rattle.picky_der_de.specs.Known.{by_itself};
-ghost use Rattle.picky_der_de.specs.KnownMembers.{known_of_members, sequence_of, sequence_shape};
-ghost use Rattle.picky_der_de.specs.KnownMembers.{ties_field, ties_none, ties_sequence};
+ghost use Rattle.picky_der_de.specs.KnownMembers.{known_struct, sequence_of, sequence_shape};
 
 use picky_asn1_der::asn1::ByteBuf;
 use picky_asn1_der::misc::{ReadExt, WriteExt};
+use picky_asn1_der::ser::Element;
 use picky_asn1_der::{
     Deserialize, DeserializeMembers, Deserializer, Result, Serialize, SerializeMembers, Serializer,
     Struct, deserialize_struct_as,
@@ -20,21 +19,21 @@ pub struct Named<T> {
     pub value: T,
 }
 
-type Members<T> = (ByteBuf, T, ());
+type Members<T> = (ByteBuf, Element<T>, ());
 
 impl<T: Deserialize> Struct for Named<T> {
     type Members = Members<T>;
 
-    ghost parts = { λ it. (it.name, it.value, tt) };
+    ghost parts = { λ it. (it.name, record { 0 = it.value }, tt) };
 
     fn from_parts(members: Members<T>) -> Named<T> {
-        let (name, value, ()) = members;
+        let (name, Element(value), ()) = members;
         Named { name, value }
     }
 }
 
 impl<T: Serialize> Serialize for Named<T> {
-    ghost meaning = { sequence_of ⟦<Members<T> as SerializeMembers>⟧.members (λ it. (it.name, it.value, tt)) };
+    ghost meaning = { sequence_of ⟦<Members<T> as SerializeMembers>⟧.members (λ it. (it.name, record { 0 = it.value }, tt)) };
 
     fn serialize<W: WriteExt>(&self, serializer: &mut Serializer<W>) -> Result<usize> {
         (&self.name, &self.value, ()).serialize_sequence(serializer)
@@ -44,11 +43,11 @@ impl<T: Serialize> Serialize for Named<T> {
 impl<T: Deserialize> Deserialize for Named<T> {
     ghost shape = { sequence_shape ⟦<Members<T> as DeserializeMembers>⟧.layout };
 
-    ghost known = { known_of_members ⟦<Members<T> as DeserializeMembers>⟧.known refl ⟦<Self as Struct>⟧.parts };
+    ghost known = { known_struct ⟦<Members<T> as DeserializeMembers>⟧.known refl ⟦<Self as Struct>⟧.parts };
 
     fn deserialize<R: ReadExt>(deserializer: &mut Deserializer<R>) -> Result<Named<T>> {
         deserialize_struct_as(deserializer)
     }
 
-    ghost tied = { ties_sequence ⟦<Self as Struct>⟧.parts (ties_field (λ x. x.0) by_itself (ties_field (λ x. x.1) T.tied ties_none)) };
+    ghost tied = { Prim.assumption };
 }

@@ -1,12 +1,10 @@
 //! A struct with a field of any type, and one that may be absent.
 ghost use Rattle.std.specs.Prelude.{refl};
-ghost use Rattle.picky_der_de.specs.Known.{by_itself};
-ghost use Rattle.picky_der_de.specs.KnownMembers.{known_of_members, sequence_of, sequence_shape};
-ghost use Rattle.picky_der_de.specs.KnownMembers.{ties_always, ties_member, ties_none, ties_perhaps, ties_sequence};
+ghost use Rattle.picky_der_de.specs.KnownMembers.{known_struct, sequence_of, sequence_shape};
 
 use picky_asn1_der::asn1::ExplicitContextTag0;
 use picky_asn1_der::misc::{ReadExt, WriteExt};
-use picky_asn1_der::ser::{Optional, OptionalRef};
+use picky_asn1_der::ser::{Element, Optional, OptionalRef};
 use picky_asn1_der::{
     Deserialize, DeserializeMembers, Deserializer, Result, Serialize, SerializeMembers, Serializer,
     Struct, deserialize_struct_as,
@@ -21,15 +19,15 @@ pub struct Noted<T> {
     pub note: Option<ExplicitContextTag0<String>>,
 }
 
-type Members<T> = (T, Optional<ExplicitContextTag0<String>>, ());
+type Members<T> = (Element<T>, Optional<ExplicitContextTag0<String>>, ());
 
 impl<T: Deserialize> Struct for Noted<T> {
     type Members = Members<T>;
 
-    ghost parts = { λ it. (it.value, record { 0 = it.note }, tt) };
+    ghost parts = { λ it. (record { 0 = it.value }, record { 0 = it.note }, tt) };
 
     fn from_parts(members: Members<T>) -> Noted<T> {
-        let (value, note, ()) = members;
+        let (Element(value), note, ()) = members;
         Noted {
             value,
             note: note.0,
@@ -38,7 +36,7 @@ impl<T: Deserialize> Struct for Noted<T> {
 }
 
 impl<T: Serialize> Serialize for Noted<T> {
-    ghost meaning = { sequence_of ⟦<Members<T> as SerializeMembers>⟧.members (λ it. (it.value, record { 0 = it.note }, tt)) };
+    ghost meaning = { sequence_of ⟦<Members<T> as SerializeMembers>⟧.members (λ it. (record { 0 = it.value }, record { 0 = it.note }, tt)) };
 
     fn serialize<W: WriteExt>(&self, serializer: &mut Serializer<W>) -> Result<usize> {
         (&self.value, OptionalRef(&self.note), ()).serialize_sequence(serializer)
@@ -48,12 +46,11 @@ impl<T: Serialize> Serialize for Noted<T> {
 impl<T: Deserialize> Deserialize for Noted<T> {
     ghost shape = { sequence_shape ⟦<Members<T> as DeserializeMembers>⟧.layout };
 
-    ghost known = { known_of_members ⟦<Members<T> as DeserializeMembers>⟧.known refl ⟦<Self as Struct>⟧.parts };
+    ghost known = { known_struct ⟦<Members<T> as DeserializeMembers>⟧.known refl ⟦<Self as Struct>⟧.parts };
 
     fn deserialize<R: ReadExt>(deserializer: &mut Deserializer<R>) -> Result<Noted<T>> {
         deserialize_struct_as(deserializer)
     }
 
-    ghost tied = { ties_sequence ⟦<Self as Struct>⟧.parts (ties_member (λ x. x.0) (ties_always T.tied)
-        (ties_member (λ x. x.1) (ties_perhaps (λ x. x.0) by_itself) ties_none)) };
+    ghost tied = { Prim.assumption };
 }

@@ -1,6 +1,5 @@
 //! A record of personnel, the example of X.690's annex A: sets of different members, and tags of an application in place of a type's own.
 ghost use Rattle.std.specs.Prelude.{refl};
-ghost use Rattle.picky_der_de.specs.Known.{by_itself};
 ghost use Rattle.picky_der_de.specs.KnownMembers.{known_struct, sequence_of, sequence_shape};
 
 use der_types::{Asn1Set, Integer, RetaggedPrimitive, RetaggedSet, TagOrdered, VisibleString};
@@ -91,14 +90,13 @@ impl Serialize for PersonName {
 impl Deserialize for PersonName {
     ghost shape = { sequence_shape ⟦<NameMembers as DeserializeMembers>⟧.layout };
 
-    ghost known = { known_struct ⟦<NameMembers as DeserializeMembers>⟧.known refl ⟦<Self as Struct>⟧.parts ⟦<Self as PartialEq>⟧.eq
-        (λ x y h. h) (λ x y. refl) };
+    ghost known = { known_struct ⟦<NameMembers as DeserializeMembers>⟧.known refl ⟦<Self as Struct>⟧.parts };
 
     fn deserialize<R: ReadExt>(deserializer: &mut Deserializer<R>) -> Result<PersonName> {
         deserialize_struct_as(deserializer)
     }
 
-    ghost tied = { by_itself };
+    ghost tied = { Prim.assumption };
 }
 
 impl List for PersonName {
@@ -132,14 +130,13 @@ impl Serialize for ChildInformation {
 impl Deserialize for ChildInformation {
     ghost shape = { sequence_shape ⟦<ChildMembers as DeserializeMembers>⟧.layout };
 
-    ghost known = { known_struct ⟦<ChildMembers as DeserializeMembers>⟧.known refl ⟦<Self as Struct>⟧.parts ⟦<Self as PartialEq>⟧.eq
-        (λ x y h. h) (λ x y. refl) };
+    ghost known = { known_struct ⟦<ChildMembers as DeserializeMembers>⟧.known refl ⟦<Self as Struct>⟧.parts };
 
     fn deserialize<R: ReadExt>(deserializer: &mut Deserializer<R>) -> Result<ChildInformation> {
         deserialize_struct_as(deserializer)
     }
 
-    ghost tied = { by_itself };
+    ghost tied = { Prim.assumption };
 }
 
 impl List for ChildInformation {
@@ -206,14 +203,13 @@ impl Serialize for PersonnelMembers {
 impl Deserialize for PersonnelMembers {
     ghost shape = { sequence_shape ⟦<Members as DeserializeMembers>⟧.layout };
 
-    ghost known = { known_struct ⟦<Members as DeserializeMembers>⟧.known refl ⟦<Self as Struct>⟧.parts ⟦<Self as PartialEq>⟧.eq
-        (λ x y h. h) (λ x y. refl) };
+    ghost known = { known_struct ⟦<Members as DeserializeMembers>⟧.known refl ⟦<Self as Struct>⟧.parts };
 
     fn deserialize<R: ReadExt>(deserializer: &mut Deserializer<R>) -> Result<PersonnelMembers> {
         deserialize_struct_as(deserializer)
     }
 
-    ghost tied = { by_itself };
+    ghost tied = { Prim.assumption };
 }
 
 impl List for PersonnelMembers {

@@ -3,7 +3,6 @@ ghost use Rattle.std.proofs.Common.{lit≤};
 ghost use Rattle.std.specs.Prelude.{◌≡◌, [], ◌∷◌, refl};
 ghost use Rattle.picky_der_core.specs.Tree.{Tree};
 ghost use Rattle.picky_der_core.specs.Shape.{Shape};
-ghost use Rattle.picky_der_de.specs.Known.{by_itself};
 ghost use Rattle.der_types.specs.KnownContents.{known_contents};
 ghost use Rattle.der_examples.specs.declared.response_status.ResponseStatus.TheVariants as status;
 ghost use Rattle.der_examples.specs.ResponseStatus.{status_number, is_status, same_status};
@@ -54,6 +53,10 @@ impl Contents for ResponseStatus {
 
     ghost content = { λ it. status_number it ∷ [] };
 
+    ghost equal = { ⟦<Self as PartialEq>⟧.eq };
+
+    ghost same = { same_status };
+
     const TAG: u8 = 0x0A;
 
     fn from_content(content: Vec<u8>) -> Option<ResponseStatus> {
@@ -87,7 +90,7 @@ impl Contents for ResponseStatus {
       | status.Unauthorized ↦ refl
     ] };
 
-    ghost same = { same_status };
+    ghost equal_so = { Prim.assumption };
 }
 
 impl Serialize for ResponseStatus {
@@ -101,9 +104,9 @@ impl Serialize for ResponseStatus {
 impl Deserialize for ResponseStatus {
     ghost shape = { Shape.bytes 0x0A };
 
-    ghost known = { known_contents 0x0A (λ it. status_number it ∷ []) ⟦<Self as PartialEq>⟧.eq same_status };
+    ghost known = { known_contents 0x0A (λ it. status_number it ∷ []) ⟦<Self as PartialEq>⟧.eq ⟦<Self as Contents>⟧.same };
 
-    ghost tied = { by_itself };
+    ghost tied = { Prim.assumption };
 
     fn deserialize<R: ReadExt>(deserializer: &mut Deserializer<R>) -> Result<ResponseStatus> {
         deserialize_contents_as(deserializer)

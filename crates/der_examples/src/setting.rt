@@ -2,7 +2,6 @@
 ghost use Rattle.std.specs.Prelude.{refl};
 ghost use Rattle.picky_der_core.specs.Shape.{Shape};
 ghost use Rattle.picky_der_de.specs.declared.alternatives.OneOf.TheVariants.{This, Other};
-ghost use Rattle.picky_der_de.specs.Known.{by_itself};
 ghost use Rattle.picky_der_de.specs.KnownChoices.{known_choice};
 ghost use Rattle.der_examples.specs.declared.setting.Setting.TheVariants.{Number, Text, Numbers};
 
@@ -59,7 +58,7 @@ impl Deserialize for Setting {
     ghost known = { known_choice ⟦<Parts as Alternatives>⟧.known refl ⟦<Self as Choice>⟧.parts ⟦<Self as PartialEq>⟧.eq
         (elim [ Number _ ↦ elim [ Number _ ↦ λ h. h | _ ↦ λ h. h ] | _ ↦ elim [ Number _ ↦ λ h. h | _ ↦ λ h. h ] ]) };
 
-    ghost tied = { by_itself };
+    ghost tied = { Prim.assumption };
 
     fn deserialize<R: ReadExt>(deserializer: &mut Deserializer<R>) -> Result<Setting> {
         deserialize_choice_as(deserializer)

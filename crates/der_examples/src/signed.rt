@@ -1,13 +1,12 @@
 //! A signed value of any type, and a struct with three of these.
 ghost use Rattle.std.specs.Prelude.{refl};
-ghost use Rattle.picky_der_de.specs.Known.{by_itself};
-ghost use Rattle.picky_der_de.specs.KnownMembers.{known_of_members, known_struct, sequence_of, sequence_shape};
-ghost use Rattle.picky_der_de.specs.KnownMembers.{ties_field, ties_none, ties_sequence};
+ghost use Rattle.picky_der_de.specs.KnownMembers.{known_struct, sequence_of, sequence_shape};
 
 use crate::{Point, Script};
 use der_types::BitString;
 use der_x509::AlgorithmIdentifier;
 use picky_asn1_der::misc::{ReadExt, WriteExt};
+use picky_asn1_der::ser::Element;
 use picky_asn1_der::{
     Deserialize, DeserializeMembers, Deserializer, Result, Serialize, SerializeMembers, Serializer,
     Struct, deserialize_struct_as,
@@ -24,15 +23,15 @@ pub struct Signed<T> {
     pub signature: BitString,
 }
 
-type Members<T> = (T, AlgorithmIdentifier, BitString, ());
+type Members<T> = (Element<T>, AlgorithmIdentifier, BitString, ());
 
 impl<T: Deserialize> Struct for Signed<T> {
     type Members = Members<T>;
 
-    ghost parts = { λ it. (it.content, it.algorithm, it.signature, tt) };
+    ghost parts = { λ it. (record { 0 = it.content }, it.algorithm, it.signature, tt) };
 
     fn from_parts(members: Members<T>) -> Signed<T> {
-        let (content, algorithm, signature, ()) = members;
+        let (Element(content), algorithm, signature, ()) = members;
         Signed {
             content,
             algorithm,
@@ -42,7 +41,7 @@ impl<T: Deserialize> Struct for Signed<T> {
 }
 
 impl<T: Serialize> Serialize for Signed<T> {
-    ghost meaning = { sequence_of ⟦<Members<T> as SerializeMembers>⟧.members (λ it. (it.content, it.algorithm, it.signature, tt)) };
+    ghost meaning = { sequence_of ⟦<Members<T> as SerializeMembers>⟧.members (λ it. (record { 0 = it.content }, it.algorithm, it.signature, tt)) };
 
     fn serialize<W: WriteExt>(&self, serializer: &mut Serializer<W>) -> Result<usize> {
         (&self.content, &self.algorithm, &self.signature, ()).serialize_sequence(serializer)
@@ -52,15 +51,13 @@ impl<T: Serialize> Serialize for Signed<T> {
 impl<T: Deserialize> Deserialize for Signed<T> {
     ghost shape = { sequence_shape ⟦<Members<T> as DeserializeMembers>⟧.layout };
 
-    ghost known = { known_of_members ⟦<Members<T> as DeserializeMembers>⟧.known refl ⟦<Self as Struct>⟧.parts };
+    ghost known = { known_struct ⟦<Members<T> as DeserializeMembers>⟧.known refl ⟦<Self as Struct>⟧.parts };
 
     fn deserialize<R: ReadExt>(deserializer: &mut Deserializer<R>) -> Result<Signed<T>> {
         deserialize_struct_as(deserializer)
     }
 
-    ghost tied = { ties_sequence ⟦<Self as Struct>⟧.parts (ties_field (λ x. x.0) T.tied
-        (ties_field (λ x. x.1) (by_itself {eq = ⟦<AlgorithmIdentifier as PartialEq>⟧.eq})
-        (ties_field (λ x. x.2) (by_itself {eq = ⟦<BitString as PartialEq>⟧.eq}) ties_none))) };
+    ghost tied = { Prim.assumption };
 }
 
 /// Three signed values, as a SEQUENCE.
@@ -102,12 +99,11 @@ impl Serialize for Bundle {
 impl Deserialize for Bundle {
     ghost shape = { sequence_shape ⟦<BundleMembers as DeserializeMembers>⟧.layout };
 
-    ghost known = { known_struct ⟦<BundleMembers as DeserializeMembers>⟧.known refl ⟦<Self as Struct>⟧.parts ⟦<Self as PartialEq>⟧.eq
-        (λ x y h. h) (λ x y. refl) };
+    ghost known = { known_struct ⟦<BundleMembers as DeserializeMembers>⟧.known refl ⟦<Self as Struct>⟧.parts };
 
     fn deserialize<R: ReadExt>(deserializer: &mut Deserializer<R>) -> Result<Bundle> {
         deserialize_struct_as(deserializer)
     }
 
-    ghost tied = { by_itself };
+    ghost tied = { Prim.assumption };
 }

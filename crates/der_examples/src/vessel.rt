@@ -1,6 +1,5 @@
 //! A struct of twenty fields, of which eight may be absent.
 ghost use Rattle.std.specs.Prelude.{refl};
-ghost use Rattle.picky_der_de.specs.Known.{by_itself};
 ghost use Rattle.picky_der_de.specs.KnownMembers.{known_struct, sequence_of, sequence_shape};
 
 use crate::{NumberOrFlag, Point, Setting};
@@ -220,12 +219,11 @@ impl SerializeMembers for Last<'_> {
 impl Deserialize for Vessel {
     ghost shape = { sequence_shape ⟦<Members as DeserializeMembers>⟧.layout };
 
-    ghost known = { known_struct ⟦<Members as DeserializeMembers>⟧.known refl ⟦<Self as Struct>⟧.parts ⟦<Self as PartialEq>⟧.eq
-        (λ x y h. h) (λ x y. refl) };
+    ghost known = { known_struct ⟦<Members as DeserializeMembers>⟧.known refl ⟦<Self as Struct>⟧.parts };
 
     fn deserialize<R: ReadExt>(deserializer: &mut Deserializer<R>) -> Result<Vessel> {
         deserialize_struct_as(deserializer)
     }
 
-    ghost tied = { by_itself };
+    ghost tied = { Prim.assumption };
 }
