@@ -1,6 +1,5 @@
 //! A struct with an element that is kept as it is.
 ghost use Rattle.std.specs.Prelude.{refl};
-ghost use Rattle.picky_der_de.specs.Known.{by_itself};
 ghost use Rattle.picky_der_de.specs.KnownMembers.{known_struct, sequence_of, sequence_shape};
 
 use picky_asn1_der::misc::{ReadExt, WriteExt};
@@ -40,12 +39,11 @@ impl Serialize for Kept {
 impl Deserialize for Kept {
     ghost shape = { sequence_shape ⟦<Members as DeserializeMembers>⟧.layout };
 
-    ghost known = { known_struct ⟦<Members as DeserializeMembers>⟧.known refl ⟦<Self as Struct>⟧.parts ⟦<Self as PartialEq>⟧.eq
-        (λ x y h. h) (λ x y. refl) };
+    ghost known = { known_struct ⟦<Members as DeserializeMembers>⟧.known refl ⟦<Self as Struct>⟧.parts };
 
     fn deserialize<R: ReadExt>(deserializer: &mut Deserializer<R>) -> Result<Kept> {
         deserialize_struct_as(deserializer)
     }
 
-    ghost tied = { by_itself };
+    ghost tied = { Prim.assumption };
 }

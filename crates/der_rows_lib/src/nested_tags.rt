@@ -1,5 +1,5 @@
 //! Explicit tags in one another.
-ghost use Rattle.picky_der_de.specs.Known.{by_itself, known_as};
+ghost use Rattle.picky_der_de.specs.Known.{known_as};
 
 use picky_asn1_der::asn1::ExplicitContextTag;
 use picky_asn1_der::misc::{ReadExt, WriteExt};
@@ -47,7 +47,7 @@ impl Deserialize for LastEight {
 
     ghost known = { known_as ⟦<Eight as Deserialize>⟧.known (λ x. x.0) };
 
-    ghost tied = { by_itself };
+    ghost tied = { Prim.assumption };
 
     fn deserialize<R: ReadExt>(deserializer: &mut Deserializer<R>) -> Result<LastEight> {
         deserialize_as(deserializer)

@@ -2,7 +2,7 @@
 ghost use Rattle.std.specs.Prelude.{◌^◌, ◌-◌, nat_eq, refl};
 ghost use Rattle.std.proofs.Common.{rules};
 ghost use Rattle.picky_der_core.specs.Integer.{unsigned_tree};
-ghost use Rattle.picky_der_de.specs.Known.{by_itself, known_number};
+ghost use Rattle.picky_der_de.specs.Known.{known_number};
 
 use picky_asn1_der::misc::{ReadExt, WriteExt};
 use picky_asn1_der::{Deserialize, Deserializer, Result, Serialize, Serializer};
@@ -38,7 +38,7 @@ impl Deserialize for Seen {
 
     ghost known = { known_number (2 ^ 8 - 1) refl (λ x. x.number) (λ x y. nat_eq x.number y.number) (λ x y h. h) };
 
-    ghost tied = { by_itself };
+    ghost tied = { Prim.assumption };
 
     fn deserialize<R: ReadExt>(deserializer: &mut Deserializer<R>) -> Result<Seen> {
         let tag = match deserializer.deserialize_identifier() {

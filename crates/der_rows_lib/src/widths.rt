@@ -1,6 +1,5 @@
 //! Tuples, rows and structs of the widths that no other row has.
 ghost use Rattle.std.specs.Prelude.{refl};
-ghost use Rattle.picky_der_de.specs.Known.{by_itself};
 ghost use Rattle.picky_der_de.specs.KnownMembers.{known_struct, sequence_of, sequence_shape};
 
 use crate::answers::{RowBytes, Writing, read_as, written};
@@ -318,12 +317,11 @@ impl Serialize for Eighteen {
 impl Deserialize for Eighteen {
     ghost shape = { sequence_shape ⟦<Five as DeserializeMembers>⟧.layout };
 
-    ghost known = { known_struct ⟦<Five as DeserializeMembers>⟧.known refl ⟦<Self as Struct>⟧.parts ⟦<Self as PartialEq>⟧.eq
-        (λ x y h. h) (λ x y. refl) };
+    ghost known = { known_struct ⟦<Five as DeserializeMembers>⟧.known refl ⟦<Self as Struct>⟧.parts };
 
     fn deserialize<R: ReadExt>(deserializer: &mut Deserializer<R>) -> DerResult<Eighteen> {
         deserialize_struct_as(deserializer)
     }
 
-    ghost tied = { by_itself };
+    ghost tied = { Prim.assumption };
 }
