@@ -36,7 +36,8 @@ impl<T: Deserialize> Struct for Noted<T> {
 }
 
 impl<T: Serialize> Serialize for Noted<T> {
-    ghost meaning = { sequence_of ⟦<Members<T> as SerializeMembers>⟧.members (λ it. (record { 0 = it.value }, record { 0 = it.note }, tt)) };
+    ghost meaning = { sequence_of ⟦<Members<T> as SerializeMembers>⟧.members
+        (λ it. (record { 0 = it.value }, record { 0 = it.note }, tt)) };
 
     fn serialize<W: WriteExt>(&self, serializer: &mut Serializer<W>) -> Result<usize> {
         (&self.value, OptionalRef(&self.note), ()).serialize_sequence(serializer)

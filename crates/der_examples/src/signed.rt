@@ -41,7 +41,8 @@ impl<T: Deserialize> Struct for Signed<T> {
 }
 
 impl<T: Serialize> Serialize for Signed<T> {
-    ghost meaning = { sequence_of ⟦<Members<T> as SerializeMembers>⟧.members (λ it. (record { 0 = it.content }, it.algorithm, it.signature, tt)) };
+    ghost meaning = { sequence_of ⟦<Members<T> as SerializeMembers>⟧.members
+        (λ it. (record { 0 = it.content }, it.algorithm, it.signature, tt)) };
 
     fn serialize<W: WriteExt>(&self, serializer: &mut Serializer<W>) -> Result<usize> {
         (&self.content, &self.algorithm, &self.signature, ()).serialize_sequence(serializer)
