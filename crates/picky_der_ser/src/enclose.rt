@@ -1,13 +1,13 @@
 //! Contents with their headers in front.
 ghost use Rattle.std.specs.Prelude.{◌≡◌, ◌≤◌, ◌<◌, ◌+◌, ◌-◌, ◌∷◌, ◌++◌, length, take, drop, vec_len};
-ghost use Rattle.std.specs.Prelude.{[], vec_capacity, OnOk};
+ghost use Rattle.std.specs.Prelude.{vec_capacity, OnOk};
 ghost use Rattle.std.specs.List.{slice_rotate_right};
 ghost use Rattle.picky_der_core.specs.Primitive.{Primitive};
 ghost use Rattle.picky_der_core.specs.OpenWrappers.{under};
 ghost use Rattle.picky_der_core.specs.Encoding.{der};
 ghost use Rattle.picky_der_core.specs.Tree.{Tree};
 ghost use Rattle.picky_der_ser.specs.Heading.{tree_of};
-ghost use Rattle.picky_der_ser.specs.Headers.{headers, HasNumber, CanAllBeOpen};
+ghost use Rattle.picky_der_ser.specs.Headers.{HasNumber, CanAllBeOpen};
 ghost use Rattle.picky_der_ser.specs.Overwrite.{with_overwrite};
 
 use crate::Header;
@@ -105,14 +105,20 @@ pub(crate) fn push_enclosed(
     Ok(())
 }
 
-// Adds a header of two bytes, for which there is room.
+// Makes the room for the header of a content that has not come, where this is two bytes for which the vector has room. Else nothing
+// is done.
 #[inline(always)]
-pub(crate) fn push_short_header(out: &mut Vec<u8>, identifier: u8, len: u8)
-    requires { vec_len out.old + 2 ≤ vec_capacity out.old }
-    ensures { out.new.items ≡ out.old.items ++ (identifier ∷ len ∷ []) }
+pub(crate) fn make_short_room(out: &mut Vec<u8>, around: &[Wrapper], header: &Header)
+    requires { HasNumber header.now }
+    ensures front { take (vec_len out.old) out.new.items ≡ out.old.items }
+    ensures grows { vec_len out.old ≤ vec_len out.new }
 {
-    // There is room, so it isn't refused.
-    let _ = out.extend_from_slice(&[identifier, len]);
+    if out.capacity() - out.len() >= 2 {
+        if let Some(identifier) = short_identifier(around, header, 0) {
+            // There is room, so it isn't refused.
+            let _ = out.extend_from_slice(&[identifier, 0]);
+        }
+    }
 }
 
 // Adds an element whose length is one byte, for which there is room.
@@ -132,8 +138,25 @@ pub(crate) fn push_short(out: &mut Vec<u8>, tag: Tag, content: &[u8])
     }
 }
 
-// Puts the headers of the content from `start` on in front of it. The room from `at` to `start` takes the first of them, so
-// the content moves only where they are longer.
+// Drops what is more than `size` bytes of the room from `at` to `start`. Answers how wide it is then.
+fn narrow_room(out: &mut Vec<u8>, at: usize, start: usize, size: usize) -> usize
+    requires room { at ≤ start }
+    requires within { start ≤ vec_len out.old }
+    ensures size { result ≤ size }
+    ensures front { take at out.new.items ≡ take at out.old.items }
+    ensures behind { drop (at + result) out.new.items ≡ drop start out.old.items }
+    ensures len { vec_len out.new + (start - at) ≡ vec_len out.old + result }
+{
+    let room = start - at;
+    if room <= size {
+        return room;
+    }
+    out.drain(at..start - size);
+    size
+}
+
+// Puts the headers of the content from `start` on in front of it. The room from `at` to `start` takes the first of them, so the
+// content moves only where they are longer, or shorter.
 #[cold]
 #[inline(never)]
 fn enclose_nested(
@@ -146,22 +169,21 @@ fn enclose_nested(
     requires numbers { CanAllBeOpen around.now × HasNumber header }
     requires room { at ≤ start }
     requires within { start ≤ vec_len out.old }
-    requires least { start ≤ at + length (headers around.now header 0) }
     ensures ok { OnOk result (out.new.items ≡ take at out.old.items ++ der
         (under around.now (tree_of header (drop start out.old.items)))) }
     ensures grows { at ≤ vec_len out.new }
 {
     let end = out.len();
     push_headers(out, around, header, end - start)?;
-    let room = start - at;
-    let more = out.len() - end - room;
-    rotate_from(out, start, more);
+    let size = out.len() - end;
+    let room = narrow_room(out, at, start, size);
+    rotate_from(out, at + room, size - room);
     fill_from_last(out, at, room);
     Ok(())
 }
 
-// Puts the headers of the content from `start` on in front of it. The room from `at` to `start` isn't larger than they are;
-// one header with a short length just fills it.
+// Puts the headers of the content from `start` on in front of it, into the room from `at` to `start`. One header with a short
+// length mostly just fills it.
 #[inline(always)]
 pub(crate) fn enclose(
     out: &mut Vec<u8>,
@@ -173,7 +195,6 @@ pub(crate) fn enclose(
     requires numbers { CanAllBeOpen around.now × HasNumber header }
     requires room { at ≤ start }
     requires within { start ≤ vec_len out.old }
-    requires least { start ≤ at + length (headers around.now header 0) }
     ensures ok { OnOk result (out.new.items ≡ take at out.old.items ++ der
         (under around.now (tree_of header (drop start out.old.items)))) }
     ensures grows { at ≤ vec_len out.new }
