@@ -1,5 +1,5 @@
 -- Headers that are brought in front of a content.
-use Rattle.std.proofs.Common.{◌≡◌, ℕ, ◌+◌, ◌-◌, ◌≤◌, List, ◌++◌, length, take, drop, refl, sym, ◌∙◌, ap, ap₂, arith, append_assoc, length-append, take-append-drop, length-take-le}
+use Rattle.std.proofs.Common.{◌≡◌, ℕ, ◌+◌, ◌-◌, ◌≤◌, List, ◌++◌, length, take, drop, refl, sym, ◌∙◌, ap, ap₂, arith, append_assoc, append-nil, length-append, take-append-drop, length-take-le}
 use Rattle.std.proofs.Math.Seq.{take-append_seam, drop-append_seam, take-append-add, drop-append-add}
 use Rattle.std.proofs.lemmas.List.{drop-append-le, take-append-le, take-take, length-drop}
 use Rattle.std.specs.List.{slice_rotate_right}
@@ -10,6 +10,19 @@ rotated : (c h : List ℕ) (room more : ℕ) → length h ≡ room + more → sl
 rotated c h room more count =
     let n : length (c ++ h) - more ≡ length c + room = omega (arith, length-append c h) in
     ap (λ k. drop k (c ++ h) ++ take k (c ++ h)) n ∙ ap (λ x. x ++ take (length c + room) (c ++ h)) (drop-append-add c h room) ∙ ap (λ x. drop room h ++ x) (take-append-add c h room)
+
+-- bytes behind a list, brought in front of its end
+turned : (s pad : List ℕ) (at : ℕ) → at ≤ length s → take at (s ++ pad) ++ slice_rotate_right (drop at (s ++ pad)) (length pad) ≡ take at s ++ (pad ++ drop at s)
+turned s pad at h =
+    ap₂ (λ x y. x ++ slice_rotate_right y (length pad)) (take-append-le at s pad h) (drop-append-le at s pad h) ∙ ap (λ x. take at s ++ x) (rotated (drop at s) pad 0 (length pad) (omega arith) ∙ ap (λ x. pad ++ x) (append-nil (drop at s)))
+
+-- what stands behind them then
+pub behind_turned : (s t o pad : List ℕ) (at count : ℕ) → at ≤ length s → length t ≡ length s + count → t ≡ s ++ pad → o ≡ take at t ++ slice_rotate_right (drop at t) count → drop (at + count) o ≡ drop at s
+behind_turned s t o pad at count h len more is =
+    let n : length (take at s) ≡ at = length-take-le at s h in
+    let size : count ≡ length pad = omega (arith, len, ap length more, length-append s pad) in
+    let whole : o ≡ take at s ++ (pad ++ drop at s) = is ∙ ap₂ (λ x k. take at x ++ slice_rotate_right (drop at x) k) more size ∙ turned s pad at h in
+    ap₂ drop (ap₂ (λ x y. x + y) (sym n) size) whole ∙ drop-append-add (take at s) (pad ++ drop at s) (length pad) ∙ drop-append_seam pad (drop at s)
 
 -- two turns are one
 pub turn_twice : (bs : List ℕ) (i j : ℕ) → i + j ≤ length bs → slice_rotate_right (slice_rotate_right bs i) j ≡ slice_rotate_right bs (i + j)

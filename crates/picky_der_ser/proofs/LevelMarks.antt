@@ -1,8 +1,8 @@
 -- The levels in one list of bytes.
-use Rattle.std.proofs.Common.{◌≡◌, ◌≢◌, ℕ, ◌≤◌, ◌<◌, ◌-◌, Bool, true, false, ◌&&◌, nat_lt, List, [], ◌∷◌, ◌++◌, length, take, drop, Option, None, Some, IfSome, refl, sym, ap, ap₂, ◌∙◌, arith, subst}
+use Rattle.std.proofs.Common.{◌≡◌, ◌≢◌, ℕ, ◌≤◌, ◌<◌, ◌+◌, ◌-◌, Bool, true, false, ◌&&◌, nat_lt, List, [], ◌∷◌, ◌++◌, length, take, drop, Option, None, Some, IfSome, refl, sym, ap, ap₂, ◌∙◌, arith, subst}
 use mir.Val.{bool_byte}
 use Rattle.std.proofs.Math.Seq.{take-append_seam, drop-append_seam}
-use Rattle.std.proofs.lemmas.List.{take-take, drop-append-le, drop_all, take_all, length-drop, take-append-le, length-take-le}
+use Rattle.std.proofs.lemmas.List.{take-take, drop-drop, drop-take, drop-append-le, drop_all, take_all, length-drop, take-append-le, length-take-le}
 use Rattle.picky_der_core.specs.OpenWrappers.{under}
 use Rattle.picky_der_core.specs.declared.asn1.wrapper.Wrapper.{Wrapper}
 use Rattle.picky_der_core.specs.Encoding.{der}
@@ -13,7 +13,7 @@ use Rattle.picky_der_ser.specs.State.{Level, Stack, with_bytes, at_next_member, 
 use Rattle.picky_der_ser.specs.Heading.{tree_of, is_set}
 use Rattle.picky_der_ser.specs.Headers.{headers}
 use Rattle.picky_der_ser.specs.Sealed.{as_raw_level}
-use Rattle.picky_der_ser.specs.Marks.{level_at, levels_of, inside_of, pending_of, IsMark, AreMarks}
+use Rattle.picky_der_ser.specs.Marks.{level_at, levels_of, inside_of, pending_of, IsMark, AreMarks, AreRooms, HasMark}
 use Rattle.picky_der_ser.specs.Seams.{AreSeams, last_seam, next_seams}
 use Rattle.picky_der_ser.proofs.Seams.{seams-next, last_seam-next, drop-next_seams, take-next_seams, length-next_seams}
 use Rattle.picky_der_ser.proofs.SetBytes.{final_content-uncut, in_order-uncut}
@@ -56,6 +56,11 @@ marks-at_next_member {m} {vs} {ms} n q r w was marks e =
     let others = subst (λ x. AreMarks ms m.at x (take m.first_wrapper w)) (sym (take-next_seams m.header m.first_seam q (n - m.start) k.0.within_seams)) k.1 in
     rw (was, e) ((first, others))
 
+-- their rooms
+pub rooms-of : (ms : List Mark) (n : ℕ) (q : List ℕ) (w : List Wrapper) → AreMarks ms n q w → AreRooms ms n
+rooms-of [] n q w k = tt
+rooms-of (m ∷ ms) n q w k = let within = k.0.within in (k.0.room, omega (arith, within), rooms-of ms m.at (take m.first_seam q) (take m.first_wrapper w) k.1)
+
 -- ---- whether a member is being written
 
 pub some_inside : (pending : Bool) (ms : List Mark) (s q : List ℕ) (w : List Wrapper) → bool_byte pending < length ms → inside_of pending ms s q w ≢ []
@@ -63,6 +68,17 @@ some_inside pending [] s q w h = absurd (omega arith)
 some_inside false (m ∷ ms) s q w h = λ e. cc
 some_inside true (m ∷ []) s q w h = absurd (omega arith)
 some_inside true (m ∷ n ∷ ms) s q w h = λ e. cc
+
+-- no level is pending
+pub not_pending : (pending : Bool) (ms : List Mark) (s q : List ℕ) (w : List Wrapper) (spare : ℕ) → HasMark pending ms spare → pending_of pending ms s q w ≡ None → pending ≡ false
+not_pending false ms s q w spare h e = refl
+not_pending true [] s q w spare h e = absurd (h refl)
+not_pending true (m ∷ ms) s q w spare h e = cc
+
+-- then there is room for one more mark, whatever the marks are
+pub room-kept : (pending : Bool) (ms ns : List Mark) {m n : ℕ} → pending ≡ false → n ≡ m → HasMark pending ms m → HasMark pending ns n
+room-kept false ms ns entered same h = omega (arith, same, h)
+room-kept true ms ns entered same h = cc
 
 -- ---- what is added to the innermost
 
@@ -128,13 +144,6 @@ stack-as_raw_level true {m} {vs} {us} {ms} s t q r w a was now bare marks e f =
     let bytes : take m.at t ≡ front = ap (λ k. take k t) (sym size) ∙ ap (take (length front)) e ∙ take-append_seam front whole in
     let seams : take m.first_seam r ≡ take m.first_seam q = ap (take m.first_seam) f ∙ take-take m.first_seam m.first_seam q (omega arith) in
     rw (was, now, bytes, seams, all, none) (ap (λ x. record { inside = levels_of ms front (take m.first_seam q) (take m.first_wrapper w); pending = Some (record { header = Raw; around = x; content = whole; seams = [] }); around = a }) bare)
-
--- where nothing is pending, what is added goes to the innermost level
-pub stack-grown : (pending : Bool) (vs : List Mark) (s q bs : List ℕ) (w a : List Wrapper) (l : Level) (ls : List Level) → AreMarks vs (length s) q w → pending_of pending vs s q w ≡ None
-    → inside_of pending vs s q w ≡ l ∷ ls → stack_at pending vs (s ++ bs) q w a ≡ record { inside = with_bytes l bs ∷ ls; pending = None; around = a }
-stack-grown false vs s q bs w a l ls h n e = let f = levels-grown vs s q bs w l ls h e in cc
-stack-grown true [] s q bs w a l ls h n e = cc
-stack-grown true (m ∷ ms) s q bs w a l ls h n e = cc
 
 -- what is pending gets its headers
 pub stack-headed : (pending : Bool) {m : Mark} {vs ms : List Mark} (s t q : List ℕ) (w a : List Wrapper) (n : ℕ) → vs ≡ m ∷ ms → AreMarks vs (length s) q w → t ≡ s ++ headers (drop m.first_wrapper w) m.header n
@@ -207,3 +216,37 @@ count-uncut false s q w n was none count = tt
 count-uncut true {m} {vs} {ms} s q w n was none count =
     let own : final_content (level_at m s q w) ≡ drop m.start s = final_content-uncut (level_at m s q w) (drop_all m.first_seam q none) in
     rw was (count ∙ ap (λ c. length (der (under (drop m.first_wrapper w) (tree_of m.header c)))) (sym own))
+
+-- ---- a room that is widened: what stood from `m.at` on has moved by k bytes, and its content by n more
+module _ (m : Mark) (s t u : List ℕ) (end k n : ℕ) (room : m.at ≤ m.start) (within : m.start ≤ end) (moved : drop (m.at + k) t ≡ drop m.at s) (front : take (m.start + k) u ≡ take (m.start + k) t)
+    (behind : drop (m.start + k + n) u ≡ drop (m.start + k) t) where
+  -- what stood from the content on
+  content-moved : drop (m.start + k + n) u ≡ drop m.start s
+  content-moved =
+      let r = m.start - m.at in
+      let there : m.start + k ≡ (m.at + k) + r = omega (arith, room) in
+      let was : m.at + r ≡ m.start = omega (arith, room) in
+      behind ∙ ap (λ x. drop x t) there ∙ sym (drop-drop r (m.at + k) t) ∙ ap (drop r) moved ∙ drop-drop r m.at s ∙ ap (λ x. drop x s) was
+
+  pub widened-behind : drop (end + (k + n)) u ≡ drop end s
+  widened-behind =
+      let c = end - m.start in
+      let there : end + (k + n) ≡ (m.start + k + n) + c = omega (arith, within) in
+      let was : m.start + c ≡ end = omega (arith, within) in
+      ap (λ x. drop x u) there ∙ sym (drop-drop c (m.start + k + n) u) ∙ ap (drop c) content-moved ∙ drop-drop c m.start s ∙ ap (λ x. drop x s) was
+
+  pub widened-levels : (ms ns : List Mark) (q : List ℕ) (w : List Wrapper) → levels_of ns (take (m.at + k) t) (take m.first_seam q) (take m.first_wrapper w) ≡ levels_of ms (take m.at s) (take m.first_seam q) (take m.first_wrapper w)
+      → levels_of (record m { at = m.at + k; start = m.start + k + n } ∷ ns) (take (end + (k + n)) u) q w ≡ levels_of (m ∷ ms) (take end s) q w
+  widened-levels ms ns q w same =
+      let c = end - m.start in
+      let outer = take m.first_seam q in
+      let around = take m.first_wrapper w in
+      let there : end + (k + n) ≡ (m.start + k + n) + c = omega (arith, within) in
+      let was : end ≡ m.start + c = omega (arith, within) in
+      let own : drop (m.start + k + n) (take (end + (k + n)) u) ≡ drop m.start (take end s) =
+      ap (λ x. drop (m.start + k + n) (take x u)) there ∙ drop-take (m.start + k + n) c u ∙ ap (take c) content-moved ∙ sym (drop-take m.start c s) ∙ ap (λ x. drop m.start (take x s)) (sym was) in
+      let before : take (m.at + k) (take (end + (k + n)) u) ≡ take (m.at + k) t =
+      take-take (m.at + k) (end + (k + n)) u (omega (arith, room, within)) ∙ sym (take-take (m.at + k) (m.start + k) u (omega (arith, room))) ∙ ap (take (m.at + k)) front ∙ take-take (m.at + k) (m.start + k) t (omega (arith, room)) in
+      let others : levels_of ns (take (m.at + k) (take (end + (k + n)) u)) outer around ≡ levels_of ms (take m.at (take end s)) outer around =
+      ap (λ x. levels_of ns x outer around) before ∙ same ∙ ap (λ x. levels_of ms x outer around) (sym (take-take m.at end s (omega (arith, room, within)))) in
+      ap₂ (λ x ls. record (level_at m (take end s) q w) { content = x } ∷ ls) own others

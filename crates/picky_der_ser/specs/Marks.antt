@@ -42,6 +42,11 @@ abbrev pub AreMarks : List Mark → ℕ → List ℕ → List Wrapper → Type 0
 AreMarks [] n seams ws = ⊤
 AreMarks (m ∷ ms) n seams ws = IsMark m n seams ws × AreMarks ms m.at (take m.first_seam seams) (take m.first_wrapper ws)
 
+-- the rooms and the contents behind them stand within n bytes, each before the ones further in
+abbrev pub AreRooms : List Mark → ℕ → Type 0
+AreRooms [] n = ⊤
+AreRooms (m ∷ ms) n = (m.at ≤ m.start) × (m.start ≤ n) × AreRooms ms m.at
+
 -- What is pending has a mark. Else there is room for one more, so that opening a level asks for no memory.
 abbrev pub HasMark : Bool → List Mark → ℕ → Type 0
 HasMark true ms spare = ms ≢ []

@@ -1,6 +1,6 @@
 //! Contents with their headers in front.
 ghost use Rattle.std.specs.Prelude.{◌≡◌, ◌≤◌, ◌<◌, ◌+◌, ◌-◌, ◌∷◌, ◌++◌, length, take, drop, vec_len};
-ghost use Rattle.std.specs.Prelude.{vec_capacity, OnOk};
+ghost use Rattle.std.specs.Prelude.{vec_capacity, OnOk, OnErr};
 ghost use Rattle.std.specs.List.{slice_rotate_right};
 ghost use Rattle.picky_der_core.specs.Primitive.{Primitive};
 ghost use Rattle.picky_der_core.specs.OpenWrappers.{under};
@@ -14,9 +14,6 @@ use crate::Header;
 use crate::header::{push_headers, short_identifier};
 use picky_der_core::asn1::{Tag, Wrapper};
 use std::alloc::AllocError;
-
-// How many bytes are asked for beside a content that makes a vector grow: those of its own headers and of those around it.
-const SPARE_ROOM: usize = 24;
 
 // Brings the last bytes in front of the others. Headers mostly grow by one byte or two: a turn by one byte is one move of memory,
 // and two of them take less time than one by two, which clears a room of its own first.
@@ -42,6 +39,23 @@ fn rotate_from(out: &mut Vec<u8>, start: usize, count: usize)
     turn(&mut out[start..], count);
 }
 
+// What stands in a room before its header comes: at most as many bytes as a header takes.
+const BLANK: [u8; 10] = [0; 10];
+
+// Makes room for `count` bytes in front of those from `at` on.
+pub(crate) fn insert_room(out: &mut Vec<u8>, at: usize, count: usize) -> Result<(), AllocError>
+    requires within { at ≤ vec_len out.old }
+    requires count { count ≤ 10 }
+    ensures front { OnOk result (take at out.new.items ≡ take at out.old.items) }
+    ensures behind { OnOk result (drop (at + count) out.new.items ≡ drop at out.old.items) }
+    ensures len { OnOk result (vec_len out.new ≡ vec_len out.old + count) }
+    ensures same { OnErr result (out.new.items ≡ out.old.items) }
+{
+    out.extend_from_slice(&BLANK[..count])?;
+    rotate_from(out, at, count);
+    Ok(())
+}
+
 // Moves the last `count` bytes over those from `at` on.
 fn fill_from_last(out: &mut Vec<u8>, at: usize, count: usize)
     requires { at + count + count ≤ vec_len out.old }
@@ -64,26 +78,6 @@ pub(crate) fn fill_short(out: &mut Vec<u8>, at: usize, identifier: u8, len: u8)
 }
 
 // Adds a content with its headers in front.
-#[cold]
-#[inline(never)]
-fn push_nested(
-    out: &mut Vec<u8>,
-    around: &[Wrapper],
-    header: Header,
-    content: &[u8],
-) -> Result<(), AllocError>
-    requires numbers { CanAllBeOpen around.now × HasNumber header }
-    ensures ok { OnOk result (out.new.items ≡ out.old.items ++ der
-        (under around.now (tree_of header content.now))) }
-    ensures grows { vec_len out.old ≤ vec_len out.new }
-{
-    out.reserve(SPARE_ROOM + content.len())?;
-    push_headers(out, around, header, content.len())?;
-    out.extend_from_slice(content)?;
-    Ok(())
-}
-
-// Adds a content with its headers in front. The vector grows once at most where there is one header with a short length.
 pub(crate) fn push_enclosed(
     out: &mut Vec<u8>,
     around: &[Wrapper],
@@ -95,12 +89,7 @@ pub(crate) fn push_enclosed(
         (under around.now (tree_of header content.now))) }
     ensures grows { vec_len out.old ≤ vec_len out.new }
 {
-    let len = content.len();
-    let Some(identifier) = short_identifier(around, &header, len) else {
-        return push_nested(out, around, header, content);
-    };
-    out.reserve(2 + len)?;
-    out.extend_from_slice(&[identifier, len as u8])?;
+    push_headers(out, around, header, content.len())?;
     out.extend_from_slice(content)?;
     Ok(())
 }

@@ -15,6 +15,7 @@ use crate::enclose::{enclose, fill_short, make_short_room, push_enclosed, push_s
 use crate::header::{push_headers, short_identifier};
 use crate::marks::{Mark, Marks};
 use crate::order::{arrange, begin_member};
+use crate::widen::widen_rooms;
 use crate::wrapper_stack::Wrappers;
 use picky_der_core::asn1::{Tag, Wrapper};
 use std::alloc::{AllocError, Global};
@@ -23,6 +24,9 @@ use std::marker::Model;
 // How many bytes are asked for at first, by `to_vec` at once and else when the first member of an outermost level comes: so many that
 // the vector grows once for most certificates, and for no public key of RSA with 2048 bits.
 pub(crate) const FIRST_ROOM: usize = 1_000;
+
+// How many bytes are asked for beside a content: those of its own headers, and those that the ones around it grow by.
+const SPARE_ROOM: usize = 128;
 
 // The contents of the levels stand one behind the other, the innermost last, and so do the wrappers around them, and their seams: of a
 // set, how many bytes of its content stand in front of each member but the first. Vectors in each mark would be copied and dropped with
@@ -296,13 +300,11 @@ impl Levels {
             }) }
     {
         self.give_up();
+        let around = self.wrappers.open_wrappers();
+        self.scratch.reserve(SPARE_ROOM + content.len())?;
+        widen_rooms(&mut self.scratch, &mut self.marks, content.len());
         let start = self.scratch.len();
-        push_enclosed(
-            &mut self.scratch,
-            self.wrappers.open_wrappers(),
-            header,
-            content,
-        )?;
+        push_enclosed(&mut self.scratch, around, header, content)?;
         Ok(self.scratch.len() - start)
     }
 
