@@ -1,5 +1,5 @@
 -- The levels in one list of bytes.
-use Rattle.std.proofs.Common.{◌≡◌, ◌≢◌, ℕ, ◌≤◌, ◌<◌, ◌+◌, ◌-◌, Bool, true, false, ◌&&◌, nat_lt, List, [], ◌∷◌, ◌++◌, length, take, drop, Option, None, Some, IfSome, refl, sym, ap, ap₂, ◌∙◌, arith, subst}
+use Rattle.std.proofs.Common.{◌≡◌, ◌≢◌, ℕ, ◌≤◌, ◌<◌, ◌+◌, ◌-◌, Bool, true, false, List, [], ◌∷◌, ◌++◌, length, take, drop, None, Some, IfSome, refl, sym, ap, ap₂, ◌∙◌, arith, subst}
 use mir.Val.{bool_byte}
 use Rattle.std.proofs.Math.Seq.{take-append_seam, drop-append_seam}
 use Rattle.std.proofs.lemmas.List.{take-take, drop-drop, drop-take, drop-append-le, drop_all, take_all, length-drop, take-append-le, length-take-le}
@@ -7,10 +7,9 @@ use Rattle.picky_der_core.specs.OpenWrappers.{under}
 use Rattle.picky_der_core.specs.declared.asn1.wrapper.Wrapper.{Wrapper}
 use Rattle.picky_der_core.specs.Encoding.{der}
 use Rattle.picky_der_ser.specs.declared.marks.Mark.{Mark}
-use Rattle.picky_der_ser.specs.declared.header.Header.{Header}
 use Rattle.picky_der_ser.specs.declared.header.Header.TheVariants.{Raw}
 use Rattle.picky_der_ser.specs.State.{Level, Stack, with_bytes, at_next_member, in_order, final_content}
-use Rattle.picky_der_ser.specs.Heading.{tree_of, is_set}
+use Rattle.picky_der_ser.specs.Heading.{tree_of}
 use Rattle.picky_der_ser.specs.Headers.{headers}
 use Rattle.picky_der_ser.specs.Sealed.{as_raw_level}
 use Rattle.picky_der_ser.specs.Marks.{level_at, levels_of, inside_of, pending_of, IsMark, AreMarks, AreRooms, HasMark}

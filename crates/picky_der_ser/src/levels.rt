@@ -198,9 +198,10 @@ impl Levels {
     {
         if let Some(mark) = self.marks.last() {
             if self.scratch.len() == mark.at {
+                let header = mark.header;
                 let around = self.wrappers.around_from(mark.first_wrapper);
                 push_headers(&mut self.scratch, around, mark.header, 0)?;
-                self.marks.set_start(self.scratch.len());
+                self.marks.set_last(self.scratch.len(), header);
             }
         }
         Ok(())
@@ -450,9 +451,10 @@ impl Levels {
             let around = self.wrappers.around_from(mark.first_wrapper);
             if let Some(identifier) = short_identifier(around, &mark.header, len) {
                 if mark.start - mark.at == 2 {
-                    fill_short(&mut self.scratch, mark.at, identifier, len as u8);
+                    let at = mark.at;
+                    fill_short(&mut self.scratch, at, identifier, len as u8);
                     self.seams.truncate(mark.first_seam);
-                    self.marks.set_raw();
+                    self.marks.set_last(at, Header::Raw);
                     return true;
                 }
             }

@@ -1,7 +1,6 @@
 //! The marks of open levels.
 ghost use Rattle.std.specs.Prelude.{◌≡◌, ◌<◌, ◌≤◌, ◌+◌, List, [], ◌∷◌, IfSome, IfNone, OnOk, true, false, length, drop};
 ghost use Rattle.picky_der_ser.specs.declared.marks.Mark.{Mark};
-ghost use Rattle.picky_der_ser.specs.declared.header.Header.TheVariants.{Raw};
 ghost use Rattle.picky_der_ser.specs.KeptMarks.{root_mark};
 
 use crate::Header;
@@ -23,18 +22,18 @@ pub(crate) struct Mark {
 const NEAR: usize = 6;
 
 // Those of roots, in front of whose content nothing stands.
-const ROOTS: [Mark; 6] = [Mark {
+const ROOTS: [Mark; NEAR] = [Mark {
     at: 0,
     start: 0,
     first_seam: 0,
     first_wrapper: 0,
     header: Header::Raw,
-}; 6];
+}; NEAR];
 
 // The marks of all levels, the innermost last. The outermost ones stand here, and those further in behind the vector.
 #[derive(Drop)]
 pub(crate) struct Marks {
-    near: [Mark; 6],
+    near: [Mark; NEAR],
     // How many of these are marks.
     depth: usize,
     far: Vec<Mark>,
@@ -167,27 +166,16 @@ impl Marks {
         Some(self.near[self.depth])
     }
 
-    // The content of the innermost level begins there.
-    pub(crate) fn set_start(&mut self, start: usize)
+    // The content of the innermost level begins there, and this is its header.
+    pub(crate) fn set_last(&mut self, start: usize, header: Header)
         ensures marks { (m : Mark) (ms : List Mark) → self.old.marks ≡ m ∷ ms
-            → self.new.marks ≡ record m { start = start } ∷ ms }
-        ensures spare { self.new.spare ≡ self.old.spare }
-    {
-        if let Some(mark) = self.pop() {
-            self.push(Mark { start, ..mark });
-        }
-    }
-
-    // The innermost level has its header in its content.
-    pub(crate) fn set_raw(&mut self)
-        ensures marks { (m : Mark) (ms : List Mark) → self.old.marks ≡ m ∷ ms
-            → self.new.marks ≡ record m { start = m.at; header = Raw } ∷ ms }
+            → self.new.marks ≡ record m { start = start; header = header } ∷ ms }
         ensures spare { self.new.spare ≡ self.old.spare }
     {
         if let Some(mark) = self.pop() {
             self.push(Mark {
-                start: mark.at,
-                header: Header::Raw,
+                start,
+                header,
                 ..mark
             });
         }

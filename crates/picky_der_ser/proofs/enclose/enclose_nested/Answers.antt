@@ -1,6 +1,5 @@
 use Rattle.std.proofs.Common.{◌≡◌, ◌≤◌, ◌+◌, ◌-◌, ◌++◌, length, take, drop, sym, ◌∙◌, ap, arith, length-append}
 use Rattle.std.proofs.lemmas.List.{length-drop}
-use Rattle.std.specs.List.{slice_rotate_right}
 use Rattle.picky_der_ser.specs.Headers.{headers}
 use Rattle.picky_der_ser.specs.Overwrite.{with_overwrite}
 use Rattle.picky_der_ser.proofs.HeaderBytes.{der-headers}

@@ -1,4 +1,4 @@
-use Rattle.std.proofs.Common.{◌≡◌, ◌+◌, ◌∷◌, take, sym, ap, ◌∙◌, subst}
+use Rattle.std.proofs.Common.{◌+◌, ◌∷◌, take, sym, ap, ◌∙◌, subst}
 use Rattle.picky_der_ser.specs.Marks.{levels_of, AreRooms}
 use Rattle.picky_der_ser.proofs.LevelMarks.{widened-levels, widened-behind}
 use Rattle.picky_der_ser.proofs.widen.+widen_all.Goals as goal

@@ -1,4 +1,4 @@
-use Rattle.std.proofs.Common.{◌≡◌, ◌≤◌, ◌+◌, ◌-◌, arith}
+use Rattle.std.proofs.Common.{◌+◌, ◌-◌, arith}
 use Rattle.picky_der_core.specs.ElementLaws.{length-length_octets}
 use Rattle.picky_der_ser.proofs.widen.widen_room.Goals as goal
 use Rattle.picky_der_ser.proofs.widen.widen_room.Goals.{in-Tagged, in-Raw}

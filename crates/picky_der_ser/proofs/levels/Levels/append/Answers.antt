@@ -1,9 +1,9 @@
-use Rattle.std.proofs.Common.{◌≡◌, ◌≤◌, false, ◌∷◌, ◌++◌, length, vec_len, None, sym, ap, ap₂, ◌∙◌, subst, arith}
+use Rattle.std.proofs.Common.{◌≡◌, ◌∷◌, ◌++◌, vec_len, None, sym, ap, ap₂, ◌∙◌, arith}
 use Rattle.picky_der_core.specs.OpenWrappers.{under}
 use Rattle.picky_der_core.specs.Encoding.{der}
 use Rattle.picky_der_ser.specs.Heading.{tree_of}
-use Rattle.picky_der_ser.specs.State.{Stack, with_bytes}
-use Rattle.picky_der_ser.specs.Marks.{levels_of, inside_of, AreMarks, HasMark}
+use Rattle.picky_der_ser.specs.State.{Stack}
+use Rattle.picky_der_ser.specs.Marks.{levels_of, inside_of, AreMarks}
 use Rattle.picky_der_ser.proofs.LevelMarks.{marks-more, rooms-of, stack_at, levels-grown, not_pending, room-kept}
 use Rattle.picky_der_ser.proofs.levels.Levels.append.Goals as goal
 

@@ -1,5 +1,4 @@
-use Rattle.std.proofs.Common.{ap, ◌∙◌, subst, ◌<◌, length, arith}
-use mir.Val.{bool_byte}
+use Rattle.std.proofs.Common.{ap, ◌∙◌, arith}
 use Rattle.picky_der_ser.specs.State.{Stack}
 use Rattle.picky_der_ser.proofs.LevelMarks.{some_inside}
 use Rattle.picky_der_ser.proofs.levels.Levels.is_inside.Goals as goal

@@ -18,4 +18,4 @@ returns-then-mark-eq2-clause-yes c = λ t.
     let whole = c.fill_short.ensures.items ∙ ap (λ x. take m.at s ++ x) (ap (λ k. identifier ∷ n ∷ drop k s) behind ∙ short) in
     let bare = sym c.around_from-around.ensures ∙ c.in-Some-short_identifier.ensures.bare refl in
     let was = c.in-Some.ensures.some in
-    rw (← c.self.view_is) (stack-as_raw_level _ s _ c.self.inside.seams.items _ w _ was (c.set_raw.ensures.marks _ _ was) bare c.self.invariant.0 whole c.truncate.ensures.items)
+    rw (← c.self.view_is) (stack-as_raw_level _ s _ c.self.inside.seams.items _ w _ was (c.set_last.ensures.marks _ _ was) bare c.self.invariant.0 whole c.truncate.ensures.items)
