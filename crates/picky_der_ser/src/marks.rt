@@ -18,8 +18,8 @@ pub(crate) struct Mark {
     pub(crate) header: Header,
 }
 
-// So many marks take no memory.
-const NEAR: usize = 6;
+// So many marks take no memory: a certificate nests as deep.
+const NEAR: usize = 7;
 
 // Those of roots, in front of whose content nothing stands.
 const ROOTS: [Mark; NEAR] = [Mark {
@@ -49,10 +49,10 @@ impl Model for Marks {
 
     ghost view = { λ s. record {
       marks = reverse (take s.depth s.near ++ s.far.items);
-      spare = 6 - s.depth + (vec_capacity s.far - vec_len s.far);
+      spare = 7 - s.depth + (vec_capacity s.far - vec_len s.far);
     } };
 
-    ghost invariant = { λ s. (s.depth ≤ 6) × (length s.near ≡ 6) × (s.depth < 6 → s.far.items ≡ []) };
+    ghost invariant = { λ s. (s.depth ≤ 7) × (length s.near ≡ 7) × (s.depth < 7 → s.far.items ≡ []) };
 }
 
 impl Marks {
@@ -83,7 +83,7 @@ impl Marks {
     // Whether there are more than so many.
     #[inline(always)]
     pub(crate) fn are_more_than(&self, count: usize) -> bool
-        requires { count < 6 }
+        requires { count < 7 }
         ensures yes { result ≡ true → count < length self.now.marks }
         ensures no { result ≡ false → length self.now.marks ≤ count }
     {
