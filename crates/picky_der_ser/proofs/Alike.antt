@@ -9,7 +9,7 @@ use Rattle.picky_der_core.specs.declared.error.Asn1DerError.{Asn1DerError}
 use Rattle.picky_der_core.specs.Tree.{Tree}
 use Rattle.picky_der_core.specs.Readable.{IsWritable}
 use Rattle.picky_der_ser.specs.State.{State, Level}
-use Rattle.picky_der_ser.specs.Calls.{Adds, Excuse, no_memory, unwritable, no_sink, MemoryExcuse, no_room, no_way, SinkRefuses, RefusesIn, Writes, RefusesWrite, OnlySinkFails, RefusesUnwritable, WritesPlain, WritesPrimitive}
+use Rattle.picky_der_ser.specs.Calls.{Adds, Excuse, no_memory, unwritable, no_sink, MemoryExcuse, no_room, no_way, SinkRefuses, RefusesIn, Writes, RefusesWrite, OnlySinkFails, RefusesUnwritable, WritesPrimitive}
 
 pub writable-alike : (t u : Tree) → AreAlike t u → IsWritable t → IsWritable u
 writable-alike t u a h = record { numbers = subst IsTrue a.numbers_same h.numbers; fits = subst (λ l. length l < 2 ^ 64) (der-alike t u a) h.fits }

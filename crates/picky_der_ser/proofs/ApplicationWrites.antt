@@ -1,5 +1,5 @@
 -- An application tag that is written: its level was opened, gained one member, and ended.
-use Rattle.std.proofs.Common.{◌≡◌, ℕ, ◌<◌, false, ◌&&◌, List, [], length, None, Some, refl, sym, ap, ◌∙◌, subst, arith, length-append, Result, Ok, Err, IfOk, IfErr}
+use Rattle.std.proofs.Common.{◌≡◌, ℕ, ◌<◌, false, ◌&&◌, List, [], length, None, Some, refl, sym, ap, ◌∙◌, subst, arith, length-append, Result, Err, IfOk, IfErr}
 use Rattle.std.proofs.lemmas.Bool.{lt-leb}
 use Rattle.std.specs.Prelude.{IfSome, IfNone, IsTrue}
 use Rattle.picky_der_core.specs.declared.asn1.wrapper.Wrapper.TheVariants as wrapper

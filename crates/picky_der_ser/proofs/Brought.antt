@@ -1,5 +1,5 @@
 -- Headers that are brought in front of a content.
-use Rattle.std.proofs.Common.{◌≡◌, ℕ, ◌+◌, ◌-◌, ◌≤◌, List, ◌++◌, length, take, drop, refl, sym, ◌∙◌, ap, ap₂, arith, append_assoc, length-append, take-append-drop, length-take-le}
+use Rattle.std.proofs.Common.{◌≡◌, ℕ, ◌+◌, ◌-◌, ◌≤◌, List, ◌++◌, length, take, drop, refl, sym, ◌∙◌, ap, ap₂, arith, append_assoc, append-nil, length-append, take-append-drop, length-take-le}
 use Rattle.std.proofs.Math.Seq.{take-append_seam, drop-append_seam, take-append-add, drop-append-add}
 use Rattle.std.proofs.lemmas.List.{drop-append-le, take-append-le, take-take, length-drop}
 use Rattle.std.specs.List.{slice_rotate_right}
@@ -10,6 +10,19 @@ rotated : (c h : List ℕ) (room more : ℕ) → length h ≡ room + more → sl
 rotated c h room more count =
     let n : length (c ++ h) - more ≡ length c + room = omega (arith, length-append c h) in
     ap (λ k. drop k (c ++ h) ++ take k (c ++ h)) n ∙ ap (λ x. x ++ take (length c + room) (c ++ h)) (drop-append-add c h room) ∙ ap (λ x. drop room h ++ x) (take-append-add c h room)
+
+-- bytes behind a list, brought in front of its end
+turned : (s pad : List ℕ) (at : ℕ) → at ≤ length s → take at (s ++ pad) ++ slice_rotate_right (drop at (s ++ pad)) (length pad) ≡ take at s ++ (pad ++ drop at s)
+turned s pad at h =
+    ap₂ (λ x y. x ++ slice_rotate_right y (length pad)) (take-append-le at s pad h) (drop-append-le at s pad h) ∙ ap (λ x. take at s ++ x) (rotated (drop at s) pad 0 (length pad) (omega arith) ∙ ap (λ x. pad ++ x) (append-nil (drop at s)))
+
+-- what stands behind them then
+pub behind_turned : (s t o pad : List ℕ) (at count : ℕ) → at ≤ length s → length t ≡ length s + count → t ≡ s ++ pad → o ≡ take at t ++ slice_rotate_right (drop at t) count → drop (at + count) o ≡ drop at s
+behind_turned s t o pad at count h len more is =
+    let n : length (take at s) ≡ at = length-take-le at s h in
+    let size : count ≡ length pad = omega (arith, len, ap length more, length-append s pad) in
+    let whole : o ≡ take at s ++ (pad ++ drop at s) = is ∙ ap₂ (λ x k. take at x ++ slice_rotate_right (drop at x) k) more size ∙ turned s pad at h in
+    ap₂ drop (ap₂ (λ x y. x + y) (sym n) size) whole ∙ drop-append-add (take at s) (pad ++ drop at s) (length pad) ∙ drop-append_seam pad (drop at s)
 
 -- two turns are one
 pub turn_twice : (bs : List ℕ) (i j : ℕ) → i + j ≤ length bs → slice_rotate_right (slice_rotate_right bs i) j ≡ slice_rotate_right bs (i + j)
@@ -40,26 +53,24 @@ filled a r x f at count n i j k l =
     let others : drop (at + count) (take n all) ≡ x = ap (λ m. drop m (take n all)) behind ∙ ap (drop (length (a ++ r))) kept ∙ drop-append_seam (a ++ r) x in
     rw (front, last, others) refl
 
--- bytes behind a list, brought in front of its content: the first of them in place of the room
-pub in_front_of_content : (s h : List ℕ) (at start more : ℕ) → at ≤ start → start ≤ length s → length h ≡ (start - at) + more
-    → with_overwrite at (start - at) (length (take start (s ++ h) ++ slice_rotate_right (drop start (s ++ h)) more) - (start - at)) (take start (s ++ h) ++ slice_rotate_right (drop start (s ++ h)) more) ≡ take at s ++ (h ++ drop start s)
-in_front_of_content s h at start more room within count =
+-- bytes behind a list, brought in front of its content: the first of them in place of the room, which is `room` bytes wide by now
+pub in_front_of_content : (s h u : List ℕ) (at start room more : ℕ) → at ≤ start → start ≤ length s → at + room ≤ length u → length h ≡ room + more → take at u ≡ take at (s ++ h) → drop (at + room) u ≡ drop start (s ++ h)
+    → with_overwrite at room (length (take (at + room) u ++ slice_rotate_right (drop (at + room) u) more) - room) (take (at + room) u ++ slice_rotate_right (drop (at + room) u) more) ≡ take at s ++ (h ++ drop start s)
+in_front_of_content s h u at start room more before within roomy count front behind =
     let c = drop start s in
-    let width = start - at in
-    let a = take at s in
-    let r = drop at (take start s) in
-    let first = take width h in
-    let rest = drop width h in
-    let whole = take start (s ++ h) ++ slice_rotate_right (drop start (s ++ h)) more in
-    let outer : take start s ≡ a ++ r = sym (take-append-drop at (take start s)) ∙ ap (λ x. x ++ r) (take-take at start s room) in
-    let front : take start (s ++ h) ≡ a ++ r = take-append-le start s h within ∙ outer in
-    let tail : slice_rotate_right (drop start (s ++ h)) more ≡ rest ++ (c ++ first) = ap (λ x. slice_rotate_right x more) (drop-append-le start s h within) ∙ rotated c h width more count in
-    let is : whole ≡ ((a ++ r) ++ (rest ++ c)) ++ first =
-    ap (λ x. x ++ slice_rotate_right (drop start (s ++ h)) more) front ∙ ap (λ x. (a ++ r) ++ x) tail ∙ ap (λ x. (a ++ r) ++ x) (sym (append_assoc rest c first)) ∙ sym (append_assoc (a ++ r) (rest ++ c) first) in
-    let i : length a ≡ at = length-take-le at s (omega arith) in
-    let size : length (take start s) ≡ start = length-take-le start s within in
-    let j : length r ≡ width = omega (arith, ap length outer, length-append a r, size, i) in
-    let k : length first ≡ width = length-take-le width h (omega (arith, count)) in
-    let l : length (((a ++ r) ++ (rest ++ c)) ++ first) - width ≡ at + width + length (rest ++ c) = omega (arith, length-append ((a ++ r) ++ (rest ++ c)) first, length-append (a ++ r) (rest ++ c), length-append a r, i, j, k) in
-    ap (λ w. with_overwrite at width (length w - width) w) is ∙ filled a r (rest ++ c) first at width _ i j k l
-    ∙ ap (λ x. a ++ x) (sym (append_assoc first rest c) ∙ ap (λ x. x ++ c) (take-append-drop width h))
+    let a = take at u in
+    let r = drop at (take (at + room) u) in
+    let first = take room h in
+    let rest = drop room h in
+    let outer : take (at + room) u ≡ a ++ r = sym (take-append-drop at (take (at + room) u)) ∙ ap (λ x. x ++ r) (take-take at (at + room) u (omega arith)) in
+    let tail : slice_rotate_right (drop (at + room) u) more ≡ rest ++ (c ++ first) = ap (λ x. slice_rotate_right x more) (behind ∙ drop-append-le start s h within) ∙ rotated c h room more count in
+    let is : take (at + room) u ++ slice_rotate_right (drop (at + room) u) more ≡ ((a ++ r) ++ (rest ++ c)) ++ first =
+    ap₂ (λ x y. x ++ y) outer tail ∙ ap (λ x. (a ++ r) ++ x) (sym (append_assoc rest c first)) ∙ sym (append_assoc (a ++ r) (rest ++ c) first) in
+    let i : length a ≡ at = length-take-le at u (omega (arith, roomy)) in
+    let size : length (take (at + room) u) ≡ at + room = length-take-le (at + room) u roomy in
+    let j : length r ≡ room = omega (arith, ap length outer, length-append a r, size, i) in
+    let k : length first ≡ room = length-take-le room h (omega (arith, count)) in
+    let l : length (((a ++ r) ++ (rest ++ c)) ++ first) - room ≡ at + room + length (rest ++ c) = omega (arith, length-append ((a ++ r) ++ (rest ++ c)) first, length-append (a ++ r) (rest ++ c), length-append a r, i, j, k) in
+    ap (λ w. with_overwrite at room (length w - room) w) is ∙ filled a r (rest ++ c) first at room _ i j k l
+    ∙ ap (λ x. a ++ x) (sym (append_assoc first rest c) ∙ ap (λ x. x ++ c) (take-append-drop room h))
+    ∙ ap (λ x. x ++ (h ++ c)) (front ∙ take-append-le at s h (omega (arith, before, within)))

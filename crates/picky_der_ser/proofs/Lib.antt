@@ -5,12 +5,10 @@ pub mod AbsentWrites
 pub mod HeaderBytes
 pub mod HeaderLoop
 pub mod LevelMarks
-pub mod MarksAround
 pub mod LevelWrites
 pub mod StateWrites
 pub mod WrapWrites
 pub mod Brought
-pub mod HeaderSizes
 pub mod EntryWrites
 pub mod Seams
 pub mod SetBytes

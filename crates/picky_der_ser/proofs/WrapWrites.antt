@@ -1,6 +1,6 @@
 -- What is written in one wrapper more.
-use Rattle.std.proofs.Common.{◌≡◌, ℕ, ◌&&◌, false, List, [], ◌∷◌, ◌++◌, length, Option, None, Some, refl, sym, ap, ◌∙◌, subst, Result, Ok, Err, IfOk, IfErr, arith}
-use Rattle.std.specs.Prelude.{IfSome, IfNone, ◌⊎◌}
+use Rattle.std.proofs.Common.{◌≡◌, ℕ, ◌&&◌, false, List, [], ◌∷◌, ◌++◌, length, Option, None, Some, refl, sym, ap, ◌∙◌, subst, Result, Ok, Err, IfOk, IfErr}
+use Rattle.std.specs.Prelude.{IfSome, IfNone}
 use Rattle.std.proofs.Common.{inl, inr}
 use Rattle.picky_der_core.specs.WrapperLaws.{tag_number_tells}
 use Rattle.picky_der_core.specs.OpenWrapperLaws.{under-push}

@@ -2,7 +2,7 @@ pub mod Heading
 pub mod Headers
 pub mod Seams
 pub mod Wrappers
-pub mod MarkViews
+pub mod KeptMarks
 pub mod Marks
 pub mod Overwrite
 pub mod State

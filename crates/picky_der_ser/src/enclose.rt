@@ -1,22 +1,19 @@
 //! Contents with their headers in front.
 ghost use Rattle.std.specs.Prelude.{◌≡◌, ◌≤◌, ◌<◌, ◌+◌, ◌-◌, ◌∷◌, ◌++◌, length, take, drop, vec_len};
-ghost use Rattle.std.specs.Prelude.{[], vec_capacity, OnOk};
+ghost use Rattle.std.specs.Prelude.{vec_capacity, OnOk, OnErr};
 ghost use Rattle.std.specs.List.{slice_rotate_right};
 ghost use Rattle.picky_der_core.specs.Primitive.{Primitive};
 ghost use Rattle.picky_der_core.specs.OpenWrappers.{under};
 ghost use Rattle.picky_der_core.specs.Encoding.{der};
 ghost use Rattle.picky_der_core.specs.Tree.{Tree};
 ghost use Rattle.picky_der_ser.specs.Heading.{tree_of};
-ghost use Rattle.picky_der_ser.specs.Headers.{headers, HasNumber, CanAllBeOpen};
+ghost use Rattle.picky_der_ser.specs.Headers.{HasNumber, CanAllBeOpen};
 ghost use Rattle.picky_der_ser.specs.Overwrite.{with_overwrite};
 
 use crate::Header;
 use crate::header::{push_headers, short_identifier};
 use picky_der_core::asn1::{Tag, Wrapper};
 use std::alloc::AllocError;
-
-// How many bytes are asked for beside a content that makes a vector grow: those of its own headers and of those around it.
-const SPARE_ROOM: usize = 24;
 
 // Brings the last bytes in front of the others. Headers mostly grow by one byte or two: a turn by one byte is one move of memory,
 // and two of them take less time than one by two, which clears a room of its own first.
@@ -42,6 +39,23 @@ fn rotate_from(out: &mut Vec<u8>, start: usize, count: usize)
     turn(&mut out[start..], count);
 }
 
+// What stands in a room before its header comes: at most as many bytes as a header takes.
+const BLANK: [u8; 10] = [0; 10];
+
+// Makes room for `count` bytes in front of those from `at` on.
+pub(crate) fn insert_room(out: &mut Vec<u8>, at: usize, count: usize) -> Result<(), AllocError>
+    requires within { at ≤ vec_len out.old }
+    requires count { count ≤ 10 }
+    ensures front { OnOk result (take at out.new.items ≡ take at out.old.items) }
+    ensures behind { OnOk result (drop (at + count) out.new.items ≡ drop at out.old.items) }
+    ensures len { OnOk result (vec_len out.new ≡ vec_len out.old + count) }
+    ensures same { OnErr result (out.new.items ≡ out.old.items) }
+{
+    out.extend_from_slice(&BLANK[..count])?;
+    rotate_from(out, at, count);
+    Ok(())
+}
+
 // Moves the last `count` bytes over those from `at` on.
 fn fill_from_last(out: &mut Vec<u8>, at: usize, count: usize)
     requires { at + count + count ≤ vec_len out.old }
@@ -64,26 +78,6 @@ pub(crate) fn fill_short(out: &mut Vec<u8>, at: usize, identifier: u8, len: u8)
 }
 
 // Adds a content with its headers in front.
-#[cold]
-#[inline(never)]
-fn push_nested(
-    out: &mut Vec<u8>,
-    around: &[Wrapper],
-    header: Header,
-    content: &[u8],
-) -> Result<(), AllocError>
-    requires numbers { CanAllBeOpen around.now × HasNumber header }
-    ensures ok { OnOk result (out.new.items ≡ out.old.items ++ der
-        (under around.now (tree_of header content.now))) }
-    ensures grows { vec_len out.old ≤ vec_len out.new }
-{
-    out.reserve(SPARE_ROOM + content.len())?;
-    push_headers(out, around, header, content.len())?;
-    out.extend_from_slice(content)?;
-    Ok(())
-}
-
-// Adds a content with its headers in front. The vector grows once at most where there is one header with a short length.
 pub(crate) fn push_enclosed(
     out: &mut Vec<u8>,
     around: &[Wrapper],
@@ -95,24 +89,25 @@ pub(crate) fn push_enclosed(
         (under around.now (tree_of header content.now))) }
     ensures grows { vec_len out.old ≤ vec_len out.new }
 {
-    let len = content.len();
-    let Some(identifier) = short_identifier(around, &header, len) else {
-        return push_nested(out, around, header, content);
-    };
-    out.reserve(2 + len)?;
-    out.extend_from_slice(&[identifier, len as u8])?;
+    push_headers(out, around, header, content.len())?;
     out.extend_from_slice(content)?;
     Ok(())
 }
 
-// Adds a header of two bytes, for which there is room.
+// Makes the room for the header of a content that has not come, where this is two bytes for which the vector has room. Else nothing
+// is done.
 #[inline(always)]
-pub(crate) fn push_short_header(out: &mut Vec<u8>, identifier: u8, len: u8)
-    requires { vec_len out.old + 2 ≤ vec_capacity out.old }
-    ensures { out.new.items ≡ out.old.items ++ (identifier ∷ len ∷ []) }
+pub(crate) fn make_short_room(out: &mut Vec<u8>, around: &[Wrapper], header: &Header)
+    requires { HasNumber header.now }
+    ensures front { take (vec_len out.old) out.new.items ≡ out.old.items }
+    ensures grows { vec_len out.old ≤ vec_len out.new }
 {
-    // There is room, so it isn't refused.
-    let _ = out.extend_from_slice(&[identifier, len]);
+    if out.capacity() - out.len() >= 2 {
+        if let Some(identifier) = short_identifier(around, header, 0) {
+            // There is room, so it isn't refused.
+            let _ = out.extend_from_slice(&[identifier, 0]);
+        }
+    }
 }
 
 // Adds an element whose length is one byte, for which there is room.
@@ -132,8 +127,25 @@ pub(crate) fn push_short(out: &mut Vec<u8>, tag: Tag, content: &[u8])
     }
 }
 
-// Puts the headers of the content from `start` on in front of it. The room from `at` to `start` takes the first of them, so
-// the content moves only where they are longer.
+// Drops what is more than `size` bytes of the room from `at` to `start`. Answers how wide it is then.
+fn narrow_room(out: &mut Vec<u8>, at: usize, start: usize, size: usize) -> usize
+    requires room { at ≤ start }
+    requires within { start ≤ vec_len out.old }
+    ensures size { result ≤ size }
+    ensures front { take at out.new.items ≡ take at out.old.items }
+    ensures behind { drop (at + result) out.new.items ≡ drop start out.old.items }
+    ensures len { vec_len out.new + (start - at) ≡ vec_len out.old + result }
+{
+    let room = start - at;
+    if room <= size {
+        return room;
+    }
+    out.drain(at..start - size);
+    size
+}
+
+// Puts the headers of the content from `start` on in front of it. The room from `at` to `start` takes the first of them, so the
+// content moves only where they are longer, or shorter.
 #[cold]
 #[inline(never)]
 fn enclose_nested(
@@ -146,22 +158,21 @@ fn enclose_nested(
     requires numbers { CanAllBeOpen around.now × HasNumber header }
     requires room { at ≤ start }
     requires within { start ≤ vec_len out.old }
-    requires least { start ≤ at + length (headers around.now header 0) }
     ensures ok { OnOk result (out.new.items ≡ take at out.old.items ++ der
         (under around.now (tree_of header (drop start out.old.items)))) }
     ensures grows { at ≤ vec_len out.new }
 {
     let end = out.len();
     push_headers(out, around, header, end - start)?;
-    let room = start - at;
-    let more = out.len() - end - room;
-    rotate_from(out, start, more);
+    let size = out.len() - end;
+    let room = narrow_room(out, at, start, size);
+    rotate_from(out, at + room, size - room);
     fill_from_last(out, at, room);
     Ok(())
 }
 
-// Puts the headers of the content from `start` on in front of it. The room from `at` to `start` isn't larger than they are;
-// one header with a short length just fills it.
+// Puts the headers of the content from `start` on in front of it, into the room from `at` to `start`. One header with a short
+// length mostly just fills it.
 #[inline(always)]
 pub(crate) fn enclose(
     out: &mut Vec<u8>,
@@ -173,7 +184,6 @@ pub(crate) fn enclose(
     requires numbers { CanAllBeOpen around.now × HasNumber header }
     requires room { at ≤ start }
     requires within { start ≤ vec_len out.old }
-    requires least { start ≤ at + length (headers around.now header 0) }
     ensures ok { OnOk result (out.new.items ≡ take at out.old.items ++ der
         (under around.now (tree_of header (drop start out.old.items)))) }
     ensures grows { at ≤ vec_len out.new }

@@ -11,55 +11,55 @@ ghost use Rattle.picky_der_ser.specs.State.{Level, root, with_bytes, at_next_mem
 ghost use Rattle.picky_der_ser.specs.Sealed.{as_raw_level};
 
 use crate::Header;
-use crate::enclose::{enclose, fill_short, push_enclosed, push_short, push_short_header};
+use crate::enclose::{enclose, fill_short, make_short_room, push_enclosed, push_short};
 use crate::header::{push_headers, short_identifier};
 use crate::marks::{Mark, Marks};
 use crate::order::{arrange, begin_member};
+use crate::widen::widen_rooms;
 use crate::wrapper_stack::Wrappers;
 use picky_der_core::asn1::{Tag, Wrapper};
 use std::alloc::{AllocError, Global};
 use std::marker::Model;
 
-// How many bytes are asked for at first, by `to_vec` at once and else when the first member of an outermost level comes: as many as
-// public keys of RSA with 2048 bits take to be written, so that the vector grows for none of them.
-pub(crate) const FIRST_ROOM: usize = 376;
+// How many bytes are asked for at first, by `to_vec` at once and else when the first member of an outermost level comes: so many that
+// the vector grows once for most certificates, and for no public key of RSA with 2048 bits.
+pub(crate) const FIRST_ROOM: usize = 1_000;
+
+// How many bytes are asked for beside a content: those of its own headers, and those that the ones around it grow by.
+const SPARE_ROOM: usize = 128;
 
 // The contents of the levels stand one behind the other, the innermost last, and so do the wrappers around them, and their seams: of a
 // set, how many bytes of its content stand in front of each member but the first. Vectors in each mark would be copied and dropped with
 // those of most levels too, which have no seams and stand in no wrapper.
 //
-// Where a member of the innermost level is being written or not is told by a flag alone, so that nothing moves at a member.
+// Whether a member of the innermost level is being written is told by a flag alone, so that no mark moves at a member.
 #[derive(Drop)]
 pub(crate) struct Levels {
     scratch: Vec<u8>,
     seams: Vec<usize>,
     wrappers: Wrappers,
-    // The levels around the innermost one.
     marks: Marks,
-    innermost: Option<Mark>,
-    // Whether a member of the innermost level is being written, or of the one around where there is none. Else it was opened last.
-    entered: bool,
+    // Whether the innermost level was opened last, and no member of it is being written.
+    pending: bool,
 }
 
 impl Model for Levels {
     ghost use Rattle.std.specs.Prelude.{length};
     ghost use Rattle.picky_der_ser.specs.State.{Stack, stack_code};
-    ghost use Rattle.picky_der_ser.specs.MarkViews.{view_of_mark, with_mark};
-    ghost use Rattle.picky_der_ser.specs.Marks.{inside_of, pending_of, AreMarks, HasRoom};
+    ghost use Rattle.picky_der_ser.specs.Marks.{inside_of, pending_of, AreMarks, HasMark};
 
     ghost Value = { Stack };
 
     ghost coded = { stack_code };
 
     ghost view = { λ s. record {
-      inside = inside_of s.entered (view_of_mark s.innermost) s.marks.views s.scratch.items s.seams.items s.wrappers.of_levels;
-      pending = pending_of s.entered (view_of_mark s.innermost) s.scratch.items s.seams.items s.wrappers.of_levels;
+      inside = inside_of s.pending s.marks.marks s.scratch.items s.seams.items s.wrappers.of_levels;
+      pending = pending_of s.pending s.marks.marks s.scratch.items s.seams.items s.wrappers.of_levels;
       around = s.wrappers.around;
     } };
 
-    ghost invariant = { λ s. AreMarks (with_mark (view_of_mark s.innermost) s.marks.views)
-        (length s.scratch.items) s.seams.items s.wrappers.of_levels
-        × HasRoom s.entered (view_of_mark s.innermost) s.marks.views s.marks.spare };
+    ghost invariant = { λ s. AreMarks s.marks.marks (length s.scratch.items) s.seams.items s.wrappers.of_levels
+        × HasMark s.pending s.marks.marks s.marks.spare };
 }
 
 // Drops the bytes before this index.
@@ -81,8 +81,7 @@ impl Levels {
             seams: Vec::new(alloc),
             wrappers: Wrappers::new(alloc),
             marks: Marks::new(alloc),
-            innermost: None,
-            entered: false,
+            pending: false,
         }
     }
 
@@ -97,8 +96,7 @@ impl Levels {
             seams: Vec::new(alloc),
             wrappers: Wrappers::new(alloc),
             marks: Marks::new_in_root(alloc),
-            innermost: None,
-            entered: true,
+            pending: false,
         }
     }
 
@@ -107,7 +105,7 @@ impl Levels {
     pub(crate) fn into_content(self) -> Vec<u8>
         ensures { (l : Level) (ls : List Level) → self.inside ≡ l ∷ ls → result.items ≡ l.content }
     {
-        if self.innermost.is_some() || !self.marks.is_only_root() {
+        if !self.marks.is_one_at_front() {
             return self.into_inner_content();
         }
         let Levels {
@@ -115,30 +113,27 @@ impl Levels {
             seams: _,
             wrappers: _,
             marks: _,
-            innermost: _,
-            entered: _,
+            pending: _,
         } = self;
         scratch
     }
 
-    // The same where other levels stand in it, or in front of what it holds.
+    // The same where another level stands in it, or something in front of what it holds.
     #[cold]
     #[inline(never)]
     fn into_inner_content(mut self) -> Vec<u8>
         ensures { (l : Level) (ls : List Level) → self.inside ≡ l ∷ ls → result.items ≡ l.content }
     {
-        self.leave();
+        self.give_up();
+        let start = self.marks.last().map_or(0, |mark| mark.start);
         let Levels {
             mut scratch,
             seams: _,
             wrappers: _,
             marks: _,
-            innermost,
-            entered: _,
+            pending: _,
         } = self;
-        if let Some(mark) = &innermost {
-            drop_front(&mut scratch, mark.start);
-        }
+        drop_front(&mut scratch, start);
         scratch
     }
 
@@ -147,14 +142,14 @@ impl Levels {
         ensures no { result ≡ false → self.now.inside ≡ [] }
         ensures yes { result ≡ true → self.now.inside ≢ [] }
     {
-        self.entered || !self.marks.is_empty()
+        self.marks.are_more_than(usize::from(self.pending))
     }
 
     // Drops the level that was opened last and hasn't ended. Where a member is written there mostly is none.
     pub(crate) fn give_up(&mut self)
         ensures { self.new ≡ record self.old { pending = None } }
     {
-        if !self.entered && self.innermost.is_some() {
+        if self.pending {
             self.drop_pending();
         }
     }
@@ -165,11 +160,11 @@ impl Levels {
         requires { IsSome self.old.pending }
         ensures { self.new ≡ record self.old { pending = None } }
     {
-        if let Some(mark) = &self.innermost {
+        if let Some(mark) = self.marks.pop() {
+            self.pending = false;
             self.scratch.truncate(mark.at);
             self.seams.truncate(mark.first_seam);
             self.wrappers.drop_from(mark.first_wrapper);
-            self.innermost = None;
         }
     }
 
@@ -183,50 +178,30 @@ impl Levels {
         } }
     {
         self.give_up();
-        if self.entered {
-            if self.innermost.is_some() {
-                self.marks.set_aside(&mut self.innermost);
-            }
-            self.entered = false;
-        }
         let at = self.scratch.len();
-        self.innermost = Some(Mark {
+        let first_wrapper = self.wrappers.take();
+        let around = self.wrappers.around_from(first_wrapper);
+        make_short_room(&mut self.scratch, around, &header);
+        self.marks.push(Mark {
             header,
             at,
-            start: at,
+            start: self.scratch.len(),
             first_seam: self.seams.len(),
-            first_wrapper: self.wrappers.take(),
+            first_wrapper,
         });
-        self.make_short_room();
-    }
-
-    // Makes the room for the header of a level without members, where this is two bytes for which the vector has room. Else nothing
-    // is done.
-    #[inline(always)]
-    fn make_short_room(&mut self)
-        ensures { self.new ≡ self.old }
-    {
-        if let Some(mark) = &mut self.innermost {
-            let at = self.scratch.len();
-            if at == mark.at && self.scratch.capacity() - at >= 2 {
-                let around = self.wrappers.around_from(mark.first_wrapper);
-                if let Some(identifier) = short_identifier(around, &mark.header, 0) {
-                    push_short_header(&mut self.scratch, identifier, 0);
-                    mark.start = at + 2;
-                }
-            }
-        }
+        self.pending = true;
     }
 
     // Makes room for the headers of a level without members, as much as those of an empty content take.
     fn make_room(&mut self) -> Result<(), AllocError>
         ensures { OnOk result (self.new ≡ self.old) }
     {
-        if let Some(mark) = &mut self.innermost {
+        if let Some(mark) = self.marks.last() {
             if self.scratch.len() == mark.at {
+                let header = mark.header;
                 let around = self.wrappers.around_from(mark.first_wrapper);
                 push_headers(&mut self.scratch, around, mark.header, 0)?;
-                mark.start = self.scratch.len();
+                self.marks.set_last(self.scratch.len(), header);
             }
         }
         Ok(())
@@ -237,7 +212,7 @@ impl Levels {
         ensures { OnOk result (IfSome self.old.pending
             (λ l. self.new ≡ record self.old { pending = Some (at_next_member l) })) }
     {
-        if let Some(mark) = &self.innermost {
+        if let Some(mark) = self.marks.last() {
             let held = self.scratch.len() - mark.start;
             begin_member(&mut self.seams, mark.header, held)?;
         }
@@ -253,40 +228,28 @@ impl Levels {
     {
         if self.scratch.is_empty() {
             self.scratch.reserve(FIRST_ROOM)?;
-            self.make_short_room();
-            if self.enter_again() {
-                return Ok(());
-            }
         }
-        self.enter_slowly()
-    }
-
-    // The same, whatever the header of the level and wherever it stands.
-    #[cold]
-    #[inline(never)]
-    fn enter_slowly(&mut self) -> Result<(), AllocError>
-        ensures { OnOk result (EntersLevel self.old self.new) }
-    {
         self.make_room()?;
         self.begin_member()?;
         self.marks.reserve_one()?;
-        self.entered = self.innermost.is_some();
+        self.pending = false;
         Ok(())
     }
 
-    // The same behind a member of a level that is no set, where there is nothing to make ready. Else nothing is done.
+    // The same where there is nothing to make ready, as nearly always. Else nothing is done.
     pub(crate) fn enter_again(&mut self) -> bool
         ensures yes { result ≡ true → EntersLevel self.old self.new }
         ensures no { result ≡ false → self.new ≡ self.old }
     {
-        let Some(mark) = &self.innermost else {
+        let Some(mark) = self.marks.last() else {
             return false;
         };
-        let begins = self.scratch.len() == mark.at || mark.header.is_set();
-        if begins || self.entered || !self.marks.has_room() {
+        let len = self.scratch.len();
+        let has_seam = mark.header.is_set() && len > mark.start;
+        if len == mark.at || has_seam || !self.pending || !self.marks.has_room() {
             return false;
         }
-        self.entered = true;
+        self.pending = false;
         true
     }
 
@@ -296,10 +259,7 @@ impl Levels {
             → self.new ≡ record self.old { inside = ls; pending = Some l } }
     {
         self.give_up();
-        if self.innermost.is_none() {
-            self.marks.bring_back(&mut self.innermost);
-        }
-        self.entered = false;
+        self.pending = self.is_inside();
     }
 
     // Adds an element with a length of one byte to the level of which a member is being written, where no level was opened in it
@@ -319,7 +279,7 @@ impl Levels {
     {
         let len = content.len();
         let room = self.scratch.capacity() - self.scratch.len();
-        if !self.entered || len >= 0x80 || room < 2 + len {
+        if self.pending || !self.is_inside() || len >= 0x80 || room < 2 + len {
             return false;
         }
         push_short(&mut self.scratch, tag, content);
@@ -341,13 +301,11 @@ impl Levels {
             }) }
     {
         self.give_up();
+        let around = self.wrappers.open_wrappers();
+        self.scratch.reserve(SPARE_ROOM + content.len())?;
+        widen_rooms(&mut self.scratch, &mut self.marks, content.len());
         let start = self.scratch.len();
-        push_enclosed(
-            &mut self.scratch,
-            self.wrappers.open_wrappers(),
-            header,
-            content,
-        )?;
+        push_enclosed(&mut self.scratch, around, header, content)?;
         Ok(self.scratch.len() - start)
     }
 
@@ -383,7 +341,7 @@ impl Levels {
         ensures { OnOk result (IfSome self.old.pending
             (λ l. self.new ≡ record self.old { pending = Some (in_order l) })) }
     {
-        if let Some(mark) = &self.innermost {
+        if let Some(mark) = self.marks.last() {
             if mark.first_seam < self.seams.len() {
                 let seams = &self.seams[mark.first_seam..];
                 arrange(&mut self.scratch, mark.start, seams, alloc)?;
@@ -409,18 +367,16 @@ impl Levels {
               around = [];
             }) }
     {
-        let Some(mark) = &self.innermost else {
+        let Some(mark) = self.marks.pop() else {
             return Ok(0);
         };
-        let at = mark.at;
-        let first_wrapper = mark.first_wrapper;
+        self.pending = false;
         self.seams.truncate(mark.first_seam);
-        let around = self.wrappers.around_from(first_wrapper);
-        let outcome = enclose(&mut self.scratch, at, mark.start, around, mark.header);
-        self.wrappers.truncate(first_wrapper);
-        self.innermost = None;
+        let around = self.wrappers.around_from(mark.first_wrapper);
+        let outcome = enclose(&mut self.scratch, mark.at, mark.start, around, mark.header);
+        self.wrappers.truncate(mark.first_wrapper);
         outcome?;
-        Ok(self.scratch.len() - at)
+        Ok(self.scratch.len() - mark.at)
     }
 
     // Ends the level that was opened last as `arrange` and `merge` do, where it stands in another, has no seams, and its header fits
@@ -444,11 +400,12 @@ impl Levels {
         if !self.is_inside() {
             return None;
         }
-        let Some(mark) = &self.innermost else {
+        let Some(mark) = self.marks.last() else {
             return None;
         };
         let len = self.scratch.len() - mark.start;
-        let around = self.wrappers.around_from(mark.first_wrapper);
+        let first_wrapper = mark.first_wrapper;
+        let around = self.wrappers.around_from(first_wrapper);
         let Some(identifier) = short_identifier(around, &mark.header, len) else {
             return None;
         };
@@ -457,8 +414,9 @@ impl Levels {
             return None;
         }
         fill_short(&mut self.scratch, mark.at, identifier, len as u8);
-        self.wrappers.truncate(mark.first_wrapper);
-        self.innermost = None;
+        self.wrappers.truncate(first_wrapper);
+        self.marks.pop();
+        self.pending = false;
         Some(2 + len)
     }
 
@@ -473,7 +431,7 @@ impl Levels {
                   (with_bytes p (headers p.around p.header len));
             })) }
     {
-        if let Some(mark) = &self.innermost {
+        if let Some(mark) = self.marks.last() {
             let around = self.wrappers.around_from(mark.first_wrapper);
             push_headers(&mut self.scratch, around, mark.header, len)?;
         }
@@ -488,15 +446,15 @@ impl Levels {
             (λ p. self.new ≡ record self.old { pending = Some (as_raw_level p) }) }
         ensures no { result ≡ false → self.new ≡ self.old }
     {
-        if let Some(mark) = &mut self.innermost {
+        if let Some(mark) = self.marks.last() {
             let len = self.scratch.len() - mark.start;
             let around = self.wrappers.around_from(mark.first_wrapper);
             if let Some(identifier) = short_identifier(around, &mark.header, len) {
                 if mark.start - mark.at == 2 {
-                    fill_short(&mut self.scratch, mark.at, identifier, len as u8);
+                    let at = mark.at;
+                    fill_short(&mut self.scratch, at, identifier, len as u8);
                     self.seams.truncate(mark.first_seam);
-                    mark.header = Header::Raw;
-                    mark.start = mark.at;
+                    self.marks.set_last(at, Header::Raw);
                     return true;
                 }
             }
@@ -508,7 +466,7 @@ impl Levels {
     pub(crate) fn content(&self) -> &[u8]
         ensures { IfSome self.now.pending (λ p. result.now ≡ p.content) }
     {
-        match &self.innermost {
+        match self.marks.last() {
             Some(mark) => &self.scratch[mark.start..],
             None => &[],
         }

@@ -20,6 +20,7 @@ mod sequence;
 mod serializer;
 mod sink;
 mod utf8_string;
+mod widen;
 mod wrapper_stack;
 
 pub use boolean::Boolean;

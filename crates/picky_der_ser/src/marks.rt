@@ -1,6 +1,7 @@
-//! The marks of the levels around the innermost one.
-ghost use Rattle.std.specs.Prelude.{◌≡◌, ◌≢◌, ◌<◌, ◌≤◌, [], ◌∷◌, true, false, None, IfSome, IfNone, OnOk};
-ghost use Rattle.picky_der_ser.specs.MarkViews.{mark_view, view_of_mark, root_view, with_mark};
+//! The marks of open levels.
+ghost use Rattle.std.specs.Prelude.{◌≡◌, ◌<◌, ◌≤◌, ◌+◌, List, [], ◌∷◌, IfSome, IfNone, OnOk, true, false, length, drop};
+ghost use Rattle.picky_der_ser.specs.declared.marks.Mark.{Mark};
+ghost use Rattle.picky_der_ser.specs.KeptMarks.{root_mark};
 
 use crate::Header;
 use std::alloc::{AllocError, Global};
@@ -17,132 +18,166 @@ pub(crate) struct Mark {
     pub(crate) header: Header,
 }
 
-// That of a root, in front of whose content nothing stands.
-const ROOT: Mark = Mark {
+// So many marks take no memory: a certificate nests as deep.
+const NEAR: usize = 7;
+
+// Those of roots, in front of whose content nothing stands.
+const ROOTS: [Mark; NEAR] = [Mark {
     at: 0,
     start: 0,
     first_seam: 0,
     first_wrapper: 0,
     header: Header::Raw,
-};
+}; NEAR];
 
-// The first two marks stand here, so that what is nested no deeper takes no memory for them, and so does the root's, as a flag.
+// The marks of all levels, the innermost last. The outermost ones stand here, and those further in behind the vector.
 #[derive(Drop)]
 pub(crate) struct Marks {
-    // Whether the root is around all of them.
-    rooted: bool,
-    first: Option<Mark>,
-    second: Option<Mark>,
-    others: Vec<Mark>,
+    near: [Mark; NEAR],
+    // How many of these are marks.
+    depth: usize,
+    far: Vec<Mark>,
 }
 
 impl Model for Marks {
-    ghost use Rattle.std.specs.Prelude.{◌+◌, ◌-◌, vec_len, vec_capacity};
-    ghost use Rattle.picky_der_ser.specs.MarkViews.{MarksAround, marks_around_code, views_of, spare_slot, IsFilled};
+    ghost use Rattle.std.specs.Prelude.{◌≡◌, ◌≤◌, ◌<◌, ◌+◌, ◌-◌, ◌++◌, [], reverse, take, length, vec_len, vec_capacity};
+    ghost use Rattle.picky_der_ser.specs.KeptMarks.{KeptMarks, kept_marks_code};
 
-    ghost Value = { MarksAround };
+    ghost Value = { KeptMarks };
 
-    ghost coded = { marks_around_code };
+    ghost coded = { kept_marks_code };
 
     ghost view = { λ s. record {
-      views = views_of s.rooted s.first s.second s.others.items;
-      spare = spare_slot s.first + spare_slot s.second + (vec_capacity s.others - vec_len s.others);
+      marks = reverse (take s.depth s.near ++ s.far.items);
+      spare = 7 - s.depth + (vec_capacity s.far - vec_len s.far);
     } };
 
-    ghost invariant = { λ s. IsFilled s.first s.second s.others.items };
+    ghost invariant = { λ s. (s.depth ≤ 7) × (length s.near ≡ 7) × (s.depth < 7 → s.far.items ≡ []) };
 }
 
 impl Marks {
     pub(crate) fn new(alloc: Global) -> Marks
-        ensures { result.views ≡ [] }
+        ensures none { result.marks ≡ [] }
+        ensures room { 0 < result.spare }
     {
         Marks {
-            rooted: false,
-            first: None,
-            second: None,
-            others: Vec::new(alloc),
+            near: ROOTS,
+            depth: 0,
+            far: Vec::new(alloc),
         }
     }
 
     // With that of a root alone. In line, so that they are made where they will stand.
     #[inline(always)]
     pub(crate) fn new_in_root(alloc: Global) -> Marks
-        ensures { result.views ≡ root_view ∷ [] }
+        ensures root { result.marks ≡ root_mark ∷ [] }
+        ensures room { 0 < result.spare }
     {
         Marks {
-            rooted: true,
-            first: None,
-            second: None,
-            others: Vec::new(alloc),
+            near: ROOTS,
+            depth: 1,
+            far: Vec::new(alloc),
         }
     }
 
-    pub(crate) fn is_empty(&self) -> bool
-        ensures yes { result ≡ true → self.now.views ≡ [] }
-        ensures no { result ≡ false → self.now.views ≢ [] }
+    // Whether there are more than so many.
+    #[inline(always)]
+    pub(crate) fn are_more_than(&self, count: usize) -> bool
+        requires { count < 7 }
+        ensures yes { result ≡ true → count < length self.now.marks }
+        ensures no { result ≡ false → length self.now.marks ≤ count }
     {
-        !self.rooted && self.first.is_none()
+        self.depth > count
     }
 
-    // Whether there is no mark but a root's.
-    pub(crate) fn is_only_root(&self) -> bool
-        ensures { result ≡ true → self.now.views ≡ root_view ∷ [] }
+    // Whether there is one alone, and nothing in front of its level's content.
+    pub(crate) fn is_one_at_front(&self) -> bool
+        ensures { result ≡ true → ((m : Mark) × (self.now.marks ≡ m ∷ []) × (m.start ≡ 0)) }
     {
-        self.rooted && self.first.is_none()
+        self.depth == 1 && self.near[0].start == 0
     }
 
     // Whether there is room for one more.
+    #[inline(always)]
     pub(crate) fn has_room(&self) -> bool
         ensures { result ≡ true → 0 < self.now.spare }
     {
-        self.second.is_none() || self.others.len() < self.others.capacity()
+        self.depth < NEAR || self.far.len() < self.far.capacity()
     }
 
     // Makes room for one more.
     pub(crate) fn reserve_one(&mut self) -> Result<(), AllocError>
-        ensures same { self.new.views ≡ self.old.views }
+        ensures same { self.new.marks ≡ self.old.marks }
         ensures ok { OnOk result (0 < self.new.spare) }
         ensures grows { self.old.spare ≤ self.new.spare }
     {
-        if self.second.is_some() {
-            self.others.reserve(1)?;
+        if self.depth == NEAR {
+            self.far.reserve(1)?;
         }
         Ok(())
     }
 
-    // Puts the mark behind the others, if there is one.
-    pub(crate) fn set_aside(&mut self, innermost: &mut Option<Mark>)
+    // Puts the mark inside of the others.
+    #[inline(always)]
+    pub(crate) fn push(&mut self, mark: Mark)
         requires { 0 < self.old.spare }
-        ensures views { self.new.views ≡ with_mark (view_of_mark innermost.old) self.old.views }
-        ensures taken { innermost.new ≡ None }
+        ensures marks { self.new.marks ≡ mark ∷ self.old.marks }
+        ensures spare { self.new.spare + 1 ≡ self.old.spare }
     {
-        if let Some(mark) = innermost.take() {
-            if self.first.is_none() {
-                self.first = Some(mark);
-            } else if self.second.is_none() {
-                self.second = Some(mark);
-            } else {
-                self.others.push_reserved(mark);
-            }
+        if self.depth < NEAR {
+            self.near[self.depth] = mark;
+            self.depth += 1;
+        } else {
+            self.far.push_reserved(mark);
         }
     }
 
-    // Takes the last mark out, to where none is.
-    pub(crate) fn bring_back(&mut self, innermost: &mut Option<Mark>)
-        requires { innermost.old ≡ None }
-        ensures some { IfSome innermost.new (λ mark. self.old.views
-            ≡ mark_view mark ∷ self.new.views) }
-        ensures none { IfNone innermost.new ((self.old.views ≡ []) × (self.new.views ≡ [])) }
+    // The innermost one.
+    #[inline(always)]
+    pub(crate) fn last(&self) -> Option<&Mark>
+        ensures some { IfSome result (λ m. self.now.marks ≡ m.now ∷ drop 1 self.now.marks) }
+        ensures none { IfNone result (self.now.marks ≡ []) }
     {
-        if !self.others.is_empty() {
-            *innermost = self.others.pop();
-        } else if self.second.is_some() {
-            *innermost = self.second.take();
-        } else if self.first.is_some() {
-            *innermost = self.first.take();
-        } else if self.rooted {
-            self.rooted = false;
-            *innermost = Some(ROOT);
+        let far = self.far.len();
+        if far > 0 {
+            return Some(&self.far[far - 1]);
+        }
+        if self.depth == 0 {
+            return None;
+        }
+        Some(&self.near[self.depth - 1])
+    }
+
+    // Takes the innermost one out.
+    #[inline(always)]
+    pub(crate) fn pop(&mut self) -> Option<Mark>
+        ensures some { IfSome result (λ m. self.old.marks ≡ m ∷ self.new.marks) }
+        ensures none { IfNone result (self.old.marks ≡ []) }
+        ensures others { self.new.marks ≡ drop 1 self.old.marks }
+        ensures spare { self.new.spare + length self.new.marks ≡ self.old.spare + length self.old.marks }
+    {
+        if let Some(mark) = self.far.pop() {
+            return Some(mark);
+        }
+        if self.depth == 0 {
+            return None;
+        }
+        self.depth -= 1;
+        Some(self.near[self.depth])
+    }
+
+    // The content of the innermost level begins there, and this is its header.
+    pub(crate) fn set_last(&mut self, start: usize, header: Header)
+        ensures marks { (m : Mark) (ms : List Mark) → self.old.marks ≡ m ∷ ms
+            → self.new.marks ≡ record m { start = start; header = header } ∷ ms }
+        ensures spare { self.new.spare ≡ self.old.spare }
+    {
+        if let Some(mark) = self.pop() {
+            self.push(Mark {
+                start,
+                header,
+                ..mark
+            });
         }
     }
 }

@@ -1,4 +1,4 @@
-use Rattle.std.proofs.Common.{refl, sym, ap, ◌∙◌}
+use Rattle.std.proofs.Common.{sym, ap, ◌∙◌}
 use Rattle.picky_der_core.specs.Primitive.{unsigned_content, Primitive}
 use Rattle.picky_der_ser.proofs.Alike.{writes_primitive-as}
 use Rattle.picky_der_ser.proofs.Numbers.{unsigned_content-short}

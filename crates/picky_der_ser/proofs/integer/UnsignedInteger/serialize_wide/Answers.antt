@@ -1,4 +1,4 @@
-use Rattle.std.proofs.Common.{refl, ap, ◌∙◌}
+use Rattle.std.proofs.Common.{ap, ◌∙◌}
 use Rattle.std.proofs.lemmas.List.{take_rest}
 use Rattle.picky_der_core.specs.Primitive.{unsigned_content, Primitive}
 use Rattle.picky_der_ser.proofs.Alike.{writes_primitive-as}

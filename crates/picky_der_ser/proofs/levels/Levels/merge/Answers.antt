@@ -1,24 +1,20 @@
-use Rattle.std.proofs.Common.{◌≤◌, ◌++◌, length, take, drop, refl, ap, ◌∙◌, arith}
+use Rattle.std.proofs.Common.{◌≤◌, ◌++◌, length, take, drop, ap, ◌∙◌, arith}
 use Rattle.picky_der_core.specs.OpenWrappers.{under}
 use Rattle.picky_der_core.specs.Encoding.{der}
 use Rattle.picky_der_ser.specs.Heading.{tree_of}
 use Rattle.picky_der_ser.specs.State.{Stack}
-use Rattle.picky_der_ser.specs.MarkViews.{view_of_mark}
-use Rattle.picky_der_ser.proofs.LevelMarks.{mark-outer, marks-taken, room-ended, stack-enclosed}
+use Rattle.picky_der_ser.proofs.LevelMarks.{marks-taken, stack-enclosed}
 use Rattle.picky_der_ser.proofs.levels.Levels.merge.Goals as goal
 
-pub around_from-around-requires : goal.around_from-around-requires
-around_from-around-requires c = mark-outer _ _ _ _ (ap view_of_mark c.in-Some.is) c.self.invariant.0
-
-pub invariant_of-self : goal.invariant_of-self
-invariant_of-self c =
+pub invariant_of-self-in_err-outcome : goal.invariant_of-self-in_err-outcome
+invariant_of-self-in_err-outcome c =
     let within : c.in-Some.mark.at ≤ length c.enclose-outcome.new.out.items = omega (arith, c.enclose-outcome.ensures.grows) in
-    (rw (c.truncate.ensures.items, c.truncate-2.ensures) (marks-taken _ _ _ (ap view_of_mark c.in-Some.is) refl _ _ within c.self.invariant.0), room-ended _ _ _ _ _ _ _ (rw (← c.self.view_is) at c.requires))
+    (rw (c.truncate.ensures.items, c.truncate-2.ensures) (marks-taken _ _ _ _ c.in-Some.ensures.some within c.self.invariant.0), omega (arith, c.pop.ensures.spare, ap length c.in-Some.ensures.some))
 
 pub invariant_of-self-2 : goal.invariant_of-self-2
 invariant_of-self-2 c =
     let within : c.in-Some.mark.at ≤ length c.enclose-outcome.new.out.items = omega (arith, c.enclose-outcome.ensures.grows) in
-    (rw (c.truncate.ensures.items, c.truncate-2.ensures) (marks-taken _ _ _ (ap view_of_mark c.in-Some.is) refl _ _ within c.self.invariant.0), room-ended _ _ _ _ _ _ _ (rw (← c.self.view_is) at c.requires))
+    (rw (c.truncate.ensures.items, c.truncate-2.ensures) (marks-taken _ _ _ _ c.in-Some.ensures.some within c.self.invariant.0), omega (arith, c.pop.ensures.spare, ap length c.in-Some.ensures.some))
 
 pub returns-clause-ok : goal.returns-clause-ok
 returns-clause-ok c = λ p l ls e f.
@@ -26,5 +22,5 @@ returns-clause-ok c = λ p l ls e f.
     let s = c.self.inside.scratch.items in
     let enclosed = c.in_ok-outcome.ensures.ok ∙ ap (λ ws. take m.at s ++ der (under ws (tree_of m.header (drop m.start s)))) c.around_from-around.ensures in
     rw (c.truncate.ensures.items, c.truncate-2.ensures) (
-    stack-enclosed _ _ _ (ap view_of_mark c.in-Some.is) refl _ _ _ _ p l ls c.self.invariant.0 (ap (λ (x : Stack). x.pending) c.self.view_is ∙ e) (ap (λ (x : Stack). x.inside) c.self.view_is ∙ f) enclosed
+    stack-enclosed _ _ c.in-Some.ensures.some _ _ _ _ p l ls c.self.invariant.0 (ap (λ (x : Stack). x.pending) c.self.view_is ∙ e) (ap (λ (x : Stack). x.inside) c.self.view_is ∙ f) enclosed
     )

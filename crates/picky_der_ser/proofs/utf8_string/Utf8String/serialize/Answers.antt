@@ -1,4 +1,3 @@
-use Rattle.std.proofs.Common.{refl}
 use Rattle.picky_der_core.specs.Primitive.{Primitive}
 use Rattle.picky_der_ser.proofs.Alike.{writes_primitive-as}
 use Rattle.picky_der_ser.proofs.utf8_string.Utf8String.serialize.Goals as goal
