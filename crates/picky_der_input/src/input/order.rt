@@ -95,6 +95,7 @@ impl<R: ReadExt> Input<R> {
     /// consumed.
     ///
     /// `OutOfMemory` where the allocation failed.
+    #[inline(always)]
     pub fn see_member(&mut self) -> Result<Option<bool>>
         requires { self.old.failed ≡ None }
         ensures seen { IfOk result (λ seen. IfSome seen (SeesMember self.old self.new)) }
