@@ -11,6 +11,9 @@ use picky_der_core::misc::ReadExt;
 use picky_der_core::{Asn1DerError, Result};
 use std::alloc::AllocError;
 
+// The least room that is asked for, so that the members of most sets are kept without asking again.
+const ROOM: usize = 128;
+
 // Whether a member is less than the last one.
 fn is_before(member: &[u8], last: &[u8]) -> bool
     ensures { result ≡ is_less member.now last.now }
@@ -24,7 +27,7 @@ fn keep(kept: &mut Vec<u8>, start: usize, member: &[u8]) -> std::result::Result<
     ensures ok { OnOk result (kept.new.items ≡ take start kept.old.items ++ member.now) }
     ensures err { OnErr result (kept.new.items ≡ kept.old.items) }
 {
-    kept.reserve(member.len())?;
+    kept.reserve(member.len().max(ROOM))?;
     kept.truncate(start);
     kept.extend_from_slice(member)?;
     Ok(())
