@@ -1,6 +1,13 @@
-//! Writes one struct, or reads it, as often as the second argument says.
+//! Writes or reads each line of hexadecimal digits of standard input so often.
+//!
+//!     twin struct|structs|list|set|certificate write|read TIMES < ENCODINGS
+//!
+//! A list and a set are of numbers.
+mod certificate;
+
+use certificate::Certificate;
 use picky_der_core::Result;
-use picky_der_core::asn1::ByteBuf;
+use picky_der_core::asn1::{Asn1SetOf, ByteBuf};
 use picky_der_core::misc::{ReadExt, WriteExt};
 use picky_der_de::{Deserialize, Deserializer, Struct, deserialize_struct_as, from_bytes};
 use picky_der_ser::{Serialize, SerializeMembers, Serializer, to_vec};
@@ -8,7 +15,7 @@ use rattle_std::alloc::Global;
 use rattle_std::prelude::*;
 use std::hint::black_box;
 
-#[derive(Debug, PartialEq, Eq)]
+#[derive(PartialEq)]
 struct TestStruct {
     number: u8,
     vec: ByteBuf,
@@ -39,32 +46,45 @@ impl Deserialize for TestStruct {
 }
 
 #[inline(never)]
-fn write(value: &TestStruct) -> Vec<u8> {
+fn write<T: Serialize>(value: &T) -> Vec<u8> {
     to_vec(Global, value).unwrap()
 }
 
 #[inline(never)]
-fn read(bytes: &[u8]) -> TestStruct {
+fn read<T: Deserialize>(bytes: &[u8]) -> T {
     from_bytes(Global, bytes).unwrap()
 }
 
-fn main() {
-    let vec = ByteBuf(Vec::from_slice(Global, b"Testolope").unwrap());
-    let value = TestStruct {
-        number: 7,
-        vec,
-        tuple: (4, ()),
-    };
-    let bytes = write(&value);
-    assert_eq!(bytes.as_slice(), b"\x30\x15\x02\x01\x07\x04\x09Testolope\x30\x05\x02\x01\x04\x05\x00");
-    assert_eq!(read(&bytes), value);
-    let mut words = std::env::args().skip(1);
-    let way = words.next().unwrap();
-    let times: u32 = words.next().unwrap().parse().unwrap();
+fn bytes_of(digits: &str) -> Vec<u8> {
+    let mut bytes = Vec::new(Global);
+    for place in (0..digits.len()).step_by(2) {
+        bytes.push(u8::from_str_radix(&digits[place..place + 2], 16).unwrap()).unwrap();
+    }
+    bytes
+}
+
+fn run<T: Serialize + Deserialize>(bytes: &[u8], way: &str, times: u32) {
+    let value = read::<T>(bytes);
+    assert_eq!(write(&value).as_slice(), bytes);
     for _ in 0..times {
-        match way.as_str() {
+        match way {
             "write" => drop(black_box(write(black_box(&value)))),
-            _ => drop(black_box(read(black_box(&bytes)))),
+            _ => drop(black_box(read::<T>(black_box(bytes)))),
+        }
+    }
+}
+
+fn main() {
+    let words: std::vec::Vec<std::string::String> = std::env::args().skip(1).collect();
+    let times = words[2].parse().unwrap();
+    for line in std::io::stdin().lines() {
+        let bytes = bytes_of(&line.unwrap());
+        match words[0].as_str() {
+            "struct" => run::<TestStruct>(&bytes, &words[1], times),
+            "structs" => run::<Vec<TestStruct>>(&bytes, &words[1], times),
+            "list" => run::<Vec<u32>>(&bytes, &words[1], times),
+            "set" => run::<Asn1SetOf<u32>>(&bytes, &words[1], times),
+            _ => run::<Certificate>(&bytes, &words[1], times),
         }
     }
 }

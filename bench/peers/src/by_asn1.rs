@@ -1,6 +1,9 @@
 //! By pyca's `asn1`.
-use crate::{Library, TestStruct};
-use asn1::{Asn1Read, Asn1Write, BitString, Null, ObjectIdentifier, SequenceOf, SequenceOfWriter, Tlv};
+mod certificate;
+
+use crate::{Kind, Library, TestStruct};
+use asn1::{Asn1Read, Asn1Write, Null, SequenceOfWriter};
+use certificate::{Certificate, Key, List, OwnedCertificate, OwnedKey};
 
 pub struct Asn1;
 
@@ -15,18 +18,6 @@ struct Fields<'a> {
     number: u8,
     vec: &'a [u8],
     tuple: Pair,
-}
-
-#[derive(Asn1Read, Asn1Write)]
-struct Algorithm<'a> {
-    algorithm: ObjectIdentifier,
-    parameters: Option<Tlv<'a>>,
-}
-
-#[derive(Asn1Read, Asn1Write)]
-struct Key<'a> {
-    algorithm: Algorithm<'a>,
-    key: BitString<'a>,
 }
 
 fn fields(value: &TestStruct) -> Fields<'_> {
@@ -54,7 +45,7 @@ impl Library for Asn1 {
     }
 
     fn read_structs(bytes: &[u8]) -> Vec<TestStruct> {
-        asn1::parse_single::<SequenceOf<Fields>>(bytes).unwrap().map(owned).collect()
+        asn1::parse_single::<List<Fields>>(bytes).unwrap().0.into_iter().map(owned).collect()
     }
 
     fn write_octets(content: &[u8]) -> Vec<u8> {
@@ -65,17 +56,44 @@ impl Library for Asn1 {
         asn1::parse_single::<&[u8]>(bytes).unwrap().to_vec()
     }
 
-    type Key = (ObjectIdentifier, Option<Vec<u8>>, Vec<u8>);
+    type Key = Keys;
+    type Certificate = Certificates;
+}
 
-    fn write_key((algorithm, parameters, key): &Self::Key) -> Vec<u8> {
-        let parameters = parameters.as_ref().map(|it| asn1::parse_single(it).unwrap());
-        let algorithm = Algorithm { algorithm: algorithm.clone(), parameters };
-        asn1::write_single(&Key { algorithm, key: BitString::new(key, 0).unwrap() }).unwrap()
+pub struct Keys;
+
+impl Kind for Keys {
+    type Parsed<'a> = Key<'a>;
+    type Owned = OwnedKey;
+
+    fn parse(bytes: &[u8]) -> Key<'_> {
+        asn1::parse_single(bytes).unwrap()
     }
 
-    fn read_key(bytes: &[u8]) -> Self::Key {
-        let key: Key = asn1::parse_single(bytes).unwrap();
-        let parameters = key.algorithm.parameters.map(|it| it.full_data().to_vec());
-        (key.algorithm.algorithm, parameters, key.key.as_bytes().to_vec())
+    fn write(key: &Key) -> Vec<u8> {
+        asn1::write_single(key).unwrap()
+    }
+
+    fn read(bytes: &[u8]) -> OwnedKey {
+        Self::parse(bytes).owned()
+    }
+}
+
+pub struct Certificates;
+
+impl Kind for Certificates {
+    type Parsed<'a> = Certificate<'a>;
+    type Owned = OwnedCertificate;
+
+    fn parse(bytes: &[u8]) -> Certificate<'_> {
+        asn1::parse_single(bytes).unwrap()
+    }
+
+    fn write(certificate: &Certificate) -> Vec<u8> {
+        asn1::write_single(certificate).unwrap()
+    }
+
+    fn read(bytes: &[u8]) -> OwnedCertificate {
+        Self::parse(bytes).owned()
     }
 }

@@ -1,8 +1,11 @@
 //! By `bcder`.
-use crate::{Library, TestStruct};
-use bcder::decode::{Constructed, Error};
+mod certificate;
+
+use crate::{Kind, Library, TestStruct};
+use bcder::decode::Constructed;
 use bcder::encode::{self, PrimitiveContent, Values};
-use bcder::{BitString, Captured, Mode, OctetString, Oid};
+use bcder::{Mode, OctetString};
+use certificate::{Certificate, Key};
 
 pub struct Bcder;
 
@@ -65,19 +68,40 @@ impl Library for Bcder {
         octets.to_bytes().to_vec()
     }
 
-    type Key = (Oid, Captured, BitString);
+    type Key = Key;
+    type Certificate = Certificate;
+}
 
-    fn write_key((algorithm, parameters, key): &Self::Key) -> Vec<u8> {
-        written(encode::sequence((encode::sequence((algorithm.encode_ref(), parameters)), key.encode_ref())))
+impl Kind for Key {
+    type Parsed<'a> = Key;
+    type Owned = Key;
+
+    fn parse(bytes: &[u8]) -> Key {
+        Constructed::decode(bytes, Mode::Der, Key::take).unwrap()
     }
 
-    fn read_key(bytes: &[u8]) -> Self::Key {
-        let take = |cons: &mut Constructed<&[u8]>| -> Result<Self::Key, Error> {
-            cons.take_sequence(|cons| {
-                let (algorithm, parameters) = cons.take_sequence(|cons| Ok((Oid::take_from(cons)?, cons.capture_all()?)))?;
-                Ok((algorithm, parameters, BitString::take_from(cons)?))
-            })
-        };
-        Constructed::decode(bytes, Mode::Der, take).unwrap()
+    fn write(key: &Key) -> Vec<u8> {
+        written(key.values())
+    }
+
+    fn read(bytes: &[u8]) -> Key {
+        Self::parse(bytes)
+    }
+}
+
+impl Kind for Certificate {
+    type Parsed<'a> = Certificate;
+    type Owned = Certificate;
+
+    fn parse(bytes: &[u8]) -> Certificate {
+        Constructed::decode(bytes, Mode::Der, Certificate::take).unwrap()
+    }
+
+    fn write(certificate: &Certificate) -> Vec<u8> {
+        written(certificate.values())
+    }
+
+    fn read(bytes: &[u8]) -> Certificate {
+        Self::parse(bytes)
     }
 }

@@ -62,14 +62,7 @@ impl<'a, R: ReadExt> Sequence<'a, R> {
         if self.de.is_at_end()? {
             return Ok(None);
         }
-        if self.de.is_in_set() {
-            return match self.de.next_in_set::<T>() {
-                Ok(value) => Ok(Some(value)),
-                Err(error) => Err(error),
-            };
-        }
-        let value = T::deserialize(self.de)?;
-        Ok(Some(value))
+        Ok(Some(self.read_member::<T>()?))
     }
 
     /// The next member. At the end it is refused with `TruncatedData`, and nothing is drawn; else as `next_element` refuses it.
@@ -84,10 +77,27 @@ impl<'a, R: ReadExt> Sequence<'a, R> {
             → (result ≡ Err Asn1DerError.TruncatedData)
             × ((state_of self.new) ≡ failed_with (state_of self.old) Asn1DerError.TruncatedData) }
     {
-        match self.next_element::<T>()? {
-            Some(value) => Ok(value),
-            None => Err(self.de.fail(Asn1DerError::TruncatedData)),
+        if self.de.is_at_end()? {
+            return Err(self.de.fail(Asn1DerError::TruncatedData));
         }
+        self.read_member()
+    }
+
+    // The next member, where the end isn't here.
+    #[inline(always)]
+    fn read_member<T: Deserialize>(&mut self) -> Result<T>
+        requires had_not_failed { (state_of self.old).failed ≡ None }
+        ensures same_reference { borrowed_by self.new ≡ borrowed_by self.old }
+        ensures outer { outer_of self.new ≡ outer_of self.old }
+        ensures ok { IfOk result (λ value. ReadsMember T.shape (state_of self.old)
+            (state_of self.new) (T.meaning value)) }
+        ensures err { IfErr result (RefusesMember T.meaning T.shape (state_of self.old)
+            (state_of self.new)) }
+    {
+        if self.de.is_in_set() {
+            return self.de.next_in_set();
+        }
+        T::deserialize(self.de)
     }
 
     /// The tag of the next member, which is left unread, and `None` exactly at the end. No memory is taken.
@@ -179,7 +189,8 @@ impl<'a, R: ReadExt> Sequence<'a, R> {
             (state_of self.new)) }
     {
         let mut values = Vec::new(self.de.alloc());
-        while let Some(value) = self.next_element::<T>()? {
+        while !self.de.is_at_end()? {
+            let value = self.read_member::<T>()?;
             if values.push(value).is_err() {
                 return Err(self.de.fail(Asn1DerError::OutOfMemory));
             }

@@ -56,6 +56,8 @@ impl<R: ReadExt> Deserializer<R> {
     }
 
     // Reads a member that the reader doesn't show whole, and compares its encoding after that.
+    #[cold]
+    #[inline(never)]
     fn read_unseen<T: Deserialize>(&mut self) -> Result<T>
         requires had_not_failed { self.old.failed ≡ None }
         requires whole { self.old.implicit_tag ≡ None }

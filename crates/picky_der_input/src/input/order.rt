@@ -11,6 +11,9 @@ use picky_der_core::misc::ReadExt;
 use picky_der_core::{Asn1DerError, Result};
 use std::alloc::AllocError;
 
+// The least room that is asked for, so that the members of most sets are kept without asking again.
+const ROOM: usize = 128;
+
 // Whether a member is less than the last one.
 fn is_before(member: &[u8], last: &[u8]) -> bool
     ensures { result ≡ is_less member.now last.now }
@@ -24,7 +27,7 @@ fn keep(kept: &mut Vec<u8>, start: usize, member: &[u8]) -> std::result::Result<
     ensures ok { OnOk result (kept.new.items ≡ take start kept.old.items ++ member.now) }
     ensures err { OnErr result (kept.new.items ≡ kept.old.items) }
 {
-    kept.reserve(member.len())?;
+    kept.reserve(member.len().max(ROOM))?;
     kept.truncate(start);
     kept.extend_from_slice(member)?;
     Ok(())
@@ -95,6 +98,7 @@ impl<R: ReadExt> Input<R> {
     /// consumed.
     ///
     /// `OutOfMemory` where the allocation failed.
+    #[inline(always)]
     pub fn see_member(&mut self) -> Result<Option<bool>>
         requires { self.old.failed ≡ None }
         ensures seen { IfOk result (λ seen. IfSome seen (SeesMember self.old self.new)) }

@@ -1,27 +1,43 @@
-use Rattle.std.proofs.Common.{◌∙◌, refl, arith}
+use Rattle.std.proofs.Common.{◌≡◌, ℕ, ◌<◌, Some, None, refl, sym, ◌∙◌, arith, true≢false}
 use Rattle.std.proofs.lemmas.Result.{err_from_is_err_and}
+use Rattle.picky_der_core.specs.declared.error.Asn1DerError.{Asn1DerError}
+use Rattle.picky_der_core.specs.Failure.{failure_of}
 use Rattle.picky_der_core.specs.EncodingLaws.{length-der}
-use Rattle.picky_der_de.proofs.MemberReads.{takes_member}
+use Rattle.picky_der_input.specs.State.{State}
+use Rattle.picky_der_de.proofs.MemberReads.{takes_member, member_again}
 use Rattle.picky_der_de.proofs.ListReads.{all_refused, all_next, all_for_memory, some_none, some_more, some_all}
 use Rattle.picky_der_de.proofs.sequence.Sequence.collect.Goals as goal
 
+above : (n : ℕ) → (n ≡ 0 → ⊥) → 0 < n
+above n h = omega (arith, h)
+
+failed_ahead : (a : State) (e : Asn1DerError) → a.failed ≡ Some (failure_of e) → a.failed ≡ None → 0 < a.until_end
+failed_ahead a e h w = let q : None ≡ Some (failure_of e) = sym w ∙ h in cc
+
+pub returns-in_err-is_at_end-clause-err : goal.returns-in_err-is_at_end-clause-err
+returns-in_err-is_at_end-clause-err g c =
+    let p = err_from_is_err_and c.from_residual.result c.from_residual.ensures.1 in
+    let f = c.in_err-is_at_end.ensures.err in
+    rw (p.1, p.2) (c.loop-values.invariant.some.refuses _ _ (all_refused (member_again f) (failed_ahead c.loop-values.self.de.now _ f)))
+
 pub returns-in_err-value-clause-err : goal.returns-in_err-value-clause-err
 returns-in_err-value-clause-err g c =
-    let p = err_from_is_err_and c.from_residual.result c.from_residual.ensures.1 in
-    let e = c.in_err-value.ensures in
-    rw (p.1, p.2) (c.loop-values.invariant.some.refuses _ _ (all_refused e.err e.ahead))
+    let p = err_from_is_err_and c.from_residual-in_err-value.result c.from_residual-in_err-value.ensures.1 in
+    let here = c.in_ok-is_at_end.ensures.ok.1 in
+    let ahead = above _ (λ z. true≢false (sym (here.1 z) ∙ c.if-not-branch.true)) in
+    rw (p.1, p.2) (c.loop-values.invariant.some.refuses _ _ (all_refused c.in_err-value.ensures.err (λ h. ahead)))
 
 pub loop-values-smaller : goal.loop-values-smaller
 loop-values-smaller g c =
-    let r = rw c.in-Some.is at c.in_ok-value.ensures.member in
-    omega (arith, (takes_member r).until_end, length-der (g.T.Serialize.meaning c.in-Some.value) r.reads.readable)
+    let r = c.in_ok-value.ensures.ok in
+    omega (arith, (takes_member r).until_end, length-der (g.T.Serialize.meaning c.in_ok-value.value) r.reads.readable)
 
 pub loop-values-preserved : goal.loop-values-preserved
 loop-values-preserved g c =
-    let r = rw c.in-Some.is at c.in_ok-value.ensures.member in
+    let r = c.in_ok-value.ensures.ok in
     let i = c.loop-values.invariant in
     let e = c.in_ok-value.ensures in
-    let h = some_more g.T.Serialize.meaning g.T.Deserialize.shape c.loop-values.values.items c.in-Some.value i.some r in
+    let h = some_more g.T.Serialize.meaning g.T.Deserialize.shape c.loop-values.values.items c.in_ok-value.value i.some r in
     record { some = rw (c.push.ensures.items, c.if-is_err.ensures.negation) h; same_reference = e.same_reference ∙ i.same_reference; outer = e.outer ∙ i.outer }
 
 pub loop-values-init : goal.loop-values-init
@@ -31,10 +47,10 @@ loop-values-init g c =
 
 pub returns-then-is_err-clause-err : goal.returns-then-is_err-clause-err
 returns-then-is_err-clause-err g c =
-    let r = rw c.in-Some.is at c.in_ok-value.ensures.member in
+    let r = c.in_ok-value.ensures.ok in
     c.loop-values.invariant.some.refuses _ _ (all_next r (all_for_memory c.fail.ensures.fails c.fail.ensures.error))
 
 pub returns-clause-ok : goal.returns-clause-ok
 returns-clause-ok g c =
-    let n = rw c.in_default.is at c.in_ok-value.ensures.none in
-    some_all c.loop-values.invariant.some n
+    let k = c.in_ok-is_at_end.ensures.ok in
+    some_all c.loop-values.invariant.some (record { reached = k.1.0 c.if-not-branch.false; had_not_failed = k.0; same = refl })

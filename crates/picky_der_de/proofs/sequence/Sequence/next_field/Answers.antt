@@ -1,14 +1,14 @@
-use Rattle.std.proofs.Common.{arith}
-use Rattle.picky_der_de.proofs.MemberReads.{member_ahead, member_missing}
+use Rattle.std.proofs.Common.{refl}
+use Rattle.std.proofs.lemmas.Result.{err_from_is_err_and}
+use Rattle.picky_der_de.proofs.MemberReads.{member_again, member_missing}
 use Rattle.picky_der_de.proofs.sequence.Sequence.next_field.Goals as goal
 
-pub returns-in-Some-clause-at_end : goal.returns-in-Some-clause-at_end
-returns-in-Some-clause-at_end g c =
-    let r = rw c.in-Some.is at c.in_ok-value.ensures.member in
-    λ h z. absurd (omega (arith, member_ahead r))
+pub returns-in_err-is_at_end-clause-err : goal.returns-in_err-is_at_end-clause-err
+returns-in_err-is_at_end-clause-err g c =
+    let p = err_from_is_err_and c.from_residual.result c.from_residual.ensures.1 in
+    rw (p.1, p.2) (member_again c.in_err-is_at_end.ensures.err)
 
-pub returns-in-None-clause-err : goal.returns-in-None-clause-err
-returns-in-None-clause-err g c =
-    let n = rw c.in-None.is at c.in_ok-value.ensures.none in
-    let f = c.fail.ensures in
-    member_missing n (c.args.self.now.whole n.had_not_failed) f.fails f.error
+pub returns-then-branch-clause-err : goal.returns-then-branch-clause-err
+returns-then-branch-clause-err g c =
+    let k = c.in_ok-is_at_end.ensures.ok in
+    member_missing (record { reached = k.1.0 c.if-branch.true; had_not_failed = k.0; same = refl }) (c.args.self.now.whole k.0) c.fail.ensures.fails c.fail.ensures.error
