@@ -34,7 +34,10 @@ class Field:
 
 @dataclass
 class Declaration:
-    """A type that has a name: where it is defined, under which name, and with which comment."""
+    """A type that has a name: where it is defined, under which name, and with which comment.
+
+    `term` is the type that an assignment defines, as a term of der_types. What is only a part of one has none.
+    """
 
     name: str
     place: Place
@@ -43,6 +46,7 @@ class Declaration:
     comment: str = ""
     level: Level = Level.EXACT
     lacks: list = field(default_factory=list)
+    term: object = field(default=None, compare=False)
 
     def differences(self):
         """Why its values, or those of a part, aren't those of the notation. An open type is any element, as the notation says."""

@@ -12,22 +12,25 @@ ONE_BYTE = range(128)
 
 _GHOST_IMPORTS = """ghost use Rattle.std.proofs.Common.{lit≤};
 ghost use Rattle.std.specs.Prelude.{◌≡◌, [], ◌∷◌, refl};
+ghost use Rattle.picky_der_core.specs.Primitive.{Primitive, PrimitiveShape};
 ghost use Rattle.picky_der_core.specs.Tree.{Tree};
 ghost use Rattle.picky_der_core.specs.Shape.{Shape};
 ghost use Rattle.der_types.specs.KnownContents.{known_contents};
+ghost use Rattle.der_types.specs.Notation.{Notation};
 """.splitlines()
 
 _PROOF_IMPORTS = """use Rattle.std.proofs.Common.{◌∙◌}
 use Rattle.std.proofs.lemmas.Bool.{eq-eqb}
 """.splitlines()
 
-_DEFAULT_IMPORTS = """use Rattle.picky_der_core.specs.Tree.{Tree}
+_DEFAULT_IMPORTS = """use Rattle.picky_der_core.specs.Primitive.{Primitive}
+use Rattle.picky_der_core.specs.Tree.{Tree}
 use Rattle.picky_der_ser.specs.Defaults.{IsByTree}
 """.splitlines()
 # that two items are the default just where their trees are the same
 _SAME, _OTHER = "(λ k. refl, λ e. refl)", "(λ k. cc, λ e. cc)"
 
-_NAMES = """Contents deserialize_contents_as Tag Begins ReadExt WriteExt Deserialize Deserializer Result Serialize Serializer""".split()
+_NAMES = """Contents Notated deserialize_contents_as Tag Begins ReadExt WriteExt Deserialize Deserializer Result Serialize Serializer""".split()
 
 
 def number_term(declared):
@@ -79,6 +82,8 @@ def enum_file(declared, crate):
         *deserialize_impl(declared),
         "",
         *begins_impl(declared),
+        "",
+        *notated_impl(declared),
         *(line for name, it in declared.defaults.items() for line in ["", *default_lines(declared, name, it)]),
     ]
 
@@ -151,7 +156,7 @@ def serialize_impl(declared):
     """The implementation of `Serialize`."""
     return [
         f"impl Serialize for {declared.name} {{",
-        f"{STEP}ghost meaning = {{ λ it. Tree.bytes 0x0A ({number_term(declared)} it ∷ []) }};",
+        f"{STEP}ghost meaning = {{ λ it. Tree.primitive (Primitive.bytes 0x0A ({number_term(declared)} it ∷ [])) }};",
         "",
         *signature(STEP, "serialize", ["&self", "serializer: &mut Serializer<W>"], "Result<usize>", "<W: WriteExt>"),
         f"{_TWO}self.serialize_under(Tag::ENUMERATED, serializer)",
@@ -164,7 +169,7 @@ def deserialize_impl(declared):
     """The implementation of `Deserialize`."""
     return [
         f"impl Deserialize for {declared.name} {{",
-        f"{STEP}ghost shape = {{ Shape.bytes 0x0A }};",
+        f"{STEP}ghost shape = {{ Shape.primitive (PrimitiveShape.bytes 0x0A) }};",
         "",
         f"{STEP}ghost known = {{ known_contents 0x0A (λ it. {number_term(declared)} it ∷ []) ⟦<Self as PartialEq>⟧.eq ⟦<Self as Contents>⟧.same }};",
         "",
@@ -184,6 +189,20 @@ def begins_impl(declared):
         f"{STEP}fn begins_with(tag: Tag) -> bool {{",
         f"{_TWO}tag.inner() == 0x0A",
         f"{STEP}}}",
+        "}",
+    ]
+
+
+def notated_impl(declared):
+    """The implementation of `Notated`: an ENUMERATED with the numbers of the items."""
+    numbers = [f"{number_term(declared)} variant.{it.name} ∷" for it in declared.items]
+    return [
+        f"impl Notated for {declared.name} {{",
+        f"{STEP}ghost notation = {{ Notation.ENUMERATED (",
+        *(f"{_TWO}{it}" for it in numbers),
+        f"{_TWO}[]) }};",
+        "",
+        f"{STEP}ghost denoted = {{ refl }};",
         "}",
     ]
 
@@ -228,7 +247,7 @@ def default_terms(declared, name, item):
     test, proof = default_term(name), default_proof(name)
     lines = ["", f"abbrev pub {test} : {declared.name} → Bool"]
     lines += [f"{test} {it.name} = {'true' if it is item else 'false'}" for it in declared.items]
-    lines += ["", f"pub {proof} : IsByTree (λ it. Tree.bytes 0x0A ({number_term(declared)} it ∷ [])) {test}"]
+    lines += ["", f"pub {proof} : IsByTree (λ it. Tree.primitive (Primitive.bytes 0x0A ({number_term(declared)} it ∷ []))) {test}"]
     for it in declared.items:
         if it is item:
             lines += [f"{proof} {it.name} {other.name} h = {_SAME if other is item else _OTHER}" for other in declared.items]

@@ -11,6 +11,7 @@ _ROOT = """Alternatives Asn1RawDer Choice Deserialize DeserializeMembers Deseria
 SerializeMembers Serializer Struct deserialize_struct_as""".split()
 _TYPES = """Contents deserialize_contents_as
 Asn1Set BitString BmpString Enumerated GeneralString GeneralizedTime Ia5String InRange Integer NamedBits NumericString
+Notated NotatedAlternatives NotatedMembers
 ObjectIdentifier PrintableString RelativeOid RetaggedPrimitive RetaggedSet TagOrdered TeletexString UniversalString UtcTime
 VisibleString WithSize""".split()
 

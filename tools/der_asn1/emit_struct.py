@@ -10,10 +10,11 @@ _THREE = STEP * 3
 
 _GHOST_IMPORTS = """ghost use Rattle.std.specs.Prelude.{refl};
 ghost use Rattle.picky_der_de.specs.KnownMembers.{known_struct, sequence_of, sequence_shape};
+ghost use Rattle.der_types.specs.Notation.{Notation};
 """.splitlines()
 
 _NAMES = """ReadExt WriteExt Deserialize DeserializeMembers Deserializer Result Serialize SerializeMembers Serializer Struct
-deserialize_struct_as Begins Tag List""".split()
+deserialize_struct_as Begins Tag List Notated NotatedMembers""".split()
 
 
 def chunks(items):
@@ -81,6 +82,8 @@ def struct_file(declared, own_types):
         *deserialize_impl(declared),
         "",
         *begins_impl(declared),
+        "",
+        *notated_impl(declared),
     ]
 
 
@@ -259,6 +262,17 @@ def deserialize_impl(declared):
         f"{STEP}}}",
         "",
         f"{STEP}ghost tied = {{ Prim.assumption }};",
+        "}",
+    ]
+
+
+def notated_impl(declared):
+    """The implementation of `Notated`: a SEQUENCE of what the members are."""
+    return [
+        f"impl Notated for {declared.name} {{",
+        f"{STEP}ghost notation = {{ Notation.sequence ⟦<Members as NotatedMembers>⟧.members_notation }};",
+        "",
+        f"{STEP}ghost denoted = {{ refl }};",
         "}",
     ]
 

@@ -9,6 +9,7 @@ from .library import DEFAULT_SIGNED, DEFAULT_UNSIGNED, UNIVERSAL_TAGS, Core, Rus
 from .members import ResolvedMember, is_extensible, members_of
 from .meaning import Meaning, lacks
 from .source import NotationError
+from .terms import Item as TermItem, Term, number_list
 from .values import enumerated_numbers, integer_of, named_numbers, value_of
 from .wording import snake, variant
 
@@ -56,13 +57,15 @@ def structure(meanings, type_, scope, hint):
         return empty(type_, scope, first)
     if any(it.meaning.rust is None for it in parts):
         return _raw(tagged_bytes(first), parts)
+    written = parts
     if type_.form is tree.Form.SET:
         parts = in_tag_order(parts)
         if parts is None:
             return Meaning(tagged_bytes(first)).lacking(Feature.SET_ORDER)
     if not are_distinct(meanings, parts, type_.form):
         return _raw(tagged_bytes(first), parts, *ambiguity(parts))
-    return declared_struct(meanings, type_, scope, hint, parts)
+    found = declared_struct(meanings, type_, scope, hint, parts)
+    return found.called(structure_term(meanings, type_, scope, written, (found.rust.inner or found.rust).text))
 
 
 def declared_struct(meanings, type_, scope, hint, parts):
@@ -80,6 +83,27 @@ def declared_struct(meanings, type_, scope, hint, parts):
     name = declare(meanings, declared, type_, scope, hint, found, "members")
     record = Rust(name, Core.LIST, frozenset((UNIVERSAL_TAGS["SEQUENCE"],)))
     return found.as_(Rust(f"Asn1Set<{name}>", Core.SET, frozenset((UNIVERSAL_TAGS["SET"],)), record) if is_set else record)
+
+
+def structure_term(meanings, type_, scope, parts, name):
+    """The term of a SEQUENCE or SET, its members in the order of the text, with the name of its struct."""
+    items = tuple(TermItem(item_text(it), presence_word(meanings, it), it.meaning.rust.term) for it in parts)
+    return Term(type_.form.value, items=items, end="later-members-refused" if is_extensible(type_, scope) else "end", name=name)
+
+
+def item_text(part):
+    """A member or an alternative as the module has it."""
+    return f"{part.name} {part.resolved.member.text}"
+
+
+def presence_word(meanings, part):
+    """How a member is there."""
+    member = part.resolved.member
+    if member.presence is tree.Presence.DEFAULT:
+        return "default" if default_of(meanings, part).type_text else "default-as-optional"
+    if member.presence is tree.Presence.OPTIONAL:
+        return "optional"
+    return "required" if member.group is None else "added"
 
 
 def declare(meanings, declared, type_, scope, hint, meaning, suffix):
@@ -133,10 +157,11 @@ def unique(fields):
 def empty(type_, scope, first):
     """A SEQUENCE or SET without members, which is a list of none, or of any that later versions have."""
     name = "Vec" if type_.form is tree.Form.SEQUENCE else "Asn1SetOf"
-    firsts = frozenset((first,))
+    firsts, form = frozenset((first,)), type_.form.value
     if is_extensible(type_, scope):
-        return Meaning(Rust(f"{name}<Asn1RawDer>", Core.LIST, firsts)).lacking(Feature.EXTENSION)
-    return Meaning(Rust(f"WithSize<{name}<()>, 0, 0>", Core.LIST, firsts, bounded=True))
+        term = Term(f"{form}-OF", Term("ANY"))
+        return Meaning(Rust(f"{name}<Asn1RawDer>", Core.LIST, firsts, term=term)).lacking(Feature.EXTENSION)
+    return Meaning(Rust(f"WithSize<{name}<()>, 0, 0>", Core.LIST, firsts, bounded=True, term=Term(f"{form} end")))
 
 
 def _raw(rust, parts, *features):
@@ -259,12 +284,13 @@ def enumeration(meanings, type_, scope, hint):
     if len(set(numbers)) < len(numbers):
         meanings.program.problems.error(type_.place, "two items of the enumeration have the same number", "X.680, 20.3")
     if not all(it in ONE_BYTE for it in numbers) or len(set(numbers)) < len(numbers):
-        return Meaning(Rust("Enumerated", Core.CONTENTS, first, own=True)).noting(Note.WIDE_ENUMERATION)
+        rust = Rust("Enumerated", Core.CONTENTS, first, own=True, term=Term("ENUMERATED-extensible"))
+        return Meaning(rust).noting(Note.WIDE_ENUMERATION)
     items = [Item(variant(it.name), it.name, number, it.comment) for it, number in zip(type_.items, numbers)]
     declared = EnumDeclaration("", type_.place, scope.module.name, hint.text, items=unique(items))
     found = Meaning(None).noting(Note.ENUMERATION)
     name = declare(meanings, declared, type_, scope, hint, found, "values")
-    return found.as_(Rust(name, Core.CONTENTS, first, own=True))
+    return found.as_(Rust(name, Core.CONTENTS, first, own=True, term=Term(f"ENUMERATED {number_list(it.number for it in declared.items)}")))
 
 
 # ---- choices
@@ -297,4 +323,7 @@ def declared_choice(meanings, type_, scope, hint, parts):
     variants = unique([variant_of(it) for it in parts])
     declared = ChoiceDeclaration("", type_.place, scope.module.name, hint.text, variants=variants)
     name = declare(meanings, declared, type_, scope, hint, found, "choice")
-    return found.as_(Rust(name, Core.CHOICE, firsts, is_open=True))
+    items = tuple(TermItem(item_text(it), "", it.meaning.rust.term) for it in parts)
+    end = "later-alternatives-refused" if is_extensible(type_, scope) else "none"
+    term = Term("CHOICE", items=items, end=end, name=name)
+    return found.as_(Rust(name, Core.CHOICE, firsts, is_open=True, term=term))

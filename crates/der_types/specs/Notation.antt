@@ -1,5 +1,5 @@
 -- Types of ASN.1 (X.680), as the types of these crates have them, and the shapes that they denote. `NotationForms` has the forms of modules.
-use Rattle.std.specs.Prelude.{ℕ, ◌-◌, ◌^◌}
+use Rattle.std.specs.Prelude.{ℕ, ◌-◌, ◌^◌, List}
 use Rattle.picky_der_core.specs.declared.asn1.wrapper.Wrapper.{Wrapper}
 use Rattle.picky_der_core.specs.Primitive.{PrimitiveShape}
 use Rattle.picky_der_core.specs.Tree.{ListKind}
@@ -16,8 +16,8 @@ mutual
     unsigned : ℕ → Notation
     -- of either sign, in so many bits with that of the sign
     signed : ℕ → Notation
-    -- 20: with the numbers that the type has; and with an extension marker, of any number
-    ENUMERATED : Notation
+    -- 20: with these numbers; and with an extension marker, of any number
+    ENUMERATED : List ℕ → Notation
     ENUMERATED-extensible : Notation
     -- 22: and one with names for bits, in which zeros at the end don't count (22.7)
     BIT-STRING : Notation
@@ -54,7 +54,7 @@ mutual
   pub data Member : Type 0 where
     required : Notation → Member
     optional : Notation → Member
-    defaulted : Notation → Member
+    default : Notation → Member
 
   pub data Members : Type 0 where
     end : Members
@@ -71,7 +71,7 @@ abbrev mutual
   shape_of (Notation.unsigned bits) = Shape.primitive (PrimitiveShape.unsigned (2 ^ bits - 1))
   shape_of Notation.INTEGER = Shape.primitive (PrimitiveShape.bytes 0x02)
   shape_of (Notation.signed bits) = Shape.primitive (PrimitiveShape.bytes 0x02)
-  shape_of Notation.ENUMERATED = Shape.primitive (PrimitiveShape.bytes 0x0A)
+  shape_of (Notation.ENUMERATED numbers) = Shape.primitive (PrimitiveShape.bytes 0x0A)
   shape_of Notation.ENUMERATED-extensible = Shape.primitive (PrimitiveShape.bytes 0x0A)
   shape_of Notation.BIT-STRING = Shape.primitive (PrimitiveShape.bytes 0x03)
   shape_of Notation.BIT-STRING-named = Shape.primitive (PrimitiveShape.bytes 0x03)
@@ -97,7 +97,7 @@ abbrev mutual
   pub member_then : Member → Layout → Layout
   member_then (Member.required t) = Layout.required (shape_of t)
   member_then (Member.optional t) = Layout.maybe (shape_of t)
-  member_then (Member.defaulted t) = Layout.maybe (shape_of t)
+  member_then (Member.default t) = Layout.maybe (shape_of t)
 
   pub layout_of : Members → Layout
   layout_of Members.end = Layout.empty

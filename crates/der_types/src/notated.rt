@@ -309,7 +309,7 @@ impl<T: Notated + Begins> NotatedMember for Optional<T> {
 }
 
 impl<T: Notated + Begins, D: DefaultOf<T>> NotatedMember for Defaulted<T, D> {
-    ghost member = { Member.defaulted T.notation };
+    ghost member = { Member.default T.notation };
 
     ghost stands = { record { laid_out = λ l. ap (λ s. Layout.maybe s l) T.denoted } };
 }

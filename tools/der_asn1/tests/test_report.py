@@ -114,7 +114,7 @@ class Command(unittest.TestCase):
             self.assertEqual(1, self.run_on(texts, "--out", out, "--check")[0])
             status, printed, _ = self.run_on(texts, "--out", out)
             self.assertEqual((0, "mine: der_types picky_asn1_der picky_der_core picky_der_ser picky_der_de\n"), (status, printed))
-            self.assertEqual(["aliases.rt", "lib.rt", "t.rt", "values.rt"], sorted(os.listdir(os.path.join(out, "src"))))
+            self.assertEqual(["aliases.rt", "lib.rt", "notation.rt", "t.rt", "values.rt"], sorted(os.listdir(os.path.join(out, "src"))))
             self.assertEqual((0, "", ""), self.run_on(texts, "--out", out, "--check"))
             open(os.path.join(out, "src", "other.rt"), "w", encoding="utf-8").close()
             self.assertEqual((1, f"{out}/src/other.rt isn't what would be written\n", ""), self.run_on(texts, "--out", out, "--check"))
@@ -127,7 +127,7 @@ class Command(unittest.TestCase):
         with tempfile.TemporaryDirectory() as folder:
             texts = {"m.asn1": module_text("T ::= SEQUENCE { a U } U ::= SEQUENCE { a NULL } V ::= REAL")}
             self.assertEqual(0, self.run_on(texts, "--out", folder, "--type", "T")[0])
-            self.assertEqual(["lib.rt", "t.rt", "u.rt"], sorted(os.listdir(os.path.join(folder, "src"))))
+            self.assertEqual(["lib.rt", "notation.rt", "t.rt", "u.rt"], sorted(os.listdir(os.path.join(folder, "src"))))
 
     def test_types_that_are_called_the_same_in_rust(self):
         with tempfile.TemporaryDirectory() as folder:
