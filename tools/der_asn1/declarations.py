@@ -22,7 +22,10 @@ class Hint:
 
 @dataclass
 class Field:
-    """A member of a struct, or an alternative of a choice. `default` is the type of the library that says its default."""
+    """A member of a struct, or an alternative of a choice. `default` is the type of the library that says its default.
+
+    `is_other` says that its values are those that aren't the default.
+    """
 
     name: str
     type_text: str
@@ -30,6 +33,7 @@ class Field:
     default: str = ""
     notation: str = ""
     comment: str = ""
+    is_other: bool = False
 
 
 @dataclass

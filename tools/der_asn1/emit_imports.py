@@ -12,7 +12,7 @@ SerializeMembers Serializer Struct deserialize_struct_as""".split()
 _TYPES = """Contents deserialize_contents_as
 Asn1Set BitString BmpString Enumerated GeneralString GeneralizedTime Ia5String InRange Integer NamedBits NumericString
 Notated NotatedAlternatives NotatedMembers
-ObjectIdentifier PrintableString RelativeOid RetaggedPrimitive RetaggedSet TagOrdered TeletexString UniversalString UtcTime
+ObjectIdentifier OtherThan PrintableString RelativeOid RetaggedPrimitive RetaggedSet TagOrdered TeletexString UniversalString UtcTime
 VisibleString WithSize""".split()
 
 # where each name of the library is from, the modules in the order of their imports

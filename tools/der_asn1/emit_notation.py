@@ -17,7 +17,7 @@ _HOMES = {
         """ANY APPLICATION AUTOMATIC BIT-STRING-CONTAINING BMPString CHOICE CONTEXT EXPLICIT GeneralString IA5String IMPLICIT
         INTEGER-from-minus-to INTEGER-from-to ISO646String MAX Mode NumericString OCTET-STRING-CONTAINING PRIVATE PrintableString
         SEQUENCE SEQUENCE-OF SET SET-OF SIZE T61String TeletexString UNIVERSAL UniversalString VisibleString added
-        default-as-optional instead later-alternatives-refused later-members-refused ◌⨾◌ ◌∣◌""".split()
+        default-as-optional default-of instead later-alternatives-refused later-members-refused ◌⨾◌ ◌∣◌""".split()
     ),
 }
 _PRELUDE = ("[]", "◌∷◌")

@@ -112,7 +112,9 @@ def difference_note(declared):
 
 
 def default_note(it):
-    """What a field doesn't say of a default that the library has no type for."""
+    """What a field doesn't say of a default that is no value of it."""
+    if it.is_other:
+        return ". `None` is the default"
     return ". A default that is written out is read, too" if it.presence is Presence.OPTIONAL and " DEFAULT " in it.notation else ""
 
 

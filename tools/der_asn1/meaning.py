@@ -2,7 +2,7 @@
 from dataclasses import dataclass, replace
 from typing import Optional
 
-from .features import Feature, Level
+from .features import Level
 from .library import Rust
 from .terms import instead
 
@@ -23,8 +23,7 @@ class Meaning:
     def lacking(self, *features):
         """The same with features that the library lacks."""
         level = max([self.level, *(it.level for it in features)])
-        is_other = self.is_other or any(it is not Feature.OPEN_ANY for it in features)
-        return replace(self, level=level, features=self.features | set(features), is_other=is_other)
+        return replace(self, level=level, features=self.features | set(features), is_other=self.is_other or bool(features))
 
     def noting(self, *notes):
         """The same with notes."""

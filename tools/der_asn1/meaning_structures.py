@@ -5,7 +5,7 @@ from . import tree
 from .declarations import ChoiceDeclaration, EnumDeclaration, Field, Item, StructDeclaration
 from .emit_enum import ONE_BYTE
 from .features import Feature, Level, Note
-from .library import DEFAULT_SIGNED, DEFAULT_UNSIGNED, UNIVERSAL_TAGS, Core, Rust, any_element, tagged_bytes
+from .library import DEFAULT_SIGNED, DEFAULT_UNSIGNED, U64_MAX, UNIVERSAL_TAGS, Core, Rust, any_element, tagged_bytes
 from .members import ResolvedMember, is_extensible, members_of
 from .meaning import Meaning, lacks
 from .source import NotationError
@@ -75,7 +75,7 @@ def declared_struct(meanings, type_, scope, hint, parts):
     for it in parts:
         default = default_of(meanings, it)
         found = found.lacking(*default.features).noting(*default.notes)
-        fields.append(field_of(it, default.type_text))
+        fields.append(field_of(it, default))
     if is_extensible(type_, scope):
         found = found.lacking(Feature.EXTENSION)
     is_set = type_.form is tree.Form.SET
@@ -100,7 +100,7 @@ def presence_word(meanings, part):
     """How a member is there."""
     member = part.resolved.member
     if member.presence is tree.Presence.DEFAULT:
-        return "default" if default_of(meanings, part).type_text else "default-as-optional"
+        return default_of(meanings, part).word
     if member.presence is tree.Presence.OPTIONAL:
         return "optional"
     return "required" if member.group is None else "added"
@@ -125,15 +125,16 @@ def declare(meanings, declared, type_, scope, hint, meaning, suffix):
     return declared.name
 
 
-def field_of(part, default=""):
+def field_of(part, default):
     """A member as a field. One with a default that the library hasn't is as one that may be absent."""
     member = part.resolved.member
     presence = tree.Presence.REQUIRED
-    if default:
+    if default.type_text:
         presence = tree.Presence.DEFAULT
     elif part.resolved.may_be_absent():
         presence = tree.Presence.OPTIONAL
-    return Field(snake(part.name), part.meaning.rust.text, presence, default, member.text, member.comment)
+    type_text = default.others or part.meaning.rust.text
+    return Field(snake(part.name), type_text, presence, default.type_text, member.text, member.comment, bool(default.others))
 
 
 def variant_of(part):
@@ -215,9 +216,15 @@ def tag_key(first):
 
 @dataclass(frozen=True)
 class Default:
-    """The type of the library that says a default, or what is missing for it."""
+    """The type of the library that says a default, or what is missing for it.
+
+    `others` is the type of the values that aren't the default, where the library has no value of it without memory, and `word` is how
+    the member is there in a term.
+    """
 
     type_text: str = ""
+    others: str = ""
+    word: str = "default-as-optional"
     features: tuple = ()
     notes: tuple = ()
 
@@ -232,14 +239,14 @@ def default_of(meanings, part):
         rust = rust.inner
     item = item_of(meanings, member.default, scope, rust)
     if item:
-        return Default(item)
+        return Default(item, word="default")
     if rust.core in (Core.UNSIGNED, Core.SIGNED, Core.NUMBER):
         number = number_of(meanings.program, member, scope)
         if number is not None:
-            return number_default(rust, number)
+            return number_default(part.meaning.rust, rust, number)
     value, _ = value_of(meanings.program, member.default, scope)
     if rust.core is Core.BOOL and isinstance(value, tree.BooleanValue) and not rust.bounded:
-        return Default("True" if value.truth else "False")
+        return Default("True" if value.truth else "False", word="default")
     if rust.own and rust.core is Core.CONTENTS and not rust.bounded:
         return Default(notes=(Note.DEFAULT,))
     return Default(features=(Feature.DEFAULT_OTHER,))
@@ -264,14 +271,24 @@ def number_of(program, member, scope):
     return number if number is not None else integer_of(program, *value_of(program, member.default, scope), named)
 
 
-def number_default(rust, number):
-    """The default of an INTEGER."""
-    if rust.core is Core.NUMBER and not rust.bounded:
-        return Default(features=(Feature.DEFAULT_INTEGER,))
+def number_default(outer, rust, number):
+    """The default of an INTEGER, which may be under tags."""
     allowed, name = (DEFAULT_UNSIGNED, "Number") if rust.core is Core.UNSIGNED else (DEFAULT_SIGNED, "SignedNumber")
-    if number not in allowed or rust.bounded:
-        return Default(features=(Feature.DEFAULT_CONSTRAINED,))
-    return Default(f"{name}<{number}>")
+    if rust.core is not Core.NUMBER and number in allowed and not rust.bounded:
+        return Default(f"{name}<{number}>", word="default")
+    others = other_than(outer, number) if rust.core is not Core.SIGNED and 0 <= number <= U64_MAX else None
+    if others and not (rust.core is Core.NUMBER and rust.bounded):
+        return Default(others=others, word=f"default-of {number}")
+    return Default(features=(Feature.DEFAULT_CONSTRAINED if rust.bounded or rust.core is not Core.NUMBER else Feature.DEFAULT_INTEGER,))
+
+
+def other_than(rust, number):
+    """The type of the other numbers, below the tags. None if the type with its tags has another name."""
+    if rust.core not in (Core.EXPLICIT, Core.IMPLICIT):
+        return f"OtherThan<{rust.text}, {number}>"
+    before = f"<{rust.inner.text}"
+    inner = other_than(rust.inner, number) if before in rust.text else None
+    return inner and rust.text.replace(before, f"<{inner}", 1)
 
 
 # ---- enumerations

@@ -121,6 +121,10 @@ class Meanings:
         """A type of which nothing is known."""
         return Meaning(any_element()).lacking(feature)
 
+    def any_type(self):
+        """An open type, which is any element."""
+        return Meaning(any_element()).noting(Note.OPEN)
+
     # ---- types
 
     def of_type(self, type_, scope, hint, outer=()):
@@ -236,7 +240,7 @@ class Meanings:
         if found is None:
             return self.not_found(type_, scope)
         if class_named(self.program, type_.name, scope):
-            return self.unknown(Feature.OPEN_ANY)
+            return self.any_type()
         target = target_of(self.program, type_, scope)
         if target is None or isinstance(found.assignment, tree.UnreadAssignment):
             return self.unknown(Feature.UNDEFINED)
@@ -264,13 +268,13 @@ class Meanings:
     def of_binding(self, found, hint, constraints):
         """What is given for a parameter."""
         if found.argument.type is None:
-            return self.unknown(Feature.OPEN_ANY)
+            return self.any_type()
         return self.of_type(found.argument.type, found.scope, hint, constraints)
 
     def not_found(self, type_, scope):
         """A name that isn't defined here: an open type of other compilers, or one of a module that isn't given."""
         if type_.name in BUILT_IN_ANY or type_.name in BUILT_IN_CLASSES:
-            return self.unknown(Feature.OPEN_ANY)
+            return self.any_type()
         source = type_.module or self.program.source_of(type_.name, scope.module)
         if source and self.program.module_named(source, scope.module) is None:
             return self.unknown(Feature.IMPORT)
@@ -288,10 +292,10 @@ class Meanings:
     # ---- open types
 
     def of_anytype(self, type_, scope, hint, constraints):
-        return self.unknown(Feature.OPEN_ANY)
+        return self.any_type()
 
     def of_objectfieldtype(self, type_, scope, hint, constraints):
-        return self.unknown(Feature.OPEN_ANY)
+        return self.any_type()
 
     def of_fieldtype(self, type_, scope, hint, constraints):
         """A field of a class: a type of its own, or an open type (X.681, 14.2)."""
@@ -307,7 +311,7 @@ class Meanings:
                 found = self.of_type(root.type, it.scope, hint)
                 return found.as_(replace(found.rust, is_open=True)) if found.rust else found
         known = any(self.objects(type_, it).objects for it in tables)
-        return self.unknown(Feature.OPEN_TABLE if known else Feature.OPEN_ANY)
+        return self.unknown(Feature.OPEN_TABLE) if known else self.any_type()
 
     def objects(self, type_, table):
         """The objects of a table constraint (X.682, 10)."""

@@ -46,8 +46,9 @@ mutual
     wrapped : Wrapper → Notation → Notation
     -- 31: a content under this tag in place of its own
     content-under : ℕ → Notation → Notation
-    -- 51.4, 51.5: a number, or a size, of a range
+    -- 51.4, 51.5: a number of a range, one other than this, and a size of a range
     in-range : ℕ → ℕ → Notation → Notation
+    other-than : ℕ → Notation → Notation
     sized : ℕ → ℕ → Notation → Notation
 
   -- 25.1: a member that is always there, one that may be absent, and one with a default
@@ -91,6 +92,7 @@ abbrev mutual
   shape_of (Notation.wrapped w t) = Shape.wrapped w (shape_of t)
   shape_of (Notation.content-under tag t) = Shape.primitive (PrimitiveShape.bytes (primitive_form tag))
   shape_of (Notation.in-range least most t) = shape_of t
+  shape_of (Notation.other-than n t) = shape_of t
   shape_of (Notation.sized least most t) = shape_of t
 
   -- a member in front of others

@@ -91,6 +91,14 @@ abbrev pub ◌⨾◌ : Member → Members → Members
 abbrev pub later-members-refused : Members
 later-members-refused = Members.end
 
+abbrev other-than : ℕ → Notation → Notation
+other-than n (Notation.wrapped w t) = Notation.wrapped w (other-than n t)
+other-than n t = Notation.other-than n t
+
+-- one whose default is this number: it isn't there, and another number is (X.690, 11.5)
+abbrev pub default-of : ℕ → Notation → Member
+default-of n t = Member.optional (other-than n t)
+
 -- one with a default that the type doesn't have: it is read where it is written out
 abbrev pub default-as-optional : Notation → Member
 default-as-optional = Member.optional

@@ -24,6 +24,7 @@ mod notated;
 mod numbers;
 mod object_identifier;
 mod oid_error;
+mod other_than;
 mod relative_oid;
 mod restricted_string;
 mod retagged_primitive;
@@ -54,6 +55,7 @@ pub use notated::{Notated, NotatedAlternatives, NotatedMember, NotatedMembers};
 pub use numbers::{deserialize_int, serialize_int};
 pub use object_identifier::ObjectIdentifier;
 pub use oid_error::OidError;
+pub use other_than::OtherThan;
 pub use picky_der_core::{Int, SignedBits};
 pub use relative_oid::RelativeOid;
 pub use restricted_string::{

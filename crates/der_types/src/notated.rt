@@ -9,8 +9,8 @@ ghost use Rattle.der_types.specs.NotationLaws.{IsMember, in_front, one_or_other}
 
 use crate::{
     BitString, CharacterSet, Contents, Enumerated, GeneralizedTime, InRange, Integer, LaterTime,
-    NamedBits, ObjectIdentifier, RelativeOid, RestrictedString, RetaggedPrimitive, RetaggedSet,
-    Size, TagOrdered, UtcTime, WholeNumber, WithSize,
+    NamedBits, ObjectIdentifier, OtherThan, RelativeOid, RestrictedString, RetaggedPrimitive,
+    RetaggedSet, Size, TagOrdered, UtcTime, WholeNumber, WithSize,
 };
 use picky_asn1_der::Asn1RawDer;
 use picky_asn1_der::application_tag::ApplicationTag;
@@ -286,6 +286,12 @@ impl<T: Notated + Contents, const TAG: u8> Notated for RetaggedPrimitive<T, TAG>
 
 impl<T: Notated + WholeNumber, const MIN: u64, const MAX: u64> Notated for InRange<T, MIN, MAX> {
     ghost notation = { Notation.in-range MIN MAX T.notation };
+
+    ghost denoted = { T.denoted };
+}
+
+impl<T: Notated + WholeNumber, const N: u64> Notated for OtherThan<T, N> {
+    ghost notation = { Notation.other-than N T.notation };
 
     ghost denoted = { T.denoted };
 }

@@ -218,10 +218,18 @@ class Comments(unittest.TestCase):
         self.assertIn("    /// `BOOLEAN DEFAULT TRUE`.\n", text)
 
     def test_a_default_that_isnt_one(self):
-        text = crate_of("A ::= SEQUENCE { a INTEGER DEFAULT 0 }", "A").files()["src/a.rt"]
+        text = crate_of("A ::= SEQUENCE { a INTEGER DEFAULT -1 }", "A").files()["src/a.rt"]
         wanted = "as a SEQUENCE.\n///\n/// The values aren't exactly those of the notation: DEFAULT of an INTEGER without bounds.\n#[derive"
         self.assertIn(wanted, text)
-        self.assertIn("/// `INTEGER DEFAULT 0`. A default that is written out is read, too.\n    pub a: Option<Integer>,\n", text)
+        self.assertIn("/// `INTEGER DEFAULT -1`. A default that is written out is read, too.\n    pub a: Option<Integer>,\n", text)
+
+    def test_a_default_of_which_the_other_numbers_are_a_type(self):
+        body = "A ::= SEQUENCE { v [0] V DEFAULT v1, n [1] INTEGER (0..9) DEFAULT 5, m [2] INTEGER (0..65535) DEFAULT 256 } V ::= INTEGER { v1(0) }"
+        text = crate_of(body, "A").files()["src/a.rt"]
+        self.assertIn("/// `[0] V DEFAULT v1`. `None` is the default.\n    pub v: Option<ExplicitContextTag0<OtherThan<V, 0>>>,\n", text)
+        self.assertIn("pub n: Option<ExplicitContextTag1<OtherThan<InRange<u8, 0, 9>, 5>>>,\n", text)
+        self.assertIn("pub m: Option<ExplicitContextTag2<OtherThan<u16, 256>>>,\n", text)
+        self.assertNotIn("aren't exactly", text)
 
 
     def test_an_open_type_is_what_the_notation_says(self):

@@ -55,7 +55,8 @@ class Terms(unittest.TestCase):
         wanted = "SEQUENCE (required NULL ⨾ optional BOOLEAN ⨾ default (CONTEXT 0 TAGS-M BOOLEAN) ⨾ end)"
         self.check([("SEQUENCE { a NULL, b BOOLEAN OPTIONAL, c [0] BOOLEAN DEFAULT TRUE }", wanted)])
         wanted = "instead (SEQUENCE (default-as-optional INTEGER ⨾ end))"
-        self.check([("SEQUENCE { a INTEGER DEFAULT 0 }", wanted), ("SEQUENCE {}", "SEQUENCE end")])
+        self.check([("SEQUENCE { a INTEGER DEFAULT -1 }", wanted), ("SEQUENCE {}", "SEQUENCE end")])
+        self.check([("SEQUENCE { a [0] INTEGER DEFAULT 7 }", "SEQUENCE (default-of 7 (CONTEXT 0 TAGS-M INTEGER) ⨾ end)")])
 
     def test_automatic_tags(self):
         wanted = "SEQUENCE (required (CONTEXT 0 AUTOMATIC NULL) ⨾ required (CONTEXT 1 AUTOMATIC NULL) ⨾ end)"
