@@ -65,11 +65,11 @@ def enum_file(declared, crate):
     terms += [term(it) for it in declared.defaults for term in (default_term, default_proof)]
     return [
         f"//! {declared.source} of {declared.module}.",
-        *_GHOST_IMPORTS,
+        *(it.replace("{lit≤}", "{lit≤, sym}") if declared.defaults else it for it in _GHOST_IMPORTS),
         f"{own}.declared.{file_stem(declared.name)}.{declared.name}.TheVariants as variant;",
         f"{own}.{declared.name}.{{{', '.join(terms)}}};",
         "",
-        *imports([*_NAMES, *(["DefaultOf"] if declared.defaults else [])], ()),
+        *imports([*_NAMES, *(["DefaultOf", "NotatedDefault"] if declared.defaults else [])], ()),
         "",
         *definition(declared),
         "",
@@ -238,6 +238,12 @@ def default_lines(declared, name, item):
         f"{STEP}ghost by_tree = {{ {default_proof(name)} }};",
         "",
         f"{STEP}ghost equal_so = {{ λ x y h. h }};",
+        "}",
+        "",
+        f"impl NotatedDefault<{declared.name}> for {name} {{",
+        f"{STEP}ghost value = {{ Tree.primitive (Primitive.bytes 0x0A ({number_term(declared)} variant.{item.name} ∷ [])) }};",
+        "",
+        f"{STEP}ghost is_value = {{ λ it h. sym (({default_proof(name)} variant.{item.name} it refl).0 h) }};",
         "}",
     ]
 

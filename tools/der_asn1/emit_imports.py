@@ -11,7 +11,7 @@ _ROOT = """Alternatives Asn1RawDer Choice Deserialize DeserializeMembers Deseria
 SerializeMembers Serializer Struct deserialize_struct_as""".split()
 _TYPES = """Contents deserialize_contents_as
 Asn1Set BitString BmpString Enumerated GeneralString GeneralizedTime Ia5String InRange Integer NamedBits NumericString
-Notated NotatedAlternatives NotatedMembers
+Notated NotatedAlternatives NotatedDefault NotatedMembers
 ObjectIdentifier OtherThan PrintableString RelativeOid RetaggedPrimitive RetaggedSet TagOrdered TeletexString UniversalString UtcTime
 VisibleString WithSize""".split()
 

@@ -11,13 +11,13 @@ _TAGS = "TAGS"
 _HOMES = {
     "Notation": frozenset(
         """BIT-STRING BIT-STRING-named BOOLEAN ENUMERATED ENUMERATED-extensible GeneralizedTime INTEGER NULL OBJECT-IDENTIFIER
-        OCTET-STRING RELATIVE-OID UTCTime UTF8String any-content content-under default end none optional required""".split()
+        OCTET-STRING RELATIVE-OID UTCTime UTF8String any-content content-under end none optional required""".split()
     ),
     "NotationForms": frozenset(
         """ANY APPLICATION AUTOMATIC BIT-STRING-CONTAINING BMPString CHOICE CONTEXT EXPLICIT GeneralString IA5String IMPLICIT
-        INTEGER-from-minus-to INTEGER-from-to ISO646String MAX Mode NumericString OCTET-STRING-CONTAINING PRIVATE PrintableString
-        SEQUENCE SEQUENCE-OF SET SET-OF SIZE T61String TeletexString UNIVERSAL UniversalString VisibleString added
-        default-as-optional default-of instead later-alternatives-refused later-members-refused ◌⨾◌ ◌∣◌""".split()
+        FALSE INTEGER-from-minus-to INTEGER-from-to ISO646String MAX Mode NumericString OCTET-STRING-CONTAINING PRIVATE PrintableString
+        SEQUENCE SEQUENCE-OF SET SET-OF SIZE T61String TRUE TeletexString UNIVERSAL UniversalString VisibleString added
+        default default-as-optional default-of instead later-alternatives-refused later-members-refused minus number ◌⨾◌ ◌∣◌""".split()
     ),
 }
 _PRELUDE = ("[]", "◌∷◌")

@@ -239,21 +239,29 @@ def default_of(meanings, part):
         rust = rust.inner
     item = item_of(meanings, member.default, scope, rust)
     if item:
-        return Default(item, word="default")
+        return Default(item.type_text, word=f"default (number {item.number})")
     if rust.core in (Core.UNSIGNED, Core.SIGNED, Core.NUMBER):
         number = number_of(meanings.program, member, scope)
         if number is not None:
             return number_default(part.meaning.rust, rust, number)
     value, _ = value_of(meanings.program, member.default, scope)
     if rust.core is Core.BOOL and isinstance(value, tree.BooleanValue) and not rust.bounded:
-        return Default("True" if value.truth else "False", word="default")
+        return Default("True" if value.truth else "False", word="default TRUE" if value.truth else "default FALSE")
     if rust.own and rust.core is Core.CONTENTS and not rust.bounded:
         return Default(notes=(Note.DEFAULT,))
     return Default(features=(Feature.DEFAULT_OTHER,))
 
 
+@dataclass(frozen=True)
+class NamedDefault:
+    """The type that says that an item of an enumeration is the default, and the number of the item."""
+
+    type_text: str
+    number: int
+
+
 def item_of(meanings, value, scope, rust):
-    """The type that says that a named item of an enumeration is the default (X.680, 20.8), or None."""
+    """A named item of an enumeration that is the default (X.680, 20.8), with the type that says so, or None."""
     declared = meanings.declarations.without_aliases(rust.text)
     if not isinstance(declared, EnumDeclaration) or rust.bounded:
         return None
@@ -261,7 +269,7 @@ def item_of(meanings, value, scope, rust):
     if isinstance(value, tree.NamedValue) and value.name not in items:
         value, _ = value_of(meanings.program, value, scope)
     item = items.get(value.name) if isinstance(value, tree.NamedValue) else None
-    return item and meanings.declarations.default_item(declared, item)
+    return item and NamedDefault(meanings.declarations.default_item(declared, item), item.number)
 
 
 def number_of(program, member, scope):
@@ -275,7 +283,7 @@ def number_default(outer, rust, number):
     """The default of an INTEGER, which may be under tags."""
     allowed, name = (DEFAULT_UNSIGNED, "Number") if rust.core is Core.UNSIGNED else (DEFAULT_SIGNED, "SignedNumber")
     if rust.core is not Core.NUMBER and number in allowed and not rust.bounded:
-        return Default(f"{name}<{number}>", word="default")
+        return Default(f"{name}<{number}>", word=f"default ({f'number {number}' if number >= 0 else f'minus {-number}'})")
     others = other_than(outer, number) if rust.core is not Core.SIGNED and 0 <= number <= U64_MAX else None
     if others and not (rust.core is Core.NUMBER and rust.bounded):
         return Default(others=others, word=f"default-of {number}")

@@ -2,7 +2,7 @@
 use Rattle.std.specs.Prelude.{ℕ, ◌-◌, ◌^◌, List}
 use Rattle.picky_der_core.specs.declared.asn1.wrapper.Wrapper.{Wrapper}
 use Rattle.picky_der_core.specs.Primitive.{PrimitiveShape}
-use Rattle.picky_der_core.specs.Tree.{ListKind}
+use Rattle.picky_der_core.specs.Tree.{ListKind, Tree}
 use Rattle.picky_der_core.specs.Shape.{Shape, Shapes, Layout}
 use Rattle.der_types.specs.PrimitiveForm.{primitive_form}
 
@@ -51,11 +51,11 @@ mutual
     other-than : ℕ → Notation → Notation
     sized : ℕ → ℕ → Notation → Notation
 
-  -- 25.1: a member that is always there, one that may be absent, and one with a default
+  -- 25.1: a member that is always there, one that may be absent, and one that is absent where it means this tree
   pub data Member : Type 0 where
     required : Notation → Member
     optional : Notation → Member
-    default : Notation → Member
+    defaulted : Tree → Notation → Member
 
   pub data Members : Type 0 where
     end : Members
@@ -99,7 +99,7 @@ abbrev mutual
   pub member_then : Member → Layout → Layout
   member_then (Member.required t) = Layout.required (shape_of t)
   member_then (Member.optional t) = Layout.maybe (shape_of t)
-  member_then (Member.default t) = Layout.maybe (shape_of t)
+  member_then (Member.defaulted value t) = Layout.maybe (shape_of t)
 
   pub layout_of : Members → Layout
   layout_of Members.end = Layout.empty

@@ -1,10 +1,12 @@
 -- The forms of a module as terms: what a module has on the left of these equations, and the type of ASN.1 that it is. The clauses are
 -- those of X.680, but where another one is named.
-use Rattle.std.specs.Prelude.{ℕ, ◌+◌, ◌-◌, ◌*◌, ◌/◌, ◌%◌, ◌^◌, Bool, true, false, ◌&&◌, List, [], ◌∷◌, ◌==◌, nat_lt, if◌then◌else◌}
+use Rattle.std.specs.Prelude.{ℕ, ◌+◌, ◌-◌, ◌*◌, ◌/◌, ◌%◌, ◌^◌, Bool, true, false, ◌&&◌, List, [], ◌∷◌, ◌==◌, nat_lt, pos, negsuc, if◌then◌else◌}
 use Rattle.picky_der_core.specs.declared.asn1.tag.TagClass.{TagClass}
 use Rattle.picky_der_core.specs.declared.asn1.tag.TagClass.TheVariants.{Universal, Application, ContextSpecific, Private}
 use Rattle.picky_der_core.specs.declared.asn1.wrapper.Wrapper.TheVariants as wrapper
-use Rattle.picky_der_core.specs.Tree.{ListKind}
+use Rattle.picky_der_core.specs.Integer.{fits_signed, int_tree, unsigned_tree}
+use Rattle.picky_der_core.specs.Primitive.{Primitive}
+use Rattle.picky_der_core.specs.Tree.{ListKind, Tree}
 use Rattle.picky_der_core.specs.Shape.{firsts}
 use Rattle.der_types.specs.Notation.{Notation, Member, Members, Alternatives, shape_of}
 use Rattle.der_types.specs.TagOrder.{tag_place}
@@ -91,11 +93,33 @@ abbrev pub ◌⨾◌ : Member → Members → Members
 abbrev pub later-members-refused : Members
 later-members-refused = Members.end
 
+-- a default, as its type has it: of a BOOLEAN, a number or that of an item, and a number below zero
+pub data Value : Type 0 where
+  TRUE : Value
+  FALSE : Value
+  number : ℕ → Value
+  minus : ℕ → Value
+
+-- what it means
+abbrev value_of : Notation → Value → Tree
+value_of (Notation.wrapped w t) v = Tree.wrapped w (value_of t v)
+value_of Notation.BOOLEAN Value.TRUE = Tree.primitive (Primitive.boolean true)
+value_of Notation.BOOLEAN Value.FALSE = Tree.primitive (Primitive.boolean false)
+value_of (Notation.unsigned bits) (Value.number n) = unsigned_tree (2 ^ bits - 1) n
+value_of (Notation.signed bits) (Value.number n) = int_tree (fits_signed bits) (pos n)
+value_of (Notation.signed bits) (Value.minus n) = int_tree (fits_signed bits) (negsuc (n - 1))
+value_of (Notation.ENUMERATED numbers) (Value.number n) = Tree.primitive (Primitive.bytes 0x0A (n ∷ []))
+value_of _ _ = Tree.absent
+
+-- 25.1: one with this default
+abbrev pub default : Value → Notation → Member
+default v t = Member.defaulted (value_of t v) t
+
 abbrev other-than : ℕ → Notation → Notation
 other-than n (Notation.wrapped w t) = Notation.wrapped w (other-than n t)
 other-than n t = Notation.other-than n t
 
--- one whose default is this number: it isn't there, and another number is (X.690, 11.5)
+-- one whose default is this number, and whose type hasn't that: it isn't there, and another number is (X.690, 11.5)
 abbrev pub default-of : ℕ → Notation → Member
 default-of n t = Member.optional (other-than n t)
 
@@ -120,7 +144,7 @@ least_place (b ∷ bs) = if nat_lt (tag_place b) (least_place bs) then tag_place
 abbrev place_of : Member → ℕ
 place_of (Member.required t) = least_place (firsts (shape_of t))
 place_of (Member.optional t) = least_place (firsts (shape_of t))
-place_of (Member.default t) = least_place (firsts (shape_of t))
+place_of (Member.defaulted value t) = least_place (firsts (shape_of t))
 
 abbrev insert : Member → Members → Members
 insert m Members.end = m ⨾ Members.end

@@ -9,8 +9,8 @@ ghost use Rattle.der_types.specs.NotationLaws.{IsMember, in_front, one_or_other}
 
 use crate::{
     BitString, CharacterSet, Contents, Enumerated, GeneralizedTime, InRange, Integer, LaterTime,
-    NamedBits, ObjectIdentifier, OtherThan, RelativeOid, RestrictedString, RetaggedPrimitive,
-    RetaggedSet, Size, TagOrdered, UtcTime, WholeNumber, WithSize,
+    NamedBits, NotatedDefault, ObjectIdentifier, OtherThan, RelativeOid, RestrictedString,
+    RetaggedPrimitive, RetaggedSet, Size, TagOrdered, UtcTime, WholeNumber, WithSize,
 };
 use picky_asn1_der::Asn1RawDer;
 use picky_asn1_der::application_tag::ApplicationTag;
@@ -21,7 +21,7 @@ use picky_der_core::asn1::{
 use picky_der_de::{
     Alternatives, Begins, Deserialize, DeserializeMember, DeserializeMembers, NoneOf, OneOf, OneOf4,
 };
-use picky_der_ser::{DefaultOf, Defaulted, List, Optional};
+use picky_der_ser::{Defaulted, List, Optional};
 use std::fmt::Debug;
 
 /// A type of Rust that is a type of ASN.1 (X.680).
@@ -314,8 +314,8 @@ impl<T: Notated + Begins> NotatedMember for Optional<T> {
     ghost stands = { record { laid_out = λ l. ap (λ s. Layout.maybe s l) T.denoted } };
 }
 
-impl<T: Notated + Begins, D: DefaultOf<T>> NotatedMember for Defaulted<T, D> {
-    ghost member = { Member.default T.notation };
+impl<T: Notated + Begins, D: NotatedDefault<T>> NotatedMember for Defaulted<T, D> {
+    ghost member = { Member.defaulted D.value T.notation };
 
     ghost stands = { record { laid_out = λ l. ap (λ s. Layout.maybe s l) T.denoted } };
 }

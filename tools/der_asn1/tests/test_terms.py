@@ -52,11 +52,17 @@ class Terms(unittest.TestCase):
         self.check([("[APPLICATION 1] OCTET STRING", "APPLICATION 1 TAGS-M OCTET-STRING")], "IMPLICIT TAGS")
 
     def test_members(self):
-        wanted = "SEQUENCE (required NULL ⨾ optional BOOLEAN ⨾ default (CONTEXT 0 TAGS-M BOOLEAN) ⨾ end)"
+        wanted = "SEQUENCE (required NULL ⨾ optional BOOLEAN ⨾ default TRUE (CONTEXT 0 TAGS-M BOOLEAN) ⨾ end)"
         self.check([("SEQUENCE { a NULL, b BOOLEAN OPTIONAL, c [0] BOOLEAN DEFAULT TRUE }", wanted)])
         wanted = "instead (SEQUENCE (default-as-optional INTEGER ⨾ end))"
         self.check([("SEQUENCE { a INTEGER DEFAULT -1 }", wanted), ("SEQUENCE {}", "SEQUENCE end")])
         self.check([("SEQUENCE { a [0] INTEGER DEFAULT 7 }", "SEQUENCE (default-of 7 (CONTEXT 0 TAGS-M INTEGER) ⨾ end)")])
+
+    def test_defaults(self):
+        pairs = [("INTEGER (0..255) DEFAULT 7", "default (number 7) (INTEGER-from-to 0 255)")]
+        pairs += [("INTEGER (-128..127) DEFAULT -1", "default (minus 1) (INTEGER-from-minus-to 128 127)")]
+        pairs += [("ENUMERATED { x(3), y(1) } DEFAULT x", "default (number 3) (ENUMERATED (3 ∷ 1 ∷ []))")]
+        self.check([(f"SEQUENCE {{ a {notation} }}", f"SEQUENCE ({wanted} ⨾ end)") for notation, wanted in pairs])
 
     def test_automatic_tags(self):
         wanted = "SEQUENCE (required (CONTEXT 0 AUTOMATIC NULL) ⨾ required (CONTEXT 1 AUTOMATIC NULL) ⨾ end)"
