@@ -11,6 +11,7 @@ from .emit_notation import defined, notation_file, notation_terms
 from .emit_struct import REFERENCES, difference_note, sentence, struct_file
 from .features import Level
 from .layout import WIDTH, assigned, comment, filled, natural
+from .terms import names_of
 from .values import arcs_of
 from .wording import file_stem, words
 
@@ -144,7 +145,7 @@ def reached(declarations, names):
         if name in found or name not in declarations.by_name:
             continue
         found[name] = declarations.by_name[name]
-        left += sorted(words_of(" ".join(texts(found[name]))))
+        left += sorted(words_of(" ".join(texts(found[name]))) | named_in_term(found[name]))
     return found
 
 
@@ -155,6 +156,11 @@ def texts(declared):
     if isinstance(declared, EnumDeclaration):
         return []
     return [it.type_text for it in (declared.fields if isinstance(declared, StructDeclaration) else declared.variants)]
+
+
+def named_in_term(declared):
+    """The names in the term of a declaration. A tag may be around what a name stands for, so that the type hasn't the name."""
+    return names_of([declared.term.inline()]) if declared.term else set()
 
 
 def values_of(program, modules):

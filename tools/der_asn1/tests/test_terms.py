@@ -111,6 +111,11 @@ class Definitions(unittest.TestCase):
     def named(self, one, name, module):
         return one.meanings.declarations.by_name[one.meaning(name, module).rust.text].term.inline()
 
+    def test_a_name_that_the_type_under_a_tag_has_not(self):
+        crate = crate_of("A ::= SEQUENCE { b [0] IMPLICIT B } B ::= SET { c NULL }", "A")
+        self.assertIn("RetaggedSet<BMembers, 0xA0>", crate.files()["src/a.rt"])
+        self.assertEqual(["A", "B", "BMembers"], sorted(crate.types))
+
     def test_the_law(self):
         text = crate_of("A ::= SEQUENCE { b B } B ::= INTEGER", "A").files()["src/notation.rt"]
         self.assertIn("    ensures a { ⟦<A as Notated>⟧.notation ≡ notation.A }\n    ensures b { ⟦<B as Notated>⟧.notation ≡ notation.B }\n{}\n", text)
