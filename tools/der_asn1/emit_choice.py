@@ -142,7 +142,7 @@ def choice_impl(declared):
         "",
         *lines,
         "",
-        f"{STEP}fn from_parts(value: Parts) -> {declared.name} {{",
+        *signature(STEP, "from_parts", ["value: Parts"], declared.name),
         f"{_TWO}match value {{",
         *arms,
         f"{_TWO}}}",

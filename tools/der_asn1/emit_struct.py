@@ -138,7 +138,7 @@ def struct_impl(declared):
         "",
         *ghost_tuple(f"{STEP}ghost parts = {{ λ it. ", chunks(declared.fields), " };", "it"),
         "",
-        f"{STEP}fn from_parts(members: Members) -> {declared.name} {{",
+        *signature(STEP, "from_parts", ["members: Members"], declared.name),
         *bindings(declared),
         *struct_literal(declared),
         f"{STEP}}}",
