@@ -26,7 +26,10 @@ def wrapped(meaning, tag_class, number, mode):
     if inner.core is Core.BYTES:
         return meaning.as_(tagged_bytes(tag | (_CONSTRUCTED if inner.is_constructed() else 0))).called(None)
     if inner.core is Core.SET:
-        text = f"RetaggedSet<{inner.inner.text}, 0x{tag | _CONSTRUCTED:02X}>"
+        members = inner.inner
+        while members.core is Core.SET:  # a constraint is around the set
+            members = members.inner
+        text = f"RetaggedSet<{members.text}, 0x{tag | _CONSTRUCTED:02X}>"
         return meaning.as_(Rust(text, Core.RETAGGED, frozenset((tag | _CONSTRUCTED,)), inner))
     if inner.core is Core.LIST:
         tag |= _CONSTRUCTED

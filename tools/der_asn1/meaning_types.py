@@ -178,7 +178,7 @@ class Meanings:
         if name in simple:
             meaning = Meaning(Rust(*simple[name], firsts, term=word(name)))
         elif name in OTHER_STRINGS:
-            meaning = Meaning(replace(tagged_bytes(tag), core=Core.CONTENTS)).noting(Note.ALPHABET)
+            meaning = Meaning(tagged_bytes(tag)).noting(Note.ALPHABET)
         else:
             meaning = Meaning(Rust(CONTENTS_TYPES[name], Core.CONTENTS, firsts, term=word(name)))
         if name in UNCHECKED_CHARACTERS:

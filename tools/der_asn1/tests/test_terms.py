@@ -51,6 +51,19 @@ class Terms(unittest.TestCase):
         self.check([("[APPLICATION 1] INTEGER (0..255)", "instead (content-under 0x41 INTEGER)")], "IMPLICIT TAGS")
         self.check([("[APPLICATION 1] OCTET STRING", "APPLICATION 1 TAGS-M OCTET-STRING")], "IMPLICIT TAGS")
 
+    def test_a_tag_over_a_set_with_a_constraint(self):
+        one = given("T ::= [1] IMPLICIT S (WITH COMPONENTS { a PRESENT })\nS ::= SET { a NULL OPTIONAL }")
+        self.assertEqual("RetaggedSet<SMembers, 0xA1>", one.meanings.declarations.by_name[one.meaning("T").rust.text].type_text)
+
+    def test_a_tag_over_a_string_of_which_the_library_has_only_bytes(self):
+        pairs = [("[0] GraphicString", "CONTEXT 0 TAGS-M (instead (any-content 0x19))")]
+        self.check([*pairs, ("[APPLICATION 3] VideotexString", "APPLICATION 3 TAGS-M (instead (any-content 0x15))")], "IMPLICIT TAGS")
+        self.assertEqual("TaggedBytes<0x43>", self.field())
+
+    def field(self):
+        one = given("T ::= SEQUENCE { a [APPLICATION 3] IMPLICIT GraphicString }")
+        return one.meanings.declarations.by_name[one.meaning("T").rust.text].fields[0].type_text
+
     def test_members(self):
         wanted = "SEQUENCE (required NULL ⨾ optional BOOLEAN ⨾ default TRUE (CONTEXT 0 TAGS-M BOOLEAN) ⨾ end)"
         self.check([("SEQUENCE { a NULL, b BOOLEAN OPTIONAL, c [0] BOOLEAN DEFAULT TRUE }", wanted)])
