@@ -29,7 +29,7 @@ mutual
     -- 32, 33
     OBJECT-IDENTIFIER : Notation
     RELATIVE-OID : Notation
-    -- 41: by its tag; 38 and 47 of X.680 of 2008: times
+    -- 41: a restricted string by its tag; 46, 47: times
     UTF8String : Notation
     restricted-string : ℕ → Notation
     GeneralizedTime : Notation
@@ -46,8 +46,9 @@ mutual
     wrapped : Wrapper → Notation → Notation
     -- 31: a content under this tag in place of its own
     content-under : ℕ → Notation → Notation
-    -- 51.4, 51.5: a number of a range, one other than this, and a size of a range
+    -- 51.4, 51.5: a number of a range, one of a range from minus this number on, one other than this, and a size of a range
     in-range : ℕ → ℕ → Notation → Notation
+    from-minus : ℕ → ℕ → Notation → Notation
     other-than : ℕ → Notation → Notation
     sized : ℕ → ℕ → Notation → Notation
 
@@ -92,6 +93,7 @@ abbrev mutual
   shape_of (Notation.wrapped w t) = Shape.wrapped w (shape_of t)
   shape_of (Notation.content-under tag t) = Shape.primitive (PrimitiveShape.bytes (primitive_form tag))
   shape_of (Notation.in-range least most t) = shape_of t
+  shape_of (Notation.from-minus least most t) = shape_of t
   shape_of (Notation.other-than n t) = shape_of t
   shape_of (Notation.sized least most t) = shape_of t
 

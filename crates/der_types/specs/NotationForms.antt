@@ -69,11 +69,11 @@ INTEGER-from-to least most =
     let bits : ℕ = bits_for most in
     if least == 0 && (most == 2 ^ bits - 1) then Notation.unsigned bits else Notation.in-range least most (Notation.unsigned bits)
 
--- from minus this number, and all numbers of so many bits
+-- from minus this number: without a range if it is all numbers of so many bits. Else no type of the library has just these numbers.
 abbrev pub INTEGER-from-minus-to : ℕ → ℕ → Notation
 INTEGER-from-minus-to least most =
     let bits : ℕ = bits_for (least + most) in
-    if least == 2 ^ (bits - 1) && (most + 1 == least) then Notation.signed bits else Notation.INTEGER
+    if least == 2 ^ (bits - 1) && (most + 1 == least) then Notation.signed bits else Notation.from-minus least most Notation.INTEGER
 
 -- 51.5
 abbrev pub SIZE : ℕ → ℕ → Notation → Notation

@@ -8,9 +8,9 @@ ghost use Rattle.der_types.specs.Notation.{Notation, Member, Members, Alternativ
 ghost use Rattle.der_types.specs.NotationLaws.{IsMember, in_front, one_or_other};
 
 use crate::{
-    BitString, CharacterSet, Contents, Enumerated, GeneralizedTime, InRange, Integer, LaterTime,
-    NamedBits, NotatedDefault, ObjectIdentifier, OtherThan, RelativeOid, RestrictedString,
-    RetaggedPrimitive, RetaggedSet, Size, TagOrdered, UtcTime, WholeNumber, WithSize,
+    BitString, CharacterSet, Contents, Enumerated, GeneralizedTime, InRange, Integer, NamedBits,
+    NotatedDefault, ObjectIdentifier, OtherThan, RelativeOid, RestrictedString, RetaggedPrimitive,
+    RetaggedSet, Size, TagOrdered, UtcTime, WholeNumber, WithSize,
 };
 use picky_asn1_der::Asn1RawDer;
 use picky_asn1_der::application_tag::ApplicationTag;
@@ -190,12 +190,6 @@ impl Notated for GeneralizedTime {
 
 impl Notated for UtcTime {
     ghost notation = { Notation.UTCTime };
-
-    ghost denoted = { refl };
-}
-
-impl Notated for LaterTime {
-    ghost notation = { Notation.GeneralizedTime };
 
     ghost denoted = { refl };
 }
