@@ -20,7 +20,7 @@ import sys
 from . import tree
 from .emit_crate import Crate, difference, reached, refusals, values_of, write
 from .meaning import lacks
-from .meaning_types import Meanings
+from .meaning_types import ASSOCIATED, Meanings
 from .parse_modules import read_file
 from .report import report_of, types_table, whole
 from .scopes import Program
@@ -131,4 +131,4 @@ def crate_of(name, modules, imported, names, problems):
         wanted = meanings.declarations.renamed.get(it.name)
         if wanted:
             problems.warn(it.place, f"`{it.source}` is called `{it.name}`, since another type is called `{wanted}`", "docs/ASN1.md")
-    return Crate(name, types, [] if names else values_of(program, modules))
+    return Crate(name, types, [] if names else values_of(program, modules), [*modules, *imported, *ASSOCIATED.modules])

@@ -22,7 +22,10 @@ class Hint:
 
 @dataclass
 class Field:
-    """A member of a struct, or an alternative of a choice. `default` is the type of the library that says its default."""
+    """A member of a struct, or an alternative of a choice. `default` is the type of the library that says its default.
+
+    `is_other` says that its values are those that aren't the default.
+    """
 
     name: str
     type_text: str
@@ -30,11 +33,15 @@ class Field:
     default: str = ""
     notation: str = ""
     comment: str = ""
+    is_other: bool = False
 
 
 @dataclass
 class Declaration:
-    """A type that has a name: where it is defined, under which name, and with which comment."""
+    """A type that has a name: where it is defined, under which name, and with which comment.
+
+    `term` is the type that an assignment defines, as a term of der_types. What is only a part of one has none.
+    """
 
     name: str
     place: Place
@@ -43,6 +50,7 @@ class Declaration:
     comment: str = ""
     level: Level = Level.EXACT
     lacks: list = field(default_factory=list)
+    term: object = field(default=None, compare=False)
 
     def differences(self):
         """Why its values, or those of a part, aren't those of the notation. An open type is any element, as the notation says."""

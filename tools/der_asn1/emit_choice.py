@@ -15,7 +15,7 @@ _VARIANTS_WIDTH = 140
 _HIDDEN = frozenset(["This", "Other", "Later", *_FOUR_NAMES, "Some", "None", "Ok", "Err"])
 
 _NAMES = """ReadExt WriteExt Alternatives Choice Deserialize Deserializer NoneOf Result Serialize Serializer Begins
-deserialize_choice_as Tag""".split()
+deserialize_choice_as Tag Notated NotatedAlternatives""".split()
 
 
 def place(index, count):
@@ -75,6 +75,8 @@ def choice_file(declared, own_types, crate):
         *deserialize_impl(declared),
         "",
         *begins_impl(declared),
+        "",
+        *notated_impl(declared),
     ]
 
 
@@ -85,7 +87,7 @@ def ghost_imports(declared, constructors, crate):
         found = [it for it in names if it in constructors]
         if found:
             lines.append(f"ghost use Rattle.picky_der_de.specs.declared.{home}.TheVariants.{{{', '.join(found)}}};")
-    lines += ["ghost use Rattle.picky_der_de.specs.KnownChoices.{known_choice};"]
+    lines += ["ghost use Rattle.picky_der_de.specs.KnownChoices.{known_choice};", "ghost use Rattle.der_types.specs.Notation.{Notation};"]
     own = f"ghost use Rattle.{crate}.specs.declared.{file_stem(declared.name)}.{declared.name}.TheVariants"
     if is_hidden(declared):
         return [*lines, f"{own} as variant;"]
@@ -140,7 +142,7 @@ def choice_impl(declared):
         "",
         *lines,
         "",
-        f"{STEP}fn from_parts(value: Parts) -> {declared.name} {{",
+        *signature(STEP, "from_parts", ["value: Parts"], declared.name),
         f"{_TWO}match value {{",
         *arms,
         f"{_TWO}}}",
@@ -205,6 +207,17 @@ def equal_alternatives(declared):
         return f"elim [ {first} ↦ elim [ {first} ↦ λ h. h ] ]"
     pair = f"elim [ {first} ↦ λ h. h | _ ↦ λ h. h ]"
     return f"elim [ {first} ↦ {pair} | _ ↦ {pair} ]"
+
+
+def notated_impl(declared):
+    """The implementation of `Notated`: a CHOICE of what the alternatives are."""
+    return [
+        f"impl Notated for {declared.name} {{",
+        f"{STEP}ghost notation = {{ Notation.choice ⟦<Parts as NotatedAlternatives>⟧.alternatives_notation }};",
+        "",
+        f"{STEP}ghost denoted = {{ refl }};",
+        "}",
+    ]
 
 
 def begins_impl(declared):

@@ -7,9 +7,11 @@ from .declarations import AliasDeclaration, ChoiceDeclaration, EnumDeclaration, 
 from .emit_choice import choice_file
 from .emit_enum import enum_file, enum_terms
 from .emit_imports import imports, words_of
+from .emit_notation import defined, notation_file, notation_terms
 from .emit_struct import REFERENCES, difference_note, sentence, struct_file
 from .features import Level
 from .layout import WIDTH, assigned, comment, filled, natural
+from .terms import names_of
 from .values import arcs_of
 from .wording import file_stem, words
 
@@ -40,11 +42,12 @@ class Value:
 
 @dataclass
 class Crate:
-    """What a crate declares: its name, its types by their names, and its values."""
+    """What a crate declares: its name, its types by their names, its values, and the modules that they are of."""
 
     name: str
     types: dict
     values: list
+    modules: list
 
     def files(self):
         """The text of each file, by its path in the crate."""
@@ -60,9 +63,13 @@ class Crate:
                 found[f"specs/{it.name}.antt"] = enum_terms(it, self.name)
         if aliases:
             found["src/aliases.rt"] = alias_file(aliases, own)
-        terms = [it.name for it in self.sorted_types() if isinstance(it, EnumDeclaration)]
+        types = defined(self.sorted_types())
+        if types:
+            found["src/notation.rt"] = notation_file(types, own, self.name)
+            found["specs/Notation.antt"] = notation_terms(types, self.modules)
+        terms = [it.name for it in self.sorted_types() if isinstance(it, EnumDeclaration)] + (["Notation"] if types else [])
         if terms:
-            found["specs/Lib.antt"] = [f"pub mod {it}" for it in terms]
+            found["specs/Lib.antt"] = [f"pub mod {it}" for it in sorted(terms)]
         if self.values:
             found["src/values.rt"] = value_file(self.values)
         return {path: "\n".join(lines) + "\n" for path, lines in sorted(found.items())}
@@ -82,10 +89,11 @@ class Crate:
         for name, home in homes.items():
             by_home.setdefault(home, []).append(name)
             by_home[home] += getattr(self.types[name], "defaults", [])
-        modules = sorted({*by_home, *(["values"] if self.values else [])})
+        public = [*(["notation"] if defined(self.sorted_types()) else []), *(["values"] if self.values else [])]
+        modules = sorted({*by_home, *public})
         sources = ", ".join(sorted({it.module for it in self.types.values()}))
         lines = [*comment("", "//!", f"Types of {sources}, made by tools/der_asn1."), "#![tactic(auto)]", ""]
-        lines += [f"pub mod {it};" if it == "values" else f"mod {it};" for it in modules]
+        lines += [f"pub mod {it};" if it in public else f"mod {it};" for it in modules]
         lines += [""] if by_home else []
         is_grouped = sum(map(len, by_home.values())) <= MOST_GROUPED
         for home in sorted(by_home, key=natural):
@@ -137,7 +145,7 @@ def reached(declarations, names):
         if name in found or name not in declarations.by_name:
             continue
         found[name] = declarations.by_name[name]
-        left += sorted(words_of(" ".join(texts(found[name]))))
+        left += sorted(words_of(" ".join(texts(found[name]))) | named_in_term(found[name]))
     return found
 
 
@@ -148,6 +156,11 @@ def texts(declared):
     if isinstance(declared, EnumDeclaration):
         return []
     return [it.type_text for it in (declared.fields if isinstance(declared, StructDeclaration) else declared.variants)]
+
+
+def named_in_term(declared):
+    """The names in the term of a declaration. A tag may be around what a name stands for, so that the type hasn't the name."""
+    return names_of([declared.term.inline()]) if declared.term else set()
 
 
 def values_of(program, modules):

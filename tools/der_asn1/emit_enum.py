@@ -13,6 +13,7 @@ ONE_BYTE = range(128)
 _GHOST_IMPORTS = """ghost use Rattle.std.proofs.Common.{lit≤};
 ghost use Rattle.std.specs.Prelude.{◌≡◌, [], ◌∷◌, refl};
 ghost use Rattle.der_types.specs.KnownContents.{contents_of, contents_shape, known_contents};
+ghost use Rattle.der_types.specs.Notation.{Notation};
 """.splitlines()
 
 _PROOF_IMPORTS = """use Rattle.std.proofs.Common.{◌∙◌}
@@ -25,7 +26,7 @@ use Rattle.der_types.specs.KnownContents.{contents_of}
 # that two items are the default just where their trees are the same
 _SAME, _OTHER = "(λ k. refl, λ e. refl)", "(λ k. cc, λ e. cc)"
 
-_NAMES = """Contents deserialize_contents_as Tag Begins ReadExt WriteExt Deserialize Deserializer Result Serialize Serializer""".split()
+_NAMES = """Contents Notated deserialize_contents_as Tag Begins ReadExt WriteExt Deserialize Deserializer Result Serialize Serializer""".split()
 
 
 def number_term(declared):
@@ -60,11 +61,11 @@ def enum_file(declared, crate):
     terms += [term(it) for it in declared.defaults for term in (default_term, default_proof)]
     return [
         f"//! {declared.source} of {declared.module}.",
-        *_GHOST_IMPORTS,
+        *(it.replace("{lit≤}", "{lit≤, sym}") if declared.defaults else it for it in _GHOST_IMPORTS),
         f"{own}.declared.{file_stem(declared.name)}.{declared.name}.TheVariants as variant;",
         f"{own}.{declared.name}.{{{', '.join(terms)}}};",
         "",
-        *imports([*_NAMES, *(["DefaultOf"] if declared.defaults else [])], ()),
+        *imports([*_NAMES, *(["DefaultOf", "NotatedDefault"] if declared.defaults else [])], ()),
         "",
         *definition(declared),
         "",
@@ -77,6 +78,8 @@ def enum_file(declared, crate):
         *deserialize_impl(declared),
         "",
         *begins_impl(declared),
+        "",
+        *notated_impl(declared),
         *(line for name, it in declared.defaults.items() for line in ["", *default_lines(declared, name, it)]),
     ]
 
@@ -186,6 +189,20 @@ def begins_impl(declared):
     ]
 
 
+def notated_impl(declared):
+    """The implementation of `Notated`: an ENUMERATED with the numbers of the items."""
+    numbers = [f"{number_term(declared)} variant.{it.name} ∷" for it in declared.items]
+    return [
+        f"impl Notated for {declared.name} {{",
+        f"{STEP}ghost notation = {{ Notation.ENUMERATED (",
+        *(f"{_TWO}{it}" for it in numbers),
+        f"{_TWO}[]) }};",
+        "",
+        f"{STEP}ghost denoted = {{ refl }};",
+        "}",
+    ]
+
+
 def default_lines(declared, name, item):
     """The type that says that an item is the default of a member."""
     cases = []
@@ -217,6 +234,12 @@ def default_lines(declared, name, item):
         f"{STEP}ghost by_tree = {{ {default_proof(name)} }};",
         "",
         f"{STEP}ghost equal_so = {{ λ x y h. h }};",
+        "}",
+        "",
+        f"impl NotatedDefault<{declared.name}> for {name} {{",
+        f"{STEP}ghost value = {{ contents_of 0x0A (λ it. {number_term(declared)} it ∷ []) variant.{item.name} }};",
+        "",
+        f"{STEP}ghost is_value = {{ λ it h. sym (({default_proof(name)} variant.{item.name} it refl).0 h) }};",
         "}",
     ]
 

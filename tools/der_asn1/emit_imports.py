@@ -11,7 +11,8 @@ _ROOT = """Alternatives Asn1RawDer Choice Deserialize DeserializeMembers Deseria
 SerializeMembers Serializer Struct deserialize_struct_as""".split()
 _TYPES = """Contents deserialize_contents_as
 Asn1Set BitString BmpString Enumerated GeneralString GeneralizedTime Ia5String InRange Integer NamedBits NumericString
-ObjectIdentifier PrintableString RelativeOid RetaggedPrimitive RetaggedSet TagOrdered TeletexString UniversalString UtcTime
+Notated NotatedAlternatives NotatedDefault NotatedMembers
+ObjectIdentifier OtherThan PrintableString RelativeOid RetaggedPrimitive RetaggedSet TagOrdered TeletexString UniversalString UtcTime
 VisibleString WithSize""".split()
 
 # where each name of the library is from, the modules in the order of their imports

@@ -10,10 +10,11 @@ _THREE = STEP * 3
 
 _GHOST_IMPORTS = """ghost use Rattle.std.specs.Prelude.{refl};
 ghost use Rattle.picky_der_de.specs.KnownMembers.{known_struct, sequence_of, sequence_shape};
+ghost use Rattle.der_types.specs.Notation.{Notation};
 """.splitlines()
 
 _NAMES = """ReadExt WriteExt Deserialize DeserializeMembers Deserializer Result Serialize SerializeMembers Serializer Struct
-deserialize_struct_as Begins Tag List""".split()
+deserialize_struct_as Begins Tag List Notated NotatedMembers""".split()
 
 
 def chunks(items):
@@ -81,6 +82,8 @@ def struct_file(declared, own_types):
         *deserialize_impl(declared),
         "",
         *begins_impl(declared),
+        "",
+        *notated_impl(declared),
     ]
 
 
@@ -109,7 +112,9 @@ def difference_note(declared):
 
 
 def default_note(it):
-    """What a field doesn't say of a default that the library has no type for."""
+    """What a field doesn't say of a default that is no value of it."""
+    if it.is_other:
+        return ". `None` is the default"
     return ". A default that is written out is read, too" if it.presence is Presence.OPTIONAL and " DEFAULT " in it.notation else ""
 
 
@@ -133,7 +138,7 @@ def struct_impl(declared):
         "",
         *ghost_tuple(f"{STEP}ghost parts = {{ λ it. ", chunks(declared.fields), " };", "it"),
         "",
-        f"{STEP}fn from_parts(members: Members) -> {declared.name} {{",
+        *signature(STEP, "from_parts", ["members: Members"], declared.name),
         *bindings(declared),
         *struct_literal(declared),
         f"{STEP}}}",
@@ -259,6 +264,17 @@ def deserialize_impl(declared):
         f"{STEP}}}",
         "",
         f"{STEP}ghost tied = {{ Prim.assumption }};",
+        "}",
+    ]
+
+
+def notated_impl(declared):
+    """The implementation of `Notated`: a SEQUENCE of what the members are."""
+    return [
+        f"impl Notated for {declared.name} {{",
+        f"{STEP}ghost notation = {{ Notation.sequence ⟦<Members as NotatedMembers>⟧.members_notation }};",
+        "",
+        f"{STEP}ghost denoted = {{ refl }};",
         "}",
     ]
 

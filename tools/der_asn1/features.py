@@ -7,7 +7,7 @@ class Level(IntEnum):
 
     EXACT = 0  # its encodings are exactly those of the notation's values
     NEAR = 1  # all of it has a type, and some values differ: a default, an extension
-    OPEN = 2  # an open type in it is any element
+    OPEN = 2  # an open type in it is any element, also one that its table doesn't allow
     PARTLY_RAW = 3  # something in it is kept as bytes
     RAW = 4  # all of it is kept as bytes
     REFUSED = 5  # there is no type
@@ -22,7 +22,6 @@ class Feature(Enum):
     """What the library lacks for a type, with the level that the type has for it."""
 
     OPEN_TABLE = ("open types with a table of objects, as a choice by the identifier", Level.OPEN)
-    OPEN_ANY = ("open types without a table: any element is all that the notation says", Level.OPEN)
     EXTENSION = ("extension markers: members and alternatives of later versions", Level.NEAR)
     DEFAULT_INTEGER = ("DEFAULT of an INTEGER without bounds", Level.NEAR)
     DEFAULT_CONSTRAINED = ("DEFAULT of a constrained type", Level.NEAR)
@@ -57,6 +56,7 @@ class Note(Enum):
     CONSTRAINT = "a type of its own with `Constrained`"
     ALPHABET = "a `CharacterSet` of its own"
     DEFAULT = "a `DefaultOf` of its own"
+    OPEN = "an open type without a table, which is any element: that is all that the notation says"
     CHARACTERS = "TeletexString or GeneralString, whose characters aren't checked"
     USER_CONSTRAINT = "CONSTRAINED BY, which says something in words alone"
 

@@ -1,7 +1,9 @@
 """The types of the library, and what may be around each."""
-from dataclasses import dataclass
+from dataclasses import dataclass, field
 from enum import Enum, auto
 from typing import Optional
+
+from .terms import Term, any_content
 
 ANY_FIRST = frozenset(it for it in range(256) if it & 0x1F != 0x1F)
 
@@ -98,7 +100,7 @@ class Rust:
     """A type as Rust has it. `firsts` are the bytes that an encoding may begin with; `inner` is what a tag is around.
 
     `bounded` says that a type of a constraint is around it, or should be, and `own` that its content has a type of one's own.
-    `is_foreign` says that it is under an IMPLICIT tag of another class than context.
+    `is_foreign` says that it is under an IMPLICIT tag of another class than context. `term` is the type as a term of der_types.
     """
 
     text: str
@@ -109,6 +111,7 @@ class Rust:
     is_open: bool = False
     own: bool = False
     is_foreign: bool = False
+    term: Optional[Term] = field(default=None, compare=False)
 
     def is_constructed(self):
         """Whether its encoding is constructed, where it has one tag alone (X.690, 8.14.3)."""
@@ -117,12 +120,12 @@ class Rust:
 
 def tagged_bytes(tag):
     """Any content under this identifier byte."""
-    return Rust(f"TaggedBytes<0x{tag:02X}>", Core.BYTES, frozenset((tag,)))
+    return Rust(f"TaggedBytes<0x{tag:02X}>", Core.BYTES, frozenset((tag,)), term=any_content(tag))
 
 
 def any_element():
     """Any element, as it is."""
-    return Rust("Asn1RawDer", Core.ELEMENT, ANY_FIRST, is_open=True)
+    return Rust("Asn1RawDer", Core.ELEMENT, ANY_FIRST, is_open=True, term=Term("ANY"))
 
 
 def context_tag(mode, inner, number):

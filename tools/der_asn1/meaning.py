@@ -4,25 +4,31 @@ from typing import Optional
 
 from .features import Level
 from .library import Rust
+from .terms import instead
 
 
 @dataclass(frozen=True)
 class Meaning:
-    """A type of the notation as a type of the library: how well it is expressed, and what is missing for it."""
+    """A type of the notation as a type of the library: how well it is expressed, and what is missing for it.
+
+    `is_other` says that its values aren't those of the notation, not counting those of its parts.
+    """
 
     rust: Optional[Rust]
     level: Level = Level.EXACT
     features: frozenset = frozenset()
     notes: frozenset = frozenset()
+    is_other: bool = False
 
     def lacking(self, *features):
         """The same with features that the library lacks."""
         level = max([self.level, *(it.level for it in features)])
-        return replace(self, level=level, features=self.features | set(features))
+        return replace(self, level=level, features=self.features | set(features), is_other=self.is_other or bool(features))
 
     def noting(self, *notes):
         """The same with notes."""
-        return replace(self, notes=self.notes | set(notes))
+        is_other = self.is_other or any(it.is_own for it in notes)
+        return replace(self, notes=self.notes | set(notes), is_other=is_other)
 
     def as_(self, rust):
         """The same for a type around it."""
@@ -32,7 +38,17 @@ class Meaning:
         """The same with what is missing in its parts. What is raw there is a raw part here."""
         level = max([self.level, *(Level.PARTLY_RAW if it.level is Level.RAW else it.level for it in parts)])
         features = self.features.union(*(it.features for it in parts))
-        return Meaning(self.rust, level, features, self.notes.union(*(it.notes for it in parts)))
+        return Meaning(self.rust, level, features, self.notes.union(*(it.notes for it in parts)), self.is_other)
+
+    def called(self, term):
+        """The same with this term."""
+        return replace(self, rust=replace(self.rust, term=term)) if self.rust else self
+
+    def settled(self):
+        """The same with a term that says so if the type isn't that of the notation."""
+        if not self.is_other or self.rust is None:
+            return self
+        return replace(self.called(instead(self.rust.term)), is_other=False)
 
 
 def lacks(meaning):

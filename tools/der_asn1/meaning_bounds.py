@@ -4,6 +4,7 @@ from dataclasses import replace
 from .features import Feature, Note
 from .intervals import ALL, INFINITY, NATURAL
 from .library import U64_MAX, UNIVERSAL_TAGS, Core, Rust, signed_exactly, unsigned_for
+from .terms import Term, sized
 
 _INTEGER_FIRST = frozenset((UNIVERSAL_TAGS["INTEGER"],))
 _SIZED = frozenset((Core.CONTENTS, Core.OCTETS, Core.UTF8, Core.LIST))
@@ -17,7 +18,7 @@ def whole_number_limits(limits):
 def integer(meaning, limits):
     """The meaning of an INTEGER with these limits, made by `meaning`."""
     numbers, other = limits
-    any_size = Rust("Integer", Core.NUMBER, _INTEGER_FIRST)
+    any_size = Rust("Integer", Core.NUMBER, _INTEGER_FIRST, term=Term("INTEGER"))
     if not numbers.pairs:
         return meaning(any_size).lacking(Feature.NO_VALUES)
     if numbers.is_all():
@@ -33,13 +34,14 @@ def _range(meaning, low, high, any_size):
     """An INTEGER of one range: a width of Rust, `InRange`, or a type of one's own."""
     signed = signed_exactly(low, high)
     if signed:
-        return meaning(Rust(signed, Core.SIGNED, _INTEGER_FIRST))
+        return meaning(Rust(signed, Core.SIGNED, _INTEGER_FIRST, term=Term(f"INTEGER-from-minus-to {-low} {high}")))
     width = unsigned_for(high) if low >= 0 and high != INFINITY else None
+    term = Term(f"INTEGER-from-to {low} {high}")
     if width and low == 0 and high == 2 ** int(width[1:]) - 1:
-        return meaning(Rust(width, Core.UNSIGNED, _INTEGER_FIRST))
+        return meaning(Rust(width, Core.UNSIGNED, _INTEGER_FIRST, term=term))
     if width and high <= U64_MAX:
         plain = Rust(width, Core.UNSIGNED, _INTEGER_FIRST)
-        return meaning(Rust(f"InRange<{width}, {low}, {high}>", Core.UNSIGNED, _INTEGER_FIRST, plain, bounded=True))
+        return meaning(Rust(f"InRange<{width}, {low}, {high}>", Core.UNSIGNED, _INTEGER_FIRST, plain, bounded=True, term=term))
     own = replace(any_size, bounded=True, inner=any_size)
     return meaning(own).noting(Note.CONSTRAINT)
 
@@ -71,4 +73,5 @@ def _sized(found, size):
         return found.as_(replace(rust, bounded=True, inner=rust)).noting(Note.CONSTRAINT)
     high = "{ usize::MAX }" if size.high == INFINITY else size.high
     text = f"WithSize<{rust.text}, {size.low}, {high}>"
-    return found.as_(replace(rust, text=text, bounded=True, inner=rust))
+    term = sized(size.low, "MAX" if size.high == INFINITY else size.high, rust.term)
+    return found.as_(replace(rust, text=text, bounded=True, inner=rust, term=term))

@@ -5,10 +5,11 @@ from . import tree
 from .declarations import ChoiceDeclaration, EnumDeclaration, Field, Item, StructDeclaration
 from .emit_enum import ONE_BYTE
 from .features import Feature, Level, Note
-from .library import DEFAULT_SIGNED, DEFAULT_UNSIGNED, UNIVERSAL_TAGS, Core, Rust, any_element, tagged_bytes
+from .library import DEFAULT_SIGNED, DEFAULT_UNSIGNED, U64_MAX, UNIVERSAL_TAGS, Core, Rust, any_element, tagged_bytes
 from .members import ResolvedMember, is_extensible, members_of
 from .meaning import Meaning, lacks
 from .source import NotationError
+from .terms import Item as TermItem, Term, number_list
 from .values import enumerated_numbers, integer_of, named_numbers, value_of
 from .wording import snake, variant
 
@@ -56,13 +57,15 @@ def structure(meanings, type_, scope, hint):
         return empty(type_, scope, first)
     if any(it.meaning.rust is None for it in parts):
         return _raw(tagged_bytes(first), parts)
+    written = parts
     if type_.form is tree.Form.SET:
         parts = in_tag_order(parts)
         if parts is None:
             return Meaning(tagged_bytes(first)).lacking(Feature.SET_ORDER)
     if not are_distinct(meanings, parts, type_.form):
         return _raw(tagged_bytes(first), parts, *ambiguity(parts))
-    return declared_struct(meanings, type_, scope, hint, parts)
+    found = declared_struct(meanings, type_, scope, hint, parts)
+    return found.called(structure_term(meanings, type_, scope, written, (found.rust.inner or found.rust).text))
 
 
 def declared_struct(meanings, type_, scope, hint, parts):
@@ -72,7 +75,7 @@ def declared_struct(meanings, type_, scope, hint, parts):
     for it in parts:
         default = default_of(meanings, it)
         found = found.lacking(*default.features).noting(*default.notes)
-        fields.append(field_of(it, default.type_text))
+        fields.append(field_of(it, default))
     if is_extensible(type_, scope):
         found = found.lacking(Feature.EXTENSION)
     is_set = type_.form is tree.Form.SET
@@ -80,6 +83,27 @@ def declared_struct(meanings, type_, scope, hint, parts):
     name = declare(meanings, declared, type_, scope, hint, found, "members")
     record = Rust(name, Core.LIST, frozenset((UNIVERSAL_TAGS["SEQUENCE"],)))
     return found.as_(Rust(f"Asn1Set<{name}>", Core.SET, frozenset((UNIVERSAL_TAGS["SET"],)), record) if is_set else record)
+
+
+def structure_term(meanings, type_, scope, parts, name):
+    """The term of a SEQUENCE or SET, its members in the order of the text, with the name of its struct."""
+    items = tuple(TermItem(item_text(it), presence_word(meanings, it), it.meaning.rust.term) for it in parts)
+    return Term(type_.form.value, items=items, end="later-members-refused" if is_extensible(type_, scope) else "end", name=name)
+
+
+def item_text(part):
+    """A member or an alternative as the module has it."""
+    return f"{part.name} {part.resolved.member.text}"
+
+
+def presence_word(meanings, part):
+    """How a member is there."""
+    member = part.resolved.member
+    if member.presence is tree.Presence.DEFAULT:
+        return default_of(meanings, part).word
+    if member.presence is tree.Presence.OPTIONAL:
+        return "optional"
+    return "required" if member.group is None else "added"
 
 
 def declare(meanings, declared, type_, scope, hint, meaning, suffix):
@@ -101,15 +125,16 @@ def declare(meanings, declared, type_, scope, hint, meaning, suffix):
     return declared.name
 
 
-def field_of(part, default=""):
+def field_of(part, default):
     """A member as a field. One with a default that the library hasn't is as one that may be absent."""
     member = part.resolved.member
     presence = tree.Presence.REQUIRED
-    if default:
+    if default.type_text:
         presence = tree.Presence.DEFAULT
     elif part.resolved.may_be_absent():
         presence = tree.Presence.OPTIONAL
-    return Field(snake(part.name), part.meaning.rust.text, presence, default, member.text, member.comment)
+    type_text = default.others or part.meaning.rust.text
+    return Field(snake(part.name), type_text, presence, default.type_text, member.text, member.comment, bool(default.others))
 
 
 def variant_of(part):
@@ -133,10 +158,11 @@ def unique(fields):
 def empty(type_, scope, first):
     """A SEQUENCE or SET without members, which is a list of none, or of any that later versions have."""
     name = "Vec" if type_.form is tree.Form.SEQUENCE else "Asn1SetOf"
-    firsts = frozenset((first,))
+    firsts, form = frozenset((first,)), type_.form.value
     if is_extensible(type_, scope):
-        return Meaning(Rust(f"{name}<Asn1RawDer>", Core.LIST, firsts)).lacking(Feature.EXTENSION)
-    return Meaning(Rust(f"WithSize<{name}<()>, 0, 0>", Core.LIST, firsts, bounded=True))
+        term = Term(f"{form}-OF", Term("ANY"))
+        return Meaning(Rust(f"{name}<Asn1RawDer>", Core.LIST, firsts, term=term)).lacking(Feature.EXTENSION)
+    return Meaning(Rust(f"WithSize<{name}<()>, 0, 0>", Core.LIST, firsts, bounded=True, term=Term(f"{form} end")))
 
 
 def _raw(rust, parts, *features):
@@ -190,9 +216,15 @@ def tag_key(first):
 
 @dataclass(frozen=True)
 class Default:
-    """The type of the library that says a default, or what is missing for it."""
+    """The type of the library that says a default, or what is missing for it.
+
+    `others` is the type of the values that aren't the default, where the library has no value of it without memory, and `word` is how
+    the member is there in a term.
+    """
 
     type_text: str = ""
+    others: str = ""
+    word: str = "default-as-optional"
     features: tuple = ()
     notes: tuple = ()
 
@@ -207,21 +239,29 @@ def default_of(meanings, part):
         rust = rust.inner
     item = item_of(meanings, member.default, scope, rust)
     if item:
-        return Default(item)
+        return Default(item.type_text, word=f"default (number {item.number})")
     if rust.core in (Core.UNSIGNED, Core.SIGNED, Core.NUMBER):
         number = number_of(meanings.program, member, scope)
         if number is not None:
-            return number_default(rust, number)
+            return number_default(part.meaning.rust, rust, number)
     value, _ = value_of(meanings.program, member.default, scope)
     if rust.core is Core.BOOL and isinstance(value, tree.BooleanValue) and not rust.bounded:
-        return Default("True" if value.truth else "False")
+        return Default("True" if value.truth else "False", word="default TRUE" if value.truth else "default FALSE")
     if rust.own and rust.core is Core.CONTENTS and not rust.bounded:
         return Default(notes=(Note.DEFAULT,))
     return Default(features=(Feature.DEFAULT_OTHER,))
 
 
+@dataclass(frozen=True)
+class NamedDefault:
+    """The type that says that an item of an enumeration is the default, and the number of the item."""
+
+    type_text: str
+    number: int
+
+
 def item_of(meanings, value, scope, rust):
-    """The type that says that a named item of an enumeration is the default (X.680, 20.8), or None."""
+    """A named item of an enumeration that is the default (X.680, 20.8), with the type that says so, or None."""
     declared = meanings.declarations.without_aliases(rust.text)
     if not isinstance(declared, EnumDeclaration) or rust.bounded:
         return None
@@ -229,7 +269,7 @@ def item_of(meanings, value, scope, rust):
     if isinstance(value, tree.NamedValue) and value.name not in items:
         value, _ = value_of(meanings.program, value, scope)
     item = items.get(value.name) if isinstance(value, tree.NamedValue) else None
-    return item and meanings.declarations.default_item(declared, item)
+    return item and NamedDefault(meanings.declarations.default_item(declared, item), item.number)
 
 
 def number_of(program, member, scope):
@@ -239,14 +279,24 @@ def number_of(program, member, scope):
     return number if number is not None else integer_of(program, *value_of(program, member.default, scope), named)
 
 
-def number_default(rust, number):
-    """The default of an INTEGER."""
-    if rust.core is Core.NUMBER and not rust.bounded:
-        return Default(features=(Feature.DEFAULT_INTEGER,))
+def number_default(outer, rust, number):
+    """The default of an INTEGER, which may be under tags."""
     allowed, name = (DEFAULT_UNSIGNED, "Number") if rust.core is Core.UNSIGNED else (DEFAULT_SIGNED, "SignedNumber")
-    if number not in allowed or rust.bounded:
-        return Default(features=(Feature.DEFAULT_CONSTRAINED,))
-    return Default(f"{name}<{number}>")
+    if rust.core is not Core.NUMBER and number in allowed and not rust.bounded:
+        return Default(f"{name}<{number}>", word=f"default ({f'number {number}' if number >= 0 else f'minus {-number}'})")
+    others = other_than(outer, number) if rust.core is not Core.SIGNED and 0 <= number <= U64_MAX else None
+    if others and not (rust.core is Core.NUMBER and rust.bounded):
+        return Default(others=others, word=f"default-of {number}")
+    return Default(features=(Feature.DEFAULT_CONSTRAINED if rust.bounded or rust.core is not Core.NUMBER else Feature.DEFAULT_INTEGER,))
+
+
+def other_than(rust, number):
+    """The type of the other numbers, below the tags. None if the type with its tags has another name."""
+    if rust.core not in (Core.EXPLICIT, Core.IMPLICIT):
+        return f"OtherThan<{rust.text}, {number}>"
+    before = f"<{rust.inner.text}"
+    inner = other_than(rust.inner, number) if before in rust.text else None
+    return inner and rust.text.replace(before, f"<{inner}", 1)
 
 
 # ---- enumerations
@@ -259,12 +309,13 @@ def enumeration(meanings, type_, scope, hint):
     if len(set(numbers)) < len(numbers):
         meanings.program.problems.error(type_.place, "two items of the enumeration have the same number", "X.680, 20.3")
     if not all(it in ONE_BYTE for it in numbers) or len(set(numbers)) < len(numbers):
-        return Meaning(Rust("Enumerated", Core.CONTENTS, first, own=True)).noting(Note.WIDE_ENUMERATION)
+        rust = Rust("Enumerated", Core.CONTENTS, first, own=True, term=Term("ENUMERATED-extensible"))
+        return Meaning(rust).noting(Note.WIDE_ENUMERATION)
     items = [Item(variant(it.name), it.name, number, it.comment) for it, number in zip(type_.items, numbers)]
     declared = EnumDeclaration("", type_.place, scope.module.name, hint.text, items=unique(items))
     found = Meaning(None).noting(Note.ENUMERATION)
     name = declare(meanings, declared, type_, scope, hint, found, "values")
-    return found.as_(Rust(name, Core.CONTENTS, first, own=True))
+    return found.as_(Rust(name, Core.CONTENTS, first, own=True, term=Term(f"ENUMERATED {number_list(it.number for it in declared.items)}")))
 
 
 # ---- choices
@@ -297,4 +348,7 @@ def declared_choice(meanings, type_, scope, hint, parts):
     variants = unique([variant_of(it) for it in parts])
     declared = ChoiceDeclaration("", type_.place, scope.module.name, hint.text, variants=variants)
     name = declare(meanings, declared, type_, scope, hint, found, "choice")
-    return found.as_(Rust(name, Core.CHOICE, firsts, is_open=True))
+    items = tuple(TermItem(item_text(it), "", it.meaning.rust.term) for it in parts)
+    end = "later-alternatives-refused" if is_extensible(type_, scope) else "none"
+    term = Term("CHOICE", items=items, end=end, name=name)
+    return found.as_(Rust(name, Core.CHOICE, firsts, is_open=True, term=term))

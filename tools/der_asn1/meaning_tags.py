@@ -3,13 +3,14 @@ from dataclasses import replace
 
 from .features import Feature, Level, Note
 from .library import MAX_TAG, Core, Rust, context_tag, retagged, tagged_bytes
+from .terms import Term, content_under
 from .tree import TagClass, TagMode
 
 _CONSTRUCTED = 0x20
 
 
 def wrapped(meaning, tag_class, number, mode):
-    """The meaning of a type under a tag."""
+    """The meaning of a type under a tag. It has a term only where it isn't what the text says."""
     if number > MAX_TAG:
         return replace(meaning.lacking(Feature.LONG_TAG), rust=None)
     if meaning.rust is None:
@@ -23,9 +24,12 @@ def wrapped(meaning, tag_class, number, mode):
         return meaning.as_(explicit(inner.inner, tag_class, number))
     tag = tag_class.value | number
     if inner.core is Core.BYTES:
-        return meaning.as_(tagged_bytes(tag | (_CONSTRUCTED if inner.is_constructed() else 0)))
+        return meaning.as_(tagged_bytes(tag | (_CONSTRUCTED if inner.is_constructed() else 0))).called(None)
     if inner.core is Core.SET:
-        text = f"RetaggedSet<{inner.inner.text}, 0x{tag | _CONSTRUCTED:02X}>"
+        members = inner.inner
+        while members.core is Core.SET:  # a constraint is around the set
+            members = members.inner
+        text = f"RetaggedSet<{members.text}, 0x{tag | _CONSTRUCTED:02X}>"
         return meaning.as_(Rust(text, Core.RETAGGED, frozenset((tag | _CONSTRUCTED,)), inner))
     if inner.core is Core.LIST:
         tag |= _CONSTRUCTED
@@ -51,14 +55,17 @@ def primitive(meaning, inner, tag):
     firsts = frozenset((tag,))
     if inner.core is Core.OCTETS:
         found = meaning.as_(tagged_bytes(tag))
-        return found.noting(Note.CONSTRAINT) if inner.bounded else found
+        return found.noting(Note.CONSTRAINT) if inner.bounded else found.called(None)
     if inner.core in (Core.BOOL, Core.NULL):
         return meaning.as_(replace(tagged_bytes(tag), bounded=True)).noting(Note.CONSTRAINT)
     if inner.core in (Core.UNSIGNED, Core.SIGNED):
-        rust = Rust(f"RetaggedPrimitive<Integer, 0x{tag:02X}>", Core.IMPLICIT, firsts, inner, bounded=True, is_foreign=True)
+        term = content_under(tag, Term("INTEGER"))
+        rust = Rust(f"RetaggedPrimitive<Integer, 0x{tag:02X}>", Core.IMPLICIT, firsts, inner, bounded=True, is_foreign=True, term=term)
         return meaning.as_(rust).noting(Note.CONSTRAINT)
     if inner.core in (Core.CONTENTS, Core.NUMBER):
         content = inner.inner if inner.bounded and inner.inner else inner
         rust = Rust(f"RetaggedPrimitive<{content.text}, 0x{tag:02X}>", Core.IMPLICIT, firsts, inner, bounded=inner.bounded, is_foreign=True)
-        return meaning.as_(rust).noting(Note.CONSTRAINT) if inner.bounded else meaning.as_(rust)
+        if inner.bounded:
+            return meaning.as_(rust).called(content_under(tag, content.term)).noting(Note.CONSTRAINT)
+        return meaning.as_(rust)
     return replace(meaning.as_(tagged_bytes(tag)).lacking(Feature.FOREIGN_TAG), level=max(Level.RAW, meaning.level))

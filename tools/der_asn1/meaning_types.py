@@ -15,7 +15,8 @@ from .parse_modules import read_text
 from .scopes import BUILT_IN_ANY, Binding, Found, Program, resolve, target_of
 from .source import Problems
 from .subtypes import Reader, ScopedConstraint, only_contents
-from .tagging import effective_mode, first_bytes, fixed_field_type
+from .tagging import default_mode, effective_mode, first_bytes, fixed_field_type
+from .terms import Term, tagged
 from .values import arcs_of, integer_of
 
 # EXTERNAL and INSTANCE OF as the sequences that they are encoded as (X.690, 8.18; X.681, C.7)
@@ -54,11 +55,16 @@ def type_name(type_):
     return named.get(type(type_), getattr(type_, "name", "").replace(" ", "-"))
 
 
+def word(name):
+    """The term of a type that has a name in the standard."""
+    return Term(name.replace(" ", "-"))
+
+
 def alias(name, found, type_, meaning):
     """The declaration of a name of another type."""
     source, comment = found.assignment.name, " ".join(found.assignment.comment)
     declared = AliasDeclaration(name, found.assignment.place, found.scope.module.name, source, comment)
-    declared.level, declared.lacks = meaning.level, lacks(meaning)
+    declared.level, declared.lacks, declared.term = meaning.level, lacks(meaning), meaning.rust.term
     declared.type_text, declared.notation = meaning.rust.text, type_.text
     return declared
 
@@ -98,10 +104,11 @@ class Meanings:
         """The same under the name of its assignment, which is declared if the type has another name or none."""
         declared = self.declarations.by_name.get(meaning.rust.text)
         if declared and declared.place == type_.place:
-            return meaning
+            declared.term = meaning.rust.term
+            return meaning.called(Term(declared.name))
         name = self.declarations.fresh(instance_name(found), key)
         self.declarations.add(alias(name, found, type_, meaning))
-        return meaning.as_(replace(meaning.rust, text=name))
+        return meaning.as_(replace(meaning.rust, text=name, term=Term(name)))
 
     def raw(self, type_, scope, *features):
         """A type that is kept as bytes: under its tag, if it has only one."""
@@ -114,6 +121,10 @@ class Meanings:
         """A type of which nothing is known."""
         return Meaning(any_element()).lacking(feature)
 
+    def any_type(self):
+        """An open type, which is any element."""
+        return Meaning(any_element()).noting(Note.OPEN)
+
     # ---- types
 
     def of_type(self, type_, scope, hint, outer=()):
@@ -125,14 +136,23 @@ class Meanings:
             number = integer_of(self.program, tag.number, scope)
             if number is None:
                 return self.unknown(Feature.UNDEFINED)
-            meaning = wrapped(meaning, tag.tag_class, number, effective_mode(self.program, tag, inner, scope))
+            meaning = self.under(meaning, tag, number, effective_mode(self.program, tag, inner, scope), scope)
             inner = None
         return meaning
+
+    def under(self, inner, tag, number, mode, scope):
+        """The meaning of a type under a tag, with its term."""
+        meaning = wrapped(inner, tag.tag_class, number, mode)
+        if inner.rust is None or meaning.rust is None or meaning.rust.term:
+            return meaning.settled()
+        told = mode is tree.TagMode.EXPLICIT and inner.rust.core not in (Core.CHOICE, Core.ELEMENT)
+        is_explicit = told and (tag.mode or default_mode(scope)) is not tree.TagMode.EXPLICIT
+        return meaning.called(tagged(tag, number, inner.rust.term, scope.module.name, is_explicit))
 
     def untagged(self, type_, scope, hint, constraints):
         """The meaning of a type without its tags."""
         reader = getattr(self, "of_" + type(type_).__name__.lower())
-        return reader(type_, scope, hint, constraints)
+        return reader(type_, scope, hint, constraints).settled()
 
     def limits(self, constraints, type_, scope):
         """What the constraints of a type leave."""
@@ -156,11 +176,11 @@ class Meanings:
             return self.of_octets(type_, scope, hint, constraints)
         simple = {"BOOLEAN": ("bool", Core.BOOL), "NULL": ("()", Core.NULL), "UTF8String": ("String", Core.UTF8)}
         if name in simple:
-            meaning = Meaning(Rust(*simple[name], firsts))
+            meaning = Meaning(Rust(*simple[name], firsts, term=word(name)))
         elif name in OTHER_STRINGS:
-            meaning = Meaning(replace(tagged_bytes(tag), core=Core.CONTENTS)).noting(Note.ALPHABET)
+            meaning = Meaning(tagged_bytes(tag)).noting(Note.ALPHABET)
         else:
-            meaning = Meaning(Rust(CONTENTS_TYPES[name], Core.CONTENTS, firsts))
+            meaning = Meaning(Rust(CONTENTS_TYPES[name], Core.CONTENTS, firsts, term=word(name)))
         if name in UNCHECKED_CHARACTERS:
             meaning = meaning.noting(Note.CHARACTERS)
         return self.checked(meaning, type_, scope, constraints)
@@ -174,7 +194,7 @@ class Meanings:
         """An enum of its own, or any number if later versions may have others (X.680, 20)."""
         firsts = frozenset((UNIVERSAL_TAGS["ENUMERATED"],))
         if type_.extensible or scope.module.extensibility_implied:
-            meaning = Meaning(Rust("Enumerated", Core.CONTENTS, firsts))
+            meaning = Meaning(Rust("Enumerated", Core.CONTENTS, firsts, term=Term("ENUMERATED-extensible")))
         else:
             meaning = enumeration(self, type_, scope, hint)
         return self.checked(meaning, type_, scope, constraints)
@@ -185,8 +205,8 @@ class Meanings:
         if contents and contents.constraint.type is not None:
             return self.checked(self.container(contents, "BitStringAsn1Container", firsts, hint), type_, scope, constraints)
         if not type_.named:
-            return self.checked(Meaning(Rust("BitString", Core.CONTENTS, firsts)), type_, scope, constraints)
-        meaning = Meaning(Rust("NamedBits", Core.CONTENTS, firsts))
+            return self.checked(Meaning(Rust("BitString", Core.CONTENTS, firsts, term=Term("BIT-STRING"))), type_, scope, constraints)
+        meaning = Meaning(Rust("NamedBits", Core.CONTENTS, firsts, term=Term("BIT-STRING-named")))
         limits = self.limits(constraints, type_, scope)
         if limits.size.pairs and limits.size.high != float("inf"):
             meaning = meaning.lacking(Feature.NAMED_BITS_SIZE)
@@ -197,7 +217,7 @@ class Meanings:
         contents = only_contents(constraints)
         if contents and contents.constraint.type is not None:
             return self.checked(self.container(contents, "OctetStringAsn1Container", firsts, hint), type_, scope, constraints)
-        return self.checked(Meaning(Rust("ByteBuf", Core.OCTETS, firsts)), type_, scope, constraints)
+        return self.checked(Meaning(Rust("ByteBuf", Core.OCTETS, firsts, term=Term("OCTET-STRING"))), type_, scope, constraints)
 
     def container(self, contents, name, firsts, hint):
         """A string with the encoding of a value in it (X.682, 11). One of another encoding than DER is kept as it is."""
@@ -207,7 +227,9 @@ class Meanings:
         inner = self.of_type(contents.constraint.type, contents.scope, hint.part("content"))
         if inner.rust is None:
             return self.unknown(Feature.UNDEFINED).containing(inner)
-        return Meaning(Rust(f"{name}<{inner.rust.text}>", Core.CONTAINER, firsts, inner.rust)).containing(inner)
+        form = "OCTET-STRING" if name.startswith("Octet") else "BIT-STRING"
+        term = Term(f"{form}-CONTAINING", inner.rust.term)
+        return Meaning(Rust(f"{name}<{inner.rust.text}>", Core.CONTAINER, firsts, inner.rust, term=term)).containing(inner)
 
     # ---- names
 
@@ -218,7 +240,7 @@ class Meanings:
         if found is None:
             return self.not_found(type_, scope)
         if class_named(self.program, type_.name, scope):
-            return self.unknown(Feature.OPEN_ANY)
+            return self.any_type()
         target = target_of(self.program, type_, scope)
         if target is None or isinstance(found.assignment, tree.UnreadAssignment):
             return self.unknown(Feature.UNDEFINED)
@@ -246,13 +268,13 @@ class Meanings:
     def of_binding(self, found, hint, constraints):
         """What is given for a parameter."""
         if found.argument.type is None:
-            return self.unknown(Feature.OPEN_ANY)
+            return self.any_type()
         return self.of_type(found.argument.type, found.scope, hint, constraints)
 
     def not_found(self, type_, scope):
         """A name that isn't defined here: an open type of other compilers, or one of a module that isn't given."""
         if type_.name in BUILT_IN_ANY or type_.name in BUILT_IN_CLASSES:
-            return self.unknown(Feature.OPEN_ANY)
+            return self.any_type()
         source = type_.module or self.program.source_of(type_.name, scope.module)
         if source and self.program.module_named(source, scope.module) is None:
             return self.unknown(Feature.IMPORT)
@@ -270,10 +292,10 @@ class Meanings:
     # ---- open types
 
     def of_anytype(self, type_, scope, hint, constraints):
-        return self.unknown(Feature.OPEN_ANY)
+        return self.any_type()
 
     def of_objectfieldtype(self, type_, scope, hint, constraints):
-        return self.unknown(Feature.OPEN_ANY)
+        return self.any_type()
 
     def of_fieldtype(self, type_, scope, hint, constraints):
         """A field of a class: a type of its own, or an open type (X.681, 14.2)."""
@@ -289,7 +311,7 @@ class Meanings:
                 found = self.of_type(root.type, it.scope, hint)
                 return found.as_(replace(found.rust, is_open=True)) if found.rust else found
         known = any(self.objects(type_, it).objects for it in tables)
-        return self.unknown(Feature.OPEN_TABLE if known else Feature.OPEN_ANY)
+        return self.unknown(Feature.OPEN_TABLE) if known else self.any_type()
 
     def objects(self, type_, table):
         """The objects of a table constraint (X.682, 10)."""
@@ -324,5 +346,6 @@ class Meanings:
         if element.rust is None:
             return Meaning(tagged_bytes(*firsts), Level.RAW).containing(replace(element, level=Level.RAW))
         name = "Vec" if type_.form is tree.Form.SEQUENCE else "Asn1SetOf"
-        found = Meaning(Rust(f"{name}<{element.rust.text}>", Core.LIST, firsts, element.rust)).containing(element)
+        term = Term(f"{type_.form.value}-OF", element.rust.term)
+        found = Meaning(Rust(f"{name}<{element.rust.text}>", Core.LIST, firsts, element.rust, term=term)).containing(element)
         return self.checked(found, type_, scope, constraints)

@@ -111,8 +111,8 @@ def summary(report):
     lines = [f"{share(len(exact), total)} exact"]
     plain = [it for it in exact if not any(note.is_own for note in it.meaning.notes)]
     lines.append(f"{share(len(plain), total)} exact by types of the library, structs, choices and enumerations alone")
-    wide = [it for it in report.rows if it.level in (Level.EXACT, Level.OPEN) and it.meaning.features <= {Feature.OPEN_ANY}]
-    lines.append(f"{share(len(wide), total)} exact if an open type without a table counts as exact")
+    closed = [it for it in exact if Note.OPEN not in it.meaning.notes]
+    lines.append(f"{share(len(closed), total)} exact without an open type")
     for note in Note:
         count = sum(note in it.meaning.notes for it in exact)
         if count:

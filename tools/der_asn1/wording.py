@@ -17,7 +17,7 @@ KEYWORDS = frozenset(
 TAKEN = LIBRARY_NAMES | frozenset(
     """Option Vec String Result Some None Ok Err Box Drop Clone Copy Default
     PartialEq Eq Debug Self Members OtherMembers LastMembers Parts First Second
-    Third Fourth Later This Other Last Type""".split()
+    Third Fourth Later This Other Last Type Notation""".split()
 )
 
 
@@ -57,4 +57,4 @@ def snake(name):
 def file_stem(name):
     """The name of the file of a type, which is none of a file that has another use."""
     found = snake(name)
-    return f"{found}_type" if found in ("aliases", "values", "lib", "main") else found
+    return f"{found}_type" if found in ("aliases", "values", "notation", "lib", "main") else found

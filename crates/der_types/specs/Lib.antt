@@ -14,6 +14,9 @@ pub mod Dotted
 pub mod GeneralizedTimeLaws
 pub mod GeneralizedTimes
 pub mod KnownContents
+pub mod Notation
+pub mod NotationForms
+pub mod NotationLaws
 pub mod ObjectIdentifier
 pub mod ObjectIdentifierLaws
 pub mod PrimitiveForm

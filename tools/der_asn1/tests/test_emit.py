@@ -19,7 +19,7 @@ def crate_of(body, *names, header="EXPLICIT TAGS"):
     """The crate `der_examples` of these types."""
     one = given(body, header)
     found = [one.meaning(it).rust.text for it in names]
-    return emit_crate.Crate("der_examples", emit_crate.reached(one.meanings.declarations, found), [])
+    return emit_crate.Crate("der_examples", emit_crate.reached(one.meanings.declarations, found), [], one.program.modules)
 
 
 def items(text):
@@ -52,7 +52,7 @@ class AsByHand(unittest.TestCase):
             text = text.replace(before, after)
         hand = items(by_hand(path))
         for item in items(text):
-            if item.split(" {")[0] not in more:
+            if item.split(" {")[0] not in more and not item.startswith("impl Notated"):
                 self.assertIn(item, hand)
 
     def without(self, name):
@@ -106,7 +106,7 @@ class AsByHand(unittest.TestCase):
         hand = items(by_hand("der_examples/src/personnel_record.rt"))
         text = crate.files()["src/personnel_members.rt"]
         for item in items(text.replace("<C>", "<Asn1Set<ChildInformation>>")):
-            if not item.startswith("impl Begins"):
+            if not item.startswith(("impl Begins", "impl Notated")):
                 self.assertIn(item, hand)
         aliases = crate.files()["src/aliases.rt"]
         self.assertIn("pub type Personnel = RetaggedSet<PersonnelMembers, 0x60>;\n", aliases)
@@ -138,7 +138,7 @@ class AsByHand(unittest.TestCase):
         text = crate_of(body, "Command").files()["src/command.rt"]
         hand = items(by_hand("der_examples/src/script.rt"))
         for item in items(text):
-            if not item.startswith(("impl Choice", "impl Serialize")):
+            if not item.startswith(("impl Choice", "impl Serialize", "impl Notated")):
                 self.assertIn(item, hand)
         self.assertIn("      | Forget x ↦ Later (Later (Fourth x))\n", text)
         self.assertIn("            Later(Later(Fourth(forget))) => Command::Forget(forget),\n", text)
@@ -156,7 +156,7 @@ class AsByHand(unittest.TestCase):
         text = crate_of(body, "ResponseStatus").files()["specs/ResponseStatus.antt"]
         text = text.replace("response_status_number", "status_number").replace("is_response_status", "is_status").replace("same_response_status", "same_status")
         self.assertEqual(by_hand("der_examples/specs/ResponseStatus.antt").split("\n")[1:], text.split("\n")[1:])
-        self.assertEqual("pub mod ResponseStatus\n", crate_of(body, "ResponseStatus").files()["specs/Lib.antt"])
+        self.assertEqual("pub mod Notation\npub mod ResponseStatus\n", crate_of(body, "ResponseStatus").files()["specs/Lib.antt"])
 
 
 class Defaults(unittest.TestCase):
@@ -193,7 +193,7 @@ class Imports(unittest.TestCase):
         self.assertEqual(
             [
                 "use crate::B;",
-                "use der_types::Integer;",
+                "use der_types::{Integer, Notated, NotatedMembers};",
                 "use picky_asn1_der::asn1::{ExplicitContextTag2, ExplicitContextTag10, Tag};",
                 "use picky_asn1_der::de::Begins;",
                 "use picky_asn1_der::misc::{ReadExt, WriteExt};",
@@ -218,10 +218,18 @@ class Comments(unittest.TestCase):
         self.assertIn("    /// `BOOLEAN DEFAULT TRUE`.\n", text)
 
     def test_a_default_that_isnt_one(self):
-        text = crate_of("A ::= SEQUENCE { a INTEGER DEFAULT 0 }", "A").files()["src/a.rt"]
+        text = crate_of("A ::= SEQUENCE { a INTEGER DEFAULT -1 }", "A").files()["src/a.rt"]
         wanted = "as a SEQUENCE.\n///\n/// The values aren't exactly those of the notation: DEFAULT of an INTEGER without bounds.\n#[derive"
         self.assertIn(wanted, text)
-        self.assertIn("/// `INTEGER DEFAULT 0`. A default that is written out is read, too.\n    pub a: Option<Integer>,\n", text)
+        self.assertIn("/// `INTEGER DEFAULT -1`. A default that is written out is read, too.\n    pub a: Option<Integer>,\n", text)
+
+    def test_a_default_of_which_the_other_numbers_are_a_type(self):
+        body = "A ::= SEQUENCE { v [0] V DEFAULT v1, n [1] INTEGER (0..9) DEFAULT 5, m [2] INTEGER (0..65535) DEFAULT 256 } V ::= INTEGER { v1(0) }"
+        text = crate_of(body, "A").files()["src/a.rt"]
+        self.assertIn("/// `[0] V DEFAULT v1`. `None` is the default.\n    pub v: Option<ExplicitContextTag0<OtherThan<V, 0>>>,\n", text)
+        self.assertIn("pub n: Option<ExplicitContextTag1<OtherThan<InRange<u8, 0, 9>, 5>>>,\n", text)
+        self.assertIn("pub m: Option<ExplicitContextTag2<OtherThan<u16, 256>>>,\n", text)
+        self.assertNotIn("aren't exactly", text)
 
 
     def test_an_open_type_is_what_the_notation_says(self):
@@ -327,7 +335,7 @@ class Files(unittest.TestCase):
     def test_the_root(self):
         text = crate_of("A ::= SEQUENCE { b B } B ::= INTEGER", "A").files()["src/lib.rt"]
         self.assertTrue(text.startswith("//! Types of M, made by tools/der_asn1.\n#![tactic(auto)]\n\n"))
-        self.assertTrue(text.endswith("\n\nmod a;\nmod aliases;\n\npub use a::A;\npub use aliases::B;\n"))
+        self.assertTrue(text.endswith("\n\nmod a;\nmod aliases;\npub mod notation;\n\npub use a::A;\npub use aliases::B;\n"))
 
     def test_more_than_a_hundred_names(self):
         for count, wanted in ((100, "pub use aliases::{\n"), (101, "pub use aliases::T0;\npub use aliases::T1;\n")):

@@ -105,6 +105,9 @@ OWN = [
     ("[APPLICATION 1] IMPLICIT INTEGER (0..255)", Note.CONSTRAINT),
     ("[APPLICATION 1] IMPLICIT NULL", Note.CONSTRAINT),
     ("SEQUENCE { a ENUMERATED { x(500), y } DEFAULT x }", Note.DEFAULT),
+    ("ANY", Note.OPEN),
+    ("SEQUENCE { a OBJECT IDENTIFIER, b ANY DEFINED BY a OPTIONAL }", Note.OPEN),
+    ("EXTERNAL", Note.OPEN),
     ("TeletexString", Note.CHARACTERS),
     ("GeneralString", Note.CHARACTERS),
     ("INTEGER (CONSTRAINED BY {})", Note.USER_CONSTRAINT),
@@ -112,14 +115,11 @@ OWN = [
 
 # a type that isn't exact, its level, and the feature that is missing
 MISSING = [
-    ("ANY", Level.OPEN, Feature.OPEN_ANY),
-    ("SEQUENCE { a OBJECT IDENTIFIER, b ANY DEFINED BY a OPTIONAL }", Level.OPEN, Feature.OPEN_ANY),
     ("SEQUENCE { a NULL, ... }", Level.NEAR, Feature.EXTENSION),
     ("CHOICE { a NULL, ... }", Level.NEAR, Feature.EXTENSION),
-    ("SEQUENCE { a INTEGER DEFAULT 0 }", Level.NEAR, Feature.DEFAULT_INTEGER),
-    ("SEQUENCE { a INTEGER { v1(0) } DEFAULT v1 }", Level.NEAR, Feature.DEFAULT_INTEGER),
-    ("SEQUENCE { a INTEGER (0..5) DEFAULT 0 }", Level.NEAR, Feature.DEFAULT_CONSTRAINED),
-    ("SEQUENCE { a INTEGER (0..65535) DEFAULT 256 }", Level.NEAR, Feature.DEFAULT_CONSTRAINED),
+    ("SEQUENCE { a INTEGER DEFAULT -1 }", Level.NEAR, Feature.DEFAULT_INTEGER),
+    ("SEQUENCE { a INTEGER { v1(-5) } DEFAULT v1 }", Level.NEAR, Feature.DEFAULT_INTEGER),
+    ("SEQUENCE { a INTEGER (-2147483648..2147483647) DEFAULT 256 }", Level.NEAR, Feature.DEFAULT_CONSTRAINED),
     ("SEQUENCE { a BIT STRING { x(0) } DEFAULT {} }", Level.NEAR, Feature.DEFAULT_OTHER),
     ("OCTET STRING (CONTAINING INTEGER ENCODED BY { 2 1 1 })", Level.NEAR, Feature.ENCODING),
     ("BIT STRING { a(0) } (SIZE (1..9))", Level.NEAR, Feature.NAMED_BITS_SIZE),
@@ -135,7 +135,6 @@ MISSING = [
     ("SET { a CHOICE { x BOOLEAN, y NULL }, b INTEGER }", Level.RAW, Feature.SET_ORDER),
     ("[APPLICATION 1] IMPLICIT UTF8String", Level.RAW, Feature.FOREIGN_TAG),
     ("INTEGER (1..0)", Level.RAW, Feature.NO_VALUES),
-    ("EXTERNAL", Level.OPEN, Feature.OPEN_ANY),
 ]
 
 
@@ -175,8 +174,8 @@ class Sets(unittest.TestCase):
 class Parts(unittest.TestCase):
     def test_a_type_is_as_good_as_its_parts(self):
         one = given("T ::= SEQUENCE { a U, b V }\nU ::= ANY\nV ::= SEQUENCE { a NULL, ... }")
-        self.assertEqual({Feature.OPEN_ANY, Feature.EXTENSION}, one.meaning("T").features)
-        self.assertEqual(Level.OPEN, one.meaning("T").level)
+        self.assertEqual(({Note.OPEN}, {Feature.EXTENSION}), (one.meaning("T").notes, one.meaning("T").features))
+        self.assertEqual(Level.NEAR, one.meaning("T").level)
 
     def test_what_is_raw_is_a_raw_part(self):
         one = given("T ::= SEQUENCE { a U }\nU ::= REAL")
@@ -196,9 +195,9 @@ class Parts(unittest.TestCase):
         self.assertEqual(Level.EXACT, given("T ::= SEQUENCE { a NULL OPTIONAL, b INTEGER, c NULL OPTIONAL }").meaning("T").level)
 
     def test_an_open_type_that_may_be_absent_is_last(self):
-        self.assertEqual({Feature.OPEN_ANY}, given("T ::= SEQUENCE { a NULL, b ANY OPTIONAL }").meaning("T").features)
+        self.assertEqual(Level.EXACT, given("T ::= SEQUENCE { a NULL, b ANY OPTIONAL }").meaning("T").level)
         found = given("T ::= SEQUENCE { a ANY OPTIONAL, b NULL }").meaning("T")
-        self.assertEqual((Level.RAW, {Feature.OPEN_ANY, Feature.AMBIGUOUS}), (found.level, found.features))
+        self.assertEqual((Level.RAW, {Feature.AMBIGUOUS}), (found.level, found.features))
 
     def test_a_place_of_what_cant_be_distinguished(self):
         one = given("T ::= SEQUENCE {\n  a NULL OPTIONAL,\n  b CHOICE { x NULL, y INTEGER }\n}")
@@ -236,7 +235,7 @@ class Parts(unittest.TestCase):
 class Parameters(unittest.TestCase):
     def test_a_type(self):
         one = given("Signed { ToBeSigned } ::= SEQUENCE { it ToBeSigned, signature BIT STRING }\nT ::= Signed { INTEGER }\nU ::= Signed { ANY }")
-        self.assertEqual((Level.EXACT, Level.OPEN), (one.meaning("T").level, one.meaning("U").level))
+        self.assertEqual((frozenset(), {Note.OPEN}), (one.meaning("T").notes, one.meaning("U").notes))
 
     def test_a_bound(self):
         one = given("Text { INTEGER : top } ::= UTF8String (SIZE (1..top))\nT ::= SEQUENCE { a Text { 5 } }")
@@ -278,7 +277,7 @@ Only ALGORITHM ::= { { OID { 1 2 3 } PARMS NULL } }
         self.assertEqual(({Feature.OPEN_TABLE}, Level.OPEN), (set(found.features), found.level))
 
     def test_a_type_without_a_table(self):
-        self.assertEqual({Feature.OPEN_ANY}, self.meaning("ALGORITHM.&Type").features)
+        self.assertEqual({Note.OPEN}, self.meaning("ALGORITHM.&Type").notes)
 
     def test_a_set_that_is_a_parameter(self):
         body = f"""{self.BODY}AlgorithmIdentifier {{ ALGORITHM : Set }} ::= SEQUENCE {{
@@ -286,14 +285,14 @@ Only ALGORITHM ::= { { OID { 1 2 3 } PARMS NULL } }
 T ::= AlgorithmIdentifier {{ {{Known}} }}
 U ::= AlgorithmIdentifier {{ {{...}} }}"""
         one = given(body)
-        self.assertEqual(({Feature.OPEN_TABLE}, {Feature.OPEN_ANY}), (one.meaning("T").features, one.meaning("U").features))
+        self.assertEqual(({Feature.OPEN_TABLE}, {Note.OPEN}), (one.meaning("T").features, one.meaning("U").notes))
 
     def test_a_type_that_a_constraint_fixes(self):
         found = self.meaning("TYPE-IDENTIFIER.&Type (INTEGER)")
         self.assertEqual((Level.EXACT, True), (found.level, found.rust.is_open))
 
     def test_instance_of(self):
-        self.assertEqual({Feature.OPEN_ANY}, self.meaning("INSTANCE OF TYPE-IDENTIFIER").features)
+        self.assertEqual({Note.OPEN}, self.meaning("INSTANCE OF TYPE-IDENTIFIER").notes)
 
     def test_implicit_over_an_open_type_is_explicit(self):
         found = self.meaning("[2] IMPLICIT ALGORITHM.&Type")

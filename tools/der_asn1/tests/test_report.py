@@ -31,7 +31,7 @@ class Reports(unittest.TestCase):
         self.found = report.report_of(read_text(module_text(BODY), "m.asn1", problems), problems)
 
     def test_a_row_for_each_type(self):
-        wanted = [("A", Level.EXACT), ("B", Level.OPEN), ("C", Level.OPEN), ("D", Level.PARTLY_RAW), ("E", Level.REFUSED), ("G", Level.REFUSED)]
+        wanted = [("A", Level.EXACT), ("B", Level.NEAR), ("C", Level.EXACT), ("D", Level.PARTLY_RAW), ("E", Level.REFUSED), ("G", Level.REFUSED)]
         self.assertEqual(wanted, [(it.name, it.level) for it in self.found.rows])
 
     def test_what_isnt_counted(self):
@@ -40,16 +40,16 @@ class Reports(unittest.TestCase):
     def test_the_table(self):
         first, module, total = report.table(self.found)
         self.assertEqual("types exact near open partly raw raw refused".split(), first.split())
-        self.assertEqual("M 6 1 0 2 1 0 2".split(), module.split())
-        self.assertEqual("in all 6 1 0 2 1 0 2".split(), total.split())
+        self.assertEqual("M 6 2 1 0 1 0 2".split(), module.split())
+        self.assertEqual("in all 6 2 1 0 1 0 2".split(), total.split())
 
     def test_the_greedy_list(self):
-        self.assertEqual(["1", "2", "3", "4", "5"], [it.split()[0] for it in report.greedy(self.found)])
-        self.assertIn("open types without a table", report.greedy(self.found)[1])
+        self.assertEqual(["2", "3", "4", "5"], [it.split()[0] for it in report.greedy(self.found)])
+        self.assertIn("REAL", report.greedy(self.found)[1])
 
     def test_how_many_each_feature_stops(self):
         lines = report.features_table(self.found)
-        self.assertEqual(["2", "1", "open"], lines[1].split()[:3])
+        self.assertEqual(["1", "1", "extension"], lines[1].split()[:3])
 
     def test_a_line_for_each_type(self):
         self.assertIn("M.A: exact, A", report.types_table(self.found))
@@ -114,7 +114,7 @@ class Command(unittest.TestCase):
             self.assertEqual(1, self.run_on(texts, "--out", out, "--check")[0])
             status, printed, _ = self.run_on(texts, "--out", out)
             self.assertEqual((0, "mine: der_types picky_asn1_der picky_der_core picky_der_ser picky_der_de\n"), (status, printed))
-            self.assertEqual(["aliases.rt", "lib.rt", "t.rt", "values.rt"], sorted(os.listdir(os.path.join(out, "src"))))
+            self.assertEqual(["aliases.rt", "lib.rt", "notation.rt", "t.rt", "values.rt"], sorted(os.listdir(os.path.join(out, "src"))))
             self.assertEqual((0, "", ""), self.run_on(texts, "--out", out, "--check"))
             open(os.path.join(out, "src", "other.rt"), "w", encoding="utf-8").close()
             self.assertEqual((1, f"{out}/src/other.rt isn't what would be written\n", ""), self.run_on(texts, "--out", out, "--check"))
@@ -127,7 +127,7 @@ class Command(unittest.TestCase):
         with tempfile.TemporaryDirectory() as folder:
             texts = {"m.asn1": module_text("T ::= SEQUENCE { a U } U ::= SEQUENCE { a NULL } V ::= REAL")}
             self.assertEqual(0, self.run_on(texts, "--out", folder, "--type", "T")[0])
-            self.assertEqual(["lib.rt", "t.rt", "u.rt"], sorted(os.listdir(os.path.join(folder, "src"))))
+            self.assertEqual(["lib.rt", "notation.rt", "t.rt", "u.rt"], sorted(os.listdir(os.path.join(folder, "src"))))
 
     def test_types_that_are_called_the_same_in_rust(self):
         with tempfile.TemporaryDirectory() as folder:

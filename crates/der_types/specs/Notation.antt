@@ -1,0 +1,112 @@
+-- Types of ASN.1 (X.680), as the types of these crates have them, and the shapes that they denote. `NotationForms` has the forms of modules.
+use Rattle.std.specs.Prelude.{ℕ, ◌-◌, ◌^◌, List}
+use Rattle.picky_der_core.specs.declared.asn1.wrapper.Wrapper.{Wrapper}
+use Rattle.picky_der_core.specs.Primitive.{PrimitiveShape}
+use Rattle.picky_der_core.specs.Tree.{ListKind, Tree}
+use Rattle.picky_der_core.specs.Shape.{Shape, Shapes, Layout}
+use Rattle.der_types.specs.PrimitiveForm.{primitive_form}
+
+mutual
+  pub data Notation : Type 0 where
+    -- 18
+    BOOLEAN : Notation
+    -- 19: of any size, with a sign
+    INTEGER : Notation
+    -- from 0, in so many bits
+    unsigned : ℕ → Notation
+    -- of either sign, in so many bits with that of the sign
+    signed : ℕ → Notation
+    -- 20: with these numbers; and with an extension marker, of any number
+    ENUMERATED : List ℕ → Notation
+    ENUMERATED-extensible : Notation
+    -- 22: and one with names for bits, in which zeros at the end don't count (22.7)
+    BIT-STRING : Notation
+    BIT-STRING-named : Notation
+    -- 23
+    OCTET-STRING : Notation
+    -- 24
+    NULL : Notation
+    -- 32, 33
+    OBJECT-IDENTIFIER : Notation
+    RELATIVE-OID : Notation
+    -- 41: a restricted string by its tag; 46, 47: times
+    UTF8String : Notation
+    restricted-string : ℕ → Notation
+    GeneralizedTime : Notation
+    UTCTime : Notation
+    -- any content under this tag; and any element, as of an open type (X.681, 14.2)
+    any-content : ℕ → Notation
+    any-element : Notation
+    -- 25, 29
+    sequence : Members → Notation
+    choice : Alternatives → Notation
+    -- 26, 28
+    list-of : ListKind → Notation → Notation
+    -- 31: one in a tag or a string, or with a tag in place of its own
+    wrapped : Wrapper → Notation → Notation
+    -- 31: a content under this tag in place of its own
+    content-under : ℕ → Notation → Notation
+    -- 51.4, 51.5: a number of a range, one of a range from minus this number on, one other than this, and a size of a range
+    in-range : ℕ → ℕ → Notation → Notation
+    from-minus : ℕ → ℕ → Notation → Notation
+    other-than : ℕ → Notation → Notation
+    sized : ℕ → ℕ → Notation → Notation
+
+  -- 25.1: a member that is always there, one that may be absent, and one that is absent where it means this tree
+  pub data Member : Type 0 where
+    required : Notation → Member
+    optional : Notation → Member
+    defaulted : Tree → Notation → Member
+
+  pub data Members : Type 0 where
+    end : Members
+    member : Member → Members → Members
+
+  pub data Alternatives : Type 0 where
+    none : Alternatives
+    alternative : Notation → Alternatives → Alternatives
+
+-- which trees its values are, but for what its content says and for ranges
+abbrev mutual
+  pub shape_of : Notation → Shape
+  shape_of Notation.BOOLEAN = Shape.primitive PrimitiveShape.boolean
+  shape_of (Notation.unsigned bits) = Shape.primitive (PrimitiveShape.unsigned (2 ^ bits - 1))
+  shape_of Notation.INTEGER = Shape.primitive (PrimitiveShape.bytes 0x02)
+  shape_of (Notation.signed bits) = Shape.primitive (PrimitiveShape.bytes 0x02)
+  shape_of (Notation.ENUMERATED numbers) = Shape.primitive (PrimitiveShape.bytes 0x0A)
+  shape_of Notation.ENUMERATED-extensible = Shape.primitive (PrimitiveShape.bytes 0x0A)
+  shape_of Notation.BIT-STRING = Shape.primitive (PrimitiveShape.bytes 0x03)
+  shape_of Notation.BIT-STRING-named = Shape.primitive (PrimitiveShape.bytes 0x03)
+  shape_of Notation.OCTET-STRING = Shape.primitive (PrimitiveShape.bytes 0x04)
+  shape_of Notation.NULL = Shape.primitive PrimitiveShape.null
+  shape_of Notation.OBJECT-IDENTIFIER = Shape.primitive (PrimitiveShape.bytes 0x06)
+  shape_of Notation.RELATIVE-OID = Shape.primitive (PrimitiveShape.bytes 0x0D)
+  shape_of Notation.UTF8String = Shape.primitive PrimitiveShape.text
+  shape_of (Notation.restricted-string tag) = Shape.primitive (PrimitiveShape.bytes tag)
+  shape_of Notation.GeneralizedTime = Shape.primitive (PrimitiveShape.bytes 0x18)
+  shape_of Notation.UTCTime = Shape.primitive (PrimitiveShape.bytes 0x17)
+  shape_of (Notation.any-content tag) = Shape.primitive (PrimitiveShape.bytes tag)
+  shape_of Notation.any-element = Shape.raw
+  shape_of (Notation.sequence ms) = Shape.fields ListKind.sequence (layout_of ms)
+  shape_of (Notation.choice ts) = Shape.choice (shapes_of ts)
+  shape_of (Notation.list-of kind t) = Shape.list_of kind (shape_of t)
+  shape_of (Notation.wrapped w t) = Shape.wrapped w (shape_of t)
+  shape_of (Notation.content-under tag t) = Shape.primitive (PrimitiveShape.bytes (primitive_form tag))
+  shape_of (Notation.in-range least most t) = shape_of t
+  shape_of (Notation.from-minus least most t) = shape_of t
+  shape_of (Notation.other-than n t) = shape_of t
+  shape_of (Notation.sized least most t) = shape_of t
+
+  -- a member in front of others
+  pub member_then : Member → Layout → Layout
+  member_then (Member.required t) = Layout.required (shape_of t)
+  member_then (Member.optional t) = Layout.maybe (shape_of t)
+  member_then (Member.defaulted value t) = Layout.maybe (shape_of t)
+
+  pub layout_of : Members → Layout
+  layout_of Members.end = Layout.empty
+  layout_of (Members.member m ms) = member_then m (layout_of ms)
+
+  pub shapes_of : Alternatives → Shapes
+  shapes_of Alternatives.none = Shapes.none
+  shapes_of (Alternatives.alternative t ts) = Shapes.more (shape_of t) (shapes_of ts)

@@ -1,0 +1,251 @@
+-- The forms of a module as terms: what a module has on the left of these equations, and the type of ASN.1 that it is. The clauses are
+-- those of X.680, but where another one is named.
+use Rattle.std.specs.Prelude.{ℕ, ◌+◌, ◌-◌, ◌*◌, ◌/◌, ◌%◌, ◌^◌, Bool, true, false, ◌&&◌, List, [], ◌∷◌, ◌==◌, nat_lt, pos, negsuc, if◌then◌else◌}
+use Rattle.picky_der_core.specs.declared.asn1.tag.TagClass.{TagClass}
+use Rattle.picky_der_core.specs.declared.asn1.tag.TagClass.TheVariants.{Universal, Application, ContextSpecific, Private}
+use Rattle.picky_der_core.specs.declared.asn1.wrapper.Wrapper.TheVariants as wrapper
+use Rattle.picky_der_core.specs.Integer.{fits_signed, int_tree, unsigned_tree}
+use Rattle.picky_der_core.specs.Primitive.{Primitive}
+use Rattle.picky_der_core.specs.Tree.{ListKind, Tree}
+use Rattle.picky_der_core.specs.Shape.{firsts}
+use Rattle.der_types.specs.Notation.{Notation, Member, Members, Alternatives, shape_of}
+use Rattle.der_types.specs.TagOrder.{tag_place}
+
+-- the library has no type that has just the values of the text: this one is there instead
+abbrev pub instead : Notation → Notation
+instead t = t
+
+-- ---- types without parts, but for those that `Notation` has by their names
+
+-- 41, table 8
+
+abbrev pub NumericString : Notation
+NumericString = Notation.restricted-string 0x12
+
+abbrev pub PrintableString : Notation
+PrintableString = Notation.restricted-string 0x13
+
+abbrev pub TeletexString : Notation
+TeletexString = Notation.restricted-string 0x14
+
+abbrev pub T61String : Notation
+T61String = TeletexString
+
+abbrev pub IA5String : Notation
+IA5String = Notation.restricted-string 0x16
+
+abbrev pub VisibleString : Notation
+VisibleString = Notation.restricted-string 0x1A
+
+abbrev pub ISO646String : Notation
+ISO646String = VisibleString
+
+abbrev pub GeneralString : Notation
+GeneralString = Notation.restricted-string 0x1B
+
+abbrev pub UniversalString : Notation
+UniversalString = Notation.restricted-string 0x1C
+
+abbrev pub BMPString : Notation
+BMPString = Notation.restricted-string 0x1E
+
+-- an open type (X.681, 14.2), and ANY of 1988
+abbrev pub ANY : Notation
+ANY = Notation.any-element
+
+-- ---- numbers and sizes of a range
+
+-- how many bits hold the number, of 8, 16, 32, 64 and 128
+abbrev bits_for : ℕ → ℕ
+bits_for n =
+    if nat_lt n (2 ^ 8) then 8
+    else (if nat_lt n (2 ^ 16) then 16
+    else (if nat_lt n (2 ^ 32) then 32
+    else (if nat_lt n (2 ^ 64) then 64 else 128)))
+
+-- 51.4: in as many bits as hold it, and without a range if it is all numbers of so many bits
+abbrev pub INTEGER-from-to : ℕ → ℕ → Notation
+INTEGER-from-to least most =
+    let bits : ℕ = bits_for most in
+    if least == 0 && (most == 2 ^ bits - 1) then Notation.unsigned bits else Notation.in-range least most (Notation.unsigned bits)
+
+-- from minus this number: without a range if it is all numbers of so many bits. Else no type of the library has just these numbers.
+abbrev pub INTEGER-from-minus-to : ℕ → ℕ → Notation
+INTEGER-from-minus-to least most =
+    let bits : ℕ = bits_for (least + most) in
+    if least == 2 ^ (bits - 1) && (most + 1 == least) then Notation.signed bits else Notation.from-minus least most Notation.INTEGER
+
+-- 51.5
+abbrev pub SIZE : ℕ → ℕ → Notation → Notation
+SIZE = Notation.sized
+
+-- as many as memory could hold
+abbrev pub MAX : ℕ
+MAX = 2 ^ 64 - 1
+
+-- ---- members and alternatives
+
+infixr 5 ◌⨾◌
+abbrev pub ◌⨾◌ : Member → Members → Members
+◌⨾◌ = Members.member
+
+-- 25.1: the members of an extensible type, where no member of a later version may be there
+abbrev pub later-members-refused : Members
+later-members-refused = Members.end
+
+-- a default, as its type has it: of a BOOLEAN, a number or that of an item, and a number below zero
+pub data Value : Type 0 where
+  TRUE : Value
+  FALSE : Value
+  number : ℕ → Value
+  minus : ℕ → Value
+
+-- what it means
+abbrev value_of : Notation → Value → Tree
+value_of (Notation.wrapped w t) v = Tree.wrapped w (value_of t v)
+value_of Notation.BOOLEAN Value.TRUE = Tree.primitive (Primitive.boolean true)
+value_of Notation.BOOLEAN Value.FALSE = Tree.primitive (Primitive.boolean false)
+value_of (Notation.unsigned bits) (Value.number n) = unsigned_tree (2 ^ bits - 1) n
+value_of (Notation.signed bits) (Value.number n) = int_tree (fits_signed bits) (pos n)
+value_of (Notation.signed bits) (Value.minus n) = int_tree (fits_signed bits) (negsuc (n - 1))
+value_of (Notation.ENUMERATED numbers) (Value.number n) = Tree.primitive (Primitive.bytes 0x0A (n ∷ []))
+value_of _ _ = Tree.absent
+
+-- 25.1: one with this default
+abbrev pub default : Value → Notation → Member
+default v t = Member.defaulted (value_of t v) t
+
+abbrev other-than : ℕ → Notation → Notation
+other-than n (Notation.wrapped w t) = Notation.wrapped w (other-than n t)
+other-than n t = Notation.other-than n t
+
+-- one whose default is this number, and whose type hasn't that: it isn't there, and another number is (X.690, 11.5)
+abbrev pub default-of : ℕ → Notation → Member
+default-of n t = Member.optional (other-than n t)
+
+-- one with a default that the type doesn't have: it is read where it is written out
+abbrev pub default-as-optional : Notation → Member
+default-as-optional = Member.optional
+
+-- an extension addition, which an earlier version hasn't
+abbrev pub added : Notation → Member
+added = Member.optional
+
+-- 25: one without members is a list of none
+abbrev pub SEQUENCE : Members → Notation
+SEQUENCE Members.end = Notation.sized 0 0 (Notation.list-of ListKind.sequence Notation.NULL)
+SEQUENCE ms = Notation.sequence ms
+
+abbrev least_place : List ℕ → ℕ
+least_place [] = 128
+least_place (b ∷ bs) = if nat_lt (tag_place b) (least_place bs) then tag_place b else least_place bs
+
+-- the place of a member by the least tag that it may have
+abbrev place_of : Member → ℕ
+place_of (Member.required t) = least_place (firsts (shape_of t))
+place_of (Member.optional t) = least_place (firsts (shape_of t))
+place_of (Member.defaulted value t) = least_place (firsts (shape_of t))
+
+abbrev insert : Member → Members → Members
+insert m Members.end = m ⨾ Members.end
+insert m (Members.member n ns) = if nat_lt (place_of m) (place_of n) then m ⨾ n ⨾ ns else n ⨾ insert m ns
+
+abbrev in_tag_order : Members → Members
+in_tag_order Members.end = Members.end
+in_tag_order (Members.member m ms) = insert m (in_tag_order ms)
+
+-- 27, and X.690, 10.3: the members come in the order of their tags
+abbrev pub SET : Members → Notation
+SET Members.end = Notation.sized 0 0 (Notation.list-of ListKind.set Notation.NULL)
+SET ms = Notation.wrapped (wrapper.Retagged 0x31) (Notation.sequence (in_tag_order ms))
+
+abbrev pub SEQUENCE-OF : Notation → Notation
+SEQUENCE-OF = Notation.list-of ListKind.sequence
+
+abbrev pub SET-OF : Notation → Notation
+SET-OF = Notation.list-of ListKind.set
+
+infixr 5 ◌∣◌
+abbrev pub ◌∣◌ : Notation → Alternatives → Alternatives
+◌∣◌ = Alternatives.alternative
+
+-- 29.1: the alternatives of an extensible type, where none of a later version may be there
+abbrev pub later-alternatives-refused : Alternatives
+later-alternatives-refused = Alternatives.none
+
+abbrev pub CHOICE : Alternatives → Notation
+CHOICE = Notation.choice
+
+-- X.682, 11
+abbrev pub OCTET-STRING-CONTAINING : Notation → Notation
+OCTET-STRING-CONTAINING = Notation.wrapped wrapper.OctetContainer
+
+abbrev pub BIT-STRING-CONTAINING : Notation → Notation
+BIT-STRING-CONTAINING = Notation.wrapped wrapper.BitContainer
+
+-- ---- tags
+
+-- 31.2.1: how a tag is put on. One that says nothing is as the heading of its module says (13.2).
+pub data Mode : Type 0 where
+  EXPLICIT : Mode
+  IMPLICIT : Mode
+
+-- 25.7: one that isn't written
+abbrev pub AUTOMATIC : Mode
+AUTOMATIC = Mode.IMPLICIT
+
+-- X.690, 8.1.2.2
+abbrev class_bits : TagClass → ℕ
+class_bits Universal = 0x00
+class_bits Application = 0x40
+class_bits ContextSpecific = 0x80
+class_bits Private = 0xC0
+
+-- X.690, 8.14.2: an element around that of the type
+abbrev explicit : TagClass → ℕ → Notation → Notation
+explicit ContextSpecific n t = Notation.wrapped (wrapper.Explicit n) t
+explicit Application n t = Notation.wrapped (wrapper.Application n) t
+explicit class n t = Notation.wrapped (wrapper.Retagged (class_bits class + 0x20 + n)) (Notation.sequence (Member.required t ⨾ Members.end))
+
+-- X.690, 8.14.3: the tag in place of that of a list, which is constructed, and of another type, which is primitive
+abbrev over_list : TagClass → ℕ → Notation → Notation
+over_list class n t = Notation.wrapped (wrapper.Retagged (class_bits class + 0x20 + n)) t
+
+abbrev over_primitive : TagClass → ℕ → Notation → Notation
+over_primitive ContextSpecific n t = Notation.wrapped (wrapper.Implicit n) t
+over_primitive class n Notation.OCTET-STRING = Notation.any-content (class_bits class + n)
+over_primitive class n t = Notation.content-under (class_bits class + n) t
+
+abbrev is_list : Notation → Bool
+is_list (Notation.list-of kind t) = true
+is_list (Notation.sequence ms) = true
+is_list (Notation.sized least most t) = is_list t
+is_list _ = false
+
+-- 31.2.7: a choice and an open type have no tag that this one could replace, so that it is explicit. Of a type with a tag it replaces that.
+abbrev implicit : TagClass → ℕ → Notation → Notation
+implicit class n (Notation.choice ts) = explicit class n (Notation.choice ts)
+implicit class n Notation.any-element = explicit class n Notation.any-element
+implicit class n (Notation.wrapped (wrapper.Explicit m) t) = explicit class n t
+implicit class n (Notation.wrapped (wrapper.Application m) t) = explicit class n t
+implicit class n (Notation.wrapped (wrapper.Implicit m) t) = over_primitive class n t
+implicit class n (Notation.wrapped (wrapper.Retagged tag) t) = over_list class n t
+implicit class n (Notation.content-under tag t) = over_primitive class n t
+implicit class n (Notation.any-content tag) = Notation.any-content (class_bits class + 32 * (tag / 32 % 2) + n)
+implicit class n t = if is_list t then over_list class n t else over_primitive class n t
+
+abbrev tagged : TagClass → ℕ → Mode → Notation → Notation
+tagged class n Mode.EXPLICIT = explicit class n
+tagged class n Mode.IMPLICIT = implicit class n
+
+abbrev pub UNIVERSAL : ℕ → Mode → Notation → Notation
+UNIVERSAL = tagged Universal
+
+abbrev pub APPLICATION : ℕ → Mode → Notation → Notation
+APPLICATION = tagged Application
+
+abbrev pub CONTEXT : ℕ → Mode → Notation → Notation
+CONTEXT = tagged ContextSpecific
+
+abbrev pub PRIVATE : ℕ → Mode → Notation → Notation
+PRIVATE = tagged Private

@@ -1,0 +1,29 @@
+-- The shape of a type is the one that its notation denotes if those of its parts are.
+use Rattle.std.specs.Prelude.{◌≡◌, Bool, true, false, not, IsTrue, refl}
+use Rattle.std.proofs.Common.{ap, ◌∙◌}
+use Rattle.picky_der_core.specs.Primitive.{Primitive}
+use Rattle.picky_der_core.specs.Tree.{Tree}
+use Rattle.picky_der_core.specs.Shape.{Shape, Shapes, Layout}
+use Rattle.picky_der_de.specs.Layouts.{Presence, component_then}
+use Rattle.der_types.specs.Notation.{Member, member_then}
+
+-- one of this presence and shape is laid out as the member is, whatever comes after it
+pub record IsMember (p : Presence) (s : Shape) (m : Member) : Type 0 where
+  pub laid_out : (l : Layout) → component_then p s l ≡ member_then m l
+
+-- it is so in front of others that are laid out so
+pub in_front : {p : Presence} {s : Shape} {m : Member} → IsMember p s m → {k l : Layout} → k ≡ l → component_then p s k ≡ member_then m l
+in_front {p} {s} a {k} {l} e = ap (component_then p s) e ∙ a.laid_out l
+
+-- two alternatives, or one and others
+pub one_or_other : {s t : Shape} → s ≡ t → {ss ts : Shapes} → ss ≡ ts → Shapes.more s ss ≡ Shapes.more t ts
+one_or_other {s} {t} d {ss} {ts} e = ap (λ x. Shapes.more x ss) d ∙ ap (Shapes.more t) e
+
+-- a boolean that is a default means it
+pub false_value : (b : Bool) → IsTrue (not b) → Tree.primitive (Primitive.boolean b) ≡ Tree.primitive (Primitive.boolean false)
+false_value false h = refl
+false_value true h = cc
+
+pub true_value : (b : Bool) → IsTrue b → Tree.primitive (Primitive.boolean b) ≡ Tree.primitive (Primitive.boolean true)
+true_value true h = refl
+true_value false h = cc

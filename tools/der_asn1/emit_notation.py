@@ -1,0 +1,100 @@
+"""The types of a crate as terms below their texts, and the law that each type is the one of its term."""
+from .emit_imports import imports
+from .layout import natural
+from .terms import default_tags, definition, names_of
+from .tree import TagMode
+from .wording import snake
+
+_TAGS = "TAGS"
+
+# the terms of der_types, by the file that each is of
+_HOMES = {
+    "Notation": frozenset(
+        """BIT-STRING BIT-STRING-named BOOLEAN ENUMERATED ENUMERATED-extensible GeneralizedTime INTEGER NULL OBJECT-IDENTIFIER
+        OCTET-STRING RELATIVE-OID UTCTime UTF8String any-content content-under end none optional required""".split()
+    ),
+    "NotationForms": frozenset(
+        """ANY APPLICATION AUTOMATIC BIT-STRING-CONTAINING BMPString CHOICE CONTEXT EXPLICIT GeneralString IA5String IMPLICIT
+        FALSE INTEGER-from-minus-to INTEGER-from-to ISO646String MAX Mode NumericString OCTET-STRING-CONTAINING PRIVATE PrintableString
+        SEQUENCE SEQUENCE-OF SET SET-OF SIZE T61String TRUE TeletexString UNIVERSAL UniversalString VisibleString added
+        default default-as-optional default-of instead later-alternatives-refused later-members-refused minus number ◌⨾◌ ◌∣◌""".split()
+    ),
+}
+_PRELUDE = ("[]", "◌∷◌")
+
+
+def defined(types):
+    """The types that assignments define, each after those that it names."""
+    named = {it.name: it for it in types if it.term}
+    found = {}
+
+    def add(it):
+        if it.name not in found:
+            for name in sorted(names_of([it.term.inline()]) & named.keys() - {it.name}, key=natural):
+                add(named[name])
+            found[it.name] = it
+
+    for it in types:
+        if it.term:
+            add(it)
+    return list(found.values())
+
+
+def notation_terms(types, modules):
+    """The lines of the file of terms. `modules` are those that the types are of."""
+    body = [line for it in types for line in ["", *type_lines(it)]]
+    used = [it for it in modules if default_tags(it.name) in names_of(body)]
+    modes = [line for it in used for line in mode_lines(it)]
+    if len(used) == 1:
+        body = [it.replace(default_tags(used[0].name), _TAGS) for it in body]
+        modes = [it.replace(default_tags(used[0].name), _TAGS) for it in modes]
+    names = names_of([*body, *modes])
+    prelude = ["use Rattle.std.specs.Prelude.{" + ", ".join(_PRELUDE) + "}"] if "◌∷◌" in names else []
+    return [
+        "-- The types as terms. Above each is its name in its module, and above each member the member's text.",
+        *prelude,
+        *form_imports(names),
+        *modes,
+        *body,
+    ]
+
+
+def form_imports(names):
+    """The imports of these names from der_types."""
+    lines = []
+    for home, own in _HOMES.items():
+        found = sorted(names & own, key=natural)
+        found = (["Notation"] if home == "Notation" else []) + found
+        if found:
+            lines.append(f"use Rattle.der_types.specs.{home}.{{{', '.join(found)}}}")
+    return lines
+
+
+def mode_lines(module):
+    """The mode of the tags of a module that say none (X.680, 13.2)."""
+    name, mode = default_tags(module.name), module.tag_default
+    value = TagMode.EXPLICIT if mode is TagMode.EXPLICIT else TagMode.IMPLICIT
+    return ["", f"-- {module.name} DEFINITIONS {mode.name} TAGS", f"abbrev {name} : Mode", f"{name} = {value.name}"]
+
+
+def type_lines(declared):
+    """A type as a term."""
+    text = getattr(declared, "notation", "") if not declared.term.group() else ""
+    return definition(declared.name, declared.term, [f"{declared.source} of {declared.module}{f': {text}' if text else ''}"])
+
+
+def notation_file(types, own_types, crate):
+    """The lines of the file of the law."""
+    names = [it.name for it in types]
+    return [
+        "//! Which type of ASN.1 each type is.",
+        "ghost use Rattle.std.specs.Prelude.{◌≡◌};",
+        f"ghost use Rattle.{crate}.specs.Notation as notation;",
+        "",
+        *imports({*names, "Notated"}, own_types),
+        "",
+        "/// Each type is the one that its module says: `specs/Notation.antt` has its term, below its text.",
+        "pub fn types()",
+        *(f"    ensures {snake(it)} {{ ⟦<{it} as Notated>⟧.notation ≡ notation.{it} }}" for it in sorted(names, key=natural)),
+        "{}",
+    ]

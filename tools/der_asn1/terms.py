@@ -1,0 +1,143 @@
+"""Types of the notation as terms of der_types, in the forms of its specs/NotationForms.antt."""
+import re
+from dataclasses import dataclass, replace
+from typing import Optional
+
+from .layout import comment
+from .tree import TagClass, TagMode
+
+_STEP = "    "
+_WIDTH = 100
+_CLASSES = {
+    TagClass.UNIVERSAL: "UNIVERSAL",
+    TagClass.APPLICATION: "APPLICATION",
+    TagClass.CONTEXT: "CONTEXT",
+    TagClass.PRIVATE: "PRIVATE",
+}
+# what is between the members of a SEQUENCE or a SET, and between the alternatives of a CHOICE
+_MEMBERS, _ALTERNATIVES = "⨾", "∣"
+
+
+@dataclass(frozen=True)
+class Item:
+    """A member or an alternative: its text in the module, how it is there, and its term."""
+
+    text: str
+    presence: str
+    term: "Term"
+
+
+@dataclass(frozen=True)
+class Term:
+    """A term: its first words with the term of what is inside, if there is one, or with members or alternatives and the word after the last.
+
+    One with members or alternatives has a name, for where it is too long.
+    """
+
+    head: str
+    inner: Optional["Term"] = None
+    items: Optional[tuple] = None
+    end: str = ""
+    name: str = ""
+
+    def inline(self):
+        """The term on one line."""
+        if self.items is not None:
+            return f"{self.head} ({f' {self.between()} '.join([*map(item_inline, self.items), self.end])})"
+        return f"{self.head} {argument(self.inner)}" if self.inner else self.head
+
+    def between(self):
+        """The operator between the items."""
+        return _ALTERNATIVES if self.head == "CHOICE" else _MEMBERS
+
+    def group(self):
+        """The term with members or alternatives that it is, or that is inside of its tags, or None."""
+        return self if self.items is not None else self.inner and self.inner.group()
+
+    def shortened(self):
+        """The term with the name in place of the members or alternatives."""
+        return Term(self.name) if self.items is not None else replace(self, inner=self.inner.shortened())
+
+
+def argument(term):
+    """A term as an argument."""
+    text = term.inline()
+    return f"({text})" if " " in text else text
+
+
+def item_inline(item):
+    """A member or an alternative on one line."""
+    return f"{item.presence} {argument(item.term)}" if item.presence else item.term.inline()
+
+
+def definition(name, term, comments):
+    """The definition of a term, after those of parts that are too long for a line. A member or an alternative has its own line, below its text."""
+    lines, before = [], []
+    group = term.group()
+    for it in group.items if group else ():
+        lines += comment(_STEP, "--", it.text)
+        if it.term.group() and len(item_line(it, group)) > _WIDTH:
+            part, words = it.term.group(), [f"Of {name}: {it.text.split(' ')[0]}"]
+            before += [*definition(part.name, part, words), ""]
+            it = replace(it, term=it.term.shortened())
+        lines.append(item_line(it, group))
+    return [*before, *(line for it in comments for line in comment("", "--", it)), f"abbrev pub {name} : Notation", *whole(name, term, lines)]
+
+
+def item_line(item, group):
+    """The line of a member or an alternative."""
+    return f"{_STEP}{item_inline(item)} {group.between()}"
+
+
+def whole(name, term, lines):
+    """The equation of a term, with the lines of its members or alternatives."""
+    if not term.group():
+        return [f"{name} = {term.inline()}"]
+    words, after = [], ")"
+    while term.items is None:
+        words, after, term = [*words, f"{term.head} ("], f"{after})", term.inner
+    return [f"{name} = {''.join(words)}{term.head} (", *lines, f"{_STEP}{term.end}{after}"]
+
+
+def instead(term):
+    """The term of what the library has in place of a type."""
+    return term if term.head == "instead" else Term("instead", term)
+
+
+def any_content(tag):
+    """Any content under an identifier byte."""
+    return Term(f"any-content 0x{tag:02X}")
+
+
+def content_under(tag, inner):
+    """A content under an identifier byte in place of its own."""
+    return Term(f"content-under 0x{tag:02X}", inner)
+
+
+def sized(low, high, inner):
+    """A type with a size."""
+    return Term(f"SIZE {low} {high}", inner)
+
+
+def default_tags(module):
+    """The name of the mode of the tags of a module that say none."""
+    return f"TAGS-{module}"
+
+
+def tagged(tag, number, inner, module, is_explicit):
+    """A type under a tag. `is_explicit` says that it is EXPLICIT by a rule that the text doesn't show."""
+    mode = tag.mode.name if tag.mode else default_tags(module)
+    if tag.is_automatic:
+        mode = "AUTOMATIC"
+    return Term(f"{_CLASSES[tag.tag_class]} {number} {TagMode.EXPLICIT.name if is_explicit else mode}", inner)
+
+
+def number_list(values):
+    """A list of numbers."""
+    return f"({' ∷ '.join([*map(str, values), '[]'])})"
+
+
+def names_of(lines):
+    """The names and the operators in lines of terms, without those of comments."""
+    text = "\n".join(it for it in lines if not it.lstrip().startswith("--"))
+    return set(re.findall(r"[A-Za-z][\w-]*", text)) | {f"◌{it}◌" for it in (_MEMBERS, _ALTERNATIVES, "∷") if it in text}

@@ -1,0 +1,140 @@
+"""The terms of types, worked out from X.680 and docs/ASN1.md."""
+import unittest
+
+from ..emit_notation import defined
+from ..terms import definition
+from . import Given, given, module_text
+from .test_emit import crate_of
+
+
+def term_of(notation, more="", header="EXPLICIT TAGS"):
+    """The term of a type, on one line."""
+    one = given(f"T ::= {notation}\n{more}", header)
+    return one.meanings.declarations.by_name[one.meaning("T").rust.text].term.inline()
+
+
+class Terms(unittest.TestCase):
+    def check(self, pairs, header="EXPLICIT TAGS"):
+        for notation, wanted in pairs:
+            with self.subTest(notation):
+                self.assertEqual(wanted, term_of(notation, header=header))
+
+    def test_types_without_parts(self):
+        names = "BOOLEAN NULL INTEGER UTF8String PrintableString IA5String BMPString UTCTime GeneralizedTime".split()
+        spaced = ["OCTET STRING", "BIT STRING", "OBJECT IDENTIFIER", "RELATIVE-OID"]
+        self.check([(it, it.replace(" ", "-")) for it in [*names, *spaced]])
+        self.check([("BIT STRING { a(0) }", "BIT-STRING-named"), ("ANY", "ANY"), ("ENUMERATED { a(3), b(0) }", "ENUMERATED (3 ∷ 0 ∷ [])")])
+        self.check([("ENUMERATED { a, ... }", "ENUMERATED-extensible")])
+
+    def test_ranges(self):
+        self.check([("INTEGER (0..255)", "INTEGER-from-to 0 255"), ("INTEGER (5)", "INTEGER-from-to 5 5")])
+        self.check([("INTEGER (-128..127)", "INTEGER-from-minus-to 128 127"), ("INTEGER (-1..5)", "instead INTEGER")])
+
+    def test_sizes(self):
+        self.check([("OCTET STRING (SIZE (4..16))", "SIZE 4 16 OCTET-STRING"), ("IA5String (SIZE (3))", "SIZE 3 3 IA5String")])
+        self.check([("SET SIZE (1..MAX) OF NULL", "SIZE 1 MAX (SET-OF NULL)"), ("IA5String (SIZE (1 | 3))", "instead IA5String")])
+
+    def test_tags(self):
+        self.check([("[1] INTEGER", "CONTEXT 1 TAGS-M INTEGER"), ("[1] IMPLICIT INTEGER", "CONTEXT 1 IMPLICIT INTEGER")])
+        self.check([("[APPLICATION 2] EXPLICIT NULL", "APPLICATION 2 EXPLICIT NULL")])
+        self.check([("[PRIVATE 3] SEQUENCE OF NULL", "PRIVATE 3 TAGS-M (SEQUENCE-OF NULL)")], "IMPLICIT TAGS")
+        self.check([("[0] [1] NULL", "CONTEXT 0 TAGS-M (CONTEXT 1 TAGS-M NULL)")])
+
+    def test_tags_that_are_explicit_by_a_rule(self):
+        """The rule for a choice and for an open type is one of the terms (X.680, 31.2.7). That for a parameter isn't."""
+        self.check([("[0] CHOICE { a NULL }", "CONTEXT 0 TAGS-M (CHOICE (NULL ∣ none))"), ("[0] ANY", "CONTEXT 0 TAGS-M ANY")], "IMPLICIT TAGS")
+        found = term_of("P { NULL }", "P { A } ::= [0] A", header="IMPLICIT TAGS")
+        self.assertEqual("PNull", found)
+
+    def test_a_tag_that_the_library_has_for_other_values_alone(self):
+        self.check([("[APPLICATION 1] BOOLEAN", "instead (any-content 0x41)")], "IMPLICIT TAGS")
+        self.check([("[APPLICATION 1] INTEGER (0..255)", "instead (content-under 0x41 INTEGER)")], "IMPLICIT TAGS")
+        self.check([("[APPLICATION 1] OCTET STRING", "APPLICATION 1 TAGS-M OCTET-STRING")], "IMPLICIT TAGS")
+
+    def test_a_tag_over_a_set_with_a_constraint(self):
+        one = given("T ::= [1] IMPLICIT S (WITH COMPONENTS { a PRESENT })\nS ::= SET { a NULL OPTIONAL }")
+        self.assertEqual("RetaggedSet<SMembers, 0xA1>", one.meanings.declarations.by_name[one.meaning("T").rust.text].type_text)
+
+    def test_a_tag_over_a_string_of_which_the_library_has_only_bytes(self):
+        pairs = [("[0] GraphicString", "CONTEXT 0 TAGS-M (instead (any-content 0x19))")]
+        self.check([*pairs, ("[APPLICATION 3] VideotexString", "APPLICATION 3 TAGS-M (instead (any-content 0x15))")], "IMPLICIT TAGS")
+        self.assertEqual("TaggedBytes<0x43>", self.field())
+
+    def field(self):
+        one = given("T ::= SEQUENCE { a [APPLICATION 3] IMPLICIT GraphicString }")
+        return one.meanings.declarations.by_name[one.meaning("T").rust.text].fields[0].type_text
+
+    def test_members(self):
+        wanted = "SEQUENCE (required NULL ⨾ optional BOOLEAN ⨾ default TRUE (CONTEXT 0 TAGS-M BOOLEAN) ⨾ end)"
+        self.check([("SEQUENCE { a NULL, b BOOLEAN OPTIONAL, c [0] BOOLEAN DEFAULT TRUE }", wanted)])
+        wanted = "instead (SEQUENCE (default-as-optional INTEGER ⨾ end))"
+        self.check([("SEQUENCE { a INTEGER DEFAULT -1 }", wanted), ("SEQUENCE {}", "SEQUENCE end")])
+        self.check([("SEQUENCE { a [0] INTEGER DEFAULT 7 }", "SEQUENCE (default-of 7 (CONTEXT 0 TAGS-M INTEGER) ⨾ end)")])
+
+    def test_defaults(self):
+        pairs = [("INTEGER (0..255) DEFAULT 7", "default (number 7) (INTEGER-from-to 0 255)")]
+        pairs += [("INTEGER (-128..127) DEFAULT -1", "default (minus 1) (INTEGER-from-minus-to 128 127)")]
+        pairs += [("ENUMERATED { x(3), y(1) } DEFAULT x", "default (number 3) (ENUMERATED (3 ∷ 1 ∷ []))")]
+        self.check([(f"SEQUENCE {{ a {notation} }}", f"SEQUENCE ({wanted} ⨾ end)") for notation, wanted in pairs])
+
+    def test_automatic_tags(self):
+        wanted = "SEQUENCE (required (CONTEXT 0 AUTOMATIC NULL) ⨾ required (CONTEXT 1 AUTOMATIC NULL) ⨾ end)"
+        self.check([("SEQUENCE { a NULL, b NULL }", wanted)], "AUTOMATIC TAGS")
+
+    def test_a_set_has_its_members_in_the_order_of_the_text(self):
+        self.check([("SET { a [1] NULL, b [0] NULL, c NULL }", "SET (required (CONTEXT 1 TAGS-M NULL) ⨾ required (CONTEXT 0 TAGS-M NULL) ⨾ required NULL ⨾ end)")])
+
+    def test_extensions(self):
+        self.check([("SEQUENCE { a NULL, ... }", "instead (SEQUENCE (required NULL ⨾ later-members-refused))")])
+        self.check([("SEQUENCE { a NULL, ..., b BOOLEAN }", "instead (SEQUENCE (required NULL ⨾ added BOOLEAN ⨾ later-members-refused))")])
+        self.check([("CHOICE { a NULL, ... }", "instead (CHOICE (NULL ∣ later-alternatives-refused))")])
+
+    def test_what_is_kept_as_bytes(self):
+        self.check([("REAL", "instead (any-content 0x09)"), ("SEQUENCE { a T2 }", "SEQUENCE (required (instead ANY) ⨾ end)")])
+
+    def test_strings_that_contain_a_value(self):
+        self.check([("OCTET STRING (CONTAINING NULL)", "OCTET-STRING-CONTAINING NULL")])
+        self.check([("BIT STRING (CONTAINING [0] NULL)", "BIT-STRING-CONTAINING (CONTEXT 0 TAGS-M NULL)")])
+
+
+class Definitions(unittest.TestCase):
+    def text(self, body, *names, header="EXPLICIT TAGS"):
+        return crate_of(body, *names, header=header).files()["specs/Notation.antt"]
+
+    def test_each_is_after_those_that_it_names(self):
+        one = given("A ::= SEQUENCE { b B, c C } B ::= SEQUENCE { c C } C ::= NULL")
+        one.meaning("A")
+        self.assertEqual(["C", "B", "A"], [it.name for it in defined(one.meanings.declarations.by_name.values())])
+
+    def test_a_part_that_is_too_long_has_a_name(self):
+        body = "A ::= SEQUENCE { long [0] SEQUENCE { " + ", ".join(f"a{it} UTF8String" for it in range(6)) + " } OPTIONAL }"
+        lines = self.text(body, "A").split("\n")
+        self.assertIn("-- Of A: long", lines)
+        self.assertIn("    optional (CONTEXT 0 TAGS ALong) ⨾", lines)
+        self.assertLess(lines.index("abbrev pub ALong : Notation"), lines.index("abbrev pub A : Notation"))
+
+    def test_the_tags_of_a_module(self):
+        self.assertIn("-- M DEFINITIONS IMPLICIT TAGS\nabbrev TAGS : Mode\nTAGS = IMPLICIT\n", self.text("A ::= [0] NULL", "A", header="IMPLICIT TAGS"))
+        self.assertNotIn("TAGS", self.text("A ::= NULL", "A"))
+
+    def test_the_tags_of_two_modules(self):
+        one = Given(module_text("A ::= SEQUENCE { a [0] NULL, b B } IMPORTS B FROM N;"), "N DEFINITIONS IMPLICIT TAGS ::= BEGIN B ::= [1] NULL END")
+        self.assertEqual("CONTEXT 1 TAGS-N NULL", self.named(one, "B", 1))
+
+    def named(self, one, name, module):
+        return one.meanings.declarations.by_name[one.meaning(name, module).rust.text].term.inline()
+
+    def test_a_name_that_the_type_under_a_tag_has_not(self):
+        crate = crate_of("A ::= SEQUENCE { b [0] IMPLICIT B } B ::= SET { c NULL }", "A")
+        self.assertIn("RetaggedSet<BMembers, 0xA0>", crate.files()["src/a.rt"])
+        self.assertEqual(["A", "B", "BMembers"], sorted(crate.types))
+
+    def test_the_law(self):
+        text = crate_of("A ::= SEQUENCE { b B } B ::= INTEGER", "A").files()["src/notation.rt"]
+        self.assertIn("    ensures a { ⟦<A as Notated>⟧.notation ≡ notation.A }\n    ensures b { ⟦<B as Notated>⟧.notation ≡ notation.B }\n{}\n", text)
+
+    def test_a_type_on_one_line(self):
+        one = given("A ::= INTEGER (0..7)")
+        one.meaning("A")
+        declared = one.meanings.declarations.by_name["A"]
+        self.assertEqual(["-- A of M", "abbrev pub A : Notation", "A = INTEGER-from-to 0 7"], definition("A", declared.term, ["A of M"]))
