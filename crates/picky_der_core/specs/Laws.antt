@@ -21,7 +21,7 @@ Stands s input limit t = StandsAt Place.whole s input limit t
 abbrev pub LengthBothWays : Type 0
 LengthBothWays = (n k : ℕ) (rest : List ℕ) → IsPrefix (length_octets n) (length_octets k ++ rest) → n ≡ k
 
--- a wrapper of a number up to 30 that doesn't vanish is one element, which holds exactly what it should
+-- a wrapper whose tag can be written, and that doesn't vanish, is one element, which holds exactly what it should
 abbrev pub WrapperLengths : Type 0
 WrapperLengths =
     (w : Wrapper) (t : Tree) → HasTagNumber w → IsFalse (can_vanish w && is_absent t) → IsTagNumber (number_of (wrapper_tag w)) × (der (Tree.wrapped w t) ≡ tlv (wrapper_tag w) (wrapped_content w t))

@@ -30,7 +30,7 @@ abbrev pub wrap_if : Option Wrapper → Tree → Tree
 wrap_if None t = t
 wrap_if (Some w) t = Tree.wrapped w t
 
--- its tag number, if it has one, is at most 30
+-- its tag can be written, if there is one
 abbrev pub HasTagNumberIfAny : Option Wrapper → Type 0
 HasTagNumberIfAny None = ⊤
 HasTagNumberIfAny (Some w) = HasTagNumber w

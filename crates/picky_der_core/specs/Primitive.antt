@@ -43,7 +43,7 @@ primitive_content Primitive.null = []
 primitive_content (Primitive.text s) = s
 primitive_content (Primitive.bytes tag s) = s
 
--- A tag number is at most 30. As in every value that a program has, each byte is a byte and each text is UTF-8.
+-- A tag number is at most 30. As in every value that a program has, each byte of a content is a byte and each text is UTF-8.
 abbrev pub IsReadablePrimitive : Primitive → Type 0
 IsReadablePrimitive (Primitive.boolean b) = ⊤
 IsReadablePrimitive (Primitive.unsigned n) = ⊤

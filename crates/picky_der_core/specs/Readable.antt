@@ -25,7 +25,7 @@ IsInOrder ListKind.set members = IsAscending members
 
 -- Nothing in it is absent, each raw part is one element, each tag number is at most 30, each tag in place of a list's own is
 -- constructed, no choice stands directly under an implicit tag, and the members of each set stand in ascending order. As in every value
--- that a program has, each byte is a byte and each text is UTF-8.
+-- that a program has, each byte of a content or of a raw part is a byte and each text is UTF-8.
 abbrev mutual
   pub IsReadable : Tree → Type 0
   IsReadable (Tree.primitive p) = IsReadablePrimitive p

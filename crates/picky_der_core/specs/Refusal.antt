@@ -152,7 +152,7 @@ abbrev pub inside_refusal : ℕ → Judge → ℕ → List ℕ → Option Refusa
 inside_refusal tag judge ahead rest =
     if is_tag_number (number_of tag) then content_refusal judge (Ok (ahead, rest)) else Some (UnsupportedValue, rest)
 
--- how the header of a wrapper, a sequence or a set is refused
+-- how the header of a sequence or a set is refused
 abbrev pub header_refusal : ℕ → Bool → ℕ → List ℕ → Option Refusal
 header_refusal tag hard ahead rest = refusal_of (header tag hard ahead rest)
 

@@ -3,7 +3,7 @@ use Rattle.std.specs.Prelude.{◌≡◌, ℕ, ◌/◌, ◌%◌, ◌≤◌, Bool,
 use Rattle.picky_der_core.specs.declared.asn1.tag.TagClass.{TagClass}
 use Rattle.picky_der_core.specs.declared.asn1.tag.TagClass.TheVariants.{Universal, Application, ContextSpecific, Private}
 
--- bits 8 and 7
+-- bits 8 and 7 of a byte
 abbrev pub class_of : ℕ → TagClass
 class_of tag =
     if tag / 64 == 0 then Universal

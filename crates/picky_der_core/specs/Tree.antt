@@ -42,7 +42,7 @@ abbrev pub IsListTree : Tree → Type 0
 IsListTree (Tree.list kind ts) = Unit {0}
 IsListTree _ = ⊥
 
--- nothing is written of it: it isn't there, or only what can vanish stands around it
+-- it isn't there, or only choices and wrappers that can vanish stand around what isn't: then nothing is written of it
 abbrev pub is_absent : Tree → Bool
 is_absent Tree.absent = true
 is_absent (Tree.wrapped w t) = can_vanish w && is_absent t

@@ -1,4 +1,4 @@
--- The wrappers, each one element around one value (X.690, 8.6.2, 8.7, 8.14): a line for each in each table.
+-- The wrappers, each one element around one value (X.690, 8.6.2, 8.7, 8.14). A table's last line is of all that have none of their own.
 use Rattle.std.specs.Prelude.{ℕ, ◌+◌, Bool, true, false, List, [], ◌∷◌, ⊤, if◌then◌else◌}
 use Rattle.picky_der_core.specs.declared.asn1.wrapper.Wrapper.{Wrapper}
 use Rattle.picky_der_core.specs.declared.asn1.wrapper.Wrapper.TheVariants.{OctetContainer, BitContainer, Explicit, Implicit, Application, Retagged}
@@ -17,13 +17,13 @@ abbrev pub counts_unused_bits : Wrapper → Bool
 counts_unused_bits BitContainer = true
 counts_unused_bits _ = false
 
--- whether a plain value keeps its header in it
+-- whether a plain value keeps its header in it; those that don't are the implicit tags
 abbrev pub keeps_header : Wrapper → Bool
 keeps_header (Implicit n) = false
 keeps_header (Retagged tag) = false
 keeps_header _ = true
 
--- whether nothing is written of it around a value of which nothing is written
+-- whether nothing is written of it around an absent value (`Tree.is_absent`)
 abbrev pub can_vanish : Wrapper → Bool
 can_vanish (Application n) = false
 can_vanish _ = true

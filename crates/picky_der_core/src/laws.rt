@@ -14,7 +14,7 @@ pub fn length_both_ways()
     ensures { LengthBothWays }
 {}
 
-/// Around something, a wrapper with a number up to 30 is one element that holds exactly what it should, at every depth. An
+/// Around something, a wrapper whose tag can be written is one element that holds exactly what it should, at every depth. An
 /// application tag is one around anything.
 pub fn wrapper_lengths()
     ensures { WrapperLengths }

@@ -201,7 +201,7 @@ module _ {W : Type 0} (g : Ghosts W) where
 
   -- ---- wrappers
 
-  -- It stopped with this error before a wrapper was opened, and nothing was written. A tag number past 30 is told before all else.
+  -- It stopped with this error before a wrapper was opened, and nothing was written. A tag that can't be written is told before all else.
   pub record RefusesWrapper (w : Wrapper) (old : State W) (e : Asn1DerError) (new : State W) : Type 0 where
     pub failed : new.failed ≡ Some (failure_of e)
     pub same : new.sink ≡ old.sink

@@ -48,9 +48,9 @@ pub fn to_byte_buf<T: Serialize>(alloc: Global, value: &T, buf: &mut Vec<u8>) ->
     outcome
 }
 
-/// The canonical encoding of a value, in a vector that has room for more bytes. `OutOfMemory` where a growth was refused,
-/// and `UnsupportedValue` where the value can't be written: a tag number in it is past 30, or the encoding is longer than
-/// `usize::MAX`.
+/// The canonical encoding of a value, in a vector that has room for more bytes. `OutOfMemory` where an allocation failed,
+/// and `UnsupportedValue` where the value can't be written: a tag number in it is past 30, the tag of a `Retagged` isn't
+/// constructed, or the encoding is longer than `usize::MAX`.
 pub fn to_vec<T: Serialize>(alloc: Global, value: &T) -> Result<Vec<u8>>
     ensures ok { IfOk result (λ bytes. bytes.items ≡ der (T.meaning value.now)) }
     ensures writable { OnOk result (IsWritable (T.meaning value.now)) }

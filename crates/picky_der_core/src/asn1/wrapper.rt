@@ -22,7 +22,7 @@ pub enum Wrapper {
     /// The explicit application tag with this number.
     Application(u8),
 
-    /// A list's tag that this identifier byte replaces.
+    /// This identifier byte, in place of a list's own tag.
     Retagged(u8),
 }
 
@@ -65,7 +65,7 @@ impl Wrapper {
         self == Wrapper::BitContainer
     }
 
-    /// Whether a plain value keeps its header in it: not directly under an implicit tag.
+    /// Whether a plain value keeps its header in it: not in an `Implicit` or a `Retagged`.
     pub fn keeps_header(self) -> bool
         ensures { result ≡ keeps_header self }
     {
