@@ -1,6 +1,7 @@
 //! Values that write by calls of their own.
 
 ghost use Rattle.picky_der_core.specs.Primitive.{Primitive};
+
 use picky_asn1_der::asn1::Tag;
 use picky_asn1_der::misc::WriteExt;
 use picky_asn1_der::{Result, Serialize, Serializer, ser};
