@@ -95,11 +95,7 @@ impl<'a, R: ReadExt> Sequence<'a, R> {
             (state_of self.new)) }
     {
         if self.de.is_in_set() {
-            // Taken apart, so that the other way's result needn't be in memory.
-            return match self.de.next_in_set::<T>() {
-                Ok(value) => Ok(value),
-                Err(error) => Err(error),
-            };
+            return self.de.next_in_set();
         }
         T::deserialize(self.de)
     }
