@@ -1,4 +1,4 @@
--- Digits of numbers, of which each bit is turned or none is.
+-- Digits of numbers, with each bit inverted or as it is.
 use Rattle.std.proofs.Common.{◌≡◌, ◌≢◌, ℕ, suc, ◌+◌, ◌-◌, ◌*◌, ◌^◌, ◌<◌, ◌≤◌, Bool, true, false, not, ◌||◌, ◌==◌, List, [], ◌∷◌, length, take, drop, get_or, nat_lt, Option, Some, None, IfSome, IfNone, ℤ, cond, refl, sym, ap, subst, ◌∙◌, arith, inl, inr, lt-ltb, le-ltb, eqb-true, pow-suc, add-one, mul-le-mul_right}
 use Rattle.std.specs.Int.{complement_if}
 use Rattle.std.specs.Int.Digits.{number_from_digits, number_from_digits_after}
@@ -35,13 +35,13 @@ more_digits_fit k m n d l h b =
     let most : 256 ^ (k + 1) ≤ 256 ^ m = pow-le-pow_right {n = 256} (omega arith) {i = k + 1} {j = m} (omega arith) in
     omega (arith, more_digits k n d h b, most)
 
--- ---- behind the sign
+-- ---- after the sign
 
 -- the bits, where the sign is known
 bits_as : (bs : List ℕ) (t : Bool) → is_negative bs ≡ t → content_bits bs ≡ number_from_digits 256 (turned_if t bs)
 bits_as bs t e = ap (λ t. number_from_digits 256 (turned_if t bs)) e
 
--- what a number counts in front of bytes
+-- what a number counts before bytes
 number_after-least : (n : ℕ) (bs : List ℕ) → n * 256 ^ length bs ≤ number_from_digits_after 256 n bs
 number_after-least n [] = omega (arith, pow-zero 256)
 number_after-least n (b ∷ bs) =
@@ -55,7 +55,7 @@ past_bits b bs some h =
     let least : 1 * 256 ^ length bs ≤ b * 256 ^ length bs = mul-le-mul_right (256 ^ length bs) (omega arith) in
     omega (arith, number_after-least (0 * 256 + b) bs)
 
--- so are more than sixteen behind the sign of a content
+-- so are more than sixteen after the sign of a content
 pub long_bits : (bs : List ℕ) → AreBytes bs → is_integer bs ≡ true → 16 < length (behind_sign bs) → 2 ^ 128 ≤ content_bits bs
 long_bits [] p e h = absurd (omega arith)
 long_bits (b ∷ []) p e h = by_sign (b == 0x00 || b == 0xFF) h
@@ -87,7 +87,7 @@ long_bits (b ∷ c ∷ bs) p e h = by_tests (b == 0x00) (b == 0xFF) refl refl e 
 
 -- ---- contents among seventeen bytes
 
--- the bytes as they are, behind some in front
+-- the bytes as they are, after some in front
 pub content_positive : (n start : ℕ) (t : Bool) (bytes : List ℕ) → t ≡ false → drop start bytes ≡ unsigned_content n → drop start bytes ≡ integer_content (complement_if t n)
 content_positive n start t bytes e f = f ∙ ap (λ t. integer_content (complement_if t n)) (sym e)
 

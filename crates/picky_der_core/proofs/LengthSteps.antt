@@ -1,4 +1,4 @@
--- The steps of reading a length: what was taken so far, and what the end of the input and the last byte tell.
+-- The steps of reading a length: the bytes consumed so far, and what the end of the input and the last byte mean.
 use Rattle.std.proofs.Common.{◌≡◌, ◌≢◌, ℕ, ◌+◌, ◌*◌, ◌^◌, ◌<◌, ◌≤◌, List, [], ◌∷◌, ◌++◌, length, Option, Some, None, Result, Ok, Err, IfSome, IfErr, OnErr, refl, sym, ap, ◌∙◌, arith, append-nil, length-append}
 use Rattle.std.specs.Int.Digits.{number_from_digits}
 use Rattle.std.specs.Io.KnownBytes.{Consumes, Keeps, IsAtEnd}
@@ -21,7 +21,7 @@ use Rattle.picky_der_core.specs.LengthLaws.{length_of-length_octets, length_of-n
 
 -- ---- known bytes
 
--- these bytes were taken, and tell the answer whatever follows them
+-- these bytes were consumed, and determine the result whatever follows them
 read_after : (a b : Option (List ℕ)) (bs : List ℕ) (n : ℕ) → Consumes a b bs → ((rest : List ℕ) → length_of TruncatedData (bs ++ rest) ≡ Ok (n, rest)) → IsReadAs (length_of TruncatedData) a b n
 read_after None b bs n h is = tt
 read_after (Some xs) None bs n h is = h
@@ -32,7 +32,7 @@ refused_after None b bs e h is = tt
 refused_after (Some xs) None bs e h is = h
 refused_after (Some xs) (Some ys) bs e h is = ap (length_of TruncatedData) h ∙ is ys
 
--- the input ended behind these bytes
+-- the input ended after these bytes
 refused_at_end : (a b c : Option (List ℕ)) (bs : List ℕ) → Consumes a b bs → IsAtEnd b → Keeps b c → length_of TruncatedData bs ≡ Err (TruncatedData, []) → IsRefusedAs (length_of TruncatedData) a c TruncatedData
 refused_at_end None b c bs h end kept is = tt
 refused_at_end (Some xs) None c bs h end kept is = absurd h
@@ -40,7 +40,7 @@ refused_at_end (Some xs) (Some ys) None bs h end kept is = kept
 refused_at_end (Some xs) (Some ys) (Some zs) bs h end kept is =
     ap (length_of TruncatedData) (h ∙ ap (λ l. bs ++ l) end ∙ append-nil bs) ∙ is ∙ ap (λ l. Err (TruncatedData, l)) (sym (kept ∙ end))
 
--- no length stands there
+-- no length is there
 abbrev pub IsNoLength : Option (List ℕ) → Type 0
 IsNoLength known = IfSome known (λ bs. (n : ℕ) → n < 2 ^ 64 → IsPrefix (length_octets n) bs → ⊥)
 
@@ -56,7 +56,7 @@ none_from_refused (Err e) P a b h = λ p. IsNoLength-from_refused a b e (h p)
 -- ---- a byte that isn't given
 
 module _ {before left : Option (List ℕ)} {old new : List Fault} {e : Error} where
-  -- it is missing, unless the device failed
+  -- it is missing, unless the reader failed
   pub refused_missing : (a c : Option (List ℕ)) (bs : List ℕ) → length_of TruncatedData bs ≡ Err (TruncatedData, []) → Consumes a before bs → Keeps before c → IsFaultOrEnd before left old new e → new ≡ old
       → IsRefusedAs (length_of TruncatedData) a c (error_of_kind (error_kind e))
   unfolding error_of_kind
@@ -77,7 +77,7 @@ refused_count a b {first} {e} h (IsNoLongCount.none is error) =
 refused_count a b {first} {e} h (IsNoLongCount.too_many more error) =
     refused_after a b (first ∷ []) e h (λ rest. length_of-too_many TruncatedData first rest more ∙ ap (λ x. Err (x, rest)) (sym error))
 
--- a first byte and so many length bytes were taken, of this number
+-- a first byte and so many length bytes were consumed, of this number
 pub record TakesLength (old new : Option (List ℕ)) (first count number : ℕ) : Type 0 where
   pub digits : List ℕ
   pub consumed : Consumes old new (first ∷ digits)
@@ -120,6 +120,6 @@ module _ {a b : Option (List ℕ)} {first k count number : ℕ} (t : TakesLength
       refused_after a b (first ∷ t.digits) InvalidData t.consumed
       (λ rest. length_of-longer TruncatedData first count t.digits rest long (t.size ∙ whole) t.bytes (λ same. size (ap (λ n. length (length_octets n)) t.is ∙ same)))
 
--- a length was taken
+-- a length was consumed
 pub read_length_octets : (a b : Option (List ℕ)) (n : ℕ) → n < 2 ^ 64 → Consumes a b (length_octets n) → IsReadAs (length_of TruncatedData) a b n
 read_length_octets a b n small h = read_after a b (length_octets n) n h (λ rest. length_of-length_octets TruncatedData n rest small)

@@ -1,4 +1,4 @@
--- A peeked byte that was handed out.
+-- A peeked byte that was returned.
 use Rattle.std.proofs.Common.{◌≡◌, ℕ, ◌<◌, List, [], ◌∷◌, length, take, slice_set, refl, arith}
 
 -- the first byte of a buffer that it was put into

@@ -100,7 +100,7 @@ cut_before_hard = refl
 cut_content : error_of (plain_refusal 0x02 (unsigned_error 255) true 3 (0x02 ∷ 0x01 ∷ [])) ≡ Some TruncatedData
 cut_content = refl
 
--- ---- what is left behind the bytes that were drawn
+-- ---- what is left after the consumed bytes
 
 behind_foreign_tag : plain_refusal 0x02 (unsigned_error 255) false 5 (0x01 ∷ 0x01 ∷ 0xFF ∷ 0x05 ∷ 0x00 ∷ []) ≡ Some (InvalidData, 0x01 ∷ 0xFF ∷ 0x05 ∷ 0x00 ∷ [])
 behind_foreign_tag = refl

@@ -10,7 +10,7 @@ use Rattle.picky_der_core.specs.Readable.{IsReadable}
 use Rattle.picky_der_core.specs.Shape.{Shape, Layout, shapes, IsOf, IsSound, tags_below}
 use Rattle.picky_der_core.proofs.OnLiterals.{der_on_literals}
 
--- ---- choices that are told by the first byte, and one that isn't
+-- ---- choices that are distinguished by the first byte, and one that isn't
 
 number_or_flag : IsSound (Shape.choice (shapes (Shape.primitive (PrimitiveShape.unsigned 255) ∷ (Shape.primitive PrimitiveShape.boolean) ∷ [])))
 number_or_flag = ((tt, (tt, tt)), (refl, (refl, tt)))
@@ -53,7 +53,7 @@ flagged_is_of = (refl, ((refl, tt), inl (tt, ((refl, tt), tt))))
 unflagged_is_of : IsOf flagged_shape (Tree.list ListKind.sequence (trees (Tree.primitive (Primitive.bytes 0x06 []) ∷ Tree.primitive (Primitive.bytes 0x04 []) ∷ [])))
 unflagged_is_of = (refl, ((refl, tt), inr ((refl, tt), tt)))
 
--- ---- members that may be missing and aren't told: from the next one, and from the one behind another that may be missing
+-- ---- members that may be missing and aren't distinguished: from the next one, and from the one after another that may be missing
 
 untold_member : IsSound (Shape.fields ListKind.sequence (Layout.maybe (Shape.primitive (PrimitiveShape.unsigned 255)) (Layout.required (Shape.primitive (PrimitiveShape.unsigned 65535)) Layout.empty))) → ⊥
 untold_member sound = let untold = sound.1.0 in cc
@@ -61,11 +61,33 @@ untold_member sound = let untold = sound.1.0 in cc
 untold_behind : IsSound (Shape.fields ListKind.sequence (Layout.maybe (Shape.primitive PrimitiveShape.null) (Layout.maybe (Shape.primitive PrimitiveShape.boolean) (Layout.required (Shape.primitive PrimitiveShape.null) Layout.empty)))) → ⊥
 untold_behind sound = let untold = sound.1.0 in cc
 
--- behind a member that is always there it may come again
+-- after a member that is always there it may come again
 told_behind_required : IsSound (Shape.fields ListKind.sequence (Layout.maybe (Shape.primitive PrimitiveShape.null) (Layout.required (Shape.primitive PrimitiveShape.boolean) (Layout.maybe (Shape.primitive PrimitiveShape.null) Layout.empty))))
 told_behind_required = ((tt, (tt, (tt, tt))), (refl, (refl, tt)))
 
--- ---- alternatives that aren't told: null, and an element
+-- ---- further elements, of which the first isn't a null: so a null that may be missing before them is distinguished
+
+abbrev extensible_shape : Shape
+extensible_shape = Shape.fields ListKind.sequence (Layout.maybe (Shape.primitive PrimitiveShape.null) (Layout.others (0x05 ∷ [])))
+
+extensible_is_sound : IsSound extensible_shape
+unfolding tags_below
+extensible_is_sound = ((tt, tt), (refl, tt))
+
+extended_is_of : IsOf extensible_shape (Tree.list ListKind.sequence (trees (Tree.primitive Primitive.null ∷ Tree.raw (0x04 ∷ 0x00 ∷ []) ∷ Tree.raw (0x05 ∷ 0x00 ∷ []) ∷ [])))
+extended_is_of = (refl, inl (tt, (((omega arith, (omega arith, tt)), refl), ((omega arith, (omega arith, tt)), tt))))
+
+-- nor are there two nulls
+twice_is_not : IsOf extensible_shape (Tree.list ListKind.sequence (trees (Tree.primitive Primitive.null ∷ Tree.raw (0x05 ∷ 0x00 ∷ []) ∷ []))) → ⊥
+twice_is_not (e, inl p) = let excluded = p.1.0.1 in cc
+twice_is_not (e, inr p) = absurd p.0
+
+-- without that it isn't distinguished
+untold_others : IsSound (Shape.fields ListKind.sequence (Layout.maybe (Shape.primitive PrimitiveShape.null) (Layout.others []))) → ⊥
+unfolding tags_below
+untold_others sound = let untold = sound.1.0 in cc
+
+-- ---- alternatives that aren't distinguished: null, and an element
 
 abbrev null_or_raw : Shape
 null_or_raw = Shape.choice (shapes ((Shape.primitive PrimitiveShape.null) ∷ Shape.raw ∷ []))

@@ -8,11 +8,11 @@ use Rattle.picky_der_core.specs.Wrapper.{wrapper_front, keeps_header, can_vanish
 use Rattle.picky_der_core.specs.WrapperLaws.{after_front}
 use Rattle.picky_der_core.specs.Tree.{ListKind, Tree, Trees, is_absent}
 use Rattle.picky_der_core.specs.Encoding.{plain_encoding, wrapper_encoding, tree_bytes, encodings, der, list_content}
-use Rattle.picky_der_core.specs.Readable.{IsReadable, AreReadable, IsNoChoice, IsHeadedIfChoice}
-use Rattle.picky_der_core.specs.Shape.{Shape, Shapes, Layout, IsOf, IsOneOf, AreMembersOf, firsts, firsts_of, next_firsts, are_apart, IsPrimitiveTree, IsRaw, IsList, IsWrapped, IsOptional, IsChoice, EachIs, FirstAndRest, FirstOrNone, IsEmpty, IsSound, AreSound, AreTold, AreMembersSound, AreMembersTold}
+use Rattle.picky_der_core.specs.Readable.{IsReadable, AreReadable, IsHeadedIfChoice}
+use Rattle.picky_der_core.specs.Shape.{Shape, Shapes, Layout, IsOf, IsOneOf, AreMembersOf, firsts, firsts_of, next_firsts, are_apart, IsPrimitiveTree, IsRaw, IsList, IsWrapped, IsOptional, IsChoice, EachIs, FirstAndRest, FirstOrNone, IsEmpty, AreOthers, IsSound, AreSound, AreTold, AreMembersSound, AreMembersTold}
 use Rattle.picky_der_core.specs.ElementLaws.{tlv-same}
 use Rattle.picky_der_core.specs.EncodingLaws.{is_absent-readable, list_content-in_order, never_absent, same_encoding, length-der}
-use Rattle.picky_der_core.specs.FirstLaws.{begins_in, begins_in_one, begins_next, apart_differ, is_of-optional}
+use Rattle.picky_der_core.specs.FirstLaws.{begins_in, begins_in_one, begins_next, apart_differ, is_of-optional, others_each}
 
 -- a readable tree with P is known by what is written of it
 abbrev pub IsKnown : Bool → (Tree → Type 0) → Type 0
@@ -98,7 +98,7 @@ not_empty t rest r e = by_bytes (der t) (length-der t r) e
     by_bytes [] h e = omega arith
     by_bytes (x ∷ b) h e = cc
 
--- members that stand at the front of one list are the same, and so is what follows
+-- members that are at the front of one list are the same, and so is what follows
 member_known : (P : Tree → Type 0) → IsKnown true P → (t u : Tree) (a b : List ℕ) → P t → P u → IsReadable t → IsReadable u → der t ++ a ≡ der u ++ b → (t ≡ u) × (a ≡ b)
 unfolding der
 member_known P known t u a b p q r s e =
@@ -115,6 +115,9 @@ each_known P known (Trees.more t ts) (Trees.more u us) p q r s e =
     let f : t ≡ u = first.0 in
     let g : ts ≡ us = each_known P known ts us p.1 q.1 r.1 s.1 first.1 in
     cc
+
+others_known : (excluded : List ℕ) → AreKnown (AreOthers excluded)
+others_known excluded ts us p q = each_known IsRaw (raw_known true) ts us (others_each excluded ts p) (others_each excluded us q)
 
 empty_known : AreKnown IsEmpty
 empty_known Trees.none Trees.none p q r s e = refl
@@ -142,7 +145,7 @@ one_known s ss a known others t u (inr p) (inl q) r v m n e = absurd (apart_diff
 
 -- ---- members that may be missing
 
--- a member, and what stands instead where it is missing, aren't written alike
+-- a member, and what comes instead if it is missing, aren't written alike
 absent_told : (s : Shape) (l : Layout) → are_apart (firsts s) (next_firsts l) ≡ true → (ts us : Trees) → FirstAndRest (IsOf s) (AreMembersOf l) ts → AreMembersOf l us → AreReadable ts → AreReadable us
     → concat (encodings ts) ≡ concat (encodings us) → ⊥
 unfolding tree_bytes der
@@ -172,11 +175,12 @@ mutual
   members_known Layout.empty = λ sound apart. empty_known
   members_known (Layout.required s l) = λ sound apart. first_and_rest_known _ _ (known s sound.0 true) (members_known l sound.1 apart)
   members_known (Layout.maybe s l) = λ sound apart. first_or_none_known s l apart.0 (known s sound.0 true) (members_known l sound.1 apart.1)
+  members_known (Layout.others excluded) = λ sound apart. others_known excluded
 
   alternatives_known : (ss : Shapes) → AreSound ss → AreTold ss → IsKnown true (IsOneOf ss)
   alternatives_known Shapes.none = λ sound apart t u p. absurd p
   alternatives_known (Shapes.more s ss) = λ sound apart. one_known s ss apart.0 (known s sound.0 true) (alternatives_known ss sound.1 apart.1)
 
--- of what stands at the front of one list, the tree and the rest
+-- two trees at the front of one list are the same tree, and leave the same rest
 pub same_tree : (s : Shape) → IsSound s → (t u : Tree) → IsOf s t → IsOf s u → IsReadable t → IsReadable u → (a b : List ℕ) → der t ++ a ≡ der u ++ b → (t ≡ u) × (a ≡ b)
 same_tree s sound t u p q r v a b e = member_known (IsOf s) (known s sound true) t u a b p q r v e

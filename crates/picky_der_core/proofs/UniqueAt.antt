@@ -1,4 +1,4 @@
--- Of what stands at the front of one list, whole or directly under an implicit tag, there is one tree.
+-- One tree is at the front of a list, whole or directly under an implicit tag.
 use Rattle.std.proofs.Common.{◌≡◌, ℕ, Bool, true, false, List, ◌++◌, sym, ap, ◌∙◌}
 use Rattle.picky_der_core.specs.Tree.{Tree, is_plain}
 use Rattle.picky_der_core.specs.Encoding.{der, implicit_content}
@@ -10,7 +10,7 @@ use Rattle.picky_der_core.specs.EncodingLaws.{same_encoding, implicit_content-ot
 use Rattle.picky_der_core.specs.ShapeLaws.{is_plain_shape, plain_by_shape}
 use Rattle.picky_der_core.proofs.Unique.{known, same_tree}
 
--- trees that are both plain, or both not, have one inside if both stand at the front of the same bytes
+-- trees that are both plain, or both not, have one inside if both are at the front of the same bytes
 same_implicit_content : (plain : Bool) (ahead : ℕ) (t u : Tree) (a b : List ℕ) → is_plain t ≡ plain → is_plain u ≡ plain → IsReadable t → IsReadable u
     → FillsTag ahead t → FillsTag ahead u → implicit_content t ++ a ≡ implicit_content u ++ b → implicit_content t ≡ implicit_content u
 same_implicit_content true ahead t u a b p q r v f g e = (same_front (implicit_content t) (implicit_content u) a b (f.filled p ∙ sym (g.filled q)) e).0

@@ -57,11 +57,11 @@ first-big_endian (suc n) b bs e =
     let same : digits_of 256 (suc n) ≡ b ∷ bs = sym (big_endian-digits (suc n)) ∙ e in
     rw same at first
 
--- one more byte behind them
+-- one more byte after them
 big_endian-more : (n b : ℕ) → 0 < n * 256 + b → b < 256 → big_endian (n * 256 + b) ≡ big_endian n ++ (b ∷ [])
 big_endian-more n b h byte = big_endian-step (n * 256 + b) h ∙ rw (div-mul-add n 256 b byte, mod-mul-add n 256 b byte) refl
 
--- any bytes behind them
+-- any bytes after them
 big_endian-after : (n : ℕ) (bs : List ℕ) → 0 < n → AreBytes bs → big_endian (number_from_digits_after 256 n bs) ≡ big_endian n ++ bs
 big_endian-after n [] h p = rw append-nil refl
 big_endian-after n (b ∷ bs) h p = big_endian-after (n * 256 + b) bs (omega arith) p.1 ∙ rw (big_endian-more n b (omega arith) p.0, append_assoc) refl
@@ -72,7 +72,7 @@ big_endian-number b bs h p =
     let front : big_endian (0 * 256 + b) ≡ big_endian 0 ++ (b ∷ []) = big_endian-more 0 b (omega arith) p.0 in
     big_endian-after (0 * 256 + b) bs (omega arith) p.1 ∙ rw (front, big_endian-zero) refl
 
--- and so are bytes that are as many as those
+-- and so are bytes of the same number
 pub big_endian-as_many : (bs : List ℕ) → AreBytes bs → length (big_endian (number_from_digits 256 bs)) ≡ length bs → big_endian (number_from_digits 256 bs) ≡ bs
 big_endian-as_many [] h e = big_endian-zero
 big_endian-as_many (zero ∷ bs) h e = absurd (omega (arith, length-big_endian (length bs) (number_from_digits 256 bs) (number_lt 256 bs h.1)))
@@ -88,14 +88,14 @@ below-big_endian n = subst (λ m. m < 256 ^ length (big_endian n)) (number-big_e
 power_of_256 : (i j : ℕ) → i ≤ j → 256 ^ i ≤ 256 ^ j
 power_of_256 i j h = pow-le-pow_right {n = 256} (omega arith) {i = i} {j = j} h
 
--- a number from a power of 256 on takes more bytes than that power has, and by `length-big_endian` no others
+-- a number from a power of 256 on has more bytes than that power, and by `length-big_endian` no others
 pub big_endian-least : (k n : ℕ) → 256 ^ k ≤ n → k < length (big_endian n)
 big_endian-least k n h = elim (cases_lt k (length (big_endian n))) [
   | inl fewer ↦ fewer
   | inr enough ↦ absurd (omega (arith, below-big_endian n, power_of_256 (length (big_endian n)) k enough))
 ]
 
--- between two powers it takes as many as the higher
+-- between two powers it has as many as the higher
 pub big_endian-size : (k n : ℕ) → 256 ^ k ≤ n → n < 256 ^ suc k → length (big_endian n) ≡ suc k
 big_endian-size k n l h = omega (arith, big_endian-least k n l, length-big_endian (suc k) n h)
 
@@ -106,7 +106,7 @@ power_of_2 (suc k) =
     let more : 8 * suc k ≡ 8 * k + 8 = omega arith in
     rw (more, pow-suc 256 k, power_of_2 k, pow-add 2 (8 * k) 8) refl
 
--- the zeros in front of a number of 64 bits tell how many bytes it takes
+-- the zeros before a number of 64 bits determine how many bytes it has
 pub big_endian-zeros : (n : ℕ) → 0 < n → n < 2 ^ 64 → leading_zeros w64 n / 8 + length (big_endian n) ≡ 8
 big_endian-zeros n some small =
     let (top, zeros, least, most) = leading_top 64 n some small in

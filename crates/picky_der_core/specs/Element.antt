@@ -16,7 +16,7 @@ big_endian_within (suc most) n = elim (n == 0) [ true ↦ [] | false ↦ big_end
 unfoldable pub big_endian : ℕ → List ℕ
 big_endian n = big_endian_within n n
 
--- a length: the number in one byte, or how many bytes it takes and these
+-- a length: the number in one byte, or how many bytes it has and these bytes
 unfoldable pub length_octets : ℕ → List ℕ
 length_octets n = if nat_lt n 0x80 then n ∷ [] else (0x80 + length (big_endian n)) ∷ big_endian n
 

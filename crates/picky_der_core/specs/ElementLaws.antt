@@ -27,7 +27,7 @@ pub length_octets-long : (n : ℕ) → 0x80 ≤ n → length_octets n ≡ (0x80 
 unfolding length_octets
 length_octets-long n h = rw (is_long n h (nat_lt n 0x80) refl) refl
 
--- a length takes at most nine bytes
+-- a length has at most nine bytes
 pub length-length_octets : (n : ℕ) → n < 2 ^ 64 → length (length_octets n) ≤ 9
 length-length_octets n h = by_form (nat_lt n 0x80) refl
   where
@@ -76,7 +76,7 @@ tlv-same x y c d e =
 
 -- ---- what is made of bytes
 
--- bytes behind bytes
+-- bytes after bytes
 pub bytes_then : (xs ys : List ℕ) → AreBytes xs → AreBytes ys → AreBytes (xs ++ ys)
 bytes_then [] ys h k = k
 bytes_then (x ∷ xs) ys h k = (h.0, bytes_then xs ys h.1 k)
@@ -91,7 +91,7 @@ length_bytes n small = elim (cases_lt n 0x80) [
   | inr long ↦ rw (length_octets-long n long) (omega (arith, length-big_endian 8 n (omega arith)), AreBytes-big_endian n)
 ]
 
--- an element is made of bytes where its content is
+-- an element is made of bytes if its content is
 pub element_bytes : (tag : ℕ) (c : List ℕ) → tag < 256 → length c < 2 ^ 64 → AreBytes c → AreBytes (tlv tag c)
 unfolding tlv
 element_bytes tag c byte small h = (byte, bytes_then (length_octets (length c)) c (length_bytes (length c) small) h)

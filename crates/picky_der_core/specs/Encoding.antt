@@ -46,7 +46,7 @@ unfoldable mutual
 unfoldable pub der : Tree → List ℕ
 der t = tree_bytes true t
 
--- what stands directly under an implicit tag: a plain tree's content, of a choice what its alternative has there, else the whole encoding
+-- what is directly under an implicit tag: a plain tree's content, for a choice that of its alternative, else the whole encoding
 unfoldable pub implicit_content : Tree → List ℕ
 implicit_content t = tree_bytes false t
 

@@ -113,7 +113,7 @@ der-list_of_meanings {V} meaning kind vs =
 
 -- ---- the content of a list
 
--- members in order are written as they stand
+-- members in order are written as they are
 pub list_content-in_order : (kind : ListKind) (members : List (List ℕ)) → IsInOrder kind members → list_content kind members ≡ concat members
 list_content-in_order ListKind.sequence members h = refl
 list_content-in_order ListKind.set members h = ap concat (in_ascending_order-same members h)

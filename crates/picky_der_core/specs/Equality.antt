@@ -5,11 +5,11 @@ use Rattle.picky_der_core.specs.declared.error.Asn1DerError.TheVariants as error
 use Rattle.picky_der_core.specs.declared.failure.Failure.{Failure}
 use Rattle.picky_der_core.specs.Failure.{failure_of}
 
--- two values are equal just where this part of them is the same
+-- two values are equal exactly if this part of them is the same
 abbrev pub IsEqualityOf : {V P : Type 0} → (V → V → Bool) → (V → P) → Type 0
 IsEqualityOf {V} eq part = (x y : V) → IsTrue (eq x y) ↔ (part x ≡ part y)
 
--- what is answered of two values is what is answered of this part of them
+-- what is returned of two values is what is returned of this part of them
 abbrev pub IsThatOf : {V P A : Type 0} → (V → V → A) → (V → P) → (P → P → A) → Type 0
 IsThatOf {V} answer part own = (x y : V) → answer x y ≡ own (part x) (part y)
 

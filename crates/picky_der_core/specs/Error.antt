@@ -1,4 +1,4 @@
--- Which error a fault of a device becomes.
+-- Which error an I/O error of a reader becomes.
 use Rattle.std.specs.declared.io.ErrorKind.{ErrorKind}
 use Rattle.std.specs.declared.io.ErrorKind.TheVariants as kind
 use Rattle.picky_der_core.specs.declared.error.Asn1DerError.{Asn1DerError}

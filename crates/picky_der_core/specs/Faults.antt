@@ -1,4 +1,4 @@
--- The faults of a device.
+-- The I/O errors of a reader.
 use Rattle.std.specs.Prelude.{ℕ, List, [], ◌∷◌, length, Option, map, refl}
 use Rattle.std.specs.Coded.{Coded, code_by, coded×}
 use Rattle.std.specs.declared.io.ErrorKind.{ErrorKind}
@@ -6,12 +6,12 @@ use Rattle.std.specs.contracts.io.ErrorKind as error_kind
 use Rattle.picky_der_core.specs.declared.misc.faults.Faults.{Faults}
 use Rattle.picky_der_core.specs.declared.misc.faults.Faults.TheVariants.{Fresh, More'}
 
--- a fault: its kind, and what the device told of its bytes behind it
+-- an I/O error: its kind, and the bytes of the reader after it, as far as they are known
 pub record Fault : Type 0 where
   pub kind : ErrorKind
   pub left : Option (List ℕ)
 
--- a fault: its kind, and the device behind it
+-- an I/O error: its kind, and the reader after it
 pub record FaultOf (T : Type 0) : Type 0 where
   pub kind : ErrorKind
   pub device : T
@@ -28,6 +28,6 @@ faults_in (More' kind device before others) = record { kind = kind; device = dev
 abbrev pub count_of : {T : Type 0} → Faults T → ℕ
 count_of faults = length (faults_in faults)
 
--- what a device tells of its bytes, at each of its faults
+-- the bytes of a reader, as far as they are known, at each of its I/O errors
 abbrev pub faults_told : {T : Type 0} → (T → Option (List ℕ)) → List (FaultOf T) → List Fault
 faults_told bytes faults = map (λ f. record { kind = f.kind; left = bytes f.device }) faults

@@ -1,5 +1,7 @@
 -- With which byte the encoding of a readable tree begins.
-use Rattle.std.proofs.Common.{◌≡◌, ℕ, zero, suc, ◌+◌, ◌<◌, Bool, true, false, ◌||◌, ◌&&◌, not, List, [], ◌∷◌, ◌++◌, ◌==◌, ◌⊎◌, inl, inr, refl, sym, ◌∙◌, subst, arith, eq-eqb, eqb-true, false-eqb, le-leb}
+use Rattle.std.specs.Prelude.{cond}
+use Rattle.std.specs.List.{filter}
+use Rattle.std.proofs.Common.{◌≡◌, ℕ, zero, suc, ◌<◌, Bool, true, false, ◌||◌, ◌&&◌, not, List, [], ◌∷◌, ◌++◌, ◌==◌, ◌⊎◌, inl, inr, refl, sym, ◌∙◌, subst, arith, eq-eqb, eqb-true, false-eqb, le-leb}
 use Rattle.picky_der_core.specs.declared.asn1.wrapper.Wrapper.{Wrapper}
 use Rattle.picky_der_core.specs.Tag.{number_of, IsTagNumber}
 use Rattle.picky_der_core.specs.Element.{AreBytes, tlv}
@@ -10,7 +12,7 @@ use Rattle.picky_der_core.specs.WrapperLaws.{wrapper_number-small}
 use Rattle.picky_der_core.specs.Tree.{ListKind, Tree, Trees}
 use Rattle.picky_der_core.specs.Encoding.{plain_encoding, tree_bytes, der, list_tag}
 use Rattle.picky_der_core.specs.Readable.{IsReadable}
-use Rattle.picky_der_core.specs.Shape.{Shape, Shapes, Layout, IsOf, IsOneOf, AreMembersOf, FirstOrNone, firsts, firsts_of, next_firsts, contains, are_apart, tags_below, tag_with_number, IsPrimitiveTree, IsRaw, IsList, IsOptional, IsWrapped, IsChoice}
+use Rattle.picky_der_core.specs.Shape.{Shape, Shapes, Layout, IsOf, IsOneOf, AreMembersOf, FirstOrNone, EachIs, firsts, firsts_of, next_firsts, contains, are_apart, tags_below, tag_with_number, IsPrimitiveTree, IsRaw, begins_outside, IsRawOutside, AreOthers, IsList, IsOptional, IsWrapped, IsChoice}
 use Rattle.picky_der_core.specs.EncodingLaws.{is_absent-readable, der-wrapped_present}
 
 -- its encoding begins with one of these bytes
@@ -44,6 +46,22 @@ contains-append_left x (y ∷ xs) ys h = or_more (x == y) (contains xs x) (x == 
 pub contains-append_right : (x : ℕ) (xs ys : List ℕ) → contains ys x ≡ true → contains (xs ++ ys) x ≡ true
 contains-append_right x [] ys h = h
 contains-append_right x (y ∷ xs) ys h = or_right (x == y) (contains (xs ++ ys) x) (contains-append_right x xs ys h)
+
+-- what is kept of a list is in it, and passes the test
+pub contains-filter : (test : ℕ → Bool) (x : ℕ) (xs : List ℕ) → contains xs x ≡ true → test x ≡ true → contains (filter test xs) x ≡ true
+contains-filter test x [] h k = cc
+contains-filter test x (y ∷ ys) h k = by_test (test y) refl (λ later. contains-filter test x ys later k)
+  where
+    by_test : (b : Bool) → test y ≡ b → (contains ys x ≡ true → contains (filter test ys) x ≡ true) → contains (cond b (y ∷ filter test ys) (filter test ys)) x ≡ true
+    by_test true e next = or_more (x == y) (contains ys x) (x == y) (contains (filter test ys) x) h (λ same. same) next
+    by_test false e next = by_first (x == y) refl h
+      where
+        by_first : (b : Bool) → (x == y) ≡ b → (b || contains ys x) ≡ true → contains (filter test ys) x ≡ true
+        by_first true same l =
+            let kept : test y ≡ true = subst (λ z. test z ≡ true) (eqb-true x y same) k in
+            let never : true ≡ false = sym kept ∙ e in
+            cc
+        by_first false same l = next l
 
 and_parts : (a b : Bool) → (a && b) ≡ true → (a ≡ true) × (b ≡ true)
 and_parts true b h = (refl, h)
@@ -168,7 +186,25 @@ mutual
   begins_in_one Shapes.none = λ t p r. absurd p
   begins_in_one (Shapes.more s ss) = one_of_first (IsOf s) (IsOneOf ss) (firsts s) (firsts_of ss) (begins_in s) (begins_in_one ss)
 
+-- ---- any further elements
+
+pub others_each : (excluded : List ℕ) (ts : Trees) → AreOthers excluded ts → EachIs IsRaw ts
+others_each excluded Trees.none p = tt
+others_each excluded (Trees.more (Tree.raw s) ts) p = (p.0.0, p.1)
+others_each excluded (Trees.more _ ts) p = absurd p.0
+
+-- one that doesn't begin with an excluded byte begins with one of the others
+raw_outside_first : (excluded : List ℕ) (t : Tree) → IsRawOutside excluded t → IsReadable t → BeginsIn (filter (λ b. not (contains excluded b)) (tags_below 256)) t
+unfolding der tree_bytes
+raw_outside_first excluded (Tree.raw s) p r =
+    let b = raw_first (Tree.raw s) p.0 r in
+    let is : s ≡ b.first ∷ b.others = b.is in
+    let outside : not (contains excluded b.first) ≡ true = subst (λ z. begins_outside excluded z ≡ true) is p.1 in
+    record { first = b.first; others = b.others; is = b.is; listed = contains-filter (λ x. not (contains excluded x)) b.first (tags_below 256) b.listed outside }
+raw_outside_first excluded _ p r = absurd p
+
 pub begins_next : (l : Layout) (t : Tree) (ts : Trees) → AreMembersOf l (Trees.more t ts) → IsReadable t → BeginsIn (next_firsts l) t
 begins_next Layout.empty = λ t ts p r. absurd p
 begins_next (Layout.required s l) = λ t ts p r. begins_in s t p.0 r
 begins_next (Layout.maybe s l) = first_or_none_first (IsOf s) (AreMembersOf l) (firsts s) (next_firsts l) (begins_in s) (begins_next l)
+begins_next (Layout.others excluded) = λ t ts p r. raw_outside_first excluded t p.0 r

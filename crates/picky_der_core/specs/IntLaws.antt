@@ -9,7 +9,7 @@ use Rattle.picky_der_core.specs.Integer.{is_integer, integer_value, integer_cont
 use Rattle.picky_der_core.specs.IntegerLaws.{is_integer-content, content-value, value-content, same_integer, AreBytes-content}
 use Rattle.picky_der_core.specs.declared.error.Asn1DerError.TheVariants.{InvalidData, UnsupportedValue}
 
--- ---- no type has a number of more than 128 bits beside the sign
+-- ---- no type has a number of more than 128 bits and the sign
 
 pub signed_is_narrow : (k : ℕ) → k ≤ 128 → (z : ℤ) → fits_signed k z ≡ true → bits_of z < 2 ^ 128
 signed_is_narrow k h z f =

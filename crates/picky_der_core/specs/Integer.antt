@@ -1,4 +1,4 @@
--- The contents of an INTEGER (X.690, 8.3), which are those of an ENUMERATED (8.4) too, and what numbers mean.
+-- The contents of an INTEGER (X.690, 8.3), which are also the contents of an ENUMERATED (8.4), and what numbers mean.
 use Rattle.std.specs.Prelude.{ℕ, ◌-◌, ◌^◌, Bool, true, false, not, ◌||◌, ◌==◌, nat_lt, List, [], ◌∷◌, length, map, ℤ, pos, negsuc, ◌-ℤ◌, if◌then◌else◌}
 use Rattle.std.specs.Int.{complement_if}
 use Rattle.std.specs.Int.Digits.{number_from_digits}
@@ -12,7 +12,7 @@ is_integer [] = false
 is_integer (b ∷ []) = true
 is_integer (b ∷ c ∷ bs) = if nat_lt c 0x80 then not (b == 0x00) else not (b == 0xFF)
 
--- a byte with each bit turned, or as it is
+-- a byte with each bit inverted, or as it is
 abbrev pub turned_byte : Bool → ℕ → ℕ
 turned_byte true b = 0xFF - b
 turned_byte false b = b
@@ -20,7 +20,7 @@ turned_byte false b = b
 abbrev pub turned_if : Bool → List ℕ → List ℕ
 turned_if t bs = map (turned_byte t) bs
 
--- the content of a number, in two's complement (8.3.3): -(n + 1) has the bits of n, each turned
+-- the content of a number, in two's complement (8.3.3): -(n + 1) has the bits of n, each inverted
 abbrev pub integer_content : ℤ → List ℕ
 integer_content (pos n) = unsigned_content n
 integer_content (negsuc n) = turned_if true (unsigned_content n)
@@ -35,7 +35,7 @@ abbrev pub bits_of : ℤ → ℕ
 bits_of (pos n) = n
 bits_of (negsuc n) = n
 
--- those of a content
+-- the bits of a content
 abbrev pub content_bits : List ℕ → ℕ
 content_bits bs = number_from_digits 256 (turned_if (is_negative bs) bs)
 
@@ -48,7 +48,7 @@ behind_sign (b ∷ bs) = if b == 0x00 || b == 0xFF then bs else b ∷ bs
 abbrev pub integer_value : List ℕ → ℤ
 integer_value bs = complement_if (is_negative bs) (content_bits bs)
 
--- the number of bytes as 8.3.3 says it: that of the bits, where the first counts as negative
+-- the number of bytes by 8.3.3: that of the bits, of which the first counts as negative
 abbrev pub twos_complement : List ℕ → ℤ
 twos_complement bs = pos (number_from_digits 256 bs) -ℤ pos (if is_negative bs then 256 ^ length bs else 0)
 

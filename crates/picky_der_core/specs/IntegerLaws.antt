@@ -13,7 +13,7 @@ use Rattle.picky_der_core.specs.BigEndianLaws.{number-big_endian, first-big_endi
 use Rattle.picky_der_core.specs.UnsignedLaws.{AreBytes-unsigned_content}
 use Rattle.picky_der_core.specs.Integer.{is_integer, is_negative, turned_if, integer_content, integer_value, twos_complement}
 
--- ---- turned bits
+-- ---- inverted bits
 
 pub unturned : (bs : List ℕ) → turned_if false bs ≡ bs
 unturned bs = map-id bs
@@ -53,7 +53,7 @@ positive_content (suc b) bs low p e = positive_alone (suc b) bs (omega arith) lo
 
 -- ---- each content is that of a number
 
--- turned, a content of a negative number is one of a number that isn't
+-- with inverted bits, the content of a negative number is that of a number that isn't
 is_integer-turned : (b : ℕ) (bs : List ℕ) → 0x80 ≤ b → AreBytes (b ∷ bs) → is_integer (b ∷ bs) ≡ true → is_integer (turned_if true (b ∷ bs)) ≡ true
 is_integer-turned b [] high p e = refl
 is_integer-turned b (c ∷ bs) high p e = elim (cases_lt c 0x80) [
@@ -113,7 +113,7 @@ positive n = by_bytes (big_endian n) refl
           | inr large ↦ rw (le-ltb c 0x80 large, ne_eqb b 0xFF (λ e. omega arith)) refl
         ]
 
--- with its bits turned it keeps the rule of the first nine
+-- with its bits inverted it keeps the rule of the first nine
 turned-is_integer : (b : ℕ) (bs : List ℕ) → b < 0x80 → AreBytes (b ∷ bs) → is_integer (b ∷ bs) ≡ true → is_integer (turned_if true (b ∷ bs)) ≡ true
 turned-is_integer b [] low p e = refl
 turned-is_integer b (c ∷ bs) low p e = elim (cases_lt c 0x80) [
@@ -159,7 +159,7 @@ same_integer y z e = sym (value-content y) ∙ ap integer_value e ∙ value-cont
 
 -- ---- two's complement
 
--- bytes and the same ones turned make up all bits
+-- bytes and the same ones inverted make up all bits
 bits_and_turned : (m n : ℕ) (bs : List ℕ) → AreBytes bs → number_from_digits_after 256 m bs + number_from_digits_after 256 n (turned_if true bs) + 1 ≡ (m + n + 1) * 256 ^ length bs
 bits_and_turned m n [] p = omega (arith, pow-zero 256)
 bits_and_turned m n (b ∷ bs) p =

@@ -13,7 +13,7 @@ use Rattle.picky_der_core.specs.Shape.{Shape, IsOf, IsSound, IsFirst}
 use Rattle.picky_der_core.specs.Wrapper.{wrapper_tag, can_vanish, HasTagNumber}
 use Rattle.picky_der_core.specs.Reading.{Place, StandsAt}
 
--- a readable tree of the shape stands at the front of the input, within the limit
+-- a readable tree of the shape is at the front of the input, within the limit
 abbrev pub Stands : Shape → List ℕ → ℕ → Tree → Type 0
 Stands s input limit t = StandsAt Place.whole s input limit t
 
@@ -36,7 +36,7 @@ abbrev pub UniqueReadability : Type 0
 UniqueReadability =
     (s : Shape) → IsSound s → (t u : Tree) → IsOf s t → IsOf s u → IsReadable t → IsReadable u → IsPrefix (der t) (der u) → t ≡ u
 
--- what stands at the front of an input is one tree
+-- one tree alone is at the front of an input
 abbrev pub OneValue : Type 0
 OneValue =
     (s : Shape) → IsSound s → (input : List ℕ) (limit : ℕ) (t u : Tree) → Stands s input limit t → Stands s input limit u → (t ≡ u) × (der t ≡ der u)
@@ -48,14 +48,14 @@ RoundTrip =
     → Stands s (der t ++ rest) limit t
     × ((u : Tree) → (stands : Stands s (der t ++ rest) limit u) → (u ≡ t) × (stands.front.rest ≡ rest))
 
--- lists of readable trees are equal exactly where their encodings, one after another, are
+-- lists of readable trees are equal exactly if their encodings, one after another, are
 abbrev pub SameBytes : Type 0
 SameBytes =
     (s : Shape) → IsSound s → (ts us : List Tree)
     → AllByRecursion (λ t. IsOf s t × IsReadable t) ts → AllByRecursion (λ t. IsOf s t × IsReadable t) us
     → (concat (map der ts) ≡ concat (map der us)) ↔ (ts ≡ us)
 
--- what stands directly under an implicit tag, within one end, is one tree
+-- what is directly under an implicit tag, within one end, is one tree
 abbrev pub OneInside : Type 0
 OneInside =
     (s : Shape) → IsSound s → (rest : List ℕ) (ahead : ℕ) (t u : Tree)

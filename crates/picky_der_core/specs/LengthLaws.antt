@@ -1,4 +1,4 @@
--- How many bytes a length takes, and what reading a length answers.
+-- How many bytes a length has, and what reading a length returns.
 use Rattle.std.proofs.Common.{◌≡◌, ◌≢◌, ℕ, zero, suc, ◌+◌, ◌-◌, ◌^◌, ◌<◌, ◌≤◌, false, List, [], ◌∷◌, ◌++◌, length, take, drop, nat_lt, ◌==◌, if◌then◌else◌, Ok, Err, refl, sym, ap, ◌∙◌, subst, arith, inl, inr, lt-ltb, le-ltb, ne_eqb, length-append, take-append-drop, length-take-le}
 use Rattle.std.specs.Int.Digits.{number_from_digits}
 use Rattle.std.proofs.lemmas.Int.Digits.{number_lt}
@@ -13,17 +13,17 @@ use Rattle.picky_der_core.specs.ElementLaws.{length_octets-short, length_octets-
 use Rattle.picky_der_core.specs.Refusal.{Refusal, ReadOutcome, long_length, begins_with_zero, length_of}
 use Rattle.picky_der_core.specs.Lengths.{IsLongCount}
 
--- ---- how many bytes a length takes
+-- ---- how many bytes a length has
 
 -- below 128 one
 pub length-length_octets-short : (n : ℕ) → n < 0x80 → length (length_octets n) ≡ 1
 length-length_octets-short n h = ap length (length_octets-short n h)
 
--- from 128 on one, and those of the number
+-- from 128 on one, and the bytes of the number
 pub length-length_octets-long : (n : ℕ) → 0x80 ≤ n → length (length_octets n) ≡ 1 + length (big_endian n)
 length-length_octets-long n h = ap length (length_octets-long n h) ∙ omega arith
 
--- ---- what reading a length answers, by its first byte
+-- ---- what reading a length returns, by its first byte
 
 -- one byte
 pub length_of-short : (lacking : Asn1DerError) (first : ℕ) (rest : List ℕ) → first < 0x80 → length_of lacking (first ∷ rest) ≡ Ok (first, rest)
@@ -61,14 +61,14 @@ length_of-long lacking first k ds rest count e =
     let there : nat_lt (length (ds ++ rest)) (length ds) ≡ false = le-ltb _ _ (omega (arith, length-append ds rest)) in
     length_of-counted lacking first k (ds ++ rest) count ∙ rw (← e, there, take-append_seam ds rest, drop-append_seam ds rest) refl
 
--- a length that takes more than one byte has these of its number
+-- a length of more than one byte has the bytes of its number
 long-from_size : (n k : ℕ) → 0 < k → length (length_octets n) ≡ 1 + k → (0x80 ≤ n) × (length (big_endian n) ≡ k)
 long-from_size n k some e = elim (cases_lt n 0x80) [
   | inl short ↦ absurd (omega (arith, length-length_octets-short n short))
   | inr long ↦ (long, omega (arith, length-length_octets-long n long))
 ]
 
--- no 0 in front and no number below 128 where the length takes as many
+-- no 0 in front and no number below 128 if the length has as many bytes
 long_length-shortest : (ds rest : List ℕ) → 0 < length ds → AreBytes ds → length (length_octets (number_from_digits 256 ds)) ≡ 1 + length ds
     → long_length (number_from_digits 256 ds) (begins_with_zero ds) rest ≡ Ok (number_from_digits 256 ds, rest)
 long_length-shortest [] rest some h e = absurd (omega arith)
@@ -77,7 +77,7 @@ long_length-shortest (zero ∷ ds) rest some h e =
     absurd (omega (arith, length-big_endian (length ds) (number_from_digits 256 ds) (number_lt 256 ds h.1)))
 long_length-shortest (suc d ∷ ds) rest some h e = rw (ne_eqb (suc d) 0 (λ z. omega arith), le-ltb _ _ (long-from_size _ _ some e).0) refl
 
--- one of the two where it takes others
+-- one of the two if it has others
 long_length-longer : (ds rest : List ℕ) → 0 < length ds → AreBytes ds → length (length_octets (number_from_digits 256 ds)) ≢ 1 + length ds
     → long_length (number_from_digits 256 ds) (begins_with_zero ds) rest ≡ Err (InvalidData, rest)
 long_length-longer [] rest some h e = absurd (omega arith)
@@ -87,7 +87,7 @@ long_length-longer (suc d ∷ ds) rest some h e = elim (cases_lt (number_from_di
   | inr long ↦ absurd (e (length-length_octets-long _ long ∙ ap (λ l. 1 + length l) (big_endian-number (suc d) ds (omega arith) h)))
 ]
 
--- the length of the number takes as many bytes
+-- the length of the number has as many bytes
 pub length_of-shortest : (lacking : Asn1DerError) (first k : ℕ) (ds rest : List ℕ) → IsLongCount first k → length ds ≡ k → AreBytes ds → length (length_octets (number_from_digits 256 ds)) ≡ 1 + k
     → length_of lacking (first ∷ ds ++ rest) ≡ Ok (number_from_digits 256 ds, rest)
 length_of-shortest lacking first k ds rest count e h size =
@@ -99,7 +99,7 @@ length_octets-number first k ds count e h size =
     let (long, as_many) = long-from_size (number_from_digits 256 ds) k count.some size in
     rw (length_octets-long (number_from_digits 256 ds) long, big_endian-as_many ds h (omega arith), e, ← count.is) refl
 
--- it takes fewer bytes
+-- it has fewer bytes
 pub length_of-longer : (lacking : Asn1DerError) (first k : ℕ) (ds rest : List ℕ) → IsLongCount first k → length ds ≡ k → AreBytes ds → length (length_octets (number_from_digits 256 ds)) ≢ 1 + k
     → length_of lacking (first ∷ ds ++ rest) ≡ Err (InvalidData, rest)
 length_of-longer lacking first k ds rest count e h size =
@@ -118,7 +118,7 @@ length_of-length_octets lacking n rest h = elim (cases_lt n 0x80) [
       rw (length_octets-long n long) (length_of-shortest lacking (0x80 + length ds) (length ds) ds rest count refl (AreBytes-big_endian n) size ∙ ap (λ m. Ok (m, rest)) (number-big_endian n))
 ]
 
--- one answer is one number and one rest
+-- one result is one number and one rest
 same_read : {m n : ℕ} {xs ys : List ℕ} → ◌≡◌ {A = ReadOutcome ℕ} (Ok (m, xs)) (Ok (n, ys)) → (m ≡ n) × (xs ≡ ys)
 same_read {m} {n} {xs} {ys} e = let same : ◌≡◌ {A = ℕ × List ℕ} (m, xs) (n, ys) = cc in (ap (λ p. p.0) same, ap (λ p. p.1) same)
 
@@ -165,7 +165,7 @@ length_octets-from_length_of lacking (b ∷ bs) n rest h read = elim (cases_lt b
   ]
 ]
 
--- where none is read, none stands
+-- if none is read, none is there
 pub no_length_begins : (lacking : Asn1DerError) (bs : List ℕ) (e : Refusal) → length_of lacking bs ≡ Err e → (n : ℕ) → n < 2 ^ 64 → IsPrefix (length_octets n) bs → ⊥
 no_length_begins lacking bs e refused n h there =
     let read : length_of lacking bs ≡ Ok (n, there.rest) = ap (length_of lacking) there.is ∙ length_of-length_octets lacking n there.rest h in

@@ -16,7 +16,7 @@ IsRefusedAs read None new e = ⊤
 IsRefusedAs read (Some bs) None e = ⊥
 IsRefusedAs read (Some bs) (Some left) e = read bs ≡ Err (e, left)
 
--- an error that only a device gives where no memory is taken
+-- an error that only a reader gives where nothing is allocated
 abbrev pub IsOfDevice : Asn1DerError → Type 0
 IsOfDevice (Other kind) = ⊤
 IsOfDevice OutOfMemory = ⊤

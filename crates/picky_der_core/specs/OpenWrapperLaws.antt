@@ -36,7 +36,7 @@ der-under_absent ws t v h = der-absent (under ws t) (absent-under ws t v h)
 
 -- ---- trees that are written alike
 
--- with a header and without, and one is absent or has a tag that can't be written where the other does
+-- with a header and without, and one is absent or has a tag that can't be written where the other is or has
 pub record AreAlike (t u : Tree) : Type 0 where
   pub written_same : (header : Bool) → tree_bytes header t ≡ tree_bytes header u
   pub absent_same : is_absent t ≡ is_absent u

@@ -49,7 +49,7 @@ module _ {X : Type 0} (less : X → X → Bool) where
       let others = IsSortedBy-join (c ∷ xs) b zs (IsSortedBy-tail a (c ∷ xs ++ b ∷ []) up) on in
       IsSortedBy-cons a c (xs ++ b ∷ zs) (IsSortedBy-first a c (xs ++ b ∷ []) up) others
 
-  -- one more behind the last, which isn't less
+  -- one more after the last, which isn't less
   pub IsSortedBy-push : (xs : List X) (a b : X) → IsSortedBy less (xs ++ a ∷ []) → less b a ≡ false → IsSortedBy less (xs ++ a ∷ b ∷ [])
   IsSortedBy-push xs a b up last = IsSortedBy-join xs a (b ∷ []) up (IsSortedBy-cons a b [] last (IsSortedBy-one b))
 
@@ -85,7 +85,7 @@ less_on a b c h k = by_test (is_less a c) refl
     by_test true e = e
     by_test false e = absurd (true≢false (sym h ∙ not_less_chain a c b e k))
 
--- of two that differ one is less
+-- one of two that differ is less
 neither_less : (a b : List ℕ) → is_less a b ≡ false → is_less b a ≡ false → a ≡ b
 neither_less a b h k = by_order (slice_cmp nat_cmp a b) refl
   where
@@ -103,7 +103,7 @@ ascending_behind_nothing (b ∷ ys) up = IsSortedBy-cons is_less [] b ys (not_le
     not_less_nothing [] = refl
     not_less_nothing (x ∷ c) = refl
 
--- ---- how often each stands in a list
+-- ---- how often each is in a list
 
 abbrev once_if_equal : Ordering → ℕ
 once_if_equal o = cond (is_eq o) 1 0
@@ -149,7 +149,7 @@ same_ascending (a ∷ xs) (b ∷ ys) up on same =
     let others : xs ≡ ys = same_ascending xs ys (IsSortedBy-tail is_less a xs up) (IsSortedBy-tail is_less b ys on) fewer in
     cc
 
--- of the same elements one list alone is ascending
+-- only one list of the same elements is ascending
 pub only_ascending : (xs ys : List (List ℕ)) → IsPermutation xs ys → IsAscending xs → IsAscending ys → xs ≡ ys
 only_ascending xs ys moved up on = same_ascending xs ys up on (λ c. sym (sum_by-IsPermutation (λ d. once_if_equal (slice_cmp nat_cmp c d)) xs ys moved))
 
@@ -165,7 +165,7 @@ in_order_with-permutation a (b ∷ ys) = by_test (is_less b a) (in_order_with-pe
         IsPermutation-trans _ _ _ swapped (IsPermutation-cons b _ _ moved)
     by_test false moved = IsPermutation-refl (a ∷ b ∷ ys)
 
--- behind b, which a isn't less than
+-- after b, which a isn't less than
 in_order_with-behind : (a b : List ℕ) (ys : List (List ℕ)) → is_less a b ≡ false → IsAscending (b ∷ ys) → IsAscending (in_order_with a ys)
     → IsAscending (b ∷ in_order_with a ys)
 in_order_with-behind a b [] h up on = IsSortedBy-cons is_less b a [] h on

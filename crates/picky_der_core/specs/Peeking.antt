@@ -8,7 +8,7 @@ pub record PeekableState (R : Type 0) : Type 0 where
   pub peeked : Option ℕ
   -- whether it was read from the reader; if not, the reader still shows it
   pub drawn : Bool
-  -- how many bytes were handed out
+  -- how many bytes were returned
   pub pos : ℕ
 
 abbrev pub peeking_code : {R : Type 0} → Coded R → Coded (PeekableState R)
@@ -30,7 +30,7 @@ abbrev pub drawn_byte : Bool → Option ℕ → Option ℕ
 drawn_byte true peeked = peeked
 drawn_byte false peeked = None
 
--- the bytes that are still to be handed out, where the inner reader tells its own
+-- the bytes that are still to be returned, if the inner reader's are known
 abbrev pub left_in : {R : Type 0} → (R → Option (List ℕ)) → PeekableState R → Option (List ℕ)
 left_in remaining p = in_front (drawn_byte p.drawn p.peeked) (remaining p.reader)
 
@@ -39,11 +39,11 @@ abbrev pub shown_by : Bool → ℕ → ℕ
 shown_by true n = 0
 shown_by false n = n
 
--- of known bytes this is the first
+-- this is the first of known bytes
 abbrev pub IsFirstIn : Option (List ℕ) → ℕ → Type 0
 IsFirstIn left b = IfSome left (λ bytes. take 1 bytes ≡ b ∷ [])
 
--- a peeked byte that the reader still has is the first of those that are shown
+-- a peeked byte that the reader still has is the first byte of `ahead`
 abbrev pub IsShown : Bool → Option ℕ → ℕ → Option (List ℕ) → Type 0
 IsShown true peeked n left = ⊤
 IsShown false None n left = ⊤
@@ -58,7 +58,7 @@ abbrev pub count_of_any : Option ℕ → ℕ
 count_of_any None = 0
 count_of_any (Some b) = 1
 
--- the position behind n bytes more; it stays at the greatest one
+-- the position after n bytes more; it stays at the greatest one
 abbrev pub position_behind : ℕ → ℕ → ℕ
 position_behind pos zero = pos
 position_behind pos (suc n) = min (pos + suc n) (2 ^ 64 - 1)

@@ -8,24 +8,24 @@ use Rattle.picky_der_core.specs.Order.{IsAscending}
 use Rattle.picky_der_core.specs.Element.{AreBytes, IsElement}
 use Rattle.picky_der_core.specs.Encoding.{encodings, der}
 
--- no choice stands here
+-- no choice is here
 abbrev pub IsNoChoice : Tree → Type 0
 IsNoChoice (Tree.choice t) = ⊥
 IsNoChoice _ = ⊤
 
--- no choice stands where headers are left out, since its first byte isn't there to distinguish it
+-- no choice is there where headers are left out, since its first byte isn't there to choose by
 abbrev pub IsHeadedIfChoice : Bool → Tree → Type 0
 IsHeadedIfChoice true t = ⊤
 IsHeadedIfChoice false t = IsNoChoice t
 
--- the encodings of a list's members stand in order: those of a set ascend
+-- the encodings of a list's members are in order: those of a set ascend
 abbrev pub IsInOrder : ListKind → List (List ℕ) → Type 0
 IsInOrder ListKind.sequence members = ⊤
 IsInOrder ListKind.set members = IsAscending members
 
--- Nothing in it is absent, each raw part is one element, each tag number is at most 30, each tag in place of a list's own is
--- constructed, no choice stands directly under an implicit tag, and the members of each set stand in ascending order. As in every value
--- that a program has, each byte of a content or of a raw part is a byte and each text is UTF-8.
+-- Nothing in it is absent. Each raw part is one element. Each tag number is at most 30. Each tag in place of a list's own is constructed. No choice is directly
+-- under an implicit tag. The members of each set are in ascending order. Each byte of a content or of a raw part is a byte, and each text is UTF-8, as in every
+-- value of a program.
 abbrev mutual
   pub IsReadable : Tree → Type 0
   IsReadable (Tree.primitive p) = IsReadablePrimitive p

@@ -1,4 +1,4 @@
--- Faults of a reader, as errors tell them.
+-- I/O errors of a reader, as errors report them.
 use Rattle.std.proofs.Common.{◌≡◌, ℕ, List, ◌∷◌, length, Option, refl, ap, ◌∙◌, arith}
 use Rattle.std.specs.IoError.{error_kind}
 use Rattle.std.specs.declared.io.Error.{Error}
@@ -10,7 +10,7 @@ use Rattle.picky_der_core.specs.Reader.{IsFaultOrEnd, fault, end, TellsFault}
 pub not_more : {A : Type 0} {x : A} {xs : List A} → x ∷ xs ≡ xs → ⊥
 not_more same = let e = ap length same in omega (arith, e)
 
--- the end of the input is no fault, and an error tells just the fault that it is
+-- the end of the input is no I/O error, and any other error is exactly the I/O error
 pub tells_fault : {before left : Option (List ℕ)} {first old new : List Fault} {e : Error} → old ≡ first → IsFaultOrEnd before left old new e → TellsFault first new left (error_of_kind (error_kind e))
 tells_fault {left = left} {e = e} since (fault once) = TellsFault.fault (error_kind e) (once ∙ ap (λ l. record { kind = error_kind e; left = left } ∷ l) since) refl
 tells_fault since (end stays kind none) = TellsFault.no_fault (stays ∙ since)

@@ -1,4 +1,4 @@
--- What reading means: which value stands at the front of some bytes.
+-- What reading means: which value is at the front of some bytes.
 use Rattle.std.specs.Prelude.{◌≡◌, ℕ, ◌≤◌, ◌⊎◌, List, length, ⊤, IsTrue}
 use Rattle.picky_der_core.specs.Element.{IsPrefix}
 use Rattle.picky_der_core.specs.Tree.{Tree, is_plain}
@@ -6,20 +6,20 @@ use Rattle.picky_der_core.specs.Encoding.{der, implicit_content}
 use Rattle.picky_der_core.specs.Readable.{IsReadable, IsNoChoice}
 use Rattle.picky_der_core.specs.Shape.{Shape, IsOf}
 
--- where a value stands
+-- the place of a value: whether it is directly under an implicit tag
 pub data Place : Type 0 where
   -- with its own header
   whole : Place
   -- directly under an implicit tag, whose end is this many bytes ahead
   under_implicit : ℕ → Place
 
--- what stands there of a tree
+-- the bytes of a tree at this place
 abbrev pub written_at : Place → Tree → List ℕ
 written_at Place.whole t = der t
 written_at (Place.under_implicit ahead) t = implicit_content t
 
--- Directly under an implicit tag no choice is read, since its first byte isn't there to tell it, and a plain value fills
--- the tag's content, since its length isn't there.
+-- Directly under an implicit tag no choice is read, since its first byte isn't there to choose by. A plain value fills the tag's content, since its length
+-- isn't there.
 pub record FillsTag (ahead : ℕ) (t : Tree) : Type 0 where
   pub no_choice : IsNoChoice t
   pub filled : IsTrue (is_plain t) → length (implicit_content t) ≡ ahead
@@ -28,7 +28,7 @@ abbrev pub MayStand : Place → Tree → Type 0
 MayStand Place.whole t = ⊤
 MayStand (Place.under_implicit ahead) t = FillsTag ahead t
 
--- a readable tree of the shape stands at the front of these bytes, and takes at most `limit` of them
+-- a readable tree of the shape is at the front of these bytes, and has at most `limit` of them
 pub record StandsAt (place : Place) (s : Shape) (bs : List ℕ) (limit : ℕ) (t : Tree) : Type 0 where
   pub of_shape : IsOf s t
   pub readable : IsReadable t
@@ -40,7 +40,7 @@ pub record StandsAt (place : Place) (s : Shape) (bs : List ℕ) (limit : ℕ) (t
 abbrev pub ReadsFrom : {V : Type 0} → (V → Tree) → Shape → List ℕ → ℕ → V → Type 0
 ReadsFrom meaning s input limit v = StandsAt Place.whole s input limit (meaning v)
 
--- more bytes behind b could make a value of the type of it: of some value, of at most `limit` bytes, b is the beginning, or
+-- more bytes after b could make a value of the type of it: of some value, of at most `limit` bytes, b is the beginning, or
 -- it is the beginning of b
 pub record IsMendable {V : Type 0} (meaning : V → Tree) (s : Shape) (place : Place) (b : List ℕ) (limit : ℕ) : Type 0 where
   pub value : V

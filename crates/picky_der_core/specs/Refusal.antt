@@ -23,11 +23,11 @@ missing_byte hard ahead rest = error_past_end (hard && (length rest == ahead))
 
 -- ---- lengths
 
--- the error of a refusal, and the bytes that are left behind those that were drawn
+-- the error of a refusal, and the bytes that are left after the consumed ones
 abbrev pub Refusal : Type 0
 Refusal = Asn1DerError × List ℕ
 
--- what was read and the bytes behind it, or the refusal
+-- what was read and the bytes after it, or the refusal
 abbrev pub ReadOutcome : Type 0 → Type 0
 ReadOutcome A = Result (A × List ℕ) Refusal
 
@@ -51,7 +51,7 @@ length_of lacking (b ∷ bs) =
 
 -- ---- headers
 
--- the length behind the tag, if it doesn't reach past the innermost end
+-- the length after the tag, if it doesn't reach past the innermost end
 abbrev pub within_end : Bool → ℕ → List ℕ → ReadOutcome ℕ → ReadOutcome ℕ
 within_end hard ahead rest (Err e) = Err e
 within_end hard ahead rest (Ok (n, left)) = if nat_lt (ahead - (length rest - length left)) n then Err (error_past_end hard, left) else Ok (n, left)
@@ -123,7 +123,7 @@ character_error bs = if is_utf8 bs then character_count_error (length (chars bs)
 abbrev pub bytes_error : Judge
 bytes_error bs = None
 
--- those of a primitive kind
+-- the errors of a content, by its primitive kind
 abbrev pub content_error : PrimitiveShape → Judge
 content_error PrimitiveShape.boolean = boolean_error
 content_error (PrimitiveShape.unsigned most) = unsigned_error most
@@ -138,7 +138,7 @@ abbrev pub refusal_leaving : Option Asn1DerError → List ℕ → Option Refusal
 refusal_leaving None left = None
 refusal_leaving (Some e) left = Some (e, left)
 
--- the content, which is drawn whole before it is judged
+-- the content, which is consumed whole before it is judged
 abbrev pub content_refusal : Judge → ReadOutcome ℕ → Option Refusal
 content_refusal judge (Err e) = Some e
 content_refusal judge (Ok (n, rest)) = if nat_lt (length rest) n then Some (TruncatedData, []) else refusal_leaving (judge (take n rest)) (drop n rest)
@@ -156,7 +156,7 @@ inside_refusal tag judge ahead rest =
 abbrev pub header_refusal : ℕ → Bool → ℕ → List ℕ → Option Refusal
 header_refusal tag hard ahead rest = refusal_of (header tag hard ahead rest)
 
--- how an element is refused that is taken whole, whatever its tag
+-- how an element is refused that is consumed whole, whatever its tag
 abbrev pub element_refusal : Bool → ℕ → List ℕ → Option Refusal
 element_refusal hard ahead rest = content_refusal bytes_error (any_header hard ahead rest)
 

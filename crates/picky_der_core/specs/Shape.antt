@@ -1,6 +1,6 @@
 -- The shapes of types, which trees are of a shape, and with which bytes their encodings begin.
-use Rattle.std.specs.Prelude.{◌≡◌, ℕ, zero, suc, Bool, not, ◌⊎◌, List, [], ◌∷◌, ◌++◌, ◌==◌, ⊤, IsTrue, if◌then◌else◌}
-use Rattle.std.specs.List.{list_any, list_all}
+use Rattle.std.specs.Prelude.{◌≡◌, ℕ, zero, suc, Bool, true, not, ◌⊎◌, List, [], ◌∷◌, ◌++◌, ◌==◌, ⊤, IsTrue, if◌then◌else◌}
+use Rattle.std.specs.List.{list_any, list_all, filter}
 use Rattle.picky_der_core.specs.declared.asn1.wrapper.Wrapper.{Wrapper}
 use Rattle.picky_der_core.specs.Tag.{number_of, is_tag_number}
 use Rattle.picky_der_core.specs.Element.{AreBytes}
@@ -19,7 +19,7 @@ mutual
     wrapped : Wrapper → Shape → Shape
     optional : Shape → Shape
     raw : Shape
-    -- of one of these shapes
+    -- one of these shapes
     choice : Shapes → Shape
 
   -- which alternatives a choice has
@@ -31,12 +31,17 @@ mutual
   pub data Layout : Type 0 where
     empty : Layout
     required : Shape → Layout → Layout
-    -- one that may be missing, and those behind it
+    -- a member that may be missing, and the members after it
     maybe : Shape → Layout → Layout
+    -- any further elements, of which the first begins with none of these bytes: elements of a later version (X.680, 25.1)
+    others : List ℕ → Layout
 
 abbrev pub shapes : List Shape → Shapes
 shapes [] = Shapes.none
 shapes (s ∷ ss) = Shapes.more s (shapes ss)
+
+abbrev pub contains : List ℕ → ℕ → Bool
+contains xs x = list_any (λ y. x == y) xs
 
 -- ---- trees of a shape
 
@@ -83,6 +88,20 @@ abbrev pub IsEmpty : Trees → Type 0
 IsEmpty Trees.none = ⊤
 IsEmpty (Trees.more t ts) = ⊥
 
+-- these bytes begin with none of the excluded ones
+abbrev pub begins_outside : List ℕ → List ℕ → Bool
+begins_outside excluded [] = true
+begins_outside excluded (b ∷ bs) = not (contains excluded b)
+
+abbrev pub IsRawOutside : List ℕ → Tree → Type 0
+IsRawOutside excluded (Tree.raw s) = AreBytes s × IsTrue (begins_outside excluded s)
+IsRawOutside excluded _ = ⊥
+
+-- raw parts, of which the first begins with none of these bytes
+abbrev pub AreOthers : List ℕ → Trees → Type 0
+AreOthers excluded Trees.none = ⊤
+AreOthers excluded (Trees.more t ts) = IsRawOutside excluded t × EachIs IsRaw ts
+
 -- the tree is of the shape
 abbrev mutual
   pub IsOf : Shape → Tree → Type 0
@@ -99,8 +118,9 @@ abbrev mutual
   AreMembersOf Layout.empty = IsEmpty
   AreMembersOf (Layout.required s l) = FirstAndRest (IsOf s) (AreMembersOf l)
   AreMembersOf (Layout.maybe s l) = FirstOrNone (IsOf s) (AreMembersOf l)
+  AreMembersOf (Layout.others excluded) = AreOthers excluded
 
-  -- of one of the shapes
+  -- the tree is of one of the shapes
   pub IsOneOf : Shapes → Tree → Type 0
   IsOneOf Shapes.none = λ t. ⊥
   IsOneOf (Shapes.more s ss) = λ t. IsOf s t ⊎ IsOneOf ss t
@@ -136,9 +156,7 @@ abbrev pub next_firsts : Layout → List ℕ
 next_firsts Layout.empty = []
 next_firsts (Layout.required s l) = firsts s
 next_firsts (Layout.maybe s l) = firsts s ++ next_firsts l
-
-abbrev pub contains : List ℕ → ℕ → Bool
-contains xs x = list_any (λ y. x == y) xs
+next_firsts (Layout.others excluded) = filter (λ b. not (contains excluded b)) (tags_below 256)
 
 -- an encoding of the shape can begin with this byte
 abbrev pub IsFirst : Shape → ℕ → Type 0
@@ -148,20 +166,21 @@ IsFirst s b = IsTrue (contains (firsts s) b)
 abbrev pub are_apart : List ℕ → List ℕ → Bool
 are_apart xs ys = list_all (λ x. not (contains ys x)) xs
 
--- ---- shapes whose choices and missing members are told
+-- ---- shapes whose choices and missing members are distinguished
 
--- each of the shapes is told from those after it by the first byte
+-- each of the shapes is distinguished from those after it by the first byte
 abbrev pub AreTold : Shapes → Type 0
 AreTold Shapes.none = ⊤
 AreTold (Shapes.more s ss) = IsTrue (are_apart (firsts s) (firsts_of ss)) × AreTold ss
 
--- each member that may be missing is told by the first byte from those that may come instead of it
+-- each member that may be missing is distinguished by the first byte from what may come instead of it
 abbrev pub AreMembersTold : Layout → Type 0
 AreMembersTold Layout.empty = ⊤
 AreMembersTold (Layout.required s l) = AreMembersTold l
 AreMembersTold (Layout.maybe s l) = IsTrue (are_apart (firsts s) (next_firsts l)) × AreMembersTold l
+AreMembersTold (Layout.others excluded) = ⊤
 
--- inside, the alternatives of every choice and the members of every layout are told by their first byte
+-- inside, the alternatives of every choice and the members of every layout are distinguished by their first byte
 abbrev mutual
   pub IsSound : Shape → Type 0
   IsSound (Shape.list_of kind s) = IsSound s
@@ -179,3 +198,4 @@ abbrev mutual
   AreMembersSound Layout.empty = ⊤
   AreMembersSound (Layout.required s l) = IsSound s × AreMembersSound l
   AreMembersSound (Layout.maybe s l) = IsSound s × AreMembersSound l
+  AreMembersSound (Layout.others excluded) = ⊤

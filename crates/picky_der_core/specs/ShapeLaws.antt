@@ -1,4 +1,4 @@
--- The readable trees of a shape that stand directly under an implicit tag are all plain, or none is.
+-- The readable trees of a shape that are directly under an implicit tag are all plain, or none is.
 use Rattle.std.proofs.Common.{◌≡◌, Bool, true, false, refl}
 use Rattle.picky_der_core.specs.declared.asn1.wrapper.Wrapper.{Wrapper}
 use Rattle.picky_der_core.specs.Primitive.{PrimitiveShape}

@@ -15,7 +15,7 @@ position_of s = s.at
 abbrev pub written_of : BufSink → List ℕ
 written_of s = take (position_of s) (vector_of s).now.items
 
--- how often memory was refused
+-- how often an allocation failed
 abbrev pub faults_of : BufSink → ℕ
 faults_of s = count_of s.faults
 

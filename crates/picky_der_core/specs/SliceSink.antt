@@ -38,7 +38,7 @@ is_within s = s.within
 pub is_full : (s : SliceSink) → 0 < faults_of s → filled_of s ≡ length (slice_of s).now
 is_full s = s.full
 
--- a slice holds a beginning of these bytes, and behind it what stood there before
+-- a slice holds a beginning of these bytes, and after it what was there before
 pub record HoldsBeginning (old new bs : List ℕ) : Type 0 where
   pub front : List ℕ
   pub rest : List ℕ

@@ -32,7 +32,7 @@ module _ (s t : SliceSink) (bs : List ℕ) (start : filled_of s ≡ 0) (later : 
       let p = front_and_rest (filled_of s) (filled_of t) b.front (slice_of s).now (slice_of s).now (slice_of t).now start b.appends within later.3 in
       record { front = b.front; rest = b.rest; is = b.is; fits = omega (arith, p.1, later.1); holds = p.2 }
 
-  -- after a fault the first of them, as many as there is room for, and there isn't room for all
+  -- after an I/O error the first of them, as many as there is room for, and there isn't room for all
   pub holds_first : AppendsTooFew (Some (written_of s)) (Some (written_of t)) bs → faults_of s < faults_of t
       → (length (slice_of s).now < length bs) × ((slice_of t).now ≡ take (length (slice_of s).now) bs)
   holds_first few h =

@@ -29,7 +29,7 @@ IsTagNumber n = n ≤ 30
 abbrev pub is_tag_number : ℕ → Bool
 is_tag_number n = nat_le n 30
 
--- an identifier byte that can stand in place of that of a list, whose content is made of elements
+-- an identifier byte that can replace that of a list, whose content is made of elements
 abbrev pub IsConstructedTag : ℕ → Type 0
 IsConstructedTag tag = IsTagNumber (number_of tag) × IsConstructed tag
 

@@ -15,7 +15,7 @@ mutual
     list : ListKind → Trees → Tree
     -- one value in a wrapper
     wrapped : Wrapper → Tree → Tree
-    -- bytes that stand as they are
+    -- bytes that are written as they are
     raw : List ℕ → Tree
     -- a choice was made, and this is the alternative
     choice : Tree → Tree
@@ -42,7 +42,7 @@ abbrev pub IsListTree : Tree → Type 0
 IsListTree (Tree.list kind ts) = Unit {0}
 IsListTree _ = ⊥
 
--- it isn't there, or only choices and wrappers that can vanish stand around what isn't: then nothing is written of it
+-- it isn't there, or only choices and wrappers that can vanish are around what isn't there: then nothing is written
 abbrev pub is_absent : Tree → Bool
 is_absent Tree.absent = true
 is_absent (Tree.wrapped w t) = can_vanish w && is_absent t

@@ -13,22 +13,22 @@ use Rattle.picky_der_core.specs.Refusal.{number_error, unsigned_error}
 use Rattle.picky_der_core.specs.BigEndianLaws.{number-big_endian, AreBytes-big_endian, first-big_endian, big_endian-number, length-big_endian, power_of_2, bytes_high_first-big_endian}
 use Rattle.picky_der_core.specs.declared.error.Asn1DerError.TheVariants.{InvalidData, UnsupportedValue}
 
--- ---- how many bits a number takes
+-- ---- how many bits a number has
 
 -- the first byte alone
 number-first : (b : ℕ) (bs : List ℕ) → number_from_digits 256 (b ∷ bs) ≡ number_from_digits_after 256 b bs
 number-first b bs = ap (λ n. number_from_digits_after 256 n bs) (omega arith)
 
--- a byte more behind a number
+-- a byte more after a number
 front_counts : (n b unit : ℕ) → n * (unit * 256) ≤ (n * 256 + b) * unit
 front_counts n b unit = grind arith
 
--- what a number counts in front of bytes
+-- what a number counts before bytes
 number_after-least : (n : ℕ) (bs : List ℕ) → n * 256 ^ length bs ≤ number_from_digits_after 256 n bs
 number_after-least n [] = omega (arith, pow-zero 256)
 number_after-least n (b ∷ bs) = rw (pow-suc 256 (length bs)) (grind (arith, number_after-least (n * 256 + b) bs, front_counts n b (256 ^ length bs)))
 
--- n lies between what b counts in front of l bytes, and what the next byte would
+-- n lies between what b counts before l bytes, and what the next byte would
 abbrev BeginsWith : ℕ → ℕ → ℕ → Type 0
 BeginsWith b l n = (b * 256 ^ l ≤ n) × (n < (b + 1) * 256 ^ l)
 
@@ -43,7 +43,7 @@ big_endian-begins n b bs e =
 abbrev IsBetweenPowers : ℕ → ℕ → ℕ → Type 0
 IsBetweenPowers i j n = (2 ^ i ≤ n) × (n < 2 ^ j)
 
--- a first byte below 80 takes one to seven bits
+-- a first byte below 80 has one to seven bits
 few_bits : (b l n : ℕ) → 0 < b → b < 0x80 → BeginsWith b l n → IsBetweenPowers (8 * l) (8 * l + 7) n
 few_bits b l n h low begins =
     let unit = power_of_2 l in
@@ -51,7 +51,7 @@ few_bits b l n h low begins =
     let most : (b + 1) * 256 ^ l ≤ 0x80 * 256 ^ l = mul-le-mul_right (256 ^ l) (omega arith) in
     (omega arith, omega (arith, pow-add 2 (8 * l) 7))
 
--- any other takes eight
+-- any other has eight
 eight_bits : (b l n : ℕ) → 0x80 ≤ b → b < 256 → BeginsWith b l n → IsBetweenPowers (8 * l + 7) (8 * l + 8) n
 eight_bits b l n high byte begins =
     let unit = power_of_2 l in
@@ -66,7 +66,7 @@ powers_in_order i j n under over = elim (cases_lt i j) [
   | inr h ↦ let p : 2 ^ j ≤ 2 ^ i = pow_mono h in absurd (omega arith)
 ]
 
--- the zero bits in front of a number between two powers
+-- the zero bits before a number between two powers
 leading_between : (k i j n : ℕ) → n < 256 ^ k → IsBetweenPowers i j n → (count_leading_zeros (8 * k) n + i < 8 * k) × (8 * k ≤ count_leading_zeros (8 * k) n + j)
 leading_between k i j n h between =
     let top = leading_top (8 * k) n (omega (arith, pow_pos i)) (omega (arith, power_of_2 k)) in
@@ -76,22 +76,22 @@ leading_between k i j n h between =
 
 -- ---- the content among the bytes of an integer
 
--- what stands behind zeros
+-- what follows zeros
 drop_zeros : (j : ℕ) (bs : List ℕ) → drop (suc j) (0 ∷ (replicate j 0 ++ bs)) ≡ bs
 drop_zeros zero bs = refl
 drop_zeros (suc j) bs = drop_zeros j bs
 
--- and what behind all but one
+-- and what after all but one
 drop_other_zeros : (j : ℕ) (bs : List ℕ) → drop j (0 ∷ (replicate j 0 ++ bs)) ≡ 0 ∷ bs
 drop_other_zeros zero bs = refl
 drop_other_zeros (suc j) bs = drop_other_zeros j bs
 
--- behind the zeros that are left out of a content
+-- after the zeros that are left out of a content
 drop_all_or_other : (all : Bool) (j b : ℕ) (bs : List ℕ) → drop (cond all (suc j) j) (0 ∷ (replicate j 0 ++ (b ∷ bs))) ≡ cond all (b ∷ bs) (0 ∷ b ∷ bs)
 drop_all_or_other true j b bs = drop_zeros j (b ∷ bs)
 drop_all_or_other false j b bs = drop_other_zeros j (b ∷ bs)
 
--- the zero bits tell how many of the zeros in front are left out: all where the first byte is below 80
+-- the zero bits determine how many of the zeros in front are left out: all if the first byte is below 80
 left_out : (k n b : ℕ) (bs : List ℕ) → n < 256 ^ k → big_endian n ≡ b ∷ bs → (count_leading_zeros (8 * k) n + 7) / 8 ≡ cond (nat_lt b 0x80) (suc (k - length (b ∷ bs))) (k - length (b ∷ bs))
 left_out k n b bs h e = elim (cases_lt b 0x80) [
   | inl low ↦
@@ -137,7 +137,7 @@ length-as_positive : (bs : List ℕ) → length (as_positive bs) ≤ suc (length
 length-as_positive [] = omega arith
 length-as_positive (b ∷ bs) = cond_both (nat_lt b 0x80) (b ∷ bs) (0 ∷ b ∷ bs) (λ cs. length cs ≤ suc (suc (length bs))) (λ e. omega arith) (λ e. omega arith)
 
--- the content of a number of 128 bits takes at most 17 bytes
+-- the content of a number of 128 bits has at most 17 bytes
 pub length-unsigned_content : (n : ℕ) → n < 2 ^ 128 → length (unsigned_content n) ≤ 17
 unfolding unsigned_content
 length-unsigned_content n h =
@@ -168,12 +168,12 @@ small-number_error most bs = by_tests (nat_lt 16 (length bs)) (nat_lt most (numb
     by_tests true large e f h = cc
     by_tests false true e f h = cc
 
--- a first byte from 01 to 7F stands alone
+-- a first byte from 01 to 7F is the whole content
 unsigned_error-low : (most b : ℕ) (bs : List ℕ) → 0 < b → b < 0x80 → unsigned_error most (b ∷ bs) ≡ number_error most (b ∷ bs)
 unsigned_error-low most b [] h low = rw (lt-ltb b 0x80 low) refl
 unsigned_error-low most b (c ∷ bs) h low = rw (lt-ltb b 0x80 low, ne_eqb b 0 (λ e. omega arith)) refl
 
--- one from 80 stands behind 00
+-- a first byte from 80 follows 00
 unsigned_error-high : (most b : ℕ) (bs : List ℕ) → 0x80 ≤ b → unsigned_error most (0 ∷ b ∷ bs) ≡ number_error most (b ∷ bs)
 unsigned_error-high most b bs high = rw (le-ltb b 0x80 high) refl
 
@@ -200,7 +200,7 @@ unsigned_error-content most n h k = by_bytes (big_endian n) refl
 abbrev IsContent : ℕ → List ℕ → Type 0
 IsContent most bs = (bs ≡ unsigned_content (number_from_digits 256 bs)) × (number_from_digits 256 bs ≤ most) × (number_from_digits 256 bs < 2 ^ 128)
 
--- it takes at most 128 bits
+-- it has at most 128 bits
 number_below : (most : ℕ) (bs : List ℕ) → AreBytes bs → IsSmall most bs → number_from_digits 256 bs < 2 ^ 128
 number_below most bs p small =
     let power : 256 ^ length bs ≤ 256 ^ 16 = pow-le-pow_right (omega arith) small.0 in
@@ -217,7 +217,7 @@ content_low most b bs h low p small =
     let alone : as_positive (b ∷ bs) ≡ b ∷ bs = rw (lt-ltb b 0x80 low) refl in
     (sym (unsigned_content-number b bs h p ∙ alone), small.1, number_below most (b ∷ bs) p small)
 
--- 00, and a byte from 80 behind it
+-- 00, and a byte from 80 after it
 content_high : (most b : ℕ) (bs : List ℕ) → 0x80 ≤ b → AreBytes (b ∷ bs) → IsSmall most (b ∷ bs) → IsContent most (0 ∷ b ∷ bs)
 content_high most b bs high p small =
     let behind : as_positive (b ∷ bs) ≡ 0 ∷ b ∷ bs = rw (le-ltb b 0x80 high) refl in

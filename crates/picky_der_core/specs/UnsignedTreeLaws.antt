@@ -1,4 +1,4 @@
--- What numbers of unsigned types mean, those that a type has and others.
+-- What numbers of unsigned types mean: numbers that a type has, and others.
 use Rattle.std.proofs.Common.{◌≡◌, ℕ, ◌<◌, ◌≤◌, ◌^◌, Bool, true, false, not, nat_lt, refl, arith, ltb-true, ltb-false, le-ltb}
 use Rattle.picky_der_core.specs.Primitive.{Primitive, PrimitiveShape}
 use Rattle.picky_der_core.specs.Tree.{Tree}

@@ -5,7 +5,7 @@ use Rattle.picky_der_core.specs.Faults.{FaultOf, fault_of_code}
 
 pub record WatchedState (T : Type 0) : Type 0 where
   pub inner : T
-  -- how it failed so far, the last fault first
+  -- how it failed so far, the last I/O error first
   pub faults : List (FaultOf T)
 
 abbrev pub watching_code : {T : Type 0} → Coded T → Coded (WatchedState T)

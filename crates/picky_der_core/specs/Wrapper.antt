@@ -1,4 +1,4 @@
--- The wrappers, each one element around one value (X.690, 8.6.2, 8.7, 8.14). A table's last line is of all that have none of their own.
+-- The wrappers, each one element around one value (X.690, 8.6.2, 8.7, 8.14). Each table has a line for each of them.
 use Rattle.std.specs.Prelude.{ℕ, ◌+◌, Bool, true, false, List, [], ◌∷◌, ⊤, if◌then◌else◌}
 use Rattle.picky_der_core.specs.declared.asn1.wrapper.Wrapper.{Wrapper}
 use Rattle.picky_der_core.specs.declared.asn1.wrapper.Wrapper.TheVariants.{OctetContainer, BitContainer, Explicit, Implicit, Application, Retagged}
@@ -14,21 +14,32 @@ wrapper_tag (Retagged tag) = tag
 
 -- whether a byte before the value counts unused bits (8.6.2)
 abbrev pub counts_unused_bits : Wrapper → Bool
+counts_unused_bits OctetContainer = false
 counts_unused_bits BitContainer = true
-counts_unused_bits _ = false
+counts_unused_bits (Explicit n) = false
+counts_unused_bits (Implicit n) = false
+counts_unused_bits (Application n) = false
+counts_unused_bits (Retagged tag) = false
 
--- whether a plain value keeps its header in it; those that don't are the implicit tags
+-- whether a plain value keeps its header in it; it doesn't in an implicit tag
 abbrev pub keeps_header : Wrapper → Bool
+keeps_header OctetContainer = true
+keeps_header BitContainer = true
+keeps_header (Explicit n) = true
 keeps_header (Implicit n) = false
+keeps_header (Application n) = true
 keeps_header (Retagged tag) = false
-keeps_header _ = true
 
 -- whether nothing is written of it around an absent value (`Tree.is_absent`)
 abbrev pub can_vanish : Wrapper → Bool
+can_vanish OctetContainer = true
+can_vanish BitContainer = true
+can_vanish (Explicit n) = true
+can_vanish (Implicit n) = true
 can_vanish (Application n) = false
-can_vanish _ = true
+can_vanish (Retagged tag) = true
 
--- what stands between its header and the value: there are no unused bits
+-- the bytes between its header and the value: there are no unused bits
 abbrev pub wrapper_front : Wrapper → List ℕ
 wrapper_front w = if counts_unused_bits w then 0x00 ∷ [] else []
 
@@ -45,9 +56,15 @@ wrapper_number (Retagged tag) = number_of tag
 abbrev pub HasTagNumber : Wrapper → Type 0
 HasTagNumber OctetContainer = ⊤
 HasTagNumber BitContainer = ⊤
+HasTagNumber (Explicit n) = IsTagNumber n
+HasTagNumber (Implicit n) = IsTagNumber n
+HasTagNumber (Application n) = IsTagNumber n
 HasTagNumber (Retagged tag) = IsConstructedTag tag
-HasTagNumber w = IsTagNumber (wrapper_number w)
 
 abbrev pub has_tag_number : Wrapper → Bool
+has_tag_number OctetContainer = true
+has_tag_number BitContainer = true
+has_tag_number (Explicit n) = is_tag_number n
+has_tag_number (Implicit n) = is_tag_number n
+has_tag_number (Application n) = is_tag_number n
 has_tag_number (Retagged tag) = is_constructed_tag tag
-has_tag_number w = is_tag_number (wrapper_number w)

@@ -1,4 +1,4 @@
--- What a write of whole bytes does to the bytes that a writer tells.
+-- What a write of whole bytes does to the known bytes of a writer.
 use Rattle.std.proofs.Common.{◌≡◌, ℕ, ◌+◌, ◌-◌, ◌<◌, ◌≤◌, List, [], ◌++◌, length, Option, Some, None, take, drop, drop-drop, refl, sym, ap, subst, ◌∙◌, arith, append_assoc, append-nil, length-append, take-append-drop}
 use Rattle.std.specs.Io.KnownBytes.{Appends, Keeps}
 use Rattle.std.proofs.lemmas.List.{take_rest}
@@ -16,7 +16,7 @@ pub record AppendsTooFew (old new : Option (List ℕ)) (bs : List ℕ) : Type 0 
   pub begins : AppendsBeginning old new bs
   pub missing : 0 < length begins.rest
 
--- of all these bytes the rest is still to be appended
+-- the rest of all these bytes is still to be appended
 pub record AppendsSoFar (old new : Option (List ℕ)) (all rest : List ℕ) : Type 0 where
   pub done : List ℕ
   pub is : all ≡ done ++ rest
@@ -52,15 +52,15 @@ pub too_few_front : (a b : Option (List ℕ)) (xs ys : List ℕ) → AppendsTooF
 unfolding beginning_front
 too_few_front a b xs ys r = record { begins = beginning_front a b xs ys r.begins; missing = omega (arith, r.missing, length-append r.begins.rest ys) }
 
--- of some bytes none was appended
+-- none of some bytes was appended
 pub too_few_none : (a b : Option (List ℕ)) (all : List ℕ) → 0 < length all → Appends a b [] → AppendsTooFew a b all
 too_few_none a b all some h = record { begins = record { front = []; rest = all; is = refl; appends = h }; missing = some }
 
--- of a rest that isn't empty none was appended
+-- nothing of a rest that isn't empty was appended
 pub too_few_so_far : (a b c : Option (List ℕ)) (all rest : List ℕ) → AppendsSoFar a b all rest → 0 < length rest → Appends b c [] → AppendsTooFew a c all
 too_few_so_far a b c all rest h some k = subst (AppendsTooFew a c) (sym h.is) (too_few_after a b c h.done rest h.appends (too_few_none b c rest some k))
 
--- the writer took n bytes of the rest
+-- the writer accepted n bytes of the rest
 pub so_far-more : (n : ℕ) {a b c : Option (List ℕ)} {all rest : List ℕ} → AppendsSoFar a b all rest → Appends b c (take n rest) → AppendsSoFar a c all (take (length rest - n) (drop n rest))
 so_far-more n {a} {b} {c} {all} {rest} h k = record {
   done = h.done ++ take n rest;

@@ -1,11 +1,11 @@
--- A fault of a writer, and the error that it becomes.
+-- An I/O error of a writer, and the error that it becomes.
 use Rattle.std.proofs.Common.{◌≡◌, ◌≤◌, ℕ, suc, Result, Ok, Err, OnOk, IfErr, subst, arith}
 use Rattle.std.specs.declared.io.ErrorKind.{ErrorKind}
 use Rattle.picky_der_core.specs.declared.error.Asn1DerError.{Asn1DerError}
 use Rattle.picky_der_core.specs.declared.misc.writer.WriteExt.{Ghosts}
 use Rattle.picky_der_core.specs.Error.{error_of_kind}
 
--- of two counts of faults, the later one is the same or one more
+-- the later of two counts of I/O errors is the same or one more
 abbrev pub IsOnceAtMost : ℕ → ℕ → Type 0
 IsOnceAtMost old new = (old ≤ new) × (new ≤ suc old)
 
@@ -21,7 +21,7 @@ module _ {W : Type 0} (g : Ghosts W) where
   pub fails_since : (old mid new : W) (e : Asn1DerError) → g.faults mid ≡ g.faults old → WriterFails mid e new → WriterFails old e new
   fails_since old mid new e same f = record { rose = subst (λ n. g.faults new ≡ suc n) same f.rose; kind = f.kind; answered = f.answered; is = f.is }
 
-  -- an answer that tells of each fault
+  -- a result that reports each I/O error
   pub once_at_most : {A : Type 0} (old new : W) (r : Result A Asn1DerError) → OnOk r (g.faults new ≡ g.faults old) → IfErr r (λ e. WriterFails old e new) → IsOnceAtMost (g.faults old) (g.faults new)
   once_at_most old new (Ok v) same f = (omega (arith, same), omega (arith, same))
   once_at_most old new (Err e) same f = (omega (arith, f.rose), omega (arith, f.rose))

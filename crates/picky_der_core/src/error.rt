@@ -12,37 +12,37 @@ use thiserror::Error;
 /// It prints as the name of its variant; `Message` and `Other` show what they hold.
 #[derive(Debug, Clone, Copy, PartialEq, Eq, Error)]
 pub enum Asn1DerError {
-    /// The data ended too early: the input, a content that can't be empty, or a sequence that lacks a member. A message
-    /// that is only cut short gets no other error.
+    /// The data ended too early: the input, a content that can't be empty, or a sequence that lacks a member. A value that is
+    /// only cut short gives no other error.
     #[error("TruncatedData")]
     TruncatedData,
 
-    /// The data is no canonical encoding of the type.
+    /// The data isn't the canonical encoding of a value of the type.
     #[error("InvalidData")]
     InvalidData,
 
-    /// The value may be valid but isn't supported, as a number that is too large or a tag number past 30.
+    /// The value may be valid but isn't supported: a number that is too large, or a tag number past 30.
     #[error("UnsupportedValue")]
     UnsupportedValue,
 
-    /// The type isn't supported by the serializer or the deserializer.
+    /// The serializer or the deserializer doesn't support the type.
     #[error("UnsupportedType")]
     UnsupportedType,
 
-    /// The sink took fewer bytes than the encoding has.
+    /// The sink accepted fewer bytes than the encoding has.
     #[error("InvalidSink")]
     InvalidSink,
 
-    /// A message of an implementation by hand, and `failed before` where an earlier call was refused with one. The text is
-    /// shown as it is.
+    /// A message from a hand-written implementation. It is `failed before` if an earlier call failed with a message. It is
+    /// printed as it is.
     #[error("Message(\"{0}\")")]
     Message(&'static str),
 
-    /// A fault of the device that was read from or written to.
+    /// An I/O error of the reader or the writer, by its kind.
     #[error("Other({0:?})")]
     Other(ErrorKind),
 
-    /// Memory was refused.
+    /// An allocation failed.
     #[error("OutOfMemory")]
     OutOfMemory,
 }
@@ -56,8 +56,8 @@ impl Asn1DerError {
     }
 }
 
-/// An early end of the input is `TruncatedData`, a sink that takes no more is `InvalidSink`, out of memory stays
-/// out of memory, and any other kind is `Other`.
+/// `UnexpectedEof` becomes `TruncatedData`, and `WriteZero` becomes `InvalidSink`. `OutOfMemory` stays `OutOfMemory`. Any other
+/// kind becomes `Other`.
 impl From<io::Error> for Asn1DerError {
     ghost from_gives = { λ e k. k ≡ error_of_kind (error_kind e) };
 
@@ -94,5 +94,5 @@ impl<T: Drop> From<AllocFailed<T>> for Asn1DerError {
     }
 }
 
-/// What the calls of the workspace answer.
+/// The result of the calls of the workspace.
 pub type Result<Answer> = std::result::Result<Answer, Asn1DerError>;

@@ -1,12 +1,11 @@
-//! What is kept of an error by what has failed with it.
+//! What a serializer or a deserializer keeps of the error it failed with.
 ghost use Rattle.std.specs.Prelude.{◌≡◌};
 ghost use Rattle.picky_der_core.specs.Failure.{failure_of};
 
 use crate::Asn1DerError;
 use std::io::ErrorKind;
 
-/// The kind of an error, by which a serializer or a deserializer that has failed remembers it: the error without the text
-/// of its message.
+/// The kind of the error that a serializer or a deserializer has failed with: the error without the text of its message.
 #[derive(Debug, Clone, Copy, PartialEq, Eq)]
 pub enum Failure {
     /// Of `Asn1DerError::TruncatedData`.

@@ -5,12 +5,12 @@ ghost use Rattle.std.specs.Int.{complement_if};
 ghost use Rattle.picky_der_core.specs.Integer.{bits_of, fits_signed, fits_unsigned};
 ghost use Rattle.picky_der_core.specs.IntLaws.{signed_is_narrow, unsigned_is_narrow};
 
-/// A number of at most 128 bits beside the sign: `bits`, or `-(bits + 1)` if it is negative.
+/// A whole number of at most 128 bits and a sign: `bits`, or `-(bits + 1)` if it is negative.
 #[derive(Debug, Clone, Copy, PartialEq, Eq)]
 pub struct SignedBits {
     /// Whether the number is negative.
     pub is_negative: bool,
-    /// Its bits, of a negative number each turned.
+    /// The bits of the number. If it is negative, each bit is inverted.
     pub bits: u128,
 }
 

@@ -1,5 +1,5 @@
-//! The laws of canonical DER: each is the contract of a function without arguments, over the definitions alone.
-//! Beside them stand those of `==` and of copies.
+//! The laws of canonical DER: each is the contract of a function without arguments, over the definitions alone. The submodules
+//! have the laws of `==` and of copies.
 ghost use Rattle.std.specs.Prelude.{◌≡◌, ℤ, List, ℕ, true};
 ghost use Rattle.picky_der_core.specs.Element.{AreBytes};
 ghost use Rattle.picky_der_core.specs.Integer.{is_integer, integer_content, integer_value, twos_complement};
@@ -25,37 +25,37 @@ pub fn firsts_tell()
     ensures { FirstsTell }
 {}
 
-/// Two readable trees of a sound shape are one tree if the encoding of one begins the other's.
+/// If the encoding of one of two readable trees begins the other's, and one sound shape has both, the trees are equal.
 pub fn unique_readability()
     ensures { UniqueReadability }
 {}
 
-/// Two readable trees of a sound shape at the front of one input are one tree.
+/// Two readable trees of a sound shape whose encodings both begin one input are equal.
 pub fn one_value()
     ensures { OneValue }
 {}
 
-/// An encoding of a readable tree of a sound shape is read back as that tree alone, and what follows it is left.
+/// Reading the encoding of a readable tree of a sound shape gives this tree and no other. What follows the encoding is left.
 pub fn round_trip()
     ensures { RoundTrip }
 {}
 
-/// Lists of readable trees of a sound shape are equal exactly where their encodings, one after another, are.
+/// Lists of readable trees of a sound shape are equal exactly if their encodings, one after another, are equal.
 pub fn same_bytes()
     ensures { SameBytes }
 {}
 
-/// What stands directly under an implicit tag, within one end, is one tree of a sound shape.
+/// The content directly under an implicit tag, within one end, is that of one tree of a sound shape.
 pub fn one_inside()
     ensures { OneInside }
 {}
 
-/// Sets of the same members, each as often, in any order, have the same encoding (X.690, 11.6).
+/// Sets of the same members, in any order, have the same encoding (X.690, 11.6). Each member is as often in both.
 pub fn set_order()
     ensures { SetOrder }
 {}
 
-/// Each whole number has one content, each content that passes the test is that of a number, and the bits of a number's content
+/// Each whole number has one content, and each content that passes the test is that of a number. The bits of a number's content
 /// count as its value (X.690, 8.3).
 pub fn integers()
     ensures made { (z : ℤ) → is_integer (integer_content z) ≡ true }

@@ -3,12 +3,12 @@ ghost use Rattle.std.specs.Prelude.{◌≡◌, IfOk, IfErr};
 
 use crate::{Asn1DerError, Result};
 
-/// An octet string (X.690, 8.7).
+/// An octet string in a vector of its own (X.690, 8.7).
 #[derive(Debug, Clone, Drop, PartialEq, Eq)]
 pub struct ByteBuf(pub Vec<u8>);
 
 impl ByteBuf {
-    /// A copy, on the same allocator. `OutOfMemory` where memory is refused.
+    /// A copy, on the same allocator. `OutOfMemory` if an allocation fails.
     pub fn clone(&self) -> Result<ByteBuf>
         ensures same { IfOk result (λ copy. copy.0.items ≡ self.now.0.items) }
         ensures memory { IfErr result (λ e. e ≡ Asn1DerError.OutOfMemory) }

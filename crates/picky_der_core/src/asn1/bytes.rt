@@ -1,7 +1,7 @@
 //! Borrowed octet strings.
 ghost use Rattle.std.specs.Prelude.{◌≡◌};
 
-/// The content of an octet string that stands elsewhere (X.690, 8.7). It is only written; `ByteBuf` is read too.
+/// An octet string whose content is borrowed (X.690, 8.7). It can be written but not read; `ByteBuf` can be read too.
 #[derive(Debug, Clone, Copy, PartialEq, Eq)]
 pub struct Bytes<'a>(pub &'a [u8]);
 

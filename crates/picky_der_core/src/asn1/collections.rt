@@ -9,7 +9,7 @@ use crate::{Asn1DerError, Result};
 pub struct Asn1SequenceOf<T>(pub Vec<T>);
 
 impl<T: Clone> Asn1SequenceOf<T> {
-    /// A clone of each value, in order, on the same allocator. `OutOfMemory` where memory is refused.
+    /// A clone of each value, in order, on the same allocator. `OutOfMemory` if an allocation fails.
     pub fn clone(&self) -> Result<Asn1SequenceOf<T>>
         ensures same { IfOk result (λ copy. AllZip T.is_clone self.now.0.items copy.0.items) }
         ensures memory { IfErr result (λ e. e ≡ Asn1DerError.OutOfMemory) }
@@ -26,13 +26,13 @@ impl<T> From<Vec<T>> for Asn1SequenceOf<T> {
     }
 }
 
-/// A SET OF (X.690, 8.12): values of one type. They keep the order in which they are given, and are written in ascending
-/// order of their encodings (11.6).
+/// A SET OF (X.690, 8.12): values of one type. They keep the order in which they are given. They are written in ascending order
+/// of their encodings (11.6).
 #[derive(Debug, Clone, Drop, PartialEq, Eq)]
 pub struct Asn1SetOf<T>(pub Vec<T>);
 
 impl<T: Clone> Asn1SetOf<T> {
-    /// A clone of each value, in order, on the same allocator. `OutOfMemory` where memory is refused.
+    /// A clone of each value, in order, on the same allocator. `OutOfMemory` if an allocation fails.
     pub fn clone(&self) -> Result<Asn1SetOf<T>>
         ensures same { IfOk result (λ copy. AllZip T.is_clone self.now.0.items copy.0.items) }
         ensures memory { IfErr result (λ e. e ≡ Asn1DerError.OutOfMemory) }

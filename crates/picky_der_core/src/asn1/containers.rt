@@ -3,12 +3,12 @@ ghost use Rattle.std.specs.Prelude.{◌≡◌, IfOk, IfErr};
 
 use crate::{Asn1DerError, Result};
 
-/// An octet string that holds the encoding of a value.
+/// An octet string (X.690, 8.7) whose content is the encoding of a value.
 #[derive(Debug, Clone, Drop, PartialEq, Eq)]
 pub struct OctetStringAsn1Container<T>(pub T);
 
 impl<T: Clone> OctetStringAsn1Container<T> {
-    /// A copy. `OutOfMemory` where memory is refused.
+    /// A copy. `OutOfMemory` if an allocation fails.
     pub fn clone(&self) -> Result<OctetStringAsn1Container<T>>
         ensures same { IfOk result (λ copy. T.is_clone self.now.0 copy.0) }
         ensures memory { IfErr result (λ e. e ≡ Asn1DerError.OutOfMemory) }
@@ -25,12 +25,12 @@ impl<T> From<T> for OctetStringAsn1Container<T> {
     }
 }
 
-/// A bit string that holds the encoding of a value, behind a byte 00: no bits are unused (8.6.2).
+/// A bit string (X.690, 8.6.2) whose content is a byte 00, for no unused bits, and the encoding of a value.
 #[derive(Debug, Clone, Drop, PartialEq, Eq)]
 pub struct BitStringAsn1Container<T>(pub T);
 
 impl<T: Clone> BitStringAsn1Container<T> {
-    /// A copy. `OutOfMemory` where memory is refused.
+    /// A copy. `OutOfMemory` if an allocation fails.
     pub fn clone(&self) -> Result<BitStringAsn1Container<T>>
         ensures same { IfOk result (λ copy. T.is_clone self.now.0 copy.0) }
         ensures memory { IfErr result (λ e. e ≡ Asn1DerError.OutOfMemory) }

@@ -8,7 +8,7 @@ use crate::{Asn1DerError, Result};
 pub struct ExplicitContextTag<T, const N: u8>(pub T);
 
 impl<T: Clone, const N: u8> ExplicitContextTag<T, N> {
-    /// A copy. `OutOfMemory` where memory is refused.
+    /// A copy. `OutOfMemory` if an allocation fails.
     pub fn clone(&self) -> Result<ExplicitContextTag<T, N>>
         ensures same { IfOk result (λ copy. T.is_clone self.now.0 copy.0) }
         ensures memory { IfErr result (λ e. e ≡ Asn1DerError.OutOfMemory) }
@@ -25,15 +25,15 @@ impl<T, const N: u8> From<T> for ExplicitContextTag<T, N> {
     }
 }
 
-/// A value under the implicit context tag with the number `N`, at most 30: `80+N`, in place of the header of a plain value or of a
-/// list, and around the encoding of any other.
+/// A value under the implicit context tag with the number `N`, at most 30. The tag `80+N` is in place of the header of a plain
+/// value or of a list, and around the encoding of any other.
 ///
 /// X.690 (8.14) has `A0+N` over a list. This type follows the Rust crate there; `Retagged` writes and reads `A0+N`.
 #[derive(Debug, Clone, Drop, PartialEq, Eq)]
 pub struct ImplicitContextTag<T, const N: u8>(pub T);
 
 impl<T: Clone, const N: u8> ImplicitContextTag<T, N> {
-    /// A copy. `OutOfMemory` where memory is refused.
+    /// A copy. `OutOfMemory` if an allocation fails.
     pub fn clone(&self) -> Result<ImplicitContextTag<T, N>>
         ensures same { IfOk result (λ copy. T.is_clone self.now.0 copy.0) }
         ensures memory { IfErr result (λ e. e ≡ Asn1DerError.OutOfMemory) }

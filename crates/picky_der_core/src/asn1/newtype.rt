@@ -4,7 +4,7 @@ ghost use Rattle.std.specs.Prelude.{◌≡◌};
 
 use super::Wrapper;
 
-/// What stands around the one value of a newtype.
+/// The wrapper around the one value of a newtype, or none.
 #[derive(Debug, Clone, Copy, PartialEq, Eq)]
 pub enum Newtype {
     /// Nothing.
@@ -24,7 +24,7 @@ pub enum Newtype {
 }
 
 impl Newtype {
-    /// The wrapper, and `None` for `Plain`.
+    /// The wrapper, or `None` for `Plain`.
     pub fn wrapper(self) -> Option<Wrapper>
         ensures { result ≡ wrapper_of self }
     {

@@ -3,17 +3,19 @@ ghost use Rattle.std.specs.Prelude.{◌≡◌, IfOk, IfErr};
 
 use crate::{Asn1DerError, Result};
 
-/// A SEQUENCE or SET, of fixed members or of many, under the tag `TAG` in place of its own tag 30 or 31. This is an implicit tag
-/// by X.690, 8.14: `A0+n` is the context tag n, and `60+n` the application tag n.
+/// A SEQUENCE or SET, of fixed members or of many, under the tag `TAG` in place of its own tag 30 or 31. This is an implicit
+/// tag by X.690, 8.14: `A0+n` is the context tag n, and `60+n` the application tag n.
 ///
-/// `TAG` is a whole identifier byte, which has to be constructed (bit 6 is set) with a number of at most 30. Else a value is refused
-/// with `UnsupportedValue`, where it is written and where it is read. `ImplicitContextTag` writes `80+n` over everything, also over a
-/// list, as the Rust crate does; structures of standards have this type.
+/// `TAG` is a whole identifier byte. It has to be constructed (bit 6 is set) with a number of at most 30. Else writing and
+/// reading return `UnsupportedValue`.
+///
+/// `ImplicitContextTag` writes `80+n` over everything, also over a list, as the Rust crate does. The structures of standards
+/// need this type instead.
 #[derive(Debug, Clone, Drop, PartialEq, Eq)]
 pub struct Retagged<T, const TAG: u8>(pub T);
 
 impl<T: Clone, const TAG: u8> Retagged<T, TAG> {
-    /// A copy of the value in it. `OutOfMemory` where an allocation failed.
+    /// A copy of the value in it. `OutOfMemory` if an allocation fails.
     pub fn clone(&self) -> Result<Retagged<T, TAG>>
         ensures same { IfOk result (λ copy. T.is_clone self.now.0 copy.0) }
         ensures memory { IfErr result (λ e. e ≡ Asn1DerError.OutOfMemory) }
@@ -47,6 +49,6 @@ pub type ImplicitList6<T> = Retagged<T, 0xA6>;
 /// A list under the implicit context tag 7, `A7`.
 pub type ImplicitList7<T> = Retagged<T, 0xA7>;
 
-/// A SET OF whose members are read in any order and written in that: for data that isn't DER, where X.690 (11.6) wants them in
-/// ascending order. `Asn1SetOf` writes them in that order, and refuses any other.
+/// A SET OF whose members are read in any order and written in that order. It is for data that isn't DER, since X.690 (11.6)
+/// requires ascending order. `Asn1SetOf` writes ascending order, and rejects any other.
 pub type SetOfAsGiven<T> = Retagged<Vec<T>, 0x31>;

@@ -7,20 +7,20 @@ use std::marker::Model;
 /// The class of an identifier byte: its bits 8 and 7.
 #[derive(Debug, Clone, Copy, PartialEq, Eq)]
 pub enum TagClass {
-    /// Types of the standard itself.
+    /// Tags of X.680 itself.
     Universal = 0,
-    /// Types of one application.
+    /// Tags of one application.
     Application = 1,
-    /// Members and alternatives of one type.
+    /// Tags of the members and alternatives of one type.
     ContextSpecific = 2,
-    /// Types of one enterprise.
+    /// Tags of one enterprise.
     Private = 3,
 }
 
 /// An identifier byte: the class, whether it is constructed, and a number (X.690, 8.1.2).
 ///
-/// The numbers go up to 30. 31, all five bits set, announces the long form, which isn't supported: a tag with that number
-/// is refused with `UnsupportedValue` where it is written or read.
+/// The number is at most 30. 31, all five bits set, announces the long form, which isn't supported: writing or reading such a
+/// tag returns `UnsupportedValue`.
 #[derive(Debug, Clone, Copy, PartialEq, Eq)]
 pub struct Tag(u8);
 
@@ -33,13 +33,13 @@ impl Model for Tag {
 }
 
 impl Tag {
-    /// The greatest number. One more announces the long form.
+    /// The greatest number. 31 announces the long form.
     pub const MAX_NUMBER: u8 = 30;
 
-    /// A bool (X.690, 8.2).
+    /// A BOOLEAN (X.690, 8.2).
     pub const BOOLEAN: Tag = Tag(0x01);
 
-    /// A number (8.3).
+    /// An INTEGER (8.3).
     pub const INTEGER: Tag = Tag(0x02);
 
     /// A bit string (8.6).
@@ -48,13 +48,13 @@ impl Tag {
     /// An octet string (8.7).
     pub const OCTET_STRING: Tag = Tag(0x04);
 
-    /// Nothing (8.8).
+    /// A NULL (8.8).
     pub const NULL: Tag = Tag(0x05);
 
     /// An object identifier (8.19).
     pub const OID: Tag = Tag(0x06);
 
-    /// An enumeration (8.4).
+    /// An ENUMERATED (8.4).
     pub const ENUMERATED: Tag = Tag(0x0A);
 
     /// A text in UTF-8 (8.23).
@@ -99,7 +99,7 @@ impl Tag {
     /// A set (8.11), which is constructed.
     pub const SET: Tag = Tag(0x31);
 
-    /// The constructed tag of the application class with this number, at most 30.
+    /// The constructed tag of the application class with this number, at most 30, as explicit tags have it.
     pub const fn application_constructed(number: u8) -> Tag
         requires { number ≤ 30 }
         ensures { result ≡ 0x60 + number }
@@ -107,7 +107,7 @@ impl Tag {
         Tag(0x60 | number)
     }
 
-    /// The constructed context-specific tag with this number, at most 30, as of an explicit tag.
+    /// The constructed context-specific tag with this number, at most 30, as explicit tags have it.
     pub const fn context_specific_constructed(number: u8) -> Tag
         requires { number ≤ 30 }
         ensures { result ≡ 0xA0 + number }
@@ -115,7 +115,7 @@ impl Tag {
         Tag(0xA0 | number)
     }
 
-    /// The primitive context-specific tag with this number, at most 30, as of an implicit tag.
+    /// The primitive context-specific tag with this number, at most 30, as implicit tags of plain values have it.
     pub const fn context_specific_primitive(number: u8) -> Tag
         requires { number ≤ 30 }
         ensures { result ≡ 0x80 + number }

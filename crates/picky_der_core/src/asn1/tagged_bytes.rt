@@ -3,15 +3,15 @@ ghost use Rattle.std.specs.Prelude.{◌≡◌, IfOk, IfErr};
 
 use crate::{Asn1DerError, Result};
 
-/// A content under the tag byte `TAG`. It isn't checked: whoever makes a value of a type below gives it bytes that are a
-/// content of that type.
+/// A content under the tag byte `TAG`. The content isn't checked. Whoever makes a value of a type below has to give it bytes
+/// that are a content of that type.
 #[derive(Debug, Clone, Drop, PartialEq, Eq)]
 pub struct TaggedBytes<const TAG: u8>(pub Vec<u8>);
 
 /// A number in two's complement, most significant byte first (X.690, 8.3).
 pub type IntegerAsn1 = TaggedBytes<0x02>;
 
-/// A bit string: how many bits of the last byte are unused, and the bytes (8.6).
+/// A bit string: the number of unused bits of the last byte, and the bytes (8.6).
 pub type BitStringAsn1 = TaggedBytes<0x03>;
 
 /// An object identifier (8.19).
@@ -42,7 +42,7 @@ pub type GeneralStringAsn1 = TaggedBytes<0x1B>;
 pub type BmpStringAsn1 = TaggedBytes<0x1E>;
 
 impl<const TAG: u8> TaggedBytes<TAG> {
-    /// A copy, on the same allocator. `OutOfMemory` where memory is refused.
+    /// A copy, on the same allocator. `OutOfMemory` if an allocation fails.
     pub fn clone(&self) -> Result<TaggedBytes<TAG>>
         ensures same { IfOk result (λ copy. copy.0.items ≡ self.now.0.items) }
         ensures memory { IfErr result (λ e. e ≡ Asn1DerError.OutOfMemory) }

@@ -1,4 +1,4 @@
-//! The wrappers that stand around a value.
+//! The wrappers around a value.
 ghost use Rattle.std.specs.Prelude.{◌≡◌, true, false};
 ghost use Rattle.picky_der_core.specs.Wrapper.{wrapper_tag, counts_unused_bits, keeps_header, HasTagNumber};
 
@@ -27,7 +27,7 @@ pub enum Wrapper {
 }
 
 impl Wrapper {
-    /// Whether its tag number is at most 30, and a tag in place of a list's own is constructed.
+    /// Whether the tag number is at most 30, and a tag in place of a list's own is constructed.
     pub fn has_tag_number(self) -> bool
         ensures yes { result ≡ true → HasTagNumber self }
         ensures no { result ≡ false → HasTagNumber self → ⊥ }

@@ -1,6 +1,6 @@
 //! When two values of a type of this crate are equal by `==`: each law is the contract of a function that does nothing.
 //!
-//! Reading tells a value up to `==`, so these say how much it tells.
+//! Reading gives a value that is equal by `==`, so these laws say how much is known of it.
 ghost use Rattle.std.specs.Cmp.Lexicographic.{pointwise};
 ghost use Rattle.picky_der_core.specs.Equality.{IsEqualityOf, IsThatOf, comparison_of};
 
@@ -11,14 +11,14 @@ use crate::asn1::{
 };
 use crate::{Asn1DerError, Failure, SignedBits};
 
-/// Octet strings, and bytes under one tag, are equal just where their bytes are the same.
+/// Octet strings, and bytes under one tag, are equal exactly if their bytes are the same.
 pub fn bytes<const TAG: u8>()
     ensures byte_buf { IsEqualityOf ⟦<ByteBuf as PartialEq>⟧.eq (λ octets. octets.0.items) }
     ensures bytes { IsEqualityOf ⟦<Bytes<'static> as PartialEq>⟧.eq (λ octets. octets.0.now) }
     ensures tagged { IsEqualityOf ⟦<TaggedBytes<TAG> as PartialEq>⟧.eq (λ tagged. tagged.0.items) }
 {}
 
-/// Lists are equal just where they are as long and each two values at one index are equal.
+/// Lists are equal exactly if they have the same length and the two values at each index are equal.
 pub fn lists<T: PartialEq>()
     ensures sequence { IsThatOf ⟦<Asn1SequenceOf<T> as PartialEq>⟧.eq (λ list. list.0.items)
         (pointwise T.eq) }
@@ -26,7 +26,7 @@ pub fn lists<T: PartialEq>()
         (pointwise T.eq) }
 {}
 
-/// Two values in one wrapper are equal just where they are without it.
+/// Two values in one wrapper are equal exactly if they are equal without it.
 pub fn wrappers<T: PartialEq, const N: u8, const TAG: u8>()
     ensures octets { IsThatOf ⟦<OctetStringAsn1Container<T> as PartialEq>⟧.eq
         (λ held. held.0) T.eq }
@@ -36,19 +36,19 @@ pub fn wrappers<T: PartialEq, const N: u8, const TAG: u8>()
     ensures retagged { IsThatOf ⟦<Retagged<T, TAG> as PartialEq>⟧.eq (λ held. held.0) T.eq }
 {}
 
-/// Tags are equal just where their bytes are the same, and classes where they are one class.
+/// Tags are equal exactly if their bytes are the same. Classes are equal exactly if they are one class.
 pub fn tags()
     ensures tag { IsEqualityOf ⟦<Tag as PartialEq>⟧.eq (λ tag. tag) }
     ensures class { IsEqualityOf ⟦<TagClass as PartialEq>⟧.eq (λ class. class) }
 {}
 
-/// Wrappers, and what a newtype names, are equal just where they are one kind with one number.
+/// Wrappers, and the kinds of newtypes, are equal exactly if they are one kind with one number.
 pub fn newtypes()
     ensures newtype { IsEqualityOf ⟦<Newtype as PartialEq>⟧.eq (λ newtype. newtype) }
     ensures wrapper { IsEqualityOf ⟦<Wrapper as PartialEq>⟧.eq (λ wrapper. wrapper) }
 {}
 
-/// Errors are equal just where their kinds are the same, with the kind of a device's error, and the texts of messages.
+/// Errors are equal exactly if they are the same variant, with the same I/O error kind or the same text.
 pub fn errors()
     ensures error { IsEqualityOf ⟦<Asn1DerError as PartialEq>⟧.eq comparison_of }
     ensures failure { IsEqualityOf ⟦<Failure as PartialEq>⟧.eq (λ failure. failure) }

@@ -15,7 +15,7 @@ use std::alloc::AllocError;
 use std::io;
 use std::io::{Error, ErrorKind, Write};
 
-// Writes the bytes over those from `at` on, and past the end.
+// Writes the bytes over the old ones from `at` on, and past the end.
 fn overwrite(buf: &mut Vec<u8>, at: usize, bytes: &[u8]) -> Result<(), AllocError>
     requires { at ≤ vec_len buf.old }
     ensures ok { OnOk result (buf.new.items
@@ -61,7 +61,7 @@ impl<'a> BufSink<'a> {
         }
     }
 
-    /// Gives the vector back: what was written, and behind it what stood there before.
+    /// Returns the vector: what was written, and after it what it held before.
     pub fn into_inner(self) -> &'a mut Vec<u8>
         ensures same_reference { result.ghost_name ≡ (vector_of self.entry).ghost_name }
         ensures same { result.now ≡ (vector_of self.entry).now }

@@ -13,16 +13,18 @@ use super::{ReadExt, WriteExt};
 use crate::{Asn1DerError, Result};
 use arrayvec::ArrayVec;
 
-/// The length of a content in canonical DER: one byte below 128, else a byte `80+k` and the `k` bytes of the number,
-/// as few as can be.
+/// The length of a content in canonical DER (X.690, 8.1.3 and 10.1): one byte below 128. Else a byte `80+k` and the `k` bytes
+/// of the number, as few as possible.
 pub struct Length;
 
 impl Length {
-    /// Reads a length.
+    /// Reads a length and returns it, in bytes.
     ///
-    /// `TruncatedData` where a byte is missing; `InvalidData` for `80`, a first length byte 00 and a number below 128
-    /// in the long form; `UnsupportedValue` for a first byte past `88`; else the reader's fault. A first byte that announces
-    /// no length is drawn alone; else all length bytes are drawn before they are refused.
+    /// `TruncatedData` if a byte is missing. `InvalidData` for `80`, for a first length byte 00, and for a number below 128 in
+    /// the long form. `UnsupportedValue` for a first byte past `88`. Any other error is the reader's.
+    ///
+    /// If the first byte announces no length, only this byte is consumed. Else all length bytes are consumed before they are
+    /// rejected.
     pub fn deserialized<R: ReadExt>(reader: &mut R) -> Result<usize>
         ensures ok { IfOk result (λ n. Consumes (R.remaining reader.old) (R.remaining reader.new)
             (length_octets n)) }
@@ -53,8 +55,8 @@ impl Length {
         Length::shortest(count, len)
     }
 
-    /// Writes a length, and answers how many bytes it took. At an error of the writer a beginning was written,
-    /// and at least one byte is missing.
+    /// Writes a length, and returns how many bytes were written. After an error of the writer only a beginning was written, and
+    /// at least one byte is missing.
     pub fn serialize<W: WriteExt>(len: usize, writer: &mut W) -> Result<usize>
         ensures count { IfOk result (λ n. n ≡ length (length_octets len)) }
         ensures appends { OnOk result (Appends (W.written writer.old) (W.written writer.new)
@@ -69,7 +71,7 @@ impl Length {
         Ok(writer.write_exact(&Length::bytes(len))?)
     }
 
-    /// The bytes of a length.
+    /// The bytes of a length: 1 to 9.
     pub fn bytes(len: usize) -> ArrayVec<u8, 9>
         ensures { result.items ≡ length_octets len }
     {
@@ -85,7 +87,7 @@ impl Length {
         bytes
     }
 
-    /// How many bytes the length takes.
+    /// The number of bytes of the encoded length: 1 to 9.
     pub fn encoded_len(len: usize) -> usize
         ensures { result ≡ length (length_octets len) }
     {
@@ -96,7 +98,7 @@ impl Length {
         1 + size_of::<usize>() - zeros
     }
 
-    /// How many length bytes stand behind a first byte of the long form, which is `80` or more (X.690, 8.1.3.5).
+    /// How many length bytes follow a first byte of the long form, which is `80` or more (X.690, 8.1.3.5).
     ///
     /// `InvalidData` for `80`, which announces the indefinite form; `UnsupportedValue` past `88`.
     pub fn long_count(first: u8) -> Result<usize>
@@ -111,7 +113,7 @@ impl Length {
         }
     }
 
-    /// The number that stands in `count` length bytes, if no shorter length gives it, and else `InvalidData` (X.690, 10.1).
+    /// The number in `count` length bytes, or `InvalidData` if a shorter length encodes it (X.690, 10.1).
     pub fn shortest(count: usize, len: usize) -> Result<usize>
         requires { 1 + count < 2 ^ 64 }
         ensures ok { IfOk result (λ n. (n ≡ len) × (length (length_octets len) ≡ 1 + count)) }

@@ -11,7 +11,7 @@ use std::io;
 use std::io::{Error, ErrorKind, Read};
 use std::marker::Model;
 
-/// A reader whose next byte can be looked at before it is handed out.
+/// A reader whose next byte can be looked at before it is returned.
 #[derive(Drop)]
 pub struct PeekableReader<R: ReadExt> {
     reader: R,
@@ -48,8 +48,8 @@ impl<R: ReadExt> PeekableReader<R> {
         }
     }
 
-    /// The next byte, which the next read hands out, and `None` at the end of the input. A byte that the inner reader shows
-    /// stays in it. Where a byte was peeked already, the inner reader isn't asked.
+    /// The next byte without consuming it, or `None` at the end of the input. A byte in `ahead` of the inner reader stays
+    /// there. If a byte was peeked already, the inner reader isn't called. Each error is the inner reader's.
     pub fn peek_next(&mut self) -> io::Result<Option<u8>>
         ensures again { IfSome self.old.peeked
             (λ b. (result ≡ Ok (Some b)) × (self.new ≡ self.old)) }
@@ -78,8 +78,8 @@ impl<R: ReadExt> PeekableReader<R> {
         Ok(self.peeked)
     }
 
-    /// The next byte, which the next read hands out. At the end of the input it is an error of kind `UnexpectedEof`;
-    /// any other error is the device's. Where a byte was peeked already, the inner reader isn't asked.
+    /// The next byte without consuming it. At the end of the input the error is of kind `UnexpectedEof`; any other error is the
+    /// inner reader's. If a byte was peeked already, the inner reader isn't called.
     pub fn peek_one(&mut self) -> io::Result<u8>
         ensures again { IfSome self.old.peeked (λ b. (result ≡ Ok b) × (self.new ≡ self.old)) }
         ensures ok { IfOk result (λ b. self.new.peeked ≡ Some b) }
@@ -99,21 +99,21 @@ impl<R: ReadExt> PeekableReader<R> {
         }
     }
 
-    /// A peeked byte is the first of those that are left.
+    /// A law: a peeked byte is the first byte that is left.
     pub fn peeked_is_left(&self)
         ensures { IfSome self.now.peeked (IsFirstIn (left_in R.remaining self.now)) }
     {
         let _ = &self.reader;
     }
 
-    /// How many bytes were handed out, a peeked one not counted. It stays at `usize::MAX`.
+    /// The number of bytes that were consumed. A peeked byte isn't counted. The number stays at `usize::MAX` once it is there.
     pub fn pos(&self) -> usize
         ensures { result ≡ self.now.pos }
     {
         self.pos
     }
 
-    /// Consumes the first `count` of the bytes that are shown, as `take_ahead` does, where the position has room for them.
+    /// Consumes the first `count` bytes of `ahead`, as `take_ahead` does. The position has room for them.
     pub fn take_few(&mut self, count: usize)
         requires shown { count ≤ shown_by self.old.drawn (R.shown self.old.reader) }
         requires room { self.old.pos + count < 2 ^ 64 }
@@ -132,7 +132,7 @@ impl<R: ReadExt> PeekableReader<R> {
         self.pos += count;
     }
 
-    /// The inner reader, after a byte that was peeked.
+    /// Returns the inner reader. A byte that was peeked was consumed from it.
     pub fn into_inner(self) -> R
         ensures input { left_in R.remaining self ≡ in_front self.peeked (R.remaining result) }
         ensures no_fault { R.faults result ≡ R.faults self.reader }
@@ -150,7 +150,7 @@ impl<R: ReadExt> PeekableReader<R> {
         reader
     }
 
-    // Hands out the peeked byte, if there is one.
+    // Returns the peeked byte, if there is one.
     fn take_peeked(&mut self) -> Option<u8>
         ensures byte { result ≡ self.old.peeked }
         ensures bounded { IsByteIfAny result }
@@ -173,7 +173,8 @@ impl<R: ReadExt> PeekableReader<R> {
     }
 }
 
-/// A read while a byte is peeked hands out that byte alone, and doesn't ask the inner reader. No room takes nothing.
+/// While a byte is peeked, a read returns this byte alone and doesn't call the inner reader. With an empty buffer nothing is
+/// consumed.
 impl<R: ReadExt> Read for PeekableReader<R> {
     ghost remaining = { λ p. left_in R.remaining p };
 
@@ -230,7 +231,7 @@ impl<R: ReadExt> ReadExt for PeekableReader<R> {
         Ok(next)
     }
 
-    /// The bytes of one read. While a byte is peeked it is that byte alone, and the inner reader isn't asked.
+    /// The bytes of one read. While a byte is peeked it is this byte alone, and the inner reader isn't called.
     fn read_some(&mut self, buf: &mut [u8]) -> io::Result<usize>
         ensures bound { ReadsAtMost result buf.new }
         ensures bytes { ReadConsumes (left_in R.remaining self.old)
@@ -259,7 +260,7 @@ impl<R: ReadExt> ReadExt for PeekableReader<R> {
         }
     }
 
-    /// The bytes that the inner reader shows, and none while the peeked byte was read from it.
+    /// The bytes in `ahead` of the inner reader, or none while the peeked byte was read from it.
     fn ahead(&self) -> &[u8]
         ensures front { IfSome (left_in R.remaining self.now)
             (λ bytes. StartsWith bytes result.now) }

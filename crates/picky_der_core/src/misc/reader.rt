@@ -8,9 +8,9 @@ ghost use Rattle.picky_der_core.specs.Reader.{GivesByte, GivesNext, TakesFirst, 
 use std::io;
 use std::io::{Error, ErrorKind, Read};
 
-/// A reader that gives one byte or a piece at a time, and whose faults are told in contracts.
+/// A reader of single bytes or pieces, whose I/O errors are known to contracts.
 pub trait ReadExt: Read {
-    // Reads that answered an error so far, the last first. The end of the input is none.
+    // Reads that returned an error so far, the last first. The end of the input is none.
     ghost faults: { Self → List Fault };
 
     // The references that it reads through, outermost first.
@@ -19,7 +19,8 @@ pub trait ReadExt: Read {
     // How many bytes it shows.
     ghost shown: { Self → ℕ };
 
-    /// The next byte, and `None` at the end of the input. Each error is the device's, and takes no byte.
+    /// Consumes the next byte and returns it, or returns `None` at the end of the input. Each error is the reader's, and
+    /// consumes no byte.
     fn read_next(&mut self) -> io::Result<Option<u8>>
         ensures byte { GivesNext (Self.remaining self.old) (Self.remaining self.new) result }
         ensures fault { IfErr result (FailsOnce (faults self.old) (faults self.new)
@@ -27,8 +28,8 @@ pub trait ReadExt: Read {
         ensures no_fault { OnOk result (faults self.new ≡ faults self.old) }
         ensures same_references { references self.new ≡ references self.old };
 
-    /// Puts the next bytes into the front of the buffer, and answers how many: as many as one read gives, and none only
-    /// where the buffer has no room or at the end of the input. Each error is the device's, and takes no byte.
+    /// Fills the front of the buffer with the next bytes, and returns their number: as many as one read gives. It is 0 only if
+    /// the buffer is empty or at the end of the input. Each error is the reader's, and consumes no byte.
     fn read_some(&mut self, buf: &mut [u8]) -> io::Result<usize>
         ensures bound { ReadsAtMost result buf.new }
         ensures bytes { ReadConsumes (Self.remaining self.old)
@@ -38,21 +39,22 @@ pub trait ReadExt: Read {
         ensures no_fault { OnOk result (faults self.new ≡ faults self.old) }
         ensures same_references { references self.new ≡ references self.old };
 
-    /// Bytes that are next and are here already, so that no device has to be asked for them. A reader that has none to
-    /// show shows none, also before its end. Only a reader whose bytes contracts know shows any.
+    /// The next bytes that are in memory already, so that no I/O is needed to read them. It may be empty before the end of the
+    /// input. It is empty unless the reader's bytes are known to contracts.
     fn ahead(&self) -> &[u8]
         ensures front { IfSome (Self.remaining self.now) (λ bytes. StartsWith bytes result.now) }
         ensures size { length result.now ≡ shown self.now }
         ensures known { IfNone (Self.remaining self.now) (result.now ≡ []) };
 
-    /// Consumes the first `count` of the bytes that are shown.
+    /// Consumes the first `count` bytes of `ahead`.
     fn take_ahead(&mut self, count: usize)
         requires { count ≤ shown self.old }
         ensures taken { TakesFirst (Self.remaining self.old) (Self.remaining self.new) count }
         ensures no_fault { faults self.new ≡ faults self.old }
         ensures same_references { references self.new ≡ references self.old };
 
-    /// The next byte. At the end of the input it is an error of kind `UnexpectedEof`; any other error is the device's.
+    /// Consumes the next byte and returns it. At the end of the input the error is of kind `UnexpectedEof`; any other error is
+    /// the reader's.
     fn read_one(&mut self) -> io::Result<u8>
         ensures byte { GivesByte (Self.remaining self.old) (Self.remaining self.new) result }
         ensures fault { CountsFault (Self.remaining self.old) (Self.remaining self.new)

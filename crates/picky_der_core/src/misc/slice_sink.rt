@@ -14,7 +14,7 @@ use super::{Faults, WriteExt};
 use std::io;
 use std::io::{Error, ErrorKind, Write};
 
-/// A sink that fills a slice from its first byte on, and then takes nothing.
+/// A sink that fills a slice from its first byte on. A full sink accepts no more bytes.
 #[derive(Drop)]
 pub struct SliceSink<'a> {
     buf: &'a mut [u8],
@@ -41,7 +41,7 @@ impl<'a> SliceSink<'a> {
         }
     }
 
-    /// Gives the slice back: what was written, and behind it what stood there before. After a fault the slice is full.
+    /// Returns the slice: what was written, and after it what it held before. After an error the slice is full.
     pub fn into_inner(self) -> &'a mut [u8]
         ensures same_reference { result.ghost_name ≡ (slice_of self.entry).ghost_name }
         ensures same { result.now ≡ (slice_of self.entry).now }
@@ -56,7 +56,7 @@ impl<'a> SliceSink<'a> {
         buf
     }
 
-    // Writes as many of the bytes as there is room for, and tells how many these are.
+    // Writes as many of the bytes as there is room for, and returns their number.
     fn fill(&mut self, bytes: &[u8]) -> usize
         ensures count { result ≡ min (length bytes.now) (length self.old.buf.now - self.old.at) }
         ensures moves { self.new.at ≡ self.old.at + result }
@@ -75,7 +75,7 @@ impl<'a> SliceSink<'a> {
     }
 }
 
-/// A write takes as many of the bytes as there is room for: none where the slice is full.
+/// A write accepts as many bytes as there is room for: none if the slice is full.
 impl Write for SliceSink<'_> {
     ghost use Rattle.picky_der_core.specs.SliceSink.{written_of, room_of, faults_of, IsLater};
 
@@ -108,8 +108,7 @@ impl Write for SliceSink<'_> {
     }
 }
 
-/// An exact write takes as many of the bytes as there is room for too, and where that isn't all of them the error is of
-/// kind `WriteZero`.
+/// An exact write also accepts as many bytes as there is room for. If this isn't all of them, the error is of kind `WriteZero`.
 impl WriteExt for SliceSink<'_> {
     ghost use Rattle.picky_der_core.specs.SliceSink.{slice_of, filled_of, room_of, written_of, faults_of, IsLater};
 

@@ -1,4 +1,4 @@
-//! Readers and writers whose faults are told.
+//! Readers and writers whose I/O errors are known to contracts.
 ghost use Rattle.std.specs.Prelude.{◌≡◌, ◌<◌, [], ◌∷◌, length, IfOk, IfErr, OnOk, OnErr};
 ghost use Rattle.std.specs.IoError.{error_kind};
 ghost use Rattle.std.specs.declared.io.ErrorKind.TheVariants.{WriteZero};
@@ -13,8 +13,8 @@ use std::io;
 use std::io::{Error, ErrorKind, Read, Write};
 use std::marker::Model;
 
-/// Any reader or writer, as a file, a pipe or one of tests: it tells the bytes that the inner one tells, and its
-/// faults are told in contracts, each with its kind.
+/// Any reader or writer, as a file or a pipe. Its bytes are known as far as the inner one's are. Each of its I/O errors is
+/// known to contracts, with its kind.
 #[derive(Drop)]
 pub struct Watched<T> {
     inner: T,
@@ -50,7 +50,7 @@ impl<T> Watched<T> {
         &self.inner
     }
 
-    /// Gives the reader or writer back.
+    /// Returns the reader or writer.
     pub fn into_inner(self) -> T
         ensures { result ≡ self.inner }
     {

@@ -1,4 +1,4 @@
-//! Writers that write all of a slice, or tell a fault.
+//! Writers that write all of a slice, or return an I/O error.
 ghost use Rattle.std.specs.Prelude.{◌≡◌, ℕ, suc, List, [], ◌∷◌, length, Option, IfOk, OnOk, IfErr, OnErr};
 ghost use Rattle.std.specs.IoError.{error_kind};
 ghost use Rattle.std.specs.declared.io.ErrorKind.{ErrorKind};
@@ -9,23 +9,23 @@ ghost use Rattle.picky_der_core.specs.Writer.{AppendsTooFew};
 use std::io;
 use std::io::Write;
 
-/// A writer that writes all of a slice, and whose faults are counted in contracts.
+/// A writer that writes all of a slice. Contracts count its I/O errors.
 pub trait WriteExt: Write {
-    // The bytes that the writer tells.
+    // The bytes that were written, as far as they are known.
     ghost written: { Self → Option (List ℕ) };
 
-    // Writes that answered an error, or took nothing of a slice that wasn't empty.
+    // The number of writes that returned an error, or accepted nothing of a slice that wasn't empty.
     ghost faults: { Self → ℕ };
 
-    // The kinds that a refused write answers.
+    // The kinds of error that a failed write returns.
     ghost answers: { ErrorKind → Type 0 };
 
     // The second is the first at a later time: what it borrows and what lies past its bytes is the same.
     ghost later: { Self → Self → Type 0 };
 
-    /// Writes all of the bytes, and answers how many they are. At an error a beginning of them was written, and at
-    /// least one is missing; a device that takes nothing gives the kind `WriteZero`. No bytes make no write, and no
-    /// error.
+    /// Writes all of the bytes, and returns their number. After an error a beginning of them was written, and at least one is
+    /// missing. If the writer accepts no byte, the error is of kind `WriteZero`. Without bytes nothing is written, and it never
+    /// fails.
     fn write_exact(&mut self, bytes: &[u8]) -> io::Result<usize>
         ensures count { IfOk result (λ n. n ≡ length bytes.now) }
         ensures appends { OnOk result (Appends (written self.old) (written self.new) bytes.now) }
@@ -36,7 +36,7 @@ pub trait WriteExt: Write {
         ensures no_fault { OnOk result (faults self.new ≡ faults self.old) }
         ensures goes_on { later self.old self.new };
 
-    /// Writes the byte, and answers 1. At an error nothing was written.
+    /// Writes the byte, and returns 1. After an error nothing was written.
     fn write_one(&mut self, byte: u8) -> io::Result<usize>
         ensures count { IfOk result (λ n. n ≡ 1) }
         ensures appends { OnOk result (Appends (written self.old) (written self.new) (byte ∷ [])) }

@@ -8,7 +8,7 @@ use Rattle.picky_der_core.specs.ElementLaws.{length_octets-short, length_octets-
 use Rattle.picky_der_core.specs.LengthLaws.{length-length_octets-long}
 use Rattle.picky_der_core.proofs.misc.length.Length.bytes.Goals as goal
 
--- the slice of a number's eight bytes that is copied, where the length takes so many
+-- the slice of a number's eight bytes that is copied, if the length has so many
 abbrev digits : ℕ → List ℕ → List ℕ
 digits size bytes = take (8 - (9 - size)) (drop (9 - size) bytes)
 
