@@ -1,22 +1,22 @@
--- Headers that are brought in front of a content.
+-- Headers that are brought before a content.
 use Rattle.std.proofs.Common.{◌≡◌, ℕ, ◌+◌, ◌-◌, ◌≤◌, List, ◌++◌, length, take, drop, refl, sym, ◌∙◌, ap, ap₂, arith, append_assoc, append-nil, length-append, take-append-drop, length-take-le}
 use Rattle.std.proofs.Math.Seq.{take-append_seam, drop-append_seam, take-append-add, drop-append-add}
 use Rattle.std.proofs.lemmas.List.{drop-append-le, take-append-le, take-take, length-drop}
 use Rattle.std.specs.List.{slice_rotate_right}
 use Rattle.picky_der_ser.specs.Overwrite.{with_overwrite}
 
--- the last bytes of a list, in front of the others
+-- the last bytes of a list, before the others
 rotated : (c h : List ℕ) (room more : ℕ) → length h ≡ room + more → slice_rotate_right (c ++ h) more ≡ drop room h ++ (c ++ take room h)
 rotated c h room more count =
     let n : length (c ++ h) - more ≡ length c + room = omega (arith, length-append c h) in
     ap (λ k. drop k (c ++ h) ++ take k (c ++ h)) n ∙ ap (λ x. x ++ take (length c + room) (c ++ h)) (drop-append-add c h room) ∙ ap (λ x. drop room h ++ x) (take-append-add c h room)
 
--- bytes behind a list, brought in front of its end
+-- bytes after a list, brought before its end
 turned : (s pad : List ℕ) (at : ℕ) → at ≤ length s → take at (s ++ pad) ++ slice_rotate_right (drop at (s ++ pad)) (length pad) ≡ take at s ++ (pad ++ drop at s)
 turned s pad at h =
     ap₂ (λ x y. x ++ slice_rotate_right y (length pad)) (take-append-le at s pad h) (drop-append-le at s pad h) ∙ ap (λ x. take at s ++ x) (rotated (drop at s) pad 0 (length pad) (omega arith) ∙ ap (λ x. pad ++ x) (append-nil (drop at s)))
 
--- what stands behind them then
+-- what follows them then
 pub behind_turned : (s t o pad : List ℕ) (at count : ℕ) → at ≤ length s → length t ≡ length s + count → t ≡ s ++ pad → o ≡ take at t ++ slice_rotate_right (drop at t) count → drop (at + count) o ≡ drop at s
 behind_turned s t o pad at count h len more is =
     let n : length (take at s) ≡ at = length-take-le at s h in
@@ -39,7 +39,7 @@ turn_twice bs i j h =
     ∙ ap₂ (λ x y. x ++ y) (drop-append-add last front m) (take-append-add last front m ∙ ap (λ x. last ++ x) (take-take m k bs (omega arith)))
     ∙ sym (append_assoc (drop m front) last (take m bs)) ∙ ap (λ x. x ++ take m bs) (sym before)
 
--- the last `count` of these bytes in place of those behind `a`
+-- the last `count` of these bytes in place of the bytes after `a`
 filled : (a r x f : List ℕ) (at count n : ℕ) → length a ≡ at → length r ≡ count → length f ≡ count → n ≡ at + count + length x
     → with_overwrite at count n (((a ++ r) ++ x) ++ f) ≡ a ++ (f ++ x)
 filled a r x f at count n i j k l =
@@ -53,7 +53,7 @@ filled a r x f at count n i j k l =
     let others : drop (at + count) (take n all) ≡ x = ap (λ m. drop m (take n all)) behind ∙ ap (drop (length (a ++ r))) kept ∙ drop-append_seam (a ++ r) x in
     rw (front, last, others) refl
 
--- bytes behind a list, brought in front of its content: the first of them in place of the room, which is `room` bytes wide by now
+-- bytes after a list, brought before its content: the first of them in place of the room, which is `room` bytes wide by now
 pub in_front_of_content : (s h u : List ℕ) (at start room more : ℕ) → at ≤ start → start ≤ length s → at + room ≤ length u → length h ≡ room + more → take at u ≡ take at (s ++ h) → drop (at + room) u ≡ drop start (s ++ h)
     → with_overwrite at room (length (take (at + room) u ++ slice_rotate_right (drop (at + room) u) more) - room) (take (at + room) u ++ slice_rotate_right (drop (at + room) u) more) ≡ take at s ++ (h ++ drop start s)
 in_front_of_content s h u at start room more before within roomy count front behind =

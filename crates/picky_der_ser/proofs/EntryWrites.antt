@@ -74,7 +74,7 @@ module _ (g : Ghosts BufSink) (told : (s : BufSink) → g.written s ≡ Some (ta
       let m : e ≡ OutOfMemory = f.is ∙ ap error_of_kind (only f.kind f.answered) ∙ memory_kind in
       cc
 
-  -- a vector holds a beginning of the encoding, and behind it what stood there before
+  -- a vector holds a beginning of the encoding, and after it what was there before
   pub refused-vec : (t : Tree) (old new : BufSink) (e : Asn1DerError) → position_of old ≡ 0 → drop (position_of new) (vector_of new).now.items ≡ drop (position_of new) (vector_of old).now.items
       → SinkRefuses g t old e new → VecRefuses t (vector_of old).now.items e (vector_of new).now.items
   refused-vec t old new e start past h =
@@ -100,7 +100,7 @@ module _ (g : Ghosts SliceSink) (told : (s : SliceSink) → g.written s ≡ Some
       let first : Appends (Some (written_of old)) (g.written new) bs = subst (λ a. Appends a (g.written new) bs) (told old) h in
       subst (λ b. Appends (Some (written_of old)) b bs) (told new) first
 
-  -- a slice holds the encoding, and behind it what stood there before
+  -- a slice holds the encoding, and after it what was there before
   pub wrote-slice : (t : Tree) (old new : SliceSink) (n : ℕ) → filled_of old ≡ 0 → IsLater old new → SinkWrites g t old n new
       → Overwrites t (slice_of old).now n (slice_of new).now × (length (der t) ≤ length (slice_of old).now)
   wrote-slice t old new n start later h =
@@ -116,7 +116,7 @@ module _ (g : Ghosts SliceSink) (told : (s : SliceSink) → g.written s ≡ Some
       let first = holds_first old new (der t) start later (record { begins = b; missing = some }) rose in
       without_room (f.is ∙ ap error_of_kind (only f.kind f.answered) ∙ full_kind) h first.0 first.1
 
-  -- it holds a beginning of the encoding, and behind it what stood there before
+  -- it holds a beginning of the encoding, and after it what was there before
   pub refused-slice : (t : Tree) (old new : SliceSink) (e : Asn1DerError) → filled_of old ≡ 0 → IsLater old new → SinkRefuses g t old e new → SliceRefuses t (slice_of old).now e (slice_of new).now
   refused-slice t old new e start later h =
       let b : AppendsBeginning (Some (written_of old)) (Some (written_of new)) (der t) =

@@ -1,4 +1,4 @@
--- The headers in front of a content are those of its encoding.
+-- The headers before a content are the headers of its encoding.
 use Rattle.std.proofs.Common.{◌≡◌, ℕ, suc, ◌+◌, ◌-◌, Bool, true, false, List, [], ◌∷◌, ◌++◌, length, Option, None, Some, refl, sym, ◌∙◌, ap, append_assoc, length-append, arith}
 use Rattle.picky_der_core.specs.Primitive.{Primitive}
 use Rattle.picky_der_core.specs.OpenWrapperLaws.{present-under}
@@ -53,7 +53,7 @@ own Raw c = der-raw c
 
 -- ---- all of them
 
--- in front of an encoding that is kept whole
+-- before an encoding that is kept whole
 before : (w : Wrapper) (rest c bs : List ℕ) → bs ≡ rest ++ c → wrapper_opening w (length bs) ++ bs ≡ (wrapper_opening w (length rest + length c) ++ rest) ++ c
 before w rest c bs e =
     let n : length bs ≡ length rest + length c = ap length e ∙ length-append rest c in

@@ -67,7 +67,7 @@ nil_of (w ∷ ws) e = absurd (omega arith)
 
 -- ---- the loop
 
--- behind what was there stand the openings of all but `rest`, the last byte first
+-- after what was there are the openings of all but `rest`, the last byte first
 pub record PushesHeaders (old now : List ℕ) (all rest : List Wrapper) (inner : List ℕ) (n : ℕ) : Type 0 where
   pub done : List Wrapper
   pub split : all ≡ rest ++ done

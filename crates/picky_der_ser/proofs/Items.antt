@@ -11,7 +11,7 @@ next_at m (y ∷ ys) (suc i) x h e = next_at m ys i x (omega arith) e
 pub item_at : {A : Type 0} (m : A → Tree) (xs : List A) (i : ℕ) (x : A) → i < length xs → x ≡ get_or xs i x → trees (map m (drop i xs)) ≡ Trees.more (m x) (trees (map m (drop (i + 1) xs)))
 item_at m xs i x h e = next_at m xs i x h e ∙ ap (λ n. Trees.more (m x) (trees (map m (drop n xs)))) (sym (add-one i))
 
--- and none behind the last
+-- and none after the last
 pub items_end : {A : Type 0} (m : A → Tree) (xs : List A) (i : ℕ) → length xs ≤ i → trees (map m (drop i xs)) ≡ Trees.none
 items_end m [] i h = none_of i
   where

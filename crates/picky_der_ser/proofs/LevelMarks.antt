@@ -216,10 +216,10 @@ count-uncut true {m} {vs} {ms} s q w n was none count =
     let own : final_content (level_at m s q w) ≡ drop m.start s = final_content-uncut (level_at m s q w) (drop_all m.first_seam q none) in
     rw was (count ∙ ap (λ c. length (der (under (drop m.first_wrapper w) (tree_of m.header c)))) (sym own))
 
--- ---- a room that is widened: what stood from `m.at` on has moved by k bytes, and its content by n more
+-- ---- a room that is widened: what was from `m.at` on has moved by k bytes, and its content by n more
 module _ (m : Mark) (s t u : List ℕ) (end k n : ℕ) (room : m.at ≤ m.start) (within : m.start ≤ end) (moved : drop (m.at + k) t ≡ drop m.at s) (front : take (m.start + k) u ≡ take (m.start + k) t)
     (behind : drop (m.start + k + n) u ≡ drop (m.start + k) t) where
-  -- what stood from the content on
+  -- what was from the content on
   content-moved : drop (m.start + k + n) u ≡ drop m.start s
   content-moved =
       let r = m.start - m.at in

@@ -1,4 +1,4 @@
--- From what a sink took to what a serializer wrote.
+-- From what a sink accepted to what a serializer wrote.
 use Rattle.std.proofs.Common.{◌≡◌, ℕ, ◌+◌, ◌<◌, ◌^◌, true, List, [], ◌∷◌, ◌++◌, length, Option, None, Some, refl, sym, ap, ◌∙◌, subst, arith, le-leb, Result, Ok, Err, IfOk, OnOk, IfErr, OnErr, length-append, take, drop}
 use Rattle.std.proofs.Math.Seq.{take-append_seam, drop-append_seam}
 use Rattle.std.specs.Prelude.{IfSome, IsTrue}
@@ -56,7 +56,7 @@ AreEncoding t p bs = IfSome p (λ l. IsWritable (t l) × (bs ≡ der (t l)))
 
 module _ (p : Option Level) (old new : Stack) (n : ℕ) (numbers : IfSome p (λ l. CanAllBeOpen l.around × HasNumber l.header))
     (added : IfSome p (λ l. new ≡ record old { pending = Some (with_bytes l (headers l.around l.header n)) })) where
-  -- what it holds, with the headers of n bytes behind
+  -- what it holds, with the headers of n bytes after
   held : (bs : List ℕ) → IfSome new.pending (λ l. bs ≡ l.content) → IfSome p (λ l. bs ≡ l.content ++ headers l.around l.header n)
   held bs h = by_level p added
     where
@@ -64,7 +64,7 @@ module _ (p : Option Level) (old new : Stack) (n : ℕ) (numbers : IfSome p (λ 
       by_level None a = tt
       by_level (Some l) a = subst (λ o. IfSome o (λ m. bs ≡ m.content)) (ap (λ (s : Stack). s.pending) a) h
 
-  -- the headers, and a content that stands elsewhere
+  -- the headers, and a content that is borrowed
   pub encoding_behind : (front c : List ℕ) → n ≡ length c → IfSome p (λ l. l.content ≡ []) → IfSome new.pending (λ l. front ≡ l.content) → length front + length c < 2 ^ 64 → AreEncoding (with_content c) p (front ++ c)
   encoding_behind front c count empty shown fits = by_level p numbers empty (held front shown)
     where
@@ -74,7 +74,7 @@ module _ (p : Option Level) (old new : Stack) (n : ℕ) (numbers : IfSome p (λ 
           let is : front ≡ headers l.around l.header (length c) = d ∙ ap (λ x. x ++ headers l.around l.header n) b ∙ ap (headers l.around l.header) count in
           (writable_headed l.around l.header c a (omega (arith, ap length is, fits)), ap (λ x. x ++ c) is ∙ sym (der-headers l.around l.header c))
 
-  -- the headers, brought in front of its content
+  -- the headers, brought before its content
   pub encoding_split : (all whole c hs : List ℕ) → n ≡ length whole → IfSome p (λ l. whole ≡ l.content) → IfSome new.pending (λ l. all ≡ l.content) → c ≡ take n all → hs ≡ drop n all → length hs + length c < 2 ^ 64 → AreEncoding as_it_is p (hs ++ c)
   encoding_split all whole c hs count was shown front back fits = by_level p numbers was (held all shown)
     where

@@ -15,7 +15,7 @@ use Rattle.picky_der_ser.specs.Headers.{headers}
 use Rattle.picky_der_ser.proofs.HeaderBytes.{der-headers}
 use Rattle.picky_der_ser.proofs.PlainWrites.{past_under}
 
--- ---- members in front of others
+-- ---- members before others
 
 abbrev pub before : List Tree → Trees → Trees
 before [] us = us
@@ -25,7 +25,7 @@ pub before_none : (ts : List Tree) → before ts Trees.none ≡ trees ts
 before_none [] = refl
 before_none (t ∷ ts) = ap (Trees.more t) (before_none ts)
 
--- the first of the others, counted with those in front
+-- the first of the others, counted with the members in front
 pub before_next : (ts : List Tree) (t : Tree) (us : Trees) → before ts (Trees.more t us) ≡ before (ts ++ (t ∷ [])) us
 before_next [] t us = refl
 before_next (s ∷ ts) t us = ap (Trees.more s) (before_next ts t us)
@@ -52,7 +52,7 @@ numbers_at : (ts : List Tree) (t : Tree) (us : Trees) → IsTrue (have_tag_numbe
 numbers_at [] t us h = first_of (has_tag_numbers t) _ h
 numbers_at (s ∷ ts) t us h = numbers_at ts t us (second_of (has_tag_numbers s) _ h)
 
--- of what stands in wrappers
+-- the same for what is in wrappers
 pub numbers_inside : (ws : List Wrapper) (t : Tree) → IsTrue (has_tag_numbers (under ws t)) → IsTrue (has_tag_numbers t)
 numbers_inside ws t h = by_cases (has_tag_numbers t) refl
   where

@@ -1,4 +1,4 @@
--- A list that is being written: the members that it has, and those that it still awaits.
+-- A list that is being written: the members that it has, and the members that it still awaits.
 use Rattle.std.proofs.Common.{◌≡◌, ℕ, List, [], ◌∷◌, ◌++◌, map, Option, None, Some, refl, sym, ap, ◌∙◌, subst, inl, inr, Result, Ok, Err, IfOk, IfErr}
 use Rattle.std.specs.Prelude.{IfSome, IfNone, IsTrue}
 use Rattle.picky_der_core.specs.Primitive.{Primitive}
@@ -90,7 +90,7 @@ module _ {W : Type 0} (g : Ghosts W) where
 
   -- ---- the end
 
-  -- what the call answers doesn't depend on the level that was opened last
+  -- what the call returns doesn't depend on the level that was opened last
   pub writes_whatever : (t : Tree) (old new : State W) (p : Option Level) (r : Result ℕ Asn1DerError) → IfOk r (λ n. Writes g t (record old { pending = p }) n new) → IfOk r (λ n. Writes g t old n new)
   writes_whatever t old new p (Ok n) h = record { had_not_failed = h.had_not_failed; writable = h.writable; count = h.count; adds = h.adds; closed = h.closed; not_failed = h.not_failed; no_fault = h.no_fault }
   writes_whatever t old new p (Err e) h = tt

@@ -29,7 +29,7 @@ writable-bytes tag c h l = record {
   fits = let d = der-primitive (Primitive.bytes tag c) in let m = length-tlv tag c (omega arith) in rw d (omega (arith, m));
 }
 
--- a content that stands in memory, under its header
+-- a content that is in memory, under its header
 pub writable-content : (h : Header) (c : List ℕ) → HasNumber h → length c + 10 < 2 ^ 64 → IsWritable (tree_of h c)
 writable-content (Tagged tag) c n l = writable-bytes tag c n l
 writable-content (Application k) c n l = record {

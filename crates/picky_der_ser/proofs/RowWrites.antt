@@ -14,7 +14,7 @@ use Rattle.picky_der_ser.proofs.Alike.{excuse_of_part}
 use Rattle.picky_der_ser.proofs.ListBytes.{before, before_next, member_writable}
 use Rattle.picky_der_ser.proofs.MemberWrites.{Awaits, level_with, list_gained, list_stopped}
 
--- a member, and those behind it
+-- a member, and the members after it
 members_behind : (l : Level) (t : Tree) (ts : Trees) → with_members (with_member l (der t)) (encodings ts) ≡ with_members l (encodings (Trees.more t ts))
 unfolding der tree_bytes
 members_behind l t ts = refl
@@ -23,7 +23,7 @@ one_member : (l : Level) (t : Tree) → with_members l (encodings (Trees.more t 
 unfolding der tree_bytes
 one_member l t = refl
 
--- a list is written only if those of its members are that stand behind others
+-- a list is written only if its last members are
 members_writable : (ws : List Wrapper) (kind : ListKind) (ts : List Tree) (us : Trees) → IsWritable (under ws (Tree.list kind (before ts us))) → AreWritable us
 members_writable ws kind ts Trees.none h = tt
 members_writable ws kind ts (Trees.more t us) h =
@@ -35,7 +35,7 @@ module _ {W : Type 0} where
   with_level now l = record { sink = now.sink; around = []; failed = None; inside = now.inside; pending = Some l }
 
 module _ {W : Type 0} (g : Ghosts W) where
-  -- ---- what the calls for one member and for those behind it do together
+  -- ---- what the calls for one member and for the members after it do together
 
   -- all of them were added
   all_gained : {t : Tree} {old between : State W} (ts : Trees) (new : State W) → AddsMember g t old between → AddsRow g ts between new → AddsMembers g (Trees.more t ts) old new
@@ -56,7 +56,7 @@ module _ {W : Type 0} (g : Ghosts W) where
           subst (λ (s : State W). IfSome s.pending (λ m. new ≡ with_level s (with_members m (encodings all)))) k h.added in
           rest ∙ ap (with_level old) (members_behind l t all)
 
-  -- one behind the first was
+  -- one after the first was
   all_stopped : {t : Tree} {old between : State W} {e : Asn1DerError} (ts : Trees) (new : State W) → IfNone old.failed (IsSome old.pending) → AddsMember g t old between → RefusesToAddRow g ts between e new → RefusesToAddRow g (Trees.more t ts) old e new
   all_stopped Trees.none new opened a h = absurd h
   all_stopped {t} {old} {between} {e} (Trees.more u us) new opened a h =
@@ -67,12 +67,12 @@ module _ {W : Type 0} (g : Ghosts W) where
       with_it None is k = cc
       with_it (Some l) is k = (ap (λ (s : State W). s.sink) k, ap (λ (s : State W). s.failed) k)
 
-  -- a member comes in front of others
+  -- a member comes before others
   pub row_leads : {T : Type 0} (r : Result T Asn1DerError) (t : Tree) (old between : State W) → IfNone old.failed (IsSome old.pending) → OnOk r (AddsMember g t old between) → OnOk r (AddsInFront g (Trees.more t) old between)
   row_leads (Ok v) t old between opened a = record { added = λ ts last h. all_gained ts last a h; refused = λ ts e last h. all_stopped ts last opened a h }
   row_leads (Err e) t old between opened a = tt
 
-  -- ---- what the calls for what comes in front and for those behind it do together
+  -- ---- what the calls for what comes in front and for the members after it do together
 
   pub row_goes_on : {T : Type 0} (r : Result T Asn1DerError) (ts : Trees) (new : State W) {in_front : Trees → Trees} {old between : State W} → AddsInFront g in_front old between → OnOk r (AddsRow g ts between new) → OnOk r (AddsRow g (in_front ts) old new)
   row_goes_on (Ok v) ts new a h = a.added ts new h
@@ -84,7 +84,7 @@ module _ {W : Type 0} (g : Ghosts W) where
 
   -- ---- the list
 
-  -- the first member of a row, and those behind it
+  -- the first member of a row, and the members after it
   row_parted : (l : Level) (t : Tree) (ts : Trees) (now new : State W) → now.pending ≡ Some l → AddsMembers g (Trees.more t ts) now new
       → AddsMember g t now (with_level now (with_member l (der t))) × AddsRow g ts (with_level now (with_member l (der t))) new
   row_parted l t ts now new p h = (first, others ts h)

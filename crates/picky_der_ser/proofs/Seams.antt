@@ -45,7 +45,7 @@ last_seam-next header ss n h = by_test (is_set header && nat_lt 0 n)
     by_test true = omega (arith, last_seam-push 0 ss n)
     by_test false = h
 
--- of seams that stand one behind the other, those before the `k`th stay
+-- of ascending seams, the seams before the `k`th stay
 
 pub drop-next_seams : (header : Header) (k : ℕ) (ss : List ℕ) (n : ℕ) → k ≤ length ss → drop k (next_seams header ss n) ≡ next_seams header (drop k ss) n
 drop-next_seams header k ss n h = by_test (is_set header && nat_lt 0 n)
@@ -68,7 +68,7 @@ length-next_seams header ss n = by_test (is_set header && nat_lt 0 n)
     by_test true = omega (arith, length-append ss (n ∷ []))
     by_test false = omega arith
 
--- ---- a member behind the others is cut off as one more
+-- ---- a member after the others is cut off as one more
 
 between-front : (start s : ℕ) (c b : List ℕ) → s ≤ length c → between start s (c ++ b) ≡ between start s c
 between-front start s c b h = between_is (c ++ b) start s ∙ ap (drop start) (take-append-le s c b h) ∙ sym (between_is c start s)
@@ -101,7 +101,7 @@ pub in_ascending_order-uncut : (ss c : List ℕ) → length ss ≡ 0 → concat 
 in_ascending_order-uncut [] c h = ap concat (in_ascending_order-same (c ∷ []) (IsSortedBy-one is_less c)) ∙ append-nil c
 in_ascending_order-uncut (s ∷ ss) c h = absurd (omega (arith, h))
 
--- ---- what a sort of what was cut gives, one behind the other
+-- ---- what a sort of what was cut gives, one after the other
 
 pub joined-sorted : (xs ys : List (Bor (List ℕ))) (all : List (List ℕ)) (r : Result (Vec ℕ Global) AllocError)
     → map (λ x. x.now) xs ≡ all → IsPermutation xs ys → IsSortedByKey (λ x. x.now) (slice_cmp nat_cmp) ys

@@ -21,7 +21,7 @@ final_content-uncut l e = in_ascending_order-uncut l.seams l.content (ap length 
 pub in_order-uncut : (l : Level) → l.seams ≡ [] → l ≡ in_order l
 in_order-uncut l e = ap₂ (λ c ss. record l { content = c; seams = ss }) (sym (final_content-uncut l e)) e
 
--- ---- members of a set: those that aren't empty are what stands between seams and isn't
+-- ---- the members of a set that aren't empty are the pieces between seams that aren't empty
 
 record SeamsDivide (seams content : List ℕ) (members : List (List ℕ)) : Type 0 where
   pub ascending : AreSeams 0 seams
@@ -101,7 +101,7 @@ pub members_around : (l : Level) (bs : List (List ℕ)) → (with_members l bs).
 members_around l [] = refl
 members_around l (b ∷ bs) = members_around (with_member l b) bs
 
--- one behind the others
+-- one after the others
 pub members-push : (l : Level) (bs : List (List ℕ)) (b : List ℕ) → with_members l (bs ++ (b ∷ [])) ≡ with_member (with_members l bs) b
 members-push l [] b = refl
 members-push l (c ∷ bs) b = members-push (with_member l c) bs b

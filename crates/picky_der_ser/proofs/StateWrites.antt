@@ -56,7 +56,7 @@ module _ {W : Type 0} (g : Ghosts W) where
 
   -- ---- plain values
 
-  -- the sink took what it took, and then the outcome was settled
+  -- the sink accepted these bytes, and then the outcome was settled
   pub plain_outside : (t : Tree) (old new : State W) (mid : W) (levels : List Level) (r s : Result ℕ Asn1DerError) → s ≡ r → new.sink ≡ mid → new.inside ≡ levels → IsWritable t → old.failed ≡ None → old.inside ≡ []
       → OnOk r (levels ≡ []) → OnOk r ((new.around ≡ []) × (new.failed ≡ old.failed)) → IfErr r (λ e. new.failed ≡ Some (failure_of e))
       → IfOk r (λ n. SinkWrites g (under old.around t) old.sink n mid) → IfErr r (λ e. SinkRefuses g (under old.around t) old.sink e mid) → IfErr r (λ e. old.around ≡ [] → WriterFails g old.sink e mid)
@@ -86,19 +86,19 @@ module _ {W : Type 0} (g : Ghosts W) where
   pub plain_refused : (t : Tree) (old new : State W) (e : Asn1DerError) → IsWritable t → old.inside ≢ [] → RefusesWrite g t old e new → new.sink ≡ old.sink → IsOnceAtMost (g.faults old.sink) (g.faults new.sink) → g.later old.sink new.sink → WritesPlain g t old (Err e) new
   plain_refused t old new e w some h same c l = record { wrote = tt; failed = h; outside = λ x y inside around. absurd (some inside); untouched = record { same = λ well. same }; refuses_unwritable = λ no. absurd (no w); counted = c; goes_on = l }
 
-  -- without wrappers, the sink took an element
+  -- without wrappers, the sink accepted an element
   pub bare_wrote : (t : Tree) (ws : List Wrapper) (bs : List ℕ) (old new : W) (r : Result ℕ Asn1DerError) → ws ≡ [] → IsWritable t → bs ≡ der t → IfOk r (λ n. n ≡ length bs) → OnOk r (Appends (g.written old) (g.written new) bs) → IfOk r (λ n. SinkWrites g (under ws t) old n new)
   bare_wrote t ws bs old new r e w is count appends = subst (λ vs. IfOk r (λ n. SinkWrites g (under vs t) old n new)) (sym e) (wrote_by g t bs old new r w is count appends)
 
   pub bare_refused : (t : Tree) (ws : List Wrapper) (bs : List ℕ) (old new : W) (r : Result ℕ Asn1DerError) → ws ≡ [] → IsWritable t → bs ≡ der t → OnErr r (AppendsTooFew (g.written old) (g.written new) bs) → IfErr r (λ e. WriterFails g old e new) → IfErr r (λ e. SinkRefuses g (under ws t) old e new)
   bare_refused t ws bs old new r e w is begins fault = subst (λ vs. IfErr r (λ k. SinkRefuses g (under vs t) old k new)) (sym e) (refused_by g t bs old new r w is begins fault)
 
-  -- what only a fault of the sink stops
+  -- what only an I/O error of the sink stops
   pub untouched_by_fault : (old new : W) (r : Result ℕ Asn1DerError) → IfErr r (λ e. WriterFails g old e new) → IfErr r (λ e. UntouchedUnlessFailed g old e new)
   untouched_by_fault old new (Ok n) h = tt
   untouched_by_fault old new (Err e) h = record { same = λ well. absurd (well h) }
 
-  -- behind the settling of an outcome the sink is as it was before it
+  -- after the settling of an outcome the sink is as it was before it
   pub untouched_settled : (old mid new : W) (r s : Result ℕ Asn1DerError) → s ≡ r → new ≡ mid → IfErr r (λ e. UntouchedUnlessFailed g old e mid) → IfErr s (λ e. UntouchedUnlessFailed g old e new)
   untouched_settled old mid new r s same kept h = rw (same, kept) h
 

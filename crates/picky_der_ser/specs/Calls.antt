@@ -24,7 +24,7 @@ abbrev pub AreWritable : Trees → Type 0
 AreWritable Trees.none = ⊤
 AreWritable (Trees.more t ts) = IsWritable t × AreWritable ts
 
--- why something isn't written into memory: this was refused, or it can't be written, as `Possible` would say
+-- why something isn't written into memory: an allocation failed, or it can't be written, as `Possible` would say
 pub data MemoryExcuse (Possible : Type 0) (e : Asn1DerError) : Type 0 where
   no_room : e ≡ OutOfMemory → MemoryExcuse Possible e
   no_way : e ≡ UnsupportedValue → ¬ Possible → MemoryExcuse Possible e
@@ -47,7 +47,7 @@ module _ {W : Type 0} (g : Ghosts W) where
   abbrev pub Adds : State W → State W → List ℕ → Type 0
   Adds old new bs = AddsIn old.inside new.inside old.sink new.sink bs
 
-  -- Why a serializer that hadn't failed may refuse to write a tree to its sink. `rest` is what of the encoding wasn't written: at least a byte after a fault of the sink.
+  -- Why a serializer that hadn't failed may refuse to write a tree to its sink. `rest` is what of the encoding wasn't written: at least a byte after an I/O error of the sink.
   pub data Excuse (t : Tree) (rest : List ℕ) (old : W) (e : Asn1DerError) (new : W) : Type 0 where
     -- what was written before may stay
     no_memory : e ≡ OutOfMemory → Excuse t rest old e new
@@ -74,7 +74,7 @@ module _ {W : Type 0} (g : Ghosts W) where
   RefusesIn [] t old e new = SinkRefuses t old e new
   RefusesIn (l ∷ ls) t old e new = MemoryExcuse (IsWritable t) e × (new ≡ old)
 
-  -- the call wrote the tree in the open wrappers, and closed them; no fault of the sink was passed over
+  -- the call wrote the tree in the open wrappers, and closed them; no I/O error of the sink was passed over
   pub record Writes (t : Tree) (old : State W) (n : ℕ) (new : State W) : Type 0 where
     pub had_not_failed : old.failed ≡ None
     pub writable : IsWritable (under old.around t)
@@ -84,13 +84,13 @@ module _ {W : Type 0} (g : Ghosts W) where
     pub not_failed : new.failed ≡ None
     pub no_fault : g.faults new.sink ≡ g.faults old.sink
 
-  -- the call answered an error in place of writing the tree
+  -- the call returned an error in place of writing the tree
   pub record RefusesWrite (t : Tree) (old : State W) (e : Asn1DerError) (new : State W) : Type 0 where
     pub failed : new.failed ≡ Some (failure_of e)
     pub again : IfSome old.failed (λ f. (failure_of e ≡ f) × (new.sink ≡ old.sink))
     pub reason : IfNone old.failed (RefusesIn old.inside (under old.around t) old.sink e new.sink)
 
-  -- outside wrappers and levels only the sink can refuse a plain value that can be written, since no memory is taken
+  -- outside wrappers and levels only the sink can refuse a plain value that can be written, since nothing is allocated
   abbrev pub OnlySinkFails : Tree → State W → Asn1DerError → State W → Type 0
   OnlySinkFails t old e new = IsWritable t → old.failed ≡ None → old.inside ≡ [] → old.around ≡ [] → WriterFails g old.sink e new.sink
 
@@ -112,7 +112,7 @@ module _ {W : Type 0} (g : Ghosts W) where
   abbrev pub WritesPrimitive : Primitive → State W → Result ℕ Asn1DerError → State W → Type 0
   WritesPrimitive p = WritesPlain (Tree.primitive p)
 
-  -- the call writes what isn't there: the open wrappers are dropped, nothing is written, and only an earlier error is answered
+  -- the call writes what isn't there: the open wrappers are dropped, nothing is written, and only an earlier error is returned
   pub record WritesAbsent (old : State W) (r : Result ℕ Asn1DerError) (new : State W) : Type 0 where
     pub wrote : IfOk r (λ n. Writes Tree.absent old n new)
     pub count : IfOk r (λ n. n ≡ 0)
@@ -121,14 +121,14 @@ module _ {W : Type 0} (g : Ghosts W) where
 
   -- ---- levels
 
-  -- it stopped with this error: it had failed so, or memory was refused; nothing was written
+  -- it stopped with this error: it had failed so, or an allocation failed; nothing was written
   pub record RefusesToEnter (old : State W) (e : Asn1DerError) (new : State W) : Type 0 where
     pub failed : new.failed ≡ Some (failure_of e)
     pub same : new.sink ≡ old.sink
     pub again : IfSome old.failed (λ f. failure_of e ≡ f)
     pub reason : IfNone old.failed (e ≡ OutOfMemory)
 
-  -- a level was opened under this header, and took the open wrappers with it
+  -- a level was opened under this header, and the open wrappers became its own
   pub record OpensLevel (header : Header) (old new : State W) : Type 0 where
     pub opened : new ≡ record { sink = old.sink; around = []; failed = old.failed; inside = old.inside; pending = Some (record { header = header; around = old.around; content = []; seams = [] }) }
 
@@ -138,7 +138,7 @@ module _ {W : Type 0} (g : Ghosts W) where
     pub writable : IsWritable t
     pub added : IfSome old.pending (λ l. new ≡ record { sink = old.sink; around = []; failed = None; inside = old.inside; pending = Some (with_member l (der t)) })
 
-  -- It stopped with this error, and nothing was written: it had failed so, memory was refused, or what was to be added can't be written.
+  -- It stopped with this error, and nothing was written: it had failed so, an allocation failed, or what was to be added can't be written.
   pub record RefusesBefore (Possible : Type 0) (old : State W) (e : Asn1DerError) (new : State W) : Type 0 where
     pub failed : new.failed ≡ Some (failure_of e)
     pub same : new.sink ≡ old.sink
@@ -165,7 +165,7 @@ module _ {W : Type 0} (g : Ghosts W) where
   RefusesToAddRow Trees.none old e new = ⊥
   RefusesToAddRow (Trees.more t ts) old e new = RefusesBefore (AreWritable (Trees.more t ts)) old e new
 
-  -- What comes in front of members was added: they are added, or refused, as the row of it and of them is.
+  -- What comes before members was added: they are added, or refused, as the row of it and of them is.
   pub record AddsInFront (in_front : Trees → Trees) (old new : State W) : Type 0 where
     pub added : (ts : Trees) (last : State W) → AddsRow ts new last → AddsRow (in_front ts) old last
     pub refused : (ts : Trees) (e : Asn1DerError) (last : State W) → RefusesToAddRow ts new e last → RefusesToAddRow (in_front ts) old e last
@@ -174,7 +174,7 @@ module _ {W : Type 0} (g : Ghosts W) where
   abbrev pub RefusesInFront : (Trees → Trees) → State W → Asn1DerError → State W → Type 0
   RefusesInFront in_front old e new = (ts : Trees) → RefusesToAddRow (in_front ts) old e new
 
-  -- one that had failed answered one of that kind again, and wrote nothing
+  -- one that had failed returned one of that kind again, and wrote nothing
   pub record AnswersAgain (old : W) (f : Failure) (r : Result ℕ Asn1DerError) (new : State W) : Type 0 where
     pub error : Asn1DerError
     pub is : r ≡ Err error
@@ -201,7 +201,7 @@ module _ {W : Type 0} (g : Ghosts W) where
 
   -- ---- wrappers
 
-  -- It stopped with this error before a wrapper was opened, and nothing was written. A tag that can't be written is told before all else.
+  -- It stopped with this error before a wrapper was opened, and nothing was written. A tag that can't be written is refused first.
   pub record RefusesWrapper (w : Wrapper) (old : State W) (e : Asn1DerError) (new : State W) : Type 0 where
     pub failed : new.failed ≡ Some (failure_of e)
     pub same : new.sink ≡ old.sink

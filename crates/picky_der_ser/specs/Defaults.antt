@@ -10,7 +10,7 @@ use Rattle.picky_der_core.specs.Integer.{content_within, int_tree, unsigned_tree
 use Rattle.picky_der_core.specs.IntLaws.{same_within}
 use Rattle.picky_der_core.specs.UnsignedTreeLaws.{unsigned_tree-same}
 
--- a value is the default just where it means the tree that the default means
+-- a value is the default exactly if it means the tree that the default means
 abbrev pub IsByTree : {V : Type 0} → (V → Tree) → (V → Bool) → Type 0
 IsByTree {V} meaning left_out = (x y : V) → IsTrue (left_out x) → IsTrue (left_out y) ↔ (meaning x ≡ meaning y)
 

@@ -9,7 +9,7 @@ use Rattle.picky_der_core.specs.Readable.{IsWritable}
 use Rattle.picky_der_core.specs.SliceSink.{HoldsBeginning}
 use Rattle.picky_der_ser.specs.Calls.{MemoryExcuse}
 
--- n bytes are the tree's encoding, and behind it is what stood there before
+-- n bytes are the tree's encoding, and after it is what was there before
 pub record Overwrites (t : Tree) (old : List ℕ) (n : ℕ) (new : List ℕ) : Type 0 where
   pub writable : IsWritable t
   pub count : n ≡ length (der t)

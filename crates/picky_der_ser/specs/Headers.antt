@@ -1,4 +1,4 @@
--- The bytes in front of a content: the headers of the wrappers around it, and its own.
+-- The bytes before a content: the headers of the wrappers around it, and its own.
 use Rattle.std.specs.Prelude.{ℕ, ◌+◌, ⊤, IsTrue, List, [], ◌∷◌, ◌++◌, length, take, ◌-◌, Option, None, Some, if◌then◌else◌}
 use Rattle.std.specs.Option.{unwrap_or}
 use Rattle.picky_der_core.specs.declared.asn1.wrapper.Wrapper.{Wrapper}
@@ -8,7 +8,7 @@ use Rattle.picky_der_core.specs.Wrapper.{wrapper_tag, wrapper_front, keeps_heade
 use Rattle.picky_der_ser.specs.declared.header.Header.{Header}
 use Rattle.picky_der_ser.specs.declared.header.Header.TheVariants.{Tagged, Application, Raw}
 
--- what a wrapper puts in front of n bytes
+-- what a wrapper puts before n bytes
 abbrev pub wrapper_opening : Wrapper → ℕ → List ℕ
 wrapper_opening w n = wrapper_tag w ∷ (length_octets (length (wrapper_front w) + n) ++ wrapper_front w)
 
@@ -18,12 +18,12 @@ own_header (Tagged tag) n = tag ∷ length_octets n
 own_header (Application k) n = (0x60 + k) ∷ length_octets n
 own_header Raw n = []
 
--- the wrappers, the outermost first, in front of these bytes and n more
+-- the wrappers, the outermost first, before these bytes and n more
 abbrev pub wrapper_openings : List Wrapper → List ℕ → ℕ → List ℕ
 wrapper_openings [] inner n = inner
 wrapper_openings (w ∷ ws) inner n = let rest = wrapper_openings ws inner n in wrapper_opening w (length rest + n) ++ rest
 
--- the header of an implicit tag directly around a tagged content, which stands in place of that content's own
+-- the header of an implicit tag directly around a tagged content, which is in place of that content's own
 abbrev pub joint_header : Wrapper → Header → Option Header
 joint_header w (Tagged tag) = if keeps_header w then None else Some (Tagged (wrapper_tag w))
 joint_header w _ = None
@@ -39,7 +39,7 @@ abbrev pub headed_wrappers : Option Header → List Wrapper → List Wrapper
 headed_wrappers None ws = ws
 headed_wrappers (Some j) ws = take (length ws - 1) ws
 
--- all that stands in front of a content of n bytes
+-- all that is before a content of n bytes
 abbrev pub headers : List Wrapper → Header → ℕ → List ℕ
 headers ws h n = wrapper_openings (headed_wrappers (innermost_joint_header ws h) ws) (own_header (unwrap_or (innermost_joint_header ws h) h) n) n
 

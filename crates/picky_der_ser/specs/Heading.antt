@@ -12,7 +12,7 @@ tree_of (Tagged tag) c = Tree.primitive (Primitive.bytes tag c)
 tree_of (Application n) c = Tree.wrapped (wrapper.Application n) (Tree.raw c)
 tree_of Raw c = Tree.raw c
 
--- whether the members of what stands under the header are put in order
+-- whether the members under the header are sorted
 abbrev pub is_set : Header → Bool
 is_set (Tagged tag) = nat_eq tag 0x31
 is_set (Application n) = false

@@ -1,4 +1,4 @@
--- What a serializer lends to a sequence.
+-- What a sequence borrows of a serializer.
 use Rattle.std.specs.Prelude.{Result, IfErr}
 use Rattle.std.specs.Borrow.{MutBor, RattleType, Fml, RestsIfErr}
 use Rattle.std.specs.declared.io.Write as write
@@ -11,6 +11,6 @@ use Rattle.picky_der_ser.specs.SequenceState.{borrowed_by}
 use Rattle.picky_der_ser.specs.Calls.{HadFailed}
 
 module _ (W : RattleType) (g : writer.Ghosts W.Denot) (h : write.Ghosts W.Denot) where
-  -- the serializer is lent to the sequence, or had failed
+  -- the sequence borrows the serializer, or the serializer had failed
   abbrev pub LendsList : MutBor (State W.Denot) → Result (Sequence W.Denot g h) Asn1DerError → Fml
   LendsList ser r = RestsIfErr (the_row W g h) ser borrowed_by r (λ new. IfErr r (λ e. HadFailed ser.now e new))

@@ -21,13 +21,13 @@ inside_of false ms s seams ws = levels_of ms s seams ws
 inside_of true [] s seams ws = []
 inside_of true (m ∷ ms) s seams ws = levels_of ms (take m.at s) (take m.first_seam seams) (take m.first_wrapper ws)
 
--- the innermost one, if it is
+-- the innermost one, if it is pending
 abbrev pub pending_of : Bool → List Mark → List ℕ → List ℕ → List Wrapper → Option Level
 pending_of false ms s seams ws = None
 pending_of true [] s seams ws = None
 pending_of true (m ∷ ms) s seams ws = Some (level_at m s seams ws)
 
--- Each tag number is at most 30, the room for the headers stands in front of the content, and the last member begins in it.
+-- Each tag number is at most 30, the room for the headers is before the content, and the last member begins in it.
 pub record IsMark (m : Mark) (n : ℕ) (seams : List ℕ) (ws : List Wrapper) : Type 0 where
   pub numbers : CanAllBeOpen (drop m.first_wrapper ws)
   pub number : HasNumber m.header
@@ -37,12 +37,12 @@ pub record IsMark (m : Mark) (n : ℕ) (seams : List ℕ) (ws : List Wrapper) : 
   pub within : m.start + last_seam 0 (drop m.first_seam seams) ≤ n
   pub ascending : AreSeams 0 (drop m.first_seam seams)
 
--- the marks stand within n bytes, each before the one further in
+-- the marks are within n bytes, each before the one further in
 abbrev pub AreMarks : List Mark → ℕ → List ℕ → List Wrapper → Type 0
 AreMarks [] n seams ws = ⊤
 AreMarks (m ∷ ms) n seams ws = IsMark m n seams ws × AreMarks ms m.at (take m.first_seam seams) (take m.first_wrapper ws)
 
--- the rooms and the contents behind them stand within n bytes, each before the ones further in
+-- the rooms and the contents after them are within n bytes, each before the ones further in
 abbrev pub AreRooms : List Mark → ℕ → Type 0
 AreRooms [] n = ⊤
 AreRooms (m ∷ ms) n = (m.at ≤ m.start) × (m.start ≤ n) × AreRooms ms m.at

@@ -2,12 +2,12 @@
 use Rattle.std.specs.Prelude.{ℕ, Bool, true, false, ◌==◌, if◌then◌else◌, List, length, map, Option, None, Some}
 use Rattle.picky_der_core.specs.Tree.{ListKind, Tree, Trees, trees}
 
--- a value that may be missing: nothing stands for one that is missing
+-- a value that may be missing: nothing is for one that is missing
 abbrev pub option_meaning : {A : Type 0} → (A → Tree) → Option A → Tree
 option_meaning meaning (Some x) = meaning x
 option_meaning meaning None = Tree.absent
 
--- a member that may be missing, and those behind it
+-- a member that may be missing, and the members after it
 abbrev pub maybe_more : {A : Type 0} → (A → Tree) → Option A → Trees → Trees
 maybe_more meaning (Some x) ts = Trees.more (meaning x) ts
 maybe_more meaning None ts = ts

@@ -1,4 +1,4 @@
--- A level whose header stands in front of its content.
+-- A level whose header is before its content.
 use Rattle.std.specs.Prelude.{[]}
 use Rattle.picky_der_core.specs.OpenWrappers.{under}
 use Rattle.picky_der_core.specs.Encoding.{der}

@@ -4,7 +4,7 @@ use Rattle.std.specs.List.{between}
 use Rattle.picky_der_ser.specs.declared.header.Header.{Header}
 use Rattle.picky_der_ser.specs.Heading.{is_set}
 
--- what stands between the seams, from the byte at `start` on
+-- the pieces between the seams, from the byte at `start` on
 abbrev pub cut_from : ℕ → List ℕ → List ℕ → List (List ℕ)
 cut_from start [] c = drop start c ∷ []
 cut_from start (s ∷ ss) c = between start s c ∷ cut_from s ss c
@@ -13,7 +13,7 @@ cut_from start (s ∷ ss) c = between start s c ∷ cut_from s ss c
 abbrev pub cut_at_seams : List ℕ → List ℕ → List (List ℕ)
 cut_at_seams seams c = cut_from 0 seams c
 
--- none stands before the one in front of it, nor before `start`
+-- none is before the one before it, nor before `start`
 abbrev pub AreSeams : ℕ → List ℕ → Type 0
 AreSeams start [] = ⊤
 AreSeams start (s ∷ ss) = (start ≤ s) × AreSeams s ss
@@ -23,6 +23,6 @@ abbrev pub last_seam : ℕ → List ℕ → ℕ
 last_seam start [] = start
 last_seam start (s ∷ ss) = last_seam s ss
 
--- The seams once a member begins behind `held` bytes of other members. Nothing is kept of any level but a set.
+-- The seams once a member begins after `held` bytes of other members. Nothing is kept of any level but a set.
 abbrev pub next_seams : Header → List ℕ → ℕ → List ℕ
 next_seams header seams held = if is_set header && nat_lt 0 held then seams ++ (held ∷ []) else seams

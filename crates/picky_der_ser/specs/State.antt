@@ -20,7 +20,7 @@ pub record Level : Type 0 where
   pub around : List Wrapper
   -- the encodings of its members so far, as they were given
   pub content : List ℕ
-  -- of a set, how many bytes of the content stand in front of each member but the first
+  -- for a set, how many bytes of the content are before each member but the first
   pub seams : List ℕ
 
 abbrev pub level_code : Coded Level
@@ -60,8 +60,8 @@ final_content l = concat (in_ascending_order (cut_at_seams l.seams l.content))
 abbrev pub in_order : Level → Level
 in_order l = record l { content = final_content l; seams = [] }
 
--- the levels of a serializer: those of which a member is being written, innermost first, and the one that was opened last, until
--- it ends or another call is made; and the open wrappers, outermost first
+-- The levels of a serializer: the levels of which a member is being written, innermost first; and the one that was opened last, until it ends or another call
+-- is made. Then the open wrappers, outermost first.
 pub record Stack : Type 0 where
   pub inside : List Level
   pub pending : Option Level

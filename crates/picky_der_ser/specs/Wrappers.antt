@@ -4,7 +4,7 @@ use Rattle.std.specs.Coded.{Coded, code_by, coded×, coded_list}
 use Rattle.picky_der_core.specs.declared.asn1.wrapper.Wrapper.{Wrapper}
 use Rattle.picky_der_core.specs.contracts.asn1.wrapper.Wrapper as wrapper
 
--- those around the levels, the outermost first, and the open ones
+-- the wrappers around the levels, the outermost first, and the open ones
 pub record KeptWrappers : Type 0 where
   pub of_levels : List Wrapper
   pub around : List Wrapper

@@ -8,7 +8,7 @@ use picky_der_core::Result;
 use picky_der_core::asn1::Tag;
 use picky_der_core::misc::WriteExt;
 
-/// Writes bools.
+/// Writes BOOLEANs.
 pub struct Boolean;
 
 impl Boolean {

@@ -1,4 +1,4 @@
-//! Members of a sequence that are left out where they have the default value.
+//! Members of a sequence that are left out if they have the default value.
 ghost use Rattle.std.proofs.Common.{rules};
 ghost use Rattle.std.specs.Prelude.{◌≡◌, ◌^◌, ◌-◌, Bool, true, IsTrue, not, nat_eq};
 ghost use mathlib.Core.Bool.{beq};
@@ -16,7 +16,7 @@ use picky_der_core::asn1::{ExplicitContextTag, ImplicitContextTag, Retagged};
 use picky_der_core::misc::WriteExt;
 use std::marker::PhantomData;
 
-/// Which value of a type a member has that is absent (ASN.1's DEFAULT).
+/// The default of a member (ASN.1's DEFAULT): the value that it has if it is absent.
 pub trait DefaultOf<T: Serialize + PartialEq> {
     // Whether a value is the default.
     ghost left_out: { T → Bool };
@@ -24,7 +24,7 @@ pub trait DefaultOf<T: Serialize + PartialEq> {
     // A `==` of the values: that of the type, where it can be named.
     ghost equal: { T → T → Bool };
 
-    // There is one default by it.
+    // By this `==` there is one default.
     ghost one: { IsOne equal left_out };
 
     /// Whether a value is the default.
@@ -35,27 +35,27 @@ pub trait DefaultOf<T: Serialize + PartialEq> {
     fn default() -> T
         ensures { IsTrue (left_out result) };
 
-    // A value is the default just where it means the tree that the default means.
+    // A value is the default exactly if it means the tree that the default means.
     ghost by_tree: { IsByTree T.meaning left_out };
 
     // Values that are equal by it are equal.
     ghost equal_so: { (x y : T) → equal x y ≡ true → T.eq x y ≡ true };
 }
 
-/// A member of a row with the default `D`: nothing is written of one that has it (X.690, 11.5), and the others stand as they do
-/// without it.
+/// A member of a row with the default `D`. A value that is the default isn't written (X.690, 11.5), and the other members are
+/// written as without it.
 #[derive(Drop)]
 #[derive_where(Debug, PartialEq, Eq; T)]
 pub struct Defaulted<T, D> {
     /// The value, which may be the default.
     pub value: T,
-    /// Which value the default is.
+    /// The type that names the default.
     #[derive_where(skip)]
     pub default: PhantomData<D>,
 }
 
 impl<T, D> Defaulted<T, D> {
-    /// The member that this value is.
+    /// The member with this value.
     pub fn new(value: T) -> Defaulted<T, D>
         ensures { result.value ≡ value }
     {
@@ -67,22 +67,22 @@ impl<T, D> Defaulted<T, D> {
 }
 
 impl<T: PartialEq, D> Defaulted<T, D> {
-    /// Two are equal just where their values are.
+    /// Two are equal exactly if their values are.
     pub fn equality()
         ensures { IsThatOf ⟦<Defaulted<T, D> as PartialEq>⟧.eq (λ member. member.value) T.eq }
     {}
 }
 
-/// A member of a row with the default `D`, by reference, as a struct writes its field.
+/// A member of a row with the default `D`, by reference, for the field of a struct.
 #[derive(Drop)]
 pub struct DefaultedRef<'a, T, D> {
-    /// The value, which isn't written where it is the default.
+    /// The value, which isn't written if it is the default.
     pub value: &'a T,
     default: PhantomData<D>,
 }
 
 impl<'a, T, D> DefaultedRef<'a, T, D> {
-    /// The member that this value is.
+    /// The member with this value.
     pub fn new(value: &'a T) -> DefaultedRef<'a, T, D>
         ensures { result.value ≡ value.entry }
     {
@@ -118,10 +118,10 @@ pub struct False;
 /// The default `TRUE` of a BOOLEAN.
 pub struct True;
 
-/// The default `N` of an INTEGER, 255 at most.
+/// The default `N` of an INTEGER, at most 255.
 pub struct Number<const N: u8>;
 
-/// The default `N` of an INTEGER that is read as a signed type, from -128 to 127.
+/// The default `N` of an INTEGER in a signed type, from -128 to 127.
 pub struct SignedNumber<const N: i8>;
 
 impl DefaultOf<bool> for False {
@@ -384,7 +384,7 @@ impl<const N: i8> DefaultOf<i128> for SignedNumber<N> {
     ghost equal_so = { λ x y h. h };
 }
 
-/// A default is one under an explicit tag, too.
+/// A default of a type is also a default of it under an explicit tag.
 impl<T: Serialize + PartialEq, D: DefaultOf<T>, const N: u8> DefaultOf<ExplicitContextTag<T, N>>
     for D {
     ghost left_out = { λ tagged. D.left_out tagged.0 };
@@ -406,7 +406,7 @@ impl<T: Serialize + PartialEq, D: DefaultOf<T>, const N: u8> DefaultOf<ExplicitC
     ghost equal_so = { λ x y h. D.equal_so x.0 y.0 h };
 }
 
-/// A default is one under an implicit tag, too.
+/// A default of a type is also a default of it under an implicit tag.
 impl<T: Serialize + PartialEq, D: DefaultOf<T>, const N: u8> DefaultOf<ImplicitContextTag<T, N>>
     for D {
     ghost left_out = { λ tagged. D.left_out tagged.0 };
@@ -428,7 +428,7 @@ impl<T: Serialize + PartialEq, D: DefaultOf<T>, const N: u8> DefaultOf<ImplicitC
     ghost equal_so = { λ x y h. D.equal_so x.0 y.0 h };
 }
 
-/// A default is one under the tag of a list in place of its own, too.
+/// A default of a list is also a default of it under a tag in place of its own.
 impl<T: List + PartialEq, D: DefaultOf<T>, const TAG: u8> DefaultOf<Retagged<T, TAG>> for D {
     ghost left_out = { λ tagged. D.left_out tagged.0 };
 

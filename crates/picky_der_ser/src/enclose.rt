@@ -1,4 +1,4 @@
-//! Contents with their headers in front.
+//! Contents with their headers before them.
 ghost use Rattle.std.specs.Prelude.{◌≡◌, ◌≤◌, ◌<◌, ◌+◌, ◌-◌, ◌∷◌, ◌++◌, length, take, drop, vec_len};
 ghost use Rattle.std.specs.Prelude.{vec_capacity, OnOk, OnErr};
 ghost use Rattle.std.specs.List.{slice_rotate_right};
@@ -15,8 +15,8 @@ use crate::header::{push_headers, short_identifier};
 use picky_der_core::asn1::{Tag, Wrapper};
 use std::alloc::AllocError;
 
-// Brings the last bytes in front of the others. Headers mostly grow by one byte or two: a turn by one byte is one move of memory,
-// and two of them take less time than one by two, which clears a room of its own first.
+// Moves the last bytes before the others. Headers mostly grow by one byte or two. A turn by one byte is one move of memory. Two
+// of them are faster than one turn by two, which clears a buffer of its own first.
 fn turn(bytes: &mut [u8], count: usize)
     requires { count ≤ length bytes.old }
     ensures { bytes.new ≡ slice_rotate_right bytes.old count }
@@ -29,7 +29,7 @@ fn turn(bytes: &mut [u8], count: usize)
     }
 }
 
-// Brings the last `count` bytes in front of those from `start` on.
+// Moves the last `count` bytes before the bytes from `start` on.
 fn rotate_from(out: &mut Vec<u8>, start: usize, count: usize)
     requires { start + count ≤ vec_len out.old }
     ensures items { out.new.items ≡ take start out.old.items ++ slice_rotate_right
@@ -39,10 +39,10 @@ fn rotate_from(out: &mut Vec<u8>, start: usize, count: usize)
     turn(&mut out[start..], count);
 }
 
-// What stands in a room before its header comes: at most as many bytes as a header takes.
+// The bytes in a room before its header comes: at most as many as a header has.
 const BLANK: [u8; 10] = [0; 10];
 
-// Makes room for `count` bytes in front of those from `at` on.
+// Makes room for `count` bytes before the bytes from `at` on.
 pub(crate) fn insert_room(out: &mut Vec<u8>, at: usize, count: usize) -> Result<(), AllocError>
     requires within { at ≤ vec_len out.old }
     requires count { count ≤ 10 }
@@ -56,7 +56,7 @@ pub(crate) fn insert_room(out: &mut Vec<u8>, at: usize, count: usize) -> Result<
     Ok(())
 }
 
-// Moves the last `count` bytes over those from `at` on.
+// Moves the last `count` bytes over the bytes from `at` on.
 fn fill_from_last(out: &mut Vec<u8>, at: usize, count: usize)
     requires { at + count + count ≤ vec_len out.old }
     ensures { out.new.items ≡ with_overwrite at count (length out.old.items - count) out.old.items }
@@ -67,7 +67,7 @@ fn fill_from_last(out: &mut Vec<u8>, at: usize, count: usize)
     out.truncate(kept);
 }
 
-// Writes a header of two bytes over those from `at` on.
+// Writes a header of two bytes over the bytes from `at` on.
 pub(crate) fn fill_short(out: &mut Vec<u8>, at: usize, identifier: u8, len: u8)
     requires { at + 2 ≤ vec_len out.old }
     ensures items { out.new.items ≡ take at out.old.items ++
@@ -77,7 +77,7 @@ pub(crate) fn fill_short(out: &mut Vec<u8>, at: usize, identifier: u8, len: u8)
     out[at..at + 2].copy_from_slice(&[identifier, len]);
 }
 
-// Adds a content with its headers in front.
+// Adds a content with its headers before it.
 pub(crate) fn push_enclosed(
     out: &mut Vec<u8>,
     around: &[Wrapper],
@@ -94,8 +94,8 @@ pub(crate) fn push_enclosed(
     Ok(())
 }
 
-// Makes the room for the header of a content that has not come, where this is two bytes for which the vector has room. Else nothing
-// is done.
+// Makes the room for the header of a content that hasn't come yet, if this is two bytes for which the vector has room. Else
+// nothing is done.
 #[inline(always)]
 pub(crate) fn make_short_room(out: &mut Vec<u8>, around: &[Wrapper], header: &Header)
     requires { HasNumber header.now }
@@ -104,7 +104,7 @@ pub(crate) fn make_short_room(out: &mut Vec<u8>, around: &[Wrapper], header: &He
 {
     if out.capacity() - out.len() >= 2 {
         if let Some(identifier) = short_identifier(around, header, 0) {
-            // There is room, so it isn't refused.
+            // There is room, so this doesn't fail.
             let _ = out.extend_from_slice(&[identifier, 0]);
         }
     }
@@ -118,7 +118,7 @@ pub(crate) fn push_short(out: &mut Vec<u8>, tag: Tag, content: &[u8])
     ensures items { out.new.items ≡ out.old.items ++ der (Tree.primitive (Primitive.bytes tag content.now)) }
     ensures count { length (der (Tree.primitive (Primitive.bytes tag content.now))) ≡ 2 + length content.now }
 {
-    // There is room, so none is refused. The content of a small number, one byte, is added together with its header.
+    // There is room, so this doesn't fail. The content of a small number, one byte, is added together with its header.
     if content.len() == 1 {
         let _ = out.extend_from_slice(&[tag.inner(), 1, content[0]]);
     } else {
@@ -127,7 +127,17 @@ pub(crate) fn push_short(out: &mut Vec<u8>, tag: Tag, content: &[u8])
     }
 }
 
-// Drops what is more than `size` bytes of the room from `at` to `start`. Answers how wide it is then.
+// Adds bytes for which there is room.
+#[inline(always)]
+pub(crate) fn push_few(out: &mut Vec<u8>, bytes: &[u8])
+    requires { vec_len out.old + length bytes.now ≤ vec_capacity out.old }
+    ensures { out.new.items ≡ out.old.items ++ bytes.now }
+{
+    // There is room, so this doesn't fail.
+    let _ = out.extend_from_slice(bytes);
+}
+
+// Drops what is more than `size` bytes of the room from `at` to `start`. Returns the width of the room after that.
 fn narrow_room(out: &mut Vec<u8>, at: usize, start: usize, size: usize) -> usize
     requires room { at ≤ start }
     requires within { start ≤ vec_len out.old }
@@ -144,8 +154,8 @@ fn narrow_room(out: &mut Vec<u8>, at: usize, start: usize, size: usize) -> usize
     size
 }
 
-// Puts the headers of the content from `start` on in front of it. The room from `at` to `start` takes the first of them, so the
-// content moves only where they are longer, or shorter.
+// Puts the headers of the content from `start` on before it. The first of them go into the room from `at` to `start`, so the
+// content moves only if they are longer, or shorter.
 #[cold]
 #[inline(never)]
 fn enclose_nested(
@@ -171,8 +181,8 @@ fn enclose_nested(
     Ok(())
 }
 
-// Puts the headers of the content from `start` on in front of it, into the room from `at` to `start`. One header with a short
-// length mostly just fills it.
+// Puts the headers of the content from `start` on before it, into the room from `at` to `start`. One header with a short
+// length mostly fills it exactly.
 #[inline(always)]
 pub(crate) fn enclose(
     out: &mut Vec<u8>,

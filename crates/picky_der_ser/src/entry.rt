@@ -13,12 +13,13 @@ use picky_der_core::Result;
 use picky_der_core::misc::{BufSink, SliceSink, WriteExt};
 use std::alloc::Global;
 
-/// Fills the slice with the value's canonical encoding, and answers its length. Bytes past the encoding stay.
+/// Writes the canonical encoding of a value into a slice, and returns its length in bytes. Bytes past the encoding stay.
 ///
-/// A slice that is too short is filled with the encoding's first bytes, and the answer is `InvalidSink`.
-/// `UnsupportedValue` where the value can't be written: then the slice stays as it was. `OutOfMemory` where memory was
-/// refused: then it may hold a beginning of the encoding, if the value's type asks for memory after it began to write, as plain
-/// values, lists, rows, tuples and application tags never do.
+/// `InvalidSink` if the slice is too short: it holds the first bytes of the encoding then. `UnsupportedValue` if the value
+/// can't be written: the slice is unchanged then. `OutOfMemory` if an allocation fails.
+///
+/// After `OutOfMemory` the slice may hold a beginning of the encoding, if the value's type allocates after it began to write.
+/// Plain values, lists, rows, tuples and application tags never do.
 pub fn to_bytes<T: Serialize>(alloc: Global, value: &T, buf: &mut [u8]) -> Result<usize>
     ensures ok { IfOk result (λ n. Overwrites (T.meaning value.now) buf.old n buf.new) }
     ensures fits { OnOk result (length (der (T.meaning value.now)) ≤ length buf.old) }
@@ -30,11 +31,11 @@ pub fn to_bytes<T: Serialize>(alloc: Global, value: &T, buf: &mut [u8]) -> Resul
     outcome
 }
 
-/// Writes the value's canonical encoding over the vector's first bytes, and answers its length. Where the vector is
-/// shorter it grows, and bytes past the encoding stay.
+/// Writes the canonical encoding of a value over the first bytes of a vector, and returns its length in bytes. The vector grows
+/// if it is shorter, and bytes past the encoding stay.
 ///
-/// `OutOfMemory` where a growth was refused, and `UnsupportedValue` where the value can't be written. Then a beginning
-/// of the encoding stands over the vector's first bytes; at `UnsupportedValue` the vector is as it was.
+/// `OutOfMemory` if an allocation fails: the vector may hold a beginning of the encoding then. `UnsupportedValue` if the value
+/// can't be written: the vector is unchanged then.
 pub fn to_byte_buf<T: Serialize>(alloc: Global, value: &T, buf: &mut Vec<u8>) -> Result<usize>
     ensures ok { IfOk result (λ n. Overwrites (T.meaning value.now) buf.old.items n buf.new.items) }
     ensures err { IfErr result (λ e. VecRefuses
@@ -48,9 +49,10 @@ pub fn to_byte_buf<T: Serialize>(alloc: Global, value: &T, buf: &mut Vec<u8>) ->
     outcome
 }
 
-/// The canonical encoding of a value, in a vector that has room for more bytes. `OutOfMemory` where an allocation failed,
-/// and `UnsupportedValue` where the value can't be written: a tag number in it is past 30, the tag of a `Retagged` isn't
-/// constructed, or the encoding is longer than `usize::MAX`.
+/// The canonical encoding of a value, in a vector that may have room for more bytes.
+///
+/// `OutOfMemory` if an allocation fails. `UnsupportedValue` if the value can't be written: a tag number in it is past 30, the
+/// tag of a `Retagged` isn't constructed, or the encoding is longer than `usize::MAX`.
 pub fn to_vec<T: Serialize>(alloc: Global, value: &T) -> Result<Vec<u8>>
     ensures ok { IfOk result (λ bytes. bytes.items ≡ der (T.meaning value.now)) }
     ensures writable { OnOk result (IsWritable (T.meaning value.now)) }
@@ -63,12 +65,13 @@ pub fn to_vec<T: Serialize>(alloc: Global, value: &T) -> Result<Vec<u8>>
     Ok(ser.into_content())
 }
 
-/// Appends the value's canonical encoding to what the writer has taken, and answers its length.
+/// Writes the canonical encoding of a value to a writer, after what was written before, and returns its length in bytes.
 ///
-/// `UnsupportedValue` where the value can't be written: then nothing was appended. The error of the writer, where it failed:
-/// then a beginning of the encoding was, and at least one byte is missing. `OutOfMemory` where memory was refused: then a
-/// beginning may have been appended, if the value's type asks for memory after it began to write, as plain values, lists, rows,
-/// tuples and application tags never do.
+/// `UnsupportedValue` if the value can't be written: nothing is written then. If the writer fails, the error is the writer's: a
+/// beginning of the encoding is written then, and at least one byte is missing. `OutOfMemory` if an allocation fails.
+///
+/// After `OutOfMemory` a beginning of the encoding may be written, if the value's type allocates after it began to write. Plain
+/// values, lists, rows, tuples and application tags never do.
 pub fn to_writer<T: Serialize, W: WriteExt>(
     alloc: Global,
     value: &T,
@@ -90,7 +93,7 @@ pub fn to_writer<T: Serialize, W: WriteExt>(
     outcome
 }
 
-// Lets the sink go. By this clause the proof of `to_bytes` reads what the slice then holds.
+// Ends the use of the sink. By this clause the proof of `to_bytes` reads what the slice holds after that.
 fn end_loan(_sink: SliceSink<'_>)
     ensures { _sink.exit.0.now ≡ (slice_of _sink.entry).now }
 {}

@@ -1,4 +1,4 @@
-//! What stands in front of a content that is being written: the headers of the wrappers around it, and its own.
+//! The bytes before a content that is being written: the headers of the wrappers around it, and its own.
 ghost use Rattle.std.specs.Prelude.{◌≡◌, ◌+◌, ◌^◌, ◌<◌, ◌≤◌, ◌∷◌, ◌++◌, reverse, take, drop, vec_len};
 ghost use Rattle.std.specs.Prelude.{[], IfSome, IsSome, OnOk};
 ghost use Rattle.picky_der_core.specs.Element.{length_octets};
@@ -12,22 +12,22 @@ use picky_der_core::asn1::{Tag, Wrapper};
 use picky_der_core::misc::Length;
 use std::alloc::AllocError;
 
-/// What will stand in front of a content that is being written. Directly under an implicit tag the header of a plain
-/// value falls away, and that of an application tag stays.
+/// The header of a content that is being written. Directly under an implicit tag the header of a plain value is left out, and
+/// that of an application tag is kept.
 #[derive(Debug, Clone, Copy, PartialEq, Eq)]
 pub enum Header {
     /// The header of a plain value, as a sequence, with this tag.
     Tagged(Tag),
 
-    /// That of an application tag with this number.
+    /// The header of an application tag with this number.
     Application(u8),
 
-    /// None: the content stands as it is.
+    /// No header: the content is written as it is.
     Raw,
 }
 
 impl Header {
-    /// Two are equal just where they are one kind with one tag or number.
+    /// Two are equal exactly if they are one kind with one tag or number.
     pub fn equality()
         ensures { IsEqualityOf ⟦<Header as PartialEq>⟧.eq (λ header. header) }
     {}
@@ -37,7 +37,7 @@ impl Header {
         ensures { IsKept ⟦<Header as Clone>⟧.is_clone (λ header. header) }
     {}
 
-    // Whether the members of what stands under it are put in order.
+    // Whether the members under this header are sorted.
     pub(crate) fn is_set(self) -> bool
         ensures { result ≡ is_set self }
     {
@@ -70,7 +70,7 @@ fn push_tag_and_length(out: &mut Vec<u8>, tag: Tag, len: usize) -> Result<(), Al
     Ok(())
 }
 
-// Turns around the bytes from there on.
+// Reverses the bytes from there on.
 fn reverse_from(out: &mut Vec<u8>, start: usize)
     requires { start ≤ vec_len out.old }
     ensures items { out.new.items ≡ take start out.old.items ++ reverse (drop start out.old.items) }
@@ -79,7 +79,7 @@ fn reverse_from(out: &mut Vec<u8>, start: usize)
     out[start..].reverse();
 }
 
-// Adds what the wrapper puts in front of `len` bytes, the last byte first.
+// Adds the bytes of the wrapper before a content of `len` bytes, the last byte first.
 fn push_opening(out: &mut Vec<u8>, wrapper: Wrapper, len: usize) -> Result<(), AllocError>
     requires number { HasTagNumber wrapper }
     requires fits { len + 1 < 2 ^ 64 }
@@ -111,7 +111,7 @@ fn push_own_header(out: &mut Vec<u8>, header: Header, len: usize) -> Result<(), 
     }
 }
 
-// Adds the header of a content of `len` bytes that stands in no wrapper.
+// Adds the header of a content of `len` bytes that is in no wrapper.
 #[cold]
 #[inline(never)]
 fn push_lone_header(out: &mut Vec<u8>, header: Header, len: usize) -> Result<(), AllocError>
@@ -130,7 +130,7 @@ fn push_lone_header(out: &mut Vec<u8>, header: Header, len: usize) -> Result<(),
     }
 }
 
-// The header of an implicit tag directly around a tagged content, which stands in place of that content's own.
+// The header of an implicit tag directly around a tagged content, which replaces that content's own.
 fn joined(wrapper: Wrapper, header: &Header) -> Option<Header>
     requires { HasTagNumber wrapper }
     ensures { result ≡ joint_header wrapper header.now }
@@ -141,7 +141,7 @@ fn joined(wrapper: Wrapper, header: &Header) -> Option<Header>
     }
 }
 
-// The header that stands in place of the innermost wrapper's and the content's own, if one does.
+// The header that replaces both the innermost wrapper's and the content's own, or `None`.
 fn innermost_joined(around: &[Wrapper], header: &Header) -> Option<Header>
     requires { CanAllBeOpen around.now }
     ensures { result ≡ innermost_joint_header around.now header.now }
@@ -152,8 +152,8 @@ fn innermost_joined(around: &[Wrapper], header: &Header) -> Option<Header>
     }
 }
 
-// The identifier byte in front of a content of `len` bytes, where nothing but it and a length of one byte stands there
-// (X.690, 8.1.3.4), as nearly always.
+// The identifier byte before a content of `len` bytes, if nothing but this byte and a length of one byte is before it (X.690,
+// 8.1.3.4). Nearly always it is so.
 pub(crate) fn short_identifier(around: &[Wrapper], header: &Header, len: usize) -> Option<u8>
     requires { HasNumber header.now }
     ensures header { IfSome result (λ identifier.
@@ -171,7 +171,7 @@ pub(crate) fn short_identifier(around: &[Wrapper], header: &Header, len: usize) 
     }
 }
 
-// Adds all that stands in front of a content of `len` bytes, the innermost header first.
+// Adds all headers before a content of `len` bytes, the innermost first.
 #[cold]
 #[inline(never)]
 fn push_nested_headers(
@@ -198,7 +198,7 @@ fn push_nested_headers(
     Ok(())
 }
 
-// Adds all that stands in front of a content of `len` bytes.
+// Adds all headers before a content of `len` bytes.
 pub(crate) fn push_headers(
     out: &mut Vec<u8>,
     around: &[Wrapper],

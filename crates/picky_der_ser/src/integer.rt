@@ -9,7 +9,7 @@ use picky_der_core::asn1::Tag;
 use picky_der_core::misc::WriteExt;
 use picky_der_core::{Result, UInt};
 
-// A 00 and the sixteen bytes of a number, and where its content begins among these.
+// A 00 and the sixteen bytes of a number, and the index at which its content begins.
 #[derive(Drop)]
 struct Content {
     bytes: [u8; 17],
@@ -49,7 +49,7 @@ impl UnsignedInteger {
         UnsignedInteger::serialize_wide(value, ser)
     }
 
-    // The same of more than one byte.
+    // The same for more than one byte.
     #[inline(never)]
     fn serialize_wide<T: UInt, W: WriteExt>(value: T, ser: &mut Serializer<W>) -> Result<usize>
         ensures { WritesPrimitive W.WriteExt.own

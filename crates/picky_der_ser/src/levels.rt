@@ -11,7 +11,7 @@ ghost use Rattle.picky_der_ser.specs.State.{Level, root, with_bytes, at_next_mem
 ghost use Rattle.picky_der_ser.specs.Sealed.{as_raw_level};
 
 use crate::Header;
-use crate::enclose::{enclose, fill_short, make_short_room, push_enclosed, push_short};
+use crate::enclose::{enclose, fill_short, make_short_room, push_enclosed, push_few, push_short};
 use crate::header::{push_headers, short_identifier};
 use crate::marks::{Mark, Marks};
 use crate::order::{arrange, begin_member};
@@ -21,18 +21,20 @@ use picky_der_core::asn1::{Tag, Wrapper};
 use std::alloc::{AllocError, Global};
 use std::marker::Model;
 
-// How many bytes are asked for at first, by `to_vec` at once and else when the first member of an outermost level comes: so many that
-// the vector grows once for most certificates, and for no public key of RSA with 2048 bits.
+// How many bytes are allocated first: at once by `to_vec`, and else when the first member of an outermost level comes. With so
+// many the vector grows once for most certificates, and never for a public key of RSA with 2048 bits.
 pub(crate) const FIRST_ROOM: usize = 1_000;
 
-// How many bytes are asked for beside a content: those of its own headers, and those that the ones around it grow by.
+// How many bytes are allocated in addition to a content: the bytes of its own headers, and the bytes by which the headers
+// around it grow.
 const SPARE_ROOM: usize = 128;
 
-// The contents of the levels stand one behind the other, the innermost last, and so do the wrappers around them, and their seams: of a
-// set, how many bytes of its content stand in front of each member but the first. Vectors in each mark would be copied and dropped with
-// those of most levels too, which have no seams and stand in no wrapper.
+// The contents of the levels are one after the other, the innermost last. The wrappers around them are too, and their seams.
+// The seams of a set say how many bytes of its content are before each member but the first.
 //
-// Whether a member of the innermost level is being written is told by a flag alone, so that no mark moves at a member.
+// Vectors in each mark would be copied and dropped with most levels too, which have no seams and are in no wrapper.
+//
+// A flag alone says whether a member of the innermost level is being written, so that no mark moves at a member.
 #[derive(Drop)]
 pub(crate) struct Levels {
     scratch: Vec<u8>,
@@ -85,7 +87,8 @@ impl Levels {
         }
     }
 
-    // Levels inside of one that stands around all, in this vector without bytes. In line, so that they are made where they will stand.
+    // Levels within one that is around all, in this vector, which has no bytes. Inlined, so that they are made in their final
+    // place.
     #[inline(always)]
     pub(crate) fn new_in_root(alloc: Global, scratch: Vec<u8>) -> Levels
         requires { scratch.items ≡ [] }
@@ -100,7 +103,7 @@ impl Levels {
         }
     }
 
-    // Gives out what the level holds of which a member was being written. In line, so that the levels aren't copied to be taken apart.
+    // Returns what is in the level of which a member was being written. Inlined, so that the levels aren't copied first.
     #[inline(always)]
     pub(crate) fn into_content(self) -> Vec<u8>
         ensures { (l : Level) (ls : List Level) → self.inside ≡ l ∷ ls → result.items ≡ l.content }
@@ -118,7 +121,7 @@ impl Levels {
         scratch
     }
 
-    // The same where another level stands in it, or something in front of what it holds.
+    // The same if another level is in it, or something is before its contents.
     #[cold]
     #[inline(never)]
     fn into_inner_content(mut self) -> Vec<u8>
@@ -145,7 +148,7 @@ impl Levels {
         self.marks.are_more_than(usize::from(self.pending))
     }
 
-    // Drops the level that was opened last and hasn't ended. Where a member is written there mostly is none.
+    // Drops the level that was opened last and hasn't ended. When a member is written there mostly is none.
     pub(crate) fn give_up(&mut self)
         ensures { self.new ≡ record self.old { pending = None } }
     {
@@ -168,7 +171,7 @@ impl Levels {
         }
     }
 
-    // Opens a level in the open wrappers, in place of one that was opened and hasn't ended.
+    // Opens a level in the open wrappers. It replaces one that was opened and hasn't ended.
     pub(crate) fn open(&mut self, header: Header)
         requires { HasNumber header }
         ensures { self.new ≡ record self.old {
@@ -192,7 +195,7 @@ impl Levels {
         self.pending = true;
     }
 
-    // Makes room for the headers of a level without members, as much as those of an empty content take.
+    // Makes room for the headers of a level without members: as many bytes as the headers of an empty content have.
     fn make_room(&mut self) -> Result<(), AllocError>
         ensures { OnOk result (self.new ≡ self.old) }
     {
@@ -207,7 +210,7 @@ impl Levels {
         Ok(())
     }
 
-    // Keeps where another member of the level begins that was opened last, if it is a set.
+    // Keeps where the next member begins in the level that was opened last, if it is a set.
     fn begin_member(&mut self) -> Result<(), AllocError>
         ensures { OnOk result (IfSome self.old.pending
             (λ l. self.new ≡ record self.old { pending = Some (at_next_member l) })) }
@@ -219,8 +222,8 @@ impl Levels {
         Ok(())
     }
 
-    // A member of the level that was opened last is written from here on. The first one of all asks for some bytes at once, so that
-    // what is small needs no other room.
+    // From here on a member of the level that was opened last is written. The first member of all makes some bytes of room at
+    // once, so that small values need no other allocation.
     #[cold]
     #[inline(never)]
     pub(crate) fn enter(&mut self) -> Result<(), AllocError>
@@ -236,7 +239,7 @@ impl Levels {
         Ok(())
     }
 
-    // The same where there is nothing to make ready, as nearly always. Else nothing is done.
+    // The same if nothing has to be prepared, as nearly always. Else nothing is done.
     pub(crate) fn enter_again(&mut self) -> bool
         ensures yes { result ≡ true → EntersLevel self.old self.new }
         ensures no { result ≡ false → self.new ≡ self.old }
@@ -262,7 +265,7 @@ impl Levels {
         self.pending = self.is_inside();
     }
 
-    // Adds an element with a length of one byte to the level of which a member is being written, where no level was opened in it
+    // Adds an element with a length of one byte to the level of which a member is being written, if no level was opened in it
     // and there is room for the element. Else nothing is done.
     #[inline(always)]
     pub(crate) fn append_short(&mut self, tag: Tag, content: &[u8]) -> bool
@@ -286,8 +289,30 @@ impl Levels {
         true
     }
 
-    // Adds the encoding of a content under this header in the open wrappers to the level of which a member is being written,
-    // and answers how long it is.
+    // Adds less than 128 bytes as they are to the level of which a member is being written, if no level was opened in it and
+    // there is room for them. Else nothing is done.
+    #[inline(always)]
+    pub(crate) fn append_few(&mut self, bytes: &[u8]) -> bool
+        ensures inside { result ≡ true → self.old.inside ≢ [] }
+        ensures yes { result ≡ true → (l : Level) (ls : List Level) → self.old.inside ≡ l ∷ ls
+            → self.new ≡ record self.old {
+              inside = with_bytes l bytes.now ∷ ls;
+              pending = None;
+            } }
+        ensures around { self.new.around ≡ self.old.around }
+        ensures no { result ≡ false → self.new ≡ self.old }
+    {
+        let len = bytes.len();
+        let room = self.scratch.capacity() - self.scratch.len();
+        if self.pending || !self.is_inside() || len >= 0x80 || room < len {
+            return false;
+        }
+        push_few(&mut self.scratch, bytes);
+        true
+    }
+
+    // Adds the encoding of a content under this header, in the open wrappers, to the level of which a member is being written.
+    // Returns the length of the encoding.
     pub(crate) fn append(&mut self, header: Header, content: &[u8]) -> Result<usize, AllocError>
         requires { HasNumber header }
         ensures numbers { CanAllBeOpen self.old.around }
@@ -351,8 +376,8 @@ impl Levels {
         Ok(())
     }
 
-    // Puts the headers of the level that was opened last in front of its content, and adds all this to the level around it.
-    // Answers how many bytes these are.
+    // Puts the headers of the level that was opened last before its content, and adds all this to the level around it. Returns
+    // the number of these bytes.
     #[inline(always)]
     pub(crate) fn merge(&mut self) -> Result<usize, AllocError>
         requires { IsSome self.old.pending }
@@ -379,8 +404,8 @@ impl Levels {
         Ok(self.scratch.len() - mark.at)
     }
 
-    // Ends the level that was opened last as `arrange` and `merge` do, where it stands in another, has no seams, and its header fits
-    // the two bytes in front of it, as most do. Else nothing is done, and none is answered.
+    // Ends the level that was opened last as `arrange` and `merge` do. This is for a level in another one, without seams, whose
+    // header fits the two bytes before it, as most do. Else it does nothing and returns `None`.
     #[inline(always)]
     pub(crate) fn merge_short(&mut self) -> Option<usize>
         requires { IsSome self.old.pending }
@@ -438,8 +463,8 @@ impl Levels {
         Ok(())
     }
 
-    // Writes the header of the level that was opened last into the room for it, where it fits, and answers whether it did:
-    // then the level holds its whole encoding.
+    // Writes the header of the level that was opened last into the room for it, if it fits, and returns whether it did. If so,
+    // the level holds its whole encoding.
     pub(crate) fn seal(&mut self) -> bool
         ensures numbers { HasLevelNumbers self.old }
         ensures yes { result ≡ true → IfSome self.old.pending
@@ -462,7 +487,7 @@ impl Levels {
         false
     }
 
-    // What the level that was opened last holds.
+    // The content of the level that was opened last.
     pub(crate) fn content(&self) -> &[u8]
         ensures { IfSome self.now.pending (λ p. result.now ≡ p.content) }
     {

@@ -5,8 +5,9 @@ use crate::Serialize;
 
 /// A type whose values are lists: a SEQUENCE or a SET, of fixed members or of any number of one type.
 ///
-/// `Retagged` takes such a type alone. A struct of one's own is one by `impl List for It { ghost is_list = { λ it. tt }; }`.
+/// Only such a type can be in a `Retagged`. A struct of your own becomes one by `impl List for It { ghost is_list = { λ it. tt
+/// }; }`.
 pub trait List: Serialize {
-    // Each means a list.
+    // Each value means a list.
     ghost is_list: { (v : Self) → IsListTree (Self.meaning v) };
 }

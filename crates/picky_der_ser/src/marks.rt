@@ -7,8 +7,8 @@ use crate::Header;
 use std::alloc::{AllocError, Global};
 use std::marker::Model;
 
-// Where a level begins: the room for its headers, and behind it its content; and how many seams those around it have, and how many
-// wrappers stand around those.
+// Where a level begins: the room for its headers, and after it its content. It also has the number of the seams of the levels
+// around it, and of the wrappers around them.
 #[derive(Clone, Copy)]
 pub(crate) struct Mark {
     pub(crate) at: usize,
@@ -18,10 +18,10 @@ pub(crate) struct Mark {
     pub(crate) header: Header,
 }
 
-// So many marks take no memory: a certificate nests as deep.
+// So many marks need no allocation. A certificate nests this deep.
 const NEAR: usize = 7;
 
-// Those of roots, in front of whose content nothing stands.
+// The marks of roots, whose content begins at the front.
 const ROOTS: [Mark; NEAR] = [Mark {
     at: 0,
     start: 0,
@@ -30,7 +30,7 @@ const ROOTS: [Mark; NEAR] = [Mark {
     header: Header::Raw,
 }; NEAR];
 
-// The marks of all levels, the innermost last. The outermost ones stand here, and those further in behind the vector.
+// The marks of all levels, the innermost last. The outermost ones are in the array, and the others in the vector.
 #[derive(Drop)]
 pub(crate) struct Marks {
     near: [Mark; NEAR],
@@ -67,7 +67,7 @@ impl Marks {
         }
     }
 
-    // With that of a root alone. In line, so that they are made where they will stand.
+    // With the mark of one root. Inlined, so that they are made in their final place.
     #[inline(always)]
     pub(crate) fn new_in_root(alloc: Global) -> Marks
         ensures root { result.marks ≡ root_mark ∷ [] }
@@ -90,7 +90,7 @@ impl Marks {
         self.depth > count
     }
 
-    // Whether there is one alone, and nothing in front of its level's content.
+    // Whether there is only one, and nothing before its level's content.
     pub(crate) fn is_one_at_front(&self) -> bool
         ensures { result ≡ true → ((m : Mark) × (self.now.marks ≡ m ∷ []) × (m.start ≡ 0)) }
     {
@@ -117,7 +117,7 @@ impl Marks {
         Ok(())
     }
 
-    // Puts the mark inside of the others.
+    // Adds the mark as the innermost one.
     #[inline(always)]
     pub(crate) fn push(&mut self, mark: Mark)
         requires { 0 < self.old.spare }
@@ -148,7 +148,7 @@ impl Marks {
         Some(&self.near[self.depth - 1])
     }
 
-    // Takes the innermost one out.
+    // Removes the innermost one, and returns it.
     #[inline(always)]
     pub(crate) fn pop(&mut self) -> Option<Mark>
         ensures some { IfSome result (λ m. self.old.marks ≡ m ∷ self.new.marks) }

@@ -11,14 +11,14 @@ use picky_der_core::Result;
 use picky_der_core::asn1::Tag;
 use picky_der_core::misc::WriteExt;
 
-/// A member of a row: a value, which is always there, or one that may be absent.
+/// A member of a row: a value that is always there, or one that may be absent.
 pub trait SerializeMember {
     ghost use Rattle.picky_der_ser.specs.SequenceState.{borrowed_by, state_of};
 
-    // The members behind it, with this one in front of them where it is there.
+    // The members after it, with this one before them if it is there.
     ghost in_front: { Self → Trees → Trees };
 
-    /// Adds the member to the sequence, where it is there. It is refused as `serialize_element` refuses one.
+    /// Adds the member to the sequence, if it is there. The errors are those of `serialize_element`.
     fn serialize_member<W: WriteExt>(&self, sequence: &mut Sequence<'_, W>) -> Result<()>
         ensures same_reference { borrowed_by sequence.new ≡ borrowed_by sequence.old }
         ensures added { OnOk result (AddsInFront W.WriteExt.own (in_front self.now)
@@ -35,13 +35,13 @@ impl<T: Serialize> SerializeMember for T {
     }
 }
 
-/// An element of a tuple, as a member: a value of any type, written as it is. One that is absent isn't read back, so the members of a
-/// struct that may be absent are `Optional`.
+/// An element of a tuple, as a member: a value of any type, written as it is. An absent one can't be read back, so the members
+/// of a struct that may be absent are `Optional`.
 #[derive(Debug, Drop, PartialEq, Eq)]
 pub struct Element<T>(pub T);
 
 impl<T: PartialEq> Element<T> {
-    /// Two are equal exactly where their values are.
+    /// Two are equal exactly if their values are.
     pub fn equality()
         ensures { IsThatOf ⟦<Element<T> as PartialEq>⟧.eq (λ element. element.0) T.eq }
     {}
@@ -55,14 +55,14 @@ impl<T: Serialize> SerializeMember for Element<T> {
     }
 }
 
-/// Members of a sequence: none, as `()`, or up to sixteen and those behind them, as `(A, B, C, ())`.
+/// Members of a sequence: `()`, or a tuple of up to sixteen members and the members after them, as `(A, B, C, ())`.
 pub trait SerializeMembers {
     ghost use Rattle.picky_der_ser.specs.SequenceState.{borrowed_by, state_of};
 
     // What the members mean, in their order.
     ghost members: { Self → Trees };
 
-    /// Adds the members to the sequence. They are refused as `serialize_element` refuses one.
+    /// Adds the members to the sequence. The errors are those of `serialize_element`.
     fn serialize_members<W: WriteExt>(&self, sequence: &mut Sequence<'_, W>) -> Result<()>
         ensures same_reference { borrowed_by sequence.new ≡ borrowed_by sequence.old }
         ensures added { OnOk result (AddsRow W.WriteExt.own (members self.now)
@@ -70,7 +70,7 @@ pub trait SerializeMembers {
         ensures err { IfErr result (λ e. RefusesToAddRow W.WriteExt.own (members self.now)
             (state_of sequence.old) e (state_of sequence.new)) };
 
-    /// Writes the members as a sequence, as the whole body of `Serialize::serialize` of a struct. It is refused as that is.
+    /// Writes the members as a sequence. It is the whole body of `Serialize::serialize` of a struct, and has its errors.
     fn serialize_sequence<W: WriteExt>(&self, ser: &mut Serializer<W>) -> Result<usize>
         ensures wrote { IfOk result (λ n. Writes W.WriteExt.own
             (Tree.list ListKind.sequence (members self.now)) ser.old n ser.new) }
@@ -84,6 +84,15 @@ pub trait SerializeMembers {
         let mut sequence = Sequence::serialize_lazy(ser, Tag::SEQUENCE);
         self.serialize_members(&mut sequence)?;
         sequence.end()
+    }
+}
+
+/// Members by reference, for the fields of a struct.
+impl<M: SerializeMembers> SerializeMembers for &M {
+    ghost members = { λ row. M.members row.now };
+
+    fn serialize_members<W: WriteExt>(&self, sequence: &mut Sequence<'_, W>) -> Result<()> {
+        M::serialize_members(self, sequence)
     }
 }
 

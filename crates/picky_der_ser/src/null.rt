@@ -7,7 +7,7 @@ use picky_der_core::Result;
 use picky_der_core::asn1::Tag;
 use picky_der_core::misc::WriteExt;
 
-/// Writes nulls.
+/// Writes NULLs.
 pub struct Null;
 
 impl Null {

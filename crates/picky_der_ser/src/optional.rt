@@ -8,20 +8,20 @@ use crate::{Sequence, Serialize, SerializeMember};
 use picky_der_core::Result;
 use picky_der_core::misc::WriteExt;
 
-/// A member of a row that may be absent (ASN.1's OPTIONAL): nothing is written of one that is, and the others stand as they
-/// do without it.
+/// A member of a row that may be absent (ASN.1's OPTIONAL). An absent member isn't written, and the other members are written
+/// as without it.
 #[derive(Debug, Clone, Drop, PartialEq, Eq)]
 pub struct Optional<T>(pub Option<T>);
 
 impl<T: PartialEq> Optional<T> {
-    /// Two are equal just where both are absent, or both are there and equal.
+    /// Two are equal exactly if both are absent, or both are there and equal.
     pub fn equality()
         ensures { IsThatOf ⟦<Optional<T> as PartialEq>⟧.eq (λ member. member.0) (option_eq T.eq) }
     {}
 }
 
 impl<T: Clone> Optional<T> {
-    /// A copy of an absent one is absent, and a copy of one that is there is there and holds a copy.
+    /// A copy of an absent member is absent. A copy of a member that is there holds a copy of the value.
     pub fn copies()
         ensures { IsCopied ⟦<Optional<T> as Clone>⟧.is_clone (λ member. member.0)
             (λ member copy. MatchOption member (copy ≡ None)
@@ -29,7 +29,7 @@ impl<T: Clone> Optional<T> {
     {}
 }
 
-/// A member of a row that may be absent, by reference, as a struct writes its field.
+/// A member of a row that may be absent, by reference, for the field of a struct.
 #[derive(Drop)]
 pub struct OptionalRef<'a, T>(pub &'a Option<T>);
 

@@ -7,7 +7,7 @@ ghost use Rattle.picky_der_ser.specs.Seams.{cut_at_seams, AreSeams, last_seam, n
 use crate::Header;
 use std::alloc::{AllocError, Global};
 
-// Keeps where the next member of a set begins, behind `held` bytes of other members. Without room for it nothing changes.
+// Keeps where the next member of a set begins, after `held` bytes of other members. If an allocation fails nothing changes.
 pub(crate) fn begin_member(
     seams: &mut Vec<usize>,
     header: Header,
@@ -39,7 +39,7 @@ fn cut<'a>(content: &'a [u8], seams: &[usize], alloc: Global) -> Result<Vec<&'a 
     Ok(members)
 }
 
-// The members of the content in ascending order, one behind the other.
+// The members of the content in ascending order, one after the other.
 fn sorted_content(content: &[u8], seams: &[usize], alloc: Global) -> Result<Vec<u8>, AllocError>
     requires ascending { AreSeams 0 seams.now }
     requires within { last_seam 0 seams.now ≤ length content.now }
@@ -51,8 +51,8 @@ fn sorted_content(content: &[u8], seams: &[usize], alloc: Global) -> Result<Vec<
     members.concat(alloc)
 }
 
-// Puts the members of what stands from `start` on in ascending order. Most of what ends has no seam and doesn't come here,
-// so this stays out of line.
+// Sorts the members from `start` on in ascending order. Most lists have no seam and don't come here, so this function isn't
+// inlined.
 #[inline(never)]
 pub(crate) fn arrange(
     out: &mut Vec<u8>,

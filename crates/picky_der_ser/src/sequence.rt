@@ -8,8 +8,8 @@ use picky_der_core::Result;
 use picky_der_core::asn1::Tag;
 use picky_der_core::misc::WriteExt;
 
-/// A sequence or a set that is being written. Dropped without `end` it writes nothing, and the wrappers that were open
-/// when it began are dropped.
+/// A sequence or a set that is being written. If it is dropped without `end`, it writes nothing, and the wrappers that were
+/// open when it began are dropped.
 #[derive(Drop)]
 pub struct Sequence<'a, W: WriteExt> {
     ser: &'a mut Serializer<W>,
@@ -20,8 +20,8 @@ pub struct Sequence<'a, W: WriteExt> {
 impl<'a, W: WriteExt> Sequence<'a, W> {
     ghost use Rattle.picky_der_ser.specs.SequenceState.{borrowed_by, state_of};
 
-    /// Begins a sequence or set in the open wrappers, and takes these with it. The tag is `SEQUENCE` or `SET`. No memory
-    /// is taken before the first member.
+    /// Begins a sequence or set, in the open wrappers, which become its own. The tag is `SEQUENCE` or `SET`. Nothing is
+    /// allocated before the first member.
     #[inline(always)]
     pub fn serialize_lazy(ser: &'a mut Serializer<W>, tag: Tag) -> Sequence<'a, W>
         requires { IsListTag tag }
@@ -34,8 +34,8 @@ impl<'a, W: WriteExt> Sequence<'a, W> {
 
     /// Adds a member, in no wrapper but its own.
     ///
-    /// An earlier error is answered again; else `UnsupportedValue` where the member can't be written, and `OutOfMemory`
-    /// where memory is refused. The sink isn't touched.
+    /// If the serializer has failed before, its earlier error is returned. `UnsupportedValue` if the member can't be written,
+    /// and `OutOfMemory` if an allocation fails. Nothing is written to the sink.
     pub fn serialize_element<T: Serialize>(&mut self, value: &T) -> Result<()>
         ensures same_reference { borrowed_by self.new ≡ borrowed_by self.old }
         ensures added { OnOk result (AddsMember W.WriteExt.own (T.meaning value.now)
@@ -57,12 +57,12 @@ impl<'a, W: WriteExt> Sequence<'a, W> {
         self.serialize_element(value)
     }
 
-    /// Writes the members in the wrappers that were open when the sequence began, those of a set in ascending order of
-    /// their encodings (X.690, 11.6), each as often as it was added. Answers how many bytes were written, the header and
-    /// those of the wrappers included.
+    /// Writes the members in the wrappers that were open when the sequence began. Returns how many bytes were written, with the
+    /// header and the wrappers. The members of a set are written in ascending order of their encodings, each as often as it was
+    /// added (X.690, 11.6).
     ///
-    /// An earlier error is answered again; else `OutOfMemory` where memory is refused, as that for the order of a set, of
-    /// which nothing is written then; and the sink's fault.
+    /// If the serializer has failed before, its earlier error is returned. `OutOfMemory` if an allocation fails; if it is the
+    /// allocation for the order of a set, nothing was written. Any other error is the sink's.
     #[inline(always)]
     pub fn end(self) -> Result<usize>
         ensures { EndsLevel W.WriteExt.own (state_of self.entry) result self.exit.0.now }

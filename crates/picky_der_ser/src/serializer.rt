@@ -27,14 +27,15 @@ pub trait Serialize {
     // The tree that the value means.
     ghost meaning: { Self → Tree };
 
-    /// Writes the value in the serializer's open wrappers, and closes them. Answers how many bytes were written,
-    /// those of the wrappers included.
+    /// Writes the value in the serializer's open wrappers, and closes them. Returns how many bytes were written, with those of
+    /// the wrappers.
     ///
-    /// An implementation passes on the errors of the calls that it makes, and makes none of its own: the serializer
-    /// has failed with what is answered. `UnsupportedValue` where the value can't be written: then nothing is written.
-    /// `OutOfMemory` where the serializer was refused memory, or the sink's fault, which of a vector is `OutOfMemory`
-    /// too: then a beginning of the encoding may be written. Where only memory was refused, the plain values, the lists and the
-    /// rows of this library leave the sink as it was (`untouched`).
+    /// `UnsupportedValue` if the value can't be written: nothing is written then. `OutOfMemory` if an allocation fails. Any
+    /// other error is the sink's. After an error of the sink, or `OutOfMemory`, a beginning of the encoding may be written. If
+    /// only an allocation failed, the plain values, lists and rows of this library leave the sink unchanged (`untouched`).
+    ///
+    /// An implementation returns the errors of the calls that it makes, and makes none of its own. After an error the
+    /// serializer has failed with it.
     fn serialize<W: WriteExt>(&self, ser: &mut Serializer<W>) -> Result<usize>
         ensures wrote { IfOk result (λ n. Writes W.WriteExt.own
             (meaning self.now) ser.old n ser.new) }
@@ -44,12 +45,14 @@ pub trait Serialize {
         ensures goes_on { W.later ser.old.sink ser.new.sink };
 }
 
-/// Writes values to a sink. After an error it has failed: each later call answers an error of its kind and writes nothing.
+/// Writes values to a sink. After an error it has failed: each later call returns an error of its kind and writes nothing.
 ///
-/// A call that writes a value answers `UnsupportedValue` for one that can't be written; `OutOfMemory` where memory is
-/// refused, which only wrappers, sequences and application tags take; and else the sink's fault: `InvalidSink` where it
-/// took too few bytes, or the kind that it told. A beginning of the encoding may have been written before a fault of the sink,
-/// or by a value of a type of one's own before memory was refused to it. Else nothing was written.
+/// A call that writes a value returns `UnsupportedValue` if the value can't be written. It returns `OutOfMemory` if an
+/// allocation fails; only wrappers, sequences and application tags allocate. Else the error is the sink's: `InvalidSink` if it
+/// accepts too few bytes, or the kind of its I/O error.
+///
+/// A beginning of the encoding may have been written before an error of the sink, or before an allocation failed in a type of
+/// your own. Else nothing was written.
 #[derive(Drop)]
 pub struct Serializer<W: WriteExt> {
     sink: W,
@@ -77,7 +80,7 @@ impl<W: WriteExt> Model for Serializer<W> {
 impl<'a> Serializer<SliceSink<'a>> {
     ghost use Rattle.picky_der_core.specs.SliceSink.{slice_of, filled_of, faults_of};
 
-    /// Fills a slice from its first byte on, and then takes nothing.
+    /// Fills a slice from its first byte on. A full slice accepts no more bytes.
     pub fn new_to_bytes(alloc: Global, buf: &'a mut [u8]) -> Serializer<SliceSink<'a>>
         ensures same_reference { (slice_of result.sink).ghost_name ≡ buf.entry.ghost_name }
         ensures same { (slice_of result.sink).now ≡ buf.old }
@@ -91,7 +94,7 @@ impl<'a> Serializer<SliceSink<'a>> {
         Serializer::new_to_writer(alloc, SliceSink::new(buf))
     }
 
-    // Keeps what is written in a level around all, in this vector without bytes, and leaves the slice alone.
+    // Writes into a level that is around all, in this vector, which has no bytes. The slice isn't touched.
     #[inline(always)]
     pub(crate) fn new_in_root(
         alloc: Global,
@@ -107,7 +110,7 @@ impl<'a> Serializer<SliceSink<'a>> {
         Serializer::with_levels(alloc, sink, Levels::new_in_root(alloc, scratch))
     }
 
-    // Gives out what the level holds of which a member was being written.
+    // Returns what is in the level of which a member was being written.
     #[inline(always)]
     pub(crate) fn into_content(self) -> Vec<u8>
         ensures { (l : Level) (ls : List Level) → self.entry.inside ≡ l ∷ ls
@@ -153,7 +156,7 @@ impl<W: WriteExt> Serializer<W> {
         Serializer::with_levels(alloc, writer, Levels::new(alloc))
     }
 
-    // In line, so that the levels aren't copied.
+    // Inlined, so that the levels aren't copied.
     #[inline(always)]
     fn with_levels(alloc: Global, sink: W, levels: Levels) -> Serializer<W>
         ensures same { result.sink ≡ sink }
@@ -170,7 +173,7 @@ impl<W: WriteExt> Serializer<W> {
         }
     }
 
-    /// Gives the writer back.
+    /// Returns the writer.
     pub fn into_writer(self) -> W
         ensures { result ≡ self.sink }
     {
@@ -183,14 +186,14 @@ impl<W: WriteExt> Serializer<W> {
         sink
     }
 
-    /// False: DER is no form for people to read.
+    /// Returns false: DER is a binary encoding.
     pub fn is_human_readable(&self) -> bool
         ensures { result ≡ false }
     {
         false
     }
 
-    // What it answers again where it has failed.
+    // The error that it returns again if it has failed.
     pub(crate) fn earlier(&self) -> Option<Asn1DerError>
         ensures again { IfSome result (λ e. self.now.failed ≡ Some (failure_of e)) }
         ensures not_failed { IfNone result (self.now.failed ≡ None) }
@@ -201,7 +204,7 @@ impl<W: WriteExt> Serializer<W> {
         }
     }
 
-    // Has failed from here on.
+    // Fails with this error.
     pub(crate) fn fail(&mut self, error: Asn1DerError) -> Asn1DerError
         ensures error { result ≡ error }
         ensures same { self.new ≡ record self.old { failed = Some (failure_of error) } }
@@ -210,7 +213,7 @@ impl<W: WriteExt> Serializer<W> {
         error
     }
 
-    // Closes the wrappers at `Ok`, and has failed at `Err`.
+    // Closes the wrappers at `Ok`, and fails at `Err`.
     pub(crate) fn settle(&mut self, outcome: Result<usize>) -> Result<usize>
         ensures same { result ≡ outcome }
         ensures sink { (self.new.sink ≡ self.old.sink) × (self.new.inside ≡ self.old.inside) }

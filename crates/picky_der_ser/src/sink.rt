@@ -1,4 +1,4 @@
-//! Elements as a sink takes them.
+//! Elements that are written to a sink.
 ghost use Rattle.std.specs.Prelude.{◌≡◌, ◌++◌, length, IfOk, IfErr, OnOk, OnErr};
 ghost use Rattle.std.specs.Io.KnownBytes.{Appends};
 ghost use Rattle.picky_der_core.specs.Element.{tlv};
@@ -9,7 +9,7 @@ use picky_der_core::asn1::Tag;
 use picky_der_core::misc::{Length, WriteExt};
 use picky_der_core::{Asn1DerError, Result};
 
-// Writes a tag, the length and the content, and takes no memory.
+// Writes a tag, the length and the content. Nothing is allocated.
 pub(crate) fn put_element<W: WriteExt>(sink: &mut W, tag: Tag, content: &[u8]) -> Result<usize>
     ensures count { IfOk result (λ n. n ≡ length (tlv tag content.now)) }
     ensures appends { OnOk result (Appends (W.written sink.old) (W.written sink.new)

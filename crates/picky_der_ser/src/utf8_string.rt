@@ -7,7 +7,7 @@ use picky_der_core::Result;
 use picky_der_core::asn1::Tag;
 use picky_der_core::misc::WriteExt;
 
-/// Writes texts in UTF-8.
+/// Writes UTF-8 texts.
 pub struct Utf8String;
 
 impl Utf8String {

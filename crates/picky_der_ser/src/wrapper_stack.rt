@@ -6,12 +6,12 @@ use picky_der_core::asn1::Wrapper;
 use std::alloc::{AllocError, Global};
 use std::marker::Model;
 
-// Those around the levels stand in front, the outermost first, and the open ones behind them. So a level keeps where its own
-// begin, and none is moved where it is opened.
+// The wrappers around the levels are in front, the outermost first, and the open ones after them. So a level only keeps where
+// its own begin, and no wrapper is moved when it is opened.
 #[derive(Drop)]
 pub(crate) struct Wrappers {
     all: Vec<Wrapper>,
-    // How many of them stand around levels.
+    // How many of them are around levels.
     taken: usize,
 }
 
@@ -55,7 +55,7 @@ impl Wrappers {
         &self.all[self.taken..]
     }
 
-    // Opens one inside the others.
+    // Opens a wrapper inside the others.
     pub(crate) fn push(&mut self, wrapper: Wrapper) -> Result<(), AllocError>
         requires { CanBeOpen wrapper }
         ensures ok { OnOk result (self.new ≡ record self.old {
@@ -76,7 +76,7 @@ impl Wrappers {
         self.all.truncate(self.taken);
     }
 
-    // The open ones stand around a level from here on. Answers where they begin.
+    // Makes the open ones those of a level from here on. Returns where they begin.
     pub(crate) fn take(&mut self) -> usize
         ensures count { result ≡ length self.old.of_levels }
         ensures taken { self.new ≡ record {
@@ -90,7 +90,7 @@ impl Wrappers {
         first
     }
 
-    // Those around levels from there on.
+    // The wrappers around levels, from there on.
     pub(crate) fn around_from(&self, first: usize) -> &[Wrapper]
         requires { first ≤ length self.now.of_levels }
         ensures { result.now ≡ drop first self.now.of_levels }
@@ -98,7 +98,7 @@ impl Wrappers {
         &self.all[first..self.taken]
     }
 
-    // Drops those around levels from there on, and the open ones.
+    // Drops the wrappers around levels from there on, and the open ones.
     pub(crate) fn truncate(&mut self, first: usize)
         requires { first ≤ length self.old.of_levels }
         ensures { self.new ≡ record { of_levels = take first self.old.of_levels; around = [] } }
@@ -107,7 +107,7 @@ impl Wrappers {
         self.taken = first;
     }
 
-    // Drops those around levels from there on, and keeps the open ones.
+    // Drops the wrappers around levels from there on, and keeps the open ones.
     #[cold]
     #[inline(never)]
     pub(crate) fn drop_from(&mut self, first: usize)

@@ -10,8 +10,7 @@ use picky_der_core::Result;
 use picky_der_core::misc::WriteExt;
 
 impl<W: WriteExt> Serializer<W> {
-    /// Writes a value as the alternative of a choice that was made, which is how it is written itself. An error is the
-    /// value's.
+    /// Writes the value of an alternative of a choice, as the value itself is written. Each error is the value's.
     #[tactic(auto, using(crate::proofs::Choices::choice))]
     pub fn serialize_choice<T: Serialize>(&mut self, value: &T) -> Result<usize>
         ensures wrote { IfOk result (λ n. Writes W.WriteExt.own

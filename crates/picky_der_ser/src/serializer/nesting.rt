@@ -84,7 +84,7 @@ impl<W: WriteExt> Serializer<W> {
         outcome
     }
 
-    // Ends the level that was opened last, where a member of another is being written.
+    // Ends the level that was opened last, while a member of another is being written.
     #[inline(always)]
     fn close_inside(&mut self) -> Result<usize>
         requires had_not_failed { self.old.failed ≡ None }
@@ -113,8 +113,8 @@ impl<W: WriteExt> Serializer<W> {
         self.settle(outcome)
     }
 
-    // Writes the level that was opened last, in its wrappers, with the members of a set in order. Where memory is refused for
-    // this order, nothing of the set is written.
+    // Writes the level that was opened last, in its wrappers, with the members of a set in order. If an allocation for this
+    // order fails, nothing of the set is written.
     pub(crate) fn close(&mut self) -> Result<usize>
         requires { IfNone self.old.failed (IsSome self.old.pending) }
         ensures { EndsLevel W.WriteExt.own self.old result self.new }
@@ -127,7 +127,7 @@ impl<W: WriteExt> Serializer<W> {
         self.close_slowly()
     }
 
-    // The same for all ways of ending one.
+    // The same for all cases.
     #[cold]
     #[inline(never)]
     fn close_slowly(&mut self) -> Result<usize>
@@ -146,7 +146,7 @@ impl<W: WriteExt> Serializer<W> {
         self.close_outside()
     }
 
-    // A member of the level that was opened last is written from here on.
+    // From here on a member of the level that was opened last is written.
     fn enter(&mut self) -> Result<()>
         requires { IfNone self.old.failed (IsSome self.old.pending) }
         ensures ok { OnOk result (IfSome self.old.pending

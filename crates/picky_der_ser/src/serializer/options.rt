@@ -9,7 +9,8 @@ use picky_der_core::Result;
 use picky_der_core::misc::WriteExt;
 
 impl<W: WriteExt> Serializer<W> {
-    /// Drops the open wrappers, writes nothing and answers 0. No memory is taken: only an earlier error is answered.
+    /// Drops the open wrappers, writes nothing and returns 0. Nothing is allocated. The only error is the earlier one, if the
+    /// serializer has failed.
     pub fn serialize_none(&mut self) -> Result<usize>
         ensures { WritesAbsent W.WriteExt.own self.old result self.new }
     {

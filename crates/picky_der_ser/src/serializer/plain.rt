@@ -30,7 +30,7 @@ impl<W: WriteExt> Serializer<W> {
         self.write_any_plain(tag, content)
     }
 
-    // Writes a plain element, wherever one is.
+    // Writes a plain element, in a level or to the sink.
     #[cold]
     #[inline(never)]
     fn write_any_plain(&mut self, tag: Tag, content: &[u8]) -> Result<usize>
@@ -91,8 +91,8 @@ impl<W: WriteExt> Serializer<W> {
         self.settle(outcome)
     }
 
-    /// Writes a bool (X.690, 8.2 and 11.1). Outside wrappers, sequences and application tags no memory is taken, and only
-    /// the sink can refuse; the same holds for the other calls of plain values.
+    /// Writes a BOOLEAN (X.690, 8.2 and 11.1). Outside wrappers, sequences and application tags nothing is allocated, and each
+    /// error is the sink's. The same holds for the other calls of plain values.
     #[inline(always)]
     pub fn serialize_bool(&mut self, value: bool) -> Result<usize>
         ensures { WritesPrimitive W.WriteExt.own (Primitive.boolean value) self.old result self.new }
@@ -100,7 +100,7 @@ impl<W: WriteExt> Serializer<W> {
         Boolean::serialize(value, self)
     }
 
-    /// Writes a number of 8 bits (X.690, 8.3).
+    /// Writes an unsigned number of 8 bits (X.690, 8.3).
     #[inline(always)]
     pub fn serialize_u8(&mut self, value: u8) -> Result<usize>
         ensures { WritesPrimitive W.WriteExt.own (Primitive.unsigned value) self.old result self.new }
@@ -173,7 +173,7 @@ impl<W: WriteExt> Serializer<W> {
         Null::serialize(self)
     }
 
-    /// Writes a character, as the text that is just it.
+    /// Writes a character, as the text of only this character (X.690, 8.23).
     pub fn serialize_char(&mut self, value: char) -> Result<usize>
         ensures { WritesPrimitive W.WriteExt.own
             (Primitive.text (encode_utf8 value)) self.old result self.new }
@@ -189,9 +189,10 @@ impl<W: WriteExt> Serializer<W> {
         Utf8String::serialize(value, self)
     }
 
-    /// Writes a content under this tag, unchecked. `UnsupportedValue` where the tag has the number 31, which would
-    /// announce the long form (X.690, 8.1.2.4): this is tested before all but an earlier error, no memory is taken,
-    /// and nothing is written.
+    /// Writes a content under this tag, unchecked.
+    ///
+    /// `UnsupportedValue` for a tag with the number 31, which would announce the long form (X.690, 8.1.2.4): nothing is written
+    /// or allocated then. Only the earlier error of a serializer that has failed comes before it.
     pub fn serialize_tagged_bytes(&mut self, tag: Tag, content: &[u8]) -> Result<usize>
         ensures { WritesPrimitive W.WriteExt.own (Primitive.bytes tag content.now) self.old result self.new }
     {

@@ -22,9 +22,10 @@ impl<W: WriteExt> Serializer<W> {
         self.settle(outcome)
     }
 
-    /// Writes bytes as they are in the open wrappers. They aren't looked at: what isn't just one element is written, but
-    /// not read back. Directly under an implicit tag all of them are kept.
-    pub fn serialize_raw(&mut self, bytes: &[u8]) -> Result<usize>
+    // Writes bytes as they are, in a level or to the sink.
+    #[cold]
+    #[inline(never)]
+    fn write_any_raw(&mut self, bytes: &[u8]) -> Result<usize>
         ensures { WritesPlain W.WriteExt.own (Tree.raw bytes.now) self.old result self.new }
     {
         if let Some(error) = self.earlier() {
@@ -37,5 +38,18 @@ impl<W: WriteExt> Serializer<W> {
             return self.put_raw(bytes);
         }
         self.put_wrapped(Header::Raw, bytes)
+    }
+
+    /// Writes bytes as they are, in the open wrappers. They aren't checked: what isn't exactly one element is written, but
+    /// can't be read back. Directly under an implicit tag all of them are kept.
+    pub fn serialize_raw(&mut self, bytes: &[u8]) -> Result<usize>
+        ensures { WritesPlain W.WriteExt.own (Tree.raw bytes.now) self.old result self.new }
+    {
+        if self.failed.is_none() && self.levels.is_bare() {
+            if self.levels.append_few(bytes) {
+                return Ok(bytes.len());
+            }
+        }
+        self.write_any_raw(bytes)
     }
 }

@@ -17,49 +17,49 @@ impl<W: WriteExt> Serializer<W> {
         }
     }
 
-    /// `UnsupportedType`, as of all the calls below: nothing is written, and no memory is taken.
+    /// Returns `UnsupportedType`, as do all the calls below. Nothing is written or allocated.
     pub fn serialize_i8(&mut self, _value: i8) -> Result<usize>
         ensures { IsUnsupported self.old result self.new }
     {
         self.refuse_type()
     }
 
-    /// `UnsupportedType`.
+    /// Returns `UnsupportedType`.
     pub fn serialize_i16(&mut self, _value: i16) -> Result<usize>
         ensures { IsUnsupported self.old result self.new }
     {
         self.refuse_type()
     }
 
-    /// `UnsupportedType`.
+    /// Returns `UnsupportedType`.
     pub fn serialize_i32(&mut self, _value: i32) -> Result<usize>
         ensures { IsUnsupported self.old result self.new }
     {
         self.refuse_type()
     }
 
-    /// `UnsupportedType`.
+    /// Returns `UnsupportedType`.
     pub fn serialize_i64(&mut self, _value: i64) -> Result<usize>
         ensures { IsUnsupported self.old result self.new }
     {
         self.refuse_type()
     }
 
-    /// `UnsupportedType`.
+    /// Returns `UnsupportedType`.
     pub fn serialize_i128(&mut self, _value: i128) -> Result<usize>
         ensures { IsUnsupported self.old result self.new }
     {
         self.refuse_type()
     }
 
-    /// `UnsupportedType`. No writer of maps begins.
+    /// Returns `UnsupportedType`. It begins no writer of maps.
     pub fn serialize_map(&mut self, _len: Option<usize>) -> Result<usize>
         ensures { IsUnsupported self.old result self.new }
     {
         self.refuse_type()
     }
 
-    /// `UnsupportedType`.
+    /// Returns `UnsupportedType`.
     pub fn serialize_unit_variant(
         &mut self,
         _name: &'static str,
@@ -71,7 +71,7 @@ impl<W: WriteExt> Serializer<W> {
         self.refuse_type()
     }
 
-    /// `UnsupportedType`. The value isn't looked at.
+    /// Returns `UnsupportedType`. The value isn't used.
     pub fn serialize_newtype_variant<T: Serialize>(
         &mut self,
         _name: &'static str,
@@ -84,7 +84,7 @@ impl<W: WriteExt> Serializer<W> {
         self.refuse_type()
     }
 
-    /// `UnsupportedType`. No writer of variants begins.
+    /// Returns `UnsupportedType`. It begins no writer of variants.
     pub fn serialize_tuple_variant(
         &mut self,
         _name: &'static str,
@@ -97,7 +97,7 @@ impl<W: WriteExt> Serializer<W> {
         self.refuse_type()
     }
 
-    /// `UnsupportedType`. No writer of variants begins.
+    /// Returns `UnsupportedType`. It begins no writer of variants.
     pub fn serialize_struct_variant(
         &mut self,
         _name: &'static str,
