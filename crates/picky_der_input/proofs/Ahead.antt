@@ -6,7 +6,7 @@ use Rattle.std.proofs.Math.Seq.{take-append_seam}
 use Rattle.std.proofs.lemmas.List.{take-append-drop}
 use Rattle.std.proofs.lemmas.Grind.{common_steps}
 use Rattle.std.specs.Int.Digits.{number_from_digits}
-use Rattle.picky_der_core.specs.Element.{length_octets, big_endian, IsPrefix}
+use Rattle.picky_der_core.specs.Element.{length_octets, big_endian, AreBytes, IsPrefix}
 use Rattle.picky_der_core.specs.ElementLaws.{length_octets-short, length_octets-long}
 use Rattle.picky_der_core.specs.BigEndianLaws.{big_endian-number}
 use Rattle.picky_der_core.specs.Tag.{number_of, IsTagNumber}
@@ -16,7 +16,7 @@ use Rattle.picky_der_core.specs.Reader.{TakesFirst}
 use Rattle.picky_der_input.specs.State.{State}
 use Rattle.picky_der_input.specs.Steps.{Takes}
 use Rattle.picky_der_input.specs.Ahead.{IsElementInFront}
-use Rattle.picky_der_input.proofs.Pieces.{moved_few}
+use Rattle.picky_der_input.proofs.Pieces.{bytes_in_front, moved_few}
 
 -- ---- lengths in front
 
@@ -50,7 +50,7 @@ two_front (b ∷ d ∷ x ∷ bs) n m some f e g h l k = rw (long_two n m h l k) 
 
 -- ---- what is shown
 
--- what begins with bytes begins with those in front of them
+-- what begins with bytes begins with the bytes before them
 pub shown_front : (i : Option (List ℕ)) (all x y : List ℕ) → all ≡ x ++ y → IfSome i (λ left. StartsWith left all) → IfSome i (λ left. StartsWith left x)
 shown_front None all x y e h = tt
 shown_front (Some left) all x y e h =
@@ -67,7 +67,7 @@ prefix_fits {all} {x} p = omega (arith, ap length p.is, length-append x p.rest)
 pub shown_first : (i : Option (List ℕ)) (all : List ℕ) (count : ℕ) → IfSome i (λ left. StartsWith left all) → IfSome i (λ left. StartsWith left (take count all))
 shown_first i all count h = shown_front i all (take count all) (drop count all) (sym (take-append-drop count all)) h
 
--- the header that stands there, behind the first byte of which a length stands in front
+-- the header that is there, if a length follows its first byte
 pub header_there : (all : List ℕ) (tag n : ℕ) → 0 < length all → get_or all 0 0 ≡ tag → IsPrefix (length_octets n) (drop 1 all) → IsPrefix (tag ∷ length_octets n) all
 header_there [] tag n some e b = absurd (omega arith)
 header_there (x ∷ xs) tag n some e b = record { rest = b.rest; is = rw (e, b.is) refl }
@@ -80,7 +80,7 @@ content_at (b ∷ bs) rest n =
     let e : suc (length bs) + n ≡ suc (length bs + n) = omega arith in
     ap (λ k. take k (b ∷ (bs ++ rest))) e ∙ ap (λ z. b ∷ z) (content_at bs rest n)
 
--- the content behind the header that stands there, and that these are shown
+-- the content after the header that is there, and that these are shown
 pub content_shown : (i : Option (List ℕ)) (all : List ℕ) (tag n size : ℕ) → IsPrefix (tag ∷ length_octets n) all → size ≡ length (tag ∷ length_octets n) → size + n ≤ length all → IfSome i (λ left. StartsWith left all)
     → (length ((tag ∷ length_octets (length (take n (drop size all)))) ++ take n (drop size all)) ≡ size + n) × IfSome i (λ left. StartsWith left ((tag ∷ length_octets (length (take n (drop size all)))) ++ take n (drop size all)))
 content_shown i all tag n size p s l h =
@@ -90,7 +90,7 @@ content_shown i all tag n size p s l h =
     let is : take (size + n) all ≡ (tag ∷ length_octets (length content)) ++ content = front ∙ ap (λ m. (tag ∷ length_octets m) ++ content) (sym count) in
     (sym (ap length is) ∙ omega (arith, l, length-take (size + n) all), subst (λ z. IfSome i (λ left. StartsWith left z)) is (shown_first i all (size + n) h))
 
--- the content that stands there behind a tag and a length of one byte
+-- the content that is there after a tag and a length of one byte
 pub short_there : (all : List ℕ) (tag n : ℕ) → n + 2 ≤ length all → get_or all 0 0 ≡ tag → get_or all 1 0 ≡ n
     → (length (take n (drop 2 all)) ≡ n) × IsPrefix (tag ∷ (length (take n (drop 2 all)) ∷ take n (drop 2 all))) all
 short_there [] tag n some e f = absurd (omega arith)
@@ -99,7 +99,13 @@ short_there (x ∷ y ∷ xs) tag n some e f =
     let size : length (take n xs) ≡ n = omega (arith, length-take n xs) in
     (size, record { rest = drop n xs; is = rw (size, e, f, take-append-drop n xs) refl })
 
--- the element that stands there, behind the first byte of which a length stands in front
+-- and that it is made of bytes
+pub short_bytes : (all : List ℕ) (n : ℕ) → ((i : ℕ) → get_or all i 0 < 256) → AreBytes (take n (drop 2 all))
+short_bytes [] n h = bytes_in_front n [] h
+short_bytes (x ∷ []) n h = bytes_in_front n [] (λ i. h (suc i))
+short_bytes (x ∷ y ∷ xs) n h = bytes_in_front n xs (λ i. h (suc (suc i)))
+
+-- the element that is there, if a length follows its first byte
 pub element_there : (all : List ℕ) (n count : ℕ) → 0 < length all → IsTagNumber (number_of (get_or all 0 0)) → get_or all 0 0 < 256 → IsPrefix (length_octets n) (drop 1 all) → count ≡ n + length (length_octets n) + 1 → count ≤ length all → IsElementInFront all count
 element_there [] n count some i byte b e l = absurd (omega arith)
 element_there (x ∷ xs) n count some i byte b e l =
@@ -123,7 +129,7 @@ element_alone all count h =
     take_whole : (xs : List ℕ) → take (length xs) xs ≡ xs
     take_whole xs = grind (arith, common_steps)
 
--- ---- what is taken
+-- ---- what is consumed
 
 pub at_most_one : (p : Option ℕ) → count_of_any p ≤ 1
 at_most_one None = omega arith
@@ -137,7 +143,7 @@ consumes_shown (Some xs) (Some ys) x {n} size h t =
     let e : ys ≡ drop n xs = cc in
     starts_with_rest xs x h ∙ ap (λ z. x ++ z) (ap (λ k. drop k xs) size ∙ sym e)
 
--- these bytes, which the reader showed before the innermost end, were taken in one step
+-- these bytes, which the reader showed before the innermost end, were consumed in one step
 pub takes_shown : {a c : State} (x : List ℕ) {n : ℕ} → length x ≡ n → IfSome a.input (λ left. StartsWith left x) → n ≤ a.until_end → count_of_any a.peeked ≤ n → a.failed ≡ None → a.taken + a.until_end < 2 ^ 64
     → TakesFirst a.input c.input n → (count_of_any a.peeked ≤ n → c.peeked ≡ None) → c.taken ≡ position_behind a.taken n
     → c ≡ record a { input = c.input; peeked = c.peeked; taken = c.taken; until_end = a.until_end - n; faults = c.faults; references = c.references } → c.faults ≡ a.faults → c.references ≡ a.references → Takes a c x

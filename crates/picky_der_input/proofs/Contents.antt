@@ -1,4 +1,4 @@
--- Contents, drawn byte by byte or in pieces.
+-- Contents, consumed byte by byte or in pieces.
 use Rattle.std.proofs.Common.{◌≡◌, ℕ, ◌+◌, ◌<◌, ◌≤◌, List, [], ◌∷◌, ◌++◌, length, take, Option, Some, None, Result, Ok, Err, IsOk, IfOk, OnOk, OnErr, refl, sym, ◌∙◌, ap, arith, length-append}
 use Rattle.std.proofs.lemmas.Grind.{common_steps}
 use Rattle.picky_der_core.specs.declared.error.Asn1DerError.{Asn1DerError}
@@ -16,7 +16,7 @@ kept_more kept c b e l = grind (arith, common_steps)
 pub kept_full : (kept c : List ℕ) (b : ℕ) → kept ≡ take 18 c → 18 ≤ length kept → kept ≡ take 18 (c ++ (b ∷ []))
 kept_full kept c b e l = grind (arith, common_steps)
 
--- one byte more was taken, and kept if there was room
+-- one byte more was consumed, and kept if there was room
 pub takes_kept-more : {a b c : State} {n : ℕ} {kept more : List ℕ} {x : ℕ} → (h : TakesKept a b n kept) → Takes b c (x ∷ []) → more ≡ take 18 (h.content ++ (x ∷ [])) → TakesKept a c (n + 1) more
 takes_kept-more {x = x} h t e = record {
   content = h.content ++ (x ∷ []);
@@ -25,7 +25,7 @@ takes_kept-more {x = x} h t e = record {
   first = e;
 }
 
--- no byte was taken, and what is known is kept
+-- no byte was consumed, and what is known is kept
 consumes-keeps : (i j : Option (List ℕ)) (bs : List ℕ) → length bs ≡ 0 → Consumes i j bs → Keeps i j
 consumes-keeps None j bs l c = tt
 consumes-keeps (Some xs) None bs l c = c
@@ -35,7 +35,7 @@ consumes-keeps (Some xs) (Some ys) (b ∷ bs) l c = absurd (omega arith)
 pub kept_input : {a b : State} → TakesSome a b → b.taken ≡ a.taken → Keeps a.input b.input
 kept_input {a} {b} t e = consumes-keeps a.input b.input t.bytes (omega (arith, t.count)) t.input
 
--- one byte more was taken
+-- one byte more was consumed
 pub takes_bytes-more : {a b c : State} {n x : ℕ} {content : List ℕ} → TakesBytes a b n content → Takes b c (x ∷ []) → x < 256 → TakesBytes a c (n + 1) (content ++ (x ∷ []))
 takes_bytes-more {x = x} {content = content} h t l = record {
   takes = takes_then h.takes t;
@@ -43,14 +43,14 @@ takes_bytes-more {x = x} {content = content} h t l = record {
   bytes = bytes_then content (x ∷ []) h.bytes (l, tt);
 }
 
--- what is unmoved behind an error
+-- what is unmoved after an error
 pub unmoved_taken : (b c : State) (e : Asn1DerError) → c ≡ record b { failed = Some (failure_of e); faults = c.faults; input = c.input } → c.taken ≡ b.taken
 unmoved_taken b c _ u = ap (λ (s : State). s.taken) u
 
 pub unmoved_peeked : (b c : State) (e : Asn1DerError) → c ≡ record b { failed = Some (failure_of e); faults = c.faults; input = c.input } → c.peeked ≡ b.peeked
 unmoved_peeked b c _ u = ap (λ (s : State). s.peeked) u
 
--- it has failed with what it answers
+-- it has failed with what it returns
 pub failed_same : (b : State) {c : State} {e r : Asn1DerError} → r ≡ e → c ≡ failed_with b e → c ≡ failed_with b r
 failed_same b {e = e} {r = r} h u = u ∙ ap (failed_with b) (sym h)
 
@@ -76,7 +76,7 @@ pub kept_push : {U E A : Type 0} (items : A → List ℕ) (r : Result U E) (old 
 kept_push items (Ok u) old new c b e pushed room same full = pushed ∙ kept_more (items old) c b e (room refl)
 kept_push items (Err u) old new c b e pushed room same full = ap items same ∙ kept_full (items old) c b e (omega arith)
 
--- bytes were taken, and then no byte came, or memory was wanted
+-- bytes were consumed, and then no byte came, or an allocation failed
 pub stops_later : {a b c : State} {n left : ℕ} {e : Asn1DerError} {content : List ℕ} → Takes a b content → length content + left ≡ n → StopsShort b c left e → StopsShort a c n e
 stops_later {content = content} t whole s = record {
   fails = fails_after t s.fails;
@@ -92,7 +92,7 @@ stops_later {content = content} t whole s = record {
   };
 }
 
--- two facts of an answer
+-- two facts of a result
 pub IfOk-both : {A E : Type 0} {P R : A → Type 0} {Q : Type 0} (r : Result A E) → IfOk r P → OnOk r Q → ((v : A) → P v → Q → R v) → IfOk r R
 IfOk-both (Ok v) p q f = f v p q
 IfOk-both (Err e) p q f = tt

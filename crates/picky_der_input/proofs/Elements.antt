@@ -1,4 +1,4 @@
--- Elements that are taken whole: each is refused and read as bytes under its own tag are.
+-- Elements that are consumed whole: each is refused and read as bytes under its own tag are.
 use Rattle.std.proofs.Common.{◌≡◌, ℕ, ◌<◌, ◌≤◌, ◌^◌, inl, inr, Bool, true, false, List, [], ◌∷◌, ◌++◌, length, take, Option, Some, None, refl, sym, ◌∙◌, ap, subst, arith, length-append}
 use Rattle.std.proofs.lemmas.Bool.Decides.{nat_tests}
 use Rattle.std.specs.Io.KnownBytes.{Keeps}
@@ -47,7 +47,7 @@ just_with_implicit_tag h = record { left = h.left; refused = h.refused; input = 
 
 -- ---- elements and their tags
 
--- the element stands whole wherever it stands
+-- the element is whole wherever it is
 written_raw : (place : Place) (s : List ℕ) → written_at place (Tree.raw s) ≡ s
 written_raw Place.whole s = der-raw s
 written_raw (Place.under_implicit ahead) s = implicit_content-other (Tree.raw s) refl tt ∙ der-raw s
@@ -56,7 +56,7 @@ first_tag : (x tag : ℕ) (c rest left : List ℕ) → tag ∷ left ≡ tlv x c 
 unfolding tlv
 first_tag x tag c rest left e = let q : tag ∷ left ≡ x ∷ ((length_octets (length c) ++ c) ++ rest) = e in cc
 
--- an element that stands where this tag stands is bytes under it
+-- an element that is there with this tag is bytes under it
 stands_tagged : {place : Place} {bs left : List ℕ} {end tag : ℕ} (s : List ℕ) → bs ≡ tag ∷ left → StandsAt place Shape.raw bs end (Tree.raw s)
     → IsTagNumber (number_of tag) × ((content : List ℕ) × StandsAt Place.whole (Shape.primitive (PrimitiveShape.bytes tag)) bs end (Tree.primitive (Primitive.bytes tag content)))
 stands_tagged {place} {bs} {left} {end} {tag} s e st =
@@ -93,7 +93,7 @@ first_of_raw tag n l = contains-tags_below tag 256 l n
 
 -- ---- refused
 
--- bytes under the tag that was taken were refused
+-- bytes under the tag that was consumed were refused
 refuses_tagged : {a b c : State} {e : Asn1DerError} {tag : ℕ} {x : List ℕ} → Takes (without_implicit_tag a) b (tag ∷ x) → b.taken ≤ drawn_count c → IsTagNumber (number_of tag) → tag < 256
     → RefusesPrimitive (Primitive.bytes tag) (PrimitiveShape.bytes tag) (without_implicit_tag a) c e → RefusesRaw a c e
 refuses_tagged {a} {b} {c} {e} {tag} {x} t g n byte h = record {
@@ -137,7 +137,7 @@ raw_missing {a} {c} {e} f m i t p = record {
         | inr ended ↦ omega (arith, size, whole, ap length (sym st.front.is ∙ ended), length-append (written_at (place_of a) (Tree.raw s)) st.front.rest)
       ]
 
--- a tag of the long form was taken
+-- a tag of the long form was consumed
 pub raw_long_form : {a b c : State} {e : Asn1DerError} {first : ℕ} → Takes (without_implicit_tag a) b (first ∷ []) → 30 < number_of first → Fails b c e → e ≡ UnsupportedValue → c ≡ failed_with b e → RefusesRaw a c e
 raw_long_form {a} {first = first} t past f is same = record {
   refuses = record {
@@ -151,7 +151,7 @@ raw_long_form {a} {first = first} t past f is same = record {
   just = λ j bs k. just_with_implicit_tag (just_taken (raw_refusal a) t same k (λ y. element_long_form first (is_hard a.end) a.until_end y past ∙ ap (λ x. Some (x, y)) (sym is)));
 }
 
--- the length behind the tag was refused
+-- the length after the tag was refused
 pub raw_no_length : {a b c : State} {e : Asn1DerError} {tag : ℕ} → Takes (without_implicit_tag a) b (tag ∷ []) → IsTagNumber (number_of tag) → tag < 256 → a.until_end < 2 ^ 64 → RefusesContentLength b c e → RefusesRaw a c e
 raw_no_length {tag = tag} t n byte bounded r =
     let h = header_unread tag n t r in

@@ -29,7 +29,7 @@ not_refused {tag} {n} {a} {b} i h k =
     let f = front_of h.takes k in
     ap (list_refusal tag a) f.before ∙ header_not_refused a.implicit_tag tag n b.until_end a (take b.until_end f.rest) i (fits_below h) h.takes.until_end h.fits
 
--- the end of a list was opened behind its header
+-- the end of a list was opened after its header
 pub opens_list : {tag n : ℕ} {a b c : State} {outer : Outer} → IsTagNumber (number_of tag) → BeginsContent tag a b n → c ≡ record (with_inner_end b n Soft) { sets = sets_inside (order_of tag) b.sets } → outer ≡ innermost b → OpensList tag a c outer
 opens_list {n = n} {b = b} i h opened back = record {
   mid = b;
@@ -42,7 +42,7 @@ opens_list {n = n} {b = b} i h opened back = record {
 
 -- ---- before an end that was opened
 
--- bytes of which a refusal speaks, where the end is nearer
+-- bytes to which a refusal applies, where the end is nearer
 pub concerns_with_inner_end : {b c : State} {e : Asn1DerError} {n left : ℕ} {seen : List ℕ} → Concerns b c e left seen → Concerns (with_inner_end b n Soft) c e n seen
 concerns_with_inner_end (now i r) = now i refl
 concerns_with_inner_end (ever w r d y left i q f) = ever w refl d y left i q f
@@ -58,7 +58,7 @@ judged_with_inner_end n kind j = record { had_not_failed = j.had_not_failed; fau
 pub fails_without_inner_end : {b c : State} {e : Asn1DerError} {n : ℕ} {kind : End} → n ≤ b.until_end → Fails (with_inner_end b n kind) c e → Fails b c e
 fails_without_inner_end l f = fails_beside l f
 
--- what was taken up to an end that is closed was taken before the one around it
+-- what was consumed up to an end that is closed was consumed before the one around it
 pub closes_behind : {b c d : State} {n : ℕ} {kind : End} {outer : Outer} {bytes : List ℕ} → n ≤ b.until_end → outer ≡ innermost b → Takes (with_inner_end b n kind) c bytes → Closes outer c d → Takes b d bytes × (length bytes ≡ n)
 closes_behind {b} {c} {d} {n} {kind} {outer} {bytes} l back t k =
     let size : length bytes ≡ n = omega (arith, t.until_end, k.reached) in

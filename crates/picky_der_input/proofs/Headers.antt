@@ -36,7 +36,7 @@ header-behind : (tag : ℕ) (hard : Bool) (ahead : ℕ) (bs : List ℕ) → IsTa
     → header tag hard ahead (tag ∷ bs) ≡ within_end hard ahead (tag ∷ bs) (length_of (missing_byte hard ahead (tag ∷ bs)) bs)
 header-behind tag hard ahead bs n = rw (is_number n, same_byte tag) refl
 
--- what is ahead behind the header
+-- what is ahead after the header
 ahead_behind : (tag n q : ℕ) (y : List ℕ) → length (tag ∷ length_octets n) + q - (length (tag ∷ (length_octets n ++ y)) - length y) ≡ q
 ahead_behind tag n q y = omega (arith, length-append (length_octets n) y)
 
@@ -52,7 +52,7 @@ header-past_end tag hard ahead n q y i small e l =
     ∙ ap (within_end hard ahead (tag ∷ (length_octets n ++ y))) (length_of-length_octets (missing_byte hard ahead (tag ∷ (length_octets n ++ y))) n y small)
     ∙ rw (e, ahead_behind tag n q y, lt-ltb q n l) refl
 
--- ---- elements behind a header
+-- ---- elements after a header
 
 -- a header in front is that of the element
 pub header_length : (tag n : ℕ) (content rest z : List ℕ) → (tag ∷ length_octets n) ++ rest ≡ tlv tag content ++ z → (n ≡ length content) × (rest ≡ content ++ z)
@@ -81,7 +81,7 @@ bad_length_no_element tag bytes rest content z e h small q =
     let none = h InvalidData rest in
     cc
 
--- what was taken holds the element that stands before an end right behind it
+-- what was consumed holds the element that is before an end right after it
 within_taken : (tag : ℕ) (bytes rest content z : List ℕ) → (tag ∷ bytes) ++ rest ≡ tlv tag content ++ z → length (tlv tag content) ≤ length (tag ∷ bytes) → (w : List ℕ) × (tag ∷ bytes ≡ tlv tag content ++ w)
 within_taken tag bytes rest content z e l = let p = split_behind (tag ∷ bytes) (tlv tag content) z rest e l in (p.0, p.1)
 
@@ -105,7 +105,7 @@ other_tag : (tag first : ℕ) (rest content z : List ℕ) → first ≢ tag → 
 unfolding tlv
 other_tag tag first rest content z d q = d (let r : first ∷ rest ≡ tag ∷ ((length_octets (length content) ++ content) ++ z) = q in cc)
 
--- another tag stands there
+-- another tag is there
 pub header_foreign : (tag : ℕ) {a b c : State} {e : Asn1DerError} {first : ℕ} → IsTagNumber (number_of tag) → Takes a b (first ∷ []) → Fails b c e → first ≢ tag → e ≡ InvalidData → c ≡ failed_with b e → RefusesHeader tag a c e
 header_foreign tag {a} {b} {c} {e} {first} n t f d is same = record {
   fails = fails_after t f;
@@ -114,7 +114,7 @@ header_foreign tag {a} {b} {c} {e} {first} n t f d is same = record {
   just = λ j bs k. just_taken (header_refusal tag (is_hard a.end) a.until_end) t same k (λ y. ap refusal_of (header-foreign tag first (is_hard a.end) a.until_end y n d) ∙ ap (λ x. Some (x, y)) (sym is));
 }
 
--- no length stands behind the tag
+-- no length follows the tag
 no_length_there : (tag : ℕ) {a b c : State} {e : Asn1DerError} {end : ℕ} {bs : List ℕ} → Takes a b (tag ∷ []) → StopsLength b c e → Concerns a c e end bs → NoElement tag end bs
 no_length_there tag t (cut n m h) w content z small q l =
     let v = concerns_behind (takes_then t m.takes) (cut_grows m) w in
@@ -142,7 +142,7 @@ pub length_tlv : (tag : ℕ) (content : List ℕ) → length (tlv tag content) �
 unfolding tlv
 length_tlv tag content = omega (arith, length-append (length_octets (length content)) content)
 
--- the length behind the tag reaches past the end
+-- the length after the tag reaches past the end
 too_long_there : (tag : ℕ) {a b c : State} {e : Asn1DerError} {n end : ℕ} {bs : List ℕ} → Takes a b (tag ∷ length_octets n) → b.taken ≤ drawn_count c → b.until_end < n → e ≡ error_at_end b.end → Concerns a c e end bs → NoElement tag end bs
 too_long_there tag {n = n} t f more is w content z small q l =
     let v = concerns_behind t f w in
@@ -156,7 +156,7 @@ just_too_long tag {a} {b} {n = n} i t small more is same k = just_taken (header_
     ap refusal_of (header-past_end tag (is_hard a.end) a.until_end n b.until_end y i small t.until_end more)
     ∙ ap (λ x. Some (x, y)) (ap error_at_end (sym t.end) ∙ sym is))
 
--- no element with this tag stands where its length was refused
+-- no element with this tag is there if its length was refused
 no_element_there : (tag : ℕ) {a b c : State} {e : Asn1DerError} {end : ℕ} {bs : List ℕ} → Takes a b (tag ∷ []) → StopsContentLength b c e → Concerns a c e end bs → NoElement tag end bs
 no_element_there tag t (no_length s) w = no_length_there tag t s w
 no_element_there tag {c = c} t (too_long mid n d small more is same) w =
@@ -167,7 +167,7 @@ just_no_element : (tag : ℕ) {a b c : State} {e : Asn1DerError} {bs : List ℕ}
 just_no_element tag i t (no_length s) k = just_no_length tag i t s k
 just_no_element tag i t (too_long mid n d small more is same) k = just_too_long tag i (takes_then t d) small more is same k
 
--- the length behind the tag was refused
+-- the length after the tag was refused
 pub header_unread : (tag : ℕ) {a b c : State} {e : Asn1DerError} → IsTagNumber (number_of tag) → Takes a b (tag ∷ []) → RefusesContentLength b c e → RefusesHeader tag a c e
 header_unread tag {a} {b} n t r = record {
   fails = fails_after t r.fails;

@@ -17,9 +17,9 @@ use Rattle.picky_der_input.specs.Steps.{Takes, IsMissing, end_is_here, input_end
 use Rattle.picky_der_input.specs.Reading.{IsJustRefused}
 use Rattle.picky_der_input.proofs.Refusals.{front_consumed, at_end_of}
 
--- ---- what stands before the end
+-- ---- what is before the end
 
--- known bytes, of which h were taken: r ahead is the end, and q behind h
+-- known bytes, of which h were consumed: r ahead is the end, and q after h
 pub record TakenFront (left : Option (List ℕ)) (r q : ℕ) (h bs : List ℕ) : Type 0 where
   pub rest : List ℕ
   pub known : left ≡ Some rest
@@ -41,7 +41,7 @@ front_of {a} {b} t k = front a.input b.input t.input t.until_end k
 
 -- ---- where a byte is missing
 
--- all that stands before the end was taken, and the missing byte is refused so
+-- all that is before the end was consumed, and the missing byte is refused so
 pub record AllTaken (end : End) (left : Option (List ℕ)) (r : ℕ) (h bs : List ℕ) (e : Asn1DerError) : Type 0 where
   pub is : missing_byte (is_hard end) r h ≡ e
   pub before : take r bs ≡ h
@@ -88,17 +88,17 @@ kept_known None j bs k e = absurd (let q : None ≡ Some bs = e in cc)
 kept_known (Some xs) None bs k e = absurd k
 kept_known (Some xs) (Some ys) bs k e = cc
 
--- ---- just so
+-- ---- exactly this refusal
 
 none_peeked : (p : Option ℕ) → count_of_any p ≡ 0 → p ≡ None
 none_peeked None e = refl
 none_peeked (Some b) e = absurd (omega arith)
 
--- a peeked byte is still there if none was taken
+-- a peeked byte is still there if none was consumed
 pub peeked_kept : {a b : State} (c : State) {h : List ℕ} → Takes a b h → c.taken ≡ b.taken → c.peeked ≡ b.peeked → c.taken ≡ a.taken → c.peeked ≡ a.peeked
 peeked_kept {a} {b} c t n p same = p ∙ t.unpeeked ∙ sym (none_peeked a.peeked (omega (arith, t.drawn, n)))
 
--- a byte was missing behind those that were taken
+-- a byte was missing after the consumed ones
 pub just_cut : (refusal : List ℕ → Option Refusal) {a c : State} {n : ℕ} {bs : List ℕ} {e : Asn1DerError} → (m : IsCut a c n e) → a.input ≡ Some bs
     → (missing_byte (is_hard a.end) a.until_end m.bytes ≡ e → refusal m.bytes ≡ Some (e, [])) → IsJustRefused refusal a c e bs
 just_cut refusal {a} {c} {n} {bs} {e} m k w =
@@ -112,7 +112,7 @@ just_cut refusal {a} {c} {n} {bs} {e} m k w =
       used = λ more. m.peeked ∙ m.takes.unpeeked;
     }
 
--- what was taken was refused
+-- what was consumed was refused
 pub just_taken : (refusal : List ℕ → Option Refusal) {a b c : State} {h bs : List ℕ} {e : Asn1DerError} → Takes a b h → c ≡ failed_with b e → a.input ≡ Some bs
     → ((y : List ℕ) → refusal (h ++ y) ≡ Some (e, y)) → IsJustRefused refusal a c e bs
 just_taken refusal {a} {b} {c} {h} {bs} {e} t same k w =
@@ -126,7 +126,7 @@ just_taken refusal {a} {b} {c} {h} {bs} {e} t same k w =
       used = λ more. ap (λ (s : State). s.peeked) same ∙ t.unpeeked;
     }
 
--- nothing was taken, and nothing but the failure changed
+-- nothing was consumed, and nothing but the failure changed
 pub just_untaken : (refusal : List ℕ → Option Refusal) {a c : State} {bs : List ℕ} {e : Asn1DerError} → c ≡ failed_with a e → a.input ≡ Some bs → ((rest : List ℕ) → refusal rest ≡ Some (e, rest)) → IsJustRefused refusal a c e bs
 just_untaken refusal {a} {bs = bs} same k w = record {
   left = take a.until_end bs;
@@ -136,7 +136,7 @@ just_untaken refusal {a} {bs = bs} same k w = record {
   used = λ more. absurd (omega (arith, ap (λ (s : State). s.taken) same));
 }
 
--- a byte was missing, and none was taken
+-- a byte was missing, and none was consumed
 pub just_missing : (refusal : List ℕ → Option Refusal) {a c : State} {bs : List ℕ} {e : Asn1DerError} → IsMissing a e → Keeps a.input c.input → c.taken ≡ a.taken → c.peeked ≡ a.peeked → a.input ≡ Some bs
     → (missing_byte (is_hard a.end) a.until_end [] ≡ e → refusal [] ≡ Some (e, [])) → IsJustRefused refusal a c e bs
 just_missing refusal {a} {c} {bs} {e} m i n p k w =

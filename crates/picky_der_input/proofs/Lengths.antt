@@ -15,7 +15,7 @@ use Rattle.picky_der_input.specs.Headers.{ReadsDigits, cut, bad, RefusesLength}
 use Rattle.picky_der_input.proofs.Steps.{takes_then, takes_none, fails_after, judged_after}
 use Rattle.picky_der_input.proofs.Contents.{takes_bytes-more}
 
--- no byte was taken yet
+-- no byte was consumed yet
 pub digits_none : (a : State) → a.failed ≡ None → a.peeked ≡ None → ReadsDigits a a 0 0
 digits_none a h p = record { digits = []; takes = record { takes = takes_none a h p; count = refl; bytes = tt }; number = refl }
 
@@ -49,7 +49,7 @@ length_of-nothing lacking (b ∷ bs) h = absurd (omega arith)
 pub refuses_at_first : {a c : State} {e : Asn1DerError} → StopsShort a c 1 e → RefusesLength a c e
 refuses_at_first s = record { fails = s.fails; stops = λ j. let m = s.short j in cut 1 m (λ lacking. length_of-nothing lacking m.bytes m.short) }
 
--- the bytes were cut behind some that were taken
+-- the bytes were cut after some that were consumed
 unfoldable pub cut_after : {a b c : State} {x : List ℕ} {k n : ℕ} {e : Asn1DerError} → Takes a b x → length x ≡ k → IsCut b c n e → IsCut a c (k + n) e
 cut_after {x = x} t l m = record {
   mid = m.mid;
@@ -62,7 +62,7 @@ cut_after {x = x} t l m = record {
   peeked = m.peeked;
 }
 
--- one behind the first is missing
+-- one after the first is missing
 pub refuses_at_digits : {a b c : State} {first count : ℕ} {e : Asn1DerError} → Takes a b (first ∷ []) → IsLongCount first count → StopsShort b c count e → RefusesLength a c e
 unfolding cut_after
 refuses_at_digits {first = first} {count = count} t l s = record {

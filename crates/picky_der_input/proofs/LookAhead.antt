@@ -44,7 +44,7 @@ stands_implicit : (d : Option ℕ) (number : ℕ) (s : State) (rest : List ℕ) 
 stands_implicit None number s rest h = absurd (let q : None ≡ Some number = h in cc)
 stands_implicit (Some n) number s rest h = refl
 
--- the implicit tag stands instead of it
+-- the implicit tag is instead of it
 pub choice_under_implicit : {a c : State} {e : Asn1DerError} {number : ℕ} → a.implicit_tag ≡ Some number → Fails a c e → e ≡ InvalidData → c ≡ failed_with a e → RefusesChoice a c e
 choice_under_implicit {a} {c} {e} {number} d f is same = record {
   refuses = record {
@@ -64,7 +64,7 @@ hidden_whole : {s : State} {e : Asn1DerError} → s.implicit_tag ≡ None → Hi
 hidden_whole d (no_byte whole m) = m
 hidden_whole d (implicit number h is) = absurd (let q : Some number ≡ None = sym h ∙ d in cc)
 
--- outside implicit tags an identifier is refused as the byte is that tells a choice
+-- outside implicit tags an identifier is refused as the byte of a choice is
 pub identifier_unread : {a c : State} {e : Asn1DerError} → a.implicit_tag ≡ None → RefusesChoice a c e → RefusesIdentifier a c e
 identifier_unread {a} whole h = record {
   refuses = record {

@@ -1,4 +1,4 @@
--- What stands before the value in a wrapper, taken and refused.
+-- What is before the value in a wrapper, read and refused.
 use Rattle.std.proofs.Common.{◌≡◌, ℕ, ◌+◌, ◌-◌, ◌<◌, ◌≤◌, ◌^◌, inl, inr, true, false, List, [], ◌∷◌, ◌++◌, length, take, drop, Option, Some, None, Ok, refl, sym, ◌∙◌, ap, subst, arith, append_assoc}
 use Rattle.std.proofs.lemmas.Grind.{common_steps}
 use Rattle.std.proofs.lemmas.List.{take-append-drop}
@@ -26,7 +26,7 @@ use Rattle.picky_der_input.proofs.Wrappers.{some_unused, no_unused, unused_cut, 
 
 -- ---- refused headers
 
--- a tag of the long form was asked for, and nothing was taken
+-- a tag of the long form was asked for, and nothing was consumed
 pub opening_past : {w : Wrapper} {a c : State} {e : Asn1DerError} → (HasTagNumber w → ⊥) → Fails a c e → e ≡ UnsupportedValue → c ≡ failed_with a e → a.until_end < 2 ^ 64 → RefusesOpening w a c e
 opening_past {w} {a} {c} {e} n f is same small = record {
   fails = f;
@@ -50,7 +50,7 @@ opening_header {w} {a} {c} {e} number h m small = record {
 
 -- ---- the count of unused bits
 
--- bytes of which a refusal speaks, where a hard end is nearer
+-- bytes to which a refusal applies, where a hard end is nearer
 hard_concerns : {b c : State} {e : Asn1DerError} {n left : ℕ} {seen : List ℕ} → Concerns b c e left seen → Concerns (with_inner_end b n Hard) c e n seen
 hard_concerns (now i r) = now i refl
 hard_concerns (ever w r d y left i q f) = ever w refl d y left i q f
@@ -63,7 +63,7 @@ own_concerns {b} outer hard (ever w r d y left i q f) = ever w (sym (ap (λ z. m
 first_byte : (x y : ℕ) (a b : List ℕ) → x ∷ a ≡ y ∷ b → x ≡ y
 first_byte x y a b e = cc
 
--- where the count isn't 00, no container stands
+-- if the count isn't 00, no container is there
 no_container : {b c : State} {e : Asn1DerError} {n left : ℕ} {seen : List ℕ} (content : List ℕ) → StopsUnusedBits (with_inner_end b n Hard) c e → Concerns b c e left seen → n ≡ length (0x00 ∷ content) → (rest : List ℕ) → seen ≡ (0x00 ∷ content) ++ rest → ⊥
 no_container content (count_missing m i t p) w size rest is = elim (missing_here m (hard_concerns w)) [
   | inl here ↦ omega (arith, here, size)
@@ -74,11 +74,11 @@ no_container {c = c} content (count_other mid x t d is same) w size rest q =
     let v = concerns_behind t grows (hard_concerns w) in
     d (first_byte x 0x00 v.rest (content ++ rest) (sym v.begins ∙ q))
 
--- what is refused is known by the input, and by what was taken and peeked
+-- what is refused is known by the input, and by what was consumed and peeked
 just_alike : {refusal : List ℕ → Option Refusal} {a c d : State} {e : Asn1DerError} {bs : List ℕ} → d.input ≡ c.input → d.taken ≡ c.taken → d.peeked ≡ c.peeked → IsJustRefused refusal a c e bs → IsJustRefused refusal a d e bs
 just_alike i t p h = record { left = h.left; refused = h.refused; input = i ∙ h.input; kept = λ q. p ∙ h.kept (sym t ∙ q); used = λ more. p ∙ h.used (omega (arith, more, t)) }
 
--- what was taken before an opened end was taken before the one around it
+-- what was consumed before an opened end was consumed before the one around it
 takes_without_inner_end : {b c : State} {n : ℕ} {x : List ℕ} → n ≤ b.until_end → Takes (with_inner_end b n Hard) c x → Takes b (record c { until_end = b.until_end - length x; end = b.end; sets = b.sets }) x
 takes_without_inner_end l t = takes_beside (omega (arith, t.until_end, l)) refl refl t
 
@@ -94,7 +94,7 @@ unused_missing n until_end rest b (input_ended some ended is) k =
 below : {w : Wrapper} {a b : State} {outer : Outer} → (h : BeginsWrapper w a b outer) → h.size < 2 ^ 64
 below h = omega (arith, h.fits, h.takes.until_end, h.bounded)
 
--- known bytes behind the header
+-- known bytes after the header
 counted : {w : Wrapper} {a b : State} {outer : Outer} (h : BeginsWrapper w a b outer) (y : List ℕ) → counts_unused_bits w ≡ true → opening_refusal w a ((wrapper_tag w ∷ length_octets h.size) ++ y) ≡ unused_bits_refusal h.size y
 counted {w} {a} h y e = opening_read w a h.size h.mid.until_end y h.number (below h) h.takes.until_end h.fits ∙ ap (λ counts. refusal_behind counts (Ok (h.size, y))) e
 
@@ -118,7 +118,7 @@ just_unused {w} {a} {c = c} {e = e} h counts (count_other mid x t d is same) k =
     (just_taken (opening_refusal w a) {c = failed_with end e} (takes_then h.takes (takes_without_inner_end h.fits t)) refl k (λ y.
     ap (opening_refusal w a) (append_assoc header (x ∷ []) y) ∙ counted h (x ∷ y) counts ∙ unused_other h.size x y e some d is))
 
--- the count of unused bits behind a header was refused
+-- the count of unused bits after a header was refused
 pub opening_unused : {w : Wrapper} {a b c : State} {outer : Outer} {e : Asn1DerError} → BeginsWrapper w a b outer → counts_unused_bits w ≡ true → RefusesUnusedBits b c e → RefusesOpening w a c e
 opening_unused {w} {a} {b} {c} {outer} {e} h counts r =
     let r' : RefusesUnusedBits (with_inner_end h.mid h.size Hard) c e = subst (λ z. RefusesUnusedBits z c e) h.opened r in
@@ -138,7 +138,7 @@ opening_unused {w} {a} {b} {c} {outer} {e} h counts r =
       bounded = λ k. h.bounded;
     }
 
--- ---- what was taken
+-- ---- what was consumed
 
 same_innermost : {a b : State} {x : List ℕ} → Takes a b x → innermost b ≡ innermost a
 same_innermost {a} {b} t =
@@ -152,7 +152,7 @@ not_refused {w} {a} {c = c} h t k =
     ap (opening_refusal w a) f.before ∙ opening_read w a h.size h.mid.until_end (take h.mid.until_end f.rest) h.number (below h) h.takes.until_end h.fits
     ∙ behind_read w h.size h.mid.until_end f.rest p.0 p.2 (omega (arith, t.until_end)) h.fits
 
--- what stands before the value was taken
+-- what is before the value was consumed
 pub opens_wrapper : {w : Wrapper} {a b c d : State} {outer : Outer} → BeginsWrapper w a b outer → Takes b c (wrapper_front w) → d ≡ record c { implicit_tag = implicit_tag_of w } → OpensWrapper w a d outer
 opens_wrapper {w} {a} {b} {c} {d} {outer} h taken is =
     let t : Takes (with_inner_end h.mid h.size Hard) c (wrapper_front w) = subst (λ z. Takes z c (wrapper_front w)) h.opened taken in

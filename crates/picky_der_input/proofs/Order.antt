@@ -16,7 +16,7 @@ use Rattle.picky_der_input.proofs.Steps.{takes_beside, fails_beside, fails_after
 
 -- ---- sets, opened and closed
 
--- an encoding behind those that are kept
+-- an encoding after the kept ones
 pub cut_behind : (around last : List ℕ) → cut_at (Some (length around)) (around ++ last) ≡ record { last = Some last; around = around }
 cut_behind around last =
     let here : length around ≤ length around = omega arith in
@@ -50,7 +50,7 @@ concerns_without_order {b = b} h = concerns_alike (record b.sets { last = None }
 pub takes_without_order : {a b : State} {x : List ℕ} → Takes a b x → Takes (without_order a) (without_order b) x
 takes_without_order t = takes_beside t.until_end t.end (ap (λ (s : OpenSets). record s { last = None }) t.sets) t
 
--- a call failed behind bytes that were taken
+-- a call failed after bytes that were consumed
 pub fails_behind : {a b c : State} {x : List ℕ} {e : Asn1DerError} → Takes (without_order a) (without_order b) x → Fails b c e → Fails a c e
 fails_behind {a = a} {b = b} t f = fails_alike a.sets (fails_after t (fails_alike (record b.sets { last = None }) f))
 
@@ -78,7 +78,7 @@ behind_next : (l : Option (List ℕ)) (a : List ℕ) (ms : List (List ℕ)) → 
 behind_next None a ms h = tt
 behind_next (Some x) a ms h = IsSortedBy-tail is_less x (a ∷ ms) h
 
--- the others are in order behind it
+-- the others are in order after it
 pub order_next : (s : OpenSets) (a : List ℕ) (ms : List (List ℕ)) → AreInOrder s (a ∷ ms) → AreInOrder (with_last s a) ms
 order_next s a ms h = behind_next s.last a ms h
 

@@ -1,4 +1,4 @@
--- Contents, drawn in pieces.
+-- Contents, consumed in pieces.
 use Rattle.std.proofs.Common.{◌≡◌, ℕ, zero, suc, ◌+◌, ◌-◌, ◌^◌, ◌<◌, ◌≤◌, List, [], ◌∷◌, ◌++◌, length, take, get_or, None, ◌∙◌, ap, arith, length-append}
 use Rattle.std.specs.Io.KnownBytes.{Consumes}
 use Rattle.std.proofs.lemmas.List.{take-append-le}
@@ -9,7 +9,7 @@ use Rattle.picky_der_input.specs.State.{State}
 use Rattle.picky_der_input.specs.Steps.{Takes, TakesBytes, TakesPiece}
 use Rattle.picky_der_input.proofs.Steps.{takes_then}
 
--- one piece more was taken
+-- one piece more was consumed
 pub takes_bytes-piece : {a b c : State} {k n m left : ℕ} {content buffer : List ℕ} → TakesBytes a b k content → TakesPiece b c left n buffer → m ≡ k + n → TakesBytes a c m (content ++ take n buffer)
 takes_bytes-piece {n = n} {content = content} {buffer = buffer} h p e = record {
   takes = takes_then h.takes p.takes.takes;
@@ -20,12 +20,12 @@ takes_bytes-piece {n = n} {content = content} {buffer = buffer} h p e = record {
 -- ---- one read
 
 -- the bytes at the front of a buffer of bytes
-bytes_in_front : (n : ℕ) (bs : List ℕ) → ((i : ℕ) → get_or bs i 0 < 256) → AreBytes (take n bs)
+pub bytes_in_front : (n : ℕ) (bs : List ℕ) → ((i : ℕ) → get_or bs i 0 < 256) → AreBytes (take n bs)
 bytes_in_front zero bs h = tt
 bytes_in_front (suc n) [] h = tt
 bytes_in_front (suc n) (b ∷ bs) h = (h 0, bytes_in_front n bs (λ i. h (suc i)))
 
--- the position behind them isn't the greatest
+-- the position after them isn't the greatest
 pub moved_few : (pos n : ℕ) → pos + n < 2 ^ 64 → position_behind pos n ≡ pos + n
 moved_few pos zero h = omega arith
 moved_few pos (suc n) h = omega arith
@@ -48,7 +48,7 @@ pub record Gives (old new : State) (n : ℕ) (bytes : List ℕ) : Type 0 where
   pub faults : new.faults ≡ old.faults
   pub references : new.references ≡ old.references
 
--- so they were taken
+-- so they were consumed
 pub given_taken : {old new : State} {n : ℕ} {bytes : List ℕ} → Gives old new n bytes → Takes old new bytes
 given_taken {old} {new} {n} {bytes} h =
     let position : new.taken ≡ old.taken + n = h.taken ∙ moved_few old.taken n (omega (arith, h.fits, h.small)) in
@@ -68,7 +68,7 @@ given_taken {old} {new} {n} {bytes} h =
       references = h.references;
     }
 
--- the bytes that were given stand at the front of the piece
+-- the bytes that were given are at the front of the piece
 pub given_piece : {old new : State} {n left : ℕ} → (buffer rest : List ℕ) → Gives old new n (take n buffer) → n ≤ length buffer → ((i : ℕ) → get_or (buffer ++ rest) i 0 < 256) → 0 < n → n ≤ left
     → TakesPiece old new left n (buffer ++ rest)
 given_piece {old} {new} {n} {left} buffer rest h within bytes some fits =

@@ -30,7 +30,7 @@ use Rattle.picky_der_input.proofs.Lengths.{cut_after}
 use Rattle.picky_der_input.proofs.Known.{front_of, just_cut, just_taken, just_untaken, missing_before}
 use Rattle.picky_der_input.proofs.Headers.{header_length, length_tlv, header-read}
 
--- ---- what stands behind the header
+-- ---- what follows the header
 
 -- the encoding of a plain tree with this tag
 der_of : (t : Tree) (tag : ℕ) → is_plain t ≡ true → plain_tag t ≡ tag → der t ≡ tlv tag (content t)
@@ -59,7 +59,7 @@ all_of : (d : Option ℕ) (tag n until_end left : ℕ) → until_end ≡ length 
 all_of None tag n until_end left r a = tt
 all_of (Some number) tag n until_end left r a = omega arith
 
--- the content of a value that stands, behind its header
+-- the content of a value that is there, after its header
 pub record SeenContent (mid new : State) (e : Asn1DerError) (n : ℕ) (t : Tree) : Type 0 where
   pub left : ℕ
   pub seen : List ℕ
@@ -116,7 +116,7 @@ unsupported_in : (d : Option ℕ) (tag : ℕ) (judge : Judge) (s : State) (rest 
 unsupported_in None tag judge s rest n = let past : is_tag_number (number_of tag) ≡ false = grind (arith, nat_tests) in rw past refl
 unsupported_in (Some number) tag judge s rest n = let past : is_tag_number (number_of tag) ≡ false = grind (arith, nat_tests) in rw past refl
 
--- a tag of the long form was asked for, and nothing was taken
+-- a tag of the long form was asked for, and nothing was consumed
 pub refuses_number : {V : Type 0} {meaning : V → Primitive} {k : PrimitiveShape} {judge : Judge} {a c : State} {e : Asn1DerError} → 30 < number_of (shape_tag k) → ((v : V) → IsPrimitive k (meaning v) → IsReadablePrimitive (meaning v) → ⊥) → Fails a c e → e ≡ UnsupportedValue → c ≡ failed_with a e
     → RefusesJudged meaning k judge a c e
 refuses_number {k = k} {judge = judge} {a = a} n none f is same = record {
@@ -134,7 +134,7 @@ pub first_of_header : (s : Shape) (d : Option ℕ) (i j : Option (List ℕ)) (ta
 first_of_header s None i j tag n f t e b left k = subst (IsFirst s) (sym (taken_first i j tag b (length_octets n) left t k)) f
 first_of_header s (Some number) i j tag n f t e b left k = absurd (let q : Some number ≡ None = e in cc)
 
--- known bytes behind the header are judged
+-- known bytes after the header are judged
 content_at : (d : Option ℕ) (tag n q : ℕ) (judge : Judge) (s : State) (y : List ℕ) → IsTagNumber (number_of tag) → n < 2 ^ 64 → s.until_end ≡ length (header_bytes d tag n) + q → n ≤ q → IfSome d (λ number. n ≡ q)
     → refusal_in d tag judge s (header_bytes d tag n ++ y) ≡ content_refusal judge (Ok (n, y))
 content_at None tag n q judge s y i small r l a = ap (content_refusal judge) (header-read tag (is_hard s.end) s.until_end n q y i small r l)
@@ -152,7 +152,7 @@ content_judged judge x y = rw (le-ltb (length (x ++ y)) (length x) (omega (arith
 pub fits_below : {a b : State} {tag n : ℕ} → BeginsContent tag a b n → n < 2 ^ 64
 fits_below h = omega (arith, h.fits, h.takes.until_end, h.bounded)
 
--- a plain value whose header was taken
+-- a plain value whose header was consumed
 behind_header : {V : Type 0} {meaning : V → Primitive} {k : PrimitiveShape} {n : ℕ} {judge : Judge} {a b c : State} {e : Asn1DerError} → IsPlainKind meaning k judge → BeginsContent (shape_tag k) a b n → Fails b c e
     → (IsJudged b c e → (v : V) → IsPrimitive k (meaning v) → SeenContent b c e n (Tree.primitive (meaning v)) → ⊥) → (IsJudged b c e → (bs : List ℕ) → a.input ≡ Some bs → IsJustRefused (refusal_at (shape_tag k) judge a) a c e bs)
     → RefusesJudged meaning k judge a c e

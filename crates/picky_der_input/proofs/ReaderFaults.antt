@@ -28,7 +28,7 @@ ended_before None j k h = tt
 ended_before (Some xs) None k h = absurd k
 ended_before (Some xs) (Some ys) k h = sym k ∙ h
 
--- why no byte came: the reader failed, and this is what that fault becomes; or the input has ended
+-- why no byte came: the reader failed, and this is what that I/O error becomes; or the input has ended
 pub data GivesNone (old new : State) (e : Asn1DerError) : Type 0 where
   fault : (error : Error) → e ≡ error_of_kind (error_kind error) → FailsOnce old.faults new.faults new.input error → GivesNone old new e
   end : new.faults ≡ old.faults → e ≡ TruncatedData → IsAtEnd old.input → GivesNone old new e
@@ -83,7 +83,7 @@ module _ {old new : State} {e : Asn1DerError} (s : StopsAt old new e) where
       by_case (fault error is once) = absurd (not_more (sym once ∙ same))
       by_case (end q is left) = input_ended r left is
 
--- a peeked byte would have been the answer
+-- a peeked byte would have been the result
 pub unpeeked_at_error : {A : Type 0} (p : Option ℕ) (error : Error) (answer : ℕ → A) → IfSome p (λ b. ◌≡◌ {A = Result A Error} (Err error) (Ok (answer b))) → p ≡ None
 unpeeked_at_error None error answer h = refl
 unpeeked_at_error (Some b) error answer h = cc

@@ -1,4 +1,4 @@
--- Bytes of which a refusal speaks, behind those that were taken.
+-- The bytes of a refusal, after the consumed ones.
 use Rattle.std.proofs.Common.{◌≡◌, ◌≢◌, ℕ, ◌+◌, ◌<◌, ◌≤◌, ◌^◌, ◌⊎◌, inl, inr, List, [], ◌∷◌, ◌++◌, length, Option, Some, None, refl, sym, ◌∙◌, ap, arith, append_assoc, length-append}
 use Rattle.std.specs.Io.KnownBytes.{Consumes, IsAtEnd}
 use Rattle.picky_der_core.specs.declared.error.Asn1DerError.{Asn1DerError}
@@ -12,7 +12,7 @@ use Rattle.picky_der_input.proofs.Steps.{judged_after}
 
 -- ---- lists with a front
 
--- split behind that front
+-- split after that front
 pub split_behind : (d h cs left : List ℕ) → d ++ left ≡ h ++ cs → length h ≤ length d → (e : List ℕ) × (d ≡ h ++ e) × (cs ≡ e ++ left)
 split_behind d [] cs left e l = (d, refl, sym e)
 split_behind [] (x ∷ h) cs left e l = absurd (omega arith)
@@ -22,13 +22,13 @@ split_behind (y ∷ d) (x ∷ h) cs left e l =
     let r : d ≡ h ++ q.0 = q.1 in
     (q.0, cc, q.2)
 
--- known bytes begin with those that were taken
+-- known bytes begin with the consumed ones
 pub front_consumed : (i j : Option (List ℕ)) (h bs : List ℕ) → Consumes i j h → i ≡ Some bs → (cs : List ℕ) × (j ≡ Some cs) × (bs ≡ h ++ cs)
 front_consumed None j h bs c e = absurd (let q : None ≡ Some bs = e in cc)
 front_consumed (Some xs) None h bs c e = absurd c
 front_consumed (Some xs) (Some ys) h bs c e = (ys, refl, cc)
 
--- ---- behind what was taken
+-- ---- after what was consumed
 
 pub record ConcernsBehind (old mid new : State) (e : Asn1DerError) (h : List ℕ) (end : ℕ) (bs : List ℕ) : Type 0 where
   pub left : ℕ
@@ -48,7 +48,7 @@ reach_takes {a} {b} {h} t =
     let same : mendable_limit b ≡ mendable_within a.end b.until_end = ap (λ (z : End). mendable_within z b.until_end) t.end in
     omega (arith, far_takes a.end a.until_end b.until_end (length h) t.until_end, same)
 
--- what was taken was drawn
+-- what was consumed was consumed
 pub failed_grows : {b c : State} {k : Asn1DerError} → Fails b c k → b.taken ≤ drawn_count c
 failed_grows f = omega (arith, f.grows)
 
@@ -67,7 +67,7 @@ concerns_behind {a} {b} {c} {k} {h} {end} {bs} t f (ever n r d y left e m g) =
     let v : length d ≡ length h + length p.0 = ap (λ (z : List ℕ). length z) p.1 ∙ length-append h p.0 in
     record { left = mendable_limit b; rest = p.0 ++ y; begins = u; concerns = ever n refl p.0 y left i (omega (arith, t.taken)) refl; ends = omega (arith, reach_takes t) }
 
--- what is told of the bytes behind is told of all
+-- what is known of the bytes after is known of all
 pub tells_after : {a b c : State} {k : Asn1DerError} {h : List ℕ} (P : ℕ → List ℕ → Type 0) → Takes a b h → Fails b c k
     → (IsJudged b c k → (end left : ℕ) (rest : List ℕ) → end ≤ length h + left → Concerns b c k left rest → P end (h ++ rest)) → AllConcerned a c k P
 tells_after P t f p = λ j end bs k. let w = concerns_behind t (failed_grows f) k in rw w.begins (p (judged_after t j) end w.left w.rest w.ends w.concerns)

@@ -34,7 +34,7 @@ pub element_next : {all : List ℕ} {count : ℕ} → IsElementInFront all count
 unfolding tlv
 element_next e = record { tag = e.tag; content = e.content; number = e.number; is = e.is }
 
--- what is kept where it stands in place of the one before it
+-- what is kept if it replaces the one before it
 pub cut_member : (d : Option ℕ) (start : ℕ) (kept member : List ℕ) → d ≡ Some start → start ≤ length kept → cut_at d (take start kept ++ member) ≡ with_last (cut_at d kept) member
 cut_member None start kept member e l = absurd (let q : None ≡ Some start = e in cc)
 cut_member (Some n) start kept member e l =
@@ -43,7 +43,7 @@ cut_member (Some n) start kept member e l =
     let q = cut_behind (take start kept) member in
     rw same (subst (λ k. cut_at (Some k) (take start kept ++ member) ≡ record { last = Some member; around = take start kept }) size q)
 
--- whether it is less than the last one, which stands from there on
+-- whether it is less than the last one, which is from there on
 pub order_seen : (d : Option ℕ) (start : ℕ) (kept all member : List ℕ) (b r : Bool) → d ≡ Some start → all ≡ kept → r ≡ is_less member (take (length all - start) (drop start all)) → r ≡ b → is_out_of_order (cut_at d kept) member ≡ b
 order_seen d start kept all member b r e l h k =
     let whole : take (length all - start) (drop start all) ≡ drop start all = grind (arith, common_steps) in

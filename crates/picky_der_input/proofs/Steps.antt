@@ -26,7 +26,7 @@ takes_then {a} {b} {c} {x} {y} h k = record {
   references = k.references ∙ h.references;
 }
 
--- nothing is taken
+-- nothing is consumed
 pub takes_none : (a : State) → a.failed ≡ None → a.peeked ≡ None → Takes a a []
 takes_none a h p = record {
   input = Consumes-nil a.input;
@@ -47,7 +47,7 @@ takes_none a h p = record {
 abbrev pub beside : State → ℕ → End → OpenSets → Option ℕ → State
 beside s n kind sets tag = record s { until_end = n; end = kind; sets = sets; implicit_tag = tag }
 
--- what was taken before one end was taken before another
+-- what was consumed before one end was consumed before another
 pub takes_beside : {a c : State} {x : List ℕ} {n m : ℕ} {i j : End} {s u : OpenSets} {d g : Option ℕ} → a.until_end ≡ length x + m → j ≡ a.end → u ≡ a.sets → Takes (beside a n i s d) c x → Takes a (beside c m j u g) x
 takes_beside ends kind sets t = record {
   input = t.input;
@@ -98,7 +98,7 @@ took_after {a} {b} {c} {x} h t = record {
   count = omega (arith, length-append x t.bytes, h.taken, t.count);
 }
 
--- a call failed behind bytes that were taken
+-- a call failed after bytes that were consumed
 pub fails_after : {a b c : State} {x : List ℕ} {e : Asn1DerError} → Takes a b x → Fails b c e → Fails a c e
 fails_after {a} {b} {c} {x} {e} h f =
     let p : count_of_any b.peeked ≡ 0 = ap count_of_any h.unpeeked in

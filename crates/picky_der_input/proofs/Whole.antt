@@ -1,4 +1,4 @@
--- Values that were ahead whole, and were taken in one step.
+-- Values that were ahead whole, and were consumed in one step.
 use Rattle.std.proofs.Common.{◌≡◌, ℕ, ◌+◌, ◌^◌, ◌≤◌, ◌<◌, List, ◌∷◌, ◌++◌, length, take, Option, Some, None, IfSome, refl, sym, ◌∙◌, ap, subst, arith, append_assoc, length-append}
 use Rattle.std.proofs.lemmas.Grind.{common_steps}
 use Rattle.std.specs.Io.KnownBytes.{Consumes, prepend_known}
@@ -25,7 +25,7 @@ use Rattle.picky_der_input.proofs.Ahead.{at_most_one}
 
 -- ---- two steps in place of one
 
--- bytes were taken, and then others
+-- bytes were consumed, and then others
 pub record TakesInTwo (a c : State) (x y : List ℕ) : Type 0 where
   pub mid : State
   pub first : Takes a mid x
@@ -89,7 +89,7 @@ none_directly : (P : ℕ → Type 0) (d : Option ℕ) → d ≡ None → IfSome 
 none_directly P None e = tt
 none_directly P (Some number) e = absurd (let q : Some number ≡ None = e in cc)
 
--- the header of an element was taken
+-- the header of an element was consumed
 pub begins_whole : {tag n : ℕ} {a b : State} → a.implicit_tag ≡ None → a.until_end < 2 ^ 64 → Takes a b (tag ∷ length_octets n) → b.implicit_tag ≡ None → n ≤ b.until_end → BeginsContent tag a b n
 begins_whole {tag} {n} {a} {b} whole bounded t none fits = record {
   takes = rw (whole_header a.implicit_tag tag n whole) t;
@@ -99,7 +99,7 @@ begins_whole {tag} {n} {a} {b} whole bounded t none fits = record {
   bounded = bounded;
 }
 
--- header and content of an element with this tag were taken
+-- header and content of an element with this tag were consumed
 record TakesWhole (tag : ℕ) (a c : State) (content : List ℕ) : Type 0 where
   pub mid : State
   pub begins : BeginsContent tag a mid (length content)
@@ -118,7 +118,7 @@ takes_whole {tag} {a} {c} content whole bounded t d =
       implicit_tag = none;
     }
 
--- a plain value of which tag, length and content were taken
+-- a plain value of which tag, length and content were consumed
 pub reads_short : {V : Type 0} {meaning : V → Primitive} {k : PrimitiveShape} {judge : Judge} {a c : State} {bytes : List ℕ} → IsShortKind meaning k judge → (v : V)
     → bytes ≡ primitive_content (meaning v) → judge bytes ≡ None → length bytes < 128 → a.implicit_tag ≡ None → a.until_end < 2 ^ 64 → Takes a c (shape_tag k ∷ (length bytes ∷ bytes)) → c.implicit_tag ≡ a.implicit_tag → ReadsJudged k judge a c (meaning v)
 reads_short {judge = judge} {a = a} {c = c} {bytes = bytes} kind v is good short whole bounded t d =
@@ -126,14 +126,14 @@ reads_short {judge = judge} {a = a} {c = c} {bytes = bytes} kind v is good short
     let w = kind.short v (ap judge (sym is) ∙ good) in
     reads_plain kind.plain v w.of_shape w.readable h.begins (subst (Takes h.mid c) is h.rest) (ap length (sym is)) h.implicit_tag
 
--- the content of an element of which header and content were taken
+-- the content of an element of which header and content were consumed
 pub reads_content : {tag : ℕ} {a c : State} {bytes : List ℕ} → IsTagNumber (number_of tag) → AreBytes bytes → a.implicit_tag ≡ None → a.until_end < 2 ^ 64
     → Takes a c ((tag ∷ length_octets (length bytes)) ++ bytes) → c.implicit_tag ≡ a.implicit_tag → ReadsPrimitive (PrimitiveShape.bytes tag) a c (Primitive.bytes tag bytes)
 reads_content {tag} {a} {c} {bytes} number b whole bounded t d =
     let h = takes_whole bytes whole bounded t d in
     reads_plain (bytes_kind tag number) bytes (refl, b) (number, b) h.begins h.rest refl h.implicit_tag
 
--- and memory was wanted for its content
+-- and the allocation for its content failed
 pub refuses_for_memory : {tag n : ℕ} {a b c : State} {e : Asn1DerError} → IsTagNumber (number_of tag) → BeginsContent tag a b n → Fails b c e → e ≡ OutOfMemory → RefusesPrimitive (Primitive.bytes tag) (PrimitiveShape.bytes tag) a c e
 refuses_for_memory {tag} number h f is = refuses_cut (bytes_kind tag number) h (record { fails = f; short = λ j. absurd (j.memory is) })
 
@@ -142,7 +142,7 @@ refuses_for_memory {tag} number h f is = refuses_cut (bytes_kind tag number) h (
 takes_without_implicit_tag : {a b : State} {x : List ℕ} → Takes a b x → Takes (without_implicit_tag a) b x
 takes_without_implicit_tag t = takes_beside t.until_end t.end t.sets t
 
--- an element that was taken whole
+-- an element that was consumed whole
 pub reads_whole : {a c : State} {all : List ℕ} → IsElementInFront all (length all) → a.implicit_tag ≡ None → a.until_end < 2 ^ 64 → Takes a c all → AreBytes all → c.implicit_tag ≡ a.implicit_tag → ReadsRaw a c all
 reads_whole {a} {c} {all} e whole bounded t b d =
     let n = length e.content in

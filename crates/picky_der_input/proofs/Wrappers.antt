@@ -53,7 +53,7 @@ written_headed : (headed : Bool) (tag until_end : ℕ) (t : Tree) → with_heade
 written_headed true tag until_end t = refl
 written_headed false tag until_end t = refl
 
--- what is written of a wrapper, wherever it stands
+-- what is written of a wrapper, wherever it is
 pub written_wrapped : (d : Option ℕ) (ahead until_end : ℕ) (w : Wrapper) (t : Tree) → IsReadable t
     → written_at (place_in d ahead) (Tree.wrapped w t) ≡ tlv (wrapper_tag w) (wrapper_front w ++ written_at (place_in (implicit_tag_of w) until_end) t)
 written_wrapped d ahead until_end w t r =
@@ -92,7 +92,7 @@ counted_read : (counts : Bool) (n until_end : ℕ) (rest left : List ℕ) → re
 counted_read true n until_end rest left e l m = ap (λ z. unused_bits_refusal n (take until_end z)) e ∙ unused_read n until_end left l m
 counted_read false n until_end rest left e l m = refl
 
--- nothing is refused where it stands behind the header
+-- nothing is refused where it follows the header
 pub behind_read : (w : Wrapper) (n until_end : ℕ) (rest left : List ℕ) → rest ≡ wrapper_front w ++ left → length (wrapper_front w) ≤ n → n ≤ until_end → refusal_behind (counts_unused_bits w) (Ok (n, take until_end rest)) ≡ None
 behind_read w = counted_read (counts_unused_bits w)
 

@@ -12,8 +12,8 @@ use Rattle.picky_der_input.specs.Order.{order_of, sets_inside, last_start, cut_a
 use Rattle.picky_der_input.specs.Reading.{AreNotRefused}
 use Rattle.picky_der_input.specs.Headers.{BeginsContent, RefusesBegin}
 
--- What is put back where an end is closed: how many bytes are before the end around it, what this is, and, where it is that of
--- a set, how many bytes are kept before the encoding of its last member.
+-- What is restored when an end is closed: how many bytes are before the end around it, and what this end is. If it is that of a set, also how many bytes are
+-- kept before the encoding of its last member.
 pub record Outer : Type 0 where
   pub position : ℕ
   pub kind : End
@@ -37,7 +37,7 @@ pub record Closes (outer : Outer) (old new : State) : Type 0 where
   pub had_not_failed : old.failed ≡ None
   pub same : new ≡ with_outer_end outer old
 
--- bytes are left before the end, and none of them was drawn
+-- bytes are left before the end, and none of them was consumed
 pub record RefusesClose (old new : State) (e : Asn1DerError) : Type 0 where
   pub fails : Fails old new e
   pub left : old.failed ≡ None → (0 < old.until_end) × (e ≡ InvalidData) × (new ≡ failed_with old e)
@@ -52,7 +52,7 @@ list_refusal_in (Some number) tag s rest = None
 abbrev pub list_refusal : ℕ → State → List ℕ → Option Refusal
 list_refusal tag s rest = list_refusal_in s.implicit_tag tag s rest
 
--- the header under this tag was taken, if one stands there, and a soft end was opened where the content ends
+-- the header under this tag was consumed, if one is there, and a soft end was opened where the content ends
 pub record OpensList (tag : ℕ) (old new : State) (outer : Outer) : Type 0 where
   pub mid : State
   pub size : ℕ
@@ -61,7 +61,7 @@ pub record OpensList (tag : ℕ) (old new : State) (outer : Outer) : Type 0 wher
   pub outer_end : outer ≡ innermost mid
   pub no_refusal : AreNotRefused (list_refusal tag old) old
 
--- the header was refused, and just so; no memory was wanted
+-- the header was refused, with exactly its error and rest; nothing was allocated
 pub record RefusesList (tag : ℕ) (old new : State) (e : Asn1DerError) : Type 0 where
   pub begin : RefusesBegin tag old new e
   pub memory : TakesNoMemory old new e

@@ -10,7 +10,7 @@ use Rattle.picky_der_input.specs.State.{State}
 use Rattle.picky_der_input.specs.Steps.{IsJudged, drawn_count, mendable_limit, place_of}
 use Rattle.picky_der_input.specs.Reading.{Refuses, ever}
 
--- Unless it says that the input is cut short, what was drawn isn't mendable: no bytes behind it make a value.
+-- Unless it says that the input is cut short, no bytes after the consumed ones make a value.
 pub not_mendable : {V : Type 0} {meaning : V → Tree} {s : Shape} {old new : State} {e : Asn1DerError} → Refuses meaning s old new e → IsJudged old new e → e ≢ TruncatedData
     → (d left : List ℕ) → old.input ≡ Some (d ++ left) → length d + old.taken ≡ drawn_count new → IsMendable meaning s (place_of old) d (mendable_limit old) → ⊥
 not_mendable {meaning = meaning} {old = old} h judged other d left k drawn m =

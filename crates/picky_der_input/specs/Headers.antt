@@ -9,7 +9,7 @@ use Rattle.picky_der_input.specs.State.{State}
 use Rattle.picky_der_input.specs.Steps.{Takes, TakesBytes, Fails, IsCut, IsJudged, failed_with, is_hard, error_at_end}
 use Rattle.picky_der_input.specs.Reading.{AllConcerned, AreJustRefused}
 
--- why no length was read: a byte was missing, or what was taken begins none
+-- why no length was read: a byte was missing, or what was consumed begins none
 pub data StopsLength (old new : State) (e : Asn1DerError) : Type 0 where
   cut : (n : ℕ) (c : IsCut old new n e) → ((lacking : Asn1DerError) → length_of lacking c.bytes ≡ Err (lacking, [])) → StopsLength old new e
   bad : (mid : State) (bytes : List ℕ) → Takes old mid bytes → new ≡ failed_with mid e → ((lacking : Asn1DerError) (y : List ℕ) → length_of lacking (bytes ++ y) ≡ Err (e, y)) → StopsLength old new e
@@ -29,18 +29,18 @@ pub record RefusesContentLength (old new : State) (e : Asn1DerError) : Type 0 wh
   pub fails : Fails old new e
   pub stops : IsJudged old new e → StopsContentLength old new e
 
--- no element with this tag stands there
+-- no element with this tag is there
 abbrev pub NoElement : ℕ → ℕ → List ℕ → Type 0
 NoElement tag end bs = (c rest : List ℕ) → length c < 2 ^ 64 → bs ≡ tlv tag c ++ rest → length (tlv tag c) ≤ end → ⊥
 
--- no header of an element with this tag was read, and no such element stands there
+-- no header of an element with this tag was read, and no such element is there
 pub record RefusesHeader (tag : ℕ) (old new : State) (e : Asn1DerError) : Type 0 where
   pub fails : Fails old new e
   pub none : AllConcerned old new e (NoElement tag)
   pub first : IsJudged old new e → e ≡ TruncatedData → 0 < old.until_end → (b : ℕ) (left : List ℕ) → old.input ≡ Some (b ∷ left) → b ≡ tag
   pub just : AreJustRefused (header_refusal tag (is_hard old.end) old.until_end) old new e
 
--- the header, which was taken before directly under an implicit tag
+-- the header, which was consumed before directly under an implicit tag
 abbrev pub header_bytes : Option ℕ → ℕ → ℕ → List ℕ
 header_bytes None tag n = tag ∷ length_octets n
 header_bytes (Some number) tag n = []

@@ -17,7 +17,7 @@ abbrev pub next_refusal : State → List ℕ → Option Refusal
 next_refusal s [] = Some (missing_byte (is_hard s.end) s.until_end [], [])
 next_refusal s (b ∷ bs) = None
 
--- directly under an implicit tag the tag was taken, and is known
+-- directly under an implicit tag the tag was consumed, and is known
 abbrev pub identifier_refusal_in : Option ℕ → State → List ℕ → Option Refusal
 identifier_refusal_in None s rest = next_refusal s rest
 identifier_refusal_in (Some number) s rest = None
@@ -25,7 +25,7 @@ identifier_refusal_in (Some number) s rest = None
 abbrev pub identifier_refusal : State → List ℕ → Option Refusal
 identifier_refusal s rest = identifier_refusal_in s.implicit_tag s rest
 
--- directly under an implicit tag no byte is there that would tell a choice
+-- directly under an implicit tag no byte is there that would distinguish the alternatives of a choice
 abbrev pub choice_refusal_in : Option ℕ → State → List ℕ → Option Refusal
 choice_refusal_in None s rest = next_refusal s rest
 choice_refusal_in (Some number) s rest = Some (InvalidData, rest)
@@ -35,7 +35,7 @@ choice_refusal s rest = choice_refusal_in s.implicit_tag s rest
 
 -- ---- the next byte
 
--- this byte is next, and stands peeked; nothing was taken, and nothing else changed
+-- this byte is next, and is peeked; nothing was consumed, and nothing else changed
 pub record Peeks (old new : State) (b : ℕ) : Type 0 where
   pub had_not_failed : old.failed ≡ None
   pub implicit_tag : old.implicit_tag ≡ None
@@ -46,7 +46,7 @@ pub record Peeks (old new : State) (b : ℕ) : Type 0 where
   pub input : Keeps old.input new.input
   pub same : new ≡ record old { input = new.input; peeked = Some b }
 
--- there is none, or the reader failed; nothing was taken, and what was peeked still is
+-- there is none, or the reader failed; nothing was consumed, and what was peeked still is
 pub record RefusesPeek (refusal : State → List ℕ → Option Refusal) (old new : State) (e : Asn1DerError) : Type 0 where
   pub fails : Fails old new e
   pub just : AreJustRefused (refusal old) old new e
@@ -81,12 +81,12 @@ pub record HasEnded (old new : State) : Type 0 where
 
 -- ---- choices
 
--- the byte that tells a choice is next
+-- the byte that distinguishes the alternatives of a choice is next
 pub record TellsChoice (old new : State) (tag : ℕ) : Type 0 where
   pub peeks : Peeks old new tag
   pub no_refusal : AreNotRefused (choice_refusal old) old
 
--- why there is no such byte: it is missing, or the implicit tag stands instead of it
+-- why there is no such byte: it is missing, or the implicit tag is instead of it
 pub data HidesChoice (old : State) (e : Asn1DerError) : Type 0 where
   no_byte : old.implicit_tag ≡ None → IsMissing old e → HidesChoice old e
   implicit : (number : ℕ) → old.implicit_tag ≡ Some number → e ≡ InvalidData → HidesChoice old e

@@ -9,7 +9,7 @@ use Rattle.picky_der_input.specs.Steps.{Fails, failed_with}
 
 -- ---- sets, opened and closed
 
--- the last encodings of the sets that are open, one behind the other
+-- the last encodings of the sets that are open, one after the other
 abbrev pub kept_in : Option (List ℕ) → List ℕ → List ℕ
 kept_in None around = around
 kept_in (Some last) around = around ++ last
@@ -41,7 +41,7 @@ is_less_than (Some last) member = is_less member last
 abbrev pub is_out_of_order : OpenSets → List ℕ → Bool
 is_out_of_order s member = is_less_than s.last member
 
--- what is kept behind a member with this encoding
+-- what is kept after a member with this encoding
 abbrev pub with_last : OpenSets → List ℕ → OpenSets
 with_last s member = record s { last = option_map (λ last. member) s.last }
 
@@ -49,7 +49,7 @@ abbrev pub AreBehind : Option (List ℕ) → List (List ℕ) → Type 0
 AreBehind None members = ⊤
 AreBehind (Some last) members = IsAscending (last ∷ members)
 
--- these encodings are in order behind the last one, where the order is tested
+-- these encodings are in order after the last one, where the order is tested
 abbrev pub AreInOrder : OpenSets → List (List ℕ) → Type 0
 AreInOrder s members = AreBehind s.last members
 
@@ -68,7 +68,7 @@ sets_seen true s member = s
 sets_seen false s member = with_last s member
 
 -- The next member is shown whole: its encoding is less than the last one, or it may come next and is the last one from here on.
--- Nothing was taken.
+-- Nothing was consumed.
 pub record SeesMember (old new : State) (less : Bool) : Type 0 where
   pub member : List ℕ
   pub element : IsElement member
@@ -84,7 +84,7 @@ pub record RefusesOrder (member : List ℕ) (old new : State) (e : Asn1DerError)
   pub error : e ≡ InvalidData
   pub same : new ≡ failed_with old e
 
--- why it doesn't come next: it is less than the last one, or the memory for that test was refused
+-- why it doesn't come next: it is less than the last one, or the allocation for that test failed
 pub data RefusesTest (member : List ℕ) (old new : State) (e : Asn1DerError) : Type 0 where
   out_of_order : RefusesOrder member old new e → RefusesTest member old new e
   without_memory : old.sets.last ≢ None → Fails old new e → e ≡ OutOfMemory → new ≡ failed_with old e → RefusesTest member old new e

@@ -37,7 +37,7 @@ text_kind = primitive_kind Primitive.text PrimitiveShape.text (omega arith)
 pub bytes_kind : (tag : ℕ) → IsTagNumber (number_of tag) → IsPlainKind (Primitive.bytes tag) (PrimitiveShape.bytes tag) bytes_error
 bytes_kind tag n = primitive_kind (Primitive.bytes tag) (PrimitiveShape.bytes tag) n
 
--- ---- the first bytes tell
+-- ---- the first bytes decide
 
 boolean_by_front : (c : List ℕ) → boolean_error (take 18 c) ≡ boolean_error c
 boolean_by_front [] = refl
@@ -58,7 +58,7 @@ unsigned_too_long most b d bs h = rw (number_too_long most (d ∷ bs) (omega ari
 int_too_long : (fits : ℤ → Bool) (b d : ℕ) (bs : List ℕ) → 16 ≤ length bs → int_error fits (b ∷ d ∷ bs) ≡ cond (is_integer (b ∷ d ∷ [])) (Some UnsupportedValue) (Some InvalidData)
 int_too_long fits b d bs h = rw (lt-ltb 17 (length (b ∷ d ∷ bs)) (omega arith)) refl
 
--- such a judge needs no more than 16 bytes behind these
+-- such a judge needs no more than 16 bytes after these
 few_behind : (judge : Judge) (e : Option Asn1DerError) (b d : ℕ) (bs : List ℕ) → ((xs : List ℕ) → 16 ≤ length xs → judge (b ∷ d ∷ xs) ≡ e) → judge (b ∷ d ∷ take 16 bs) ≡ judge (b ∷ d ∷ bs)
 few_behind judge e b d bs h = elim (cases_lt (length bs) 16) [
   | inl few ↦ let all : take 16 bs ≡ bs = grind (arith, common_steps) in ap (λ x. judge (b ∷ d ∷ x)) all

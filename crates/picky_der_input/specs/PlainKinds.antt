@@ -4,7 +4,7 @@ use Rattle.picky_der_core.specs.Tag.{number_of, IsTagNumber}
 use Rattle.picky_der_core.specs.Primitive.{Primitive, PrimitiveShape, primitive_content, IsPrimitive, IsReadablePrimitive, shape_tag}
 use Rattle.picky_der_core.specs.Refusal.{Judge}
 
--- a kind of plain values: with a tag that is read, and told by their contents
+-- a kind of plain values: with a tag that can be read, and contents that distinguish them
 pub record IsPlainKind {V : Type 0} (meaning : V → Primitive) (k : PrimitiveShape) (judge : Judge) : Type 0 where
   pub number : IsTagNumber (number_of (shape_tag k))
   pub judged : (v : V) → IsPrimitive k (meaning v) → judge (primitive_content (meaning v)) ≡ None

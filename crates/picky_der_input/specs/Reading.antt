@@ -20,26 +20,26 @@ pub record Reads (s : Shape) (old new : State) (t : Tree) : Type 0 where
   pub takes : Takes old new (written_at (place_of old) t)
   pub implicit_tag : new.implicit_tag ≡ None
 
--- The bytes of which a refusal speaks, and the end before which they stand: what the reader has, and, where the refusal is
--- final, what was drawn with any bytes behind it.
+-- The bytes to which a refusal applies, and the end before which they are: what the reader has, and, where the refusal is
+-- final, what was consumed with any bytes after it.
 pub data Concerns (old new : State) (e : Asn1DerError) (end : ℕ) (bs : List ℕ) : Type 0 where
   now : old.input ≡ Some bs → end ≡ old.until_end → Concerns old new e end bs
   ever : e ≢ TruncatedData → end ≡ mendable_limit old → (d y left : List ℕ) → old.input ≡ Some (d ++ left) → length d + old.taken ≡ drawn_count new → bs ≡ d ++ y → Concerns old new e end bs
 
--- P of all bytes of which the refusal speaks
+-- P of all bytes to which the refusal applies
 abbrev pub AllConcerned : State → State → Asn1DerError → (ℕ → List ℕ → Type 0) → Type 0
 AllConcerned old new e P = IsJudged old new e → (end : ℕ) (bs : List ℕ) → Concerns old new e end bs → P end bs
 
--- no value of the type stands at the front of these bytes
+-- no value of the type is at the front of these bytes
 abbrev pub NoValue : {V : Type 0} → (V → Tree) → Shape → State → ℕ → List ℕ → Type 0
 NoValue {V} meaning s old end bs = (v : V) → StandsAt (place_of old) s bs end (meaning v) → ⊥
 
--- a refusal that more bytes may mend comes at no byte that is foreign to the shape
+-- a refusal that more bytes may change comes at no byte that is foreign to the shape
 abbrev pub IsNoForeign : Shape → State → State → Asn1DerError → Type 0
 IsNoForeign s old new e =
     IsJudged old new e → e ≡ TruncatedData → old.implicit_tag ≡ None → 0 < old.until_end → (b : ℕ) (left : List ℕ) → old.input ≡ Some (b ∷ left) → IsFirst s b
 
--- no value of the type was read, and none stands there
+-- no value of the type was read, and none is there
 pub record Refuses {V : Type 0} (meaning : V → Tree) (s : Shape) (old new : State) (e : Asn1DerError) : Type 0 where
   pub fails : Fails old new e
   pub none : AllConcerned old new e (NoValue meaning s old)
@@ -47,7 +47,7 @@ pub record Refuses {V : Type 0} (meaning : V → Tree) (s : Shape) (old new : St
 
 -- ---- plain values
 
--- how a plain value with this tag is refused there, if it is, where the reader has `rest` of the bytes before the innermost end
+-- how a plain value with this tag is refused there, or none; the reader has `rest` of the bytes before the innermost end
 abbrev pub refusal_in : Option ℕ → ℕ → Judge → State → List ℕ → Option Refusal
 refusal_in None tag judge s rest = plain_refusal tag judge (is_hard s.end) s.until_end rest
 refusal_in (Some number) tag judge s rest = inside_refusal tag judge s.until_end rest
@@ -55,12 +55,12 @@ refusal_in (Some number) tag judge s rest = inside_refusal tag judge s.until_end
 abbrev pub refusal_at : ℕ → Judge → State → List ℕ → Option Refusal
 refusal_at tag judge s rest = refusal_in s.implicit_tag tag judge s rest
 
--- known bytes were refused just so: with this error, and what is left is left
+-- known bytes were refused with exactly this error, and exactly these bytes are left
 pub record IsJustRefused (refusal : List ℕ → Option Refusal) (old new : State) (e : Asn1DerError) (bs : List ℕ) : Type 0 where
   pub left : List ℕ
   pub refused : refusal (take old.until_end bs) ≡ Some (e, left)
   pub input : new.input ≡ Some (left ++ drop old.until_end bs)
-  -- a peeked byte stays where nothing was drawn, and else was the first
+  -- a peeked byte stays where nothing was consumed, and else was the first
   pub kept : new.taken ≡ old.taken → new.peeked ≡ old.peeked
   pub used : old.taken < new.taken → new.peeked ≡ None
 
@@ -71,12 +71,12 @@ AreJustRefused refusal old new e = IsJudged old new e → (bs : List ℕ) → ol
 abbrev pub AreNotRefused : (List ℕ → Option Refusal) → State → Type 0
 AreNotRefused refusal old = (bs : List ℕ) → old.input ≡ Some bs → refusal (take old.until_end bs) ≡ None
 
--- a plain value was read, and nothing speaks against it
+-- a plain value was read, and nothing refuses it
 pub record ReadsPlain (tag : ℕ) (judge : Judge) (s : Shape) (old new : State) (t : Tree) : Type 0 where
   pub reads : Reads s old new t
   pub no_refusal : AreNotRefused (refusal_at tag judge old) old
 
--- a plain value was refused, and just so
+-- a plain value was refused, with exactly its error and rest
 pub record RefusesPlain {V : Type 0} (meaning : V → Tree) (tag : ℕ) (judge : Judge) (s : Shape) (old new : State) (e : Asn1DerError) : Type 0 where
   pub refuses : Refuses meaning s old new e
   pub just : AreJustRefused (refusal_at tag judge old) old new e

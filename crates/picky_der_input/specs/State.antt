@@ -9,33 +9,33 @@ use Rattle.picky_der_input.specs.declared.end.End.TheVariants.{Limit}
 pub record OpenSets : Type 0 where
   -- where the innermost end is that of a set, the member that was read last, and no bytes before the first one
   pub last : Option (List ℕ)
-  -- those of the sets around it, one behind the other
+  -- the encodings of the sets around it, one after the other
   pub around : List ℕ
 
 pub record State : Type 0 where
-  -- what the reader tells of what is left, a peeked byte in front
+  -- the known bytes that are left in the reader, with a peeked byte in front
   pub input : Option (List ℕ)
   -- the byte that was peeked
   pub peeked : Option ℕ
-  -- how many bytes were taken, a peeked one not counted
+  -- how many bytes were consumed, a peeked one not counted
   pub taken : ℕ
-  -- this many bytes may be drawn in all
+  -- this many bytes may be consumed in all
   pub limit : ℕ
   -- how far ahead the innermost end is, and what it is
   pub until_end : ℕ
   pub end : End
   -- the last members of the sets that are open
   pub sets : OpenSets
-  -- the number of the implicit tag directly under which it stands
+  -- the number of the implicit tag directly under which it is
   pub implicit_tag : Option ℕ
   -- the kind of the error that it has failed with
   pub failed : Option Failure
-  -- how the reader failed so far, the last fault first
+  -- how the reader failed so far, the last I/O error first
   pub faults : List Fault
   -- the references that it reads through, outermost first
   pub references : List ℕ
 
--- a deserializer that has taken nothing
+-- a deserializer that has consumed nothing
 abbrev pub fresh : Option (List ℕ) → ℕ → List Fault → List ℕ → State
 fresh input limit faults references = record {
   input = input;

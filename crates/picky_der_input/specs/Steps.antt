@@ -14,7 +14,7 @@ use Rattle.picky_der_input.specs.declared.end.End.{End}
 use Rattle.picky_der_input.specs.declared.end.End.TheVariants.{Limit, Soft, Hard}
 use Rattle.picky_der_input.specs.State.{State}
 
--- how many bytes were drawn from the reader
+-- how many bytes were consumed from the reader
 abbrev pub drawn_count : State → ℕ
 drawn_count s = s.taken + count_of_any s.peeked
 
@@ -38,7 +38,7 @@ mendable_within Hard until_end = until_end
 abbrev pub mendable_limit : State → ℕ
 mendable_limit s = mendable_within s.end s.until_end
 
--- where the next value stands
+-- the place of the next value
 abbrev pub place_in : Option ℕ → ℕ → Place
 place_in None until_end = Place.whole
 place_in (Some tag) until_end = Place.under_implicit until_end
@@ -46,19 +46,19 @@ place_in (Some tag) until_end = Place.under_implicit until_end
 abbrev pub place_of : State → Place
 place_of s = place_in s.implicit_tag s.until_end
 
--- no more was drawn than the limit allows, and the innermost end isn't past the limit
+-- no more was consumed than the limit allows, and the innermost end isn't past the limit
 pub record IsWithin (s : State) : Type 0 where
   pub end : s.taken + s.until_end ≤ s.limit
   pub drawn : drawn_count s ≤ s.limit
 
--- no byte stands peeked directly under an implicit tag
+-- no byte is peeked directly under an implicit tag
 abbrev pub IsUnpeekedIfImplicit : Option ℕ → Option ℕ → Type 0
 IsUnpeekedIfImplicit None peeked = ⊤
 IsUnpeekedIfImplicit (Some tag) peeked = peeked ≡ None
 
 -- ---- steps
 
--- these bytes were taken, and nothing else changed
+-- these bytes were consumed, and nothing else changed
 pub record Takes (old new : State) (bytes : List ℕ) : Type 0 where
   pub input : Consumes old.input new.input bytes
   pub taken : new.taken ≡ old.taken + length bytes
@@ -74,13 +74,13 @@ pub record Takes (old new : State) (bytes : List ℕ) : Type 0 where
   pub faults : new.faults ≡ old.faults
   pub references : new.references ≡ old.references
 
--- the bytes that a failed call took
+-- the bytes that a failed call consumed
 pub record TakesSome (old new : State) : Type 0 where
   pub bytes : List ℕ
   pub input : Consumes old.input new.input bytes
   pub count : new.taken ≡ old.taken + length bytes
 
--- it had failed, and nothing was taken
+-- it had failed, and nothing was consumed
 pub record IsUnmoved (old new : State) : Type 0 where
   pub input : Keeps old.input new.input
   pub taken : new.taken ≡ old.taken
@@ -91,11 +91,11 @@ abbrev pub IsOther : Asn1DerError → Type 0
 IsOther (Other kind) = ⊤
 IsOther _ = ⊥
 
--- an error that neither a device gives nor memory
+-- an error that neither a reader gives nor memory
 abbrev pub IsOfContent : Asn1DerError → Type 0
 IsOfContent e = (IsOther e → ⊥) × (e ≢ OutOfMemory)
 
--- no more was drawn than the reader had
+-- no more was consumed than the reader had
 abbrev pub HasDrawn : Option (List ℕ) → ℕ → ℕ → Type 0
 HasDrawn input taken n = IfSome input (λ bs. n ≤ taken + length bs)
 
@@ -103,14 +103,14 @@ HasDrawn input taken n = IfSome input (λ bs. n ≤ taken + length bs)
 pub record Fails (old new : State) (e : Asn1DerError) : Type 0 where
   pub failed : new.failed ≡ Some (failure_of e)
   pub again : (f : Failure) → old.failed ≡ Some f → (failure_of e ≡ f) × IsUnmoved old new
-  -- the reader failed at most once; then the error is what that becomes, and nothing was drawn behind it
+  -- the reader failed at most once; then the error is what that becomes, and nothing was consumed after it
   pub faults : TellsFault old.faults new.faults new.input e
-  -- nor did a byte stand peeked
+  -- nor was a byte peeked
   pub unpeeked : new.faults ≢ old.faults → new.peeked ≡ None
-  -- `Other` comes from a fault alone
+  -- `Other` comes from an I/O error alone
   pub other : old.failed ≡ None → new.faults ≡ old.faults → IsOther e → ⊥
   pub took : TakesSome old new
-  -- a peeked byte stays, or was taken
+  -- a peeked byte stays, or was consumed
   pub grows : drawn_count old ≤ drawn_count new
   -- the innermost end doesn't move away
   pub end : new.taken + new.until_end ≤ old.taken + old.until_end
@@ -119,13 +119,13 @@ pub record Fails (old new : State) (e : Asn1DerError) : Type 0 where
   pub there : old.failed ≡ None → HasDrawn old.input old.taken (drawn_count new)
   pub references : new.references ≡ old.references
 
--- neither a fault nor out of memory
+-- neither an I/O error nor out of memory
 pub record IsJudged (old new : State) (e : Asn1DerError) : Type 0 where
   pub had_not_failed : old.failed ≡ None
   pub faults : new.faults ≡ old.faults
   pub memory : e ≢ OutOfMemory
 
--- memory isn't wanted, but where the reader told so
+-- nothing is allocated, unless the reader reports `OutOfMemory`
 abbrev pub TakesNoMemory : State → State → Asn1DerError → Type 0
 TakesNoMemory old new e = old.failed ≡ None → new.faults ≡ old.faults → e ≢ OutOfMemory
 
@@ -151,34 +151,34 @@ pub record IsCut (old new : State) (n : ℕ) (e : Asn1DerError) : Type 0 where
   pub taken : new.taken ≡ mid.taken
   pub peeked : new.peeked ≡ mid.peeked
 
--- no byte came where fewer than n were taken; or, behind any number of them, memory was wanted
+-- no byte came where fewer than n were consumed; or, after any number of them, an allocation failed
 pub record StopsShort (old new : State) (n : ℕ) (e : Asn1DerError) : Type 0 where
   pub fails : Fails old new e
   pub short : IsJudged old new e → IsCut old new n e
 
--- these bytes were taken, n of them
+-- these bytes were consumed, n of them
 pub record TakesBytes (old new : State) (n : ℕ) (content : List ℕ) : Type 0 where
   pub takes : Takes old new content
   pub count : length content ≡ n
   pub bytes : AreBytes content
 
--- a piece of a content was taken, where so many of its bytes were left: n bytes, which stand at the front of the buffer
+-- a piece of a content was consumed, where so many of its bytes were left: n bytes, which are at the front of the buffer
 pub record TakesPiece (old new : State) (left n : ℕ) (buffer : List ℕ) : Type 0 where
   pub takes : TakesBytes old new n (take n buffer)
   pub some : 0 < n
   pub fits : n ≤ left
 
--- a content of n bytes was taken, and put behind others
+-- a content of n bytes was consumed, and put after others
 pub record TakesBehind (front : List ℕ) (old new : State) (n : ℕ) (all : List ℕ) : Type 0 where
   pub content : List ℕ
   pub takes : TakesBytes old new n content
   pub is : all ≡ front ++ content
 
--- a vector was made longer by no more bytes than were taken
+-- a vector was made longer by no more bytes than were consumed
 abbrev pub GrowsByTaken : List ℕ → List ℕ → State → State → Type 0
 GrowsByTaken before behind old new = length behind + old.taken ≤ length before + new.taken
 
--- a content of n bytes was taken, and its first bytes are kept
+-- a content of n bytes was consumed, and its first bytes are kept
 pub record TakesKept (old new : State) (n : ℕ) (kept : List ℕ) : Type 0 where
   pub content : List ℕ
   pub takes : Takes old new content

@@ -57,7 +57,7 @@ two_characters s rest last c d u e f =
     let b : length (chars rest) ≡ length (d ∷ chars last) = ap length (chars_past_char rest last d (IsUtf8-past_char s rest c u e) f) in
     omega (arith, a, b)
 
--- ---- the first bytes tell
+-- ---- the first bytes decide
 
 length_encodes : (cs : List ℕ) → length (encode_utf8_all cs) ≤ 4 * length cs
 length_encodes [] = omega arith

@@ -20,7 +20,7 @@ abbrev pub wrap_shape_if : Option Wrapper → Shape → Shape
 wrap_shape_if None s = s
 wrap_shape_if (Some w) s = Shape.wrapped w s
 
--- the implicit tag directly under which the value stands: the byte that replaces its own
+-- the implicit tag directly under which the value is: the byte that replaces its own
 abbrev pub implicit_tag_of : Wrapper → Option ℕ
 implicit_tag_of w = if keeps_header w then None else Some (wrapper_tag w)
 
@@ -37,7 +37,7 @@ refusal_behind counts (Err r) = Some r
 refusal_behind true (Ok (n, rest)) = unused_bits_refusal n rest
 refusal_behind false (Ok (n, rest)) = None
 
--- how what stands before the value is refused, if it is
+-- how the bytes before the value are refused, or none
 abbrev pub opening_refusal : Wrapper → State → List ℕ → Option Refusal
 opening_refusal w s rest = refusal_behind (counts_unused_bits w) (wrapper_header w (is_hard s.end) s.until_end rest)
 
@@ -47,7 +47,7 @@ opening_refusal w s rest = refusal_behind (counts_unused_bits w) (wrapper_header
 abbrev pub wrapper_opening : Wrapper → ℕ → List ℕ
 wrapper_opening w n = (wrapper_tag w ∷ length_octets n) ++ wrapper_front w
 
--- What stands before the value was taken, and nothing else changed but for a hard end that was opened where the length says.
+-- What is before the value was consumed, and nothing else changed but for a hard end that was opened where the length says.
 pub record OpensWrapper (w : Wrapper) (old new : State) (outer : Outer) : Type 0 where
   pub size : ℕ
   pub number : HasTagNumber w
@@ -60,11 +60,11 @@ pub record OpensWrapper (w : Wrapper) (old new : State) (outer : Outer) : Type 0
   pub bounded : old.until_end < 2 ^ 64
   pub no_refusal : AreNotRefused (opening_refusal w old) old
 
--- no such wrapper stands there
+-- no such wrapper is there
 abbrev pub NoWrapper : Wrapper → ℕ → List ℕ → Type 0
 NoWrapper w end bs = (content rest : List ℕ) → HasTagNumber w → length (wrapper_front w ++ content) < 2 ^ 64 → bs ≡ tlv (wrapper_tag w) (wrapper_front w ++ content) ++ rest → length (tlv (wrapper_tag w) (wrapper_front w ++ content)) ≤ end → ⊥
 
--- what stands before the value was refused, and just so; no memory was wanted
+-- the bytes before the value were refused, with exactly their error and rest; nothing was allocated
 pub record RefusesOpening (w : Wrapper) (old new : State) (e : Asn1DerError) : Type 0 where
   pub fails : Fails old new e
   pub none : AllConcerned old new e (NoWrapper w)
@@ -73,7 +73,7 @@ pub record RefusesOpening (w : Wrapper) (old new : State) (e : Asn1DerError) : T
   pub memory : TakesNoMemory old new e
   pub bounded : old.failed ≡ None → old.until_end < 2 ^ 64
 
--- the header was taken, and the end was opened
+-- the header was consumed, and the end was opened
 pub record BeginsWrapper (w : Wrapper) (old new : State) (outer : Outer) : Type 0 where
   pub mid : State
   pub size : ℕ
@@ -84,7 +84,7 @@ pub record BeginsWrapper (w : Wrapper) (old new : State) (outer : Outer) : Type 
   pub outer_end : outer ≡ innermost mid
   pub bounded : old.until_end < 2 ^ 64
 
--- why the count of unused bits isn't 00: it is missing, or another byte was taken
+-- why the count of unused bits isn't 00: it is missing, or another byte was consumed
 pub data StopsUnusedBits (old new : State) (e : Asn1DerError) : Type 0 where
   count_missing : IsMissing old e → Keeps old.input new.input → new.taken ≡ old.taken → new.peeked ≡ old.peeked → StopsUnusedBits old new e
   count_other : (mid : State) (b : ℕ) → Takes old mid (b ∷ []) → b ≢ 0x00 → e ≡ InvalidData → new ≡ failed_with mid e → StopsUnusedBits old new e
@@ -101,7 +101,7 @@ pub record ReadsWrapped (w : Wrapper) (s : Shape) (old new : State) (t : Tree) :
   pub reads : Reads (Shape.wrapped w s) old new (Tree.wrapped w t)
   pub no_refusal : AreNotRefused (opening_refusal w old) old
 
--- Where a value in this wrapper was refused: before it, in it, where some read of the value is refused so, or behind it.
+-- Where a value in this wrapper was refused: before it, in it, where some read of the value is refused so, or after it.
 pub data RefusesWrapped {V : Type 0} (meaning : V → Tree) (s : Shape) (w : Wrapper) (old new : State) (e : Asn1DerError) : Type 0 where
   before_value : RefusesOpening w old new e → RefusesWrapped meaning s w old new e
   in_value : (mid : State) (outer : Outer) → OpensWrapper w old mid outer → Refuses meaning s mid new e → RefusesWrapped meaning s w old new e

@@ -11,7 +11,7 @@ use picky_der_core::asn1::Tag;
 use picky_der_core::integer::{is_integer, number_of};
 use picky_der_core::{Asn1DerError, Int, Result};
 
-// The number of a content, or why the type has none.
+// The number of a content, or the error if the type has none.
 fn int_of<N: Int>(content: &[u8]) -> Result<N>
     ensures ok { IfOk result (λ n. content.now ≡ content_within N.fits (N.number n)) }
     ensures right { OnOk result (int_error N.fits content.now ≡ None) }

@@ -5,10 +5,10 @@ ghost use Rattle.picky_der_input.specs.Steps.{error_at_end};
 
 use picky_der_core::Asn1DerError;
 
-/// What the innermost end is. Past a hard end no byte can come; past the others more input may bring some.
+/// What the innermost end is. Past a hard end no byte can come. Past the others more input may bring some.
 #[derive(Debug, Clone, Copy, PartialEq, Eq)]
 pub enum End {
-    /// The limit on the bytes that may be drawn.
+    /// The limit on the bytes that may be consumed.
     Limit,
 
     /// The end of a sequence or set.
@@ -19,7 +19,7 @@ pub enum End {
 }
 
 impl End {
-    /// Two are equal just where they are one kind of end.
+    /// Two are equal exactly if they are one kind of end.
     pub fn equality()
         ensures { IsEqualityOf ⟦<End as PartialEq>⟧.eq (λ end. end) }
     {}
@@ -29,7 +29,7 @@ impl End {
         ensures { IsKept ⟦<End as Clone>⟧.is_clone (λ end. end) }
     {}
 
-    // The error of a byte that is missing there, and of a length that reaches past it.
+    // The error for a byte that is missing there, and for a length that reaches past it.
     pub(crate) fn missing(self) -> Asn1DerError
         ensures { result ≡ error_at_end self }
     {

@@ -27,8 +27,8 @@ use std::alloc::Global;
 use std::io;
 use std::marker::Model;
 
-/// What a reader has left, up to the innermost end. After an error it has failed: each later call answers an error of its kind
-/// and takes nothing.
+/// What is left in a reader, up to the innermost end. After an error it has failed: each later call returns an error of its
+/// kind and consumes nothing.
 #[derive(Drop)]
 pub struct Input<R: ReadExt> {
     alloc: Global,
@@ -36,9 +36,9 @@ pub struct Input<R: ReadExt> {
     limit: usize,
     until_end: usize,
     end: End,
-    // The encodings of the last members of the sets that are open, one behind the other.
+    // The encodings of the last members of the sets that are open, one after the other.
     kept: Vec<u8>,
-    // Where the innermost end is that of a set, how many of these bytes are before its own.
+    // If the innermost end is that of a set: how many of these bytes are before its own.
     last_start: Option<usize>,
     implicit_tag: Option<u8>,
     failed: Option<Failure>,
@@ -67,14 +67,14 @@ impl<R: ReadExt> Model for Input<R> {
       references = R.references d.reader.reader;
     } };
 
-    // No more is drawn than the limit allows, and no end is past it.
+    // No more is consumed than the limit allows, and no end is past it.
     ghost invariant = { λ d. (d.reader.pos + d.until_end < 2 ^ 64) × IsUnpeekedIfImplicit d.implicit_tag d.reader.peeked
         × (d.reader.pos + d.until_end ≤ d.limit) × (d.reader.pos + count_of_any d.reader.peeked ≤ d.limit)
         × IfSome d.last_start (λ start. start ≤ length d.kept.items) };
 }
 
 impl Input<&[u8]> {
-    /// A slice has no faults, and a byte that was peeked is the first of those that are left.
+    /// A slice has no I/O errors, and a peeked byte is the first byte that is left.
     pub fn has_no_faults(&self)
         ensures no_fault { self.now.faults ≡ [] }
         ensures left { (left : Option (List ℕ)) × (self.now.input ≡ in_front self.now.peeked left) }
@@ -84,7 +84,7 @@ impl Input<&[u8]> {
 }
 
 impl<R: ReadExt> Input<R> {
-    /// Reads from a reader. At most `max_len` bytes are drawn in all.
+    /// Reads from a reader, at most `max_len` bytes in all.
     pub fn new(alloc: Global, reader: R, max_len: usize) -> Input<R>
         ensures { result ≡ fresh (R.remaining reader) max_len (R.faults reader)
             (R.references reader) }
@@ -102,7 +102,7 @@ impl<R: ReadExt> Input<R> {
         }
     }
 
-    /// The reader, after a byte that was peeked.
+    /// Returns the reader. A byte that was peeked was consumed from it.
     pub fn into_reader(self) -> R
         ensures input { self.input ≡ in_front self.peeked (R.remaining result) }
         ensures faults { R.faults result ≡ self.faults }
@@ -122,7 +122,7 @@ impl<R: ReadExt> Input<R> {
         reader.into_inner()
     }
 
-    /// How many bytes were taken so far, a peeked one not counted. With it they are never more than the limit.
+    /// The number of bytes that were consumed so far. A peeked byte isn't counted. With it the number is at most the limit.
     pub fn taken(&self) -> usize
         ensures taken { result ≡ self.now.taken }
         ensures within { IsWithin self.now }
@@ -130,7 +130,7 @@ impl<R: ReadExt> Input<R> {
         self.reader.pos()
     }
 
-    // What it answers again where it has failed.
+    // The error that it returns again if it has failed.
     pub(crate) fn earlier(&self) -> Option<Asn1DerError>
         ensures again { IfSome result (λ e. self.now.failed ≡ Some (failure_of e)) }
         ensures not_failed { IfNone result (self.now.failed ≡ None) }
@@ -142,7 +142,7 @@ impl<R: ReadExt> Input<R> {
         }
     }
 
-    /// Has failed from here on with this error, which is no fault of the reader, and answers it.
+    /// Fails with this error, which is no I/O error of the reader, and returns it.
     pub fn fail(&mut self, error: Asn1DerError) -> Asn1DerError
         requires had_not_failed { self.old.failed ≡ None }
         requires no_fault { IsOther error → ⊥ }
@@ -155,7 +155,7 @@ impl<R: ReadExt> Input<R> {
         error
     }
 
-    // Has failed from here on with a fault of the reader.
+    // Fails with this I/O error of the reader.
     pub(crate) fn fault(&mut self, error: io::Error) -> Asn1DerError
         ensures error { result ≡ error_of_kind (error_kind error) }
         ensures same { self.new ≡ failed_with self.old result }

@@ -10,7 +10,7 @@ use crate::plain_kind::PlainKind;
 use picky_der_core::asn1::Tag;
 use picky_der_core::{Asn1DerError, Result, UInt};
 
-// The bytes of a number behind a 00 that keeps it from being negative.
+// The bytes of a number, without a 00 that only keeps it from being negative.
 fn digits_of(content: &[u8]) -> Result<&[u8]>
     ensures ok { IfOk result (λ digits. (most : ℕ)
         → unsigned_error most content.now ≡ number_error most digits.now) }
@@ -40,21 +40,21 @@ fn value_of(digits: &[u8]) -> u128
     number
 }
 
-/// Reads contents of unsigned integers.
+/// Reads the contents of INTEGERs into unsigned types.
 pub struct UnsignedInteger;
 
 impl UnsignedInteger {
     /// The number with this content.
     ///
-    /// `TruncatedData` where it is empty; `UnsupportedValue` for a negative number, for one of more than 16 bytes and
-    /// past the type's greatest; `InvalidData` for a needless 00 in front.
+    /// `TruncatedData` if the content is empty. `UnsupportedValue` for a negative number, for one of more than 16 bytes, and
+    /// for one past the type's greatest. `InvalidData` for a needless 00 in front.
     pub fn deserialize<T: UInt>(content: &[u8]) -> Result<T>
         ensures ok { IfOk result (λ value. content.now ≡ unsigned_content (T.number value)) }
         ensures right { OnOk result (unsigned_error T.greatest content.now ≡ None) }
         ensures fault { IfErr result (λ e. unsigned_error T.greatest content.now ≡ Some e) }
         ensures no_device { IfErr result IsOfContent }
     {
-        // Most numbers have one byte, and then no other test is needed.
+        // Most numbers have one byte, which needs no other test.
         if let [digit @ 0x00..=0x7F] = content {
             return T::from_u128(u128::from(*digit));
         }

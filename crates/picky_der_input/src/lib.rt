@@ -9,6 +9,7 @@ mod input;
 mod integer;
 mod null;
 mod plain_kind;
+mod short_content;
 mod utf8_string;
 
 pub use boolean::Boolean;
@@ -17,4 +18,5 @@ pub use input::{Input, Outer};
 pub use integer::UnsignedInteger;
 pub use null::Null;
 pub use picky_der_core::{Int, UInt};
+pub use short_content::ShortContent;
 pub use utf8_string::Utf8String;

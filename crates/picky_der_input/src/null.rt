@@ -9,11 +9,11 @@ use crate::plain_kind::PlainKind;
 use picky_der_core::asn1::Tag;
 use picky_der_core::{Asn1DerError, Result};
 
-/// Reads contents of nulls.
+/// Reads the contents of NULLs.
 pub struct Null;
 
 impl Null {
-    /// The null with this content, which is empty. `InvalidData` for any other.
+    /// Checks the content of a NULL, which is empty. `InvalidData` for any other.
     pub fn deserialize(content: &[u8]) -> Result<()>
         ensures ok { OnOk result (content.now ≡ []) }
         ensures right { OnOk result (null_error content.now ≡ None) }

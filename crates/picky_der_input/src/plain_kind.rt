@@ -8,7 +8,7 @@ ghost use Rattle.picky_der_input.specs.PlainKinds.{IsShortKind};
 use picky_der_core::Result;
 use picky_der_core::asn1::Tag;
 
-// A kind of plain values, which are read as values of `V`: their tag, and the judge of their contents.
+// A kind of plain values, which are read as values of `V`: their tag, and the test of their contents.
 pub(crate) trait PlainKind<V> {
     // What contracts see of a value, as the number of a `UInt`.
     ghost Value: { Type 0 };
@@ -20,7 +20,7 @@ pub(crate) trait PlainKind<V> {
 
     ghost shape: { PrimitiveShape };
 
-    // The error of a content that is none of theirs.
+    // The error for bytes that are the content of no value.
     ghost judge: { Judge };
 
     // The tag of each.
@@ -34,6 +34,6 @@ pub(crate) trait PlainKind<V> {
         ensures fault { IfErr result (λ e. judge content.now ≡ Some e) }
         ensures no_device { IfErr result IsOfContent };
 
-    // As many bytes as are kept of a content tell its value, or its error.
+    // As many bytes as are kept of a content determine its value, or its error.
     ghost kind: { IsShortKind meaning shape judge };
 }

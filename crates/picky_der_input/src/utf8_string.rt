@@ -9,11 +9,11 @@ use crate::plain_kind::PlainKind;
 use picky_der_core::asn1::Tag;
 use picky_der_core::{Asn1DerError, Result};
 
-/// Reads contents of texts.
+/// Reads the contents of UTF-8 texts.
 pub struct Utf8String;
 
 impl Utf8String {
-    /// The text with this content, which stays where it is. `InvalidData` where it isn't UTF-8.
+    /// The text with this content, which is borrowed. `InvalidData` if it isn't UTF-8.
     pub fn deserialize(content: &[u8]) -> Result<&str>
         ensures ok { IfOk result (λ text. (text.now ≡ content.now) × IsUtf8 content.now) }
         ensures right { OnOk result (text_error content.now ≡ None) }

@@ -1,5 +1,5 @@
-//! Bytes that the reader has ahead, taken at once. Where it hasn't those that are wanted, nothing is taken, and the caller
-//! draws them one by one: so no refusal but that of memory is made here.
+//! Reads of bytes that the reader has ahead, each in one step. If they aren't all there, nothing is consumed and the caller
+//! reads them one by one. So the only error here is `OutOfMemory`.
 ghost use Rattle.std.specs.Prelude.{◌≡◌, ◌+◌, ◌≤◌, ◌<◌, ◌^◌, ◌∷◌, length, true, None, IfNone, IfSome, IfOk};
 ghost use Rattle.std.specs.Prelude.{IfErr, OnOk};
 ghost use Rattle.picky_der_core.specs.Element.{length_octets, IsPrefix, AreBytes};
@@ -18,8 +18,8 @@ use picky_der_core::misc::{PeekableReader, ReadExt};
 use picky_der_core::{Asn1DerError, Result};
 use std::alloc::{AllocError, Global};
 
-// The length that stands in front of these bytes, and how many bytes say it. `None` where none stands there, and for those
-// of more than three bytes.
+// The length at the front of these bytes, and the number of its bytes. `None` if none is there, or if it has more than three
+// bytes.
 fn length_in_front(bytes: &[u8]) -> Option<(usize, usize)>
     ensures is { IfSome result (λ r. IsPrefix (length_octets r.0) bytes.now) }
     ensures size { IfSome result (λ r. r.1 ≡ length (length_octets r.0)) }
@@ -41,8 +41,8 @@ fn length_in_front(bytes: &[u8]) -> Option<(usize, usize)>
     None
 }
 
-// The length of the content of the element with this tag that stands in front of these bytes, and that of its header. `None`
-// where it doesn't stand there whole, and for those whose length isn't said by at most three bytes.
+// For the element with this tag at the front of these bytes: the length of its content, and of its header. `None` if it isn't
+// there whole, or if its length has more than three bytes.
 fn headed_in_front(bytes: &[u8], tag: Tag) -> Option<(usize, usize)>
     ensures is { IfSome result (λ h. IsPrefix (tag ∷ length_octets h.0) bytes.now) }
     ensures size { IfSome result (λ h. h.1 ≡ length (tag ∷ length_octets h.0)) }
@@ -58,11 +58,12 @@ fn headed_in_front(bytes: &[u8], tag: Tag) -> Option<(usize, usize)>
     Some((len, digits + 1))
 }
 
-// The content of the element with this tag that stands in front of these bytes. `None` where it doesn't stand there whole, and
-// where its length isn't one byte.
+// The content of the element with this tag at the front of these bytes. `None` if the element isn't there whole, or if its
+// length has more than one byte.
 pub(super) fn short_in_front(bytes: &[u8], tag: Tag) -> Option<&[u8]>
     ensures is { IfSome result (λ content. IsPrefix (tag ∷ (length content.now ∷ content.now)) bytes.now) }
     ensures short { IfSome result (λ content. length content.now < 128) }
+    ensures bytes { IfSome result (λ content. AreBytes content.now) }
 {
     if bytes.len() < 2 || bytes[0] != tag.inner() || bytes[1] >= 0x80 {
         return None;
@@ -74,8 +75,8 @@ pub(super) fn short_in_front(bytes: &[u8], tag: Tag) -> Option<&[u8]>
     Some(&bytes[2..end])
 }
 
-// How many bytes the element takes that stands in front of these bytes. `None` where none stands there whole, and for those
-// whose length isn't said by at most three bytes.
+// The number of bytes of the element at the front of these bytes. `None` if none is there whole, or if its length has more than
+// three bytes.
 pub(super) fn element_in_front(bytes: &[u8]) -> Option<usize>
     ensures is { IfSome result (λ count. IsElementInFront bytes.now count) }
 {
@@ -109,7 +110,7 @@ pub(super) fn near<R: ReadExt>(reader: &PeekableReader<R>, until_end: usize) -> 
 }
 
 impl<R: ReadExt> Input<R> {
-    // Takes the header of an element with this tag that is ahead whole, and answers the length of the content.
+    // Consumes the header of an element with this tag that is ahead whole, and returns the length of the content.
     pub(crate) fn take_header_ahead(&mut self, tag: Tag) -> Option<usize>
         requires had_not_failed { self.old.failed ≡ None }
         ensures taken { IfSome result (λ n. Takes self.old self.new (tag ∷ length_octets n)
@@ -123,7 +124,7 @@ impl<R: ReadExt> Input<R> {
         Some(len)
     }
 
-    // Whether it hasn't failed and a value stands whole here, with its header.
+    // Whether it hasn't failed and a value with its header is next.
     pub(super) fn wants_header(&self) -> bool
         ensures not_failed { result ≡ true → self.now.failed ≡ None }
         ensures whole { result ≡ true → self.now.implicit_tag ≡ None }
@@ -132,7 +133,7 @@ impl<R: ReadExt> Input<R> {
         self.failed.is_none() && self.implicit_tag.is_none()
     }
 
-    // Takes `count` bytes that are ahead into a vector, and `None` where there are fewer before the innermost end.
+    // Reads `count` bytes that are ahead into a vector, or returns `None` if there are fewer before the innermost end.
     pub(crate) fn copy_ahead(&mut self, count: usize) -> Result<Option<Vec<u8>>>
         requires had_not_failed { self.old.failed ≡ None }
         requires unpeeked { self.old.peeked ≡ None }
@@ -155,7 +156,7 @@ impl<R: ReadExt> Input<R> {
         Ok(Some(bytes))
     }
 
-    // Takes the next element, under this tag, and its content into a vector, and `None` where it isn't ahead whole.
+    // Consumes the next element, under this tag, and returns its content in a vector, or `None` if it isn't ahead whole.
     #[inline(always)]
     pub(crate) fn copy_content_ahead(&mut self, tag: Tag) -> Result<Option<Vec<u8>>>
         requires number { IsTagNumber (number_of tag) }
@@ -175,7 +176,7 @@ impl<R: ReadExt> Input<R> {
         };
         let count = size + len;
         let Ok(content) = copied(self.alloc, &near[size..count]) else {
-            // As where the content is drawn behind it, the header was read.
+            // The header was consumed before the allocation failed, as in the read byte by byte.
             self.reader.take_few(size);
             self.until_end -= size;
             return Err(self.fail(Asn1DerError::OutOfMemory));
@@ -185,7 +186,7 @@ impl<R: ReadExt> Input<R> {
         Ok(Some(content))
     }
 
-    // Takes the next element into a vector, and `None` where it isn't ahead whole.
+    // Reads the next element into a vector, or returns `None` if it isn't ahead whole.
     pub(crate) fn copy_element_ahead(&mut self) -> Result<Option<Vec<u8>>>
         ensures read { IfOk result (λ some. IfSome some
             (λ bytes. ReadsRaw self.old self.new bytes.items)) }

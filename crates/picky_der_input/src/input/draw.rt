@@ -1,4 +1,4 @@
-//! Bytes, drawn one at a time or in pieces.
+//! Bytes, consumed one at a time or in pieces.
 ghost use Rattle.picky_der_core.specs.Element.{AreBytes};
 ghost use Rattle.picky_der_core.specs.Failure.{failure_of};
 ghost use Rattle.std.specs.Prelude.{◌≡◌, ◌<◌, ◌≤◌, ◌∷◌, [], ℕ, List, length, None, Some, IfOk, IfErr, OnOk};
@@ -10,10 +10,10 @@ use arrayvec::ArrayVec;
 use picky_der_core::misc::ReadExt;
 use picky_der_core::{Asn1DerError, Result};
 
-// At most this many bytes are drawn at a time, whatever length a content is said to have.
+// The greatest number of bytes that are read at a time, whatever length the header of a content has.
 const PIECE: usize = 512;
 
-// How many bytes of a content are kept: one more than the longest of a plain kind has, that of a number.
+// How many bytes of a content are kept: one more than the longest content of a plain kind has, which is that of a number.
 const KEPT: usize = 18;
 
 impl<R: ReadExt> Input<R> {
@@ -49,7 +49,7 @@ impl<R: ReadExt> Input<R> {
         }
     }
 
-    // Takes the content, and keeps its first bytes.
+    // Consumes the content, and keeps its first bytes.
     pub(crate) fn draw_kept(&mut self, len: usize) -> Result<ArrayVec<u8, KEPT>>
         requires had_not_failed { self.old.failed ≡ None }
         requires unpeeked { self.old.peeked ≡ None }
@@ -66,7 +66,7 @@ impl<R: ReadExt> Input<R> {
         Ok(kept)
     }
 
-    // Takes the content into a vector.
+    // Reads the content into a vector.
     pub(crate) fn draw_vec(&mut self, len: usize) -> Result<Vec<u8>>
         requires had_not_failed { self.old.failed ≡ None }
         requires unpeeked { self.old.peeked ≡ None }
@@ -98,8 +98,8 @@ impl<R: ReadExt> Input<R> {
         Ok(content)
     }
 
-    // Takes the content, and puts it behind what the vector holds. However long it is said to be, the vector grows by what
-    // was taken alone.
+    // Reads the content, and appends it to the vector. Whatever length the header has, the vector grows only by the bytes that
+    // were read.
     pub(crate) fn draw_behind(&mut self, bytes: &mut Vec<u8>, len: usize) -> Result<()>
         requires had_not_failed { self.old.failed ≡ None }
         requires unpeeked { self.old.peeked ≡ None }
@@ -117,7 +117,7 @@ impl<R: ReadExt> Input<R> {
         Ok(())
     }
 
-    // Takes a piece of the content, where `left` bytes are left of it, and puts it behind what the vector holds.
+    // Reads a piece of the content, of which `left` bytes are left, and appends it to the vector.
     fn append_piece(
         &mut self,
         bytes: &mut Vec<u8>,
@@ -140,7 +140,7 @@ impl<R: ReadExt> Input<R> {
         Ok(count)
     }
 
-    // Takes the content, and drops it.
+    // Consumes the content, and drops it.
     pub(crate) fn skip(&mut self, len: usize) -> Result<()>
         requires had_not_failed { self.old.failed ≡ None }
         requires unpeeked { self.old.peeked ≡ None }
@@ -157,8 +157,8 @@ impl<R: ReadExt> Input<R> {
         Ok(())
     }
 
-    // Takes as many bytes of the content as one read gives, where so many are left of it, and puts them into the front
-    // of the piece. At least one comes.
+    // Reads as many bytes of the content as one read gives, where `left` bytes are left of it, into the front of the piece. At
+    // least one byte is read.
     fn draw_piece(&mut self, piece: &mut [u8], left: usize) -> Result<usize>
         requires had_not_failed { self.old.failed ≡ None }
         requires unpeeked { self.old.peeked ≡ None }

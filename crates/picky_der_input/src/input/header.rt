@@ -30,7 +30,7 @@ impl<R: ReadExt> Input<R> {
         Ok(len)
     }
 
-    // A length, whose missing bytes are refused by the innermost end.
+    // A length. For a missing byte the error is that of the innermost end.
     fn read_length(&mut self) -> Result<usize>
         requires had_not_failed { self.old.failed ≡ None }
         requires unpeeked { self.old.peeked ≡ None }
@@ -55,7 +55,7 @@ impl<R: ReadExt> Input<R> {
         }
     }
 
-    // The length of a content, which doesn't reach past the innermost end. It stands behind the first byte of any header.
+    // The length of a content, which doesn't reach past the innermost end. It follows the first byte of any header.
     pub(crate) fn read_content_length(&mut self) -> Result<usize>
         requires had_not_failed { self.old.failed ≡ None }
         requires unpeeked { self.old.peeked ≡ None }
@@ -108,8 +108,8 @@ impl<R: ReadExt> Input<R> {
         self.read_content_length()
     }
 
-    // The length of the content of a plain value with this tag. Directly under an implicit tag the header is that tag's,
-    // and all before its end is the content.
+    // The length of the content of a plain value with this tag. Directly under an implicit tag the header is that tag's, and
+    // all bytes before its end are the content.
     #[inline(always)]
     pub(crate) fn begin(&mut self, tag: Tag) -> Result<usize>
         requires number { IsTagNumber (number_of tag) }
@@ -123,7 +123,7 @@ impl<R: ReadExt> Input<R> {
         }
     }
 
-    // The same, where the header is ahead whole.
+    // The same, if the header is ahead whole.
     #[inline(always)]
     fn begin_ahead(&mut self, tag: Tag) -> Option<usize>
         ensures some { IfSome result (BeginsContent tag self.old self.new) }
@@ -135,8 +135,7 @@ impl<R: ReadExt> Input<R> {
         self.take_header_ahead(tag)
     }
 
-    // The same, where nothing of it is known: it has failed, or stands directly under an implicit tag, or its header isn't
-    // ahead whole.
+    // The same in the other cases: it has failed, or is directly under an implicit tag, or its header isn't ahead whole.
     #[cold]
     #[inline(never)]
     fn draw_begin(&mut self, tag: Tag) -> Result<usize>

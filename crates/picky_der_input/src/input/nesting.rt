@@ -1,4 +1,4 @@
-//! Ends, opened and closed: those of sequences, sets and wrappers, with the headers in front of them.
+//! Opens and closes ends: the ends of sequences, sets and wrappers, with the headers before them.
 ghost use Rattle.picky_der_core.specs.Failure.{failure_of};
 ghost use Rattle.std.specs.Prelude.{◌≡◌, ◌+◌, ◌≤◌, ◌<◌, ◌↔◌, ◌∷◌, [], None, Some};
 ghost use Rattle.std.specs.Prelude.{IsTrue, IfOk, IfErr, OnOk};
@@ -16,13 +16,13 @@ use picky_der_core::misc::ReadExt;
 use picky_der_core::{Asn1DerError, Failure, Result};
 use std::marker::Model;
 
-/// The end around an open one, which is put back where that is closed.
+/// The end around an open one. It becomes the innermost end again when the open one is closed.
 #[derive(Drop)]
 pub struct Outer {
-    // How many bytes are taken before it.
+    // How many bytes are consumed before it.
     position: usize,
     kind: End,
-    // Where it is a set's, how many bytes are kept before the encoding of its last member.
+    // If it is that of a set: how many bytes are kept before the encoding of its last member.
     last_start: Option<usize>,
 }
 
@@ -34,7 +34,7 @@ impl Model for Outer {
     ghost view = { λ o. record { position = o.position; kind = o.kind; last_start = o.last_start } };
 }
 
-// The implicit tag directly under which the value stands: the byte that replaces its own.
+// The implicit tag directly under which the value is: the byte that replaces its own.
 fn implicit_tag(wrapper: Wrapper) -> Option<u8>
     requires { HasTagNumber wrapper }
     ensures { result ≡ implicit_tag_of wrapper }
@@ -46,7 +46,7 @@ fn implicit_tag(wrapper: Wrapper) -> Option<u8>
 }
 
 impl<R: ReadExt> Input<R> {
-    // Opens an end `len` bytes from here, and answers the one that was the innermost.
+    // Opens an end `len` bytes from here, and returns the one around it.
     pub(crate) fn open_end(&mut self, len: usize, kind: End) -> Outer
         requires { len ≤ self.old.until_end }
         ensures opened { self.new ≡ with_inner_end self.old len kind }
@@ -63,10 +63,10 @@ impl<R: ReadExt> Input<R> {
         outer
     }
 
-    /// Takes the header of a sequence or set under this tag, and opens its end. Directly under an implicit tag the header
-    /// was that tag's. Of a set the order of the members is tested from here on (X.690, 11.6).
+    /// Consumes the header of a sequence or set under this tag, and opens its end. Directly under an implicit tag the header
+    /// was consumed with that tag. In a set the order of the members is tested from here on (X.690, 11.6).
     ///
-    /// `InvalidData` for another tag; the refusals of a header and of an end; else the reader's fault.
+    /// `InvalidData` for another tag. Any other error is that of a header or of an end, or the reader's I/O error.
     #[inline(always)]
     pub fn open_list(&mut self, tag: Tag) -> Result<Outer>
         requires number { IsTagNumber (number_of tag) }
@@ -80,11 +80,11 @@ impl<R: ReadExt> Input<R> {
         Ok(outer)
     }
 
-    /// Opens a soft end `len` bytes from here, before which no order is tested. Directly under an implicit tag what stands
-    /// there has its own header.
+    /// Opens a soft end `len` bytes from here, before which no order is tested. Directly under an implicit tag the contents
+    /// have their own header.
     ///
-    /// Where these bytes reach past the innermost end, the input has failed: with `InvalidData` at a hard end, and else with
-    /// `TruncatedData`. One that had failed stays as it is.
+    /// If these bytes reach past the innermost end, the input has failed: with `InvalidData` at a hard end, and else with
+    /// `TruncatedData`. If it had failed before, nothing changes.
     pub fn open_lazily(&mut self, len: usize) -> Outer
         ensures opened { OpensLazily len self.old self.new result }
         ensures bounded { result.position ≤ self.new.limit }
@@ -103,7 +103,7 @@ impl<R: ReadExt> Input<R> {
         }
     }
 
-    // Takes the header of a wrapper, and opens its end. Directly under an implicit tag it has its own header too.
+    // Consumes the header of a wrapper, and opens its end. Directly under an implicit tag it has its own header too.
     fn begin_wrapper(&mut self, wrapper: Wrapper) -> Result<Outer>
         ensures ok { IfOk result (BeginsWrapper wrapper self.old self.new) }
         ensures bounded { IfOk result (λ outer. outer.position ≤ self.new.limit) }
@@ -120,7 +120,7 @@ impl<R: ReadExt> Input<R> {
         Ok(self.open_end(len, End::Hard))
     }
 
-    // Takes the byte that counts the unused bits of a bit string, which must be 00.
+    // Consumes the byte that counts the unused bits of a bit string, which must be 00.
     fn take_unused_bits(&mut self) -> Result<()>
         requires had_not_failed { self.old.failed ≡ None }
         ensures ok { OnOk result (Takes self.old self.new (0x00 ∷ [])) }
@@ -132,11 +132,11 @@ impl<R: ReadExt> Input<R> {
         Ok(())
     }
 
-    /// Takes what stands before the value, and opens the wrapper's end.
+    /// Consumes the bytes before the value in a wrapper, and opens the wrapper's end.
     ///
-    /// `UnsupportedValue` for a tag number past 30, and for a tag in place of a list's own that isn't constructed: nothing is drawn
-    /// then. `InvalidData` for another tag and for unused bits (X.690, 8.6.2); the refusals of a header and of an end; else the
-    /// reader's fault.
+    /// `UnsupportedValue` for a tag number past 30, and for a tag in place of a list's own that isn't constructed: nothing is
+    /// consumed then. `InvalidData` for another tag, and for unused bits (X.690, 8.6.2). Any other error is that of a header or
+    /// of an end, or the reader's I/O error.
     pub fn open_wrapper(&mut self, wrapper: Wrapper) -> Result<Outer>
         ensures ok { IfOk result (OpensWrapper wrapper self.old self.new) }
         ensures bounded { IfOk result (λ outer. outer.position ≤ self.new.limit) }
@@ -151,9 +151,9 @@ impl<R: ReadExt> Input<R> {
         Ok(outer)
     }
 
-    /// Closes the innermost end, if it was reached, and puts the one around it back.
+    /// Closes the innermost end, if it was reached. The end around it is the innermost one again.
     ///
-    /// `InvalidData` where bytes are left before it, of which none is drawn.
+    /// `InvalidData` if bytes are left before it: none of them is consumed.
     pub fn close_end(&mut self, outer: Outer) -> Result<()>
         requires within { self.old.taken + self.old.until_end ≤ outer.position }
         requires bounded { outer.position ≤ self.old.limit }
@@ -172,7 +172,7 @@ impl<R: ReadExt> Input<R> {
         Ok(())
     }
 
-    /// Whether the innermost end is here. Only an earlier error is answered.
+    /// Whether the innermost end is reached. The only error is the earlier one, if the input has failed.
     pub fn is_at_end(&self) -> Result<bool>
         ensures ok { IfOk result (λ here. (self.now.failed ≡ None)
             × (IsTrue here ↔ (self.now.until_end ≡ 0))) }

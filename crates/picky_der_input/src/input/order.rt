@@ -11,7 +11,7 @@ use picky_der_core::misc::ReadExt;
 use picky_der_core::{Asn1DerError, Result};
 use std::alloc::AllocError;
 
-// The least room that is asked for, so that the members of most sets are kept without asking again.
+// The least number of bytes that are allocated, so that the members of most sets need no second allocation.
 const ROOM: usize = 128;
 
 // Whether a member is less than the last one.
@@ -21,7 +21,7 @@ fn is_before(member: &[u8], last: &[u8]) -> bool
     member.cmp(last).is_lt()
 }
 
-// Puts a member in place of what is kept from `start` on. Without room for both nothing changes.
+// Replaces what is kept from `start` on by a member. If an allocation fails nothing changes.
 fn keep(kept: &mut Vec<u8>, start: usize, member: &[u8]) -> std::result::Result<(), AllocError>
     requires { start ≤ length kept.old.items }
     ensures ok { OnOk result (kept.new.items ≡ take start kept.old.items ++ member.now) }
@@ -41,7 +41,7 @@ impl<R: ReadExt> Input<R> {
         self.last_start.is_some()
     }
 
-    // Before the members of a list under this tag: only those of a set have an order that is tested.
+    // Prepares for the members of a list under this tag. Only the order of a set's members is tested.
     pub(super) fn order_members(&mut self, tag: Tag)
         requires { self.old.sets.last ≡ None }
         ensures { self.new ≡ record self.old {
@@ -53,11 +53,11 @@ impl<R: ReadExt> Input<R> {
         }
     }
 
-    // What is kept of the innermost set is forgotten, and that of the end around it is the innermost again.
+    // Forgets what is kept of the innermost set. The set around it is the innermost one again.
     pub(super) fn leave_set(&mut self, outer: Option<usize>)
         ensures { self.new ≡ record self.old { sets = cut_at outer self.old.sets.around } }
     {
-        // Most ends are around no set and in none.
+        // Most ends aren't those of sets, and aren't in a set.
         if self.last_start.is_none() && outer.is_none() {
             return;
         }
@@ -70,7 +70,7 @@ impl<R: ReadExt> Input<R> {
         };
     }
 
-    // Whether an encoding is less than the last member's, where the order is tested.
+    // Whether an encoding is less than the last member's, if the order is tested.
     fn is_out_of_order(&self, member: &[u8]) -> bool
         ensures { result ≡ is_out_of_order self.now.sets member.now }
     {
@@ -80,8 +80,7 @@ impl<R: ReadExt> Input<R> {
         }
     }
 
-    // Keeps the encoding of a member in place of that of the one before it, where the order is tested. Without room for both
-    // nothing changes.
+    // Replaces the encoding of the last member by this one, if the order is tested. If an allocation fails nothing changes.
     fn keep_last(&mut self, member: &[u8]) -> std::result::Result<(), AllocError>
         ensures ok { OnOk result
             (self.new ≡ record self.old { sets = with_last self.old.sets member.now }) }
@@ -94,10 +93,10 @@ impl<R: ReadExt> Input<R> {
     }
 
     /// Looks at the next member of a set before it is read, and returns whether its encoding is less than the last one. If it
-    /// isn't, it is kept as the last one. Where the reader doesn't show it whole, `None` is returned and nothing is done. No byte is
+    /// isn't, it is kept as the last one. If the member isn't in memory whole, it returns `None` and does nothing. No byte is
     /// consumed.
     ///
-    /// `OutOfMemory` where the allocation failed.
+    /// `OutOfMemory` if the allocation fails.
     #[inline(always)]
     pub fn see_member(&mut self) -> Result<Option<bool>>
         requires { self.old.failed ≡ None }
@@ -123,9 +122,9 @@ impl<R: ReadExt> Input<R> {
         }
     }
 
-    /// Keeps the encoding of a member that was read, where the order is tested.
+    /// Keeps the encoding of a member that was read, if the order is tested.
     ///
-    /// `InvalidData` where it is less than the one before it, and `OutOfMemory` where memory is refused.
+    /// `InvalidData` if it is less than the one before it, and `OutOfMemory` if an allocation fails.
     pub fn test_member(&mut self, member: &[u8]) -> Result<()>
         requires { self.old.failed ≡ None }
         ensures ok { OnOk result (Follows member.now self.old self.new) }

@@ -9,7 +9,7 @@ use picky_der_core::misc::ReadExt;
 use picky_der_core::{Asn1DerError, Result};
 
 impl<R: ReadExt> Input<R> {
-    // The next byte before the innermost end, which is left, and `None` where the input ended here, before that end.
+    // The next byte before the innermost end, without consuming it, or `None` if the input ended here, before that end.
     fn peek_next(&mut self) -> Result<Option<Tag>>
         requires had_not_failed { self.old.failed ≡ None }
         requires whole { self.old.implicit_tag ≡ None }
@@ -29,7 +29,7 @@ impl<R: ReadExt> Input<R> {
         }
     }
 
-    // The next byte before the innermost end, which is left.
+    // The next byte before the innermost end, without consuming it.
     fn peek_tag(&mut self) -> Result<Tag>
         requires had_not_failed { self.old.failed ≡ None }
         requires whole { self.old.implicit_tag ≡ None }
@@ -43,11 +43,10 @@ impl<R: ReadExt> Input<R> {
         }
     }
 
-    /// The tag that is next, which is left unread. Directly under an implicit tag that one was taken already, and is
-    /// answered.
+    /// The next tag, without consuming it. Directly under an implicit tag this tag was consumed already, and is returned.
     ///
-    /// A byte that isn't there is `InvalidData` at a hard end, and else `TruncatedData`; else the reader's fault. No
-    /// memory is taken.
+    /// If no byte is left, the error is `InvalidData` at a hard end, and else `TruncatedData`. Any other error is the reader's
+    /// I/O error. Nothing is allocated.
     pub fn identify(&mut self) -> Result<Tag>
         ensures ok { IfOk result (Identifies self.old self.new) }
         ensures err { IfErr result (RefusesIdentifier self.old self.new) }
@@ -61,11 +60,11 @@ impl<R: ReadExt> Input<R> {
         }
     }
 
-    /// The tag that is next, which is left unread, and `None` where the input ended here, before the innermost end.
-    /// Directly under an implicit tag that one was taken already, and is answered.
+    /// The next tag, without consuming it, or `None` if the input ended here, before the innermost end. Directly under an
+    /// implicit tag this tag was consumed already, and is returned.
     ///
-    /// At the innermost end it is `InvalidData` where that is a hard one, and else `TruncatedData`; else the reader's
-    /// fault. No memory is taken.
+    /// At the innermost end the error is `InvalidData` if it is a hard one, and else `TruncatedData`. Any other error is the
+    /// reader's I/O error. Nothing is allocated.
     pub fn identify_next(&mut self) -> Result<Option<Tag>>
         ensures tag { IfOk result (λ next. IfSome next (Identifies self.old self.new)) }
         ensures ended { IfOk result (λ next. IfNone next (HasEnded self.old self.new)) }
@@ -81,11 +80,11 @@ impl<R: ReadExt> Input<R> {
         }
     }
 
-    /// The tag that tells which alternative of a choice is next. It is left unread.
+    /// The tag of the next alternative of a choice, without consuming it.
     ///
-    /// `InvalidData` directly under an implicit tag, where no byte tells a choice, and nothing is drawn. A byte that
-    /// isn't there is `InvalidData` at a hard end, and else `TruncatedData`; else the reader's fault. No memory is
-    /// taken.
+    /// `InvalidData` directly under an implicit tag, where no byte distinguishes the alternatives: nothing is consumed then. If
+    /// no byte is left, the error is `InvalidData` at a hard end, and else `TruncatedData`. Any other error is the reader's I/O
+    /// error. Nothing is allocated.
     pub fn tell_choice(&mut self) -> Result<Tag>
         ensures ok { IfOk result (TellsChoice self.old self.new) }
         ensures err { IfErr result (RefusesChoice self.old self.new) }

@@ -15,10 +15,10 @@ use picky_der_core::misc::ReadExt;
 use picky_der_core::{Int, Result, UInt};
 
 impl<R: ReadExt> Input<R> {
-    /// Reads a bool (X.690, 8.2 and 11.1).
+    /// Reads a BOOLEAN (X.690, 8.2 and 11.1).
     ///
-    /// `InvalidData` for another tag and for a content other than one byte `00` or `FF`; `TruncatedData` for an empty
-    /// content; the refusals of a header and of an end; else the reader's fault.
+    /// `InvalidData` for another tag, and for a content other than one byte `00` or `FF`. `TruncatedData` for an empty content.
+    /// Any other error is that of a header or of an end, or the reader's I/O error.
     #[inline(always)]
     pub fn read_bool(&mut self) -> Result<bool>
         ensures ok { IfOk result (λ b. ReadsPrimitive PrimitiveShape.boolean self.old self.new
@@ -30,11 +30,11 @@ impl<R: ReadExt> Input<R> {
         self.read_plain::<Boolean, bool>()
     }
 
-    /// Reads a number (X.690, 8.3).
+    /// Reads an unsigned number (X.690, 8.3).
     ///
-    /// `InvalidData` for another tag and for a needless 00 in front; `UnsupportedValue` for a negative number and past
-    /// the greatest one; `TruncatedData` for an empty content; the refusals of a header and of an end; else the
-    /// reader's fault.
+    /// `InvalidData` for another tag, and for a needless 00 in front. `UnsupportedValue` for a negative number, and for one
+    /// past the greatest. `TruncatedData` for an empty content. Any other error is that of a header or of an end, or the
+    /// reader's I/O error.
     #[inline(always)]
     pub fn read_unsigned<T: UInt>(&mut self) -> Result<T>
         ensures ok { IfOk result (λ value. ReadsPrimitive (PrimitiveShape.unsigned T.greatest)
@@ -46,10 +46,10 @@ impl<R: ReadExt> Input<R> {
         self.read_plain::<UnsignedInteger, T>()
     }
 
-    /// Reads an INTEGER that an integer type has, signed or not (X.690, 8.3).
+    /// Reads an INTEGER into an integer type, signed or not (X.690, 8.3).
     ///
-    /// `InvalidData` for another tag, and for a content that isn't two's complement in the fewest bytes; `UnsupportedValue` for
-    /// a number that the type doesn't have; the refusals of a header and of an end; else the reader's fault.
+    /// `InvalidData` for another tag, and for a content that isn't two's complement in the fewest bytes. `UnsupportedValue` for
+    /// a number that the type doesn't have. Any other error is that of a header or of an end, or the reader's I/O error.
     pub fn read_int<N: Int>(&mut self) -> Result<N>
         ensures ok { IfOk result (λ value. ReadsInt N.fits self.old self.new (N.number value)) }
         ensures meant { IfOk result (λ value. Reads (Shape.primitive (PrimitiveShape.bytes 0x02)) self.old self.new
@@ -62,8 +62,8 @@ impl<R: ReadExt> Input<R> {
 
     /// Reads a null (X.690, 8.8).
     ///
-    /// `InvalidData` for another tag and for a content that isn't empty; the refusals of a header and of an end; else
-    /// the reader's fault.
+    /// `InvalidData` for another tag, and for a content that isn't empty. Any other error is that of a header or of an end, or
+    /// the reader's I/O error.
     #[inline(always)]
     pub fn read_unit(&mut self) -> Result<()>
         ensures ok { OnOk result (ReadsPrimitive PrimitiveShape.null self.old self.new

@@ -1,4 +1,4 @@
-//! Elements that are taken whole, whatever their tag (X.690, 8.1.1).
+//! Elements that are consumed whole, whatever their tag (X.690, 8.1.1).
 ghost use Rattle.std.specs.Prelude.{◌≡◌, ◌∷◌, ℕ, List, IfOk, IfErr, OnOk};
 ghost use Rattle.picky_der_core.specs.Element.{length_octets};
 ghost use Rattle.picky_der_input.specs.Steps.{TakesNoMemory};
@@ -10,7 +10,7 @@ use picky_der_core::misc::{Length, ReadExt};
 use picky_der_core::{Asn1DerError, Result};
 use std::alloc::Global;
 
-// A header, in a vector that what is behind it can be put into.
+// A header, in a vector to which the content can be appended.
 fn header(alloc: Global, tag: Tag, len: usize) -> Result<Vec<u8>>
     ensures ok { IfOk result (λ bytes. bytes.items ≡ tag ∷ length_octets len) }
     ensures err { IfErr result (λ e. e ≡ Asn1DerError.OutOfMemory) }
@@ -41,11 +41,11 @@ impl<R: ReadExt> Input<R> {
         Ok((tag, len))
     }
 
-    /// Takes the next element whole, and answers its bytes, the header's too. They aren't looked at, but for where they
-    /// end. Directly under an implicit tag the element stands with its own header.
+    /// Reads the next element whole, and returns its bytes with its header. Its content isn't checked. Directly under an
+    /// implicit tag the element has its own header.
     ///
-    /// `UnsupportedValue` for a tag whose number is 31, which announces the long form; the refusals of a length and of
-    /// an end; `OutOfMemory` where memory is refused; else the reader's fault.
+    /// `UnsupportedValue` for a tag with the number 31, which announces the long form. `OutOfMemory` if an allocation fails.
+    /// Any other error is that of a length or of an end, or the reader's I/O error.
     pub fn read_raw(&mut self) -> Result<Vec<u8>>
         ensures ok { IfOk result (λ bytes. ReadsRaw self.old self.new bytes.items) }
         ensures err { IfErr result (RefusesRaw self.old self.new) }
@@ -77,7 +77,8 @@ impl<R: ReadExt> Input<R> {
         }
     }
 
-    /// Takes the next element whole, and drops it. It is refused as by `read_raw`, and no memory is taken.
+    /// Consumes the next element whole, and returns nothing of it. The errors are those of `read_raw`, but nothing is
+    /// allocated.
     pub fn skip_raw(&mut self) -> Result<()>
         ensures ok { OnOk result ((bytes : List ℕ) × ReadsRaw self.old self.new bytes) }
         ensures err { IfErr result (RefusesRaw self.old self.new) }

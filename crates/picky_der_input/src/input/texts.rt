@@ -13,8 +13,8 @@ use picky_der_core::{Asn1DerError, Result};
 impl<R: ReadExt> Input<R> {
     /// Reads a text of one character (X.690, 8.23).
     ///
-    /// `InvalidData` for another tag, for a content that isn't UTF-8, and for more than one character;
-    /// `UnsupportedValue` for an empty content; the refusals of a header and of an end; else the reader's fault.
+    /// `InvalidData` for another tag, for a content that isn't UTF-8, and for more than one character. `UnsupportedValue` for
+    /// an empty content. Any other error is that of a header or of an end, or the reader's I/O error.
     pub fn read_char(&mut self) -> Result<char>
         ensures ok { IfOk result (λ c. ReadsPrimitive PrimitiveShape.character self.old self.new
             (Primitive.text (encode_utf8 c))) }
@@ -25,10 +25,10 @@ impl<R: ReadExt> Input<R> {
         self.read_plain::<Utf8String, char>()
     }
 
-    /// Reads a text (X.690, 8.23) into one string, of which nothing is grown before a byte came for it.
+    /// Reads a text (X.690, 8.23) into one string. The string grows only as bytes are read.
     ///
-    /// `InvalidData` for another tag and for a content that isn't UTF-8; the refusals of a header and of an end;
-    /// `OutOfMemory` where memory is refused; else the reader's fault.
+    /// `InvalidData` for another tag, and for a content that isn't UTF-8. `OutOfMemory` if an allocation fails. Any other error
+    /// is that of a header or of an end, or the reader's I/O error.
     pub fn read_string(&mut self) -> Result<String>
         ensures ok { IfOk result (λ text. ReadsPrimitive PrimitiveShape.text self.old self.new
             (Primitive.text (string_bytes text))) }

@@ -3,7 +3,7 @@ use Rattle.picky_der_core.specs.Peeking.{in_front, drawn_byte, IsFirstIn}
 use Rattle.picky_der_input.specs.State.{State}
 use Rattle.picky_der_input.proofs.input.Input+ref+slice+u8.has_no_faults.Goals as goal
 
--- what is left behind the peeked byte
+-- what is left after the peeked byte
 behind_peeked : (drawn : Bool) (p : Option ℕ) (left : List ℕ) → IfSome p (IsFirstIn (in_front (drawn_byte drawn p) (Some left)))
     → (x : Option (List ℕ)) × (in_front (drawn_byte drawn p) (Some left) ≡ in_front p x)
 behind_peeked true p left h = (Some left, refl)
