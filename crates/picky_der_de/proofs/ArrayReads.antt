@@ -41,7 +41,7 @@ times_refused {V} {meaning} {s} {c} n = rest_head unread
     unread [] p readable = absurd p
     unread (v ∷ vs) p readable = unread_first v p.0 readable.0
 
--- a member was read, and those after it were refused
+-- a member was read, and the members after it were refused
 pub times_next : {V : Type 0} {meaning : V → Tree} {s : Shape} {b c d : State} {t : Tree} {e : Asn1DerError} (n : ℕ) → ReadsMember s b c t → RefusesTimes meaning n s c d e → RefusesTimes meaning (suc n) s b d e
 times_next {V} {meaning} {s} n = rest_after (drop 1) follow
   where

@@ -1,4 +1,4 @@
--- Choices, read and refused behind a look at the first byte.
+-- Choices, read and refused after a look at the first byte.
 use Rattle.std.proofs.Common.{◌≡◌, ℕ, ◌<◌, inl, inr, true, List, ◌∷◌, ◌++◌, length, Some, None, sym, ◌∙◌, ap, subst, arith}
 use Rattle.picky_der_core.specs.declared.error.Asn1DerError.{Asn1DerError}
 use Rattle.picky_der_core.specs.Tree.{Tree}
@@ -17,9 +17,9 @@ use Rattle.picky_der_de.specs.Choices.{chosen_of, ReadsBehind, RefusesBehind, of
 use Rattle.picky_der_input.proofs.Refusals.{missing_first}
 use Rattle.picky_der_de.proofs.Peeked.{no_implicit_tag, peeks_takes, peeks_fails, peeks_judged, peeks_concerns, peeks_front, peeked_first, is_whole, nothing_whole}
 
--- ---- where a choice stands
+-- ---- where a choice is
 
--- the alternative stands where the choice does
+-- the alternative is where the choice is
 alternative : {s t : Shape} {bs : List ℕ} {end : ℕ} {u : Tree} → IsOf s u → StandsAt Place.whole t bs end (Tree.choice u) → StandsAt Place.whole s bs end u
 alternative {u = u} o st = record {
   of_shape = o;
@@ -45,7 +45,7 @@ nothing_stands {s} {a} {c} {e} {end} {bs} u (implicit number d is) w st =
     let may = subst (λ z. MayStand z (Tree.choice u)) place st.may_stand in
     may.no_choice
 
--- no byte tells a choice there
+-- no byte distinguishes a choice there
 pub refuses_hidden : {V : Type 0} {m : V → Tree} {s : Shape} {a c : State} {e : Asn1DerError} → RefusesChoice a c e → Refuses (λ v. Tree.choice (m v)) s a c e
 refuses_hidden {V} {m} {s} {a} {c} {e} h = record {
   fails = h.refuses.fails;
@@ -56,7 +56,7 @@ refuses_hidden {V} {m} {s} {a} {c} {e} h = record {
   foreign (no_byte whole m) d l q = absurd (missing_first a m l q)
   foreign (implicit number i is) d l q = absurd (let z : Some number ≡ None = sym i ∙ d in cc)
 
--- ---- of one alternative and those behind it
+-- ---- one alternative and the alternatives after it
 
 pub reads_this : {s : Shape} {ss : Shapes} {x : ℕ} {b c : State} {t : Tree} → Reads s b c t → ReadsBehind (Shapes.more s ss) x b c t
 reads_this {b = b} {c = c} {t = t} h a p = record {
@@ -87,7 +87,7 @@ module _ {A B : Type 0} {m : A → Tree} {n : B → Tree} {s : Shape} {ss : Shap
         h.none j end bs k v (subst (λ z. StandsAt z s bs end (m v)) (sym (is_whole b (no_implicit_tag p))) own)
     none told p j k f (Other v) st = apart_contains x (firsts s) (firsts_of ss) told.0 g (stands_begun (firsts_of ss) (other v) st f)
 
-  -- those behind it were refused
+  -- the alternatives after it were refused
   pub refuses_other : (IsFirst s x → ⊥) → RefusesBehind n ss x b c e → RefusesBehind (chosen_of m n) (Shapes.more s ss) x b c e
   refuses_other g h = record {
     fails = h.fails;
@@ -104,7 +104,7 @@ module _ {A B : Type 0} {m : A → Tree} {n : B → Tree} {s : Shape} {ss : Shap
         let own : StandsAt Place.whole (Shape.choice ss) bs end (Tree.choice (n v)) = record { of_shape = of_other m n s ss this other told.0 v st.readable st.of_shape; readable = st.readable; may_stand = tt; within = st.within; front = st.front } in
         r.none j end bs k v (subst (λ z. StandsAt z (Shape.choice ss) bs end (Tree.choice (n v))) (sym (is_whole a p.implicit_tag)) own)
 
--- ---- of values that are those of another type
+-- ---- values that are converted from another type
 
 pub refuses_through : {V U : Type 0} (f : V → U) {m : U → Tree} {ss : Shapes} {x : ℕ} {b c : State} {e : Asn1DerError} → RefusesBehind m ss x b c e → RefusesBehind (λ v. m (f v)) ss x b c e
 refuses_through f h = record {

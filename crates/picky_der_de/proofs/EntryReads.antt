@@ -1,4 +1,4 @@
--- What an entry call tells from what reading tells.
+-- From what reading gives, what an entry call gives.
 use Rattle.std.proofs.Common.{◌≡◌, ◌≢◌, ◌⊎◌, ℕ, ◌+◌, ◌<◌, ◌^◌, Bool, List, [], ◌∷◌, ◌++◌, length, Option, Some, None, IfSome, Result, Ok, Err, IfErr, refl, sym, ◌∙◌, subst, ap, inl, inr, arith, length-append, append_assoc}
 use Rattle.std.specs.Io.KnownBytes.{Consumes}
 use Rattle.std.proofs.KnownBytes.{Consumes-nil}
@@ -24,7 +24,7 @@ use Rattle.picky_der_input.proofs.Refusals.{front_consumed}
 
 -- ---- what is left in the reader
 
--- a peeked byte was drawn too
+-- a peeked byte was consumed too
 drawn_in_front : (i r : Option (List ℕ)) (p : Option ℕ) (x : List ℕ) → Consumes i (in_front p r) x → (d : List ℕ) × (length d ≡ length x + count_of_any p) × Consumes i r d
 drawn_in_front i r None x c = (x, omega arith, c)
 drawn_in_front None r (Some b) x c = (x ++ (b ∷ []), length-append x (b ∷ []), tt)
@@ -35,14 +35,14 @@ left_of : (p : Option ℕ) (r : Option (List ℕ)) → p ≡ None → in_front p
 left_of None r e = refl
 left_of (Some b) r e = absurd (let q : Some b ≡ None = e in cc)
 
--- what the reader told behind a fault it tells still, since no byte stands peeked there
+-- what was known of the reader after an I/O error is still known, since no byte is peeked there
 told_fault : {before between after : List Fault} {seen left : Option (List ℕ)} {peeked : Option ℕ} {e : Asn1DerError} → TellsFault before between seen e → (between ≢ before → peeked ≡ None) → after ≡ between → seen ≡ in_front peeked left → TellsFault before after left e
 told_fault {before = before} {left = left} {peeked = peeked} (TellsFault.fault kind once is) unpeeked same front =
     let none = unpeeked (λ kept. not_more (sym once ∙ kept)) in
     TellsFault.fault kind (same ∙ once ∙ ap (λ i. record { kind = kind; left = i } ∷ before) (front ∙ left_of peeked left none)) is
 told_fault (TellsFault.no_fault none) unpeeked same front = TellsFault.no_fault (same ∙ none)
 
--- ---- what more bytes could mend
+-- ---- what more bytes could complete
 
 unless_truncated : (e : Asn1DerError) → (e ≢ TruncatedData → ⊥) → e ≡ TruncatedData
 unless_truncated TruncatedData h = refl
@@ -54,7 +54,7 @@ unless_truncated (Message text) h = absurd (h (λ (q : Message text ≡ Truncate
 unless_truncated (Other kind) h = absurd (h (λ (q : Other kind ≡ TruncatedData). cc))
 unless_truncated OutOfMemory h = absurd (h (λ (q : OutOfMemory ≡ TruncatedData). cc))
 
--- of two beginnings of one list, one begins the other
+-- one of two beginnings of one list begins the other
 comparable : (a b x y : List ℕ) → a ++ x ≡ b ++ y → IsPrefix a b ⊎ IsPrefix b a
 comparable [] b x y e = inl (record { rest = b; is = refl })
 comparable (c ∷ a) [] x y e = inr (record { rest = c ∷ a; is = refl })
@@ -63,7 +63,7 @@ comparable (c ∷ a) (d ∷ b) x y e =
     let tail : a ++ x ≡ b ++ y = cc in
     elim (comparable a b x y tail) [ inl h ↦ inl (record { rest = h.rest; is = rw head (ap (λ z. d ∷ z) h.is) }) | inr h ↦ inr (record { rest = h.rest; is = rw head (ap (λ z. d ∷ z) h.is) }) ]
 
--- what more bytes behind some could mend, more bytes behind their beginning could
+-- what more bytes after some could complete, more bytes after their beginning could too
 mends_beginning : {V : Type 0} {meaning : V → Tree} {s : Shape} {until_end : ℕ} (d left : List ℕ) → IsMendable meaning s Place.whole (d ++ left) until_end → IsMendable meaning s Place.whole d until_end
 mends_beginning {meaning = meaning} d left m = record {
   value = m.value;
@@ -121,7 +121,7 @@ module _ {V : Type 0} (meaning : V → Tree) (s : Shape) {old new : State} {refe
       let all = h.fails.within (record { end = omega arith; drawn = omega arith }) in
       record { bytes = d.0; are = d.2; within = omega (arith, d.1, took.count, all.drawn, h.fails.limit) }
 
-  -- as many bytes were drawn as are gone from the reader
+  -- as many bytes were consumed as are gone from the reader
   gone : {e : Asn1DerError} → Refuses meaning s (start_state before limit references) new e → (d rest : List ℕ) → before.input ≡ Some (d ++ rest) → after.input ≡ Some rest → length d + 0 ≡ new.taken + count_of_any new.peeked
   gone h d rest k still =
       let took = h.fails.took in
@@ -129,13 +129,13 @@ module _ {V : Type 0} (meaning : V → Tree) (s : Shape) {old new : State} {refe
       let same : d ++ rest ≡ x.0 ++ rest = subst (λ i. Consumes (Some (d ++ rest)) i x.0) still (subst (λ i. Consumes i after.input x.0) k x.2) in
       omega (arith, x.1, took.count, length-append d rest, length-append x.0 rest, ap length same)
 
-  -- no bytes behind those that were drawn make a value, unless more bytes are asked for
+  -- no bytes after the consumed ones make a value, unless more bytes are asked for
   final : {e : Asn1DerError} → Refuses meaning s (start_state before limit references) new e → new.faults ≡ before.faults → e ≢ OutOfMemory → (d rest : List ℕ) → before.input ≡ Some (d ++ rest) → after.input ≡ Some rest → IsMendable meaning s Place.whole d any_length → e ≡ TruncatedData
   final {e} h same memory d rest k still m =
       let judged : IsJudged (start_state before limit references) new e = record { had_not_failed = refl; faults = same; memory = memory } in
       unless_truncated e (λ other. not_mendable h judged other d rest k (gone h d rest k still) m)
 
-  -- where none was read, none stands
+  -- where none was read, none is there
   pub refuses_front : {e : Asn1DerError} → Refuses meaning s old new e → RefusesFront meaning s limit before after e
   refuses_front {e} refused =
       let h : Refuses meaning s (start_state before limit references) new e = subst (λ o. Refuses meaning s o new e) is refused in
@@ -164,7 +164,7 @@ module _ {V : Type 0} (meaning : V → Tree) (s : Shape) {old new : State} {refe
 mends_nothing : {V : Type 0} {meaning : V → Tree} {s : Shape} {limit : ℕ} (v : V) {input : List ℕ} → limit < 2 ^ 64 → ReadsFrom meaning s input limit v → IsMendable meaning s Place.whole [] any_length
 mends_nothing {meaning = meaning} v small h = record { value = v; of_shape = h.of_shape; readable = h.readable; may_stand = tt; within = omega (arith, h.within); agrees = inr (record { rest = der (meaning v); is = refl }) }
 
--- where no bytes make a value, nothing has to be drawn
+-- where no bytes make a value, nothing has to be consumed
 pub refused_always : {V : Type 0} (meaning : V → Tree) (s : Shape) {limit : ℕ} (view : ReaderView) {e : Asn1DerError} → limit < 2 ^ 64 → e ≢ TruncatedData → (IsOther e → ⊥) → (e ≢ OutOfMemory → IsMendable meaning s Place.whole [] any_length → ⊥)
     → RefusesNextValue meaning s limit view view e
 refused_always meaning s view small cut no_fault never = record {

@@ -1,4 +1,4 @@
--- Members of which some may be missing, read and refused. Each call gives one record, and one lemma takes it.
+-- Members of which some may be missing, read and refused. Each call gives one record, for one lemma.
 use Rattle.std.proofs.Common.{◌≡◌, ℕ, ◌<◌, inl, inr, Bool, true, false, List, [], ◌∷◌, ◌++◌, length, Option, Some, None, IfSome, IfNone, ◌⊎◌, refl, sym, ◌∙◌, ap, subst, arith, length-append}
 use Rattle.std.specs.Io.KnownBytes.{Keeps}
 use Rattle.std.specs.Prelude.{IsTrue}
@@ -15,7 +15,7 @@ use Rattle.picky_der_input.specs.Steps.{Takes, Fails, IsJudged}
 use Rattle.picky_der_input.specs.Order.{AreInOrder, without_order}
 use Rattle.picky_der_input.specs.Reading.{Concerns, Reads, Refuses}
 use Rattle.picky_der_input.specs.Ends.{Outer, Closes, RefusesClose, OpensList, RefusesList}
-use Rattle.picky_der_input.specs.LookAhead.{Peeks, IdentifiesIn, Identifies}
+use Rattle.picky_der_input.specs.LookAhead.{Peeks, IdentifiesIn, Identifies, RefusesIdentifier}
 use Rattle.picky_der_ser.specs.Meaning.{maybe_more}
 use Rattle.picky_der_ser.specs.Defaults.{IsByTree}
 use Rattle.picky_der_de.specs.Firsts.{IsBegunBy}
@@ -32,7 +32,7 @@ use Rattle.picky_der_de.proofs.MemberReads.{no_member as no_value_there, same_me
 
 -- ---- looks
 
--- a look behind a look
+-- a look after a look
 look_again : {a b c : State} {x y : ℕ} → Peeks a b x → Peeks b c y → Peeks a c x
 look_again {a} {b} {c} {x} {y} p q =
     let kept : b.peeked ≡ Some x = ap (λ (s : State). s.peeked) p.same in
@@ -58,17 +58,17 @@ look_again {a} {b} {c} {x} {y} p q =
 peeks_without_order : {a b : State} {x : ℕ} → Peeks a b x → Peeks (without_order a) (without_order b) x
 peeks_without_order p = record { had_not_failed = p.had_not_failed; implicit_tag = p.implicit_tag; ahead = p.ahead; byte = p.byte; next = p.next; again = p.again; input = p.input; same = ap without_order p.same }
 
-as_look : {b c : State} {tag : ℕ} → b.implicit_tag ≡ None → Identifies b c tag → Peeks b c tag
+pub as_look : {b c : State} {tag : ℕ} → b.implicit_tag ≡ None → Identifies b c tag → Peeks b c tag
 as_look {b} {c} {tag} d h = subst (λ o. IdentifiesIn o b c tag) d h.is
 
-peeks_at_most_here : {a : State} → a.failed ≡ None → a.peeked ≡ None → PeeksAtMost a a
+pub peeks_at_most_here : {a : State} → a.failed ≡ None → a.peeked ≡ None → PeeksAtMost a a
 peeks_at_most_here f p = same refl f p
 
 peeks_at_most_look : {a b c : State} {x : ℕ} → PeeksAtMost a b → Peeks b c x → PeeksAtMost a c
 peeks_at_most_look {c = c} {x = x} (same e f g) p = looked x g (subst (λ z. Peeks z c x) e p)
 peeks_at_most_look (looked y g q) p = looked y g (look_again q p)
 
-peeks_at_most_takes : {a b : State} (c : State) {bytes : List ℕ} → PeeksAtMost a b → Takes (without_order b) (without_order c) bytes → Takes (without_order a) (without_order c) bytes
+pub peeks_at_most_takes : {a b : State} (c : State) {bytes : List ℕ} → PeeksAtMost a b → Takes (without_order b) (without_order c) bytes → Takes (without_order a) (without_order c) bytes
 peeks_at_most_takes c {bytes = bytes} (same e f g) t = subst (λ z. Takes (without_order z) (without_order c) bytes) e t
 peeks_at_most_takes c (looked x g p) t = peeks_takes (peeks_without_order p) t
 
@@ -76,15 +76,15 @@ peeks_at_most_not_failed : {a b : State} → PeeksAtMost a b → b.failed ≡ No
 peeks_at_most_not_failed (same e f g) = ap (λ (s : State). s.failed) e ∙ f
 peeks_at_most_not_failed (looked x g p) = ap (λ (s : State). s.failed) p.same ∙ p.had_not_failed
 
--- the end was reached, so no look was taken
+-- the end was reached, so no byte was peeked
 no_peek_at_end : {a b : State} → PeeksAtMost a b → b.until_end ≡ 0 → b ≡ a
 no_peek_at_end (same e f g) z = e
 no_peek_at_end (looked x g p) z = absurd (let q : _ = ap (λ (s : State). s.until_end) p.same in omega (arith, q, z, p.ahead))
 
--- ---- bytes behind a look
+-- ---- bytes after a look
 
 module _ {b c : State} {x : ℕ} (p : Peeks b c x) where
-  stands_looked : {d : State} {e : Asn1DerError} {bytes : List ℕ} → StandUpToEnd b d e bytes → StandUpToEnd c d e bytes
+  pub stands_looked : {d : State} {e : Asn1DerError} {bytes : List ℕ} → StandUpToEnd b d e bytes → StandUpToEnd c d e bytes
   stands_looked {d} {e} {bytes} w =
       let until_end : b.until_end ≡ c.until_end = sym (ap (λ (s : State). s.until_end) p.same) in
       record {
@@ -102,14 +102,14 @@ module _ {b c : State} {x : ℕ} (p : Peeks b c x) where
   order_looked : (ms : List (List ℕ)) → AreInOrder b.sets ms → AreInOrder c.sets ms
   order_looked ms h = subst (λ s. AreInOrder s ms) (sym (ap (λ (z : State). z.sets) p.same)) h
 
-  -- what stands begins with the byte
-  first_is : {d : State} {e : Asn1DerError} {bytes others : List ℕ} {y : ℕ} → Fails c d e → StandUpToEnd b d e bytes → bytes ≡ y ∷ others → y ≡ x
+  -- what is there begins with the byte
+  pub first_is : {d : State} {e : Asn1DerError} {bytes others : List ℕ} {y : ℕ} → Fails c d e → StandUpToEnd b d e bytes → bytes ≡ y ∷ others → y ≡ x
   first_is {d} {e} {bytes} {others} {y} f w is =
       let h = peeks_front p f w.stand.concerns in
       let q : y ∷ (others ++ w.stand.rest) ≡ x ∷ h.0 = sym (ap (λ z. z ++ w.stand.rest) is) ∙ sym w.stand.begins ∙ h.1 in
       cc
 
-  -- no member stands there whose shape begins otherwise
+  -- no member is there whose shape begins otherwise
   not_there : (s : Shape) {d : State} {e : Asn1DerError} (u : Tree) (us : Trees) → (IsFirst s x → ⊥) → Fails c d e → IsOf s u → IsReadable u → StandUpToEnd b d e (members_encoding (Trees.more u us)) → ⊥
   not_there s u us other f o r w =
       let h = begins_in s u o r in
@@ -134,7 +134,7 @@ not_absent_read s l {t = t} (Trees.more u us) apart r f are readable w =
     let first : h.first ≡ k.first = cc in
     apart_contains k.first (firsts s) (next_firsts l) apart k.listed (subst (λ z. contains (next_firsts l) z ≡ true) first h.listed)
 
--- no member stands at the end
+-- no member is at the end
 nothing_there : {b d : State} {e : Asn1DerError} (u : Tree) (us : Trees) → b.until_end ≡ 0 → IsReadable u → StandUpToEnd b d e (members_encoding (Trees.more u us)) → ⊥
 nothing_there u us z r w = omega (arith, z, w.fills, ap length (members_encoding-more u us), length-append (der u) (members_encoding us), length-der u r)
 
@@ -196,6 +196,18 @@ required_read {s} {l} {b} {c} {d} {t} {ts} r h = record {
   full told {last} {e} f left (Trees.more u us) are readable w =
       h.full told last e f left us are.1 readable.1 (next_up_to_end u us readable.0 r (h.fails last e f) w)
 
+-- no members are there if no tag is, though the end isn't here
+pub untold_refused : {V : Type 0} {members : V → Trees} {l : Layout} {b d : State} {e : Asn1DerError} → RefusesIdentifier b d e → (b.failed ≡ None → 0 < b.until_end) → RefusesLayout members l b d e
+untold_refused {b = b} {d = d} {e = e} h ahead = record {
+  rest = record {
+    fails = h.refuses.fails;
+    none = λ j v p readable order w. no_bytes (ahead j.had_not_failed) w (missing_here (h.missing j).1 w.stand.concerns);
+  };
+} where
+  no_bytes : {bytes : List ℕ} → 0 < b.until_end → (w : StandUpToEnd b d e bytes) → (b.until_end ≡ 0) ⊎ (w.stand.seen ≡ []) → ⊥
+  no_bytes ahead w (inl z) = omega (arith, ahead, z)
+  no_bytes {bytes} ahead w (inr z) = omega (arith, ahead, w.fills, ap length (sym w.stand.begins ∙ z), length-append bytes w.stand.rest)
+
 -- ---- a member that may be missing
 
 -- what values of the types owe, of which the first may be missing
@@ -210,7 +222,7 @@ module _ {V W U : Type 0} (meaning : W → Tree) (others : U → Trees) (s : Sha
       let q = first_is_present s l told.0 (meaning w) (others u) (begins w) readable.0 are in
       f w u q.0 q.1 readable p
 
-  -- members that stand in order
+  -- members that are in order
   abbrev Stand : State → State → Asn1DerError → Trees → Type 0
   Stand b d e ts = AreInOrder b.sets (encodings ts) × StandUpToEnd b d e (members_encoding ts)
 
@@ -227,38 +239,30 @@ module _ {V W U : Type 0} (meaning : W → Tree) (others : U → Trees) (s : Sha
 
   -- no tag was there, or the member was refused
   maybe_head : {b d : State} {e : Asn1DerError} → b.implicit_tag ≡ None → RefusesOptional meaning s b d e → RefusesLayout (λ v. maybe_more meaning (part v) (others (rest v))) (Layout.maybe s l) b d e
-  maybe_head {b} {d} {e} whole (no_tag h ahead) = record {
-    rest = record {
-      fails = h.refuses.fails;
-      none = λ j v p readable order w. no_bytes (ahead j.had_not_failed) w (missing_here (h.missing j).1 w.stand.concerns);
-    };
-  } where
-    no_bytes : {bytes : List ℕ} → 0 < b.until_end → (w : StandUpToEnd b d e bytes) → (b.until_end ≡ 0) ⊎ (w.stand.seen ≡ []) → ⊥
-    no_bytes ahead w (inl z) = omega (arith, ahead, z)
-    no_bytes {bytes} ahead w (inr z) = omega (arith, ahead, w.fills, ap length (sym w.stand.begins ∙ z), length-append bytes w.stand.rest)
+  maybe_head whole (no_tag h ahead) = untold_refused h ahead
   maybe_head whole (no_member mid tag i own r) =
       let p = as_look whole i in
       refused_by (peeks_fails p r.fails)
       (λ told j w u o a readable st. no_value_there w (others u) r (peeks_judged p j) o readable.0 (order_looked p (encodings (Trees.more (meaning w) (others u))) st.0) (stands_looked p st.1).stand)
       (λ told j u a readable st. not_absent p s l (others u) told.0 own r.fails a readable st.1)
 
-  -- it was read, and those behind it were refused
+  -- it was read, and the members after it were refused
   there_next : {b c d : State} {t : Tree} {e : Asn1DerError} → ReadsMember s b c t → RefusesLayout others l c d e → RefusesLayout (λ v. maybe_more meaning (part v) (others (rest v))) (Layout.maybe s l) b d e
   there_next r n = refused_by (fails_behind (takes_member r) n.rest.fails)
       (λ told j w u o a readable st.
       n.rest.none (judged_behind (takes_member r) j) u (told.1, a) readable.1 (next_order (meaning w) (others u) readable.0 r n.rest.fails st.1.stand st.0) (next_up_to_end (meaning w) (others u) readable.0 r n.rest.fails st.1))
       (λ told j u a readable st. not_absent_read s l (others u) told.0 r n.rest.fails a readable st.1)
 
--- it can't be there, and what stands stands behind the look
-record Skips (s : Shape) (b c : State) : Type 0 where
-  fails : (d : State) (e : Asn1DerError) → Fails c d e → Fails b d e
-  judged : (d : State) (e : Asn1DerError) → IsJudged b d e → IsJudged c d e
-  stands : (d : State) (e : Asn1DerError) (bytes : List ℕ) → StandUpToEnd b d e bytes → StandUpToEnd c d e bytes
-  sets : c.sets ≡ b.sets
-  peeks_at_most : (a : State) → PeeksAtMost a b → PeeksAtMost a c
-  not : (d : State) (e : Asn1DerError) (u : Tree) (us : Trees) → Fails c d e → IsOf s u → IsReadable u → StandUpToEnd b d e (members_encoding (Trees.more u us)) → ⊥
+-- it can't be there, and what is follows the look
+pub record Skips (s : Shape) (b c : State) : Type 0 where
+  pub fails : (d : State) (e : Asn1DerError) → Fails c d e → Fails b d e
+  pub judged : (d : State) (e : Asn1DerError) → IsJudged b d e → IsJudged c d e
+  pub stands : (d : State) (e : Asn1DerError) (bytes : List ℕ) → StandUpToEnd b d e bytes → StandUpToEnd c d e bytes
+  pub sets : c.sets ≡ b.sets
+  pub peeks_at_most : (a : State) → PeeksAtMost a b → PeeksAtMost a c
+  pub not : (d : State) (e : Asn1DerError) (u : Tree) (us : Trees) → Fails c d e → IsOf s u → IsReadable u → StandUpToEnd b d e (members_encoding (Trees.more u us)) → ⊥
 
-skips : {s : Shape} {b c : State} → b.implicit_tag ≡ None → Lacks s b c → Skips s b c
+pub skips : {s : Shape} {b c : State} → b.implicit_tag ≡ None → Lacks s b c → Skips s b c
 skips {b = b} whole (no_more h) = record {
   fails = λ d e f. subst (λ x. Fails x d e) h.same f;
   judged = λ d e j. subst (λ x. IsJudged x d e) (sym h.same) j;
@@ -278,7 +282,7 @@ skips {s = s} whole (begins_otherwise tag i other) =
       not = λ d e u us f o r w. not_there p s u us other f o r w;
     }
 
--- it is missing, and those behind it were refused
+-- it is missing, and the members after it were refused
 absent_next : {V W U : Type 0} (meaning : W → Tree) (others : U → Trees) (s : Shape) (l : Layout) (part : V → Option W) (rest : V → U) → ((w : W) → IsBegunBy (firsts s) (meaning w)) → ((u : U) → AreBegunBy (next_firsts l) (others u))
     → {b c d : State} {e : Asn1DerError} → b.implicit_tag ≡ None → Lacks s b c → RefusesLayout others l c d e → RefusesLayout (λ v. maybe_more meaning (part v) (others (rest v))) (Layout.maybe s l) b d e
 absent_next meaning others s l part rest begins begin {b} {c} {d} {e} whole h n =
@@ -287,7 +291,7 @@ absent_next meaning others s l part rest begins begin {b} {c} {d} {e} whole h n 
     (λ told j w u o a readable st. k.not d e (meaning w) (others u) n.rest.fails o readable.0 st.1)
     (λ told j u a readable st. n.rest.none (k.judged d e j) u (told.1, a) readable (subst (λ x. AreInOrder x (encodings (others u))) (sym k.sets) st.0) (k.stands d e (members_encoding (others u)) st.1))
 
--- it was read, and those behind it
+-- it was read, and the members after it
 there_read : {s : Shape} {l : Layout} {b c d : State} {t : Tree} {ts : Trees} → ReadsMember s b c t → ReadsLayout l c d ts → ReadsLayout (Layout.maybe s l) b d (Trees.more t ts)
 there_read {s} {l} {b} {c} {d} {t} {ts} r h = record {
   are = inl (r.reads.of_shape, h.are);
@@ -304,7 +308,7 @@ there_read {s} {l} {b} {c} {d} {t} {ts} r h = record {
   full told {last} {e} f left (Trees.more u us) (inl are) readable w =
       h.full told.1 last e f left us are.1 readable.1 (next_up_to_end u us readable.0 r (h.fails last e f) w)
 
--- it is missing, and those behind it were read
+-- it is missing, and the members after it were read
 absent_read : {s : Shape} {l : Layout} {b c d : State} {ts : Trees} → b.implicit_tag ≡ None → Lacks s b c → ReadsLayout l c d ts → ReadsLayout (Layout.maybe s l) b d ts
 absent_read {s} {l} {b} {c} {d} {ts} whole h n =
     let k : Skips s b c = skips whole h in
@@ -339,7 +343,7 @@ maybe_next meaning others s l part rest begins begin (Some w) whole r h n = ther
 
 module _ {V W U : Type 0} (meaning : W → Tree) (left_out : W → Bool) (others : U → Trees) (s : Shape) (l : Layout) (item : V → Option W) (rest : V → U) (written : (v : V) → IfSome (item v) (λ w. left_out w ≡ false)) (by_tree : IsByTree meaning left_out) (sound : IsSound s)
     (begins : (w : W) → IsBegunBy (firsts s) (meaning w)) (begin : (u : U) → AreBegunBy (next_firsts l) (others u)) where
-  -- the default stands there, and in no row
+  -- the default is there, and in no row
   left_out_found : {b c d : State} {e : Asn1DerError} (x : W) → IsTrue (left_out x) → ReadsMember s b c (meaning x) → Fails c d e → AreMembersTold (Layout.maybe s l) → (o : Option W) (u : U) → IfSome o (λ w. left_out w ≡ false)
       → AreMembersOf (Layout.maybe s l) (maybe_more meaning o (others u)) → AreReadable (maybe_more meaning o (others u)) → StandUpToEnd b d e (members_encoding (maybe_more meaning o (others u))) → ⊥
   left_out_found x is r f told None u q are readable w = not_absent_read s l (others u) told.0 r f (first_is_absent s l told.0 (others u) (begin u) readable are) readable w
@@ -416,7 +420,7 @@ pub layout_refused : {V U : Type 0} {members : U → Trees} {l : Layout} {kind :
     → Refuses (λ v. Tree.list kind (members (part v))) (Shape.fields kind l) a c e
 layout_refused {members = members} {l = l} {kind = kind} part told o r = list_refused kind (λ v. members (part v)) (Shape.fields kind l) (layout_first kind l) o r.rest.fails (λ j v of_shape readable order w. r.rest.none j (part v) (told, of_shape.1) readable order w)
 
--- something is left behind the members
+-- something is left after the members
 pub layout_left : {V : Type 0} {members : V → Trees} {l : Layout} {kind : ListKind} {a b c d : State} {outer : Outer} {ts : Trees} {e : Asn1DerError} → AreMembersTold l → OpensList (list_tag kind) a b outer → ReadsLayout l b c ts → RefusesClose c d e
     → Refuses (λ v. Tree.list kind (members v)) (Shape.fields kind l) a d e
 layout_left {members = members} {l = l} {kind = kind} {b = b} {d = d} {e = e} told o r h =

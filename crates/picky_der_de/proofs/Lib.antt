@@ -11,6 +11,7 @@ pub mod MemberReads
 pub mod PassedOn
 pub mod Rests
 pub mod LayoutReads
+pub mod OtherReads
 pub mod ListReads
 pub mod SetOrder
 pub mod ArrayReads

@@ -13,13 +13,13 @@ use Rattle.picky_der_input.specs.Steps.{Takes, Fails, IsJudged}
 use Rattle.picky_der_input.specs.Order.{AreInOrder, without_order}
 use Rattle.picky_der_input.specs.Reading.{Reads, Refuses}
 use Rattle.picky_der_input.specs.Ends.{Outer, Closes, RefusesClose, OpensList, RefusesList}
-use Rattle.picky_der_de.specs.Members.{ReadsMember, RefusesMember, HasNoMore, members_encoding, StandBefore, BreaksOrder, RefusesTaken, ReadsAll, RefusesAll}
+use Rattle.picky_der_de.specs.Members.{ReadsMember, RefusesMember, HasNoMore, members_encoding, StandBefore, TakesRow, BreaksOrder, RefusesTaken, ReadsAll, RefusesAll}
 use Rattle.picky_der_de.proofs.Rests.{FirstIsUnread, nothing, unread_first, IsAhead, Follow, rest_head, rest_after}
 use Rattle.picky_der_input.proofs.Steps.{takes_none, takes_then}
 use Rattle.picky_der_input.proofs.Order.{judged_behind, order_none}
 use Rattle.picky_der_de.proofs.MemberReads.{members_encoding-more, members_encoding-none, takes_member, member_not_implicit, member_leads, next_member, same_member, order_ahead, order_behind, no_members_in_order, no_member_in_order, member_refused_less, list_refused, list_unopened, list_reads}
 
--- ---- one member more behind others
+-- ---- one member more after others
 
 members_encoding-one : (t : Tree) → members_encoding (Trees.more t Trees.none) ≡ der t
 members_encoding-one t = members_encoding-more t Trees.none ∙ ap (λ x. der t ++ x) members_encoding-none ∙ append-nil (der t)
@@ -40,7 +40,7 @@ pub readable-push : {V : Type 0} (meaning : V → Tree) (vs : List V) (v : V) �
 readable-push meaning [] v h p = (p, tt)
 readable-push meaning (w ∷ vs) v h p = (h.0, readable-push meaning vs v h.1 p)
 
--- what is in order behind these members is so with them in front
+-- members that are in order after these are in order with these in front
 abbrev pub LeadOn : {V : Type 0} → (V → Tree) → State → State → List V → Type 0
 LeadOn meaning old new vs = (ms : List (List ℕ)) → AreInOrder new.sets ms → AreInOrder old.sets (encodings (trees (map meaning vs)) ++ ms)
 
@@ -73,7 +73,7 @@ all_refused {V} {meaning} {s} {c} {d} {e} r ahead = record { rest = rest_head un
     lesser j [] v h w = subst (RefusesTaken c d e) (sym (members_encoding-one (meaning v))) (member_refused_less v Trees.none r j h.of_shape.0 h.readable.0 w).taken
     lesser j (u ∷ us) v h w = absurd (no_member_in_order u (trees (map meaning (us ++ v ∷ []))) (trees (map meaning us)) r j h.of_shape.0 h.readable.0 h.in_order w)
 
--- a member was read, and those after it were refused
+-- a member was read, and the members after it were refused
 pub all_next : {V : Type 0} {meaning : V → Tree} {s : Shape} {b c d : State} {t : Tree} {e : Asn1DerError} → ReadsMember s b c t → RefusesAll meaning s c d e → RefusesAll meaning s b d e
 all_next {V} {meaning} {s} {b} {c} {d} {t} {e} r h = record { rest = rest_after (drop 1) follow r h.rest; lesser = lesser }
   where
@@ -98,7 +98,7 @@ all_next {V} {meaning} {s} {b} {c} {d} {t} {e} r h = record { rest = rest_after 
         let parts : members_encoding (Trees.more (meaning u) others) ≡ der t ++ members_encoding others = members_encoding-more (meaning u) others ∙ ap (λ x. x ++ members_encoding others) same in
         record { mid = q.mid; takes = subst (Takes (without_order b) (without_order q.mid)) (sym parts) (takes_then (takes_member r) q.takes); error = q.error; same = q.same }
 
--- memory was wanted
+-- an allocation failed
 pub all_for_memory : {V : Type 0} {meaning : V → Tree} {s : Shape} {c d : State} {e : Asn1DerError} → Fails c d e → e ≡ OutOfMemory → RefusesAll meaning s c d e
 all_for_memory f is = record { rest = record { fails = f; none = λ j. absurd (j.memory is) }; lesser = λ j. absurd (j.memory is) }
 
@@ -108,16 +108,29 @@ pub record ReadsSome {V : Type 0} (meaning : V → Tree) (s : Shape) (old new : 
   pub of_shape : EachIs (IsOf s) (trees (map meaning vs))
   pub readable : AreReadable (trees (map meaning vs))
   pub leads : LeadOn meaning old new vs
-  pub takes : Takes (without_order old) (without_order new) (members_encoding (trees (map meaning vs)))
-  pub implicit_tag : new.implicit_tag ≡ None
+  pub takes : TakesRow old new (trees (map meaning vs))
+  pub implicit_tag : new.failed ≡ None → new.implicit_tag ≡ None
   pub refuses : (d : State) (e : Asn1DerError) → RefusesAll meaning s new d e → RefusesAll meaning s old d e
 
-pub some_none : {V : Type 0} (meaning : V → Tree) (s : Shape) (a : State) → a.failed ≡ None → a.peeked ≡ None → a.implicit_tag ≡ None → ReadsSome meaning s a a []
-some_none meaning s a h p d = record {
+-- one more member after them
+row_more : {V : Type 0} (meaning : V → Tree) {s : Shape} (a : State) {b c : State} (vs : List V) (v : V) → TakesRow a b (trees (map meaning vs)) → ReadsMember s b c (meaning v) → TakesRow a c (trees (map meaning (vs ++ v ∷ [])))
+row_more meaning {s} a {b} {c} [] v h r =
+    let t : Takes (without_order b) (without_order c) (der (meaning v)) = takes_member r in
+    subst (Takes (without_order a) (without_order c)) (sym (members_encoding-one (meaning v))) (subst (λ z. Takes (without_order z) (without_order c) (der (meaning v))) h t)
+row_more meaning {s} a {b} {c} (w ∷ ws) v h r =
+    subst (Takes (without_order a) (without_order c)) (sym (members_encoding-push meaning (w ∷ ws) v)) (takes_then h (takes_member r))
+
+-- from a state in which no byte was looked at
+row_takes : (a b : State) (ts : Trees) → a.failed ≡ None → a.peeked ≡ None → TakesRow a b ts → Takes (without_order a) (without_order b) (members_encoding ts)
+row_takes a b Trees.none f p h = subst (λ z. Takes (without_order a) (without_order z) (members_encoding Trees.none)) (sym h) (subst (Takes (without_order a) (without_order a)) (sym members_encoding-none) (takes_none (without_order a) f p))
+row_takes a b (Trees.more t ts) f p h = h
+
+pub some_none : {V : Type 0} (meaning : V → Tree) (s : Shape) (a : State) → (a.failed ≡ None → a.implicit_tag ≡ None) → ReadsSome meaning s a a []
+some_none meaning s a d = record {
   of_shape = tt;
   readable = tt;
   leads = leads-none meaning a;
-  takes = subst (Takes (without_order a) (without_order a)) (sym members_encoding-none) (takes_none (without_order a) h p);
+  takes = refl;
   implicit_tag = d;
   refuses = λ d e r. r;
 }
@@ -127,8 +140,8 @@ some_more meaning s {a} {b} {c} vs v h r = record {
   of_shape = each-push meaning (IsOf s) vs v h.of_shape r.reads.of_shape;
   readable = readable-push meaning vs v h.readable r.reads.readable;
   leads = leads-push meaning a vs v h.leads r;
-  takes = subst (Takes (without_order a) (without_order c)) (sym (members_encoding-push meaning vs v)) (takes_then h.takes (takes_member r));
-  implicit_tag = member_not_implicit r;
+  takes = row_more meaning a vs v h.takes r;
+  implicit_tag = λ n. member_not_implicit r;
   refuses = λ d e w. h.refuses d e (all_next r w);
 }
 
@@ -137,8 +150,9 @@ some_all {meaning = meaning} {a = a} {b = b} {vs = vs} h n = record {
   order = leads-all meaning a b vs h.leads;
   of_shape = h.of_shape;
   readable = h.readable;
-  takes = subst (λ z. Takes (without_order a) (without_order z) (members_encoding (trees (map meaning vs)))) (sym n.same) h.takes;
-  implicit_tag = ap (λ (z : State). z.implicit_tag) n.same ∙ h.implicit_tag;
+  takes = subst (λ z. TakesRow a z (trees (map meaning vs))) (sym n.same) h.takes;
+  not_failed = ap (λ (z : State). z.failed) n.same ∙ n.had_not_failed;
+  implicit_tag = ap (λ (z : State). z.implicit_tag) n.same ∙ h.implicit_tag n.had_not_failed;
   reached = ap (λ (z : State). z.until_end) n.same ∙ n.reached;
 }
 
@@ -167,12 +181,13 @@ module _ {V W : Type 0} (meaning : W → Tree) (s : Shape) {tag : ℕ} (is : IsL
       list_refused (list_kind tag) (λ v. trees (map meaning (items v))) (Shape.list_of (list_kind tag) s) (list_first (list_kind tag) s) (subst (λ t. OpensList t a b outer) (sym (list_tagged is)) h) r.rest.fails
       (λ j v of_shape readable order w. r.rest.none j (items v) of_shape.1 readable order w)
 
--- nothing is left behind the last member
+-- nothing is left after the last member
 pub all_closed : {V : Type 0} {meaning : V → Tree} {s : Shape} {b c d : State} {vs : List V} {e : Asn1DerError} → ReadsAll meaning s b c vs → RefusesClose c d e → ⊥
-all_closed r k = omega (arith, r.reached, (k.left r.takes.not_failed).0)
+all_closed r k = omega (arith, r.reached, (k.left r.not_failed).0)
 
 -- all were read
 pub list_of_reads : {V : Type 0} (meaning : V → Tree) (s : Shape) {tag : ℕ} → IsListTag tag → {a b c d : State} {outer closed : Outer} (vs : List V) → OpensList tag a b outer → ReadsAll meaning s b c vs → Closes closed c d → closed ≡ outer
     → Reads (Shape.list_of (list_kind tag) s) a d (Tree.list (list_kind tag) (trees (map meaning vs)))
-list_of_reads meaning s is {a} {b} {outer = outer} vs h r k same =
-    list_reads (trees (map meaning vs)) (subst (λ t. OpensList t a b outer) (sym (list_tagged is)) h) r.order r.takes r.implicit_tag k same (refl, r.of_shape) r.readable
+list_of_reads meaning s is {a} {b} {c} {outer = outer} vs h r k same =
+    let takes = row_takes b c (trees (map meaning vs)) (ap (λ (z : State). z.failed) h.opened ∙ h.begins.takes.not_failed) (ap (λ (z : State). z.peeked) h.opened ∙ h.begins.takes.unpeeked) r.takes in
+    list_reads (trees (map meaning vs)) (subst (λ t. OpensList t a b outer) (sym (list_tagged is)) h) r.order takes r.implicit_tag k same (refl, r.of_shape) r.readable

@@ -52,7 +52,7 @@ next_in_order l t ts h = order_next l (der t) (encodings ts) (subst (AreInOrder 
 
 -- ---- one member
 
--- a value that doesn't stand directly under an implicit tag
+-- a value that isn't directly under an implicit tag
 pub takes_whole : {s : Shape} {b c : State} {t : Tree} → Reads s b c t → b.implicit_tag ≡ None → Takes b c (der t)
 takes_whole {b = b} {c = c} {t = t} r implicit_tag = subst (λ d. Takes b c (written_at (place_in d b.until_end) t)) implicit_tag r.takes
 
@@ -66,7 +66,7 @@ member_not_implicit r = ap (λ (z : State). z.implicit_tag) r.follows.same ∙ r
 last_member : {s : Shape} {b c : State} {t : Tree} → ReadsMember s b c t → c.sets ≡ with_last b.sets (der t)
 last_member {t = t} r = ap (λ (z : State). z.sets) r.follows.same ∙ ap (λ l. with_last l (der t)) r.reads.takes.sets
 
--- and what is in order behind it is so with it in front
+-- and members that are in order after it are in order with it in front
 pub member_leads : {s : Shape} {b c : State} {t : Tree} → ReadsMember s b c t → (ms : List (List ℕ)) → AreInOrder c.sets ms → AreInOrder b.sets (der t ∷ ms)
 member_leads {b = b} {t = t} r ms h =
     let first : is_out_of_order b.sets (der t) ≡ false = ap (λ l. is_out_of_order l (der t)) (sym r.reads.takes.sets) ∙ r.follows.in_order in
@@ -75,7 +75,7 @@ member_leads {b = b} {t = t} r ms h =
 pub members_lead : {s : Shape} {b c : State} {t : Tree} (ts : Trees) → ReadsMember s b c t → AreInOrder c.sets (encodings ts) → AreInOrder b.sets (encodings (Trees.more t ts))
 members_lead {b = b} {t = t} ts r h = subst (AreInOrder b.sets) (sym (encodings-more t ts)) (member_leads r (encodings ts) h)
 
--- Members behind one that has the same encoding as what was read: they are in order with it in front just where they are so
+-- Members after one that has the same encoding as what was read: they are in order with it in front exactly if they are so
 -- from there on.
 pub order_ahead : {s : Shape} {b c : State} {t : Tree} (u : Tree) (us : Trees) → der u ≡ der t → ReadsMember s b c t → AreInOrder c.sets (encodings us) → AreInOrder b.sets (encodings (Trees.more u us))
 order_ahead {b = b} u us same r h = subst (AreInOrder b.sets) (ap (λ x. x ∷ encodings us) (sym same) ∙ sym (encodings-more u us)) (member_leads r (encodings us) h)
@@ -111,7 +111,7 @@ test_fails (without_memory n f is same) = f
 pub member_untested : {V : Type 0} {meaning : V → Tree} {s : Shape} {a b c : State} {t : Tree} {e : Asn1DerError} → Reads s a b t → RefusesTest (der t) b c e → (a.failed ≡ None → a.implicit_tag ≡ None) → RefusesMember meaning s a c e
 member_untested {b = b} {t = t} r h d = record { fails = fails_after r.takes (test_fails h); refuses = behind_value b t r h; implicit_tag = d }
 
--- nothing stands whole at the end
+-- nothing is whole at the end
 nothing_here : {V : Type 0} (meaning : V → Tree) {s : Shape} {a c : State} {e : Asn1DerError} {end : ℕ} {bs : List ℕ} (v : V) → a.until_end ≡ 0 → e ≡ TruncatedData → Concerns a c e end bs → StandsAt Place.whole s bs end (meaning v) → ⊥
 nothing_here meaning v z is (now i r) st = omega (arith, st.within, length-der (meaning v) st.readable)
 nothing_here meaning v z is (ever n r d y left i q f) st = n is
@@ -131,7 +131,7 @@ pub record IsRefusedLess (old new : State) (e : Asn1DerError) (encoding : List �
   pub taken : RefusesTaken old new e encoding
   pub less : is_out_of_order old.sets encoding ≡ true
 
--- the bytes of a value were taken: they are those of the first that stands, and the bytes of the others are those behind it
+-- the bytes of a value were consumed: they begin with the bytes of the first member, and the bytes of the others follow
 same_first : {b c d : State} {e : Asn1DerError} (t u : Tree) (us : Trees) → IsReadable u → IsReadable t → (m : Takes b c (der t)) → (l : c.taken ≤ drawn_count d) → {end : ℕ} {seen : List ℕ} (w : Concerns b d e end seen) (rest : List ℕ) → seen ≡ members_encoding (Trees.more u us) ++ rest
     → (der u ≡ der t) × (members_encoding us ++ rest ≡ (concerns_behind m l w).rest)
 same_first t u us readable read m l w rest begins =
@@ -140,7 +140,7 @@ same_first t u us readable read m l w rest begins =
     sym (append_assoc (der u) (members_encoding us) rest) ∙ ap (λ x. x ++ rest) (sym (members_encoding-more u us)) ∙ sym begins ∙ v.begins in
     same_encoding u t (members_encoding us ++ rest) v.rest readable read same
 
--- a member was read, and others stand behind it
+-- a member was read, and others follow it
 module _ {s : Shape} {b c d : State} {e : Asn1DerError} {t : Tree} (u : Tree) (us : Trees) (readable : IsReadable u) (r : ReadsMember s b c t) (f : Fails c d e) (w : StandBefore b d e (members_encoding (Trees.more u us))) where
   pub same_member : (der u ≡ der t) × (members_encoding us ++ w.rest ≡ (concerns_behind (takes_member r) (failed_grows f) (concerns_without_order w.concerns)).rest)
   same_member = same_first t u us readable r.reads.readable (takes_member r) (failed_grows f) (concerns_without_order w.concerns) w.rest w.begins
@@ -171,7 +171,7 @@ next_up_to_end u us readable r f w =
       fills = omega (arith, w.fills, ap length (members_encoding-more u us), length-append (der u) (members_encoding us), ap length p.0, (takes_member r).until_end);
     }
 
--- The next member was refused. Where a value of its type stands there, it was read, and refused for its order.
+-- The next member was refused. Where a value of its type is there, it was read, and refused for its order.
 module _ {V : Type 0} (meaning : V → Tree) {s : Shape} {c d : State} {e : Asn1DerError} (v : V) (us : Trees) (implicit_tag : c.implicit_tag ≡ None) (j : IsJudged c d e) (of_shape : IsOf s (meaning v)) (readable : IsReadable (meaning v))
     (w : StandBefore c d e (members_encoding (Trees.more (meaning v) us))) where
   unread : Refuses meaning s c d e → ⊥
@@ -204,7 +204,7 @@ pub member_refused_less : {V : Type 0} {meaning : V → Tree} {s : Shape} {c d :
     → StandBefore c d e (members_encoding (Trees.more (meaning v) us)) → IsRefusedLess c d e (der (meaning v))
 member_refused_less {meaning = meaning} v us r j of_shape readable w = refused_less meaning v us (r.implicit_tag j.had_not_failed) j of_shape readable w r.refuses
 
--- so none stands there in order
+-- so none is there in order
 pub no_member_in_order : {V : Type 0} {meaning : V → Tree} {s : Shape} {c d : State} {e : Asn1DerError} (v : V) (us vs : Trees) → RefusesMember meaning s c d e → IsJudged c d e → IsOf s (meaning v) → IsReadable (meaning v) → AreInOrder c.sets (encodings (Trees.more (meaning v) vs))
     → StandBefore c d e (members_encoding (Trees.more (meaning v) us)) → ⊥
 no_member_in_order {meaning = meaning} {c = c} v us vs r j of_shape readable order w = true≢false (sym (member_refused_less v us r j of_shape readable w).less ∙ first_in_order c.sets (meaning v) vs order)
@@ -226,7 +226,7 @@ opened_in_order kind ts h i = subst (λ l. AreInOrder l (encodings ts)) (sym (ap
 pub whole_in_order : (kind : ListKind) {a b : State} {outer : Outer} (ts : Trees) → OpensList (list_tag kind) a b outer → AreInOrder b.sets (encodings ts) → IsInOrder kind (encodings ts)
 whole_in_order kind ts h i = order_whole kind h.mid.sets (encodings ts) (subst (λ l. AreInOrder l (encodings ts)) (ap (λ (z : State). z.sets) h.opened) i)
 
--- the members of a list that stands, before the list's end
+-- the members of a list, before the list's end
 members_stand : (kind : ListKind) (s : Shape) {a b c : State} {outer : Outer} {e : Asn1DerError} {end : ℕ} {bs : List ℕ} (ts : Trees) → OpensList (list_tag kind) a b outer → Fails b c e → Concerns a c e end bs → StandsAt (place_of a) s bs end (Tree.list kind ts) → StandUpToEnd b c e (members_encoding ts)
 members_stand kind s {b = b} {c = c} {e = e} ts h f w st =
     let grows : h.mid.taken ≤ drawn_count c = omega (arith, failed_grows f, ap (λ (z : State). z.taken) h.opened) in
@@ -244,7 +244,7 @@ members_stand kind s {b = b} {c = c} {e = e} ts h f w st =
     } in
     subst (λ z. StandUpToEnd z c e (members_encoding ts)) (sym h.opened) (record { stand = stand; fills = size })
 
--- a list whose header was taken, and whose members can't stand there
+-- a list whose header was consumed, and whose members can't be there
 pub list_refused : {V : Type 0} (kind : ListKind) (members : V → Trees) (s : Shape) → IsFirst s (list_tag kind) → {a b c : State} {outer : Outer} {e : Asn1DerError} → OpensList (list_tag kind) a b outer → Fails b c e
     → (IsJudged b c e → (v : V) → IsOf s (Tree.list kind (members v)) → AreReadable (members v) → AreInOrder b.sets (encodings (members v)) → StandUpToEnd b c e (members_encoding (members v)) → ⊥) → Refuses (λ v. Tree.list kind (members v)) s a c e
 list_refused kind members s first {a} {b} {c} {outer} {e} h f none =

@@ -1,4 +1,4 @@
--- What an answer that `?` passes on holds.
+-- What a result that `?` passes on holds.
 use Rattle.std.proofs.Common.{◌≡◌, IfErr, IsErrAnd, Result, Ok, Err}
 use Rattle.picky_der_core.specs.declared.error.Asn1DerError.{Asn1DerError}
 use Rattle.picky_der_core.specs.Tree.{Tree}

@@ -1,4 +1,4 @@
--- Calls behind a look at the next byte: what they do is done from before it.
+-- Calls after a look at the next byte: what they do is done from before it.
 use Rattle.std.proofs.Common.{◌≡◌, ℕ, ◌≤◌, inl, inr, List, [], ◌∷◌, ◌++◌, length, Option, Some, None, IfSome, sym, ◌∙◌, ap, subst, arith, length-append}
 use Rattle.std.specs.Io.KnownBytes.{Consumes}
 use Rattle.std.proofs.KnownBytes.{Consumes-trans}
@@ -24,7 +24,7 @@ at_most_one : (p : Option ℕ) → count_of_any p ≤ 1
 at_most_one None = omega arith
 at_most_one (Some b) = omega arith
 
--- a look draws no byte that isn't there
+-- a look consumes no byte that isn't there
 module _ {a b : State} {x : ℕ} (p : Peeks a b x) where
   still_taken : b.taken ≡ a.taken
   still_taken = ap (λ (s : State). s.taken) p.same
@@ -97,7 +97,7 @@ module _ {a b : State} {x : ℕ} (p : Peeks a b x) where
   known_next None bs h e = absurd (let q : None ≡ Some bs = e in cc)
   known_next (Some xs) bs h e = let same : xs ≡ bs = cc in (h.rest, sym same ∙ h.is)
 
-  -- what a refusal speaks of begins with that byte
+  -- the bytes to which a refusal applies begin with that byte
   pub peeks_front : {c : State} {e : Asn1DerError} {end : ℕ} {bs : List ℕ} → Fails b c e → Concerns a c e end bs → (left : List ℕ) × (bs ≡ x ∷ left)
   peeks_front {c} {e} {end} {bs} f (now i r) = known_next a.input bs p.next i
   peeks_front {c} {e} {end} {bs} f (ever w r d y left i l g) =
@@ -119,12 +119,12 @@ module _ {a b : State} {x : ℕ} (p : Peeks a b x) where
     first = λ j k d l y left i. h.first (peeks_judged j) k no_implicit_tag (omega (arith, l, still_room)) y left (kept_known a.input b.input (y ∷ left) p.input i);
   }
 
--- ---- where a value stands
+-- ---- where a value is
 
 pub is_whole : (s : State) → s.implicit_tag ≡ None → place_of s ≡ Place.whole
 is_whole s d = ap (λ z. place_in z s.until_end) d
 
--- none stands where a byte is missing
+-- no value is there where a byte is missing
 pub nothing_whole : {a c : State} {e : Asn1DerError} {s : Shape} {end : ℕ} {bs : List ℕ} {t : Tree} → a.implicit_tag ≡ None → IsMissing a e → Concerns a c e end bs → StandsAt (place_of a) s bs end t → ⊥
 nothing_whole {a} {s = s} {end = end} {bs = bs} {t = t} d m w st =
     let st' = subst (λ z. StandsAt z s bs end t) (is_whole a d) st in
@@ -134,7 +134,7 @@ nothing_whole {a} {s = s} {end = end} {bs = bs} {t = t} d m w st =
       | inr ended ↦ omega (arith, some, ap length (sym st'.front.is ∙ ended), length-append (der t) st'.front.rest)
     ]
 
--- ---- behind a look at the tag
+-- ---- after a look at the tag
 
 pub through_identifies : (P : State → Type 0) {a b : State} {tag : ℕ} → (d : Option ℕ) → IdentifiesIn d a b tag → (Peeks a b tag → P b → P a) → P b → P a
 through_identifies P None h f k = f h k
@@ -143,7 +143,7 @@ through_identifies P (Some number) h f k = subst P h.2 k
 pub identified_refuses : {V : Type 0} {meaning : V → Tree} {s : Shape} {a b c : State} {tag : ℕ} {e : Asn1DerError} → Identifies a b tag → Refuses meaning s b c e → Refuses meaning s a c e
 identified_refuses {meaning = meaning} {s = s} {a = a} {c = c} {e = e} h r = through_identifies (λ x. Refuses meaning s x c e) a.implicit_tag h.is (λ p k. peeks_refuses p k) r
 
--- no value stands where no tag does
+-- no value is there if no tag is
 pub refuses_identifier : {V : Type 0} {meaning : V → Tree} {s : Shape} {a c : State} {e : Asn1DerError} → RefusesIdentifier a c e → Refuses meaning s a c e
 refuses_identifier {a = a} h = record {
   fails = h.refuses.fails;

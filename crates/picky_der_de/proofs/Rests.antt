@@ -1,6 +1,5 @@
--- Members from one on up to the end of their list, read and refused: those of rows, lists, arrays and layouts, and of types whose values
--- don't all have as many.
--- Each call gives one record, and one lemma takes it.
+-- Members from one on up to the end of their list, read and refused. They are members of rows, lists, arrays and layouts, and of types whose values don't all
+-- have as many. Each call gives one record, for one lemma.
 use Rattle.std.specs.Prelude.{⊤}
 use Rattle.std.proofs.Common.{◌≡◌, ◌<◌, ◌∷◌, ◌++◌, None, refl, sym, ◌∙◌, ap, subst, arith}
 use Rattle.picky_der_core.specs.declared.error.Asn1DerError.{Asn1DerError}
@@ -19,14 +18,14 @@ use Rattle.picky_der_input.proofs.Steps.{takes_none, takes_then}
 use Rattle.picky_der_input.proofs.Order.{fails_behind, judged_behind}
 use Rattle.picky_der_de.proofs.MemberReads.{members_encoding-more, members_encoding-none, no_members_in_order, takes_member, members_lead, member_not_implicit, member_ahead, next_order, next_up_to_end, no_member, none_left, list_refused, list_unopened, list_reads}
 
--- the members behind the first one
+-- the members after the first one
 abbrev pub behind_first : Trees → Trees
 behind_first Trees.none = Trees.none
 behind_first (Trees.more t ts) = ts
 
 -- ---- refused
 
--- Why these members don't stand where the next one was refused: there are none, and something is left; or the first is
+-- Why these members aren't where the next one was refused: there are none, and something is left; or the first is
 -- written as a value of the type that was refused.
 pub data FirstIsUnread {W : Type 0} (meaning : W → Tree) (s : Shape) (Ahead : Type 0) : Trees → Type 0 where
   nothing : Ahead → FirstIsUnread meaning s Ahead Trees.none
@@ -74,7 +73,7 @@ module _ {V : Type 0} {P : V → Type 0} {members : V → Trees} where
   pub rest_head : {W : Type 0} {meaning : W → Tree} {s : Shape} {c d : State} {e : Asn1DerError} → ((v : V) → P v → AreReadable (members v) → FirstIsUnread meaning s (IsAhead c) (members v)) → RefusesMember meaning s c d e → RefusesRest P members c d e
   rest_head unread r = record { fails = r.fails; none = λ j v p readable order w. first_refused (members v) r j (unread v p readable) order w }
 
-  -- a member was read, and those after it were refused
+  -- a member was read, and the members after it were refused
   pub rest_after : {U : Type 0} {Q : U → Type 0} {others : U → Trees} (part : V → U) {s : Shape} {b c d : State} {t : Tree} {e : Asn1DerError} → ((v : V) → P v → Follow (Q (part v)) (others (part v)) (members v)) → ReadsMember s b c t → RefusesRest Q others c d e → RefusesRest P members b d e
   rest_after {U} {Q} {others} part {s} {b} {c} {d} {t} {e} follow r h = record {
     fails = fails_behind (takes_member r) h.fails;
@@ -90,7 +89,7 @@ module _ {V : Type 0} {P : V → Type 0} {members : V → Trees} where
   pub rest_next : {s : Shape} {b c d : State} {t : Tree} {e : Asn1DerError} → ReadsMember s b c t → RefusesRest P (λ v. behind_first (members v)) c d e → RefusesRest P members b d e
   rest_next r h = rest_after (λ v. v) (λ v p. follow_first (P v) (members v) p) r h
 
-  -- a member was read which is the last one of all values, and something is left behind it
+  -- a member was read which is the last one of all values, and something is left after it
   pub rest_left : {s : Shape} {b c d : State} {t : Tree} {e : Asn1DerError} → ((v : V) → behind_first (members v) ≡ Trees.none) → ReadsMember s b c t → RefusesClose c d e → RefusesRest P members b d e
   rest_left {c = c} {d = d} {e = e} last r k = rest_next r (record {
     fails = k.fails;
@@ -128,7 +127,7 @@ row_none {c = c} f p d = record {
   implicit_tag = d;
 }
 
--- a member was read, and those behind it
+-- a member was read, and the members after it
 pub row_read : {s : Shape} {l : Layout} {b c d : State} {t : Tree} {ts : Trees} → ReadsMember s b c t → ReadsRow l c d ts → ReadsRow (Layout.required s l) b d (Trees.more t ts)
 row_read {b = b} {d = d} {t = t} {ts = ts} r h = record {
   of_shape = (r.reads.of_shape, h.of_shape);

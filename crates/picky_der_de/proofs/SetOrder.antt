@@ -23,7 +23,7 @@ use Rattle.picky_der_input.proofs.Refusals.{front_consumed}
 use Rattle.picky_der_de.specs.Members.{members_encoding, StandBefore, BreaksOrder, RefusesAll, RefusesUnordered}
 use Rattle.picky_der_de.proofs.MemberReads.{opened_in_order, whole_in_order}
 
--- the headers at the front of the same bytes are one, and what is behind them too
+-- two headers at the front of the same bytes are one, and the bytes after them are the same
 same_header : (d : Option ℕ) (n m until_end left : ℕ) (x y : List ℕ) → until_end ≡ length (header_bytes d 0x31 m) + left → IfSome d (λ number. n ≡ until_end) → IfSome d (λ number. m ≡ left)
     → header_bytes d 0x31 n ++ x ≡ header_bytes d 0x31 m ++ y → (n ≡ m) × (x ≡ y)
 same_header None n m until_end left x y is a b e =
@@ -31,7 +31,7 @@ same_header None n m until_end left x y is a b e =
     length_octets_prefix n m x y lengths
 same_header (Some number) n m until_end left x y is a b e = (omega arith, e)
 
--- a header that stands there isn't refused
+-- a header that is there isn't refused
 no_header_refused : (d : Option ℕ) (n until_end : ℕ) (y : List ℕ) (hard : Bool) (r : Refusal) → d ≡ None → until_end < 2 ^ 64 → length (header_bytes d 0x31 n) + n ≤ until_end
     → header_refusal 0x31 hard until_end (take until_end (header_bytes d 0x31 n ++ y)) ≡ Some r → ⊥
 no_header_refused None n until_end y hard r d small fits is =
@@ -76,7 +76,7 @@ module _ {V : Type 0} {meaning : V → Tree} {s : Shape} where
         unpeeked = ap (λ (z : State). z.peeked) t.same ∙ t.takes.unpeeked;
       }
 
-  -- the header was refused, so none stands there
+  -- the header was refused, so none is there
   pub unordered_unopened : {a c : State} {e : Asn1DerError} → RefusesList 0x31 a c e → RefusesUnordered meaning s a c e
   unordered_unopened {a} {c} {e} h j vs v out bs rest known in_set =
       let p = h.begin.header j in

@@ -19,7 +19,7 @@ use Rattle.picky_der_input.specs.Reading.{Reads, Refuses, now, ever}
 use Rattle.picky_der_de.specs.Entry.{any_length, IsFront}
 use Rattle.picky_der_de.specs.Whole.{IsEncodingOf, IsWhole, IsNoEncoding}
 
--- what is encoded by all bytes stands at their front
+-- what is encoded by all bytes is at their front
 stands : {V : Type 0} (meaning : V → Tree) (s : Shape) (bytes : List ℕ) (v : V) → IsEncodingOf meaning s bytes v → StandsAt Place.whole s bytes (length bytes) (meaning v)
 stands meaning s bytes v e = record {
   of_shape = e.of_shape;
@@ -31,7 +31,7 @@ stands meaning s bytes v e = record {
 
 -- ---- a value was read
 
--- as many bytes were taken as its encoding has
+-- as many bytes were consumed as its encoding has
 pub taken_all : {s : Shape} {old new : State} {t : Tree} {input : Option (List ℕ)} {limit : ℕ} {faults : List Fault} {references : List ℕ} → old ≡ fresh input limit faults references → Reads s old new t → new.taken ≡ length (der t)
 taken_all {s} {old} {new} {t} {input} {limit} {faults} {references} is r =
     let r : Reads s (fresh input limit faults references) new t = subst (λ o. Reads s o new t) is r in
@@ -45,7 +45,7 @@ module _ {V : Type 0} {meaning : V → Tree} {s : Shape} {eq : V → V → Bool}
       none_left [] h = refl
       none_left (b ∷ z) h = absurd (omega (arith, h))
 
-  -- it took all bytes
+  -- it consumed all bytes
   pub is_whole : position ≡ length bytes → IsWhole meaning s eq bytes v
   is_whole all = record {
     is = record { of_shape = f.reads.of_shape; readable = f.reads.readable; encoding = whole_encoding all };
@@ -79,7 +79,7 @@ peeked_count None = omega arith
 peeked_count (Some b) = omega arith
 
 module _ {V : Type 0} (meaning : V → Tree) (s : Shape) {new : State} {bytes : List ℕ} {e : Asn1DerError} (h : Refuses meaning s (fresh (Some bytes) (length bytes) [] []) new e) where
-  -- bytes that begin as what was drawn begin no value's encoding
+  -- bytes that begin as what was consumed begin no value's encoding
   after_drawn : IsJudged (fresh (Some bytes) (length bytes) [] []) new e → e ≢ TruncatedData → (more : List ℕ) (v : V) → IsEncodingOf meaning s (take (new.taken + 1) bytes ++ more) v → length (der (meaning v)) ≤ any_length → ⊥
   after_drawn judged cut more v enc fits =
       let n = drawn_count new in

@@ -68,9 +68,9 @@ opened_fails {outer = outer} o f = fails_after o.takes (fails_with_outer_end out
 opened_judged : {w : Wrapper} {a b c : State} {outer : Outer} {e : Asn1DerError} → OpensWrapper w a b outer → IsJudged a c e → IsJudged b c e
 opened_judged {outer = outer} o j = judged_with_outer_end outer (judged_after o.takes j)
 
--- ---- what stands in a wrapper
+-- ---- what is in a wrapper
 
--- bytes of which a refusal speaks begin with what is written of the tree, which fills what is left before the wrapper's end
+-- bytes to which a refusal applies begin with what is written of the tree, which fills what is left before the wrapper's end
 record FillsWrapper (w : Wrapper) (b c : State) (e : Asn1DerError) (s : Shape) (u : Tree) : Type 0 where
   pub seen : List ℕ
   pub concerns : Concerns b c e b.until_end seen
@@ -134,14 +134,14 @@ not_opened meaning s {w} {a} {c} {e} {end} {bs} r j k v st =
 first_opened : {w : Wrapper} {a b : State} {outer : Outer} (s : Shape) → OpensWrapper w a b outer → (x : ℕ) (left : List ℕ) → a.input ≡ Some (x ∷ left) → IsFirst (Shape.wrapped w s) x
 first_opened {w} {a} {b} s o x left q = subst (IsFirst (Shape.wrapped w s)) (sym (taken_first a.input b.input (wrapper_tag w) x (length_octets o.size ++ wrapper_front w) left o.takes.input q)) (first_wrapped w s o.number)
 
--- bytes are left over behind a value that was read, so no value fills the wrapper
+-- bytes are left over after a value that was read, so no value fills the wrapper
 not_filled : {s : Shape} {w : Wrapper} {b last c : State} {e : Asn1DerError} {t u : Tree} → Reads s b last t → Fails last c e → 0 < last.until_end → FillsWrapper w b c e s u → ⊥
 not_filled {s} {w} {b} {last} {c} {e} {t} {u} r f l z =
     let y = concerns_behind r.takes (failed_grows f) z.concerns in
     let full = same_size b.implicit_tag b.until_end s t u y.rest z.stands.front.rest r.of_shape z.stands.of_shape r.readable z.stands.readable r.may_stand z.stands.may_stand (sym y.begins ∙ z.stands.front.is) z.fills in
     omega (arith, full, r.takes.until_end, l)
 
--- no value was read in this wrapper, and none stands there
+-- no value was read in this wrapper, and none is there
 pub refuses_wrapped : {V : Type 0} {meaning : V → Tree} {s : Shape} {w : Wrapper} {a c : State} {e : Asn1DerError} → RefusesWrapped meaning s w a c e → Refuses (λ v. Tree.wrapped w (meaning v)) (Shape.wrapped w s) a c e
 refuses_wrapped {meaning = meaning} {s = s} {w = w} (before_value r) = record {
   fails = r.fails;

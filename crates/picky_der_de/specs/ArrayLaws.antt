@@ -41,7 +41,7 @@ slots_of_shape meaning s has zero (v ∷ vs) e r = absurd (omega (arith, e))
 slots_of_shape meaning s has (suc n) [] e r = absurd (omega (arith, e))
 slots_of_shape meaning s has (suc n) (v ∷ vs) e r = (has v r.0, slots_of_shape meaning s has n vs (omega (arith, e)) r.1)
 
--- readable members are those of an array with as many slots
+-- readable members are the members of an array with as many slots
 there : (t : Bool) (ts : Trees) → AreReadable (if_as_many t ts) → if_as_many t ts ≡ ts
 there true ts r = refl
 there false ts r = absurd r.0

@@ -1,4 +1,4 @@
--- Choices, whose alternatives are told by their first bytes.
+-- Choices, whose alternatives are distinguished by their first bytes.
 use Rattle.std.specs.Prelude.{◌≡◌, ℕ, Bool, true, false, ◌⊎◌, ◌++◌, IsTrue, refl}
 use Rattle.std.proofs.Common.{inl, inr, sym, subst}
 use Rattle.picky_der_core.specs.declared.error.Asn1DerError.{Asn1DerError}
@@ -15,7 +15,7 @@ use Rattle.picky_der_de.specs.declared.alternatives.OneOf.TheVariants.{This, Oth
 use Rattle.picky_der_de.specs.Firsts.{IsBegunBy, begins_among}
 use Rattle.picky_der_de.specs.InjectiveLaws.{IsInjective, HasShape}
 
--- what a value of one alternative, or of those behind it, means
+-- what a value of one alternative, or of a later one, means
 abbrev pub chosen_of : {A B : Type 0} → (A → Tree) → (B → Tree) → OneOf A B → Tree
 chosen_of m n (This a) = m a
 chosen_of m n (Other b) = n b
@@ -26,20 +26,20 @@ equal_this_or_other p q (This a) (This c) = p a c
 equal_this_or_other p q (Other b) (Other d) = q b d
 equal_this_or_other p q _ _ = false
 
--- ---- behind a look at the first byte
+-- ---- after a look at the first byte
 
 -- an alternative was read, which makes it the choice of these that began with the byte
 abbrev pub ReadsBehind : Shapes → ℕ → State → State → Tree → Type 0
 ReadsBehind ss byte old new t = (before : State) → Peeks before old byte → Reads (Shape.choice ss) before new (Tree.choice t)
 
--- none was read, and no choice of these begins with the byte there, if one byte tells them
+-- none was read, and no choice of these begins with the byte there, if one byte distinguishes them
 pub record RefusesBehind {V : Type 0} (meaning : V → Tree) (ss : Shapes) (byte : ℕ) (old new : State) (e : Asn1DerError) : Type 0 where
   pub fails : Fails old new e
   pub refuses : AreTold ss → (before : State) → Peeks before old byte → Refuses (λ v. Tree.choice (meaning v)) (Shape.choice ss) before new e
 
--- ---- alternatives that are told
+-- ---- alternatives that are distinguished
 
--- where a first byte tells the alternatives, two readable values with one tree are equal
+-- where a first byte distinguishes the alternatives, two readable values with one tree are equal
 abbrev pub AreKnownApart : {V : Type 0} → (V → Tree) → Shapes → (V → V → Bool) → Type 0
 AreKnownApart {V} meaning ss eq = AreTold ss → (v w : V) → IsOneOf ss (meaning v) → IsOneOf ss (meaning w) → IsReadable (meaning v) → meaning v ≡ meaning w → eq v w ≡ true
 
@@ -83,6 +83,6 @@ pub this_or_other_has_shape : {A B : Type 0} (m : A → Tree) (n : B → Tree) (
 this_or_other_has_shape m n s ss this other (This a) r = inl (this a r)
 this_or_other_has_shape m n s ss this other (Other b) r = inr (other b r)
 
--- of the choice of them
+-- the same for the choice of them
 pub choice_injective : {P : Type 0} (m : P → Tree) (ss : Shapes) (eq : P → P → Bool) → AreTold ss → AreKnownApart m ss eq → IsInjective (λ p. Tree.choice (m p)) (Shape.choice ss) eq
 choice_injective m ss eq told known p q o k r e = let f : m p ≡ m q = cc in known told p q o k r f

@@ -1,4 +1,4 @@
--- What a whole read answers.
+-- What a whole read returns.
 use Rattle.std.specs.Prelude.{◌≡◌, ◌≢◌, ℕ, ◌-◌, ◌^◌, ◌<◌, ◌≤◌, List, [], ◌∷◌, ◌++◌, length, Bool, true, Option, Some}
 use Rattle.std.specs.Io.KnownBytes.{Consumes, Keeps, IsAtEnd}
 use Rattle.picky_der_core.specs.declared.error.Asn1DerError.{Asn1DerError}
@@ -22,16 +22,16 @@ pub record IsFront {V : Type 0} (meaning : V → Tree) (s : Shape) (eq : V → V
 abbrev pub any_length : ℕ
 any_length = 2 ^ 64 - 1
 
--- memory was refused, or no value stands at the front of the input
+-- an allocation failed, or no value is at the front of the input
 pub record HasNoFront {V : Type 0} (meaning : V → Tree) (s : Shape) (input : List ℕ) (limit : ℕ) (e : Asn1DerError) : Type 0 where
   pub none : e ≢ OutOfMemory → (v : V) → ReadsFrom meaning s input limit v → ⊥
-  -- more bytes behind the input could make a value only where it was cut short
+  -- more bytes after the input could make a value only where it was cut short
   pub final : e ≢ OutOfMemory → IsMendable meaning s Place.whole input any_length → e ≡ TruncatedData
-  -- it isn't said to be cut short at a byte with which no value begins
+  -- it isn't called cut short at a byte with which no value begins
   pub first : e ≡ TruncatedData → 0 < limit → (b : ℕ) (left : List ℕ) → input ≡ b ∷ left → IsFirst s b
   pub no_fault : IsOther e → ⊥
 
--- What a reader tells of the bytes that are left, and how it failed so far: before a call, and behind it.
+-- The known bytes that are left in a reader, and how it failed so far: before a call, and after it.
 pub record ReaderView : Type 0 where
   pub input : Option (List ℕ)
   pub faults : List Fault
@@ -39,7 +39,7 @@ pub record ReaderView : Type 0 where
 abbrev pub view_of : {R : Type 0} → (R → Option (List ℕ)) → (R → List Fault) → R → ReaderView
 view_of remaining faults r = record { input = remaining r; faults = faults r }
 
--- just the value's encoding was drawn, and of a known input it is the value at the front
+-- exactly the value's encoding was consumed, and of a known input it is the value at the front
 pub record ReadsFront {V : Type 0} (meaning : V → Tree) (s : Shape) (eq : V → V → Bool) (limit : ℕ) (old new : ReaderView) (v : V) : Type 0 where
   pub of_shape : IsOf s (meaning v)
   pub readable : IsReadable (meaning v)
@@ -48,28 +48,28 @@ pub record ReadsFront {V : Type 0} (meaning : V → Tree) (s : Shape) (eq : V �
   pub front : (input : List ℕ) → old.input ≡ Some input → IsFront meaning s eq input limit v
   pub faults : new.faults ≡ old.faults
 
--- the bytes that were drawn
+-- the consumed bytes
 pub record Draws (limit : ℕ) (old new : Option (List ℕ)) : Type 0 where
   pub bytes : List ℕ
   pub are : Consumes old new bytes
   pub within : length bytes ≤ limit
 
--- the reader failed, memory was refused, or no value stands at the front of the input
+-- the reader failed, an allocation failed, or no value is at the front of the input
 pub record RefusesFront {V : Type 0} (meaning : V → Tree) (s : Shape) (limit : ℕ) (old new : ReaderView) (e : Asn1DerError) : Type 0 where
   pub none : new.faults ≡ old.faults → e ≢ OutOfMemory → (input : List ℕ) → old.input ≡ Some input → (v : V) → ReadsFrom meaning s input limit v → ⊥
-  -- more bytes behind those that were drawn could make a value only where the input was cut short
+  -- more bytes after the consumed ones could make a value only where the input was cut short
   pub final : new.faults ≡ old.faults → e ≢ OutOfMemory → (d left : List ℕ) → old.input ≡ Some (d ++ left) → new.input ≡ Some left → IsMendable meaning s Place.whole d any_length → e ≡ TruncatedData
-  -- it isn't said to be cut short at a byte with which no value begins
+  -- it isn't called cut short at a byte with which no value begins
   pub first : new.faults ≡ old.faults → e ≡ TruncatedData → 0 < limit → (b : ℕ) (left : List ℕ) → old.input ≡ Some (b ∷ left) → IsFirst s b
   pub drawn : Draws limit old.input new.input
-  -- the reader failed at most once; then the error is what that becomes, and nothing was drawn behind it
+  -- the reader failed at most once; then the error is what that becomes, and nothing was consumed after it
   pub faults : TellsFault old.faults new.faults new.input e
-  -- `Other` comes from a fault alone
+  -- `Other` comes from an I/O error alone
   pub other : new.faults ≡ old.faults → IsOther e → ⊥
 
--- ---- values behind each other
+-- ---- values after each other
 
--- nothing is left in the reader, and nothing was drawn
+-- nothing is left in the reader, and nothing was consumed
 pub record HasNoneLeft (limit : ℕ) (old new : ReaderView) : Type 0 where
   pub ahead : 0 < limit
   pub ended : IsAtEnd old.input

@@ -1,4 +1,4 @@
--- A tree tells its value.
+-- A tree determines its value.
 use Rattle.std.specs.Prelude.{◌≡◌, ℕ, ℤ, List, [], ◌∷◌, Bool, true, false, ◌&&◌, map, length, nat_eq, Some, None, encode_utf8, refl}
 use Rattle.std.specs.Option.{option_eq}
 use Rattle.std.specs.Ordering.{int_eq}

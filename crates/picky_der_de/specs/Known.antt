@@ -1,4 +1,5 @@
--- What is known of a type's values: which tree each means, and that the tree distinguishes them. It is one value, so that of a type is made of those of its parts.
+-- What is known of the values of a type: the tree that each means, and that the tree determines the value. It is one value, so that it is made of what is known
+-- of the parts.
 use Rattle.std.specs.Prelude.{◌≡◌, ℕ, ℤ, ◌^◌, List, Bool, true, nat_eq, nat_lt, encode_utf8, refl, ⊤}
 use Rattle.std.specs.Ordering.{int_eq}
 use Rattle.std.proofs.Common.{subst, ltb-true}

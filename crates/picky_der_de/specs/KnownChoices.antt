@@ -9,7 +9,7 @@ use Rattle.picky_der_de.specs.Firsts.{IsBegunBy}
 use Rattle.picky_der_de.specs.Choices.{chosen_of, equal_this_or_other, AreKnownApart, begins_this_or_other, this_or_other_has_shape, this_or_other_injective, choice_injective}
 use Rattle.picky_der_de.specs.Known.{Known, Tied, is_known}
 
--- what holds of values of alternatives, where those that were chosen mean these trees
+-- what holds of values of alternatives, if the chosen ones mean these trees
 pub record AreKnown {V : Type 0} (ss : Shapes) (chosen : V → Tree) (eq : V → V → Bool) : Type 0 where
   -- no value begins with another byte
   pub begun : (v : V) → IsBegunBy (firsts_of ss) (chosen v)

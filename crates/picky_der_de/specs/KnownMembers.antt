@@ -1,18 +1,22 @@
 -- Members one after another, of which some may be absent: what is known of them, and by which tests two are equal.
-use Rattle.std.specs.Prelude.{◌≡◌, List, [], ◌∷◌, ℕ, Bool, true, false, not, ◌&&◌, ◌||◌, Option, Some, IsTrue, refl, ⊤}
+use Rattle.std.specs.Prelude.{◌≡◌, List, [], ◌∷◌, ℕ, Bool, true, false, not, ◌&&◌, ◌||◌, Option, Some, refl, ⊤}
 use Rattle.std.specs.List.{AllByRecursion}
 use Rattle.std.specs.Option.{option_eq}
 use Rattle.std.proofs.Common.{subst}
 use Rattle.std.proofs.lemmas.Bool.{and_parts}
+use lib.Pointwise.{pointwise}
+use lib.Dec.{eqb}
 use Rattle.picky_der_core.specs.Wrapper.{can_vanish}
 use Rattle.picky_der_core.specs.Tree.{ListKind, Tree, Trees}
-use Rattle.picky_der_core.specs.Shape.{Shape, Shapes, Layout, AreMembersTold, firsts, next_firsts, are_apart}
+use Rattle.picky_der_core.specs.Shape.{Shape, Shapes, Layout}
 use Rattle.picky_der_ser.specs.Meaning.{maybe_more, unless_default}
 use Rattle.picky_der_ser.specs.Defaults.{IsOne}
 use Rattle.picky_der_de.specs.InjectiveLaws.{list_members, both}
 use Rattle.picky_der_de.specs.Layouts.{Presence, always, perhaps, component_then}
 use Rattle.picky_der_de.specs.LayoutLaws.{IsComponent, AreComponents, same_unless_default, no_components, behind, lead}
 use Rattle.picky_der_de.specs.Known.{Known, Tied, is_known}
+use Rattle.picky_der_de.specs.FirstTests.{are_members_told, members_told}
+use Rattle.picky_der_de.specs.OtherLaws.{others_of, are_outside, others_are}
 
 abbrev pub AreTrue : List Bool → Type 0
 AreTrue bs = AllByRecursion (λ b. b ≡ true) bs
@@ -60,7 +64,7 @@ pub record KnownMember (V : Type 0) {W : Type 0} (presence : Presence) (s : Shap
   pub Owed : Type 0
   pub holds : Owed → (in_front : V → Trees → Trees) → ((v : V) (ts : Trees) → in_front v ts ≡ maybe_more meaning (item v) ts) → IsComponent presence in_front eq meaning s equal item
 
--- so it stands in front of others
+-- so it is before others
 pub record TiedMember {V W : Type 0} {presence : Presence} {s : Shape} {meaning : W → Tree} {equal : W → W → Bool} {item : V → Option W} (known : KnownMember V presence s meaning equal item) (in_front : V → Trees → Trees) : Type 0 where
   pub owed : known.Owed
   pub stands : (v : V) (ts : Trees) → in_front v ts ≡ maybe_more meaning (item v) ts
@@ -87,7 +91,7 @@ module _ {A : Type 0} {s : Shape} (a : Known A s) (means : A → Tree) (equal : 
     holds = λ t in_front stands. record { stands = stands; there = λ v. tt; equal = λ x y h. h; is = is_known a t };
   }
 
-  -- of which an item is there, or none
+  -- a member of which an item is there, or none
   abbrev pub known_perhaps : {V : Type 0} (item : V → Option A) → KnownMember V perhaps s means equal item
   known_perhaps item = record {
     eq = λ x y. option_eq equal (item x) (item y);
@@ -157,32 +161,17 @@ module _ {P : Type 0} {l : Layout} where
     holds = λ t. behind part (components_of known t);
   }
 
--- ---- the first byte distinguishes what may be absent: a test, which computes
+-- ---- further elements after all members
 
--- after the last member nothing comes, so nothing has to be distinguished
-abbrev are_apart_or_last : List ℕ → List ℕ → Bool
-are_apart_or_last fs [] = true
-are_apart_or_last fs (g ∷ gs) = are_apart fs (g ∷ gs)
-
-abbrev pub are_members_told : Layout → Bool
-are_members_told Layout.empty = true
-are_members_told (Layout.required s l) = are_members_told l
-are_members_told (Layout.maybe s l) = are_apart_or_last (firsts s) (next_firsts l) && are_members_told l
-
-apart_from_none : (fs : List ℕ) → are_apart fs [] ≡ true
-apart_from_none [] = refl
-apart_from_none (f ∷ fs) = apart_from_none fs
-
-apart_of : (fs gs : List ℕ) → are_apart_or_last fs gs ≡ true → IsTrue (are_apart fs gs)
-apart_of fs [] h = apart_from_none fs
-apart_of fs (g ∷ gs) h = h
-
-pub members_told : (l : Layout) → are_members_told l ≡ true → AreMembersTold l
-members_told Layout.empty h = tt
-members_told (Layout.required s l) h = members_told l h
-members_told (Layout.maybe s l) h =
-    let parts = and_parts (are_apart_or_last (firsts s) (next_firsts l)) (are_members_told l) h in
-    (apart_of (firsts s) (next_firsts l) parts.0, members_told l parts.1)
+module _ {P E : Type 0} (bytes : E → List ℕ) (excluded : List ℕ) (elements : P → List E) where
+  abbrev pub known_others : ((p : P) → are_outside excluded bytes (elements p) ≡ true) → KnownMembers P (Layout.others excluded)
+  known_others outside = record {
+    members = λ p. others_of bytes (elements p);
+    tests = λ x y. pointwise (λ a b. pointwise eqb (bytes a) (bytes b)) (elements x) (elements y) ∷ [];
+    there = true;
+    Owed = ⊤;
+    holds = λ o. others_are bytes excluded elements outside;
+  }
 
 -- ---- a sequence of them
 

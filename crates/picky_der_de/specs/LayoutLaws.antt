@@ -1,15 +1,15 @@
--- What members owe of which some may be missing: the first byte tells them.
+-- The first byte distinguishes the members of which some may be missing.
 use Rattle.std.proofs.Common.{◌≡◌, ℕ, Bool, true, false, refl, if◌then◌else◌, List, ◌++◌, Option, None, Some, IfSome, IfNone, inl, inr, sym, ◌∙◌, subst}
 use Rattle.std.specs.Prelude.{⊤}
 use Rattle.std.specs.Option.{option_eq}
 use Rattle.picky_der_core.specs.Tree.{Tree, Trees}
 use Rattle.picky_der_core.specs.Readable.{IsReadable, AreReadable}
-use Rattle.picky_der_core.specs.Shape.{Shape, Layout, IsOf, IsSound, AreMembersOf, AreMembersTold, AreMembersSound, FirstAndRest, FirstOrNone, firsts, next_firsts, are_apart}
+use Rattle.picky_der_core.specs.Shape.{Shape, Layout, IsOf, AreMembersOf, AreMembersTold, AreMembersSound, FirstAndRest, FirstOrNone, firsts, next_firsts, are_apart}
 use Rattle.picky_der_core.specs.FirstLaws.{begins_in, begins_next, apart_differ, contains-append_left, contains-append_right}
 use Rattle.picky_der_ser.specs.Meaning.{maybe_more, unless_default}
 use Rattle.picky_der_ser.specs.Defaults.{IsByTree, IsOne}
 use Rattle.picky_der_de.specs.Firsts.{IsBegunBy, begins_among}
-use Rattle.picky_der_de.specs.InjectiveLaws.{IsInjective, HasShape, first_member, other_members}
+use Rattle.picky_der_de.specs.InjectiveLaws.{IsInjective, first_member, other_members}
 use Rattle.picky_der_de.specs.Known.{IsKnown}
 use Rattle.picky_der_de.specs.Layouts.{Presence, always, perhaps, component_then, AreBegunBy}
 
@@ -21,9 +21,9 @@ module _ (s : Shape) (l : Layout) (apart : are_apart (firsts s) (next_firsts l) 
 
   not_first : (ts : Trees) → AreBegunBy (next_firsts l) ts → AreReadable ts → FirstAndRest (IsOf s) (AreMembersOf l) ts → ⊥
   not_first Trees.none f r p = absurd p
-  not_first (Trees.more t ts) f r p = apart_differ (firsts s) (next_firsts l) t t apart (begins_in s t p.0 r.0) (begins_among (next_firsts l) t f r.0) refl
+  not_first (Trees.more t ts) f r p = apart_differ (firsts s) (next_firsts l) t t apart (begins_in s t p.0 r.0) (f r.0) refl
 
-  -- members that begin as those behind it are these
+  -- members that begin like the members after it are these
   pub first_is_absent : (ts : Trees) → AreBegunBy (next_firsts l) ts → AreReadable ts → FirstOrNone (IsOf s) (AreMembersOf l) ts → AreMembersOf l ts
   first_is_absent ts f r (inl p) = absurd (not_first ts f r p)
   first_is_absent ts f r (inr q) = q
@@ -32,23 +32,23 @@ module _ (s : Shape) (l : Layout) (apart : are_apart (firsts s) (next_firsts l) 
 
 wider : (fs gs : List ℕ) (ts : Trees) → AreBegunBy gs ts → AreBegunBy (fs ++ gs) ts
 wider fs gs Trees.none f = tt
-wider fs gs (Trees.more t ts) f = λ b h. contains-append_right b fs gs (f b h)
+wider fs gs (Trees.more t ts) f = λ r. let b = f r in record { first = b.first; others = b.others; is = b.is; listed = contains-append_right b.first fs gs b.listed }
 
 maybe_begun : {V : Type 0} (meaning : V → Tree) (s : Shape) (l : Layout) → ((v : V) → IsBegunBy (firsts s) (meaning v)) → (o : Option V) (ts : Trees) → AreBegunBy (next_firsts l) ts → AreBegunBy (firsts s ++ next_firsts l) (maybe_more meaning o ts)
 maybe_begun meaning s l f None ts g = wider (firsts s) (next_firsts l) ts g
-maybe_begun meaning s l f (Some v) ts g = λ b h. contains-append_left b (firsts s) (next_firsts l) (f v b h)
+maybe_begun meaning s l f (Some v) ts g = λ r. begins_among (firsts s ++ next_firsts l) (meaning v) (λ b h. contains-append_left b (firsts s) (next_firsts l) (f v b h)) r
 
 -- ---- members are known by their trees
 
 module _ {V : Type 0} (meaning : V → Tree) (s : Shape) (l : Layout) (begins : (v : V) → IsBegunBy (firsts s) (meaning v)) (told : AreMembersTold (Layout.maybe s l)) where
-  -- one that is there isn't what stands where it is missing
+  -- a member that is there isn't what comes if it is missing
   present_and_absent : (v : V) (ts us : Trees) → AreBegunBy (next_firsts l) us → AreMembersOf (Layout.maybe s l) (Trees.more (meaning v) ts) → AreMembersOf (Layout.maybe s l) us → AreReadable (Trees.more (meaning v) ts) → Trees.more (meaning v) ts ≡ us → ⊥
   present_and_absent v ts us f p q r e =
       let there = first_is_present s l told.0 (meaning v) ts (begins v) r.0 p in
       let behind = first_is_absent s l told.0 us f (subst AreReadable e r) q in
       apart_differ (firsts s) (next_firsts l) (meaning v) (meaning v) told.0 (begins_in s (meaning v) there.0 r.0) (begins_next l (meaning v) ts (subst (AreMembersOf l) (sym e) behind) r.0) refl
 
-  -- the first may be missing, and of those behind it `Others` holds where they are the same
+  -- the first may be missing, and `Others` holds of the members after it if they are the same
   maybe_told : (eq : V → V → Bool) (Others : Type 0) → IsInjective meaning s eq → (ts us : Trees) → AreBegunBy (next_firsts l) ts → AreBegunBy (next_firsts l) us → (AreMembersOf l ts → AreMembersOf l us → AreReadable ts → ts ≡ us → Others)
       → (x y : Option V) → AreMembersOf (Layout.maybe s l) (maybe_more meaning x ts) → AreMembersOf (Layout.maybe s l) (maybe_more meaning y us) → AreReadable (maybe_more meaning x ts) → maybe_more meaning x ts ≡ maybe_more meaning y us → (option_eq eq x y ≡ true) × Others
   maybe_told eq Others injective ts us f g k None None p q r e = (refl, k (first_is_absent s l told.0 ts f r p) (first_is_absent s l told.0 us g (subst AreReadable e r) q) r e)
@@ -79,14 +79,14 @@ abbrev pub IsThere : {W : Type 0} → Presence → Option W → Type 0
 IsThere always o = IfNone o ⊥
 IsThere perhaps o = ⊤
 
--- What a member owes, always there or not: the value that stands in front of the others, if one does.
+-- What a member owes, always there or not: the value that is before the others, if one is there.
 pub record IsComponent {V W : Type 0} (presence : Presence) (in_front : V → Trees → Trees) (eq : V → V → Bool) (meaning : W → Tree) (s : Shape) (eq_item : W → W → Bool) (item : V → Option W) : Type 0 where
   pub stands : (v : V) (ts : Trees) → in_front v ts ≡ maybe_more meaning (item v) ts
   pub there : (v : V) → IsThere presence (item v)
   pub equal : (x y : V) → option_eq eq_item (item x) (item y) ≡ true → eq x y ≡ true
   pub is : IsKnown s meaning eq_item
 
--- the tree distinguishes a value that is left out, and none that stands there is
+-- the tree distinguishes a value that is left out, and no value that is there is left out
 pub record IsLeftOut {V W : Type 0} (meaning : W → Tree) (item : V → Option W) (left_out : W → Bool) : Type 0 where
   pub by_tree : IsByTree meaning left_out
   pub written : (v : V) → IfSome (item v) (λ w. left_out w ≡ false)
@@ -107,13 +107,13 @@ module _ {V W : Type 0} {meaning : W → Tree} where
 -- ---- members, one after another
 
 pub record AreComponents {V : Type 0} (members : V → Trees) (l : Layout) (AreEqual : V → V → Type 0) : Type 0 where
-  -- the first that is there begins with no other byte
+  -- the first that is there, if it is readable, begins with such a byte
   pub begins : (v : V) → AreBegunBy (next_firsts l) (members v)
   -- readable members are of the layout
   pub has_layout : (v : V) → AreReadable (members v) → AreMembersOf l (members v)
-  -- two rows of readable members with the same trees are equal, where missing members are told by the first byte
+  -- two rows of readable members with the same trees are equal, where missing members are distinguished by the first byte
   pub injective : AreMembersTold l → (x y : V) → AreMembersOf l (members x) → AreMembersOf l (members y) → AreReadable (members x) → members x ≡ members y → AreEqual x y
-  -- the choices in the shapes are told by their first byte
+  -- the choices in the shapes are distinguished by their first byte
   pub sound : AreMembersSound l
 
 pub no_components : {V : Type 0} → AreComponents (λ (v : V). Trees.none) Layout.empty (λ x y. ⊤)
@@ -123,7 +123,7 @@ no_components = record { begins = λ v. tt; has_layout = λ v r. tt; injective =
 pub behind : {V U : Type 0} {members : U → Trees} {l : Layout} {AreEqual : U → U → Type 0} (part : V → U) → AreComponents members l AreEqual → AreComponents (λ v. members (part v)) l (λ x y. AreEqual (part x) (part y))
 behind part c = record { begins = λ v. c.begins (part v); has_layout = λ v. c.has_layout (part v); injective = λ told x y. c.injective told (part x) (part y); sound = c.sound }
 
--- a member in front of the others
+-- a member before the others
 module _ {V W X : Type 0} {presence : Presence} {in_front : X → Trees → Trees} {eq : X → X → Bool} {meaning : W → Tree} {s : Shape} {eq_item : W → W → Bool} {item : X → Option W} {others : V → Trees} {l : Layout} {AreEqual : V → V → Type 0} (first : V → X)
     (c : IsComponent presence in_front eq meaning s eq_item item) (cs : AreComponents others l AreEqual) where
   stand : (v : V) → in_front (first v) (others v) ≡ maybe_more meaning (item (first v)) (others v)
@@ -131,7 +131,7 @@ module _ {V W X : Type 0} {presence : Presence} {in_front : X → Trees → Tree
 
   begun_by : (p : Presence) (o : Option W) (v : V) → IsThere p o → AreBegunBy (next_firsts (component_then p s l)) (maybe_more meaning o (others v))
   begun_by always None v t = absurd t
-  begun_by always (Some w) v t = c.is.begun w
+  begun_by always (Some w) v t = begins_among (firsts s) (meaning w) (c.is.begun w)
   begun_by perhaps o v t = maybe_begun meaning s l c.is.begun o (others v) (cs.begins v)
 
   injective_by : (p : Presence) (a b : Option W) (x y : V) → IsThere p a → IsThere p b → AreMembersTold (component_then p s l) → AreMembersOf (component_then p s l) (maybe_more meaning a (others x)) → AreMembersOf (component_then p s l) (maybe_more meaning b (others y)) → AreReadable (maybe_more meaning a (others x))

@@ -4,14 +4,14 @@ use Rattle.picky_der_core.specs.declared.error.Asn1DerError.{Asn1DerError}
 use Rattle.picky_der_core.specs.declared.error.Asn1DerError.TheVariants.{InvalidData}
 use Rattle.picky_der_core.specs.Tree.{Tree, Trees}
 use Rattle.picky_der_core.specs.Encoding.{encodings}
-use Rattle.picky_der_core.specs.Readable.{AreReadable}
+use Rattle.picky_der_core.specs.Readable.{IsReadable, AreReadable}
+use Rattle.picky_der_core.specs.FirstLaws.{BeginsIn}
 use Rattle.picky_der_core.specs.Shape.{Shape, Layout, IsFirst, AreMembersOf, AreMembersTold}
 use Rattle.picky_der_input.specs.State.{State}
 use Rattle.picky_der_input.specs.Steps.{Takes, Fails}
 use Rattle.picky_der_input.specs.Order.{AreInOrder, without_order}
 use Rattle.picky_der_input.specs.Refusing.{FailsAs}
 use Rattle.picky_der_input.specs.LookAhead.{Peeks, Identifies, RefusesIdentifier}
-use Rattle.picky_der_de.specs.Firsts.{IsBegunBy}
 use Rattle.picky_der_de.specs.Members.{ReadsMember, RefusesMember, HasNoMore, members_encoding, StandUpToEnd, RefusesRest}
 
 -- ---- one member that may be missing
@@ -21,12 +21,12 @@ pub data Lacks (s : Shape) (old new : State) : Type 0 where
   no_more : HasNoMore old new → Lacks s old new
   begins_otherwise : (tag : ℕ) → Identifies old new tag → (IsFirst s tag → ⊥) → Lacks s old new
 
--- No tag could be looked at, though the end isn't here; or a value begins there as those of the type do, and was refused.
+-- No tag could be peeked, though the end isn't here; or a value begins there as values of the type do, and was refused.
 pub data RefusesOptional {V : Type 0} (meaning : V → Tree) (s : Shape) (old new : State) (e : Asn1DerError) : Type 0 where
   no_tag : RefusesIdentifier old new e → (old.failed ≡ None → 0 < old.until_end) → RefusesOptional meaning s old new e
   no_member : (mid : State) (tag : ℕ) → Identifies old mid tag → IsFirst s tag → RefusesMember meaning s mid new e → RefusesOptional meaning s old new e
 
--- It was refused as one that may be missing is, or the default stands there and was read, and none is written out: this is `InvalidData`.
+-- It was refused as a member that may be missing is. Or the default is there and was read, which is `InvalidData`: no default is written out.
 pub data RefusesDefault {V : Type 0} (meaning : V → Tree) (left_out : V → Bool) (s : Shape) (old new : State) (e : Asn1DerError) : Type 0 where
   as_optional : RefusesOptional meaning s old new e → RefusesDefault meaning left_out s old new e
   written_out : (mid : State) (v : V) → IsTrue (left_out v) → ReadsMember s old mid (meaning v) → FailsAs InvalidData mid e new → Fails mid new e → RefusesDefault meaning left_out s old new e
@@ -37,7 +37,7 @@ pub data Presence : Type 0 where
   always : Presence
   perhaps : Presence
 
--- a member in front of others
+-- a member before others
 abbrev pub component_then : Presence → Shape → Layout → Layout
 component_then always = Layout.required
 component_then perhaps = Layout.maybe
@@ -49,18 +49,18 @@ RefusesComponent perhaps meaning left_out = RefusesDefault meaning left_out
 
 -- ---- all members of a layout
 
--- at most a look was taken at the next byte
+-- at most the next byte was peeked
 pub data PeeksAtMost (old new : State) : Type 0 where
   same : new ≡ old → old.failed ≡ None → old.peeked ≡ None → PeeksAtMost old new
   looked : (x : ℕ) → old.peeked ≡ None → Peeks old new x → PeeksAtMost old new
 
--- these bytes were taken, and at most a look at the byte behind them
+-- these bytes were consumed, and at most a peek at the byte after them
 pub record Passes (old new : State) (bytes : List ℕ) : Type 0 where
   pub mid : State
   pub takes : Takes (without_order old) (without_order mid) bytes
   pub peeks_at_most : PeeksAtMost mid new
 
--- These members were read. Where something is left behind them, no members stand there that reach up to the end.
+-- These members were read. Where something is left after them, no members are there that reach up to the end.
 pub record ReadsLayout (l : Layout) (old new : State) (ts : Trees) : Type 0 where
   pub are : AreMembersOf l ts
   pub readable : AreReadable ts
@@ -68,17 +68,17 @@ pub record ReadsLayout (l : Layout) (old new : State) (ts : Trees) : Type 0 wher
   -- whether the first byte was looked at or not
   pub passes : (a : State) → PeeksAtMost a old → Passes a new (members_encoding ts)
   pub implicit_tag : new.implicit_tag ≡ None
-  -- what fails behind them has failed from before them
+  -- what fails after them has failed from before them
   pub fails : (last : State) (e : Asn1DerError) → Fails new last e → Fails old last e
   pub full : AreMembersTold l → (last : State) (e : Asn1DerError) → Fails new last e → 0 < new.until_end → (us : Trees) → AreMembersOf l us → AreReadable us → StandUpToEnd old last e (members_encoding us) → ⊥
 
--- no values stand there as members up to the end, where the first byte distinguishes missing members
+-- no values are there as members up to the end, where the first byte distinguishes missing members
 pub record RefusesLayout {V : Type 0} (members : V → Trees) (l : Layout) (old new : State) (e : Asn1DerError) : Type 0 where
   pub rest : RefusesRest (λ v. AreMembersTold l × AreMembersOf l (members v)) members old new e
 
 -- ---- laws
 
--- the first of the trees, if there is one, begins with no other byte
+-- the first of the trees, if there is one and it is readable, begins with one of these bytes
 abbrev pub AreBegunBy : List ℕ → Trees → Type 0
 AreBegunBy fs Trees.none = ⊤
-AreBegunBy fs (Trees.more t ts) = IsBegunBy fs t
+AreBegunBy fs (Trees.more t ts) = IsReadable t → BeginsIn fs t

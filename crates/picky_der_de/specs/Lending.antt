@@ -1,5 +1,5 @@
--- What a deserializer lends. While bytes of it are lent there is some state in which the call left the deserializer; once the
--- borrow is over, the deserializer's own state is one.
+-- What is borrowed from a deserializer. While bytes of it are borrowed, there is some state in which the call left the deserializer. Once the borrow is over,
+-- this is the deserializer's own state.
 use Rattle.std.specs.Prelude.{ℕ, List, Result, MatchResult, IfErr}
 use Rattle.std.specs.Borrow.{Bor, MutBor, RattleType, Fml, RestsIfErr}
 use Rattle.std.specs.declared.io.Read as read
@@ -20,6 +20,6 @@ abbrev pub LendsText : State → State → Result (Bor (List ℕ)) Asn1DerError 
 LendsText old new r = MatchResult r (λ text. ReadsPrimitive PrimitiveShape.text old new (Primitive.text text.now)) (RefusesPrimitive Primitive.text PrimitiveShape.text old new)
 
 module _ (R : RattleType) (g : reader.Ghosts R.Denot) (h : read.Ghosts R.Denot) where
-  -- the deserializer is lent to the sequence, or has refused a list under this tag
+  -- the sequence borrows the deserializer, or the deserializer has refused a list under this tag
   abbrev pub LendsList : ℕ → MutBor State → Result (Sequence R.Denot g h) Asn1DerError → Fml
   LendsList tag de r = RestsIfErr (the_row R g h) de borrowed_by r (λ new. IfErr r (RefusesList tag de.now new))

@@ -12,6 +12,7 @@ pub mod Choices
 pub mod WrappedLaws
 pub mod Entry
 pub mod Firsts
+pub mod FirstTests
 pub mod FourChoices
 pub mod InjectiveLaws
 pub mod Known
@@ -22,6 +23,7 @@ pub mod LayoutLaws
 pub mod Layouts
 pub mod Lending
 pub mod Members
+pub mod OtherLaws
 pub mod SequenceState
 pub mod Twins
 pub mod Whole

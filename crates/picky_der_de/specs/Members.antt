@@ -24,12 +24,12 @@ pub record ReadsMember (s : Shape) (old new : State) (t : Tree) : Type 0 where
   pub implicit_tag : old.implicit_tag ≡ None
   pub follows : Follows (der t) mid new
 
--- why none may come next: no value of the type stands there, or one does that was read and then refused
+-- why none may come next: no value of the type is there, or one is there that was read and then refused
 pub data RefusesNext {V : Type 0} (meaning : V → Tree) (s : Shape) (old new : State) (e : Asn1DerError) : Type 0 where
   no_value : Refuses meaning s old new e → RefusesNext meaning s old new e
   behind_value : (mid : State) (t : Tree) → Reads s old mid t → RefusesTest (der t) mid new e → RefusesNext meaning s old new e
 
--- No member was read, and none stands there that may come next.
+-- No member was read, and none is there that may come next.
 pub record RefusesMember {V : Type 0} (meaning : V → Tree) (s : Shape) (old new : State) (e : Asn1DerError) : Type 0 where
   pub fails : Fails old new e
   pub refuses : RefusesNext meaning s old new e
@@ -54,7 +54,7 @@ pub record HasNoMore (old new : State) : Type 0 where
 abbrev pub members_encoding : Trees → List ℕ
 members_encoding ts = concat (encodings ts)
 
--- bytes of which a refusal speaks begin with these, which don't reach past the end
+-- bytes to which a refusal applies begin with these, which don't reach past the end
 pub record StandBefore (old new : State) (e : Asn1DerError) (bytes : List ℕ) : Type 0 where
   pub soft : old.end ≡ Soft
   pub seen : List ℕ
@@ -76,17 +76,23 @@ pub record ReadsRow (l : Layout) (old new : State) (ts : Trees) : Type 0 where
   pub takes : Takes (without_order old) (without_order new) (members_encoding ts)
   pub implicit_tag : new.implicit_tag ≡ None
 
--- no value of which P holds stands there by its members, which would be all up to the end
+-- no value of which P holds is there by its members, which would be all up to the end
 pub record RefusesRest {V : Type 0} (P : V → Type 0) (members : V → Trees) (old new : State) (e : Asn1DerError) : Type 0 where
   pub fails : Fails old new e
   pub none : IsJudged old new e → (v : V) → P v → AreReadable (members v) → AreInOrder old.sets (encodings (members v)) → StandUpToEnd old new e (members_encoding (members v)) → ⊥
+
+-- the encodings of members were consumed; without any, nothing was done
+abbrev pub TakesRow : State → State → Trees → Type 0
+TakesRow old new Trees.none = new ≡ old
+TakesRow old new (Trees.more t ts) = Takes (without_order old) (without_order new) (members_encoding (Trees.more t ts))
 
 -- all members up to the end were read
 pub record ReadsAll {V : Type 0} (meaning : V → Tree) (s : Shape) (old new : State) (vs : List V) : Type 0 where
   pub of_shape : EachIs (IsOf s) (trees (map meaning vs))
   pub readable : AreReadable (trees (map meaning vs))
   pub order : AreInOrder old.sets (encodings (trees (map meaning vs)))
-  pub takes : Takes (without_order old) (without_order new) (members_encoding (trees (map meaning vs)))
+  pub takes : TakesRow old new (trees (map meaning vs))
+  pub not_failed : new.failed ≡ None
   pub implicit_tag : new.implicit_tag ≡ None
   pub reached : new.until_end ≡ 0
 
@@ -97,15 +103,15 @@ pub record BreaksOrder {V : Type 0} (meaning : V → Tree) (s : Shape) (order : 
   pub in_order : order (encodings (trees (map meaning vs)))
   pub broken : order (encodings (trees (map meaning (vs ++ v ∷ [])))) → ⊥
 
--- these bytes were taken, and what stands in them was refused for its order
+-- these bytes were consumed, and a member in them was refused for its order
 pub record RefusesTaken (old new : State) (e : Asn1DerError) (bytes : List ℕ) : Type 0 where
   pub mid : State
   pub takes : Takes (without_order old) (without_order mid) bytes
   pub error : e ≡ InvalidData
   pub same : new ≡ failed_with mid e
 
--- No values stand there as members up to the end, as many as there may be. Where one breaks the order of those before it, it
--- was refused for that as soon as it was read.
+-- No values are there as members up to the end, however many there may be. If one breaks the order of the earlier ones, it was refused for that as soon as it
+-- was read.
 pub record RefusesAll {V : Type 0} (meaning : V → Tree) (s : Shape) (old new : State) (e : Asn1DerError) : Type 0 where
   pub rest : RefusesRest (λ vs. EachIs (IsOf s) (trees (map meaning vs))) (λ vs. trees (map meaning vs)) old new e
   pub lesser : IsJudged old new e → (vs : List V) (v : V) → BreaksOrder meaning s (AreInOrder old.sets) vs v → StandBefore old new e (members_encoding (trees (map meaning (vs ++ v ∷ []))))
@@ -113,7 +119,7 @@ pub record RefusesAll {V : Type 0} (meaning : V → Tree) (s : Shape) (old new :
 
 -- ---- sets out of order
 
--- Known bytes begin with the header of a set, which directly under an implicit tag was that tag's, and behind it with these
+-- Known bytes begin with the header of a set, which directly under an implicit tag was that tag's, and after it with these
 -- bytes of its content.
 pub record BeginsSet (old : State) (bs members rest : List ℕ) : Type 0 where
   pub size : ℕ
@@ -122,13 +128,13 @@ pub record BeginsSet (old : State) (bs members rest : List ℕ) : Type 0 where
   pub fits : length (header_bytes old.implicit_tag 0x31 size) + size ≤ old.until_end
   pub within : length members ≤ size
 
--- it was refused with `InvalidData`, and this is left behind what was drawn
+-- it was refused with `InvalidData`, and this is left after what was consumed
 pub record IsRefusedBefore (rest : List ℕ) (new : State) (e : Asn1DerError) : Type 0 where
   pub error : e ≡ InvalidData
   pub input : new.input ≡ Some rest
   pub unpeeked : new.peeked ≡ None
 
--- the first member of a set whose encoding is less than that of the one before it is refused, and no byte behind it is drawn
+-- the first member of a set whose encoding is less than that of the one before it is refused, and no byte after it is consumed
 abbrev pub RefusesUnordered : {V : Type 0} → (V → Tree) → Shape → State → State → Asn1DerError → Type 0
 RefusesUnordered {V} meaning s old new e =
     IsJudged old new e → (vs : List V) (v : V) → BreaksOrder meaning s IsAscending vs v

@@ -22,14 +22,14 @@ pub record IsWhole {V : Type 0} (meaning : V → Tree) (s : Shape) (eq : V → V
   pub only : (w : V) → IsEncodingOf meaning s bytes w → eq v w ≡ true
   pub same : (w : V) → IsEncodingOf meaning s bytes w → meaning v ≡ meaning w
 
--- memory was refused, or the bytes are no value's encoding, as was found after so many of them
+-- an allocation failed, or the bytes are no value's encoding, as was found after so many of them
 pub record IsNoEncoding {V : Type 0} (meaning : V → Tree) (s : Shape) (bytes : List ℕ) (e : Asn1DerError) (position : ℕ) : Type 0 where
   pub none : e ≢ OutOfMemory → (v : V) → IsEncodingOf meaning s bytes v → ⊥
-  -- what stands before the position, and the byte there, begin no value's encoding, unless the bytes are cut short
+  -- the bytes before the position, and the byte there, begin no value's encoding, unless the bytes are cut short
   pub final : e ≢ OutOfMemory → e ≢ TruncatedData → (more : List ℕ) (v : V) → IsEncodingOf meaning s (take (position + 1) bytes ++ more) v → length (der (meaning v)) ≤ any_length → ⊥
-  -- where a value stands at their front, others follow it, and are found there
+  -- where a value is at their front, others follow it, and are found there
   pub left_over : e ≢ OutOfMemory → (v : V) → ReadsFrom meaning s bytes (length bytes) v → (e ≡ InvalidData) × (position ≡ length (der (meaning v)))
-  -- they aren't said to be cut short at a byte with which no value begins
+  -- they aren't called cut short at a byte with which no value begins
   pub first : e ≡ TruncatedData → (b : ℕ) (left : List ℕ) → bytes ≡ b ∷ left → IsFirst s b
   pub within : position ≤ length bytes
   pub no_fault : IsOther e → ⊥

@@ -12,8 +12,8 @@ use picky_der_core::misc::ReadExt;
 use picky_der_core::{Asn1DerError, Result};
 use std::convert::Infallible;
 
-/// A value of the first alternative, or of one of those behind it: of `OneOf<A, OneOf<B, NoneOf>>`, `This` has an `A` and
-/// `Other(This)` a `B`.
+/// A value of the first alternative, or of a later one. `OneOf<A, OneOf<B, NoneOf>>` holds an `A` as `This` and a `B` as
+/// `Other(This)`.
 #[derive(Debug, Drop, PartialEq, Eq)]
 pub enum OneOf<A, B> {
     /// The first alternative was chosen.
@@ -23,37 +23,37 @@ pub enum OneOf<A, B> {
 }
 
 impl<A: PartialEq, B: PartialEq> OneOf<A, B> {
-    /// Two are equal just where the same alternative was chosen, and its values are equal.
+    /// Two are equal exactly if the same alternative was chosen, and its values are equal.
     pub fn equality()
         ensures { IsThatOf ⟦<OneOf<A, B> as PartialEq>⟧.eq (λ value. value)
             (equal_this_or_other A.eq B.eq) }
     {}
 }
 
-/// No alternative: what stands behind the last one. There is no value of it.
+/// The end of the alternatives. There is no value of it.
 pub type NoneOf = Infallible;
 
-/// Alternatives of a choice, in order: none, as `NoneOf`, or one and those behind it, as `OneOf<A, B>`.
+/// The alternatives of a choice, in order: `NoneOf` has none, and `OneOf<A, B>` has `A` and then the alternatives `B`.
 pub trait Alternatives: Sized {
     // A shape for each alternative.
     ghost shapes: { Shapes };
 
-    // What the value means that was chosen, as a value of its own type.
+    // The tree of the value that was chosen, as a value of its own type.
     ghost chosen: { Self → Tree };
 
-    // What is known of their values, that these trees distinguish them, and what is owed for it.
+    // What is known of the values: that these trees determine them, and what is owed for it.
     ghost known: { KnownChoice Self shapes chosen };
 
-    // What it means as a choice.
+    // The tree of the value as a choice.
     ghost meaning: { Self → Tree };
 
     /// Whether a value of one of them can begin with this byte.
     fn begins_with(tag: Tag) -> bool
         ensures { IsTrue result ↔ IsTrue (contains (firsts_of shapes) tag) };
 
-    /// Reads a value of the first alternative that can begin with this byte, which was looked at and is next.
+    /// Reads a value of the first alternative that can begin with this byte. The byte was peeked and is next.
     ///
-    /// `InvalidData` where it begins none; else as the value is refused.
+    /// `InvalidData` if no alternative begins with it. Any other error is the alternative's.
     fn deserialize_alternative<R: ReadExt>(tag: Tag, de: &mut Deserializer<R>) -> Result<Self>
         ensures ok { IfOk result (λ value. ReadsBehind shapes tag de.old de.new (chosen value)) }
         ensures err { IfErr result (RefusesBehind chosen shapes tag de.old de.new) };

@@ -10,7 +10,7 @@ use picky_der_core::Result;
 use picky_der_core::asn1::Tag;
 use picky_der_core::misc::ReadExt;
 
-/// A value of one of four alternatives, or of one of those behind them.
+/// A value of one of four alternatives, or of a later one.
 #[derive(Debug, Drop, PartialEq, Eq)]
 pub enum OneOf4<A, B, C, D, E> {
     /// The first alternative was chosen.
@@ -26,7 +26,7 @@ pub enum OneOf4<A, B, C, D, E> {
 }
 
 impl<A: PartialEq, B: PartialEq, C: PartialEq, D: PartialEq, E: PartialEq> OneOf4<A, B, C, D, E> {
-    /// Two are equal just where the same alternative was chosen, and its values are equal.
+    /// Two are equal exactly if the same alternative was chosen, and its values are equal.
     pub fn equality()
         ensures { IsThatOf ⟦<OneOf4<A, B, C, D, E> as PartialEq>⟧.eq one_by_one
             (equal_this_or_other A.eq (equal_this_or_other B.eq (equal_this_or_other C.eq

@@ -1,11 +1,11 @@
-//! The first bytes of values, by which alternatives are told.
+//! The first bytes of values, by which alternatives are distinguished.
 ghost use Rattle.std.specs.Prelude.{◌↔◌, IsTrue};
 ghost use Rattle.picky_der_core.specs.Shape.{IsFirst};
 
 use crate::Deserialize;
 use picky_der_core::asn1::Tag;
 
-/// A type of which one byte tells whether a value of it can begin there, as an alternative's of a choice.
+/// A type for which one byte shows whether a value can begin there, as the tag of an alternative does.
 pub trait Begins: Deserialize {
     /// Whether a value can begin with this byte.
     fn begins_with(tag: Tag) -> bool

@@ -9,24 +9,24 @@ use crate::{Alternatives, Deserializer};
 use picky_der_core::Result;
 use picky_der_core::misc::ReadExt;
 
-/// A type whose values are those of alternatives, as an enum's with one field in each variant.
+/// A type whose values are those of alternatives: an enum with one field in each variant.
 pub trait Choice: Sized {
-    /// The alternatives, as `OneOf<A, OneOf<B, NoneOf>>` of two.
+    /// The alternatives, as `OneOf<A, OneOf<B, NoneOf>>` if there are two.
     type Alternatives: Alternatives;
 
     // The value of the alternative that was chosen.
     ghost parts: { Self → Self.Alternatives };
 
-    /// The choice of this value.
+    /// The value of the type for this alternative.
     fn from_parts(value: Self::Alternatives) -> Self
         ensures { parts result ≡ value };
 }
 
-/// Reads a choice, which is the whole body of `Deserialize::deserialize` of such a type: the first byte says which alternative
-/// it is. No byte may begin two alternatives.
+/// Reads a choice by its first byte. It is the whole body of `Deserialize::deserialize` of such a type. No byte may begin two
+/// alternatives.
 ///
-/// `InvalidData` for a first byte that is of none, and directly under an implicit tag, where no byte distinguishes them; else
-/// as `deserialize_enum` and the alternative's own `deserialize` refuse it.
+/// `InvalidData` if no alternative begins with the first byte. `InvalidData` too directly under an implicit tag, where no byte
+/// distinguishes the alternatives. Any other error is that of `deserialize_enum`, or of the alternative's `deserialize`.
 pub fn deserialize_choice_as<T: Choice, R: ReadExt>(de: &mut Deserializer<R>) -> Result<T>
     requires told { are_told T.Alternatives.shapes ≡ true }
     ensures ok { IfOk result (λ value. Reads (Shape.choice T.Alternatives.shapes) de.old de.new

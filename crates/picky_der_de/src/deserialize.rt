@@ -9,19 +9,21 @@ use picky_der_core::Result;
 use picky_der_core::misc::ReadExt;
 use picky_der_ser::Serialize;
 
-/// A value that is read back from its canonical encoding.
+/// A value that can be read from its canonical encoding.
 pub trait Deserialize: Serialize + PartialEq + Drop + Sized {
     // The trees of its values.
     ghost shape: { Shape };
 
-    // What is known of its values, which trees they mean and that these distinguish them, and what is owed for it.
+    // What is known of the values: which trees they mean, that these determine them, and what is owed for it.
     ghost known: { Known Self shape };
 
-    /// Reads a value, and takes just the bytes of its encoding. Directly under an implicit tag these are its content's.
+    /// Reads a value, and consumes exactly the bytes of its encoding. Directly under an implicit tag it consumes the bytes of
+    /// its content.
     ///
-    /// An implementation passes on the errors of the calls that it makes, and has the deserializer fail with its own.
-    /// An error that is no fault of the reader and not `OutOfMemory` means that no value of the type stands there. But for
-    /// `TruncatedData` it is final: no bytes behind those that were drawn could help.
+    /// An implementation returns the errors of the calls that it makes, and makes the deserializer fail with its own errors.
+    ///
+    /// If the error is no I/O error and not `OutOfMemory`, no value of the type is there. Unless it is `TruncatedData`, no
+    /// bytes after the consumed ones could change that.
     fn deserialize<R: ReadExt>(de: &mut Deserializer<R>) -> Result<Self>
         ensures ok { IfOk result (λ value. Reads shape de.old de.new (Self.meaning value)) }
         ensures err { IfErr result (Refuses Self.meaning shape de.old de.new) };

@@ -25,11 +25,11 @@ use picky_der_input::Input;
 use std::alloc::Global;
 use std::marker::Model;
 
-/// Reads values from a reader. After an error it has failed: each later call answers an error of its kind and takes nothing.
+/// Reads values from a reader. After an error it has failed: each later call returns an error of its kind and consumes nothing.
 #[derive(Drop)]
 pub struct Deserializer<R: ReadExt> {
     input: Input<R>,
-    // What was lent last.
+    // The content to which a reference was returned last.
     content: Vec<u8>,
     text: String,
 }
@@ -43,14 +43,14 @@ impl<R: ReadExt> Model for Deserializer<R> {
 }
 
 impl<'a> Deserializer<&'a [u8]> {
-    /// Reads from a slice, whose length is the limit.
+    /// Reads from a slice. The limit is the length of the slice.
     pub fn new_from_bytes(alloc: Global, bytes: &'a [u8]) -> Deserializer<&'a [u8]>
         ensures { result ≡ fresh (Some bytes.now) (length bytes.now) [] [] }
     {
         Deserializer::new_from_reader(alloc, bytes, bytes.len())
     }
 
-    // A slice has no faults, and a byte that was peeked is the first of those that are left.
+    // A slice has no I/O errors, and a peeked byte is the first byte that is left.
     pub(crate) fn has_no_faults(&self)
         ensures no_fault { self.now.faults ≡ [] }
         ensures left { (left : Option (List ℕ)) × (self.now.input ≡ in_front self.now.peeked left) }
@@ -60,7 +60,7 @@ impl<'a> Deserializer<&'a [u8]> {
 }
 
 impl<R: ReadExt> Deserializer<R> {
-    /// Reads from a reader. At most `max_len` bytes are drawn in all.
+    /// Reads from a reader, at most `max_len` bytes in all.
     pub fn new_from_reader(alloc: Global, reader: R, max_len: usize) -> Deserializer<R>
         ensures { result ≡ fresh (R.remaining reader) max_len (R.faults reader)
             (R.references reader) }
@@ -72,7 +72,7 @@ impl<R: ReadExt> Deserializer<R> {
         }
     }
 
-    /// The reader, after a byte that was peeked.
+    /// Returns the reader. A byte that was peeked was consumed from it.
     pub fn into_reader(self) -> R
         ensures input { self.input ≡ in_front self.peeked (R.remaining result) }
         ensures faults { R.faults result ≡ self.faults }
@@ -86,7 +86,7 @@ impl<R: ReadExt> Deserializer<R> {
         input.into_reader()
     }
 
-    /// How many bytes were taken so far, a peeked one not counted. With it they are never more than the limit.
+    /// The number of bytes that were consumed so far. A peeked byte isn't counted. With it the number is at most the limit.
     pub fn taken(&self) -> usize
         ensures taken { result ≡ self.now.taken }
         ensures within { IsWithin self.now }
@@ -94,19 +94,19 @@ impl<R: ReadExt> Deserializer<R> {
         self.input.taken()
     }
 
-    /// False: this encoding is for machines.
+    /// Returns false: DER is a binary encoding.
     pub fn is_human_readable(&self) -> bool
         ensures { result ≡ false }
     {
         false
     }
 
-    // What vectors are grown on.
+    // The allocator of the vectors.
     pub(crate) fn alloc(&self) -> Global {
         *self.content.allocator()
     }
 
-    // Has failed from here on with an error that is no fault of the reader.
+    // Fails with this error, which is no I/O error of the reader.
     pub(crate) fn fail(&mut self, error: Asn1DerError) -> Asn1DerError
         requires had_not_failed { self.old.failed ≡ None }
         requires no_fault { IsOther error → ⊥ }

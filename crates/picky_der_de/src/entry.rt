@@ -8,10 +8,10 @@ use picky_der_core::Result;
 use picky_der_core::misc::ReadExt;
 use std::alloc::Global;
 
-/// How many bytes `from_reader` draws at most.
+/// The limit of `from_reader`, in bytes.
 pub const DEFAULT_MAX_LEN: usize = 10240;
 
-// The value at the front of what a reader has left, and the reader.
+// Reads a value at the front of a reader, and returns the reader too.
 fn read_from<T: Deserialize, R: ReadExt>(alloc: Global, reader: R, max_len: usize) -> (Result<T>, R)
     ensures ok { IfOk result.0 (ReadsFront T.meaning T.shape T.eq max_len
         (view_of R.remaining R.faults reader) (view_of R.remaining R.faults result.1)) }
@@ -24,10 +24,10 @@ fn read_from<T: Deserialize, R: ReadExt>(alloc: Global, reader: R, max_len: usiz
     (result, de.into_reader())
 }
 
-/// The value at the front of a slice. Bytes behind it are left alone.
+/// The value at the front of a slice. Bytes after it are ignored.
 ///
-/// An error other than `OutOfMemory` means that no readable value of the type's shape stands there. It is `TruncatedData` where
-/// more bytes behind the slice could make one; any other is final.
+/// An error other than `OutOfMemory` means that no readable value of the type's shape is at the front. It is `TruncatedData` if
+/// more bytes after the slice could make one. Any other error is final.
 pub fn from_bytes<T: Deserialize>(alloc: Global, bytes: &[u8]) -> Result<T>
     ensures ok { IfOk result (IsFront T.meaning T.shape T.eq bytes.now (length bytes.now)) }
     ensures err { IfErr result (HasNoFront T.meaning T.shape bytes.now (length bytes.now)) }
@@ -39,13 +39,13 @@ pub fn from_bytes<T: Deserialize>(alloc: Global, bytes: &[u8]) -> Result<T>
     result
 }
 
-/// The value at the front of what a reader has left, in at most `DEFAULT_MAX_LEN` bytes. Bytes behind it are left in the
-/// reader.
+/// Reads a value from a reader, of at most `DEFAULT_MAX_LEN` bytes. Bytes after it are left in the reader.
 ///
-/// An error is what a fault of the reader becomes, where the reader failed; `OutOfMemory` where memory was refused; and
-/// else it means that no readable value of the type's shape stands there within the limit. It is `Other` only where the reader failed, and
-/// `TruncatedData` where more bytes behind those that were drawn could make a value; any other is final.
-/// What was drawn by then isn't given back.
+/// If the reader fails, the error is that of its I/O error. If an allocation fails, it is `OutOfMemory`. Else no readable value
+/// of the type's shape is there within the limit.
+///
+/// `Other` comes only if the reader failed. Unless the error is `TruncatedData`, no more bytes after the consumed ones could make a
+/// value. What was consumed isn't given back.
 pub fn from_reader<T: Deserialize, R: ReadExt>(alloc: Global, reader: &mut R) -> Result<T>
     ensures ok { IfOk result (ReadsFront T.meaning T.shape T.eq DEFAULT_MAX_LEN
         (view_of R.remaining R.faults reader.old) (view_of R.remaining R.faults reader.new)) }
@@ -56,7 +56,7 @@ pub fn from_reader<T: Deserialize, R: ReadExt>(alloc: Global, reader: &mut R) ->
     from_reader_with_max_len(alloc, reader, DEFAULT_MAX_LEN)
 }
 
-/// The value at the front of what a reader has left, in at most `max_len` bytes. It is refused as by `from_reader`.
+/// Reads a value from a reader, of at most `max_len` bytes. The errors are those of `from_reader`.
 pub fn from_reader_with_max_len<T: Deserialize, R: ReadExt>(
     alloc: Global,
     reader: &mut R,

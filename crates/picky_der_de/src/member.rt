@@ -13,18 +13,18 @@ use picky_der_core::Result;
 use picky_der_core::misc::ReadExt;
 use picky_der_ser::{DefaultOf, Defaulted, Element, Optional, SerializeMember};
 
-/// A member of a struct that is read back: a value, which is always there, or one that may be absent, as `Optional` and
+/// A member of a struct that can be read: a value that is always there, or one that may be absent, as `Optional` and
 /// `Defaulted` are.
 pub trait DeserializeMember: SerializeMember + PartialEq + Drop + Sized {
     ghost use Rattle.picky_der_de.specs.SequenceState.{borrowed_by, outer_of, state_of};
 
-    /// The type of what stands there.
+    /// The type of the value that is there.
     type Item;
 
-    // The trees of what stands there.
+    // The trees of the values that are there.
     ghost shape: { Shape };
 
-    // The tree of a value that does.
+    // The tree of a value that is there.
     ghost item_meaning: { Self.Item → Tree };
 
     // Which of them are equal.
@@ -33,16 +33,16 @@ pub trait DeserializeMember: SerializeMember + PartialEq + Drop + Sized {
     // Whether it is always there.
     ghost presence: { Presence };
 
-    // What stands there, where something does.
+    // The value that is there, if one is.
     ghost item: { Self → Option Self.Item };
 
     // What is never written.
     ghost left_out: { Self.Item → Bool };
 
-    // What is known of the member, which trees it means and that these distinguish it, and what is owed for it.
+    // What is known of the member: which trees it means, that these determine it, and what is owed for it.
     ghost known: { KnownMember Self presence shape item_meaning item_eq item };
 
-    /// Reads the member, which is refused as `next_field`, `next_optional` and `next_or_default` refuse theirs.
+    /// Reads the member. The errors are those of `next_field`, `next_optional` or `next_or_default`.
     fn deserialize_member<R: ReadExt>(sequence: &mut Sequence<'_, R>) -> Result<Self>
         ensures same_reference { borrowed_by sequence.new ≡ borrowed_by sequence.old }
         ensures outer { outer_of sequence.new ≡ outer_of sequence.old }
@@ -54,10 +54,10 @@ pub trait DeserializeMember: SerializeMember + PartialEq + Drop + Sized {
         ensures err { IfErr result (RefusesComponent presence item_meaning left_out shape
             (state_of sequence.old) (state_of sequence.new)) };
 
-    // The tree distinguishes what is never written.
+    // The tree determines which values are never written.
     ghost distinguished: { IsLeftOut item_meaning item left_out };
 
-    // What is owed, and that `SerializeMember` writes what stands there.
+    // What is owed, and that `SerializeMember` writes what is there.
     ghost tied: { TiedMember known Self.in_front };
 }
 

@@ -1,5 +1,5 @@
 //! Sequences and sets that are being read (X.690, 8.9 to 8.12).
-ghost use Rattle.std.specs.Prelude.{◌≡◌, ◌≤◌, ◌+◌, None};
+ghost use Rattle.std.specs.Prelude.{◌≡◌, ◌≤◌, ◌+◌, ◌++◌, ◌∷◌, [], None, OnOk};
 
 use crate::{Begins, Deserialize, Deserializer};
 use picky_der_core::asn1::Tag;
@@ -7,9 +7,22 @@ use picky_der_core::misc::ReadExt;
 use picky_der_core::{Asn1DerError, Result};
 use picky_der_input::Outer;
 use picky_der_ser::DefaultOf;
+use std::alloc::AllocError;
 
-/// A sequence or a set that is being read. Dropped without `end`, its end stays the innermost one: nothing behind it is
-/// read then.
+// Adds a value. For a single value the vector gets room for one, where it would else get room for several. In a name each set
+// has one attribute, so it needs a quarter of the memory.
+fn add<T: Drop>(values: &mut Vec<T>, value: T, is_last: bool) -> std::result::Result<(), AllocError>
+    ensures { OnOk result (values.new.items ≡ values.old.items ++ (value ∷ [])) }
+{
+    if is_last && values.is_empty() {
+        values.reserve_exact(1)?;
+    }
+    values.push(value)?;
+    Ok(())
+}
+
+/// A sequence or a set that is being read. If it is dropped without `end`, its end stays the innermost one: nothing after it
+/// can be read then.
 #[derive(Drop)]
 pub struct Sequence<'a, R: ReadExt> {
     de: &'a mut Deserializer<R>,
@@ -22,8 +35,9 @@ pub struct Sequence<'a, R: ReadExt> {
 
 impl<'a, R: ReadExt> Sequence<'a, R> {
     ghost use Rattle.picky_der_de.specs.SequenceState.{borrowed_by, outer_of, state_of};
-    ghost use Rattle.std.specs.Prelude.{◌≡◌, ◌+◌, ◌<◌, ◌≤◌, None, Err, IfNone, IfSome, IfOk, IfErr, OnOk};
-    ghost use Rattle.picky_der_input.specs.Steps.{failed_with};
+    ghost use Rattle.std.specs.Prelude.{◌≡◌, ◌≢◌, ◌+◌, ◌<◌, ◌≤◌, None, Err, IfNone, IfSome, IfOk, IfErr, OnOk};
+    ghost use Rattle.picky_der_input.specs.Steps.{Fails, IsOther, failed_with};
+    ghost use Rattle.picky_der_input.specs.Refusing.{FailsAs};
     ghost use Rattle.picky_der_input.specs.Ends.{OpensLazily, Closes, RefusesClose};
     ghost use Rattle.picky_der_input.specs.LookAhead.{Identifies, RefusesIdentifier};
     ghost use Rattle.picky_der_de.specs.Members.{ReadsMember, RefusesMember, HasNoMore, ReadsAll, RefusesAll};
@@ -31,10 +45,10 @@ impl<'a, R: ReadExt> Sequence<'a, R> {
     ghost use Rattle.picky_der_de.specs.Layouts.{Lacks, RefusesOptional, RefusesDefault};
 
     /// Reads the next `len` bytes as members, without a header. Directly under an implicit tag the members have their own
-    /// headers, and that tag's end is the one around this. No order of members is tested.
+    /// headers, and that tag's end is the one around them. No order of members is tested.
     ///
-    /// Where these bytes reach past the innermost end, the deserializer has failed: with `InvalidData` at a hard end,
-    /// and `TruncatedData` at a soft one.
+    /// If these bytes reach past the innermost end, the deserializer has failed: with `InvalidData` at a hard end, and
+    /// `TruncatedData` at a soft one.
     pub fn deserialize_lazy(de: &'a mut Deserializer<R>, len: usize) -> Sequence<'a, R>
         ensures same_reference { borrowed_by result ≡ de.entry.ghost_name }
         ensures opened { OpensLazily len de.old (state_of result) (outer_of result) }
@@ -43,9 +57,11 @@ impl<'a, R: ReadExt> Sequence<'a, R> {
         Sequence { de, outer }
     }
 
-    /// The next member, and `None` exactly at the end. A member is refused as its type is. In a set that was begun by
-    /// `deserialize_set` one that was read is refused with `InvalidData` where its encoding is less than the one before it
-    /// (X.690, 11.6); no byte after it is drawn. It is `OutOfMemory` where the allocation for that test failed.
+    /// The next member, or `None` exactly at the end.
+    ///
+    /// In a set that was begun by `deserialize_set`, a member whose encoding is less than the one before it is `InvalidData`
+    /// (X.690, 11.6). No byte after that member is consumed. `OutOfMemory` if the allocation for this test fails. Any other
+    /// error is the member's.
     pub fn next_element<T: Deserialize>(&mut self) -> Result<Option<T>>
         ensures same_reference { borrowed_by self.new ≡ borrowed_by self.old }
         ensures outer { outer_of self.new ≡ outer_of self.old }
@@ -65,7 +81,8 @@ impl<'a, R: ReadExt> Sequence<'a, R> {
         Ok(Some(self.read_member::<T>()?))
     }
 
-    /// The next member. At the end it is refused with `TruncatedData`, and nothing is drawn; else as `next_element` refuses it.
+    /// The next member. At the end the error is `TruncatedData`, and nothing is consumed. Any other error is that of
+    /// `next_element`.
     pub fn next_field<T: Deserialize>(&mut self) -> Result<T>
         ensures same_reference { borrowed_by self.new ≡ borrowed_by self.old }
         ensures outer { outer_of self.new ≡ outer_of self.old }
@@ -83,7 +100,7 @@ impl<'a, R: ReadExt> Sequence<'a, R> {
         self.read_member()
     }
 
-    // The next member, where the end isn't here.
+    // The next member, if the end isn't here.
     #[inline(always)]
     fn read_member<T: Deserialize>(&mut self) -> Result<T>
         requires had_not_failed { (state_of self.old).failed ≡ None }
@@ -100,9 +117,9 @@ impl<'a, R: ReadExt> Sequence<'a, R> {
         T::deserialize(self.de)
     }
 
-    /// The tag of the next member, which is left unread, and `None` exactly at the end. No memory is taken.
+    /// The tag of the next member, without consuming it, or `None` exactly at the end. Nothing is allocated.
     ///
-    /// A byte that isn't there before the end is `TruncatedData`; else the reader's fault.
+    /// `TruncatedData` if no byte is left before the end. Any other error is the reader's I/O error.
     pub fn next_tag(&mut self) -> Result<Option<Tag>>
         ensures same_reference { borrowed_by self.new ≡ borrowed_by self.old }
         ensures outer { outer_of self.new ≡ outer_of self.old }
@@ -123,10 +140,10 @@ impl<'a, R: ReadExt> Sequence<'a, R> {
         }
     }
 
-    /// The next member, where the next byte begins a value of this type, and `None` where it doesn't, and at the end. That byte
-    /// is left unread then.
+    /// The next member if the next byte begins a value of this type. Else, and at the end, it returns `None` and consumes
+    /// nothing.
     ///
-    /// A member is refused as `next_element` refuses it, and a byte that isn't there as `next_tag` does.
+    /// The errors are those of `next_element` and `next_tag`.
     pub fn next_optional<T: Begins>(&mut self) -> Result<Option<T>>
         ensures same_reference { borrowed_by self.new ≡ borrowed_by self.old }
         ensures outer { outer_of self.new ≡ outer_of self.old }
@@ -150,10 +167,10 @@ impl<'a, R: ReadExt> Sequence<'a, R> {
         }
     }
 
-    /// The next member, and the default where the next byte begins no value of this type, and at the end. That byte is left
-    /// unread then.
+    /// The next member if the next byte begins a value of this type. Else, and at the end, it returns the default and consumes
+    /// nothing.
     ///
-    /// `InvalidData` where the default is written out (X.690, 11.5); else as `next_optional` refuses it.
+    /// `InvalidData` if the default is written out (X.690, 11.5). Any other error is that of `next_optional`.
     pub fn next_or_default<T: Begins, D: DefaultOf<T>>(&mut self) -> Result<T>
         ensures same_reference { borrowed_by self.new ≡ borrowed_by self.old }
         ensures outer { outer_of self.new ≡ outer_of self.old }
@@ -176,11 +193,10 @@ impl<'a, R: ReadExt> Sequence<'a, R> {
         }
     }
 
-    // All members up to the end.
-    pub(crate) fn collect<T: Deserialize>(&mut self) -> Result<Vec<T>>
-        requires had_not_failed { (state_of self.old).failed ≡ None }
-        requires unpeeked { (state_of self.old).peeked ≡ None }
-        requires implicit_tag { (state_of self.old).implicit_tag ≡ None }
+    /// All members that are left, up to the end, which are of one type.
+    ///
+    /// `OutOfMemory` if an allocation fails. Any other error is that of `next_element`.
+    pub fn remaining<T: Deserialize>(&mut self) -> Result<Vec<T>>
         ensures same_reference { borrowed_by self.new ≡ borrowed_by self.old }
         ensures outer { outer_of self.new ≡ outer_of self.old }
         ensures ok { IfOk result (λ values. ReadsAll T.meaning T.shape (state_of self.old)
@@ -191,14 +207,29 @@ impl<'a, R: ReadExt> Sequence<'a, R> {
         let mut values = Vec::new(self.de.alloc());
         while !self.de.is_at_end()? {
             let value = self.read_member::<T>()?;
-            if values.push(value).is_err() {
+            let is_last = matches!(self.de.is_at_end(), Ok(true));
+            let Ok(()) = add(&mut values, value, is_last) else {
                 return Err(self.de.fail(Asn1DerError::OutOfMemory));
-            }
+            };
         }
         Ok(values)
     }
 
-    /// Closes the sequence. Bytes left over before its end are `InvalidData`, and none of them is drawn.
+    /// Fails with this error, and returns it: for members that were read and make no value. If the deserializer has failed
+    /// before, nothing changes and the earlier error is returned. Nothing is consumed. The error is one that
+    /// `Deserializer::refuse` may have.
+    pub fn refuse(&mut self, kind: Asn1DerError) -> Asn1DerError
+        requires no_fault { IsOther kind → ⊥ }
+        requires lasting { kind ≢ Asn1DerError.TruncatedData }
+        ensures same_reference { borrowed_by self.new ≡ borrowed_by self.old }
+        ensures outer { outer_of self.new ≡ outer_of self.old }
+        ensures is { FailsAs kind (state_of self.old) result (state_of self.new) }
+        ensures fails { Fails (state_of self.old) (state_of self.new) result }
+    {
+        self.de.refuse(kind)
+    }
+
+    /// Closes the sequence. `InvalidData` for bytes that are left over before its end: none of them is consumed.
     pub fn end(self) -> Result<()>
         ensures ok { OnOk result (Closes (outer_of self.entry)
             (state_of self.entry) self.exit.0.now) }

@@ -1,4 +1,4 @@
-//! Values that stand behind each other.
+//! Values that follow each other.
 ghost use Rattle.std.specs.Prelude.{◌≡◌, ◌≢◌, ◌<◌, ◌≤◌, [], length, None, IfNone, IfSome, IfOk, IfErr};
 ghost use Rattle.picky_der_core.specs.Encoding.{der};
 ghost use Rattle.picky_der_input.specs.LookAhead.{HasEnded};
@@ -13,10 +13,10 @@ use picky_der_core::misc::ReadExt;
 use picky_der_core::{Asn1DerError, Result};
 use std::alloc::Global;
 
-/// The value at the front of a slice, and how many bytes its encoding has. The next value stands behind these.
+/// The value at the front of a slice, and the length of its encoding in bytes. The next value begins after it.
 ///
-/// It is refused as `from_bytes` refuses it. An empty slice is `TruncatedData` for each type that needs a byte and asks for
-/// no tag number past 30.
+/// The errors are those of `from_bytes`. For an empty slice the error is `TruncatedData`, if the type needs a byte and has no
+/// tag number past 30.
 pub fn next_from_bytes<T: Deserialize>(alloc: Global, bytes: &[u8]) -> Result<(T, usize)>
     ensures ok { IfOk result (λ next. IsFront T.meaning T.shape T.eq bytes.now
         (length bytes.now) next.0) }
@@ -30,7 +30,7 @@ pub fn next_from_bytes<T: Deserialize>(alloc: Global, bytes: &[u8]) -> Result<(T
 }
 
 impl<R: ReadExt> Deserializer<R> {
-    // The next value, and `None` where the input has ended.
+    // The next value, or `None` if the input has ended.
     fn next_value<T: Deserialize>(&mut self) -> Result<Option<T>>
         requires had_not_failed { self.old.failed ≡ None }
         requires whole { self.old.implicit_tag ≡ None }
@@ -73,7 +73,7 @@ fn read_next_from<T: Deserialize, R: ReadExt>(
     (next, de.into_reader())
 }
 
-// Why values of the type are refused whatever comes, as those are whose tag number is past 30. `None` where some can be read.
+// The error of a type of which no value can be read, since it has a tag number past 30. `None` if some values can be read.
 fn refused_always<T: Deserialize>(alloc: Global) -> Option<Asn1DerError>
     ensures never { IfSome result (λ e. e ≢ Asn1DerError.OutOfMemory
         → IsMendable T.meaning T.shape Place.whole [] any_length → ⊥) }
@@ -85,11 +85,11 @@ fn refused_always<T: Deserialize>(alloc: Global) -> Option<Asn1DerError>
     }
 }
 
-/// The next of several values that a reader has left, in at most `max_len` bytes, and `None` where it has none left. Bytes
-/// behind the value are left in the reader.
+/// The next of several values in a reader, of at most `max_len` bytes, or `None` if the reader has no bytes left. Bytes after
+/// the value are left in the reader.
 ///
-/// It is refused as `from_reader_with_max_len` refuses it. So a value that is cut short is `TruncatedData`, and so is a limit
-/// of 0. A type of which no value can be read, as one that asks for a tag number past 30, is refused before a byte is read.
+/// The errors are those of `from_reader_with_max_len`. `TruncatedData` for a value that is cut short, and for a limit of 0. If
+/// no value of the type can be read, as with a tag number past 30, the error comes before a byte is read.
 pub fn next_from_reader<T: Deserialize, R: ReadExt>(
     alloc: Global,
     reader: &mut R,

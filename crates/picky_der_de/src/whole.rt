@@ -9,13 +9,13 @@ use std::alloc::Global;
 use std::result::Result;
 use thiserror::Error;
 
-/// Why bytes are no value, and where that was found. It prints as `InvalidData at byte 8`.
+/// Why bytes are no value, and where this was found. It prints as `InvalidData at byte 8`.
 #[derive(Debug, Clone, Copy, PartialEq, Eq, Error)]
 #[error("{error} at byte {position}")]
 pub struct DecodeError {
     /// The error.
     pub error: Asn1DerError,
-    /// How many bytes were taken by then.
+    /// How many bytes had been consumed.
     pub position: usize,
 }
 
@@ -26,7 +26,7 @@ impl DecodeError {
     {}
 }
 
-/// The error alone.
+/// Keeps the error, without the position.
 impl From<DecodeError> for Asn1DerError {
     ghost from_gives = { λ decode error. error ≡ decode.error };
 
@@ -37,8 +37,8 @@ impl From<DecodeError> for Asn1DerError {
 
 /// The value whose encoding is exactly these bytes. There is at most one.
 ///
-/// An error other than `OutOfMemory` means that they are no value's encoding. Unless it is `TruncatedData`, no bytes after
-/// them could make them one. Bytes after the encoding of a value are `InvalidData`, at the position after it.
+/// An error other than `OutOfMemory` means that they aren't the encoding of a value. Unless it is `TruncatedData`, no bytes
+/// after them could make them one. Bytes after the encoding of a value are `InvalidData`, at the position after it.
 pub fn from_der<T: Deserialize>(alloc: Global, bytes: &[u8]) -> Result<T, DecodeError>
     ensures ok { IfOk result (IsWhole T.meaning T.shape T.eq bytes.now) }
     ensures err { IfErr result (λ refusal. IsNoEncoding T.meaning T.shape bytes.now

@@ -17,9 +17,10 @@ impl<R: ReadExt> Deserializer<R> {
     /// Reads the value under the explicit application tag with this number (X.690, 8.14). Directly under an implicit tag the
     /// application tag has its header too.
     ///
-    /// `UnsupportedValue` for a number past 30: nothing is drawn then, and no memory is taken. `InvalidData` for a tag of
-    /// another class or number, and for bytes left over before the tag's end, none of which is drawn; the refusals of a
-    /// header and of an end; else as the value is refused.
+    /// `UnsupportedValue` for a number past 30: nothing is consumed or allocated then. `InvalidData` for a tag of another class
+    /// or number. `InvalidData` too for bytes that are left over before the tag's end: none of them is consumed.
+    ///
+    /// Any other error is that of a header, of an end, or of the value.
     pub fn deserialize_application<T: Deserialize>(&mut self, number: u8) -> Result<T>
         ensures ok { IfOk result (λ value. Reads
             (Shape.wrapped (Application number) T.shape) self.old self.new

@@ -17,10 +17,10 @@ use picky_der_core::asn1::Tag;
 use picky_der_core::misc::ReadExt;
 
 impl<R: ReadExt> Deserializer<R> {
-    /// Begins to read a sequence (X.690, 8.9 and 8.10). Directly under an implicit tag the header was that tag's, and its end
-    /// is a soft one until the sequence is closed.
+    /// Begins to read a sequence (X.690, 8.9 and 8.10). Directly under an implicit tag the header is that of the tag. The tag's
+    /// end is a soft one then, until the sequence is closed.
     ///
-    /// `InvalidData` for another tag; else the refusals of a header and of an end, and the reader's fault.
+    /// `InvalidData` for another tag. Any other error is that of a header or of an end, or the reader's I/O error.
     #[inline(always)]
     pub fn deserialize_seq(&mut self) -> Result<Sequence<'_, R>>
         ensures* rests { sem 𝓛 (LendsList R.row R.ReadExt.own R.Read 0x30 self.entry result) }
@@ -30,9 +30,10 @@ impl<R: ReadExt> Deserializer<R> {
         self.begin_list(Tag::SEQUENCE)
     }
 
-    /// Begins to read a set (X.690, 8.11 and 8.12), as a sequence is begun and refused, with the tag `31`. The order of its
-    /// members is tested as each is read (11.6). Of a SET with members of several types, which 10.3 orders by their tags,
-    /// this order is the port's own.
+    /// Begins to read a set (X.690, 8.11 and 8.12), with the tag `31`. The errors are those of `deserialize_seq`.
+    ///
+    /// The order of the members is tested as each is read (11.6). For a SET with members of several types, 10.3 has the order
+    /// of their tags instead; this library tests the order of their encodings.
     pub fn deserialize_set(&mut self) -> Result<Sequence<'_, R>>
         ensures* rests { sem 𝓛 (LendsList R.row R.ReadExt.own R.Read 0x31 self.entry result) }
         ensures same_reference { IfOk result (λ q. borrowed_by q ≡ self.entry.ghost_name) }
@@ -41,7 +42,7 @@ impl<R: ReadExt> Deserializer<R> {
         self.begin_list(Tag::SET)
     }
 
-    /// Begins to read a tuple as a sequence, and is refused so. The length isn't looked at.
+    /// Begins to read a tuple as a sequence, with the errors of `deserialize_seq`. The length isn't used.
     pub fn deserialize_tuple(&mut self, _len: usize) -> Result<Sequence<'_, R>>
         ensures* rests { sem 𝓛 (LendsList R.row R.ReadExt.own R.Read 0x30 self.entry result) }
         ensures same_reference { IfOk result (λ q. borrowed_by q ≡ self.entry.ghost_name) }
@@ -50,7 +51,7 @@ impl<R: ReadExt> Deserializer<R> {
         self.deserialize_seq()
     }
 
-    /// Begins to read a tuple with a name as a sequence, and is refused so. The name and the length aren't looked at.
+    /// Begins to read a named tuple as a sequence, with the errors of `deserialize_seq`. The name and the length aren't used.
     pub fn deserialize_tuple_struct(
         &mut self,
         _name: &'static str,
@@ -63,7 +64,7 @@ impl<R: ReadExt> Deserializer<R> {
         self.deserialize_seq()
     }
 
-    /// Begins to read a struct as a sequence, and is refused so. The names aren't looked at.
+    /// Begins to read a struct as a sequence, with the errors of `deserialize_seq`. The names aren't used.
     pub fn deserialize_struct(
         &mut self,
         _name: &'static str,
@@ -76,7 +77,7 @@ impl<R: ReadExt> Deserializer<R> {
         self.deserialize_seq()
     }
 
-    // The members of a sequence or set of values of one type, which stands under this tag.
+    // The members of a sequence or set of values of one type, under this tag.
     pub(crate) fn read_list<T: Deserialize>(&mut self, tag: Tag) -> Result<Vec<T>>
         requires { IsListTag tag }
         ensures ok { IfOk result (λ values. Reads
@@ -89,7 +90,7 @@ impl<R: ReadExt> Deserializer<R> {
             self.new) }
     {
         let mut members = self.begin_list(tag)?;
-        let values = members.collect::<T>()?;
+        let values = members.remaining::<T>()?;
         members.end()?;
         Ok(values)
     }

@@ -1,4 +1,4 @@
-//! What is passed on to the `Input`: the ends of sequences and sets, and what stands around values in wrappers and application tags.
+//! What is passed on to the `Input`: the ends of sequences and sets, and what is around values in wrappers and application tags.
 ghost use Rattle.std.specs.Prelude.{◌≡◌, ◌+◌, ◌≤◌, ◌↔◌, None, Some, IsTrue, IfOk, IfErr, OnOk};
 ghost use Rattle.picky_der_core.specs.Wrapper.{HasTagNumber};
 ghost use Rattle.picky_der_core.specs.Failure.{failure_of};
@@ -15,8 +15,8 @@ use picky_der_core::misc::ReadExt;
 use picky_der_input::Outer;
 
 impl<R: ReadExt> Deserializer<R> {
-    // Takes the header of a sequence or set under this tag, and opens its end. Directly under an implicit tag the header
-    // was that tag's.
+    // Consumes the header of a sequence or set under this tag, and opens its end. Directly under an implicit tag the header was
+    // consumed already.
     #[inline(always)]
     pub(crate) fn open_list(&mut self, tag: Tag) -> Result<Outer>
         requires number { IsTagNumber (number_of tag) }
@@ -27,7 +27,7 @@ impl<R: ReadExt> Deserializer<R> {
         self.input.open_list(tag)
     }
 
-    // Opens a soft end `len` bytes from here. Where that is past the innermost end, it has failed.
+    // Opens a soft end `len` bytes from here. If that is past the innermost end, it has failed.
     pub(crate) fn open_lazily(&mut self, len: usize) -> Outer
         ensures opened { OpensLazily len self.old self.new result }
         ensures bounded { result.position ≤ self.new.limit }
@@ -35,7 +35,7 @@ impl<R: ReadExt> Deserializer<R> {
         self.input.open_lazily(len)
     }
 
-    // Closes the innermost end, if it was reached, and puts the one around it back.
+    // Closes the innermost end, if it was reached. The end around it is the innermost one again.
     pub(crate) fn close_end(&mut self, outer: Outer) -> Result<()>
         requires within { self.old.taken + self.old.until_end ≤ outer.position }
         requires bounded { outer.position ≤ self.old.limit }
@@ -45,7 +45,7 @@ impl<R: ReadExt> Deserializer<R> {
         self.input.close_end(outer)
     }
 
-    // Whether the innermost end is here.
+    // Whether the innermost end is reached.
     pub(crate) fn is_at_end(&self) -> Result<bool>
         ensures ok { IfOk result (λ here. (self.now.failed ≡ None)
             × (IsTrue here ↔ (self.now.until_end ≡ 0))) }

@@ -1,5 +1,5 @@
 //! Contents that aren't looked at.
-ghost use Rattle.std.specs.Prelude.{◌<◌, IfOk, IfErr};
+ghost use Rattle.std.specs.Prelude.{◌≡◌, ◌<◌, length, IfOk, IfErr, IfSome, IfNone};
 ghost use Rattle.std.specs.Borrow.{sem};
 ghost use Rattle.std.specs.Io.BufRead.{Rests};
 ghost use Rattle.picky_der_input.specs.Reading.{ReadsPrimitive, RefusesPrimitive};
@@ -14,14 +14,14 @@ use super::Deserializer;
 use picky_der_core::asn1::Tag;
 use picky_der_core::misc::ReadExt;
 use picky_der_core::{Asn1DerError, Result};
+use picky_der_input::ShortContent;
 
 impl<R: ReadExt> Deserializer<R> {
-    /// Reads the content under this tag into one vector, of which nothing is grown before a byte came for it. The
-    /// content isn't looked at.
+    /// Reads the content under this tag into one vector. The content isn't checked. The vector grows only as bytes are read.
     ///
-    /// `UnsupportedValue` for a tag whose number is 31, which announces the long form: nothing is drawn then, and no
-    /// memory is taken. `InvalidData` for another tag; the refusals of a header and of an end; `OutOfMemory` where
-    /// memory is refused; else the reader's fault.
+    /// `UnsupportedValue` for a tag with the number 31, which announces the long form: nothing is consumed or allocated then.
+    /// `InvalidData` for another tag. `OutOfMemory` if an allocation fails. Any other error is that of a header or of an end,
+    /// or the reader's I/O error.
     #[inline(always)]
     pub fn deserialize_tagged_bytes(&mut self, tag: Tag) -> Result<Vec<u8>>
         ensures ok { IfOk result (λ content. ReadsPrimitive (PrimitiveShape.bytes tag)
@@ -33,7 +33,22 @@ impl<R: ReadExt> Deserializer<R> {
         self.input.read_tagged_bytes(tag)
     }
 
-    /// Reads an octet string (X.690, 8.7) into one vector. It is refused as any tagged bytes are.
+    /// Reads the content under this tag into a value in one step. The whole element has to be in memory before the innermost
+    /// end, with a length of one byte, and the type has to make a value of its content.
+    ///
+    /// Else it returns `None` and does nothing. It does so too for a tag with the number 31, directly under an implicit tag,
+    /// and after an error. Nothing is allocated.
+    #[inline(always)]
+    pub fn deserialize_short<C: ShortContent>(&mut self, tag: Tag) -> Option<C>
+        ensures read { IfSome result (λ it. ReadsPrimitive (PrimitiveShape.bytes tag) self.old self.new
+            (Primitive.bytes tag (C.content it))) }
+        ensures short { IfSome result (λ it. length (C.content it) < 128) }
+        ensures none { IfNone result (self.new ≡ self.old) }
+    {
+        self.input.read_short::<C>(tag)
+    }
+
+    /// Reads an octet string (X.690, 8.7) into one vector. The errors are those of `deserialize_tagged_bytes`.
     #[inline(always)]
     pub fn deserialize_byte_buf(&mut self) -> Result<Vec<u8>>
         ensures ok { IfOk result (λ content. ReadsPrimitive (PrimitiveShape.bytes 0x04)
@@ -44,7 +59,7 @@ impl<R: ReadExt> Deserializer<R> {
         self.deserialize_tagged_bytes(Tag::OCTET_STRING)
     }
 
-    /// Reads an octet string, and lends it. It is refused as one in a vector of its own is.
+    /// Reads an octet string, and returns a reference to it. The errors are those of `deserialize_byte_buf`.
     pub fn deserialize_bytes(&mut self) -> Result<&[u8]>
         ensures answer { (new : State) × LendsBytes self.old new result }
         ensures* after_borrow { sem 𝓛 (Rests (the_row R.row R.ReadExt.own R.Read) self.entry

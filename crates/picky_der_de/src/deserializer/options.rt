@@ -10,8 +10,8 @@ use picky_der_core::Result;
 use picky_der_core::misc::ReadExt;
 
 impl<R: ReadExt> Deserializer<R> {
-    /// Reads a value that could have been missing, and answers `Some`. Nothing stands for one that is missing, so none
-    /// is read here: only what holds the value can know that. It is refused as the value is.
+    /// Reads a value that could be missing, and returns `Some`. A missing value has no bytes, so only the call that reads its
+    /// list can find it missing. Each error is the value's.
     pub fn deserialize_option<T: Deserialize>(&mut self) -> Result<Option<T>>
         ensures ok { IfOk result (λ value. Reads (Shape.optional T.shape) self.old self.new
             (option_meaning T.meaning value)) }

@@ -18,8 +18,8 @@ impl<R: ReadExt> Deserializer<R> {
         self.input.is_in_set()
     }
 
-    // The next member of a set. Where the reader shows it whole, its encoding is compared before it is read. Most members are
-    // those of sequences, so this stays out of line.
+    // The next member of a set. If the whole member is in memory, its encoding is compared before it is read. Most members are
+    // those of sequences, so this function isn't inlined.
     #[inline(never)]
     pub(crate) fn next_in_set<T: Deserialize>(&mut self) -> Result<T>
         requires had_not_failed { self.old.failed ≡ None }
@@ -36,7 +36,7 @@ impl<R: ReadExt> Deserializer<R> {
         }
     }
 
-    // Reads a member whose encoding was compared, and refuses one that is less than the one before it.
+    // Reads a member whose encoding was compared, and rejects it if it is less than the one before it.
     fn read_seen<T: Deserialize>(&mut self, less: bool) -> Result<T>
         requires had_not_failed { self.old.failed ≡ None }
         requires whole { self.old.implicit_tag ≡ None }
@@ -55,7 +55,7 @@ impl<R: ReadExt> Deserializer<R> {
         }
     }
 
-    // Reads a member that the reader doesn't show whole, and compares its encoding after that.
+    // Reads a member that isn't in memory whole, and compares its encoding after that.
     #[cold]
     #[inline(never)]
     fn read_unseen<T: Deserialize>(&mut self) -> Result<T>
@@ -76,8 +76,8 @@ impl<R: ReadExt> Deserializer<R> {
         }
     }
 
-    // Tests that a member of a set that was read isn't less than the one before it. No byte is drawn for it: the encoding is
-    // written again. A value that was read can be written, so only memory can be missing then.
+    // Tests that a member of a set that was read isn't less than the one before it. No byte is consumed: the encoding is
+    // written again. A value that was read can be written, so the only failure is that of an allocation.
     fn test_order<T: Serialize>(&mut self, value: &T) -> Result<()>
         requires had_not_failed { self.old.failed ≡ None }
         requires in_set { self.old.sets.last ≢ None }

@@ -9,11 +9,10 @@ use picky_der_core::asn1::Tag;
 use picky_der_core::misc::ReadExt;
 
 impl<R: ReadExt> Deserializer<R> {
-    /// The tag that is next, which is left unread. Directly under an implicit tag that one was taken already, and is
-    /// answered.
+    /// The next tag, without consuming it. Directly under an implicit tag this tag was consumed already, and is returned.
     ///
-    /// A byte that isn't there is `InvalidData` at a hard end, and else `TruncatedData`; else the reader's fault. No
-    /// memory is taken.
+    /// If no byte is left, the error is `InvalidData` at a hard end, and else `TruncatedData`. Any other error is the reader's
+    /// I/O error. Nothing is allocated.
     pub fn deserialize_identifier(&mut self) -> Result<Tag>
         ensures ok { IfOk result (Identifies self.old self.new) }
         ensures err { IfErr result (RefusesIdentifier self.old self.new) }
@@ -21,8 +20,8 @@ impl<R: ReadExt> Deserializer<R> {
         self.input.identify()
     }
 
-    // The tag that is next, which is left unread, and `None` where the input ended here, before the innermost end. Directly
-    // under an implicit tag it is that one.
+    // The next tag, without consuming it, or `None` if the input ended here, before the innermost end. Directly under an
+    // implicit tag it is that tag.
     pub(crate) fn identify_next(&mut self) -> Result<Option<Tag>>
         ensures tag { IfOk result (λ next. IfSome next (Identifies self.old self.new)) }
         ensures ended { IfOk result (λ next. IfNone next (HasEnded self.old self.new)) }
@@ -32,11 +31,11 @@ impl<R: ReadExt> Deserializer<R> {
         self.input.identify_next()
     }
 
-    /// The tag that tells which alternative of a choice is next. It is left unread. The names aren't looked at.
+    /// The tag of the next alternative of a choice, without consuming it. The names aren't used.
     ///
-    /// `InvalidData` directly under an implicit tag, where no byte tells a choice, and nothing is drawn. A byte that
-    /// isn't there is `InvalidData` at a hard end, and else `TruncatedData`; else the reader's fault. No memory is
-    /// taken.
+    /// `InvalidData` directly under an implicit tag, where no byte distinguishes the alternatives: nothing is consumed then. If
+    /// no byte is left, the error is `InvalidData` at a hard end, and else `TruncatedData`. Any other error is the reader's I/O
+    /// error. Nothing is allocated.
     pub fn deserialize_enum(
         &mut self,
         _name: &'static str,

@@ -11,10 +11,10 @@ use picky_der_core::misc::ReadExt;
 use picky_der_core::{Int, Result};
 
 impl<R: ReadExt> Deserializer<R> {
-    /// Reads a bool (X.690, 8.2 and 11.1).
+    /// Reads a BOOLEAN (X.690, 8.2 and 11.1).
     ///
-    /// `InvalidData` for another tag and for a content other than one byte `00` or `FF`; `TruncatedData` for an empty
-    /// content; the refusals of a header and of an end; else the reader's fault.
+    /// `InvalidData` for another tag, and for a content other than one byte `00` or `FF`. `TruncatedData` for an empty content.
+    /// Any other error is that of a header or of an end, or the reader's I/O error.
     #[inline(always)]
     pub fn deserialize_bool(&mut self) -> Result<bool>
         ensures ok { IfOk result (λ value. ReadsPrimitive PrimitiveShape.boolean
@@ -26,11 +26,11 @@ impl<R: ReadExt> Deserializer<R> {
         self.input.read_bool()
     }
 
-    /// Reads a number of 8 bits (X.690, 8.3).
+    /// Reads an unsigned number of 8 bits (X.690, 8.3).
     ///
-    /// `InvalidData` for another tag and for a needless 00 in front; `UnsupportedValue` for a negative number and past
-    /// the greatest one; `TruncatedData` for an empty content; the refusals of a header and of an end; else the
-    /// reader's fault.
+    /// `InvalidData` for another tag, and for a needless 00 in front. `UnsupportedValue` for a negative number, and for one
+    /// past the greatest. `TruncatedData` for an empty content. Any other error is that of a header or of an end, or the
+    /// reader's I/O error.
     #[inline(always)]
     pub fn deserialize_u8(&mut self) -> Result<u8>
         ensures ok { IfOk result (λ value. ReadsPrimitive (PrimitiveShape.unsigned (2 ^ 8 - 1))
@@ -42,7 +42,7 @@ impl<R: ReadExt> Deserializer<R> {
         self.input.read_unsigned()
     }
 
-    /// Reads a number of 16 bits. It is refused as one of 8 bits is.
+    /// Reads an unsigned number of 16 bits. The errors are those of `deserialize_u8`.
     #[inline(always)]
     pub fn deserialize_u16(&mut self) -> Result<u16>
         ensures ok { IfOk result (λ value. ReadsPrimitive (PrimitiveShape.unsigned (2 ^ 16 - 1))
@@ -54,7 +54,7 @@ impl<R: ReadExt> Deserializer<R> {
         self.input.read_unsigned()
     }
 
-    /// Reads a number of 32 bits. It is refused as one of 8 bits is.
+    /// Reads an unsigned number of 32 bits. The errors are those of `deserialize_u8`.
     #[inline(always)]
     pub fn deserialize_u32(&mut self) -> Result<u32>
         ensures ok { IfOk result (λ value. ReadsPrimitive (PrimitiveShape.unsigned (2 ^ 32 - 1))
@@ -66,7 +66,7 @@ impl<R: ReadExt> Deserializer<R> {
         self.input.read_unsigned()
     }
 
-    /// Reads a number of 64 bits. It is refused as one of 8 bits is.
+    /// Reads an unsigned number of 64 bits. The errors are those of `deserialize_u8`.
     #[inline(always)]
     pub fn deserialize_u64(&mut self) -> Result<u64>
         ensures ok { IfOk result (λ value. ReadsPrimitive (PrimitiveShape.unsigned (2 ^ 64 - 1))
@@ -78,7 +78,7 @@ impl<R: ReadExt> Deserializer<R> {
         self.input.read_unsigned()
     }
 
-    /// Reads a number of 128 bits. It is refused as one of 8 bits is.
+    /// Reads an unsigned number of 128 bits. The errors are those of `deserialize_u8`.
     #[inline(always)]
     pub fn deserialize_u128(&mut self) -> Result<u128>
         ensures ok { IfOk result (λ value. ReadsPrimitive (PrimitiveShape.unsigned (2 ^ 128 - 1))
@@ -90,10 +90,10 @@ impl<R: ReadExt> Deserializer<R> {
         self.input.read_unsigned()
     }
 
-    /// Reads an INTEGER that an integer type has, signed or not (X.690, 8.3).
+    /// Reads an INTEGER into an integer type, signed or not (X.690, 8.3).
     ///
-    /// `InvalidData` for another tag, and for a content that isn't two's complement in the fewest bytes; `UnsupportedValue` for
-    /// a number that the type doesn't have; the refusals of a header and of an end; else the reader's fault.
+    /// `InvalidData` for another tag, and for a content that isn't two's complement in the fewest bytes. `UnsupportedValue` for
+    /// a number that the type doesn't have. Any other error is that of a header or of an end, or the reader's I/O error.
     pub fn deserialize_int<N: Int>(&mut self) -> Result<N>
         ensures ok { IfOk result (λ value. ReadsInt N.fits self.old self.new (N.number value)) }
         ensures meant { IfOk result (λ value. Reads (Shape.primitive (PrimitiveShape.bytes 0x02))
@@ -107,8 +107,8 @@ impl<R: ReadExt> Deserializer<R> {
 
     /// Reads a null (X.690, 8.8).
     ///
-    /// `InvalidData` for another tag and for a content that isn't empty; the refusals of a header and of an end; else
-    /// the reader's fault.
+    /// `InvalidData` for another tag, and for a content that isn't empty. Any other error is that of a header or of an end, or
+    /// the reader's I/O error.
     #[inline(always)]
     pub fn deserialize_unit(&mut self) -> Result<()>
         ensures ok { OnOk result (ReadsPrimitive PrimitiveShape.null
@@ -120,7 +120,7 @@ impl<R: ReadExt> Deserializer<R> {
         self.input.read_unit()
     }
 
-    /// Reads a struct without fields as a null, and is refused so. The name isn't used.
+    /// Reads a struct without fields as a null, with the errors of `deserialize_unit`. The name isn't used.
     #[inline(always)]
     pub fn deserialize_unit_struct(&mut self, _name: &'static str) -> Result<()>
         ensures ok { OnOk result (ReadsPrimitive PrimitiveShape.null

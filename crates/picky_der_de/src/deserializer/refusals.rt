@@ -8,11 +8,11 @@ use picky_der_core::Asn1DerError;
 use picky_der_core::misc::ReadExt;
 
 impl<R: ReadExt> Deserializer<R> {
-    /// Fails with this error, and answers it. One that has failed before answers that error, and is as it was. Nothing
-    /// is drawn.
+    /// Makes the deserializer fail with this error, and returns it. If it has failed before, nothing changes and the earlier
+    /// error is returned. Nothing is consumed.
     ///
-    /// A value that is read by hand is refused so, where the calls that read its parts don't refuse it. More bytes
-    /// don't mend that, and no device failed: so the error is neither `TruncatedData` nor `Other`.
+    /// A hand-written `deserialize` calls it if the parts that it has read make no value. More bytes can't change that, and the
+    /// reader didn't fail, so the error may be neither `TruncatedData` nor `Other`.
     pub fn refuse(&mut self, kind: Asn1DerError) -> Asn1DerError
         requires no_fault { IsOther kind → ⊥ }
         requires lasting { kind ≢ Asn1DerError.TruncatedData }

@@ -16,8 +16,8 @@ use picky_der_core::misc::ReadExt;
 impl<R: ReadExt> Deserializer<R> {
     /// Reads a text of one character (X.690, 8.23).
     ///
-    /// `InvalidData` for another tag, for a content that isn't UTF-8, and for more than one character;
-    /// `UnsupportedValue` for an empty content; the refusals of a header and of an end; else the reader's fault.
+    /// `InvalidData` for another tag, for a content that isn't UTF-8, and for more than one character. `UnsupportedValue` for
+    /// an empty content. Any other error is that of a header or of an end, or the reader's I/O error.
     pub fn deserialize_char(&mut self) -> Result<char>
         ensures ok { IfOk result (λ value. ReadsPrimitive PrimitiveShape.character
             self.old self.new (Primitive.text (encode_utf8 value))) }
@@ -28,10 +28,10 @@ impl<R: ReadExt> Deserializer<R> {
         self.input.read_char()
     }
 
-    /// Reads a text (X.690, 8.23) into one string, of which nothing is grown before a byte came for it.
+    /// Reads a text (X.690, 8.23) into one string. The string grows only as bytes are read.
     ///
-    /// `InvalidData` for another tag and for a content that isn't UTF-8; the refusals of a header and of an end;
-    /// `OutOfMemory` where memory is refused; else the reader's fault.
+    /// `InvalidData` for another tag, and for a content that isn't UTF-8. `OutOfMemory` if an allocation fails. Any other error
+    /// is that of a header or of an end, or the reader's I/O error.
     pub fn deserialize_string(&mut self) -> Result<String>
         ensures ok { IfOk result (λ text. ReadsPrimitive PrimitiveShape.text
             self.old self.new (Primitive.text (string_bytes text))) }
@@ -41,7 +41,7 @@ impl<R: ReadExt> Deserializer<R> {
         self.input.read_string()
     }
 
-    /// Reads a text, and lends it. It is refused as one in a string of its own is.
+    /// Reads a text, and returns a reference to it. The errors are those of `deserialize_string`.
     pub fn deserialize_str(&mut self) -> Result<&str>
         ensures answer { (new : State) × LendsText self.old new result }
         ensures* after_borrow { sem 𝓛 (Rests (the_row R.row R.ReadExt.own R.Read) self.entry

@@ -1,4 +1,4 @@
-//! What serde can read and DER as it is here can't.
+//! What serde can read and this DER can't.
 ghost use Rattle.picky_der_input.specs.Refusing.{IsUnsupported};
 
 use super::Deserializer;
@@ -13,42 +13,42 @@ impl<R: ReadExt> Deserializer<R> {
         Err(self.refuse(Asn1DerError::UnsupportedType))
     }
 
-    /// `UnsupportedType`, as of all the calls below: nothing is drawn, and no memory is taken.
+    /// Returns `UnsupportedType`, as do all the calls below. Nothing is consumed or allocated.
     pub fn deserialize_i8(&mut self) -> Result<()>
         ensures { IsUnsupported self.old result self.new }
     {
         self.refuse_type()
     }
 
-    /// `UnsupportedType`.
+    /// Returns `UnsupportedType`.
     pub fn deserialize_i16(&mut self) -> Result<()>
         ensures { IsUnsupported self.old result self.new }
     {
         self.refuse_type()
     }
 
-    /// `UnsupportedType`.
+    /// Returns `UnsupportedType`.
     pub fn deserialize_i32(&mut self) -> Result<()>
         ensures { IsUnsupported self.old result self.new }
     {
         self.refuse_type()
     }
 
-    /// `UnsupportedType`.
+    /// Returns `UnsupportedType`.
     pub fn deserialize_i64(&mut self) -> Result<()>
         ensures { IsUnsupported self.old result self.new }
     {
         self.refuse_type()
     }
 
-    /// `UnsupportedType`.
+    /// Returns `UnsupportedType`.
     pub fn deserialize_i128(&mut self) -> Result<()>
         ensures { IsUnsupported self.old result self.new }
     {
         self.refuse_type()
     }
 
-    /// `UnsupportedType`. No reader of maps begins.
+    /// Returns `UnsupportedType`. It begins no reader of maps.
     pub fn deserialize_map(&mut self) -> Result<()>
         ensures { IsUnsupported self.old result self.new }
     {

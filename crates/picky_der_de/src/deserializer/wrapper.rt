@@ -18,12 +18,13 @@ use picky_der_core::{Asn1DerError, Result};
 use picky_der_ser::List;
 
 impl<R: ReadExt> Deserializer<R> {
-    /// Reads the value of a newtype, in the wrapper that stands around it (X.690, 8.6.2, 8.7 and 8.14). `Newtype::Plain` has
-    /// none.
+    /// Reads the value of a newtype, in the wrapper around it (X.690, 8.6.2, 8.7 and 8.14). `Newtype::Plain` has none.
     ///
-    /// `UnsupportedValue` for a tag number past 30: nothing is drawn then, and no memory is taken. `InvalidData` for
-    /// another tag, for a bit string with unused bits, and for bytes left over before the wrapper's end, none of which
-    /// is drawn; the refusals of a header and of an end; else as the value is refused.
+    /// `UnsupportedValue` for a tag number past 30: nothing is consumed or allocated then. `InvalidData` for another tag, and
+    /// for a bit string with unused bits. `InvalidData` too for bytes that are left over before the wrapper's end: none of them
+    /// is consumed.
+    ///
+    /// Any other error is that of a header, of an end, or of the value.
     pub fn deserialize_newtype_struct<T: Deserialize>(&mut self, kind: Newtype) -> Result<T>
         ensures ok { IfOk result (λ value. Reads
             (wrap_shape_if (wrapper_of kind) T.shape) self.old self.new
@@ -43,11 +44,13 @@ impl<R: ReadExt> Deserializer<R> {
         }
     }
 
-    /// Reads a list under this tag, which is in place of the list's own (X.690, 8.14).
+    /// Reads a list under this tag, which replaces the list's own (X.690, 8.14).
     ///
-    /// `UnsupportedValue` for a tag that isn't constructed and for a tag number past 30: nothing is drawn then, and no memory is
-    /// taken. `InvalidData` for another tag, and for bytes left over before the list's end, none of which is drawn; the refusals of a
-    /// header and of an end; else as the list is refused.
+    /// `UnsupportedValue` for a tag that isn't constructed, and for a tag number past 30: nothing is consumed or allocated
+    /// then. `InvalidData` for another tag. `InvalidData` too for bytes that are left over before the list's end: none of them
+    /// is consumed.
+    ///
+    /// Any other error is that of a header, of an end, or of the list.
     pub fn deserialize_retagged<T: List + Deserialize>(&mut self, tag: Tag) -> Result<T>
         ensures ok { IfOk result (λ value. Reads
             (Shape.wrapped (Retagged tag) T.shape) self.old self.new

@@ -11,7 +11,7 @@ use crate::{Deserialize, Deserializer};
 use picky_der_core::Result;
 use picky_der_core::misc::ReadExt;
 
-// Reads a sequence of as many members as there are slots, into these.
+// Reads a sequence of as many members as there are slots, into the slots.
 fn read_into<T: Deserialize + Copy, R: ReadExt>(
     slots: &mut [T],
     de: &mut Deserializer<R>,
@@ -28,7 +28,7 @@ fn read_into<T: Deserialize + Copy, R: ReadExt>(
     members.end()
 }
 
-// A value that stands there before it is read, as an array with a default in each slot.
+// A value that is there before it is read: an array with a default in each slot.
 trait Fill: Drop + Sized {
     ghost meaning: { Self → Tree };
 
@@ -43,8 +43,8 @@ trait Fill: Drop + Sized {
         ensures err { IfErr result (Refuses meaning shape de.old de.new) };
 }
 
-// Reads a value that stands there first. This is all the work of `deserialize` of an array: that function answers the
-// array in a `Result`, which the borrow checker doesn't cover, so it makes this one call and is proved by hand.
+// Reads into a value that is there already. This is all that `deserialize` of an array does. That function returns the array in
+// a `Result`, which the borrow checker doesn't cover. So it makes this one call and is proved by hand.
 fn read_filled<V: Fill, R: ReadExt>(de: &mut Deserializer<R>) -> Result<V>
     ensures ok { IfOk result (λ value. Reads V.shape de.old de.new (V.meaning value)) }
     ensures err { IfErr result (Refuses V.meaning V.shape de.old de.new) }

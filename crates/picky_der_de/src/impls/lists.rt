@@ -43,8 +43,8 @@ impl<T: Deserialize> Deserialize for Asn1SetOf<T> {
 
     ghost tied = { Prim.assumption };
 
-    // The first member whose encoding is less than that of the one before it is `InvalidData`, and no byte behind it is
-    // drawn (X.690, 11.6).
+    // The first member whose encoding is less than that of the one before it is `InvalidData`, and no byte after it is
+    // consumed (X.690, 11.6).
     fn deserialize<R: ReadExt>(de: &mut Deserializer<R>) -> Result<Asn1SetOf<T>>
         ensures ok { IfOk result (λ set. Reads (Shape.list_of ListKind.set T.shape) de.old de.new
             (Tree.list ListKind.set (trees (map T.meaning set.0.items)))) }

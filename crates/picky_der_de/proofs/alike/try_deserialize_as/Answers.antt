@@ -9,7 +9,7 @@ use Rattle.picky_der_de.proofs.OtherValues.{other_unless_memory}
 use Rattle.picky_der_de.proofs.PassedOn.{refusal_passed_on}
 use Rattle.picky_der_de.proofs.alike.try_deserialize_as.Goals as goal
 
--- such an error isn't mended by more bytes
+-- more bytes can't change such an error
 is_final : {V W : Type 0} (meaning : W → Tree) (parts : V → W) (w : W) (e : Asn1DerError) → TellsNone meaning parts w e → e ≢ TruncatedData
 is_final meaning parts w e (inl m) q = let n : OutOfMemory ≡ TruncatedData = sym m ∙ q in cc
 is_final meaning parts w e (inr p) q = let n : InvalidData ≡ TruncatedData = sym p.0 ∙ q in cc

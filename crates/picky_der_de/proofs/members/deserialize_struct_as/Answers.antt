@@ -1,5 +1,5 @@
 use Rattle.std.proofs.Common.{refl, rules}
-use Rattle.picky_der_de.specs.KnownMembers.{members_told}
+use Rattle.picky_der_de.specs.FirstTests.{members_told}
 use Rattle.picky_der_de.proofs.PassedOn.{refusal_passed_on, reads_at}
 use Rattle.picky_der_de.proofs.LayoutReads.{layout_unopened, layout_refused, layout_left, layout_reads}
 use Rattle.picky_der_de.proofs.members.deserialize_struct_as.Goals as goal

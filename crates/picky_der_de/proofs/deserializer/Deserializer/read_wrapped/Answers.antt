@@ -1,8 +1,24 @@
-use Rattle.std.proofs.Common.{refl}
+use Rattle.std.proofs.Common.{◌≡◌, Err, refl, ap}
 use Rattle.std.proofs.lemmas.Result.{err_from_is_err_and}
+use Rattle.picky_der_core.specs.declared.error.Asn1DerError.{Asn1DerError}
+use Rattle.picky_der_core.specs.declared.error.Asn1DerError.TheVariants.{UnsupportedValue}
+use Rattle.picky_der_input.specs.State.{State}
+use Rattle.picky_der_input.specs.TagNumbers.{RefusesNumber}
 use Rattle.picky_der_input.specs.Wrappers.{in_value, behind_value}
 use Rattle.picky_der_de.proofs.WrapperReads.{reads_wrapped}
 use Rattle.picky_der_de.proofs.deserializer.Deserializer.read_wrapped.Goals as goal
+
+-- a number is refused whatever would be read
+refuses_number : {A B : Type 0} {old new : State} {e : Asn1DerError} → RefusesNumber {T = A} old (Err e) new → RefusesNumber {T = B} old (Err e) new
+refuses_number {e = e} h had_not_failed =
+    let refused = h had_not_failed in
+    let is : e ≡ UnsupportedValue = cc in
+    (ap Err is, refused.1)
+
+pub returns-in_err-outer-clause-unsupported : goal.returns-in_err-outer-clause-unsupported
+returns-in_err-outer-clause-unsupported g c =
+    let p = err_from_is_err_and c.from_residual.result c.from_residual.ensures.1 in
+    rw (p.1, p.2) (λ past. refuses_number ((rw c.self.view_is at c.in_err-outer.ensures.unsupported) past))
 
 pub returns-in_err-value-clause-err : goal.returns-in_err-value-clause-err
 returns-in_err-value-clause-err g c =

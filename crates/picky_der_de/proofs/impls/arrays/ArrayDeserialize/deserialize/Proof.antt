@@ -1,4 +1,4 @@
--- An array is read by one call, which is lent the deserializer, and whose answer is passed on. Assumes `Logic`.
+-- An array is read by one call, which borrows the deserializer, and whose result is passed on. Assumes `Logic`.
 use mathlib.Core.Path.{refl}
 use Prim.Native.Nat.{ℕ, ◌<◌, ◌^◌}
 use mathlib.Core.List.{[], ◌∷◌}
@@ -162,7 +162,7 @@ module _ (E : At) {M : Type 1} {𝓤 : Ura M} (𝓛 : Logic 𝓤) (at_mem : Memo
   abbrev lent : Lft → ℕ → ℕ → GName → (D E).Denot → Fml
   lent κ rb ro δ x = (MutRef (named 0) κ (D E)).own_val (record { ref_ptr = (rb, ro); ghost_name = δ; now = x }) (vptr rb ro ∷ [])
 
-  -- what the call says of its answer
+  -- what the call says of its result
   abbrev Read : (D E).Denot → (Answer E).Denot → (D E).Denot → Type 0
   Read x r y = IfOk r (λ v. Reads (gA E).shape x y ((gA E).meaning v))
 
@@ -207,14 +207,14 @@ module _ (E : At) {M : Type 1} {𝓤 : Ura M} (𝓛 : Logic 𝓤) (at_mem : Memo
         use1 𝓛 (later (some (λ (r : (Answer E).Denot). ((‵ (flft κ₁ (Share.left p.1)) ⊛ ‵ (flft κT qT) ⊛ ‵ (flft κ₁ (Share.right p.1)) ⊛ ‵ ftrue) ⊛ ‵ ((Answer E).own_val r (v ∷ [])))
         ⊛ some (λ (ws : (D E).Denot × Unit {0}). ‵ (fsep (fsep (fres δ ((D E).coded.code ws.0)) (fbor κ₁ (BorBody (mem (D E)) rb ro δ))) ftrue) ⊛ (raw (fact 𝓤 (Read x r ws.0)) ⊛ raw (fact 𝓤 (Refused x r ws.0))))))) (id⊢ 𝓤 _) $ await ! tt $ pick ! (λ r.
         split ! $ move ! (1 ∷ []) $ pick ! (λ ws. split ! $ fsplit ! $ fsplit ! $ move ! (1 ∷ []) $ drop ! $ move ! (1 ∷ []) $ drop ! $ move ! (1 ∷ []) $ split ! $ heard ! (Read x r ws.0) (λ ok. heard ! (Refused x r ws.0) (λ err.
-        -- [what the deserializer ends as; the tokens and the answer; the way back; the way to end it; N's token]
+        -- [what the deserializer ends as; the tokens and the result; the way back; the way to end it; N's token]
         move ! (1 ∷ []) $ split ! $ split3 ! $ move ! (2 ∷ []) $ split ! $ move ! (1 ∷ []) $ drop ! $ move ! (1 ∷ 0 ∷ []) $ use2 𝓛 (‵ (flft κ₁ p.1)) (𝓛.lfts.lft_join κ₁ p.1) $
-        -- [the new token; T's; the answer; what the deserializer ends as; the way back; the way to end it; N's token]
+        -- [the new token; T's; the result; what the deserializer ends as; the way back; the way to end it; N's token]
         move ! (2 ∷ []) $ peeks ! (Answer E) (Is (Answer E)) (shows 𝓛 (Answer E)) r (v ∷ []) (λ is.
         lands_as ! refl refl (((Answer-laws E).lawful 𝓛).typed r (v ∷ []) is).0 $
         move ! (1 ∷ 5 ∷ []) $ use2 𝓛 (later (‵ (fdead κ₁) ⊛ ‵ (flft κR qR))) (apply∗ 𝓤 (𝓐.lft κ₁ p.1) _) $ await ! tt $ split ! $
         move ! (0 ∷ 5 ∷ 4 ∷ []) $ use3 𝓛 (later (‵ (lent κ rb ro γ ws.0) ⊛ ‵ (flft κ q))) (comes_back 𝓛 (D E) (named 0) κ κ₁ q γ rb ro δ x ws.0) $ await ! tt $ split ! $
-        -- [the reference; its token; R's; the answer; T's token; N's]
+        -- [the reference; its token; R's; the result; T's token; N's]
         returns ! (look_at ! 0 refl) $ free_all ! refl $
         suffices ! _ (ends_at 𝓛 (ended E) (stayed E) (clauses E 𝓛 at_mem run) bound v r (ws.0, tt) (tt, tt)) $
         nothing ! $ move ! (1 ∷ 0 ∷ []) $ fjoin ! $ move ! (0 ∷ 3 ∷ []) $ join ! $

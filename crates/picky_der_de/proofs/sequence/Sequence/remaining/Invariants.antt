@@ -1,6 +1,6 @@
 use Rattle.std.proofs.Common.{◌≡◌}
 use Rattle.picky_der_de.proofs.ListReads.{ReadsSome}
-use Rattle.picky_der_de.proofs.sequence.Sequence.collect.Given as goal
+use Rattle.picky_der_de.proofs.sequence.Sequence.remaining.Given as goal
 
 abbrev pub invariant-loop-values : goal.invariant-loop-values
 invariant-loop-values g l = record {

@@ -6,7 +6,7 @@ use Rattle.picky_der_core.specs.EncodingLaws.{length-der}
 use Rattle.picky_der_input.specs.State.{State}
 use Rattle.picky_der_de.proofs.MemberReads.{takes_member, member_again}
 use Rattle.picky_der_de.proofs.ListReads.{all_refused, all_next, all_for_memory, some_none, some_more, some_all}
-use Rattle.picky_der_de.proofs.sequence.Sequence.collect.Goals as goal
+use Rattle.picky_der_de.proofs.sequence.Sequence.remaining.Goals as goal
 
 above : (n : ℕ) → (n ≡ 0 → ⊥) → 0 < n
 above n h = omega (arith, h)
@@ -38,15 +38,14 @@ loop-values-preserved g c =
     let i = c.loop-values.invariant in
     let e = c.in_ok-value.ensures in
     let h = some_more g.T.Serialize.meaning g.T.Deserialize.shape c.loop-values.values.items c.in_ok-value.value i.some r in
-    record { some = rw (c.push.ensures.items, c.if-is_err.ensures.negation) h; same_reference = e.same_reference ∙ i.same_reference; outer = e.outer ∙ i.outer }
+    record { some = rw c.in-Ok.ensures h; same_reference = e.same_reference ∙ i.same_reference; outer = e.outer ∙ i.outer }
 
 pub loop-values-init : goal.loop-values-init
 loop-values-init g c =
-    let r = c.requires in
-    record { some = rw c.new-values.ensures.items (some_none g.T.Serialize.meaning g.T.Deserialize.shape _ r.had_not_failed r.unpeeked r.implicit_tag); same_reference = refl; outer = refl }
+    record { some = rw c.new-values.ensures.items (some_none g.T.Serialize.meaning g.T.Deserialize.shape _ c.args.self.now.whole); same_reference = refl; outer = refl }
 
-pub returns-then-is_err-clause-err : goal.returns-then-is_err-clause-err
-returns-then-is_err-clause-err g c =
+pub returns-in_default-add-clause-err : goal.returns-in_default-add-clause-err
+returns-in_default-add-clause-err g c =
     let r = c.in_ok-value.ensures.ok in
     c.loop-values.invariant.some.refuses _ _ (all_next r (all_for_memory c.fail.ensures.fails c.fail.ensures.error))
 
