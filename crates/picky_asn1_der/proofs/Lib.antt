@@ -1,3 +1,4 @@
+mod LaterWrites
 pub mod RawTags
 mod ListContents
 mod RoundTrips

@@ -19,7 +19,7 @@ pub struct ApplicationTag<V, const T: u8>(pub V)
 where
     V: Debug + PartialEq;
 
-/// Two values under one application tag are equal just where they are without it.
+/// Two values under one application tag are equal exactly if they are equal without it.
 pub fn equality<V: Debug + PartialEq, const T: u8>()
     ensures { IsThatOf ⟦<ApplicationTag<V, T> as PartialEq>⟧.eq (λ tagged. tagged.0) V.eq }
 {}
@@ -30,7 +30,7 @@ pub fn copies<V: Debug + PartialEq + Clone, const T: u8>()
 {}
 
 impl<V: Debug + PartialEq + Clone, const T: u8> ApplicationTag<V, T> {
-    /// A copy. `OutOfMemory` where memory is refused.
+    /// A copy. `OutOfMemory` if an allocation fails.
     pub fn clone(&self) -> Result<ApplicationTag<V, T>>
         ensures same { IfOk result (λ copy. V.is_clone self.now.0 copy.0) }
         ensures memory { IfErr result (λ e. e ≡ Asn1DerError.OutOfMemory) }

@@ -3,7 +3,7 @@
 
 pub mod application_tag;
 
-/// Reading.
+/// Reads values.
 pub mod de {
     pub use picky_der_de::{
         Alike, Alternatives, Begins, Boolean, Choice, DEFAULT_MAX_LEN, DecodeError, Deserialize,
@@ -14,7 +14,7 @@ pub mod de {
     };
 }
 
-/// Writing.
+/// Writes values.
 pub mod ser {
     pub use picky_der_ser::{
         Boolean, DefaultOf, Defaulted, DefaultedRef, Element, False, Header, Int, List, Null,
@@ -24,10 +24,12 @@ pub mod ser {
     };
 }
 
+pub mod later_members;
 pub mod raw_der;
 pub mod retagged;
 pub mod round_trip;
 
+pub use later_members::LaterMembers;
 pub use picky_der_core::misc::Length;
 pub use picky_der_core::{Asn1DerError, Result, asn1, laws, misc};
 pub use picky_der_de::{

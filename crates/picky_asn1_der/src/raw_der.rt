@@ -19,13 +19,13 @@ use picky_der_ser::{Serialize, Serializer};
 use std::fmt;
 use std::hash::Hash;
 
-/// One element, whatever its tag, by its bytes with the header (X.690, 8.1.1). They are written as they stand: what
-/// isn't just one element isn't read back as this.
+/// One element, whatever its tag, by its bytes with the header (X.690, 8.1.1). The bytes are written as they are. If they
+/// aren't exactly one element, they can't be read back as this type.
 #[derive(Clone, Drop, PartialEq, Eq, PartialOrd, Hash)]
 pub struct Asn1RawDer(pub Vec<u8>);
 
-/// Raw elements are equal just where their bytes are the same. They are ordered as their bytes are, at the first index
-/// where these differ, and hashed as a list of these. A copy has the same bytes.
+/// Raw elements are equal exactly if their bytes are the same. They are ordered like their bytes, at the first index where
+/// these differ, and hashed like a list of their bytes. A copy has the same bytes.
 pub fn comparisons()
     ensures equal { IsEqualityOf ⟦<Asn1RawDer as PartialEq>⟧.eq (λ raw. raw.0.items) }
     ensures order { IsThatOf ⟦<Asn1RawDer as PartialOrd>⟧.partial_cmp (λ raw. raw.0.items)
@@ -39,7 +39,7 @@ impl Asn1RawDer {
     /// The name of the type.
     pub const NAME: &'static str = "Asn1RawDer";
 
-    /// A copy, on the same allocator. `OutOfMemory` where memory is refused.
+    /// A copy, on the same allocator. `OutOfMemory` if an allocation fails.
     pub fn clone(&self) -> Result<Asn1RawDer>
         ensures same { IfOk result (λ copy. copy.0.items ≡ self.now.0.items) }
         ensures memory { IfErr result (λ e. e ≡ Asn1DerError.OutOfMemory) }

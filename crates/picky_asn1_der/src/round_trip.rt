@@ -1,5 +1,5 @@
-//! What is written of a readable value is read back as an equal one, and nothing but its encoding is read as it: as contracts of code
-//! that is nothing but the calls of writing and reading.
+//! Decoding the encoding of a readable value gives an equal value, and no other bytes decode to it. Here this is the contract
+//! of functions that only write and read.
 ghost use Rattle.std.specs.Prelude.{◌≡◌, ◌≢◌, length, true, IfOk, IfErr};
 ghost use Rattle.picky_der_core.specs.Element.{IsPrefix};
 ghost use Rattle.picky_der_core.specs.Encoding.{der};
@@ -16,9 +16,9 @@ pub fn readable_has_shape<T: Deserialize>()
     ensures { (value : T) → IsReadable (T.meaning value) → IsOf T.shape (T.meaning value) }
 {}
 
-/// Writes a value and reads it back: it is equal to the value, and means the same tree.
+/// Writes a value and reads it back. The result is equal to the value, and means the same tree.
 ///
-/// `OutOfMemory` where an allocation failed, and `UnsupportedValue` where the encoding is longer than `usize::MAX`.
+/// `OutOfMemory` if an allocation fails, and `UnsupportedValue` if the encoding is longer than `usize::MAX`.
 pub fn read_back<T: Deserialize>(alloc: Global, value: &T) -> Result<T>
     requires readable { IsReadable (T.meaning value.now) }
     ensures equal { IfOk result (λ back. T.eq back value.now ≡ true) }
@@ -29,9 +29,9 @@ pub fn read_back<T: Deserialize>(alloc: Global, value: &T) -> Result<T>
     from_bytes(alloc, &bytes)
 }
 
-/// Reads the value at the front of some bytes and writes it again: what is written is what was read, byte for byte.
+/// Reads the value at the front of some bytes and writes it again. The result is what was read, byte for byte.
 ///
-/// `OutOfMemory` where an allocation failed; any other error means that no value stands there.
+/// `OutOfMemory` if an allocation fails. Any other error means that no value is at the front.
 pub fn written_back<T: Deserialize>(alloc: Global, bytes: &[u8]) -> Result<Vec<u8>>
     ensures written { IfOk result (λ again. (v : T)
         × ReadsFrom T.meaning T.shape bytes.now (length bytes.now) v

@@ -1,0 +1,131 @@
+//! Members of later versions, after the members that a struct knows.
+ghost use Rattle.std.specs.Prelude.{◌≡◌, [], true, false, None, IfOk, IfErr, IfSome, IfNone, OnOk};
+ghost use Rattle.picky_der_core.specs.Shape.{Shape, Layout, firsts_of};
+ghost use Rattle.picky_der_de.specs.KnownMembers.{known_others};
+ghost use Rattle.picky_der_de.specs.Layouts.{Lacks, RefusesLayout};
+ghost use Rattle.picky_der_de.specs.OtherLaws.{are_outside, others_of};
+ghost use Rattle.picky_der_de.specs.SequenceState.{borrowed_by, outer_of, state_of};
+
+use crate::Asn1RawDer;
+use picky_der_core::asn1::Tag;
+use picky_der_core::misc::{ReadExt, WriteExt};
+use picky_der_core::{Asn1DerError, Result};
+use picky_der_de::{Alternatives, DeserializeMembers};
+use picky_der_ser::{SerializeMember, SerializeMembers};
+use std::alloc::Global;
+use std::marker::PhantomData;
+
+/// The members that are left after the members of a struct, as elements: the members of a later version of an extensible
+/// SEQUENCE (X.680, 25.1), in their order. They are the last member of the struct.
+///
+/// `A` has the types of the members directly before them that may be absent. After an `Optional<B>` and an `Optional<C>` it is
+/// `OneOf<B, OneOf<C, NoneOf>>`. After a member that is always there it is `NoneOf`. The first element begins with no byte that
+/// begins a value of these types.
+#[derive(Drop)]
+#[derive_where(Debug, PartialEq, Eq)]
+pub struct LaterMembers<A: Alternatives> {
+    /// The elements, each with its header.
+    pub elements: Vec<Asn1RawDer>,
+    #[derive_where(skip)]
+    before: PhantomData<A>,
+    ghost outside: { are_outside (firsts_of A.shapes) (λ raw. raw.0.items) elements.items ≡ true },
+}
+
+// Whether the first element begins with no byte that begins a value of `A`.
+fn are_outside<A: Alternatives>(elements: &[Asn1RawDer]) -> bool
+    ensures { result ≡ are_outside (firsts_of A.shapes) (λ raw. raw.0.items) elements.now }
+{
+    let Some(first) = elements.first() else {
+        return true;
+    };
+    let Some(byte) = first.0.first() else {
+        return true;
+    };
+    !A::begins_with(Tag::from(*byte))
+}
+
+impl<A: Alternatives> LaterMembers<A> {
+    /// No members, on this allocator.
+    pub fn none(alloc: Global) -> LaterMembers<A>
+        ensures { result.elements.items ≡ [] }
+    {
+        LaterMembers {
+            elements: Vec::new(alloc),
+            before: PhantomData,
+        }
+    }
+
+    /// These elements, or `None` if the first of them begins with a byte that begins a value of `A`.
+    pub fn new(elements: Vec<Asn1RawDer>) -> Option<LaterMembers<A>>
+        ensures some { IfSome result (λ it. it.elements ≡ elements) }
+        ensures none { IfNone result (are_outside (firsts_of A.shapes) (λ raw. raw.0.items)
+            elements.items ≡ false) }
+    {
+        if are_outside::<A>(&elements) {
+            Some(LaterMembers {
+                elements,
+                before: PhantomData,
+            })
+        } else {
+            None
+        }
+    }
+}
+
+impl<A: Alternatives> SerializeMembers for LaterMembers<A> {
+    ghost members = { λ it. others_of (λ raw. raw.0.items) it.elements.items };
+
+    fn serialize_members<W: WriteExt>(
+        &self,
+        sequence: &mut picky_der_ser::Sequence<'_, W>,
+    ) -> Result<()> {
+        for element in &self.elements {
+            element.serialize_member(sequence)?;
+        }
+        Ok(())
+    }
+}
+
+// Looks at the next byte. One that begins a value of `A` is refused.
+fn refuse_excluded<A: Alternatives, R: ReadExt>(
+    sequence: &mut picky_der_de::Sequence<'_, R>,
+) -> Result<()>
+    requires implicit_tag { (state_of sequence.old).implicit_tag ≡ None }
+    ensures same_reference { borrowed_by sequence.new ≡ borrowed_by sequence.old }
+    ensures outer { outer_of sequence.new ≡ outer_of sequence.old }
+    ensures ok { OnOk result (Lacks (Shape.choice A.shapes) (state_of sequence.old)
+        (state_of sequence.new)) }
+    ensures err { IfErr result (RefusesLayout ⟦<LaterMembers<A> as SerializeMembers>⟧.members
+        (Layout.others (firsts_of A.shapes)) (state_of sequence.old) (state_of sequence.new)) }
+{
+    match sequence.next_tag() {
+        Ok(Some(tag)) => {
+            if A::begins_with(tag) {
+                return Err(sequence.refuse(Asn1DerError::InvalidData));
+            }
+            Ok(())
+        }
+        Ok(None) => Ok(()),
+        Err(error) => Err(error),
+    }
+}
+
+impl<A: Alternatives> DeserializeMembers for LaterMembers<A> {
+    ghost layout = { Layout.others (firsts_of A.shapes) };
+
+    ghost known = { known_others (λ raw. raw.0.items) (firsts_of A.shapes) (λ it. it.elements.items) (λ it. it.outside) };
+
+    fn deserialize_members<R: ReadExt>(
+        sequence: &mut picky_der_de::Sequence<'_, R>,
+    ) -> Result<LaterMembers<A>> {
+        refuse_excluded::<A, R>(sequence)?;
+        let elements = sequence.remaining::<Asn1RawDer>()?;
+        match LaterMembers::new(elements) {
+            Some(members) => Ok(members),
+            // A reader that isn't known may give another byte than it showed.
+            None => Err(sequence.refuse(Asn1DerError::InvalidData)),
+        }
+    }
+
+    ghost tied = { Prim.assumption };
+}
