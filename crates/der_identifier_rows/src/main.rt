@@ -1,5 +1,5 @@
-//! Prints a line for each row on standard input: object identifiers, bit strings, key usages and character strings, and how they are
-//! written.
+//! For each row on standard input, writes a line to standard output: object identifiers, bit strings, key usages and character strings, and
+//! how they are written.
 #![tactic(auto)]
 
 mod rows;

@@ -8,7 +8,7 @@ use picky_der_de::{Deserialize, from_der};
 use picky_der_ser::{Serialize, to_vec};
 use std::alloc::{AllocError, Global};
 
-/// The encoding, or the error.
+/// The encoding in hexadecimal, or the error as a text.
 pub fn written<T: Serialize>(alloc: Global, value: &T) -> Result<String, AllocError> {
     match to_vec(alloc, value) {
         Ok(bytes) => text_of(alloc, &bytes),
@@ -16,7 +16,7 @@ pub fn written<T: Serialize>(alloc: Global, value: &T) -> Result<String, AllocEr
     }
 }
 
-/// The value that these bytes, in hexadecimal, are; or the error, as a text.
+/// The value that these hexadecimal bytes encode, or the error as a text.
 pub fn read<T: Deserialize>(alloc: Global, text: &str) -> Result<Result<T, String>, AllocError> {
     let bytes = match bytes_of(alloc, text) {
         Ok(bytes) => bytes,
@@ -37,7 +37,7 @@ fn bits_of(alloc: Global, text: &str) -> Result<Vec<bool>, AllocError> {
     Ok(bits)
 }
 
-// What is known of an object identifier: its text, its name if it has one, and that its arcs and its text make it again.
+// An object identifier in text: its arcs, and its name if it has one. Its arcs and its text must each give the same object identifier.
 fn shown(alloc: Global, oid: &ObjectIdentifier) -> Result<String, AllocError> {
     let name = names::name_of(oid.content()).unwrap_or("-");
     let text = format!(in alloc; "{oid}")?;
@@ -81,7 +81,7 @@ fn numbers_of(alloc: Global, bits: &NamedBits) -> Result<String, AllocError> {
     Ok(text)
 }
 
-// The bit string of bytes of which so many bits are unused, as `4 0A 3B D0`.
+// The bit string of these bytes, with a number of unused bits, as `4 0A 3B D0`.
 fn octets(alloc: Global, text: &str) -> Result<String, AllocError> {
     let (unused, digits) = text.split_once(' ').unwrap_or((text, ""));
     let bytes = match bytes_of(alloc, digits) {
@@ -94,7 +94,20 @@ fn octets(alloc: Global, text: &str) -> Result<String, AllocError> {
     }
 }
 
-/// What is said to a row: a word for what to do, and a text.
+// The flags of the key usage of a certificate.
+fn usage_in(alloc: Global, text: &str) -> Result<String, AllocError> {
+    let bytes = match bytes_of(alloc, text) {
+        Ok(bytes) => bytes,
+        Err(error) => return format!(in alloc; "{error}"),
+    };
+    match usages::usage_in(alloc, &bytes) {
+        Ok(Some(usage)) => usages::names_of(alloc, &usage),
+        Ok(None) => String::from_str(alloc, "no usage"),
+        Err(error) => format!(in alloc; "{error}"),
+    }
+}
+
+/// Returns the result of a row: a word for what to do, and a text.
 pub fn answer_to(alloc: Global, row: &str) -> Result<String, AllocError> {
     let (word, text) = row.split_once(' ').unwrap_or((row, ""));
     match word {
@@ -119,6 +132,7 @@ pub fn answer_to(alloc: Global, row: &str) -> Result<String, AllocError> {
             Ok(usage) => written(alloc, &usage),
             Err(error) => format!(in alloc; "{error}"),
         },
+        "usage-in" => usage_in(alloc, text),
         "read-oid" => match read::<ObjectIdentifier>(alloc, text)? {
             Ok(oid) => shown(alloc, &oid),
             Err(error) => Ok(error),

@@ -1,4 +1,4 @@
-//! The rows of strings, and of values within bounds.
+//! Rows for strings, and for values within bounds.
 
 use crate::rows::{read, written};
 use der_fixtures::text_of;
@@ -13,7 +13,7 @@ use picky_der_core::asn1::{Asn1SequenceOf, Asn1SetOf, ByteBuf};
 use picky_der_de::Deserialize;
 use std::alloc::{AllocError, Global};
 
-// The text whose characters have these numbers, in hexadecimal.
+// The text whose characters have these hexadecimal numbers.
 fn text_with(alloc: Global, codes: &str) -> Result<String, AllocError> {
     let mut text = String::new(alloc);
     for code in codes.split_whitespace() {
@@ -23,7 +23,7 @@ fn text_with(alloc: Global, codes: &str) -> Result<String, AllocError> {
     Ok(text)
 }
 
-// The numbers of a text's characters.
+// The numbers of the characters of a text.
 fn codes_of(alloc: Global, text: &str) -> Result<String, AllocError> {
     let mut codes = String::new(alloc);
     for character in text.chars() {
@@ -33,7 +33,7 @@ fn codes_of(alloc: Global, text: &str) -> Result<String, AllocError> {
     Ok(codes)
 }
 
-// The encoding of the string that is the text with these characters, or the error.
+// The encoding of the string of the text with these characters, or the error.
 fn made<S: Unicode>(alloc: Global, codes: &str) -> Result<String, AllocError> {
     let text = text_with(alloc, codes)?;
     match RestrictedString::<S>::from_str(alloc, text.as_str()) {
@@ -42,7 +42,7 @@ fn made<S: Unicode>(alloc: Global, codes: &str) -> Result<String, AllocError> {
     }
 }
 
-// What is known of a string and a copy of it: how many characters it has, whether it has none, and its content.
+// A string in numbers: how many characters it has, whether it is empty, and its content. A copy must have the same.
 fn known<S: CharacterSet>(
     alloc: Global,
     string: &RestrictedString<S>,
@@ -58,7 +58,7 @@ fn known<S: CharacterSet>(
     }
 }
 
-// What is known of the string that these bytes encode, or the error.
+// The same for the string that these bytes encode, or the error.
 fn counted<S: CharacterSet>(alloc: Global, row: &str) -> Result<String, AllocError> {
     match read::<RestrictedString<S>>(alloc, row)? {
         Ok(string) => known(alloc, &string),
@@ -66,7 +66,7 @@ fn counted<S: CharacterSet>(alloc: Global, row: &str) -> Result<String, AllocErr
     }
 }
 
-// How many characters the string has that these bytes encode, and which; or the error.
+// The number of characters of the string that these bytes encode, and the characters; or the error.
 fn spelt<S: Unicode>(alloc: Global, row: &str) -> Result<String, AllocError> {
     match read::<RestrictedString<S>>(alloc, row)? {
         Ok(string) => {
@@ -79,7 +79,7 @@ fn spelt<S: Unicode>(alloc: Global, row: &str) -> Result<String, AllocError> {
     }
 }
 
-// The same, where `as_str` has the text.
+// The same, with the text from `as_str`.
 fn lent<S: Ascii>(alloc: Global, row: &str) -> Result<String, AllocError> {
     match read::<RestrictedString<S>>(alloc, row)? {
         Ok(string) => {
@@ -91,7 +91,7 @@ fn lent<S: Ascii>(alloc: Global, row: &str) -> Result<String, AllocError> {
     }
 }
 
-// The bytes that are a string alone.
+// The bytes that are a string by themselves.
 fn alphabet<S: CharacterSet>(alloc: Global) -> Result<String, AllocError> {
     let mut found = Vec::new(alloc);
     for byte in 0..=255u8 {
@@ -102,7 +102,7 @@ fn alphabet<S: CharacterSet>(alloc: Global) -> Result<String, AllocError> {
     text_of(alloc, &found)
 }
 
-// The encoding again of the value that these bytes encode, or the error.
+// The encoding of the value that these bytes encode, or the error.
 fn again<T: Deserialize>(alloc: Global, row: &str) -> Result<String, AllocError> {
     match read::<T>(alloc, row)? {
         Ok(value) => written(alloc, &value),
@@ -110,7 +110,7 @@ fn again<T: Deserialize>(alloc: Global, row: &str) -> Result<String, AllocError>
     }
 }
 
-// The same of a text of two or three characters, which is taken out and put in again.
+// The same for a text of two or three characters, which is taken out and put in again.
 fn sized(alloc: Global, row: &str) -> Result<String, AllocError> {
     match read::<WithSize<BmpString, 2, 3>>(alloc, row)? {
         Ok(value) => match WithSize::<BmpString, 2, 3>::new(value.into_inner()) {
@@ -121,7 +121,7 @@ fn sized(alloc: Global, row: &str) -> Result<String, AllocError> {
     }
 }
 
-// The same of a number from 1 to 200.
+// The same for a number from 1 to 200.
 fn ranged(alloc: Global, row: &str) -> Result<String, AllocError> {
     match read::<InRange<Integer, 1, 200>>(alloc, row)? {
         Ok(number) => match InRange::<Integer, 1, 200>::new(number.into_inner()) {
@@ -132,7 +132,7 @@ fn ranged(alloc: Global, row: &str) -> Result<String, AllocError> {
     }
 }
 
-/// The encoding of the string of this type that is the text with these characters.
+/// The encoding of the string of this type with these characters.
 pub fn text(alloc: Global, row: &str) -> Result<String, AllocError> {
     let (kind, codes) = row.split_once(' ').unwrap_or((row, ""));
     match kind {
@@ -146,7 +146,7 @@ pub fn text(alloc: Global, row: &str) -> Result<String, AllocError> {
     }
 }
 
-/// What the string of this type is that these bytes encode.
+/// The string of this type that these bytes encode.
 pub fn string(alloc: Global, row: &str) -> Result<String, AllocError> {
     let (kind, bytes) = row.split_once(' ').unwrap_or((row, ""));
     match kind {
@@ -162,7 +162,7 @@ pub fn string(alloc: Global, row: &str) -> Result<String, AllocError> {
     }
 }
 
-/// Which bytes are characters of this type.
+/// The bytes that are characters of this type.
 pub fn characters(alloc: Global, kind: &str) -> Result<String, AllocError> {
     match kind {
         "numeric" => alphabet::<Numeric>(alloc),
@@ -175,7 +175,7 @@ pub fn characters(alloc: Global, kind: &str) -> Result<String, AllocError> {
     }
 }
 
-/// A value of two or three characters, bits, bytes or members, or a number from 1 to 200, as these bytes encode it.
+/// A value of two or three characters, bits, bytes or members, or a number from 1 to 200, which these bytes encode.
 pub fn bounded(alloc: Global, row: &str) -> Result<String, AllocError> {
     let (kind, bytes) = row.split_once(' ').unwrap_or((row, ""));
     match kind {

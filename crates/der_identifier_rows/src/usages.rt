@@ -1,6 +1,9 @@
-//! Rows of key usages, whose flags have names: `usage keyCertSign cRLSign` and `read-usage 03 02 01 06`.
+//! Rows of key usages, whose flags have names: `usage keyCertSign cRLSign`, `read-usage 03 02 01 06`, and `usage-in` with a certificate.
 
-use der_x509::{KeyUsage, KeyUsageFlag};
+use der_types::names;
+use der_x509::{Certificate, KeyUsage, KeyUsageFlag};
+use picky_der_core::Result as DerResult;
+use picky_der_de::from_der;
 use std::alloc::{AllocError, Global};
 
 // The flags, with the names that RFC 5280, 4.2.1.3 gives them.
@@ -16,7 +19,7 @@ static FLAGS: [(&str, KeyUsageFlag); 9] = [
     ("decipherOnly", KeyUsageFlag::DecipherOnly),
 ];
 
-/// The flags with these names, which have a space between any two.
+/// The flags with these names, which are separated by spaces.
 pub(crate) fn flags_of(alloc: Global, text: &str) -> Result<Vec<KeyUsageFlag>, AllocError> {
     let mut flags = Vec::new(alloc);
     for word in text.split(' ') {
@@ -29,7 +32,7 @@ pub(crate) fn flags_of(alloc: Global, text: &str) -> Result<Vec<KeyUsageFlag>, A
     Ok(flags)
 }
 
-/// The names of the flags that the key usage has.
+/// The names of the flags in the key usage.
 pub(crate) fn names_of(alloc: Global, usage: &KeyUsage) -> Result<String, AllocError> {
     let mut text = String::from_str(alloc, "flags")?;
     for (name, flag) in &FLAGS {
@@ -38,4 +41,18 @@ pub(crate) fn names_of(alloc: Global, usage: &KeyUsage) -> Result<String, AllocE
         }
     }
     Ok(text)
+}
+
+/// The key usage that a certificate has as an extension, or `None`.
+pub(crate) fn usage_in(alloc: Global, bytes: &[u8]) -> DerResult<Option<KeyUsage>> {
+    let certificate: Certificate = from_der(alloc, bytes)?;
+    if let Some(extensions) = &certificate.tbs_certificate.extensions {
+        for extension in extensions.0.get().iter() {
+            if extension.extn_id.is(names::KEY_USAGE) {
+                let usage: KeyUsage = from_der(alloc, &extension.extn_value.0)?;
+                return Ok(Some(usage));
+            }
+        }
+    }
+    Ok(None)
 }

@@ -1,4 +1,4 @@
--- Dates and times of der_types as those of jiff.
+-- Dates and times of der_types as dates and times of jiff.
 use Rattle.std.specs.Prelude.{◌≡◌, ℕ, ℤ, pos, ◌-ℤ◌, ◌*ℤ◌, zero, suc, ◌+◌, ◌/◌, ◌%◌, ◌^◌, List, [], ◌∷◌}
 use Rattle.jiff_core.specs.declared.civil.datetime.DateTime.{DateTime as Civil}
 use Rattle.jiff.specs.Words.{IsYmd, IsHms}
@@ -23,7 +23,7 @@ pub record ShowsContent (civil : Civil) (content : List ℕ) : Type 0 where
 abbrev pub unix_nanoseconds : DateTime → ℤ
 unix_nanoseconds at = (pos (seconds_of at) -ℤ pos 62_167_219_200) *ℤ pos 1_000_000_000
 
--- the fewest digits that are this number of k digits, where those that aren't there are 0
+-- the fewest digits that are this number of k digits; missing digits are 0
 abbrev pub fewest_digits : ℕ → ℕ → List ℕ
 fewest_digits zero n = []
 fewest_digits k zero = []

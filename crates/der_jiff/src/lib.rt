@@ -1,4 +1,4 @@
-//! Times of `der_types` as those of the crate `jiff`, and back.
+//! Conversions between the times of `der_types` and the times of the crate `jiff`.
 #![tactic(auto)]
 
 mod times;

@@ -1,8 +1,8 @@
-//! Dates and times as those of the crate `jiff`, and back.
+//! Conversions between dates and times of `der_types` and of the crate `jiff`.
 //!
-//! They are functions, since neither crate's types are this crate's own. The contracts of `jiff` say which year, month, day, hour, minute, second and
-//! nanosecond each of its values shows, and how many nanoseconds after 1970 each of its instants is. So what is proved of an instant is that the
-//! calendars of both crates count the same days.
+//! They are functions, since the types belong to other crates. The contracts of `jiff` say which year, month, day, hour, minute, second and
+//! nanosecond each of its values shows. They also say how many nanoseconds after 1970 each of its instants is. So what is proved of an
+//! instant is that the calendars of both crates count the same days.
 ghost use Rattle.std.specs.Prelude.{◌≡◌, ◌↔◌, ◌⊎◌, ◌<◌, ◌≤◌, ◌^◌, ◌<ℤ◌, ◌++◌, pos, true, length, IsOk, OnOk, IfOk, IfErr, IfSome, IfNone};
 ghost use Rattle.jiff.specs.Words.{IsRange, IsTimestampNanos};
 ghost use Rattle.der_types.specs.GeneralizedTimes.{scaled};
@@ -16,7 +16,7 @@ use jiff::{Error, Timestamp, civil};
 use picky_asn1_der::Asn1DerError;
 use std::alloc::Global;
 
-// The second on `jiff`'s calendar, and so many nanoseconds after it.
+// This many nanoseconds after the second, on `jiff`'s calendar.
 fn civil_at(at: DateTime, nanoseconds: u32) -> civil::DateTime
     requires { nanoseconds < 1_000_000_000 }
     ensures { Shows result at nanoseconds }
@@ -32,14 +32,14 @@ fn civil_at(at: DateTime, nanoseconds: u32) -> civil::DateTime
     )
 }
 
-/// The same second on `jiff`'s calendar.
+/// Returns the same second on `jiff`'s calendar.
 pub fn to_civil(at: DateTime) -> civil::DateTime
     ensures { Shows result at 0 }
 {
     civil_at(at, 0)
 }
 
-// The second that `jiff`'s value shows, without the nanoseconds after it; `None` where the year is before 0.
+// The second that `jiff`'s value shows, without the nanoseconds after it. `None` if the year is before 0.
 fn whole_second(at: civil::DateTime) -> Option<DateTime>
     ensures some { IfSome result (λ it. Shows at it at.time.subsec_nanosecond) }
     ensures none { IfNone result (at.date.year <ℤ pos 0) }
@@ -57,7 +57,7 @@ fn whole_second(at: civil::DateTime) -> Option<DateTime>
     )
 }
 
-/// The same second, or `None` where the year is before 0 or there is a fraction of a second.
+/// Returns the same second, or `None` if the year is before 0 or there is a fraction of a second.
 pub fn from_civil(at: civil::DateTime) -> Option<DateTime>
     ensures some { IfSome result (λ it. Shows at it 0) }
     ensures none { IfNone result ((at.date.year <ℤ pos 0) ⊎ (0 < at.time.subsec_nanosecond)) }
@@ -68,7 +68,7 @@ pub fn from_civil(at: civil::DateTime) -> Option<DateTime>
     whole_second(at)
 }
 
-/// The same second as an instant. `Range` after 22:00:00 on 30 December 9999, which is the last second of `jiff`'s instants.
+/// Returns the same second as an instant. The error is `Range` after 22:00:00 on 30 December 9999, the last second of `jiff`'s instants.
 pub fn to_timestamp(at: DateTime) -> Result<Timestamp, Error>
     ensures succeeds { IsOk result ↔ IsTimestampNanos (unix_nanoseconds at) }
     ensures value { IfOk result (λ instant. instant.nanosecond ≡ unix_nanoseconds at) }
@@ -77,7 +77,7 @@ pub fn to_timestamp(at: DateTime) -> Result<Timestamp, Error>
     Offset::UTC.to_timestamp(to_civil(at))
 }
 
-/// The second that the instant is, or `None` where its year is before 0 or it has a fraction of a second.
+/// Returns the second of the instant, or `None` if its year is before 0 or it has a fraction of a second.
 pub fn from_timestamp(instant: Timestamp) -> Option<DateTime>
     ensures some { IfSome result (λ it. unix_nanoseconds it ≡ instant.nanosecond) }
     ensures none { IfNone result
@@ -86,14 +86,14 @@ pub fn from_timestamp(instant: Timestamp) -> Option<DateTime>
     from_civil(Offset::UTC.to_datetime(instant))
 }
 
-/// The same second on `jiff`'s calendar.
+/// Returns the same second on `jiff`'s calendar.
 pub fn utc_time_to_civil(time: UtcTime) -> civil::DateTime
     ensures { Shows result time.at 0 }
 {
     to_civil(time.date_time())
 }
 
-/// The same second, or `None` where the year isn't from 1950 to 2049 or there is a fraction of a second.
+/// Returns the same second, or `None` if the year isn't from 1950 to 2049 or there is a fraction of a second.
 pub fn utc_time_from_civil(at: civil::DateTime) -> Option<UtcTime>
     ensures some { IfSome result (λ it. Shows at it.at 0) }
     ensures none { IfNone result ((at.date.year <ℤ pos 1950) ⊎ ((pos 2049 <ℤ at.date.year)
@@ -102,7 +102,7 @@ pub fn utc_time_from_civil(at: civil::DateTime) -> Option<UtcTime>
     UtcTime::new(from_civil(at)?)
 }
 
-// The digits as a number of so many, where those that aren't there are 0.
+// The value of the digits as a fraction in `places` digits; missing digits are 0.
 fn digits_value(places: u32, digits: &[u8]) -> u32
     requires few { places ≤ 9 }
     requires digits { are_digits digits.now ≡ true }
@@ -120,7 +120,7 @@ fn digits_value(places: u32, digits: &[u8]) -> u32
     }
 }
 
-/// The same time on `jiff`'s calendar, or `None` where its fraction has more than nine digits.
+/// Returns the same time on `jiff`'s calendar, or `None` if its fraction has more than nine digits.
 pub fn generalized_time_to_civil(time: &GeneralizedTime) -> Option<civil::DateTime>
     ensures some { IfSome result (λ civil. ShowsContent civil time.now.content.items) }
     ensures none { IfNone result (9 < length (fraction_of time.now.content.items)) }
@@ -132,7 +132,7 @@ pub fn generalized_time_to_civil(time: &GeneralizedTime) -> Option<civil::DateTi
     Some(civil_at(time.whole_seconds(), digits_value(9, fraction)))
 }
 
-// The fewest digits that are the number, of so many: none for 0.
+// Appends the number as the digits of a fraction in `places` digits, without zeros at the end: no digit for 0.
 fn push_digits(content: &mut Vec<u8>, places: u32, number: u32) -> Result<(), Asn1DerError>
     requires few { places ≤ 9 }
     requires below { number < 10 ^ places }
@@ -148,7 +148,7 @@ fn push_digits(content: &mut Vec<u8>, places: u32, number: u32) -> Result<(), As
     push_digits(content, places - 1, number % unit)
 }
 
-// The point and the digits of a fraction; nothing for 0.
+// Appends the point and the digits of a fraction, or nothing for 0.
 fn push_fraction(content: &mut Vec<u8>, nanoseconds: u32) -> Result<(), Asn1DerError>
     requires { nanoseconds < 1_000_000_000 }
     ensures ok { OnOk result
@@ -177,7 +177,7 @@ fn content_with(alloc: Global, at: DateTime, nanoseconds: u32) -> Result<Vec<u8>
     Ok(content)
 }
 
-/// The same time, with the fewest digits of its fraction, or `None` where the year is before 0. `OutOfMemory` if an allocation fails.
+/// Returns the same time, with the fewest digits of its fraction, or `None` if the year is before 0. `OutOfMemory` if an allocation fails.
 pub fn generalized_time_from_civil(
     alloc: Global,
     at: civil::DateTime,

@@ -1,4 +1,4 @@
-//! Answers each row on standard input by a line on standard output: what times are read as, and how they are written.
+//! For each row on standard input, writes a line to standard output: what times are read as, and how they are written.
 #![tactic(auto)]
 
 mod rows;

@@ -1,5 +1,5 @@
-//! Rows: `utc 17 0D ..`, `generalized 18 0F ..` and `time ..` for what is read, `make 2026 11 27 23 12 0` for how a date and time is
-//! written, and `order BYTES, BYTES` for which of two times of type GeneralizedTime is before the other.
+//! Rows. `utc 17 0D ..`, `generalized 18 0F ..` and `time ..` give what is read. `make 2026 11 27 23 12 0` gives how a date and time is
+//! written. `order BYTES, BYTES` gives which of two GeneralizedTimes is first.
 
 use der_fixtures::{bytes_of, text_of};
 use der_types::{DateTime, GeneralizedTime, Time, UtcTime};
@@ -9,7 +9,7 @@ use std::alloc::{AllocError, Global};
 use std::cmp::Ordering;
 use std::str;
 
-/// The answer to a row; to a heading, the row.
+/// Returns the result of a row; for a heading, the row.
 pub(crate) fn answer_to(alloc: Global, row: &str) -> Result<String, AllocError> {
     let Some((verb, rest)) = row.split_once(" ") else {
         return String::from_str(alloc, row);
@@ -34,7 +34,7 @@ pub(crate) fn answer_to(alloc: Global, row: &str) -> Result<String, AllocError> 
     }
 }
 
-// The value that these bytes, in hexadecimal, are; or the error, as a text.
+// The value that these hexadecimal bytes encode, or the error as a text.
 fn read<T: Deserialize>(alloc: Global, text: &str) -> Result<Result<T, String>, AllocError> {
     let bytes = match bytes_of(alloc, text) {
         Ok(bytes) => bytes,
@@ -54,7 +54,7 @@ fn written<T: Serialize>(alloc: Global, value: &T) -> Result<String, AllocError>
     }
 }
 
-// When it is, and how it is written.
+// The date and time, and how it is written.
 fn shown<T: Serialize>(alloc: Global, at: DateTime, time: &T) -> Result<String, AllocError> {
     let bytes = written(alloc, time)?;
     format!(in alloc; "{at} {bytes}")
@@ -92,7 +92,7 @@ fn date_time_of(text: &str) -> Option<DateTime> {
     DateTime::new(year, month, day, hour, minute, second)
 }
 
-// A date and time as a GeneralizedTime, and as a time of RFC 5280 where it is one.
+// A date and time as a GeneralizedTime, and as a time of RFC 5280 if it is one.
 fn make(alloc: Global, text: &str) -> Result<String, AllocError> {
     let Some(at) = date_time_of(text) else {
         return String::from_str(alloc, "none");

@@ -4,7 +4,7 @@ use Rattle.std.specs.List.{flat_map}
 
 -- ---- what is written of bits
 
--- bits from that of this weight down; those that aren't there are 0 (11.2.1)
+-- bits from the bit of this weight down; missing bits are 0 (11.2.1)
 abbrev pub weigh : ℕ → List Bool → ℕ
 weigh w [] = 0
 weigh w (b ∷ bits) = (if b then w else 0) + weigh (w / 2) bits
@@ -47,19 +47,19 @@ byte_bit b place = is_bit_set b (7 - place)
 abbrev pub byte_bits : ℕ → List Bool
 byte_bits b = map (byte_bit b) (0 ∷ 1 ∷ 2 ∷ 3 ∷ 4 ∷ 5 ∷ 6 ∷ 7 ∷ [])
 
--- those of the bytes without the unused ones
+-- the bits of the bytes without the unused ones
 abbrev pub bits_of : List ℕ → List Bool
 bits_of [] = []
 bits_of (u ∷ bytes) = take (8 * length bytes - u) (flat_map byte_bits bytes)
 
 -- ---- named bits
 
--- a zero that no one is behind is left out
+-- a zero that no one follows is left out
 abbrev pub unless_zeros : Bool → List Bool → List Bool
 unless_zeros false [] = []
 unless_zeros b bits = b ∷ bits
 
--- without the zeros behind the last bit that is one
+-- without the zeros after the last bit that is one
 abbrev pub without_zeros : List Bool → List Bool
 without_zeros [] = []
 without_zeros (b ∷ bits) = unless_zeros b (without_zeros bits)

@@ -59,7 +59,7 @@ same_bits-true (false ∷ bs) (false ∷ cs) e = ap (λ bs. false ∷ bs) (same_
 
 -- ---- one byte
 
--- what up to eight bits weigh: a byte with them in front and zeros behind
+-- what up to eight bits weigh: a byte with them before zeros
 abbrev is_weighed : ℕ → List Bool → Bool
 is_weighed n bits = same_bits (byte_bits (weigh 128 bits)) (bits ++ replicate (8 - n) false) && (weigh 128 bits % 2 ^ (8 - n) == 0)
 

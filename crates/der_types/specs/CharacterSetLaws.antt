@@ -1,4 +1,4 @@
--- The characters of the sets fit their bytes, and are those of Unicode or of ASCII.
+-- The characters of the sets fit their bytes, and are characters of Unicode or of ASCII.
 use Rattle.std.proofs.Common.{◌≡◌, ℕ, ◌<◌, ◌^◌, Bool, true, arith}
 use Rattle.std.proofs.lemmas.Bool.Decides.{nat_tests}
 use Rattle.std.specs.Char.{IsScalar}

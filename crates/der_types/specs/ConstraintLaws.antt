@@ -1,4 +1,4 @@
--- What trees tell of the sizes of values, and which numbers are within bounds.
+-- What trees say of the sizes of values, and which numbers are within bounds.
 use Rattle.std.proofs.Common.{◌≡◌, ℕ, ◌^◌, ◌<◌, ℤ, pos, negsuc, false, List, [], ◌∷◌, length, map, refl, sym, ap, ◌∙◌, arith}
 use Rattle.std.proofs.lemmas.Bool.Decides.{nat_tests}
 use Rattle.picky_der_core.specs.Tree.{ListKind, Tree, trees}

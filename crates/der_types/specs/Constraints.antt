@@ -31,11 +31,11 @@ module _ {V : Type 0} (meaning : V → Tree) (s : Shape) (allows : V → Bool) (
     pub refused : allows value ≡ false
     pub fails : FailsAs InvalidData behind e new
 
-  -- no value of the type stands there, or one that isn't allowed
+  -- no value of the type is there, or one that isn't allowed
   abbrev pub RefusesConstrained : Type 0
   RefusesConstrained = Refuses meaning s old new e ⊎ IsNotAllowed
 
--- ---- what trees tell of sizes
+-- ---- what trees say of sizes
 
 -- how many members a list has
 abbrev pub member_count : Trees → ℕ

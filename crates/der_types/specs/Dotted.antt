@@ -29,7 +29,7 @@ dotted_or_marked arcs = join_with_byte 46 (map arc_text arcs)
 abbrev pub AreFitting : List ℕ → Type 0
 AreFitting arcs = AllByRecursion (λ arc. arc < 2 ^ 64) arcs
 
--- digits, and no needless 0 in front
+-- digits, with no leading 0
 abbrev pub is_decimal : List ℕ → Bool
 is_decimal [] = false
 is_decimal (c ∷ []) = is_ascii_digit c

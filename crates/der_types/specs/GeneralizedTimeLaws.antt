@@ -1,4 +1,4 @@
--- A GeneralizedTime is told by its content, and its order is that of time.
+-- The content of a GeneralizedTime distinguishes it, and its order is the order of time.
 use Rattle.std.proofs.Common.{◌≡◌, ℕ, zero, suc, ◌+◌, ◌-◌, ◌*◌, ◌/◌, ◌%◌, ◌^◌, ◌<◌, ◌≤◌, Bool, true, false, not, ◌&&◌, ◌==◌, nat_lt, IsTrue, ◌↔◌, cond, List, [], ◌∷◌, ◌++◌, length, take, drop, get_or, refl, sym, ap, ap₂, subst, ◌∙◌, arith, ltb-true, eqb-true, drop-cons, length-drop, length-append, pow-suc}
 use Rattle.std.proofs.Math.Nat.{pow-zero}
 use Rattle.std.proofs.Math.Seq.{take-append_seam}

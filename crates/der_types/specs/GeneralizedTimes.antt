@@ -7,7 +7,7 @@ use Rattle.der_types.specs.TimeContents.{seconds_at, year_at_first, fraction_of}
 abbrev pub time_key : GeneralizedTime → List ℕ
 time_key t = take (length t.content.items - 1) t.content.items
 
--- digits as a number of k digits, where those that aren't there are 0
+-- digits as a number of k digits; missing digits are 0
 abbrev pub scaled : ℕ → List ℕ → ℕ
 scaled zero ds = 0
 scaled (suc k) [] = 0

@@ -12,6 +12,8 @@ mutual
     BOOLEAN : Notation
     -- 19: of any size, with a sign
     INTEGER : Notation
+    -- 19.1: one of these numbers, each of which has a name
+    INTEGER-named : List ℕ → Notation
     -- from 0, in so many bits
     unsigned : ℕ → Notation
     -- of either sign, in so many bits with that of the sign
@@ -61,6 +63,8 @@ mutual
   pub data Members : Type 0 where
     end : Members
     member : Member → Members → Members
+    -- the members of later versions, of which the first begins with none of these bytes
+    others : List ℕ → Members
 
   pub data Alternatives : Type 0 where
     none : Alternatives
@@ -72,6 +76,7 @@ abbrev mutual
   shape_of Notation.BOOLEAN = Shape.primitive PrimitiveShape.boolean
   shape_of (Notation.unsigned bits) = Shape.primitive (PrimitiveShape.unsigned (2 ^ bits - 1))
   shape_of Notation.INTEGER = Shape.primitive (PrimitiveShape.bytes 0x02)
+  shape_of (Notation.INTEGER-named numbers) = Shape.primitive (PrimitiveShape.bytes 0x02)
   shape_of (Notation.signed bits) = Shape.primitive (PrimitiveShape.bytes 0x02)
   shape_of (Notation.ENUMERATED numbers) = Shape.primitive (PrimitiveShape.bytes 0x0A)
   shape_of Notation.ENUMERATED-extensible = Shape.primitive (PrimitiveShape.bytes 0x0A)
@@ -97,7 +102,7 @@ abbrev mutual
   shape_of (Notation.other-than n t) = shape_of t
   shape_of (Notation.sized least most t) = shape_of t
 
-  -- a member in front of others
+  -- a member before others
   pub member_then : Member → Layout → Layout
   member_then (Member.required t) = Layout.required (shape_of t)
   member_then (Member.optional t) = Layout.maybe (shape_of t)
@@ -106,6 +111,7 @@ abbrev mutual
   pub layout_of : Members → Layout
   layout_of Members.end = Layout.empty
   layout_of (Members.member m ms) = member_then m (layout_of ms)
+  layout_of (Members.others excluded) = Layout.others excluded
 
   pub shapes_of : Alternatives → Shapes
   shapes_of Alternatives.none = Shapes.none

@@ -1,6 +1,6 @@
 -- The forms of a module as terms: what a module has on the left of these equations, and the type of ASN.1 that it is. The clauses are
 -- those of X.680, but where another one is named.
-use Rattle.std.specs.Prelude.{ℕ, ◌+◌, ◌-◌, ◌*◌, ◌/◌, ◌%◌, ◌^◌, Bool, true, false, ◌&&◌, List, [], ◌∷◌, ◌==◌, nat_lt, pos, negsuc, if◌then◌else◌}
+use Rattle.std.specs.Prelude.{ℕ, ◌+◌, ◌-◌, ◌*◌, ◌/◌, ◌%◌, ◌^◌, Bool, true, false, ◌&&◌, List, [], ◌∷◌, ◌++◌, ◌==◌, nat_lt, pos, negsuc, if◌then◌else◌}
 use Rattle.picky_der_core.specs.declared.asn1.tag.TagClass.{TagClass}
 use Rattle.picky_der_core.specs.declared.asn1.tag.TagClass.TheVariants.{Universal, Application, ContextSpecific, Private}
 use Rattle.picky_der_core.specs.declared.asn1.wrapper.Wrapper.TheVariants as wrapper
@@ -14,6 +14,10 @@ use Rattle.der_types.specs.TagOrder.{tag_place}
 -- the library has no type that has just the values of the text: this one is there instead
 abbrev pub instead : Notation → Notation
 instead t = t
+
+-- no type of the library is this one: it has no values
+abbrev no_type : Notation
+no_type = Notation.choice Alternatives.none
 
 -- ---- types without parts, but for those that `Notation` has by their names
 
@@ -89,7 +93,11 @@ infixr 5 ◌⨾◌
 abbrev pub ◌⨾◌ : Member → Members → Members
 ◌⨾◌ = Members.member
 
--- 25.1: the members of an extensible type, where no member of a later version may be there
+-- 25.1: the members of later versions of an extensible type. `SEQUENCE` says with which bytes the first of them doesn't begin.
+abbrev pub later-members : Members
+later-members = Members.others []
+
+-- the same, where none of them may be there
 abbrev pub later-members-refused : Members
 later-members-refused = Members.end
 
@@ -109,6 +117,7 @@ value_of (Notation.unsigned bits) (Value.number n) = unsigned_tree (2 ^ bits - 1
 value_of (Notation.signed bits) (Value.number n) = int_tree (fits_signed bits) (pos n)
 value_of (Notation.signed bits) (Value.minus n) = int_tree (fits_signed bits) (negsuc (n - 1))
 value_of (Notation.ENUMERATED numbers) (Value.number n) = Tree.primitive (Primitive.bytes 0x0A (n ∷ []))
+value_of (Notation.INTEGER-named numbers) (Value.number n) = Tree.primitive (Primitive.bytes 0x02 (n ∷ []))
 value_of _ _ = Tree.absent
 
 -- 25.1: one with this default
@@ -131,10 +140,20 @@ default-as-optional = Member.optional
 abbrev pub added : Notation → Member
 added = Member.optional
 
--- 25: one without members is a list of none
+-- The first member of a later version begins otherwise than each member directly before it that may be absent. These are the bytes
+-- of those that came so far.
+abbrev excluding : List ℕ → Members → Members
+excluding before Members.end = Members.end
+excluding before (Members.member (Member.required t) ms) = Members.member (Member.required t) (excluding [] ms)
+excluding before (Members.member (Member.optional t) ms) = Members.member (Member.optional t) (excluding (before ++ firsts (shape_of t)) ms)
+excluding before (Members.member (Member.defaulted value t) ms) = Members.member (Member.defaulted value t) (excluding (before ++ firsts (shape_of t)) ms)
+excluding before (Members.others excluded) = Members.others before
+
+-- 25: one without members is a list of none, and one with those of later versions alone a list of any elements
 abbrev pub SEQUENCE : Members → Notation
 SEQUENCE Members.end = Notation.sized 0 0 (Notation.list-of ListKind.sequence Notation.NULL)
-SEQUENCE ms = Notation.sequence ms
+SEQUENCE (Members.others excluded) = Notation.list-of ListKind.sequence Notation.any-element
+SEQUENCE ms = Notation.sequence (excluding [] ms)
 
 abbrev least_place : List ℕ → ℕ
 least_place [] = 128
@@ -148,10 +167,12 @@ place_of (Member.defaulted value t) = least_place (firsts (shape_of t))
 
 abbrev insert : Member → Members → Members
 insert m Members.end = m ⨾ Members.end
+insert m (Members.others excluded) = m ⨾ Members.others excluded
 insert m (Members.member n ns) = if nat_lt (place_of m) (place_of n) then m ⨾ n ⨾ ns else n ⨾ insert m ns
 
 abbrev in_tag_order : Members → Members
 in_tag_order Members.end = Members.end
+in_tag_order (Members.others excluded) = Members.others excluded
 in_tag_order (Members.member m ms) = insert m (in_tag_order ms)
 
 -- 27, and X.690, 10.3: the members come in the order of their tags
@@ -216,11 +237,25 @@ over_primitive ContextSpecific n t = Notation.wrapped (wrapper.Implicit n) t
 over_primitive class n Notation.OCTET-STRING = Notation.any-content (class_bits class + n)
 over_primitive class n t = Notation.content-under (class_bits class + n) t
 
+-- the same in place of that of an octet string that holds an encoding (X.682, 11), which is the content then. That of a list of one is it, too.
+abbrev over_container : TagClass → ℕ → Notation → Notation
+over_container ContextSpecific n t = Notation.wrapped (wrapper.Implicit n) (Notation.sequence (Member.required t ⨾ Members.end))
+over_container class n t = no_type
+
 abbrev is_list : Notation → Bool
 is_list (Notation.list-of kind t) = true
 is_list (Notation.sequence ms) = true
 is_list (Notation.sized least most t) = is_list t
 is_list _ = false
+
+-- one with a header inside that stays there
+abbrev has_header : Notation → Bool
+has_header (Notation.wrapped w t) = true
+has_header (Notation.sized least most t) = has_header t
+has_header (Notation.in-range least most t) = has_header t
+has_header (Notation.from-minus least most t) = has_header t
+has_header (Notation.other-than n t) = has_header t
+has_header _ = false
 
 -- 31.2.7: a choice and an open type have no tag that this one could replace, so that it is explicit. Of a type with a tag it replaces that.
 abbrev implicit : TagClass → ℕ → Notation → Notation
@@ -230,9 +265,11 @@ implicit class n (Notation.wrapped (wrapper.Explicit m) t) = explicit class n t
 implicit class n (Notation.wrapped (wrapper.Application m) t) = explicit class n t
 implicit class n (Notation.wrapped (wrapper.Implicit m) t) = over_primitive class n t
 implicit class n (Notation.wrapped (wrapper.Retagged tag) t) = over_list class n t
+implicit class n (Notation.wrapped wrapper.OctetContainer t) = over_container class n t
+implicit class n (Notation.wrapped wrapper.BitContainer t) = no_type
 implicit class n (Notation.content-under tag t) = over_primitive class n t
 implicit class n (Notation.any-content tag) = Notation.any-content (class_bits class + 32 * (tag / 32 % 2) + n)
-implicit class n t = if is_list t then over_list class n t else over_primitive class n t
+implicit class n t = if is_list t then over_list class n t else (if has_header t then no_type else over_primitive class n t)
 
 abbrev tagged : TagClass → ℕ → Mode → Notation → Notation
 tagged class n Mode.EXPLICIT = explicit class n

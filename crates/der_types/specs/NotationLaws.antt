@@ -1,4 +1,4 @@
--- The shape of a type is the one that its notation denotes if those of its parts are.
+-- The shape of a type is the one that its notation denotes if this holds for its parts.
 use Rattle.std.specs.Prelude.{◌≡◌, Bool, true, false, not, IsTrue, refl}
 use Rattle.std.proofs.Common.{ap, ◌∙◌}
 use Rattle.picky_der_core.specs.Primitive.{Primitive}
@@ -11,7 +11,7 @@ use Rattle.der_types.specs.Notation.{Member, member_then}
 pub record IsMember (p : Presence) (s : Shape) (m : Member) : Type 0 where
   pub laid_out : (l : Layout) → component_then p s l ≡ member_then m l
 
--- it is so in front of others that are laid out so
+-- it holds before others that are laid out so
 pub in_front : {p : Presence} {s : Shape} {m : Member} → IsMember p s m → {k l : Layout} → k ≡ l → component_then p s k ≡ member_then m l
 in_front {p} {s} a {k} {l} e = ap (component_then p s) e ∙ a.laid_out l
 

@@ -33,7 +33,7 @@ abbrev pub arcs_error : List ℕ → Option OidError
 arcs_error (x ∷ y ∷ arcs) = if nat_lt 2 x then Some FirstArc else if nat_lt x 2 && not (nat_lt y 40) then Some SecondArc else None
 arcs_error _ = Some TooFewArcs
 
--- arcs that fit 64 bits, but aren't those of an object identifier
+-- arcs that fit 64 bits, but aren't the arcs of an object identifier
 pub record RefusesArcs (arcs : List ℕ) (e : OidError) : Type 0 where
   pub fitting : AreFitting arcs
   pub refused : are_arcs arcs ≡ false

@@ -1,4 +1,4 @@
--- Tags that stand in place of a primitive value's own.
+-- Tags in place of a primitive value's own.
 use Rattle.std.specs.Prelude.{ℕ, if◌then◌else◌}
 use Rattle.picky_der_core.specs.Tag.{is_constructed}
 

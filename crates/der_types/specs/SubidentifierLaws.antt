@@ -80,7 +80,7 @@ pub numbers-content : (ns : List ℕ) → numbers_behind 0 (subidentifiers ns) �
 numbers-content [] = refl
 numbers-content (n ∷ ns) = numbers-subidentifier n (subidentifiers ns) ∙ ap (λ ms. n ∷ ms) (numbers-content ns)
 
--- each digit of a number stands as it may
+-- each digit of a number is one that is allowed there
 valid_digits : (ds : List ℕ) (d : ℕ) (bs : List ℕ) → AllBelowBase 128 ds → d < 128 → are_subidentifiers true (map (λ d. 0x80 + d) ds ++ (d ∷ bs)) ≡ are_subidentifiers false bs
 valid_digits [] d bs p h = rw (lt-ltb d 0x80 h) refl
 valid_digits (c ∷ ds) d bs p h = rw (le-ltb (0x80 + c) 0x80 (omega arith)) (valid_digits ds d bs p.1 h)
@@ -106,7 +106,7 @@ pub valid_subidentifiers : (ns : List ℕ) → are_subidentifiers false (subiden
 valid_subidentifiers [] = refl
 valid_subidentifiers (n ∷ ns) = valid_subidentifier n (subidentifiers ns) ∙ valid_subidentifiers ns
 
--- something stands there
+-- something is there
 pub subidentifier-some : (n : ℕ) (bs : List ℕ) → is_subidentifiers (subidentifier n ++ bs) ≡ are_subidentifiers false (subidentifier n ++ bs)
 unfolding subidentifier marked
 subidentifier-some n bs = by_digits (map (λ d. 0x80 + d) (digits_of 128 (n / 128)))

@@ -9,7 +9,7 @@ use Rattle.std.specs.Int.Digits.{digits_of}
 unfoldable pub marked : ℕ → List ℕ
 marked n = map (λ d. 0x80 + d) (digits_of 128 n)
 
--- a number: the most significant digit first, and no 0 in front of it; bit 8 of the last digit is clear
+-- a number: the most significant digit first, with no leading 0; bit 8 of the last digit is clear
 unfoldable pub subidentifier : ℕ → List ℕ
 subidentifier n = marked (n / 128) ++ (n % 128 ∷ [])
 
@@ -18,7 +18,7 @@ subidentifiers ns = flat_map subidentifier ns
 
 -- ---- which bytes are numbers
 
--- no number begins with 80, and none is cut off; `inside` a number another digit is in front
+-- no number begins with 80, and none is cut off; `inside` a number another digit comes before
 abbrev pub are_subidentifiers : Bool → List ℕ → Bool
 are_subidentifiers inside [] = not inside
 are_subidentifiers inside (b ∷ bs) = (inside || not (b == 0x80)) && are_subidentifiers (not (nat_lt b 0x80)) bs
@@ -30,7 +30,7 @@ is_subidentifiers (b ∷ bs) = are_subidentifiers false (b ∷ bs)
 
 -- ---- the numbers that bytes are
 
--- the numbers of these bytes, where the digits in front of them are those of n
+-- the numbers of these bytes, if the digits before them are the digits of n
 abbrev pub numbers_behind : ℕ → List ℕ → List ℕ
 numbers_behind n [] = []
 numbers_behind n (b ∷ bs) = if nat_lt b 0x80 then (n * 128 + b) ∷ numbers_behind 0 bs else numbers_behind (n * 128 + (b - 0x80)) bs

@@ -3,7 +3,7 @@ use Rattle.std.specs.Prelude.{ℕ, ◌+◌, ◌*◌, ◌/◌, ◌%◌, ◌<◌, 
 use Rattle.std.specs.List.{AllByRecursion, list_all}
 use Rattle.picky_der_core.specs.Tree.{ListKind, Tree, Trees}
 use Rattle.picky_der_core.specs.Encoding.{encodings}
-use Rattle.picky_der_core.specs.Shape.{Shape, Layout, firsts}
+use Rattle.picky_der_core.specs.Shape.{Shape, Layout, firsts, tags_below}
 
 -- an identifier byte's place in the order: by its class, and then by its number
 abbrev pub tag_place : ℕ → ℕ
@@ -16,7 +16,7 @@ abbrev pub leading : List ℕ → ℕ
 leading [] = 0
 leading (b ∷ bs) = b
 
--- each has a tag before those of the encodings after it
+-- each has a tag before the tags of the encodings after it
 abbrev pub AreInTagOrder : List (List ℕ) → Type 0
 AreInTagOrder [] = ⊤
 AreInTagOrder (x ∷ xs) = AllByRecursion (λ y. tag_place (leading x) < tag_place (leading y)) xs × AreInTagOrder xs
@@ -37,13 +37,15 @@ abbrev pub layout_firsts : Layout → List ℕ
 layout_firsts Layout.empty = []
 layout_firsts (Layout.required s l) = firsts s ++ layout_firsts l
 layout_firsts (Layout.maybe s l) = firsts s ++ layout_firsts l
+layout_firsts (Layout.others excluded) = tags_below 256
 
 abbrev pub is_layout_in_order : Layout → Bool
 is_layout_in_order Layout.empty = true
 is_layout_in_order (Layout.required s l) = are_before (firsts s) (layout_firsts l) && is_layout_in_order l
 is_layout_in_order (Layout.maybe s l) = are_before (firsts s) (layout_firsts l) && is_layout_in_order l
+is_layout_in_order (Layout.others excluded) = false
 
--- a SEQUENCE of different members, each with tags before those of the members after it
+-- a SEQUENCE of different members, each with tags before the tags of the members after it
 abbrev pub is_in_tag_order : Shape → Bool
 is_in_tag_order (Shape.fields ListKind.sequence l) = is_layout_in_order l
 is_in_tag_order _ = false

@@ -5,8 +5,8 @@ use Rattle.std.specs.List.{AllByRecursion, list_all}
 use Rattle.picky_der_core.specs.Tree.{ListKind, Tree, Trees}
 use Rattle.picky_der_core.specs.Encoding.{encodings, der, tree_bytes}
 use Rattle.picky_der_core.specs.Readable.{IsReadable, AreReadable}
-use Rattle.picky_der_core.specs.Shape.{Shape, Layout, IsOf, AreMembersOf, firsts, contains}
-use Rattle.picky_der_core.specs.FirstLaws.{BeginsIn, begins_in, contains-append_left, contains-append_right}
+use Rattle.picky_der_core.specs.Shape.{Shape, Layout, IsOf, AreMembersOf, EachIs, IsRaw, firsts, contains, tags_below}
+use Rattle.picky_der_core.specs.FirstLaws.{BeginsIn, begins_in, contains-append_left, contains-append_right, others_each}
 use Rattle.der_types.specs.TagOrder.{tag_place, leading, AreInTagOrder, member_encodings, are_before, layout_firsts, is_layout_in_order, is_in_tag_order}
 
 -- ---- lists of first bytes
@@ -34,6 +34,11 @@ module _ (x : ℕ) (xs ys : List ℕ) (apart : are_before xs ys ≡ true) (is : 
   after : (fs : List ℕ) (t : Tree) → ((b : ℕ) → contains fs b ≡ true → contains ys b ≡ true) → BeginsIn fs t → tag_place x < tag_place (leading (der t))
   after fs t among b = subst (λ e. tag_place x < tag_place (leading e)) (sym b.is) (before x b.first xs ys apart is (among b.first b.listed))
 
+  raws_after : (ts : Trees) → ((b : ℕ) → contains (tags_below 256) b ≡ true → contains ys b ≡ true) → EachIs IsRaw ts → AreReadable ts → AllByRecursion (λ y. tag_place x < tag_place (leading y)) (encodings ts)
+  unfolding der tree_bytes
+  raws_after Trees.none among p r = tt
+  raws_after (Trees.more t ts) among p r = (after (tags_below 256) t among (begins_in Shape.raw t p.0 r.0), raws_after ts among p.1 r.1)
+
   members_after : (l : Layout) (ts : Trees) → ((b : ℕ) → contains (layout_firsts l) b ≡ true → contains ys b ≡ true) → AreMembersOf l ts → AreReadable ts → AllByRecursion (λ y. tag_place x < tag_place (leading y)) (encodings ts)
   unfolding der tree_bytes
   members_after Layout.empty Trees.none among p r = tt
@@ -49,6 +54,7 @@ module _ (x : ℕ) (xs ys : List ℕ) (apart : are_before xs ys ≡ true) (is : 
     members_after l ts (λ b c. among b (contains-append_right b (firsts s) (layout_firsts l) c)) p.1 r.1,
   )
   members_after (Layout.maybe s l) ts among (inr p) r = members_after l ts (λ b c. among b (contains-append_right b (firsts s) (layout_firsts l) c)) p r
+  members_after (Layout.others excluded) ts among p r = raws_after ts among (others_each excluded ts p) r
 
 -- ---- members in order
 
@@ -70,6 +76,7 @@ members_in_order (Layout.maybe s l) (Trees.more t ts) h (inl p) r =
     let parts = and_parts (are_before (firsts s) (layout_firsts l)) (is_layout_in_order l) h in
     (first_in_order s l t ts parts.0 p.0 r.0 p.1 r.1, members_in_order l ts parts.1 p.1 r.1)
 members_in_order (Layout.maybe s l) ts h (inr p) r = members_in_order l ts (and_parts (are_before (firsts s) (layout_firsts l)) (is_layout_in_order l) h).1 p r
+members_in_order (Layout.others excluded) ts h p r = cc
 
 -- of each list of such a shape
 pub in_tag_order : (s : Shape) (t : Tree) → is_in_tag_order s ≡ true → IsOf s t → IsReadable t → AreInTagOrder (member_encodings t)

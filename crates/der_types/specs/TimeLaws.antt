@@ -46,7 +46,7 @@ short_of t =
       second = omega (arith, q.second);
     }
 
--- the ten digits are those of the date and time
+-- the ten digits are the digits of the date and time
 ten_valid : (t : DateTime) (bs : List ℕ) → is_date_time_at t.year (month_to_second t ++ bs) 0 ≡ true
 unfolding month_to_second
 ten_valid t bs =
@@ -130,7 +130,7 @@ below_hundred bs i e =
     let tests = and_parts (is_digit (get_or bs i 0)) (is_digit (get_or bs (i + 1) 0)) e in
     omega (arith, digit_range (get_or bs i 0) tests.0, digit_range (get_or bs (i + 1) 0) tests.1)
 
--- the digits of the number are those that were read
+-- the digits of the number are the digits that were read
 pair_at : (bs : List ℕ) (i j : ℕ) → j ≡ i + 2 → j ≤ length bs → are_digits_at bs i ≡ true → two_digits (number_at bs i) ++ drop j bs ≡ drop i bs
 pair_at bs i j is h e =
     let tests = and_parts (is_digit (get_or bs i 0)) (is_digit (get_or bs (i + 1) 0)) e in

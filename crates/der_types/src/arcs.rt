@@ -1,4 +1,4 @@
-//! The arcs of an object identifier.
+//! The arcs of an object identifier, as an iterator over its content.
 ghost use Rattle.std.specs.Prelude.{◌≡◌, ◌≤◌, ℕ, List, ◌∷◌, map, Some};
 ghost use Rattle.std.specs.Iterator.{YieldsFirst, item_count};
 ghost use Rattle.der_types.specs.ObjectIdentifier.{arcs_of_numbers};
@@ -8,27 +8,28 @@ use crate::OidError;
 use crate::subidentifiers::split_number;
 use std::fmt;
 
-// Which arcs come first.
+// Which arc comes next.
 #[derive(Debug, Clone, Copy)]
 enum Next {
-    // The two of the first number.
+    // The first two arcs, which share the first number (X.690, 8.19.4).
     FirstTwo,
-    // The second one, or one that doesn't fit if it doesn't.
+    // The second arc, as a number of 128 bits: it may not fit `u64`.
     Second(u128),
-    // That of the next number.
+    // The arc that is the next number.
     Another,
 }
 
-/// The arcs of an object identifier or of a relative one, in order. One above `u64::MAX` is `ArcTooLarge`, and the others follow.
+/// The arcs of an object identifier or of a relative one, in order. An arc above `u64::MAX` is returned as the error `ArcTooLarge`; the
+/// arcs after it still follow.
 ///
-/// They print with points between them, and one above `u64::MAX` as `(above 64 bits)`.
+/// They print with points between them. An arc above `u64::MAX` prints as `(above 64 bits)`.
 #[derive(Debug, Clone, Copy)]
 pub struct Arcs<'a> {
     next: Next,
     bytes: &'a [u8],
 }
 
-// The arc, if it fits.
+// The arc, or `ArcTooLarge` if it is above `u64::MAX`.
 fn fitted(arc: u128) -> Result<u64, OidError>
     ensures { result ≡ fitted arc }
 {
@@ -38,7 +39,7 @@ fn fitted(arc: u128) -> Result<u64, OidError>
     }
 }
 
-// The first two arcs, of one number (X.690, 8.19.4).
+// The first two arcs, from the first number of the content (X.690, 8.19.4).
 fn first_two(number: u128) -> (u64, u128)
     ensures arcs { (others : List ℕ)
         → arcs_of_numbers (number ∷ others) ≡ result.0 ∷ result.1 ∷ others }
@@ -56,7 +57,7 @@ impl<'a> Arcs<'a> {
     ghost use Rattle.der_types.specs.ObjectIdentifier.{arcs_of};
     ghost use Rattle.der_types.specs.Arcs.{arcs_left};
 
-    // Those of an object identifier with this content.
+    // The arcs of the object identifier with this content.
     pub(crate) fn of_object_identifier(content: &'a [u8]) -> Arcs<'a>
         ensures { arcs_left result ≡ arcs_of content.now }
     {
@@ -66,7 +67,7 @@ impl<'a> Arcs<'a> {
         }
     }
 
-    // Those of a relative object identifier with this content.
+    // The arcs of the relative object identifier with this content.
     pub(crate) fn of_relative_oid(content: &'a [u8]) -> Arcs<'a>
         ensures { arcs_left result ≡ numbers_behind 0 content.now }
     {
@@ -108,7 +109,7 @@ impl Iterator for Arcs<'_> {
     }
 }
 
-// An arc as it prints.
+// An arc for printing.
 #[derive(Clone, Copy)]
 struct Shown(Result<u64, OidError>);
 

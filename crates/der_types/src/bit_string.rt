@@ -16,8 +16,8 @@ use picky_der_de::{Begins, Deserialize, Deserializer};
 use picky_der_ser::{Serialize, Serializer};
 use std::alloc::Global;
 
-/// A bit string (X.690, 8.6), by its content: how many bits of the last byte are unused, and the bytes. Up to 7 bits are unused, and
-/// these are zero (11.2.1).
+/// A bit string (X.690, 8.6), kept as its content: a byte with the number of unused bits, then the bytes. At most 7 bits of the last byte
+/// are unused, and unused bits are zero (11.2.1).
 #[derive(Debug, Drop, PartialEq, Eq, Hash)]
 pub struct BitString {
     content: Vec<u8>,
@@ -25,10 +25,10 @@ pub struct BitString {
 }
 
 impl BitString {
-    /// The bits of these bytes, from the highest one of the first byte on, without this many of the last byte.
+    /// Returns the bits of these bytes, highest bit first. The lowest `unused` bits of the last byte don't count.
     ///
-    /// `InvalidData` where more than 7 are unused, or one that is unused isn't zero, or some are and there is no byte; and
-    /// `OutOfMemory`.
+    /// `InvalidData` if `unused` is above 7, if an unused bit is one, or if there is no byte and `unused` isn't 0. `OutOfMemory` if the
+    /// allocation fails.
     pub fn from_bytes(alloc: Global, bytes: &[u8], unused: u8) -> Result<BitString>
         ensures ok { IfOk result (λ it. it.content.items ≡ unused ∷ bytes.now) }
         ensures err { IfErr result (λ e. (e ≡ Asn1DerError.OutOfMemory)
@@ -43,7 +43,7 @@ impl BitString {
         }
     }
 
-    /// These bits, in order. `OutOfMemory` where the allocation fails.
+    /// Returns the bit string of these bits, first bit first. `OutOfMemory` if the allocation fails.
     pub fn from_bits(alloc: Global, bits: &[bool]) -> Result<BitString>
         ensures ok { IfOk result (λ it. it.content.items ≡ bit_string_content bits.now) }
         ensures err { IfErr result (λ e. e ≡ Asn1DerError.OutOfMemory) }
@@ -52,7 +52,7 @@ impl BitString {
         Ok(BitString { content })
     }
 
-    /// A copy, on the same allocator. `OutOfMemory` where the allocation fails.
+    /// Returns a copy, on the same allocator. `OutOfMemory` if the allocation fails.
     pub fn clone(&self) -> Result<BitString>
         ensures same { IfOk result (λ copy. copy.content.items ≡ self.now.content.items) }
         ensures memory { IfErr result (λ e. e ≡ Asn1DerError.OutOfMemory) }
@@ -61,7 +61,7 @@ impl BitString {
         Ok(BitString { content })
     }
 
-    /// How many bits of the last byte are unused, up to 7.
+    /// Returns how many of the lowest bits of the last byte are unused, at most 7.
     pub fn unused(&self) -> u8
         ensures value { result ≡ slice_index self.now.content.items 0 }
         ensures few { result < 8 }
@@ -69,28 +69,28 @@ impl BitString {
         self.content[0]
     }
 
-    /// The bytes, in which the bits that are unused are zero.
+    /// Returns the bytes. Unused bits of the last byte are zero.
     pub fn bytes(&self) -> &[u8]
         ensures { result.now ≡ drop 1 self.now.content.items }
     {
         &self.content[1..]
     }
 
-    /// How many bits there are. It is a `u128`, since eight times the length of a vector can be above `u64::MAX`.
+    /// Returns how many bits there are. It is a `u128`, since a vector may have more than `u64::MAX` / 8 bytes.
     pub fn len(&self) -> u128
         ensures { result ≡ length (bits_of self.now.content.items) }
     {
         len_of(&self.content)
     }
 
-    /// Whether there are none.
+    /// Returns whether there are no bits.
     pub fn is_empty(&self) -> bool
         ensures { result ≡ (length (bits_of self.now.content.items) == 0) }
     {
         self.len() == 0
     }
 
-    /// The bit with this index, of which 0 is the first (X.690, 8.6.2.1). `None` where there are fewer.
+    /// Returns the bit with this index, or `None` if there are fewer bits. The index of the first bit is 0 (X.690, 8.6.2.1).
     pub fn bit(&self, index: usize) -> Option<bool>
         ensures { result ≡ slice_get (bits_of self.now.content.items) index }
     {

@@ -4,7 +4,7 @@ ghost use Rattle.der_types.specs.BitString.{weigh, octets, bit_string_content, i
 
 use std::alloc::{AllocError, Global};
 
-// Whether the lowest bits of a byte are zero, this many of them.
+// Whether the lowest `count` bits of a byte are zero.
 fn ends_in_zeros(byte: u8, count: u8) -> bool
     requires { count < 8 }
     ensures { result ≡ (byte % 2 ^ count == 0) }
@@ -12,7 +12,7 @@ fn ends_in_zeros(byte: u8, count: u8) -> bool
     byte % (1 << count) == 0
 }
 
-// Whether the bytes are a count of unused bits and bytes of which these bits are zero.
+// Whether the bytes are the content of a bit string: the number of unused bits, then bytes whose unused bits are zero.
 pub(crate) fn is_bit_string(bytes: &[u8]) -> bool
     ensures { result ≡ is_bit_string bytes.now }
 {
@@ -23,7 +23,7 @@ pub(crate) fn is_bit_string(bytes: &[u8]) -> bool
     }
 }
 
-// Whether the bit with this number is one, where 0 is the lowest.
+// Whether the bit with this number is one. Bit 0 is the lowest.
 fn is_bit_set(byte: u8, number: u8) -> bool
     requires { number < 8 }
     ensures { result ≡ is_bit_set byte number }
@@ -44,7 +44,7 @@ pub(crate) fn is_named_bits(bytes: &[u8]) -> bool
     }
 }
 
-// This bit of a byte, where 0 is the highest.
+// The bit at this place of a byte. Place 0 is the highest bit.
 fn byte_bit(byte: u8, place: u8) -> bool
     requires { place < 8 }
     ensures { result ≡ byte_bit byte place }
@@ -63,7 +63,7 @@ pub(crate) fn len_of(content: &[u8]) -> u128
     }
 }
 
-// The bit with this index, if there are so many.
+// The bit with this index, or `None` if there are fewer bits.
 pub(crate) fn bit_of(content: &[u8], index: usize) -> Option<bool>
     requires { is_bit_string content.now ≡ true }
     ensures { result ≡ slice_get (bits_of content.now) index }
@@ -75,7 +75,7 @@ pub(crate) fn bit_of(content: &[u8], index: usize) -> Option<bool>
     Some(byte_bit(bytes[index / 8], (index % 8) as u8))
 }
 
-// A byte of bits, of which the first one has this weight; the others are zero.
+// The byte of these bits: the first one has this weight, each one after it half as much, and all other bits are zero.
 fn weigh(weight: u8, bits: &[bool]) -> u8
     requires { weight ≤ 128 }
     ensures value { result ≡ weigh weight bits.now }
@@ -90,7 +90,7 @@ fn weigh(weight: u8, bits: &[bool]) -> u8
     }
 }
 
-// Appends the bytes of bits.
+// Appends the bytes that hold these bits. The unused bits of the last byte are zero.
 fn push_octets(bytes: &mut Vec<u8>, bits: &[bool]) -> Result<(), AllocError>
     ensures { OnOk result (bytes.new.items ≡ bytes.old.items ++ octets bits.now) }
 {
@@ -100,7 +100,7 @@ fn push_octets(bytes: &mut Vec<u8>, bits: &[bool]) -> Result<(), AllocError>
     Ok(())
 }
 
-// The content of bits.
+// The content of the bit string of these bits.
 pub(crate) fn content_of(alloc: Global, bits: &[bool]) -> Result<Vec<u8>, AllocError>
     ensures { IfOk result (λ content. content.items ≡ bit_string_content bits.now) }
 {

@@ -1,4 +1,4 @@
-//! Sets of characters.
+//! Character sets of the string types.
 ghost use Rattle.std.specs.Prelude.{◌≡◌, ◌<◌, ◌^◌, ◌*◌, ℕ, Bool, true};
 ghost use Rattle.std.specs.Char.{IsScalar};
 ghost use Rattle.picky_der_core.specs.Tag.{number_of, IsTagNumber};
@@ -7,9 +7,9 @@ ghost use Rattle.der_types.specs.CharacterStrings.{byte_count};
 
 use crate::Width;
 
-/// The characters of a string type, by their numbers, and how they are encoded. `RestrictedString` makes a type of each set.
+/// The characters of a string type, by their numbers, and how they are encoded. For each set there is the type `RestrictedString<S>`.
 ///
-/// A set of your own is a permitted alphabet (X.680, 51.7): it has the tag and the width of the type that it restricts.
+/// A set of your own is a permitted alphabet (X.680, 51.7). It has the tag and the width of the type that it restricts.
 pub trait CharacterSet {
     // The tag byte, how many bytes a character has, and which numbers are characters.
     ghost TAG: { ℕ };
@@ -18,34 +18,34 @@ pub trait CharacterSet {
 
     ghost is_character: { ℕ → Bool };
 
-    /// The tag byte, whose number is at most 30.
+    /// The tag byte. Its number is at most 30.
     const TAG: u8;
 
     /// How many bytes each character has.
     const WIDTH: Width;
 
-    /// Whether the set has a character with this number.
+    /// Returns whether the character with this number is in the set.
     fn is_character(code: u32) -> bool
         ensures { result ≡ is_character code };
 
-    // The tag isn't one of the long form.
+    // The tag's number fits one byte.
     ghost short: { IsTagNumber (number_of TAG) };
 
-    // Each character fits its bytes.
+    // The number of each character fits its bytes.
     ghost narrow: { (c : ℕ) → is_character c ≡ true → c < 2 ^ (8 * byte_count WIDTH) };
 }
 
-/// A set whose characters are those of Unicode with the same numbers.
+/// A set whose characters are Unicode characters with the same numbers.
 pub trait Unicode: CharacterSet {
-    // Each character is a scalar value.
+    // The number of each character is a Unicode scalar value.
     ghost scalar: { (c : ℕ) → Self.is_character c ≡ true → IsScalar c };
 }
 
-/// A set whose characters are those of ASCII, or some of them, in one byte each.
+/// A set of ASCII characters, with one byte for each character.
 pub trait Ascii: Unicode {
     // A character has one byte.
     ghost one_byte: { Self.WIDTH ≡ Width.One };
 
-    // It is one of ASCII.
+    // Each character is an ASCII character.
     ghost ascii: { (c : ℕ) → Self.is_character c ≡ true → c < 0x80 };
 }

@@ -77,7 +77,7 @@ impl Ascii for Printable {
     ghost ascii = { printable_is_ascii };
 }
 
-/// Any byte. The character sets of teletex, and the escape sequences that select them, aren't looked at (X.680, 41.1, table 8).
+/// Any byte. Neither the character sets of teletex nor the escape sequences that select them are checked (X.680, 41.1, table 8).
 pub struct Teletex;
 
 impl CharacterSet for Teletex {
@@ -133,7 +133,7 @@ impl Ascii for Ia5 {
     ghost ascii = { ia5_is_ascii };
 }
 
-/// ASCII from space on, without the control characters (X.680, table 8).
+/// ASCII without the control characters: space and the characters after it, up to `~` (X.680, table 8).
 pub struct Visible;
 
 impl CharacterSet for Visible {
@@ -166,7 +166,7 @@ impl Ascii for Visible {
     ghost ascii = { visible_is_ascii };
 }
 
-/// Any byte. The registered character sets, and the escape sequences that select them, aren't looked at (X.680, 41.1, table 8).
+/// Any byte. Neither the registered character sets nor the escape sequences that select them are checked (X.680, 41.1, table 8).
 pub struct General;
 
 impl CharacterSet for General {
@@ -189,7 +189,7 @@ impl CharacterSet for General {
     ghost narrow = { byte_is_narrow };
 }
 
-/// The characters of Unicode, in four bytes each (X.680, 41.6; X.690, 8.23.7). A surrogate isn't one.
+/// The characters of Unicode, in four bytes each (X.680, 41.6; X.690, 8.23.7). Surrogates are not characters.
 pub struct Universal;
 
 impl CharacterSet for Universal {
@@ -216,8 +216,8 @@ impl Unicode for Universal {
     ghost scalar = { universal_is_unicode };
 }
 
-/// The characters of Unicode up to FFFF, in two bytes each (X.680, 41.15; X.690, 8.23.8). A surrogate isn't one, so the bytes are
-/// UTF-16 without pairs.
+/// The characters of Unicode up to FFFF, in two bytes each (X.680, 41.15; X.690, 8.23.8). Surrogates are not characters: the bytes are
+/// UTF-16 without surrogate pairs.
 pub struct Bmp;
 
 impl CharacterSet for Bmp {

@@ -7,7 +7,7 @@ ghost use Rattle.der_types.specs.CharacterStrings.{byte_count, character_bytes, 
 use crate::{CharacterSet, Width};
 use std::alloc::{AllocError, Global};
 
-// The first character and the bytes after it, or `None` if there are too few bytes.
+// Returns the number of the first character and the bytes after it, or `None` if there are too few bytes.
 pub(crate) fn split_character(width: Width, bytes: &[u8]) -> Option<(u32, &[u8])>
     ensures first { IfSome result (λ pair. characters width bytes.now
         ≡ pair.0 ∷ characters width pair.1.now) }
@@ -31,7 +31,7 @@ pub(crate) fn split_character(width: Width, bytes: &[u8]) -> Option<(u32, &[u8])
     }
 }
 
-// Appends the bytes of a character.
+// Appends the bytes of the character with this number.
 pub(crate) fn push_character(bytes: &mut Vec<u8>, width: Width, code: u32) -> Result<(), AllocError>
     requires { code < 2 ^ (8 * byte_count width) }
     ensures { OnOk result (bytes.new.items ≡ bytes.old.items ++ character_bytes width code) }
@@ -44,7 +44,7 @@ pub(crate) fn push_character(bytes: &mut Vec<u8>, width: Width, code: u32) -> Re
     Ok(())
 }
 
-// How many characters the bytes are.
+// How many characters the bytes hold.
 pub(crate) fn count_of(width: Width, bytes: &[u8]) -> usize
     ensures { result ≡ length (characters width bytes.now) }
 {
@@ -55,7 +55,7 @@ pub(crate) fn count_of(width: Width, bytes: &[u8]) -> usize
     }
 }
 
-// Whether the bytes are whole characters of the set.
+// Whether the bytes are a whole number of characters, all in the set.
 pub(crate) fn is_content<S: CharacterSet>(bytes: &[u8]) -> bool
     ensures { result ≡ is_string_content S.WIDTH S.is_character bytes.now }
 {
@@ -81,7 +81,7 @@ pub(crate) fn char_of(code: u32) -> char
     }
 }
 
-// The content of a text, or `None` if a character of it isn't one of the set.
+// Returns the content that encodes a text, or `None` if a character of the text isn't in the set.
 pub(crate) fn content_of<S: CharacterSet>(
     alloc: Global,
     text: &str,

@@ -1,4 +1,4 @@
-//! Arcs in decimal, with points between them.
+//! Arcs in decimal, separated by points.
 ghost use Rattle.std.specs.Prelude.{◌≡◌, ◌⊎◌, map, IfOk, IfErr};
 ghost use Rattle.std.specs.Char.{is_ascii_digit};
 ghost use Rattle.std.specs.List.{list_all};
@@ -15,7 +15,7 @@ fn are_digits(bytes: &[u8]) -> bool
     bytes.iter().all(|byte| byte.is_ascii_digit())
 }
 
-// Whether they are some, with no needless 0 in front.
+// Whether they are a decimal number: at least one digit, and no leading 0 unless it is the only digit.
 fn is_decimal(bytes: &[u8]) -> bool
     ensures { result ≡ is_decimal bytes.now }
 {
@@ -26,7 +26,7 @@ fn is_decimal(bytes: &[u8]) -> bool
     }
 }
 
-// The arc that the text is.
+// Returns the arc that the text is in decimal.
 fn arc_of_text(text: &str) -> Result<u64, OidError>
     ensures ok { IfOk result (λ arc. text.now ≡ decimal arc) }
     ensures none { IfErr result (λ e. IsNoArc text.now) }
@@ -41,7 +41,7 @@ fn arc_of_text(text: &str) -> Result<u64, OidError>
     }
 }
 
-// The arcs that the text is, at least one.
+// Returns the arcs that the text is in decimal, separated by points: at least one arc.
 pub(crate) fn arcs_of_text(alloc: Global, text: &str) -> Result<Vec<u64>, OidError>
     ensures ok { IfOk result (λ arcs. text.now ≡ dotted arcs.items) }
     ensures parts { IfOk result (λ arcs. parts_of text.now ≡ map decimal arcs.items) }

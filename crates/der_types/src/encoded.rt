@@ -1,4 +1,4 @@
-//! Values of open types: each with its encoding, so that its type may be another one than its neighbour's.
+//! Values that are kept together with their encoding, for open types.
 ghost use Rattle.std.proofs.Common.{rules};
 ghost use Rattle.std.specs.Prelude.{◌≡◌, IfOk, IfErr};
 ghost use Rattle.std.specs.Cmp.Rules.{comparing};
@@ -15,10 +15,10 @@ use picky_der_core::{Asn1DerError, Result};
 use picky_der_de::{Deserialize, Deserializer, TryAlike, from_der, try_deserialize_as};
 use picky_der_ser::{Serialize, Serializer};
 
-/// A value of the type `T` with its encoding, as a type has it whose other members say what `T` is (ASN.1's ANY DEFINED BY). Two are
+/// A value of the type `T` together with its encoding, for a member whose type another member decides (ANY DEFINED BY). Two of them are
 /// equal exactly if their encodings are.
 ///
-/// An element that is no encoding of a `T` is `InvalidData`; it is read completely before.
+/// On reading, `InvalidData` if the element isn't an encoding of a `T`; the element has then been consumed completely.
 #[derive(Debug, Drop)]
 pub struct Encoded<T: Deserialize> {
     encoding: Asn1RawDer,
@@ -27,7 +27,7 @@ pub struct Encoded<T: Deserialize> {
 }
 
 impl<T: Deserialize> Encoded<T> {
-    /// The value whose encoding is exactly this one. `InvalidData` if there is none, and `OutOfMemory` if an allocation fails.
+    /// Returns the value whose encoding this is. `InvalidData` if it isn't the encoding of a `T`, and `OutOfMemory` if an allocation fails.
     pub fn from_encoding(encoding: Asn1RawDer) -> Result<Encoded<T>>
         ensures ok { IfOk result (λ it. it.encoding ≡ encoding) }
         ensures err { IfErr result (TellsNone ⟦<Asn1RawDer as Serialize>⟧.meaning
@@ -42,14 +42,14 @@ impl<T: Deserialize> Encoded<T> {
         }
     }
 
-    /// The encoding.
+    /// Returns the encoding.
     pub fn encoding(&self) -> &Asn1RawDer
         ensures { result.now ≡ self.now.encoding }
     {
         &self.encoding
     }
 
-    /// The value.
+    /// Returns the value.
     pub fn value(&self) -> &T
         ensures { result.now ≡ self.now.value }
     {

@@ -14,12 +14,12 @@ use picky_der_core::{Asn1DerError, Result};
 use picky_der_de::{Begins, Deserialize, Deserializer};
 use picky_der_ser::{Serialize, Serializer};
 
-/// An ENUMERATED (X.690, 8.4): the integer that the value is associated with, whose content it has under the tag 0A.
+/// An ENUMERATED (X.690, 8.4): the integer of the value. It is encoded as that INTEGER, with the tag 0A.
 #[derive(Debug, Drop, PartialEq, Eq, Hash)]
 pub struct Enumerated(pub Integer);
 
 impl Enumerated {
-    /// A copy, on the same allocator. `OutOfMemory` if the allocation fails.
+    /// Returns a copy, on the same allocator. `OutOfMemory` if the allocation fails.
     pub fn clone(&self) -> Result<Enumerated>
         ensures same { IfOk result (λ copy. copy.0.content.items ≡ self.now.0.content.items) }
         ensures memory { IfErr result (λ e. e ≡ Asn1DerError.OutOfMemory) }

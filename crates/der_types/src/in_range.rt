@@ -12,8 +12,8 @@ use picky_der_core::misc::{ReadExt, WriteExt};
 use picky_der_de::{Begins, Deserialize, Deserializer};
 use picky_der_ser::{Serialize, Serializer};
 
-/// A number from `MIN` to `MAX`, as `INTEGER (MIN..MAX)` of ASN.1 has it (X.680, 51.4). Its encoding is that of the number. A range that begins
-/// below zero is a type with `Constrained`.
+/// A number from `MIN` to `MAX`, as in `INTEGER (MIN..MAX)` (X.680, 51.4). It is encoded as the number. For a range that begins below zero,
+/// implement `Constrained`.
 #[derive(Debug, Drop, PartialEq, Eq)]
 pub struct InRange<T: WholeNumber, const MIN: u64, const MAX: u64> {
     value: T,
@@ -21,7 +21,7 @@ pub struct InRange<T: WholeNumber, const MIN: u64, const MAX: u64> {
 }
 
 impl<T: WholeNumber, const MIN: u64, const MAX: u64> InRange<T, MIN, MAX> {
-    /// The number, or `None` if it isn't from `MIN` to `MAX`.
+    /// Returns the number, or `None` if it isn't from `MIN` to `MAX`.
     pub fn new(value: T) -> Option<InRange<T, MIN, MAX>>
     where
         T: Drop,
@@ -35,7 +35,7 @@ impl<T: WholeNumber, const MIN: u64, const MAX: u64> InRange<T, MIN, MAX> {
         }
     }
 
-    /// The number.
+    /// Returns the number.
     pub fn get(&self) -> &T
         ensures value { result.now ≡ self.now.value }
         ensures allowed { is_between MIN MAX (T.number result.now) ≡ true }
@@ -43,7 +43,7 @@ impl<T: WholeNumber, const MIN: u64, const MAX: u64> InRange<T, MIN, MAX> {
         &self.value
     }
 
-    /// The number.
+    /// Returns the number.
     pub fn into_inner(self) -> T
         ensures value { result ≡ self.value }
         ensures allowed { is_between MIN MAX (T.number result) ≡ true }

@@ -16,7 +16,7 @@ use picky_der_de::{Begins, Deserialize, Deserializer};
 use picky_der_ser::{Serialize, Serializer};
 use std::alloc::Global;
 
-/// An INTEGER of any size and sign (X.690, 8.3), as its content: two's complement in the fewest bytes.
+/// An INTEGER of any size and sign (X.690, 8.3), kept as its content: two's complement in the fewest bytes, most significant byte first.
 #[derive(Debug, Drop, PartialEq, Eq, Hash)]
 pub struct Integer {
     content: Vec<u8>,
@@ -24,14 +24,14 @@ pub struct Integer {
 }
 
 impl Integer {
-    /// Its content.
+    /// Returns its content.
     pub fn content(&self) -> &[u8]
         ensures { result.now ≡ self.now.content.items }
     {
         &self.content
     }
 
-    /// The integer that is this number. `OutOfMemory` if the allocation fails.
+    /// Returns the integer that is this number. `OutOfMemory` if the allocation fails.
     pub fn from_int<N: Int>(alloc: Global, number: N) -> Result<Integer>
         ensures ok { IfOk result (λ it. it.content.items ≡ integer_content (N.number number)) }
         ensures err { IfErr result (λ e. e ≡ Asn1DerError.OutOfMemory) }
@@ -42,7 +42,7 @@ impl Integer {
         })
     }
 
-    /// The number, or `None` if it doesn't fit the type.
+    /// Returns the number, or `None` if it doesn't fit the type.
     pub fn to_int<N: Int>(&self) -> Option<N>
         ensures some { IfSome result (λ n. self.now.content.items ≡ integer_content (N.number n)) }
         ensures none { IfNone result ((z : ℤ) → N.fits z ≡ true
@@ -51,7 +51,7 @@ impl Integer {
         number_of(&self.content)
     }
 
-    /// A copy, on the same allocator. `OutOfMemory` if the allocation fails.
+    /// Returns a copy, on the same allocator. `OutOfMemory` if the allocation fails.
     pub fn clone(&self) -> Result<Integer>
         ensures same { IfOk result (λ copy. copy.content.items ≡ self.now.content.items) }
         ensures memory { IfErr result (λ e. e ≡ Asn1DerError.OutOfMemory) }

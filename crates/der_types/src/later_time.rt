@@ -11,6 +11,7 @@ use picky_der_core::asn1::Tag;
 use picky_der_core::misc::{ReadExt, WriteExt};
 use picky_der_de::{Begins, Deserialize, Deserializer};
 use picky_der_ser::{Serialize, Serializer};
+use std::alloc::Global;
 
 /// A GeneralizedTime of RFC 5280 (4.1.2.5.2) where a UTCTime can't be: `YYYYMMDDHHMMSSZ`, a second of the years 2050 to 9999, without
 /// a fraction. Its order is that of time.
@@ -78,6 +79,10 @@ impl Contents for LaterTime {
         ensures none { IfNone result (is_later_time content.items ≡ false) }
     {
         LaterTime::of(&content)
+    }
+
+    fn from_short(_alloc: Global, content: &[u8]) -> Option<LaterTime> {
+        LaterTime::of(content)
     }
 
     fn serialize_under<W: WriteExt>(

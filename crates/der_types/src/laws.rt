@@ -1,4 +1,4 @@
-//! Laws of what the types mean: they speak of no code, so that their bodies are empty.
+//! Laws about what the types mean. They are statements for proofs and run no code, which is why their bodies are empty.
 ghost use Rattle.std.specs.Prelude.{◌≡◌, ◌≤◌, ℕ, Bool, List, [], ◌∷◌, length, true, chars, IsUtf8};
 ghost use Rattle.std.specs.List.{list_all};
 ghost use Rattle.std.specs.Ordering.{nat_cmp};
@@ -9,6 +9,8 @@ ghost use Rattle.picky_der_core.specs.Shape.{IsOf};
 ghost use Rattle.picky_der_core.specs.Equality.{IsEqualityOf, IsKept};
 ghost use Rattle.der_types.specs.BitString.{is_bit_string, bit_string_content, bits_of, is_named_bits, without_zeros};
 ghost use Rattle.der_types.specs.CharacterStrings.{string_content, characters, is_string_content, is_ia5, is_bmp};
+ghost use Rattle.picky_der_core.specs.Tree.{Tree};
+ghost use Rattle.der_types.specs.Denotes.{Denotes, IsShort};
 ghost use Rattle.der_types.specs.declared.width.Width.{Width};
 ghost use Rattle.der_types.specs.RelativeOid.{are_relative_arcs, is_relative_oid, relative_oid_content};
 ghost use Rattle.der_types.specs.Subidentifiers.{numbers_behind};
@@ -21,7 +23,7 @@ ghost use Rattle.der_types.specs.TimeContents.{is_utc_time, fraction_of};
 ghost use Rattle.der_types.specs.TimeValues.{utc_content};
 
 use crate::{
-    Arcs, CharacterSet, DateTime, Enumerated, GeneralizedTime, Integer, LaterTime, OidError,
+    Arcs, CharacterSet, DateTime, Enumerated, Exact, GeneralizedTime, Integer, LaterTime, OidError,
     RestrictedString, TagOrdered, Time, UtcTime, Width,
 };
 pub use picky_der_core::laws::integers;
@@ -32,7 +34,7 @@ pub fn equality()
     ensures enumerated { IsEqualityOf ⟦<Enumerated as PartialEq>⟧.eq (λ it. it.0.content.items) }
 {}
 
-/// A copy of arcs that are left, of an error, of a width, or of a date and time is the same.
+/// A copy of arcs not yet returned, of an error, of a width, or of a date and time is the same.
 pub fn copies()
     ensures arcs { IsKept ⟦<Arcs<'static> as Clone>⟧.is_clone (λ arcs. arcs) }
     ensures error { IsKept ⟦<OidError as Clone>⟧.is_clone (λ error. error) }
@@ -43,7 +45,7 @@ pub fn copies()
     ensures time { IsKept ⟦<Time as Clone>⟧.is_clone (λ time. time) }
 {}
 
-/// Each list of arcs has a content, each content is one of a list of arcs, and no two have the same.
+/// Each valid list of arcs has a content, each content encodes a list of arcs, and different lists have different contents.
 pub fn object_identifiers()
     ensures made { (arcs : List ℕ) → are_arcs arcs ≡ true
         → is_object_identifier (object_identifier_content arcs) ≡ true }
@@ -53,7 +55,8 @@ pub fn object_identifiers()
         → object_identifier_content a ≡ object_identifier_content b → a ≡ b }
 {}
 
-/// Each list of at least one arc has a content as a RELATIVE-OID, each content is one of such a list, and no two have the same.
+/// Each list of at least one arc has a content as a RELATIVE-OID, each content encodes such a list, and different lists have different
+/// contents.
 pub fn relative_oids()
     ensures made { (arcs : List ℕ) → are_relative_arcs arcs ≡ true
         → is_relative_oid (relative_oid_content arcs) ≡ true }
@@ -62,13 +65,13 @@ pub fn relative_oids()
     ensures one { (a b : List ℕ) → relative_oid_content a ≡ relative_oid_content b → a ≡ b }
 {}
 
-/// The members of a SET that is read back begin with tags in the order of tags (X.690, 10.3), none of which is there twice.
+/// When a SET is read back, its members begin with tags in the order of tags (X.690, 10.3), and no tag occurs twice.
 pub fn sets<T: TagOrdered>()
     ensures order { (value : T) → IsOf T.shape (T.meaning value) → IsReadable (T.meaning value)
         → AreInTagOrder (member_encodings (T.meaning value)) }
 {}
 
-/// Each list of bits has a content, each content is one of a list of bits, and no two have the same.
+/// Each list of bits has a content, each content encodes a list of bits, and different lists have different contents.
 pub fn bit_strings()
     ensures made { (bits : List Bool) → is_bit_string (bit_string_content bits) ≡ true }
     ensures all { (bs : List ℕ) → AreBytes bs → is_bit_string bs ≡ true
@@ -77,7 +80,8 @@ pub fn bit_strings()
     ensures one { (a b : List Bool) → bit_string_content a ≡ bit_string_content b → a ≡ b }
 {}
 
-/// The bits without the zeros at the end have a content as a list of named bits has, and each such content is a bit string's.
+/// Each list of bits has a content as a list of named bits, in which zeros at the end are left out. Each such content is one of a bit
+/// string.
 pub fn named_bits()
     ensures made { (bits : List Bool)
         → is_named_bits (bit_string_content (without_zeros bits)) ≡ true }
@@ -89,7 +93,8 @@ pub fn string_equality<S: CharacterSet>()
     ensures { IsEqualityOf ⟦<RestrictedString<S> as PartialEq>⟧.eq (λ it. it.content.items) }
 {}
 
-/// A text whose characters are all of a set has a content, each content is that of its characters, and no two texts have the same.
+/// Each text whose characters are all in a set has a content, each content encodes its characters, and different texts have different
+/// contents.
 pub fn character_strings()
     ensures made { (width : Width) (is_character : ℕ → Bool) (text : List ℕ)
         → is_string_content width is_character (string_content width text)
@@ -106,21 +111,21 @@ pub fn character_strings()
         → string_content width a ≡ string_content width b → a ≡ b }
 {}
 
-/// The content of a text in ASCII is the text's UTF-8, and a character of a BMPString is one code unit of UTF-16.
+/// The content of a text in ASCII is the text's UTF-8. A character of a BMPString is one code unit of UTF-16.
 pub fn unicode_contents()
     ensures ascii { (text : List ℕ) → IsUtf8 text → list_all is_ia5 (chars text) ≡ true
         → string_content Width.One (chars text) ≡ text }
     ensures bmp { (c : ℕ) → is_bmp c ≡ true → encode_utf16 c ≡ c ∷ [] }
 {}
 
-/// Dates and times are in the order of the seconds that they are since the year 0 began, and equal exactly if these are the same.
+/// Dates and times are ordered by the number of seconds from the beginning of the year 0. They are equal exactly if that number is.
 pub fn date_times()
     ensures order { (x y : DateTime) → ⟦<DateTime as Ord>⟧.cmp x y
         ≡ nat_cmp (seconds_of x) (seconds_of y) }
     ensures equality { IsEqualityOf ⟦<DateTime as PartialEq>⟧.eq seconds_of }
 {}
 
-/// Each second of the years 1950 to 2049 has a content as a UTCTime, and no two have the same (X.690, 11.8).
+/// Each second of the years 1950 to 2049 has a content as a UTCTime, and different seconds have different contents (X.690, 11.8).
 pub fn utc_times()
     ensures made { (t : DateTime) → 1950 ≤ t.year → t.year ≤ 2049
         → is_utc_time (utc_content t) ≡ true }
@@ -128,8 +133,8 @@ pub fn utc_times()
         → utc_content t ≡ utc_content u → seconds_of t ≡ seconds_of u }
 {}
 
-/// Times are in the order of the 10^k-ths of a second that they are since the year 0 began, for each k that is no less than the number of
-/// digits of either fraction. They are equal exactly if their contents are the same.
+/// Times are ordered by the number of 10^k-ths of a second from the beginning of the year 0. This holds for each k that is at least the
+/// number of digits of both fractions. They are equal exactly if their contents are the same.
 pub fn generalized_times()
     ensures order { (k : ℕ) (x y : GeneralizedTime) → length (fraction_of x.content.items) ≤ k
         → length (fraction_of y.content.items) ≤ k
@@ -137,8 +142,16 @@ pub fn generalized_times()
     ensures equality { IsEqualityOf ⟦<GeneralizedTime as PartialEq>⟧.eq (λ it. it.content.items) }
 {}
 
-/// Times of RFC 5280 are in the order of their dates and times.
+/// Times of RFC 5280 are ordered by their dates and times.
 pub fn times()
     ensures order { (x y : Time) → ⟦<Time as Ord>⟧.cmp x y
         ≡ nat_cmp (seconds_of (date_time_of x)) (seconds_of (date_time_of y)) }
+{}
+
+/// The readable values of an exact type mean exactly the readable trees that its notation denotes. A content with 2^63 or more bytes, or a
+/// list with as many members, is excluded: no vector is as long.
+pub fn exact<T: Exact>()
+    ensures sound { (it : T) → IsReadable (T.meaning it) → Denotes T.notation (T.meaning it) }
+    ensures complete { (t : Tree) → Denotes T.notation t → IsReadable t → IsShort t
+        → (it : T) × (T.meaning it ≡ t) }
 {}

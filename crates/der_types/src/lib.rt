@@ -1,4 +1,4 @@
-//! Types of ASN.1 whose contents are checked when they are read.
+//! ASN.1 types whose contents are checked when they are read.
 #![tactic(auto)]
 
 mod arcs;
@@ -13,7 +13,14 @@ mod date_time;
 mod dotted;
 mod encoded;
 mod enumerated;
+mod exact;
+mod exact_choices;
+mod exact_constraints;
+mod exact_contents;
+mod exact_defaults;
+mod exact_members;
 mod generalized_time;
+mod generated;
 mod in_range;
 mod integer;
 mod later_time;
@@ -47,6 +54,12 @@ pub use contents::{Contents, deserialize_contents_as, deserialize_contents_under
 pub use date_time::DateTime;
 pub use encoded::Encoded;
 pub use enumerated::Enumerated;
+pub use exact::Exact;
+pub use exact_choices::ExactAlternatives;
+pub use exact_constraints::{ExactNumber, ExactSize};
+pub use exact_contents::{ExactContents, StandardSet};
+pub use exact_defaults::ExactDefault;
+pub use exact_members::{ExactMember, ExactMembers};
 pub use generalized_time::GeneralizedTime;
 pub use in_range::InRange;
 pub use integer::Integer;

@@ -1,4 +1,4 @@
-//! Bits that have names, as those of a set of flags.
+//! Bit strings whose bits have names, as sets of flags.
 ghost use Rattle.std.proofs.Common.{rules};
 ghost use Rattle.std.specs.Prelude.{◌≡◌, true, false, slice_index_or, IfSome, IfNone, IfOk, IfErr};
 ghost use Rattle.std.specs.Cmp.Lexicographic.{bytes_decides};
@@ -16,11 +16,11 @@ use picky_der_de::{Begins, Deserialize, Deserializer};
 use picky_der_ser::{Serialize, Serializer};
 use std::alloc::Global;
 
-/// A bit string whose bits have names in its definition, as a set of flags: `KeyUsage` of RFC 5280, 4.2.1.3 is one. No zero bit is
-/// behind the last one (X.690, 11.2.2), so a set has one encoding. A bit that isn't there is zero.
+/// A bit string whose bits have names in its definition, as a set of flags has; `KeyUsage` of RFC 5280, 4.2.1.3 is one. Zero bits at the
+/// end are left out (X.690, 11.2.2): each set has one encoding. A bit that is left out is zero.
 ///
-/// The names are an enum of one's own with the numbers of the bits, as `KeyCertSign = 5`, and `bits.bit(Usage::KeyCertSign as usize)`
-/// asks for one.
+/// Give the names as an enum of your own with the numbers of the bits, as `KeyCertSign = 5`. Then `bits.bit(Usage::KeyCertSign as usize)`
+/// is that flag.
 #[derive(Debug, Drop, PartialEq, Eq, Hash)]
 pub struct NamedBits {
     content: Vec<u8>,
@@ -28,7 +28,7 @@ pub struct NamedBits {
 }
 
 impl NamedBits {
-    /// These bits, in order; zeros at the end are left out. `OutOfMemory` where the allocation fails.
+    /// Returns the set of these bits, first bit first. Zeros at the end are left out. `OutOfMemory` if the allocation fails.
     pub fn from_bits(alloc: Global, bits: &[bool]) -> Result<NamedBits>
         ensures ok { IfOk result (λ it. it.content.items
             ≡ bit_string_content (without_zeros bits.now)) }
@@ -38,7 +38,7 @@ impl NamedBits {
         Ok(NamedBits { content })
     }
 
-    /// A copy, on the same allocator. `OutOfMemory` where the allocation fails.
+    /// Returns a copy, on the same allocator. `OutOfMemory` if the allocation fails.
     pub fn clone(&self) -> Result<NamedBits>
         ensures same { IfOk result (λ copy. copy.content.items ≡ self.now.content.items) }
         ensures memory { IfErr result (λ e. e ≡ Asn1DerError.OutOfMemory) }
@@ -47,7 +47,7 @@ impl NamedBits {
         Ok(NamedBits { content })
     }
 
-    /// The bit with this number, of which 0 is the first.
+    /// Returns the bit with this number. The first bit has the number 0. A bit that is left out is `false`.
     pub fn bit(&self, number: usize) -> bool
         ensures { result ≡ slice_index_or (bits_of self.now.content.items) number false }
     {

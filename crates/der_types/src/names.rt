@@ -1,4 +1,4 @@
-//! Object identifiers that are often met, by their contents. Comparing with one costs no memory: `oid.is(names::KEY_USAGE)`.
+//! Object identifiers in common use, by their contents. Comparing with one allocates nothing: `oid.is(names::KEY_USAGE)`.
 ghost use Rattle.std.specs.Prelude.{◌≡◌, ◌≢◌, All, Any, IfSome, IfNone};
 
 // The attributes of names (RFC 5280, A.1).
@@ -355,7 +355,7 @@ static ALGORITHMS: [(&[u8], &str); 24] = [
     (SHA224, "sha224"),
 ];
 
-// The name that a table has for this content.
+// The name in the table for this content, or `None`.
 fn name_in<'a>(table: &[(&[u8], &'a str)], content: &[u8]) -> Option<&'a str>
     ensures some { IfSome result (λ name. Any (λ entry. (entry.0.now ≡ content.now)
         × (entry.1.now ≡ name.now)) table.now) }
@@ -369,7 +369,7 @@ fn name_in<'a>(table: &[(&[u8], &'a str)], content: &[u8]) -> Option<&'a str>
     None
 }
 
-/// The name of the object identifier with this content, as `commonName`, if it is one of those above.
+/// Returns the name of the object identifier with this content, as `commonName`, or `None` if it isn't one of the constants of this module.
 pub fn name_of(content: &[u8]) -> Option<&'static str> {
     name_in(&ATTRIBUTES, content)
         .or_else(|| name_in(&EXTENSIONS, content))

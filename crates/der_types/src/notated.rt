@@ -1,19 +1,19 @@
-//! Which type of ASN.1 each type is.
+//! Which ASN.1 type each Rust type is.
 ghost use Rattle.std.specs.Prelude.{◌≡◌, refl};
 ghost use Rattle.std.proofs.Common.{ap};
 ghost use Rattle.picky_der_core.specs.declared.asn1.wrapper.Wrapper.TheVariants as wrapper;
 ghost use Rattle.picky_der_core.specs.Tree.{ListKind};
-ghost use Rattle.picky_der_core.specs.Shape.{Shape, Layout};
+ghost use Rattle.picky_der_core.specs.Shape.{Shape, Layout, firsts_of};
 ghost use Rattle.der_types.specs.Notation.{Notation, Member, Members, Alternatives, shape_of, layout_of, shapes_of};
-ghost use Rattle.der_types.specs.NotationLaws.{IsMember, in_front, one_or_other};
+ghost use Rattle.der_types.specs.NotationLaws.{IsMember, one_or_other};
 
 use crate::{
     BitString, CharacterSet, Contents, Enumerated, GeneralizedTime, InRange, Integer, NamedBits,
     NotatedDefault, ObjectIdentifier, OtherThan, RelativeOid, RestrictedString, RetaggedPrimitive,
     RetaggedSet, Size, TagOrdered, UtcTime, WholeNumber, WithSize,
 };
-use picky_asn1_der::Asn1RawDer;
 use picky_asn1_der::application_tag::ApplicationTag;
+use picky_asn1_der::{Asn1RawDer, LaterMembers};
 use picky_der_core::asn1::{
     Asn1SequenceOf, Asn1SetOf, BitStringAsn1Container, ByteBuf, ExplicitContextTag,
     ImplicitContextTag, OctetStringAsn1Container, Retagged, TaggedBytes,
@@ -24,106 +24,46 @@ use picky_der_de::{
 use picky_der_ser::{Defaulted, List, Optional};
 use std::fmt::Debug;
 
-/// A type of Rust that is a type of ASN.1 (X.680).
+/// A Rust type that is an ASN.1 type (X.680).
 ///
-/// The notation of a type is made of those of its parts, so it is that of the type's definition, and nothing has to be written twice.
+/// The notation of a type is made of the notations of its parts. It is the notation in the type's definition, and nothing is written twice.
 pub trait Notated: Deserialize {
-    // Which type of ASN.1 it is.
+    // The ASN.1 type.
     ghost notation: { Notation };
 
-    // The trees of its values are those of that type.
+    // The trees of its values have the shape of that ASN.1 type.
     ghost denoted: { Self.shape ≡ shape_of notation };
 }
 
-/// One member of a struct whose type is one of ASN.1.
+/// A member of a struct, as a member of a SEQUENCE.
 pub trait NotatedMember: DeserializeMember {
-    // Which member it is.
+    // The member in ASN.1.
     ghost member: { Member };
 
-    // It is laid out so.
+    // It is optional, has a default or is required as that member is, and has its shape.
     ghost stands: { IsMember Self.presence Self.shape member };
 }
 
-/// Members of a struct, of which each is one of ASN.1.
+/// The members of a struct, each a member of a SEQUENCE.
 pub trait NotatedMembers: DeserializeMembers {
-    // Which members they are.
+    // The members in ASN.1.
     ghost members_notation: { Members };
 
-    // They are laid out so.
+    // They have the layout of those members.
     ghost laid_out: { Self.layout ≡ layout_of members_notation };
 }
 
-/// Alternatives of a choice, of which each is one of ASN.1.
+/// The alternatives of a choice, each an alternative of a CHOICE.
 pub trait NotatedAlternatives: Alternatives {
-    // Which alternatives they are.
+    // The alternatives in ASN.1.
     ghost alternatives_notation: { Alternatives };
 
-    // These are their shapes.
+    // They have the shapes of those alternatives.
     ghost offered: { Self.shapes ≡ shapes_of alternatives_notation };
 }
 
 impl Notated for bool {
     ghost notation = { Notation.BOOLEAN };
-
-    ghost denoted = { refl };
-}
-
-impl Notated for u8 {
-    ghost notation = { Notation.unsigned 8 };
-
-    ghost denoted = { refl };
-}
-
-impl Notated for u16 {
-    ghost notation = { Notation.unsigned 16 };
-
-    ghost denoted = { refl };
-}
-
-impl Notated for u32 {
-    ghost notation = { Notation.unsigned 32 };
-
-    ghost denoted = { refl };
-}
-
-impl Notated for u64 {
-    ghost notation = { Notation.unsigned 64 };
-
-    ghost denoted = { refl };
-}
-
-impl Notated for u128 {
-    ghost notation = { Notation.unsigned 128 };
-
-    ghost denoted = { refl };
-}
-
-impl Notated for i8 {
-    ghost notation = { Notation.signed 8 };
-
-    ghost denoted = { refl };
-}
-
-impl Notated for i16 {
-    ghost notation = { Notation.signed 16 };
-
-    ghost denoted = { refl };
-}
-
-impl Notated for i32 {
-    ghost notation = { Notation.signed 32 };
-
-    ghost denoted = { refl };
-}
-
-impl Notated for i64 {
-    ghost notation = { Notation.signed 64 };
-
-    ghost denoted = { refl };
-}
-
-impl Notated for i128 {
-    ghost notation = { Notation.signed 128 };
 
     ghost denoted = { refl };
 }
@@ -320,93 +260,10 @@ impl NotatedMembers for () {
     ghost laid_out = { refl };
 }
 
-impl<A: NotatedMember, Z: NotatedMembers> NotatedMembers for (A, Z) {
-    ghost members_notation = { Members.member A.member Z.members_notation };
+impl<A: Alternatives> NotatedMembers for LaterMembers<A> {
+    ghost members_notation = { Members.others (firsts_of A.shapes) };
 
-    ghost laid_out = { in_front A.stands Z.laid_out };
-}
-
-impl<A: NotatedMember, B: NotatedMember, Z: NotatedMembers> NotatedMembers for (A, B, Z) {
-    ghost members_notation = { Members.member A.member (Members.member B.member Z.members_notation) };
-
-    ghost laid_out = { in_front A.stands (in_front B.stands Z.laid_out) };
-}
-
-impl<A: NotatedMember, B: NotatedMember, C: NotatedMember, Z: NotatedMembers> NotatedMembers
-    for (A, B, C, Z) {
-    ghost members_notation = { Members.member A.member (Members.member B.member (Members.member C.member Z.members_notation)) };
-
-    ghost laid_out = { in_front A.stands (in_front B.stands (in_front C.stands Z.laid_out)) };
-}
-
-impl<
-    A: NotatedMember,
-    B: NotatedMember,
-    C: NotatedMember,
-    D: NotatedMember,
-    Z: NotatedMembers,
-> NotatedMembers for (A, B, C, D, Z) {
-    ghost members_notation = { Members.member A.member (Members.member B.member (Members.member C.member (Members.member D.member Z.members_notation))) };
-
-    ghost laid_out = { in_front A.stands (in_front B.stands (in_front C.stands (in_front D.stands Z.laid_out))) };
-}
-
-impl<
-    A: NotatedMember,
-    B: NotatedMember,
-    C: NotatedMember,
-    D: NotatedMember,
-    E: NotatedMember,
-    Z: NotatedMembers,
-> NotatedMembers for (A, B, C, D, E, Z) {
-    ghost members_notation = { Members.member A.member (Members.member B.member (Members.member C.member (Members.member D.member (Members.member E.member Z.members_notation)))) };
-
-    ghost laid_out = { in_front A.stands (in_front B.stands (in_front C.stands (in_front D.stands (in_front E.stands Z.laid_out)))) };
-}
-
-impl<
-    A: NotatedMember,
-    B: NotatedMember,
-    C: NotatedMember,
-    D: NotatedMember,
-    E: NotatedMember,
-    F: NotatedMember,
-    Z: NotatedMembers,
-> NotatedMembers for (A, B, C, D, E, F, Z) {
-    ghost members_notation = { Members.member A.member (Members.member B.member (Members.member C.member (Members.member D.member (Members.member E.member (Members.member F.member Z.members_notation))))) };
-
-    ghost laid_out = { in_front A.stands (in_front B.stands (in_front C.stands (in_front D.stands (in_front E.stands (in_front F.stands Z.laid_out))))) };
-}
-
-impl<
-    A: NotatedMember,
-    B: NotatedMember,
-    C: NotatedMember,
-    D: NotatedMember,
-    E: NotatedMember,
-    F: NotatedMember,
-    G: NotatedMember,
-    Z: NotatedMembers,
-> NotatedMembers for (A, B, C, D, E, F, G, Z) {
-    ghost members_notation = { Members.member A.member (Members.member B.member (Members.member C.member (Members.member D.member (Members.member E.member (Members.member F.member (Members.member G.member Z.members_notation)))))) };
-
-    ghost laid_out = { in_front A.stands (in_front B.stands (in_front C.stands (in_front D.stands (in_front E.stands (in_front F.stands (in_front G.stands Z.laid_out)))))) };
-}
-
-impl<
-    A: NotatedMember,
-    B: NotatedMember,
-    C: NotatedMember,
-    D: NotatedMember,
-    E: NotatedMember,
-    F: NotatedMember,
-    G: NotatedMember,
-    H: NotatedMember,
-    Z: NotatedMembers,
-> NotatedMembers for (A, B, C, D, E, F, G, H, Z) {
-    ghost members_notation = { Members.member A.member (Members.member B.member (Members.member C.member (Members.member D.member (Members.member E.member (Members.member F.member (Members.member G.member (Members.member H.member Z.members_notation))))))) };
-
-    ghost laid_out = { in_front A.stands (in_front B.stands (in_front C.stands (in_front D.stands (in_front E.stands (in_front F.stands (in_front G.stands (in_front H.stands Z.laid_out))))))) };
+    ghost laid_out = { refl };
 }
 
 impl NotatedAlternatives for NoneOf {

@@ -1,4 +1,4 @@
-//! Which values the defaults of members are.
+//! The values that members have by default.
 ghost use Rattle.std.proofs.Common.{ap, eqb-true};
 ghost use Rattle.std.proofs.lemmas.Bool.Decides.{Decides-int_eq};
 ghost use Rattle.std.specs.Prelude.{◌≡◌, ◌^◌, ◌-◌, true, false, IsTrue, refl};
@@ -11,12 +11,12 @@ ghost use Rattle.der_types.specs.NotationLaws.{false_value, true_value};
 use picky_der_core::asn1::{ExplicitContextTag, ImplicitContextTag, Retagged};
 use picky_der_ser::{DefaultOf, False, List, Number, Serialize, SignedNumber, True};
 
-/// A default whose value is known by its encoding.
+/// A default value that is given by its encoding.
 pub trait NotatedDefault<T: Serialize + PartialEq>: DefaultOf<T> {
     // What the default means.
     ghost value: { Tree };
 
-    // A value that is the default means it.
+    // A value that equals the default means the same.
     ghost is_value: { (it : T) → IsTrue (Self.left_out it) → T.meaning it ≡ value };
 }
 

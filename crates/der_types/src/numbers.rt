@@ -1,4 +1,4 @@
-//! Numbers of the integer types of Rust, written and read as an INTEGER.
+//! The integer types of Rust, written and read as an INTEGER.
 ghost use Rattle.std.specs.Prelude.{IfOk, IfErr};
 ghost use Rattle.picky_der_core.specs.Integer.{integer_tree};
 ghost use Rattle.picky_der_input.specs.Reading.{ReadsInt, RefusesInt};
@@ -9,7 +9,7 @@ use picky_der_core::{Int, Result};
 use picky_der_de::Deserializer;
 use picky_der_ser::Serializer;
 
-/// Writes a number as an INTEGER (X.690, 8.3), as `Serializer::serialize_int` does.
+/// Writes a number as an INTEGER (X.690, 8.3), as `Serializer::serialize_int` does. Its errors are the errors of that function.
 pub fn serialize_int<N: Int, W: WriteExt>(
     serializer: &mut Serializer<W>,
     number: N,
@@ -20,10 +20,10 @@ pub fn serialize_int<N: Int, W: WriteExt>(
     serializer.serialize_int(number)
 }
 
-/// Reads an INTEGER (X.690, 8.3) that the type has, as `Deserializer::deserialize_int` does.
+/// Reads an INTEGER (X.690, 8.3) as a number of this type, as `Deserializer::deserialize_int` does.
 ///
-/// `InvalidData` for a content that isn't one of an INTEGER; `UnsupportedValue` for a number that the type doesn't have. The content
-/// is read completely before it is tested. Every other error is one of `Deserializer::deserialize_int`.
+/// `InvalidData` if the content isn't the content of an INTEGER, and `UnsupportedValue` if the number doesn't fit the type. In both cases
+/// the content has been consumed completely. Every other error is one of `Deserializer::deserialize_int`.
 pub fn deserialize_int<N: Int, R: ReadExt>(deserializer: &mut Deserializer<R>) -> Result<N>
     ensures ok { IfOk result (λ n. ReadsInt N.fits deserializer.old deserializer.new
         (N.number n)) }

@@ -17,15 +17,19 @@ use picky_der_core::misc::{ReadExt, WriteExt};
 use picky_der_core::{Asn1DerError, Result};
 use picky_der_de::{Begins, Deserialize, Deserializer};
 use picky_der_ser::{Serialize, Serializer};
+use smallvec::SmallVec;
 use std::alloc::{AllocError, Global};
 use std::fmt;
+
+// So many bytes of a content are kept in the value itself.
+const INLINE: usize = 16;
 
 /// An object identifier (X.690, 8.19), by its content. No number in it begins with a needless 80, and the last one ends.
 ///
 /// It prints as its arcs with points between them, as `2.5.4.3`; an arc above `u64::MAX` prints as `(above 64 bits)`.
 #[derive(Debug, Drop, PartialEq, Eq, Hash)]
 pub struct ObjectIdentifier {
-    content: Vec<u8>,
+    content: SmallVec<u8, INLINE>,
     ghost canonical: { is_object_identifier content.items ≡ true },
 }
 
@@ -60,13 +64,13 @@ impl ObjectIdentifier {
     /// `TooFewArcs`, `FirstArc` and `SecondArc` where they aren't arcs of one (X.690, 8.19.4), and `OutOfMemory`.
     pub fn from_arcs(alloc: Global, arcs: &[u64]) -> std::result::Result<ObjectIdentifier, OidError>
         ensures arcs { OnOk result (are_arcs arcs.now ≡ true) }
-        ensures ok { IfOk result (λ it. it.content.items ≡ object_identifier_content arcs.now) }
+        ensures ok { IfOk result (λ it. ⟦<ObjectIdentifier as Contents>⟧.content it ≡ object_identifier_content arcs.now) }
         ensures err { IfErr result (λ e. (e ≡ OidError.OutOfMemory) ⊎ RefusesArcs arcs.now e) }
     {
         match arcs_error(arcs) {
             Some(error) => Err(error),
             None => {
-                let content = content_of(alloc, arcs)?;
+                let content = SmallVec::from_vec(content_of(alloc, arcs)?);
                 Ok(ObjectIdentifier { content })
             }
         }
@@ -77,7 +81,7 @@ impl ObjectIdentifier {
     /// `NotANumber` where a part isn't a decimal number, or has a needless 0 in front; `ArcTooLarge` where one is above
     /// `u64::MAX`; else the errors of `from_arcs`.
     pub fn from_str(alloc: Global, text: &str) -> std::result::Result<ObjectIdentifier, OidError>
-        ensures ok { IfOk result (λ it. IsText text.now it.content.items) }
+        ensures ok { IfOk result (λ it. IsText text.now (⟦<ObjectIdentifier as Contents>⟧.content it)) }
         ensures err { IfErr result (λ e. (e ≡ OidError.OutOfMemory) ⊎ RefusesOidText text.now e) }
     {
         let arcs = arcs_of_text(alloc, text)?;
@@ -86,7 +90,7 @@ impl ObjectIdentifier {
 
     /// A copy, on the same allocator. `OutOfMemory` where the allocation fails.
     pub fn clone(&self) -> Result<ObjectIdentifier>
-        ensures same { IfOk result (λ copy. copy.content.items ≡ self.now.content.items) }
+        ensures same { IfOk result (λ copy. ⟦<ObjectIdentifier as Contents>⟧.content copy ≡ ⟦<ObjectIdentifier as Contents>⟧.content self.now) }
         ensures memory { IfErr result (λ e. e ≡ Asn1DerError.OutOfMemory) }
     {
         let content = self.content.clone()?;
@@ -95,21 +99,21 @@ impl ObjectIdentifier {
 
     /// The bytes of its content (X.690, 8.19.2), as they are behind the tag and the length.
     pub fn content(&self) -> &[u8]
-        ensures { result.now ≡ self.now.content.items }
+        ensures { result.now ≡ ⟦<ObjectIdentifier as Contents>⟧.content self.now }
     {
         &self.content
     }
 
     /// Whether it is the one with this content, as `oid.is(names::KEY_USAGE)`.
     pub fn is(&self, content: &[u8]) -> bool
-        ensures { IsTrue result ↔ (self.now.content.items ≡ content.now) }
+        ensures { IsTrue result ↔ (⟦<ObjectIdentifier as Contents>⟧.content self.now ≡ content.now) }
     {
         self.content.as_slice() == content
     }
 
     /// Its arcs, in order; `ArcTooLarge` in place of one above `u64::MAX`.
     pub fn arcs(&self) -> Arcs<'_>
-        ensures { arcs_left result ≡ arcs_of self.now.content.items }
+        ensures { arcs_left result ≡ arcs_of (⟦<ObjectIdentifier as Contents>⟧.content self.now) }
     {
         Arcs::of_object_identifier(&self.content)
     }
@@ -137,13 +141,24 @@ impl Contents for ObjectIdentifier {
     const TAG: u8 = 0x06;
 
     fn from_content(content: Vec<u8>) -> Option<ObjectIdentifier>
-        ensures some { IfSome result (λ it. it.content ≡ content) }
+        ensures some { IfSome result (λ it. ⟦<ObjectIdentifier as Contents>⟧.content it ≡ content.items) }
         ensures none { IfNone result (is_object_identifier content.items ≡ false) }
     {
         if is_subidentifiers(&content) {
+            let content = SmallVec::from_vec(content);
             Some(ObjectIdentifier { content })
         } else {
             None
+        }
+    }
+
+    fn from_short(alloc: Global, bytes: &[u8]) -> Option<ObjectIdentifier> {
+        if bytes.len() > INLINE || !is_subidentifiers(bytes) {
+            return None;
+        }
+        match SmallVec::from_slice(alloc, bytes) {
+            Ok(content) => Some(ObjectIdentifier { content }),
+            Err(_) => None,
         }
     }
 
@@ -179,7 +194,7 @@ impl Deserialize for ObjectIdentifier {
 
     fn deserialize<R: ReadExt>(deserializer: &mut Deserializer<R>) -> Result<ObjectIdentifier>
         ensures read { IfOk result (λ it. ReadsContent 0x06 is_object_identifier deserializer.old
-            deserializer.new it.content.items) }
+            deserializer.new (⟦<ObjectIdentifier as Contents>⟧.content it)) }
         ensures refused { IfErr result (RefusesContent ⟦<ObjectIdentifier as Contents>⟧.content 0x06 is_object_identifier
             deserializer.old deserializer.new) }
     {

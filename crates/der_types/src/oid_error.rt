@@ -1,24 +1,24 @@
-//! Why arcs or a text are no object identifier.
+//! Why arcs or a text aren't an object identifier.
 
 use std::alloc::{AllocError, AllocFailed};
 use thiserror::Error;
 
-/// Why arcs or a text are no object identifier, or no relative one. It prints as the reason.
+/// Why arcs or a text aren't an object identifier, or not a relative one. It prints as the reason.
 #[derive(Debug, Clone, Copy, PartialEq, Eq, Error)]
 pub enum OidError {
-    /// An object identifier has at least two arcs, and a relative one at least one.
+    /// There are too few arcs: an object identifier has at least two, and a relative one at least one.
     #[error("too few arcs")]
     TooFewArcs,
 
-    /// The first arc of an object identifier is 0, 1 or 2.
+    /// The first arc of an object identifier isn't 0, 1 or 2.
     #[error("the first arc is above 2")]
     FirstArc,
 
-    /// The second arc of an object identifier is at most 39 where the first is 0 or 1.
+    /// The second arc of an object identifier is above 39, and the first is 0 or 1.
     #[error("the second arc is above 39")]
     SecondArc,
 
-    /// A part of the text isn't a decimal number: it is empty, begins with a needless 0 or has another character.
+    /// A part of the text isn't a decimal number: it is empty, has a leading 0, or has another character.
     #[error("an arc isn't a decimal number")]
     NotANumber,
 
@@ -26,7 +26,7 @@ pub enum OidError {
     #[error("an arc is above 18446744073709551615")]
     ArcTooLarge,
 
-    /// An allocation failed.
+    /// The allocation failed.
     #[error("out of memory")]
     OutOfMemory,
 }

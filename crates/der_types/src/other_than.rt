@@ -12,10 +12,10 @@ use picky_der_core::misc::{ReadExt, WriteExt};
 use picky_der_de::{Begins, Deserialize, Deserializer};
 use picky_der_ser::{Serialize, Serializer};
 
-/// A number other than `N`. Its encoding is that of the number.
+/// A number other than `N`. It is encoded as the number.
 ///
-/// A member `version INTEGER DEFAULT 0` is an `Option<OtherThan<Integer, 0>>`, in which `None` is the default: a default is never
-/// written out (X.690, 11.5).
+/// For a member `version INTEGER DEFAULT 0` use `Option<OtherThan<Integer, 0>>`. `None` is the default, which is never written (X.690,
+/// 11.5).
 #[derive(Debug, Drop, PartialEq, Eq)]
 pub struct OtherThan<T: WholeNumber, const N: u64> {
     value: T,
@@ -23,7 +23,7 @@ pub struct OtherThan<T: WholeNumber, const N: u64> {
 }
 
 impl<T: WholeNumber, const N: u64> OtherThan<T, N> {
-    /// The number, or `None` if it is `N`.
+    /// Returns the number, or `None` if it is `N`.
     pub fn new(value: T) -> Option<OtherThan<T, N>>
     where
         T: Drop,
@@ -37,7 +37,7 @@ impl<T: WholeNumber, const N: u64> OtherThan<T, N> {
         }
     }
 
-    /// The number.
+    /// Returns the number.
     pub fn get(&self) -> &T
         ensures value { result.now ≡ self.now.value }
         ensures allowed { is_between N N (T.number result.now) ≡ false }
@@ -45,7 +45,7 @@ impl<T: WholeNumber, const N: u64> OtherThan<T, N> {
         &self.value
     }
 
-    /// The number.
+    /// Returns the number.
     pub fn into_inner(self) -> T
         ensures value { result ≡ self.value }
         ensures allowed { is_between N N (T.number result) ≡ false }

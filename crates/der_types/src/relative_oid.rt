@@ -21,17 +21,17 @@ use picky_der_ser::{Serialize, Serializer};
 use std::alloc::{AllocError, Global};
 use std::fmt;
 
-/// The arcs behind those of an object identifier that both sides know (X.690, 8.20), by the content. No number in it begins with
-/// a needless 80, and the last one ends.
+/// The arcs that follow an object identifier which both sides know (X.690, 8.20), kept as the content. Each number in it is in the fewest
+/// bytes, and the last one is complete.
 ///
-/// It prints as its arcs with points between them, as `8571.3.2`; an arc above `u64::MAX` prints as `(above 64 bits)`.
+/// It prints as its arcs with points between them, as `8571.3.2`. An arc above `u64::MAX` prints as `(above 64 bits)`.
 #[derive(Debug, Drop, PartialEq, Eq, Hash)]
 pub struct RelativeOid {
     content: Vec<u8>,
     ghost canonical: { is_relative_oid content.items ≡ true },
 }
 
-// The content of arcs.
+// The content of these arcs.
 fn content_of(alloc: Global, arcs: &[u64]) -> std::result::Result<Vec<u8>, AllocError>
     ensures { IfOk result (λ content. content.items ≡ relative_oid_content arcs.now) }
 {
@@ -41,7 +41,7 @@ fn content_of(alloc: Global, arcs: &[u64]) -> std::result::Result<Vec<u8>, Alloc
 }
 
 impl RelativeOid {
-    /// Those with these arcs. `TooFewArcs` where there is none, and `OutOfMemory`.
+    /// Returns the relative object identifier with these arcs. `TooFewArcs` if there is no arc, and `OutOfMemory` if the allocation fails.
     pub fn from_arcs(alloc: Global, arcs: &[u64]) -> std::result::Result<RelativeOid, OidError>
         ensures arcs { OnOk result (are_relative_arcs arcs.now ≡ true) }
         ensures ok { IfOk result (λ it. it.content.items ≡ relative_oid_content arcs.now) }
@@ -55,10 +55,10 @@ impl RelativeOid {
         Ok(RelativeOid { content })
     }
 
-    /// Those that the text is, as `8571.3.2`: the arcs in decimal, with points between them.
+    /// Returns the relative object identifier that the text is, as `8571.3.2`: arcs in decimal, separated by points.
     ///
-    /// `NotANumber` where a part isn't a decimal number, or has a needless 0 in front; `ArcTooLarge` where one is above
-    /// `u64::MAX`; and `OutOfMemory`.
+    /// `NotANumber` if a part isn't a decimal number or has a leading 0, `ArcTooLarge` if an arc is above `u64::MAX`, and `OutOfMemory` if
+    /// an allocation fails.
     pub fn from_str(alloc: Global, text: &str) -> std::result::Result<RelativeOid, OidError>
         ensures ok { IfOk result (λ it. IsRelativeText text.now it.content.items) }
         ensures err { IfErr result (λ e. (e ≡ OidError.OutOfMemory) ⊎ RefusesText text.now e) }
@@ -67,7 +67,7 @@ impl RelativeOid {
         RelativeOid::from_arcs(alloc, &arcs)
     }
 
-    /// A copy, on the same allocator. `OutOfMemory` where the allocation fails.
+    /// Returns a copy, on the same allocator. `OutOfMemory` if the allocation fails.
     pub fn clone(&self) -> Result<RelativeOid>
         ensures same { IfOk result (λ copy. copy.content.items ≡ self.now.content.items) }
         ensures memory { IfErr result (λ e. e ≡ Asn1DerError.OutOfMemory) }
@@ -76,14 +76,14 @@ impl RelativeOid {
         Ok(RelativeOid { content })
     }
 
-    /// The bytes of its content (X.690, 8.20.2), as they are behind the tag and the length.
+    /// Returns the bytes of its content, without the tag and the length (X.690, 8.20.2).
     pub fn content(&self) -> &[u8]
         ensures { result.now ≡ self.now.content.items }
     {
         &self.content
     }
 
-    /// Its arcs, in order; `ArcTooLarge` in place of one above `u64::MAX`.
+    /// Returns its arcs, in order. An arc above `u64::MAX` is returned as the error `ArcTooLarge`.
     pub fn arcs(&self) -> Arcs<'_>
         ensures { arcs_left result ≡ numbers_behind 0 self.now.content.items }
     {

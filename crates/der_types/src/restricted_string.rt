@@ -20,9 +20,9 @@ use std::alloc::Global;
 use std::fmt;
 use std::marker::PhantomData;
 
-/// A restricted character string (X.690, 8.23), as its content: the characters of a set, each in as many bytes.
+/// A restricted character string (X.690, 8.23), kept as its content: characters of the set `S`, each in the same number of bytes.
 ///
-/// It prints as its text, where the set is one of Unicode.
+/// It prints as its text if the set is one of Unicode.
 #[derive(Drop)]
 #[derive_where(Debug, PartialEq, Eq, Hash)]
 pub struct RestrictedString<S: CharacterSet> {
@@ -38,7 +38,7 @@ pub type NumericString = RestrictedString<Numeric>;
 /// A text of letters, digits, spaces and `'()+,-./:=?`.
 pub type PrintableString = RestrictedString<Printable>;
 
-/// A text in the character sets of teletex (T61String), as any bytes: which characters they are isn't looked at.
+/// A text in the character sets of teletex (T61String), kept as any bytes. Which characters they are isn't checked.
 pub type TeletexString = RestrictedString<Teletex>;
 
 /// A text in ASCII.
@@ -47,18 +47,18 @@ pub type Ia5String = RestrictedString<Ia5>;
 /// A text in ASCII without control characters (ISO646String).
 pub type VisibleString = RestrictedString<Visible>;
 
-/// A text in any registered character sets, as any bytes: which characters they are isn't looked at.
+/// A text in any registered character sets, kept as any bytes. Which characters they are isn't checked.
 pub type GeneralString = RestrictedString<General>;
 
-/// A text in Unicode of four bytes a character.
+/// A text in Unicode, with four bytes for each character.
 pub type UniversalString = RestrictedString<Universal>;
 
-/// A text of characters up to FFFF, of two bytes each.
+/// A text of Unicode characters up to FFFF, with two bytes for each character.
 pub type BmpString = RestrictedString<Bmp>;
 
 impl<S: CharacterSet> RestrictedString<S> {
-    /// The string with this content. `InvalidData` if the bytes aren't whole characters of the set, and `OutOfMemory` if the
-    /// allocation fails.
+    /// Returns the string with this content. `InvalidData` if the bytes aren't a whole number of characters, all in the set. `OutOfMemory`
+    /// if the allocation fails.
     pub fn from_bytes(alloc: Global, bytes: &[u8]) -> Result<RestrictedString<S>>
         ensures ok { IfOk result (λ it. it.content.items ≡ bytes.now) }
         ensures err { IfErr result (λ e. (e ≡ Asn1DerError.OutOfMemory)
@@ -71,28 +71,28 @@ impl<S: CharacterSet> RestrictedString<S> {
         }
     }
 
-    /// Its content.
+    /// Returns its content.
     pub fn as_bytes(&self) -> &[u8]
         ensures { result.now ≡ self.now.content.items }
     {
         &self.content
     }
 
-    /// How many characters it has.
+    /// Returns how many characters it has.
     pub fn len(&self) -> usize
         ensures { result ≡ length (characters S.WIDTH self.now.content.items) }
     {
         count_of(S::WIDTH, &self.content)
     }
 
-    /// Whether it has none.
+    /// Returns whether it has no character.
     pub fn is_empty(&self) -> bool
         ensures { result ≡ (length (characters S.WIDTH self.now.content.items) == 0) }
     {
         self.len() == 0
     }
 
-    /// A copy, on the same allocator. `OutOfMemory` if the allocation fails.
+    /// Returns a copy, on the same allocator. `OutOfMemory` if the allocation fails.
     pub fn clone(&self) -> Result<RestrictedString<S>>
         ensures same { IfOk result (λ copy. copy.content.items ≡ self.now.content.items) }
         ensures memory { IfErr result (λ e. e ≡ Asn1DerError.OutOfMemory) }
@@ -105,8 +105,7 @@ impl<S: CharacterSet> RestrictedString<S> {
 }
 
 impl<S: Unicode> RestrictedString<S> {
-    /// The string that is this text. `InvalidData` if a character of it isn't one of the set, and `OutOfMemory` if an allocation
-    /// fails.
+    /// Returns this text as a string of the set. `InvalidData` if a character isn't in the set, and `OutOfMemory` if an allocation fails.
     pub fn from_str(alloc: Global, text: &str) -> Result<RestrictedString<S>>
         ensures ok { IfOk result (λ it. it.content.items
             ≡ string_content S.WIDTH (chars text.now)) }
@@ -126,7 +125,7 @@ impl<S: Unicode> RestrictedString<S> {
 }
 
 impl<S: Ascii> RestrictedString<S> {
-    /// Its text.
+    /// Returns its text.
     pub fn as_str(&self) -> &str
         ensures { result.now ≡ self.now.content.items }
     {

@@ -1,4 +1,4 @@
-//! Primitive values under another tag in place of their own (X.690, 8.14).
+//! Primitive values under another tag instead of their own (X.690, 8.14).
 ghost use Rattle.picky_der_input.specs.Reading.{Reads, Refuses};
 ghost use Rattle.std.specs.Prelude.{◌≡◌, IfOk, IfErr};
 ghost use Rattle.der_types.specs.ContentTests.{ReadsContent, RefusesContent};
@@ -13,15 +13,15 @@ use picky_der_core::misc::{ReadExt, WriteExt};
 use picky_der_de::{Begins, Deserialize, Deserializer};
 use picky_der_ser::{Serialize, Serializer};
 
-/// A primitive value under the tag `TAG` in place of its own. This is an implicit tag by X.690, 8.14: `40+n` is
-/// `[APPLICATION n] IMPLICIT`, `80+n` the context tag n and `C0+n` is `[PRIVATE n] IMPLICIT`.
+/// A primitive value under the tag `TAG` instead of its own: an implicit tag (X.690, 8.14). `40+n` is `[APPLICATION n] IMPLICIT`, `80+n` is
+/// `[n] IMPLICIT`, and `C0+n` is `[PRIVATE n] IMPLICIT`.
 ///
-/// `TAG` is a whole identifier byte, which has to be primitive (bit 6 is clear) with a number of at most 30. Else a value is
-/// refused with `UnsupportedValue`, where it is written and where it is read. `Retagged` does the same for lists.
+/// `TAG` is a whole identifier byte. It has to be primitive (bit 6 is clear), with a number of at most 30. Otherwise writing and reading
+/// fail with `UnsupportedValue`. `Retagged` does the same for lists.
 #[derive(Debug, Drop, PartialEq, Eq, Hash)]
 pub struct RetaggedPrimitive<T, const TAG: u8>(pub T);
 
-// This identifier byte; in place of one that is constructed, that of the long form, which isn't supported.
+// This identifier byte. A constructed one becomes the identifier byte of the long form, which isn't supported.
 fn primitive_form(tag: u8) -> Tag
     ensures { result ≡ primitive_form tag }
 {

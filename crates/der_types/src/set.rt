@@ -1,4 +1,4 @@
-//! Sets of different members.
+//! SETs of different members.
 ghost use Rattle.std.proofs.Common.{rules};
 ghost use Rattle.std.specs.Prelude.{◌≡◌, true};
 ghost use Rattle.picky_der_core.specs.Tree.{Tree};
@@ -13,8 +13,8 @@ use picky_der_core::misc::{ReadExt, WriteExt};
 use picky_der_de::{Begins, Deserialize, Deserializer};
 use picky_der_ser::{List, Serialize, Serializer};
 
-/// A SEQUENCE of different members, each of which has tags before those of the members after it in the order of tags (X.680,
-/// 8.6): universal, application, context-specific and private ones, and in each class by their numbers.
+/// A SEQUENCE whose members have tags in ascending order (X.680, 8.6). The order is universal, application, context-specific, private, and
+/// by number within each class.
 ///
 /// The order is computed when the program is checked: `ghost ordered = { refl };` is the whole implementation.
 pub trait TagOrdered: List + Deserialize {
@@ -22,15 +22,15 @@ pub trait TagOrdered: List + Deserialize {
     ghost ordered: { is_in_tag_order Self.shape ≡ true };
 }
 
-/// A SET of different members (X.690, 8.11) under the tag `TAG` in place of its own tag 31: the members of the struct `T` in their order,
-/// which is that of their tags (10.3).
+/// A SET of different members (X.690, 8.11) under the tag `TAG` instead of its own tag 31. Its members are the members of the struct `T`,
+/// which are in the order of their tags (10.3).
 ///
-/// `TAG` is a whole identifier byte, as that of `Retagged`, and a value is refused as one of `Retagged` is. A set whose members are in
-/// another order is refused by the tag of the first one that isn't where it belongs.
+/// `TAG` is a whole identifier byte, with the same rules and errors as in `Retagged`. If the members of an input are in another order, the
+/// first one out of order is rejected by its tag.
 #[derive(Debug, Drop, PartialEq, Eq)]
 pub struct RetaggedSet<T, const TAG: u8>(pub T);
 
-/// A SET of different members under its own tag.
+/// A SET of different members under its own tag 31.
 pub type Asn1Set<T> = RetaggedSet<T, 0x31>;
 
 impl<T, const TAG: u8> From<T> for RetaggedSet<T, TAG> {

@@ -11,16 +11,17 @@ use crate::{BitString, CharacterSet, RestrictedString};
 use picky_der_core::asn1::{Asn1SequenceOf, Asn1SetOf, ByteBuf};
 use picky_der_ser::Serialize;
 
-/// A type whose values have a size, as a size constraint counts it (X.680, 51.5.3).
+/// A type whose values have a size, as size constraints count it (X.680, 51.5.3).
 pub trait Size: Serialize {
     // The size of a value.
     ghost size: { Self → ℕ };
 
-    /// How many bits, bytes, characters or members the value has. It is a `u128` for a bit string's sake.
+    /// Returns how many bits, bytes, characters or members the value has. It is a `u128` because the number of bits may be above
+    /// `u64::MAX`.
     fn size(&self) -> u128
         ensures { result ≡ size self.now };
 
-    // The encoding decides the size.
+    // The encoding alone decides the size.
     ghost told: { (x y : Self) → Self.meaning x ≡ Self.meaning y → size x ≡ size y };
 }
 

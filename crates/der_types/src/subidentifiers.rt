@@ -1,10 +1,10 @@
-//! Numbers to the base 128, of which the contents of object identifiers are made (X.690, 8.19.2).
+//! Numbers in base 128, which the contents of object identifiers consist of (X.690, 8.19.2).
 ghost use Rattle.std.specs.Prelude.{◌≡◌, ◌≤◌, ◌<◌, ◌+◌, ◌*◌, ◌^◌, ◌++◌, ◌∷◌, [], ℕ, min, OnOk, IfSome, IfNone};
 ghost use Rattle.der_types.specs.Subidentifiers.{marked, subidentifier, subidentifiers, is_subidentifiers, numbers_behind};
 
 use std::alloc::AllocError;
 
-// Whether the bytes are numbers, at least one.
+// Whether the bytes are one or more complete numbers, each in the fewest bytes.
 pub(crate) fn is_subidentifiers(bytes: &[u8]) -> bool
     ensures { result ≡ is_subidentifiers bytes.now }
 {
@@ -18,7 +18,7 @@ pub(crate) fn is_subidentifiers(bytes: &[u8]) -> bool
     !is_inside && !bytes.is_empty()
 }
 
-// Appends the digits of a number that others follow.
+// Appends the digits of a number as digits that others follow (bit 8 is set).
 fn push_marked(bytes: &mut Vec<u8>, number: u128) -> Result<(), AllocError>
     ensures { OnOk result (bytes.new.items ≡ bytes.old.items ++ marked number) }
 {
@@ -48,10 +48,10 @@ pub(crate) fn push_subidentifiers(bytes: &mut Vec<u8>, numbers: &[u64]) -> Resul
     Ok(())
 }
 
-// A number from here on isn't told apart from greater ones. The greatest first number of arcs that fit `u64` is below it.
+// Numbers from here on are all read as this one. The greatest first number of arcs that fit `u64` is below it.
 const CAP: u128 = 1 << 65;
 
-// The number with one more digit, or the cap.
+// The number with one more digit, or the cap if that is less.
 fn with_digit(number: u128, digit: u8) -> u128
     requires number { number ≤ 2 ^ 65 }
     requires digit { digit < 128 }
@@ -60,7 +60,7 @@ fn with_digit(number: u128, digit: u8) -> u128
     CAP.min(number * 128 + u128::from(digit))
 }
 
-// The first number, or the cap if it is above, and the bytes behind it.
+// Returns the first number, or the cap if that is less, and the bytes after it.
 pub(crate) fn split_number(bytes: &[u8]) -> Option<(u128, &[u8])>
     ensures some { IfSome result (λ pair. (n : ℕ)
         × (numbers_behind 0 bytes.now ≡ n ∷ numbers_behind 0 pair.1.now)

@@ -11,6 +11,7 @@ use picky_der_core::asn1::Tag;
 use picky_der_core::misc::{ReadExt, WriteExt};
 use picky_der_de::{Begins, Deserialize, Deserializer};
 use picky_der_ser::{Serialize, Serializer};
+use std::alloc::Global;
 
 /// A UTCTime (X.690, 8.25, 11.8) as DER and RFC 5280 (4.1.2.5.1) have it: `YYMMDDHHMMSSZ`, a second of the years 1950 to 2049. Its
 /// order is that of time.
@@ -83,6 +84,10 @@ impl Contents for UtcTime {
         ensures none { IfNone result (is_utc_time content.items ≡ false) }
     {
         UtcTime::of(&content)
+    }
+
+    fn from_short(_alloc: Global, content: &[u8]) -> Option<UtcTime> {
+        UtcTime::of(content)
     }
 
     fn serialize_under<W: WriteExt>(

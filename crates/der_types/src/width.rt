@@ -1,6 +1,6 @@
 //! How many bytes a character has.
 
-/// How many bytes each character of a string type has, the most significant one first.
+/// How many bytes each character of a string type has, the most significant byte first.
 #[derive(Debug, Clone, Copy, PartialEq, Eq)]
 pub enum Width {
     /// One.

@@ -12,7 +12,7 @@ use picky_der_core::misc::{ReadExt, WriteExt};
 use picky_der_de::{Begins, Deserialize, Deserializer};
 use picky_der_ser::{List, Serialize, Serializer};
 
-/// A value whose size is from `MIN` to `MAX`, as `SIZE (MIN..MAX)` of ASN.1 has it (X.680, 51.5). Its encoding is that of the value.
+/// A value whose size is from `MIN` to `MAX`, as in `SIZE (MIN..MAX)` (X.680, 51.5). It is encoded as the value.
 #[derive(Debug, Drop, PartialEq, Eq)]
 pub struct WithSize<T: Size, const MIN: usize, const MAX: usize> {
     value: T,
@@ -20,7 +20,7 @@ pub struct WithSize<T: Size, const MIN: usize, const MAX: usize> {
 }
 
 impl<T: Size, const MIN: usize, const MAX: usize> WithSize<T, MIN, MAX> {
-    /// The value, or `None` if its size isn't from `MIN` to `MAX`.
+    /// Returns the value, or `None` if its size isn't from `MIN` to `MAX`.
     pub fn new(value: T) -> Option<WithSize<T, MIN, MAX>>
     where
         T: Drop,
@@ -35,7 +35,7 @@ impl<T: Size, const MIN: usize, const MAX: usize> WithSize<T, MIN, MAX> {
         }
     }
 
-    /// The value.
+    /// Returns the value.
     pub fn get(&self) -> &T
         ensures value { result.now ≡ self.now.value }
         ensures allowed { is_size MIN MAX (T.size result.now) ≡ true }
@@ -43,7 +43,7 @@ impl<T: Size, const MIN: usize, const MAX: usize> WithSize<T, MIN, MAX> {
         &self.value
     }
 
-    /// The value.
+    /// Returns the value.
     pub fn into_inner(self) -> T
         ensures value { result ≡ self.value }
         ensures allowed { is_size MIN MAX (T.size result) ≡ true }

@@ -1,5 +1,5 @@
-//! Answers each row on standard input by a line on standard output: what an INTEGER or an ENUMERATED is read as, and what a
-//! number is written as.
+//! For each row on standard input, writes a line to standard output: what an INTEGER or an ENUMERATED is read as, and what a number is
+//! written as.
 #![tactic(auto)]
 
 mod rows;

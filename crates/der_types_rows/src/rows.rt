@@ -1,4 +1,4 @@
-//! Rows: `read i16 02 02 FF 7F` and `write i16 -129`, and `fit` and `make` for the same by a value of `Integer`.
+//! Rows: `read i16 02 02 FF 7F` and `write i16 -129`. `fit` and `make` do the same through a value of type `Integer`.
 
 use der_fixtures::{bytes_of, text_of};
 use der_types::{Enumerated, Int, Integer, deserialize_int, serialize_int};
@@ -9,7 +9,7 @@ use std::alloc::{AllocError, Global};
 use std::fmt::Display;
 use std::str::FromStr;
 
-/// The answer to a row: the number, or the bytes, or the error.
+/// Returns the result of a row: the number, the bytes, or the error.
 pub(crate) fn answer_to(alloc: Global, row: &str) -> Result<String, AllocError> {
     let Some((verb, rest)) = row.split_once(" ") else {
         return String::from_str(alloc, row);
@@ -37,7 +37,7 @@ pub(crate) fn answer_to(alloc: Global, row: &str) -> Result<String, AllocError> 
 // How a number is read and written.
 #[derive(Clone, Copy)]
 enum Way {
-    // Alone.
+    // By itself.
     Number,
     // As an `Integer`.
     Value,
@@ -74,7 +74,7 @@ fn read_int<N: Int + Display>(alloc: Global, way: Way, bytes: &[u8]) -> Result<S
     }
 }
 
-// The number of an integer, with the error that there is none of the type.
+// The number of an integer. The error says that it doesn't fit the type.
 fn fit<N: Int>(integer: DerResult<Integer>) -> DerResult<N> {
     match integer?.to_int() {
         Some(number) => Ok(number),

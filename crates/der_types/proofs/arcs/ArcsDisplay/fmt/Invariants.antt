@@ -9,7 +9,7 @@ pub record Shows (Written AreLeft : Type 0) : Type 0 where
   pub written : Written
   pub left : AreLeft
 
--- what is written so far of the arcs behind the first one, and that the others are left
+-- what is written so far of the arcs after the first one, and that the others are left
 abbrev pub invariant-loop-arc : goal.invariant-loop-arc
 invariant-loop-arc g l = Shows
     (IsPlainFormatter l.initial.f → HasWritten g.W.Write.write_str_gives l.initial.f (behind_points l.yielded) l.f)

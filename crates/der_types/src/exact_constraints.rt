@@ -1,0 +1,139 @@
+//! Types with a constraint whose values are exactly the values that the constraint allows.
+ghost use Rattle.std.specs.Prelude.{◌^◌, ◌-◌, length, chars, string_bytes, refl};
+ghost use Rattle.std.proofs.Common.{ap};
+ghost use Rattle.picky_der_core.specs.Integer.{integer_value};
+ghost use Rattle.picky_der_core.specs.Primitive.{Primitive};
+ghost use Rattle.picky_der_core.specs.Tree.{ListKind, Tree};
+ghost use Rattle.picky_der_ser.specs.Meaning.{list_meaning};
+ghost use Rattle.der_types.specs.BitString.{bits_of};
+ghost use Rattle.der_types.specs.CharacterStrings.{characters};
+ghost use Rattle.der_types.specs.ExactConstraints.{Numbered, TiedNumber, Sized, TiedSize, numbered_unsigned, sized_plainly, counted, in_range_values, other_than_values, sized_values};
+ghost use Rattle.der_types.specs.ExactContents.{IsStandard};
+ghost use Rattle.der_types.specs.KnownContents.{contents_of};
+ghost use Rattle.der_types.specs.Notation.{Notation};
+
+use crate::{
+    BitString, Exact, InRange, Integer, OtherThan, RestrictedString, Size, StandardSet,
+    WholeNumber, WithSize,
+};
+use picky_der_core::asn1::{Asn1SequenceOf, Asn1SetOf, ByteBuf};
+
+/// A type of numbers in which the encoding of a value is the encoding of its number.
+pub trait ExactNumber: Exact + WholeNumber {
+    // What the type states about its numbers.
+    ghost numbered: { Numbered Self };
+
+    // The statement is about the type's own numbers.
+    ghost exact_number: { TiedNumber numbered Self.number Self.meaning };
+}
+
+/// A type in which the size of a value is the size that its encoding has.
+pub trait ExactSize: Exact + Size {
+    // What the type states about its sizes.
+    ghost sized: { Sized Self };
+
+    // The statement is about the type's own sizes.
+    ghost exact_size: { TiedSize sized Self.size Self.notation Self.meaning };
+}
+
+impl ExactNumber for u8 {
+    ghost numbered = { numbered_unsigned (2 ^ 8 - 1) };
+
+    ghost exact_number = { Prim.assumption };
+}
+
+impl ExactNumber for u16 {
+    ghost numbered = { numbered_unsigned (2 ^ 16 - 1) };
+
+    ghost exact_number = { Prim.assumption };
+}
+
+impl ExactNumber for u32 {
+    ghost numbered = { numbered_unsigned (2 ^ 32 - 1) };
+
+    ghost exact_number = { Prim.assumption };
+}
+
+impl ExactNumber for u64 {
+    ghost numbered = { numbered_unsigned (2 ^ 64 - 1) };
+
+    ghost exact_number = { Prim.assumption };
+}
+
+impl ExactNumber for u128 {
+    ghost numbered = { numbered_unsigned (2 ^ 128 - 1) };
+
+    ghost exact_number = { Prim.assumption };
+}
+
+impl ExactNumber for Integer {
+    ghost numbered = { record { number = λ it. integer_value it.content.items; meaning = contents_of 0x02 (λ it. it.content.items); same = λ it. refl } };
+
+    ghost exact_number = { Prim.assumption };
+}
+
+impl ExactSize for BitString {
+    ghost sized = { sized_plainly (λ it. length (bits_of it.content.items)) (Notation.BIT-STRING) (contents_of 0x03 (λ it. it.content.items)) (λ it. refl) };
+
+    ghost exact_size = { Prim.assumption };
+}
+
+impl ExactSize for ByteBuf {
+    ghost sized = { sized_plainly (λ it. length it.0.items) (Notation.OCTET-STRING) (contents_of 0x04 (λ it. it.0.items)) (λ it. refl) };
+
+    ghost exact_size = { Prim.assumption };
+}
+
+impl ExactSize for String {
+    ghost sized = { sized_plainly (λ it. length (chars (string_bytes it))) (Notation.UTF8String) (λ it. Tree.primitive (Primitive.text (string_bytes it))) (λ it. refl) };
+
+    ghost exact_size = { Prim.assumption };
+}
+
+impl<T: Exact> ExactSize for Vec<T> {
+    ghost sized = { sized_plainly (λ it. length it.items) (Notation.list-of ListKind.sequence T.notation) (λ it. list_meaning ListKind.sequence T.meaning it.items) (λ it. counted T.meaning it.items) };
+
+    ghost exact_size = { Prim.assumption };
+}
+
+impl<T: Exact> ExactSize for Asn1SequenceOf<T> {
+    ghost sized = { sized_plainly (λ it. length it.0.items) (Notation.list-of ListKind.sequence T.notation) (λ it. list_meaning ListKind.sequence T.meaning it.0.items) (λ it. counted T.meaning it.0.items) };
+
+    ghost exact_size = { Prim.assumption };
+}
+
+impl<T: Exact> ExactSize for Asn1SetOf<T> {
+    ghost sized = { sized_plainly (λ it. length it.0.items) (Notation.list-of ListKind.set T.notation) (λ it. list_meaning ListKind.set T.meaning it.0.items) (λ it. counted T.meaning it.0.items) };
+
+    ghost exact_size = { Prim.assumption };
+}
+
+impl<S: StandardSet> ExactSize for RestrictedString<S> {
+    ghost sized = { record {
+      size = λ it. length (characters S.WIDTH it.content.items);
+      notation = Notation.restricted-string S.TAG;
+      meaning = contents_of S.TAG (λ it. it.content.items);
+      Owed = IsStandard S.TAG S.WIDTH S.is_character;
+      same = λ standard it. ap (λ width. length (characters width it.content.items)) standard.same_width;
+    } };
+
+    ghost exact_size = { Prim.assumption };
+}
+
+impl<T: ExactNumber, const MIN: u64, const MAX: u64> Exact for InRange<T, MIN, MAX> {
+    ghost values = { in_range_values T.values T.notation T.meaning (λ it. it.value) MIN MAX T.numbered T.number (λ it. it.allowed) (λ x e. (record { value = x; allowed = e }, refl)) };
+
+    ghost exact = { Prim.assumption };
+}
+
+impl<T: ExactNumber, const N: u64> Exact for OtherThan<T, N> {
+    ghost values = { other_than_values T.values T.notation T.meaning (λ it. it.value) N T.numbered T.number (λ it. it.allowed) (λ x e. (record { value = x; allowed = e }, refl)) };
+
+    ghost exact = { Prim.assumption };
+}
+
+impl<T: ExactSize, const MIN: usize, const MAX: usize> Exact for WithSize<T, MIN, MAX> {
+    ghost values = { sized_values T.values T.notation T.meaning (λ it. it.value) MIN MAX T.sized T.size (λ it. it.allowed) (λ x e. (record { value = x; allowed = e }, refl)) };
+
+    ghost exact = { Prim.assumption };
+}
