@@ -1,11 +1,11 @@
--- The bits of a set of flags are those of its flags.
+-- The bits of a set of flags are the bits of its flags.
 use Rattle.std.proofs.Common.{◌≡◌, ℕ, zero, suc, Bool, true, false, List, [], ◌∷◌, get_or, refl, ap, ◌∙◌}
 use Rattle.std.specs.List.{list_any}
 use Rattle.der_types.specs.BitString.{bit_string_content, bits_of, unless_zeros, without_zeros}
 use Rattle.der_types.specs.BitStringLaws.{bits_of-content}
-use Rattle.der_x509.specs.declared.key_usage.KeyUsageFlag.{KeyUsageFlag}
-use Rattle.der_x509.specs.declared.key_usage.KeyUsageFlag.TheVariants.{DigitalSignature, ContentCommitment, KeyEncipherment, DataEncipherment, KeyAgreement, KeyCertSign, CrlSign, EncipherOnly, DecipherOnly}
-use Rattle.der_x509.specs.contracts.key_usage.KeyUsageFlagPartialEq.TheImpl as compared
+use Rattle.der_x509.specs.declared.key_usage_flag.KeyUsageFlag.{KeyUsageFlag}
+use Rattle.der_x509.specs.declared.key_usage_flag.KeyUsageFlag.TheVariants.{DigitalSignature, ContentCommitment, KeyEncipherment, DataEncipherment, KeyAgreement, KeyCertSign, CrlSign, EncipherOnly, DecipherOnly}
+use Rattle.der_x509.specs.contracts.key_usage_flag.KeyUsageFlagPartialEq.TheImpl as compared
 use Rattle.der_x509.specs.KeyUsage.{flag_number, flag_bits}
 
 unless_zeros_at : (b : Bool) (bits : List Bool) (k : ℕ) → get_or (unless_zeros b bits) k false ≡ get_or (b ∷ bits) k false

@@ -4,9 +4,9 @@ use Rattle.std.specs.List.{list_any}
 use Rattle.der_types.specs.BitString.{bits_of}
 use Rattle.der_types.specs.contracts.named_bits.NamedBitsContents.TheImpl as named_bits
 use Rattle.der_x509.specs.declared.key_usage.KeyUsage.{KeyUsage}
-use Rattle.der_x509.specs.declared.key_usage.KeyUsageFlag.{KeyUsageFlag}
-use Rattle.der_x509.specs.declared.key_usage.KeyUsageFlag.TheVariants.{DigitalSignature, ContentCommitment, KeyEncipherment, DataEncipherment, KeyAgreement, KeyCertSign, CrlSign, EncipherOnly, DecipherOnly}
-use Rattle.der_x509.specs.contracts.key_usage.KeyUsageFlagPartialEq.TheImpl as compared
+use Rattle.der_x509.specs.declared.key_usage_flag.KeyUsageFlag.{KeyUsageFlag}
+use Rattle.der_x509.specs.declared.key_usage_flag.KeyUsageFlag.TheVariants.{DigitalSignature, ContentCommitment, KeyEncipherment, DataEncipherment, KeyAgreement, KeyCertSign, CrlSign, EncipherOnly, DecipherOnly}
+use Rattle.der_x509.specs.contracts.key_usage_flag.KeyUsageFlagPartialEq.TheImpl as compared
 
 abbrev pub flag_number : KeyUsageFlag → ℕ
 flag_number DigitalSignature = 0

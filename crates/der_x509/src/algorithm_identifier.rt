@@ -1,8 +1,9 @@
-//! Which algorithm something is for, or was made by.
+//! AlgorithmIdentifier of PKIX1Explicit88.
 ghost use Rattle.std.specs.Prelude.{refl};
 ghost use Rattle.picky_der_de.specs.KnownMembers.{known_struct, sequence_of, sequence_shape};
+ghost use Rattle.der_types.specs.Notation.{Notation};
 
-use der_types::ObjectIdentifier;
+use der_types::{Notated, NotatedMembers, ObjectIdentifier};
 use picky_asn1_der::asn1::Tag;
 use picky_asn1_der::de::Begins;
 use picky_asn1_der::misc::{ReadExt, WriteExt};
@@ -12,14 +13,13 @@ use picky_asn1_der::{
     SerializeMembers, Serializer, Struct, deserialize_struct_as,
 };
 
-/// An algorithm and its parameters, as a SEQUENCE (RFC 5280, 4.1.1.2).
-///
-/// Absent parameters are no NULL: that is an element like any other.
+/// An algorithm and its parameters (RFC 5280, 4.1.1.2). Absent parameters are different from NULL,
+/// which is an element like any other. `AlgorithmIdentifier` of PKIX1Explicit88, as a SEQUENCE.
 #[derive(Debug, Drop, PartialEq, Eq)]
 pub struct AlgorithmIdentifier {
-    /// Which algorithm it is.
+    /// Which algorithm it is. `OBJECT IDENTIFIER`.
     pub algorithm: ObjectIdentifier,
-    /// The element of the parameters.
+    /// The parameters, as one element of any type. `ANY DEFINED BY algorithm OPTIONAL`.
     pub parameters: Option<Asn1RawDer>,
 }
 
@@ -67,4 +67,10 @@ impl Begins for AlgorithmIdentifier {
 
 impl List for AlgorithmIdentifier {
     ghost is_list = { λ it. tt };
+}
+
+impl Notated for AlgorithmIdentifier {
+    ghost notation = { Notation.sequence ⟦<Members as NotatedMembers>⟧.members_notation };
+
+    ghost denoted = { refl };
 }

@@ -1,45 +1,30 @@
-//! Certificates.
-ghost use Rattle.std.specs.Prelude.{length, IfOk, IfErr};
+//! Certificate of PKIX1Explicit88.
 ghost use Rattle.std.specs.Prelude.{refl};
-ghost use Rattle.picky_der_de.specs.Entry.{IsFront, HasNoFront};
 ghost use Rattle.picky_der_de.specs.KnownMembers.{known_struct, sequence_of, sequence_shape};
+ghost use Rattle.der_types.specs.Notation.{Notation};
 
 use crate::{AlgorithmIdentifier, TbsCertificate};
-use der_types::BitString;
+use der_types::{BitString, Notated, NotatedMembers};
+use picky_asn1_der::asn1::Tag;
+use picky_asn1_der::de::Begins;
 use picky_asn1_der::misc::{ReadExt, WriteExt};
 use picky_asn1_der::{
-    Asn1RawDer, Deserialize, DeserializeMembers, Deserializer, List, Result, Serialize,
-    SerializeMembers, Serializer, Struct, deserialize_struct_as, from_bytes,
+    Deserialize, DeserializeMembers, Deserializer, List, Result, Serialize, SerializeMembers,
+    Serializer, Struct, deserialize_struct_as,
 };
-use std::alloc::Global;
 
-/// A certificate, as a SEQUENCE (RFC 5280, 4.1).
+/// A certificate (RFC 5280, 4.1). `Certificate` of PKIX1Explicit88, as a SEQUENCE.
 #[derive(Debug, Drop, PartialEq, Eq)]
 pub struct Certificate {
-    /// What is signed, by its bytes: the signature is over them.
-    pub tbs_certificate: Asn1RawDer,
-    /// How it is signed.
+    /// The signed part. `TBSCertificate`.
+    pub tbs_certificate: TbsCertificate,
+    /// The algorithm of the signature. `AlgorithmIdentifier`.
     pub signature_algorithm: AlgorithmIdentifier,
-    /// The signature.
+    /// The signature of the encoding of the signed part. `BIT STRING`.
     pub signature: BitString,
 }
 
-impl Certificate {
-    /// What is signed, member by member. It is refused as `from_bytes` refuses its bytes, of which those behind the value are
-    /// left alone: a certificate that was read has none.
-    pub fn read_tbs_certificate(&self, alloc: Global) -> Result<TbsCertificate>
-        ensures ok { IfOk result (IsFront ⟦<TbsCertificate as Serialize>⟧.meaning
-            ⟦<TbsCertificate as Deserialize>⟧.shape ⟦<TbsCertificate as PartialEq>⟧.eq
-            self.now.tbs_certificate.0.items (length self.now.tbs_certificate.0.items)) }
-        ensures err { IfErr result (HasNoFront ⟦<TbsCertificate as Serialize>⟧.meaning
-            ⟦<TbsCertificate as Deserialize>⟧.shape self.now.tbs_certificate.0.items
-            (length self.now.tbs_certificate.0.items)) }
-    {
-        from_bytes(alloc, &self.tbs_certificate.0)
-    }
-}
-
-type Members = (Asn1RawDer, AlgorithmIdentifier, BitString, ());
+type Members = (TbsCertificate, AlgorithmIdentifier, BitString, ());
 
 impl Struct for Certificate {
     type Members = Members;
@@ -82,6 +67,18 @@ impl Deserialize for Certificate {
     ghost tied = { Prim.assumption };
 }
 
+impl Begins for Certificate {
+    fn begins_with(tag: Tag) -> bool {
+        tag == Tag::SEQUENCE
+    }
+}
+
 impl List for Certificate {
     ghost is_list = { λ it. tt };
+}
+
+impl Notated for Certificate {
+    ghost notation = { Notation.sequence ⟦<Members as NotatedMembers>⟧.members_notation };
+
+    ghost denoted = { refl };
 }

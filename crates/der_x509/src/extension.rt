@@ -1,25 +1,29 @@
-//! Extensions of certificates.
+//! Extension of PKIX1Explicit88.
 ghost use Rattle.std.specs.Prelude.{refl};
 ghost use Rattle.picky_der_de.specs.KnownMembers.{known_struct, sequence_of, sequence_shape};
+ghost use Rattle.der_types.specs.Notation.{Notation};
 
-use der_types::ObjectIdentifier;
-use picky_asn1_der::asn1::ByteBuf;
+use der_types::{Notated, NotatedMembers, ObjectIdentifier};
+use picky_asn1_der::asn1::{ByteBuf, Tag};
+use picky_asn1_der::de::Begins;
 use picky_asn1_der::misc::{ReadExt, WriteExt};
 use picky_asn1_der::ser::{Defaulted, DefaultedRef, False};
 use picky_asn1_der::{
-    Deserialize, DeserializeMembers, Deserializer, Result, Serialize, SerializeMembers, Serializer,
-    Struct, deserialize_struct_as,
+    Deserialize, DeserializeMembers, Deserializer, List, Result, Serialize, SerializeMembers,
+    Serializer, Struct, deserialize_struct_as,
 };
 
-/// An extension, as a SEQUENCE (RFC 5280, 4.1.2.9).
+/// An extension (RFC 5280, 4.2). `Extension` of PKIX1Explicit88, as a SEQUENCE.
 #[derive(Debug, Drop, PartialEq, Eq)]
 pub struct Extension {
-    /// Which extension it is.
-    pub id: ObjectIdentifier,
-    /// Whether a program that doesn't know it has to refuse the certificate: FALSE by default.
+    /// Which extension it is. `OBJECT IDENTIFIER`.
+    pub extn_id: ObjectIdentifier,
+    /// Whether a program that doesn't know the extension has to reject the certificate. `BOOLEAN
+    /// DEFAULT FALSE`.
     pub critical: bool,
-    /// The encoding of its value, whose type `id` says: `from_der::<KeyUsage>` reads that of `names::KEY_USAGE`.
-    pub value: ByteBuf,
+    /// The encoding of its value. The identifier says the type: `from_der::<KeyUsage>` reads the
+    /// value of `names::KEY_USAGE`. `OCTET STRING`.
+    pub extn_value: ByteBuf,
 }
 
 type Members = (ObjectIdentifier, Defaulted<bool, False>, ByteBuf, ());
@@ -27,14 +31,14 @@ type Members = (ObjectIdentifier, Defaulted<bool, False>, ByteBuf, ());
 impl Struct for Extension {
     type Members = Members;
 
-    ghost parts = { λ it. (it.id, record { value = it.critical; default = record {} }, it.value, tt) };
+    ghost parts = { λ it. (it.extn_id, record { value = it.critical; default = record {} }, it.extn_value, tt) };
 
     fn from_parts(members: Members) -> Extension {
-        let (id, critical, value, ()) = members;
+        let (extn_id, critical, extn_value, ()) = members;
         Extension {
-            id,
+            extn_id,
             critical: critical.value,
-            value,
+            extn_value,
         }
     }
 }
@@ -44,9 +48,9 @@ impl Serialize for Extension {
 
     fn serialize<W: WriteExt>(&self, serializer: &mut Serializer<W>) -> Result<usize> {
         (
-            &self.id,
+            &self.extn_id,
             DefaultedRef::<bool, False>::new(&self.critical),
-            &self.value,
+            &self.extn_value,
             (),
         )
             .serialize_sequence(serializer)
@@ -65,5 +69,18 @@ impl Deserialize for Extension {
     ghost tied = { Prim.assumption };
 }
 
-/// All extensions of a certificate: a SEQUENCE OF them.
-pub type Extensions = Vec<Extension>;
+impl Begins for Extension {
+    fn begins_with(tag: Tag) -> bool {
+        tag == Tag::SEQUENCE
+    }
+}
+
+impl List for Extension {
+    ghost is_list = { λ it. tt };
+}
+
+impl Notated for Extension {
+    ghost notation = { Notation.sequence ⟦<Members as NotatedMembers>⟧.members_notation };
+
+    ghost denoted = { refl };
+}

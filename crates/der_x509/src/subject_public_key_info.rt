@@ -1,9 +1,10 @@
-//! Public keys.
+//! SubjectPublicKeyInfo of PKIX1Explicit88.
 ghost use Rattle.std.specs.Prelude.{refl};
 ghost use Rattle.picky_der_de.specs.KnownMembers.{known_struct, sequence_of, sequence_shape};
+ghost use Rattle.der_types.specs.Notation.{Notation};
 
 use crate::AlgorithmIdentifier;
-use der_types::BitString;
+use der_types::{BitString, Notated, NotatedMembers};
 use picky_asn1_der::asn1::Tag;
 use picky_asn1_der::de::Begins;
 use picky_asn1_der::misc::{ReadExt, WriteExt};
@@ -12,12 +13,13 @@ use picky_asn1_der::{
     Serializer, Struct, deserialize_struct_as,
 };
 
-/// A public key and the algorithm that it is for, as a SEQUENCE (RFC 5280, 4.1.2.7).
+/// A public key and the algorithm that it is for (RFC 5280, 4.1.2.7). `SubjectPublicKeyInfo` of
+/// PKIX1Explicit88, as a SEQUENCE.
 #[derive(Debug, Drop, PartialEq, Eq)]
 pub struct SubjectPublicKeyInfo {
-    /// What the key is for.
+    /// What the key is for. `AlgorithmIdentifier`.
     pub algorithm: AlgorithmIdentifier,
-    /// The key.
+    /// The key. `BIT STRING`.
     pub subject_public_key: BitString,
 }
 
@@ -65,4 +67,10 @@ impl Begins for SubjectPublicKeyInfo {
 
 impl List for SubjectPublicKeyInfo {
     ghost is_list = { λ it. tt };
+}
+
+impl Notated for SubjectPublicKeyInfo {
+    ghost notation = { Notation.sequence ⟦<Members as NotatedMembers>⟧.members_notation };
+
+    ghost denoted = { refl };
 }

@@ -1,61 +1,67 @@
-//! What is signed of a certificate.
+//! TBSCertificate of PKIX1Explicit88.
 ghost use Rattle.std.specs.Prelude.{refl};
 ghost use Rattle.picky_der_de.specs.KnownMembers.{known_struct, sequence_of, sequence_shape};
+ghost use Rattle.der_types.specs.Notation.{Notation};
 
 use crate::{
-    AlgorithmIdentifier, Attribute, Extension, Extensions, Name, RelativeName,
-    SubjectPublicKeyInfo, V1, Validity, Version,
+    AlgorithmIdentifier, CertificateSerialNumber, Extensions, Name, SubjectPublicKeyInfo,
+    UniqueIdentifier, Validity, Version, VersionV1,
 };
-use der_types::{BitString, Integer};
+use der_types::{Notated, NotatedMembers};
 use picky_asn1_der::asn1::{
-    ExplicitContextTag0, ExplicitContextTag3, ImplicitContextTag1, ImplicitContextTag2,
+    ExplicitContextTag0, ExplicitContextTag3, ImplicitContextTag1, ImplicitContextTag2, Tag,
 };
+use picky_asn1_der::de::Begins;
 use picky_asn1_der::misc::{ReadExt, WriteExt};
 use picky_asn1_der::ser::{Defaulted, DefaultedRef, Optional, OptionalRef};
 use picky_asn1_der::{
-    Deserialize, DeserializeMembers, Deserializer, Result, Serialize, SerializeMembers, Serializer,
-    Struct, deserialize_struct_as,
+    Deserialize, DeserializeMembers, Deserializer, List, Result, Serialize, SerializeMembers,
+    Serializer, Struct, deserialize_struct_as,
 };
 
-/// What is signed of a certificate, as a SEQUENCE (RFC 5280, 4.1).
+/// The signed part of a certificate (RFC 5280, 4.1.2). `TBSCertificate` of PKIX1Explicit88, as a
+/// SEQUENCE.
 #[derive(Debug, Drop, PartialEq, Eq)]
 pub struct TbsCertificate {
-    /// The version: V1 by default.
+    /// The version. `[0] Version DEFAULT v1`.
     pub version: ExplicitContextTag0<Version>,
-    /// The number that the issuer gave it, of any length and sign. RFC 5280, 4.1.2.2 wants a positive one of at most 20 bytes.
-    pub serial_number: Integer,
-    /// How it is signed.
+    /// The serial number that the issuer gave it, of any length and sign. RFC 5280, 4.1.2.2 wants a
+    /// positive one of at most 20 bytes. `CertificateSerialNumber`.
+    pub serial_number: CertificateSerialNumber,
+    /// The algorithm of the signature. `AlgorithmIdentifier`.
     pub signature: AlgorithmIdentifier,
-    /// The name of who signs it.
+    /// The name of the signer. `Name`.
     pub issuer: Name,
-    /// When it is good.
+    /// From when to when it is valid. `Validity`.
     pub validity: Validity,
-    /// The name of whose key it is.
+    /// The name of the owner of the key. `Name`.
     pub subject: Name,
-    /// The key.
+    /// The public key. `SubjectPublicKeyInfo`.
     pub subject_public_key_info: SubjectPublicKeyInfo,
-    /// What tells the issuer from others of that name.
-    pub issuer_unique_id: Option<ImplicitContextTag1<BitString>>,
-    /// What tells the subject from others of that name.
-    pub subject_unique_id: Option<ImplicitContextTag2<BitString>>,
-    /// What else is said.
+    /// Distinguishes the issuer from others with the same name. `[1] IMPLICIT UniqueIdentifier
+    /// OPTIONAL`.
+    pub issuer_unique_id: Option<ImplicitContextTag1<UniqueIdentifier>>,
+    /// Distinguishes the subject from others with the same name. `[2] IMPLICIT UniqueIdentifier
+    /// OPTIONAL`.
+    pub subject_unique_id: Option<ImplicitContextTag2<UniqueIdentifier>>,
+    /// The extensions. `[3] Extensions OPTIONAL`.
     pub extensions: Option<ExplicitContextTag3<Extensions>>,
 }
 
 type Members = (
-    Defaulted<ExplicitContextTag0<Version>, V1>,
-    Integer,
+    Defaulted<ExplicitContextTag0<Version>, VersionV1>,
+    CertificateSerialNumber,
     AlgorithmIdentifier,
     Name,
     Validity,
     Name,
     SubjectPublicKeyInfo,
-    Optional<ImplicitContextTag1<BitString>>,
+    Optional<ImplicitContextTag1<UniqueIdentifier>>,
     OtherMembers,
 );
 
 type OtherMembers = (
-    Optional<ImplicitContextTag2<BitString>>,
+    Optional<ImplicitContextTag2<UniqueIdentifier>>,
     Optional<ExplicitContextTag3<Extensions>>,
     (),
 );
@@ -108,7 +114,7 @@ impl Serialize for TbsCertificate {
 
     fn serialize<W: WriteExt>(&self, serializer: &mut Serializer<W>) -> Result<usize> {
         (
-            DefaultedRef::<ExplicitContextTag0<Version>, V1>::new(&self.version),
+            DefaultedRef::<ExplicitContextTag0<Version>, VersionV1>::new(&self.version),
             &self.serial_number,
             &self.signature,
             &self.issuer,
@@ -134,4 +140,20 @@ impl Deserialize for TbsCertificate {
     }
 
     ghost tied = { Prim.assumption };
+}
+
+impl Begins for TbsCertificate {
+    fn begins_with(tag: Tag) -> bool {
+        tag == Tag::SEQUENCE
+    }
+}
+
+impl List for TbsCertificate {
+    ghost is_list = { λ it. tt };
+}
+
+impl Notated for TbsCertificate {
+    ghost notation = { Notation.sequence ⟦<Members as NotatedMembers>⟧.members_notation };
+
+    ghost denoted = { refl };
 }

@@ -1,11 +1,12 @@
-//! Times of certificates.
+//! Time of PKIX1Explicit88.
 ghost use Rattle.std.specs.Prelude.{refl};
 ghost use Rattle.picky_der_core.specs.Shape.{Shape};
 ghost use Rattle.picky_der_de.specs.declared.alternatives.OneOf.TheVariants.{This, Other};
 ghost use Rattle.picky_der_de.specs.KnownChoices.{known_choice};
-ghost use Rattle.der_x509.specs.declared.time.Time.TheVariants.{Utc, Generalized};
+ghost use Rattle.der_types.specs.Notation.{Notation};
+ghost use Rattle.der_x509.specs.declared.time.Time.TheVariants.{UtcTime, GeneralTime};
 
-use der_types::{GeneralizedTime, UtcTime};
+use der_types::{GeneralizedTime, Notated, NotatedAlternatives, UtcTime};
 use picky_asn1_der::OneOf::{Other, This};
 use picky_asn1_der::asn1::Tag;
 use picky_asn1_der::de::{Begins, deserialize_choice_as};
@@ -14,16 +15,14 @@ use picky_asn1_der::{
     Alternatives, Choice, Deserialize, Deserializer, NoneOf, OneOf, Result, Serialize, Serializer,
 };
 
-/// A time, as a CHOICE (RFC 5280, 4.1.2.5): any that DER allows (X.690, 11.7, 11.8).
-///
-/// RFC 5280 wants a UTCTime up to 2049, and no fraction of a second. `Time` of `der_types` checks that, too. A certificate that
-/// Debian trusts has a GeneralizedTime of 2011.
+/// A time: any that DER allows (X.690, 11.7, 11.8). RFC 5280, 4.1.2.5 wants a UTCTime up to 2049,
+/// and no fraction of a second. `Time` of PKIX1Explicit88, as a CHOICE.
 #[derive(Debug, Drop, PartialEq, Eq)]
 pub enum Time {
-    /// A UTCTime, of the years 1950 to 2049.
-    Utc(UtcTime),
-    /// A GeneralizedTime, whose year has four digits.
-    Generalized(GeneralizedTime),
+    /// A time in the years 1950 to 2049. `UTCTime`.
+    UtcTime(UtcTime),
+    /// A time in the years 0 to 9999. `GeneralizedTime`.
+    GeneralTime(GeneralizedTime),
 }
 
 type Parts = OneOf<UtcTime, OneOf<GeneralizedTime, NoneOf>>;
@@ -31,23 +30,23 @@ type Parts = OneOf<UtcTime, OneOf<GeneralizedTime, NoneOf>>;
 impl Choice for Time {
     type Alternatives = Parts;
 
-    ghost parts = { elim [ Utc time ↦ This time | Generalized time ↦ Other (This time) ] };
+    ghost parts = { elim [ UtcTime x ↦ This x | GeneralTime x ↦ Other (This x) ] };
 
     fn from_parts(value: Parts) -> Time {
         match value {
-            This(time) => Time::Utc(time),
-            Other(This(time)) => Time::Generalized(time),
+            This(utc_time) => Time::UtcTime(utc_time),
+            Other(This(general_time)) => Time::GeneralTime(general_time),
         }
     }
 }
 
 impl Serialize for Time {
-    ghost meaning = { λ it. ⟦<Parts as Alternatives>⟧.meaning (⟦<Time as Choice>⟧.parts it) };
+    ghost meaning = { λ v. ⟦<Parts as Alternatives>⟧.meaning (⟦<Time as Choice>⟧.parts v) };
 
     fn serialize<W: WriteExt>(&self, serializer: &mut Serializer<W>) -> Result<usize> {
         match self {
-            Time::Utc(time) => serializer.serialize_choice(time),
-            Time::Generalized(time) => serializer.serialize_choice(time),
+            Time::UtcTime(utc_time) => serializer.serialize_choice(utc_time),
+            Time::GeneralTime(general_time) => serializer.serialize_choice(general_time),
         }
     }
 }
@@ -56,7 +55,7 @@ impl Deserialize for Time {
     ghost shape = { Shape.choice ⟦<Parts as Alternatives>⟧.shapes };
 
     ghost known = { known_choice ⟦<Parts as Alternatives>⟧.known refl ⟦<Self as Choice>⟧.parts ⟦<Self as PartialEq>⟧.eq
-        (elim [ Utc _ ↦ elim [ Utc _ ↦ λ h. h | _ ↦ λ h. h ] | _ ↦ elim [ Utc _ ↦ λ h. h | _ ↦ λ h. h ] ]) };
+        (elim [ UtcTime _ ↦ elim [ UtcTime _ ↦ λ h. h | _ ↦ λ h. h ] | _ ↦ elim [ UtcTime _ ↦ λ h. h | _ ↦ λ h. h ] ]) };
 
     ghost tied = { Prim.assumption };
 
@@ -69,4 +68,10 @@ impl Begins for Time {
     fn begins_with(tag: Tag) -> bool {
         <Parts as Alternatives>::begins_with(tag)
     }
+}
+
+impl Notated for Time {
+    ghost notation = { Notation.choice ⟦<Parts as NotatedAlternatives>⟧.alternatives_notation };
+
+    ghost denoted = { refl };
 }

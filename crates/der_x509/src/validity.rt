@@ -1,8 +1,10 @@
-//! Periods of validity.
+//! Validity of PKIX1Explicit88.
 ghost use Rattle.std.specs.Prelude.{refl};
 ghost use Rattle.picky_der_de.specs.KnownMembers.{known_struct, sequence_of, sequence_shape};
+ghost use Rattle.der_types.specs.Notation.{Notation};
 
 use crate::Time;
+use der_types::{Notated, NotatedMembers};
 use picky_asn1_der::asn1::Tag;
 use picky_asn1_der::de::Begins;
 use picky_asn1_der::misc::{ReadExt, WriteExt};
@@ -11,12 +13,13 @@ use picky_asn1_der::{
     Serializer, Struct, deserialize_struct_as,
 };
 
-/// From when to when a certificate is good, as a SEQUENCE (RFC 5280, 4.1.2.5).
+/// From when to when a certificate is valid (RFC 5280, 4.1.2.5). `Validity` of PKIX1Explicit88, as
+/// a SEQUENCE.
 #[derive(Debug, Drop, PartialEq, Eq)]
 pub struct Validity {
-    /// Its first second.
+    /// Its first second. `Time`.
     pub not_before: Time,
-    /// Its last second.
+    /// Its last second. `Time`.
     pub not_after: Time,
 }
 
@@ -64,4 +67,10 @@ impl Begins for Validity {
 
 impl List for Validity {
     ghost is_list = { λ it. tt };
+}
+
+impl Notated for Validity {
+    ghost notation = { Notation.sequence ⟦<Members as NotatedMembers>⟧.members_notation };
+
+    ghost denoted = { refl };
 }
