@@ -1,0 +1,116 @@
+//! EnvelopedData of CryptographicMessageSyntax2004.
+ghost use Rattle.std.specs.Prelude.{refl};
+ghost use Rattle.picky_der_de.specs.KnownMembers.{known_struct, sequence_of, sequence_shape};
+ghost use Rattle.der_types.specs.Notation.{Notation};
+
+use crate::{
+    CmsVersion, EncryptedContentInfo, OriginatorInfo, RecipientInfos, UnprotectedAttributes,
+};
+use der_types::{Notated, NotatedMembers};
+use picky_asn1_der::asn1::{ImplicitList0, ImplicitList1, Tag};
+use picky_asn1_der::de::Begins;
+use picky_asn1_der::misc::{ReadExt, WriteExt};
+use picky_asn1_der::ser::{Optional, OptionalRef};
+use picky_asn1_der::{
+    Deserialize, DeserializeMembers, Deserializer, List, Result, Serialize, SerializeMembers,
+    Serializer, Struct, deserialize_struct_as,
+};
+
+/// `EnvelopedData` of CryptographicMessageSyntax2004, as a SEQUENCE.
+#[derive(Debug, Drop, PartialEq, Eq)]
+pub struct EnvelopedData {
+    /// `CMSVersion`.
+    pub version: CmsVersion,
+    /// `[0] IMPLICIT OriginatorInfo OPTIONAL`.
+    pub originator_info: Option<ImplicitList0<OriginatorInfo>>,
+    /// `RecipientInfos`.
+    pub recipient_infos: RecipientInfos,
+    /// `EncryptedContentInfo`.
+    pub encrypted_content_info: EncryptedContentInfo,
+    /// `[1] IMPLICIT UnprotectedAttributes OPTIONAL`.
+    pub unprotected_attrs: Option<ImplicitList1<UnprotectedAttributes>>,
+}
+
+type Members = (
+    CmsVersion,
+    Optional<ImplicitList0<OriginatorInfo>>,
+    RecipientInfos,
+    EncryptedContentInfo,
+    Optional<ImplicitList1<UnprotectedAttributes>>,
+    (),
+);
+
+impl Struct for EnvelopedData {
+    type Members = Members;
+
+    ghost parts = { λ it. (
+      it.version,
+      record { 0 = it.originator_info },
+      it.recipient_infos,
+      it.encrypted_content_info,
+      record { 0 = it.unprotected_attrs },
+      tt,
+    ) };
+
+    fn from_parts(members: Members) -> EnvelopedData {
+        let (
+            version,
+            Optional(originator_info),
+            recipient_infos,
+            encrypted_content_info,
+            Optional(unprotected_attrs),
+            (),
+        ) = members;
+        EnvelopedData {
+            version,
+            originator_info,
+            recipient_infos,
+            encrypted_content_info,
+            unprotected_attrs,
+        }
+    }
+}
+
+impl Serialize for EnvelopedData {
+    ghost meaning = { sequence_of ⟦<Members as SerializeMembers>⟧.members ⟦<Self as Struct>⟧.parts };
+
+    fn serialize<W: WriteExt>(&self, serializer: &mut Serializer<W>) -> Result<usize> {
+        (
+            &self.version,
+            OptionalRef(&self.originator_info),
+            &self.recipient_infos,
+            &self.encrypted_content_info,
+            OptionalRef(&self.unprotected_attrs),
+            (),
+        )
+            .serialize_sequence(serializer)
+    }
+}
+
+impl Deserialize for EnvelopedData {
+    ghost shape = { sequence_shape ⟦<Members as DeserializeMembers>⟧.layout };
+
+    ghost known = { known_struct ⟦<Members as DeserializeMembers>⟧.known refl ⟦<Self as Struct>⟧.parts };
+
+    fn deserialize<R: ReadExt>(deserializer: &mut Deserializer<R>) -> Result<EnvelopedData> {
+        deserialize_struct_as(deserializer)
+    }
+
+    ghost tied = { Prim.assumption };
+}
+
+impl Begins for EnvelopedData {
+    fn begins_with(tag: Tag) -> bool {
+        tag == Tag::SEQUENCE
+    }
+}
+
+impl List for EnvelopedData {
+    ghost is_list = { λ it. tt };
+}
+
+impl Notated for EnvelopedData {
+    ghost notation = { Notation.sequence ⟦<Members as NotatedMembers>⟧.members_notation };
+
+    ghost denoted = { refl };
+}

@@ -1,0 +1,86 @@
+//! EncryptedData of KerberosV5Spec2.
+ghost use Rattle.std.specs.Prelude.{refl};
+ghost use Rattle.picky_der_de.specs.KnownMembers.{known_struct, sequence_of, sequence_shape};
+ghost use Rattle.der_types.specs.Notation.{Notation};
+
+use crate::{Int32, UInt32};
+use der_types::{Notated, NotatedMembers};
+use picky_asn1_der::asn1::{
+    ByteBuf, ExplicitContextTag0, ExplicitContextTag1, ExplicitContextTag2, Tag,
+};
+use picky_asn1_der::de::Begins;
+use picky_asn1_der::misc::{ReadExt, WriteExt};
+use picky_asn1_der::ser::{Optional, OptionalRef};
+use picky_asn1_der::{
+    Deserialize, DeserializeMembers, Deserializer, List, Result, Serialize, SerializeMembers,
+    Serializer, Struct, deserialize_struct_as,
+};
+
+/// `EncryptedData` of KerberosV5Spec2, as a SEQUENCE.
+#[derive(Debug, Drop, PartialEq, Eq)]
+pub struct EncryptedData {
+    /// how it is encrypted. `[0] Int32`.
+    pub etype: ExplicitContextTag0<Int32>,
+    /// the version of the key. `[1] UInt32 OPTIONAL`.
+    pub kvno: Option<ExplicitContextTag1<UInt32>>,
+    /// `[2] OCTET STRING`.
+    pub cipher: ExplicitContextTag2<ByteBuf>,
+}
+
+type Members = (
+    ExplicitContextTag0<Int32>,
+    Optional<ExplicitContextTag1<UInt32>>,
+    ExplicitContextTag2<ByteBuf>,
+    (),
+);
+
+impl Struct for EncryptedData {
+    type Members = Members;
+
+    ghost parts = { λ it. (it.etype, record { 0 = it.kvno }, it.cipher, tt) };
+
+    fn from_parts(members: Members) -> EncryptedData {
+        let (etype, Optional(kvno), cipher, ()) = members;
+        EncryptedData {
+            etype,
+            kvno,
+            cipher,
+        }
+    }
+}
+
+impl Serialize for EncryptedData {
+    ghost meaning = { sequence_of ⟦<Members as SerializeMembers>⟧.members ⟦<Self as Struct>⟧.parts };
+
+    fn serialize<W: WriteExt>(&self, serializer: &mut Serializer<W>) -> Result<usize> {
+        (&self.etype, OptionalRef(&self.kvno), &self.cipher, ()).serialize_sequence(serializer)
+    }
+}
+
+impl Deserialize for EncryptedData {
+    ghost shape = { sequence_shape ⟦<Members as DeserializeMembers>⟧.layout };
+
+    ghost known = { known_struct ⟦<Members as DeserializeMembers>⟧.known refl ⟦<Self as Struct>⟧.parts };
+
+    fn deserialize<R: ReadExt>(deserializer: &mut Deserializer<R>) -> Result<EncryptedData> {
+        deserialize_struct_as(deserializer)
+    }
+
+    ghost tied = { Prim.assumption };
+}
+
+impl Begins for EncryptedData {
+    fn begins_with(tag: Tag) -> bool {
+        tag == Tag::SEQUENCE
+    }
+}
+
+impl List for EncryptedData {
+    ghost is_list = { λ it. tt };
+}
+
+impl Notated for EncryptedData {
+    ghost notation = { Notation.sequence ⟦<Members as NotatedMembers>⟧.members_notation };
+
+    ghost denoted = { refl };
+}

@@ -1,0 +1,83 @@
+//! KRB-PRIV of KerberosV5Spec2.
+ghost use Rattle.std.specs.Prelude.{refl};
+ghost use Rattle.picky_der_de.specs.KnownMembers.{known_struct, sequence_of, sequence_shape};
+ghost use Rattle.der_types.specs.Notation.{Notation};
+
+use crate::EncryptedData;
+use der_types::{InRange, Notated, NotatedMembers};
+use picky_asn1_der::asn1::{ExplicitContextTag0, ExplicitContextTag1, ExplicitContextTag3, Tag};
+use picky_asn1_der::de::Begins;
+use picky_asn1_der::misc::{ReadExt, WriteExt};
+use picky_asn1_der::{
+    Deserialize, DeserializeMembers, Deserializer, List, Result, Serialize, SerializeMembers,
+    Serializer, Struct, deserialize_struct_as,
+};
+
+/// `KRB-PRIV` of KerberosV5Spec2, as a SEQUENCE.
+#[derive(Debug, Drop, PartialEq, Eq)]
+pub struct KrbPrivMembers {
+    /// `[0] INTEGER (5)`.
+    pub pvno: ExplicitContextTag0<InRange<u8, 5, 5>>,
+    /// `[1] INTEGER (21)`.
+    pub msg_type: ExplicitContextTag1<InRange<u8, 21, 21>>,
+    /// `[3] EncryptedData`.
+    pub enc_part: ExplicitContextTag3<EncryptedData>,
+}
+
+type Members = (
+    ExplicitContextTag0<InRange<u8, 5, 5>>,
+    ExplicitContextTag1<InRange<u8, 21, 21>>,
+    ExplicitContextTag3<EncryptedData>,
+    (),
+);
+
+impl Struct for KrbPrivMembers {
+    type Members = Members;
+
+    ghost parts = { λ it. (it.pvno, it.msg_type, it.enc_part, tt) };
+
+    fn from_parts(members: Members) -> KrbPrivMembers {
+        let (pvno, msg_type, enc_part, ()) = members;
+        KrbPrivMembers {
+            pvno,
+            msg_type,
+            enc_part,
+        }
+    }
+}
+
+impl Serialize for KrbPrivMembers {
+    ghost meaning = { sequence_of ⟦<Members as SerializeMembers>⟧.members ⟦<Self as Struct>⟧.parts };
+
+    fn serialize<W: WriteExt>(&self, serializer: &mut Serializer<W>) -> Result<usize> {
+        (&self.pvno, &self.msg_type, &self.enc_part, ()).serialize_sequence(serializer)
+    }
+}
+
+impl Deserialize for KrbPrivMembers {
+    ghost shape = { sequence_shape ⟦<Members as DeserializeMembers>⟧.layout };
+
+    ghost known = { known_struct ⟦<Members as DeserializeMembers>⟧.known refl ⟦<Self as Struct>⟧.parts };
+
+    fn deserialize<R: ReadExt>(deserializer: &mut Deserializer<R>) -> Result<KrbPrivMembers> {
+        deserialize_struct_as(deserializer)
+    }
+
+    ghost tied = { Prim.assumption };
+}
+
+impl Begins for KrbPrivMembers {
+    fn begins_with(tag: Tag) -> bool {
+        tag == Tag::SEQUENCE
+    }
+}
+
+impl List for KrbPrivMembers {
+    ghost is_list = { λ it. tt };
+}
+
+impl Notated for KrbPrivMembers {
+    ghost notation = { Notation.sequence ⟦<Members as NotatedMembers>⟧.members_notation };
+
+    ghost denoted = { refl };
+}
