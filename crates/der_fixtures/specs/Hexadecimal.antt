@@ -6,7 +6,7 @@ use Rattle.hex.specs.Hex.{encode_upper}
 abbrev pub without_spaces : List ℕ → List ℕ
 without_spaces text = filter (λ c. not (c == 0x20)) text
 
--- two digits for each byte, behind a space
+-- two digits for each byte, after a space
 abbrev pub behind_spaces : List ℕ → List ℕ
 behind_spaces bytes = flat_map (λ b. 0x20 ∷ encode_upper (b ∷ [])) bytes
 

@@ -7,10 +7,10 @@ ghost use Rattle.der_fixtures.specs.Hexadecimal.{without_spaces, with_spaces};
 use hex::FromHexError;
 use std::alloc::{AllocError, Global};
 
-/// The bytes of a text of hexadecimal digits, two for each byte, of either case. Spaces are passed over.
+/// Returns the bytes of a text of hexadecimal digits in upper or lower case, two for each byte. Spaces are skipped.
 ///
-/// `OutOfMemory` where memory is refused. The other errors are those of `hex::decode` of the text without its spaces: an
-/// odd number of digits, or a character that isn't one.
+/// `OutOfMemory` if an allocation fails. The other errors are the errors of `hex::decode` for the text without its spaces: an odd number of
+/// digits, or a character that isn't a digit.
 pub fn bytes_of(alloc: Global, text: &str) -> Result<Vec<u8>, FromHexError>
     ensures ok { IfOk result (λ bytes. decode_of (without_spaces text.now) ≡ Ok bytes.items) }
     ensures err { IfErr result
@@ -24,7 +24,7 @@ pub fn bytes_of(alloc: Global, text: &str) -> Result<Vec<u8>, FromHexError>
     hex::decode(alloc, digits)
 }
 
-/// Two digits of upper case for each byte, with a space between any two bytes.
+/// Returns two upper-case digits for each byte, with a space between any two bytes.
 pub fn text_of(alloc: Global, bytes: &[u8]) -> Result<String, AllocError>
     ensures { IfOk result (λ text. string_bytes text ≡ with_spaces bytes.now) }
 {

@@ -1,4 +1,4 @@
-//! What tests and rows of bytes need: bytes as text, and readers and writers that give and take little, and that fail.
+//! Helpers of tests: bytes as text, and readers and writers that transfer one byte per call or fail.
 #![tactic(auto)]
 
 mod hexadecimal;

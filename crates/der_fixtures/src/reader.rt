@@ -4,7 +4,7 @@ ghost use Rattle.std.specs.Prelude.{◌≡◌, ◌+◌, ◌≤◌, length, Some}
 use std::io;
 use std::io::{ErrorKind, Read};
 
-/// Gives its bytes one a call, whatever room there is.
+/// A reader that returns one byte per call, however long the buffer is.
 #[derive(Drop)]
 pub struct SlowReader<'a> {
     rest: &'a [u8],
@@ -15,7 +15,7 @@ pub struct SlowReader<'a> {
 impl<'a> SlowReader<'a> {
     ghost use Rattle.der_fixtures.specs.Devices.{left_of, total_of};
 
-    /// A reader of these bytes.
+    /// Returns a reader of these bytes.
     pub fn new(bytes: &'a [u8]) -> SlowReader<'a>
         ensures left { left_of result ≡ bytes.now }
         ensures total { total_of result ≡ length bytes.now }
@@ -26,7 +26,7 @@ impl<'a> SlowReader<'a> {
         }
     }
 
-    /// How many bytes it has given.
+    /// Returns how many bytes were read.
     pub fn given(&self) -> usize
         ensures { result + length (left_of self.now) ≡ total_of self.now }
     {
@@ -52,12 +52,12 @@ impl Read for SlowReader<'_> {
     }
 }
 
-/// Gives its bytes one a call, but that one of its calls fails. The call behind that one gives the byte that would have
-/// come.
+/// A reader that returns one byte per call, except for one call that fails. The call after the failure returns the byte that would have
+/// come then.
 #[derive(Drop)]
 pub struct FailingReader<'a> {
     reader: SlowReader<'a>,
-    // How many calls come before the one that fails, if that one is still to come.
+    // How many more calls come before the one that fails, or `None` after it.
     before: Option<usize>,
     kind: ErrorKind,
 }
@@ -65,8 +65,8 @@ pub struct FailingReader<'a> {
 impl<'a> FailingReader<'a> {
     ghost use Rattle.der_fixtures.specs.Devices.{left_of, total_of, inner_of};
 
-    /// A reader of these bytes whose call number `call` fails with an error of this kind. Calls are counted from 1, and at
-    /// 0 none fails.
+    /// Returns a reader of these bytes whose call number `call` fails with an error of this kind. Calls are counted from 1. With 0, no call
+    /// fails.
     pub fn new(bytes: &'a [u8], call: usize, kind: ErrorKind) -> FailingReader<'a>
         ensures left { left_of (inner_of result) ≡ bytes.now }
         ensures total { total_of (inner_of result) ≡ length bytes.now }
@@ -78,7 +78,7 @@ impl<'a> FailingReader<'a> {
         }
     }
 
-    /// How many bytes it has given.
+    /// Returns how many bytes were read.
     pub fn given(&self) -> usize
         ensures { result + length (left_of (inner_of self.now)) ≡ total_of (inner_of self.now) }
     {

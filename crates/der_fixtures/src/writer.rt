@@ -1,4 +1,4 @@
-//! Writers into a vector of their own.
+//! Writers that collect the bytes in a vector.
 ghost use Rattle.std.specs.Prelude.{◌≡◌, [], Some};
 ghost use Rattle.der_fixtures.specs.Devices.{taken_by, writer_of};
 
@@ -6,14 +6,14 @@ use std::alloc::Global;
 use std::io;
 use std::io::{ErrorKind, Write};
 
-/// Takes one byte a call, whatever is there.
+/// A writer that accepts one byte per call, however many there are.
 #[derive(Drop)]
 pub struct SlowWriter {
     taken: Vec<u8>,
 }
 
 impl SlowWriter {
-    /// A writer that has taken nothing yet.
+    /// Returns a writer with no bytes yet.
     pub fn new(alloc: Global) -> SlowWriter
         ensures { taken_by result ≡ [] }
     {
@@ -22,7 +22,7 @@ impl SlowWriter {
         }
     }
 
-    /// The bytes that it has taken.
+    /// Returns the bytes that were written.
     pub fn taken(&self) -> &[u8]
         ensures { result.now ≡ taken_by self.now }
     {
@@ -48,12 +48,12 @@ impl Write for SlowWriter {
     }
 }
 
-/// How a call of a writer is refused.
+/// How a call of a writer fails.
 #[derive(Clone, Copy, Debug)]
 pub enum WriterFault {
-    /// By an error of this kind.
+    /// With an error of this kind.
     Error(ErrorKind),
-    /// By taking nothing.
+    /// By accepting no byte.
     TakesNothing,
 }
 
@@ -64,17 +64,17 @@ impl WriterFault {
     {}
 }
 
-/// Takes one byte a call, but that one of its calls is refused. The call behind that one takes a byte again.
+/// A writer that accepts one byte per call, except for one call that fails. The call after that accepts a byte again.
 #[derive(Drop)]
 pub struct FailingWriter {
     writer: SlowWriter,
-    // How many calls come before the one that is refused, if that one is still to come.
+    // How many more calls come before the one that fails, or `None` after it.
     before: Option<usize>,
     refusal: WriterFault,
 }
 
 impl FailingWriter {
-    /// A writer whose call number `call` is refused so. Calls are counted from 1, and at 0 none is refused.
+    /// Returns a writer whose call number `call` fails in this way. Calls are counted from 1. With 0, no call fails.
     pub fn new(alloc: Global, call: usize, refusal: WriterFault) -> FailingWriter
         ensures { taken_by (writer_of result) ≡ [] }
     {
@@ -85,7 +85,7 @@ impl FailingWriter {
         }
     }
 
-    /// The bytes that it has taken.
+    /// Returns the bytes that were written.
     pub fn taken(&self) -> &[u8]
         ensures { result.now ≡ taken_by (writer_of self.now) }
     {
