@@ -9,42 +9,42 @@ use picky_asn1_der::{
     Struct, deserialize_struct_as,
 };
 
-/// How many people are how old, as a SEQUENCE of seventeen INTEGERs.
+/// How many people there are in each age group, as a SEQUENCE of seventeen INTEGERs.
 #[derive(Debug, Drop, PartialEq, Eq)]
 pub struct AgeGroups {
-    /// Those under 5.
+    /// Under 5 years.
     pub under_5: u32,
-    /// Those of 5 to 9 years.
+    /// From 5 to 9 years.
     pub from_5: u32,
-    /// Those of 10 to 14 years.
+    /// From 10 to 14 years.
     pub from_10: u32,
-    /// Those of 15 to 19 years.
+    /// From 15 to 19 years.
     pub from_15: u32,
-    /// Those of 20 to 24 years.
+    /// From 20 to 24 years.
     pub from_20: u32,
-    /// Those of 25 to 29 years.
+    /// From 25 to 29 years.
     pub from_25: u32,
-    /// Those of 30 to 34 years.
+    /// From 30 to 34 years.
     pub from_30: u32,
-    /// Those of 35 to 39 years.
+    /// From 35 to 39 years.
     pub from_35: u32,
-    /// Those of 40 to 44 years.
+    /// From 40 to 44 years.
     pub from_40: u32,
-    /// Those of 45 to 49 years.
+    /// From 45 to 49 years.
     pub from_45: u32,
-    /// Those of 50 to 54 years.
+    /// From 50 to 54 years.
     pub from_50: u32,
-    /// Those of 55 to 59 years.
+    /// From 55 to 59 years.
     pub from_55: u32,
-    /// Those of 60 to 64 years.
+    /// From 60 to 64 years.
     pub from_60: u32,
-    /// Those of 65 to 69 years.
+    /// From 65 to 69 years.
     pub from_65: u32,
-    /// Those of 70 to 74 years.
+    /// From 70 to 74 years.
     pub from_70: u32,
-    /// Those of 75 to 79 years.
+    /// From 75 to 79 years.
     pub from_75: u32,
-    /// Those of 80 years and more.
+    /// 80 years and more.
     pub from_80: u32,
 }
 
@@ -139,7 +139,7 @@ impl Serialize for AgeGroups {
     }
 }
 
-// What stands behind the sixteenth field.
+// The members after the sixteenth field.
 #[derive(Drop)]
 struct Last<'a>(&'a AgeGroups);
 

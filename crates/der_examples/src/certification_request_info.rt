@@ -11,7 +11,7 @@ use picky_asn1_der::{
     Struct, deserialize_struct_as,
 };
 
-/// What is signed of a request for a certificate, as a SEQUENCE (RFC 2986, 4.1).
+/// The signed part of a request for a certificate, as a SEQUENCE (RFC 2986, 4.1).
 #[derive(Debug, Drop, PartialEq, Eq)]
 pub struct CertificationRequestInfo {
     /// The version, 0.
@@ -20,7 +20,7 @@ pub struct CertificationRequestInfo {
     pub subject: Name,
     /// The public key.
     pub public_key: SubjectPublicKeyInfo,
-    /// What else is asked for.
+    /// The attributes of the request.
     pub attributes: ImplicitList0<Asn1SetOf<Attribute>>,
 }
 

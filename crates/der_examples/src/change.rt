@@ -13,11 +13,11 @@ use picky_asn1_der::{
 /// A change of a setting, as a SEQUENCE.
 #[derive(Debug, Drop, PartialEq, Eq)]
 pub struct Change {
-    /// What the setting is set to.
+    /// The new value of the setting.
     pub to: Setting,
-    /// Whether it stays so.
+    /// Whether the setting can't be changed again.
     pub is_final: bool,
-    /// What it was set to before, if it was.
+    /// The old value of the setting, if it had one.
     pub from: Option<Setting>,
 }
 

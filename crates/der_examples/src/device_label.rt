@@ -1,24 +1,29 @@
 //! A struct whose members have constraints.
 ghost use Rattle.std.specs.Prelude.{refl};
 ghost use Rattle.picky_der_de.specs.KnownMembers.{known_struct, sequence_of, sequence_shape};
+ghost use Rattle.der_types.specs.ExactMembers.{struct_values};
+ghost use Rattle.der_types.specs.Notation.{Notation};
 
-use der_types::{Ia5String, InRange, NumericString, PrintableString, WithSize};
+use der_types::{
+    Exact, ExactMembers, Ia5String, InRange, Notated, NotatedMembers, NumericString,
+    PrintableString, WithSize,
+};
 use picky_asn1_der::misc::{ReadExt, WriteExt};
 use picky_asn1_der::{
     Deserialize, DeserializeMembers, Deserializer, Result, Serialize, SerializeMembers, Serializer,
     Struct, deserialize_struct_as,
 };
 
-/// What is on the label of a device, as a SEQUENCE. A value that isn't within the bounds of its member is `InvalidData`.
+/// The label of a device, as a SEQUENCE. A value that isn't within the bounds of its member is `InvalidData`.
 #[derive(Debug, Drop, PartialEq, Eq)]
 pub struct DeviceLabel {
-    /// The country where it was made, `PrintableString (SIZE (2))`, as `countryName` of X.520.
+    /// The country where it was made, `PrintableString (SIZE (2))`, as in `countryName` of X.520.
     pub country: WithSize<PrintableString, 2, 2>,
     /// The serial number, `INTEGER (0..65536)`.
     pub serial: InRange<u32, 0, 65536>,
     /// The number of the article, `NumericString`.
     pub article: NumericString,
-    /// Where help is given, `SEQUENCE SIZE (1..4) OF IA5String`.
+    /// Where to get help, `SEQUENCE SIZE (1..4) OF IA5String`.
     pub contacts: WithSize<Vec<Ia5String>, 1, 4>,
 }
 
@@ -71,4 +76,18 @@ impl Deserialize for DeviceLabel {
     }
 
     ghost tied = { Prim.assumption };
+}
+
+impl Notated for DeviceLabel {
+    ghost notation = { Notation.sequence ⟦<Members as NotatedMembers>⟧.members_notation };
+
+    ghost denoted = { refl };
+}
+
+impl Exact for DeviceLabel {
+    ghost values = { struct_values ⟦<Members as ExactMembers>⟧.all_values ⟦<Members as NotatedMembers>⟧.members_notation
+        ⟦<Members as SerializeMembers>⟧.members ⟦<Self as Struct>⟧.parts
+        (λ m. (record { country = m.0; serial = m.1; article = m.2; contacts = m.3 }, refl {a = m})) };
+
+    ghost exact = { Prim.assumption };
 }

@@ -10,12 +10,12 @@ use picky_asn1_der::{
     Struct, deserialize_struct_as,
 };
 
-/// What is signed, as a SEQUENCE (RFC 5652, 5.2).
+/// The signed content, as a SEQUENCE (RFC 5652, 5.2).
 #[derive(Debug, Drop, PartialEq, Eq)]
 pub struct EncapsulatedContentInfo {
     /// The content of the object identifier of its type.
     pub content_type: ObjectIdentifierAsn1,
-    /// The content. Where it is absent, it is sent apart from this.
+    /// The content. It is absent if it is sent separately.
     pub content: Option<ExplicitContextTag0<ByteBuf>>,
 }
 

@@ -1,4 +1,4 @@
-//! Encrypted bytes, of whose key the version may be absent.
+//! Encrypted bytes, with an optional version of the key.
 ghost use Rattle.std.specs.Prelude.{refl};
 ghost use Rattle.picky_der_de.specs.KnownMembers.{known_struct, sequence_of, sequence_shape};
 
@@ -12,10 +12,10 @@ use picky_asn1_der::{
     Struct, deserialize_struct_as,
 };
 
-/// What was encrypted, as a SEQUENCE (RFC 4120, 5.2.9).
+/// Encrypted bytes, as a SEQUENCE (RFC 4120, 5.2.9).
 #[derive(Debug, Drop, PartialEq, Eq)]
 pub struct EncryptedData {
-    /// The number of the way of encryption, of which only those from 0 on are read.
+    /// The number of the encryption method. Only numbers from 0 on are read.
     pub etype: ExplicitContextTag0<u32>,
     /// The version of the key.
     pub kvno: Option<ExplicitContextTag1<u32>>,

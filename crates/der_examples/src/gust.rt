@@ -14,7 +14,7 @@ use picky_asn1_der::{
 pub struct Gust {
     /// Whole meters in a second.
     pub speed: u8,
-    /// What was noted of it, if anything was.
+    /// Notes about it, if there are any.
     pub notes: Option<Vec<String>>,
 }
 

@@ -13,7 +13,7 @@ use picky_asn1_der::{
     Alternatives, Choice, Deserialize, Deserializer, NoneOf, OneOf4, Result, Serialize, Serializer,
 };
 
-/// How a host is named.
+/// The name of a host, in one of four forms.
 #[derive(Debug, Drop, PartialEq, Eq)]
 pub enum Host {
     /// A UTF8String.

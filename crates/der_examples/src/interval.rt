@@ -12,9 +12,9 @@ use picky_asn1_der::{
 /// The numbers from one to another, as a SEQUENCE of two INTEGERs.
 #[derive(Debug, Drop, PartialEq, Eq)]
 pub struct Interval {
-    /// The first of them.
+    /// The first number.
     pub first: u32,
-    /// The last of them.
+    /// The last number.
     pub last: u32,
 }
 

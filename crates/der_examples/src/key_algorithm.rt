@@ -1,4 +1,4 @@
-//! An open type (ASN.1's ANY DEFINED BY): the identifier of an algorithm says which type its parameters have.
+//! An open type (ANY DEFINED BY): the identifier of an algorithm says which type its parameters have.
 ghost use Rattle.std.proofs.Common.{rules};
 ghost use Rattle.std.specs.Prelude.{◌≡◌, ◌↔◌, IsTrue, MatchOption};
 ghost use Rattle.std.specs.Cmp.Rules.{comparing};
@@ -18,11 +18,11 @@ use picky_asn1_der::{
 /// The parameters of a key's algorithm.
 #[derive(Debug, Drop)]
 pub enum KeyParameters {
-    /// Those of `names::RSA_ENCRYPTION`, a NULL (RFC 3279, 2.3.1).
+    /// The parameters of `names::RSA_ENCRYPTION`: a NULL (RFC 3279, 2.3.1).
     Null(Encoded<()>),
-    /// Those of `names::EC_PUBLIC_KEY`, the name of a curve (RFC 5480, 2.1.1).
+    /// The parameters of `names::EC_PUBLIC_KEY`: the name of a curve (RFC 5480, 2.1.1).
     Curve(Encoded<ObjectIdentifier>),
-    /// Those of every other algorithm: an element of any type, or none.
+    /// The parameters of every other algorithm: an element of any type, or none.
     Other(Option<Asn1RawDer>),
 }
 
@@ -37,7 +37,7 @@ pub struct KeyAlgorithm {
 }
 
 impl KeyParameters {
-    // Their element, if there is one.
+    // The element of the parameters, if there is one.
     fn element(&self) -> Option<&Asn1RawDer>
         ensures { MatchOption result (element_of self.now ≡ None)
             (λ it. element_of self.now ≡ Some it.now) }
@@ -51,14 +51,14 @@ impl KeyParameters {
 }
 
 impl KeyAlgorithm {
-    /// Which algorithm it is.
+    /// Returns which algorithm it is.
     pub fn identifier(&self) -> &ObjectIdentifier
         ensures { result.now ≡ self.now.identifier }
     {
         &self.identifier
     }
 
-    /// Its parameters.
+    /// Returns its parameters.
     pub fn parameters(&self) -> &KeyParameters
         ensures value { result.now ≡ self.now.parameters }
         ensures null { IsTrue (is_null result.now)

@@ -1,4 +1,4 @@
-//! Types written by hand over the public calls alone, as a user of the crates writes them.
+//! Types written by hand with the public calls only, as a user of the crates writes them.
 #![tactic(auto)]
 
 mod age_groups;
@@ -19,6 +19,7 @@ mod moment;
 mod named;
 mod noted;
 mod number_or_flag;
+mod parcel;
 mod personnel_record;
 mod place;
 mod point;
@@ -57,6 +58,7 @@ pub use moment::Moment;
 pub use named::Named;
 pub use noted::Noted;
 pub use number_or_flag::NumberOrFlag;
+pub use parcel::Parcel;
 pub use personnel_record::{
     ChildInformation, EmployeeNumber, PersonName, PersonnelMembers, PersonnelRecord, RecordDate,
     TaggedName,

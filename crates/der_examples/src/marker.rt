@@ -9,12 +9,12 @@ use picky_asn1_der::{
     Struct, deserialize_struct_as,
 };
 
-/// A point with a label, as a SEQUENCE of the two.
+/// A point with a label, as a SEQUENCE of the label and the point.
 #[derive(Debug, Drop, PartialEq, Eq)]
 pub struct Marker {
     /// A name and a number.
     pub label: Named<u8>,
-    /// Where it stands.
+    /// Where the point is.
     pub at: Point,
 }
 

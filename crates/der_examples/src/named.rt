@@ -15,7 +15,7 @@ use picky_asn1_der::{
 pub struct Named<T> {
     /// The bytes of the name.
     pub name: ByteBuf,
-    /// What bears it.
+    /// The value.
     pub value: T,
 }
 

@@ -13,7 +13,7 @@ use picky_asn1_der::{
 /// A value that may have a note, as a SEQUENCE of the value and, under the explicit tag 0, a UTF8String.
 #[derive(Debug, Drop, PartialEq, Eq)]
 pub struct Noted<T> {
-    /// What is noted.
+    /// The value.
     pub value: T,
     /// The note.
     pub note: Option<ExplicitContextTag0<String>>,

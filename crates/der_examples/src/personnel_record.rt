@@ -1,4 +1,5 @@
-//! A record of personnel, the example of X.690's annex A: sets of different members, and tags of an application in place of a type's own.
+//! A record of personnel, the example of X.690's annex A. It has sets of different members, and application tags instead of the types' own
+//! tags.
 ghost use Rattle.std.specs.Prelude.{refl};
 ghost use Rattle.picky_der_de.specs.KnownMembers.{known_struct, sequence_of, sequence_shape};
 
@@ -20,7 +21,7 @@ pub struct PersonName {
     pub given_name: VisibleString,
     /// The initial of the middle name.
     pub initial: VisibleString,
-    /// The name of the family.
+    /// The family name.
     pub family_name: VisibleString,
 }
 
@@ -33,7 +34,7 @@ pub type EmployeeNumber = RetaggedPrimitive<Integer, 0x42>;
 /// A date as `19710917`, `[APPLICATION 3] IMPLICIT VisibleString`.
 pub type RecordDate = RetaggedPrimitive<VisibleString, 0x43>;
 
-/// What is known of a child, as the members of a SET in the order of their tags.
+/// Information about a child, as the members of a SET in the order of their tags.
 #[derive(Debug, Drop, PartialEq, Eq)]
 pub struct ChildInformation {
     /// The name.
@@ -42,7 +43,7 @@ pub struct ChildInformation {
     pub date_of_birth: ExplicitContextTag0<RecordDate>,
 }
 
-/// What is known of an employee, as the members of a SET in the order of their tags: those of the application come first.
+/// Information about an employee, as the members of a SET in the order of their tags. The members with application tags come first.
 #[derive(Debug, Drop, PartialEq, Eq)]
 pub struct PersonnelMembers {
     /// The name.
@@ -51,7 +52,7 @@ pub struct PersonnelMembers {
     pub number: EmployeeNumber,
     /// The title.
     pub title: ExplicitContextTag0<VisibleString>,
-    /// The date from which on the person is employed.
+    /// The date of hire.
     pub date_of_hire: ExplicitContextTag1<RecordDate>,
     /// The name of the person's spouse.
     pub name_of_spouse: ExplicitContextTag2<TaggedName>,

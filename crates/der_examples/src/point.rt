@@ -8,7 +8,7 @@ use picky_asn1_der::{
     Struct, deserialize_struct_as,
 };
 
-/// A point so far east and north, which may be hidden: a SEQUENCE of two INTEGERs and a BOOLEAN.
+/// A point on a map, which may be hidden, as a SEQUENCE of two INTEGERs and a BOOLEAN.
 #[derive(Debug, Drop, PartialEq, Eq)]
 pub struct Point {
     /// How far east.

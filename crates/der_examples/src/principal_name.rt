@@ -12,7 +12,7 @@ use picky_asn1_der::{
 /// The name of a client or a server, as a SEQUENCE (RFC 4120, 5.2.2).
 #[derive(Debug, Drop, PartialEq, Eq)]
 pub struct PrincipalName {
-    /// What kind of name it is, of which only those from 0 on are read.
+    /// The kind of name. Only numbers from 0 on are read.
     pub name_type: ExplicitContextTag0<u32>,
     /// Its parts.
     pub name_string: ExplicitContextTag1<Vec<GeneralStringAsn1>>,

@@ -1,4 +1,4 @@
-//! A private key, whose attributes may be absent.
+//! A private key with optional attributes.
 ghost use Rattle.std.specs.Prelude.{refl};
 ghost use Rattle.picky_der_de.specs.KnownMembers.{known_struct, sequence_of, sequence_shape};
 
@@ -16,11 +16,11 @@ use picky_asn1_der::{
 pub struct PrivateKeyInfo {
     /// The version, 0.
     pub version: u8,
-    /// What the key is for.
+    /// The algorithm of the key.
     pub algorithm: AlgorithmIdentifier,
     /// The encoding of the key.
     pub key: ByteBuf,
-    /// What else is said, as the content of a SET under the implicit tag 0.
+    /// The attributes, as the content of a SET under the implicit tag 0.
     pub attributes: Option<TaggedBytes<0xA0>>,
 }
 

@@ -11,40 +11,40 @@ use picky_asn1_der::{
     Struct, deserialize_struct_as,
 };
 
-/// What a weather station reports, as a SEQUENCE of sixteen members.
+/// The report of a weather station, as a SEQUENCE of sixteen members.
 #[derive(Debug, Drop, PartialEq, Eq)]
 pub struct Report {
-    /// What the station is called.
+    /// The name of the station.
     pub station: String,
-    /// Its number.
+    /// The number of the station.
     pub number: u32,
-    /// When it was made.
+    /// When the report was made.
     pub moment: Moment,
-    /// Whether nobody looked at it.
+    /// Whether nobody checked the report.
     pub automatic: bool,
-    /// The height over the sea in meters. It has to be there to be read back, since the next member is an INTEGER, too.
+    /// The height above the sea in meters. A report without it can't be read back, since the next member is also an INTEGER.
     pub height: Option<u16>,
-    /// In pascals.
+    /// The air pressure in pascals.
     pub pressure: u32,
-    /// Of a hundred.
+    /// The relative humidity in percent.
     pub humidity: u8,
     /// The number of the report.
     pub serial: u128,
-    /// A mark that the station puts on it.
+    /// The station's mark.
     pub seal: ByteBuf,
-    /// How good it is.
+    /// A grade of its quality.
     pub grade: char,
     /// A NULL.
     pub reserved: (),
-    /// The first and the last day that it is about.
+    /// The first and the last day that the report covers.
     pub days: [u16; 2],
     /// Corrections, under the tag `[0]`.
     pub offsets: ExplicitContextTag<Vec<u16>, 0>,
-    /// Who made it, as a SET.
+    /// The authors, as a SET.
     pub authors: Asn1SetOf<ByteBuf>,
-    /// Two values within an OCTET STRING.
+    /// Two values in an OCTET STRING.
     pub sealed: OctetStringAsn1Container<(u8, bool)>,
-    /// Each gust.
+    /// The gusts.
     pub gusts: Vec<Gust>,
 }
 

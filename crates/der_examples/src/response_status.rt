@@ -11,20 +11,21 @@ use picky_asn1_der::de::Begins;
 use picky_asn1_der::misc::{ReadExt, WriteExt};
 use picky_asn1_der::{Deserialize, Deserializer, Result, Serialize, Serializer};
 
-/// How a request for the status of a certificate was answered, as an ENUMERATED (RFC 6960, 4.2.1). Another content is `InvalidData`.
+/// The outcome of a request for the status of a certificate, as an ENUMERATED (RFC 6960, 4.2.1). Every other content is rejected with
+/// `InvalidData`.
 #[derive(Debug, Clone, Copy, PartialEq, Eq)]
 pub enum ResponseStatus {
-    /// The response has the status, the number 0.
+    /// The response has the status: 0.
     Successful,
-    /// The request is malformed, 1.
+    /// The request is malformed: 1.
     MalformedRequest,
-    /// The responder failed, 2.
+    /// The responder failed: 2.
     InternalError,
-    /// The responder can't answer now, 3.
+    /// The responder isn't available now: 3.
     TryLater,
-    /// The request has to be signed, 5.
+    /// The request has to be signed: 5.
     SigRequired,
-    /// The requester may not ask, 6.
+    /// The requester isn't allowed to ask: 6.
     Unauthorized,
 }
 

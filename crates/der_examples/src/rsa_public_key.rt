@@ -14,7 +14,7 @@ use picky_asn1_der::{
 pub struct RsaPublicKey {
     /// The modulus, in two's complement, most significant byte first.
     pub modulus: IntegerAsn1,
-    /// The exponent, in the same way.
+    /// The exponent, in the same form.
     pub public_exponent: IntegerAsn1,
 }
 

@@ -1,4 +1,4 @@
-//! A choice of twelve, as a field of a struct, and a list of these.
+//! A choice of twelve, a struct with that choice as a field, and a list of these structs.
 ghost use Rattle.std.specs.Prelude.{refl};
 ghost use Rattle.picky_der_core.specs.Shape.{Shape};
 ghost use Rattle.picky_der_de.specs.declared.alternatives4.OneOf4.TheVariants.{First, Second, Third, Fourth, Later};
@@ -22,12 +22,12 @@ use picky_asn1_der::{
     Serialize, SerializeMembers, Serializer, Struct, deserialize_struct_as,
 };
 
-/// What a plotter is to do, as a CHOICE of twelve.
+/// A command for a plotter, as a CHOICE of twelve.
 #[derive(Debug, Drop, PartialEq, Eq)]
 pub enum Command {
     /// `[0] EXPLICIT`: go to a point.
     Move(ExplicitContextTag0<Point>),
-    /// `[1] IMPLICIT INTEGER`: wait so many seconds.
+    /// `[1] IMPLICIT INTEGER`: wait this many seconds.
     Wait(ImplicitContextTag1<u32>),
     /// `[2] EXPLICIT SEQUENCE OF`: go to each point.
     Follow(ExplicitContextTag2<Vec<Point>>),
@@ -43,7 +43,7 @@ pub enum Command {
     Load(ImplicitContextTag7<ByteBuf>),
     /// `[8] IMPLICIT SEQUENCE OF INTEGER`: the speeds from now on.
     Speeds(Retagged<Vec<u16>, 0xA8>),
-    /// `[9] IMPLICIT INTEGER`: repeat what was done so many times.
+    /// `[9] IMPLICIT INTEGER`: repeat the last step this many times.
     Repeat(ImplicitContextTag9<u64>),
     /// `[10] EXPLICIT`: mark a point.
     Mark(ExplicitContextTag10<Marker>),
@@ -147,16 +147,16 @@ impl Begins for Command {
     }
 }
 
-/// A command and when it is due, as a SEQUENCE.
+/// A command and its time, as a SEQUENCE.
 #[derive(Debug, Drop, PartialEq, Eq)]
 pub struct Step {
-    /// How many seconds after the start.
+    /// The time in seconds after the start.
     pub at: u32,
-    /// What is to be done.
+    /// The command.
     pub command: Command,
 }
 
-/// What a plotter is to do: a SEQUENCE OF steps.
+/// The commands for a plotter: a SEQUENCE OF steps.
 pub type Script = Vec<Step>;
 
 type Members = (u32, Command, ());

@@ -3,8 +3,11 @@ ghost use Rattle.std.specs.Prelude.{refl};
 ghost use Rattle.picky_der_core.specs.Shape.{Shape};
 ghost use Rattle.picky_der_de.specs.declared.alternatives.OneOf.TheVariants.{This, Other};
 ghost use Rattle.picky_der_de.specs.KnownChoices.{known_choice};
+ghost use Rattle.der_types.specs.ExactChoices.{choice_values};
+ghost use Rattle.der_types.specs.Notation.{Notation};
 ghost use Rattle.der_examples.specs.declared.setting.Setting.TheVariants.{Number, Text, Numbers};
 
+use der_types::{Exact, ExactAlternatives, Notated, NotatedAlternatives};
 use picky_asn1_der::OneOf::{Other, This};
 use picky_asn1_der::asn1::Tag;
 use picky_asn1_der::de::{Begins, deserialize_choice_as};
@@ -13,7 +16,7 @@ use picky_asn1_der::{
     Alternatives, Choice, Deserialize, Deserializer, NoneOf, OneOf, Result, Serialize, Serializer,
 };
 
-/// What a setting is set to.
+/// The value of a setting.
 #[derive(Debug, Drop, PartialEq, Eq)]
 pub enum Setting {
     /// An INTEGER.
@@ -69,4 +72,18 @@ impl Begins for Setting {
     fn begins_with(tag: Tag) -> bool {
         <Parts as Alternatives>::begins_with(tag)
     }
+}
+
+impl Notated for Setting {
+    ghost notation = { Notation.choice ⟦<Parts as NotatedAlternatives>⟧.alternatives_notation };
+
+    ghost denoted = { refl };
+}
+
+impl Exact for Setting {
+    ghost values = { choice_values ⟦<Parts as ExactAlternatives>⟧.chosen_values ⟦<Parts as NotatedAlternatives>⟧.alternatives_notation
+        ⟦<Parts as Alternatives>⟧.chosen ⟦<Self as Choice>⟧.parts
+        (elim [ This n ↦ (Number n, refl) | Other (This s) ↦ (Text s, refl) | Other (Other (This x)) ↦ (Numbers x, refl) | Other (Other (Other v)) ↦ elim v [ ] ]) };
+
+    ghost exact = { Prim.assumption };
 }

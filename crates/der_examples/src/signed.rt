@@ -15,9 +15,9 @@ use picky_asn1_der::{
 /// A value and its signature, as a SEQUENCE in the form of a certificate (RFC 5280, 4.1). The signature isn't verified.
 #[derive(Debug, Drop, PartialEq, Eq)]
 pub struct Signed<T> {
-    /// What is signed.
+    /// The signed value.
     pub content: T,
-    /// How it is signed.
+    /// The algorithm of the signature.
     pub algorithm: AlgorithmIdentifier,
     /// The signature.
     pub signature: BitString,
@@ -68,7 +68,7 @@ pub struct Bundle {
     pub number: Signed<u32>,
     /// A point.
     pub point: Signed<Point>,
-    /// What is to be done.
+    /// A list of commands.
     pub commands: Signed<Script>,
 }
 

@@ -17,9 +17,9 @@ use picky_asn1_der::{
 pub struct SignedData {
     /// The version.
     pub version: u8,
-    /// How the content is digested.
+    /// The algorithms of the content's digests.
     pub digest_algorithms: Asn1SetOf<AlgorithmIdentifier>,
-    /// What is signed.
+    /// The signed content.
     pub content: EncapsulatedContentInfo,
     /// Certificates, elements of any type.
     pub certificates: Option<ImplicitList0<Asn1SetOf<Asn1RawDer>>>,

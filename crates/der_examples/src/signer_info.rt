@@ -12,22 +12,22 @@ use picky_asn1_der::{
     Serializer, Struct, deserialize_struct_as,
 };
 
-/// A signer, and its signature, as a SEQUENCE (RFC 5652, 5.3).
+/// A signer and the signature, as a SEQUENCE (RFC 5652, 5.3).
 #[derive(Debug, Drop, PartialEq, Eq)]
 pub struct SignerInfo {
-    /// The version: 1, or 3 where `identifier` names a key.
+    /// The version: 1, or 3 if `identifier` names a key.
     pub version: u8,
-    /// Who signs, as an element of any type.
+    /// The signer, as an element of any type.
     pub identifier: Asn1RawDer,
-    /// How the content is digested.
+    /// The algorithm of the content's digest.
     pub digest_algorithm: AlgorithmIdentifier,
-    /// What else is signed. The signature is over `to_vec(alloc, &attributes.0)`, the SET OF them with its own tag.
+    /// More attributes that are signed. The signature is over `to_vec(alloc, &attributes.0)`, the SET OF attributes with its own tag.
     pub signed_attributes: Option<ImplicitList0<Asn1SetOf<Attribute>>>,
-    /// How it is signed.
+    /// The algorithm of the signature.
     pub signature_algorithm: AlgorithmIdentifier,
     /// The signature.
     pub signature: ByteBuf,
-    /// What is said and not signed.
+    /// Attributes that aren't signed.
     pub unsigned_attributes: Option<ImplicitList1<Asn1SetOf<Attribute>>>,
 }
 

@@ -9,7 +9,7 @@ use picky_asn1_der::{
     Struct, deserialize_struct_as,
 };
 
-/// A time spent somewhere, as a SEQUENCE of its two ends.
+/// A time spent somewhere, as a SEQUENCE of its begin and its end.
 #[derive(Debug, Drop, PartialEq, Eq)]
 pub struct Stay {
     /// When it begins.

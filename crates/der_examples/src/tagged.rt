@@ -10,12 +10,12 @@ use picky_asn1_der::{
     Struct, deserialize_struct_as,
 };
 
-/// A label and a point that may be told apart by their tags: `[0] EXPLICIT` and `[1] IMPLICIT`.
+/// A label and a point that their tags distinguish: `[0] EXPLICIT` and `[1] IMPLICIT`.
 #[derive(Debug, Drop, PartialEq, Eq)]
 pub struct Tagged {
     /// A name and a number.
     pub label: ExplicitContextTag<Named<u8>, 0>,
-    /// Where it stands.
+    /// Where the point is.
     pub at: ImplicitContextTag<Point, 1>,
 }
 

@@ -17,16 +17,16 @@ use picky_asn1_der::{
 /// A ticket: its body under the application tag 1.
 pub type Ticket = ApplicationTag<TicketBody, 1>;
 
-/// What a ticket holds, as a SEQUENCE (RFC 4120, 5.3).
+/// The body of a ticket, as a SEQUENCE (RFC 4120, 5.3).
 #[derive(Debug, Drop, PartialEq, Eq)]
 pub struct TicketBody {
     /// The version of the form, 5.
     pub tkt_vno: ExplicitContextTag0<u8>,
-    /// Who issued it.
+    /// The issuer.
     pub realm: ExplicitContextTag1<GeneralStringAsn1>,
     /// The server that it is for.
     pub sname: ExplicitContextTag2<PrincipalName>,
-    /// What only that server reads.
+    /// The part that only that server can read.
     pub enc_part: ExplicitContextTag3<EncryptedData>,
 }
 

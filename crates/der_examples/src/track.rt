@@ -10,16 +10,16 @@ use picky_asn1_der::{
     Struct, deserialize_struct_as,
 };
 
-/// A track through points, as a SEQUENCE of its members.
+/// A track through points, as a SEQUENCE.
 #[derive(Debug, Drop, PartialEq, Eq)]
 pub struct Track {
     /// Whether it leads back to the first point.
     pub closed: bool,
     /// The points, in order.
     pub points: Vec<Point>,
-    /// The first and the last day of a year on which it is open.
+    /// The first and the last day of the year on which it is open.
     pub days: [u16; 2],
-    /// What it is called, under the tag `[0]`.
+    /// Its names, under the tag `[0]`.
     pub names: ExplicitContextTag<Asn1SetOf<ByteBuf>, 0>,
 }
 

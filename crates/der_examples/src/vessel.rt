@@ -13,14 +13,14 @@ use picky_asn1_der::{
     Struct, deserialize_struct_as,
 };
 
-/// What a harbor knows of a vessel, as a SEQUENCE of twenty members.
+/// A vessel in a harbor, as a SEQUENCE of twenty members.
 #[derive(Debug, Drop, PartialEq, Eq)]
 pub struct Vessel {
-    /// What it is called.
+    /// Its name.
     pub name: String,
     /// Its number.
     pub number: u32,
-    /// By what it is called over the radio, under the tag `[0]`.
+    /// Its call sign on the radio, under the tag `[0]`.
     pub call_sign: Option<ExplicitContextTag0<String>>,
     /// How many tons it carries.
     pub tonnage: u64,
@@ -30,27 +30,27 @@ pub struct Vessel {
     pub home: Point,
     /// How many decks it has.
     pub decks: u8,
-    /// Who owns it, under the tag `[1]`.
+    /// The owner, under the tag `[1]`.
     pub owner: Option<ExplicitContextTag1<Setting>>,
-    /// A mark that customs put on it.
+    /// The mark of the customs.
     pub seal: Option<ByteBuf>,
-    /// How its engine is set.
+    /// The setting of the engine.
     pub engine: Setting,
-    /// Its speeds on the last days.
+    /// Its speeds in the last days.
     pub speeds: Vec<u16>,
-    /// Where it is to lie, under the tag `[2]`.
+    /// Its berth, under the tag `[2]`.
     pub berth: Option<ExplicitContextTag2<Point>>,
     /// Its length and its width.
     pub size: (u16, u16),
     /// Whether it is moored.
     pub is_moored: bool,
-    /// The number of its flag, or whether it shows one.
+    /// The number of its flag, or whether it shows a flag.
     pub flag: NumberOrFlag,
     /// The name of the pilot.
     pub pilot: Option<String>,
     /// The numbers of its tugs.
     pub tugs: Option<Vec<u16>>,
-    /// How deep it is in the water.
+    /// Its draught.
     pub draught: u32,
     /// The chart of the harbor.
     pub chart: ByteBuf,
@@ -191,7 +191,7 @@ impl Serialize for Vessel {
     }
 }
 
-// What comes after the sixteenth field.
+// The members after the sixteenth field.
 #[derive(Drop)]
 struct Last<'a>(&'a Vessel);
 
