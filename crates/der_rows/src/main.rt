@@ -1,4 +1,4 @@
-//! Answers each row on standard input by a line on standard output.
+//! For each row on standard input, writes its result to standard output as a line.
 #![tactic(auto)]
 
 use der_rows_lib::answer_to;

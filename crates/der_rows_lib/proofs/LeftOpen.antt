@@ -1,4 +1,4 @@
--- A value that leaves a sequence open behind what it wrote.
+-- A value that leaves a sequence open after what it wrote.
 use Rattle.std.proofs.Common.{arith, ◌≡◌, ◌<◌, ◌^◌, ℕ, List, [], ◌∷◌, length, Result, Ok, Err, None, IfErr, IsErrAnd, refl, sym, ap, ◌∙◌, subst, append-nil}
 use Rattle.std.specs.Prelude.{IfNone}
 use Rattle.std.specs.Io.KnownBytes.{Appends}
@@ -22,19 +22,19 @@ one = refl
 one_is_writable : IsWritable (Tree.primitive (Primitive.unsigned 1))
 one_is_writable = record { numbers = refl; fits = subst (λ bs. length bs < 2 ^ 64) (sym one) (omega arith) }
 
--- the number 1 is refused only where memory is
+-- the number 1 is refused only if an allocation fails
 only_memory : {e : Asn1DerError} → MemoryExcuse (IsWritable (Tree.primitive (Primitive.unsigned 1))) e → e ≡ OutOfMemory
 only_memory (no_room m) = m
 only_memory (no_way m n) = absurd (n one_is_writable)
 
 module _ {W : Type 0} (g : Ghosts W) where
-  -- memory was refused behind the encoding
+  -- an allocation failed after the encoding
   refused_behind : (inside levels : List Level) (t : Tree) (old mid new : W) {e : Asn1DerError} → e ≡ OutOfMemory → AddsIn g inside levels old mid (der t) → new ≡ mid → RefusesIn g inside t old e new
   refused_behind [] levels t old mid new none a same =
       record { begins = record { front = der t; rest = []; is = sym (append-nil (der t)); appends = subst (λ s. Appends (g.written old) (g.written s) (der t)) (sym same) a.1 }; excuse = no_memory none }
   refused_behind (l ∷ ls) levels t old mid new none a same = (no_room none, same ∙ a.1)
 
-  -- the tree was written, a sequence was begun behind it, and the sequence's member was refused
+  -- the tree was written, a sequence was begun after it, and the sequence's member was refused
   left_open : (t : Tree) (header : Header) {old mid lazy new : State W} {n : ℕ} {e : Asn1DerError} → Writes g t old n mid → OpensLevel g header mid lazy → RefusesToAdd g (Tree.primitive (Primitive.unsigned 1)) lazy e new → RefusesWrite g t old e new
   left_open t header {old} {mid} {lazy} {new} {n} {e} h o r =
       let failed : lazy.failed ≡ None = ap (λ (s : State W). s.failed) o.opened ∙ h.not_failed in
@@ -46,7 +46,7 @@ module _ {W : Type 0} (g : Ghosts W) where
         reason = rw h.had_not_failed (refused_behind old.inside mid.inside (under old.around t) old.sink mid.sink new.sink (only_memory excuse) h.adds (r.same ∙ sink));
       }
 
-  -- the same of the answer that passes the error on
+  -- the same for the result that passes the error on
   pub left_open_at : (t : Tree) (header : Header) {T : Type 0} {old mid lazy last new : State W} {n : ℕ} {e : Asn1DerError} (r : Result T Asn1DerError) → IsErrAnd r (λ error. error ≡ e) → new ≡ last → Writes g t old n mid → OpensLevel g header mid lazy → RefusesToAdd g (Tree.primitive (Primitive.unsigned 1)) lazy e last → IfErr r (λ e. RefusesWrite g t old e new)
   left_open_at t header (Ok v) h same w o f = absurd h
   left_open_at t header (Err error) h same w o f = rw (h, same) (left_open t header w o f)

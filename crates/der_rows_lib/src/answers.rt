@@ -1,4 +1,4 @@
-//! The answers to rows, at any type.
+//! The results of rows, for any type.
 
 use crate::copies::{Copied, is_copied};
 use crate::hostile::Wrong;
@@ -18,7 +18,7 @@ pub(crate) struct RowBytes {
     pub(crate) trial: Trial,
 }
 
-/// Whether the encoding of what is read is tried as a hostile one, too.
+/// Whether the encoding of the value is also tried as a hostile one.
 #[derive(Clone, Copy)]
 pub(crate) enum Trial {
     Hostile,
@@ -30,18 +30,18 @@ pub(crate) enum Trial {
 pub(crate) enum Way {
     /// From a slice.
     Slice,
-    /// From a reader that gives one byte a call, with this limit.
+    /// From a reader that returns one byte per call, with this limit.
     Reader(usize),
-    /// As an encoding that is cut, limited and changed.
+    /// As an encoding that is cut short, read with limits, and changed.
     Hostile,
-    /// As values one behind the other, of which the encoding of none begins that of another.
+    /// As values one after another, where no value's encoding begins another's.
     Apart,
-    /// By each call that reads, and then written by each call that writes. Any growth of memory may be refused.
+    /// By each call that reads, and then written by each call that writes. Any allocation may fail.
     Growing,
 }
 
 impl Way {
-    /// That of `read`, `draw LIMIT`, `hostile`, `apart` and `grow read`.
+    /// The way that `read`, `draw LIMIT`, `hostile`, `apart` or `grow read` names.
     pub(crate) fn named(words: &str) -> Option<Way> {
         match words {
             "read" => Some(Way::Slice),
@@ -53,7 +53,7 @@ impl Way {
     }
 }
 
-/// What becomes of the bytes when they are read as this type.
+/// The result of reading the bytes as this type.
 pub(crate) fn read_as<T: Deserialize + Debug>(
     alloc: Global,
     row: &RowBytes,
@@ -67,7 +67,7 @@ pub(crate) fn read_as<T: Deserialize + Debug>(
     }
 }
 
-/// The same of a type with a `clone` of its own. The copy of what is read from a slice is equal to it.
+/// The same for a type with a `clone` of its own. The copy of what is read from a slice must be equal to it.
 pub(crate) fn read_copied<T: Copied + Debug>(
     alloc: Global,
     row: &RowBytes,
@@ -101,8 +101,7 @@ fn read_a_byte_a_call<T: Deserialize + Debug>(
     }
 }
 
-// How many bytes were taken, the bytes that the value is written as, and the value; or where these bytes aren't read as
-// they must be.
+// How many bytes were consumed, the bytes that the value is written as, and the value. Or an error in how these bytes are read.
 fn shown<T: Deserialize + Debug>(
     alloc: Global,
     trial: Trial,
@@ -135,13 +134,13 @@ fn tried<T: Deserialize>(
 /// How a value is written.
 #[derive(Clone, Copy)]
 pub(crate) enum Writing {
-    /// By `to_writer`, which has to agree with `to_vec`.
+    /// By `to_writer`, whose result must agree with `to_vec`.
     Whole,
-    /// By each call that writes. Any growth of memory may be refused.
+    /// By each call that writes. Any allocation may fail.
     Growing,
 }
 
-/// What becomes of the value when it is written so.
+/// The result of writing the value in this way.
 pub(crate) fn written<T: Serialize>(
     alloc: Global,
     how: Writing,
@@ -153,7 +152,7 @@ pub(crate) fn written<T: Serialize>(
     }
 }
 
-// What becomes of the value, and the bytes that reach the sink.
+// The result of writing the value, and the bytes that reach the writer.
 fn write_whole<T: Serialize>(alloc: Global, value: &T) -> Result<String, AllocError> {
     let mut writer = Watched::new(SlowWriter::new(alloc));
     let outcome = to_writer(alloc, value, &mut writer);

@@ -1,10 +1,10 @@
-//! Values of one type, of which no encoding begins another.
+//! Values of one type, where no encoding begins another.
 
 use picky_asn1_der::misc::ReadExt;
 use picky_asn1_der::{Deserialize, Deserializer, to_vec};
 use std::alloc::{AllocError, Global};
 
-/// How many values stand in the bytes, one behind the other, where the encoding of none begins with that of another.
+/// How many values the bytes have, one after another, if no encoding begins another.
 pub(crate) fn answer<T: Deserialize>(alloc: Global, bytes: &[u8]) -> Result<String, AllocError> {
     match encodings::<T>(alloc, bytes) {
         Ok(encodings) => compared(alloc, &encodings),
@@ -12,7 +12,7 @@ pub(crate) fn answer<T: Deserialize>(alloc: Global, bytes: &[u8]) -> Result<Stri
     }
 }
 
-// What the values are written as.
+// The encodings of the values.
 fn encodings<T: Deserialize>(alloc: Global, bytes: &[u8]) -> picky_asn1_der::Result<Vec<Vec<u8>>> {
     let mut encodings = Vec::new(alloc);
     let mut de = Deserializer::new_from_bytes(alloc, bytes);
@@ -35,7 +35,7 @@ fn compared(alloc: Global, encodings: &[Vec<u8>]) -> Result<String, AllocError> 
     }
 }
 
-// What the next value is written as.
+// The encoding of the next value.
 fn next_encoding<T: Deserialize, R: ReadExt>(
     alloc: Global,
     de: &mut Deserializer<R>,
@@ -44,7 +44,7 @@ fn next_encoding<T: Deserialize, R: ReadExt>(
     to_vec(alloc, &value)
 }
 
-// The place of an encoding, and that of another that begins with it.
+// The place of an encoding, and of another one that begins with it.
 fn clash(encodings: &[Vec<u8>]) -> Option<(usize, usize)> {
     for (place, encoding) in encodings.iter().enumerate() {
         if let Some(other) = beginning_with(encodings, encoding, place) {
@@ -54,7 +54,7 @@ fn clash(encodings: &[Vec<u8>]) -> Option<(usize, usize)> {
     None
 }
 
-// The first that begins so, at another place than this.
+// The first encoding at another place that begins with this one.
 fn beginning_with(encodings: &[Vec<u8>], front: &[u8], place: usize) -> Option<usize> {
     for (other, encoding) in encodings.iter().enumerate() {
         if other != place && encoding.starts_with(front) {

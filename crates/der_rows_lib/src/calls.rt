@@ -7,18 +7,18 @@ use picky_asn1_der::misc::{ReadExt, Watched};
 use std::alloc::{AllocError, Global};
 use std::fmt::Debug;
 
-/// The bytes of a row, how they are given, and the calls, with `, ` between any two.
+/// The bytes of a row, how they are read, and the calls, separated by `, `.
 #[derive(Drop)]
 pub(crate) struct Calls<'a> {
     pub(crate) bytes: Vec<u8>,
 
-    /// The reader that gives the bytes one a call. Without one they are read from a slice.
+    /// The reader that returns the bytes one per call. If there is none, they are read from a slice.
     pub(crate) device: Option<Device>,
 
     pub(crate) names: &'a str,
 }
 
-/// What the calls answer, each with how many bytes are taken then, and how many were drawn from a reader in all.
+/// What the calls return. Each result has how many bytes are consumed by then, and for a reader how many were read in all.
 pub(crate) fn answer(alloc: Global, calls: &Calls<'_>) -> Result<String, AllocError> {
     match calls.device {
         None => {
@@ -47,7 +47,7 @@ fn answers<R: ReadExt>(
     }))
 }
 
-/// What a call answers, as text.
+/// The result of a call, as text.
 pub(crate) fn shown<T: Debug>(alloc: Global, outcome: &T) -> Result<String, AllocError> {
     format!(in alloc; "{outcome:?}")
 }

@@ -15,7 +15,7 @@ use std::fmt::Debug;
 
 /// A type of the library with a `clone` of its own.
 pub(crate) trait Copied: Deserialize {
-    /// What that `clone` returns.
+    /// Calls that `clone`.
     fn copied(&self) -> DerResult<Self>;
 }
 
@@ -85,7 +85,7 @@ impl<T: List + Deserialize + Clone, const TAG: u8> Copied for Retagged<T, TAG> {
     }
 }
 
-/// Whether the copy of the value is equal to it, that the bytes are read as. Bytes that are refused have none.
+/// Whether the copy of the value is equal to the value that the bytes encode. Bytes that are refused have none.
 pub(crate) fn is_copied<T: Copied>(alloc: Global, bytes: &[u8]) -> bool {
     match by_from_bytes::<T>(alloc, bytes) {
         Ok(value) => value.copied() == Ok(value),
@@ -93,7 +93,7 @@ pub(crate) fn is_copied<T: Copied>(alloc: Global, bytes: &[u8]) -> bool {
     }
 }
 
-/// The same of the type with this name, where memory may be refused.
+/// The same for the type with this name, where allocations may fail.
 pub(crate) fn copy(alloc: Global, name: &str, bytes: &[u8]) -> Result<(), Stop> {
     match name {
         "ByteBuf" => copy_as::<ByteBuf>(alloc, bytes),
@@ -109,7 +109,7 @@ pub(crate) fn copy(alloc: Global, name: &str, bytes: &[u8]) -> Result<(), Stop> 
     }
 }
 
-// Of one in a container or under a tag.
+// The same for a type in a container or under a tag.
 fn copy_wrapped(alloc: Global, name: &str, bytes: &[u8]) -> Result<(), Stop> {
     match name {
         "ExplicitContextTag0<ByteBuf>" => copy_as::<ExplicitContextTag0<ByteBuf>>(alloc, bytes),

@@ -3,7 +3,7 @@
 use der_fixtures::{FailingReader, WriterFault};
 use std::io::ErrorKind;
 
-/// The number of the call that fails, counted from 1, and how it does. At 0 none fails.
+/// The number of the call that fails, counted from 1, and its error. With 0, no call fails.
 #[derive(Clone, Copy)]
 pub(crate) struct Fault {
     call: usize,
@@ -16,7 +16,7 @@ impl Fault {
         kind: ErrorKind::Other,
     };
 
-    /// That of `N with KIND`.
+    /// The fault that `N with KIND` names.
     pub(crate) fn named(name: &str) -> Option<Fault> {
         let (call, kind) = name.split_once(" with ")?;
         Some(Fault {
@@ -25,13 +25,13 @@ impl Fault {
         })
     }
 
-    /// A reader that gives these bytes one a call, and fails so.
+    /// A reader of these bytes that returns one byte per call, and fails at that call.
     pub(crate) fn reader(self, bytes: &[u8]) -> FailingReader<'_> {
         FailingReader::new(bytes, self.call, self.kind)
     }
 }
 
-/// A reader that gives one byte a call, and how many bytes may be drawn from it.
+/// A reader that returns one byte per call, and how many bytes may be read from it.
 #[derive(Clone, Copy)]
 pub(crate) struct Device {
     pub(crate) limit: usize,
@@ -39,7 +39,7 @@ pub(crate) struct Device {
 }
 
 impl Device {
-    /// That of `limit LIMIT ` or `limit LIMIT failing at N with KIND `.
+    /// The reader that `limit LIMIT ` or `limit LIMIT failing at N with KIND ` names.
     pub(crate) fn named(name: &str) -> Option<Device> {
         let name = name.strip_prefix("limit ")?.strip_suffix(" ")?;
         let Some((limit, fault)) = name.split_once(" failing at ") else {
@@ -55,14 +55,14 @@ impl Device {
     }
 }
 
-/// The call of a writer that is refused, how it is, and what stands behind these: `N with KIND: REST`.
+/// Which call of a writer fails, how, and the text after that: `N with KIND: REST`.
 pub(crate) fn refused_call(text: &str) -> Option<(usize, WriterFault, &str)> {
     let (fault, rest) = text.split_once(": ")?;
     let (call, kind) = fault.split_once(" with ")?;
     Some((call.parse().ok()?, refusal_named(kind)?, rest))
 }
 
-/// The refusal of a writer with this name.
+/// The failure of a writer with this name.
 pub(crate) fn refusal_named(name: &str) -> Option<WriterFault> {
     match name {
         "nothing taken" => Some(WriterFault::TakesNothing),

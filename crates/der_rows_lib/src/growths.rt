@@ -1,7 +1,7 @@
-//! Calls that may be refused memory.
+//! Calls with allocations that may fail.
 //!
-//! Nothing in this program refuses any: `tools/refuse-growths` has one request of a run refused, and another in the next run.
-//! Calls that meet no refusal do what the row says, and the one that meets it has to answer so.
+//! This program makes none fail: `tools/refuse-growths` makes one allocation of a run fail, and another one in the next run. Calls that
+//! meet no failure do what the row says. The call that meets it has to return `OutOfMemory`.
 
 use crate::reads::{by_from_bytes, by_from_reader};
 use picky_asn1_der::Asn1DerError::OutOfMemory;
@@ -12,19 +12,19 @@ use picky_asn1_der::{
 };
 use std::alloc::{AllocError, Global};
 
-/// What stands in a vector or a slice before it is written over.
+/// The bytes of a vector or a slice before it is written over.
 pub(crate) const OLD: u8 = 0xEE;
 
 /// Why no further call of a row was made.
 #[derive(Clone, Copy)]
 pub(crate) enum Stop {
-    /// This call was refused memory, answered so, and left what it should.
+    /// An allocation of this call failed; it returned `OutOfMemory` and left what it should.
     Refused(&'static str),
     /// This call did something else than it should.
     Wrong(&'static str),
 }
 
-/// The answer to a row whose calls ended so.
+/// The result of a row whose calls ended like this.
 pub(crate) fn answer(alloc: Global, outcome: Result<(), Stop>) -> Result<String, AllocError> {
     match outcome {
         Ok(()) => String::from_str(alloc, "whole"),
@@ -33,7 +33,7 @@ pub(crate) fn answer(alloc: Global, outcome: Result<(), Stop>) -> Result<String,
     }
 }
 
-/// Asks for memory this many times, and gives it back.
+/// Allocates this many times, and frees it again.
 pub(crate) fn spend(alloc: Global, times: &str) -> Result<String, AllocError> {
     let mut outcome = Ok(());
     for _ in 0..times.parse::<u32>().unwrap_or(0) {
@@ -44,8 +44,8 @@ pub(crate) fn spend(alloc: Global, times: &str) -> Result<String, AllocError> {
     answer(alloc, outcome)
 }
 
-/// Reads the value at the front of the bytes by each call that reads, and writes it by each call that writes. Where there is
-/// none, each call that reads has to refuse them with one error.
+/// Reads the value at the front of the bytes by each call that reads, and writes it by each call that writes. If there is no value, each
+/// call that reads has to fail with the same error.
 pub(crate) fn read<T: Deserialize>(alloc: Global, bytes: &[u8]) -> Result<String, AllocError> {
     let mut room = vec![in alloc; OLD; 2]?;
     answer(alloc, read_and_written::<T>(alloc, bytes, &mut room))
@@ -70,7 +70,7 @@ fn read_and_written<T: Deserialize>(
     wanted.write(alloc, &value, room)
 }
 
-// Whether the other calls that read refuse the bytes so.
+// Whether the other calls that read fail with this error.
 fn are_refused<T: Deserialize>(
     alloc: Global,
     bytes: &[u8],
@@ -92,7 +92,7 @@ fn is_refused<T: Drop>(
     }
 }
 
-/// Whether this call answered a value that is equal to this one.
+/// Whether this call returned a value that is equal to this one.
 pub(crate) fn is<T: PartialEq + Drop>(
     call: &'static str,
     came: DerResult<T>,
@@ -105,8 +105,8 @@ pub(crate) fn is<T: PartialEq + Drop>(
     }
 }
 
-// The value, and how many bytes were taken; or why the bytes are refused, unless memory was refused. A deserializer that
-// was refused memory answers so again, and takes nothing.
+// The value, and how many bytes were consumed; or why the bytes are refused, unless an allocation failed. A deserializer whose allocation
+// failed returns the error again, and consumes nothing.
 fn deserialized<T: Deserialize>(
     alloc: Global,
     bytes: &[u8],
@@ -127,7 +127,7 @@ fn deserialized<T: Deserialize>(
     }
 }
 
-// An element is passed over without memory.
+// An element is skipped without an allocation.
 fn skip(alloc: Global, bytes: &[u8], taken: usize) -> Result<(), Stop> {
     let mut de = Deserializer::new_from_bytes(alloc, bytes);
     if de.deserialize_ignored_any() == Ok(()) && de.taken() == taken {
@@ -159,19 +159,19 @@ pub(crate) fn write<T: Serialize>(alloc: Global, value: &T) -> Result<String, Al
     answer(alloc, outcome)
 }
 
-/// What each call that writes has to leave and to answer.
+/// What each call that writes has to leave and to return.
 #[derive(Clone, Copy)]
 pub(crate) struct Wanted<'a> {
-    /// The bytes, or none where the answer is an error.
+    /// The bytes, or none if the result is an error.
     pub(crate) encoding: &'a [u8],
 
-    /// The answer.
+    /// The result.
     pub(crate) outcome: DerResult<usize>,
 }
 
 impl Wanted<'_> {
-    /// Whether this call answered so and left the bytes, or was refused memory and left a beginning of them, in front of
-    /// what stood there.
+    /// Whether this call returned that result and left the bytes. If an allocation failed, it may leave a beginning of them, and the bytes
+    /// after that are unchanged.
     pub(crate) fn was_left(
         &self,
         call: &'static str,
@@ -213,7 +213,7 @@ impl Wanted<'_> {
         self.serialize(alloc, value, room)
     }
 
-    // A serializer that failed answers its error again, and writes nothing.
+    // A serializer that failed returns its error again, and writes nothing.
     fn serialize<T: Serialize>(
         &self,
         alloc: Global,

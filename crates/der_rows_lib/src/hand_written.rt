@@ -1,4 +1,4 @@
-//! Values that write by calls of their own.
+//! Values that are written by calls of their own.
 
 ghost use Rattle.picky_der_core.specs.Primitive.{Primitive};
 
@@ -6,7 +6,7 @@ use picky_asn1_der::asn1::Tag;
 use picky_asn1_der::misc::WriteExt;
 use picky_asn1_der::{Result, Serialize, Serializer, ser};
 
-/// Writes its bytes as they are.
+/// Writes its bytes unchanged.
 #[derive(Drop)]
 pub(crate) struct Untouched;
 

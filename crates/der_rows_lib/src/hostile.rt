@@ -1,4 +1,4 @@
-//! Encodings that are cut short, read behind a limit, and changed at one place.
+//! Encodings that are cut short, read with a limit, and changed at one place.
 
 use crate::reads::{below_limit, by_deserializer, by_from_bytes, by_from_reader};
 use picky_asn1_der::Asn1DerError::{InvalidData, TruncatedData, UnsupportedValue};
@@ -6,20 +6,19 @@ use picky_asn1_der::de::DEFAULT_MAX_LEN;
 use picky_asn1_der::{Asn1DerError, Deserialize, to_vec};
 use std::alloc::{AllocError, Global};
 
-// Longer encodings are read once for each change, from a slice alone, since all else takes long.
+// Longer encodings are read once for each change, from a slice only, since everything else takes too long.
 const LONGEST_READ_AGAIN: usize = 4096;
 
 /// Where an encoding isn't read as it must be.
 #[derive(Clone, Copy, Debug)]
 pub(crate) enum Wrong {
-    /// Of its front of this length it isn't said that it is cut short.
+    /// The prefix of this length isn't reported as cut short.
     Front(usize),
-    /// With this limit it isn't read, or it is though it is longer, or something else is drawn than it.
+    /// With this limit it isn't read, or it is read although it is longer, or it consumes more or fewer bytes than its encoding.
     Limit(usize),
-    /// With this byte at this place something is read that isn't written so, or another answer comes where more bytes
-    /// stand behind.
+    /// With this byte at this place a value is read that is written differently, or the result changes when more bytes follow.
     Change(usize, u8),
-    /// Memory was refused.
+    /// An allocation failed.
     Memory,
 }
 
@@ -29,24 +28,24 @@ impl From<AllocError> for Wrong {
     }
 }
 
-// Where bytes are read from: a slice, or a reader that gives one byte a call.
+// Where bytes are read from: a slice, or a reader that returns one byte per call.
 #[derive(Clone, Copy)]
 enum Source {
     Slice,
     Reader,
 }
 
-// What becomes of bytes that are read.
+// The outcome of reading bytes.
 #[derive(Clone, Copy, PartialEq, Eq)]
 enum Outcome {
-    // A value, whose encoding is the bytes that were taken. It comes again, whatever stands behind them.
+    // A value whose encoding is the bytes that were consumed. It stays the same, whatever bytes follow.
     Value,
-    // A refusal for want of bytes.
+    // An error because bytes are missing.
     Truncated,
-    // Refusals that come again, whatever stands behind the bytes that they rest on.
+    // Errors that stay the same, whatever bytes follow the ones that cause them.
     Invalid,
     Unsupported,
-    // A value with another encoding, another refusal, or an answer that doesn't come again.
+    // A value with another encoding, another error, or a result that changes.
     Wrong,
 }
 
@@ -61,7 +60,7 @@ impl Outcome {
     }
 }
 
-/// What becomes of an encoding that is changed at one place, counted over all places and bytes.
+/// The outcomes of an encoding with one byte changed, counted over all places and bytes.
 #[derive(Clone, Copy)]
 pub(crate) struct Tally {
     values: usize,
@@ -102,7 +101,7 @@ impl Tally {
     }
 }
 
-/// What becomes of this encoding, changed at each place, where all else is read as it must be.
+/// The outcomes of this encoding, changed at each place, if everything else is read correctly.
 pub(crate) fn answer<T: Deserialize>(alloc: Global, encoding: &[u8]) -> Result<String, AllocError> {
     match by_from_bytes::<T>(alloc, encoding) {
         Ok(value) => match tried(alloc, encoding, &value) {
@@ -113,7 +112,7 @@ pub(crate) fn answer<T: Deserialize>(alloc: Global, encoding: &[u8]) -> Result<S
     }
 }
 
-/// Tries this encoding of a value: cut short at each place, behind each limit, and with each byte in each place.
+/// Tries this encoding of a value: cut short at each place, with each limit, and with each byte at each place.
 pub(crate) fn tried<T: Deserialize>(
     alloc: Global,
     encoding: &[u8],
@@ -124,7 +123,7 @@ pub(crate) fn tried<T: Deserialize>(
     try_changes::<T>(alloc, encoding)
 }
 
-// Each front is refused as one that is cut short, from a slice and from a reader.
+// Each prefix is refused as cut short, from a slice and from a reader.
 fn try_fronts<T: Deserialize>(alloc: Global, encoding: &[u8]) -> Result<(), Wrong> {
     for len in 0..encoding.len() {
         let front = &encoding[..len];
@@ -138,7 +137,7 @@ fn try_fronts<T: Deserialize>(alloc: Global, encoding: &[u8]) -> Result<(), Wron
     Ok(())
 }
 
-// Other bytes stand behind it, of which none is drawn. A limit below its length is where the input ends.
+// Other bytes follow it, and none of them is read. A limit below its length counts as the end of the input.
 fn try_limits<T: Deserialize>(alloc: Global, encoding: &[u8], value: &T) -> Result<(), Wrong> {
     let len = encoding.len();
     let input = with_others_behind(alloc, encoding, len)?;
@@ -155,7 +154,7 @@ fn try_limits<T: Deserialize>(alloc: Global, encoding: &[u8], value: &T) -> Resu
     Ok(())
 }
 
-// The first `len` bytes of the front, and behind them 64 bytes that begin nothing.
+// The first `len` bytes of the front, followed by 64 bytes that begin nothing.
 fn with_others_behind(alloc: Global, front: &[u8], len: usize) -> Result<Vec<u8>, AllocError> {
     let mut bytes = Vec::from_slice(alloc, front)?;
     bytes.truncate(len);
@@ -163,7 +162,7 @@ fn with_others_behind(alloc: Global, front: &[u8], len: usize) -> Result<Vec<u8>
     Ok(bytes)
 }
 
-// Each byte is replaced by each of 256.
+// Each byte is replaced by each of the 256 bytes.
 fn try_changes<T: Deserialize>(alloc: Global, encoding: &[u8]) -> Result<Tally, Wrong> {
     let mut tally = Tally::NOTHING;
     for place in 0..encoding.len() {
@@ -191,7 +190,7 @@ fn try_bytes<T: Deserialize>(
     Ok(())
 }
 
-// The outcome from a reader that gives one byte a call, where a slice agrees.
+// The outcome from a reader that returns one byte per call, if a slice agrees.
 fn outcome_of_changed<T: Deserialize>(alloc: Global, bytes: &[u8]) -> Result<Outcome, AllocError> {
     if bytes.len() > LONGEST_READ_AGAIN {
         return Ok(outcome_at_once::<T>(alloc, bytes));
@@ -205,7 +204,7 @@ fn outcome_of_changed<T: Deserialize>(alloc: Global, bytes: &[u8]) -> Result<Out
     }
 }
 
-// The outcome from a slice, whatever stands behind.
+// The outcome from a slice, whatever bytes follow.
 fn outcome_at_once<T: Deserialize>(alloc: Global, bytes: &[u8]) -> Outcome {
     let (answer, used) = read::<T>(alloc, Source::Slice, bytes);
     match answer {
@@ -220,8 +219,8 @@ fn outcome_at_once<T: Deserialize>(alloc: Global, bytes: &[u8]) -> Outcome {
     }
 }
 
-// The errors may differ: bytes that are too few in a slice are refused at the length that says so, and a reader gives
-// what comes before its end.
+// The errors may differ. A slice with too few bytes is refused at the length that needs them. A reader returns what comes before its end
+// first.
 fn agree(from_slice: Outcome, from_reader: Outcome) -> bool {
     (from_slice == Outcome::Value) == (from_reader == Outcome::Value)
         && from_slice != Outcome::Wrong
@@ -261,7 +260,7 @@ fn outcome_of<T: Deserialize>(
     }
 }
 
-// What is read, and how many bytes were taken for it; of a refusal, how many bytes it rests on.
+// What is read, and how many bytes were consumed for it. For an error, how many bytes it depends on.
 fn read<T: Deserialize>(
     alloc: Global,
     source: Source,

@@ -1,4 +1,4 @@
-//! A struct with an element that is kept as it is.
+//! A struct with an element that is kept unchanged.
 ghost use Rattle.std.specs.Prelude.{refl};
 ghost use Rattle.picky_der_de.specs.KnownMembers.{known_struct, sequence_of, sequence_shape};
 
@@ -8,7 +8,7 @@ use picky_asn1_der::{
     Serializer, Struct, deserialize_struct_as,
 };
 
-/// A number, and an element that isn't looked at.
+/// A number, and an element that isn't checked.
 #[derive(Debug, Drop, PartialEq, Eq)]
 pub(crate) struct Kept {
     number: u8,

@@ -1,4 +1,4 @@
-//! A struct all of whose members have defaults.
+//! A struct in which all members have defaults.
 ghost use Rattle.std.specs.Prelude.{refl};
 ghost use Rattle.picky_der_de.specs.KnownMembers.{known_struct, sequence_of, sequence_shape};
 
@@ -10,7 +10,7 @@ use picky_asn1_der::{
     Struct, deserialize_struct_as,
 };
 
-/// How a lamp shines, as a SEQUENCE.
+/// The settings of a lamp, as a SEQUENCE.
 #[derive(Debug, Drop, PartialEq, Eq)]
 pub(crate) struct Lamp {
     /// How bright it is: 5 by default.

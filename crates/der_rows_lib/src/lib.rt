@@ -1,10 +1,10 @@
-//! Answers rows: a type and bytes, a value, or calls.
+//! The results of rows: a type and bytes, a value, or calls.
 //!
-//! A row names a type in its Rust spelling and bytes to be read as that type, or a value to be written. The rows and the
-//! answers that they must get were worked out by hand from the rules of the encoding.
+//! A row names a type in its Rust spelling and bytes to be read as that type, or a value to be written. The rows and their expected results
+//! were worked out by hand from the rules of the encoding.
 #![tactic(auto)]
 
-// What is answered for each part of a text, with the same between any two answers as between the parts.
+// The result of each part of a text, with the same text between two results as between the parts.
 macro_rules! answer_each {
     ($alloc:expr; $part:ident in $text:expr, $between:expr, $answer:expr) => {{
         let mut answers = String::new($alloc);

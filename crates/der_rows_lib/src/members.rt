@@ -1,4 +1,4 @@
-//! The calls of a deserializer that open a sequence, and those of the sequence.
+//! The calls of a deserializer that open a sequence, and the calls of the sequence.
 
 use crate::calls::shown;
 use crate::reading;
@@ -7,8 +7,8 @@ use picky_asn1_der::ser::Number;
 use picky_asn1_der::{Deserializer, de};
 use std::alloc::{AllocError, Global};
 
-/// What a call answers. Behind one that opens a sequence stand the calls of the sequence, in braces and with `; `
-/// between any two. Where the last of them isn't `end` the sequence is dropped.
+/// The result of a call. A call that opens a sequence is followed by the calls of the sequence, in braces and separated by `; `. If the
+/// last of them isn't `end`, the sequence is dropped.
 pub(crate) fn answer<R: ReadExt>(
     alloc: Global,
     de: &mut Deserializer<R>,
@@ -20,13 +20,12 @@ pub(crate) fn answer<R: ReadExt>(
     }
 }
 
-// A call that opens a sequence, and those of the sequence.
+// A call that opens a sequence, and the calls of the sequence.
 fn opening(name: &str) -> Option<(&str, &str)> {
     name.strip_suffix("}")?.split_once(" {")
 }
 
-// What the calls of a sequence answer that is opened so, and its end. No function may take a sequence by value, so that it is
-// ended where it is.
+// What the calls of the opened sequence return, and its end. No function may take a sequence by value, so it is ended where it is.
 fn answer_sequence<R: ReadExt>(
     alloc: Global,
     de: &mut Deserializer<R>,
@@ -46,7 +45,7 @@ fn answer_sequence<R: ReadExt>(
     }
 }
 
-// The sequence that this call opens. The names and lengths that are given don't matter.
+// The sequence that this call opens. The names and lengths don't matter.
 fn opened<'a, R: ReadExt>(
     de: &'a mut Deserializer<R>,
     opening: &str,
@@ -64,7 +63,7 @@ fn opened<'a, R: ReadExt>(
     }
 }
 
-// The answers of a sequence's calls, and that of its end.
+// What the calls of a sequence return, and what its end returns.
 fn ended(
     alloc: Global,
     answers: &str,
@@ -73,7 +72,7 @@ fn ended(
     format!(in alloc; "{answers}; {end:?}")
 }
 
-// The calls but for `end`, which takes the sequence. A member is a `u8`, and the default one is 0.
+// The calls except `end`, which consumes the sequence. A member is a `u8`, and its default is 0.
 fn member_answers<R: ReadExt>(
     alloc: Global,
     members: &mut de::Sequence<'_, R>,

@@ -5,7 +5,7 @@ use crate::own_types;
 use picky_asn1_der::asn1::*;
 use std::alloc::{AllocError, Global};
 
-/// The answer to a row that names one of these types, or else to one that names a type of the next family.
+/// The result of a row that names one of these types. Other rows go to the next family.
 pub(crate) fn answer(alloc: Global, name: &str, row: &RowBytes) -> Result<String, AllocError> {
     match name {
         "ExplicitContextTag0<u8>" => read_copied::<ExplicitContextTag0<u8>>(alloc, row),

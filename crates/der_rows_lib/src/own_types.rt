@@ -8,18 +8,18 @@ use crate::retagged;
 use crate::seen::Seen;
 use der_examples::{
     AgeGroups, Change, EncryptedData, GeneralName, Gust, Host, Interval, Marker, Moment, Named,
-    Noted, NumberOrFlag, Place, Point, PrincipalName, PrivateKeyInfo, Report, RsaPublicKey,
+    Noted, NumberOrFlag, Parcel, Place, Point, PrincipalName, PrivateKeyInfo, Report, RsaPublicKey,
     Setting, Stay, Tagged, Ticket, Track,
 };
 use der_tool_lib::{AlgorithmIdentifier, SubjectPublicKeyInfo, TestStruct};
-use der_x509::{Extension, TbsCertificate, Version};
+use der_x509::{CertificateList, Extension, TbsCertificate, Version};
 use picky_asn1_der::application_tag::ApplicationTag;
 use picky_asn1_der::asn1::{
     BitStringAsn1Container, ExplicitContextTag0, ImplicitContextTag1, OctetStringAsn1Container,
 };
 use std::alloc::{AllocError, Global};
 
-/// The answer to a row that names one of these types, or else to one that names a type of the next family.
+/// The result of a row that names one of these types. Other rows go to the next family.
 pub(crate) fn answer(alloc: Global, name: &str, row: &RowBytes) -> Result<String, AllocError> {
     match name {
         "TestStruct" => read_as::<TestStruct>(alloc, row),
@@ -31,6 +31,7 @@ pub(crate) fn answer(alloc: Global, name: &str, row: &RowBytes) -> Result<String
         "GeneralName" => read_as::<GeneralName>(alloc, row),
         "Vec<GeneralName>" => read_as::<Vec<GeneralName>>(alloc, row),
         "TbsCertificate" => read_as::<TbsCertificate>(alloc, row),
+        "CertificateList" => read_as::<CertificateList>(alloc, row),
         "Extension" => read_as::<Extension>(alloc, row),
         "ImplicitContextTag1<Extension>" => read_as::<ImplicitContextTag1<Extension>>(alloc, row),
         "der_x509::AlgorithmIdentifier" => { read_as::<der_x509::AlgorithmIdentifier>(alloc, row) }
@@ -45,7 +46,7 @@ pub(crate) fn answer(alloc: Global, name: &str, row: &RowBytes) -> Result<String
     }
 }
 
-// The same of types that are in no protocol.
+// The same for types that aren't in a protocol.
 fn answer_for_examples(alloc: Global, name: &str, row: &RowBytes) -> Result<String, AllocError> {
     match name {
         "NumberOrFlag" => read_as::<NumberOrFlag>(alloc, row),
@@ -75,6 +76,7 @@ fn answer_for_examples(alloc: Global, name: &str, row: &RowBytes) -> Result<Stri
         "ExplicitContextTag0<Named<u8>>" => read_as::<ExplicitContextTag0<Named<u8>>>(alloc, row),
         "ImplicitContextTag1<Point>" => read_as::<ImplicitContextTag1<Point>>(alloc, row),
         "Marker" => read_as::<Marker>(alloc, row),
+        "Parcel" => read_as::<Parcel>(alloc, row),
         "Track" => read_as::<Track>(alloc, row),
         "Tagged" => read_as::<Tagged>(alloc, row),
         "Kept" => read_as::<Kept>(alloc, row),

@@ -1,4 +1,4 @@
-//! Plain values, octet strings and bytes under tags of their own, and options.
+//! Plain values, octet strings, bytes under tags of their own, and options.
 
 use crate::answers::{RowBytes, read_as, read_copied};
 use crate::lists;
@@ -6,7 +6,7 @@ use picky_asn1_der::Asn1RawDer;
 use picky_asn1_der::asn1::{ByteBuf, TaggedBytes};
 use std::alloc::{AllocError, Global};
 
-/// The answer to a row that names one of these types, or else to one that names a type of the next family.
+/// The result of a row that names one of these types. Other rows go to the next family.
 pub(crate) fn answer(alloc: Global, name: &str, row: &RowBytes) -> Result<String, AllocError> {
     match name {
         "bool" => read_as::<bool>(alloc, row),

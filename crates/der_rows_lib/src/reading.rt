@@ -1,4 +1,4 @@
-//! The calls of a deserializer that answer one value.
+//! The calls of a deserializer that return one value.
 
 use crate::calls::shown;
 use picky_asn1_der::asn1::{ImplicitContextTag1, Newtype, Tag};
@@ -6,10 +6,10 @@ use picky_asn1_der::misc::ReadExt;
 use picky_asn1_der::{Asn1DerError, Deserialize, Deserializer};
 use std::alloc::{AllocError, Global};
 
-/// What the call with this name answers. A call that takes a type gets `u8`, and names and lengths don't matter.
+/// The result of the call with this name. A call with a type gets `u8`, and names and lengths don't matter.
 ///
-/// Each family of calls has a function of its own, and the next one is asked for what isn't in it: a proof about all calls in
-/// one `match` takes many times as long.
+/// Each family of calls has a function of its own, and a call that isn't in it goes to the next family. A proof about all calls in one
+/// `match` takes many times as long.
 pub(crate) fn answer<R: ReadExt>(
     alloc: Global,
     de: &mut Deserializer<R>,
@@ -92,7 +92,7 @@ fn answer_bytes<R: ReadExt>(
     }
 }
 
-// What is looked at or passed over.
+// What is looked at or skipped.
 fn answer_look<R: ReadExt>(
     alloc: Global,
     de: &mut Deserializer<R>,
@@ -137,7 +137,7 @@ fn answer_signed<R: ReadExt>(
     }
 }
 
-// The other calls that answer no value.
+// The other calls, which return no value.
 fn answer_refused<R: ReadExt>(
     alloc: Global,
     de: &mut Deserializer<R>,

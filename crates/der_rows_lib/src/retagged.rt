@@ -1,4 +1,4 @@
-//! Lists under tags in place of their own.
+//! Lists under tags instead of their own.
 
 use crate::answers::{RowBytes, Writing, read_as, read_copied, written};
 use crate::widths;
@@ -10,7 +10,7 @@ use picky_asn1_der::asn1::{
 };
 use std::alloc::{AllocError, Global};
 
-/// The answer to a row that names one of these types.
+/// The result of a row that names one of these types.
 pub(crate) fn answer(alloc: Global, name: &str, row: &RowBytes) -> Result<String, AllocError> {
     match name {
         "ImplicitList0<Asn1SetOf<u8>>" => read_copied::<ImplicitList0<Asn1SetOf<u8>>>(alloc, row),
@@ -29,7 +29,7 @@ pub(crate) fn answer(alloc: Global, name: &str, row: &RowBytes) -> Result<String
     }
 }
 
-// The same of types that hold such lists.
+// The same for types that contain such lists.
 fn answer_inside(alloc: Global, name: &str, row: &RowBytes) -> Result<String, AllocError> {
     match name {
         "(ImplicitList0<Asn1SetOf<u8>>, ImplicitList1<Vec<u8>>)" => read_as::<
@@ -52,7 +52,7 @@ fn answer_inside(alloc: Global, name: &str, row: &RowBytes) -> Result<String, Al
     }
 }
 
-/// The answer to a row that names one of these values.
+/// The result of a row that names one of these values.
 pub(crate) fn written_value(alloc: Global, how: Writing, name: &str) -> Result<String, AllocError> {
     match name {
         "ImplicitList0(Asn1SetOf([5u8, 3]))" => set(alloc, how),

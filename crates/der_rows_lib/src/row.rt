@@ -9,7 +9,7 @@ use picky_asn1_der::{
     Struct, deserialize_struct_as,
 };
 
-/// A sequence of these members: that of `a` and `b` is `Row((a, (b, ())))`.
+/// A sequence of these members: the row of `a` and `b` is `Row((a, (b, ())))`.
 #[derive(Debug, Drop, PartialEq, Eq)]
 pub(crate) struct Row<M>(pub(crate) M);
 

@@ -8,42 +8,42 @@ use crate::{calls, growths, streams, tool, typed, values, writing};
 use der_fixtures::WriterFault;
 use std::alloc::{AllocError, Global};
 
-/// The answer to a row. An empty line and a heading, which begins with `#`, are their own answers.
+/// Returns the result of a row. An empty line is its own result, and so is a heading, which begins with `#`.
 ///
-/// | Row | Answer |
+/// | Row | Result |
 /// |---|---|
 /// | `read [BYTES] as TYPE` | `ok TAKEN [BYTES] VALUE` with the bytes that the value is written as, or `refused ERROR` |
-/// | `draw LIMIT [BYTES] as TYPE` | the same of a reader of a byte a call, with the bytes drawn for TAKEN, or `refused ERROR after DRAWN` |
-/// | `quick read ..`, `quick draw ..` | the same, without a trial of the value's encoding as a [hostile](crate::hostile) one |
-/// | `hostile [BYTES] as TYPE` | how many values and errors of each kind this encoding gives with each byte replaced by each of 256 |
-/// | `apart [BYTES] as TYPE` | how many values stand one behind the other, where the encoding of none begins with that of another |
-/// | `sweep readers failing with KIND [BYTES] as TYPE` | what is answered where the reader's call 1, 2 and so on fails so, and at 0 none |
-/// | `sweep writers failing with KIND [BYTES] as TYPE` | the same of a writer, to which the value is written that these bytes encode |
-/// | `sweep slices [BYTES] as TYPE` | the same of slices of each length from 0 on |
-/// | `sweep vectors [BYTES] as TYPE` | the same of vectors that are written over |
+/// | `draw LIMIT [BYTES] as TYPE` | the same with a reader of one byte per call; TAKEN is how many it returned; or `refused ERROR after DRAWN` |
+/// | `quick read ..`, `quick draw ..` | the same, without trying the value's encoding as a [hostile](crate::hostile) one |
+/// | `hostile [BYTES] as TYPE` | how many values and errors of each kind this encoding gives, with each byte replaced by each of the 256 bytes |
+/// | `apart [BYTES] as TYPE` | how many values the bytes have, one after another, if no value's encoding begins another's |
+/// | `sweep readers failing with KIND [BYTES] as TYPE` | what is returned if the reader's call 1, 2 and so on fails, and at 0 none |
+/// | `sweep writers failing with KIND [BYTES] as TYPE` | the same with a writer, for the value that these bytes encode |
+/// | `sweep slices [BYTES] as TYPE` | the same with slices of each length from 0 on |
+/// | `sweep vectors [BYTES] as TYPE` | the same with vectors that are written over |
 /// | `write VALUE` | `ok COUNT [BYTES]`, or `refused ERROR [BYTES]` with the bytes that were written by then |
-/// | `call [BYTES] CALLS` | what each call of one deserializer answers, and how many bytes are taken then |
-/// | `call limit LIMIT [BYTES] CALLS` | the same of a reader that gives a byte a call, and how many bytes were drawn |
-/// | `call limit LIMIT failing at N with KIND [BYTES] CALLS` | the same of one whose call number N fails so |
-/// | `put CALLS` | what each call of one serializer answers, and the bytes that reach the writer |
-/// | `put failing at N with KIND: CALLS` | the same over a writer that takes a byte a call and whose call number N fails so |
-/// | `stream [BYTES] CALLS` | what each call of a reader over memory answers, and how many bytes are left |
-/// | `stream failing at N with KIND [BYTES] CALLS` | the same of one of a byte a call whose call N fails so, and how many were drawn |
-/// | `peek ..` | as `stream ..`, of a reader whose next byte can be looked at, and how many bytes were handed out then |
-/// | `sink failing at N with KIND: CALLS` | what each call of a writer answers whose call N fails so, and what it took, a byte a call |
-/// | `fill LENGTH CALLS` | the same of a writer over a slice of LENGTH bytes EE, and what the slice holds |
-/// | `tool "LINE"` | the answer of `der_tool` to that line |
-/// | `copy [BYTES] as TYPE` | `whole`, where the copy of the value is equal to it |
-/// | `tbs [BYTES] as Certificate` | what the signed part of the certificate is read as |
-/// | `grow read [BYTES] as TYPE` | `whole`, where all calls agree: on a value and its encoding, or on the error |
-/// | `grow write VALUE` | `whole`, where each call that writes does the same |
-/// | `grow tool "LINE", .. as "ANSWER", ..` | `whole`, where these are the answers of `der_tool` to these lines |
-/// | `spend TIMES` | `whole`, after memory was asked for as many times, and given back |
+/// | `call [BYTES] CALLS` | what each call of one deserializer returns, and how many bytes are consumed by then |
+/// | `call limit LIMIT [BYTES] CALLS` | the same with a reader of one byte per call, and how many bytes were read |
+/// | `call limit LIMIT failing at N with KIND [BYTES] CALLS` | the same with a reader whose call number N fails |
+/// | `put CALLS` | what each call of one serializer returns, and the bytes that reach the writer |
+/// | `put failing at N with KIND: CALLS` | the same with a writer of one byte per call whose call number N fails |
+/// | `stream [BYTES] CALLS` | what each call of a reader over memory returns, and how many bytes are left |
+/// | `stream failing at N with KIND [BYTES] CALLS` | the same with a reader of one byte per call whose call N fails, and how many bytes were read |
+/// | `peek ..` | as `stream ..`, with a reader that can look at the next byte, and how many bytes were returned by then |
+/// | `sink failing at N with KIND: CALLS` | what each call of a writer returns whose call N fails, and the bytes it accepted, one per call |
+/// | `fill LENGTH CALLS` | the same with a writer over a slice of LENGTH bytes EE, and what the slice holds |
+/// | `tool "LINE"` | what `der_tool` prints for that line |
+/// | `copy [BYTES] as TYPE` | `whole`, if the copy of the value is equal to it |
+/// | `signed [BYTES] as TYPE` | the bytes that the signature of the certificate or the list is over |
+/// | `grow read [BYTES] as TYPE` | `whole`, if all calls agree: on a value and its encoding, or on the error |
+/// | `grow write VALUE` | `whole`, if each call that writes does the same |
+/// | `grow tool "LINE", .. as "ANSWER", ..` | `whole`, if this is what `der_tool` prints for these lines |
+/// | `spend TIMES` | `whole`, after this many allocations, each of which was freed again |
 ///
-/// In the last five rows each call may be refused memory. The answer is `OutOfMemory of CALL` where one was, answered so
-/// and left what it should, and `wrong CALL` where one did anything else.
+/// In the rows `grow ..`, `copy ..` and `spend ..` each allocation may fail. The result is `OutOfMemory of CALL` if one failed, and the
+/// call returned that error and left what it should. It is `wrong CALL` if a call did anything else.
 ///
-/// What stands N times in bytes and lines may be written as `N*PART`.
+/// A part that repeats N times in bytes and lines may be written as `N*PART`.
 pub fn answer_to(alloc: Global, row: &str) -> Result<String, AllocError> {
     if row.is_empty() || row.starts_with('#') {
         return String::from_str(alloc, row);

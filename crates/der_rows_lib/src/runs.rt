@@ -1,8 +1,8 @@
-//! Answers to 0, 1, 2 and so on, of which equal ones stand together.
+//! Results for 0, 1, 2 and so on, with equal neighbours joined.
 
 use std::alloc::{AllocError, Global};
 
-/// The answers in order, with equal neighbours written once: `0 to 22: Err(InvalidSink), 23: Ok(23)`.
+/// The results in order, with equal neighbours written once: `0 to 22: Err(InvalidSink), 23: Ok(23)`.
 pub(crate) fn in_runs(alloc: Global, answers: &[String]) -> Result<String, AllocError> {
     let mut text = String::new(alloc);
     let mut first = 0;

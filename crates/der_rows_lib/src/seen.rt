@@ -1,4 +1,4 @@
-//! A look at the tag in front of a value.
+//! A look at the tag before a value.
 ghost use Rattle.std.specs.Prelude.{◌^◌, ◌-◌, nat_eq, refl};
 ghost use Rattle.std.proofs.Common.{rules};
 ghost use Rattle.picky_der_core.specs.Integer.{unsigned_tree};
@@ -7,8 +7,7 @@ ghost use Rattle.picky_der_de.specs.Known.{known_number};
 use picky_asn1_der::misc::{ReadExt, WriteExt};
 use picky_asn1_der::{Deserialize, Deserializer, Result, Serialize, Serializer};
 
-/// A number, and the tag, as a byte, that was seen before it was read. Numbers alone are compared, since a tree has no
-/// more.
+/// A number, and the tag, as a byte, that was seen before it was read. Only numbers are compared, since a tree has no more.
 #[derive(Debug, Drop)]
 pub(crate) struct Seen {
     tag: u8,

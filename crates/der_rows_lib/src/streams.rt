@@ -9,19 +9,19 @@ use std::alloc::{AllocError, Global};
 use std::io;
 use std::io::{ErrorKind, Read, Write};
 
-// The bytes of a row, how they are given, and the calls, with `, ` between any two.
+// The bytes of a row, how they are read, and the calls, separated by `, `.
 #[derive(Drop)]
 struct Stream<'a> {
     bytes: Vec<u8>,
 
-    // The fault of a device that gives the bytes one a call. Without one they are in memory.
+    // The failure of a reader that returns the bytes one per call. If there is none, they are in memory.
     fault: Option<Fault>,
 
     names: &'a str,
 }
 
 impl<'a> Stream<'a> {
-    // That of `[BYTES] CALLS` and `failing at N with KIND [BYTES] CALLS`.
+    // The stream that `[BYTES] CALLS` or `failing at N with KIND [BYTES] CALLS` names.
     fn of(alloc: Global, row: &'a str) -> Option<Stream<'a>> {
         let (source, rest) = row.split_once("[")?;
         let (bytes, names) = rest.split_once("] ")?;
@@ -38,7 +38,7 @@ impl<'a> Stream<'a> {
     }
 }
 
-/// What the calls of a reader answer, and how many bytes are left in memory, or were drawn from a device.
+/// What the calls of a reader return, and how many bytes are left in memory, or were read from the reader.
 pub(crate) fn answer_stream(alloc: Global, row: &str) -> Result<String, AllocError> {
     let Some(stream) = Stream::of(alloc, row) else {
         return String::from_str(alloc, "unknown stream");
@@ -59,7 +59,7 @@ pub(crate) fn answer_stream(alloc: Global, row: &str) -> Result<String, AllocErr
     }
 }
 
-/// What the calls of a reader answer whose next byte can be looked at, each with how many bytes were handed out then.
+/// What the calls of a reader with one byte of lookahead return. Each result has how many bytes were returned by then.
 pub(crate) fn answer_peek(alloc: Global, row: &str) -> Result<String, AllocError> {
     let Some(stream) = Stream::of(alloc, row) else {
         return String::from_str(alloc, "unknown stream");
@@ -115,7 +115,7 @@ fn answer_read<R: ReadExt>(
     }
 }
 
-// The calls that are given room for a number of bytes.
+// The calls with room for a number of bytes.
 fn answer_piece<R: ReadExt>(
     alloc: Global,
     reader: &mut R,
@@ -140,7 +140,7 @@ fn answer_piece<R: ReadExt>(
     }
 }
 
-/// What the calls of a writer answer that takes one byte a call and refuses one, and the bytes that it has taken.
+/// What the calls of a writer return that accepts one byte per call and fails once, and the bytes that were written.
 pub(crate) fn answer_sink(alloc: Global, row: &str) -> Result<String, AllocError> {
     let refused = match row.strip_prefix("failing at ") {
         Some(rest) => refused_call(rest),
@@ -155,7 +155,7 @@ pub(crate) fn answer_sink(alloc: Global, row: &str) -> Result<String, AllocError
     format!(in alloc; "{answers} [{row}]")
 }
 
-/// What the calls of a writer over a slice of LENGTH bytes EE answer, and what the slice holds then.
+/// What the calls of a writer over a slice of LENGTH bytes EE return, and what the slice holds then.
 pub(crate) fn answer_fill(alloc: Global, row: &str) -> Result<String, AllocError> {
     let Some((len, names)) = room_and_calls(row) else {
         return String::from_str(alloc, "unknown room");
@@ -206,7 +206,7 @@ fn with_bytes(alloc: Global, name: &str) -> Option<(&str, Vec<u8>)> {
     Some((call, bytes_in(alloc, bytes)?))
 }
 
-// The answer, with the kind of the error.
+// The result, with the kind of the error.
 fn with_kind<T>(answer: io::Result<T>) -> Result<T, ErrorKind> {
     answer.map_err(|error| error.kind())
 }

@@ -1,4 +1,4 @@
-//! Devices that fail at each of their calls in turn, and room of each length.
+//! Readers and writers that fail at each of their calls in turn, and slices and vectors of each length.
 
 use crate::calls::shown;
 use crate::devices::{fault_kind, refusal_named};
@@ -17,24 +17,24 @@ use picky_asn1_der::{
 use std::alloc::{AllocError, Global};
 use std::io::ErrorKind;
 
-// What room holds before an encoding is written over it: a byte that is in none of those.
+// What a slice or a vector holds before an encoding is written over it: a byte that is in none of the encodings.
 const BEFORE: u8 = 0xEE;
 
-/// What takes each number from 0 on.
+/// What goes through each number from 0 on.
 #[derive(Clone, Copy)]
 pub(crate) enum Sweep {
-    /// The call of a reader that fails so, up to one that isn't made any more. At 0 none fails.
+    /// The call of a reader that fails in this way, until a call isn't made any more. With 0, none fails.
     Reader(ErrorKind),
-    /// The call of a writer that is refused so, in the same way.
+    /// The call of a writer that fails in this way, likewise.
     Writer(WriterFault),
-    /// The length of a slice, up to three more than that of the encoding.
+    /// The length of a slice, up to three more than the length of the encoding.
     Slice,
-    /// The length of a vector, in the same way.
+    /// The length of a vector, likewise.
     Vector,
 }
 
 impl Sweep {
-    /// That of `sweep slices`, `sweep vectors`, `sweep readers failing with KIND` and `sweep writers failing with KIND`.
+    /// The sweep that `sweep slices`, `sweep vectors`, `sweep readers failing with KIND` or `sweep writers failing with KIND` names.
     pub(crate) fn named(words: &str) -> Option<Sweep> {
         match words.split_once(" failing with ") {
             None if words == "sweep slices" => Some(Sweep::Slice),
@@ -46,7 +46,7 @@ impl Sweep {
     }
 }
 
-/// What is answered at each number, for the value of this type with this encoding.
+/// The result for each number, for the value of this type with this encoding.
 pub(crate) fn answer(
     alloc: Global,
     name: &str,
@@ -99,7 +99,7 @@ fn answer_as<T: Deserialize>(
     in_runs(alloc, &answers)
 }
 
-// A reader gives the encoding, one byte a call, and fails at this call.
+// A reader returns the encoding, one byte per call, and fails at this call.
 fn read_failing<T: Deserialize>(
     alloc: Global,
     value: &T,
@@ -128,7 +128,7 @@ fn read_failing<T: Deserialize>(
     }
 }
 
-// A writer takes one byte a call, and refuses this call.
+// A writer accepts one byte per call, and fails at this call.
 fn write_failing<T: Serialize>(
     alloc: Global,
     value: &T,
@@ -161,8 +161,8 @@ fn write_failing<T: Serialize>(
     }
 }
 
-// The error alone where the next call answers it too, and each call of the device before this one took a byte and none
-// behind it did. Else what is otherwise.
+// Only the error, if the next call returns it too, each call before this one transferred a byte, and no later one did. Otherwise also what
+// differs.
 fn failed(
     alloc: Global,
     error: Asn1DerError,
@@ -202,14 +202,14 @@ fn fill_vector<T: Serialize>(
     filled(alloc, answer, &room, &wanted)
 }
 
-// The encoding, and behind it what is left of room of this length.
+// The encoding, and after it what is left of the room of this length.
 fn over(alloc: Global, encoding: &[u8], len: usize) -> Result<Vec<u8>, AllocError> {
     let mut bytes = Vec::from_slice(alloc, encoding)?;
     bytes.resize(len.max(encoding.len()), BEFORE)?;
     Ok(bytes)
 }
 
-// The answer alone where the room holds what it must. Else what it holds, too.
+// Only the result, if the room holds what it should. Otherwise also what it holds.
 fn filled(
     alloc: Global,
     answer: picky_asn1_der::Result<usize>,

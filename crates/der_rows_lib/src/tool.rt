@@ -6,7 +6,7 @@ use der_tool_lib::run;
 use picky_asn1_der::misc::{BufSink, SliceSink};
 use std::alloc::{AllocError, Global};
 
-/// What the tool answers to the line in these quotes, without the byte that ends the answer.
+/// What the tool returns for the line in these quotes, without the byte that ends it.
 pub(crate) fn answer(alloc: Global, row: &str) -> Result<String, AllocError> {
     let Some(line) = quoted(row) else {
         return String::from_str(alloc, "unknown line");
@@ -31,7 +31,7 @@ fn text_of_line(bytes: &[u8]) -> &str {
     }
 }
 
-/// Whether the tool answers so to lines, in a row `"LINE", .. as "ANSWER", ..`, where it may be refused memory.
+/// Whether the tool gives these results for lines, in a row `"LINE", .. as "ANSWER", ..`. Allocations may fail.
 pub(crate) fn answer_growing(alloc: Global, row: &str) -> Result<String, AllocError> {
     let Some((lines, answers)) = row.split_once(" as ") else {
         return String::from_str(alloc, "unknown lines");
@@ -52,7 +52,7 @@ fn ended(alloc: Global, lines: &str) -> Result<Vec<u8>, AllocError> {
     Ok(text)
 }
 
-// A run that is refused memory has written the whole answers to the lines before the one that it was at.
+// A run in which an allocation fails has written the whole results of the lines before that one.
 fn answered(alloc: Global, lines: &[u8], answers: &[u8], left: &mut [u8]) -> Result<(), Stop> {
     let mut rest = lines;
     let mut sink = SliceSink::new(left);
@@ -76,7 +76,7 @@ fn ends(text: &[u8]) -> usize {
     text.iter().filter(|byte| **byte == b'\n').count()
 }
 
-// What stands between a pair of quotes.
+// The text between a pair of quotes.
 fn quoted(row: &str) -> Option<&str> {
     row.strip_prefix("\"")?.strip_suffix("\"")
 }

@@ -5,11 +5,11 @@ use crate::calls::shown;
 use crate::notation::bytes_in;
 use crate::sweeps::Sweep;
 use crate::{copies, growths, plain, sweeps};
-use der_x509::Certificate;
+use der_x509::{Certificate, CertificateList};
 use picky_asn1_der::from_bytes;
 use std::alloc::{AllocError, Global};
 
-/// The answer to words of what is done, bytes in brackets, and ` as ` with a type.
+/// The result of a row of words for what to do, bytes in brackets, and ` as ` with a type.
 pub(crate) fn answer(alloc: Global, row: &str) -> Result<String, AllocError> {
     let Some((words, bytes, name)) = split_row(alloc, row) else {
         return String::from_str(alloc, "unknown row");
@@ -17,8 +17,8 @@ pub(crate) fn answer(alloc: Global, row: &str) -> Result<String, AllocError> {
     if words == "copy" {
         return growths::answer(alloc, copies::copy(alloc, name, &bytes));
     }
-    if words == "tbs" {
-        return tbs(alloc, &bytes);
+    if words == "signed" {
+        return signed(alloc, name, &bytes);
     }
     let (words, trial) = match words.strip_prefix("quick ") {
         Some(words) => (words, Trial::None),
@@ -33,10 +33,16 @@ pub(crate) fn answer(alloc: Global, row: &str) -> Result<String, AllocError> {
     }
 }
 
-// What the signed part of the certificate is read as, which these bytes are.
-fn tbs(alloc: Global, bytes: &[u8]) -> Result<String, AllocError> {
+// The bytes that the signature signs, in the certificate or the list that these bytes encode.
+fn signed(alloc: Global, name: &str, bytes: &[u8]) -> Result<String, AllocError> {
+    if name == "CertificateList" {
+        return match from_bytes::<CertificateList>(alloc, bytes) {
+            Ok(list) => shown(alloc, &list.signed_bytes(alloc)),
+            Err(error) => format!(in alloc; "refused {error}"),
+        };
+    }
     match from_bytes::<Certificate>(alloc, bytes) {
-        Ok(certificate) => shown(alloc, &certificate.read_tbs_certificate(alloc)),
+        Ok(certificate) => shown(alloc, &certificate.signed_bytes(alloc)),
         Err(error) => format!(in alloc; "refused {error}"),
     }
 }

@@ -1,4 +1,4 @@
-//! Values that can't be read from what they are written as, and such that are refused in writing.
+//! Values that can't be read from what they are written as, and values that can't be written.
 
 use crate::answers::{Writing, written};
 use crate::hand_written::{Discarding, Littering, Untouched};
@@ -13,8 +13,8 @@ use picky_asn1_der::asn1::{
 };
 use std::alloc::{AllocError, Global};
 
-/// The answer to a row that names one of these values, which is written so. A value that takes memory is made in a function of
-/// its own.
+/// The result of a row that names one of these values, which is written in this way. A value that allocates is made in a function of its
+/// own.
 pub(crate) fn answer(alloc: Global, how: Writing, name: &str) -> Result<String, AllocError> {
     match name {
         "None::<u8>" => written(alloc, how, &None::<u8>),
@@ -29,7 +29,7 @@ fn absent_member(alloc: Global, how: Writing) -> Result<String, AllocError> {
     written(alloc, how, &vec![in alloc; None::<u8>]?)
 }
 
-// Values that write by calls of their own.
+// Values that are written by calls of their own.
 fn hand_written(alloc: Global, how: Writing, name: &str) -> Result<String, AllocError> {
     match name {
         "ImplicitContextTag1(Untouched)" => written(
@@ -45,7 +45,7 @@ fn hand_written(alloc: Global, how: Writing, name: &str) -> Result<String, Alloc
     }
 }
 
-// Bytes that are written as they are, and values with such.
+// Bytes that are written unchanged, and values with such bytes.
 fn bytes(alloc: Global, how: Writing, name: &str) -> Result<String, AllocError> {
     match name {
         "TaggedBytes::<0x1F>([0xAA])" => tagged_bytes(alloc, how),
@@ -205,7 +205,7 @@ fn explicit(alloc: Global, how: Writing, name: &str) -> Result<String, AllocErro
     }
 }
 
-// In implicit ones.
+// Values in implicit context tags.
 fn implicit(alloc: Global, how: Writing, name: &str) -> Result<String, AllocError> {
     match name {
         "ImplicitContextTag1(NumberOrFlag::Flag(true))" => written(
@@ -223,7 +223,7 @@ fn implicit(alloc: Global, how: Writing, name: &str) -> Result<String, AllocErro
     }
 }
 
-// In application tags.
+// Values in application tags.
 fn application(alloc: Global, how: Writing, name: &str) -> Result<String, AllocError> {
     match name {
         "ApplicationTag::<Option<u8>, 10>(None)" => written(

@@ -11,7 +11,7 @@ use picky_asn1_der::{
 };
 use std::alloc::{AllocError, Global};
 
-/// The answer to a row that names one of these types.
+/// The result of a row that names one of these types.
 pub(crate) fn answer(alloc: Global, name: &str, row: &RowBytes) -> Result<String, AllocError> {
     match name {
         "(u8, u8, u8, u8, u8, u8)" => read_as::<(u8, u8, u8, u8, u8, u8)>(alloc, row),
@@ -24,7 +24,7 @@ pub(crate) fn answer(alloc: Global, name: &str, row: &RowBytes) -> Result<String
     }
 }
 
-/// The answer to a row that names one of these values.
+/// The result of a row that names one of these values.
 pub(crate) fn written_value(alloc: Global, how: Writing, name: &str) -> Result<String, AllocError> {
     match name {
         "(1u8, 2, 3, 4, 5, 6)" => written(alloc, how, &(1u8, 2u8, 3u8, 4u8, 5u8, 6u8)),
@@ -89,7 +89,7 @@ fn written_wider(alloc: Global, how: Writing, name: &str) -> Result<String, Allo
     }
 }
 
-/// What this call of a serializer returns that is given so many members, of which none may be absent, and what is behind them.
+/// What this call of a serializer returns for this many members, none of which may be absent, and for the members after them.
 pub(crate) fn serialize_members<W: WriteExt>(
     ser: &mut Serializer<W>,
     name: &str,

@@ -12,7 +12,7 @@ use picky_asn1_der::asn1::{
 };
 use std::alloc::{AllocError, Global};
 
-/// The answer to a row that names one of these types, or else to one that names a type of the next family.
+/// The result of a row that names one of these types. Other rows go to the next family.
 pub(crate) fn answer(alloc: Global, name: &str, row: &RowBytes) -> Result<String, AllocError> {
     match name {
         "OctetStringAsn1Container<u8>" => read_copied::<OctetStringAsn1Container<u8>>(alloc, row),

@@ -9,8 +9,8 @@ use picky_asn1_der::misc::{Watched, WriteExt};
 use picky_asn1_der::{Serializer, ser};
 use std::alloc::{AllocError, Global};
 
-/// What the calls answer, with `, ` between any two, and the bytes that reach a writer that takes one byte a call and
-/// refuses the call with this number. Calls are counted from 1, and at 0 none is refused.
+/// The results of the calls, separated by `, `, and the bytes that reach a writer. The writer accepts one byte per call and fails at the
+/// call with this number. Calls are counted from 1, and with 0 none fails.
 pub(crate) fn answer(
     alloc: Global,
     failing: usize,
@@ -92,7 +92,7 @@ fn answer_text<W: WriteExt>(
     }
 }
 
-// What there is and what there is not.
+// Units and options.
 fn answer_unit<W: WriteExt>(
     alloc: Global,
     ser: &mut Serializer<W>,
@@ -107,7 +107,7 @@ fn answer_unit<W: WriteExt>(
     }
 }
 
-// The calls about tags, and those that write bytes as they are.
+// The calls for tags, and the calls that write bytes unchanged.
 fn answer_tag<W: WriteExt>(
     alloc: Global,
     ser: &mut Serializer<W>,
@@ -160,7 +160,7 @@ fn answer_application<W: WriteExt>(
     }
 }
 
-// Bytes as they are.
+// Bytes that are written unchanged.
 fn answer_raw<W: WriteExt>(
     alloc: Global,
     ser: &mut Serializer<W>,
@@ -188,7 +188,7 @@ fn answer_signed<W: WriteExt>(
     }
 }
 
-// Wider ones.
+// Wider signed numbers.
 fn answer_wide_signed<W: WriteExt>(
     alloc: Global,
     ser: &mut Serializer<W>,
@@ -202,7 +202,7 @@ fn answer_wide_signed<W: WriteExt>(
     }
 }
 
-// Variants, which have none either.
+// Variants, which have no encoding either.
 fn answer_variant<W: WriteExt>(
     alloc: Global,
     ser: &mut Serializer<W>,
@@ -238,7 +238,7 @@ fn answer_members<W: WriteExt>(
     }
 }
 
-// The calls but for `end`, which takes the sequence.
+// The calls except `end`, which consumes the sequence.
 fn add_members<W: WriteExt>(
     members: &mut ser::Sequence<'_, W>,
     calls: &str,
@@ -263,8 +263,7 @@ fn ended(
     format!(in alloc; "{added:?}; {end:?}")
 }
 
-// What the calls of a sequence answer that is opened so, and its end. No function may take a sequence by value, so that it is
-// ended where it is.
+// What the calls of the opened sequence return, and its end. No function may take a sequence by value, so it is ended where it is.
 fn answer_sequence<W: WriteExt>(
     alloc: Global,
     ser: &mut Serializer<W>,
@@ -286,7 +285,7 @@ fn answer_sequence<W: WriteExt>(
     }
 }
 
-// The sequence that this call opens. The names and lengths that are given don't matter.
+// The sequence that this call opens. The names and lengths don't matter.
 fn opened<'a, W: WriteExt>(
     ser: &'a mut Serializer<W>,
     opening: &str,

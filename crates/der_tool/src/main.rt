@@ -1,4 +1,4 @@
-//! Answers standard input, line by line, on standard output.
+//! Reads standard input line by line, and writes an answer to each line to standard output.
 #![tactic(auto)]
 
 use der_tool_lib::{kind_word, run};
@@ -12,14 +12,14 @@ fn main(rt: HostRuntime) -> ExitCode {
     match answer_input(&rt) {
         Ok(()) => ExitCode::SUCCESS,
         Err(error) => {
-            // Where standard error takes nothing either, the status alone tells.
+            // If standard error can't be written either, the status is all that says so.
             let _ = eprintln!(rt; "der_tool: {}", kind_word(error));
             ExitCode::FAILURE
         }
     }
 }
 
-// Standard input to standard output.
+// Answers standard input on standard output.
 fn answer_input(rt: &HostRuntime) -> Result<()> {
     let mut input = Watched::new(BufReader::new(rt.alloc(), rt.reader())?);
     let mut output = Watched::new(io::writer(rt));

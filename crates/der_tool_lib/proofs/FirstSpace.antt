@@ -1,4 +1,4 @@
--- The first space behind a type's word.
+-- The first space after a type's word.
 use Rattle.std.proofs.Common.{rules, ◌≡◌, ◌≢◌, ℕ, ◌<◌, ◌≤◌, ◌==◌, not, true, false, List, ◌∷◌, ◌++◌, length, get_or, take, take_all, length-append, refl, sym, ap, ◌∙◌, arith}
 use Rattle.std.proofs.lemmas.List.{take-append-le}
 use Rattle.std.proofs.lemmas.List.Sums.{prefix_len_is}
@@ -30,7 +30,7 @@ is_space : (b : ℕ) → b ≡ 32 → not (b == 32) ≡ false
 is_space b e = ap (λ c. not (c == 32)) e
 
 module _ (words : List ℕ) (type : ValueType) (digits : List ℕ) (e : words ≡ word_for type ++ (32 ∷ digits)) where
-  -- the first space stands right behind the word
+  -- the first space is directly after the word
   space_at : (n : ℕ) → ((i : ℕ) → i < n → get_or words i 0 ≢ 32) → n ≤ length words → (n < length words → get_or words n 0 ≡ 32) → n ≡ length (word_for type)
   space_at n before fits at =
       sym (prefix_len_is (λ b. not (b == 32)) words n 0 fits (λ k l. is_no_space (get_or words k 0) (before k l)) (λ l. is_space (get_or words n 0) (at l)))

@@ -36,19 +36,19 @@ none_last : (line : List ℕ) → length line ≡ 0 → unless_empty line ≡ []
 none_last [] n = refl
 none_last (x ∷ xs) n = absurd (omega (arith, n))
 
--- all of the input was drawn
+-- all of the input was read
 whole_text : {bytes text : List ℕ} (a b c d : Option (List ℕ)) → Consumes a b bytes → IsAtEnd b → IsAnswersOf bytes text → Appends c d text → WritesAnswers a c d
 whole_text {bytes} {text} a b c d k e t w = Consumes-whole a b bytes (λ input. (text : List ℕ) × IsAnswersOf input text × Appends c d text) k e (text, t, w)
 
--- more was drawn than an input within the limit has
+-- more was read than an input within the limit has
 pub longer : (a b : Option (List ℕ)) (bytes : List ℕ) → Consumes a b bytes → length bytes ≡ 2 ^ 64 - 1 → IsTooLong a
 longer None b bytes k n = tt
 longer (Some xs) None bytes k n = absurd k
 longer (Some xs) (Some ys) bytes k n = omega (arith, n, ap length k, length-append bytes ys)
 
--- ---- what stands while the input is read
+-- ---- what holds while the input is read
 
--- this many bytes were drawn, of which `line` has no end yet; the lines before it were answered
+-- this many bytes were read, of which `line` has no end yet; the answers to the lines before it were written
 pub record RunsOn (a b c d : Option (List ℕ)) (line : List ℕ) (count : ℕ) : Type 0 where
   pub whole : WroteWhole a b c d line
   pub is_line : IsLine line
@@ -66,7 +66,7 @@ module _ {a b c d : Option (List ℕ)} {line : List ℕ} {count : ℕ} (h : Runs
   drawn_more b' x k =
       subst (Consumes a b') (append_assoc (text_of_lines h.whole.lines) line (x ∷ [])) (Consumes-trans a b b' (text_of_lines h.whole.lines ++ line) (x ∷ []) h.whole.drawn k)
 
-  -- one byte more was drawn
+  -- one byte more was read
   pub draws : (b' : Option (List ℕ)) (x : ℕ) → Consumes b b' (x ∷ []) → WroteWhole a b' c d (line ++ (x ∷ []))
   draws b' x k = record {
     lines = h.whole.lines;
@@ -88,7 +88,7 @@ module _ {a b c d : Option (List ℕ)} {line : List ℕ} {count : ℕ} (h : Runs
   drawn_still : (b' : Option (List ℕ)) → Keeps b b' → Consumes a b' (text_of_lines h.whole.lines ++ line)
   drawn_still b' k = Consumes-kept a b b' _ h.whole.drawn k
 
-  -- nothing more was drawn
+  -- nothing more was read
   pub stands : (b' : Option (List ℕ)) → Keeps b b' → WroteWhole a b' c d line
   stands b' k = record {
     lines = h.whole.lines;
@@ -99,7 +99,7 @@ module _ {a b c d : Option (List ℕ)} {line : List ℕ} {count : ℕ} (h : Runs
     written = h.whole.written;
   }
 
-  -- the line was answered
+  -- the answer to the line was written
   answered_bytes : (b' : Option (List ℕ)) → Consumes b b' (0x0A ∷ []) → Consumes a b' (text_of_lines (h.whole.lines ++ (line ∷ [])) ++ [])
   answered_bytes b' k = subst (Consumes a b') (sym (append-nil _ ∙ text_of_lines-push h.whole.lines line)) (drawn_more b' 0x0A k)
 
@@ -123,7 +123,7 @@ module _ {a b c d : Option (List ℕ)} {line : List ℕ} {count : ℕ} (h : Runs
     counted = ap length (append-nil _ ∙ text_of_lines-push h.whole.lines line) ∙ more 0x0A;
   }
 
-  -- ---- the text of what was drawn
+  -- ---- the text of what was read
 
   text_of_answers : (answer : List ℕ) → IsAnswerTo line answer → IsAnswersOf (text_of_lines (h.whole.lines ++ (line ∷ [])) ++ []) (text_of_lines (h.whole.answers ++ (answer ∷ [])))
   text_of_answers answer k = record {
@@ -135,7 +135,7 @@ module _ {a b c d : Option (List ℕ)} {line : List ℕ} {count : ℕ} (h : Runs
     is = refl;
   }
 
-  -- the writer failed in the answer to the line, whose end was drawn
+  -- the writer failed in the answer to the line, whose end was read
   pub begins : (b' d' : Option (List ℕ)) → Consumes b b' (0x0A ∷ []) → (answer : List ℕ) → IsAnswerTo line answer → AppendsBeginning d d' (answer ++ (0x0A ∷ [])) → WroteBeginning a b' c d'
   unfolding text_of_answers
   begins b' d' k answer n w = record {

@@ -7,12 +7,12 @@ use Rattle.der_tool_lib.specs.declared.value.ValueType.{ValueType}
 use Rattle.der_tool_lib.specs.Line.{Query, len, read, nothing, Asks}
 use Rattle.der_tool_lib.specs.Value.{AnswersRead}
 
--- digits that aren't those of bytes ask for nothing
+-- digits that aren't whole bytes ask for nothing
 abbrev pub AnswersDigits : ValueType → Result (List ℕ) FromHexError → List ℕ → Type 0
 AnswersDigits type (Ok bytes) answer = AnswersRead type bytes answer
 AnswersDigits type (Err e) answer = answer ≡ codes "refused Line"
 
--- This answers what a line asks for: a length's bytes in hexadecimal, with lower case letters, or what is read.
+-- The answer to what a line asks for: the bytes of a length in hexadecimal, with lower case letters, or what is read.
 abbrev pub Answers : Query → List ℕ → Type 0
 Answers (len n) answer = answer ≡ encode_lower (length_octets n)
 Answers (read type digits) answer = AnswersDigits type (decode_of digits) answer

@@ -6,16 +6,16 @@ use Rattle.der_tool_lib.specs.declared.value.ValueType.TheVariants as named
 use Rattle.der_tool_lib.specs.declared.line.Request.{Request}
 use Rattle.der_tool_lib.specs.declared.line.Request.TheVariants as request
 
--- the digits of a number that fits, with no 0 in front of others
+-- the digits of a number that fits, with no 0 before others
 abbrev pub IsNumber : List ℕ → ℕ → Type 0
 IsNumber digits n = (n < 2 ^ 64) × (digits ≡ decimal n)
 
--- the number of these digits, if they are those of one
+-- the number of these digits, if they are the digits of one
 abbrev pub IsNumberOf : List ℕ → Option ℕ → Type 0
 IsNumberOf digits (Some n) = IsNumber digits n
 IsNumberOf digits None = (n : ℕ) → IsNumber digits n → ⊥
 
--- what stands behind a word, if the line begins with it
+-- what follows a word, if the line begins with it
 abbrev pub IsBehind : List ℕ → List ℕ → Option (Bor (List ℕ)) → Type 0
 IsBehind line word rest = MatchOption rest ((other : List ℕ) → line ≢ word ++ other) (λ r. line ≡ word ++ r.now)
 
@@ -70,7 +70,7 @@ Asks line (len n) = IsLen line n
 Asks line (read type digits) = IsRead line type digits
 Asks line nothing = IsUnknown line
 
--- what the words behind `read ` ask for
+-- what the words after `read ` ask for
 abbrev pub AsksTyped : List ℕ → Query → Type 0
 AsksTyped words (len n) = ⊥
 AsksTyped words (read type digits) = IsTyped words type digits

@@ -8,7 +8,7 @@ use Rattle.picky_der_de.specs.Elements.{raw_refusal}
 use Rattle.der_tool_lib.specs.declared.value.ValueType.{ValueType}
 use Rattle.der_tool_lib.specs.Value.{RefusalRule, plain, element, mendable, description_of}
 
--- a value was refused, and where its kind is computed just so
+-- a value was refused; if the kind of the error is computed, it is exactly that one
 abbrev pub RefusesAs : {V : Type 0} → (V → Tree) → Shape → RefusalRule → State → State → Asn1DerError → Type 0
 RefusesAs meaning s (plain tag judge) old new e = RefusesPlain meaning tag judge s old new e
 RefusesAs meaning s element old new e = Refuses meaning s old new e × AreJustRefused (raw_refusal old) old new e

@@ -1,4 +1,4 @@
--- What a run over an input draws and writes.
+-- What a run over an input reads and writes.
 use Rattle.std.specs.Prelude.{◌≡◌, ℕ, ◌-◌, ◌^◌, ◌<◌, ◌≤◌, List, [], ◌∷◌, ◌++◌, length, Option, Some, None, ⊤}
 use Rattle.std.specs.Io.KnownBytes.{Appends, Consumes, IsAtEnd}
 use Rattle.std.specs.declared.io.ErrorKind.{ErrorKind}
@@ -28,7 +28,7 @@ module _ {W : Type 0} (g : Ghosts W) (line : List ℕ) (old new : W) where
 
 -- ---- a run
 
--- Of an input these were drawn: lines up to their ends, and then `rest`. Whole answers to the lines were written, and
+-- The run read lines up to their ends, and then `rest`. Whole answers to the lines were written, and
 -- nothing else.
 pub record WroteWhole (in_old in_new out_old out_new : Option (List ℕ)) (rest : List ℕ) : Type 0 where
   pub lines : List (List ℕ)
@@ -38,7 +38,7 @@ pub record WroteWhole (in_old in_new out_old out_new : Option (List ℕ)) (rest 
   pub answered : AreAnswers lines answers
   pub written : Appends out_old out_new (text_of_lines answers)
 
--- Lines were drawn, the last one up to its end or that of the input, and a beginning of the text that answers them was
+-- The run read lines, the last one up to its end or the input's, and a beginning of their answers was
 -- written.
 pub record WroteBeginning (in_old in_new out_old out_new : Option (List ℕ)) : Type 0 where
   pub bytes : List ℕ
@@ -53,7 +53,7 @@ pub data IsLastLine (bytes : List ℕ) : Type 0 where
   not_ended : IsLine bytes → IsLastLine bytes
   just_ended : (line : List ℕ) → IsLine line → bytes ≡ line ++ (0x0A ∷ []) → IsLastLine bytes
 
--- a reader failed once more, e says how, and nothing was drawn behind it
+-- a reader failed once more, e says how, and nothing was read after it
 pub record ReaderFaulted (old new : List Fault) (left : Option (List ℕ)) (e : Asn1DerError) : Type 0 where
   pub kind : ErrorKind
   pub once : new ≡ record { kind = kind; left = left } ∷ old
@@ -65,13 +65,13 @@ IsTooLong None = ⊤
 IsTooLong (Some input) = 2 ^ 64 - 1 ≤ length input
 
 module _ {W : Type 0} (g : Ghosts W) (in_old in_new : Option (List ℕ)) (faults_old faults_new : List Fault) (out_old out_new : W) where
-  -- the lines before this one were answered, and it wasn't
+  -- the answers to the lines before this one were written, and its own wasn't
   abbrev pub StopsBefore : List ℕ → Type 0
   StopsBefore line = WroteWhole in_old in_new (g.written out_old) (g.written out_new) line
 
   -- why a run ended with an error, and what it left
   pub data Stops (e : Asn1DerError) : Type 0 where
-    -- memory was refused for the line or its answer
+    -- an allocation failed for the line or its answer
     memory : e ≡ OutOfMemory → (line : List ℕ) → IsLastLine line → StopsBefore line → Stops e
     -- the reader cut the line
     reader : ReaderFaulted faults_old faults_new in_new e → (line : List ℕ) → IsLine line → StopsBefore line → Stops e

@@ -1,4 +1,4 @@
--- The text that answers an input.
+-- The answer text for an input.
 use Rattle.std.specs.Prelude.{◌≡◌, ◌≢◌, ℕ, List, [], ◌∷◌, ◌++◌, Option, IfSome, ⊤}
 use Rattle.std.specs.Io.KnownBytes.{Appends}
 use Rattle.der_tool_lib.specs.Answer.{IsAnswerTo}
@@ -22,7 +22,7 @@ abbrev pub unless_empty : List ℕ → List (List ℕ)
 unless_empty [] = []
 unless_empty (byte ∷ bytes) = (byte ∷ bytes) ∷ []
 
--- what an input is made of: lines that are ended, and what stands behind the last end
+-- what an input is made of: lines that are ended, and what follows the last end
 pub record IsSplit (input : List ℕ) (lines : List (List ℕ)) (last : List ℕ) : Type 0 where
   pub are_lines : AreLines lines
   pub is_line : IsLine last
@@ -35,7 +35,7 @@ AreAnswers [] (answer ∷ answers) = ⊥
 AreAnswers (line ∷ lines) [] = ⊥
 AreAnswers (line ∷ lines) (answer ∷ answers) = IsAnswerTo line answer × AreAnswers lines answers
 
--- the text that answers an input: the answers to its lines, in order, each ended by the byte 0A
+-- the answer text for an input: the answers to its lines, in order, each ended by the byte 0A
 pub record IsAnswersOf (input text : List ℕ) : Type 0 where
   pub lines : List (List ℕ)
   pub last : List ℕ

@@ -26,9 +26,9 @@ use Rattle.der_tool_lib.specs.Words.{word_of}
 
 -- how it is known with which error bytes are refused
 pub data RefusalRule : Type 0 where
-  -- just as a plain read is with this tag, whose contents are judged so
+  -- exactly as a plain read with this tag, whose contents are judged in this way
   plain : ℕ → Judge → RefusalRule
-  -- just as an element that is taken whole is
+  -- exactly as an element that is read whole
   element : RefusalRule
   -- with `TruncatedData` where more bytes could complete a value
   mendable : RefusalRule
@@ -65,11 +65,11 @@ description_of named.Spki = record { Value = SubjectPublicKeyInfo; meaning = spk
 -- ---- the answers
 
 module _ (d : Description) (bytes : List ℕ) where
-  -- a value of the type stands at the front of the bytes
+  -- a value of the type is at the front of the bytes
   abbrev pub StandsFirst : d.Value → Type 0
   StandsFirst v = ReadsFrom d.meaning d.shape bytes (length bytes) v
 
-  -- with more bytes behind them the bytes would be the encoding of a value that is read and written
+  -- with more bytes after them the bytes would be the encoding of a value that is read and written
   pub record BeginsValue : Type 0 where
     pub value : d.Value
     pub of_shape : IsOf d.shape (d.meaning value)

@@ -10,16 +10,16 @@ use picky_asn1_der::asn1::ObjectIdentifierAsn1;
 use picky_asn1_der::misc::{ReadExt, WriteExt};
 use picky_asn1_der::{Asn1RawDer, Deserialize, Deserializer, Result, Serialize, Serializer};
 
-/// An algorithm and its parameters, as a SEQUENCE of an OBJECT IDENTIFIER and, if there are parameters, one element of
-/// any type (RFC 5280, 4.1.1.2).
+/// An algorithm and its parameters (RFC 5280, 4.1.1.2): a SEQUENCE of an OBJECT IDENTIFIER and, if there are parameters, one element of any
+/// type.
 ///
-/// Absent parameters are written as nothing, and are no NULL: that is an element like any other.
+/// If there are no parameters, nothing is written for them. That is different from NULL, which is an element like any other.
 #[derive(Debug, Drop, PartialEq, Eq)]
 pub struct AlgorithmIdentifier {
     /// The content of the object identifier, which isn't checked.
     pub algorithm: ObjectIdentifierAsn1,
 
-    /// The element of the parameters.
+    /// The parameters, as one element of any type.
     pub parameters: Option<Asn1RawDer>,
 }
 

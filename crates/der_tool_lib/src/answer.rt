@@ -11,7 +11,7 @@ use picky_der_core::misc::{BufSink, Length};
 use picky_der_core::{Asn1DerError, Result};
 use std::alloc::Global;
 
-/// The answer to a line; neither has the byte that ends it. The only error is `OutOfMemory`.
+/// Returns the answer to a line. Neither the line nor the answer has the byte that ends it. The only error is `OutOfMemory`.
 pub fn answer_to(alloc: Global, line: &[u8]) -> Result<String>
     ensures ok { IfOk result (λ text. IsAnswerTo line.now (string_bytes text)) }
     ensures err { IfErr result (λ e. e ≡ Asn1DerError.OutOfMemory) }
@@ -23,7 +23,7 @@ pub fn answer_to(alloc: Global, line: &[u8]) -> Result<String>
     }
 }
 
-// The answer to a line that asks for a value, which is refused where the digits aren't those of bytes.
+// The answer to a line that asks for a value. It is a refusal if the digits aren't whole bytes in hexadecimal.
 fn answer_digits(alloc: Global, named: ValueType, digits: &[u8]) -> Result<String>
     ensures ok { IfOk result (λ text. AnswersDigits named (decode_of digits.now)
         (string_bytes text)) }
@@ -45,7 +45,7 @@ fn refuse_line(alloc: Global) -> Result<String>
     Ok(String::from_str(alloc, "refused Line")?)
 }
 
-// The bytes of a length in hexadecimal.
+// The encoding of a length, in hexadecimal.
 fn length_in_hex(alloc: Global, n: usize) -> Result<String>
     ensures ok { IfOk result (λ text. string_bytes text ≡ encode_lower (length_octets n)) }
     ensures err { IfErr result (λ e. e ≡ Asn1DerError.OutOfMemory) }
@@ -54,7 +54,7 @@ fn length_in_hex(alloc: Global, n: usize) -> Result<String>
     let mut sink = BufSink::new(&mut bytes);
     let outcome = Length::serialize(n, &mut sink);
     let written = sink.into_inner();
-    // No effect at run time. The proof reads what `bytes` holds from this use.
+    // No effect at run time. The proof reads from this use what `bytes` holds.
     let _ = &*written;
     match outcome {
         Ok(_) => Ok(hex::encode(alloc, bytes)?),
@@ -62,7 +62,7 @@ fn length_in_hex(alloc: Global, n: usize) -> Result<String>
     }
 }
 
-/// The name of the error's variant.
+/// Returns the name of the error's variant.
 pub fn kind_word(error: Asn1DerError) -> &'static str
     ensures { result.now ≡ word_of error }
 {

@@ -1,7 +1,7 @@
-//! A law of the definitions that `run` is proved to.
+//! A law of the definitions that the contract of `run` uses.
 ghost use Rattle.der_tool_lib.specs.Laws.{OneSplit};
 
-/// An input is split into lines in one way.
+/// There is exactly one way to split an input into lines.
 pub fn one_split()
     ensures { OneSplit }
 {}

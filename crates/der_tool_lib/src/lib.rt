@@ -1,4 +1,4 @@
-//! A tool of lines: each line of the input asks for one thing, and gets one line of answer.
+//! A tool of lines: each line of the input asks for one thing and gets one line as its answer.
 #![tactic(auto)]
 
 mod algorithm_identifier;

@@ -9,10 +9,10 @@ use itoa::Buffer;
 /// What a line asks for.
 #[derive(Debug, Clone, Copy, PartialEq, Eq)]
 pub enum Request<'a> {
-    /// The bytes of this length.
+    /// The encoding of this length.
     Len(usize),
 
-    /// A value of the type, from the bytes that these digits may be in hexadecimal.
+    /// A value of this type, read from bytes. The bytes should be two hexadecimal digits each.
     Read(ValueType, &'a [u8]),
 
     /// Nothing that the tool knows.
@@ -25,9 +25,9 @@ impl<'a> Request<'a> {
         ensures { IsKept ⟦<Request<'a> as Clone>⟧.is_clone (λ request. request) }
     {}
 
-    /// What the line asks for. The byte that ends the line is no part of it.
+    /// Returns what the line asks for. The line is without the byte that ends it.
     ///
-    /// Words are parted by exactly one space, and nothing is trimmed.
+    /// Words are separated by exactly one space, and no space is dropped.
     pub fn of(line: &'a [u8]) -> Request<'a>
         ensures { Asks line.now (query_of result) }
     {
@@ -44,14 +44,14 @@ impl<'a> Request<'a> {
     }
 }
 
-// What stands behind a word, if the line begins with it.
+// What follows a word, if the line begins with that word.
 fn behind<'a>(line: &'a [u8], word: &[u8]) -> Option<&'a [u8]>
     ensures { IsBehind line.now word.now result }
 {
     line.strip_prefix(word)
 }
 
-// A type's word, a space, and the digits.
+// The request of a type's word, a space and digits.
 fn typed(words: &[u8]) -> Request<'_>
     ensures { AsksTyped words.now (query_of result) }
 {
@@ -64,7 +64,7 @@ fn typed(words: &[u8]) -> Request<'_>
     }
 }
 
-// The type that this word is for.
+// The type that this word names.
 fn type_of(word: &[u8]) -> Option<ValueType>
     ensures { MatchOption result ((type : ValueType) → word.now ≢ word_for type)
         (λ type. word.now ≡ word_for type) }
@@ -87,7 +87,7 @@ fn type_of(word: &[u8]) -> Option<ValueType>
     }
 }
 
-// The number of these digits. They are those that print it, and no others: with no sign and no 0 in front.
+// The number of these digits. Only the digits that would print it are accepted: no sign and no leading 0.
 fn number(digits: &[u8]) -> Option<usize>
     ensures { IsNumberOf digits.now result }
 {

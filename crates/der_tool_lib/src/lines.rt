@@ -27,12 +27,13 @@ fn answer_line<W: WriteExt>(alloc: Global, line: &[u8], output: &mut W) -> Resul
     Ok(())
 }
 
-/// Answers each line of the input by one line of output.
+/// Writes one line of output for each line of the input, its answer.
 ///
-/// A line ends with the byte 0A; a last one without it counts if it isn't empty. At an error the output has whole
-/// answers to the lines before the one that couldn't be drawn or answered, but where the writer failed, a beginning of
-/// the text. It is `OutOfMemory` where memory was refused, the kind of a device's fault, or `UnsupportedValue` where the
-/// input hasn't ended after `u64::MAX` bytes.
+/// A line ends with the byte 0A. A last line without it counts if it isn't empty. After an error, the output has the whole answers to the
+/// lines before the one that failed. If the writer failed, part of the answer to that line may follow.
+///
+/// `OutOfMemory` if an allocation failed, the error of the reader or the writer if it failed, and `UnsupportedValue` if the input hasn't
+/// ended after `u64::MAX` bytes.
 pub fn run<R: ReadExt, W: WriteExt>(alloc: Global, input: &mut R, output: &mut W) -> Result<()>
     ensures text { OnOk result (WritesAnswers (R.remaining input.old) (W.written output.old)
         (W.written output.new)) }

@@ -16,8 +16,7 @@ pub struct SubjectPublicKeyInfo {
     /// What the key is for.
     pub algorithm: AlgorithmIdentifier,
 
-    /// The content of the bit string, which isn't checked: a byte that says how many bits at the end are unused, and the
-    /// key.
+    /// The content of the bit string, which isn't checked: a byte that says how many of the last bits are unused, then the key.
     pub subject_public_key: BitStringAsn1,
 }
 

@@ -1,4 +1,4 @@
-//! Values that lines name, read and written again.
+//! Values of the types that lines name, read and written again.
 ghost use Rattle.std.specs.Prelude.{◌≡◌, IfOk, IfErr, string_bytes};
 ghost use Rattle.picky_der_core.specs.Equality.{IsKept};
 ghost use Rattle.der_tool_lib.specs.Value.{AnswersRead};
@@ -13,7 +13,7 @@ use picky_asn1_der::{Asn1DerError, Asn1RawDer, Deserializer, Result};
 use std::alloc::Global;
 use texts::{hexadecimal, is_out_of_memory, read_text, refused_text};
 
-/// A type that lines name, by the word that the variant is in lower case, as `null`.
+/// A type that lines name. The word for a type is the name of its variant in lower case, as `null`.
 #[derive(Debug, Clone, Copy, PartialEq, Eq)]
 pub enum ValueType {
     /// A `bool`.
@@ -63,8 +63,8 @@ impl ValueType {
     {}
 }
 
-/// The answer to a line that asks for a value of the type to be read from these bytes: how many were taken and the value
-/// written again, or the refusal. The only error is `OutOfMemory`.
+/// Returns the answer to a line that asks for a value of this type from these bytes. It says how many bytes were consumed and the value
+/// written again, or why the bytes are refused. The only error is `OutOfMemory`.
 pub fn answer_read(alloc: Global, named: ValueType, bytes: &[u8]) -> Result<String>
     ensures ok { IfOk result (λ text. AnswersRead named bytes.now (string_bytes text)) }
     ensures err { IfErr result (λ e. e ≡ Asn1DerError.OutOfMemory) }
@@ -93,7 +93,7 @@ fn answer_as<T: Named>(alloc: Global, bytes: &[u8]) -> Result<String>
     let mut de = Deserializer::new_from_bytes(alloc, bytes);
     let outcome = T::read(&mut de);
     let taken = de.taken();
-    // No effect at run time. The proof reads from it that a slice has no faults.
+    // No effect at run time. From this the proof reads that a slice never fails.
     let _ = de.into_reader();
     match outcome {
         Ok(value) => read_text(alloc, taken, &hexadecimal(alloc, &value)?),

@@ -1,5 +1,4 @@
-//! Tests of what no row of bytes says: of entry calls, a long content and texts. The rows of bytes stand beside the
-//! program `der_rows`.
+//! Tests for what no row of bytes covers: entry calls, a long content and texts. The rows of bytes are in the program `der_rows`.
 #![tactic(auto)]
 
 #[cfg(test)]

@@ -1,4 +1,4 @@
-// Compares what came with what was wanted, and may name the place of a table where it stands.
+// Compares what came with what was wanted. A third argument names the place in a table.
 macro_rules! same {
     ($rt:expr; $came:expr, $wanted:expr) => {
         $crate::tests::checks::same(&$rt, stringify!($came), &$came, &$wanted)
@@ -17,10 +17,12 @@ mod errors;
 mod jiff_times;
 mod key_algorithms;
 mod larger_types;
+mod later_members;
 mod lengths;
 mod pieces;
 mod raw_elements;
 mod sets;
+mod short_contents;
 mod signed;
 mod tagged_forms;
 mod tags;

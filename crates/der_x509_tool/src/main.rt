@@ -1,4 +1,4 @@
-//! Answers each certificate in PEM on standard input by a line on standard output.
+//! Reads certificates in PEM from standard input, and writes a line about each to standard output.
 #![tactic(auto)]
 
 use der_x509_tool_lib::run;
@@ -12,14 +12,14 @@ fn main(rt: HostRuntime) -> ExitCode {
     match answer_input(&rt) {
         Ok(()) => ExitCode::SUCCESS,
         Err(error) => {
-            // Where standard error takes nothing either, the status alone tells.
+            // If standard error can't be written either, the status is all that says so.
             let _ = eprintln!(rt; "der_x509_tool: {error}");
             ExitCode::FAILURE
         }
     }
 }
 
-// Standard input to standard output.
+// Handles standard input and writes to standard output.
 fn answer_input(rt: &HostRuntime) -> Result<()> {
     let mut input = Watched::new(BufReader::new(rt.alloc(), rt.reader())?);
     let mut output = Watched::new(io::writer(rt));

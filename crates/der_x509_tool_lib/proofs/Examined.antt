@@ -1,5 +1,5 @@
--- What is known of bytes that were read whole, and of those that were refused.
-use Rattle.std.proofs.Common.{◌≡◌, ◌≢◌, ℕ, ◌^◌, ◌<◌, ◌⊎◌, inl, inr, Bool, List, [], ◌++◌, length, refl, sym, subst, ◌∙◌, ap, arith, append-nil}
+-- What is known of bytes that were read whole, and of bytes that were refused.
+use Rattle.std.proofs.Common.{◌≡◌, ◌≢◌, ℕ, ◌^◌, ◌<◌, inl, inr, Bool, List, length, subst, ◌∙◌, ap, arith}
 use Rattle.std.specs.Prelude.{take}
 use Rattle.std.proofs.Math.Nat.{eq-or-lt_of_le}
 use Rattle.std.proofs.Math.Seq.{take-length, take-append_seam}
@@ -24,7 +24,7 @@ module _ {V : Type 0} {meaning : V → Tree} {s : Shape} {bytes : List ℕ} {e :
     | inr some ↦ some
   ]
 
-  -- where there is none before it, none stands at the front
+  -- if there is none before it, none is at the front
   pub none_in_front : {f : Asn1DerError} {other : ℕ} → IsNoEncoding meaning s (take position bytes) f other → f ≢ OutOfMemory → (v : V) → ReadsFrom meaning s bytes (length bytes) v → ⊥
   none_in_front front kept v reads =
       let size : position ≡ length (der (meaning v)) = (refused.left_over memory v reads).1 in

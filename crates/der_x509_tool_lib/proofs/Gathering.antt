@@ -1,4 +1,4 @@
--- Lines that are taken one after another, and their answers.
+-- Lines that are read one after another, and their answers.
 use Rattle.std.proofs.Common.{◌≡◌, ℕ, List, [], ◌∷◌, ◌++◌, Option, Some, None, refl, sym, ap, ◌∙◌, subst, append_assoc, append-nil}
 use Rattle.std.proofs.lemmas.Option.{none-some, same_Some}
 use Rattle.der_tool_lib.specs.Text.{text_of_lines}
@@ -30,7 +30,7 @@ whole_push (p ∷ q ∷ qs) section h = whole_push (q ∷ qs) section h
 
 -- ---- one section more
 
--- behind a section that is cut stands no line outside of blocks
+-- after a section that is cut there is no line outside of blocks
 abbrev MayFollow : List Section → Section → Type 0
 MayFollow sections (Section.outside line) = AreWhole sections
 MayFollow sections (Section.block begin texts end) = Unit {0}
@@ -62,7 +62,7 @@ answered_push (Section.cut b t ∷ ps) (a ∷ as') section own h f k =
 
 -- ---- one line more
 
--- behind these sections no block is open
+-- after these sections no block is open
 outside : {lines : List (List ℕ)} {after : Option (List ℕ)} (answers more : List (List ℕ)) (sections : List Section) (section : Section) → AreAnswered sections answers → lines ≡ all_lines sections → MayFollow sections section → AreAnswered (section ∷ []) more → IsWhole section → after ≡ None → HasAnswers (lines ++ lines_of section) after (answers ++ more)
 outside answers more sections section h is f k w n = record {
   sections = sections ++ (section ∷ []);
@@ -72,7 +72,7 @@ outside answers more sections section h is f k w n = record {
   is = ap (λ l. l ++ lines_of section) is ∙ sym (all_push sections section) ∙ sym (append-nil _);
 }
 
--- a block is open behind them
+-- a block is open after them
 inside : {lines : List (List ℕ)} {after : Option (List ℕ)} (answers : List (List ℕ)) (sections : List Section) (begin : List ℕ) (texts : List (List ℕ)) → AreAnswered sections answers → IsOpenBlock begin texts → lines ≡ all_lines sections ++ (begin ∷ texts) → after ≡ Some (block_text texts) → HasAnswers lines after answers
 inside answers sections begin texts h k is s = record { sections = sections; answered = h; open_lines = begin ∷ texts; open_block = some begin texts k refl s; is = is }
 

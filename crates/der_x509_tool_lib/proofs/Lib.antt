@@ -1,4 +1,4 @@
-pub mod OneLine
+pub mod AnswerLines
 pub mod Examined
 pub mod Lines
 pub mod Trimming

@@ -3,10 +3,10 @@ use Rattle.std.proofs.Common.{◌≡◌, ℕ, List, ◌++◌, ◌∙◌, ap, sym
 use Rattle.std.specs.Prelude.{codes}
 use Rattle.der_x509_tool_lib.specs.declared.outcome.Reading.{Reading}
 use Rattle.der_x509_tool_lib.specs.declared.outcome.Outcome.TheVariants.{Read}
-use Rattle.der_x509_tool_lib.specs.Line.{IsOneLine}
+use Rattle.der_tool_text.specs.Line.{IsOneLine}
 use Rattle.der_x509_tool_lib.specs.Outcome.{IsReading}
 use Rattle.der_x509_tool_lib.specs.Answer.{sameness_of, IsLineOf}
-use Rattle.der_x509_tool_lib.proofs.OneLine.{joined_line, literal_line}
+use Rattle.der_tool_text.proofs.OneLine.{joined_line, literal_line}
 
 -- what was read is the same, and so its line says
 pub read_line : {bytes : List ℕ} (r : Reading) (members line : List ℕ) → IsReading bytes r → IsOneLine members → line ≡ codes "ok " ++ (members ++ sameness_of r.is_same) → IsLineOf bytes line

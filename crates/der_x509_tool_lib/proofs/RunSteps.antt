@@ -12,9 +12,9 @@ use Rattle.der_tool_lib.proofs.RunSteps.{line_push, lines_push, text_of_lines-pu
 use Rattle.der_x509_tool_lib.specs.Blocks.{BeginsBlock, none, HasAnswers, answers_at_end, IsBlockLinesOf, WritesBlockLines}
 use Rattle.der_x509_tool_lib.specs.Run.{WritesSome, TakesPemLine, stays_outside, begins, begins_again, goes_on, ends, AnswersPemLine, AnswersEnd, text_in, WroteBlockLines, WroteAllButEnd, WroteSomeBlockLines, at_line, at_end}
 use Rattle.der_x509_tool_lib.proofs.Gathering.{text_of_lines-append, take_more}
-use Rattle.der_x509_tool_lib.proofs.OneLine.{are_answers}
+use Rattle.der_x509_tool_lib.proofs.AnswerLines.{are_answers}
 
--- all of the input was drawn
+-- all of the input was read
 whole_text : {bytes text : List ℕ} (a b c d : Option (List ℕ)) → Consumes a b bytes → IsAtEnd b → IsBlockLinesOf bytes text → Appends c d text → WritesBlockLines a c d
 whole_text {bytes} {text} a b c d k e t w = Consumes-whole a b bytes (λ input. (text : List ℕ) × IsBlockLinesOf input text × Appends c d text) k e (text, t, w)
 
@@ -48,7 +48,7 @@ byte_kept None line old new byte h k = by (cases_lt (length line) 64)
         k.0 (omega (arith, short, ap length whole)) ∙ ap (λ l. l ++ (byte ∷ [])) whole ∙ sym (take_all 64 (line ++ (byte ∷ [])) (omega (arith, short, length-append line (byte ∷ []))))
     by (inr long) = k.1 (omega (arith, ap length h, length-take-le 64 line long)) ∙ h ∙ sym (take-append-le 64 line (byte ∷ []) long)
 
--- a line begins a block just where what is kept of it does
+-- a line begins a block exactly if what is kept of it does
 begins_whole : (line : List ℕ) → BeginsBlock (take 64 line) → BeginsBlock line
 begins_whole line b = subst BeginsBlock (short_kept line b.short) b
 
@@ -64,9 +64,9 @@ takes_whole {line} {kept} {before = None} {after} {answers} h (goes_on b text e 
 takes_whole {line} {kept} {before = None} {after} {answers} h (ends b text answer e n k m) = absurd (none-some _ e)
 takes_whole {line} {kept} {before = Some text} {after} {answers} h t = subst (λ l. TakesPemLine l (Some text) after answers) h t
 
--- ---- what stands while the input is read
+-- ---- what holds while the input is read
 
--- this many bytes were drawn, of which `line` has no end yet; the lines before it were answered
+-- this many bytes were read, of which `line` has no end yet; the answers to the lines before it were written
 pub record RunsOnPem (a b c d : Option (List ℕ)) (kept : List ℕ) (open_text : Option (List ℕ)) (count : ℕ) : Type 0 where
   pub lines : List (List ℕ)
   pub line : List ℕ
@@ -112,11 +112,11 @@ module _ {a b c d : Option (List ℕ)} {kept : List ℕ} {open_text : Option (Li
   drawn_still : (b' : Option (List ℕ)) → Keeps b b' → Consumes a b' (text_of_lines h.lines ++ h.line)
   drawn_still b' k = Consumes-kept a b b' _ h.drawn k
 
-  -- one byte more was drawn
+  -- one byte more was read
   pub draws : (b' : Option (List ℕ)) (x : ℕ) → Consumes b b' (x ∷ []) → WroteBlockLines a b' c d (h.line ++ (x ∷ []))
   draws b' x k = whole b' _ (drawn_more b' x k)
 
-  -- nothing more was drawn
+  -- nothing more was read
   pub stands : (b' : Option (List ℕ)) → Keeps b b' → WroteBlockLines a b' c d h.line
   stands b' k = whole b' h.line (drawn_still b' k)
 
@@ -169,7 +169,7 @@ module _ {a b c d : Option (List ℕ)} {kept : List ℕ} {open_text : Option (Li
     counted = ap length (append-nil _ ∙ text_of_lines-push h.lines h.line) ∙ more 0x0A;
   }
 
-  -- the writer failed in what answers the line, whose end was drawn
+  -- the writer failed in the answer to the line, whose end was read
   pub line_begun : (b' d' after : Option (List ℕ)) (bytes : List ℕ) → Consumes b b' (0x0A ∷ []) → AnswersPemLine kept open_text after bytes → AppendsBeginning d d' bytes → WroteSomeBlockLines a b' c d'
   line_begun b' d' after bytes k l w = at_line _ after _ (lines_push _ _ h.are_lines h.is_line) (all_answers l.takes) (all_drawn b' k) (begun d' l.answers bytes l.is w)
 

@@ -50,7 +50,7 @@ module _ {line text : List ℕ} {before : Option (List ℕ)} (open_text : before
   pub text_goes_on : {after : Option (List ℕ)} (a : Option (List ℕ)) → IsTextLine line → after ≡ Some (text ++ without_outer_space line) → WritesSome (AnswersPemLine line before after) a a
   text_goes_on a i n = record { bytes = []; of = record { answers = []; takes = goes_on i text open_text n refl; is = refl }; written = Appends-nil a }
 
--- ---- what is written at the last line, and behind it
+-- ---- what is written at the last line, and after it
 
 pub none_open : (block : Option (Vec ℕ Global)) → is_some block ≡ false → text_in block ≡ None
 none_open None e = refl

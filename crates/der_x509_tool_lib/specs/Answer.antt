@@ -2,7 +2,7 @@
 use Rattle.std.specs.Prelude.{◌≡◌, ℕ, Bool, List, ◌++◌, codes, if◌then◌else◌}
 use Rattle.der_x509_tool_lib.specs.declared.outcome.Outcome.{Outcome}
 use Rattle.der_x509_tool_lib.specs.declared.outcome.Outcome.TheVariants.{Read}
-use Rattle.der_x509_tool_lib.specs.Line.{IsOneLine}
+use Rattle.der_tool_text.specs.Line.{IsOneLine}
 use Rattle.der_x509_tool_lib.specs.Outcome.{IsOutcome}
 
 abbrev pub sameness_of : Bool → List ℕ

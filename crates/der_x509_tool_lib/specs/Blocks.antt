@@ -1,4 +1,4 @@
--- The blocks of an input, and the lines that answer them.
+-- The blocks of an input, and their answers.
 use Rattle.std.specs.Prelude.{◌≡◌, ℕ, ◌-◌, ◌<◌, List, [], ◌∷◌, ◌++◌, length, take, drop, Option, Some, None, IfSome, Ok, Err, ⊤, codes}
 use Rattle.std.specs.Io.KnownBytes.{Appends}
 use Rattle.std.specs.Char.{is_ascii_whitespace}
@@ -54,7 +54,7 @@ pub data Section : Type 0 where
   outside : List ℕ → Section
   -- the line that begins a block, the lines of its text, and the line that ends it
   block : List ℕ → List (List ℕ) → List ℕ → Section
-  -- a block without an end, since another begins behind it
+  -- a block without an end, since another begins after it
   cut : List ℕ → List (List ℕ) → Section
 
 abbrev pub lines_of : Section → List (List ℕ)
@@ -68,7 +68,7 @@ all_lines (section ∷ sections) = lines_of section ++ all_lines sections
 
 -- ---- answers
 
--- The line of a block with this text: that of the bytes that the text stands for, or one that says that there are none.
+-- The line of a block with this text: the line of the bytes that the text encodes, or one that says that there are none.
 pub data IsBlockLine (text line : List ℕ) : Type 0 where
   decoded : (bytes : List ℕ) → decode_of standard text ≡ Ok bytes → IsLineOf bytes line → IsBlockLine text line
   no_base64 : (e : DecodeError) → decode_of standard text ≡ Err e → line ≡ codes "refused: the block is no base64" → IsBlockLine text line
@@ -93,7 +93,7 @@ BeginInBlock (Section.outside line ∷ sections) = ⊥
 BeginInBlock (Section.block begin texts end ∷ sections) = ⊤
 BeginInBlock (Section.cut begin texts ∷ sections) = ⊤
 
--- each block is answered by a line, in order, and nothing else is
+-- each block has a line as its answer, in order, and nothing else has
 abbrev pub AreAnswered : List Section → List (List ℕ) → Type 0
 AreAnswered [] [] = ⊤
 AreAnswered [] (answer ∷ answers) = ⊥
@@ -103,7 +103,7 @@ AreAnswered (Section.block begin texts end ∷ sections) (answer ∷ answers) = 
 AreAnswered (Section.cut begin texts ∷ sections) [] = ⊥
 AreAnswered (Section.cut begin texts ∷ sections) (answer ∷ answers) = IsOpenBlock begin texts × (answer ≡ no_end) × BeginInBlock sections × AreAnswered sections answers
 
--- nothing else has to stand behind it
+-- nothing else has to follow it
 abbrev pub IsWhole : Section → Type 0
 IsWhole (Section.outside line) = ⊤
 IsWhole (Section.block begin texts end) = ⊤
@@ -115,12 +115,12 @@ AreWhole [] = ⊤
 AreWhole (section ∷ []) = IsWhole section
 AreWhole (section ∷ next ∷ sections) = AreWhole (next ∷ sections)
 
--- what stands behind these sections: nothing, or a block that hasn't ended, whose text so far this is
+-- what follows these sections: nothing, or a block that hasn't ended, whose text so far this is
 pub data HasOpenBlock (sections : List Section) (lines : List (List ℕ)) (open_text : Option (List ℕ)) : Type 0 where
   none : AreWhole sections → lines ≡ [] → open_text ≡ None → HasOpenBlock sections lines open_text
   some : (begin : List ℕ) (texts : List (List ℕ)) → IsOpenBlock begin texts → lines ≡ begin ∷ texts → open_text ≡ Some (block_text texts) → HasOpenBlock sections lines open_text
 
--- of these lines the blocks that have an end or are cut are answered so, and one may be open
+-- in these lines the blocks that have an end or are cut have these answers, and one may be open
 pub record HasAnswers (lines : List (List ℕ)) (open_text : Option (List ℕ)) (answers : List (List ℕ)) : Type 0 where
   pub sections : List Section
   pub answered : AreAnswered sections answers
@@ -133,8 +133,8 @@ abbrev pub answers_at_end : Option (List ℕ) → List (List ℕ)
 answers_at_end None = []
 answers_at_end (Some text) = no_end ∷ []
 
--- The text that answers an input: the lines of its blocks, in order, each ended by the byte 0A. No answer has this byte inside, so
--- the text has exactly as many lines as the input has blocks. What stands behind the last such byte of the input is a line, too.
+-- The answer text for an input: the lines of its blocks, in order, each ended by the byte 0A. No answer has this byte inside, so the
+-- text has exactly as many lines as the input has blocks. What follows the last such byte of the input is a line, too.
 pub record IsBlockLinesOf (input text : List ℕ) : Type 0 where
   pub lines : List (List ℕ)
   pub are_lines : AreLines lines

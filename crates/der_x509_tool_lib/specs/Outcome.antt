@@ -1,22 +1,16 @@
 -- What comes of reading bytes as a certificate.
-use Rattle.std.specs.Prelude.{◌≡◌, ◌≢◌, ℕ, ◌<◌, List, length, take, IsTrue}
+use Rattle.std.specs.Prelude.{◌≢◌, ℕ, ◌<◌, List, length, take, IsTrue}
 use Rattle.picky_der_core.specs.declared.error.Asn1DerError.TheVariants.{OutOfMemory}
 use Rattle.picky_der_core.specs.Reading.{ReadsFrom}
 use Rattle.picky_der_de.specs.declared.whole.DecodeError.{DecodeError}
 use Rattle.picky_der_de.specs.Whole.{IsWhole, IsNoEncoding}
 use Rattle.der_x509.specs.declared.certificate.Certificate.{Certificate}
-use Rattle.der_x509.specs.declared.tbs_certificate.TbsCertificate.{TbsCertificate}
 use Rattle.der_x509.specs.contracts.certificate.CertificateSerialize.TheImpl as certificate_written
 use Rattle.der_x509.specs.contracts.certificate.CertificateDeserialize.TheImpl as certificate_read
 use Rattle.der_x509.specs.contracts.certificate.CertificatePartialEq.TheImpl as certificate_compared
-use Rattle.der_x509.specs.contracts.tbs_certificate.TbsCertificateSerialize.TheImpl as signed_written
-use Rattle.der_x509.specs.contracts.tbs_certificate.TbsCertificateDeserialize.TheImpl as signed_read
-use Rattle.der_x509.specs.contracts.tbs_certificate.TbsCertificatePartialEq.TheImpl as signed_compared
 use Rattle.der_x509_tool_lib.specs.declared.outcome.Reading.{Reading}
 use Rattle.der_x509_tool_lib.specs.declared.outcome.Outcome.{Outcome}
 use Rattle.der_x509_tool_lib.specs.declared.outcome.Outcome.TheVariants as outcome
-
--- ---- the two parts
 
 -- the certificate whose encoding the bytes are
 abbrev pub IsCertificate : List ℕ → Certificate → Type 0
@@ -26,20 +20,11 @@ IsCertificate bytes c = IsWhole certificate_written.ghosts.meaning certificate_r
 abbrev pub IsNoCertificate : List ℕ → DecodeError → Type 0
 IsNoCertificate bytes r = IsNoEncoding certificate_written.ghosts.meaning certificate_read.ghosts.shape bytes r.error r.position
 
--- the bytes of what is signed
-abbrev pub signed_bytes : Certificate → List ℕ
-signed_bytes c = c.tbs_certificate.0.items
-
--- the value whose encoding these are
-abbrev pub IsTbsCertificate : List ℕ → TbsCertificate → Type 0
-IsTbsCertificate bytes t = IsWhole signed_written.ghosts.meaning signed_read.ghosts.shape signed_compared.ghosts.eq bytes t
-
 -- ---- the outcomes
 
--- The bytes are a certificate, and both it and what is signed of it are written as they were read.
+-- The bytes are a certificate, and it is written as they were read.
 pub record IsReading (bytes : List ℕ) (r : Reading) : Type 0 where
   pub certificate : IsCertificate bytes r.certificate
-  pub signed : IsTbsCertificate (signed_bytes r.certificate) r.tbs_certificate
   pub same : IsTrue r.is_same
 
 -- the bytes are no certificate, and begin with none
@@ -54,15 +39,7 @@ pub record IsLeftOver (bytes : List ℕ) (taken : ℕ) : Type 0 where
   pub front : IsCertificate (take taken bytes) certificate
   pub more : taken < length bytes
 
--- the bytes are a certificate, whose signed bytes are refused
-pub record IsRefusedSigned (bytes : List ℕ) (r : DecodeError) : Type 0 where
-  pub certificate : Certificate
-  pub whole : IsCertificate bytes certificate
-  pub refused : IsNoEncoding signed_written.ghosts.meaning signed_read.ghosts.shape (signed_bytes certificate) r.error r.position
-  pub memory : r.error ≢ OutOfMemory
-
 abbrev pub IsOutcome : List ℕ → Outcome → Type 0
 IsOutcome bytes (outcome.Read r) = IsReading bytes r
 IsOutcome bytes (outcome.Refused r) = IsRefused bytes r
 IsOutcome bytes (outcome.LeftOver taken) = IsLeftOver bytes taken
-IsOutcome bytes (outcome.RefusedSigned r) = IsRefusedSigned bytes r

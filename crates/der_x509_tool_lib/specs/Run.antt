@@ -1,4 +1,4 @@
--- What a run over an input draws and writes.
+-- What a run over an input reads and writes.
 use Rattle.std.specs.Prelude.{◌≡◌, ℕ, List, [], ◌∷◌, ◌++◌, Option, Some, None, option_map, vec_items}
 use Rattle.std.proofs.Common.{Vec, Global}
 use Rattle.std.specs.Io.KnownBytes.{Appends, Consumes, IsAtEnd}
@@ -55,7 +55,7 @@ pub record AnswersPemLine (line : List ℕ) (before after : Option (List ℕ)) (
 abbrev pub AnswersSomeLine : List ℕ → Option (List ℕ) → List ℕ → Type 0
 AnswersSomeLine line before bytes = (after : Option (List ℕ)) × AnswersPemLine line before after bytes
 
--- these bytes are the lines that are written at the last line, and behind it
+-- these bytes are the lines that are written at the last line, and after it
 pub record AnswersEnd (line : List ℕ) (before : Option (List ℕ)) (bytes : List ℕ) : Type 0 where
   pub after : Option (List ℕ)
   pub answers : List (List ℕ)
@@ -70,7 +70,7 @@ module _ {W : Type 0} (g : Ghosts W) (line : List ℕ) (before : Option (List �
 
 -- ---- a run
 
--- Of an input these were drawn: lines up to their ends, and then `rest`. What answers the lines was written, and nothing else.
+-- The run read lines up to their ends, and then `rest`. The answers to the lines were written, and nothing else.
 pub record WroteBlockLines (in_old in_new out_old out_new : Option (List ℕ)) (rest : List ℕ) : Type 0 where
   pub lines : List (List ℕ)
   pub are_lines : AreLines lines
@@ -80,7 +80,7 @@ pub record WroteBlockLines (in_old in_new out_old out_new : Option (List ℕ)) (
   pub drawn : Consumes in_old in_new (text_of_lines lines ++ rest)
   pub written : Appends out_old out_new (text_of_lines answers)
 
--- All of the input was drawn, and what answers it was written but for the line of the last block, which has no end.
+-- All of the input was read, and its answers were written, except the line of the last block, which has no end.
 pub record WroteAllButEnd (in_old in_new out_old out_new : Option (List ℕ)) : Type 0 where
   pub lines : List (List ℕ)
   pub are_lines : AreLines lines
@@ -93,19 +93,19 @@ pub record WroteAllButEnd (in_old in_new out_old out_new : Option (List ℕ)) : 
   pub is : bytes ++ (0x0A ∷ []) ≡ text_of_lines lines
   pub written : Appends out_old out_new (text_of_lines answers)
 
--- A beginning of what answers the bytes that were drawn was written: lines up to their ends, or all of the input.
+-- A beginning of the answers to the bytes that were read was written: to lines up to their ends, or to all of the input.
 pub data WroteSomeBlockLines (in_old in_new out_old out_new : Option (List ℕ)) : Type 0 where
   at_line : (lines : List (List ℕ)) (open_text : Option (List ℕ)) (answers : List (List ℕ)) → AreLines lines → HasAnswers lines open_text answers → Consumes in_old in_new (text_of_lines lines) → AppendsBeginning out_old out_new (text_of_lines answers) → WroteSomeBlockLines in_old in_new out_old out_new
   at_end : (bytes text : List ℕ) → IsBlockLinesOf bytes text → Consumes in_old in_new bytes → IsAtEnd in_new → AppendsBeginning out_old out_new text → WroteSomeBlockLines in_old in_new out_old out_new
 
 module _ {W : Type 0} (g : Ghosts W) (in_old in_new : Option (List ℕ)) (faults_old faults_new : List Fault) (out_old out_new : W) where
-  -- the lines before this one were answered, and it wasn't
+  -- the answers to the lines before this one were written, and its own wasn't
   abbrev pub StopsBeforeLine : List ℕ → Type 0
   StopsBeforeLine line = WroteBlockLines in_old in_new (g.written out_old) (g.written out_new) line
 
   -- why a run ended with an error, and what it left
   pub data StopsPem (e : Asn1DerError) : Type 0 where
-    -- memory was refused for the line or what answers it
+    -- an allocation failed for the line or its answer
     memory : e ≡ OutOfMemory → (line : List ℕ) → IsLastLine line → StopsBeforeLine line → StopsPem e
     memory_at_end : e ≡ OutOfMemory → WroteAllButEnd in_old in_new (g.written out_old) (g.written out_new) → StopsPem e
     -- the reader cut the line

@@ -1,29 +1,27 @@
 //! The line of a certificate.
 ghost use Rattle.std.specs.Prelude.{◌≡◌, ◌++◌, IfOk, IfErr, string_bytes};
 ghost use Rattle.der_x509_tool_lib.specs.Answer.{IsLineOf, IsRefusal, sameness_of};
-ghost use Rattle.der_x509_tool_lib.specs.Line.{IsOneLine};
+ghost use Rattle.der_tool_text.specs.Line.{IsOneLine};
 
-use crate::line::Line;
 use crate::names::push_name;
-use crate::object_identifier::push_object_identifier;
-use crate::text::push_text_or_bytes;
 use crate::{Outcome, examine};
+use der_tool_text::{Line, push_object_identifier, push_text_or_bytes};
 use der_types::DateTime;
 use der_x509::{TbsCertificate, Time};
 use picky_asn1_der::{Asn1DerError, Result};
 use std::alloc::{AllocError, Global};
 use std::result;
 
-/// What is printed of the bytes of a certificate: one line, without the byte that ends it. The only error is `OutOfMemory`.
+/// Returns the line that is printed for the bytes of a certificate, without the byte that ends it. The only error is `OutOfMemory`.
 ///
-/// Of a certificate that was read these are its subject, the times, the key's algorithm and how many extensions it has.
+/// For a certificate that was read, the line has the subject, the times, the algorithm of the key and the number of extensions.
 pub fn line_of(alloc: Global, bytes: &[u8]) -> Result<String>
     ensures ok { IfOk result (λ line. IsLineOf bytes.now (string_bytes line)) }
     ensures err { IfErr result (λ e. e ≡ Asn1DerError.OutOfMemory) }
 {
     match examine(alloc, bytes)? {
         Outcome::Read(reading) => {
-            let members = members_of(alloc, &reading.tbs_certificate)?;
+            let members = members_of(alloc, &reading.certificate.tbs_certificate)?;
             joined(alloc, "ok ", &members, sameness(reading.is_same))
         }
         Outcome::Refused(refusal) => {
@@ -42,13 +40,6 @@ pub fn line_of(alloc: Global, bytes: &[u8]) -> Result<String>
             )?;
             refused(alloc, reason)
         }
-        Outcome::RefusedSigned(refusal) => {
-            let error = refusal.error;
-            let taken = refusal.position;
-            let mut reason = Line::new(alloc);
-            write!(reason, " {error} after {taken} bytes of what is signed")?;
-            refused(alloc, reason)
-        }
     }
 }
 
@@ -62,7 +53,7 @@ fn refused(alloc: Global, reason: Line) -> Result<String>
     joined(alloc, "refused", &text, "")
 }
 
-// The three texts, one behind the other.
+// The three texts, one after another.
 fn joined(alloc: Global, front: &str, middle: &str, back: &str) -> Result<String>
     ensures ok { IfOk result (λ line. string_bytes line ≡ front.now ++ (middle.now ++ back.now)) }
     ensures err { IfErr result (λ e. e ≡ Asn1DerError.OutOfMemory) }
@@ -70,7 +61,7 @@ fn joined(alloc: Global, front: &str, middle: &str, back: &str) -> Result<String
     Ok(format!(in alloc; "{front}{middle}{back}")?)
 }
 
-// The end of the line of a certificate that was read.
+// The end of the line for a certificate that was read.
 fn sameness(is_same: bool) -> &'static str
     ensures { result.now ≡ sameness_of is_same }
 {
@@ -95,18 +86,18 @@ fn members_of(alloc: Global, signed: &TbsCertificate) -> result::Result<String, 
     let algorithm = &signed.subject_public_key_info.algorithm.algorithm;
     push_object_identifier(&mut line, algorithm)?;
     let count = match &signed.extensions {
-        Some(extensions) => extensions.0.len(),
+        Some(extensions) => extensions.0.get().len(),
         None => 0,
     };
     write!(line, "; {count} extensions")?;
     Ok(line.into_string())
 }
 
-// The date and time, as 2026-11-27T23:12:00Z. A time with a fraction of a second is appended as it is.
+// Appends the date and time, as 2026-11-27T23:12:00Z. A time with a fraction of a second is appended as it is in the input.
 fn push_time(line: &mut Line, time: &Time) -> result::Result<(), AllocError> {
     match time {
-        Time::Utc(time) => push_date_time(line, time.date_time()),
-        Time::Generalized(time) => match time.date_time() {
+        Time::UtcTime(time) => push_date_time(line, time.date_time()),
+        Time::GeneralTime(time) => match time.date_time() {
             Some(at) => push_date_time(line, at),
             None => push_text_or_bytes(line, time.content()),
         },

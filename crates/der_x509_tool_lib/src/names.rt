@@ -1,15 +1,13 @@
 //! Names as text.
 
-use crate::line::Line;
-use crate::object_identifier::push_object_identifier;
-use crate::text::{push_bytes, push_text};
+use der_tool_text::{Line, push_bytes, push_object_identifier, push_text};
 use der_types::{ObjectIdentifier, names};
 use der_x509::{Attribute, Name};
 use picky_asn1_der::asn1::{PrintableStringAsn1, Tag};
 use picky_asn1_der::{Asn1DerError, from_bytes};
 use std::alloc::{AllocError, Global};
 
-// The names of attributes that have short ones.
+// The names of attributes that have short names.
 static SHORT_NAMES: [(&[u8], &str); 7] = [
     (names::COMMON_NAME, "CN"),
     (names::COUNTRY_NAME, "C"),
@@ -20,13 +18,15 @@ static SHORT_NAMES: [(&[u8], &str); 7] = [
     (names::ORGANIZATIONAL_UNIT_NAME, "OU"),
 ];
 
-// Appends a name: its steps from the root down, with `, ` between them, and between the attributes of one step ` + `.
-pub(crate) fn push_name(alloc: Global, line: &mut Line, name: &Name) -> Result<(), AllocError> {
-    for (place, step) in name.iter().enumerate() {
+/// Appends a name: its steps from the root down, with `, ` between them, and ` + ` between the attributes of one step. The only error is a
+/// failed allocation.
+pub fn push_name(alloc: Global, line: &mut Line, name: &Name) -> Result<(), AllocError> {
+    let Name::RdnSequence(steps) = name;
+    for (place, step) in steps.iter().enumerate() {
         if place != 0 {
             line.push_str(", ")?;
         }
-        push_step(alloc, line, &step.0)?;
+        push_step(alloc, line, &step.get().0)?;
     }
     Ok(())
 }
@@ -36,14 +36,14 @@ fn push_step(alloc: Global, line: &mut Line, attributes: &[Attribute]) -> Result
         if place != 0 {
             line.push_str(" + ")?;
         }
-        push_kind(line, &attribute.kind)?;
+        push_kind(line, &attribute.type_)?;
         line.push('=')?;
         push_value(alloc, line, &attribute.value.0)?;
     }
     Ok(())
 }
 
-// The short name of an attribute's type (RFC 4514, 3), or its object identifier.
+// Appends the short name of an attribute's type (RFC 4514, 3), or its object identifier.
 fn push_kind(line: &mut Line, kind: &ObjectIdentifier) -> Result<(), AllocError> {
     for (known, name) in &SHORT_NAMES {
         if kind.is(*known) {
@@ -53,7 +53,7 @@ fn push_kind(line: &mut Line, kind: &ObjectIdentifier) -> Result<(), AllocError>
     push_object_identifier(line, kind)
 }
 
-// The text of a UTF8String or a PrintableString, and any other element as bytes.
+// Appends the text of a UTF8String or a PrintableString, and any other element as bytes.
 fn push_value(alloc: Global, line: &mut Line, element: &[u8]) -> Result<(), AllocError> {
     match text_of(alloc, element)? {
         Some(text) => push_text(line, &text),
@@ -61,8 +61,8 @@ fn push_value(alloc: Global, line: &mut Line, element: &[u8]) -> Result<(), Allo
     }
 }
 
-// The text in an element, if it is one of the two and has only characters that it may have: of a PrintableString those of
-// ASCII, of which some are met that it may not have, as `@` and `*`.
+// The text in an element, if it is a UTF8String or a PrintableString with valid characters. In a PrintableString all ASCII characters are
+// accepted: some that it may not have, as `@` and `*`, are common in practice.
 fn text_of(alloc: Global, element: &[u8]) -> Result<Option<String>, AllocError> {
     let text = match element.first() {
         Some(0x0C) => from_bytes(alloc, element),

@@ -19,19 +19,20 @@ const BEGIN: &[u8] = b"-----BEGIN CERTIFICATE-----";
 
 const END: &[u8] = b"-----END CERTIFICATE-----";
 
-// The line of a block without an end.
+// The line for a block without an end line.
 const NO_END: &str = "refused: the block has no end";
 
-// Outside of blocks no more of a line is kept, since one that is so long begins no block.
+// Outside of blocks no more of a line is kept, since a line of this length begins no block.
 const LONGEST_KEPT: usize = 64;
 
-/// Answers each block of the input by a line of output, in order. Lines outside of blocks are skipped. One of 64 bytes or more
-/// begins no block.
+/// Writes a line of output for each block of the input, in order. Lines outside of blocks are skipped. A line of 64 bytes or more begins no
+/// block.
 ///
-/// No more than one block is in memory, and no more than 64 bytes of a line outside of one. At an error the output has whole
-/// lines for the blocks before the one that couldn't be drawn or answered, but where the writer failed, a beginning of these
-/// lines. It is `OutOfMemory` where memory was refused, the kind of a device's fault, or `UnsupportedValue` where the input
-/// hasn't ended after `u64::MAX` bytes.
+/// At most one block is in memory, and outside of blocks at most 64 bytes of a line. After an error, the output has whole lines for the
+/// blocks before the one that failed. If the writer failed, part of the next line may follow.
+///
+/// `OutOfMemory` if an allocation failed, the error of the reader or the writer if it failed, and `UnsupportedValue` if the input hasn't
+/// ended after `u64::MAX` bytes.
 pub fn run<R: ReadExt, W: WriteExt>(alloc: Global, input: &mut R, output: &mut W) -> Result<()>
     ensures text { OnOk result (WritesBlockLines (R.remaining input.old) (W.written output.old)
         (W.written output.new)) }
@@ -62,7 +63,7 @@ pub fn run<R: ReadExt, W: WriteExt>(alloc: Global, input: &mut R, output: &mut W
     Err(Asn1DerError::UnsupportedValue)
 }
 
-// Puts a byte behind a line, but outside of blocks not where the line is too long to begin one.
+// Appends a byte to a line. Outside of blocks it drops the byte if the line is already too long to begin a block.
 fn keep(line: &mut Vec<u8>, byte: u8, is_inside: bool) -> Result<()>
     ensures inside { OnOk result (is_inside ≡ true
         → line.new.items ≡ line.old.items ++ (byte ∷ [])) }
@@ -81,7 +82,7 @@ fn keep(line: &mut Vec<u8>, byte: u8, is_inside: bool) -> Result<()>
     }
 }
 
-// Takes what stands behind the last line that has an end. A block that is still open has none.
+// Handles the rest of the input, after its last byte 0A. A block that is still open has no end.
 fn end_input<W: WriteExt>(
     alloc: Global,
     line: &[u8],
@@ -104,8 +105,8 @@ fn end_input<W: WriteExt>(
     write_line(alloc, NO_END, output)
 }
 
-// Takes a line, with the text so far of the block that it stands in, and answers that text behind it. White space at the ends of
-// the line is dropped.
+// Handles a line. `block` is the text so far of the block that the line is in, and the result is that text after the line. White space at
+// both ends of the line is dropped.
 fn take_line<W: WriteExt>(
     alloc: Global,
     line: &[u8],
@@ -145,14 +146,14 @@ fn begins_block(line: &[u8]) -> bool
     line.len() < LONGEST_KEPT && *line.trim_ascii() == *BEGIN
 }
 
-// Whether a line ends the block that it stands in.
+// Whether a line ends a block.
 fn ends_block(line: &[u8]) -> bool
     ensures { IsTrue result ↔ EndsBlock line.now }
 {
     *line.trim_ascii() == *END
 }
 
-// Writes the line of a block that has an end, with this text.
+// Writes the line for a block with this text.
 fn answer_block<W: WriteExt>(alloc: Global, text: &[u8], output: &mut W) -> Result<()>
     ensures ok { OnOk result (WritesSome (AnswersBlock text.now) (W.written output.old)
         (W.written output.new)) }

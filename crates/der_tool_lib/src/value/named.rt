@@ -1,4 +1,4 @@
-//! The types that lines name, as they are read.
+//! The types that lines name, for reading.
 ghost use Rattle.std.proofs.Common.{sym};
 ghost use Rattle.std.specs.Prelude.{◌≡◌, ◌^◌, ◌-◌, IfOk, IfErr, string_bytes, refl};
 ghost use Rattle.picky_der_core.specs.Shape.{IsOf};
@@ -11,20 +11,20 @@ use picky_asn1_der::asn1::ByteBuf;
 use picky_asn1_der::misc::ReadExt;
 use picky_asn1_der::{Asn1RawDer, Deserialize, Deserializer, Result};
 
-// A type that lines name. Of a refusal its description says which error it is.
+// A type that lines name. Its description says which error a rejected input has.
 pub(super) trait Named: Deserialize {
     ghost use Rattle.der_tool_lib.specs.declared.value.ValueType.{ValueType};
 
     ghost named: { ValueType };
 
-    // What the value is in the description.
+    // The value as its description has it.
     ghost described_as: { Self → (description_of named).Value };
 
     fn read<R: ReadExt>(de: &mut Deserializer<R>) -> Result<Self>
         ensures ok { IfOk result (λ value. ReadsNamed named de.old de.new (described_as value)) }
         ensures err { IfErr result (RefusesNamed named de.old de.new) };
 
-    // One of the shape means the same there.
+    // A value with the shape of the description means the same there.
     ghost same_meaning: { (v : Self) → IsOf (description_of named).shape ((description_of named).meaning (described_as v))
         → (description_of named).meaning (described_as v) ≡ Self.meaning v };
 }

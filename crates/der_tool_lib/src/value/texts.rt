@@ -1,4 +1,4 @@
-//! The texts of answers.
+//! The texts in answers.
 ghost use Rattle.std.specs.Prelude.{◌≡◌, ◌++◌, codes, decimal, IfOk, IfErr, string_bytes};
 ghost use Rattle.hex.specs.Hex.{encode_lower};
 ghost use Rattle.picky_der_core.specs.Encoding.{der};
@@ -16,7 +16,7 @@ pub(super) fn is_out_of_memory(error: Asn1DerError) -> bool
     matches!(error, Asn1DerError::OutOfMemory)
 }
 
-// The encoding of the value in hexadecimal.
+// The encoding of the value, in hexadecimal.
 pub(super) fn hexadecimal<T: Serialize>(alloc: Global, value: &T) -> Result<String>
     requires { IsWritable (T.meaning value.now) }
     ensures ok { IfOk result (λ text. string_bytes text ≡ encode_lower

@@ -1,11 +1,11 @@
-//! What tests compare by.
+//! The comparisons that tests use.
 //!
-//! An `assert_eq!` costs a proof of some seconds wherever it stands, and a call of these well under one.
+//! An `assert_eq!` costs a proof of some seconds at each use. A call of these functions costs well under one second.
 
 use std::fmt::Debug;
 use std::process::Abort;
 
-// What came of this code is what was wanted.
+// The code returned what was wanted.
 pub(crate) fn same<T: PartialEq + Debug>(rt: &impl Abort, code: &str, came: &T, wanted: &T) {
     assert_eq!(rt; came, wanted, "{code}");
 }

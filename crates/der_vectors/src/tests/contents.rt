@@ -1,10 +1,10 @@
-//! Contents alone, and numbers of one width as those of another.
+//! Contents alone, and numbers of one width as numbers of another.
 
 use picky_asn1_der::Asn1DerError::UnsupportedValue;
 use picky_asn1_der::misc::WriteExt;
 use picky_asn1_der::{Result as DerResult, Serializer, de, ser};
 
-// How many bytes each of four contents takes that are written one after another.
+// Writes four contents one after another, and returns the length of each.
 fn write_contents<W: WriteExt>(ser: &mut Serializer<W>) -> DerResult<[usize; 4]> {
     let boolean = ser::Boolean::serialize(false, ser)?;
     let number = ser::UnsignedInteger::serialize(0x0Ausize, ser)?;

@@ -1,4 +1,4 @@
-//! Values with constraints, in bytes that `openssl asn1parse -genconf` (3.0.19) makes.
+//! Values with constraints, in bytes that `openssl asn1parse -genconf` (3.0.19) writes.
 
 use crate::tests::tagged_forms::{is_refused, read_back};
 use der_examples::DeviceLabel;
@@ -20,7 +20,7 @@ fn a_label_is_read_and_written(rt: HostRuntime) -> Result<(), Fail> {
     Ok(())
 }
 
-// Countries of three letters and of one; a serial number of 65537, and of -1; a letter in the number of the article; no contact.
+// Countries of three letters and of one letter; serial numbers 65537 and -1; a letter in the article number; no contact.
 #[test]
 fn what_a_constraint_forbids_is_refused(rt: HostRuntime) -> Result<(), Fail> {
     for text in [

@@ -1,4 +1,4 @@
-//! What the entry calls answer one after another, and what they leave in a slice and in a device.
+//! What the entry calls return one after another, and what they leave in a slice and in a reader or writer.
 
 use der_fixtures::{SlowReader, SlowWriter};
 use picky_asn1_der::Asn1DerError::{InvalidData, InvalidSink, TruncatedData};
@@ -29,7 +29,7 @@ fn a_writer_takes_one_value_after_another(rt: HostRuntime) {
     same!(rt; writer.get_ref().taken(), [0x04, 0x01, 0xAA, 0x05, 0x00].as_slice());
 }
 
-// The bytes of the next text, which is read below this limit.
+// The bytes of the next text, which is read with this limit.
 fn next_printable(
     alloc: Global,
     reader: &mut PeekableReader<&[u8]>,
@@ -79,7 +79,7 @@ fn a_vector_grows_with_each_call(rt: HostRuntime) {
     same!(rt; out.as_slice(), [0x02, 0x01, 0x07, 0x05, 0x00].as_slice());
 }
 
-// This header, and zero bytes up to this length.
+// This header, with zero bytes up to this length.
 fn with_zeros(alloc: Global, header: &[u8], len: usize) -> Result<Vec<u8>, AllocError> {
     let mut bytes = Vec::from_slice(alloc, header)?;
     bytes.resize(len, 0)?;
@@ -108,8 +108,8 @@ fn from_reader_reads_nothing_of_a_content_that_is_longer(rt: HostRuntime) -> Res
     Ok(())
 }
 
-// A foreign tag, one after a member, and a member that isn't the shortest, each with how many bytes are read up to the one that
-// shows it.
+// A wrong tag, a wrong tag after a member, and a member that isn't the shortest. The number is how many bytes are read up to the one that
+// shows the error.
 const REFUSED: [(&[u8], usize); 3] = [
     (&[0x05, 0x00, 0x05, 0x00], 1),
     (&[0x30, 0x06, 0x02, 0x01, 0x07, 0x05, 0x00, 0x05], 6),

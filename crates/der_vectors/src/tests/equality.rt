@@ -1,4 +1,4 @@
-//! Values that differ in one part each, and that `==` tells apart.
+//! Values that differ in one part each, which `==` distinguishes.
 
 use der_fixtures::bytes_of;
 use picky_asn1_der::application_tag::ApplicationTag;
@@ -15,7 +15,7 @@ use std::io::ErrorKind;
 use std::process::Abort;
 use std::test::Fail;
 
-// Each of these values is equal to itself, and to none that stands before it.
+// Each of these values is equal to itself, and differs from every one before it.
 fn all_differ<T: PartialEq>(rt: &impl Abort, values: &[T]) {
     for (place, value) in values.iter().enumerate() {
         same!(rt; values.iter().position(|it| it == value), Some(place));

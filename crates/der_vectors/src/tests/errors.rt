@@ -1,4 +1,4 @@
-//! How errors are shown, and what becomes of the errors of devices.
+//! How errors print, and which errors a failing reader or writer leads to.
 
 use picky_asn1_der::Asn1DerError;
 use std::io::{Error, ErrorKind};

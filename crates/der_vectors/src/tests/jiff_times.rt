@@ -1,4 +1,4 @@
-//! Times as those of `jiff`. The seconds since 1970 are what Python's `calendar.timegm` gives.
+//! Times of `jiff`. The seconds since 1970 are from Python's `calendar.timegm`.
 
 use crate::tests::tagged_forms::read_back;
 use der_jiff::{
@@ -9,7 +9,7 @@ use der_types::{DateTime, GeneralizedTime, UtcTime};
 use jiff::{Timestamp, civil};
 use std::test::Fail;
 
-// Dates and times, and how many seconds they are after 1970.
+// Dates and times, and their seconds since 1970.
 const SECONDS: [((u16, u8, u8, u8, u8, u8), i64); 5] = [
     ((1, 1, 1, 0, 0, 0), -62_135_596_800),
     ((1950, 1, 1, 0, 0, 0), -631_152_000),

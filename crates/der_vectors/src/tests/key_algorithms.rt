@@ -6,7 +6,7 @@ use der_types::names;
 use picky_asn1_der::Asn1DerError::{InvalidData, TruncatedData};
 use std::test::Fail;
 
-// Of RSA, P-256, P-384 and Ed25519.
+// The algorithms of RSA, P-256, P-384 and Ed25519.
 const RSA: &str = "30 0D 06 09 2A 86 48 86 F7 0D 01 01 01 05 00";
 
 const P_256: &str = "30 13 06 07 2A 86 48 CE 3D 02 01 06 08 2A 86 48 CE 3D 03 01 07";
@@ -36,7 +36,7 @@ fn a_curve_has_a_name(rt: HostRuntime) -> Result<(), Fail> {
     Ok(())
 }
 
-// The name of its curve, or no bytes where it has none.
+// The name of the curve, or no bytes if the algorithm has none.
 fn curve_of(algorithm: &KeyAlgorithm) -> &[u8] {
     match algorithm.parameters() {
         KeyParameters::Curve(curve) => curve.value().content(),
@@ -44,7 +44,8 @@ fn curve_of(algorithm: &KeyAlgorithm) -> &[u8] {
     }
 }
 
-// No parameters and an INTEGER for RSA; none, a NULL and a SEQUENCE for a curve, as `openssl ecparam -param_enc explicit` writes one.
+// For RSA: no parameters, and an INTEGER. For a curve: no parameters, a NULL, and a SEQUENCE as `openssl ecparam -param_enc explicit`
+// writes one.
 #[test]
 fn other_parameters_are_refused(rt: HostRuntime) -> Result<(), Fail> {
     for text in [

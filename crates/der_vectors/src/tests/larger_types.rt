@@ -1,7 +1,7 @@
 //! A struct of twenty members, a choice of twelve alternatives in a list, and an envelope around values of three types.
 //!
-//! The encodings are those of pyasn1 0.6.3, by `pyasn1.codec.der.encoder.encode` of the same ASN.1 types: it leaves out the default and the
-//! members that are absent, and puts the SET OF in order. What is refused is such an encoding with one change, which its test names.
+//! The encodings are from pyasn1 0.6.3, by `pyasn1.codec.der.encoder.encode` of the same ASN.1 types. It leaves out the default and the
+//! absent members, and sorts the SET OF. A refused input is such an encoding with one change, which its test names.
 
 use der_examples::{
     Bundle, Command, Marker, Named, NumberOrFlag, Point, Script, Setting, Signed, Step, Vessel,
@@ -178,7 +178,7 @@ fn add_first(alloc: Global, script: &mut Script) -> Result<(), AllocError> {
     Ok(())
 }
 
-// The last six.
+// The last six alternatives.
 fn add_last(alloc: Global, script: &mut Script) -> Result<(), AllocError> {
     let font = ByteBuf(Vec::from_slice(alloc, &[0xAA, 0xBB])?);
     let speeds = Vec::from_slice(alloc, &[1, 1000])?;
@@ -209,7 +209,7 @@ fn a_script_has_each_command(rt: HostRuntime) -> Result<(), Fail> {
     add_first(rt.alloc(), &mut script)?;
     add_last(rt.alloc(), &mut script)?;
     is_encoded(&rt, script, SCRIPT)?;
-    // The tag [12], and [8] without the bit of a list.
+    // The tag [12], and the tag [8] without the bit of a constructed encoding.
     is_refused::<Command>(&rt, "8C 00", InvalidData)?;
     is_refused::<Command>(&rt, "88 07 02 01 01 02 02 03 E8", InvalidData)?;
     // A NULL with a content, and a step without its command.
@@ -270,7 +270,7 @@ fn a_bundle_may_have_no_parameters(rt: HostRuntime) -> Result<(), Fail> {
         commands: signed(alloc, Vec::new(alloc), &[])?,
     };
     is_encoded(&rt, bundle, EMPTY_BUNDLE)?;
-    // A BOOLEAN where the number is, and 8 unused bits.
+    // A BOOLEAN instead of the number, and 8 unused bits.
     is_refused::<Signed<u32>>(
         &rt,
         "30 0D 01 01 00 30 05 06 03 2B 65 70 03 01 00",

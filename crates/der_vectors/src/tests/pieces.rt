@@ -1,4 +1,4 @@
-//! A content that is drawn in pieces of 512 bytes.
+//! A content that is read in pieces of 512 bytes.
 
 use der_fixtures::SlowReader;
 use picky_asn1_der::asn1::ByteBuf;

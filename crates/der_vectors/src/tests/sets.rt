@@ -9,7 +9,7 @@ use std::alloc::{AllocError, Global};
 use std::process::Abort;
 use std::test::Fail;
 
-// So many numbers in ascending order, each twice. Each is encoded in four bytes.
+// This many numbers in ascending order, each twice. Each is encoded in four bytes.
 fn ascending(alloc: Global, count: u16) -> Result<Vec<u16>, AllocError> {
     let mut numbers = Vec::new(alloc);
     for place in 0..count {
@@ -24,7 +24,7 @@ fn descending(alloc: Global, numbers: &[u16]) -> Result<Vec<u16>, AllocError> {
     Ok(reversed)
 }
 
-// By steps of a prime number that divides none of the lengths, and so each of them once.
+// The numbers in steps of a prime number that divides none of the lengths. Each number comes once.
 fn shuffled(alloc: Global, numbers: &[u16]) -> Result<Vec<u16>, AllocError> {
     let mut mixed = Vec::new(alloc);
     for place in 0..numbers.len() {
@@ -45,8 +45,8 @@ fn set_of(alloc: Global, header: &str, members: &[u16]) -> Result<Vec<u8>, Fail>
     Ok(bytes)
 }
 
-// A set whose members are given so is written as the ascending one. It is read where it is that one, and else refused behind
-// the first member that is less than the one before it.
+// A set whose members are given in this order is written as the ascending one. It is read only if it is in ascending order. Otherwise it is
+// refused after the first member that is less than the one before it.
 fn goes_there_and_back(
     rt: &impl Abort,
     alloc: Global,

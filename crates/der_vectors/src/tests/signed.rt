@@ -1,4 +1,4 @@
-//! Signed integers. Their contents are those of Python's `int.to_bytes(length, "big", signed=True)` at the least length.
+//! Signed integers. Their contents are from Python's `int.to_bytes(length, "big", signed=True)` at the least length.
 
 mod offset;
 

@@ -1,6 +1,6 @@
-//! Sets of different members, tags in place of a type's own, and values with their encodings.
+//! Sets of different members, tags instead of a type's own, and values with their encodings.
 //!
-//! The record is the example of X.690's annex A, whose members are put in the order of their tags.
+//! The record is the example of X.690's annex A, with its members in the order of their tags.
 
 use der_examples::PersonnelRecord;
 use der_fixtures::bytes_of;
@@ -11,14 +11,14 @@ use picky_asn1_der::{Asn1DerError, Deserialize, from_bytes, to_vec};
 use std::process::Abort;
 use std::test::Fail;
 
-// The record in DER, and with the title before the number, as the standard lists the members.
+// The record in DER, and once with the title before the number, as the standard lists the members.
 const RECORD: &str =
     "60 81 85 61 10 1A 04 4A 6F 68 6E 1A 01 50 1A 05 53 6D 69 74 68 42 01 33 A0 0A 1A 08 44 69 72 65 63 74 6F 72 A1 0A 43 08 31 39 37 31 30 39 31 37 A2 12 61 10 1A 04 4D 61 72 79 1A 01 54 1A 05 53 6D 69 74 68 A3 42 31 1F 61 11 1A 05 52 61 6C 70 68 1A 01 54 1A 05 53 6D 69 74 68 A0 0A 43 08 31 39 35 37 31 31 31 31 31 1F 61 11 1A 05 53 75 73 61 6E 1A 01 42 1A 05 4A 6F 6E 65 73 A0 0A 43 08 31 39 35 39 30 37 31 37";
 
 const IN_ANOTHER_ORDER: &str =
     "60 81 85 61 10 1A 04 4A 6F 68 6E 1A 01 50 1A 05 53 6D 69 74 68 A0 0A 1A 08 44 69 72 65 63 74 6F 72 42 01 33 A1 0A 43 08 31 39 37 31 30 39 31 37 A2 12 61 10 1A 04 4D 61 72 79 1A 01 54 1A 05 53 6D 69 74 68 A3 42 31 1F 61 11 1A 05 52 61 6C 70 68 1A 01 54 1A 05 53 6D 69 74 68 A0 0A 43 08 31 39 35 37 31 31 31 31 31 1F 61 11 1A 05 53 75 73 61 6E 1A 01 42 1A 05 4A 6F 6E 65 73 A0 0A 43 08 31 39 35 39 30 37 31 37";
 
-// The value of these bytes, which is written as them.
+// The value of these bytes, which is written as the same bytes.
 pub(crate) fn read_back<T: Deserialize>(
     rt: &(impl Abort + AllocGlobal),
     text: &str,

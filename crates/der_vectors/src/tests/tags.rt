@@ -57,7 +57,7 @@ fn a_tag_tells_its_class(rt: HostRuntime) {
     }
 }
 
-// These bytes, of which there are none, are written under this tag.
+// An empty value of this type is written as this byte, the tag, and a length of 0.
 fn has_tag<const TAG: u8>(rt: &(impl Abort + AllocGlobal), none: TaggedBytes<TAG>, byte: u8) {
     let mut encoding = [0; 2];
     same!(rt; to_bytes(rt.alloc(), &none, &mut encoding), Ok(2));

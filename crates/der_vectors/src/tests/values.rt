@@ -1,4 +1,4 @@
-//! Values that stand behind each other, in a slice and in a reader.
+//! Values one after another, in a slice and in a reader.
 
 use der_examples::{next_text, number_and_text};
 use der_fixtures::{FailingReader, SlowReader};
@@ -57,7 +57,7 @@ fn no_byte_is_drawn_under_a_limit_of_0(rt: HostRuntime) {
     same!(rt; next_from_reader::<u8, _>(alloc, &mut reader, 0), Err(TruncatedData));
 }
 
-// No value has a tag number past 30, so the next byte isn't looked at.
+// No value of this type is ever read, so that no byte is consumed.
 #[test]
 fn what_is_never_read_takes_no_byte(rt: HostRuntime) {
     let alloc = rt.alloc();
@@ -67,7 +67,7 @@ fn what_is_never_read_takes_no_byte(rt: HostRuntime) {
     same!(rt; reader.get_ref().given(), 0);
 }
 
-// A fault in place of the first byte is no end, of whatever kind it is.
+// An I/O error instead of the first byte isn't the end of the input, whatever its kind.
 #[test]
 fn a_fault_is_no_end(rt: HostRuntime) {
     let alloc = rt.alloc();

@@ -1,4 +1,4 @@
-//! Whole inputs, where they are refused, and how that is shown.
+//! Whole inputs, where they are refused, and how that prints.
 
 use der_examples::NumberOrFlag;
 use picky_asn1_der::Asn1DerError::{InvalidData, TruncatedData, UnsupportedValue};
@@ -18,8 +18,8 @@ fn a_whole_input_is_one_value(rt: HostRuntime) {
     same!(rt; from_der(rt.alloc(), bytes), Ok(128u8));
 }
 
-// By the rules of what is read before a refusal: the tag for a foreign tag, the length for one that reaches past the end, the
-// content for one that isn't canonical, and nothing for bytes after the value or for a choice whose tag is only looked at.
+// The position is what is read before the error: the tag for a wrong tag, the length for one that reaches past the end, and the content
+// for one that isn't canonical. Bytes after the value, and a choice whose tag is only looked at, are not read.
 #[test]
 fn a_refusal_says_where_it_came(rt: HostRuntime) {
     let alloc = rt.alloc();
@@ -58,7 +58,7 @@ fn a_refusal_is_shown_with_its_place(rt: HostRuntime) -> Result<(), Fail> {
     Ok(())
 }
 
-// One number in a list, by `?` on what a vector answers that can't grow.
+// One number in a list, by `?` on what a vector returns that can't grow.
 fn listed(alloc: Global, number: u8) -> DerResult<Vec<u8>> {
     let mut numbers = Vec::new(alloc);
     numbers.push(number)?;

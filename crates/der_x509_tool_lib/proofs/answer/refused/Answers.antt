@@ -1,8 +1,8 @@
 use Rattle.std.proofs.Common.{◌++◌, refl}
 use Rattle.std.specs.Prelude.{codes}
 use Rattle.std.proofs.lemmas.Result.{MatchResult-weaker}
-use Rattle.der_x509_tool_lib.specs.Line.{IsOneLine}
-use Rattle.der_x509_tool_lib.proofs.OneLine.{joined_line, literal_line}
+use Rattle.der_tool_text.specs.Line.{IsOneLine}
+use Rattle.der_tool_text.proofs.OneLine.{joined_line, literal_line}
 use Rattle.der_x509_tool_lib.proofs.answer.refused.Goals as goal
 
 pub returns-clause-ok : goal.returns-clause-ok
