@@ -4,8 +4,8 @@ An edit has a name, MODULE.FUNCTION.what_is_wrong, and lines `file: PATH`, `old:
 one, and the old one is exactly once in its file. A line `survives: WHY` says that the contracts let the edit through, and one
 `survives by hand: WHY` that only a proof by hand would show this. A line that begins with `#` is a comment.
 
-must-fail/NAME.edit has one edit. wrong-bodies/MODULE.bodies has those of a module: each begins with a line `## FUNCTION.what_is_wrong`,
-and its file is the module's own where no `file:` line names another.
+must-fail/NAME.edit has one edit. wrong-bodies/MODULE.bodies has the edits of a module. Each begins with a line `## FUNCTION.what_is_wrong`,
+and changes the module's own file unless a `file:` line names another.
 """
 import functools
 import os
@@ -23,7 +23,7 @@ def blanked(text):
 
 
 def behind(text, at, opening="{", closing="}"):
-    """The place behind the bracket that closes the one at this place."""
+    """The place after the bracket that closes the one at this place."""
     depth = 0
     for place in range(at, len(text)):
         depth += (text[place] == opening) - (text[place] == closing)
@@ -50,7 +50,7 @@ def body_of(text, at):
 
 
 def words_of(type_name):
-    """How the checker writes a type in the names of an `impl`, without what stands in `<>`."""
+    """How the checker writes a type in the names of an `impl`, without what is in `<>`."""
     name = re.sub(r"'\w+\s*", "", type_name).strip()
     for sign, word in (("&mut ", "RefMut"), ("&", "Ref")):
         if name.startswith(sign):
@@ -67,7 +67,7 @@ def words_of(type_name):
 
 
 def arguments_of(trait, parameters):
-    """How the checker writes the types that a trait is given, without what stands for any type."""
+    """How the checker writes the type arguments of a trait, without the ones that are parameters."""
     inner = re.match(r"[\w:]+<(.*)>$", re.sub(r"'\w+\s*", "", trait).strip())
     words = ""
     for it in split(inner[1]) if inner else []:
@@ -79,7 +79,7 @@ def arguments_of(trait, parameters):
 
 
 def split(text):
-    """The parts of a text between the commas that stand in no brackets."""
+    """The parts of a text between the commas outside of brackets."""
     parts, depth = [""], 0
     for sign in text:
         depth += (sign in "(<[") - (sign in ")>]")

@@ -1,5 +1,5 @@
-// A `malloc` in front of the C library's that refuses one request: that whose number is in REFUSE, counted from the start of the
-// program. It refuses each request of more bytes than LARGEST, too, where that is given. tools/refuse-growths builds it.
+// A `malloc` before the C library's in which one allocation fails. REFUSE is its number, counted from the start of the program. If
+// LARGEST is given, each allocation of more bytes than that also fails. tools/refuse-growths builds it.
 #include <errno.h>
 #include <stdlib.h>
 

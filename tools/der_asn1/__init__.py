@@ -5,7 +5,7 @@ The parts, in the order in which a module goes through them:
 | Module | What it does |
 |---|---|
 | `source` | places in a text, errors and warnings |
-| `tokens` | the lexical items, with the comments beside them |
+| `tokens` | the lexical items, with the comments next to them |
 | `tree` | the notation as data |
 | `cursor`, `parse_types`, `parse_values`, `parse_constraints`, `parse_classes`, `parse_modules` | the parser |
 | `scopes`, `values`, `objects`, `members`, `tagging` | names, values, objects, members and tags, resolved |

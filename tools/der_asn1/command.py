@@ -1,26 +1,35 @@
 """The command line.
 
     der_asn1 --report [--types] [OPTION ..] MODULE.asn1 ..
-    der_asn1 --out crates/NAME [--type TYPE,..] [--check] [--allow-raw] [--allow-wider] [OPTION ..] MODULE.asn1 ..
+    der_asn1 --out crates/NAME [--type TYPE,..] [--crate MODULE=CRATE ..] [--distinct TYPE,..] [--own FILE=NAME,..] [--own-terms NAME,..]
+        [--check] [--allow-raw] [--allow-wider] [OPTION ..] MODULE.asn1 ..
 
 `--report` prints for each module how many of its types are expressed exactly, and which features of the library are missing for the
 others. `--types` adds a line for each type.
 
-`--out` writes a crate of all types of the modules, or of those after `--type` and what they need, and prints its line of `crates.txt`.
-`--check` writes nothing, and fails where a file isn't what would be written. A type that would be kept as bytes, or in part, is an error
-without `--allow-raw`, and one that would have more values than the notation without `--allow-wider`. An open type is any element.
+`--out` writes a crate of all types of the modules, or of the types after `--type` and what they need, and prints its line of `crates.txt`.
+`--check` writes nothing, and fails if a file isn't what would be written. A type that would be kept as bytes, or in part, is an error
+without `--allow-raw`. A type that would have more values than the notation is an error without `--allow-wider`. An open type is any element.
 
-A file after `--import` is read for the names that the modules import. `--strict` refuses what the standard doesn't allow, where it is
-accepted else. The status is 1 if there is an error.
+`--crate MODULE=CRATE` uses the types of a module from another crate in the same folder, as far as that crate has them.
+
+`--distinct` writes structs of their own for types that would be names of other types, which lets a crate give them methods. Files of your
+own in the crate are left alone: `--own FILE=NAME,..` names a file of `src` with the names of it that the root exports, and
+`--own-terms NAME,..` names files of `specs`.
+
+A file after `--import` is read for the names that the modules import. `--strict` refuses what the standard doesn't allow and is otherwise
+accepted. The status is 1 if there is an error.
 """
 import argparse
 import os
 import sys
 
 from . import tree
-from .emit_crate import Crate, difference, reached, refusals, values_of, write
+from .declarations import Declarations, NewtypeDeclaration
+from .emit_crate import Crate, difference, own_paths, reached, reached_elsewhere, refusals, values_of, write
 from .meaning import lacks
 from .meaning_types import ASSOCIATED, Meanings
+from .other_crates import OtherCrates, other_crates
 from .parse_modules import read_file
 from .report import report_of, types_table, whole
 from .scopes import Program
@@ -41,6 +50,10 @@ def arguments(words):
     what.add_argument("--out", metavar="FOLDER", help="write a crate, whose name is that of the folder")
     parser.add_argument("--types", action="store_true", help="print a line for each type in the report, too")
     parser.add_argument("--type", action="append", default=[], metavar="TYPE,..", help="write these types and what they need")
+    parser.add_argument("--crate", action="append", default=[], metavar="MODULE=CRATE", help="take the types of a module from another crate")
+    parser.add_argument("--distinct", action="append", default=[], metavar="TYPE,..", help="write these types as structs, and not as names of others")
+    parser.add_argument("--own", action="append", default=[], metavar="FILE=NAME,..", help="a file of one's own in src, with its public names")
+    parser.add_argument("--own-terms", action="append", default=[], metavar="NAME,..", help="files of one's own in specs")
     parser.add_argument("--check", action="store_true", help="write nothing, and fail where a file is another one")
     parser.add_argument("--allow-raw", action="store_true", help="keep as bytes what the library has no type for")
     parser.add_argument("--allow-wider", action="store_true", help="use a type that has more values, where it should be one of its own")
@@ -88,32 +101,62 @@ def main(words=None):
 
 def written(options, modules, imported, problems):
     """Writes the crate, or compares it with what is there."""
-    name = os.path.basename(os.path.abspath(options.out))
-    crate = crate_of(name, modules, imported, chosen(options), problems)
+    folder, name = os.path.split(os.path.abspath(options.out))
+    try:
+        others = other_crates(options.crate, folder)
+    except OSError as error:
+        sys.exit(f"{error.filename}: {error.strerror}")
+    crate = crate_of(name, modules, imported, listed(options.type), problems, others, listed(options.distinct))
+    crate.own, crate.own_terms = own_files(options.own), listed(options.own_terms)
     for place, text in refusals(crate.types, options.allow_raw, options.allow_wider):
-        problems.error(place, text, "docs/YOUR_TYPES.md")
+        problems.error(place, text, "docs/ASN1.md")
     if said(problems):
         return 1
     files = crate.files()
     if options.check:
-        wrong = difference(options.out, files)
+        wrong = difference(options.out, files, own_paths(crate))
         for path in wrong:
             print(f"{options.out}/{path} isn't what would be written")
         return 1 if wrong else 0
     write(options.out, files)
-    print(f"{name}: {NEEDS}")
+    print(" ".join([f"{name}:", *sorted({*crate.elsewhere.values()}), NEEDS]))
     return 0
 
 
-def chosen(options):
-    """The names after `--type`."""
-    return [name for it in options.type for name in it.split(",") if name]
+def listed(given):
+    """The names after an option that may be given several times."""
+    return [name for it in given for name in it.split(",") if name]
 
 
-def crate_of(name, modules, imported, names, problems):
-    """The crate of all types of the modules, or of those with these names."""
+def own_files(given):
+    """The files after `--own`, each with the names that the root has of it."""
+    return {it.partition("=")[0]: listed([it.partition("=")[2]]) for it in given}
+
+
+def crate_of(name, modules, imported, names, problems, others=OtherCrates(), distinct=()):
+    """The crate of all types of the modules, or of those with these names. Those in `distinct` are structs of their own.
+
+    Types of `others` are named and not declared. Which of these are used is found at first, so that their names are free else.
+    """
+    if others.crates:
+        declarations, found = declared(Program(modules, Problems(problems.strict), imported), names, distinct, others)
+        others = others.using(reached_elsewhere(declarations, found).values())
     program = Program(modules, problems, imported)
-    meanings = Meanings(program)
+    declarations, found = declared(program, names, distinct, others)
+    types, elsewhere = reached(declarations, found), reached_elsewhere(declarations, found)
+    for it in types.values():
+        wanted = declarations.renamed.get(it.name)
+        if wanted:
+            problems.warn(it.place, f"`{it.source}` is called `{it.name}`, since another type is called `{wanted}`", "docs/ASN1.md")
+    values = [] if names else values_of(program, modules)
+    homes = {name: path.split("::")[0] for name, path in elsewhere.items()}
+    return Crate(name, types, values, [*modules, *imported, *ASSOCIATED.modules], homes)
+
+
+def declared(program, names, distinct, others):
+    """All declarations, and the types of Rust of these names, or of all types of the program's own modules."""
+    modules, problems = program.modules, program.problems
+    meanings = Meanings(program, Declarations(others), distinct)
     found, missing = [], set(names)
     for module in modules:
         for it in module.assignments:
@@ -121,14 +164,13 @@ def crate_of(name, modules, imported, names, problems):
                 missing.discard(it.name)
                 meaning = meanings.of_assignment(it, module)
                 if meaning.rust is None:
-                    problems.error(it.place, f"`{it.name}` has no type: {', '.join(lacks(meaning))}", "docs/YOUR_TYPES.md")
+                    problems.error(it.place, f"`{it.name}` has no type: {', '.join(lacks(meaning))}", "docs/ASN1.md")
                 else:
                     found.append(meaning.rust.text)
+    first = modules[0].place if modules else None
     for it in sorted(missing):
-        problems.error(modules[0].place if modules else None, f"no module has a type `{it}`", "X.680, 14.1")
-    types = reached(meanings.declarations, found)
-    for it in types.values():
-        wanted = meanings.declarations.renamed.get(it.name)
-        if wanted:
-            problems.warn(it.place, f"`{it.source}` is called `{it.name}`, since another type is called `{wanted}`", "docs/ASN1.md")
-    return Crate(name, types, [] if names else values_of(program, modules), [*modules, *imported, *ASSOCIATED.modules])
+        problems.error(first, f"no module has a type `{it}`", "X.680, 14.1")
+    made = {it.source for it in meanings.declarations.by_name.values() if isinstance(it, NewtypeDeclaration)}
+    for it in sorted({*distinct} - made):
+        problems.error(first, f"`{it}` isn't the name of another type", "docs/ASN1.md")
+    return meanings.declarations, found

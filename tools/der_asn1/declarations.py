@@ -2,6 +2,7 @@
 from dataclasses import dataclass, field
 
 from .features import Level
+from .other_crates import OtherCrates
 from .source import Place
 from .tree import Presence
 from .wording import camel
@@ -53,7 +54,7 @@ class Declaration:
     term: object = field(default=None, compare=False)
 
     def differences(self):
-        """Why its values, or those of a part, aren't those of the notation. An open type is any element, as the notation says."""
+        """Why its values, or the values of a part, differ from the notation's. An open type is any element, as the notation says."""
         return [it for it in self.lacks if not it.startswith("open types")]
 
     def parts(self):
@@ -67,14 +68,15 @@ class Declaration:
 
 @dataclass
 class StructDeclaration(Declaration):
-    """A SEQUENCE, or the members of a SET in the order of their tags."""
+    """A SEQUENCE, or the members of a SET in the order of their tags. `later` is the field of the members of later versions."""
 
     fields: list = field(default_factory=list)
     is_set: bool = False
+    later: Field = None
 
     def parts(self):
         """Its members."""
-        return self.fields
+        return [*self.fields, self.later] if self.later else self.fields
 
 
 @dataclass
@@ -100,9 +102,13 @@ class Item:
 
 @dataclass
 class EnumDeclaration(Declaration):
-    """An ENUMERATED that isn't extensible. `defaults` are the items that are the default of a member, each by the name of its type."""
+    """An ENUMERATED that isn't extensible, or an INTEGER that has only the numbers with names. `tag` is the tag of its encoding.
+
+    `defaults` are the items that are the default of a member, each by the name of its type.
+    """
 
     items: list = field(default_factory=list)
+    tag: int = 0x0A
     defaults: dict = field(default_factory=dict)
 
     def parts(self):
@@ -122,22 +128,41 @@ class AliasDeclaration(Declaration):
         return self.type_text
 
 
-class Declarations:
-    """All types that are declared, by their names."""
+@dataclass
+class NewtypeDeclaration(AliasDeclaration):
+    """A struct of its own round another type, in place of a name of it."""
 
-    def __init__(self):
+
+class Declarations:
+    """All types that are declared, by their names. Those of `others` are declared elsewhere."""
+
+    def __init__(self, others=None):
         self.by_name, self.by_place, self.keys = {}, {}, {}
         self.renamed = {}  # the name that was wanted, by the one that a type has in its place
+        self.others, self.elsewhere = others or OtherCrates(), {}  # the path of a type of another crate, by its name here
+        for path in self.others.used:
+            self.keys[self.others.shown(path).lower()] = path
 
-    def fresh(self, wanted, key):
-        """A name for what has this key: the one that is wanted, with a number after it if another type has that."""
-        first, number = camel(wanted), 1
-        name, between = first, "No" if first[-1].isdigit() else ""
+    def fresh(self, wanted, key, module):
+        """A name for what has this key and is of this module: the one that is wanted, with a number after it if another type has that."""
+        crate = self.others.crate_of(module)
+        if crate:
+            path = self.numbered(f"{crate}::{camel(wanted)}", key)
+            if self.others.exports(path):
+                name = self.others.shown(path)
+                self.elsewhere[name] = path
+                return name
+        name = self.numbered(camel(wanted), key)
+        if name != camel(wanted):
+            self.renamed[name] = camel(wanted)
+        return name
+
+    def numbered(self, first, key):
+        """This name, or with a number after it if what has another key is called so."""
+        name, number, between = first, 1, "No" if first[-1].isdigit() else ""
         while self.keys.setdefault(name.lower(), key) != key:
             number += 1
             name = f"{first}{between}{number}"
-        if name != first:
-            self.renamed[name] = first
         return name
 
     def same(self, declared):
@@ -146,14 +171,14 @@ class Declarations:
 
     def default_item(self, declared, item):
         """The name of the type that says that this item of an enumeration is the default. It is declared with the enumeration."""
-        name = self.fresh(f"{declared.name}-{item.source}", (declared.name, item.name, "DEFAULT"))
+        name = self.fresh(f"{declared.name}-{item.source}", (declared.name, item.name, "DEFAULT"), declared.module)
         declared.defaults[name] = item
         return name
 
     def without_aliases(self, name):
         """The struct, choice or enumeration that a name is one of, through names of other types, or None."""
         found = self.by_name.get(name)
-        while isinstance(found, AliasDeclaration):
+        while type(found) is AliasDeclaration:
             found = self.by_name.get(found.type_text)
         return found
 

@@ -48,7 +48,7 @@ def parts_type(types):
     return f"OneOf<{types[0]}, {parts_type(types[1:])}>"
 
 
-def choice_file(declared, own_types, crate):
+def choice_file(declared, homes, crate):
     """The lines of the file of a choice."""
     variants, count = declared.variants, len(declared.variants)
     parts = parts_type([it.type_text for it in variants])
@@ -62,7 +62,7 @@ def choice_file(declared, own_types, crate):
         f"//! {declared.source} of {declared.module}.",
         *ghost_imports(declared, constructors, crate),
         "",
-        *imports(used, own_types, uses),
+        *imports(used, homes, uses),
         "",
         *definition(declared),
         "",

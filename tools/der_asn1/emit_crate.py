@@ -1,12 +1,13 @@
 """The files of a crate: one for each struct and choice, one of names of other types, one of values, and the root."""
 import os
-from dataclasses import dataclass
+from dataclasses import dataclass, field
 
 from . import tree
-from .declarations import AliasDeclaration, ChoiceDeclaration, EnumDeclaration, StructDeclaration
+from .declarations import AliasDeclaration, ChoiceDeclaration, EnumDeclaration, NewtypeDeclaration, StructDeclaration
 from .emit_choice import choice_file
 from .emit_enum import enum_file, enum_terms
 from .emit_imports import imports, words_of
+from .emit_newtype import newtype_file
 from .emit_notation import defined, notation_file, notation_terms
 from .emit_struct import REFERENCES, difference_note, sentence, struct_file
 from .features import Level
@@ -42,41 +43,52 @@ class Value:
 
 @dataclass
 class Crate:
-    """What a crate declares: its name, its types by their names, its values, and the modules that they are of."""
+    """What a crate declares: its name, its types by their names, its values, and the modules that they are of.
+
+    `elsewhere` has the other crate of each type that it names and doesn't declare.
+    `own` are the files of the crate's own in `src`, by their names: the public names of each that the root exports.
+    `own_terms` are the files of `specs`.
+    """
 
     name: str
     types: dict
     values: list
     modules: list
+    elsewhere: dict = field(default_factory=dict)
+    own: dict = field(default_factory=dict)
+    own_terms: list = field(default_factory=list)
 
     def files(self):
         """The text of each file, by its path in the crate."""
-        found, own = {"src/lib.rt": self.root()}, self.own_names()
-        aliases = [it for it in self.sorted_types() if isinstance(it, AliasDeclaration)]
+        found, homes = {"src/lib.rt": self.root()}, self.homes()
+        aliases = [it for it in self.sorted_types() if type(it) is AliasDeclaration]
         for it in self.sorted_types():
-            if isinstance(it, StructDeclaration):
-                found[f"src/{file_stem(it.name)}.rt"] = struct_file(it, own)
+            if isinstance(it, NewtypeDeclaration):
+                found[f"src/{file_stem(it.name)}.rt"] = newtype_file(it, homes)
+            elif isinstance(it, StructDeclaration):
+                found[f"src/{file_stem(it.name)}.rt"] = struct_file(it, homes)
             elif isinstance(it, ChoiceDeclaration):
-                found[f"src/{file_stem(it.name)}.rt"] = choice_file(it, own, self.name)
+                found[f"src/{file_stem(it.name)}.rt"] = choice_file(it, homes, self.name)
             elif isinstance(it, EnumDeclaration):
                 found[f"src/{file_stem(it.name)}.rt"] = enum_file(it, self.name)
                 found[f"specs/{it.name}.antt"] = enum_terms(it, self.name)
         if aliases:
-            found["src/aliases.rt"] = alias_file(aliases, own)
+            found["src/aliases.rt"] = alias_file(aliases, homes)
         types = defined(self.sorted_types())
         if types:
-            found["src/notation.rt"] = notation_file(types, own, self.name)
-            found["specs/Notation.antt"] = notation_terms(types, self.modules)
-        terms = [it.name for it in self.sorted_types() if isinstance(it, EnumDeclaration)] + (["Notation"] if types else [])
+            found["src/notation.rt"] = notation_file(types, homes, self.name)
+            found["specs/Notation.antt"] = notation_terms(types, self.modules, homes)
+        terms = [it.name for it in self.sorted_types() if isinstance(it, EnumDeclaration)] + (["Notation"] if types else []) + self.own_terms
         if terms:
             found["specs/Lib.antt"] = [f"pub mod {it}" for it in sorted(terms)]
         if self.values:
             found["src/values.rt"] = value_file(self.values)
         return {path: "\n".join(lines) + "\n" for path, lines in sorted(found.items())}
 
-    def own_names(self):
-        """The names of the types, with those of the defaults of enumerations."""
-        return {*self.types, *(name for it in self.types.values() if isinstance(it, EnumDeclaration) for name in it.defaults)}
+    def homes(self):
+        """The crate of each type, by its name, and of the defaults of enumerations: `crate` for this one."""
+        defaults = [name for it in self.types.values() if isinstance(it, EnumDeclaration) for name in it.defaults]
+        return {**dict.fromkeys([*self.types, *defaults], "crate"), **self.elsewhere}
 
     def sorted_types(self):
         """The types in the order of their names."""
@@ -84,15 +96,16 @@ class Crate:
 
     def root(self):
         """The lines of `lib.rt`."""
-        homes = {it.name: "aliases" if isinstance(it, AliasDeclaration) else file_stem(it.name) for it in self.sorted_types()}
+        homes = {it.name: "aliases" if type(it) is AliasDeclaration else file_stem(it.name) for it in self.sorted_types()}
         by_home = {}
         for name, home in homes.items():
             by_home.setdefault(home, []).append(name)
             by_home[home] += getattr(self.types[name], "defaults", [])
+        by_home.update(self.own)
         public = [*(["notation"] if defined(self.sorted_types()) else []), *(["values"] if self.values else [])]
         modules = sorted({*by_home, *public})
         sources = ", ".join(sorted({it.module for it in self.types.values()}))
-        lines = [*comment("", "//!", f"Types of {sources}, made by tools/der_asn1."), "#![tactic(auto)]", ""]
+        lines = [*comment("", "//!", f"The types of {sources}, written by tools/der_asn1."), "#![tactic(auto)]", ""]
         lines += [f"pub mod {it};" if it in public else f"mod {it};" for it in modules]
         lines += [""] if by_home else []
         is_grouped = sum(map(len, by_home.values())) <= MOST_GROUPED
@@ -105,11 +118,11 @@ class Crate:
         return lines
 
 
-def alias_file(aliases, own_types):
+def alias_file(aliases, homes):
     """The lines of the file of names of other types."""
     names = {it.name for it in aliases}
     used = {name for it in aliases for name in words_of(it.type_text)} - names
-    lines = ["//! Names of types.", "", *imports(used, {it for it in own_types if it not in names})]
+    lines = ["//! Type aliases.", "", *imports(used, homes)]
     for it in aliases:
         lines.append("")
         lines += comment("", "///", f"{sentence(it.comment)} `{it.source}` of {it.module}: `{it.notation}`.")
@@ -139,13 +152,25 @@ def value_lines(before, content):
 
 def reached(declarations, names):
     """The declarations that these names lead to."""
+    return {name: it for name, it in all_reached(declarations, names).items() if name not in declarations.elsewhere}
+
+
+def reached_elsewhere(declarations, names):
+    """The paths of the types of other crates that these names lead to, by their names here."""
+    found = all_reached(declarations, names)
+    return {name: path for name, path in declarations.elsewhere.items() if name in found}
+
+
+def all_reached(declarations, names):
+    """The declarations that these names lead to, those of other crates without what they lead to."""
     found, left = {}, list(names)
     while left:
         name = left.pop()
         if name in found or name not in declarations.by_name:
             continue
         found[name] = declarations.by_name[name]
-        left += sorted(words_of(" ".join(texts(found[name]))) | named_in_term(found[name]))
+        if name not in declarations.elsewhere:
+            left += sorted(words_of(" ".join(texts(found[name]))) | named_in_term(found[name]))
     return found
 
 
@@ -155,7 +180,7 @@ def texts(declared):
         return [declared.type_text]
     if isinstance(declared, EnumDeclaration):
         return []
-    return [it.type_text for it in (declared.fields if isinstance(declared, StructDeclaration) else declared.variants)]
+    return [it.type_text for it in declared.parts()]
 
 
 def named_in_term(declared):
@@ -191,15 +216,20 @@ def refusals(types, allow_raw, allow_wider):
     return found
 
 
-def difference(folder, files):
-    """The paths of a crate's files that aren't what would be written, or wouldn't be there."""
+def difference(folder, files, own=()):
+    """The paths of a crate's files that aren't what would be written, or wouldn't be there. Those in `own` are left alone."""
     there = [f"{part}/{it}" for part in ("src", "specs") if os.path.isdir(f"{folder}/{part}") for it in sorted(os.listdir(f"{folder}/{part}"))]
-    found = [it for it in there if it not in files]
+    found = [it for it in there if it not in files and it not in own]
     for path, text in files.items():
         whole = os.path.join(folder, path)
         if not os.path.exists(whole) or open(whole, encoding="utf-8").read() != text:
             found.append(path)
     return found
+
+
+def own_paths(crate):
+    """The paths of the files of one's own."""
+    return [*(f"src/{it}.rt" for it in crate.own), *(f"specs/{it}.antt" for it in crate.own_terms)]
 
 
 def write(folder, files):

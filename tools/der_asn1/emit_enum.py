@@ -23,10 +23,26 @@ use Rattle.std.proofs.lemmas.Bool.{eq-eqb}
 _DEFAULT_IMPORTS = """use Rattle.picky_der_ser.specs.Defaults.{IsByTree}
 use Rattle.der_types.specs.KnownContents.{contents_of}
 """.splitlines()
-# that two items are the default just where their trees are the same
+# that two items are the default exactly if their trees are the same
 _SAME, _OTHER = "(λ k. refl, λ e. refl)", "(λ k. cc, λ e. cc)"
 
+# what a tag is the one of: words for a comment, the name of the tag in Rust, and the form of the notation
+_FORMS = {
+    0x02: ("an INTEGER with a name for each number", "INTEGER", "INTEGER-named"),
+    0x0A: ("an ENUMERATED", "ENUMERATED", "ENUMERATED"),
+}
+
 _NAMES = """Contents Notated deserialize_contents_as Tag Begins ReadExt WriteExt Deserialize Deserializer Result Serialize Serializer""".split()
+
+
+def tag_text(declared):
+    """The tag of its encoding."""
+    return f"0x{declared.tag:02X}"
+
+
+def content_term(declared):
+    """The term of the content of a value."""
+    return f"(λ it. {number_term(declared)} it ∷ [])"
 
 
 def number_term(declared):
@@ -65,7 +81,7 @@ def enum_file(declared, crate):
         f"{own}.declared.{file_stem(declared.name)}.{declared.name}.TheVariants as variant;",
         f"{own}.{declared.name}.{{{', '.join(terms)}}};",
         "",
-        *imports([*_NAMES, *(["DefaultOf", "NotatedDefault"] if declared.defaults else [])], ()),
+        *imports([*_NAMES, *(["DefaultOf", "NotatedDefault"] if declared.defaults else [])], {}),
         "",
         *definition(declared),
         "",
@@ -85,8 +101,9 @@ def enum_file(declared, crate):
 
 
 def definition(declared):
-    """The enum with its comments: those of the module, and the number of each item."""
-    text = f"{sentence(declared.comment)} `{declared.source}` of {declared.module}, as an ENUMERATED. Another content is `InvalidData`."
+    """The enum with its comments: the module's comments, and the number of each item."""
+    form, _, _ = _FORMS[declared.tag]
+    text = f"{sentence(declared.comment)} `{declared.source}` of {declared.module}, as {form}. Every other content is rejected with `InvalidData`."
     lines = [*comment("", "///", text), "#[derive(Debug, Clone, Copy, PartialEq, Eq)]", f"pub enum {declared.name} {{"]
     for it in declared.items:
         lines += comment(STEP, "///", f"{sentence(it.comment)} `{it.source}`, {it.number}.")
@@ -114,7 +131,7 @@ def contents_impl(declared):
     """The implementation of `Contents`."""
     return [
         f"impl Contents for {declared.name} {{",
-        f"{STEP}ghost TAG = {{ 0x0A }};",
+        f"{STEP}ghost TAG = {{ {tag_text(declared)} }};",
         "",
         f"{STEP}ghost is_content = {{ {test_term(declared)} }};",
         "",
@@ -124,7 +141,7 @@ def contents_impl(declared):
         "",
         f"{STEP}ghost same = {{ {same_proof(declared)} }};",
         "",
-        f"{STEP}const TAG: u8 = 0x0A;",
+        f"{STEP}const TAG: u8 = {tag_text(declared)};",
         "",
         *signature(STEP, "from_content", ["content: Vec<u8>"], f"Option<{declared.name}>"),
         f"{_TWO}match content.as_slice() {{",
@@ -152,10 +169,10 @@ def serialize_impl(declared):
     """The implementation of `Serialize`."""
     return [
         f"impl Serialize for {declared.name} {{",
-        f"{STEP}ghost meaning = {{ contents_of 0x0A (λ it. {number_term(declared)} it ∷ []) }};",
+        f"{STEP}ghost meaning = {{ contents_of {tag_text(declared)} {content_term(declared)} }};",
         "",
         *signature(STEP, "serialize", ["&self", "serializer: &mut Serializer<W>"], "Result<usize>", "<W: WriteExt>"),
-        f"{_TWO}self.serialize_under(Tag::ENUMERATED, serializer)",
+        f"{_TWO}self.serialize_under(Tag::{_FORMS[declared.tag][1]}, serializer)",
         f"{STEP}}}",
         "}",
     ]
@@ -163,11 +180,12 @@ def serialize_impl(declared):
 
 def deserialize_impl(declared):
     """The implementation of `Deserialize`."""
+    known = f"known_contents {tag_text(declared)} {content_term(declared)} ⟦<Self as PartialEq>⟧.eq ⟦<Self as Contents>⟧.same"
     return [
         f"impl Deserialize for {declared.name} {{",
-        f"{STEP}ghost shape = {{ contents_shape 0x0A }};",
+        f"{STEP}ghost shape = {{ contents_shape {tag_text(declared)} }};",
         "",
-        f"{STEP}ghost known = {{ known_contents 0x0A (λ it. {number_term(declared)} it ∷ []) ⟦<Self as PartialEq>⟧.eq ⟦<Self as Contents>⟧.same }};",
+        f"{STEP}ghost known = {{ {known} }};",
         "",
         f"{STEP}ghost tied = {{ Prim.assumption }};",
         "",
@@ -183,18 +201,18 @@ def begins_impl(declared):
     return [
         f"impl Begins for {declared.name} {{",
         f"{STEP}fn begins_with(tag: Tag) -> bool {{",
-        f"{_TWO}tag.inner() == 0x0A",
+        f"{_TWO}tag.inner() == {tag_text(declared)}",
         f"{STEP}}}",
         "}",
     ]
 
 
 def notated_impl(declared):
-    """The implementation of `Notated`: an ENUMERATED with the numbers of the items."""
+    """The implementation of `Notated`: an ENUMERATED, or an INTEGER, with the numbers of the items."""
     numbers = [f"{number_term(declared)} variant.{it.name} ∷" for it in declared.items]
     return [
         f"impl Notated for {declared.name} {{",
-        f"{STEP}ghost notation = {{ Notation.ENUMERATED (",
+        f"{STEP}ghost notation = {{ Notation.{_FORMS[declared.tag][2]} (",
         *(f"{_TWO}{it}" for it in numbers),
         f"{_TWO}[]) }};",
         "",
@@ -237,7 +255,7 @@ def default_lines(declared, name, item):
         "}",
         "",
         f"impl NotatedDefault<{declared.name}> for {name} {{",
-        f"{STEP}ghost value = {{ contents_of 0x0A (λ it. {number_term(declared)} it ∷ []) variant.{item.name} }};",
+        f"{STEP}ghost value = {{ contents_of {tag_text(declared)} {content_term(declared)} variant.{item.name} }};",
         "",
         f"{STEP}ghost is_value = {{ λ it h. sym (({default_proof(name)} variant.{item.name} it refl).0 h) }};",
         "}",
@@ -249,7 +267,7 @@ def default_terms(declared, name, item):
     test, proof = default_term(name), default_proof(name)
     lines = ["", f"abbrev pub {test} : {declared.name} → Bool"]
     lines += [f"{test} {it.name} = {'true' if it is item else 'false'}" for it in declared.items]
-    lines += ["", f"pub {proof} : IsByTree (contents_of 0x0A (λ it. {number_term(declared)} it ∷ [])) {test}"]
+    lines += ["", f"pub {proof} : IsByTree (contents_of {tag_text(declared)} {content_term(declared)}) {test}"]
     for it in declared.items:
         if it is item:
             lines += [f"{proof} {it.name} {other.name} h = {_SAME if other is item else _OTHER}" for other in declared.items]

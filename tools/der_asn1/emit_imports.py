@@ -7,8 +7,8 @@ _ASN1 = """Asn1SequenceOf Asn1SetOf BitStringAsn1Container ByteBuf ExplicitConte
 TaggedBytes Tag""".split()
 _NUMBERED = re.compile(r"(ExplicitContextTag|ImplicitContextTag|ImplicitList)\d+$")
 _SER = "DefaultOf Defaulted DefaultedRef False Number Optional OptionalRef Sequence SignedNumber True".split()
-_ROOT = """Alternatives Asn1RawDer Choice Deserialize DeserializeMembers Deserializer List NoneOf OneOf OneOf4 Result Serialize
-SerializeMembers Serializer Struct deserialize_struct_as""".split()
+_ROOT = """Alike Alternatives Asn1RawDer Choice Deserialize DeserializeMembers Deserializer LaterMembers List NoneOf OneOf OneOf4 Result
+Serialize SerializeMembers Serializer Struct deserialize_as deserialize_struct_as""".split()
 _TYPES = """Contents deserialize_contents_as
 Asn1Set BitString BmpString Enumerated GeneralString GeneralizedTime Ia5String InRange Integer NamedBits NumericString
 Notated NotatedAlternatives NotatedDefault NotatedMembers
@@ -26,7 +26,7 @@ _HOMES = {
     **dict.fromkeys(_ROOT, "picky_asn1_der"),
 }
 _ROOT_PATH = "picky_asn1_der"
-_ORDER = list(dict.fromkeys(["crate", "der_types", "picky_asn1_der::OneOf", "picky_asn1_der::OneOf4", *_HOMES.values()]))
+_ORDER = list(dict.fromkeys(["der_types", "picky_asn1_der::OneOf", "picky_asn1_der::OneOf4", *_HOMES.values()]))
 
 
 # what a type of a crate can't be called, since a file may import it
@@ -34,8 +34,8 @@ LIBRARY_NAMES = frozenset(_HOMES)
 
 
 def words_of(text):
-    """The names in a text of Rust."""
-    return set(re.findall(r"[A-Za-z_]\w*", text))
+    """The names and the paths in a text of Rust."""
+    return set(re.findall(r"[A-Za-z_]\w*(?:::[A-Za-z_]\w*)*", text))
 
 
 def home_of(name):
@@ -43,11 +43,14 @@ def home_of(name):
     return "picky_asn1_der::asn1" if _NUMBERED.match(name) else _HOMES.get(name)
 
 
-def imports(names, own_types, variants=()):
-    """The lines of the imports of these names. Those of the crate's own types come first, and those of a choice's parts as they are."""
+def imports(names, homes, variants=()):
+    """The lines of the imports of these names: of those in `homes` from the crate there, of others from the library.
+
+    Those of the crate's own types come first, and those of a choice's parts as they are.
+    """
     by_home = {}
     for it in names:
-        home = "crate" if it in own_types else home_of(it)
+        home = homes.get(it) or home_of(it)
         if home:
             by_home.setdefault(home, []).append(it)
     for home, found in variants:
@@ -61,5 +64,9 @@ def imports(names, own_types, variants=()):
 
 def order(home, names):
     """Where the import of a module comes. A single type of the root comes before the modules of the crate, and several after them."""
+    if home == "crate":
+        return 0, home
+    if home not in _ORDER or home == "der_types":
+        return (1 if home < _ROOT_PATH else 4), home
     is_single_type = home == _ROOT_PATH and len(names) == 1 and names[0][0].isupper()
-    return _ORDER.index("der_types") + 0.5 if is_single_type else _ORDER.index(home)
+    return (2, home) if is_single_type else (3, _ORDER.index(home))

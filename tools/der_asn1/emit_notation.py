@@ -10,14 +10,14 @@ _TAGS = "TAGS"
 # the terms of der_types, by the file that each is of
 _HOMES = {
     "Notation": frozenset(
-        """BIT-STRING BIT-STRING-named BOOLEAN ENUMERATED ENUMERATED-extensible GeneralizedTime INTEGER NULL OBJECT-IDENTIFIER
-        OCTET-STRING RELATIVE-OID UTCTime UTF8String any-content content-under end none optional required""".split()
+        """BIT-STRING BIT-STRING-named BOOLEAN ENUMERATED ENUMERATED-extensible GeneralizedTime INTEGER INTEGER-named NULL
+        OBJECT-IDENTIFIER OCTET-STRING RELATIVE-OID UTCTime UTF8String any-content content-under end none optional required""".split()
     ),
     "NotationForms": frozenset(
         """ANY APPLICATION AUTOMATIC BIT-STRING-CONTAINING BMPString CHOICE CONTEXT EXPLICIT GeneralString IA5String IMPLICIT
         FALSE INTEGER-from-minus-to INTEGER-from-to ISO646String MAX Mode NumericString OCTET-STRING-CONTAINING PRIVATE PrintableString
         SEQUENCE SEQUENCE-OF SET SET-OF SIZE T61String TRUE TeletexString UNIVERSAL UniversalString VisibleString added
-        default default-as-optional default-of instead later-alternatives-refused later-members-refused minus number ◌⨾◌ ◌∣◌""".split()
+        default default-as-optional default-of instead later-alternatives-refused later-members later-members-refused minus number ◌⨾◌ ◌∣◌""".split()
     ),
 }
 _PRELUDE = ("[]", "◌∷◌")
@@ -40,8 +40,8 @@ def defined(types):
     return list(found.values())
 
 
-def notation_terms(types, modules):
-    """The lines of the file of terms. `modules` are those that the types are of."""
+def notation_terms(types, modules, homes):
+    """The lines of the file of terms. `modules` are those that the types are of, and `homes` the crates of types that are named."""
     body = [line for it in types for line in ["", *type_lines(it)]]
     used = [it for it in modules if default_tags(it.name) in names_of(body)]
     modes = [line for it in used for line in mode_lines(it)]
@@ -54,6 +54,7 @@ def notation_terms(types, modules):
         "-- The types as terms. Above each is its name in its module, and above each member the member's text.",
         *prelude,
         *form_imports(names),
+        *crate_imports(names, homes),
         *modes,
         *body,
     ]
@@ -70,6 +71,16 @@ def form_imports(names):
     return lines
 
 
+def crate_imports(names, homes):
+    """The imports of the terms that other crates have."""
+    lines = []
+    for crate in sorted({it for it in homes.values() if it != "crate"}):
+        found = sorted((it for it in names if homes.get(it) == crate), key=natural)
+        if found:
+            lines.append(f"use Rattle.{crate}.specs.Notation.{{{', '.join(found)}}}")
+    return lines
+
+
 def mode_lines(module):
     """The mode of the tags of a module that say none (X.680, 13.2)."""
     name, mode = default_tags(module.name), module.tag_default
@@ -83,17 +94,17 @@ def type_lines(declared):
     return definition(declared.name, declared.term, [f"{declared.source} of {declared.module}{f': {text}' if text else ''}"])
 
 
-def notation_file(types, own_types, crate):
+def notation_file(types, homes, crate):
     """The lines of the file of the law."""
     names = [it.name for it in types]
     return [
-        "//! Which type of ASN.1 each type is.",
+        "//! The ASN.1 type of each type.",
         "ghost use Rattle.std.specs.Prelude.{◌≡◌};",
         f"ghost use Rattle.{crate}.specs.Notation as notation;",
         "",
-        *imports({*names, "Notated"}, own_types),
+        *imports({*names, "Notated"}, homes),
         "",
-        "/// Each type is the one that its module says: `specs/Notation.antt` has its term, below its text.",
+        "/// Each type has the notation that its module gives it. `specs/Notation.antt` has that notation as a term, below its text.",
         "pub fn types()",
         *(f"    ensures {snake(it)} {{ ⟦<{it} as Notated>⟧.notation ≡ notation.{it} }}" for it in sorted(names, key=natural)),
         "{}",

@@ -56,9 +56,9 @@ def member_reference(it, before="self"):
     return f"&{before}.{it.name}"
 
 
-def struct_file(declared, own_types):
+def struct_file(declared, homes):
     """The lines of the file of a struct."""
-    used = {*_NAMES, *(name for it in declared.fields for name in words_of(member_type(it)))}
+    used = {*_NAMES, *(name for it in declared.parts() for name in words_of(member_type(it)))}
     presences = {it.presence for it in declared.fields}
     used |= {"OptionalRef"} if Presence.OPTIONAL in presences else set()
     used |= {"DefaultedRef"} if Presence.DEFAULT in presences else set()
@@ -69,7 +69,7 @@ def struct_file(declared, own_types):
         f"//! {declared.source} of {declared.module}.",
         *_GHOST_IMPORTS,
         "",
-        *imports(used, own_types),
+        *imports(used, homes),
         "",
         *definition(declared),
         "",
@@ -88,12 +88,12 @@ def struct_file(declared, own_types):
 
 
 def definition(declared):
-    """The struct with its comments: those of the module, and the notation of each member."""
+    """The struct with its comments: the module's comments, and the notation of each member."""
     form = "the members of a SET in the order of their tags" if declared.is_set else "a SEQUENCE"
     lines = comment("", "///", f"{sentence(declared.comment)} `{declared.source}` of {declared.module}, as {form}.")
     lines += difference_note(declared)
     lines += ["#[derive(Debug, Drop, PartialEq, Eq)]", f"pub struct {declared.name} {{"]
-    for it in declared.fields:
+    for it in declared.parts():
         type_text = f"Option<{it.type_text}>" if it.presence is Presence.OPTIONAL else it.type_text
         lines += comment(STEP, "///", f"{sentence(it.comment)} `{it.notation}`{default_note(it)}.")
         lines += assigned(STEP, f"pub {it.name}:", type_text, ",")
@@ -106,9 +106,9 @@ def sentence(text):
 
 
 def difference_note(declared):
-    """A paragraph that says so if the values aren't those of the notation."""
+    """A paragraph that says so if the values differ from the notation's."""
     found = declared.differences()
-    return ["///", *comment("", "///", f"The values aren't exactly those of the notation: {'; '.join(found)}.")] if found else []
+    return ["///", *comment("", "///", f"Its values differ from the notation's. The crate lacks: {'; '.join(found)}.")] if found else []
 
 
 def default_note(it):
@@ -124,7 +124,7 @@ def member_types(declared):
     names, _ = chunk_names(len(parts))
     lines = []
     for index, (name, part) in enumerate(zip(names, parts)):
-        rest = names[index + 1] if index + 1 < len(names) else "()"
+        rest = names[index + 1] if index + 1 < len(names) else declared.later.type_text if declared.later else "()"
         items = [*(member_type(it) for it in part), rest]
         lines += [*tuple_lines("", f"type {name} = ", items, ";"), ""]
     return lines
@@ -136,7 +136,7 @@ def struct_impl(declared):
         f"impl Struct for {declared.name} {{",
         f"{STEP}type Members = Members;",
         "",
-        *ghost_tuple(f"{STEP}ghost parts = {{ λ it. ", chunks(declared.fields), " };", "it"),
+        *ghost_tuple(f"{STEP}ghost parts = {{ λ it. ", chunks(declared.fields), " };", "it", last_part(declared, "it")),
         "",
         *signature(STEP, "from_parts", ["members: Members"], declared.name),
         *bindings(declared),
@@ -146,10 +146,15 @@ def struct_impl(declared):
     ]
 
 
-def ghost_tuple(before, parts, after, value):
+def last_part(declared, value):
+    """What comes after the last member in a term of the members."""
+    return f"{value}.{declared.later.name}" if declared.later else "tt"
+
+
+def ghost_tuple(before, parts, after, value, last):
     """The members as a term: nested tuples, each on one line if that fits."""
     items = [member_part(it, value) for it in parts[0]]
-    rest = nested(parts[1:], value)
+    rest = nested(parts[1:], value, last)
     line = f"{before}({', '.join([*items, rest])}){after}"
     if len(line) <= GHOST_WIDTH:
         return [line]
@@ -158,24 +163,24 @@ def ghost_tuple(before, parts, after, value):
     if len(parts) == 1 or len(f"{indent}{rest},") <= GHOST_WIDTH:
         lines.append(f"{indent}{rest},")
     else:
-        lines += ghost_tuple(indent, parts[1:], ",", value)
+        lines += ghost_tuple(indent, parts[1:], ",", value, last)
     return [*lines, f"{indent[2:]}){after}"]
 
 
-def nested(parts, value):
+def nested(parts, value, last):
     """Tuples of members as a term on one line."""
     if not parts:
-        return "tt"
-    return f"({', '.join([*(member_part(it, value) for it in parts[0]), nested(parts[1:], value)])})"
+        return last
+    return f"({', '.join([*(member_part(it, value) for it in parts[0]), nested(parts[1:], value, last)])})"
 
 
 def bindings(declared):
     """The lines that take the members out of the tuples."""
-    parts, taken = chunks(declared.fields), {it.name for it in declared.fields}
+    parts, taken = chunks(declared.fields), {it.name for it in declared.parts()}
     names = [f"{it}_members" if it in taken else it for it in chunk_names(len(parts))[1]]
     lines, source = [], "members"
     for index, part in enumerate(parts):
-        rest = names[index] if index < len(names) else "()"
+        rest = names[index] if index < len(names) else declared.later.name if declared.later else "()"
         items = [f"Optional({it.name})" if it.presence is Presence.OPTIONAL else it.name for it in part]
         lines += binding([*items, rest], source)
         source = rest
@@ -194,7 +199,7 @@ def binding(items, source):
 
 def struct_literal(declared):
     """The value of the struct."""
-    items = [f"{it.name}: {it.name}.value" if it.presence is Presence.DEFAULT else it.name for it in declared.fields]
+    items = [f"{it.name}: {it.name}.value" if it.presence is Presence.DEFAULT else it.name for it in declared.parts()]
     if len(", ".join(items)) <= STRUCT_LITERAL_WIDTH:
         return [f"{_TWO}{declared.name} {{ {', '.join(items)} }}"]
     return [f"{_TWO}{declared.name} {{", *(f"{_THREE}{it}," for it in items), f"{_TWO}}}"]
@@ -202,7 +207,7 @@ def struct_literal(declared):
 
 def serialize_impl(declared):
     """The implementation of `Serialize`."""
-    rest = "Last(self)" if len(declared.fields) > REFERENCES else "()"
+    rest = "Last(self)" if len(declared.fields) > REFERENCES else last_reference(declared, "self")
     items = [*(member_reference(it) for it in declared.fields[:REFERENCES]), rest]
     parameters = ["&self", "serializer: &mut Serializer<W>"]
     return [
@@ -214,6 +219,11 @@ def serialize_impl(declared):
         f"{STEP}}}",
         "}",
     ]
+
+
+def last_reference(declared, before):
+    """What comes after the last member in a tuple of references."""
+    return f"&{before}.{declared.later.name}" if declared.later else "()"
 
 
 def called(items, method, argument):
@@ -235,15 +245,15 @@ def last_impl(declared):
     types, _ = chunk_names(len(chunks(declared.fields)))
     before = f"{STEP}ghost members = {{ λ it. ⟦<{types[2]} as SerializeMembers>⟧.members "
     return [
-        "// What comes after the sixteenth field.",
+        "// The members after the sixteenth field.",
         "#[derive(Drop)]",
         f"struct Last<'a>(&'a {declared.name});",
         "",
         "impl SerializeMembers for Last<'_> {",
-        *ghost_tuple(before, chunks(rest), " };", "it.0.now"),
+        *ghost_tuple(before, chunks(rest), " };", "it.0.now", last_part(declared, "it.0.now")),
         "",
         f"{STEP}fn serialize_members<W: WriteExt>(&self, sequence: &mut Sequence<'_, W>) -> Result<()> {{",
-        *called([*(member_reference(it, "self.0") for it in rest), "()"], "serialize_members", "sequence"),
+        *called([*(member_reference(it, "self.0") for it in rest), last_reference(declared, "self.0")], "serialize_members", "sequence"),
         f"{STEP}}}",
         "}",
         "",

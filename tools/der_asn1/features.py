@@ -33,6 +33,7 @@ class Feature(Enum):
     IMPORT = ("a module that isn't given", Level.PARTLY_RAW)
     UNDEFINED = ("a name that isn't defined, or isn't a type", Level.PARTLY_RAW)
     FOREIGN_TAG = ("an IMPLICIT tag that isn't a context tag over UTF8String, REAL or a container", Level.RAW)
+    CONTAINER_TAG = ("an IMPLICIT tag over BIT STRING (CONTAINING ..)", Level.RAW)
     AMBIGUOUS = ("members or alternatives that no first byte distinguishes", Level.RAW)
     SET_ORDER = ("a SET whose members have no fixed order", Level.RAW)
     RARE = ("REAL, EMBEDDED PDV and CHARACTER STRING", Level.RAW)

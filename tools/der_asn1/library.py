@@ -83,7 +83,8 @@ class Core(Enum):
     NUMBER = auto()  # Integer, which has `Contents` and `WholeNumber`
     OCTETS = auto()
     UTF8 = auto()
-    CONTAINER = auto()
+    CONTAINER = auto()  # a string whose content is the encoding of its `inner`
+    OWN = auto()  # a struct round a type without parts
     BYTES = auto()  # TaggedBytes: any content
     LIST = auto()  # with `List`
     SET = auto()  # Asn1Set
@@ -148,5 +149,5 @@ def unsigned_for(high):
 
 
 def signed_exactly(low, high):
-    """The signed type that has just these numbers, or None."""
+    """The signed type that has exactly these numbers, or None."""
     return next((f"i{it}" for it in WIDTHS if (low, high) == (-(2 ** (it - 1)), 2 ** (it - 1) - 1)), None)

@@ -3,15 +3,21 @@ from dataclasses import dataclass, replace
 
 from . import tree
 from .declarations import ChoiceDeclaration, EnumDeclaration, Field, Item, StructDeclaration
+from .emit_choice import parts_type
 from .emit_enum import ONE_BYTE
 from .features import Feature, Level, Note
-from .library import DEFAULT_SIGNED, DEFAULT_UNSIGNED, U64_MAX, UNIVERSAL_TAGS, Core, Rust, any_element, tagged_bytes
+from .intervals import Intervals
+from .library import ANY_FIRST, DEFAULT_SIGNED, DEFAULT_UNSIGNED, U64_MAX, UNIVERSAL_TAGS, Core, Rust, any_element, tagged_bytes
 from .members import ResolvedMember, is_extensible, members_of
 from .meaning import Meaning, lacks
 from .source import NotationError
 from .terms import Item as TermItem, Term, number_list
 from .values import enumerated_numbers, integer_of, named_numbers, value_of
 from .wording import snake, variant
+
+
+# the words of a term after the last member of an extensible type
+LATER, NO_LATER = "later-members", "later-members-refused"
 
 
 @dataclass(frozen=True)
@@ -65,7 +71,8 @@ def structure(meanings, type_, scope, hint):
     if not are_distinct(meanings, parts, type_.form):
         return _raw(tagged_bytes(first), parts, *ambiguity(parts))
     found = declared_struct(meanings, type_, scope, hint, parts)
-    return found.called(structure_term(meanings, type_, scope, written, (found.rust.inner or found.rust).text))
+    end = last_word(type_, scope, parts)
+    return found.called(structure_term(meanings, type_, written, end, (found.rust.inner or found.rust).text))
 
 
 def declared_struct(meanings, type_, scope, hint, parts):
@@ -76,19 +83,47 @@ def declared_struct(meanings, type_, scope, hint, parts):
         default = default_of(meanings, it)
         found = found.lacking(*default.features).noting(*default.notes)
         fields.append(field_of(it, default))
-    if is_extensible(type_, scope):
+    end = last_word(type_, scope, parts)
+    later = later_field(parts, fields) if end == LATER else None
+    if end == NO_LATER:
         found = found.lacking(Feature.EXTENSION)
+    fields = unique(fields if later is None else [*fields, later])
     is_set = type_.form is tree.Form.SET
-    declared = StructDeclaration("", type_.place, scope.module.name, hint.text, fields=unique(fields), is_set=is_set)
+    declared = StructDeclaration("", type_.place, scope.module.name, hint.text, is_set=is_set, later=later)
+    declared.fields = fields[:-1] if later else fields
     name = declare(meanings, declared, type_, scope, hint, found, "members")
     record = Rust(name, Core.LIST, frozenset((UNIVERSAL_TAGS["SEQUENCE"],)))
     return found.as_(Rust(f"Asn1Set<{name}>", Core.SET, frozenset((UNIVERSAL_TAGS["SET"],)), record) if is_set else record)
 
 
-def structure_term(meanings, type_, scope, parts, name):
+def structure_term(meanings, type_, parts, end, name):
     """The term of a SEQUENCE or SET, its members in the order of the text, with the name of its struct."""
     items = tuple(TermItem(item_text(it), presence_word(meanings, it), it.meaning.rust.term) for it in parts)
-    return Term(type_.form.value, items=items, end="later-members-refused" if is_extensible(type_, scope) else "end", name=name)
+    return Term(type_.form.value, items=items, end=end, name=name)
+
+
+def last_word(type_, scope, parts):
+    """The word of a term after the last member: whether members of later versions may follow, and whether the struct has them.
+
+    A SET has none, nor has a SEQUENCE whose root goes on after them. What may be absent before them can't be any element.
+    """
+    if not is_extensible(type_, scope):
+        return "end"
+    is_any = any(it.firsts >= ANY_FIRST for it in before_later(parts))
+    return NO_LATER if type_.form is tree.Form.SET or type_.goes_on or is_any else LATER
+
+
+def before_later(parts):
+    """The members directly before those of later versions that may be absent."""
+    last = max((index for index, it in enumerate(parts, 1) if not it.resolved.may_be_absent()), default=0)
+    return parts[last:]
+
+
+def later_field(parts, fields):
+    """The field of the members of later versions. Its type has those of the members directly before that may be absent."""
+    before = fields[len(parts) - len(before_later(parts)) :]
+    types = parts_type([it.type_text for it in before])
+    return Field("later_members", f"LaterMembers<{types}>", notation="...", comment="The members of later versions, in their order.")
 
 
 def item_text(part):
@@ -116,10 +151,10 @@ def declare(meanings, declared, type_, scope, hint, meaning, suffix):
         return equal.name
     is_inside = type_.tags or isinstance(declared, StructDeclaration) and declared.is_set
     if hint.key and not is_inside:
-        declared.name = meanings.declarations.fresh(hint.text, hint.key)
+        declared.name = meanings.declarations.fresh(hint.text, hint.key, declared.module)
     else:
         wanted = f"{hint.text}-{suffix}" if hint.key else hint.text
-        declared.name = meanings.declarations.fresh(wanted, (*scope.key, str(type_.place)))
+        declared.name = meanings.declarations.fresh(wanted, (*scope.key, str(type_.place)), declared.module)
     declared.comment, declared.level, declared.lacks = hint.comment, meaning.level, lacks(meaning)
     meanings.declarations.add(declared)
     return declared.name
@@ -159,6 +194,8 @@ def empty(type_, scope, first):
     """A SEQUENCE or SET without members, which is a list of none, or of any that later versions have."""
     name = "Vec" if type_.form is tree.Form.SEQUENCE else "Asn1SetOf"
     firsts, form = frozenset((first,)), type_.form.value
+    if is_extensible(type_, scope) and type_.form is tree.Form.SEQUENCE:
+        return Meaning(Rust(f"{name}<Asn1RawDer>", Core.LIST, firsts, term=Term(f"{form} {LATER}")))
     if is_extensible(type_, scope):
         term = Term(f"{form}-OF", Term("ANY"))
         return Meaning(Rust(f"{name}<Asn1RawDer>", Core.LIST, firsts, term=term)).lacking(Feature.EXTENSION)
@@ -171,7 +208,7 @@ def _raw(rust, parts, *features):
     return replace(found, features=found.features.union(*(it.meaning.features for it in parts)))
 
 
-# ---- what tells members apart
+# ---- what distinguishes members
 
 
 def are_distinct(meanings, parts, form):
@@ -268,7 +305,10 @@ def item_of(meanings, value, scope, rust):
     items = {it.source: it for it in declared.items}
     if isinstance(value, tree.NamedValue) and value.name not in items:
         value, _ = value_of(meanings.program, value, scope)
-    item = items.get(value.name) if isinstance(value, tree.NamedValue) else None
+    if isinstance(value, tree.IntegerValue) and declared.tag == UNIVERSAL_TAGS["INTEGER"]:
+        item = next((it for it in declared.items if it.number == value.number), None)
+    else:
+        item = items.get(value.name) if isinstance(value, tree.NamedValue) else None
     return item and NamedDefault(meanings.declarations.default_item(declared, item), item.number)
 
 
@@ -311,11 +351,30 @@ def enumeration(meanings, type_, scope, hint):
     if not all(it in ONE_BYTE for it in numbers) or len(set(numbers)) < len(numbers):
         rust = Rust("Enumerated", Core.CONTENTS, first, own=True, term=Term("ENUMERATED-extensible"))
         return Meaning(rust).noting(Note.WIDE_ENUMERATION)
-    items = [Item(variant(it.name), it.name, number, it.comment) for it, number in zip(type_.items, numbers)]
-    declared = EnumDeclaration("", type_.place, scope.module.name, hint.text, items=unique(items))
-    found = Meaning(None).noting(Note.ENUMERATION)
-    name = declare(meanings, declared, type_, scope, hint, found, "values")
-    return found.as_(Rust(name, Core.CONTENTS, first, own=True, term=Term(f"ENUMERATED {number_list(it.number for it in declared.items)}")))
+    return declared_enum(meanings, type_, scope, hint, zip(type_.items, numbers), "ENUMERATED")
+
+
+def named_integer(meanings, type_, scope, hint, numbers):
+    """An INTEGER that has a name and only these numbers, if there are several of one byte, each with a name: an enum of its own. Else None."""
+    named = [(it, integer_of(meanings.program, it.number, scope)) for it in type_.named]
+    known = [number for _, number in named]
+    if not hint.key or len(known) < 2 or len(set(known)) < len(known) or not all(it in ONE_BYTE for it in known):
+        return None
+    if numbers != Intervals.of(*((it, it) for it in known)):
+        return None
+    return declared_enum(meanings, type_, scope, hint, sorted(named, key=lambda it: it[1]), "INTEGER")
+
+
+def declared_enum(meanings, type_, scope, hint, items, form):
+    """The enum of these items with their numbers, which is declared."""
+    tag = UNIVERSAL_TAGS[form]
+    found = [Item(variant(it.name), it.name, number, it.comment) for it, number in items]
+    declared = EnumDeclaration("", type_.place, scope.module.name, hint.text, items=unique(found), tag=tag)
+    meaning = Meaning(None).noting(Note.ENUMERATION)
+    name = declare(meanings, declared, type_, scope, hint, meaning, "values")
+    word = "ENUMERATED" if form == "ENUMERATED" else "INTEGER-named"
+    term = Term(f"{word} {number_list(it.number for it in declared.items)}")
+    return meaning.as_(Rust(name, Core.CONTENTS, frozenset((tag,)), own=True, term=term))
 
 
 # ---- choices

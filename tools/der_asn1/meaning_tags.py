@@ -2,11 +2,12 @@
 from dataclasses import replace
 
 from .features import Feature, Level, Note
-from .library import MAX_TAG, Core, Rust, context_tag, retagged, tagged_bytes
+from .library import MAX_TAG, UNIVERSAL_TAGS, Core, Rust, context_tag, retagged, tagged_bytes
 from .terms import Term, content_under
 from .tree import TagClass, TagMode
 
 _CONSTRUCTED = 0x20
+_BIT_STRING = frozenset((UNIVERSAL_TAGS["BIT STRING"],))
 
 
 def wrapped(meaning, tag_class, number, mode):
@@ -34,9 +35,20 @@ def wrapped(meaning, tag_class, number, mode):
     if inner.core is Core.LIST:
         tag |= _CONSTRUCTED
         return meaning.as_(Rust(retagged(inner, tag), Core.RETAGGED, frozenset((tag,)), inner))
+    if inner.core is Core.CONTAINER and inner.firsts == _BIT_STRING:
+        return kept(meaning, tag, Feature.CONTAINER_TAG)
     if tag_class is TagClass.CONTEXT:
-        return meaning.as_(Rust(context_tag("Implicit", inner, number), Core.IMPLICIT, frozenset((tag,)), inner))
+        return meaning.as_(Rust(context_tag("Implicit", content_of(inner), number), Core.IMPLICIT, frozenset((tag,)), inner))
     return primitive(meaning, inner, tag)
+
+
+def content_of(inner):
+    """What the library has under an IMPLICIT tag. The content of an octet string that holds an encoding is that of a list of one."""
+    if inner.core is not Core.CONTAINER:
+        return inner
+    while inner.bounded:  # a constraint is around the string
+        inner = inner.inner
+    return replace(inner.inner, text=f"({inner.inner.text},)")
 
 
 def explicit(inner, tag_class, number):
@@ -68,4 +80,9 @@ def primitive(meaning, inner, tag):
         if inner.bounded:
             return meaning.as_(rust).called(content_under(tag, content.term)).noting(Note.CONSTRAINT)
         return meaning.as_(rust)
-    return replace(meaning.as_(tagged_bytes(tag)).lacking(Feature.FOREIGN_TAG), level=max(Level.RAW, meaning.level))
+    return kept(meaning, tag, Feature.FOREIGN_TAG)
+
+
+def kept(meaning, tag, feature):
+    """The content under a tag as bytes, for what the library lacks."""
+    return replace(meaning.as_(tagged_bytes(tag)).lacking(feature), level=max(Level.RAW, meaning.level))

@@ -2,12 +2,12 @@
 from dataclasses import replace
 
 from . import tree
-from .declarations import AliasDeclaration, Declarations, Hint
+from .declarations import AliasDeclaration, Declarations, Hint, NewtypeDeclaration
 from .features import Feature, Level, Note
 from .library import CONTENTS_TYPES, OTHER_STRINGS, UNCHECKED_CHARACTERS, UNIVERSAL_TAGS, Core, Rust, any_element, tagged_bytes
 from .meaning import Meaning, lacks
 from .meaning_bounds import bounded, integer, whole_number_limits
-from .meaning_structures import choice, enumeration, structure
+from .meaning_structures import choice, enumeration, named_integer, structure
 from .meaning_tags import wrapped
 from .members import selected
 from .objects import BUILT_IN_CLASSES, class_named, set_of
@@ -60,10 +60,14 @@ def word(name):
     return Term(name.replace(" ", "-"))
 
 
-def alias(name, found, type_, meaning):
-    """The declaration of a name of another type."""
+# of which a struct of its own may be made: what has no parts, and so no trait of its own but `Begins`
+_SIMPLE = frozenset((Core.BOOL, Core.NULL, Core.UNSIGNED, Core.SIGNED, Core.CONTENTS, Core.NUMBER, Core.OCTETS, Core.UTF8, Core.CONTAINER, Core.OWN))
+
+
+def alias(name, found, type_, meaning, kind):
+    """The declaration of a name of another type, or of a struct round it."""
     source, comment = found.assignment.name, " ".join(found.assignment.comment)
-    declared = AliasDeclaration(name, found.assignment.place, found.scope.module.name, source, comment)
+    declared = kind(name, found.assignment.place, found.scope.module.name, source, comment)
     declared.level, declared.lacks, declared.term = meaning.level, lacks(meaning), meaning.rust.term
     declared.type_text, declared.notation = meaning.rust.text, type_.text
     return declared
@@ -72,8 +76,9 @@ def alias(name, found, type_, meaning):
 class Meanings:
     """The meanings of the types of a program. Each assignment is worked out once."""
 
-    def __init__(self, program, declarations=None):
+    def __init__(self, program, declarations=None, distinct=()):
         self.program = program
+        self.distinct = frozenset(distinct)  # the names of types that are structs of their own, in place of names of others
         self.declarations = declarations or Declarations()
         self.known, self.busy = {}, []
 
@@ -106,9 +111,16 @@ class Meanings:
         if declared and declared.place == type_.place:
             declared.term = meaning.rust.term
             return meaning.called(Term(declared.name))
-        name = self.declarations.fresh(instance_name(found), key)
-        self.declarations.add(alias(name, found, type_, meaning))
-        return meaning.as_(replace(meaning.rust, text=name, term=Term(name)))
+        name = self.declarations.fresh(instance_name(found), key, found.scope.module.name)
+        rust = replace(meaning.rust, text=name, term=Term(name))
+        if found.assignment.name not in self.distinct:
+            self.declarations.add(alias(name, found, type_, meaning, AliasDeclaration))
+            return meaning.as_(rust)
+        if rust.core not in _SIMPLE:
+            text = f"`{found.assignment.name}` has parts or a tag, and is no struct of its own"
+            self.program.problems.error(found.assignment.place, text, "docs/ASN1.md")
+        self.declarations.add(alias(name, found, type_, meaning, NewtypeDeclaration))
+        return meaning.as_(rust if rust.core is Core.CONTAINER else replace(rust, core=Core.OWN))
 
     def raw(self, type_, scope, *features):
         """A type that is kept as bytes: under its tag, if it has only one."""
@@ -187,7 +199,9 @@ class Meanings:
 
     def of_integertype(self, type_, scope, hint, constraints):
         limits = self.limits(constraints, type_, scope)
-        meaning = in_words(integer(Meaning, whole_number_limits(limits)), constraints)
+        numbers, other = whole_number_limits(limits)
+        found = None if other else named_integer(self, type_, scope, hint, numbers)
+        meaning = in_words(found or integer(Meaning, (numbers, other)), constraints)
         return meaning.lacking(Feature.UNKNOWN_BOUND) if limits.unknown else meaning
 
     def of_enumeratedtype(self, type_, scope, hint, constraints):

@@ -142,7 +142,7 @@ class TypeParser(ConstraintParser):
         return self.expect_kind(Kind.LOWER, wanted, clause)
 
     def comment(self, name):
-        """The comments of a member: those above its name, and those beside its last item or the comma after it."""
+        """The comments of a member: the ones above its name, and the ones on the line of its last item or of the comma after it."""
         last = self.now if self.at(",") else self.tokens[self.index - 1]
         beside = last.beside or self.tokens[self.index - 1].beside
         return " ".join(it for it in (*name.above, beside) if it)
@@ -186,8 +186,8 @@ class TypeParser(ConstraintParser):
     def structure_or_list(self, place, form, clause):
         """SEQUENCE and SET, of members or OF (X.680, 25 to 28)."""
         if self.at("{"):
-            members, extensible = self.members(clause)
-            return tree.StructureType(place, form, members, extensible)
+            members, extensible, goes_on = self.members(clause)
+            return tree.StructureType(place, form, members, extensible, goes_on)
         constraints = []
         if self.at("SIZE"):
             constraints = [self.size_alone()]
@@ -209,7 +209,7 @@ class TypeParser(ConstraintParser):
 
     def choice(self, place):
         """CHOICE (X.680, 29.1)."""
-        alternatives, extensible = self.members(_CHOICE)
+        alternatives, extensible, _ = self.members(_CHOICE)
         return tree.ChoiceType(place, alternatives, extensible)
 
     def any(self, place):
@@ -227,10 +227,10 @@ class TypeParser(ConstraintParser):
     # ---- members
 
     def members(self, clause):
-        """The members in braces, and whether there is an extension marker."""
+        """The members in braces, whether there is an extension marker, and whether members come after a second one."""
         opening = self.expect("{", clause)
         found, markers, group, bracketed = [], 0, 0, False
-        version = None
+        version, goes_on = None, False
         while not self.at("}"):
             if self.now.kind is Kind.END:
                 raise NotationError(opening.place, "`{` isn't closed by `}`", clause)
@@ -245,11 +245,12 @@ class TypeParser(ConstraintParser):
                 bracketed = False
             else:
                 group += markers == 1 and not bracketed
+                goes_on = markers > 1
                 found.append(self.member(clause, group if markers == 1 else None, version if bracketed else None))
             if not self.at("}", "]]"):
                 self.comma(opening, clause)
         self.take()
-        return found, markers > 0
+        return found, markers > 0, goes_on
 
     def version(self):
         """The number of a version, if it is there (X.680, 25.1)."""

@@ -140,4 +140,4 @@ def number_list(values):
 def names_of(lines):
     """The names and the operators in lines of terms, without those of comments."""
     text = "\n".join(it for it in lines if not it.lstrip().startswith("--"))
-    return set(re.findall(r"[A-Za-z][\w-]*", text)) | {f"◌{it}◌" for it in (_MEMBERS, _ALTERNATIVES, "∷") if it in text}
+    return set(re.findall(r"[A-Za-z][\w-]*(?:::[A-Za-z]\w*)*", text)) | {f"◌{it}◌" for it in (_MEMBERS, _ALTERNATIVES, "∷") if it in text}

@@ -1,4 +1,4 @@
-"""The lexical items of ASN.1 (X.680, 12), with the comments beside them."""
+"""The lexical items of ASN.1 (X.680, 12), with the comments next to them."""
 import re
 from dataclasses import dataclass, field
 from enum import Enum
@@ -116,7 +116,7 @@ class _Scanner:
         self.spaced = True
 
     def comment(self, place, words):
-        """Gives a comment to the item before it, if it is beside it or goes on below, or else keeps it for the next item."""
+        """Gives a comment to the item before it, if it is on its line or continues below, or else keeps it for the next item."""
         last = self.tokens[-1] if self.tokens else None
         goes_on = last and last.beside and self.fresh and not self.pending and place.column >= last.beside_column - 1
         if last and (goes_on or not self.fresh):

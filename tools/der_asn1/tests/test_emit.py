@@ -10,7 +10,7 @@ from .. import command, emit_crate
 from ..emit_choice import parts_type, pattern, place, term
 from ..layout import assigned, comment, filled, item_lines, natural, tuple_lines, type_lines
 from ..wording import joined, snake
-from . import given
+from . import given, golden_options
 
 ROOT = os.path.dirname(os.path.dirname(os.path.dirname(os.path.dirname(os.path.realpath(__file__)))))
 
@@ -62,14 +62,6 @@ class AsByHand(unittest.TestCase):
     def test_a_struct(self):
         body = """Point ::= SEQUENCE { x INTEGER (0..4294967295), y INTEGER (0..4294967295), hidden BOOLEAN }"""
         self.check(body, "Point", "der_examples/src/point.rt", self.without("Point"))
-
-    def test_a_default(self):
-        body = "Extension ::= SEQUENCE { id OBJECT IDENTIFIER, critical BOOLEAN DEFAULT FALSE, value OCTET STRING }"
-        self.check(body, "Extension", "der_x509/src/extension.rt", self.without("Extension"))
-
-    def test_an_open_type_that_may_be_absent(self):
-        body = "AlgorithmIdentifier ::= SEQUENCE { algorithm OBJECT IDENTIFIER, parameters ANY DEFINED BY algorithm OPTIONAL }"
-        self.check(body, "AlgorithmIdentifier", "der_x509/src/algorithm_identifier.rt")
 
     def test_constraints(self):
         body = """DeviceLabel ::= SEQUENCE { country PrintableString (SIZE (2)), serial INTEGER (0..65536), article NumericString,
@@ -178,13 +170,6 @@ class Defaults(unittest.TestCase):
         self.assertIn("is_default_ey X = false\nis_default_ey Y = true\n", terms)
         self.assertIn("ey_by_tree X y h = cc\ney_by_tree Y X h = (λ k. cc, λ e. cc)\ney_by_tree Y Y h = (λ k. refl, λ e. refl)\n", terms)
 
-    def test_the_default_by_hand(self):
-        body = "A ::= SEQUENCE { a Version DEFAULT v1 } Version ::= ENUMERATED { v1(0), v2(1), v3(2) }"
-        files, hand = crate_of(body, "A").files(), items(by_hand("der_x509/src/version.rt"))
-        text = files["src/version.rt"].replace("variant.", "version.").replace("is_default_version_v1", "is_v1").replace("version_v1_", "v1_")
-        (found,) = [it for it in items(text.replace("VersionV1", "V1")) if it.startswith("impl DefaultOf")]
-        self.assertIn(found, hand)
-
 
 class Imports(unittest.TestCase):
     def test_of_a_struct(self):
@@ -219,7 +204,7 @@ class Comments(unittest.TestCase):
 
     def test_a_default_that_isnt_one(self):
         text = crate_of("A ::= SEQUENCE { a INTEGER DEFAULT -1 }", "A").files()["src/a.rt"]
-        wanted = "as a SEQUENCE.\n///\n/// The values aren't exactly those of the notation: DEFAULT of an INTEGER without bounds.\n#[derive"
+        wanted = "as a SEQUENCE.\n///\n/// Its values differ from the notation's. The crate lacks: DEFAULT of an INTEGER without bounds.\n#[derive"
         self.assertIn(wanted, text)
         self.assertIn("/// `INTEGER DEFAULT -1`. A default that is written out is read, too.\n    pub a: Option<Integer>,\n", text)
 
@@ -237,7 +222,7 @@ class Comments(unittest.TestCase):
 
     def test_another_name_of_a_type_that_has_more_values(self):
         text = crate_of("A ::= INTEGER (0..MAX)", "A").files()["src/aliases.rt"]
-        self.assertIn("/// The values aren't exactly those of the notation: a type of its own with `Constrained`.\npub type A = Integer;\n", text)
+        self.assertIn("/// Its values differ from the notation's. The crate lacks: a type of its own with `Constrained`.\npub type A = Integer;\n", text)
 
 
 class Names(unittest.TestCase):
@@ -307,16 +292,16 @@ class Golden(unittest.TestCase):
 
     def test_each(self):
         folder = os.path.join(os.path.dirname(os.path.realpath(__file__)), "golden")
-        modules = sorted(it for it in os.listdir(folder) if it.endswith(".asn1"))
-        self.assertEqual(7, len(modules))
-        for it in modules:
-            with self.subTest(it), tempfile.TemporaryDirectory() as there:
-                name, printed = os.path.splitext(it)[0], io.StringIO()
-                crate = os.path.join(there, name)
-                with contextlib.redirect_stdout(io.StringIO()), contextlib.redirect_stderr(printed):
-                    status = command.main(["--strict", "--out", crate, os.path.join(folder, it)])
-                self.assertEqual((0, ""), (status, printed.getvalue()))
-                self.assertEqual(golden_files(os.path.join(folder, name)), golden_files(crate))
+        names = sorted(os.path.splitext(it)[0] for it in os.listdir(folder) if it.endswith(".asn1"))
+        self.assertEqual(10, len(names))
+        with tempfile.TemporaryDirectory() as there:
+            for it in names:
+                with self.subTest(it):
+                    printed = io.StringIO()
+                    with contextlib.redirect_stdout(io.StringIO()), contextlib.redirect_stderr(printed):
+                        status = command.main(golden_options(it, folder, there))
+                    self.assertEqual((0, ""), (status, printed.getvalue()))
+                    self.assertEqual(golden_files(os.path.join(folder, it)), golden_files(os.path.join(there, it)))
 
 
 class Values(unittest.TestCase):
@@ -334,7 +319,7 @@ class Values(unittest.TestCase):
 class Files(unittest.TestCase):
     def test_the_root(self):
         text = crate_of("A ::= SEQUENCE { b B } B ::= INTEGER", "A").files()["src/lib.rt"]
-        self.assertTrue(text.startswith("//! Types of M, made by tools/der_asn1.\n#![tactic(auto)]\n\n"))
+        self.assertTrue(text.startswith("//! The types of M, written by tools/der_asn1.\n#![tactic(auto)]\n\n"))
         self.assertTrue(text.endswith("\n\nmod a;\nmod aliases;\npub mod notation;\n\npub use a::A;\npub use aliases::B;\n"))
 
     def test_more_than_a_hundred_names(self):

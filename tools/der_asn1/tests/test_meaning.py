@@ -59,7 +59,12 @@ EXACT = [
     ("[3] IMPLICIT NULL", "ImplicitContextTag3<()>"),
     ("[16] IMPLICIT INTEGER", "ImplicitContextTag<Integer, 16>"),
     ("[3] IMPLICIT OCTET STRING (SIZE (4))", "ImplicitContextTag3<WithSize<ByteBuf, 4, 4>>"),
-    ("[3] IMPLICIT OCTET STRING (CONTAINING NULL)", "ImplicitContextTag3<OctetStringAsn1Container<()>>"),
+    ("[3] IMPLICIT OCTET STRING (CONTAINING NULL)", "ImplicitContextTag3<((),)>"),
+    ("[3] EXPLICIT OCTET STRING (CONTAINING NULL)", "ExplicitContextTag3<OctetStringAsn1Container<()>>"),
+    ("[3] IMPLICIT [4] IMPLICIT OCTET STRING (CONTAINING NULL)", "ImplicitContextTag3<((),)>"),
+    ("[3] IMPLICIT [4] EXPLICIT OCTET STRING (CONTAINING NULL)", "ExplicitContextTag3<OctetStringAsn1Container<()>>"),
+    ("[3] IMPLICIT OCTET STRING (CONTAINING OCTET STRING (CONTAINING NULL))", "ImplicitContextTag3<(OctetStringAsn1Container<()>,)>"),
+    ("[3] IMPLICIT OCTET STRING (CONTAINING [4] IMPLICIT OCTET STRING (CONTAINING NULL))", "ImplicitContextTag3<(ImplicitContextTag4<((),)>,)>"),
     ("[3] IMPLICIT SEQUENCE OF NULL", "ImplicitList3<Vec<()>>"),
     ("[8] IMPLICIT SET OF NULL", "Retagged<Asn1SetOf<()>, 0xA8>"),
     ("[APPLICATION 3] NULL", "ApplicationTag<(), 3>"),
@@ -115,7 +120,10 @@ OWN = [
 
 # a type that isn't exact, its level, and the feature that is missing
 MISSING = [
-    ("SEQUENCE { a NULL, ... }", Level.NEAR, Feature.EXTENSION),
+    ("SEQUENCE { a NULL, ..., ..., b BOOLEAN }", Level.NEAR, Feature.EXTENSION),
+    ("SEQUENCE { a ANY OPTIONAL, ... }", Level.NEAR, Feature.EXTENSION),
+    ("SET { a NULL, ... }", Level.NEAR, Feature.EXTENSION),
+    ("SET { ... }", Level.NEAR, Feature.EXTENSION),
     ("CHOICE { a NULL, ... }", Level.NEAR, Feature.EXTENSION),
     ("SEQUENCE { a INTEGER DEFAULT -1 }", Level.NEAR, Feature.DEFAULT_INTEGER),
     ("SEQUENCE { a INTEGER { v1(-5) } DEFAULT v1 }", Level.NEAR, Feature.DEFAULT_INTEGER),
@@ -134,6 +142,11 @@ MISSING = [
     ("CHOICE { a NULL, b NULL }", Level.RAW, Feature.AMBIGUOUS),
     ("SET { a CHOICE { x BOOLEAN, y NULL }, b INTEGER }", Level.RAW, Feature.SET_ORDER),
     ("[APPLICATION 1] IMPLICIT UTF8String", Level.RAW, Feature.FOREIGN_TAG),
+    ("[APPLICATION 1] IMPLICIT OCTET STRING (CONTAINING NULL)", Level.RAW, Feature.FOREIGN_TAG),
+    ("[1] IMPLICIT BIT STRING (CONTAINING NULL)", Level.RAW, Feature.CONTAINER_TAG),
+    ("[PRIVATE 1] IMPLICIT BIT STRING (CONTAINING NULL)", Level.RAW, Feature.CONTAINER_TAG),
+    ("[1] IMPLICIT [2] IMPLICIT BIT STRING (CONTAINING NULL)", Level.RAW, Feature.CONTAINER_TAG),
+    ("SEQUENCE { a [1] IMPLICIT BIT STRING (CONTAINING NULL) }", Level.PARTLY_RAW, Feature.CONTAINER_TAG),
     ("INTEGER (1..0)", Level.RAW, Feature.NO_VALUES),
 ]
 
@@ -173,7 +186,7 @@ class Sets(unittest.TestCase):
 
 class Parts(unittest.TestCase):
     def test_a_type_is_as_good_as_its_parts(self):
-        one = given("T ::= SEQUENCE { a U, b V }\nU ::= ANY\nV ::= SEQUENCE { a NULL, ... }")
+        one = given("T ::= SEQUENCE { a U, b V }\nU ::= ANY\nV ::= CHOICE { a NULL, ... }")
         self.assertEqual(({Note.OPEN}, {Feature.EXTENSION}), (one.meaning("T").notes, one.meaning("T").features))
         self.assertEqual(Level.NEAR, one.meaning("T").level)
 
@@ -225,11 +238,18 @@ class Parts(unittest.TestCase):
 
     def test_additions_may_be_absent(self):
         one = given("T ::= SEQUENCE { a NULL, ..., [[2: b INTEGER ]], c [0] NULL }")
-        self.assertEqual({Feature.EXTENSION}, one.meaning("T").features)
+        self.assertEqual((Level.EXACT, frozenset()), (one.meaning("T").level, one.meaning("T").features))
+
+    def test_members_of_later_versions(self):
+        body = "T ::= SEQUENCE { a NULL OPTIONAL, b INTEGER, ... }\nU ::= SEQUENCE { a NULL, b INTEGER (0..255) OPTIONAL, ..., c BOOLEAN }\nV ::= SEQUENCE { ... }"
+        one = given(body)
+        types = [one.meanings.declarations.by_name[one.meaning(it).rust.text].later.type_text for it in "TU"]
+        self.assertEqual(["LaterMembers<NoneOf>", "LaterMembers<OneOf<u8, OneOf<bool, NoneOf>>>"], types)
+        self.assertEqual((Level.EXACT, "Vec<Asn1RawDer>"), (one.meaning("V").level, one.meanings.declarations.by_name["V"].type_text))
 
     def test_implied_extensibility(self):
-        found = given("T ::= SEQUENCE { a NULL }", "AUTOMATIC TAGS EXTENSIBILITY IMPLIED").meaning("T")
-        self.assertEqual({Feature.EXTENSION}, found.features)
+        one = given("T ::= SEQUENCE { a NULL }\nU ::= CHOICE { a NULL }", "AUTOMATIC TAGS EXTENSIBILITY IMPLIED")
+        self.assertEqual((frozenset(), {Feature.EXTENSION}), (one.meaning("T").features, one.meaning("U").features))
 
 
 class Parameters(unittest.TestCase):

@@ -12,10 +12,11 @@ from ..source import Problems
 from . import module_text
 
 RARE = "REAL, EMBEDDED PDV and CHARACTER STRING"
+BITS = "an IMPLICIT tag over BIT STRING (CONTAINING ..)"
 OWN = "an enum of its own with numbers of more than a byte"
 
 BODY = """A ::= BOOLEAN
-B ::= SEQUENCE { a ANY, ... }
+B ::= CHOICE { a NULL, ... }
 C ::= ANY
 D ::= SEQUENCE { a REAL }
 E ::= [31] NULL
@@ -139,6 +140,7 @@ class Command(unittest.TestCase):
     def test_what_a_crate_refuses(self):
         for notation, options, wanted in (
             ("T ::= REAL", [], f"2:1: error: `T` would be kept as bytes, or a part of it: {RARE}. `--allow-raw` allows it"),
+            ("T ::= [1] IMPLICIT BIT STRING (CONTAINING NULL)", ["--strict"], f"2:1: error: `T` would be kept as bytes, or a part of it: {BITS}. `--allow-raw` allows it"),
             ("T ::= ENUMERATED { a(128) }", [], f"2:1: error: `T` would have more values than the notation: {OWN}. `--allow-wider` allows it"),
             ("T ::= [31] NULL", [], "2:1: error: `T` has no type: tags with a number above 30"),
             ("T ::= NULL", ["--type", "U"], "1:1: error: no module has a type `U`"),
@@ -151,7 +153,8 @@ class Command(unittest.TestCase):
 
     def test_what_a_crate_allows(self):
         raw, wider = ("T ::= REAL", "--allow-raw", "TaggedBytes<0x09>"), ("T ::= ENUMERATED { a(128) }", "--allow-wider", "Enumerated")
-        for notation, option, wanted in (raw, wider):
+        bits = ("T ::= [1] IMPLICIT BIT STRING (CONTAINING NULL)", "--allow-raw", "TaggedBytes<0x81>")
+        for notation, option, wanted in (raw, bits, wider):
             with self.subTest(notation), tempfile.TemporaryDirectory() as folder:
                 self.assertEqual(0, self.run_on({"m.asn1": module_text(notation)}, "--out", folder, option)[0])
                 with open(os.path.join(folder, "src", "aliases.rt"), encoding="utf-8") as it:

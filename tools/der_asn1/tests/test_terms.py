@@ -85,8 +85,13 @@ class Terms(unittest.TestCase):
         self.check([("SET { a [1] NULL, b [0] NULL, c NULL }", "SET (required (CONTEXT 1 TAGS-M NULL) ⨾ required (CONTEXT 0 TAGS-M NULL) ⨾ required NULL ⨾ end)")])
 
     def test_extensions(self):
-        self.check([("SEQUENCE { a NULL, ... }", "instead (SEQUENCE (required NULL ⨾ later-members-refused))")])
-        self.check([("SEQUENCE { a NULL, ..., b BOOLEAN }", "instead (SEQUENCE (required NULL ⨾ added BOOLEAN ⨾ later-members-refused))")])
+        self.check([("SEQUENCE { a NULL, ... }", "SEQUENCE (required NULL ⨾ later-members)"), ("SEQUENCE { ... }", "SEQUENCE later-members")])
+        self.check([("SEQUENCE { a NULL, ..., b BOOLEAN }", "SEQUENCE (required NULL ⨾ added BOOLEAN ⨾ later-members)")])
+        self.check([("SEQUENCE { a NULL, ..., [[ b BOOLEAN ]] }", "SEQUENCE (required NULL ⨾ added BOOLEAN ⨾ later-members)")])
+        wanted = "instead (SEQUENCE (required NULL ⨾ added BOOLEAN ⨾ required INTEGER ⨾ later-members-refused))"
+        self.check([("SEQUENCE { a NULL, ..., b BOOLEAN, ..., c INTEGER }", wanted)])
+        self.check([("SEQUENCE { a NULL, b ANY OPTIONAL, ... }", "instead (SEQUENCE (required NULL ⨾ optional ANY ⨾ later-members-refused))")])
+        self.check([("SET { a NULL, ... }", "instead (SET (required NULL ⨾ later-members-refused))")])
         self.check([("CHOICE { a NULL, ... }", "instead (CHOICE (NULL ∣ later-alternatives-refused))")])
 
     def test_what_is_kept_as_bytes(self):
@@ -95,6 +100,12 @@ class Terms(unittest.TestCase):
     def test_strings_that_contain_a_value(self):
         self.check([("OCTET STRING (CONTAINING NULL)", "OCTET-STRING-CONTAINING NULL")])
         self.check([("BIT STRING (CONTAINING [0] NULL)", "BIT-STRING-CONTAINING (CONTEXT 0 TAGS-M NULL)")])
+
+    def test_a_tag_in_place_of_that_of_a_string_that_contains_a_value(self):
+        """X.690, 8.14.3: `81 03 02 01 07` of an octet string, and `81 04 00 02 01 07` of a bit string, for which the library has no type."""
+        self.check([("[1] IMPLICIT OCTET STRING (CONTAINING INTEGER)", "CONTEXT 1 IMPLICIT (OCTET-STRING-CONTAINING INTEGER)")])
+        self.check([("[1] IMPLICIT BIT STRING (CONTAINING INTEGER)", "instead (any-content 0x81)")])
+        self.check([("[PRIVATE 1] IMPLICIT OCTET STRING (CONTAINING INTEGER)", "instead (any-content 0xC1)")])
 
 
 class Definitions(unittest.TestCase):

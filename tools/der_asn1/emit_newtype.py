@@ -1,0 +1,116 @@
+"""A struct of its own round another type, as a file of a crate, in the form of docs/YOUR_TYPES.md."""
+from .emit_imports import imports, words_of
+from .emit_struct import difference_note, sentence
+from .layout import STEP, WIDTH, comment, signature
+
+_TWO = STEP * 2
+
+_GHOST_IMPORTS = """ghost use Rattle.std.specs.Prelude.{refl};
+ghost use Rattle.picky_der_de.specs.Known.{known_as};
+""".splitlines()
+
+_NAMES = "ReadExt WriteExt Alike Deserialize Deserializer Result Serialize Serializer deserialize_as Begins Tag Notated".split()
+
+
+def newtype_file(declared, homes):
+    """The lines of the file of a struct round another type."""
+    used = {*_NAMES, *words_of(declared.type_text)} - {declared.name}
+    return [
+        f"//! {declared.source} of {declared.module}.",
+        *_GHOST_IMPORTS,
+        "",
+        *imports(used, homes),
+        "",
+        *definition(declared),
+        "",
+        *serialize_impl(declared),
+        "",
+        *alike_impl(declared),
+        "",
+        *deserialize_impl(declared),
+        "",
+        *begins_impl(declared),
+        "",
+        *notated_impl(declared),
+    ]
+
+
+def quoted(declared, trait):
+    """The implementation of a trait for the type inside, in a term."""
+    return f"⟦<{declared.type_text} as {trait}>⟧"
+
+
+def definition(declared):
+    """The struct with its comments."""
+    lines = comment("", "///", f"{sentence(declared.comment)} `{declared.source}` of {declared.module}: `{declared.notation}`.")
+    lines += difference_note(declared)
+    lines += ["#[derive(Debug, Drop, PartialEq, Eq)]"]
+    line = f"pub struct {declared.name}(pub {declared.type_text});"
+    return [*lines, line] if len(line) <= WIDTH else [*lines, f"pub struct {declared.name}(", f"{STEP}pub {declared.type_text},", ");"]
+
+
+def serialize_impl(declared):
+    """The implementation of `Serialize`: as the type inside."""
+    return [
+        f"impl Serialize for {declared.name} {{",
+        f"{STEP}ghost meaning = {{ λ it. {quoted(declared, 'Serialize')}.meaning it.0 }};",
+        "",
+        *signature(STEP, "serialize", ["&self", "serializer: &mut Serializer<W>"], "Result<usize>", "<W: WriteExt>"),
+        f"{_TWO}self.0.serialize(serializer)",
+        f"{STEP}}}",
+        "}",
+    ]
+
+
+def alike_impl(declared):
+    """The implementation of `Alike`, whose twin is the type inside."""
+    return [
+        f"impl Alike for {declared.name} {{",
+        f"{STEP}type As = {declared.type_text};",
+        "",
+        f"{STEP}ghost parts = {{ λ it. it.0 }};",
+        "",
+        *signature(STEP, "from_parts", [f"value: {declared.type_text}"], declared.name),
+        f"{_TWO}{declared.name}(value)",
+        f"{STEP}}}",
+        "}",
+    ]
+
+
+def deserialize_impl(declared):
+    """The implementation of `Deserialize`: as the type inside."""
+    return [
+        f"impl Deserialize for {declared.name} {{",
+        f"{STEP}ghost shape = {{ {quoted(declared, 'Deserialize')}.shape }};",
+        "",
+        f"{STEP}ghost known = {{ known_as {quoted(declared, 'Deserialize')}.known (λ it. it.0) }};",
+        "",
+        f"{STEP}ghost tied = {{ Prim.assumption }};",
+        "",
+        *signature(STEP, "deserialize", ["deserializer: &mut Deserializer<R>"], f"Result<{declared.name}>", "<R: ReadExt>"),
+        f"{_TWO}deserialize_as(deserializer)",
+        f"{STEP}}}",
+        "}",
+    ]
+
+
+def begins_impl(declared):
+    """What it needs to be a member that may be absent, or an alternative."""
+    return [
+        f"impl Begins for {declared.name} {{",
+        f"{STEP}fn begins_with(tag: Tag) -> bool {{",
+        f"{_TWO}<{declared.type_text} as Begins>::begins_with(tag)",
+        f"{STEP}}}",
+        "}",
+    ]
+
+
+def notated_impl(declared):
+    """The implementation of `Notated`: the type of ASN.1 that the type inside is."""
+    return [
+        f"impl Notated for {declared.name} {{",
+        f"{STEP}ghost notation = {{ {quoted(declared, 'Notated')}.notation }};",
+        "",
+        f"{STEP}ghost denoted = {{ refl }};",
+        "}",
+    ]
