@@ -11,7 +11,7 @@ class Rule:
     clause: str
     refused_by: frozenset[str]
     changed_by: frozenset[str] = frozenset()
-    # whether this repository's program refuses certificates alone that break it, since der_tool's types don't check contents
+    # whether this repository's program refuses only certificates that break it, since der_tool's types don't check contents
     is_of_certificates: bool = False
 
     def is_refused_by(self, program: str, word: str) -> bool:
@@ -20,12 +20,12 @@ class Rule:
 
 
 def rule(clause: str, *refused_by: str, changed_by: tuple[str, ...] = ()) -> Rule:
-    """A rule of this clause, the programs that refuse what breaks it, and those that read it and write another encoding."""
+    """A rule of this clause, the programs that refuse what breaks it, and the programs that read it and write another encoding."""
     return Rule(clause, frozenset(refused_by), frozenset(changed_by))
 
 
 def content_rule(clause: str, *refused_by: str, changed_by: tuple[str, ...] = ()) -> Rule:
-    """The same of a rule that this repository's types of certificates check, and those of der_tool don't."""
+    """The same for a rule that this repository's types for certificates check, and der_tool's types don't."""
     return Rule(clause, frozenset(refused_by), frozenset(changed_by), is_of_certificates=True)
 
 

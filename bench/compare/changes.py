@@ -1,4 +1,4 @@
-"""Makes changed lines from whole ones, by a generator that is seeded."""
+"""Makes changed lines from whole ones, with a seeded generator."""
 import random
 from collections.abc import Iterator
 from dataclasses import dataclass
@@ -32,7 +32,7 @@ class Element:
 
 
 def long_length(size: int, count: int) -> bytes:
-    """A length in so many bytes after its first."""
+    """A length in this many bytes after its first byte."""
     return bytes([0x80 + count]) + size.to_bytes(count, "big")
 
 
@@ -42,7 +42,7 @@ def shortest_length(size: int) -> bytes:
 
 
 def elements_of(data: bytes) -> list[Element]:
-    """The elements that these bytes are, one after another, or an error where they aren't any in DER with tags of one byte."""
+    """The elements that these bytes are, one after another, or an error if they aren't elements in DER with tags of one byte."""
     elements = []
     place = 0
     while place < len(data):
@@ -96,7 +96,7 @@ def change_form(rng: random.Random, element: Element) -> None:
 
 
 def change_content(rng: random.Random, element: Element) -> None:
-    """Replaces, inserts or removes a byte of a content, and all lengths are those of what then is there."""
+    """Replaces, inserts or removes a byte of a content, and adapts all lengths."""
     content = element.content
     if element.members or not content:
         change_form(rng, element)
@@ -130,7 +130,7 @@ def change_bytes(rng: random.Random, data: bytes) -> bytes:
 
 
 def change(rng: random.Random, data: bytes) -> bytes:
-    """Makes one change. What isn't DER is changed byte by byte alone."""
+    """Makes one change. What isn't DER is changed only byte by byte."""
     if rng.randrange(2):
         try:
             return change_element(rng, data)
@@ -140,7 +140,7 @@ def change(rng: random.Random, data: bytes) -> bytes:
 
 
 def changed(rng: random.Random, lines: list[tuple[str, bytes]], count: int) -> Iterator[tuple[str, bytes]]:
-    """So many lines, each made by a change of one of these that is picked at random, or by more where that line was there before."""
+    """This many lines, each made by a change of a random one of these, or by more changes if that line came before."""
     seen = set(lines)
     for _ in range(count):
         word, data = rng.choice(lines)

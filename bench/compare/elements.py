@@ -46,7 +46,7 @@ def string(walk: Walk, header: Header, tag: tuple[int, int]) -> bytes:
 
 
 def is_shortest(content: bytes) -> bool:
-    """Whether a number's content has a byte and no needless one (8.3.1 and 8.3.2)."""
+    """Whether a number's content has a byte and no superfluous one (8.3.1 and 8.3.2)."""
     return len(content) == 1 or len(content) > 1 and not (
         content[0] == 0 and content[1] < 0x80 or content[0] == 0xFF and content[1] >= 0x80
     )
@@ -97,7 +97,7 @@ def octets(walk: Walk, header: Header) -> None:
 
 
 def is_object_identifier(content: bytes) -> bool:
-    """Whether each number has an end and no needless digit (8.19.2)."""
+    """Whether each number has an end and no superfluous digit (8.19.2)."""
     return re.fullmatch(rb"(?:(?!\x80)[\x80-\xFF]*[\x00-\x7F])+", content, re.DOTALL) is not None
 
 
@@ -126,7 +126,7 @@ def bit_string(walk: Walk, header: Header, tag: tuple[int, int] = (UNIVERSAL, BI
 
 
 def joined(walk: Walk, header: Header) -> bytes:
-    """The content of an element of any type, or of its pieces, joined. What these break isn't noted, since OpenSSL alone reads them."""
+    """The content of an element of any type, or of its pieces, joined. The rules that these break aren't noted, since only OpenSSL reads them."""
     return Walk(walk.data).pieces(header) if header.is_constructed else walk.content(header)
 
 

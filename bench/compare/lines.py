@@ -1,4 +1,4 @@
-"""The lines that the programs are given, and what they answer."""
+"""The lines for the programs, and what they print."""
 import base64
 import binascii
 import re
@@ -29,7 +29,7 @@ class Line:
     data: bytes
 
     def text(self) -> str:
-        """The line as the programs are given it."""
+        """The line as the programs read it."""
         return f"read {self.word} {self.data.hex()}"
 
     def block(self) -> str:
@@ -63,7 +63,7 @@ def read_lines(path: Path) -> list[Line]:
 
 
 def read_certificates(path: Path) -> list[Line]:
-    """The certificates in PEM of a file, but for blocks that are no base64."""
+    """The certificates in PEM of a file, except blocks that aren't base64."""
     lines = []
     for block in BLOCK.findall(path.read_text(encoding="utf-8")):
         try:
@@ -74,7 +74,7 @@ def read_certificates(path: Path) -> list[Line]:
 
 
 def own_answer(line: Line, text: str) -> Answer:
-    """What der_tool or der_x509_tool answered by this text."""
+    """What der_tool or der_x509_tool means by this text."""
     first, _, value = text.partition(" ")
     if first == "ok":
         return Answer(True, f"{len(line.data)} {value}" if line.word == "certificate" else value)
@@ -84,7 +84,7 @@ def own_answer(line: Line, text: str) -> Answer:
 
 
 def answer_of_peer(line: Line, text: str) -> Answer:
-    """What another program answered by this text."""
+    """What another program means by this text."""
     first, _, value = text.partition(" ")
     if first == "refused":
         return REFUSED
@@ -138,7 +138,7 @@ def value_text(element: bytes) -> str:
 
 
 def readable(content: bytes) -> str:
-    """Bytes as text on one line, with a backslash before what has a meaning there, or as their digits where they are no UTF-8."""
+    """Bytes as text on one line, with a backslash before characters that have a meaning there, or as hexadecimal digits if they aren't UTF-8."""
     if not is_text(content):
         return f"#{content.hex().upper()}"
     return "".join(map(escaped, content.decode()))

@@ -13,7 +13,7 @@ from lines import Answer, Line, answer_of_peer, own_answer
 HERE = Path(__file__).resolve().parent
 ROOT = HERE.parent.parent
 
-# `rt try` stops a program that prints more than 1 MiB, so it is given at most so many bytes of lines at a time, or so many certificates
+# `rt try` stops a program that prints more than 1 MiB, so it gets at most this many bytes of lines at a time, or this many certificates
 MOST_BYTES, MOST_CERTIFICATES = 400_000, 2_000
 
 
@@ -51,7 +51,7 @@ def try_program(crate: str, inputs: list[str]) -> list[list[str]]:
 
 
 def ask_this(lines: list[Line]) -> list[Answer]:
-    """What this repository's program answers; the lines are all certificates or all others."""
+    """What this repository's program prints; the lines are all certificates or all others."""
     is_certificates = lines[0].word == "certificate"
     pieces = list(pieces_of(lines))
     if is_certificates:
@@ -65,14 +65,14 @@ def ask_this(lines: list[Line]) -> list[Answer]:
 
 
 def ask_peer(command: list[str], lines: list[Line]) -> list[Answer]:
-    """What another program answers."""
+    """What another program prints."""
     given = "".join(f"{it.text()}\n" for it in lines)
     ran = subprocess.run(command, input=given, capture_output=True, text=True, check=True)
     return [answer_of_peer(line, text) for line, text in zip(lines, ran.stdout.splitlines(), strict=True)]
 
 
 def ask_all(lines: list[Line], openssl: str) -> dict[str, list[Answer]]:
-    """What each program answers."""
+    """What each program prints."""
     return {
         THIS: ask_this(lines),
         PYCA: ask_peer([sys.executable, str(HERE / "pyca.py")], lines),

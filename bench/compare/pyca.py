@@ -69,7 +69,7 @@ class Extension:
 
 @asn1.sequence
 class Signed:
-    """What is signed of a certificate (RFC 5280, 4.1)."""
+    """The signed part of a certificate (RFC 5280, 4.1)."""
 
     version: Annotated[int, asn1.Explicit(0), asn1.Default(0)]
     serial_number: int
@@ -112,7 +112,7 @@ def written_number(value: int) -> bytes:
 
 
 def end_of_first(data: bytes) -> int:
-    """Where the first element ends as its header says, or the end of the data where there is no such place."""
+    """Where the first element ends as its header says, or the end of the data if there is no such place."""
     place = 1
     if data and data[0] & 0x1F == 0x1F:
         while place < len(data) and data[place] & 0x80:
@@ -136,7 +136,7 @@ def parts_of_algorithm(members: list[asn1.TLV]) -> ObjectIdentifier:
 
 
 def number(bits: int) -> Callable[[bytes], bytes]:
-    """The reader of a number that isn't negative and has at most so many bits."""
+    """The reader of a number that isn't negative and has at most this many bits."""
 
     def read(data: bytes) -> bytes:
         value = asn1.decode_der(int, data)
@@ -229,7 +229,7 @@ def read_certificate(data: bytes) -> str:
 
 
 def answer_to(line: str) -> str:
-    """The answer to a line."""
+    """The result of a line."""
     _, word, digits = line.rstrip("\n").split(" ")
     data = bytes.fromhex(digits)
     try:
@@ -242,7 +242,7 @@ def answer_to(line: str) -> str:
 
 
 def main() -> None:
-    """Answers each line of standard input."""
+    """Prints the result of each line of standard input."""
     for line in sys.stdin:
         print(answer_to(line))
 

@@ -1,4 +1,4 @@
-"""Compares the answers, and says by which rule they differ."""
+"""Compares the results, and says by which rule they differ."""
 from collections.abc import Iterable
 from dataclasses import dataclass
 
@@ -11,7 +11,7 @@ UNCLASSIFIED = ("unclassified",)
 
 
 def verdict_of(answer: Answer, wanted: str) -> str:
-    """What a program made of a line, where this value is wanted."""
+    """The verdict of a program on a line, if this value is wanted."""
     if not answer.is_read:
         return "refuses"
     return "reads" if answer.value == wanted else "other value"
@@ -19,13 +19,13 @@ def verdict_of(answer: Answer, wanted: str) -> str:
 
 @dataclass(frozen=True)
 class Compared:
-    """A line, with what each program answered."""
+    """A line, with what each program printed."""
 
     line: Line
     answers: dict[str, Answer]
 
     def verdicts(self) -> tuple[str, ...]:
-        """What each program made of the line. The value that is wanted is that of this repository's, where it reads one."""
+        """The verdict of each program on the line. The wanted value is the one that this repository's program reads, if it reads one."""
         own = self.answers[THIS]
         values = [it.value for it in self.answers.values() if it.is_read]
         wanted = own.value if own.is_read else next(iter(values), "")
@@ -83,7 +83,7 @@ class Difference:
         return f"| {self.title()} | {clauses} | {' | '.join(self.verdicts)} | {len(self.lines) - certificates} | {certificates} |"
 
     def example(self) -> str:
-        """The shortest line, with the answers to it."""
+        """The shortest line, with its results."""
         compared = min(self.lines, key=lambda it: (len(it.line.data), it.line.data))
         answers = "\n".join(f"    {it}: {shortened(str(compared.answers[it]))}" for it in PROGRAMS)
         return f"{self.title()} ({', '.join(self.verdicts)})\n  {shortened(compared.line.text())}\n{answers}"

@@ -45,11 +45,11 @@ from walk import (
     Walk,
 )
 
-# the universal types that OpenSSL takes for the value of an attribute: its strings, and those that it has no type for
+# the universal types that OpenSSL accepts as the value of an attribute: its strings, and the types that it doesn't know
 STRINGS = {BIT_STRING, UTF8_STRING, SEQUENCE, NUMERIC_STRING, PRINTABLE_STRING, T61_STRING, IA5_STRING, UNIVERSAL_STRING, BMP_STRING}
 UNKNOWN = {7, 8, 9, 11, 13, 14, 15, 29}
 
-# the strings whose text OpenSSL turns into UTF-8 where it reads a name
+# the strings whose text OpenSSL converts to UTF-8 when it reads a name
 ENCODINGS = {UTF8_STRING: "utf-8", BMP_STRING: "utf-16-be", UNIVERSAL_STRING: "utf-32-be"}
 
 
@@ -179,7 +179,7 @@ def extensions(walk: Walk, header: Header) -> None:
 
 
 def signed(walk: Walk, header: Header) -> None:
-    """What is signed of a certificate."""
+    """The signed part of a certificate."""
     members = sequence(walk, header)
     written_version = explicit(walk, members, 0)
     if written_version is not None:
@@ -229,7 +229,7 @@ TYPES: dict[str, Callable[[Walk, Header], object]] = {
 
 
 def broken_rules(word: str, data: bytes) -> set[str] | None:
-    """The rules that the bytes of a line break, or nothing where no reader could make a value of them."""
+    """The rules that the bytes of a line break, or nothing if no reader could make a value of them."""
     walk = Walk(data)
     try:
         TYPES[word](walk, walk.header(0, len(data)))

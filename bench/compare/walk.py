@@ -44,7 +44,7 @@ class Walk:
             self.found.add(rule)
 
     def require(self, holds: bool) -> None:
-        """Gives up where this doesn't hold."""
+        """Gives up if this doesn't hold."""
         if not holds:
             raise Broken
 

@@ -1,4 +1,4 @@
-//! What the library takes of the kit's crate `arrayvec`, of items that are copied.
+//! The part of the kit's crate `arrayvec` that the library uses, for items that are copied.
 use std::ops::{Deref, DerefMut};
 
 pub struct ArrayVec<T, const N: usize> {

@@ -1,4 +1,4 @@
-//! Writes or reads each line of hexadecimal digits of standard input so often.
+//! Writes or reads each line of hexadecimal digits of standard input many times.
 //!
 //!     twin struct|structs|list|set|certificate write|read TIMES < ENCODINGS
 //!

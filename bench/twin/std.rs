@@ -1,4 +1,4 @@
-//! What the library takes of Rattle's std, over Rust's.
+//! The part of Rattle's std that the library uses, written with Rust's.
 
 pub mod alloc {
     #[derive(Debug, Clone, Copy, PartialEq, Eq)]
