@@ -154,6 +154,11 @@ mod vector {
         }
 
         #[inline(always)]
+        pub fn reserve_exact(&mut self, more: usize) -> Result<(), AllocError> {
+            self.0.try_reserve_exact(more).map_err(|_| AllocError)
+        }
+
+        #[inline(always)]
         pub fn reserve(&mut self, more: usize) -> Result<(), AllocError> {
             self.0.try_reserve(more).map_err(|_| AllocError)
         }
