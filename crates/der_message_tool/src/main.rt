@@ -50,14 +50,14 @@ fn command<'a>(alloc: Global) -> Result<Command<'a>, AllocError> {
         .help("A file of blocks of PEM, or - for standard input");
     let pem = Command::new(alloc, "pem")
         .about("Reads blocks of PEM, and prints a line for each")
-        .after_help(
-            "Exit status: 0 if all are read, 1 if one isn't, 2 if an input can't be read.",
-        )
+        .after_help("Exit status: 0 if all are read, 1 if one isn't, 2 if an input can't be read.")
         .arg(files)?;
     Command::new(alloc, "der_message_tool")
         .version("0.1.0")
         .about("Reads messages that lines of standard input ask for, as `read cms HEX`")
-        .after_help("Words of lines: certificate, cms, crl, csr, krb, ocsp, pkcs8, ticket.\nExit status: 0, or 2 if the input or the output failed.")
+        .after_help(
+            "Words of lines: certificate, cms, crl, csr, krb, ocsp, pkcs8, ticket.\nExit status: 0, or 2 if the input or the output failed.",
+        )
         .subcommand(pem)
 }
 
