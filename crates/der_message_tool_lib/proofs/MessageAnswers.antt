@@ -13,12 +13,12 @@ use Rattle.der_tool_lib.specs.Value.{BeginsValue, mendable}
 use Rattle.der_message_tool_lib.specs.Described.{described}
 use Rattle.der_message_tool_lib.specs.Message.{AnswersAs, read, refused, read_line, refused_line}
 
-module _ {V : Type 0} {meaning : V → Tree} {s : Shape} {bytes answer : List ℕ} where
+module _ {V : Type 0} {meaning : V → Tree} {s : Shape} {bytes : List ℕ} where
   -- what was read can be written
   pub front_writable : {eq : V → V → Bool} {v : V} → IsFront meaning s eq bytes (length bytes) v → length bytes < 2 ^ 64 → IsWritable (meaning v)
   front_writable {v = v} front small = readable-writable (meaning v) front.reads.readable (omega (arith, front.reads.within, small))
 
-  pub answers_read : {eq : V → V → Bool} {v : V} → IsFront meaning s eq bytes (length bytes) v → answer ≡ read_line (der (meaning v)) → AnswersAs (described meaning s) bytes answer
+  pub answers_read : {eq : V → V → Bool} {v : V} {answer : List ℕ} → IsFront meaning s eq bytes (length bytes) v → answer ≡ read_line (der (meaning v)) → AnswersAs (described meaning s) bytes answer
   answers_read {v = v} front is = read v front.reads is
 
   -- bytes that begin a value are cut short
@@ -32,5 +32,5 @@ module _ {V : Type 0} {meaning : V → Tree} {s : Shape} {bytes answer : List �
     agrees = inr b.begins;
   }
 
-  pub answers_refused : {e : Asn1DerError} → HasNoFront meaning s bytes (length bytes) e → e ≢ OutOfMemory → answer ≡ refused_line e → AnswersAs (described meaning s) bytes answer
+  pub answers_refused : {e : Asn1DerError} {answer : List ℕ} → HasNoFront meaning s bytes (length bytes) e → e ≢ OutOfMemory → answer ≡ refused_line e → AnswersAs (described meaning s) bytes answer
   answers_refused {e} none kept is = refused e (none.none kept) ((none.no_fault, kept), λ b. none.final kept (mendable_by b)) is

@@ -1,5 +1,5 @@
 -- What is returned for bytes that are to be a message.
-use Rattle.std.specs.Prelude.{◌≡◌, ◌≢◌, ℕ, List, ◌++◌, length, codes, decimal}
+use Rattle.std.specs.Prelude.{◌≡◌, ◌≢◌, ℕ, List, ◌++◌, length, codes, decimal, Option, Some, None}
 use Rattle.hex.specs.Hex.{encode_lower}
 use Rattle.picky_der_core.specs.declared.error.Asn1DerError.{Asn1DerError}
 use Rattle.picky_der_core.specs.declared.error.Asn1DerError.TheVariants.{OutOfMemory}
@@ -21,11 +21,7 @@ pub data AnswersAs (d : Description) (bytes answer : List ℕ) : Type 0 where
   read : (v : d.Value) → StandsFirst d bytes v → answer ≡ read_line (der (d.meaning v)) → AnswersAs d bytes answer
   refused : (e : Asn1DerError) → ((v : d.Value) → StandsFirst d bytes v → ⊥) → IsErrorBy d bytes mendable e → answer ≡ refused_line e → AnswersAs d bytes answer
 
--- the bytes are the encoding of a value of the type
-abbrev pub IsMessage : Description → List ℕ → Type 0
-IsMessage d bytes = (v : d.Value) × IsEncodingOf d.meaning d.shape bytes v
-
--- they are none's, as was found at this position
-pub record IsNoMessage (d : Description) (bytes : List ℕ) (r : DecodeError) : Type 0 where
-  pub none : IsNoEncoding d.meaning d.shape bytes r.error r.position
-  pub memory : r.error ≢ OutOfMemory
+-- why the bytes aren't the encoding of a value of the type, and where that was found; or nothing, if they are
+pub data IsRefusalOf (d : Description) (bytes : List ℕ) (refusal : Option DecodeError) : Type 0 where
+  is_whole : (v : d.Value) → IsEncodingOf d.meaning d.shape bytes v → refusal ≡ None → IsRefusalOf d bytes refusal
+  is_refused : (r : DecodeError) → IsNoEncoding d.meaning d.shape bytes r.error r.position → r.error ≢ OutOfMemory → refusal ≡ Some r → IsRefusalOf d bytes refusal

@@ -1,10 +1,10 @@
 //! Messages, read from bytes.
-ghost use Rattle.std.specs.Prelude.{◌≡◌, ◌≢◌, ◌++◌, codes, decimal, IfOk, IfErr, MatchOption, string_bytes};
+ghost use Rattle.std.specs.Prelude.{◌≡◌, ◌≢◌, ◌++◌, codes, decimal, IfOk, IfErr, string_bytes};
 ghost use Rattle.hex.specs.Hex.{encode_lower};
 ghost use Rattle.picky_der_core.specs.Encoding.{der};
 ghost use Rattle.picky_der_core.specs.Readable.{IsWritable};
 ghost use Rattle.der_message_tool_lib.specs.Described.{described};
-ghost use Rattle.der_message_tool_lib.specs.Message.{AnswersAs, IsMessage, IsNoMessage, read_line, refused_line};
+ghost use Rattle.der_message_tool_lib.specs.Message.{AnswersAs, IsRefusalOf, read_line, refused_line};
 
 use crate::{Described, KerberosMessage, MessageType};
 use der_cms::ContentInfo;
@@ -70,8 +70,8 @@ fn read_text(alloc: Global, size: usize, digits: &str) -> Result<String>
 
 // The refusal with this error, unless an allocation failed.
 fn refused(alloc: Global, error: Asn1DerError) -> Result<String>
-    ensures ok { IfOk result (λ text. string_bytes text ≡ refused_line error) }
-    ensures reported { IfOk result (λ text. error ≢ Asn1DerError.OutOfMemory) }
+    ensures ok { IfOk result (λ text. (error ≢ Asn1DerError.OutOfMemory)
+        × (string_bytes text ≡ refused_line error)) }
     ensures err { IfErr result (λ e. e ≡ Asn1DerError.OutOfMemory) }
 {
     match error {
@@ -85,9 +85,8 @@ fn refused(alloc: Global, error: Asn1DerError) -> Result<String>
 
 /// Returns why bytes aren't exactly one message of this type, or `None` if they are. The only error is `OutOfMemory`.
 pub fn refusal_of(alloc: Global, named: MessageType, bytes: &[u8]) -> Result<Option<DecodeError>>
-    ensures ok { IfOk result (λ refusal. MatchOption refusal
-        (IsMessage (⟦<MessageType as Described>⟧.description named) bytes.now)
-        (IsNoMessage (⟦<MessageType as Described>⟧.description named) bytes.now)) }
+    ensures ok { IfOk result (IsRefusalOf (⟦<MessageType as Described>⟧.description named)
+        bytes.now) }
     ensures err { IfErr result (λ e. e ≡ Asn1DerError.OutOfMemory) }
 {
     match named {
@@ -103,9 +102,7 @@ pub fn refusal_of(alloc: Global, named: MessageType, bytes: &[u8]) -> Result<Opt
 }
 
 fn refusal_as<T: Deserialize>(alloc: Global, bytes: &[u8]) -> Result<Option<DecodeError>>
-    ensures ok { IfOk result (λ refusal. MatchOption refusal
-        (IsMessage (described T.meaning T.shape) bytes.now)
-        (IsNoMessage (described T.meaning T.shape) bytes.now)) }
+    ensures ok { IfOk result (IsRefusalOf (described T.meaning T.shape) bytes.now) }
     ensures err { IfErr result (λ e. e ≡ Asn1DerError.OutOfMemory) }
 {
     match from_der::<T>(alloc, bytes) {

@@ -91,7 +91,7 @@ loop-drawn-preserved g c =
             reads = drawn.no_fault ∙ i.reads;
             writes = rw w.output-is (done.no_fault ∙ i.writes);
             same_references = drawn.same_references ∙ i.same_references;
-            goes_on = rw w.output-is (search (rules, i.goes_on, done.goes_on));
+            goes_on = rw w.output-is (g.met.W.WriteExt.later_trans _ _ _ i.goes_on done.goes_on);
           }
       | else-byte-eq10+else-is_err w ↦
           let pushed : is_ok w.push.result ≡ true = w.is_err.ensures.negation ∙ ap not w.if-is_err.false in
