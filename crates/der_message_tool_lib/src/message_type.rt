@@ -1,5 +1,5 @@
 //! The types of messages that words and labels name.
-ghost use Rattle.std.specs.Prelude.{MatchOption};
+ghost use Rattle.std.specs.Prelude.{◌≡◌, ◌↔◌, IsTrue, MatchOption};
 ghost use Rattle.picky_der_core.specs.Equality.{IsKept};
 ghost use Rattle.der_message_tool_lib.specs.Label.{IsLabelOf};
 
@@ -74,13 +74,24 @@ pub fn type_of_label(label: &[u8]) -> Option<MessageType>
     ensures { MatchOption result ((type : MessageType) → IsLabelOf type label.now → ⊥)
         (λ type. IsLabelOf type label.now) }
 {
-    match label {
-        b"CERTIFICATE" => Some(MessageType::Certificate),
-        b"CERTIFICATE REQUEST" => Some(MessageType::Csr),
-        b"CMS" => Some(MessageType::Cms),
-        b"PKCS7" => Some(MessageType::Cms),
-        b"PRIVATE KEY" => Some(MessageType::Pkcs8),
-        b"X509 CRL" => Some(MessageType::Crl),
-        _ => None,
+    if is(label, b"CERTIFICATE") {
+        Some(MessageType::Certificate)
+    } else if is(label, b"X509 CRL") {
+        Some(MessageType::Crl)
+    } else if is(label, b"CERTIFICATE REQUEST") {
+        Some(MessageType::Csr)
+    } else if is(label, b"CMS") || is(label, b"PKCS7") {
+        Some(MessageType::Cms)
+    } else if is(label, b"PRIVATE KEY") {
+        Some(MessageType::Pkcs8)
+    } else {
+        None
     }
+}
+
+// Whether both have the same bytes.
+fn is(label: &[u8], other: &[u8]) -> bool
+    ensures { IsTrue result ↔ (label.now ≡ other.now) }
+{
+    label == other
 }
