@@ -56,7 +56,7 @@ fn command<'a>(alloc: Global) -> Result<Command<'a>, AllocError> {
         .version("0.1.0")
         .about("Reads messages that lines of standard input ask for, as `read cms HEX`")
         .after_help(
-            "Words of lines: certificate, cms, crl, csr, krb, ocsp, pkcs8, ticket.\nExit status: 0, or 2 if the input or the output failed.",
+            "Words: certificate, cms, crl, csr, krb, ocsp, pkcs8, ticket.\nExit status: 0, or 2 if the input or the output failed.",
         )
         .subcommand(pem)
 }

@@ -9,7 +9,7 @@ use Rattle.picky_der_core.specs.ReadableLaws.{readable-writable}
 use Rattle.picky_der_core.specs.Reading.{Place, IsMendable}
 use Rattle.picky_der_core.specs.Shape.{Shape}
 use Rattle.picky_der_de.specs.Entry.{IsFront, HasNoFront, any_length}
-use Rattle.der_tool_lib.specs.Value.{BeginsValue, mendable}
+use Rattle.der_tool_lib.specs.Value.{BeginsValue}
 use Rattle.der_message_tool_lib.specs.Described.{described}
 use Rattle.der_message_tool_lib.specs.Message.{AnswersAs, read, refused, read_line, refused_line}
 

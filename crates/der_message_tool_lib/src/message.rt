@@ -1,6 +1,5 @@
 //! Messages, read from bytes.
 ghost use Rattle.std.specs.Prelude.{◌≡◌, ◌≢◌, ◌++◌, codes, decimal, IfOk, IfErr, string_bytes};
-ghost use Rattle.hex.specs.Hex.{encode_lower};
 ghost use Rattle.picky_der_core.specs.Encoding.{der};
 ghost use Rattle.picky_der_core.specs.Readable.{IsWritable};
 ghost use Rattle.der_message_tool_lib.specs.Described.{described};
