@@ -1,0 +1,4 @@
+pub mod FirstSpace
+pub mod MessageAnswers
+pub mod RunSteps
+pub mod RunStops

@@ -1,0 +1,7 @@
+pub mod Described
+pub mod Message
+pub mod Label
+pub mod Line
+pub mod Answer
+pub mod Text
+pub mod Run
