@@ -1,0 +1,37 @@
+//! The attribute `messageDigest` (RFC 5652, 11.2).
+ghost use Rattle.std.specs.Prelude.{◌≡◌, ◌≤◌, ◌↔◌, [], ◌∷◌, length, map, IsTrue, IfOk, IfErr};
+ghost use Rattle.der_cms_tool_lib.specs.Attributes.{is_message_digest, values_of, HasMessageDigest};
+
+use der_cms::{Attribute, values};
+use picky_asn1_der::asn1::Bytes;
+use picky_asn1_der::{Asn1DerError, Result, to_vec};
+use std::alloc::Global;
+
+// Whether exactly one of the attributes is a `messageDigest`, and this digest is its only value. The only error is `OutOfMemory`.
+pub fn has_message_digest(alloc: Global, attributes: &[Attribute], digest: &[u8]) -> Result<bool>
+    requires { length digest.now ≤ 64 }
+    ensures ok { IfOk result (λ has. IsTrue has ↔ HasMessageDigest attributes.now digest.now) }
+    ensures err { IfErr result (λ e. e ≡ Asn1DerError.OutOfMemory) }
+{
+    let value = to_vec(alloc, &Bytes(digest))?;
+    Ok(attributes.iter().filter(|a| is_message_digest(*a)).count() == 1
+        && attributes
+            .iter()
+            .any(|a| is_message_digest(a) && has_only_value(a, &value)))
+}
+
+fn is_message_digest(attribute: &Attribute) -> bool
+    ensures { result ≡ is_message_digest attribute.now }
+{
+    attribute.attr_type.is(values::ID_MESSAGE_DIGEST)
+}
+
+// Whether this element is the only value of the attribute.
+fn has_only_value(attribute: &Attribute, value: &[u8]) -> bool
+    ensures { IsTrue result ↔ (values_of attribute.now ≡ value.now ∷ []) }
+{
+    match attribute.attr_values.0.as_slice() {
+        [only] => only.0.as_slice() == value,
+        _ => false,
+    }
+}
