@@ -6,7 +6,7 @@ use clap::{Arg, ArgAction, ArgMatches, Command, Error};
 use der_cms_tool_lib::{
     Message, Outcome, examine, json_of_refusal, json_of_signer, line_of_refusal, line_of_signer,
 };
-use der_tool_text::{Line, blocks_of};
+use der_tool_text::{Block, Line, blocks_of};
 use std::alloc::{AllocError, Global};
 use std::fs;
 use std::io::{self, ErrorKind, Read};
@@ -132,17 +132,28 @@ fn print_file(rt: &HostRuntime, request: &Request, name: &str) -> io::Result<boo
         return print_message(rt, request, &name, &input);
     }
     let mut is_fine = true;
-    for (place, block) in blocks.iter().enumerate() {
-        let name = format!(in rt.alloc(); "{name}, block {}", place.saturating_add(1))?;
-        match &block.bytes {
-            Some(bytes) => is_fine &= print_message(rt, request, &name, bytes)?,
-            None => {
-                println!(rt; "{name}: the block has no end, or is no base64")?;
-                is_fine = false;
-            }
-        }
+    for (index, block) in blocks.iter().enumerate() {
+        let number = index.saturating_add(1);
+        let name = format!(in rt.alloc(); "{name}, block {number}")?;
+        is_fine &= print_block(rt, request, &name, block)?;
     }
     Ok(is_fine)
+}
+
+// Prints the lines for a block of PEM, and returns whether all is fine.
+fn print_block(
+    rt: &HostRuntime,
+    request: &Request,
+    name: &str,
+    block: &Block,
+) -> io::Result<bool> {
+    match &block.bytes {
+        Some(bytes) => print_message(rt, request, name, bytes),
+        None => {
+            print_refusal(rt, request, name, "the block has no end, or is no base64")?;
+            Ok(false)
+        }
+    }
 }
 
 // A name without control characters.
@@ -163,13 +174,10 @@ fn print_message(
         return Err(io::Error::from(ErrorKind::OutOfMemory));
     };
     match &outcome {
-        Outcome::Read(message) => print_signers(rt, request.is_json, name, message)?,
-        Outcome::Refused(refusal) if request.is_json => {
-            rt.println(json_of_refusal(rt.alloc(), name, bytes, refusal)?)?;
-        }
+        Outcome::Read(message) => print_signers(rt, request, name, message)?,
         Outcome::Refused(refusal) => {
-            let line = line_of_refusal(rt.alloc(), bytes, refusal)?;
-            println!(rt; "{name}: refused: {line}")?;
+            let reason = line_of_refusal(rt.alloc(), bytes, refusal)?;
+            print_refusal(rt, request, name, &reason)?;
         }
     }
     Ok(outcome.is_fine())
@@ -178,12 +186,12 @@ fn print_message(
 // Prints a line for each signer of a message.
 fn print_signers(
     rt: &HostRuntime,
-    is_json: bool,
+    request: &Request,
     name: &str,
     message: &Message,
 ) -> io::Result<()> {
     for (signer, report) in message.data.signer_infos.0.iter().zip(&message.reports) {
-        if is_json {
+        if request.is_json {
             rt.println(json_of_signer(rt.alloc(), name, signer, report)?)?;
         } else {
             let line = line_of_signer(rt.alloc(), signer, report)?;
@@ -191,4 +199,17 @@ fn print_signers(
         }
     }
     Ok(())
+}
+
+// Prints why a message is refused.
+fn print_refusal(
+    rt: &HostRuntime,
+    request: &Request,
+    name: &str,
+    reason: &str,
+) -> io::Result<()> {
+    if request.is_json {
+        return rt.println(json_of_refusal(rt.alloc(), name, reason)?);
+    }
+    println!(rt; "{name}: refused: {reason}")
 }

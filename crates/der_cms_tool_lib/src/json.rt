@@ -1,7 +1,7 @@
 //! Lines of JSON. The only error of each function is a failed allocation.
 
+use crate::Report;
 use crate::line::algorithm_name;
-use crate::{Refusal, Report, line_of_refusal};
 use der_cms::{SignerIdentifier, SignerInfo};
 use der_tool_text::Line;
 use der_x509_tool_lib::push_name;
@@ -51,13 +51,7 @@ fn who_of(alloc: Global, signer: &SignerIdentifier) -> Result<Value, AllocError>
     }
 }
 
-/// Returns the JSON object of a refusal of the message of this name, whose bytes these are, on one line.
-pub fn json_of_refusal(
-    alloc: Global,
-    message: &str,
-    bytes: &[u8],
-    refusal: &Refusal,
-) -> Result<String, AllocError> {
-    let error = line_of_refusal(alloc, bytes, refusal)?;
-    json!(in alloc; {"message": message, "error": error})?.to_string(alloc)
+/// Returns the JSON object that says why the message of this name is refused, on one line.
+pub fn json_of_refusal(alloc: Global, message: &str, reason: &str) -> Result<String, AllocError> {
+    json!(in alloc; {"message": message, "refused": reason})?.to_string(alloc)
 }
