@@ -1,5 +1,5 @@
 -- The signed attributes of a signer (RFC 5652, 5.3, 11.2).
-use Rattle.std.specs.Prelude.{◌≡◌, ℕ, Bool, List, [], ◌∷◌, map, nat_eq, Any, count_by}
+use Rattle.std.specs.Prelude.{◌≡◌, ℕ, Bool, true, List, [], ◌∷◌, map, nat_eq, All, count_by}
 use Rattle.std.specs.Cmp.Lexicographic.{pointwise}
 use Rattle.picky_der_core.specs.Primitive.{Primitive}
 use Rattle.picky_der_core.specs.Tree.{ListKind, Tree}
@@ -24,15 +24,14 @@ values_of a = map (λ v. v.0.items) a.attr_values.0.items
 abbrev pub octet_string : List ℕ → List ℕ
 octet_string octets = der (Tree.primitive (Primitive.bytes 0x04 octets))
 
--- it is a `messageDigest` whose only value is this digest
-pub record IsMessageDigestOf (digest : List ℕ) (a : Attribute) : Type 0 where
-  pub is : is_message_digest a ≡ true
-  pub value : values_of a ≡ octet_string digest ∷ []
+-- if it is a `messageDigest`, this element is its only value
+abbrev pub Agrees : List ℕ → Attribute → Type 0
+Agrees value a = is_message_digest a ≡ true → values_of a ≡ value ∷ []
 
 -- exactly one of the attributes is a `messageDigest`, and this digest is its only value
 pub record HasMessageDigest (attributes : List Attribute) (digest : List ℕ) : Type 0 where
   pub one : count_by is_message_digest attributes ≡ 1
-  pub value : Any (IsMessageDigestOf digest) attributes
+  pub only : All (Agrees (octet_string digest)) attributes
 
 -- the signed attributes as a SET OF, with the tag 31 (5.4)
 abbrev pub set_of : List Attribute → Tree

@@ -1,7 +1,7 @@
 //! What comes of reading bytes as a message.
 ghost use Rattle.std.specs.Prelude.{◌≡◌, ◌≢◌, ◌↔◌, IsTrue, IfOk, IfErr, All};
 ghost use Rattle.std.specs.Option.{option_copied};
-ghost use Rattle.der_cms_tool_lib.specs.Outcome.{IsSignedData, content_at_hand, IsMessage, IsContent, IsOutcome, IsFine};
+ghost use Rattle.der_cms_tool_lib.specs.Outcome.{IsSignedData, content_at_hand, AreReports, IsOutcome, IsFine};
 
 use crate::report::reports_of;
 use crate::{Comparison, Report};
@@ -56,7 +56,7 @@ impl Outcome {
 /// Reads bytes as a message with signed data, and reports on each signer. `detached` is the content of a message that has none of its own.
 /// The only error is `OutOfMemory`.
 pub fn examine(alloc: Global, bytes: &[u8], detached: Option<&[u8]>) -> Result<Outcome>
-    ensures ok { IfOk result (IsOutcome bytes.now (option_copied detached)) }
+    ensures ok { IfOk result (IsOutcome bytes.now (option_copied detached.entry)) }
     ensures err { IfErr result (λ e. e ≡ Asn1DerError.OutOfMemory) }
 {
     let message = match from_der::<ContentInfo>(alloc, bytes) {
@@ -93,7 +93,7 @@ fn reports_of_data(
     detached: Option<&[u8]>,
 ) -> Result<Vec<Report>>
     requires { IsSignedData bytes.now data.now }
-    ensures ok { IfOk result (AreReports (content_at_hand data.now (option_copied detached))
+    ensures ok { IfOk result (AreReports (content_at_hand data.now (option_copied detached.entry))
         data.now) }
     ensures err { IfErr result (λ e. e ≡ Asn1DerError.OutOfMemory) }
 {

@@ -30,7 +30,7 @@ pub fn reports_of(
     content: Option<&[u8]>,
 ) -> Result<Vec<Report>>
     requires { All IsWritableSigner signers.now }
-    ensures ok { IfOk result (λ reports. AllZip (IsReport (option_copied content)) signers.now
+    ensures ok { IfOk result (λ reports. AllZip (IsReport (option_copied content.entry)) signers.now
         reports.items) }
     ensures err { IfErr result (λ e. e ≡ Asn1DerError.OutOfMemory) }
 {
@@ -45,7 +45,7 @@ pub fn reports_of(
 // The report on a signer.
 fn report_of(alloc: Global, signer: &SignerInfo, content: Option<&[u8]>) -> Result<Report>
     requires { IsWritableSigner signer.now }
-    ensures ok { IfOk result (IsReport (option_copied content) signer.now) }
+    ensures ok { IfOk result (IsReport (option_copied content.entry) signer.now) }
     ensures err { IfErr result (λ e. e ≡ Asn1DerError.OutOfMemory) }
 {
     let algorithm = DigestAlgorithm::of(&signer.digest_algorithm.algorithm);
@@ -66,7 +66,7 @@ fn compare(
     content: Option<&[u8]>,
 ) -> Result<Comparison>
     ensures ok { IfOk result (IsComparison (attributes_of signer.now) algorithm
-        (option_copied content)) }
+        (option_copied content.entry)) }
     ensures err { IfErr result (λ e. e ≡ Asn1DerError.OutOfMemory) }
 {
     let Some(attributes) = &signer.signed_attrs else {
@@ -95,7 +95,7 @@ fn digest_signed(
 ) -> Result<Option<Vec<u8>>>
     requires { IsWritableSigner signer.now }
     ensures ok { IfOk result (λ digest. option_map (λ d. d.items) digest
-        ≡ signed_digest (attributes_of signer.now) algorithm (option_copied content)) }
+        ≡ signed_digest (attributes_of signer.now) algorithm (option_copied content.entry)) }
     ensures err { IfErr result (λ e. e ≡ Asn1DerError.OutOfMemory) }
 {
     let Some(algorithm) = algorithm else {
