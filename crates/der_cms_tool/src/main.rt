@@ -141,12 +141,7 @@ fn print_file(rt: &HostRuntime, request: &Request, name: &str) -> io::Result<boo
 }
 
 // Prints the lines for a block of PEM, and returns whether all is fine.
-fn print_block(
-    rt: &HostRuntime,
-    request: &Request,
-    name: &str,
-    block: &Block,
-) -> io::Result<bool> {
+fn print_block(rt: &HostRuntime, request: &Request, name: &str, block: &Block) -> io::Result<bool> {
     match &block.bytes {
         Some(bytes) => print_message(rt, request, name, bytes),
         None => {
@@ -190,7 +185,13 @@ fn print_signers(
     name: &str,
     message: &Message,
 ) -> io::Result<()> {
-    for (signer, report) in message.data.signer_infos.0.iter().zip(&message.reports) {
+    for (signer, report) in message
+        .signed_data
+        .signer_infos
+        .0
+        .iter()
+        .zip(&message.reports)
+    {
         if request.is_json {
             rt.println(json_of_signer(rt.alloc(), name, signer, report)?)?;
         } else {
@@ -202,12 +203,7 @@ fn print_signers(
 }
 
 // Prints why a message is refused.
-fn print_refusal(
-    rt: &HostRuntime,
-    request: &Request,
-    name: &str,
-    reason: &str,
-) -> io::Result<()> {
+fn print_refusal(rt: &HostRuntime, request: &Request, name: &str, reason: &str) -> io::Result<()> {
     if request.is_json {
         return rt.println(json_of_refusal(rt.alloc(), name, reason)?);
     }

@@ -9,8 +9,7 @@ use Rattle.std.proofs.lemmas.List.{take_more}
 pub only_value : {X : Type 0} (f : X → List ℕ) (items : List X) (x : X) (value : List ℕ) (r : Bool) → 1 ≤ length items → length items < 2 → x ≡ get_or items 0 x → r ≡ pointwise nat_eq (f x) value → IsTrue r ↔ (map f items ≡ value ∷ [])
 only_value f [] x value r low high is e = absurd (omega arith)
 only_value f (y ∷ []) x value r low high is e =
-    let same : f y ≡ f x = ap f (sym is) in
-    (
+    let same : f y ≡ f x = ap f (sym is) in (
       λ t. ap (λ v. v ∷ []) (same ∙ (bytes_decides (f x) value).0 (sym e ∙ t)),
       λ h. e ∙ (bytes_decides (f x) value).1 (sym same ∙ ap (λ l. get_or l 0 []) h),
     )

@@ -68,9 +68,9 @@ AreReports content d reports = AllZip (IsReport content) d.signer_infos.0.items 
 pub record IsMessage (bytes : List ℕ) (given : Option (List ℕ)) (m : Message) : Type 0 where
   pub message : ContentInfo
   pub whole : IsContentInfo bytes message
-  pub type : content_of message.content_type ≡ signed_data_identifier
-  pub data : IsSignedData (content_bytes message) m.data
-  pub reports : AreReports (content_at_hand m.data given) m.data m.reports.items
+  pub kind : content_of message.content_type ≡ signed_data_identifier
+  pub signed : IsSignedData (content_bytes message) m.signed_data
+  pub reports : AreReports (content_at_hand m.signed_data given) m.signed_data m.reports.items
 
 -- the bytes are no message
 pub record IsOther (bytes : List ℕ) (r : DecodeError) : Type 0 where
@@ -78,17 +78,17 @@ pub record IsOther (bytes : List ℕ) (r : DecodeError) : Type 0 where
   pub memory : r.error ≢ OutOfMemory
 
 -- the bytes are a message whose content has this type, and not that of signed data
-pub record HasOtherContent (bytes : List ℕ) (type : ObjectIdentifier) : Type 0 where
+pub record HasOtherContent (bytes : List ℕ) (kind : ObjectIdentifier) : Type 0 where
   pub message : ContentInfo
   pub whole : IsContentInfo bytes message
-  pub type_is : message.content_type ≡ type
-  pub other : content_of type ≢ signed_data_identifier
+  pub same : message.content_type ≡ kind
+  pub other : content_of kind ≢ signed_data_identifier
 
 -- The bytes are a message whose content is none of signed data, though it has its type. The content is at the end of the message, and the position counts from the front.
 pub record HasNoSignedData (bytes : List ℕ) (r : DecodeError) : Type 0 where
   pub message : ContentInfo
   pub whole : IsContentInfo bytes message
-  pub type : content_of message.content_type ≡ signed_data_identifier
+  pub kind : content_of message.content_type ≡ signed_data_identifier
   pub position : ℕ
   pub refused : IsNoSignedData (content_bytes message) r position
   pub at : r.position ≡ (length bytes - length (content_bytes message)) + position
@@ -96,7 +96,7 @@ pub record HasNoSignedData (bytes : List ℕ) (r : DecodeError) : Type 0 where
 
 abbrev pub IsRefusal : List ℕ → Refusal → Type 0
 IsRefusal bytes (refusal.NoContentInfo r) = IsOther bytes r
-IsRefusal bytes (refusal.OtherContent type) = HasOtherContent bytes type
+IsRefusal bytes (refusal.OtherContent kind) = HasOtherContent bytes kind
 IsRefusal bytes (refusal.NoSignedData r) = HasNoSignedData bytes r
 
 abbrev pub IsOutcome : List ℕ → Option (List ℕ) → Outcome → Type 0

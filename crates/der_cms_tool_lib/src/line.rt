@@ -57,10 +57,7 @@ fn push_signer(
 }
 
 // The name of an algorithm, or its object identifier if it has no name here.
-pub fn algorithm_name(
-    alloc: Global,
-    identifier: &ObjectIdentifier,
-) -> Result<String, AllocError> {
+pub fn algorithm_name(alloc: Global, identifier: &ObjectIdentifier) -> Result<String, AllocError> {
     match name_of(identifier.content()) {
         Some(name) => String::from_str(alloc, name),
         None => format!(in alloc; "{identifier}"),
@@ -69,11 +66,7 @@ pub fn algorithm_name(
 
 /// Returns why bytes are refused, and where, as one line. If the bytes aren't DER, it also says which rule they break first. The only error
 /// is a failed allocation.
-pub fn line_of_refusal(
-    alloc: Global,
-    bytes: &[u8],
-    refusal: &Refusal,
-) -> Result<String, AllocError>
+pub fn line_of_refusal(alloc: Global, bytes: &[u8], refusal: &Refusal) -> Result<String, AllocError>
     ensures { IfOk result (λ line. IsOneLine (string_bytes line)) }
 {
     let mut line = Line::new(alloc);

@@ -13,7 +13,7 @@ use std::alloc::Global;
 #[derive(Debug, Drop)]
 pub struct Message {
     /// The signed data.
-    pub data: SignedData,
+    pub signed_data: SignedData,
     /// The report on each of its signers, in their order.
     pub reports: Vec<Report>,
 }
@@ -44,13 +44,19 @@ impl Outcome {
         ensures { IsTrue result ↔ IsFine self.now }
     {
         match self {
-            Outcome::Read(message) => message
-                .reports
-                .iter()
-                .all(|report| !matches!(report.comparison, Comparison::Different)),
+            Outcome::Read(message) => are_fine(&message.reports),
             Outcome::Refused(_) => false,
         }
     }
+}
+
+// Whether no comparison came out as different.
+fn are_fine(reports: &[Report]) -> bool
+    ensures { IsTrue result ↔ All (λ r. r.comparison ≢ Comparison.Different) reports.now }
+{
+    reports
+        .iter()
+        .all(|it| !matches!(it.comparison, Comparison::Different))
 }
 
 /// Reads bytes as a message with signed data, and reports on each signer. `detached` is the content of a message that has none of its own.
@@ -72,9 +78,12 @@ pub fn examine(alloc: Global, bytes: &[u8], detached: Option<&[u8]>) -> Result<O
     }
     let content = &message.content.0.0;
     match from_der::<SignedData>(alloc, content) {
-        Ok(data) => {
-            let reports = reports_of_data(alloc, content, &data, detached)?;
-            Ok(Outcome::Read(Message { data, reports }))
+        Ok(signed_data) => {
+            let reports = reports_of_data(alloc, content, &signed_data, detached)?;
+            Ok(Outcome::Read(Message {
+                signed_data,
+                reports,
+            }))
         }
         Err(refusal) => {
             let DecodeError { error, position } = reported(refusal)?;
@@ -89,19 +98,19 @@ pub fn examine(alloc: Global, bytes: &[u8], detached: Option<&[u8]>) -> Result<O
 fn reports_of_data(
     alloc: Global,
     bytes: &[u8],
-    data: &SignedData,
+    signed_data: &SignedData,
     detached: Option<&[u8]>,
 ) -> Result<Vec<Report>>
-    requires { IsSignedData bytes.now data.now }
-    ensures ok { IfOk result (AreReports (content_at_hand data.now (option_copied detached.entry))
-        data.now) }
+    requires { IsSignedData bytes.now signed_data.now }
+    ensures ok { IfOk result (AreReports (content_at_hand signed_data.now
+        (option_copied detached.entry)) signed_data.now) }
     ensures err { IfErr result (λ e. e ≡ Asn1DerError.OutOfMemory) }
 {
-    let content = match &data.encap_content_info.e_content {
+    let content = match &signed_data.encap_content_info.e_content {
         Some(content) => Some(content.0.0.as_slice()),
         None => detached,
     };
-    reports_of(alloc, &data.signer_infos.0, content)
+    reports_of(alloc, &signed_data.signer_infos.0, content)
 }
 
 // The error of the decoding, unless it is that an allocation failed.

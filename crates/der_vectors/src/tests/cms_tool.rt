@@ -35,7 +35,13 @@ fn a_signer_is_an_object(rt: HostRuntime) -> Result<(), Fail> {
     ] {
         let message = message_of(examine(alloc, &bytes, content)?).ok_or("refused")?;
         same!(rt; message.reports.len(), 1, word);
-        for (signer, report) in message.data.signer_infos.0.iter().zip(&message.reports) {
+        for (signer, report) in message
+            .signed_data
+            .signer_infos
+            .0
+            .iter()
+            .zip(&message.reports)
+        {
             let came = json_of_signer(alloc, "a\n", signer, report)?;
             let wanted = format!(in alloc;
                 "{{\"digestAlgorithm\":\"sha384\",\"message\":\"a\\n\",\"messageDigest\":\"{word}\",\
