@@ -1,5 +1,5 @@
 -- The signed attributes of signed data that was read can be written.
-use Rattle.std.proofs.Common.{◌≡◌, ℕ, ◌^◌, ◌<◌, List, length, ap, arith}
+use Rattle.std.proofs.Common.{◌≡◌, ℕ, ◌^◌, ◌<◌, List, length, get_or, ap, arith}
 use Rattle.std.specs.Prelude.{All}
 use Rattle.picky_der_core.specs.Tree.{ListKind}
 use Rattle.der_cms.specs.declared.signer_info.SignerInfo.{SignerInfo}
@@ -24,7 +24,7 @@ signers_writable d h k x inside =
     let members = list_short ListKind.sequence _ h in
     let after_content = rest _ _ (rest _ _ (rest _ _ members)) in
     let signers = first _ _ (maybe_rest _ d.crls _ (maybe_rest _ d.certificates _ after_content)) in
-    signer_writable _ (items_short signer.ghosts.meaning d.signer_infos.0.items (list_short ListKind.set _ signers) k x inside)
+    signer_writable (get_or d.signer_infos.0.items k x) (items_short signer.ghosts.meaning d.signer_infos.0.items (list_short ListKind.set _ signers) k x inside)
 
 pub read_signers : (bytes : List ℕ) (d : SignedData) → IsSignedData bytes d → length bytes < 2 ^ 64 → All IsWritableSigner d.signer_infos.0.items
 read_signers bytes d whole small =

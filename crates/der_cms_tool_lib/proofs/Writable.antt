@@ -4,9 +4,11 @@ use Rattle.std.specs.Prelude.{All, IfSome, option_map, ⊤}
 use Rattle.std.specs.List.{concat}
 use Rattle.picky_der_core.specs.declared.asn1.wrapper.Wrapper.TheVariants.{Retagged}
 use Rattle.picky_der_core.specs.Element.{tlv, length_octets}
+use Rattle.picky_der_core.specs.ElementLaws.{length-tlv}
+use Rattle.picky_der_core.specs.Primitive.{Primitive}
 use Rattle.picky_der_core.specs.Tree.{ListKind, Tree, Trees, trees}
 use Rattle.picky_der_core.specs.Encoding.{list_content, list_tag, tree_bytes, encodings, der, content}
-use Rattle.picky_der_core.specs.EncodingLaws.{der-plain, der-wrapped_present, implicit_content-plain, length-list_content}
+use Rattle.picky_der_core.specs.EncodingLaws.{der-plain, der-primitive, der-wrapped_present, implicit_content-plain, length-list_content}
 use Rattle.picky_der_core.specs.Readable.{IsReadable, AreReadable, IsWritable}
 use Rattle.picky_der_core.specs.ReadableLaws.{readable-writable}
 use Rattle.picky_der_ser.specs.Meaning.{maybe_more, list_meaning}
@@ -25,9 +27,9 @@ short-writable t h = readable-writable t h.readable h.short
 
 -- ---- members
 
-length-tlv : (tag : ℕ) (c : List ℕ) → length c ≤ length (tlv tag c)
+tlv_longer : (tag : ℕ) (c : List ℕ) → length c ≤ length (tlv tag c)
 unfolding tlv
-length-tlv tag c = omega (arith, length-append (length_octets (length c)) c)
+tlv_longer tag c = omega (arith, length-append (length_octets (length c)) c)
 
 same_length : (x y : ℕ) (c : List ℕ) → length (tlv x c) ≡ length (tlv y c)
 unfolding tlv
@@ -44,7 +46,7 @@ members_short (Trees.more t ts) r small =
 pub list_short : (kind : ListKind) (ts : Trees) → IsShort (Tree.list kind ts) → AreShort ts
 list_short kind ts h =
     let size = ap length (der-plain (Tree.list kind ts) refl) in
-    members_short ts h.readable.1 (omega (arith, h.short, size, length-tlv (list_tag kind) (list_content kind (encodings ts)), length-list_content kind (encodings ts)))
+    members_short ts h.readable.1 (omega (arith, h.short, size, tlv_longer (list_tag kind) (list_content kind (encodings ts)), length-list_content kind (encodings ts)))
 
 -- a list under a tag in place of its own
 pub retagged_short : (tag : ℕ) (kind : ListKind) (ts : Trees) → IsShort (Tree.wrapped (Retagged tag) (Tree.list kind ts)) → IsShort (Tree.list kind ts)
@@ -81,3 +83,11 @@ module _ {A : Type 0} (meaning : A → Tree) where
 pub some_mapped : {A B : Type 0} (f : A → B) (P : A → Type 0) (Q : B → Type 0) → ((x : A) → P x → Q (f x)) → (o : Option A) → IfSome o P → IfSome (option_map f o) Q
 some_mapped f P Q step None h = tt
 some_mapped f P Q step (Some x) h = step x h
+
+-- an OCTET STRING
+pub octets_writable : (s : List ℕ) → length s ≤ 64 → IsWritable (Tree.primitive (Primitive.bytes 0x04 s))
+octets_writable s small =
+    let size = ap length (der-primitive (Primitive.bytes 0x04 s)) in
+    let bound : length s < 2 ^ 64 = omega (arith, small) in
+    let most = length-tlv 0x04 s bound in
+    record { numbers = refl; fits = omega (arith, small, size, most) }

@@ -1,5 +1,5 @@
 -- What is computed of a signer (RFC 5652, 5.4).
-use Rattle.std.specs.Prelude.{◌≡◌, ℕ, ◌×◌, ◌⊎◌, ¬◌, List, Option, None, Some, IfSome, option_map}
+use Rattle.std.specs.Prelude.{◌≡◌, ℕ, ◌⊎◌, List, Option, None, Some, IfSome, option_map}
 use Rattle.picky_der_core.specs.Encoding.{der}
 use Rattle.picky_der_core.specs.Readable.{IsWritable}
 use Rattle.der_cms.specs.declared.attribute.Attribute.{Attribute}

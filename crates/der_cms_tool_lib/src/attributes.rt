@@ -2,9 +2,10 @@
 ghost use Rattle.std.specs.Prelude.{◌≡◌, ◌≤◌, ◌↔◌, [], ◌∷◌, length, All, IsTrue, IfOk, IfErr};
 ghost use Rattle.der_cms_tool_lib.specs.Attributes.{is_message_digest, values_of, Agrees, HasMessageDigest};
 
+use crate::encoding::encoding_of;
 use der_cms::{Attribute, values};
 use picky_asn1_der::asn1::Bytes;
-use picky_asn1_der::{Asn1DerError, Result, to_vec};
+use picky_asn1_der::{Asn1DerError, Result};
 use std::alloc::Global;
 
 // Whether exactly one of the attributes is a `messageDigest`, and this digest is its only value. The only error is `OutOfMemory`.
@@ -13,7 +14,7 @@ pub fn has_message_digest(alloc: Global, attributes: &[Attribute], digest: &[u8]
     ensures ok { IfOk result (λ has. IsTrue has ↔ HasMessageDigest attributes.now digest.now) }
     ensures err { IfErr result (λ e. e ≡ Asn1DerError.OutOfMemory) }
 {
-    let value = to_vec(alloc, &Bytes(digest))?;
+    let value = encoding_of(alloc, &Bytes(digest))?;
     let count = attributes.iter().filter(|a| is_message_digest(*a)).count();
     Ok(count == 1 && all_agree(attributes, &value))
 }

@@ -5,6 +5,7 @@
 mod attributes;
 mod comparison;
 mod digest;
+mod encoding;
 mod json;
 mod line;
 mod outcome;

@@ -1,7 +1,7 @@
 //! What comes of reading bytes as a message.
 ghost use Rattle.std.specs.Prelude.{◌≡◌, ◌≢◌, ◌↔◌, IsTrue, IfOk, IfErr, All};
 ghost use Rattle.std.specs.Option.{option_copied};
-ghost use Rattle.der_cms_tool_lib.specs.Outcome.{IsSignedData, content_at_hand, AreReports, IsOutcome, IsFine};
+ghost use Rattle.der_cms_tool_lib.specs.Outcome.{IsContentInfo, IsSignedData, content_at_hand, AreReports, IsOutcome, IsFine};
 
 use crate::report::reports_of;
 use crate::{Comparison, Report};
@@ -65,21 +65,37 @@ pub fn examine(alloc: Global, bytes: &[u8], detached: Option<&[u8]>) -> Result<O
     ensures ok { IfOk result (IsOutcome bytes.now (option_copied detached.entry)) }
     ensures err { IfErr result (λ e. e ≡ Asn1DerError.OutOfMemory) }
 {
-    let message = match from_der::<ContentInfo>(alloc, bytes) {
-        Ok(message) => message,
+    match from_der::<ContentInfo>(alloc, bytes) {
+        Ok(message) => examine_content(alloc, bytes, message, detached),
         Err(refusal) => {
             let refusal = reported(refusal)?;
-            return Ok(Outcome::Refused(Refusal::NoContentInfo(refusal)));
+            Ok(Outcome::Refused(Refusal::NoContentInfo(refusal)))
         }
-    };
-    if !message.content_type.is(values::ID_SIGNED_DATA) {
-        let ContentInfo { content_type, .. } = message;
+    }
+}
+
+// The outcome for the bytes of this message.
+fn examine_content(
+    alloc: Global,
+    bytes: &[u8],
+    message: ContentInfo,
+    detached: Option<&[u8]>,
+) -> Result<Outcome>
+    requires { IsContentInfo bytes.now message }
+    ensures ok { IfOk result (IsOutcome bytes.now (option_copied detached.entry)) }
+    ensures err { IfErr result (λ e. e ≡ Asn1DerError.OutOfMemory) }
+{
+    let ContentInfo {
+        content_type,
+        content,
+    } = message;
+    if !content_type.is(values::ID_SIGNED_DATA) {
         return Ok(Outcome::Refused(Refusal::OtherContent(content_type)));
     }
-    let content = &message.content.0.0;
-    match from_der::<SignedData>(alloc, content) {
+    let content = content.0.0;
+    match from_der::<SignedData>(alloc, &content) {
         Ok(signed_data) => {
-            let reports = reports_of_data(alloc, content, &signed_data, detached)?;
+            let reports = reports_of_data(alloc, &content, &signed_data, detached)?;
             Ok(Outcome::Read(Message {
                 signed_data,
                 reports,
@@ -102,8 +118,8 @@ fn reports_of_data(
     detached: Option<&[u8]>,
 ) -> Result<Vec<Report>>
     requires { IsSignedData bytes.now signed_data.now }
-    ensures ok { IfOk result (AreReports (content_at_hand signed_data.now
-        (option_copied detached.entry)) signed_data.now) }
+    ensures ok { IfOk result (λ reports. AreReports (content_at_hand signed_data.now
+        (option_copied detached.entry)) signed_data.now reports.items) }
     ensures err { IfErr result (λ e. e ≡ Asn1DerError.OutOfMemory) }
 {
     let content = match &signed_data.encap_content_info.e_content {

@@ -7,8 +7,9 @@ ghost use Rattle.der_cms_tool_lib.specs.Report.{IsWritableSigner, IsComparison, 
 use crate::DigestAlgorithm;
 use crate::attributes::has_message_digest;
 use crate::comparison::Comparison;
+use crate::encoding::encoding_of;
 use der_cms::SignerInfo;
-use picky_asn1_der::{Asn1DerError, Result, to_vec};
+use picky_asn1_der::{Asn1DerError, Result};
 use std::alloc::Global;
 
 /// What is computed of a signer.
@@ -102,7 +103,7 @@ fn digest_signed(
         return Ok(None);
     };
     if let Some(attributes) = &signer.signed_attrs {
-        let bytes = to_vec(alloc, &attributes.0)?;
+        let bytes = encoding_of(alloc, &attributes.0)?;
         return Ok(Some(algorithm.digest(alloc, &bytes)?));
     }
     let Some(content) = content else {
