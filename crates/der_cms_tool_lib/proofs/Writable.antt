@@ -1,5 +1,5 @@
 -- Parts of what was read can be written.
-use Rattle.std.proofs.Common.{◌≡◌, true, ℕ, zero, suc, ◌+◌, ◌^◌, ◌<◌, ◌≤◌, List, [], ◌∷◌, ◌++◌, length, map, get_or, Option, Some, None, refl, sym, ap, ◌∙◌, arith, length-append}
+use Rattle.std.proofs.Common.{◌≡◌, true, ℕ, zero, suc, ◌^◌, ◌<◌, ◌≤◌, List, [], ◌∷◌, length, map, Option, Some, None, refl, ap, ◌∙◌, arith, length-append}
 use Rattle.std.specs.Prelude.{All, IfSome, option_map, ⊤}
 use Rattle.std.specs.List.{concat}
 use Rattle.picky_der_core.specs.declared.asn1.wrapper.Wrapper.TheVariants.{Retagged}
@@ -11,7 +11,7 @@ use Rattle.picky_der_core.specs.Encoding.{list_content, list_tag, tree_bytes, en
 use Rattle.picky_der_core.specs.EncodingLaws.{der-plain, der-primitive, der-wrapped_present, implicit_content-plain, length-list_content}
 use Rattle.picky_der_core.specs.Readable.{IsReadable, AreReadable, IsWritable}
 use Rattle.picky_der_core.specs.ReadableLaws.{readable-writable}
-use Rattle.picky_der_ser.specs.Meaning.{maybe_more, list_meaning}
+use Rattle.picky_der_ser.specs.Meaning.{maybe_more}
 
 -- it is read back, and its encoding isn't too long
 pub record IsShort (t : Tree) : Type 0 where

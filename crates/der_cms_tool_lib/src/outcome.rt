@@ -61,6 +61,8 @@ fn are_fine(reports: &[Report]) -> bool
 
 /// Reads bytes as a message with signed data, and reports on each signer. `detached` is the content of a message that has none of its own.
 /// The only error is `OutOfMemory`.
+///
+/// Bytes that aren't DER are refused, and so is a message whose signed attributes are out of order (X.690, 11.6).
 pub fn examine(alloc: Global, bytes: &[u8], detached: Option<&[u8]>) -> Result<Outcome>
     ensures ok { IfOk result (IsOutcome bytes.now (option_copied detached.entry)) }
     ensures err { IfErr result (λ e. e ≡ Asn1DerError.OutOfMemory) }
