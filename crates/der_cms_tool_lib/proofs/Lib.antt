@@ -1,0 +1,3 @@
+mod Writable
+mod Values
+mod Signers

@@ -1,0 +1,4 @@
+pub mod Digest
+pub mod Attributes
+pub mod Report
+pub mod Outcome
