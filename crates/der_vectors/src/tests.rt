@@ -9,7 +9,6 @@ macro_rules! same {
 }
 
 mod checks;
-mod cms_tool;
 mod contents;
 mod device_labels;
 mod entry_calls;
