@@ -181,6 +181,28 @@ def serialize_impl(declared):
     ]
 
 
+def answers_path(declared):
+    """The path of the proof of `serialize`."""
+    return f"proofs/{file_stem(declared.name)}/{declared.name}Serialize/serialize/Answers.antt"
+
+
+def serialize_answers(declared, crate):
+    """The lines of the proof of `serialize`, by alternative: what a call of `serialize_choice` ensures is what the choice owes.
+
+    The prover finds such a proof by itself for most alternatives, but not for each struct of structs. It names the first call
+    `serialize_choice`, and each other one by its alternative. With one alternative there is nothing to write.
+    """
+    if len(declared.variants) == 1:
+        return []
+    lines = [f"use Rattle.{crate}.proofs.{file_stem(declared.name)}.{declared.name}Serialize.serialize.Goals as goal"]
+    for index, it in enumerate(declared.variants):
+        call = f"serialize_choice-in-{it.name}" if index else "serialize_choice"
+        for clause in ("wrote", "failed"):
+            name = f"returns-in-{it.name}-clause-{clause}"
+            lines += ["", f"pub {name} : goal.{name}", f"{name} g c = rw c.in-{it.name}.is c.{call}.ensures.{clause}"]
+    return lines
+
+
 def deserialize_impl(declared):
     """The implementation of `Deserialize`."""
     known = "known_choice ⟦<Parts as Alternatives>⟧.known refl ⟦<Self as Choice>⟧.parts ⟦<Self as PartialEq>⟧.eq"

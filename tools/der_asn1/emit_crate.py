@@ -4,7 +4,7 @@ from dataclasses import dataclass, field
 
 from . import tree
 from .declarations import AliasDeclaration, ChoiceDeclaration, EnumDeclaration, NewtypeDeclaration, StructDeclaration
-from .emit_choice import choice_file
+from .emit_choice import answers_path, choice_file, serialize_answers
 from .emit_enum import enum_file, enum_terms
 from .emit_imports import imports, words_of
 from .emit_newtype import newtype_file
@@ -69,6 +69,7 @@ class Crate:
                 found[f"src/{file_stem(it.name)}.rt"] = struct_file(it, homes)
             elif isinstance(it, ChoiceDeclaration):
                 found[f"src/{file_stem(it.name)}.rt"] = choice_file(it, homes, self.name)
+                found[answers_path(it)] = serialize_answers(it, self.name)
             elif isinstance(it, EnumDeclaration):
                 found[f"src/{file_stem(it.name)}.rt"] = enum_file(it, self.name)
                 found[f"specs/{it.name}.antt"] = enum_terms(it, self.name)
@@ -83,7 +84,7 @@ class Crate:
             found["specs/Lib.antt"] = [f"pub mod {it}" for it in sorted(terms)]
         if self.values:
             found["src/values.rt"] = value_file(self.values)
-        return {path: "\n".join(lines) + "\n" for path, lines in sorted(found.items())}
+        return {path: "\n".join(lines) + "\n" for path, lines in sorted(found.items()) if lines}
 
     def homes(self):
         """The crate of each type, by its name, and of the defaults of enumerations: `crate` for this one."""
