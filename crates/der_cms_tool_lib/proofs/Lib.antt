@@ -1,3 +1,4 @@
+pub mod ComparisonLine
 mod Writable
 mod Values
 mod Signers

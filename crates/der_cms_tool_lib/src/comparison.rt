@@ -1,4 +1,6 @@
 //! Outcomes of a comparison.
+ghost use Rattle.std.specs.Prelude.{◌≡◌};
+ghost use Rattle.der_cms_tool_lib.specs.Comparison.{word_for};
 
 /// Whether the attribute `messageDigest` of a signer is the digest of the content (RFC 5652, 5.4 and 11.2).
 #[derive(Debug, Clone, Copy)]
@@ -17,7 +19,9 @@ pub enum Comparison {
 
 impl Comparison {
     /// Returns the word for it: `yes`, `no`, `absent`, `unknown` or `detached`.
-    pub fn word(self) -> &'static str {
+    pub fn word(self) -> &'static str
+        ensures { result.now ≡ word_for self }
+    {
         match self {
             Comparison::Same => "yes",
             Comparison::Different => "no",

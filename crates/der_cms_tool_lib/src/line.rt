@@ -1,6 +1,8 @@
 //! Lines of text.
-ghost use Rattle.std.specs.Prelude.{IfOk, string_bytes};
+ghost use Rattle.std.specs.Prelude.{◌≡◌, IfOk, string_bytes};
+ghost use Rattle.hex.specs.Hex.{encode_lower};
 ghost use Rattle.der_tool_text.specs.Line.{IsOneLine};
+ghost use Rattle.der_cms_tool_lib.specs.Line.{comparison_text, EndsWith};
 
 use crate::{Refusal, Report};
 use der_cms::{SignerIdentifier, SignerInfo};
@@ -18,22 +20,48 @@ pub fn line_of_signer(
     signer: &SignerInfo,
     report: &Report,
 ) -> Result<String, AllocError>
+    ensures one_line { IfOk result (λ line. IsOneLine (string_bytes line)) }
+    ensures end { IfOk result (λ line. EndsWith (comparison_text report.now) (string_bytes line)) }
+{
+    let end = comparison_of(alloc, report)?;
+    let mut line = description_of(alloc, signer)?;
+    line.push_str(&end)?;
+    Ok(line)
+}
+
+// Who a signer is, and its algorithms.
+fn description_of(alloc: Global, signer: &SignerInfo) -> Result<String, AllocError>
     ensures { IfOk result (λ line. IsOneLine (string_bytes line)) }
 {
     let mut line = Line::new(alloc);
     push_signer(alloc, &mut line, &signer.sid)?;
     let digest = algorithm_name(alloc, &signer.digest_algorithm.algorithm)?;
     let signature = algorithm_name(alloc, &signer.signature_algorithm.algorithm)?;
-    let word = report.comparison.word();
-    write!(
-        line,
-        "; digest {digest}; signature {signature}; messageDigest {word}; signed "
-    )?;
-    match &report.signed_digest {
-        Some(signed) => line.push_str(&hex::encode(alloc, signed.as_slice())?)?,
-        None => line.push('-')?,
-    }
+    write!(line, "; digest {digest}; signature {signature}")?;
     Ok(line.into_string())
+}
+
+// The comparison of the digest of a signer's content, and the digest of what it signed.
+fn comparison_of(alloc: Global, report: &Report) -> Result<String, AllocError>
+    ensures text { IfOk result (λ text. string_bytes text ≡ comparison_text report.now) }
+    ensures one_line { IfOk result (λ text. IsOneLine (string_bytes text)) }
+{
+    let word = report.comparison.word();
+    match &report.signed_digest {
+        Some(signed) => {
+            let signed = hexadecimal(alloc, signed.as_slice())?;
+            Ok(format!(in alloc; "; messageDigest {word}; signed {signed}")?)
+        }
+        None => format!(in alloc; "; messageDigest {word}; signed -"),
+    }
+}
+
+// These bytes in lower case hexadecimal.
+fn hexadecimal(alloc: Global, bytes: &[u8]) -> Result<String, AllocError>
+    ensures text { IfOk result (λ text. string_bytes text ≡ encode_lower bytes.now) }
+    ensures one_line { IfOk result (λ text. IsOneLine (string_bytes text)) }
+{
+    Ok(hex::encode(alloc, bytes)?)
 }
 
 // Appends the issuer and the serial number, or the key identifier.
