@@ -6,10 +6,10 @@ use clap::{Arg, ArgAction, ArgMatches, Command, Error};
 use der_cms_tool_lib::{
     Message, Outcome, examine, json_of_refusal, json_of_signer, line_of_refusal, line_of_signer,
 };
+use der_tool_io::read_input;
 use der_tool_text::{Block, Line, blocks_of};
 use std::alloc::{AllocError, Global};
-use std::fs;
-use std::io::{self, ErrorKind, Read};
+use std::io::{self, ErrorKind};
 use std::process::ExitCode;
 
 // A message was refused, or a digest differs.
@@ -109,16 +109,6 @@ fn request_of(rt: &HostRuntime, matches: &ArgMatches) -> io::Result<Request> {
     };
     let is_json = matches.get_flag("json");
     Ok(Request { is_json, detached })
-}
-
-// Reads all bytes of a file, or of standard input.
-fn read_input(rt: &HostRuntime, name: &str) -> io::Result<Vec<u8>> {
-    if name == "-" {
-        let mut input = Vec::new(rt.alloc());
-        rt.reader().read_to_end(&mut input)?;
-        return Ok(input);
-    }
-    fs::read(rt, name)
 }
 
 // Prints the lines for a file, or for each block of PEM in it, and returns whether all is fine.

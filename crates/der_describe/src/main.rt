@@ -3,10 +3,10 @@
 
 use clap::{Arg, ArgAction, Command, Error};
 use der_describe_lib::describe;
+use der_tool_io::read_input;
 use der_tool_text::{Block, Line, blocks_of};
 use std::alloc::{AllocError, Global};
-use std::fs;
-use std::io::{self, ErrorKind, Read};
+use std::io::{self, ErrorKind};
 use std::process::ExitCode;
 
 // Some input isn't DER.
@@ -91,16 +91,6 @@ fn describe_file(rt: &HostRuntime, name: &str) -> io::Result<bool> {
         is_der &= describe_block(rt, block)?;
     }
     Ok(is_der)
-}
-
-// Reads all bytes of a file, or of standard input.
-fn read_input(rt: &HostRuntime, name: &str) -> io::Result<Vec<u8>> {
-    if name == "-" {
-        let mut input = Vec::new(rt.alloc());
-        rt.reader().read_to_end(&mut input)?;
-        return Ok(input);
-    }
-    fs::read(rt, name)
 }
 
 // Lists a block of PEM, after a line with its label.

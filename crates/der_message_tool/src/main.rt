@@ -3,12 +3,12 @@
 
 use clap::{Arg, ArgAction, Command, Error};
 use der_message_tool_lib::{refusal_of, run, type_of_label};
+use der_tool_io::{read_input, standard_input};
 use der_tool_lib::kind_word;
 use der_tool_text::{Block, Line, blocks_of, push_text_or_bytes};
 use picky_asn1_der::misc::Watched;
 use std::alloc::{AllocError, Global};
-use std::fs;
-use std::io::{self, BufReader, ErrorKind, Read};
+use std::io::{self, BufReader, ErrorKind};
 use std::process::ExitCode;
 
 // A block of PEM wasn't read.
@@ -73,7 +73,7 @@ fn report(rt: &HostRuntime, error: &Error) -> io::Result<ExitCode> {
 
 // Answers the lines of standard input.
 fn answer_lines(rt: &HostRuntime) -> io::Result<ExitCode> {
-    let mut input = Watched::new(BufReader::new(rt.alloc(), rt.reader())?);
+    let mut input = Watched::new(BufReader::new(rt.alloc(), standard_input(rt))?);
     let mut output = Watched::new(io::writer(rt));
     if let Err(error) = run(rt.alloc(), &mut input, &mut output) {
         eprintln!(rt; "der_message_tool: {}", kind_word(error))?;
@@ -103,7 +103,7 @@ fn read_files(rt: &HostRuntime, names: &[&str]) -> io::Result<ExitCode> {
 
 // Reads the blocks of a file, and returns whether it has some and all are read.
 fn read_file(rt: &HostRuntime, name: &str) -> io::Result<bool> {
-    let blocks = match blocks_of(rt.alloc(), &input_of(rt, name)?) {
+    let blocks = match blocks_of(rt.alloc(), &read_input(rt, name)?) {
         Ok(blocks) => blocks,
         Err(_) => return Err(io::Error::from(ErrorKind::OutOfMemory)),
     };
@@ -116,16 +116,6 @@ fn read_file(rt: &HostRuntime, name: &str) -> io::Result<bool> {
         are_read &= read_block(rt, block)?;
     }
     Ok(are_read)
-}
-
-// The bytes of a file, or of standard input.
-fn input_of(rt: &HostRuntime, name: &str) -> io::Result<Vec<u8>> {
-    if name == "-" {
-        let mut input = Vec::new(rt.alloc());
-        rt.reader().read_to_end(&mut input)?;
-        return Ok(input);
-    }
-    fs::read(rt, name)
 }
 
 // Prints the line of a block, and returns whether its message is read.

@@ -1,4 +1,2 @@
-pub mod FirstSpace
+pub mod WordsWithoutSpaces
 pub mod MessageAnswers
-pub mod RunSteps
-pub mod RunStops

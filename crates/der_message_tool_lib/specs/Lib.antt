@@ -3,5 +3,3 @@ pub mod Message
 pub mod Label
 pub mod Line
 pub mod Answer
-pub mod Text
-pub mod Run

@@ -1,10 +1,10 @@
 //! What a line asks for.
 ghost use Rattle.std.specs.Prelude.{◌≡◌, ◌≢◌, ℕ, List, MatchOption};
-ghost use Rattle.der_tool_lib.specs.Line.{IsBehind};
 ghost use Rattle.der_message_tool_lib.specs.declared.message_type.MessageType.{MessageType};
 ghost use Rattle.der_message_tool_lib.specs.Line.{word_for, IsTyped, IsRead};
 
 use crate::MessageType;
+use der_tool_io::{after, first_word};
 
 /// Returns what a line asks for: a message of this type, from the bytes that these hexadecimal digits should be. It returns `None` if the
 /// line asks for nothing that is known. The line is without the byte that ends it.
@@ -15,17 +15,10 @@ pub fn request_of(line: &[u8]) -> Option<(MessageType, &[u8])>
         ((type : MessageType) (digits : List ℕ) → IsRead line.now type digits → ⊥)
         (λ asked. IsRead line.now asked.0 asked.1.now) }
 {
-    match behind(line, b"read ") {
+    match after(line, b"read ") {
         Some(words) => typed(words),
         None => None,
     }
-}
-
-// What follows a word, if the line begins with that word.
-fn behind<'a>(line: &'a [u8], word: &[u8]) -> Option<&'a [u8]>
-    ensures { IsBehind line.now word.now result }
-{
-    line.strip_prefix(word)
 }
 
 // The type that the first word names, and the digits after the space.
@@ -34,11 +27,11 @@ fn typed(words: &[u8]) -> Option<(MessageType, &[u8])>
         ((type : MessageType) (digits : List ℕ) → IsTyped words.now type digits → ⊥)
         (λ asked. IsTyped words.now asked.0 asked.1.now) }
 {
-    let Some(end) = words.iter().position(|byte| *byte == b' ') else {
+    let Some((word, digits)) = first_word(words) else {
         return None;
     };
-    match type_of(&words[..end]) {
-        Some(named) => Some((named, &words[end + 1..])),
+    match type_of(word) {
+        Some(named) => Some((named, digits)),
         None => None,
     }
 }

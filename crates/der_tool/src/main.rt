@@ -1,6 +1,7 @@
 //! Reads standard input line by line, and writes an answer to each line to standard output.
 #![tactic(auto)]
 
+use der_tool_io::standard_input;
 use der_tool_lib::{kind_word, run};
 use picky_der_core::Result;
 use picky_der_core::misc::Watched;
@@ -21,7 +22,7 @@ fn main(rt: HostRuntime) -> ExitCode {
 
 // Answers standard input on standard output.
 fn answer_input(rt: &HostRuntime) -> Result<()> {
-    let mut input = Watched::new(BufReader::new(rt.alloc(), rt.reader())?);
+    let mut input = Watched::new(BufReader::new(rt.alloc(), standard_input(rt))?);
     let mut output = Watched::new(io::writer(rt));
     run(rt.alloc(), &mut input, &mut output)
 }

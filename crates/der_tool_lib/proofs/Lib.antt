@@ -1,6 +1,4 @@
 pub mod AlgorithmIdentifierReads
 pub mod AlgorithmIdentifierWrites
-pub mod FirstSpace
+pub mod WordsWithoutSpaces
 pub mod NamedAnswers
-pub mod RunSteps
-pub mod RunStops

@@ -1,13 +1,12 @@
 -- What the reads of the types that lines name imply for the answers.
-use Rattle.std.proofs.Common.{◌≡◌, ◌≢◌, ℕ, ◌+◌, ◌-◌, ◌^◌, ◌<◌, ◌≤◌, false, List, [], ◌∷◌, ◌++◌, length, map, take, drop, codes, decimal, Option, Some, None, refl, sym, ◌∙◌, ap, subst, arith, append-nil}
+use Rattle.std.proofs.Common.{◌≡◌, ◌≢◌, ℕ, ◌+◌, ◌-◌, ◌^◌, ◌<◌, ◌≤◌, false, List, [], ◌++◌, length, take, drop, codes, decimal, Option, Some, None, refl, sym, ◌∙◌, ap, subst, arith, append-nil}
 use Rattle.std.proofs.lemmas.Grind.{common_steps}
-use Rattle.std.specs.Bool.{IsTrue}
 use Rattle.std.specs.Io.KnownBytes.{Consumes}
 use Rattle.hex.specs.Hex.{encode_lower}
 use Rattle.picky_der_core.specs.declared.error.Asn1DerError.{Asn1DerError}
 use Rattle.picky_der_core.specs.declared.error.Asn1DerError.TheVariants as error
 use Rattle.picky_der_core.specs.Element.{IsPrefix}
-use Rattle.picky_der_core.specs.Tree.{Tree, trees}
+use Rattle.picky_der_core.specs.Tree.{Tree}
 use Rattle.picky_der_core.specs.Encoding.{der}
 use Rattle.picky_der_core.specs.Readable.{IsWritable}
 use Rattle.picky_der_core.specs.ReadableLaws.{readable-writable}
@@ -17,8 +16,6 @@ use Rattle.picky_der_de.specs.State.{State, fresh}
 use Rattle.picky_der_de.specs.Steps.{IsJudged, IsOther, drawn_count}
 use Rattle.picky_der_de.specs.Reading.{Refuses, now, ever}
 use Rattle.der_tool_lib.specs.declared.value.ValueType.{ValueType}
-use Rattle.der_tool_lib.specs.declared.value.ValueType.TheVariants as named
-use Rattle.der_tool_lib.specs.AlgorithmIdentifier.{elements}
 use Rattle.der_tool_lib.specs.Words.{word_of}
 use Rattle.der_tool_lib.specs.Value.{RefusalRule, plain, element, mendable, Description, description_of, StandsFirst, BeginsValue, IsErrorBy, AnswersRead, read, refused}
 use Rattle.der_tool_lib.specs.Reads.{RefusesAs, ReadsNamed, RefusesNamed}

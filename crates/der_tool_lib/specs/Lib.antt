@@ -1,9 +1,6 @@
 pub mod Words
 pub mod Line
 pub mod Answer
-pub mod Text
-pub mod Run
-pub mod Laws
 pub mod Value
 pub mod Reads
 pub mod AlgorithmIdentifier

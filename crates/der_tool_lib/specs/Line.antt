@@ -1,6 +1,5 @@
 -- What a line asks for.
-use Rattle.std.specs.Prelude.{◌≡◌, ◌≢◌, ℕ, ◌^◌, ◌<◌, List, ◌++◌, codes, decimal, Option, MatchOption, Some, None}
-use Rattle.std.specs.Borrow.{Bor}
+use Rattle.std.specs.Prelude.{◌≡◌, ℕ, ◌^◌, ◌<◌, List, ◌++◌, codes, decimal, Option, Some, None}
 use Rattle.der_tool_lib.specs.declared.value.ValueType.{ValueType}
 use Rattle.der_tool_lib.specs.declared.value.ValueType.TheVariants as named
 use Rattle.der_tool_lib.specs.declared.line.Request.{Request}
@@ -14,10 +13,6 @@ IsNumber digits n = (n < 2 ^ 64) × (digits ≡ decimal n)
 abbrev pub IsNumberOf : List ℕ → Option ℕ → Type 0
 IsNumberOf digits (Some n) = IsNumber digits n
 IsNumberOf digits None = (n : ℕ) → IsNumber digits n → ⊥
-
--- what follows a word, if the line begins with it
-abbrev pub IsBehind : List ℕ → List ℕ → Option (Bor (List ℕ)) → Type 0
-IsBehind line word rest = MatchOption rest ((other : List ℕ) → line ≢ word ++ other) (λ r. line ≡ word ++ r.now)
 
 -- the word for a type
 abbrev pub word_for : ValueType → List ℕ

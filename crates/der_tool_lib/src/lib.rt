@@ -3,7 +3,6 @@
 
 mod algorithm_identifier;
 mod answer;
-pub mod laws;
 mod line;
 mod lines;
 mod subject_public_key_info;

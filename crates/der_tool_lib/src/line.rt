@@ -1,9 +1,10 @@
 //! What a line asks for.
 ghost use Rattle.std.specs.Prelude.{◌≡◌, ◌≢◌, MatchOption};
 ghost use Rattle.picky_der_core.specs.Equality.{IsKept};
-ghost use Rattle.der_tool_lib.specs.Line.{query_of, word_for, Asks, AsksTyped, IsBehind, IsNumberOf};
+ghost use Rattle.der_tool_lib.specs.Line.{query_of, word_for, Asks, AsksTyped, IsNumberOf};
 
 use crate::ValueType;
+use der_tool_io::{after, first_word};
 use itoa::Buffer;
 
 /// What a line asks for.
@@ -31,35 +32,28 @@ impl<'a> Request<'a> {
     pub fn of(line: &'a [u8]) -> Request<'a>
         ensures { Asks line.now (query_of result) }
     {
-        if let Some(digits) = behind(line, b"len ") {
+        if let Some(digits) = after(line, b"len ") {
             return match number(digits) {
                 Some(n) => Request::Len(n),
                 None => Request::Refused,
             };
         }
-        match behind(line, b"read ") {
+        match after(line, b"read ") {
             Some(words) => typed(words),
             None => Request::Refused,
         }
     }
 }
 
-// What follows a word, if the line begins with that word.
-fn behind<'a>(line: &'a [u8], word: &[u8]) -> Option<&'a [u8]>
-    ensures { IsBehind line.now word.now result }
-{
-    line.strip_prefix(word)
-}
-
 // The request of a type's word, a space and digits.
 fn typed(words: &[u8]) -> Request<'_>
     ensures { AsksTyped words.now (query_of result) }
 {
-    let Some(end) = words.iter().position(|byte| *byte == b' ') else {
+    let Some((word, digits)) = first_word(words) else {
         return Request::Refused;
     };
-    match type_of(&words[..end]) {
-        Some(value_type) => Request::Read(value_type, &words[end + 1..]),
+    match type_of(word) {
+        Some(value_type) => Request::Read(value_type, digits),
         None => Request::Refused,
     }
 }

@@ -1,30 +1,27 @@
 //! The lines of an input, one after another.
-ghost use Rattle.std.specs.Prelude.{◌≡◌, OnOk, IfErr};
+ghost use Rattle.std.specs.Prelude.{◌≡◌, IfOk, OnOk, IfErr, string_bytes};
 ghost use Rattle.std.specs.Io.KnownBytes.{IsAtEnd};
 ghost use Rattle.picky_der_core.specs.Reader.{TellsFault};
 ghost use Rattle.picky_der_core.specs.WriterFaults.{IsOnceAtMost};
-ghost use Rattle.der_tool_lib.specs.Run.{AnswersLine, Stops, StopsLine};
-ghost use Rattle.der_tool_lib.specs.Text.{WritesAnswers};
+ghost use Rattle.der_tool_io.specs.Run.{Stops};
+ghost use Rattle.der_tool_io.specs.Text.{WritesAnswers};
+ghost use Rattle.der_tool_lib.specs.Answer.{IsAnswerTo};
 
 use crate::answer_to;
+use der_tool_io::{Answers, answer_lines};
 use picky_der_core::misc::{ReadExt, WriteExt};
 use picky_der_core::{Asn1DerError, Result};
 use std::alloc::Global;
 
-// Writes the answer to a line, and the byte that ends it.
-fn answer_line<W: WriteExt>(alloc: Global, line: &[u8], output: &mut W) -> Result<()>
-    ensures ok { OnOk result (AnswersLine line.now (W.written output.old) (W.written output.new)) }
-    ensures err { IfErr result (StopsLine W.WriteExt.own line.now output.old output.new) }
-    ensures counted { IsOnceAtMost (W.faults output.old) (W.faults output.new) }
-    ensures no_fault { OnOk result (W.faults output.new ≡ W.faults output.old) }
-    ensures goes_on { W.later output.old output.new }
-{
-    let mut answer = answer_to(alloc, line)?;
-    if answer.push('\n').is_err() {
-        return Err(Asn1DerError::OutOfMemory);
+// The answers of this tool.
+struct Requested;
+
+impl Answers for Requested {
+    ghost is_answer = { IsAnswerTo };
+
+    fn answer_to(alloc: Global, line: &[u8]) -> Result<String> {
+        answer_to(alloc, line)
     }
-    output.write_exact(answer.as_bytes())?;
-    Ok(())
 }
 
 /// Writes one line of output for each line of the input, its answer.
@@ -35,10 +32,10 @@ fn answer_line<W: WriteExt>(alloc: Global, line: &[u8], output: &mut W) -> Resul
 /// `OutOfMemory` if an allocation failed, the error of the reader or the writer if it failed, and `UnsupportedValue` if the input hasn't
 /// ended after `u64::MAX` bytes.
 pub fn run<R: ReadExt, W: WriteExt>(alloc: Global, input: &mut R, output: &mut W) -> Result<()>
-    ensures text { OnOk result (WritesAnswers (R.remaining input.old) (W.written output.old)
+    ensures text { OnOk result (WritesAnswers IsAnswerTo (R.remaining input.old) (W.written output.old)
         (W.written output.new)) }
     ensures at_end { OnOk result (IsAtEnd (R.remaining input.new)) }
-    ensures stops { IfErr result (Stops W.WriteExt.own (R.remaining input.old)
+    ensures stops { IfErr result (Stops IsAnswerTo W.WriteExt.own (R.remaining input.old)
         (R.remaining input.new) (R.faults input.old) (R.faults input.new) output.old output.new) }
     ensures reads { IfErr result (TellsFault (R.faults input.old) (R.faults input.new)
         (R.remaining input.new)) }
@@ -48,20 +45,5 @@ pub fn run<R: ReadExt, W: WriteExt>(alloc: Global, input: &mut R, output: &mut W
     ensures same_references { R.references input.new ≡ R.references input.old }
     ensures goes_on { W.later output.old output.new }
 {
-    let mut line = Vec::new(alloc);
-    for _drawn in 0..u64::MAX {
-        let Some(byte) = input.read_next()? else {
-            if !line.is_empty() {
-                answer_line(alloc, &line, output)?;
-            }
-            return Ok(());
-        };
-        if byte == b'\n' {
-            answer_line(alloc, &line, output)?;
-            line.clear();
-        } else if line.push(byte).is_err() {
-            return Err(Asn1DerError::OutOfMemory);
-        }
-    }
-    Err(Asn1DerError::UnsupportedValue)
+    answer_lines::<Requested, R, W>(alloc, input, output)
 }

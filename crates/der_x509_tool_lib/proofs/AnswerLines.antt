@@ -3,8 +3,8 @@ use mathlib.Core.Bool.{true≢false}
 use Rattle.std.proofs.Common.{◌≡◌, ◌≢◌, ℕ, suc, ◌<◌, false, List, [], ◌∷◌, ◌++◌, length, get_or, append-nil, Option, Some, None, codes, sym, subst, arith, refl}
 use Rattle.std.specs.Char.{is_control}
 use Rattle.std.proofs.lemmas.Str.{NoCharPasses-byte}
-use Rattle.der_tool_lib.specs.Text.{IsLine, AreLines}
-use Rattle.der_tool_lib.proofs.RunSteps.{lines_push}
+use Rattle.der_tool_io.specs.Text.{IsLine, AreLines}
+use Rattle.der_tool_io.proofs.RunSteps.{lines_push}
 use Rattle.der_tool_text.specs.Line.{IsOneLine}
 use Rattle.der_tool_text.proofs.OneLine.{literal_line}
 use Rattle.der_x509_tool_lib.specs.Blocks.{Section, IsBlockLine, decoded, no_base64, no_end, AreAnswered, HasAnswers, answers_at_end}

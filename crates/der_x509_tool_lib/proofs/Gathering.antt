@@ -1,7 +1,7 @@
 -- Lines that are read one after another, and their answers.
 use Rattle.std.proofs.Common.{◌≡◌, ℕ, List, [], ◌∷◌, ◌++◌, Option, Some, None, refl, sym, ap, ◌∙◌, subst, append_assoc, append-nil}
 use Rattle.std.proofs.lemmas.Option.{none-some, same_Some}
-use Rattle.der_tool_lib.specs.Text.{text_of_lines}
+use Rattle.der_tool_io.specs.Text.{text_of_lines}
 use Rattle.der_x509_tool_lib.specs.Blocks.{IsTextLine, AreTextLines, without_outer_space, block_text, Section, lines_of, all_lines, IsBlockLine, IsOpenBlock, BeginInBlock, AreAnswered, IsWhole, AreWhole, HasOpenBlock, none, some, HasAnswers}
 use Rattle.der_x509_tool_lib.specs.Run.{TakesPemLine, stays_outside, begins, begins_again, goes_on, ends}
 

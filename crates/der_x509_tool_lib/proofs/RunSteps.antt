@@ -6,9 +6,9 @@ use Rattle.std.proofs.lemmas.Option.{none-some}
 use Rattle.std.specs.Io.KnownBytes.{Appends, Consumes, Keeps, IsAtEnd}
 use Rattle.std.proofs.KnownBytes.{Appends-nil, Appends-trans, Consumes-nil, Consumes-trans, Consumes-kept, Consumes-whole}
 use Rattle.picky_der_core.specs.Writer.{AppendsBeginning, beginning_after}
-use Rattle.der_tool_lib.specs.Text.{IsLine, AreLines, text_of_lines}
-use Rattle.der_tool_lib.specs.Run.{IsTooLong}
-use Rattle.der_tool_lib.proofs.RunSteps.{line_push, lines_push, text_of_lines-push, longer}
+use Rattle.der_tool_io.specs.Text.{IsLine, AreLines, text_of_lines}
+use Rattle.der_tool_io.specs.Run.{IsTooLong}
+use Rattle.der_tool_io.proofs.RunSteps.{line_push, lines_push, text_of_lines-push, longer}
 use Rattle.der_x509_tool_lib.specs.Blocks.{BeginsBlock, none, HasAnswers, answers_at_end, IsBlockLinesOf, WritesBlockLines}
 use Rattle.der_x509_tool_lib.specs.Run.{WritesSome, TakesPemLine, stays_outside, begins, begins_again, goes_on, ends, AnswersPemLine, AnswersEnd, text_in, WroteBlockLines, WroteAllButEnd, WroteSomeBlockLines, at_line, at_end}
 use Rattle.der_x509_tool_lib.proofs.Gathering.{text_of_lines-append, take_more}

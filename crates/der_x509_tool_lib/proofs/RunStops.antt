@@ -9,8 +9,8 @@ use Rattle.picky_der_core.specs.declared.misc.writer.WriteExt.{Ghosts}
 use Rattle.picky_der_core.specs.Error.{error_of_kind}
 use Rattle.picky_der_core.specs.Faults.{Fault}
 use Rattle.picky_der_core.specs.WriterFaults.{fails_since}
-use Rattle.der_tool_lib.specs.Text.{IsLine}
-use Rattle.der_tool_lib.specs.Run.{not_ended, just_ended}
+use Rattle.der_tool_io.specs.Text.{IsLine}
+use Rattle.der_tool_io.specs.Run.{not_ended, just_ended}
 use Rattle.der_x509_tool_lib.specs.Run.{StopsWriting, no_memory, no_sink, AnswersSomeLine, StopsAtEnd, within, behind, WroteBlockLines, StopsPem, memory, memory_at_end, reader, writer, too_long}
 use Rattle.der_x509_tool_lib.proofs.RunSteps.{RunsOnPem, draws, stands, line_begun, input_begun, all_but_end, too_many}
 

@@ -7,7 +7,7 @@ use Rattle.picky_der_core.specs.declared.error.Asn1DerError.{Asn1DerError}
 use Rattle.picky_der_core.specs.declared.misc.writer.WriteExt.{Ghosts}
 use Rattle.picky_der_core.specs.Writer.{beginning_front, beginning_after}
 use Rattle.picky_der_core.specs.WriterFaults.{WriterFails}
-use Rattle.der_tool_lib.specs.Text.{text_of_lines}
+use Rattle.der_tool_io.specs.Text.{text_of_lines}
 use Rattle.der_x509_tool_lib.specs.Blocks.{BeginsBlock, EndsBlock, IsTextLine, without_outer_space, IsBlockLine, no_end, answers_at_end}
 use Rattle.der_x509_tool_lib.specs.Run.{WritesSome, StopsWriting, no_memory, no_sink, AnswersBlock, TakesPemLine, begins_again, goes_on, ends, AnswersPemLine, AnswersSomeLine, AnswersEnd, text_in, StopsAtEnd, within, behind}
 use Rattle.der_x509_tool_lib.proofs.Gathering.{text_of_lines-append}

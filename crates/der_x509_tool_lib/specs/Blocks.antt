@@ -6,7 +6,7 @@ use Rattle.std.specs.List.{prefix_len, suffix_len}
 use Rattle.base64.specs.declared.DecodeError.{DecodeError}
 use Rattle.base64.specs.Engines.{standard}
 use Rattle.base64.specs.GeneralPurpose.{decode_of}
-use Rattle.der_tool_lib.specs.Text.{AreLines, text_of_lines}
+use Rattle.der_tool_io.specs.Text.{AreLines, text_of_lines}
 use Rattle.der_x509_tool_lib.specs.Answer.{IsLineOf}
 
 -- ---- lines

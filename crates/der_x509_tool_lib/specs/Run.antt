@@ -8,8 +8,8 @@ use Rattle.picky_der_core.specs.declared.misc.writer.WriteExt.{Ghosts}
 use Rattle.picky_der_core.specs.Faults.{Fault}
 use Rattle.picky_der_core.specs.Writer.{AppendsBeginning}
 use Rattle.picky_der_core.specs.WriterFaults.{WriterFails}
-use Rattle.der_tool_lib.specs.Text.{IsLine, AreLines, text_of_lines}
-use Rattle.der_tool_lib.specs.Run.{IsLastLine, ReaderFaulted, IsTooLong}
+use Rattle.der_tool_io.specs.Text.{IsLine, AreLines, text_of_lines}
+use Rattle.der_tool_io.specs.Run.{IsLastLine, ReaderFaulted, IsTooLong}
 use Rattle.der_x509_tool_lib.specs.Blocks.{BeginsBlock, EndsBlock, IsTextLine, without_outer_space, IsBlockLine, no_end, HasAnswers, answers_at_end, IsBlockLinesOf}
 
 -- ---- what is written

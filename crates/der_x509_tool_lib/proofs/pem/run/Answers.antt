@@ -1,7 +1,7 @@
 use Rattle.std.proofs.Common.{rules, refl, sym, ◌∙◌, arith}
 use Rattle.std.proofs.lemmas.Result.{err_from_is_err_and, MatchResult-weaker}
-use Rattle.der_tool_lib.proofs.RunSteps.{line_push}
-use Rattle.der_tool_lib.proofs.RunStops.{fault_told}
+use Rattle.der_tool_io.proofs.RunSteps.{line_push}
+use Rattle.der_tool_io.proofs.RunStops.{fault_told}
 use Rattle.der_x509_tool_lib.proofs.RunSteps.{run_starts, keeps_byte, byte_drawn, line_taken, input_ends}
 use Rattle.der_x509_tool_lib.proofs.RunStops.{reader_stops, byte_stops, line_stops, end_stops, limit_stops}
 use Rattle.der_x509_tool_lib.proofs.pem.run.Goals as goal

@@ -1,0 +1,3 @@
+pub mod RunSteps
+pub mod RunStops
+pub mod Separated

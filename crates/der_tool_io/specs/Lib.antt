@@ -1,0 +1,5 @@
+pub mod Laws
+pub mod Progress
+pub mod Run
+pub mod Text
+pub mod Words
