@@ -2,7 +2,7 @@
 #![tactic(auto)]
 
 use clap::{Arg, ArgAction, Command, Error};
-use der_message_tool_lib::{refusal_of, run, type_of_label};
+use der_message_tool_lib::{outcome_of, run};
 use der_tool_io::{read_input, standard_input};
 use der_tool_lib::kind_word;
 use der_tool_text::{Block, Line, blocks_of, push_text_or_bytes};
@@ -120,36 +120,15 @@ fn read_file(rt: &HostRuntime, name: &str) -> io::Result<bool> {
 
 // Prints the line of a block, and returns whether its message is read.
 fn read_block(rt: &HostRuntime, block: &Block) -> io::Result<bool> {
-    let mut line = Line::new(rt.alloc());
-    push_text_or_bytes(&mut line, &block.label)?;
-    let is_read = push_outcome(rt.alloc(), &mut line, block)?;
-    let line = line.into_string();
-    println!(rt; "{line}")?;
-    Ok(is_read)
-}
-
-// Appends what came of reading a block, and returns whether its message is read.
-fn push_outcome(alloc: Global, line: &mut Line, block: &Block) -> io::Result<bool> {
-    let Some(named) = type_of_label(&block.label) else {
-        line.push_str(": no type")?;
-        return Ok(false);
+    let Ok(outcome) = outcome_of(rt.alloc(), &block.label, block.bytes.as_deref()) else {
+        return Err(io::Error::from(ErrorKind::OutOfMemory));
     };
-    let Some(bytes) = &block.bytes else {
-        line.push_str(": no end, or no base64")?;
-        return Ok(false);
+    let mut label = Line::new(rt.alloc());
+    push_text_or_bytes(&mut label, &block.label)?;
+    let label = label.into_string();
+    let Ok(text) = outcome.text(rt.alloc()) else {
+        return Err(io::Error::from(ErrorKind::OutOfMemory));
     };
-    match refusal_of(alloc, named, bytes) {
-        Ok(None) => {
-            let size = bytes.len();
-            write!(line, ": ok {size}")?;
-            Ok(true)
-        }
-        Ok(Some(refusal)) => {
-            let error = kind_word(refusal.error);
-            let position = refusal.position;
-            write!(line, ": refused {error} at {position}")?;
-            Ok(false)
-        }
-        Err(_) => Err(io::Error::from(ErrorKind::OutOfMemory)),
-    }
+    println!(rt; "{label}: {text}")?;
+    Ok(outcome.is_read())
 }

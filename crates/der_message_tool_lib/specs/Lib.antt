@@ -1,4 +1,5 @@
 pub mod Described
+pub mod Block
 pub mod Message
 pub mod Label
 pub mod Line

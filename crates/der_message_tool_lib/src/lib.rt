@@ -3,6 +3,7 @@
 #![tactic(auto)]
 
 mod answer;
+mod block;
 mod kerberos_message;
 mod line;
 mod lines;
@@ -10,6 +11,7 @@ mod message;
 mod message_type;
 
 pub use answer::answer_to;
+pub use block::{BlockOutcome, outcome_of};
 pub use kerberos_message::KerberosMessage;
 pub use line::request_of;
 pub use lines::run;
