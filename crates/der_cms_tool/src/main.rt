@@ -2,10 +2,11 @@
 //! what exactly is signed.
 #![tactic(auto)]
 
-use clap::{Arg, ArgAction, ArgMatches, Command, Error};
+use clap::{Arg, ArgAction, ArgMatches, Command};
 use der_cms_tool_lib::{
     Message, Outcome, examine, json_of_refusal, json_of_signer, line_of_refusal, line_of_signer,
 };
+use der_tool_arguments::{TROUBLE, report};
 use der_tool_io::read_input;
 use der_tool_text::{Block, Line, blocks_of};
 use std::alloc::{AllocError, Global};
@@ -14,9 +15,6 @@ use std::process::ExitCode;
 
 // A message was refused, or a digest differs.
 const NOT_FINE: u8 = 1;
-
-// The arguments are wrong, an input couldn't be read, an allocation failed, or nothing could be written.
-const TROUBLE: u8 = 2;
 
 // What the arguments ask for.
 #[derive(Drop)]
@@ -89,16 +87,6 @@ fn command<'a>(alloc: Global) -> Result<Command<'a>, AllocError> {
         .arg(content)?
         .arg(json)?
         .arg(files)
-}
-
-// Prints what the arguments asked for, or what is wrong with them.
-fn report(rt: &HostRuntime, error: &Error) -> io::Result<ExitCode> {
-    error.print(rt)?;
-    Ok(if error.use_stderr() {
-        ExitCode::from(TROUBLE)
-    } else {
-        ExitCode::SUCCESS
-    })
 }
 
 // What the arguments ask for, with the content read.

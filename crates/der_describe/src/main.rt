@@ -1,8 +1,9 @@
 //! Lists files of DER or PEM: a line for each element, and for the first element that isn't DER the rule that it breaks.
 #![tactic(auto)]
 
-use clap::{Arg, ArgAction, Command, Error};
+use clap::{Arg, ArgAction, Command};
 use der_describe_lib::describe;
+use der_tool_arguments::{TROUBLE, report};
 use der_tool_io::read_input;
 use der_tool_text::{Block, Line, blocks_of};
 use std::alloc::{AllocError, Global};
@@ -11,9 +12,6 @@ use std::process::ExitCode;
 
 // Some input isn't DER.
 const NO_DER: u8 = 1;
-
-// The arguments are wrong, an input couldn't be read, an allocation failed, or nothing could be written.
-const TROUBLE: u8 = 2;
 
 fn main(rt: HostRuntime) -> ExitCode {
     match answer(&rt) {
@@ -64,16 +62,6 @@ fn command<'a>(alloc: Global) -> Result<Command<'a>, AllocError> {
             "Exit status: 0 if all is DER, 1 if something isn't, 2 if an input can't be read.",
         )
         .arg(files)
-}
-
-// Prints what the arguments asked for, or what is wrong with them.
-fn report(rt: &HostRuntime, error: &Error) -> io::Result<ExitCode> {
-    error.print(rt)?;
-    Ok(if error.use_stderr() {
-        ExitCode::from(TROUBLE)
-    } else {
-        ExitCode::SUCCESS
-    })
 }
 
 // Lists a file, or each block of PEM in it, and returns whether all of it is DER.

@@ -1,8 +1,9 @@
 //! Reads the messages that lines of standard input ask for, or those in blocks of PEM.
 #![tactic(auto)]
 
-use clap::{Arg, ArgAction, Command, Error};
+use clap::{Arg, ArgAction, Command};
 use der_message_tool_lib::{outcome_of, run};
+use der_tool_arguments::{TROUBLE, report};
 use der_tool_io::{read_input, standard_input};
 use der_tool_lib::kind_word;
 use der_tool_text::{Block, Line, blocks_of, push_text_or_bytes};
@@ -13,9 +14,6 @@ use std::process::ExitCode;
 
 // A block of PEM wasn't read.
 const REFUSED: u8 = 1;
-
-// The arguments are wrong, an input couldn't be read, an allocation failed, or nothing could be written.
-const TROUBLE: u8 = 2;
 
 fn main(rt: HostRuntime) -> ExitCode {
     match answer(&rt) {
@@ -59,16 +57,6 @@ fn command<'a>(alloc: Global) -> Result<Command<'a>, AllocError> {
             "Words: certificate, cms, crl, csr, krb, ocsp, pkcs8, ticket.\nExit status: 0, or 2 if the input or the output failed.",
         )
         .subcommand(pem)
-}
-
-// Prints what the arguments asked for, or what is wrong with them.
-fn report(rt: &HostRuntime, error: &Error) -> io::Result<ExitCode> {
-    error.print(rt)?;
-    Ok(if error.use_stderr() {
-        ExitCode::from(TROUBLE)
-    } else {
-        ExitCode::SUCCESS
-    })
 }
 
 // Answers the lines of standard input.

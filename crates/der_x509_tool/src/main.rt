@@ -1,7 +1,8 @@
 //! Reads certificates in files of PEM, or in standard input, and writes a line about each to standard output.
 #![tactic(auto)]
 
-use clap::{Arg, ArgAction, Command, Error};
+use clap::{Arg, ArgAction, Command};
+use der_tool_arguments::{TROUBLE, report};
 use der_tool_io::standard_input;
 use der_x509_tool_lib::run;
 use picky_der_core::misc::Watched;
@@ -9,9 +10,6 @@ use std::alloc::{AllocError, Global};
 use std::fs::File;
 use std::io::{self, BufReader, Read};
 use std::process::ExitCode;
-
-// The arguments are wrong, an input couldn't be read, an allocation failed, or nothing could be written.
-const TROUBLE: u8 = 2;
 
 fn main(rt: HostRuntime) -> ExitCode {
     match describe(&rt) {
@@ -52,16 +50,6 @@ fn command<'a>(alloc: Global) -> Result<Command<'a>, AllocError> {
             "Without a FILE it reads standard input.\nExit status: 0, or 2 if an input or the output failed.",
         )
         .arg(files)
-}
-
-// Prints what the arguments asked for, or what is wrong with them.
-fn report(rt: &HostRuntime, error: &Error) -> io::Result<ExitCode> {
-    error.print(rt)?;
-    Ok(if error.use_stderr() {
-        ExitCode::from(TROUBLE)
-    } else {
-        ExitCode::SUCCESS
-    })
 }
 
 // Describes the certificates of a file, and returns whether all of it was read and written. If not, it says why.
