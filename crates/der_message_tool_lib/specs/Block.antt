@@ -10,7 +10,7 @@ use Rattle.der_message_tool_lib.specs.Label.{IsLabelOf}
 use Rattle.der_message_tool_lib.specs.Message.{IsRefusalOf}
 
 -- the block is one of this type, with these bytes, and this is why they aren't a message, if they aren't
-pub record IsTyped (label : List ℕ) (bytes : Option (List ℕ)) (content : List ℕ) (refusal : Option DecodeError) : Type 0 where
+pub record IsTypedBlock (label : List ℕ) (bytes : Option (List ℕ)) (content : List ℕ) (refusal : Option DecodeError) : Type 0 where
   pub type : MessageType
   pub labelled : IsLabelOf type label
   pub content_is : bytes ≡ Some content
@@ -19,15 +19,15 @@ pub record IsTyped (label : List ℕ) (bytes : Option (List ℕ)) (content : Lis
 abbrev pub IsBlockOutcome : List ℕ → Option (List ℕ) → BlockOutcome → Type 0
 IsBlockOutcome label bytes outcome.NoType = (type : MessageType) → IsLabelOf type label → ⊥
 IsBlockOutcome label bytes outcome.NoBytes = ((type : MessageType) × IsLabelOf type label) × (bytes ≡ None)
-IsBlockOutcome label bytes (outcome.Read size) = (content : List ℕ) × IsTyped label bytes content None × (size ≡ length content)
-IsBlockOutcome label bytes (outcome.Refused refusal) = (content : List ℕ) × IsTyped label bytes content (Some refusal)
+IsBlockOutcome label bytes (outcome.Read size) = (content : List ℕ) × IsTypedBlock label bytes content None × (size ≡ length content)
+IsBlockOutcome label bytes (outcome.Refused refusal) = (content : List ℕ) × IsTypedBlock label bytes content (Some refusal)
 
 -- the bytes are one message
-abbrev pub IsRead : BlockOutcome → Type 0
-IsRead outcome.NoType = ⊥
-IsRead outcome.NoBytes = ⊥
-IsRead (outcome.Read size) = ⊤
-IsRead (outcome.Refused refusal) = ⊥
+abbrev pub IsReadBlock : BlockOutcome → Type 0
+IsReadBlock outcome.NoType = ⊥
+IsReadBlock outcome.NoBytes = ⊥
+IsReadBlock (outcome.Read size) = ⊤
+IsReadBlock (outcome.Refused refusal) = ⊥
 
 abbrev pub outcome_text : BlockOutcome → List ℕ
 outcome_text outcome.NoType = codes "no type"

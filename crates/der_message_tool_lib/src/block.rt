@@ -1,7 +1,7 @@
 //! Blocks of PEM, and what comes of reading them.
 ghost use Rattle.std.specs.Prelude.{◌≡◌, ◌↔◌, IsTrue, IfOk, IfErr, string_bytes};
 ghost use Rattle.std.specs.Option.{option_copied};
-ghost use Rattle.der_message_tool_lib.specs.Block.{IsBlockOutcome, IsRead, outcome_text};
+ghost use Rattle.der_message_tool_lib.specs.Block.{IsBlockOutcome, IsReadBlock, outcome_text};
 
 use crate::{refusal_of, type_of_label};
 use der_tool_lib::kind_word;
@@ -24,7 +24,7 @@ pub enum BlockOutcome {
 impl BlockOutcome {
     /// Returns whether the bytes are one message.
     pub fn is_read(&self) -> bool
-        ensures { IsTrue result ↔ IsRead self.now }
+        ensures { IsTrue result ↔ IsReadBlock self.now }
     {
         matches!(self, BlockOutcome::Read(_))
     }
