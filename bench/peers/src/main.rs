@@ -1,10 +1,11 @@
-//! The jobs of the project's driver, done by two Rust libraries. What is read is copied out of the input, as the project does.
+//! The jobs of the project's driver, done by two Rust libraries. What is read is copied out of the input, as the
+//! project does.
 //!
-//!     peers FILE                               prints lines `LIBRARY JOB write|read NUMBER ps`, the least of the rounds
-//!     peers FILE LIBRARY JOB DIRECTION ROUNDS  does one job alone, as often, for valgrind
+//!     peers FILE                           prints lines `LIBRARY JOB write|read NUMBER ps`, the least of the rounds
+//!     peers FILE LIBRARY JOB WAY ROUNDS    does one job alone, as often, for valgrind
 //!
-//! The job `certificates-borrowed` only reads, and nothing is copied. The file has a line `key HEX` or `certificate HEX` for each encoding
-//! of X.509.
+//! The job `certificates-borrowed` only reads, and nothing is copied. The file has a line `key HEX` or `certificate
+//! HEX` for each encoding of X.509.
 use std::hint::black_box;
 use std::time::Instant;
 
@@ -52,10 +53,10 @@ pub trait Library {
 
 const ROUNDS: usize = 9;
 
-/// What is done with the jobs: all are timed, or one of a library is repeated in one direction.
+/// What is done with the jobs: all are timed, or one of a library is repeated one way.
 enum Task<'a> {
     Time,
-    Repeat { library: &'a str, job: &'a str, direction: &'a str, rounds: usize },
+    Repeat { library: &'a str, job: &'a str, way: &'a str, rounds: usize },
 }
 
 impl Task<'_> {
@@ -66,14 +67,16 @@ impl Task<'_> {
         }
     }
 
-    /// One direction of a job that is wanted: each call does all its parts, and a round makes as many calls.
+    /// One way of a job that is wanted: each call does all its parts, and a round makes as many calls.
     fn run<L: Library, T>(&self, job: &str, way: &str, (calls, parts): (usize, usize), mut call: impl FnMut() -> T) {
         match self {
             Task::Time => {
                 let each = least(calls, call) * 1_000 / calls as u128 / parts as u128;
                 println!("{} {job} {way} {each} ps", L::NAME);
             }
-            Task::Repeat { direction, rounds, .. } if *direction == way => (0..*rounds).for_each(|_| drop(black_box(call()))),
+            Task::Repeat { way: wanted, rounds, .. } if *wanted == way => {
+                (0..*rounds).for_each(|_| drop(black_box(call())));
+            }
             Task::Repeat { .. } => (),
         }
     }
@@ -138,14 +141,14 @@ fn run<L: Library>(task: &Task, keys: &[Vec<u8>], certificates: &[Vec<u8>]) {
     if task.wants::<L>("structs") {
         run_structs::<L>(task);
     }
+    if task.wants::<L>("mebibyte") {
+        run_octets::<L>(task);
+    }
     if task.wants::<L>("keys") {
         run_all::<L, L::Key>(task, "keys", keys, 500);
     }
     if task.wants::<L>("certificates") {
         run_all::<L, L::Certificate>(task, "certificates", certificates, 4);
-    }
-    if task.wants::<L>("mebibyte") {
-        run_octets::<L>(task);
     }
 }
 
@@ -165,10 +168,10 @@ fn main() {
     let (keys, certificates) = (encodings(&text, "key"), encodings(&text, "certificate"));
     let task = match &words[1..] {
         [] => Task::Time,
-        [library, job, direction, rounds] => {
-            Task::Repeat { library, job, direction, rounds: rounds.parse().expect("a number") }
+        [library, job, way, rounds] => {
+            Task::Repeat { library, job, way, rounds: rounds.parse().expect("a number") }
         }
-        _ => panic!("usage: peers FILE [LIBRARY JOB DIRECTION ROUNDS]"),
+        _ => panic!("usage: peers FILE [LIBRARY JOB WAY ROUNDS]"),
     };
     run::<Asn1>(&task, &keys, &certificates);
     run::<Bcder>(&task, &keys, &certificates);
