@@ -1,0 +1,4 @@
+pub mod OneLine
+pub mod RunSteps
+pub mod RunStops
+pub mod Separated

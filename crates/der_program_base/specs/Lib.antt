@@ -1,0 +1,6 @@
+pub mod Laws
+pub mod Line
+pub mod Progress
+pub mod Run
+pub mod Text
+pub mod Words

@@ -1,0 +1,12 @@
+//! Laws of the definitions that the contracts use.
+ghost use Rattle.der_program_base.specs.Laws.{OneSplit, OneFirstWord};
+
+/// There is exactly one way to split an input into lines.
+pub fn one_split()
+    ensures { OneSplit }
+{}
+
+/// A line has at most one first word, and one rest after it.
+pub fn one_first_word()
+    ensures { OneFirstWord }
+{}
