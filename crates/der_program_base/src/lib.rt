@@ -2,20 +2,28 @@
 #![tactic(auto)]
 
 mod arguments;
+mod blocks;
+mod contents;
+mod guess;
 pub mod laws;
 mod line;
 mod lines;
-mod pem;
+mod printed;
 mod progress;
 mod source;
+mod status;
 mod text;
 mod words;
 
-pub use arguments::{TROUBLE, report};
+pub use arguments::report;
+pub use blocks::{Block, BlockFault, Blocks};
+pub use contents::{Contents, Form, contents_of};
+pub use guess::Guess;
 pub use line::Line;
 pub use lines::{Answers, answer_lines};
-pub use pem::{Block, blocks_of};
+pub use printed::{Format, Printed};
 pub use progress::Progress;
 pub use source::{read_input, standard_input};
-pub use text::{push_bytes, push_text, push_text_or_bytes};
+pub use status::Status;
+pub use text::{push_bytes, push_quoted, push_text, push_text_or_bytes};
 pub use words::{after, first_word};
