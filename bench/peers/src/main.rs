@@ -1,14 +1,19 @@
-//! The jobs of the project's driver, done by two Rust libraries. What is read is copied out of the input, as the project does.
+//! The jobs of the project's driver, done by two Rust libraries. What is read is copied out of the input, as the
+//! project does.
 //!
-//!     peers FILE                              prints lines `LIBRARY JOB DIRECTION NANOSECONDS`, the least of the rounds
-//!     peers FILE LIBRARY DIRECTION ROUNDS     reads or writes each certificate as often, for valgrind
+//!     peers FILE                           prints lines `LIBRARY JOB write|read NUMBER ps`, the least of the rounds
+//!     peers FILE LIBRARY JOB WAY ROUNDS    does one job alone, as often, for valgrind
 //!
-//! The file has a line `key HEX` or `certificate HEX` for each encoding of X.509.
+//! The job `certificates-borrowed` only reads, and nothing is copied. The file has a line `key HEX` or `certificate
+//! HEX` for each encoding of X.509.
 use std::hint::black_box;
 use std::time::Instant;
 
 mod by_asn1;
 mod by_bcder;
+
+use by_asn1::Asn1;
+use by_bcder::Bcder;
 
 /// The structure of the project's driver.
 #[derive(Clone, Debug, PartialEq)]
@@ -16,6 +21,10 @@ pub struct TestStruct {
     pub number: u8,
     pub vec: Vec<u8>,
     pub tuple: (u64, ()),
+}
+
+fn test_struct() -> TestStruct {
+    TestStruct { number: 7, vec: b"Testolope".to_vec(), tuple: (4, ()) }
 }
 
 /// A type of X.509, as a library has it.
@@ -44,74 +53,102 @@ pub trait Library {
 
 const ROUNDS: usize = 9;
 
-/// The least time of one call, in nanoseconds, where a round makes as many.
+/// What is done with the jobs: all are timed, or one of a library is repeated one way.
+enum Task<'a> {
+    Time,
+    Repeat { library: &'a str, job: &'a str, way: &'a str, rounds: usize },
+}
+
+impl Task<'_> {
+    fn wants<L: Library>(&self, name: &str) -> bool {
+        match self {
+            Task::Time => true,
+            Task::Repeat { library, job, .. } => *library == L::NAME && *job == name,
+        }
+    }
+
+    /// One way of a job that is wanted: each call does all its parts, and a round makes as many calls.
+    fn run<L: Library, T>(&self, job: &str, way: &str, (calls, parts): (usize, usize), mut call: impl FnMut() -> T) {
+        match self {
+            Task::Time => {
+                let each = least(calls, call) * 1_000 / calls as u128 / parts as u128;
+                println!("{} {job} {way} {each} ps", L::NAME);
+            }
+            Task::Repeat { way: wanted, rounds, .. } if *wanted == way => {
+                (0..*rounds).for_each(|_| drop(black_box(call())));
+            }
+            Task::Repeat { .. } => (),
+        }
+    }
+}
+
+/// The least time of a round of as many calls, in nanoseconds.
 fn least<T>(calls: usize, mut call: impl FnMut() -> T) -> u128 {
-    let time = |call: &mut dyn FnMut() -> T| {
+    let mut time = || {
         let start = Instant::now();
         for _ in 0..calls {
             black_box(call());
         }
-        start.elapsed().as_nanos() / calls as u128
+        start.elapsed().as_nanos()
     };
-    (0..ROUNDS).map(|_| time(&mut call)).min().unwrap_or(0)
+    (0..ROUNDS).map(|_| time()).min().unwrap_or(0)
 }
 
-fn say<L: Library>(job: &str, direction: &str, time: u128) {
-    println!("{} {job} {direction} {time}", L::NAME);
-}
-
-/// Values of X.509, which are written as they were.
-fn parse_all<K: Kind>(encodings: &[Vec<u8>]) -> Vec<K::Parsed<'_>> {
-    let values: Vec<_> = encodings.iter().map(|it| K::parse(it)).collect();
-    assert!(values.iter().zip(encodings).all(|(it, bytes)| K::write(it) == *bytes));
-    values
-}
-
-fn write_all<K: Kind>(values: &[K::Parsed<'_>]) {
-    values.iter().for_each(|it| drop(black_box(K::write(black_box(it)))));
-}
-
-fn read_all<K: Kind>(encodings: &[Vec<u8>]) {
-    encodings.iter().for_each(|it| drop(black_box(K::read(black_box(it)))));
-}
-
-fn run_all<L: Library, K: Kind>(job: &str, encodings: &[Vec<u8>], calls: usize) {
-    let (values, count) = (parse_all::<K>(encodings), encodings.len() as u128);
-    say::<L>(job, "write", least(calls, || write_all::<K>(&values)) / count);
-    say::<L>(job, "read", least(calls, || read_all::<K>(encodings)) / count);
-}
-
-fn run<L: Library>(keys: &[Vec<u8>], certificates: &[Vec<u8>]) {
-    let one = TestStruct { number: 7, vec: b"Testolope".to_vec(), tuple: (4, ()) };
+fn run_struct<L: Library>(task: &Task) {
+    let one = test_struct();
     let bytes = L::write_struct(&one);
     assert_eq!(bytes.len(), 23);
     assert_eq!(L::read_struct(&bytes), one);
-    say::<L>("struct", "write", least(20_000, || L::write_struct(black_box(&one))));
-    say::<L>("struct", "read", least(20_000, || L::read_struct(black_box(&bytes))));
+    task.run::<L, _>("struct", "write", (20_000, 1), || L::write_struct(black_box(&one)));
+    task.run::<L, _>("struct", "read", (20_000, 1), || L::read_struct(black_box(&bytes)));
+}
 
-    let many = vec![one; 10_000];
+fn run_structs<L: Library>(task: &Task) {
+    let many = vec![test_struct(); 10_000];
     let bytes = L::write_structs(&many);
     assert_eq!(L::read_structs(&bytes), many);
-    say::<L>("structs", "write", least(1, || L::write_structs(black_box(&many))) / 10_000);
-    say::<L>("structs", "read", least(1, || L::read_structs(black_box(&bytes))) / 10_000);
+    task.run::<L, _>("structs", "write", (1, many.len()), || L::write_structs(black_box(&many)));
+    task.run::<L, _>("structs", "read", (1, many.len()), || L::read_structs(black_box(&bytes)));
+}
 
+fn run_octets<L: Library>(task: &Task) {
     let content = vec![0xA5; 1 << 20];
     let bytes = L::write_octets(&content);
     assert_eq!(L::read_octets(&bytes), content);
-    say::<L>("mebibyte", "write", least(20, || L::write_octets(black_box(&content))));
-    say::<L>("mebibyte", "read", least(20, || L::read_octets(black_box(&bytes))));
-
-    run_all::<L, L::Key>("keys", keys, 500);
-    run_all::<L, L::Certificate>("certificates", certificates, 4);
+    task.run::<L, _>("mebibyte", "write", (20, 1), || L::write_octets(black_box(&content)));
+    task.run::<L, _>("mebibyte", "read", (20, 1), || L::read_octets(black_box(&bytes)));
 }
 
-fn count<K: Kind>(encodings: &[Vec<u8>], direction: &str, rounds: usize) {
-    let values = parse_all::<K>(encodings);
-    for _ in 0..rounds {
-        match direction {
-            "write" => write_all::<K>(&values),
-            _ => read_all::<K>(encodings),
-        }
+/// Encodings of a type of X.509: their values are written as they were.
+fn run_all<L: Library, K: Kind>(task: &Task, job: &str, encodings: &[Vec<u8>], calls: usize) {
+    let values: Vec<_> = encodings.iter().map(|it| K::parse(it)).collect();
+    assert!(values.iter().zip(encodings).all(|(it, bytes)| K::write(it) == *bytes));
+    let times = (calls, encodings.len());
+    task.run::<L, _>(job, "write", times, || values.iter().for_each(|it| drop(black_box(K::write(black_box(it))))));
+    task.run::<L, _>(job, "read", times, || encodings.iter().for_each(|it| drop(black_box(K::read(black_box(it))))));
+}
+
+/// The same certificates where nothing is copied, which only `asn1` can do.
+fn run_borrowed(task: &Task, job: &str, encodings: &[Vec<u8>], calls: usize) {
+    let parse = |it: &Vec<u8>| drop(black_box(<<Asn1 as Library>::Certificate as Kind>::parse(black_box(it))));
+    task.run::<Asn1, _>(job, "read", (calls, encodings.len()), || encodings.iter().for_each(parse));
+}
+
+fn run<L: Library>(task: &Task, keys: &[Vec<u8>], certificates: &[Vec<u8>]) {
+    if task.wants::<L>("struct") {
+        run_struct::<L>(task);
+    }
+    if task.wants::<L>("structs") {
+        run_structs::<L>(task);
+    }
+    if task.wants::<L>("mebibyte") {
+        run_octets::<L>(task);
+    }
+    if task.wants::<L>("keys") {
+        run_all::<L, L::Key>(task, "keys", keys, 500);
+    }
+    if task.wants::<L>("certificates") {
+        run_all::<L, L::Certificate>(task, "certificates", certificates, 4);
     }
 }
 
@@ -129,18 +166,16 @@ fn main() {
     let words: Vec<String> = std::env::args().skip(1).collect();
     let text = std::fs::read_to_string(&words[0]).expect("a file that can be read");
     let (keys, certificates) = (encodings(&text, "key"), encodings(&text, "certificate"));
-    match &words[1..] {
-        [] => {
-            run::<by_asn1::Asn1>(&keys, &certificates);
-            run::<by_bcder::Bcder>(&keys, &certificates);
+    let task = match &words[1..] {
+        [] => Task::Time,
+        [library, job, way, rounds] => {
+            Task::Repeat { library, job, way, rounds: rounds.parse().expect("a number") }
         }
-        [library, direction, rounds] => {
-            let rounds = rounds.parse().expect("a number");
-            match library.as_str() {
-                "asn1" => count::<<by_asn1::Asn1 as Library>::Certificate>(&certificates, direction, rounds),
-                _ => count::<<by_bcder::Bcder as Library>::Certificate>(&certificates, direction, rounds),
-            }
-        }
-        _ => panic!("usage: peers FILE [LIBRARY DIRECTION ROUNDS]"),
+        _ => panic!("usage: peers FILE [LIBRARY JOB WAY ROUNDS]"),
+    };
+    run::<Asn1>(&task, &keys, &certificates);
+    run::<Bcder>(&task, &keys, &certificates);
+    if task.wants::<Asn1>("certificates-borrowed") {
+        run_borrowed(&task, "certificates-borrowed", &certificates, 4);
     }
 }
