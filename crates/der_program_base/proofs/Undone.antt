@@ -95,13 +95,15 @@ module _ (special : ℕ → Bool) (h : IsEscaping special) where
       let same = (encode_same c 92 x y (e ∙ ap (λ l. l ++ y) (sym (encode_ascii 92 (lit< tt))))).0 in
       true≢false (sym h.backslash ∙ ap special (sym same) ∙ is)
 
-  plain_no_bytes : (c d : ℕ) (x y : List ℕ) → special c ≡ false → encode_utf8 c ++ x ≡ flat_map escaped_byte (encode_utf8 d) ++ y → ⊥
+  plain_no_bytes : (c d : ℕ) (x y : List ℕ) → special c ≡ false
+      → encode_utf8 c ++ x ≡ flat_map escaped_byte (encode_utf8 d) ++ y → ⊥
   plain_no_bytes c d x y is e =
       let (b, bs, some) = encoded_some d in
       plain_no_escape c x (two_digits b ++ flat_map escaped_byte bs ++ y) is (e ∙ rw some refl)
 
   -- nor is a special character a digit
-  marked_no_bytes : (c d : ℕ) (x y : List ℕ) → special c ≡ true → is_disruptive d ≡ true → 92 ∷ encode_utf8 c ++ x ≡ flat_map escaped_byte (encode_utf8 d) ++ y → ⊥
+  marked_no_bytes : (c d : ℕ) (x y : List ℕ) → special c ≡ true → is_disruptive d ≡ true
+      → 92 ∷ encode_utf8 c ++ x ≡ flat_map escaped_byte (encode_utf8 d) ++ y → ⊥
   marked_no_bytes c d x y is hid e =
       let (b, bs, some, small) = first_byte d (disruptive_below d hid) in
       let all : 92 ∷ c ∷ x ≡ 92 ∷ hexadecimal_digit (b / 16) ∷ hexadecimal_digit (b % 16) ∷ (flat_map escaped_byte bs ++ y) =
@@ -109,7 +111,8 @@ module _ (special : ℕ → Bool) (h : IsEscaping special) where
       let same : c ≡ hexadecimal_digit (b / 16) = cc in
       true≢false (sym is ∙ ap special same ∙ h.no_digit (b / 16) (omega arith))
 
-  one_step : (c d : ℕ) (x y : List ℕ) → Form c → Form d → escaped_character special c ++ x ≡ escaped_character special d ++ y → (c ≡ d) × (x ≡ y)
+  one_step : (c d : ℕ) (x y : List ℕ) → Form c → Form d
+      → escaped_character special c ++ x ≡ escaped_character special d ++ y → (c ≡ d) × (x ≡ y)
   one_step c d x y (plain s e) (plain t f) k = encode_same c d x y (rw (e, f) at k)
   one_step c d x y (plain s e) (marked t f) k = absurd (plain_no_escape c x (encode_utf8 d ++ y) s (rw (e, f) at k))
   one_step c d x y (plain s e) (hidden u f) k = absurd (plain_no_bytes c d x y s (rw (e, f) at k))
@@ -129,14 +132,16 @@ module _ (special : ℕ → Bool) (h : IsEscaping special) where
   -- ---- texts
 
   some_written : (c : ℕ) (x : List ℕ) → Form c → [] ≡ escaped_character special c ++ x → ⊥
-  some_written c x (plain s e) k = let (b, bs, some) = encoded_some c in let none : [] ≡ b ∷ (bs ++ x) = k ∙ ap (λ l. l ++ x) (e ∙ some) in cc
+  some_written c x (plain s e) k = let (b, bs, some) = encoded_some c in let none : [] ≡ b ∷ (bs ++ x) = k
+      ∙ ap (λ l. l ++ x) (e ∙ some) in cc
   some_written c x (marked s e) k = let none : [] ≡ 92 ∷ encode_utf8 c ++ x = k ∙ ap (λ l. l ++ x) e in cc
   some_written c x (hidden s e) k =
       let (b, bs, some) = encoded_some c in
       let none : [] ≡ 92 ∷ (two_digits b ++ flat_map escaped_byte bs ++ x) = k ∙ ap (λ l. l ++ x) e ∙ rw some refl in
       cc
 
-  same_characters : (cs ds : List ℕ) → flat_map (escaped_character special) cs ≡ flat_map (escaped_character special) ds → cs ≡ ds
+  same_characters : (cs ds : List ℕ)
+      → flat_map (escaped_character special) cs ≡ flat_map (escaped_character special) ds → cs ≡ ds
   same_characters [] [] e = refl
   same_characters [] (d ∷ ds) e = absurd (some_written d _ (form_of d) e)
   same_characters (c ∷ cs) [] e = absurd (some_written c _ (form_of c) (sym e))
@@ -146,8 +151,10 @@ module _ (special : ℕ → Bool) (h : IsEscaping special) where
       let first = both.0 in
       cc
 
-  pub same_text : (text other : List ℕ) → IsUtf8 text → IsUtf8 other → escaped special text ≡ escaped special other → text ≡ other
-  same_text text other u v e = sym (encodes-chars text u) ∙ ap encodes (same_characters (chars text) (chars other) e) ∙ encodes-chars other v
+  pub same_text : (text other : List ℕ) → IsUtf8 text → IsUtf8 other → escaped special text ≡ escaped special other
+      → text ≡ other
+  same_text text other u v e = sym (encodes-chars text u) ∙ ap encodes (same_characters (chars text) (chars other) e)
+      ∙ encodes-chars other v
 
 -- ---- the two sets
 

@@ -23,7 +23,8 @@ IsBoundaryOf line (Some boundary) = IsBoundary line boundary
 -- the lines up to the first boundary, that boundary, and the lines after it
 abbrev pub IsSplitAtBoundary : List (List ℕ) → List (List ℕ) → Option (Boundary × Bor (List (Bor (List ℕ)))) → Type 0
 IsSplitAtBoundary lines front None = AreOther front × (lines ≡ front)
-IsSplitAtBoundary lines front (Some found) = (line : List ℕ) × AreOther front × IsBoundary line found.0 × (lines ≡ front ++ (line ∷ texts found.1.now))
+IsSplitAtBoundary lines front (Some found) = (line : List ℕ) × AreOther front × IsBoundary line found.0
+    × (lines ≡ front ++ (line ∷ texts found.1.now))
 
 -- the first block, and the lines after it
 pub record IsFirstBlock (lines : List (List ℕ)) (block : Block) (rest : List (List ℕ)) : Type 0 where
@@ -35,5 +36,8 @@ pub record IsFirstBlock (lines : List (List ℕ)) (block : Block) (rest : List (
 
 -- What comes of the lines after the begin line of a block with this label, and the lines after the block.
 pub data IsBody (label : List ℕ) (lines : List (List ℕ)) (bytes : Result (List ℕ) BlockFault) (rest : List (List ℕ)) : Type 0 where
-  ended : (body : List (List ℕ)) (end end_label : List ℕ) → AreOther body → IsEnd end end_label → lines ≡ body ++ (end ∷ rest) → bytes ≡ (if bytes_eq label end_label then bytes_in body else Err OtherLabel) → IsBody label lines bytes rest
-  not_ended : (body : List (List ℕ)) → AreOther body → NextBegins rest → lines ≡ body ++ rest → bytes ≡ Err NoEnd → IsBody label lines bytes rest
+  ended : (body : List (List ℕ)) (end end_label : List ℕ) → AreOther body → IsEnd end end_label
+      → lines ≡ body ++ (end ∷ rest) → bytes ≡ (if bytes_eq label end_label then bytes_in body else Err OtherLabel)
+      → IsBody label lines bytes rest
+  not_ended : (body : List (List ℕ)) → AreOther body → NextBegins rest → lines ≡ body ++ rest → bytes ≡ Err NoEnd
+      → IsBody label lines bytes rest

@@ -1,9 +1,10 @@
 -- Which bytes of an input are looked at.
-use Rattle.std.specs.Prelude.{◌≡◌, ℕ, ◌<◌, Bool, true, false, ◌||◌, not, ◌==◌, List, length, map, Option, Some, None, ⊤}
+use Rattle.std.specs.Prelude.{◌≡◌, ℕ, ◌<◌, Bool, true, false, ◌||◌, not, ◌==◌, List, length, map, Option, Some, None, Ok, ⊤}
 use Rattle.std.specs.Char.{is_control}
-use Rattle.std.specs.List.{list_all}
+use Rattle.std.specs.List.{Contains, list_all}
 use Rattle.std.specs.Str.{IsUtf8, chars}
 use Rattle.picky_der_core.specs.Element.{IsElement}
+use Rattle.der_program_base.specs.declared.blocks.Block.{Block}
 use Rattle.der_program_base.specs.declared.contents.Form.{Form}
 use Rattle.der_program_base.specs.declared.contents.Form.TheVariants.{Der as AsDer, Pem as AsPem}
 use Rattle.der_program_base.specs.declared.contents.Contents.{Contents}
@@ -11,7 +12,7 @@ use Rattle.der_program_base.specs.declared.contents.Contents.TheVariants.{Der, P
 use Rattle.der_program_base.specs.declared.guess.Guess.{Guess}
 use Rattle.der_program_base.specs.declared.guess.Guess.TheVariants.{ByteOrderMark}
 use Rattle.der_program_base.specs.Lines.{lines_of, AreOther}
-use Rattle.der_program_base.specs.Sections.{AreBlocksOf, value_of}
+use Rattle.der_program_base.specs.Sections.{AreBlocksOf, items_of, value_of}
 use Rattle.der_program_base.specs.Guess.{has_mark, guess_of}
 
 -- no control character but tab, line feed, form feed and carriage return
@@ -36,7 +37,8 @@ pub data IsGuessOf (input : List ℕ) (guess : Guess) : Type 0 where
 -- what an input is: DER, blocks of PEM in a text, or a text without blocks or with a byte order mark
 abbrev pub IsContentsOf : Option Form → List ℕ → Contents → Type 0
 IsContentsOf form input Der = IsTakenAsText form input → ⊥
-IsContentsOf form input (Pem blocks) = IsTakenAsText form input × (has_mark input ≡ false) × AreBlocksOf (lines_of input) blocks × (0 < length blocks.blocks.items)
+IsContentsOf form input (Pem blocks) = IsTakenAsText form input × (has_mark input ≡ false)
+    × AreBlocksOf (lines_of input) blocks × (0 < length blocks.blocks.items)
 IsContentsOf form input (Other guess) = IsTakenAsText form input × IsGuessOf input guess
 
 -- the same contents, with the same blocks
@@ -45,8 +47,23 @@ AreSameContents Der Der = ⊤
 AreSameContents Der (Pem blocks) = ⊥
 AreSameContents Der (Other guess) = ⊥
 AreSameContents (Pem blocks) Der = ⊥
-AreSameContents (Pem blocks) (Pem others) = (map value_of blocks.blocks.items ≡ map value_of others.blocks.items) × (blocks.skipped ≡ others.skipped)
+AreSameContents (Pem blocks) (Pem others) = (map value_of blocks.blocks.items ≡ map value_of others.blocks.items)
+    × (blocks.skipped ≡ others.skipped)
 AreSameContents (Pem blocks) (Other guess) = ⊥
 AreSameContents (Other guess) Der = ⊥
 AreSameContents (Other guess) (Pem blocks) = ⊥
 AreSameContents (Other guess) (Other other) = guess ≡ other
+
+-- ---- messages
+
+-- the whole input if it is DER, else the bytes of a block
+abbrev pub IsMessageIn : Contents → List ℕ → List ℕ → Type 0
+IsMessageIn Der input bytes = bytes ≡ input
+IsMessageIn (Pem blocks) input bytes = (block : Block) × Contains blocks.blocks.items block × (items_of block.bytes ≡ Ok bytes)
+IsMessageIn (Other guess) input bytes = ⊥
+
+-- these bytes are a message that is looked at
+pub record IsMessageOf (form : Option Form) (input bytes : List ℕ) : Type 0 where
+  pub contents : Contents
+  pub are_contents : IsContentsOf form input contents
+  pub is_message : IsMessageIn contents input bytes

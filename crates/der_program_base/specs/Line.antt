@@ -8,7 +8,9 @@ use Rattle.std.specs.Str.{NoCharPasses, chars}
 -- A character that ends a line, or that moves or hides other characters: a control character, U+061C, U+200B to U+200F,
 -- U+2028 to U+202E, U+2060 to U+2069, or U+FEFF.
 unfoldable pub is_disruptive : ℕ → Bool
-is_disruptive c = is_control c || c == 0x61C || is_in_range 0x200B 0x200F c || is_in_range 0x2028 0x202E c || is_in_range 0x2060 0x2069 c || c == 0xFEFF
+is_disruptive c =
+    is_control c || c == 0x61C || is_in_range 0x200B 0x200F c || is_in_range 0x2028 0x202E c
+    || is_in_range 0x2060 0x2069 c || c == 0xFEFF
 
 -- no character of the text is such a one
 abbrev pub IsOneLine : List ℕ → Type 0
@@ -64,8 +66,8 @@ is_special_in_quotes c = c == 39 || c == 92
 
 -- ---- escapes that can be undone
 
--- The backslash is special, and each special character is in ASCII and neither disruptive nor a digit. So the character after a
--- backslash shows which escape it is.
+-- The backslash is special. Each special character is in ASCII, and is neither disruptive nor a digit. So the
+-- character after a backslash shows which escape it is.
 pub record IsEscaping (special : ℕ → Bool) : Type 0 where
   pub backslash : special 92 ≡ true
   pub ascii : (c : ℕ) → special c ≡ true → c < 128

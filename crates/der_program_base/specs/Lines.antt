@@ -25,7 +25,7 @@ without_front line = drop (prefix_len is_ascii_whitespace line) line
 
 -- a line without the white space at its ends
 unfoldable pub trimmed : List ℕ → List ℕ
-trimmed line = take (length (without_front line) - suffix_len is_ascii_whitespace (without_front line)) (without_front line)
+trimmed line = let rest = without_front line in take (length rest - suffix_len is_ascii_whitespace rest) rest
 
 -- ---- lines that begin and end blocks
 

@@ -34,7 +34,8 @@ all_lines sections = flat_map lines_in sections
 
 -- each line is what it is said to be
 abbrev pub IsSection : Section → Type 0
-IsSection (Section.whole outside begin label body end end_label) = AreOther outside × IsBegin begin label × AreOther body × IsEnd end end_label
+IsSection (Section.whole outside begin label body end end_label) = AreOther outside × IsBegin begin label
+    × AreOther body × IsEnd end end_label
 IsSection (Section.cut outside begin label body) = AreOther outside × IsBegin begin label × AreOther body
 IsSection (Section.stray outside end label) = AreOther outside × IsEnd end label
 
@@ -52,7 +53,8 @@ MayPrecede (Section.stray outside end label) lines = ⊤
 -- these sections, and then these lines
 abbrev pub AreSections : List Section → List (List ℕ) → Type 0
 AreSections [] rest = ⊤
-AreSections (section ∷ sections) rest = IsSection section × MayPrecede section (all_lines sections ++ rest) × AreSections sections rest
+AreSections (section ∷ sections) rest = IsSection section × MayPrecede section (all_lines sections ++ rest)
+    × AreSections sections rest
 
 -- the lines are these sections, and after the last one there is no block
 pub record HasSections (lines : List (List ℕ)) (sections : List Section) (after : List (List ℕ)) : Type 0 where
@@ -83,10 +85,15 @@ pub record BlockValue : Type 0 where
   pub skipped : ℕ
   pub bytes : Result (List ℕ) BlockFault
 
+-- the block with this label after these lines
+abbrev pub block_after : List (List ℕ) → List ℕ → Result (List ℕ) BlockFault → BlockValue
+block_after outside label bytes = record { label = label; skipped = count_by is_filled outside; bytes = bytes }
+
 abbrev pub block_in : Section → BlockValue
-block_in (Section.whole outside begin label body end end_label) = record { label = label; skipped = count_by is_filled outside; bytes = if bytes_eq label end_label then bytes_in body else Err OtherLabel }
-block_in (Section.cut outside begin label body) = record { label = label; skipped = count_by is_filled outside; bytes = Err NoEnd }
-block_in (Section.stray outside end label) = record { label = label; skipped = count_by is_filled outside; bytes = Err NoBegin }
+block_in (Section.whole outside begin label body end end_label) =
+    block_after outside label (if bytes_eq label end_label then bytes_in body else Err OtherLabel)
+block_in (Section.cut outside begin label body) = block_after outside label (Err NoEnd)
+block_in (Section.stray outside end label) = block_after outside label (Err NoBegin)
 
 -- ---- blocks of the program
 

@@ -43,7 +43,7 @@ impl Guess {
                 "this seems to be a mail; take its base64 part and decode it first, as with base64 -d"
             }
             Guess::NearlyPem => {
-                "this has no block of PEM, but a line that nearly begins or ends one; such a line is -----BEGIN LABEL----- or -----END LABEL-----"
+                "this has no block of PEM, but a line that nearly begins one, which would be -----BEGIN LABEL-----"
             }
             Guess::Text => "this is text without a block of PEM",
         }

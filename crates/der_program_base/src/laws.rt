@@ -1,5 +1,5 @@
 //! Laws of the definitions that the contracts use.
-ghost use Rattle.der_program_base.specs.Laws.{OneSplit, OneFirstWord, OneText, SpecialsEscape, OneContents};
+ghost use Rattle.der_program_base.specs.Laws.{OneSplit, OneFirstWord, OneText, SpecialsEscape, OneContents, ElementIsMessage};
 
 /// There is exactly one way to split an input into lines.
 pub fn one_split()
@@ -20,4 +20,9 @@ pub fn one_text()
 /// The contents of an input are determined: there is one list of blocks, or none.
 pub fn one_contents()
     ensures { OneContents }
+{}
+
+/// An input that is one element is its only message, unless PEM is asked for: nothing inside it is taken for a block.
+pub fn element_is_message()
+    ensures { ElementIsMessage }
 {}

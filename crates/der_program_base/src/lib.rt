@@ -1,4 +1,5 @@
-//! What the programs have in common: files, lines and words, blocks of PEM, text on a line, arguments, and standard input with its progress.
+//! What the programs have in common: what an input is, its blocks of PEM, files, lines and words, text on a line,
+//! statuses, arguments, and standard input with its progress.
 #![tactic(auto)]
 
 mod arguments;

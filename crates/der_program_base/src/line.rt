@@ -9,8 +9,8 @@ use std::alloc::{AllocError, Global};
 use std::fmt::{self, Display, Write};
 use std::marker::Model;
 
-/// A text without characters that end a line, or that move or hide other characters: control characters, U+061C, U+200B to U+200F, U+2028
-/// to U+202E, U+2060 to U+2069, and U+FEFF.
+/// A text without characters that end a line, or that move or hide other characters: control characters, U+061C, U+200B
+/// to U+200F, U+2028 to U+202E, U+2060 to U+2069, and U+FEFF.
 ///
 /// If such a character is appended, the bytes of its UTF-8 are written, each as a backslash and two hexadecimal digits.
 #[derive(Drop)]
@@ -58,7 +58,8 @@ impl Line {
         Ok(())
     }
 
-    /// Appends two hexadecimal digits for each byte, in upper case. If an allocation fails, a beginning of them was appended.
+    /// Appends two hexadecimal digits for each byte, in upper case. If an allocation fails, a beginning of them was
+    /// appended.
     pub fn push_hexadecimal(&mut self, bytes: &[u8]) -> Result<(), AllocError>
         ensures { OnOk result (self.new ≡ self.old ++ hexadecimal bytes.now) }
     {

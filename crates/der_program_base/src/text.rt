@@ -1,4 +1,5 @@
-//! Texts and bytes of messages on a line. The only error of each function is a failed allocation; then a beginning was appended.
+//! Texts and bytes of messages on a line. The only error of each function is a failed allocation; then a beginning was
+//! appended.
 //!
 //! The escapes can be undone: different texts of a message are different on a line (`laws::one_text`).
 ghost use Rattle.std.specs.Prelude.{◌≡◌, ◌++◌, OnOk};
@@ -8,7 +9,8 @@ ghost use Rattle.der_program_base.specs.Texts.{marked_bytes, text_or_bytes, quot
 use crate::Line;
 use std::alloc::AllocError;
 
-/// Appends a text. Characters that separate names or begin bytes get a backslash before them, and so does a backslash (RFC 4514, 2.4).
+/// Appends a text. Characters that separate names or begin bytes get a backslash before them, and so does a backslash
+/// (RFC 4514, 2.4).
 pub fn push_text(line: &mut Line, text: &str) -> Result<(), AllocError>
     ensures { OnOk result (line.new ≡ line.old ++ escaped is_special_in_names text.now) }
 {
