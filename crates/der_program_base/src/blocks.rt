@@ -19,6 +19,7 @@ const DASHES: &[u8] = b"-----";
 /// The blocks of PEM in a text, in order.
 #[derive(Debug, Drop)]
 pub struct Blocks {
+    /// The blocks, also faulty ones.
     pub blocks: Vec<Block>,
     /// How many lines after the last block aren't blank.
     pub skipped: usize,
