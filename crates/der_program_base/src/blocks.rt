@@ -104,26 +104,22 @@ fn first_block<'a>(
         Boundary::End(label) => {
             let label = label.to_vec(alloc)?;
             let bytes = Err(BlockFault::NoBegin);
-            Ok(Some((
-                Block {
-                    label,
-                    skipped,
-                    bytes,
-                },
-                after,
-            )))
+            let block = Block {
+                label,
+                skipped,
+                bytes,
+            };
+            Ok(Some((block, after)))
         }
         Boundary::Begin(label) => {
             let (bytes, rest) = body_of(alloc, label, after)?;
             let label = label.to_vec(alloc)?;
-            Ok(Some((
-                Block {
-                    label,
-                    skipped,
-                    bytes,
-                },
-                rest,
-            )))
+            let block = Block {
+                label,
+                skipped,
+                bytes,
+            };
+            Ok(Some((block, rest)))
         }
     }
 }
