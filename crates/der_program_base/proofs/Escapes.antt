@@ -46,24 +46,24 @@ escaped-append special front back h = ap (flat_map (escaped_character special)) 
     ∙ flat_map-append (escaped_character special) (chars front) (chars back)
 
 -- what each call of `write_str` does to a line
-abbrev pub TakesText : List ℕ → List ℕ → List ℕ → Type 0
-TakesText old text new = IsUtf8 text × (new ≡ old ++ shown text)
+abbrev pub AppendsText : List ℕ → List ℕ → List ℕ → Type 0
+AppendsText old text new = IsUtf8 text × (new ≡ old ++ shown text)
 
-takes_all : (old : List ℕ) (parts : List (List ℕ)) (new : List ℕ) → FoldsTo TakesText old parts new
-    → TakesText old (concat parts) new
-takes_all old [] new h = (IsUtf8-nil, sym h ∙ sym (ap (λ l. old ++ flat_map (escaped_character nothing_special) l) chars-nil ∙ append-nil old))
-takes_all old (part ∷ parts) new (line, first, rest) =
-    let others = takes_all line parts new rest in (
+appends_all : (old : List ℕ) (parts : List (List ℕ)) (new : List ℕ) → FoldsTo AppendsText old parts new
+    → AppendsText old (concat parts) new
+appends_all old [] new h = (IsUtf8-nil, sym h ∙ sym (ap (λ l. old ++ flat_map (escaped_character nothing_special) l) chars-nil ∙ append-nil old))
+appends_all old (part ∷ parts) new (line, first, rest) =
+    let others = appends_all line parts new rest in (
       IsUtf8-append part (concat parts) first.0 others.0,
       others.1 ∙ ap (λ l. l ++ shown (concat parts)) first.1 ∙ append_assoc old (shown part) (shown (concat parts))
           ∙ ap (λ l. old ++ l) (sym (escaped-append nothing_special part (concat parts) first.0)),
     )
 
 -- and what formatted text does
-pub formatted : (old : List ℕ) (output : Option (List ℕ)) (new : List ℕ) → WritesText TakesText old output new
+pub formatted : (old : List ℕ) (output : Option (List ℕ)) (new : List ℕ) → WritesText AppendsText old output new
     → IfSome output (λ text. new ≡ old ++ shown text)
 formatted old None new h = tt
-formatted old (Some text) new h = (takes_all old h.parts new h.calls).1 ∙ ap (λ l. old ++ shown l) h.whole
+formatted old (Some text) new h = (appends_all old h.parts new h.calls).1 ∙ ap (λ l. old ++ shown l) h.whole
 
 -- ---- a text of one line is written as it is
 

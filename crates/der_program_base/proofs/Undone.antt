@@ -8,7 +8,12 @@ use Rattle.std.specs.List.{flat_map}
 use Rattle.std.specs.Str.{chars, IsUtf8, encode_utf8_all as encodes}
 use Rattle.std.proofs.lemmas.Bool.Decides.{nat_tests}
 use Rattle.std.proofs.lemmas.Str.{encode_ascii, encode_same, length-encode, len_utf8_bounds, encodes-chars}
-use Rattle.der_program_base.specs.Line.{is_disruptive, IsEscaping, hexadecimal_digit, two_digits, escaped_byte, escaped_character, escaped, is_special_in_names, is_special_in_quotes}
+use Rattle.std.specs.Str.{is_utf8}
+use Rattle.std.specs.Prelude.{if◌then◌else◌}
+use Rattle.std.proofs.Common.{get_or}
+use Rattle.std.proofs.lemmas.Str.{IsUtf8-from_is_utf8}
+use Rattle.der_program_base.specs.Texts.{marked_bytes, text_or_bytes}
+use Rattle.der_program_base.specs.Line.{hexadecimal, is_disruptive, IsEscaping, hexadecimal_digit, two_digits, escaped_byte, escaped_character, escaped, is_special_in_names, is_special_in_quotes}
 
 -- ---- digits
 
@@ -156,6 +161,28 @@ module _ (special : ℕ → Bool) (h : IsEscaping special) where
   same_text text other u v e = sym (encodes-chars text u) ∙ ap encodes (same_characters (chars text) (chars other) e)
       ∙ encodes-chars other v
 
+  -- no text begins with a special character
+  starts_with_no : (mark : ℕ) → mark < 92 → special mark ≡ true → (text rest : List ℕ) → escaped special text ≡ mark ∷ rest → ⊥
+  starts_with_no mark small is text rest e = go (chars text) e
+    where
+      first : (c : ℕ) (x : List ℕ) → Form c → escaped_character special c ++ x ≡ mark ∷ rest → ⊥
+      first c x (plain s f) k =
+          let all : encode_utf8 c ++ x ≡ encode_utf8 mark ++ rest = rw f at k ∙ ap (λ l. l ++ rest) (sym (encode_ascii mark (omega (arith, small)))) in
+          true≢false (sym is ∙ ap special (sym (encode_same c mark x rest all).0) ∙ s)
+      first c x (marked s f) k =
+          let all : 92 ∷ encode_utf8 c ++ x ≡ mark ∷ rest = rw f at k in
+          let same : 92 ≡ mark = ap (λ l. get_or l 0 0) all in
+          omega (arith, small, same)
+      first c x (hidden d f) k =
+          let (b, bs, some) = encoded_some c in
+          let all : 92 ∷ two_digits b ++ flat_map escaped_byte bs ++ x ≡ mark ∷ rest = sym (rw (f, some) refl) ∙ k in
+          let same : 92 ≡ mark = ap (λ l. get_or l 0 0) all in
+          omega (arith, small, same)
+
+      go : (cs : List ℕ) → flat_map (escaped_character special) cs ≡ mark ∷ rest → ⊥
+      go [] k = cc
+      go (c ∷ cs) k = first c (flat_map (escaped_character special) cs) (form_of c) k
+
 -- ---- the two sets
 
 pub names_escape : IsEscaping is_special_in_names
@@ -175,3 +202,32 @@ quotes_escape = record {
   printed = λ c h. grind (arith, nat_tests);
   no_digit = λ number small. grind (arith, nat_tests);
 }
+
+-- ---- texts or bytes
+
+same_hexadecimal : (bytes other : List ℕ) → hexadecimal bytes ≡ hexadecimal other → bytes ≡ other
+same_hexadecimal [] [] e = refl
+same_hexadecimal [] (d ∷ ds) e = cc
+same_hexadecimal (b ∷ bs) [] e = cc
+same_hexadecimal (b ∷ bs) (d ∷ ds) e =
+    let high : hexadecimal_digit (b / 16) ≡ hexadecimal_digit (d / 16) = cc in
+    let low : hexadecimal_digit (b % 16) ≡ hexadecimal_digit (d % 16) = cc in
+    let rest : hexadecimal bs ≡ hexadecimal ds = cc in
+    let first = same_byte b d (same_digit _ _ high) (same_digit _ _ low) in
+    (λ i. first i ∷ same_hexadecimal bs ds rest i)
+
+mark_special : is_special_in_names 35 ≡ true
+unfolding is_special_in_names
+mark_special = refl
+
+by_forms : (bytes other : List ℕ) (p q : Bool) → is_utf8 bytes ≡ p → is_utf8 other ≡ q
+    → (if p then escaped is_special_in_names bytes else marked_bytes bytes) ≡ (if q then escaped is_special_in_names other else marked_bytes other)
+    → bytes ≡ other
+by_forms bytes other true true h k e =
+    same_text is_special_in_names names_escape bytes other (IsUtf8-from_is_utf8 bytes h) (IsUtf8-from_is_utf8 other k) e
+by_forms bytes other true false h k e = absurd (starts_with_no is_special_in_names names_escape 35 (lit< tt) mark_special bytes (hexadecimal other) e)
+by_forms bytes other false true h k e = absurd (starts_with_no is_special_in_names names_escape 35 (lit< tt) mark_special other (hexadecimal bytes) (sym e))
+by_forms bytes other false false h k e = let digits : hexadecimal bytes ≡ hexadecimal other = cc in same_hexadecimal bytes other digits
+
+pub same_text_or_bytes : (bytes other : List ℕ) → text_or_bytes bytes ≡ text_or_bytes other → bytes ≡ other
+same_text_or_bytes bytes other e = by_forms bytes other (is_utf8 bytes) (is_utf8 other) refl refl e

@@ -23,11 +23,11 @@ pub record IsText (input : List ℕ) : Type 0 where
   pub utf8 : IsUtf8 input
   pub characters : list_all is_text_character (chars input) ≡ true
 
--- A form that was asked for decides. Otherwise a whole element isn't taken as text, whatever is in it.
-abbrev pub IsTakenAsText : Option Form → List ℕ → Type 0
-IsTakenAsText None input = (IsElement input → ⊥) × IsText input
-IsTakenAsText (Some AsDer) input = ⊥
-IsTakenAsText (Some AsPem) input = ⊤
+-- A form that was asked for decides. Otherwise a whole element isn't read as text, whatever is in it.
+abbrev pub IsReadAsText : Option Form → List ℕ → Type 0
+IsReadAsText None input = (IsElement input → ⊥) × IsText input
+IsReadAsText (Some AsDer) input = ⊥
+IsReadAsText (Some AsPem) input = ⊤
 
 -- a byte order mark is named whatever follows it; else there is no block
 pub data IsGuessOf (input : List ℕ) (guess : Guess) : Type 0 where
@@ -36,10 +36,10 @@ pub data IsGuessOf (input : List ℕ) (guess : Guess) : Type 0 where
 
 -- what an input is: DER, blocks of PEM in a text, or a text without blocks or with a byte order mark
 abbrev pub IsContentsOf : Option Form → List ℕ → Contents → Type 0
-IsContentsOf form input Der = IsTakenAsText form input → ⊥
-IsContentsOf form input (Pem blocks) = IsTakenAsText form input × (has_mark input ≡ false)
+IsContentsOf form input Der = IsReadAsText form input → ⊥
+IsContentsOf form input (Pem blocks) = IsReadAsText form input × (has_mark input ≡ false)
     × AreBlocksOf (lines_of input) blocks × (0 < length blocks.blocks.items)
-IsContentsOf form input (Other guess) = IsTakenAsText form input × IsGuessOf input guess
+IsContentsOf form input (Other guess) = IsReadAsText form input × IsGuessOf input guess
 
 -- the same contents, with the same blocks
 abbrev pub AreSameContents : Contents → Contents → Type 0

@@ -5,6 +5,7 @@ use Rattle.der_program_base.specs.declared.contents.Form.{Form}
 use Rattle.der_program_base.specs.declared.contents.Contents.{Contents}
 use Rattle.der_program_base.specs.Contents.{IsContentsOf, AreSameContents, IsMessageOf}
 use Rattle.std.specs.Str.{IsUtf8}
+use Rattle.der_program_base.specs.Texts.{text_or_bytes}
 use Rattle.der_program_base.specs.Line.{escaped, IsEscaping, is_special_in_names, is_special_in_quotes}
 use Rattle.der_program_base.specs.Text.{IsSplit}
 use Rattle.der_program_base.specs.Words.{IsFirstWord}
@@ -23,6 +24,10 @@ OneFirstWord = (line word other rest left : List ℕ) → IsFirstWord line word 
 abbrev pub OneText : Type 0
 OneText = (special : ℕ → Bool) → IsEscaping special → (text other : List ℕ) → IsUtf8 text → IsUtf8 other
     → escaped special text ≡ escaped special other → text ≡ other
+
+-- Different bytes are different as a text or as bytes.
+abbrev pub OneTextOrBytes : Type 0
+OneTextOrBytes = (bytes other : List ℕ) → text_or_bytes bytes ≡ text_or_bytes other → bytes ≡ other
 
 -- the two sets of special characters are such
 pub record SpecialsEscape : Type 0 where

@@ -19,6 +19,7 @@ const DASHES: &[u8] = b"-----";
 /// The blocks of PEM in a text, in order.
 #[derive(Debug, Drop)]
 pub struct Blocks {
+    /// The blocks, also faulty ones.
     pub blocks: Vec<Block>,
     /// How many lines after the last block aren't blank.
     pub skipped: usize,
@@ -103,26 +104,22 @@ fn first_block<'a>(
         Boundary::End(label) => {
             let label = label.to_vec(alloc)?;
             let bytes = Err(BlockFault::NoBegin);
-            Ok(Some((
-                Block {
-                    label,
-                    skipped,
-                    bytes,
-                },
-                after,
-            )))
+            let block = Block {
+                label,
+                skipped,
+                bytes,
+            };
+            Ok(Some((block, after)))
         }
         Boundary::Begin(label) => {
             let (bytes, rest) = body_of(alloc, label, after)?;
             let label = label.to_vec(alloc)?;
-            Ok(Some((
-                Block {
-                    label,
-                    skipped,
-                    bytes,
-                },
-                rest,
-            )))
+            let block = Block {
+                label,
+                skipped,
+                bytes,
+            };
+            Ok(Some((block, rest)))
         }
     }
 }

@@ -1,7 +1,7 @@
 //! What an input is, and which of its bytes are messages.
 ghost use Rattle.std.specs.Prelude.{◌≡◌, ◌↔◌, ◌∷◌, IfOk, IsTrue};
 ghost use Rattle.picky_der_core.specs.Element.{IsElement};
-ghost use Rattle.der_program_base.specs.Contents.{IsContentsOf, IsTakenAsText, IsText, is_text_character};
+ghost use Rattle.der_program_base.specs.Contents.{IsContentsOf, IsReadAsText, IsText, is_text_character};
 ghost use Rattle.der_program_base.specs.Lines.{texts, lines_of};
 
 use crate::blocks::blocks_of;
@@ -40,7 +40,7 @@ pub enum Contents {
 pub fn contents_of(alloc: Global, input: &[u8], form: Option<Form>) -> Result<Contents, AllocError>
     ensures { IfOk result (IsContentsOf form input.now) }
 {
-    if !is_taken_as_text(input, form) {
+    if !is_read_as_text(input, form) {
         return Ok(Contents::Der);
     }
     if has_mark(input) {
@@ -55,8 +55,8 @@ pub fn contents_of(alloc: Global, input: &[u8], form: Option<Form>) -> Result<Co
     Ok(Contents::Pem(blocks))
 }
 
-fn is_taken_as_text(input: &[u8], form: Option<Form>) -> bool
-    ensures { IsTrue result ↔ IsTakenAsText form input.now }
+fn is_read_as_text(input: &[u8], form: Option<Form>) -> bool
+    ensures { IsTrue result ↔ IsReadAsText form input.now }
 {
     match form {
         Some(Form::Der) => false,

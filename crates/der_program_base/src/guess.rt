@@ -40,7 +40,7 @@ impl Guess {
             }
             Guess::Base64 => "this seems to be base64; decode it first, as with base64 -d",
             Guess::Mail => {
-                "this seems to be a mail; take its base64 part and decode it first, as with base64 -d"
+                "this seems to be a mail; cut out its base64 part and decode it first, as with base64 -d"
             }
             Guess::NearlyPem => {
                 "this has no block of PEM, but a line that nearly begins one, which would be -----BEGIN LABEL-----"
