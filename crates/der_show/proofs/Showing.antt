@@ -11,6 +11,7 @@ use Rattle.picky_der_core.specs.Writer.{beginning_after}
 use Rattle.der_show.specs.declared.element.Element.{Element}
 use Rattle.der_show.specs.declared.entry.Entry.{Entry}
 use Rattle.der_show.specs.declared.entry.Entry.TheVariants as entry
+use Rattle.der_show.specs.declared.options.LineForm.{LineForm}
 use Rattle.der_show.specs.declared.options.ShowOptions.{ShowOptions}
 use Rattle.der_show.specs.declared.rule.Rule.{Rule}
 use Rattle.der_show.specs.declared.step.Step.{Step}
@@ -107,31 +108,31 @@ module _ (o : ShowOptions) (bytes ends : List ℕ) (at : ℕ) (es : List Entry) 
 -- ---- the loop
 
 -- the listing has come to this offset, and the text of its entries is written
-pub record Comes (o : ShowOptions) (bytes ends : List ℕ) (at : ℕ) (is_der : Bool) (old new : Option (List ℕ)) : Type 0 where
+pub record Comes (form : LineForm) (o : ShowOptions) (bytes ends : List ℕ) (at : ℕ) (is_der : Bool) (old new : Option (List ℕ)) : Type 0 where
   pub stands : Stands bytes ends at
   pub entries : List Entry
   pub reached : IsReached o bytes ends at entries
   pub fine : is_der ≡ list_all kind.is_element entries
   pub plain : IsPlain o → Plainly bytes ends at entries
   pub text : List ℕ
-  pub is_text : IsTextOf entries text
+  pub is_text : IsTextOf form entries text
   pub written : Appends old new text
 
-pub comes_first : (o : ShowOptions) (bytes : List ℕ) (at : ℕ) (w : Option (List ℕ)) → at ≡ min o.start (length bytes) → Comes o bytes [] at true w w
-comes_first o bytes at w e = record {
+pub comes_first : (form : LineForm) (o : ShowOptions) (bytes : List ℕ) (at : ℕ) (w : Option (List ℕ)) → at ≡ min o.start (length bytes) → Comes form o bytes [] at true w w
+comes_first form o bytes at w e = record {
   stands = stands_at_first bytes at (omega (arith, e));
   entries = [];
   reached = subst (λ k. IsReached o bytes [] k []) (sym e) IsReached.start;
   fine = refl;
   plain = λ p. let first : at ≡ 0 = omega (arith, p.from_the_first, e) in subst (λ k. Plainly bytes [] k []) (sym first) (record { elements = []; walks = walk_begins bytes; before = IsBefore.none; are = refl });
   text = [];
-  is_text = no_text;
+  is_text = no_text form;
   written = Appends-nil w;
 }
 
-module _ (o : ShowOptions) (bytes ends : List ℕ) (at : ℕ) (is_der : Bool) (old mid : Option (List ℕ)) (c : Comes o bytes ends at is_der old mid) where
-  module _ (more : at < length bytes) (t : Step) (is : IsStep o (length ends) (ahead bytes ends at) t) (new : Option (List ℕ)) (w : WritesEntries (step_entries (length ends) at t) mid new) where
-    pub comes_on : GoesOn t → Comes o bytes (ends_after (innermost (length bytes) ends) at ends t) (offset_after (innermost (length bytes) ends) at t) (is_der && is_element t) old new
+module _ (form : LineForm) (o : ShowOptions) (bytes ends : List ℕ) (at : ℕ) (is_der : Bool) (old mid : Option (List ℕ)) (c : Comes form o bytes ends at is_der old mid) where
+  module _ (more : at < length bytes) (t : Step) (is : IsStep o (length ends) (ahead bytes ends at) t) (new : Option (List ℕ)) (w : WritesEntries form (step_entries (length ends) at t) mid new) where
+    pub comes_on : GoesOn t → Comes form o bytes (ends_after (innermost (length bytes) ends) at ends t) (offset_after (innermost (length bytes) ends) at t) (is_der && is_element t) old new
     comes_on on = record {
       stands = (step_stands bytes ends at c.stands more o t is).0;
       entries = c.entries ++ step_entries (length ends) at t;
@@ -139,12 +140,12 @@ module _ (o : ShowOptions) (bytes ends : List ℕ) (at : ℕ) (is_der : Bool) (o
       fine = fine_more o bytes ends at c.entries t is_der c.fine;
       plain = λ p. step_plain o bytes ends at c.entries t on p is more (c.plain p);
       text = c.text ++ w.text;
-      is_text = joined c.entries (step_entries (length ends) at t) c.text w.text c.is_text w.is_text;
+      is_text = joined form c.entries (step_entries (length ends) at t) c.text w.text c.is_text w.is_text;
       written = Appends-trans old mid new c.text w.text c.written w.written;
     }
 
   -- all is listed
-  pub comes_to_end : length bytes ≤ at → Shows o bytes (record { is_der = is_der }) old mid
+  pub comes_to_end : length bytes ≤ at → Shows form o bytes (record { is_der = is_der }) old mid
   comes_to_end done =
       let none_open = stands_last bytes ends at c.stands done in record {
         entries = c.entries;
@@ -158,7 +159,7 @@ module _ (o : ShowOptions) (bytes ends : List ℕ) (at : ℕ) (is_der : Bool) (o
 
   -- a rule ends the listing
   comes_to_rule : at < length bytes → length bytes < 2 ^ 64 → (r : Rule) → IsStep o (length ends) (ahead bytes ends at) (step.Stopped r) → (new : Option (List ℕ))
-      → WritesEntries (complaint_at at r ∷ []) mid new → Shows o bytes (record { is_der = is_der && is_element (step.Stopped r) }) old new
+      → WritesEntries form (complaint_at at r ∷ []) mid new → Shows form o bytes (record { is_der = is_der && is_element (step.Stopped r) }) old new
   comes_to_rule more small r is new w = record {
     entries = c.entries ++ (complaint_at at r ∷ []);
     listing = IsListing.stopped ends at c.entries r is.0 c.reached (stands_open bytes ends at c.stands more).0 is.1;
@@ -167,20 +168,20 @@ module _ (o : ShowOptions) (bytes ends : List ℕ) (at : ℕ) (is_der : Bool) (o
         let q = c.plain p in
         refused q.elements (record { offset = at; rule = r }) (walk_refused bytes ends at q.elements r q.walks q.before more small is.1) (ap (λ x. x ++ (complaint_at at r ∷ [])) q.are);
     text = c.text ++ w.text;
-    is_text = joined c.entries (complaint_at at r ∷ []) c.text w.text c.is_text w.is_text;
+    is_text = joined form c.entries (complaint_at at r ∷ []) c.text w.text c.is_text w.is_text;
     written = Appends-trans old mid new c.text w.text c.written w.written;
   }
 
   pub comes_to_stop : at < length bytes → length bytes < 2 ^ 64 → (t : Step) → goes_on t ≡ false → IsStep o (length ends) (ahead bytes ends at) t → (new : Option (List ℕ))
-      → WritesEntries (step_entries (length ends) at t) mid new → Shows o bytes (record { is_der = is_der && is_element t }) old new
+      → WritesEntries form (step_entries (length ends) at t) mid new → Shows form o bytes (record { is_der = is_der && is_element t }) old new
   comes_to_stop more small (step.Element h opening) off is new w = cc
   comes_to_stop more small (step.Broken r h) off is new w = cc
   comes_to_stop more small (step.Skipped r) off is new w = cc
   comes_to_stop more small (step.Stopped r) off is new w = comes_to_rule more small r is new w
 
-module _ {W : Type 0} (g : Ghosts W) (o : ShowOptions) (bytes ends : List ℕ) (at : ℕ) (is_der : Bool) (old mid : W) (c : Comes o bytes ends at is_der (g.written old) (g.written mid)) (same : g.faults mid ≡ g.faults old) (e : Asn1DerError) where
+module _ {W : Type 0} (g : Ghosts W) (form : LineForm) (o : ShowOptions) (bytes ends : List ℕ) (at : ℕ) (is_der : Bool) (old mid : W) (c : Comes form o bytes ends at is_der (g.written old) (g.written mid)) (same : g.faults mid ≡ g.faults old) (e : Asn1DerError) where
   -- nothing more was written
-  pub stops_here : IsFailure g mid e mid → Stops g o bytes old e mid
+  pub stops_here : IsFailure g mid e mid → Stops g form o bytes old e mid
   stops_here f = record {
     failure = failure_since g old mid mid e same f;
     entries = c.entries;
@@ -191,12 +192,12 @@ module _ {W : Type 0} (g : Ghosts W) (o : ShowOptions) (bytes ends : List ℕ) (
   }
 
   -- a beginning of what a step lists was written
-  pub stops_in_step : (t : Step) (new : W) → IsStep o (length ends) (ahead bytes ends at) t → StopsAmong g (step_entries (length ends) at t) mid e new → Stops g o bytes old e new
+  pub stops_in_step : (t : Step) (new : W) → IsStep o (length ends) (ahead bytes ends at) t → StopsAmong g form (step_entries (length ends) at t) mid e new → Stops g form o bytes old e new
   stops_in_step t new is s = record {
     failure = failure_since g old mid new e same s.failure;
     entries = c.entries ++ s.front;
     so_far = so_far_by o bytes ends at c.entries t s.front is c.reached s.begins;
     text = c.text ++ s.text;
-    is_text = joined c.entries s.front c.text s.text c.is_text s.is_text;
+    is_text = joined form c.entries s.front c.text s.text c.is_text s.is_text;
     written = beginning_after (g.written old) (g.written mid) (g.written new) c.text s.text c.written s.written;
   }

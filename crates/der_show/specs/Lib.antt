@@ -8,5 +8,6 @@ pub mod Openings
 pub mod Entries
 pub mod Steps
 pub mod Lines
+pub mod Json
 pub mod Shown
 pub mod Reasons

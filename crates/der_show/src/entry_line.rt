@@ -3,14 +3,16 @@ ghost use Rattle.std.specs.Prelude.{◌≡◌, ◌∷◌, [], IfOk, OnOk, IfErr,
 ghost use Rattle.picky_der_core.specs.WriterFaults.{IsOnceAtMost};
 ghost use Rattle.der_show.specs.Entries.{element_at};
 ghost use Rattle.der_show.specs.Steps.{step_entries};
-ghost use Rattle.der_show.specs.Shown.{IsLineOf, WritesEntries, StopsAmong};
+ghost use Rattle.der_show.specs.Shown.{IsTextLine, IsLineOf, WritesEntries, StopsAmong};
 
 use crate::columns::{front_of_complaint, front_of_element};
+use crate::json::{json_of_complaint, json_of_element};
 use crate::step::Step;
 use crate::type_name::push_type_name;
 use crate::value::{ValueForm, push_value};
-use crate::{Complaint, Element, Entry, Header};
+use crate::{Complaint, Element, Entry, Header, LineForm};
 use der_program_base::Line;
+use picky_der_core::asn1::Tag;
 use picky_der_core::misc::WriteExt;
 use picky_der_core::{Asn1DerError, Result};
 use std::alloc::{AllocError, Global};
@@ -31,11 +33,12 @@ pub(crate) fn write_step<W: WriteExt>(
     place: Place,
     step: &Step,
     form: ValueForm,
+    format: &LineForm,
     output: &mut W,
 ) -> Result<()>
-    ensures ok { OnOk result (WritesEntries (step_entries place.depth place.offset step.now)
+    ensures ok { OnOk result (WritesEntries format.now (step_entries place.depth place.offset step.now)
         (W.written output.old) (W.written output.new)) }
-    ensures err { IfErr result (λ e. StopsAmong W.WriteExt.own
+    ensures err { IfErr result (λ e. StopsAmong W.WriteExt.own format.now
         (step_entries place.depth place.offset step.now) output.old e output.new) }
     ensures counted { IsOnceAtMost (W.faults output.old) (W.faults output.new) }
     ensures no_fault { OnOk result (W.faults output.new ≡ W.faults output.old) }
@@ -46,16 +49,23 @@ pub(crate) fn write_step<W: WriteExt>(
         Step::Element(header, opening) => {
             let entry = element_at(place, header);
             let form = if opening.is_none() { Some(form) } else { None };
-            write_entry(alloc, ahead, entry, form, output)
+            write_entry(alloc, ahead, entry, form, format, output)
         }
         Step::Broken(rule, header) => {
             let complaint = Entry::Complaint(Complaint { offset, rule });
-            write_entry(alloc, ahead, complaint, None, output)?;
-            write_entry(alloc, ahead, element_at(place, header), Some(form), output)
+            write_entry(alloc, ahead, complaint, None, format, output)?;
+            write_entry(
+                alloc,
+                ahead,
+                element_at(place, header),
+                Some(form),
+                format,
+                output,
+            )
         }
         Step::Skipped(rule) | Step::Stopped(rule) => {
             let complaint = Entry::Complaint(Complaint { offset, rule });
-            write_entry(alloc, ahead, complaint, None, output)
+            write_entry(alloc, ahead, complaint, None, format, output)
         }
     }
 }
@@ -79,17 +89,18 @@ fn write_entry<W: WriteExt>(
     ahead: &[u8],
     entry: Entry,
     form: Option<ValueForm>,
+    format: &LineForm,
     output: &mut W,
 ) -> Result<()>
-    ensures ok { OnOk result (WritesEntries (entry ∷ []) (W.written output.old)
+    ensures ok { OnOk result (WritesEntries format.now (entry ∷ []) (W.written output.old)
         (W.written output.new)) }
-    ensures err { IfErr result (λ e. StopsAmong W.WriteExt.own (entry ∷ []) output.old e
+    ensures err { IfErr result (λ e. StopsAmong W.WriteExt.own format.now (entry ∷ []) output.old e
         output.new) }
     ensures counted { IsOnceAtMost (W.faults output.old) (W.faults output.new) }
     ensures no_fault { OnOk result (W.faults output.new ≡ W.faults output.old) }
     ensures goes_on { W.later output.old output.new }
 {
-    let mut line = line_of(alloc, ahead, &entry, form)?;
+    let mut line = line_of(alloc, ahead, &entry, form, format)?;
     if line.push('\n').is_err() {
         return Err(Asn1DerError::OutOfMemory);
     }
@@ -103,12 +114,53 @@ fn line_of(
     ahead: &[u8],
     entry: &Entry,
     form: Option<ValueForm>,
+    format: &LineForm,
 ) -> std::result::Result<String, AllocError>
-    ensures { IfOk result (λ line. IsLineOf entry.now (string_bytes line)) }
+    ensures { IfOk result (λ line. IsLineOf format.now entry.now (string_bytes line)) }
 {
-    match entry {
-        Entry::Element(element) => element_line(alloc, ahead, element, form),
-        Entry::Complaint(complaint) => complaint_line(alloc, complaint),
+    match (*format, entry) {
+        (LineForm::Text, Entry::Element(element)) => element_line(alloc, ahead, element, form),
+        (LineForm::Text, Entry::Complaint(complaint)) => complaint_line(alloc, complaint),
+        (LineForm::Json(source), Entry::Element(element)) => {
+            let type_name = type_text(alloc, element.tag)?;
+            let value = value_text(alloc, ahead, element, form)?;
+            json_of_element(alloc, &source, element, &type_name, value)
+        }
+        (LineForm::Json(source), Entry::Complaint(complaint)) => {
+            let rule = complaint.rule;
+            json_of_complaint(
+                alloc,
+                &source,
+                complaint.offset,
+                rule.words(),
+                rule.clause(),
+            )
+        }
+    }
+}
+
+// The name of a tag.
+fn type_text(alloc: Global, tag: Tag) -> std::result::Result<String, AllocError> {
+    let mut line = Line::new(alloc);
+    push_type_name(&mut line, tag)?;
+    Ok(line.into_string())
+}
+
+// The value of the element at the front of the bytes, or `None` if none is written.
+fn value_text(
+    alloc: Global,
+    ahead: &[u8],
+    element: &Element,
+    form: Option<ValueForm>,
+) -> std::result::Result<Option<String>, AllocError> {
+    let mut line = Line::new(alloc);
+    if let Some(form) = form {
+        push_content(alloc, &mut line, form, ahead, element)?;
+    }
+    let text = line.into_string();
+    match text.as_str().strip_prefix(' ') {
+        Some(value) => Ok(Some(String::from_str(alloc, value)?)),
+        None => Ok(None),
     }
 }
 
@@ -119,7 +171,7 @@ fn element_line(
     element: &Element,
     form: Option<ValueForm>,
 ) -> std::result::Result<String, AllocError>
-    ensures { IfOk result (λ line. IsLineOf (Entry.Element element.now) (string_bytes line)) }
+    ensures { IfOk result (λ line. IsTextLine (Entry.Element element.now) (string_bytes line)) }
 {
     let mut rest = Line::new(alloc);
     push_type_name(&mut rest, element.tag)?;
@@ -151,7 +203,7 @@ fn push_content(
 
 // The line of a complaint: the offset, and the rule with its clause.
 fn complaint_line(alloc: Global, complaint: &Complaint) -> std::result::Result<String, AllocError>
-    ensures { IfOk result (λ line. IsLineOf (Entry.Complaint complaint.now) (string_bytes line)) }
+    ensures { IfOk result (λ line. IsTextLine (Entry.Complaint complaint.now) (string_bytes line)) }
 {
     let mut rest = Line::new(alloc);
     let rule = complaint.rule;

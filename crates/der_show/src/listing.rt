@@ -3,12 +3,12 @@ ghost use Rattle.std.specs.Prelude.{◌≡◌, IfOk, OnOk, IfErr};
 ghost use Rattle.picky_der_core.specs.WriterFaults.{IsOnceAtMost};
 ghost use Rattle.der_show.specs.Shown.{Shows, Stops};
 
-use crate::ShowOptions;
 use crate::ends::Ends;
 use crate::entry_line::{Place, write_step};
 use crate::key_usage::bits_behind;
 use crate::step::{move_past, step_at};
 use crate::value::ValueForm;
+use crate::{LineForm, ShowOptions};
 use picky_der_core::Result;
 use picky_der_core::misc::WriteExt;
 use std::alloc::Global;
@@ -23,6 +23,24 @@ pub struct Shown {
     pub is_der: bool,
 }
 
+/// Writes the listing of bytes as text, as `show_as` does.
+pub fn show<W: WriteExt>(
+    alloc: Global,
+    bytes: &[u8],
+    options: &ShowOptions,
+    output: &mut W,
+) -> Result<Shown>
+    ensures ok { IfOk result (λ shown. Shows LineForm.Text options.now bytes.now shown
+        (W.written output.old) (W.written output.new)) }
+    ensures err { IfErr result (λ e. Stops W.WriteExt.own LineForm.Text options.now bytes.now
+        output.old e output.new) }
+    ensures counted { IsOnceAtMost (W.faults output.old) (W.faults output.new) }
+    ensures no_fault { OnOk result (W.faults output.new ≡ W.faults output.old) }
+    ensures goes_on { W.later output.old output.new }
+{
+    show_as(alloc, bytes, options, &LineForm::Text, output)
+}
+
 /// Writes the listing of bytes: a line for each element, and for each rule that is broken. Each line ends with the byte 0A.
 ///
 /// Without `keeps_going`, the first rule that is broken ends the listing. With it, the listing goes on in or after the element that breaks
@@ -30,14 +48,17 @@ pub struct Shown {
 ///
 /// The error is `OutOfMemory` if an allocation failed, or that of the writer. Then a beginning of the lines was written. Memory is needed
 /// for one line, and for the ends of the elements around an offset.
-pub fn show<W: WriteExt>(
+pub fn show_as<W: WriteExt>(
     alloc: Global,
     bytes: &[u8],
     options: &ShowOptions,
+    form: &LineForm,
     output: &mut W,
 ) -> Result<Shown>
-    ensures ok { IfOk result (λ shown. Shows options.now bytes.now shown (W.written output.old) (W.written output.new)) }
-    ensures err { IfErr result (λ e. Stops W.WriteExt.own options.now bytes.now output.old e output.new) }
+    ensures ok { IfOk result (λ shown. Shows form.now options.now bytes.now shown
+        (W.written output.old) (W.written output.new)) }
+    ensures err { IfErr result (λ e. Stops W.WriteExt.own form.now options.now bytes.now output.old
+        e output.new) }
     ensures counted { IsOnceAtMost (W.faults output.old) (W.faults output.new) }
     ensures no_fault { OnOk result (W.faults output.new ≡ W.faults output.old) }
     ensures goes_on { W.later output.old output.new }
@@ -52,8 +73,16 @@ pub fn show<W: WriteExt>(
         let ahead = &bytes[offset..end];
         let depth = ends.depth();
         let step = step_at(alloc, options, depth, ahead)?;
-        let form = form_of(options, key_usage == Some(offset));
-        write_step(alloc, ahead, Place { offset, depth }, &step, form, output)?;
+        let value = value_form(options, key_usage == Some(offset));
+        write_step(
+            alloc,
+            ahead,
+            Place { offset, depth },
+            &step,
+            value,
+            form,
+            output,
+        )?;
         is_der &= step.is_element();
         if !step.goes_on() {
             return Ok(Shown { is_der });
@@ -65,7 +94,7 @@ pub fn show<W: WriteExt>(
 }
 
 // The form of a value.
-fn form_of(options: &ShowOptions, is_key_usage: bool) -> ValueForm {
+fn value_form(options: &ShowOptions, is_key_usage: bool) -> ValueForm {
     ValueForm {
         limit: if options.is_short { SHORT } else { usize::MAX },
         is_key_usage,

@@ -80,7 +80,7 @@ impl Rule {
     }
 
     // What is wrong.
-    fn words(self) -> &'static str {
+    pub(crate) fn words(self) -> &'static str {
         match self {
             Rule::CutHeader => "the bytes end within the header of an element",
             Rule::LongTag => "the tag number is above 30, which isn't read here",
@@ -114,7 +114,7 @@ impl Rule {
     }
 
     // The clause of X.690.
-    fn clause(self) -> &'static str {
+    pub(crate) fn clause(self) -> &'static str {
         match self {
             Rule::CutHeader => "8.1.1",
             Rule::LongTag => "8.1.2.4",

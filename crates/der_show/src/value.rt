@@ -39,8 +39,8 @@ pub(crate) fn push_value(
         Tag::GENERALIZED_TIME => push_generalized_time(alloc, line, form, content),
         Tag::OCTET_STRING => push_hexadecimal(line, form, content),
         _ => match tag.class() {
-            TagClass::Universal => push_string(line, form, tag, content),
-            _ => push_printable(line, form, content),
+            TagClass::Universal => push_string(alloc, line, form, tag, content),
+            _ => push_printable(alloc, line, form, content),
         },
     }
 }
@@ -133,7 +133,7 @@ fn push_utc_time(
             let at = time.date_time();
             write!(line, " {at}")
         }
-        None => push_printable(line, form, content),
+        None => push_printable(alloc, line, form, content),
     }
 }
 
@@ -145,11 +145,11 @@ fn push_generalized_time(
     content: &[u8],
 ) -> Result<(), AllocError> {
     let Some(time) = GeneralizedTime::from_content(content.to_vec(alloc)?) else {
-        return push_printable(line, form, content);
+        return push_printable(alloc, line, form, content);
     };
     match time.date_time() {
         Some(at) => write!(line, " {at}"),
-        None => push_printable(line, form, content),
+        None => push_printable(alloc, line, form, content),
     }
 }
 

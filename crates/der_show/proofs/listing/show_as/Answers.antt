@@ -6,11 +6,11 @@ use Rattle.der_show.specs.Steps.{IsStep, offset_after}
 use Rattle.der_show.specs.Shown.{memory}
 use Rattle.der_show.proofs.Places.{stands_open, step_stands, step_moves}
 use Rattle.der_show.proofs.Showing.{comes_first, comes_on, comes_to_end, comes_to_stop, stops_here, stops_in_step}
-use Rattle.der_show.proofs.listing.show.Goals as goal
+use Rattle.der_show.proofs.listing.show_as.Goals as goal
 
 pub loop-offset-init : goal.loop-offset-init
 loop-offset-init g c = record {
-  comes = rw c.new-ends.ensures (comes_first c.args.options.now c.args.bytes.now _ _ c.min-offset.ensures);
+  comes = rw c.new-ends.ensures (comes_first c.args.form.now c.args.options.now c.args.bytes.now _ _ c.min-offset.ensures);
   faults = refl;
   goes_on = search rules;
 }
@@ -25,7 +25,7 @@ pub returns-in_err-step-clause-err : goal.returns-in_err-step-clause-err
 returns-in_err-step-clause-err g c =
     let p = err_from_is_err_and c.from_residual.result c.from_residual.ensures.1 in
     let i = c.loop-offset.invariant in
-    rw p.1 (stops_here g.W.WriteExt c.args.options.now c.args.bytes.now c.loop-offset.ends c.loop-offset.offset c.loop-offset.is_der _ _ i.comes i.faults _ (memory p.2 refl))
+    rw p.1 (stops_here g.W.WriteExt c.args.form.now c.args.options.now c.args.bytes.now c.loop-offset.ends c.loop-offset.offset c.loop-offset.is_der _ _ i.comes i.faults _ (memory p.2 refl))
 
 pub returns-in_err-write_step-clause-err : goal.returns-in_err-write_step-clause-err
 returns-in_err-write_step-clause-err g c =
@@ -38,7 +38,7 @@ returns-in_err-write_step-clause-err g c =
     let t = c.in_ok-step.step in
     let is = subst (λ k. IsStep o k (ahead b ends at) t) c.depth-depth.ensures (subst (λ k. IsStep o c.depth-depth.result (slice_range b at k) t) c.innermost-end.ensures c.in_ok-step.ensures) in
     let stops = rw c.depth-depth.ensures at c.in_err-write_step.ensures.err in
-    rw (p.1, p.2) (stops_in_step g.W.WriteExt o b ends at c.loop-offset.is_der _ _ i.comes i.faults _ t _ is stops)
+    rw (p.1, p.2) (stops_in_step g.W.WriteExt c.args.form.now o b ends at c.loop-offset.is_der _ _ i.comes i.faults _ t _ is stops)
 
 pub returns-then-not-goes_on-clause-ok : goal.returns-then-not-goes_on-clause-ok
 returns-then-not-goes_on-clause-ok g c =
@@ -50,7 +50,7 @@ returns-then-not-goes_on-clause-ok g c =
     let t = c.in_ok-step.step in
     let is = subst (λ k. IsStep o k (ahead b ends at) t) c.depth-depth.ensures (subst (λ k. IsStep o c.depth-depth.result (slice_range b at k) t) c.innermost-end.ensures c.in_ok-step.ensures) in
     let written = rw c.depth-depth.ensures at c.in_ok-write_step.ensures.ok in
-    rw c.is_element-is_der.ensures (comes_to_stop o b ends at c.loop-offset.is_der _ _ c.loop-offset.invariant.comes c.loop-offset-test.true small t (sym c.goes_on.ensures ∙ c.if-not-goes_on.true) is _ written)
+    rw c.is_element-is_der.ensures (comes_to_stop c.args.form.now o b ends at c.loop-offset.is_der _ _ c.loop-offset.invariant.comes c.loop-offset-test.true small t (sym c.goes_on.ensures ∙ c.if-not-goes_on.true) is _ written)
 
 pub move_past-requires : goal.move_past-requires
 move_past-requires g c =
@@ -75,11 +75,11 @@ returns-in_err-offset g c =
     let is = subst (λ k. IsStep o k (ahead b ends at) t) c.depth-depth.ensures (subst (λ k. IsStep o c.depth-depth.result (slice_range b at k) t) c.innermost-end.ensures c.in_ok-step.ensures) in
     let written = rw c.depth-depth.ensures at c.in_ok-write_step.ensures.ok in
     let on = sym c.goes_on.ensures ∙ c.if-not-goes_on.false in
-    let next = comes_on o b ends at c.loop-offset.is_der _ _ i.comes c.loop-offset-test.true t is _ written on in
+    let next = comes_on c.args.form.now o b ends at c.loop-offset.is_der _ _ i.comes c.loop-offset-test.true t is _ written on in
     let same = c.in_ok-write_step.ensures.no_fault ∙ i.faults in
     rw p.1 (record {
       ok = tt;
-      err = stops_here g.W.WriteExt o b _ _ _ _ _ next same _ (memory p.2 refl);
+      err = stops_here g.W.WriteExt c.args.form.now o b _ _ _ _ _ next same _ (memory p.2 refl);
       counted = (omega (arith, same), omega (arith, same));
       no_fault = tt;
       goes_on = g.met.W.WriteExt.later_trans _ _ _ i.goes_on c.in_ok-write_step.ensures.goes_on;
@@ -108,10 +108,10 @@ loop-offset-preserved g c =
     let written = rw c.depth-depth.ensures at c.in_ok-write_step.ensures.ok in
     let on = sym c.goes_on.ensures ∙ c.if-not-goes_on.false in
     rw (c.in_ok-offset.ensures.ends, c.in_ok-offset.ensures.offset, c.innermost-end.ensures, c.is_element-is_der.ensures) (record {
-      comes = comes_on o b ends at c.loop-offset.is_der _ _ i.comes c.loop-offset-test.true t is _ written on;
+      comes = comes_on c.args.form.now o b ends at c.loop-offset.is_der _ _ i.comes c.loop-offset-test.true t is _ written on;
       faults = c.in_ok-write_step.ensures.no_fault ∙ i.faults;
       goes_on = g.met.W.WriteExt.later_trans _ _ _ i.goes_on c.in_ok-write_step.ensures.goes_on;
     })
 
 pub returns-clause-ok : goal.returns-clause-ok
-returns-clause-ok g c = comes_to_end c.args.options.now c.args.bytes.now c.loop-offset.ends c.loop-offset.offset c.loop-offset.is_der _ _ c.loop-offset.invariant.comes c.loop-offset-test.false
+returns-clause-ok g c = comes_to_end c.args.form.now c.args.options.now c.args.bytes.now c.loop-offset.ends c.loop-offset.offset c.loop-offset.is_der _ _ c.loop-offset.invariant.comes c.loop-offset-test.false
