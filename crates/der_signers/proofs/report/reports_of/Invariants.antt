@@ -5,4 +5,4 @@ use Rattle.der_signers.specs.Report.{IsReport}
 use Rattle.der_signers.proofs.report.reports_of.Given as goal
 
 abbrev pub invariant-loop-signer : goal.invariant-loop-signer
-invariant-loop-signer l = AllZip (IsReport (option_copied l.content)) (take l.signer-index l.signers) l.reports.items
+invariant-loop-signer l = AllZip (IsReport l.signed_data (option_copied l.content)) (take l.signer-index l.signed_data.signer_infos.0.items) l.reports.items

@@ -1,7 +1,7 @@
 use Rattle.std.proofs.Common.{◌≡◌, get_or, nat_eq, ◌∙◌, ap}
 use Rattle.std.specs.Cmp.Lexicographic.{pointwise}
 use Rattle.der_signers.proofs.Values.{only_value}
-use Rattle.der_signers.proofs.attributes.has_only_value.Goals as goal
+use Rattle.der_signers.proofs.attributes.is_only_value.Goals as goal
 
 pub returns-in-len1 : goal.returns-in-len1
 returns-in-len1 c =
