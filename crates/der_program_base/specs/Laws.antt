@@ -1,5 +1,7 @@
 -- What holds of the definitions.
-use Rattle.std.specs.Prelude.{◌≡◌, ℕ, List}
+use Rattle.std.specs.Prelude.{◌≡◌, ℕ, Bool, List}
+use Rattle.std.specs.Str.{IsUtf8}
+use Rattle.der_program_base.specs.Line.{escaped, IsEscaping, is_special_in_names, is_special_in_quotes}
 use Rattle.der_program_base.specs.Text.{IsSplit}
 use Rattle.der_program_base.specs.Words.{IsFirstWord}
 
@@ -10,3 +12,12 @@ OneSplit = (input : List ℕ) (lines others : List (List ℕ)) (last other : Lis
 -- a line has one first word, and one rest
 abbrev pub OneFirstWord : Type 0
 OneFirstWord = (line word other rest left : List ℕ) → IsFirstWord line word rest → IsFirstWord line other left → (word ≡ other) × (rest ≡ left)
+
+-- Different texts are different after escaping.
+abbrev pub OneText : Type 0
+OneText = (special : ℕ → Bool) → IsEscaping special → (text other : List ℕ) → IsUtf8 text → IsUtf8 other → escaped special text ≡ escaped special other → text ≡ other
+
+-- the two sets of special characters are such
+pub record SpecialsEscape : Type 0 where
+  pub in_names : IsEscaping is_special_in_names
+  pub in_quotes : IsEscaping is_special_in_quotes

@@ -8,6 +8,7 @@ mod lines;
 mod pem;
 mod progress;
 mod source;
+mod status;
 mod text;
 mod words;
 
@@ -17,5 +18,6 @@ pub use lines::{Answers, answer_lines};
 pub use pem::{Block, blocks_of};
 pub use progress::Progress;
 pub use source::{read_input, standard_input};
-pub use text::{push_bytes, push_text, push_text_or_bytes};
+pub use status::Status;
+pub use text::{push_bytes, push_quoted, push_text, push_text_or_bytes};
 pub use words::{after, first_word};
