@@ -16,7 +16,9 @@ canonical_more text is_after_cr bytes whole i b inside is h =
 -- ---- numbered elements
 
 flat_map-numbered : {X A : Type 0} (f : ℕ × X → List A) (xs : List X) (x : X) (n : ℕ) → flat_map f (enumerate_from n (xs ++ x ∷ [])) ≡ flat_map f (enumerate_from n xs) ++ f (n + length xs, x)
-flat_map-numbered f [] x n = append-nil (f (n, x))
+flat_map-numbered f [] x n =
+    let here : n ≡ n + 0 = omega arith in
+    append-nil (f (n, x)) ∙ ap (λ k. f (k, x)) here
 flat_map-numbered f (y ∷ xs) x n =
     let next : n + 1 + length xs ≡ n + length (y ∷ xs) = omega arith in
     ap (λ l. f (n, y) ++ l) (flat_map-numbered f xs x (n + 1) ∙ ap (λ k. flat_map f (enumerate_from (n + 1) xs) ++ f (k, x)) next)
@@ -26,7 +28,7 @@ flat_map-numbered f (y ∷ xs) x n =
 pub numbered_more : {X A : Type 0} (f : ℕ × X → List A) (xs : List X) (i : ℕ) (x : X) → i < length xs → x ≡ get_or xs i x → flat_map f (enumerate_from 0 (take (i + 1) xs)) ≡ flat_map f (enumerate_from 0 (take i xs)) ++ f (i, x)
 numbered_more f xs i x inside is =
     let more : take (i + 1) xs ≡ take i xs ++ x ∷ [] = take_more xs i x inside ∙ ap (λ z. take i xs ++ z ∷ []) (sym is) in
-    let size : length (take i xs) ≡ i = omega (arith, length-take i xs) in
+    let size : 0 + length (take i xs) ≡ i = omega (arith, length-take i xs, inside) in
     ap (λ l. flat_map f (enumerate_from 0 l)) more ∙ (flat_map-numbered f (take i xs) x 0 ∙ ap (λ k. flat_map f (enumerate_from 0 (take i xs)) ++ f (k, x)) size)
 
 -- ---- the table of names

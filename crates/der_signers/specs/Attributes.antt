@@ -1,5 +1,5 @@
 -- The signed attributes of a signer (RFC 5652, 5.3, 11.1 and 11.2).
-use Rattle.std.specs.Prelude.{◌≡◌, ℕ, Bool, true, false, ◌&&◌, if◌then◌else◌, ◌⊎◌, List, [], ◌∷◌, Option, None, Some, option_map, map, nat_eq, All, count_by}
+use Rattle.std.specs.Prelude.{◌≡◌, ℕ, Bool, true, false, ◌&&◌, if◌then◌else◌, ◌⊎◌, List, [], ◌∷◌, Option, None, Some, option_map, map, nat_eq, All, count_by, MatchBool}
 use Rattle.std.specs.Cmp.Lexicographic.{pointwise}
 use Rattle.std.specs.List.{list_any}
 use Rattle.picky_der_core.specs.Primitive.{Primitive}
@@ -70,7 +70,7 @@ IsTypeDecided has c = ((c ≡ type.Same) × has) ⊎ ((c ≡ type.Different) × 
 abbrev pub IsTypeComparison : Option (List Attribute) → List ℕ → TypeComparison → Type 0
 IsTypeComparison None element c = c ≡ type.Absent
 IsTypeComparison (Some attributes) element c =
-    if has_kind content_type_identifier attributes then IsTypeDecided (HasOnlyValue content_type_identifier element attributes) c else (c ≡ type.Absent)
+    MatchBool (has_kind content_type_identifier attributes) (IsTypeDecided (HasOnlyValue content_type_identifier element attributes) c) (c ≡ type.Absent)
 
 -- ---- the attributes that must be there (5.3)
 

@@ -5,7 +5,6 @@ use Rattle.sha1.specs.Sha1.{sha1}
 use Rattle.sha2.specs.Sha256.{sha224, sha256}
 use Rattle.sha2.specs.Sha512.{sha384, sha512, sha512_224, sha512_256}
 use Rattle.der_types.specs.declared.object_identifier.ObjectIdentifier.{ObjectIdentifier}
-use Rattle.der_types.specs.ObjectIdentifier.{object_identifier_content}
 use Rattle.der_types.specs.contracts.object_identifier.ObjectIdentifierContents.TheImpl as identifier
 use Rattle.der_signers.specs.declared.digest.DigestAlgorithm.{DigestAlgorithm}
 use Rattle.der_signers.specs.declared.digest.DigestAlgorithm.TheVariants.{Md5, Sha1, Sha224, Sha256, Sha384, Sha512, Sha512To224, Sha512To256}
@@ -32,9 +31,16 @@ arcs_of_algorithm Sha512 = 2 ∷ 16 ∷ 840 ∷ 1 ∷ 101 ∷ 3 ∷ 4 ∷ 2 ∷ 
 arcs_of_algorithm Sha512To224 = 2 ∷ 16 ∷ 840 ∷ 1 ∷ 101 ∷ 3 ∷ 4 ∷ 2 ∷ 5 ∷ []
 arcs_of_algorithm Sha512To256 = 2 ∷ 16 ∷ 840 ∷ 1 ∷ 101 ∷ 3 ∷ 4 ∷ 2 ∷ 6 ∷ []
 
--- its content
+-- the content of that object identifier
 abbrev pub identifier_of : DigestAlgorithm → List ℕ
-identifier_of algorithm = object_identifier_content (arcs_of_algorithm algorithm)
+identifier_of Md5 = 0x2A ∷ 0x86 ∷ 0x48 ∷ 0x86 ∷ 0xF7 ∷ 0x0D ∷ 0x02 ∷ 0x05 ∷ []
+identifier_of Sha1 = 0x2B ∷ 0x0E ∷ 0x03 ∷ 0x02 ∷ 0x1A ∷ []
+identifier_of Sha224 = 0x60 ∷ 0x86 ∷ 0x48 ∷ 0x01 ∷ 0x65 ∷ 0x03 ∷ 0x04 ∷ 0x02 ∷ 0x04 ∷ []
+identifier_of Sha256 = 0x60 ∷ 0x86 ∷ 0x48 ∷ 0x01 ∷ 0x65 ∷ 0x03 ∷ 0x04 ∷ 0x02 ∷ 0x01 ∷ []
+identifier_of Sha384 = 0x60 ∷ 0x86 ∷ 0x48 ∷ 0x01 ∷ 0x65 ∷ 0x03 ∷ 0x04 ∷ 0x02 ∷ 0x02 ∷ []
+identifier_of Sha512 = 0x60 ∷ 0x86 ∷ 0x48 ∷ 0x01 ∷ 0x65 ∷ 0x03 ∷ 0x04 ∷ 0x02 ∷ 0x03 ∷ []
+identifier_of Sha512To224 = 0x60 ∷ 0x86 ∷ 0x48 ∷ 0x01 ∷ 0x65 ∷ 0x03 ∷ 0x04 ∷ 0x02 ∷ 0x05 ∷ []
+identifier_of Sha512To256 = 0x60 ∷ 0x86 ∷ 0x48 ∷ 0x01 ∷ 0x65 ∷ 0x03 ∷ 0x04 ∷ 0x02 ∷ 0x06 ∷ []
 
 -- the bytes of an object identifier's content
 abbrev pub content_of : ObjectIdentifier → List ℕ

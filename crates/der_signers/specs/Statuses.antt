@@ -13,8 +13,8 @@ use Rattle.der_signers.specs.declared.report.Report.{Report}
 use Rattle.der_signers.specs.declared.message.Message.{Message}
 use Rattle.der_signers.specs.declared.outcome.Outcome.{Outcome}
 use Rattle.der_signers.specs.declared.outcome.Outcome.TheVariants as outcome
-use Rattle.der_signers.specs.declared.status.Status.{Status}
-use Rattle.der_signers.specs.declared.status.Status.TheVariants.{Fine, Refused, NothingCompared}
+use Rattle.der_program_base.specs.declared.status.Status.{Status}
+use Rattle.der_program_base.specs.declared.status.Status.TheVariants.{Fine, Refused, NothingCompared}
 
 -- ---- a signer
 
@@ -61,10 +61,13 @@ content_differs (Some content.Same) = false
 content_differs (Some content.Different) = true
 content_differs None = false
 
+-- the content or something of a signer
+abbrev pub something_differs : Message → Bool
+something_differs m = content_differs m.content || list_any differs m.reports.items
+
 -- nothing differs, and a digest was compared or none was
 abbrev pub message_status : Message → Status
-message_status m =
-    if content_differs m.content || list_any differs m.reports.items then Refused else if list_any was_compared m.reports.items then Fine else NothingCompared
+message_status m = if something_differs m then Refused else if list_any was_compared m.reports.items then Fine else NothingCompared
 
 abbrev pub status_of : Outcome → Status
 status_of (outcome.Read m) = message_status m

@@ -2,12 +2,12 @@
 ghost use Rattle.std.specs.Prelude.{◌≡◌, ◌++◌, [], ◌∷◌, false, IfOk, option_map, string_bytes};
 ghost use Rattle.serde_json.specs.View.{view};
 ghost use Rattle.serde_json.specs.Written.{compact_text, has_float};
-ghost use Rattle.der_signers.specs.Json.{block_data, content_data, digest_data, who_data, hint_data, signer_data, no_signers_data, refused_data, digest_if};
+ghost use Rattle.der_signers.specs.Json.{block_data, certificate_data, comparisons_data, content_data, digest_data, digests_data, hint_data, no_signers_data, refused_data, signer_data, who_data};
 
 use crate::comparison::{ContentComparison, DigestComparison, listed_word};
 use crate::message::Message;
 use crate::report::{Report, Signed};
-use crate::who::Who;
+use crate::who::{CertificateName, Who};
 use serde_json::{Value, json};
 use std::alloc::{AllocError, Global};
 
@@ -78,29 +78,60 @@ fn signer_value(
         ≡ signer_data file.now block content index report.now) }
 {
     let block = block_value(block);
-    let who = who_value(alloc, &report.who)?;
-    let content = content_value(alloc, content)?;
-    let of_attributes = matches!(report.signed, Signed::Attributes);
-    let attributes_digest = digest_value(alloc, &report.signed_digest, of_attributes)?;
-    let content_digest = digest_value(alloc, &report.signed_digest, !of_attributes)?;
-    let hint = hint_value(alloc, report.message_digest)?;
+    let signer = who_value(alloc, &report.who, &report.digest, &report.signature)?;
+    let comparisons = comparisons_value(alloc, content, report)?;
+    let digests = digests_value(alloc, report.signed, &report.signed_digest)?;
     json!(in alloc; {
         "file": file,
         "block": block,
         "signerIndex": index,
-        "signer": who,
-        "digestAlgorithm": report.digest.as_str(),
-        "signatureAlgorithm": report.signature.as_str(),
-        "messageDigest": report.message_digest.word(),
-        "contentType": report.content_type.word(),
-        "attributes": report.attributes.word(),
-        "digestAlgorithms": listed_word(report.is_listed),
+        "signer": signer,
+        "comparisons": comparisons,
+        "digests": digests,
+        "verified": false
+    })
+}
+
+// What came of each comparison.
+fn comparisons_value(
+    alloc: Global,
+    content: Option<ContentComparison>,
+    report: &Report,
+) -> Result<Value, AllocError>
+    ensures { IfOk result (λ value. view value ≡ comparisons_data content report.now) }
+{
+    let digest = report.message_digest.word();
+    let kind = report.content_type.word();
+    let attributes = report.attributes.word();
+    let listed = listed_word(report.is_listed);
+    let content = content_value(alloc, content)?;
+    let hint = hint_value(alloc, report.message_digest)?;
+    json!(in alloc; {
+        "messageDigest": digest,
+        "contentType": kind,
+        "attributes": attributes,
+        "digestAlgorithms": listed,
         "content": content,
-        "digestOfSignedAttributes": attributes_digest,
-        "digestOfContent": content_digest,
-        "verified": false,
         "hint": hint
     })
+}
+
+// The digest of what is signed: of the signed attributes, or of the content.
+fn digests_value(
+    alloc: Global,
+    signed: Signed,
+    digest: &Option<Vec<u8>>,
+) -> Result<Value, AllocError>
+    ensures { IfOk result (λ value. view value
+        ≡ digests_data signed (option_map (λ d. d.items) digest.now)) }
+{
+    let digest = digest_value(alloc, digest)?;
+    match signed {
+        Signed::Attributes => {
+            json!(in alloc; {"signedAttributes": digest, "content": null})
+        }
+        Signed::Content => json!(in alloc; {"signedAttributes": null, "content": digest}),
+    }
 }
 
 // The object of a message without signers.
@@ -148,20 +179,46 @@ fn block_value(block: Option<usize>) -> Value
     }
 }
 
-// The issuer and the serial number, or the key identifier.
-fn who_value(alloc: Global, who: &Who) -> Result<Value, AllocError>
-    ensures { IfOk result (λ value. view value ≡ who_data who.now) }
+// The issuer and the serial number or the key identifier, and the names of the algorithms.
+fn who_value(
+    alloc: Global,
+    who: &Who,
+    digest: &str,
+    signature: &str,
+) -> Result<Value, AllocError>
+    ensures { IfOk result (λ value. view value ≡ who_data who.now digest.now signature.now) }
 {
     match who {
-        Who::Certificate(name) => {
-            let serial_number = hex::encode(alloc, name.serial_number.as_slice())?;
-            json!(in alloc; {"issuer": name.issuer.as_str(), "serialNumber": serial_number})
-        }
+        Who::Certificate(name) => certificate_value(alloc, name, digest, signature),
         Who::KeyIdentifier(identifier) => {
             let identifier = hex::encode(alloc, identifier.as_slice())?;
-            json!(in alloc; {"subjectKeyIdentifier": identifier})
+            json!(in alloc; {
+                "subjectKeyIdentifier": identifier,
+                "digestAlgorithm": digest,
+                "signatureAlgorithm": signature
+            })
         }
     }
+}
+
+// The issuer and the serial number, and the names of the algorithms.
+fn certificate_value(
+    alloc: Global,
+    name: &CertificateName,
+    digest: &str,
+    signature: &str,
+) -> Result<Value, AllocError>
+    ensures { IfOk result (λ value. view value
+        ≡ certificate_data name.now digest.now signature.now) }
+{
+    let issuer = name.issuer.as_str();
+    let serial_number = hex::encode(alloc, name.serial_number.as_slice())?;
+    json!(in alloc; {
+        "issuer": issuer,
+        "serialNumber": serial_number,
+        "digestAlgorithm": digest,
+        "signatureAlgorithm": signature
+    })
 }
 
 // What came of comparing contents, or null.
@@ -174,18 +231,14 @@ fn content_value(alloc: Global, content: Option<ContentComparison>) -> Result<Va
     }
 }
 
-// The digest of what is signed, if it is the one asked for, or null.
-fn digest_value(
-    alloc: Global,
-    digest: &Option<Vec<u8>>,
-    is_asked: bool,
-) -> Result<Value, AllocError>
+// A digest, or null.
+fn digest_value(alloc: Global, digest: &Option<Vec<u8>>) -> Result<Value, AllocError>
     ensures { IfOk result (λ value. view value
-        ≡ digest_data (digest_if is_asked (option_map (λ d. d.items) digest.now))) }
+        ≡ digest_data (option_map (λ d. d.items) digest.now)) }
 {
     match digest {
-        Some(digest) if is_asked => Ok(Value::String(hex::encode(alloc, digest.as_slice())?)),
-        _ => Ok(Value::Null),
+        Some(digest) => Ok(Value::String(hex::encode(alloc, digest.as_slice())?)),
+        None => Ok(Value::Null),
     }
 }
 

@@ -2,13 +2,13 @@
 ghost use Rattle.std.specs.Prelude.{◌≡◌, ◌≢◌, IfOk, IfErr};
 ghost use Rattle.std.specs.List.{list_any};
 ghost use Rattle.der_signers.specs.Outcome.{IsContentInfo, IsOutcome};
-ghost use Rattle.der_signers.specs.Statuses.{status_of, message_status, differs, was_compared, content_differs};
+ghost use Rattle.der_signers.specs.Statuses.{status_of, message_status, something_differs, differs, was_compared, content_differs};
 
 use crate::comparison::{ContentComparison, DigestComparison, RequiredAttributes, TypeComparison};
 use crate::message::{Message, read_message};
 use crate::report::Report;
 use crate::request::Request;
-use crate::status::Status;
+use der_program_base::Status;
 use der_cms::{ContentInfo, ContentType, SignedData, values};
 use picky_asn1_der::{Asn1DerError, DecodeError, Result, from_der};
 use std::alloc::Global;
@@ -50,13 +50,36 @@ impl Outcome {
 fn message_status(message: &Message) -> Status
     ensures { result ≡ message_status message.now }
 {
-    if content_differs(message.content) || message.reports.iter().any(differs) {
+    if something_differs(message) {
         Status::Refused
-    } else if message.reports.iter().any(was_compared) {
+    } else if something_was_compared(message) {
         Status::Fine
     } else {
         Status::NothingCompared
     }
+}
+
+// Whether something of a message differs from what it must be.
+fn something_differs(message: &Message) -> bool
+    ensures { result ≡ something_differs message.now }
+{
+    let in_content = content_differs(message.content);
+    let in_signers = some_signer_differs(message);
+    in_content || in_signers
+}
+
+// Whether something of a signer differs.
+fn some_signer_differs(message: &Message) -> bool
+    ensures { result ≡ list_any differs message.now.reports.items }
+{
+    message.reports.iter().any(differs)
+}
+
+// Whether the digest of some signer's content was compared, and is the same.
+fn something_was_compared(message: &Message) -> bool
+    ensures { result ≡ list_any was_compared message.now.reports.items }
+{
+    message.reports.iter().any(was_compared)
 }
 
 // Whether a message's own content isn't the one that was given.

@@ -1,5 +1,5 @@
 //! What is found of a signer.
-ghost use Rattle.std.specs.Prelude.{◌≡◌, Some, IfOk, IfErr, option_map};
+ghost use Rattle.std.specs.Prelude.{◌≡◌, All, Some, IfOk, IfErr, option_map};
 ghost use Rattle.std.specs.List.{AllZip};
 ghost use Rattle.std.specs.Option.{option_copied};
 ghost use Rattle.der_signers.specs.Attributes.{attributes_of};
@@ -65,9 +65,32 @@ pub fn reports_of(
     ensures err { IfErr result (λ e. e ≡ Asn1DerError.OutOfMemory) }
 {
     let content_type = encoding_of(alloc, &signed_data.encap_content_info.e_content_type)?;
+    reports_on(
+        alloc,
+        signed_data,
+        &content_type,
+        &signed_data.signer_infos.0,
+        content,
+    )
+}
+
+// The reports on these signers of a message whose content has the type with this encoding.
+fn reports_on(
+    alloc: Global,
+    signed_data: &SignedData,
+    content_type: &[u8],
+    signers: &[SignerInfo],
+    content: Option<&[u8]>,
+) -> Result<Vec<Report>>
+    requires writable { All IsWritableSigner signers.now }
+    requires content_type { content_type.now ≡ type_encoding signed_data.now }
+    ensures ok { IfOk result (λ reports. AllZip (IsReport signed_data.now (option_copied content.entry))
+        signers.now reports.items) }
+    ensures err { IfErr result (λ e. e ≡ Asn1DerError.OutOfMemory) }
+{
     let mut reports = Vec::new(alloc);
-    for signer in &signed_data.signer_infos.0 {
-        let report = report_of(alloc, signed_data, &content_type, signer, content)?;
+    for signer in signers {
+        let report = report_of(alloc, signed_data, content_type, signer, content)?;
         reports.push(report)?;
     }
     Ok(reports)

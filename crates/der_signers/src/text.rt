@@ -1,13 +1,15 @@
 //! Lines of text. The only error of each function is a failed allocation.
-ghost use Rattle.std.specs.Prelude.{◌≡◌, IfOk, option_map, string_bytes};
+ghost use Rattle.std.specs.Prelude.{◌≡◌, ◌++◌, [], ◌∷◌, IfOk, option_map, string_bytes};
 ghost use Rattle.hex.specs.Hex.{encode_lower};
+ghost use Rattle.der_program_base.specs.Line.{shown};
 ghost use Rattle.der_signers.specs.Comparison.{hint_of};
-ghost use Rattle.der_signers.specs.Text.{front_text, who_text, signer_words, compared_words, content_words, signed_words, signed_name, hint_words, counted, signer_line, no_signers_line, refusal_line};
+ghost use Rattle.der_signers.specs.Text.{front_text, who_text, certificate_text, signer_text, no_signers_text, signer_words, compared_words, content_words, signed_words, signed_name, hint_words, counted, signer_line, no_signers_line, refusal_line};
 
 use crate::comparison::{ContentComparison, DigestComparison, listed_word};
 use crate::message::Message;
 use crate::report::{Report, Signed};
-use crate::who::Who;
+use crate::who::{CertificateName, Who};
+use der_program_base::Line;
 use std::alloc::{AllocError, Global};
 
 /// Returns the line of a signer in the message with this comparison of contents.
@@ -21,12 +23,27 @@ pub fn signer_line(
     ensures { IfOk result (λ line. string_bytes line
         ≡ signer_line file.now block content report.now) }
 {
+    let text = signer_text(alloc, file, block, content, report)?;
+    shown_line(alloc, &text)
+}
+
+// The text of a signer's line.
+fn signer_text(
+    alloc: Global,
+    file: &str,
+    block: Option<usize>,
+    content: Option<ContentComparison>,
+    report: &Report,
+) -> Result<String, AllocError>
+    ensures { IfOk result (λ text. string_bytes text
+        ≡ signer_text file.now block content report.now) }
+{
     let front = front_text(alloc, file, block)?;
     let signer = signer_words(alloc, report)?;
     let compared = compared_words(alloc, content, report)?;
     let signed = signed_words(alloc, report.signed, &report.signed_digest)?;
     let hint = hint_words(alloc, report.message_digest)?;
-    format!(in alloc; "{front}{signer}{compared}{signed}; signature not verified{hint}\n")
+    format!(in alloc; "{front}{signer}{compared}{signed}; signature not verified{hint}")
 }
 
 /// Returns the line of a message without signers.
@@ -39,11 +56,25 @@ pub fn no_signers_line(
     ensures { IfOk result (λ line. string_bytes line
         ≡ no_signers_line file.now block message.now) }
 {
+    let text = no_signers_text(alloc, file, block, message)?;
+    shown_line(alloc, &text)
+}
+
+// The text of the line of a message without signers.
+fn no_signers_text(
+    alloc: Global,
+    file: &str,
+    block: Option<usize>,
+    message: &Message,
+) -> Result<String, AllocError>
+    ensures { IfOk result (λ text. string_bytes text
+        ≡ no_signers_text file.now block message.now) }
+{
     let front = front_text(alloc, file, block)?;
     let certificates = counted(alloc, message.certificates, "certificate")?;
     let lists = counted(alloc, message.lists, "list")?;
     let content = content_words(alloc, message.content)?;
-    format!(in alloc; "{front}no signers; {certificates}, {lists}{content}\n")
+    format!(in alloc; "{front}no signers; {certificates}, {lists}{content}")
 }
 
 /// Returns the line of a message that is refused for this reason.
@@ -57,7 +88,19 @@ pub fn refusal_line(
         ≡ refusal_line file.now block reason.now) }
 {
     let front = front_text(alloc, file, block)?;
-    format!(in alloc; "{front}refused: {reason}\n")
+    let text = format!(in alloc; "{front}refused: {reason}")?;
+    shown_line(alloc, &text)
+}
+
+// A text on one line, and the end of the line.
+fn shown_line(alloc: Global, text: &str) -> Result<String, AllocError>
+    ensures { IfOk result (λ line. string_bytes line ≡ shown text.now ++ 10 ∷ []) }
+{
+    let mut line = Line::new(alloc);
+    line.push_str(text)?;
+    let mut line = line.into_string();
+    line.push_str("\n")?;
+    Ok(line)
 }
 
 // What each line begins with.
@@ -85,16 +128,21 @@ fn who_text(alloc: Global, who: &Who) -> Result<String, AllocError>
     ensures { IfOk result (λ text. string_bytes text ≡ who_text who.now) }
 {
     match who {
-        Who::Certificate(name) => {
-            let issuer = name.issuer.as_str();
-            let serial_number = hexadecimal(alloc, name.serial_number.as_slice())?;
-            format!(in alloc; "issuer {issuer}; serial number {serial_number}")
-        }
+        Who::Certificate(name) => certificate_text(alloc, name),
         Who::KeyIdentifier(identifier) => {
             let identifier = hexadecimal(alloc, identifier.as_slice())?;
             format!(in alloc; "key identifier {identifier}")
         }
     }
+}
+
+// The issuer and the serial number.
+fn certificate_text(alloc: Global, name: &CertificateName) -> Result<String, AllocError>
+    ensures { IfOk result (λ text. string_bytes text ≡ certificate_text name.now) }
+{
+    let serial_number = hexadecimal(alloc, name.serial_number.as_slice())?;
+    let issuer = name.issuer.as_str();
+    format!(in alloc; "issuer {issuer}; serial number {serial_number}")
 }
 
 // What came of each comparison.
