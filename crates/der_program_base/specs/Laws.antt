@@ -1,5 +1,8 @@
 -- What holds of the definitions.
-use Rattle.std.specs.Prelude.{◌≡◌, ℕ, Bool, List}
+use Rattle.std.specs.Prelude.{◌≡◌, ℕ, Bool, List, Option}
+use Rattle.der_program_base.specs.declared.contents.Form.{Form}
+use Rattle.der_program_base.specs.declared.contents.Contents.{Contents}
+use Rattle.der_program_base.specs.Contents.{IsContentsOf, AreSameContents}
 use Rattle.std.specs.Str.{IsUtf8}
 use Rattle.der_program_base.specs.Line.{escaped, IsEscaping, is_special_in_names, is_special_in_quotes}
 use Rattle.der_program_base.specs.Text.{IsSplit}
@@ -21,3 +24,7 @@ OneText = (special : ℕ → Bool) → IsEscaping special → (text other : List
 pub record SpecialsEscape : Type 0 where
   pub in_names : IsEscaping is_special_in_names
   pub in_quotes : IsEscaping is_special_in_quotes
+
+-- an input has one list of blocks, or none
+abbrev pub OneContents : Type 0
+OneContents = (form : Option Form) (input : List ℕ) (one other : Contents) → IsContentsOf form input one → IsContentsOf form input other → AreSameContents one other

@@ -1,5 +1,5 @@
 //! Laws of the definitions that the contracts use.
-ghost use Rattle.der_program_base.specs.Laws.{OneSplit, OneFirstWord, OneText, SpecialsEscape};
+ghost use Rattle.der_program_base.specs.Laws.{OneSplit, OneFirstWord, OneText, SpecialsEscape, OneContents};
 
 /// There is exactly one way to split an input into lines.
 pub fn one_split()
@@ -15,4 +15,9 @@ pub fn one_first_word()
 pub fn one_text()
     ensures texts { OneText }
     ensures specials { SpecialsEscape }
+{}
+
+/// The contents of an input are determined: there is one list of blocks, or none.
+pub fn one_contents()
+    ensures { OneContents }
 {}

@@ -2,10 +2,12 @@
 #![tactic(auto)]
 
 mod arguments;
+mod blocks;
+mod contents;
+mod guess;
 pub mod laws;
 mod line;
 mod lines;
-mod pem;
 mod progress;
 mod source;
 mod status;
@@ -13,9 +15,11 @@ mod text;
 mod words;
 
 pub use arguments::{TROUBLE, report};
+pub use blocks::{Block, BlockFault, Blocks};
+pub use contents::{Contents, Form, contents_of};
+pub use guess::Guess;
 pub use line::Line;
 pub use lines::{Answers, answer_lines};
-pub use pem::{Block, blocks_of};
 pub use progress::Progress;
 pub use source::{read_input, standard_input};
 pub use status::Status;
