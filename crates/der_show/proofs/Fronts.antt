@@ -31,3 +31,8 @@ module _ (bytes : List ℕ) (h : Header) (has : HasHeader bytes h) where
     where
       header_size_is : h.header_len ≡ header_size (length has.content)
       header_size_is = omega (arith, has.header_len)
+
+-- an element that is in DER has a header
+pub has_header : (front : List ℕ) (h : Header) → IsFound front h → HasHeader front h
+has_header front h f =
+    record { content = f.content; rest = f.rest; is = f.is; number = f.canonical.number; content_len = sym f.content_len; header_len = omega (arith, f.header_len) }

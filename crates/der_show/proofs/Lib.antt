@@ -6,4 +6,7 @@ pub mod Ranges
 pub mod Listed
 pub mod Fronts
 pub mod Walking
-pub mod Lines
+pub mod OpeningLemmas
+pub mod Places
+pub mod Texts
+pub mod Showing

@@ -25,11 +25,11 @@ abbrev pub IsOpen : ℕ → List ℕ → Type 0
 IsOpen at [] = Unit {0}
 IsOpen at (end ∷ ends) = at < end
 
-ends_within : (len at : ℕ) (ends : List ℕ) → AreEnds len at ends → (at ≤ innermost len ends) × (innermost len ends ≤ len)
+pub ends_within : (len at : ℕ) (ends : List ℕ) → AreEnds len at ends → (at ≤ innermost len ends) × (innermost len ends ≤ len)
 ends_within len at [] h = (h, omega arith)
 ends_within len at (end ∷ ends) h = let (low, high) = ends_within len end ends h.1 in (h.0, omega arith)
 
-ends_from : (len at next : ℕ) (ends : List ℕ) → AreEnds len at ends → next ≤ innermost len ends → AreEnds len next ends
+pub ends_from : (len at next : ℕ) (ends : List ℕ) → AreEnds len at ends → next ≤ innermost len ends → AreEnds len next ends
 ends_from len at next [] h k = k
 ends_from len at next (end ∷ ends) h k = (k, h.1)
 
@@ -45,7 +45,7 @@ closes_one : (len at end : ℕ) (ends : List ℕ) (b : Bool) → (end == at) ≡
 closes_one len at end ends true e h others = others (subst (λ k. AreEnds len k ends) (eqb-true end at e) h.1)
 closes_one len at end ends false e h others = (h, not_reached at end h.0 e)
 
-closes : (len at : ℕ) (ends : List ℕ) → AreEnds len at ends → AreEnds len at (without_reached at ends) × IsOpen at (without_reached at ends)
+pub closes : (len at : ℕ) (ends : List ℕ) → AreEnds len at ends → AreEnds len at (without_reached at ends) × IsOpen at (without_reached at ends)
 closes len at [] h = (h, tt)
 closes len at (end ∷ ends) h = closes_one len at end ends (end == at) refl h (closes len at ends)
 

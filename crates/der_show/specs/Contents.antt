@@ -24,8 +24,13 @@ abbrev pub strings_in_parts : List ℕ
 strings_in_parts = 0x23 ∷ 0x24 ∷ 0x27 ∷ 0x2C ∷ 0x32 ∷ 0x33 ∷ 0x34 ∷ 0x35 ∷ 0x36 ∷ 0x37 ∷ 0x38 ∷ 0x39 ∷ 0x3A ∷ 0x3B ∷ 0x3C ∷ 0x3E ∷ []
 
 -- EXTERNAL, EMBEDDED PDV, SEQUENCE, SET and CHARACTER STRING, without it
-abbrev pub constructed_alone : List ℕ
-constructed_alone = 0x08 ∷ 0x0B ∷ 0x10 ∷ 0x11 ∷ 0x1D ∷ []
+abbrev pub constructed_rule : ℕ → Option Rule
+constructed_rule tag =
+    if tag == 0x08 then Some rule.PrimitiveExternal
+    else (if tag == 0x0B then Some rule.PrimitiveEmbeddedPdv
+    else (if (tag == 0x10) || (tag == 0x11) then Some rule.NotConstructed
+    else (if tag == 0x1D then Some rule.PrimitiveCharacterString
+    else None)))
 
 -- the rule that a tag breaks, if it does
 abbrev pub form_rule : ℕ → Option Rule
@@ -33,8 +38,7 @@ form_rule tag =
     if (tag == 0x00) || (tag == 0x20) then Some rule.EndOfContents
     else (if contains primitive_alone tag then Some rule.NotPrimitive
     else (if contains strings_in_parts tag then Some rule.ConstructedString
-    else (if contains constructed_alone tag then Some rule.NotConstructed
-    else None)))
+    else constructed_rule tag))
 
 -- ---- the contents of primitive encodings
 

@@ -4,4 +4,8 @@ pub mod Contents
 pub mod Nodes
 pub mod Ends
 pub mod Outlines
-pub mod Listings
+pub mod Openings
+pub mod Entries
+pub mod Steps
+pub mod Shown
+pub mod Reasons

@@ -41,6 +41,10 @@ pub record IsListed (bytes : List ℕ) (es : List Element) : Type 0 where
   pub is : bytes ≡ encoding nodes
   pub listed : es ≡ elements 0 0 nodes
 
+-- the bytes are elements in DER
+abbrev pub AreElements : List ℕ → Type 0
+AreElements bytes = (es : List Element) × IsListed bytes es
+
 -- ---- up to an element that isn't in DER
 
 -- what is listed of an element with this header

@@ -2,10 +2,9 @@
 ghost use Rattle.std.specs.Prelude.{◌≡◌, ◌%◌, ◌^◌, ◌==◌, ◌<◌, IfOk, MatchOption, if◌then◌else◌, Some, None};
 ghost use Rattle.der_show.specs.Contents.{IsContent, BreaksContent, unless, boolean_rule, integer_rule, bit_string_rule, null_rule, primitive_rule, string_rule};
 
+use crate::strings::{is_bmp, is_universal};
 use crate::{Rule, are_in_set_order};
-use der_types::{
-    BmpString, Contents, GeneralizedTime, ObjectIdentifier, RelativeOid, UniversalString, UtcTime,
-};
+use der_types::{Contents, GeneralizedTime, ObjectIdentifier, RelativeOid, UtcTime};
 use picky_der_core::asn1::Tag;
 use picky_der_core::integer::is_integer;
 use std::alloc::{AllocError, Global};
@@ -37,19 +36,19 @@ fn primitive_rule(alloc: Global, tag: Tag, content: &[u8]) -> Result<Option<Rule
         0x0D => rule_of::<RelativeOid>(alloc, content, Rule::RelativeOid),
         0x17 => rule_of::<UtcTime>(alloc, content, Rule::UtcTime),
         0x18 => rule_of::<GeneralizedTime>(alloc, content, Rule::GeneralizedTime),
-        _ => string_rule(alloc, tag, content),
+        _ => Ok(string_rule(tag, content)),
     }
 }
 
 // The rule that a text in a string type with wide characters breaks, or `None`.
-fn string_rule(alloc: Global, tag: Tag, content: &[u8]) -> Result<Option<Rule>, AllocError>
-    ensures { IfOk result (λ rule. rule ≡ string_rule tag content.now) }
+fn string_rule(tag: Tag, content: &[u8]) -> Option<Rule>
+    ensures { result ≡ string_rule tag content.now }
 {
     match tag.inner() {
-        0x0C => Ok(unless(str::from_utf8(content).is_ok(), Rule::Utf8)),
-        0x1C => rule_of::<UniversalString>(alloc, content, Rule::UniversalString),
-        0x1E => rule_of::<BmpString>(alloc, content, Rule::BmpString),
-        _ => Ok(None),
+        0x0C => unless(str::from_utf8(content).is_ok(), Rule::Utf8),
+        0x1C => unless(is_universal(content), Rule::UniversalString),
+        0x1E => unless(is_bmp(content), Rule::BmpString),
+        _ => None,
     }
 }
 

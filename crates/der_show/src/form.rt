@@ -1,6 +1,6 @@
 //! Which types have a primitive encoding, and which a constructed one.
 ghost use Rattle.std.specs.Prelude.{◌≡◌};
-ghost use Rattle.der_show.specs.Contents.{form_rule};
+ghost use Rattle.der_show.specs.Contents.{form_rule, constructed_rule};
 
 use crate::Rule;
 use picky_der_core::asn1::Tag;
@@ -15,10 +15,7 @@ const STRINGS_IN_PARTS: [u8; 16] = [
     0x23, 0x24, 0x27, 0x2C, 0x32, 0x33, 0x34, 0x35, 0x36, 0x37, 0x38, 0x39, 0x3A, 0x3B, 0x3C, 0x3E,
 ];
 
-// The tags of types with a constructed encoding only, without that bit: EXTERNAL, EMBEDDED PDV, SEQUENCE, SET and CHARACTER STRING.
-const CONSTRUCTED_ALONE: [u8; 5] = [0x08, 0x0B, 0x10, 0x11, 0x1D];
-
-/// Returns the rule that a tag breaks, or `None`: `EndOfContents`, `NotPrimitive`, `ConstructedString` or `NotConstructed`.
+/// Returns the rule about the form of an encoding that a tag breaks, or `None`.
 pub fn form_rule(tag: Tag) -> Option<Rule>
     ensures { result ≡ form_rule tag }
 {
@@ -29,9 +26,20 @@ pub fn form_rule(tag: Tag) -> Option<Rule>
         Some(Rule::NotPrimitive)
     } else if STRINGS_IN_PARTS.contains(&byte) {
         Some(Rule::ConstructedString)
-    } else if CONSTRUCTED_ALONE.contains(&byte) {
-        Some(Rule::NotConstructed)
     } else {
-        None
+        constructed_rule(byte)
+    }
+}
+
+// The rule that a tag of a primitive encoding breaks if its type has only constructed ones, or `None`.
+fn constructed_rule(byte: u8) -> Option<Rule>
+    ensures { result ≡ constructed_rule byte }
+{
+    match byte {
+        0x08 => Some(Rule::PrimitiveExternal),
+        0x0B => Some(Rule::PrimitiveEmbeddedPdv),
+        0x10 | 0x11 => Some(Rule::NotConstructed),
+        0x1D => Some(Rule::PrimitiveCharacterString),
+        _ => None,
     }
 }

@@ -1,118 +1,78 @@
-//! Listings as text.
-ghost use Rattle.std.specs.Prelude.{◌≡◌, ℕ, ◌+◌, ◌∷◌, [], ◌++◌, if◌then◌else◌, IfOk, OnOk, is_some, string_bytes, length};
-ghost use Rattle.der_program_base.specs.Line.{IsOneLine};
-ghost use Rattle.der_show.specs.Listings.{HasLines, IsListing};
+//! Listings that are written while the bytes are read.
+ghost use Rattle.std.specs.Prelude.{◌≡◌, IfOk, OnOk, IfErr};
+ghost use Rattle.picky_der_core.specs.WriterFaults.{IsOnceAtMost};
+ghost use Rattle.der_show.specs.Shown.{Shows, Stops};
 
-use crate::type_name::push_type_name;
-use crate::value::push_value;
-use crate::{Complaint, Element, outline_of};
-use der_program_base::Line;
-use std::alloc::{AllocError, Global};
+use crate::ShowOptions;
+use crate::ends::Ends;
+use crate::entry_line::{Place, write_step};
+use crate::key_usage::bits_behind;
+use crate::step::{move_past, step_at};
+use crate::value::ValueForm;
+use picky_der_core::Result;
+use picky_der_core::misc::WriteExt;
+use std::alloc::Global;
 
-// Elements at greater depths are indented as at this one.
-const DEEPEST: usize = 64;
+// Of a value that is cut short, this many bytes are written.
+const SHORT: usize = 48;
 
-/// The listing of some bytes.
-#[derive(Debug, Drop)]
-pub struct Listing {
-    /// Its lines. Each ends with the byte 0A.
-    pub text: String,
-    /// Whether the bytes are elements in DER and nothing else.
+/// What was listed.
+#[derive(Debug, Clone, Copy, PartialEq, Eq)]
+pub struct Shown {
+    /// Whether no rule was broken.
     pub is_der: bool,
 }
 
-/// Returns the listing of bytes: a line for each element up to the first one that isn't DER, then a line that says why. Each line ends with
-/// the byte 0A. The only error is a failed allocation.
-pub fn describe(alloc: Global, bytes: &[u8]) -> Result<Listing, AllocError>
-    ensures { IfOk result (IsListing bytes.now) }
-{
-    let outline = outline_of(alloc, bytes)?;
-    let mut text = lines_of(alloc, bytes, &outline.elements)?;
-    push_complaint(alloc, &mut text, outline.complaint)?;
-    let is_der = outline.complaint.is_none();
-    Ok(Listing { text, is_der })
-}
-
-// Appends a line for the complaint, if there is one.
-fn push_complaint(
+/// Writes the listing of bytes: a line for each element, and for each rule that is broken. Each line ends with the byte 0A.
+///
+/// Without `keeps_going`, the first rule that is broken ends the listing. With it, the listing goes on in or after the element that breaks
+/// the rule, or after the element around it if it has no header.
+///
+/// The error is `OutOfMemory` if an allocation failed, or that of the writer. Then a beginning of the lines was written. Memory is needed
+/// for one line, and for the ends of the elements around an offset.
+pub fn show<W: WriteExt>(
     alloc: Global,
-    text: &mut String,
-    complaint: Option<Complaint>,
-) -> Result<(), AllocError>
-    ensures { OnOk result ((count : ℕ) → HasLines (string_bytes text.old) count
-        → HasLines (string_bytes text.new) (count + (if is_some complaint then 1 else 0))) }
+    bytes: &[u8],
+    options: &ShowOptions,
+    output: &mut W,
+) -> Result<Shown>
+    ensures ok { IfOk result (λ shown. Shows options.now bytes.now shown (W.written output.old) (W.written output.new)) }
+    ensures err { IfErr result (λ e. Stops W.WriteExt.own options.now bytes.now output.old e output.new) }
+    ensures counted { IsOnceAtMost (W.faults output.old) (W.faults output.new) }
+    ensures no_fault { OnOk result (W.faults output.new ≡ W.faults output.old) }
+    ensures goes_on { W.later output.old output.new }
 {
-    match complaint {
-        Some(complaint) => {
-            let line = complaint_line(alloc, complaint)?;
-            push_line(text, &line)?;
-            Ok(())
+    let len = bytes.len();
+    let mut ends = Ends::new(alloc);
+    let mut offset = options.start.min(len);
+    let mut is_der = true;
+    let mut key_usage = None;
+    while offset < len {
+        let end = ends.innermost(len);
+        let ahead = &bytes[offset..end];
+        let depth = ends.depth();
+        let step = step_at(alloc, options, depth, ahead)?;
+        let form = form_of(options, key_usage == Some(offset));
+        write_step(alloc, ahead, Place { offset, depth }, &step, form, output)?;
+        is_der &= step.is_element();
+        if !step.goes_on() {
+            return Ok(Shown { is_der });
         }
-        None => Ok(()),
+        key_usage = bits_after(ahead, offset).or(key_usage);
+        offset = move_past(&mut ends, offset, end, step)?;
+    }
+    Ok(Shown { is_der })
+}
+
+// The form of a value.
+fn form_of(options: &ShowOptions, is_key_usage: bool) -> ValueForm {
+    ValueForm {
+        limit: if options.is_short { SHORT } else { usize::MAX },
+        is_key_usage,
     }
 }
 
-// A line for each element of these bytes.
-fn lines_of(alloc: Global, bytes: &[u8], elements: &[Element]) -> Result<String, AllocError>
-    ensures { IfOk result (λ text. HasLines (string_bytes text) (length elements.now)) }
-{
-    let mut text = String::new(alloc);
-    for element in elements {
-        let line = element_line(alloc, bytes, *element)?;
-        push_line(&mut text, &line)?;
-    }
-    Ok(text)
-}
-
-// Appends a line and the byte that ends it.
-fn push_line(text: &mut String, line: &str) -> Result<(), AllocError>
-    ensures { OnOk result (string_bytes text.new
-        ≡ string_bytes text.old ++ (line.now ++ (0x0A ∷ []))) }
-{
-    text.push_str(line)?;
-    text.push('\n')
-}
-
-/// Returns the line of an element of these bytes: its offset, its depth, the lengths of its header and its content, and its tag. A
-/// primitive element also has its content in words. The only error is a failed allocation.
-pub fn element_line(alloc: Global, bytes: &[u8], element: Element) -> Result<String, AllocError>
-    ensures { IfOk result (λ line. IsOneLine (string_bytes line)) }
-{
-    let mut line = Line::new(alloc);
-    let Element {
-        offset,
-        depth,
-        tag,
-        header_len,
-        content_len,
-    } = element;
-    write!(
-        line,
-        "{offset:>6} d={depth:<2} hl={header_len:<2} l={content_len:<6}"
-    )?;
-    for _ in 0..depth.min(DEEPEST) {
-        line.push_str("  ")?;
-    }
-    push_type_name(&mut line, tag)?;
-    if tag.is_primitive() {
-        push_value(alloc, &mut line, tag, content_of(bytes, element))?;
-    }
-    Ok(line.into_string())
-}
-
-// The content of an element, or no bytes if there are too few.
-fn content_of(bytes: &[u8], element: Element) -> &[u8] {
-    let start = element.offset.saturating_add(element.header_len);
-    let end = start.saturating_add(element.content_len);
-    bytes.get(start..end).unwrap_or(&[])
-}
-
-/// Returns the line of a complaint: the offset, and the rule with its clause. The only error is a failed allocation.
-pub fn complaint_line(alloc: Global, complaint: Complaint) -> Result<String, AllocError>
-    ensures { IfOk result (λ line. IsOneLine (string_bytes line)) }
-{
-    let mut line = Line::new(alloc);
-    let Complaint { offset, rule } = complaint;
-    write!(line, "{offset:>6} no DER: {rule}")?;
-    Ok(line.into_string())
+// The offset of the bits of the extension keyUsage, if the bytes at this offset are its identifier.
+fn bits_after(ahead: &[u8], offset: usize) -> Option<usize> {
+    bits_behind(ahead).map(|index| offset.saturating_add(index))
 }

@@ -1,5 +1,6 @@
 //! Object identifiers as text.
 
+use crate::names::further_name_of;
 use der_program_base::{Line, push_bytes};
 use der_types::ObjectIdentifier;
 use der_types::names::name_of;
@@ -16,7 +17,8 @@ pub fn push_object_identifier(
     if identifier.arcs().any(|arc| arc.is_err()) {
         return push_bytes(line, identifier.content());
     }
-    match name_of(identifier.content()) {
+    let content = identifier.content();
+    match name_of(content).or_else(|| further_name_of(content)) {
         Some(name) => write!(line, "{name} ({identifier})"),
         None => write!(line, "{identifier}"),
     }

@@ -1,7 +1,7 @@
 //! Goes from element to element.
-ghost use Rattle.std.specs.Prelude.{◌≡◌, ◌+◌, ◌^◌, ◌<◌, ◌≤◌, IfOk, OnOk};
+ghost use Rattle.std.specs.Prelude.{◌≡◌, ◌+◌, ◌^◌, ◌<◌, IfOk, OnOk, MatchBool};
 ghost use Rattle.der_show.specs.Ends.{next_offset, next_ends};
-ghost use Rattle.der_show.specs.Outlines.{IsFront, IsOutline};
+ghost use Rattle.der_show.specs.Outlines.{IsFront, IsOutline, AreElements};
 
 use crate::ends::Ends;
 use crate::{Element, Header, Rule, content_rule, form_rule, header_of};
@@ -59,9 +59,26 @@ pub fn outline_of(alloc: Global, bytes: &[u8]) -> Result<Outline, AllocError>
     })
 }
 
+// Returns whether the bytes are elements in DER and nothing else.
+pub(crate) fn is_der(alloc: Global, bytes: &[u8]) -> Result<bool, AllocError>
+    ensures { IfOk result (λ is. MatchBool is (AreElements bytes.now) (AreElements bytes.now → ⊥)) }
+{
+    let len = bytes.len();
+    let mut ends = Ends::new(alloc);
+    let mut offset = 0;
+    while offset < len {
+        let end = ends.innermost(len);
+        match front_of(alloc, &bytes[offset..end])? {
+            Front::Element(header) => offset = go_on(&mut ends, offset, header)?,
+            Front::Broken(_) => return Ok(false),
+        }
+    }
+    Ok(true)
+}
+
 // What is at the front of bytes.
 #[derive(Clone, Copy)]
-enum Front {
+pub(crate) enum Front {
     // An element in DER, with this header.
     Element(Header),
     // An element that breaks this rule.
@@ -69,7 +86,7 @@ enum Front {
 }
 
 // What is at the front of the bytes. They end where the element around it ends.
-fn front_of(alloc: Global, bytes: &[u8]) -> Result<Front, AllocError>
+pub(crate) fn front_of(alloc: Global, bytes: &[u8]) -> Result<Front, AllocError>
     ensures { IfOk result (IsFront bytes.now) }
 {
     let header = match header_of(bytes) {
@@ -87,7 +104,7 @@ fn front_of(alloc: Global, bytes: &[u8]) -> Result<Front, AllocError>
 }
 
 // Returns the offset of the next element: in this element if it is constructed, else after it. Elements that end there are closed.
-fn go_on(ends: &mut Ends, offset: usize, header: Header) -> Result<usize, AllocError>
+pub(crate) fn go_on(ends: &mut Ends, offset: usize, header: Header) -> Result<usize, AllocError>
     requires { offset + header.header_len + header.content_len < 2 ^ 64 }
     ensures offset { IfOk result (λ next. next ≡ next_offset header offset) }
     ensures ends { OnOk result (ends.new ≡ next_ends header offset ends.old) }

@@ -25,8 +25,14 @@ pub enum Rule {
     NotPrimitive,
     /// A string type has a constructed encoding, which DER doesn't allow (10.2).
     ConstructedString,
-    /// A type with a constructed encoding has a primitive one (8.9.1, 8.11.1).
+    /// A SEQUENCE or a SET has a primitive encoding (8.9.1, 8.11.1).
     NotConstructed,
+    /// An EXTERNAL has a primitive encoding (8.18).
+    PrimitiveExternal,
+    /// An EMBEDDED PDV has a primitive encoding (8.17).
+    PrimitiveEmbeddedPdv,
+    /// A CHARACTER STRING has a primitive encoding (8.24).
+    PrimitiveCharacterString,
     /// The content of a BOOLEAN isn't one byte (8.2.1).
     BooleanSize,
     /// The content of a BOOLEAN is neither 00 nor FF (8.2.2, 11.1).
@@ -60,6 +66,19 @@ pub enum Rule {
 }
 
 impl Rule {
+    /// Returns whether BER allows what breaks this rule (X.690, 10 and 11).
+    pub fn is_of_der_alone(self) -> bool {
+        matches!(
+            self,
+            Rule::IndefiniteLength
+                | Rule::LongLength
+                | Rule::ConstructedString
+                | Rule::BooleanValue
+                | Rule::UnusedBits
+                | Rule::SetOrder
+        )
+    }
+
     // What is wrong.
     fn words(self) -> &'static str {
         match self {
@@ -72,7 +91,10 @@ impl Rule {
             Rule::EndOfContents => "end-of-contents bytes without an indefinite length",
             Rule::NotPrimitive => "the type's encoding isn't primitive",
             Rule::ConstructedString => "a string in parts",
-            Rule::NotConstructed => "the type's encoding isn't constructed",
+            Rule::NotConstructed
+            | Rule::PrimitiveExternal
+            | Rule::PrimitiveEmbeddedPdv
+            | Rule::PrimitiveCharacterString => "the type's encoding isn't constructed",
             Rule::BooleanSize => "a BOOLEAN isn't one byte",
             Rule::BooleanValue => "a BOOLEAN is neither 00 nor FF",
             Rule::EmptyInteger => "the number has no byte",
@@ -104,6 +126,9 @@ impl Rule {
             Rule::NotPrimitive => "8.2.1, 8.3.1, 8.8.1, 8.19.1",
             Rule::ConstructedString => "10.2",
             Rule::NotConstructed => "8.9.1, 8.11.1",
+            Rule::PrimitiveExternal => "8.18",
+            Rule::PrimitiveEmbeddedPdv => "8.17",
+            Rule::PrimitiveCharacterString => "8.24",
             Rule::BooleanSize => "8.2.1",
             Rule::BooleanValue => "11.1",
             Rule::EmptyInteger => "8.3.1",

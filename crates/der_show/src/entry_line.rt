@@ -1,0 +1,179 @@
+//! The lines of a listing.
+ghost use Rattle.std.specs.Prelude.{◌≡◌, ◌∷◌, [], IfOk, OnOk, IfErr, string_bytes};
+ghost use Rattle.picky_der_core.specs.WriterFaults.{IsOnceAtMost};
+ghost use Rattle.der_show.specs.Entries.{element_at};
+ghost use Rattle.der_show.specs.Steps.{step_entries};
+ghost use Rattle.der_show.specs.Shown.{IsLineOf, WritesEntries, StopsAmong};
+
+use crate::step::Step;
+use crate::type_name::push_type_name;
+use crate::value::{ValueForm, push_value};
+use crate::{Complaint, Element, Entry, Header};
+use der_program_base::Line;
+use picky_der_core::asn1::Tag;
+use picky_der_core::misc::WriteExt;
+use picky_der_core::{Asn1DerError, Result};
+use std::alloc::{AllocError, Global};
+
+// Elements at greater depths are indented as at this one.
+const DEEPEST: usize = 64;
+
+// Where an element is.
+#[derive(Clone, Copy)]
+pub(crate) struct Place {
+    // The index of its tag.
+    pub(crate) offset: usize,
+    // How many elements are around it.
+    pub(crate) depth: usize,
+}
+
+// Writes the lines of a step at this place. The bytes ahead begin there. A value is written in this form.
+pub(crate) fn write_step<W: WriteExt>(
+    alloc: Global,
+    ahead: &[u8],
+    place: Place,
+    step: &Step,
+    form: ValueForm,
+    output: &mut W,
+) -> Result<()>
+    ensures ok { OnOk result (WritesEntries (step_entries place.depth place.offset step.now)
+        (W.written output.old) (W.written output.new)) }
+    ensures err { IfErr result (λ e. StopsAmong W.WriteExt.own
+        (step_entries place.depth place.offset step.now) output.old e output.new) }
+    ensures counted { IsOnceAtMost (W.faults output.old) (W.faults output.new) }
+    ensures no_fault { OnOk result (W.faults output.new ≡ W.faults output.old) }
+    ensures goes_on { W.later output.old output.new }
+{
+    let offset = place.offset;
+    match *step {
+        Step::Element(header, opening) => {
+            let entry = element_at(place, header);
+            let form = if opening.is_none() { Some(form) } else { None };
+            write_entry(alloc, ahead, entry, form, output)
+        }
+        Step::Broken(rule, header) => {
+            let complaint = Entry::Complaint(Complaint { offset, rule });
+            write_entry(alloc, ahead, complaint, None, output)?;
+            write_entry(alloc, ahead, element_at(place, header), Some(form), output)
+        }
+        Step::Skipped(rule) | Step::Stopped(rule) => {
+            let complaint = Entry::Complaint(Complaint { offset, rule });
+            write_entry(alloc, ahead, complaint, None, output)
+        }
+    }
+}
+
+// The element at this place with this header.
+fn element_at(place: Place, header: Header) -> Entry
+    ensures { result ≡ element_at place.depth place.offset header }
+{
+    Entry::Element(Element {
+        offset: place.offset,
+        depth: place.depth,
+        tag: header.tag,
+        header_len: header.header_len,
+        content_len: header.content_len,
+    })
+}
+
+// Writes the line of an entry, and the byte that ends it. The bytes ahead begin with the element.
+fn write_entry<W: WriteExt>(
+    alloc: Global,
+    ahead: &[u8],
+    entry: Entry,
+    form: Option<ValueForm>,
+    output: &mut W,
+) -> Result<()>
+    ensures ok { OnOk result (WritesEntries (entry ∷ []) (W.written output.old)
+        (W.written output.new)) }
+    ensures err { IfErr result (λ e. StopsAmong W.WriteExt.own (entry ∷ []) output.old e
+        output.new) }
+    ensures counted { IsOnceAtMost (W.faults output.old) (W.faults output.new) }
+    ensures no_fault { OnOk result (W.faults output.new ≡ W.faults output.old) }
+    ensures goes_on { W.later output.old output.new }
+{
+    let mut line = line_of(alloc, ahead, entry, form)?;
+    if line.push('\n').is_err() {
+        return Err(Asn1DerError::OutOfMemory);
+    }
+    output.write_exact(line.as_bytes())?;
+    Ok(())
+}
+
+// The line of an entry.
+fn line_of(
+    alloc: Global,
+    ahead: &[u8],
+    entry: Entry,
+    form: Option<ValueForm>,
+) -> std::result::Result<String, AllocError>
+    ensures { IfOk result (λ line. IsLineOf entry (string_bytes line)) }
+{
+    match entry {
+        Entry::Element(element) => element_line(alloc, ahead, element, form),
+        Entry::Complaint(complaint) => complaint_line(alloc, complaint),
+    }
+}
+
+// The line of the element at the front of the bytes.
+fn element_line(
+    alloc: Global,
+    ahead: &[u8],
+    element: Element,
+    form: Option<ValueForm>,
+) -> std::result::Result<String, AllocError>
+    ensures { IfOk result (λ line. IsLineOf (Entry.Element element) (string_bytes line)) }
+{
+    let mut line = Line::new(alloc);
+    let Element {
+        offset,
+        depth,
+        tag,
+        header_len,
+        content_len,
+    } = element;
+    let word = form_word(tag);
+    write!(
+        line,
+        "{offset:>6} d={depth:<2} hl={header_len:<2} l={content_len:<6} {word} "
+    )?;
+    for _ in 0..depth.min(DEEPEST) {
+        line.push_str("  ")?;
+    }
+    push_type_name(&mut line, tag)?;
+    if let Some(form) = form {
+        push_content(alloc, &mut line, form, ahead, element)?;
+    }
+    Ok(line.into_string())
+}
+
+// The word for the form of an encoding.
+fn form_word(tag: Tag) -> &'static str {
+    if tag.is_constructed() { "cons" } else { "prim" }
+}
+
+// Appends the value of the element at the front of the bytes if it is primitive.
+fn push_content(
+    alloc: Global,
+    line: &mut Line,
+    form: ValueForm,
+    ahead: &[u8],
+    element: Element,
+) -> std::result::Result<(), AllocError> {
+    if element.tag.is_constructed() {
+        return Ok(());
+    }
+    let end = element.header_len.saturating_add(element.content_len);
+    let content = ahead.get(element.header_len..end).unwrap_or(&[]);
+    push_value(alloc, line, form, element.tag, content)
+}
+
+// The line of a complaint: the offset, and the rule with its clause.
+fn complaint_line(alloc: Global, complaint: Complaint) -> std::result::Result<String, AllocError>
+    ensures { IfOk result (λ line. IsLineOf (Entry.Complaint complaint) (string_bytes line)) }
+{
+    let mut line = Line::new(alloc);
+    let Complaint { offset, rule } = complaint;
+    write!(line, "{offset:>6} not DER: {rule}")?;
+    Ok(line.into_string())
+}
