@@ -47,3 +47,8 @@ name_found f table i d content inside same h =
 
 pub no_name : {E : Type 0} (f : E → List ℕ × List ℕ) (table : List E) (i : ℕ) (content : List ℕ) → length table ≤ i → name_in (map f (drop i table)) content ≡ name_in (map f table) content → None ≡ name_in (map f table) content
 no_name f table i content past h = sym (at_drop_all (λ l. name_in (map f l) content) table i past) ∙ h
+
+-- ---- texts
+
+pub appended : (a b c d : List ℕ) → a ≡ b → c ≡ d → a ++ c ≡ b ++ d
+appended a b c d h k = ap (λ x. x ++ c) h ∙ ap (λ x. b ++ x) k

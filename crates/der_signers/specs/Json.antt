@@ -5,6 +5,7 @@ use Rattle.serde_json.specs.Data.{Data, null, boolean, number, unsigned, string,
 use Rattle.der_signers.specs.declared.comparison.ContentComparison.{ContentComparison}
 use Rattle.der_signers.specs.declared.comparison.DigestComparison.{DigestComparison}
 use Rattle.der_signers.specs.declared.message.Message.{Message}
+use Rattle.der_signers.specs.declared.reason.Reason.{Reason}
 use Rattle.der_signers.specs.declared.report.Report.{Report}
 use Rattle.der_signers.specs.declared.report.Signed.{Signed}
 use Rattle.der_signers.specs.declared.report.Signed.TheVariants as signed
@@ -13,9 +14,9 @@ use Rattle.der_signers.specs.declared.who.Who.{Who}
 use Rattle.der_signers.specs.declared.who.Who.TheVariants.{Certificate, KeyIdentifier}
 use Rattle.der_signers.specs.Comparison.{digest_word, type_word, attributes_word, content_word, listed_word, hint_of}
 
-abbrev pub block_data : Option ℕ → Data
-block_data (Some number_of_block) = number (unsigned number_of_block)
-block_data None = null
+abbrev pub number_data : Option ℕ → Data
+number_data (Some n) = number (unsigned n)
+number_data None = null
 
 -- ---- a signer
 
@@ -69,7 +70,7 @@ digests_data signed.Content digest = object (member (codes "content") (digest_da
 abbrev pub signer_data : List ℕ → Option ℕ → Option ContentComparison → ℕ → Report → Data
 signer_data file block content index r =
     object
-    (member (codes "block") (block_data block)
+    (member (codes "block") (number_data block)
     (member (codes "comparisons") (comparisons_data content r)
     (member (codes "digests") (digests_data r.signed (option_map (λ d. d.items) r.signed_digest))
     (member (codes "file") (string file)
@@ -82,15 +83,17 @@ signer_data file block content index r =
 abbrev pub no_signers_data : List ℕ → Option ℕ → Message → Data
 no_signers_data file block m =
     object
-    (member (codes "block") (block_data block)
+    (member (codes "block") (number_data block)
     (member (codes "certificates") (number (unsigned m.certificates))
     (member (codes "content") (content_data m.content)
     (member (codes "file") (string file)
     (member (codes "lists") (number (unsigned m.lists)) (member (codes "signers") (number (unsigned 0)) (member (codes "verified") (boolean false) no_members)))))))
 
 -- one that is refused
-abbrev pub refused_data : List ℕ → Option ℕ → List ℕ → Data
+abbrev pub refused_data : List ℕ → Option ℕ → Reason → Data
 refused_data file block reason =
     object
-    (member (codes "block") (block_data block)
-    (member (codes "file") (string file) (member (codes "refused") (string reason) (member (codes "verified") (boolean false) no_members))))
+    (member (codes "block") (number_data block)
+    (member (codes "file") (string file)
+    (member (codes "offset") (number_data reason.offset)
+    (member (codes "refused") (string (string_bytes reason.text)) (member (codes "verified") (boolean false) no_members)))))

@@ -7,6 +7,7 @@ pub mod Who
 pub mod Report
 pub mod Message
 pub mod Outcome
+pub mod Reason
 pub mod Statuses
 pub mod Text
 pub mod Json

@@ -2,18 +2,19 @@
 use Rattle.std.specs.Prelude.{◌≡◌, ℕ, List, [], ◌∷◌, ◌++◌, Option, string_bytes}
 use Rattle.std.specs.List.{enumerate_from, flat_map}
 use Rattle.serde_json.specs.Written.{compact_text}
-use Rattle.der_program_base.specs.Line.{IsOneLine}
 use Rattle.der_signers.specs.declared.comparison.ContentComparison.{ContentComparison}
 use Rattle.der_signers.specs.declared.message.Message.{Message}
 use Rattle.der_signers.specs.declared.outcome.Outcome.{Outcome}
 use Rattle.der_signers.specs.declared.outcome.Outcome.TheVariants as outcome
 use Rattle.der_signers.specs.declared.printed.Printed.{Printed}
+use Rattle.der_signers.specs.declared.reason.Reason.{Reason}
 use Rattle.der_signers.specs.declared.report.Report.{Report}
 use Rattle.der_signers.specs.declared.request.Format.{Format}
 use Rattle.der_signers.specs.declared.request.Format.TheVariants.{Text, Json}
 use Rattle.der_signers.specs.declared.request.Request.{Request}
 use Rattle.der_signers.specs.Json.{signer_data, no_signers_data, refused_data}
 use Rattle.der_signers.specs.Outcome.{IsOutcome}
+use Rattle.der_signers.specs.Reason.{IsReason}
 use Rattle.der_signers.specs.Statuses.{status_of}
 use Rattle.der_signers.specs.Text.{signer_line, no_signers_line, refusal_line}
 
@@ -41,20 +42,20 @@ message_text format file block m = lines_or_none m.reports.items (signers_text f
     lines_or_none (r ∷ rs) lines none = lines
 
 -- of a message that is refused
-abbrev pub refusal_text : Format → List ℕ → Option ℕ → List ℕ → List ℕ
-refusal_text Text file block reason = refusal_line file block reason
+abbrev pub refusal_text : Format → List ℕ → Option ℕ → Reason → List ℕ
+refusal_text Text file block reason = refusal_line file block (string_bytes reason.text)
 refusal_text Json file block reason = compact_text (refused_data file block reason) ++ 10 ∷ []
 
 -- ---- the whole
 
--- the lines for this outcome; why a message is refused is said in some words on one line
-abbrev pub IsText : Format → List ℕ → Option ℕ → Outcome → List ℕ → Type 0
-IsText format file block (outcome.Read m) text = text ≡ message_text format file block m
-IsText format file block (outcome.Refused r) text = (reason : List ℕ) × IsOneLine reason × (text ≡ refusal_text format file block reason)
+-- the lines for this outcome of reading the bytes
+abbrev pub IsText : Format → List ℕ → Option ℕ → List ℕ → Outcome → List ℕ → Type 0
+IsText format file block bytes (outcome.Read m) text = text ≡ message_text format file block m
+IsText format file block bytes (outcome.Refused r) text = (reason : Reason) × IsReason bytes r reason × (text ≡ refusal_text format file block reason)
 
 -- the lines and the status for what comes of reading these bytes
 pub record IsPrinted (file : List ℕ) (block : Option ℕ) (bytes : List ℕ) (request : Request) (format : Format) (printed : Printed) : Type 0 where
   pub outcome : Outcome
   pub is_outcome : IsOutcome bytes request outcome
-  pub text : IsText format file block outcome (string_bytes printed.text)
+  pub text : IsText format file block bytes outcome (string_bytes printed.text)
   pub status : printed.status ≡ status_of outcome

@@ -87,4 +87,4 @@ no_signers_line file block m = shown_line (no_signers_text file block m)
 
 -- one that is refused
 abbrev pub refusal_line : List ℕ → Option ℕ → List ℕ → List ℕ
-refusal_line file block reason = shown_line (front_text file block ++ (codes "refused: " ++ reason))
+refusal_line file block reason = shown_line (front_text file block ++ reason)

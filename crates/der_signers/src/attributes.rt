@@ -16,11 +16,7 @@ pub fn has_message_digest(alloc: Global, attributes: &[Attribute], digest: &[u8]
     ensures err { IfErr result (λ e. e ≡ Asn1DerError.OutOfMemory) }
 {
     let value = encoding_of(alloc, &Bytes(digest))?;
-    Ok(has_only_value(
-        attributes,
-        values::ID_MESSAGE_DIGEST,
-        &value,
-    ))
+    Ok(has_only_value(attributes, values::ID_MESSAGE_DIGEST, &value))
 }
 
 // Whether the attribute `contentType` of a signer is the type with this encoding.

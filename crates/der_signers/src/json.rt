@@ -2,10 +2,11 @@
 ghost use Rattle.std.specs.Prelude.{◌≡◌, ◌++◌, [], ◌∷◌, false, IfOk, option_map, string_bytes};
 ghost use Rattle.serde_json.specs.View.{view};
 ghost use Rattle.serde_json.specs.Written.{compact_text, has_float};
-ghost use Rattle.der_signers.specs.Json.{block_data, certificate_data, comparisons_data, content_data, digest_data, digests_data, hint_data, no_signers_data, refused_data, signer_data, who_data};
+ghost use Rattle.der_signers.specs.Json.{number_data, certificate_data, comparisons_data, content_data, digest_data, digests_data, hint_data, no_signers_data, refused_data, signer_data, who_data};
 
 use crate::comparison::{ContentComparison, DigestComparison, listed_word};
 use crate::message::Message;
+use crate::reason::Reason;
 use crate::report::{Report, Signed};
 use crate::who::{CertificateName, Who};
 use serde_json::{Value, json};
@@ -46,7 +47,7 @@ pub fn refusal_object(
     alloc: Global,
     file: &str,
     block: Option<usize>,
-    reason: &str,
+    reason: &Reason,
 ) -> Result<String, AllocError>
     ensures { IfOk result (λ line. string_bytes line
         ≡ compact_text (refused_data file.now block reason.now) ++ 10 ∷ []) }
@@ -77,7 +78,7 @@ fn signer_value(
     ensures { IfOk result (λ value. view value
         ≡ signer_data file.now block content index report.now) }
 {
-    let block = block_value(block);
+    let block = number_value(block);
     let signer = who_value(alloc, &report.who, &report.digest, &report.signature)?;
     let comparisons = comparisons_value(alloc, content, report)?;
     let digests = digests_value(alloc, report.signed, &report.signed_digest)?;
@@ -127,9 +128,7 @@ fn digests_value(
 {
     let digest = digest_value(alloc, digest)?;
     match signed {
-        Signed::Attributes => {
-            json!(in alloc; {"signedAttributes": digest, "content": null})
-        }
+        Signed::Attributes => { json!(in alloc; {"signedAttributes": digest, "content": null}) }
         Signed::Content => json!(in alloc; {"signedAttributes": null, "content": digest}),
     }
 }
@@ -143,7 +142,7 @@ fn no_signers_value(
 ) -> Result<Value, AllocError>
     ensures { IfOk result (λ value. view value ≡ no_signers_data file.now block message.now) }
 {
-    let block = block_value(block);
+    let block = number_value(block);
     let content = content_value(alloc, message.content)?;
     json!(in alloc; {
         "file": file,
@@ -161,31 +160,34 @@ fn refused_value(
     alloc: Global,
     file: &str,
     block: Option<usize>,
-    reason: &str,
+    reason: &Reason,
 ) -> Result<Value, AllocError>
     ensures { IfOk result (λ value. view value ≡ refused_data file.now block reason.now) }
 {
-    let block = block_value(block);
-    json!(in alloc; {"file": file, "block": block, "refused": reason, "verified": false})
+    let block = number_value(block);
+    let offset = number_value(reason.offset);
+    let text = reason.text.as_str();
+    json!(in alloc; {
+        "file": file,
+        "block": block,
+        "offset": offset,
+        "refused": text,
+        "verified": false
+    })
 }
 
-// The number of a block, or null.
-fn block_value(block: Option<usize>) -> Value
-    ensures { view result ≡ block_data block }
+// A number, or null.
+fn number_value(number: Option<usize>) -> Value
+    ensures { view result ≡ number_data number }
 {
-    match block {
+    match number {
         Some(number) => Value::from(number),
         None => Value::Null,
     }
 }
 
 // The issuer and the serial number or the key identifier, and the names of the algorithms.
-fn who_value(
-    alloc: Global,
-    who: &Who,
-    digest: &str,
-    signature: &str,
-) -> Result<Value, AllocError>
+fn who_value(alloc: Global, who: &Who, digest: &str, signature: &str) -> Result<Value, AllocError>
     ensures { IfOk result (λ value. view value ≡ who_data who.now digest.now signature.now) }
 {
     match who {

@@ -25,6 +25,7 @@ pub use line_ends::LineEnds;
 pub use message::Message;
 pub use outcome::{Outcome, Refusal, examine};
 pub use printed::{Printed, signers_report};
+pub use reason::Reason;
 pub use report::{Report, Signed};
 pub use request::{Format, Request};
 pub use who::{CertificateName, Who};

@@ -8,8 +8,8 @@ use crate::comparison::{ContentComparison, DigestComparison, RequiredAttributes,
 use crate::message::{Message, read_message};
 use crate::report::Report;
 use crate::request::Request;
-use der_program_base::Status;
 use der_cms::{ContentInfo, ContentType, SignedData, values};
+use der_program_base::Status;
 use picky_asn1_der::{Asn1DerError, DecodeError, Result, from_der};
 use std::alloc::Global;
 

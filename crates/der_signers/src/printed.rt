@@ -6,7 +6,7 @@ use crate::comparison::ContentComparison;
 use crate::json::{no_signers_object, refusal_object, signer_object};
 use crate::message::Message;
 use crate::outcome::{Outcome, examine};
-use crate::reason::reason_of;
+use crate::reason::{Reason, reason_of};
 use crate::report::Report;
 use crate::request::{Format, Request};
 use crate::text::{no_signers_line, refusal_line, signer_line};
@@ -131,14 +131,14 @@ fn refusal_text(
     alloc: Global,
     file: &str,
     block: Option<usize>,
-    reason: &str,
+    reason: &Reason,
     format: Format,
 ) -> result::Result<String, AllocError>
     ensures { IfOk result (λ text. string_bytes text
         ≡ refusal_text format file.now block reason.now) }
 {
     match format {
-        Format::Text => refusal_line(alloc, file, block, reason),
+        Format::Text => refusal_line(alloc, file, block, &reason.text),
         Format::Json => refusal_object(alloc, file, block, reason),
     }
 }

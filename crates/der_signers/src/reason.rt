@@ -1,30 +1,44 @@
 //! Why bytes are refused.
-ghost use Rattle.std.specs.Prelude.{IfOk, string_bytes};
-ghost use Rattle.der_program_base.specs.Line.{IsOneLine};
+ghost use Rattle.std.specs.Prelude.{IfOk};
+ghost use Rattle.der_signers.specs.Reason.{IsReason};
 
 use crate::outcome::Refusal;
 use der_program_base::Line;
-use der_show::{outline_of, push_object_identifier};
+use der_show::push_object_identifier;
 use std::alloc::{AllocError, Global};
 
-/// Returns why bytes are refused, and where, on one line. If the bytes aren't DER, it also says which rule they break first. The only error
-/// is a failed allocation.
-pub fn reason_of(alloc: Global, bytes: &[u8], refusal: &Refusal) -> Result<String, AllocError>
-    ensures { IfOk result (λ reason. IsOneLine (string_bytes reason)) }
+/// Why bytes are refused.
+#[derive(Debug, Drop)]
+pub struct Reason {
+    /// The offset in the whole message of the element at which it was found, or `None` if it isn't at one.
+    pub offset: Option<usize>,
+    /// What was found, on one line.
+    pub text: String,
+}
+
+/// Returns why bytes are refused: the rule of DER that they break first, or what the type has another element for. The only error is a
+/// failed allocation.
+pub fn reason_of(alloc: Global, bytes: &[u8], refusal: &Refusal) -> Result<Reason, AllocError>
+    ensures { IfOk result (IsReason bytes.now refusal.now) }
 {
     let mut line = Line::new(alloc);
-    match refusal {
-        Refusal::NoContentInfo(error) => write!(line, "no ContentInfo: {error}")?,
-        Refusal::NoSignedData(error) => write!(line, "no SignedData: {error}")?,
+    let offset = match refusal {
+        Refusal::NoContentInfo(error) => {
+            let reason = der_show::reason_of(alloc, bytes, *error)?;
+            write!(line, "no ContentInfo: {reason}")?;
+            Some(reason.offset)
+        }
+        Refusal::NoSignedData(error) => {
+            let reason = der_show::reason_of(alloc, bytes, *error)?;
+            write!(line, "no SignedData: {reason}")?;
+            Some(reason.offset)
+        }
         Refusal::OtherContent(kind) => {
             line.push_str("no signed data: the content type is ")?;
             push_object_identifier(&mut line, kind)?;
+            None
         }
-    }
-    if let Some(complaint) = outline_of(alloc, bytes)?.complaint {
-        let offset = complaint.offset;
-        let rule = complaint.rule;
-        write!(line, "; no DER at byte {offset}: {rule}")?;
-    }
-    Ok(line.into_string())
+    };
+    let text = line.into_string();
+    Ok(Reason { offset, text })
 }

@@ -88,7 +88,7 @@ pub fn refusal_line(
         ≡ refusal_line file.now block reason.now) }
 {
     let front = front_text(alloc, file, block)?;
-    let text = format!(in alloc; "{front}refused: {reason}")?;
+    let text = format!(in alloc; "{front}{reason}")?;
     shown_line(alloc, &text)
 }
 
@@ -158,7 +158,9 @@ fn compared_words(
     let attributes = report.attributes.word();
     let listed = listed_word(report.is_listed);
     let content = content_words(alloc, content)?;
-    format!(in alloc; "; messageDigest {digest}; contentType {kind}; attributes {attributes}; digestAlgorithms {listed}{content}")
+    format!(in alloc;
+        "; messageDigest {digest}; contentType {kind}; attributes {attributes}; digestAlgorithms {listed}{content}"
+    )
 }
 
 // What came of comparing contents, if two were compared.
