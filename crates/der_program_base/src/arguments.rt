@@ -1,20 +1,17 @@
-//! What the programs with arguments have in common.
+//! What is said of arguments.
 
+use crate::Status;
 use clap::Error;
 use std::io;
-use std::process::ExitCode;
 
-/// The status of a program whose arguments are wrong, that can't read an input or write its output, or for which an allocation failed.
-pub const TROUBLE: u8 = 2;
-
-/// Prints what the arguments asked for, or what is wrong with them, and returns the status: 0 for help and version, else `TROUBLE`.
+/// Prints what the arguments asked for, or what is wrong with them, and returns the status: `Fine` for help and version, else `Trouble`.
 ///
 /// Returns the error of the system if it can't be written.
-pub fn report(rt: &HostRuntime, error: &Error) -> io::Result<ExitCode> {
+pub fn report(rt: &HostRuntime, error: &Error) -> io::Result<Status> {
     error.print(rt)?;
     Ok(if error.use_stderr() {
-        ExitCode::from(TROUBLE)
+        Status::Trouble
     } else {
-        ExitCode::SUCCESS
+        Status::Fine
     })
 }

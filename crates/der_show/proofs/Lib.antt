@@ -9,4 +9,5 @@ pub mod Walking
 pub mod OpeningLemmas
 pub mod Places
 pub mod Texts
+pub mod Padding
 pub mod Showing

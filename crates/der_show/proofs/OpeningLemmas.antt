@@ -1,5 +1,5 @@
 -- Strings that are opened.
-use Rattle.std.proofs.Common.{◌≡◌, ◌≢◌, ℕ, ◌+◌, ◌≤◌, ◌<◌, ◌^◌, ◌==◌, Bool, true, false, if◌then◌else◌, Option, Some, None, List, [], ◌∷◌, ◌++◌, length, take, drop, refl, sym, ap, subst, ◌∙◌, arith, append-nil, take-append-drop, length-take-le}
+use Rattle.std.proofs.Common.{◌≡◌, ◌≢◌, ℕ, ◌+◌, ◌≤◌, ◌<◌, ◌^◌, ◌==◌, Bool, true, false, if◌then◌else◌, Option, Some, None, List, [], ◌∷◌, length, take, drop, sym, ap, subst, ◌∙◌, arith, append-nil, take-append-drop, length-take-le}
 use Rattle.std.proofs.Math.Seq.{take-length}
 use Rattle.std.specs.Prelude.{MatchBool}
 use Rattle.picky_der_core.specs.Element.{IsElement}
@@ -8,7 +8,7 @@ use Rattle.der_show.specs.declared.rule.Rule.{Rule}
 use Rattle.der_show.specs.declared.options.ShowOptions.{ShowOptions}
 use Rattle.der_show.specs.Headers.{HasHeader, BreaksHeader}
 use Rattle.der_show.specs.Outlines.{IsFound, AreElements}
-use Rattle.der_show.specs.Openings.{Opens, IsOneInDer, held, whole_bytes}
+use Rattle.der_show.specs.Openings.{Opens, IsOneInDer, whole_bytes}
 use Rattle.der_show.specs.Entries.{content_of}
 use Rattle.der_show.proofs.HeaderLemmas.{found, content_found, begins_with, one_element}
 use Rattle.der_show.proofs.Fronts.{has_header}

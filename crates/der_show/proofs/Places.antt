@@ -1,17 +1,13 @@
 -- Where the steps of a listing come to.
-use Rattle.std.proofs.Common.{◌≡◌, ℕ, ◌+◌, ◌-◌, ◌^◌, ◌<◌, ◌≤◌, Bool, true, false, if◌then◌else◌, Option, Some, None, List, [], ◌∷◌, ◌++◌, length, refl, sym, ap, subst, ◌∙◌, arith}
-use Rattle.std.specs.Prelude.{slice_range}
+use Rattle.std.proofs.Common.{◌≡◌, ℕ, ◌+◌, ◌^◌, ◌<◌, ◌≤◌, Bool, true, false, if◌then◌else◌, Some, None, List, [], ◌∷◌, length, refl, arith}
 use Rattle.picky_der_core.specs.Tag.{is_constructed}
 use Rattle.der_show.specs.declared.header.Header.{Header}
 use Rattle.der_show.specs.declared.options.ShowOptions.{ShowOptions}
 use Rattle.der_show.specs.declared.step.Step.{Step}
 use Rattle.der_show.specs.declared.step.Step.TheVariants as step
 use Rattle.der_show.specs.Headers.{HasHeader}
-use Rattle.der_show.specs.Nodes.{header_size}
 use Rattle.der_show.specs.Ends.{innermost, without_reached, next_offset, next_ends}
-use Rattle.der_show.specs.Outlines.{IsFound}
-use Rattle.der_show.specs.Openings.{Opens, held, whole_bytes}
-use Rattle.der_show.specs.Entries.{ahead, content_of}
+use Rattle.der_show.specs.Entries.{ahead}
 use Rattle.der_show.specs.Steps.{IsStep, CanMove, offset_after, ends_after}
 use Rattle.der_show.proofs.Ranges.{length-range}
 use Rattle.der_show.proofs.HeaderLemmas.{found}

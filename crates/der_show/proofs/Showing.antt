@@ -1,5 +1,5 @@
 -- What the loop of a listing keeps.
-use Rattle.std.proofs.Common.{◌≡◌, ◌≢◌, ℕ, ◌+◌, ◌^◌, ◌<◌, ◌≤◌, ◌==◌, ◌&&◌, min, Bool, true, false, if◌then◌else◌, Option, Some, None, List, [], ◌∷◌, ◌++◌, length, map, refl, sym, ap, subst, ◌∙◌, arith, append_assoc, append-nil, eqb-true}
+use Rattle.std.proofs.Common.{◌≡◌, ℕ, ◌^◌, ◌<◌, ◌≤◌, ◌==◌, ◌&&◌, min, Bool, true, false, if◌then◌else◌, Option, Some, None, List, [], ◌∷◌, ◌++◌, length, map, refl, sym, ap, subst, ◌∙◌, arith, append-nil, eqb-true}
 use Rattle.std.specs.List.{list_all}
 use Rattle.std.specs.Io.KnownBytes.{Appends}
 use Rattle.std.proofs.lemmas.List.{map-append}
@@ -7,22 +7,20 @@ use Rattle.std.proofs.lemmas.List.Folds.{list_all-append}
 use Rattle.std.proofs.KnownBytes.{Appends-nil, Appends-trans}
 use Rattle.picky_der_core.specs.declared.error.Asn1DerError.{Asn1DerError}
 use Rattle.picky_der_core.specs.declared.misc.writer.WriteExt.{Ghosts}
-use Rattle.picky_der_core.specs.Writer.{AppendsBeginning, beginning_after}
+use Rattle.picky_der_core.specs.Writer.{beginning_after}
 use Rattle.der_show.specs.declared.element.Element.{Element}
 use Rattle.der_show.specs.declared.entry.Entry.{Entry}
 use Rattle.der_show.specs.declared.entry.Entry.TheVariants as entry
-use Rattle.der_show.specs.declared.header.Header.{Header}
 use Rattle.der_show.specs.declared.options.ShowOptions.{ShowOptions}
 use Rattle.der_show.specs.declared.rule.Rule.{Rule}
-use Rattle.der_show.specs.declared.listing.Shown.{Shown}
 use Rattle.der_show.specs.declared.step.Step.{Step}
 use Rattle.der_show.specs.declared.step.Step.TheVariants as step
 use Rattle.der_show.specs.Ends.{innermost, without_reached}
-use Rattle.der_show.specs.Outlines.{Breaks, header, IsListed, IsRefused, IsBefore}
+use Rattle.der_show.specs.Outlines.{Breaks, IsBefore}
 use Rattle.der_show.specs.Entries.{IsReached, IsSoFar, IsListing, ahead, complaint_at}
 use Rattle.der_show.specs.Entries as kind
 use Rattle.der_show.specs.Steps.{IsStep, step_entries, offset_after, ends_after, is_element, goes_on}
-use Rattle.der_show.specs.Shown.{IsTextOf, IsPlain, AreOfOutline, listed, refused, IsBeginning, none, first, all, WritesEntries, IsFailure, Shows, StopsAmong, Stops}
+use Rattle.der_show.specs.Shown.{IsTextOf, IsPlain, listed, refused, IsBeginning, none, first, all, WritesEntries, IsFailure, Shows, StopsAmong, Stops}
 use Rattle.der_show.proofs.Walking.{Walks, walk_begins, walk_ends, walk_refused, walk_goes_on, before_goes_on}
 use Rattle.der_show.proofs.Places.{Stands, stands_at_first, stands_open, stands_last, step_stands}
 use Rattle.der_show.proofs.Texts.{no_text, joined, failure_since}

@@ -1,16 +1,13 @@
 -- What is listed of bytes, from an offset on.
-use Rattle.std.specs.Prelude.{◌≡◌, ◌≢◌, ℕ, ◌+◌, ◌<◌, ◌≤◌, min, Bool, true, false, List, [], ◌∷◌, ◌++◌, length, slice_range}
-use Rattle.std.specs.List.{list_all}
-use Rattle.picky_der_core.specs.Tag.{is_constructed}
+use Rattle.std.specs.Prelude.{◌≡◌, ℕ, ◌+◌, ◌<◌, ◌≤◌, min, Bool, true, false, List, [], ◌∷◌, ◌++◌, length, slice_range}
 use Rattle.der_show.specs.declared.header.Header.{Header}
 use Rattle.der_show.specs.declared.entry.Entry.{Entry}
 use Rattle.der_show.specs.declared.entry.Entry.TheVariants as entry
 use Rattle.der_show.specs.declared.options.ShowOptions.{ShowOptions}
-use Rattle.der_show.specs.declared.outline.Outline.{Outline}
 use Rattle.der_show.specs.declared.rule.Rule.{Rule}
 use Rattle.der_show.specs.Headers.{HasHeader, BreaksHeader}
 use Rattle.der_show.specs.Ends.{innermost, next_offset, next_ends}
-use Rattle.der_show.specs.Outlines.{Breaks, IsFound, IsOutline, listed_at}
+use Rattle.der_show.specs.Outlines.{Breaks, IsFound, listed_at}
 use Rattle.der_show.specs.Openings.{Opens}
 
 -- the bytes from an offset up to the innermost end

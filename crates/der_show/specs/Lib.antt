@@ -7,5 +7,6 @@ pub mod Outlines
 pub mod Openings
 pub mod Entries
 pub mod Steps
+pub mod Lines
 pub mod Shown
 pub mod Reasons

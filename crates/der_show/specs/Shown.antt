@@ -1,5 +1,5 @@
 -- What is written of a listing.
-use Rattle.std.specs.Prelude.{◌≡◌, ℕ, Bool, true, false, Option, Some, None, List, [], ◌∷◌, ◌++◌, map, ⊤}
+use Rattle.std.specs.Prelude.{◌≡◌, ℕ, true, false, Option, List, [], ◌∷◌, ◌++◌, map, ⊤}
 use Rattle.std.specs.List.{list_all}
 use Rattle.std.specs.Io.KnownBytes.{Appends}
 use Rattle.picky_der_core.specs.declared.error.Asn1DerError.{Asn1DerError}
@@ -15,14 +15,22 @@ use Rattle.der_show.specs.declared.entry.Entry.TheVariants as entry
 use Rattle.der_show.specs.declared.options.ShowOptions.{ShowOptions}
 use Rattle.der_show.specs.declared.outline.Complaint.{Complaint}
 use Rattle.der_show.specs.declared.listing.Shown.{Shown}
+use Rattle.der_show.specs.Lines.{front_text, complaint_front}
 use Rattle.der_show.specs.Outlines.{IsListed, IsRefused}
 use Rattle.der_show.specs.Entries.{IsSoFar, IsListing, is_element}
 
 -- ---- lines
 
--- a line about an entry
-abbrev pub IsLineOf : Entry → List ℕ → Type 0
-IsLineOf e line = IsOneLine line
+-- what is before the type of an element, or before the rule that is broken
+abbrev pub entry_front : Entry → List ℕ
+entry_front (entry.Element e) = front_text e
+entry_front (entry.Complaint c) = complaint_front c.offset
+
+-- a line about an entry: its columns, and then words without a control character
+pub record IsLineOf (e : Entry) (line : List ℕ) : Type 0 where
+  pub words : List ℕ
+  pub one_line : IsOneLine words
+  pub is : line ≡ entry_front e ++ words
 
 abbrev pub AreLinesOf : List Entry → List (List ℕ) → Type 0
 AreLinesOf [] [] = ⊤

@@ -1,9 +1,7 @@
 -- One step of a listing.
 use Rattle.std.specs.Prelude.{◌≡◌, ℕ, ◌+◌, ◌^◌, ◌<◌, ◌≤◌, Bool, true, false, List, [], ◌∷◌, Option, Some, None, ⊤}
-use Rattle.der_show.specs.declared.header.Header.{Header}
 use Rattle.der_show.specs.declared.entry.Entry.{Entry}
 use Rattle.der_show.specs.declared.options.ShowOptions.{ShowOptions}
-use Rattle.der_show.specs.declared.rule.Rule.{Rule}
 use Rattle.der_show.specs.declared.step.Step.{Step}
 use Rattle.der_show.specs.declared.step.Step.TheVariants as step
 use Rattle.der_show.specs.Headers.{HasHeader, BreaksHeader}

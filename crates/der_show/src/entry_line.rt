@@ -5,18 +5,15 @@ ghost use Rattle.der_show.specs.Entries.{element_at};
 ghost use Rattle.der_show.specs.Steps.{step_entries};
 ghost use Rattle.der_show.specs.Shown.{IsLineOf, WritesEntries, StopsAmong};
 
+use crate::columns::{front_of_complaint, front_of_element};
 use crate::step::Step;
 use crate::type_name::push_type_name;
 use crate::value::{ValueForm, push_value};
 use crate::{Complaint, Element, Entry, Header};
 use der_program_base::Line;
-use picky_der_core::asn1::Tag;
 use picky_der_core::misc::WriteExt;
 use picky_der_core::{Asn1DerError, Result};
 use std::alloc::{AllocError, Global};
-
-// Elements at greater depths are indented as at this one.
-const DEEPEST: usize = 64;
 
 // Where an element is.
 #[derive(Clone, Copy)]
@@ -92,7 +89,7 @@ fn write_entry<W: WriteExt>(
     ensures no_fault { OnOk result (W.faults output.new ≡ W.faults output.old) }
     ensures goes_on { W.later output.old output.new }
 {
-    let mut line = line_of(alloc, ahead, entry, form)?;
+    let mut line = line_of(alloc, ahead, &entry, form)?;
     if line.push('\n').is_err() {
         return Err(Asn1DerError::OutOfMemory);
     }
@@ -104,10 +101,10 @@ fn write_entry<W: WriteExt>(
 fn line_of(
     alloc: Global,
     ahead: &[u8],
-    entry: Entry,
+    entry: &Entry,
     form: Option<ValueForm>,
 ) -> std::result::Result<String, AllocError>
-    ensures { IfOk result (λ line. IsLineOf entry (string_bytes line)) }
+    ensures { IfOk result (λ line. IsLineOf entry.now (string_bytes line)) }
 {
     match entry {
         Entry::Element(element) => element_line(alloc, ahead, element, form),
@@ -119,37 +116,20 @@ fn line_of(
 fn element_line(
     alloc: Global,
     ahead: &[u8],
-    element: Element,
+    element: &Element,
     form: Option<ValueForm>,
 ) -> std::result::Result<String, AllocError>
-    ensures { IfOk result (λ line. IsLineOf (Entry.Element element) (string_bytes line)) }
+    ensures { IfOk result (λ line. IsLineOf (Entry.Element element.now) (string_bytes line)) }
 {
-    let mut line = Line::new(alloc);
-    let Element {
-        offset,
-        depth,
-        tag,
-        header_len,
-        content_len,
-    } = element;
-    let word = form_word(tag);
-    write!(
-        line,
-        "{offset:>6} d={depth:<2} hl={header_len:<2} l={content_len:<6} {word} "
-    )?;
-    for _ in 0..depth.min(DEEPEST) {
-        line.push_str("  ")?;
-    }
-    push_type_name(&mut line, tag)?;
+    let mut rest = Line::new(alloc);
+    push_type_name(&mut rest, element.tag)?;
     if let Some(form) = form {
-        push_content(alloc, &mut line, form, ahead, element)?;
+        push_content(alloc, &mut rest, form, ahead, element)?;
     }
-    Ok(line.into_string())
-}
-
-// The word for the form of an encoding.
-fn form_word(tag: Tag) -> &'static str {
-    if tag.is_constructed() { "cons" } else { "prim" }
+    let rest = rest.into_string();
+    let mut line = front_of_element(alloc, element)?;
+    line.push_str(&rest)?;
+    Ok(line)
 }
 
 // Appends the value of the element at the front of the bytes if it is primitive.
@@ -158,22 +138,26 @@ fn push_content(
     line: &mut Line,
     form: ValueForm,
     ahead: &[u8],
-    element: Element,
+    element: &Element,
 ) -> std::result::Result<(), AllocError> {
-    if element.tag.is_constructed() {
+    let tag = element.tag;
+    if tag.is_constructed() {
         return Ok(());
     }
     let end = element.header_len.saturating_add(element.content_len);
     let content = ahead.get(element.header_len..end).unwrap_or(&[]);
-    push_value(alloc, line, form, element.tag, content)
+    push_value(alloc, line, form, tag, content)
 }
 
 // The line of a complaint: the offset, and the rule with its clause.
-fn complaint_line(alloc: Global, complaint: Complaint) -> std::result::Result<String, AllocError>
-    ensures { IfOk result (λ line. IsLineOf (Entry.Complaint complaint) (string_bytes line)) }
+fn complaint_line(alloc: Global, complaint: &Complaint) -> std::result::Result<String, AllocError>
+    ensures { IfOk result (λ line. IsLineOf (Entry.Complaint complaint.now) (string_bytes line)) }
 {
-    let mut line = Line::new(alloc);
-    let Complaint { offset, rule } = complaint;
-    write!(line, "{offset:>6} not DER: {rule}")?;
-    Ok(line.into_string())
+    let mut rest = Line::new(alloc);
+    let rule = complaint.rule;
+    write!(rest, "{rule}")?;
+    let rest = rest.into_string();
+    let mut line = front_of_complaint(alloc, complaint.offset)?;
+    line.push_str(&rest)?;
+    Ok(line)
 }

@@ -1,6 +1,7 @@
 //! Lists the elements of bytes, and says why bytes aren't DER.
 #![tactic(auto)]
 
+mod columns;
 mod content;
 mod element;
 mod ends;

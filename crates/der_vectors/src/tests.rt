@@ -21,6 +21,7 @@ mod later_members;
 mod lengths;
 mod pieces;
 mod raw_elements;
+mod readme;
 mod sets;
 mod short_contents;
 mod signed;

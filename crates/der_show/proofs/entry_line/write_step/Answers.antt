@@ -1,6 +1,4 @@
-use Rattle.std.proofs.Common.{[], ◌∷◌}
 use Rattle.std.proofs.lemmas.Result.{err_from_is_err_and}
-use Rattle.der_show.specs.Entries.{element_at, complaint_at}
 use Rattle.der_show.proofs.Texts.{on_ok, if_err, writes_both, stops_in_first, stops_in_second}
 use Rattle.der_show.proofs.entry_line.write_step.Goals as goal
 

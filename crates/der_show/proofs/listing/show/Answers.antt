@@ -1,10 +1,9 @@
-use Rattle.std.proofs.Common.{◌≡◌, ◌∙◌, ◌<◌, ◌≤◌, ◌^◌, true, length, refl, sym, subst, arith, rules}
+use Rattle.std.proofs.Common.{◌∙◌, ◌<◌, ◌^◌, length, refl, sym, subst, arith, rules}
 use Rattle.std.specs.Prelude.{slice_range}
 use Rattle.std.proofs.lemmas.Result.{err_from_is_err_and}
-use Rattle.der_show.specs.Ends.{innermost}
 use Rattle.der_show.specs.Entries.{ahead}
-use Rattle.der_show.specs.Steps.{IsStep, step_entries, offset_after, is_element, goes_on}
-use Rattle.der_show.specs.Shown.{WritesEntries, StopsAmong, memory}
+use Rattle.der_show.specs.Steps.{IsStep, offset_after}
+use Rattle.der_show.specs.Shown.{memory}
 use Rattle.der_show.proofs.Places.{stands_open, step_stands, step_moves}
 use Rattle.der_show.proofs.Showing.{comes_first, comes_on, comes_to_end, comes_to_stop, stops_here, stops_in_step}
 use Rattle.der_show.proofs.listing.show.Goals as goal

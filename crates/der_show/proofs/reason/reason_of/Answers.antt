@@ -1,4 +1,4 @@
-use Rattle.der_show.specs.Reasons.{IsReason, not_der, refused}
+use Rattle.der_show.specs.Reasons.{not_der, refused}
 use Rattle.std.proofs.Common.{refl}
 use Rattle.der_show.proofs.reason.reason_of.Goals as goal
 
