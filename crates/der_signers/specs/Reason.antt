@@ -18,6 +18,6 @@ IsOffsetOf bytes (refusal.OtherContent kind) offset = offset ≡ None
 IsOffsetOf bytes (refusal.NoSignedData error) offset = IsOffset bytes error offset
 
 -- with some words on one line
-pub record IsReason (bytes : List ℕ) (refusal : Refusal) (r : Reason) : Type 0 where
-  pub offset : IsOffsetOf bytes refusal r.offset
+pub record IsReason (bytes : List ℕ) (why : Refusal) (r : Reason) : Type 0 where
+  pub offset : IsOffsetOf bytes why r.offset
   pub one_line : IsOneLine (string_bytes r.text)
