@@ -6,6 +6,7 @@ use Rattle.der_signers.specs.declared.comparison.ContentComparison.{ContentCompa
 use Rattle.der_signers.specs.declared.message.Message.{Message}
 use Rattle.der_signers.specs.declared.outcome.Outcome.{Outcome}
 use Rattle.der_signers.specs.declared.outcome.Outcome.TheVariants as outcome
+use Rattle.der_signers.specs.declared.outcome.Refusal.{Refusal}
 use Rattle.der_signers.specs.declared.printed.Printed.{Printed}
 use Rattle.der_signers.specs.declared.reason.Reason.{Reason}
 use Rattle.der_signers.specs.declared.report.Report.{Report}
@@ -48,10 +49,16 @@ refusal_text Json file block reason = compact_text (refused_data file block reas
 
 -- ---- the whole
 
+-- the line of bytes that are refused
+pub record IsRefusedText (format : Format) (file : List ℕ) (block : Option ℕ) (bytes : List ℕ) (why : Refusal) (text : List ℕ) : Type 0 where
+  pub reason : Reason
+  pub is_reason : IsReason bytes why reason
+  pub is : text ≡ refusal_text format file block reason
+
 -- the lines for this outcome of reading the bytes
 abbrev pub IsText : Format → List ℕ → Option ℕ → List ℕ → Outcome → List ℕ → Type 0
 IsText format file block bytes (outcome.Read m) text = text ≡ message_text format file block m
-IsText format file block bytes (outcome.Refused r) text = (reason : Reason) × IsReason bytes r reason × (text ≡ refusal_text format file block reason)
+IsText format file block bytes (outcome.Refused r) text = IsRefusedText format file block bytes r text
 
 -- the lines and the status for what comes of reading these bytes
 pub record IsPrinted (file : List ℕ) (block : Option ℕ) (bytes : List ℕ) (request : Request) (format : Format) (printed : Printed) : Type 0 where

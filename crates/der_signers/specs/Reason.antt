@@ -1,5 +1,5 @@
 -- Why bytes are refused.
-use Rattle.std.specs.Prelude.{◌≡◌, ℕ, List, Option, None, Some, string_bytes}
+use Rattle.std.specs.Prelude.{◌≡◌, ℕ, List, None, Some, string_bytes}
 use Rattle.picky_der_de.specs.declared.whole.DecodeError.{DecodeError}
 use Rattle.der_program_base.specs.Line.{IsOneLine}
 use Rattle.der_show.specs.declared.reason.Reason.{Reason as Found}
@@ -8,16 +8,19 @@ use Rattle.der_signers.specs.declared.outcome.Refusal.{Refusal}
 use Rattle.der_signers.specs.declared.outcome.Refusal.TheVariants as refusal
 use Rattle.der_signers.specs.declared.reason.Reason.{Reason}
 
--- the offset of what `der_show` finds in the whole message
-abbrev pub IsOffset : List ℕ → DecodeError → Option ℕ → Type 0
-IsOffset bytes error offset = (found : Found) × IsFound bytes error found × (offset ≡ Some found.offset)
-
-abbrev pub IsOffsetOf : List ℕ → Refusal → Option ℕ → Type 0
-IsOffsetOf bytes (refusal.NoContentInfo error) offset = IsOffset bytes error offset
-IsOffsetOf bytes (refusal.OtherContent kind) offset = offset ≡ None
-IsOffsetOf bytes (refusal.NoSignedData error) offset = IsOffset bytes error offset
-
--- with some words on one line
-pub record IsReason (bytes : List ℕ) (why : Refusal) (r : Reason) : Type 0 where
-  pub offset : IsOffsetOf bytes why r.offset
+-- with the offset of what `der_show` finds in the whole message, and some words on one line
+pub record IsReasonAt (bytes : List ℕ) (error : DecodeError) (r : Reason) : Type 0 where
+  pub found : Found
+  pub is_found : IsFound bytes error found
+  pub offset : r.offset ≡ Some found.offset
   pub one_line : IsOneLine (string_bytes r.text)
+
+-- with no offset, and some words on one line
+pub record IsReasonWithout (r : Reason) : Type 0 where
+  pub offset : r.offset ≡ None
+  pub one_line : IsOneLine (string_bytes r.text)
+
+abbrev pub IsReason : List ℕ → Refusal → Reason → Type 0
+IsReason bytes (refusal.NoContentInfo error) r = IsReasonAt bytes error r
+IsReason bytes (refusal.OtherContent kind) r = IsReasonWithout r
+IsReason bytes (refusal.NoSignedData error) r = IsReasonAt bytes error r

@@ -1,11 +1,11 @@
 //! What is printed of a message.
 ghost use Rattle.std.specs.Prelude.{◌≡◌, IfOk, IfErr, string_bytes};
-ghost use Rattle.der_signers.specs.Printed.{message_text, signers_text, no_signers_text, refusal_text, signer_text, IsPrinted};
+ghost use Rattle.der_signers.specs.Printed.{message_text, signers_text, no_signers_text, refusal_text, signer_text, IsRefusedText, IsText, IsPrinted};
 
 use crate::comparison::ContentComparison;
 use crate::json::{no_signers_object, refusal_object, signer_object};
 use crate::message::Message;
-use crate::outcome::{Outcome, examine};
+use crate::outcome::{Outcome, Refusal, examine};
 use crate::reason::{Reason, reason_of};
 use crate::report::Report;
 use crate::request::{Format, Request};
@@ -42,15 +42,43 @@ pub fn signers_report(
     ensures err { IfErr result (λ e. e ≡ Asn1DerError.OutOfMemory) }
 {
     let outcome = examine(alloc, bytes, request)?;
-    let text = match &outcome {
-        Outcome::Read(message) => message_text(alloc, file, block, message, format)?,
-        Outcome::Refused(refusal) => {
-            let reason = reason_of(alloc, bytes, refusal)?;
-            refusal_text(alloc, file, block, &reason, format)?
-        }
-    };
+    let text = outcome_text(alloc, file, block, bytes, &outcome, format)?;
     let status = outcome.status();
     Ok(Printed { text, status })
+}
+
+// The lines for what came of reading these bytes.
+fn outcome_text(
+    alloc: Global,
+    file: &str,
+    block: Option<usize>,
+    bytes: &[u8],
+    outcome: &Outcome,
+    format: Format,
+) -> result::Result<String, AllocError>
+    ensures { IfOk result (λ text. IsText format file.now block bytes.now outcome.now
+        (string_bytes text)) }
+{
+    match outcome {
+        Outcome::Read(message) => message_text(alloc, file, block, message, format),
+        Outcome::Refused(refusal) => refused_text(alloc, file, block, bytes, refusal, format),
+    }
+}
+
+// The line of bytes that are refused.
+fn refused_text(
+    alloc: Global,
+    file: &str,
+    block: Option<usize>,
+    bytes: &[u8],
+    refusal: &Refusal,
+    format: Format,
+) -> result::Result<String, AllocError>
+    ensures { IfOk result (λ text. IsRefusedText format file.now block bytes.now refusal.now
+        (string_bytes text)) }
+{
+    let reason = reason_of(alloc, bytes, refusal)?;
+    refusal_text(alloc, file, block, &reason, format)
 }
 
 // The lines of a message that was read.
