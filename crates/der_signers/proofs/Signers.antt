@@ -8,7 +8,7 @@ use Rattle.picky_der_core.specs.Readable.{IsWritable}
 use Rattle.der_types.specs.contracts.object_identifier.ObjectIdentifierSerialize.TheImpl as identifier
 use Rattle.der_cms.specs.contracts.signer_info.SignerInfoSerialize.TheImpl as signer
 use Rattle.der_cms.specs.contracts.signed_data.SignedDataSerialize.TheImpl as signed_data
-use Rattle.der_signers.specs.Attributes.{attributes_of, set_of}
+use Rattle.der_signers.specs.Attributes.{set_of}
 use Rattle.der_signers.specs.Report.{AreWritable, IsWritableSigner}
 use Rattle.der_signers.specs.Outcome.{IsSignedData}
 use Rattle.der_signers.proofs.Writable.{IsShort, short-writable, list_short, retagged_short, first, rest, maybe_first, maybe_rest, items_short, some_mapped}

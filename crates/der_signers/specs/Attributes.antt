@@ -1,5 +1,5 @@
 -- The signed attributes of a signer (RFC 5652, 5.3, 11.1 and 11.2).
-use Rattle.std.specs.Prelude.{◌≡◌, ℕ, Bool, true, false, ◌&&◌, if◌then◌else◌, ◌⊎◌, List, [], ◌∷◌, Option, None, Some, option_map, map, nat_eq, All, count_by, MatchBool}
+use Rattle.std.specs.Prelude.{◌≡◌, ℕ, Bool, true, ◌&&◌, if◌then◌else◌, ◌⊎◌, List, [], ◌∷◌, Option, None, Some, option_map, map, nat_eq, All, count_by, MatchBool}
 use Rattle.std.specs.Cmp.Lexicographic.{pointwise}
 use Rattle.std.specs.List.{list_any}
 use Rattle.picky_der_core.specs.Primitive.{Primitive}

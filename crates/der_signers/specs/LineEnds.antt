@@ -1,5 +1,5 @@
 -- Text whose lines end with CR LF (RFC 8551, 3.1.1).
-use Rattle.std.specs.Prelude.{ℕ, Bool, true, false, not, ◌&&◌, ◌==◌, if◌then◌else◌, List, [], ◌∷◌, ◌++◌}
+use Rattle.std.specs.Prelude.{ℕ, Bool, false, not, ◌&&◌, ◌==◌, if◌then◌else◌, List, [], ◌∷◌, ◌++◌}
 use Rattle.der_signers.specs.declared.line_ends.LineEnds.{LineEnds}
 use Rattle.der_signers.specs.declared.line_ends.LineEnds.TheVariants.{AsTheyAre, CrLf}
 

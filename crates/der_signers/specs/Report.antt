@@ -1,5 +1,5 @@
 -- What is found of a signer (RFC 5652, 5.3 and 5.4).
-use Rattle.std.specs.Prelude.{◌≡◌, ℕ, Bool, true, ◌||◌, if◌then◌else◌, ◌⊎◌, List, [], ◌∷◌, Option, None, Some, IfSome, All, option_map, nat_eq, string_bytes}
+use Rattle.std.specs.Prelude.{◌≡◌, ℕ, Bool, ◌||◌, if◌then◌else◌, ◌⊎◌, List, [], ◌∷◌, Option, None, Some, IfSome, All, option_map, nat_eq, string_bytes}
 use Rattle.std.specs.Cmp.Lexicographic.{pointwise}
 use Rattle.std.specs.List.{list_any}
 use Rattle.picky_der_core.specs.Encoding.{der}
