@@ -1,4 +1,5 @@
-pub mod ComparisonLine
 mod Writable
 mod Values
 mod Signers
+mod Lists
+mod NoFloat

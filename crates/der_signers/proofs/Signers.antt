@@ -1,13 +1,15 @@
--- The signed attributes of signed data that was read can be written.
+-- The signed attributes of signed data that was read and the type of its content can be written.
 use Rattle.std.proofs.Common.{◌≡◌, ℕ, ◌^◌, ◌<◌, List, length, get_or, ap, arith}
 use Rattle.std.specs.Prelude.{All}
 use Rattle.picky_der_core.specs.Tree.{ListKind}
 use Rattle.der_cms.specs.declared.signer_info.SignerInfo.{SignerInfo}
 use Rattle.der_cms.specs.declared.signed_data.SignedData.{SignedData}
+use Rattle.picky_der_core.specs.Readable.{IsWritable}
+use Rattle.der_types.specs.contracts.object_identifier.ObjectIdentifierSerialize.TheImpl as identifier
 use Rattle.der_cms.specs.contracts.signer_info.SignerInfoSerialize.TheImpl as signer
 use Rattle.der_cms.specs.contracts.signed_data.SignedDataSerialize.TheImpl as signed_data
 use Rattle.der_signers.specs.Attributes.{set_of}
-use Rattle.der_signers.specs.Report.{IsWritableSigner}
+use Rattle.der_signers.specs.Report.{AreWritable, IsWritableSigner}
 use Rattle.der_signers.specs.Outcome.{IsSignedData}
 use Rattle.der_signers.proofs.Writable.{IsShort, short-writable, list_short, retagged_short, first, rest, maybe_first, maybe_rest, items_short, some_mapped}
 
@@ -26,7 +28,15 @@ signers_writable d h k x inside =
     let signers = first _ _ (maybe_rest _ d.crls _ (maybe_rest _ d.certificates _ after_content)) in
     signer_writable (get_or d.signer_infos.0.items k x) (items_short signer.ghosts.meaning d.signer_infos.0.items (list_short ListKind.set _ signers) k x inside)
 
-pub read_signers : (bytes : List ℕ) (d : SignedData) → IsSignedData bytes d → length bytes < 2 ^ 64 → All IsWritableSigner d.signer_infos.0.items
-read_signers bytes d whole small =
+-- the type of the content
+content_type_writable : (d : SignedData) → IsShort (signed_data.ghosts.meaning d) → IsWritable (identifier.ghosts.meaning d.encap_content_info.e_content_type)
+content_type_writable d h =
+    let members = list_short ListKind.sequence _ h in
+    let content = first _ _ (rest _ _ (rest _ _ members)) in
+    short-writable _ (first _ _ (list_short ListKind.sequence _ content))
+
+pub read_writable : (bytes : List ℕ) (d : SignedData) → IsSignedData bytes d → length bytes < 2 ^ 64 → AreWritable d
+read_writable bytes d whole small =
     let size : length bytes ≡ _ = ap length whole.is.encoding in
-    signers_writable d (record { readable = whole.is.readable; short = omega (arith, size, small) })
+    let short : IsShort (signed_data.ghosts.meaning d) = record { readable = whole.is.readable; short = omega (arith, size, small) } in
+    record { signers = signers_writable d short; content_type = content_type_writable d short }

@@ -1,6 +1,5 @@
 -- What comes of reading bytes as a message.
-use Rattle.std.specs.Prelude.{◌≡◌, ◌≢◌, ℕ, ◌+◌, ◌-◌, List, [], ◌∷◌, length, Option, None, Some, All, option_map}
-use Rattle.std.specs.List.{AllZip}
+use Rattle.std.specs.Prelude.{◌≡◌, ◌≢◌, ℕ, ◌+◌, ◌-◌, List, [], ◌∷◌, length}
 use Rattle.picky_der_core.specs.declared.error.Asn1DerError.TheVariants.{OutOfMemory}
 use Rattle.picky_der_de.specs.declared.whole.DecodeError.{DecodeError}
 use Rattle.picky_der_de.specs.Whole.{IsWhole, IsNoEncoding}
@@ -13,15 +12,14 @@ use Rattle.der_cms.specs.contracts.content_info.ContentInfoPartialEq.TheImpl as 
 use Rattle.der_cms.specs.contracts.signed_data.SignedDataSerialize.TheImpl as signed_data_written
 use Rattle.der_cms.specs.contracts.signed_data.SignedDataDeserialize.TheImpl as signed_data_read
 use Rattle.der_cms.specs.contracts.signed_data.SignedDataPartialEq.TheImpl as signed_data_compared
-use Rattle.der_signers.specs.declared.comparison.Comparison.TheVariants.{Different}
-use Rattle.der_signers.specs.declared.report.Report.{Report}
-use Rattle.der_signers.specs.declared.outcome.Message.{Message}
+use Rattle.der_signers.specs.declared.message.Message.{Message}
+use Rattle.der_signers.specs.declared.request.Request.{Request}
 use Rattle.der_signers.specs.declared.outcome.Refusal.{Refusal}
 use Rattle.der_signers.specs.declared.outcome.Refusal.TheVariants as refusal
 use Rattle.der_signers.specs.declared.outcome.Outcome.{Outcome}
 use Rattle.der_signers.specs.declared.outcome.Outcome.TheVariants as outcome
 use Rattle.der_signers.specs.Digest.{content_of}
-use Rattle.der_signers.specs.Report.{IsReport}
+use Rattle.der_signers.specs.Message.{own_content, given_content, IsMessageOf}
 
 -- ---- the two layers of a message (RFC 5652, 3 and 5.1)
 
@@ -48,29 +46,16 @@ IsNoSignedData bytes r position = IsNoEncoding signed_data_written.ghosts.meanin
 abbrev pub signed_data_identifier : List ℕ
 signed_data_identifier = 0x2A ∷ 0x86 ∷ 0x48 ∷ 0x86 ∷ 0xF7 ∷ 0x0D ∷ 0x01 ∷ 0x07 ∷ 0x02 ∷ []
 
--- ---- reports
-
-abbrev pub or_given : Option (List ℕ) → Option (List ℕ) → Option (List ℕ)
-or_given (Some content) given = Some content
-or_given None given = given
-
--- the content of the signed data, or if it has none the one that was given
-abbrev pub content_at_hand : SignedData → Option (List ℕ) → Option (List ℕ)
-content_at_hand d given = or_given (option_map (λ c. c.0.0.items) d.encap_content_info.e_content) given
-
--- the report on each signer, in their order
-abbrev pub AreReports : Option (List ℕ) → SignedData → List Report → Type 0
-AreReports content d reports = AllZip (IsReport content) d.signer_infos.0.items reports
-
 -- ---- the outcomes
 
--- the bytes are a message with this signed data, and these are the reports on its signers
-pub record IsMessage (bytes : List ℕ) (given : Option (List ℕ)) (m : Message) : Type 0 where
+-- the bytes are a message with signed data, and this is what is found of it
+pub record IsMessage (bytes : List ℕ) (request : Request) (m : Message) : Type 0 where
   pub message : ContentInfo
   pub whole : IsContentInfo bytes message
   pub kind : content_of message.content_type ≡ signed_data_identifier
-  pub signed : IsSignedData (content_bytes message) m.signed_data
-  pub reports : AreReports (content_at_hand m.signed_data given) m.signed_data m.reports.items
+  pub signed_data : SignedData
+  pub signed : IsSignedData (content_bytes message) signed_data
+  pub is : IsMessageOf signed_data (own_content request signed_data) (given_content request) m
 
 -- the bytes are no message
 pub record IsOther (bytes : List ℕ) (r : DecodeError) : Type 0 where
@@ -99,11 +84,6 @@ IsRefusal bytes (refusal.NoContentInfo r) = IsOther bytes r
 IsRefusal bytes (refusal.OtherContent kind) = HasOtherContent bytes kind
 IsRefusal bytes (refusal.NoSignedData r) = HasNoSignedData bytes r
 
-abbrev pub IsOutcome : List ℕ → Option (List ℕ) → Outcome → Type 0
-IsOutcome bytes given (outcome.Read m) = IsMessage bytes given m
-IsOutcome bytes given (outcome.Refused r) = IsRefusal bytes r
-
--- the message was read, and no comparison came out as different
-abbrev pub IsFine : Outcome → Type 0
-IsFine (outcome.Read m) = All (λ r. r.comparison ≢ Different) m.reports.items
-IsFine (outcome.Refused r) = ⊥
+abbrev pub IsOutcome : List ℕ → Request → Outcome → Type 0
+IsOutcome bytes request (outcome.Read m) = IsMessage bytes request m
+IsOutcome bytes request (outcome.Refused r) = IsRefusal bytes r

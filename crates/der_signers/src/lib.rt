@@ -1,19 +1,31 @@
-//! The signers of messages of CMS (RFC 5652): whether the digest of the content is the one that a signer signed, and what exactly is signed.
-//! Signatures aren't verified.
+//! The signers of messages of CMS (RFC 5652): whether the digest and the type of the content are those that a signer signed, and what exactly
+//! is signed. Signatures aren't verified.
 #![tactic(auto)]
 
+mod algorithm;
 mod attributes;
 mod comparison;
 mod digest;
 mod encoding;
 mod json;
-mod line;
+pub mod laws;
+mod line_ends;
+mod message;
 mod outcome;
+mod printed;
+mod reason;
 mod report;
+mod request;
+mod text;
+mod who;
 
-pub use comparison::Comparison;
+pub use comparison::{ContentComparison, DigestComparison, RequiredAttributes, TypeComparison};
 pub use digest::DigestAlgorithm;
-pub use json::{json_of_refusal, json_of_signer};
-pub use line::{line_of_refusal, line_of_signer};
-pub use outcome::{Message, Outcome, Refusal, examine};
-pub use report::Report;
+pub use line_ends::LineEnds;
+pub use message::Message;
+pub use outcome::{Outcome, Refusal, examine};
+pub use printed::{Printed, signers_report};
+pub use reason::Reason;
+pub use report::{Report, Signed};
+pub use request::{Format, Request};
+pub use who::{CertificateName, Who};

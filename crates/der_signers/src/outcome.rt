@@ -1,22 +1,17 @@
 //! What comes of reading bytes as a message.
-ghost use Rattle.std.specs.Prelude.{◌≡◌, ◌≢◌, ◌↔◌, IsTrue, IfOk, IfErr, All};
-ghost use Rattle.std.specs.Option.{option_copied};
-ghost use Rattle.der_signers.specs.Outcome.{IsContentInfo, IsSignedData, content_at_hand, AreReports, IsOutcome, IsFine};
+ghost use Rattle.std.specs.Prelude.{◌≡◌, ◌≢◌, IfOk, IfErr};
+ghost use Rattle.std.specs.List.{list_any};
+ghost use Rattle.der_signers.specs.Outcome.{IsContentInfo, IsOutcome};
+ghost use Rattle.der_signers.specs.Statuses.{status_of, message_status, something_differs, differs, was_compared, content_differs};
 
-use crate::report::reports_of;
-use crate::{Comparison, Report};
+use crate::comparison::{ContentComparison, DigestComparison, RequiredAttributes, TypeComparison};
+use crate::message::{Message, read_message};
+use crate::report::Report;
+use crate::request::Request;
 use der_cms::{ContentInfo, ContentType, SignedData, values};
+use der_program_base::Status;
 use picky_asn1_der::{Asn1DerError, DecodeError, Result, from_der};
 use std::alloc::Global;
-
-/// A message with signed data.
-#[derive(Debug, Drop)]
-pub struct Message {
-    /// The signed data.
-    pub signed_data: SignedData,
-    /// The report on each of its signers, in their order.
-    pub reports: Vec<Report>,
-}
 
 /// Why bytes are no message with signed data. Positions count from the front of the message.
 #[derive(Debug, Drop)]
@@ -39,36 +34,92 @@ pub enum Outcome {
 }
 
 impl Outcome {
-    /// Returns whether the message was read, and no `messageDigest` differs from the digest of the content.
-    pub fn is_fine(&self) -> bool
-        ensures { IsTrue result ↔ IsFine self.now }
+    /// Returns `Refused` if the message was refused or something differs, else `Fine` if the digest of a signer's content was compared,
+    /// else `NothingCompared`.
+    pub fn status(&self) -> Status
+        ensures { result ≡ status_of self.now }
     {
         match self {
-            Outcome::Read(message) => are_fine(&message.reports),
-            Outcome::Refused(_) => false,
+            Outcome::Read(message) => message_status(message),
+            Outcome::Refused(_) => Status::Refused,
         }
     }
 }
 
-// Whether no comparison came out as different.
-fn are_fine(reports: &[Report]) -> bool
-    ensures { IsTrue result ↔ All (λ r. r.comparison ≢ Comparison.Different) reports.now }
+// The status for a message that was read.
+fn message_status(message: &Message) -> Status
+    ensures { result ≡ message_status message.now }
 {
-    reports
-        .iter()
-        .all(|it| !matches!(it.comparison, Comparison::Different))
+    if something_differs(message) {
+        Status::Refused
+    } else if something_was_compared(message) {
+        Status::Fine
+    } else {
+        Status::NothingCompared
+    }
 }
 
-/// Reads bytes as a message with signed data, and reports on each signer. `detached` is the content of a message that has none of its own.
-/// The only error is `OutOfMemory`.
+// Whether something of a message differs from what it must be.
+fn something_differs(message: &Message) -> bool
+    ensures { result ≡ something_differs message.now }
+{
+    let in_content = content_differs(message.content);
+    let in_signers = some_signer_differs(message);
+    in_content || in_signers
+}
+
+// Whether something of a signer differs.
+fn some_signer_differs(message: &Message) -> bool
+    ensures { result ≡ list_any differs message.now.reports.items }
+{
+    message.reports.iter().any(differs)
+}
+
+// Whether the digest of some signer's content was compared, and is the same.
+fn something_was_compared(message: &Message) -> bool
+    ensures { result ≡ list_any was_compared message.now.reports.items }
+{
+    message.reports.iter().any(was_compared)
+}
+
+// Whether a message's own content isn't the one that was given.
+fn content_differs(content: Option<ContentComparison>) -> bool
+    ensures { result ≡ content_differs content }
+{
+    matches!(content, Some(ContentComparison::Different))
+}
+
+// Whether something of a signer differs from what it must be.
+fn differs(report: &Report) -> bool
+    ensures { result ≡ differs report.now }
+{
+    matches!(
+        report.message_digest,
+        DigestComparison::OtherLineEnds | DigestComparison::Different
+    ) || matches!(report.content_type, TypeComparison::Different)
+        || matches!(
+            report.attributes,
+            RequiredAttributes::Incomplete | RequiredAttributes::Missing
+        )
+        || !report.is_listed
+}
+
+// Whether the digest of a signer's content was compared, and is the same.
+fn was_compared(report: &Report) -> bool
+    ensures { result ≡ was_compared report.now }
+{
+    matches!(report.message_digest, DigestComparison::Same)
+}
+
+/// Reads bytes as a message with signed data, and reports on each signer. The only error is `OutOfMemory`.
 ///
 /// Bytes that aren't DER are refused, and so is a message whose signed attributes are out of order (X.690, 11.6).
-pub fn examine(alloc: Global, bytes: &[u8], detached: Option<&[u8]>) -> Result<Outcome>
-    ensures ok { IfOk result (IsOutcome bytes.now (option_copied detached.entry)) }
+pub fn examine(alloc: Global, bytes: &[u8], request: &Request) -> Result<Outcome>
+    ensures ok { IfOk result (IsOutcome bytes.now request.now) }
     ensures err { IfErr result (λ e. e ≡ Asn1DerError.OutOfMemory) }
 {
     match from_der::<ContentInfo>(alloc, bytes) {
-        Ok(message) => examine_content(alloc, bytes, message, detached),
+        Ok(message) => examine_content(alloc, bytes, message, request),
         Err(refusal) => {
             let refusal = reported(refusal)?;
             Ok(Outcome::Refused(Refusal::NoContentInfo(refusal)))
@@ -81,10 +132,10 @@ fn examine_content(
     alloc: Global,
     bytes: &[u8],
     message: ContentInfo,
-    detached: Option<&[u8]>,
+    request: &Request,
 ) -> Result<Outcome>
     requires { IsContentInfo bytes.now message }
-    ensures ok { IfOk result (IsOutcome bytes.now (option_copied detached.entry)) }
+    ensures ok { IfOk result (IsOutcome bytes.now request.now) }
     ensures err { IfErr result (λ e. e ≡ Asn1DerError.OutOfMemory) }
 {
     let ContentInfo {
@@ -97,11 +148,8 @@ fn examine_content(
     let content = content.0.0;
     match from_der::<SignedData>(alloc, &content) {
         Ok(signed_data) => {
-            let reports = reports_of_data(alloc, &content, &signed_data, detached)?;
-            Ok(Outcome::Read(Message {
-                signed_data,
-                reports,
-            }))
+            let message = read_message(alloc, &content, &signed_data, request)?;
+            Ok(Outcome::Read(message))
         }
         Err(refusal) => {
             let DecodeError { error, position } = reported(refusal)?;
@@ -110,25 +158,6 @@ fn examine_content(
             Ok(Outcome::Refused(Refusal::NoSignedData(refusal)))
         }
     }
-}
-
-// The reports on the signers of the data that these bytes are.
-fn reports_of_data(
-    alloc: Global,
-    bytes: &[u8],
-    signed_data: &SignedData,
-    detached: Option<&[u8]>,
-) -> Result<Vec<Report>>
-    requires { IsSignedData bytes.now signed_data.now }
-    ensures ok { IfOk result (λ reports. AreReports (content_at_hand signed_data.now
-        (option_copied detached.entry)) signed_data.now reports.items) }
-    ensures err { IfErr result (λ e. e ≡ Asn1DerError.OutOfMemory) }
-{
-    let content = match &signed_data.encap_content_info.e_content {
-        Some(content) => Some(content.0.0.as_slice()),
-        None => detached,
-    };
-    reports_of(alloc, &signed_data.signer_infos.0, content)
 }
 
 // The error of the decoding, unless it is that an allocation failed.

@@ -15,8 +15,9 @@ returns-in-Ok-clause-ok c =
       message = c.args.message;
       whole = c.requires;
       kind = kind;
+      signed_data = c.in-Ok.signed_data;
       signed = rw c.deref.ensures.value at c.in-Ok.ensures.ok;
-      reports = c.in_ok-reports-in-Ok.ensures.ok;
+      is = c.in_ok-message-in-Ok.ensures.ok;
     }
 
 pub returns-clause-ok : goal.returns-clause-ok
