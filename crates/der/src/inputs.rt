@@ -6,13 +6,14 @@ use der_program_base::{
     Block, Blocks, Contents, Format, Printed, Status, contents_of, read_input,
 };
 use der_read::{certificate_line, read_message};
-use der_show::show;
+use der_show::{LineForm, ShowOptions, Source, show_as};
 use der_signers::signers_report;
 use picky_asn1_der::Asn1DerError;
 use picky_asn1_der::misc::WriteExt;
 use std::io::{self, ErrorKind};
 
 // Where a message is, and what is known of it.
+#[derive(Clone, Copy)]
 struct Place<'a> {
     file: &'a str,
     // The number of the block of PEM, from 1, if it is in one.
@@ -104,14 +105,7 @@ fn print_message<W: WriteExt>(
     let alloc = rt.alloc();
     let format = request.format;
     let printed = match &request.action {
-        Action::Show(options) => {
-            let shown = of_output(show(alloc, bytes, options, output))?;
-            return Ok(if shown.is_der {
-                Status::Fine
-            } else {
-                Status::Refused
-            });
-        }
+        Action::Show(options) => return print_listing(rt, options, format, place, bytes, output),
         Action::Read(wanted) => read_message(
             alloc,
             format,
@@ -129,6 +123,30 @@ fn print_message<W: WriteExt>(
     let Printed { text, status } = printed;
     print_text(output, &text)?;
     Ok(status)
+}
+
+// Prints the elements of a message.
+fn print_listing<W: WriteExt>(
+    rt: &HostRuntime,
+    options: &ShowOptions,
+    format: Format,
+    place: &Place<'_>,
+    bytes: &[u8],
+    output: &mut W,
+) -> io::Result<Status> {
+    let form = match format {
+        Format::Text => LineForm::Text,
+        Format::Json => LineForm::Json(Source {
+            file: place.file,
+            block: place.block,
+        }),
+    };
+    let shown = of_output(show_as(rt.alloc(), bytes, options, &form, output))?;
+    Ok(if shown.is_der {
+        Status::Fine
+    } else {
+        Status::Refused
+    })
 }
 
 // The heading of a listing, where there may be several. Lines of the other commands name their message.
@@ -178,8 +196,8 @@ fn print_text<W: WriteExt>(output: &mut W, text: &str) -> io::Result<()> {
 }
 
 // An error other than a failed allocation is that of the output.
-fn of_output<T: Drop>(result: picky_asn1_der::Result<T>) -> io::Result<T> {
-    match result {
+fn of_output<T: Drop>(outcome: picky_asn1_der::Result<T>) -> io::Result<T> {
+    match outcome {
         Ok(value) => Ok(value),
         Err(Asn1DerError::OutOfMemory) => Err(io::Error::from(ErrorKind::OutOfMemory)),
         Err(Asn1DerError::Other(kind)) => Err(io::Error::from(kind)),

@@ -1,6 +1,12 @@
-pub mod Answer
-pub mod Block
+pub mod AttributeNames
+pub mod Certificates
 pub mod Described
-pub mod Label
+pub mod Explanation
+pub mod Fitting
 pub mod Message
+pub mod Names
 pub mod Outcome
+pub mod Place
+pub mod Printed
+pub mod Types
+pub mod Verdict

@@ -1,53 +1,91 @@
-//! Messages, read from bytes.
-ghost use Rattle.std.specs.Prelude.{◌≡◌, ◌≢◌, IfOk, IfErr};
+//! Messages: the types that words and labels name, and those of which bytes are a message.
+ghost use Rattle.std.specs.Prelude.{◌≡◌, ◌≢◌, All, IfOk, IfSome, IfNone, MatchOption};
+ghost use Rattle.std.specs.List.{Contains};
 ghost use Rattle.der_read.specs.Described.{described};
+ghost use Rattle.der_read.specs.Fitting.{AreFitting};
 ghost use Rattle.der_read.specs.Message.{IsRefusalOf};
+ghost use Rattle.der_read.specs.Types.{word_of, labels_of, tried_types};
 
-use crate::{Described, KerberosMessage, MessageType};
-use der_cms::ContentInfo;
-use der_kerberos::Ticket;
-use der_pkix::{CertificationRequest, PrivateKeyInfo};
-use der_status::OcspResponse;
-use der_x509::{Certificate, CertificateList};
-use picky_asn1_der::{Asn1DerError, DecodeError, Deserialize, Result, from_der};
-use std::alloc::Global;
+use crate::message_type::{ALL_TYPES, TRIED_TYPES};
+use crate::{MessageType, refusal_of};
+use picky_asn1_der::{Asn1DerError, DecodeError, Deserialize, from_der};
+use std::alloc::{AllocError, Global};
 
-/// Returns why bytes aren't exactly one message of this type, or `None` if they are. The only error is `OutOfMemory`.
-pub fn refusal_of(alloc: Global, named: MessageType, bytes: &[u8]) -> Result<Option<DecodeError>>
-    ensures ok { IfOk result (IsRefusalOf (⟦<MessageType as Described>⟧.description named)
-        bytes.now) }
-    ensures err { IfErr result (λ e. e ≡ Asn1DerError.OutOfMemory) }
+/// Returns the type that this word names, or `None` if it names none.
+pub fn type_of_word(word: &str) -> Option<MessageType>
+    ensures { MatchOption result ((type : MessageType) → word_of type ≢ word.now)
+        (λ type. word_of type ≡ word.now) }
 {
-    match named {
-        MessageType::Certificate => refusal_as::<Certificate>(alloc, bytes),
-        MessageType::Cms => refusal_as::<ContentInfo>(alloc, bytes),
-        MessageType::Crl => refusal_as::<CertificateList>(alloc, bytes),
-        MessageType::Csr => refusal_as::<CertificationRequest>(alloc, bytes),
-        MessageType::Krb => refusal_as::<KerberosMessage>(alloc, bytes),
-        MessageType::Ocsp => refusal_as::<OcspResponse>(alloc, bytes),
-        MessageType::Pkcs8 => refusal_as::<PrivateKeyInfo>(alloc, bytes),
-        MessageType::Ticket => refusal_as::<Ticket>(alloc, bytes),
-    }
+    type_with_word(&ALL_TYPES, word)
 }
 
-fn refusal_as<T: Deserialize>(alloc: Global, bytes: &[u8]) -> Result<Option<DecodeError>>
-    ensures ok { IfOk result (IsRefusalOf (described T.meaning T.shape) bytes.now) }
-    ensures err { IfErr result (λ e. e ≡ Asn1DerError.OutOfMemory) }
+// The first of these types that has a word.
+fn type_with_word(types: &[MessageType], word: &str) -> Option<MessageType>
+    ensures some { IfSome result (λ type. word_of type ≡ word.now) }
+    ensures none { IfNone result (All (λ type. word_of type ≢ word.now) types.now) }
+{
+    types.iter().copied().find(|named| named.word() == word)
+}
+
+/// Returns the type of the message in a block of PEM with this label (RFC 7468, 4 to 13), or `None` if the label is that of no type.
+pub fn type_of_label(label: &[u8]) -> Option<MessageType>
+    ensures { MatchOption result ((type : MessageType) → Contains (labels_of type) label.now → ⊥)
+        (λ type. Contains (labels_of type) label.now) }
+{
+    type_with_label(&ALL_TYPES, label)
+}
+
+// The first of these types that has a label.
+fn type_with_label(types: &[MessageType], label: &[u8]) -> Option<MessageType>
+    ensures some { IfSome result (λ type. Contains (labels_of type) label.now) }
+    ensures none { IfNone result (All (λ type. Contains (labels_of type) label.now → ⊥) types.now) }
+{
+    types.iter().copied().find(|named| named.has_label(label))
+}
+
+/// Returns the types of which bytes are exactly one message, in the order in which types are tried. The only error is a failed allocation.
+pub fn types_of(alloc: Global, bytes: &[u8]) -> Result<Vec<MessageType>, AllocError>
+    ensures { IfOk result (λ types. AreFitting bytes.now tried_types types.items) }
+{
+    fitting_types(alloc, &TRIED_TYPES, bytes)
+}
+
+// Those of these types of which the bytes are exactly one message.
+fn fitting_types(
+    alloc: Global,
+    tried: &[MessageType],
+    bytes: &[u8],
+) -> Result<Vec<MessageType>, AllocError>
+    ensures { IfOk result (λ types. AreFitting bytes.now tried.now types.items) }
+{
+    let mut fitting = Vec::new(alloc);
+    for named in tried {
+        if refusal_of(alloc, *named, bytes)?.is_none() {
+            fitting.push(*named)?;
+        }
+    }
+    Ok(fitting)
+}
+
+// Why the bytes aren't exactly the encoding of one value of a type, or `None` if they are.
+pub(crate) fn refusal_as<T: Deserialize>(
+    alloc: Global,
+    bytes: &[u8],
+) -> Result<Option<DecodeError>, AllocError>
+    ensures { IfOk result (IsRefusalOf (described T.meaning T.shape) bytes.now) }
 {
     match from_der::<T>(alloc, bytes) {
         Ok(_) => Ok(None),
-        Err(refusal) => reported(refusal),
+        Err(refusal) => Ok(Some(reported(refusal)?)),
     }
 }
 
 // The refusal, unless an allocation failed.
-fn reported(refusal: DecodeError) -> Result<Option<DecodeError>>
-    ensures ok { IfOk result (λ it. (it ≡ Some refusal)
-        × (refusal.error ≢ Asn1DerError.OutOfMemory)) }
-    ensures err { IfErr result (λ e. e ≡ Asn1DerError.OutOfMemory) }
+pub(crate) fn reported(refusal: DecodeError) -> Result<DecodeError, AllocError>
+    ensures { IfOk result (λ it. (it ≡ refusal) × (it.error ≢ Asn1DerError.OutOfMemory)) }
 {
     match refusal.error {
-        Asn1DerError::OutOfMemory => Err(Asn1DerError::OutOfMemory),
-        _ => Ok(Some(refusal)),
+        Asn1DerError::OutOfMemory => Err(AllocError),
+        _ => Ok(refusal),
     }
 }

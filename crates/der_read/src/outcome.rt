@@ -1,12 +1,13 @@
 //! The outcome of reading bytes as a certificate.
-ghost use Rattle.std.specs.Prelude.{◌≡◌, ◌≢◌, ◌↔◌, IfOk, IfErr, IsTrue};
+ghost use Rattle.std.specs.Prelude.{◌≡◌, ◌≢◌, ◌↔◌, IfOk, IsTrue};
 ghost use Rattle.picky_der_core.specs.Encoding.{der};
 ghost use Rattle.picky_der_core.specs.Readable.{IsWritable};
 ghost use Rattle.der_read.specs.Outcome.{IsCertificate, IsNoCertificate, IsOutcome};
 
+use crate::reported;
 use der_x509::Certificate;
-use picky_asn1_der::{Asn1DerError, DecodeError, Result, Serialize, from_der, to_vec};
-use std::alloc::Global;
+use picky_asn1_der::{Asn1DerError, DecodeError, Serialize, from_der, to_vec};
+use std::alloc::{AllocError, Global};
 
 /// A certificate that was read.
 #[derive(Debug, Drop, PartialEq, Eq)]
@@ -28,13 +29,12 @@ pub enum Outcome {
     LeftOver(usize),
 }
 
-/// Reads bytes as a certificate, and writes the certificate again. The only error is `OutOfMemory`.
+/// Reads bytes as a certificate, and writes the certificate again. The only error is a failed allocation.
 ///
 /// It is proved that what was read is written as the same bytes. It is tested here nevertheless, and the program prints the result of that
 /// test.
-pub fn examine(alloc: Global, bytes: &[u8]) -> Result<Outcome>
-    ensures ok { IfOk result (IsOutcome bytes.now) }
-    ensures err { IfErr result (λ e. e ≡ Asn1DerError.OutOfMemory) }
+pub fn examine(alloc: Global, bytes: &[u8]) -> Result<Outcome, AllocError>
+    ensures { IfOk result (IsOutcome bytes.now) }
 {
     match from_der::<Certificate>(alloc, bytes) {
         Ok(certificate) => written_again(alloc, bytes, certificate),
@@ -43,11 +43,10 @@ pub fn examine(alloc: Global, bytes: &[u8]) -> Result<Outcome>
 }
 
 // The outcome for bytes that are refused: a certificate with other bytes after it, or none.
-fn not_read(alloc: Global, bytes: &[u8], refusal: DecodeError) -> Result<Outcome>
+fn not_read(alloc: Global, bytes: &[u8], refusal: DecodeError) -> Result<Outcome, AllocError>
     requires refused { IsNoCertificate bytes.now refusal }
     requires memory { refusal.error ≢ Asn1DerError.OutOfMemory }
-    ensures ok { IfOk result (IsOutcome bytes.now) }
-    ensures err { IfErr result (λ e. e ≡ Asn1DerError.OutOfMemory) }
+    ensures { IfOk result (IsOutcome bytes.now) }
 {
     let position = refusal.position;
     if let Err(front) = from_der::<Certificate>(alloc, &bytes[..position]) {
@@ -58,10 +57,9 @@ fn not_read(alloc: Global, bytes: &[u8], refusal: DecodeError) -> Result<Outcome
 }
 
 // The outcome for the bytes of this certificate.
-fn written_again(alloc: Global, bytes: &[u8], certificate: Certificate) -> Result<Outcome>
+fn written_again(alloc: Global, bytes: &[u8], certificate: Certificate) -> Result<Outcome, AllocError>
     requires { IsCertificate bytes.now certificate }
-    ensures ok { IfOk result (IsOutcome bytes.now) }
-    ensures err { IfErr result (λ e. e ≡ Asn1DerError.OutOfMemory) }
+    ensures { IfOk result (IsOutcome bytes.now) }
 {
     let is_same = is_written_as(alloc, &certificate, bytes)?;
     Ok(Outcome::Read(Reading {
@@ -71,22 +69,12 @@ fn written_again(alloc: Global, bytes: &[u8], certificate: Certificate) -> Resul
 }
 
 // Whether the encoding of the value is exactly these bytes.
-fn is_written_as<T: Serialize>(alloc: Global, value: &T, bytes: &[u8]) -> Result<bool>
+fn is_written_as<T: Serialize>(alloc: Global, value: &T, bytes: &[u8]) -> Result<bool, AllocError>
     requires { IsWritable (T.meaning value.now) }
-    ensures ok { IfOk result (λ same. IsTrue same ↔ (der (T.meaning value.now) ≡ bytes.now)) }
-    ensures err { IfErr result (λ e. e ≡ Asn1DerError.OutOfMemory) }
+    ensures { IfOk result (λ same. IsTrue same ↔ (der (T.meaning value.now) ≡ bytes.now)) }
 {
-    let encoding = to_vec(alloc, value)?;
-    Ok(encoding.as_slice() == bytes)
-}
-
-// The error of the decoding, unless it is that an allocation failed.
-fn reported(refusal: DecodeError) -> Result<DecodeError>
-    ensures ok { IfOk result (λ r. (r ≡ refusal) × (r.error ≢ Asn1DerError.OutOfMemory)) }
-    ensures err { IfErr result (λ e. e ≡ Asn1DerError.OutOfMemory) }
-{
-    match refusal.error {
-        Asn1DerError::OutOfMemory => Err(Asn1DerError::OutOfMemory),
-        _ => Ok(refusal),
+    match to_vec(alloc, value) {
+        Ok(encoding) => Ok(encoding.as_slice() == bytes),
+        Err(_) => Err(AllocError),
     }
 }

@@ -7,11 +7,11 @@ use Rattle.der_signers.specs.declared.message.Message.{Message}
 use Rattle.der_signers.specs.declared.outcome.Outcome.{Outcome}
 use Rattle.der_signers.specs.declared.outcome.Outcome.TheVariants as outcome
 use Rattle.der_signers.specs.declared.outcome.Refusal.{Refusal}
-use Rattle.der_signers.specs.declared.printed.Printed.{Printed}
+use Rattle.der_program_base.specs.declared.printed.Printed.{Printed}
 use Rattle.der_signers.specs.declared.reason.Reason.{Reason}
 use Rattle.der_signers.specs.declared.report.Report.{Report}
-use Rattle.der_signers.specs.declared.request.Format.{Format}
-use Rattle.der_signers.specs.declared.request.Format.TheVariants.{Text, Json}
+use Rattle.der_program_base.specs.declared.printed.Format.{Format}
+use Rattle.der_program_base.specs.declared.printed.Format.TheVariants.{Text, Json}
 use Rattle.der_signers.specs.declared.request.Request.{Request}
 use Rattle.der_signers.specs.Json.{signer_data, no_signers_data, refused_data}
 use Rattle.der_signers.specs.Outcome.{IsOutcome}

@@ -8,21 +8,12 @@ use crate::message::Message;
 use crate::outcome::{Outcome, Refusal, examine};
 use crate::reason::{Reason, reason_of};
 use crate::report::Report;
-use crate::request::{Format, Request};
+use crate::request::Request;
 use crate::text::{no_signers_line, refusal_line, signer_line};
-use der_program_base::Status;
+use der_program_base::{Format, Printed};
 use picky_asn1_der::{Asn1DerError, Result};
 use std::alloc::{AllocError, Global};
 use std::result;
-
-/// What is printed of a message.
-#[derive(Debug, Drop)]
-pub struct Printed {
-    /// The lines, each with the byte 0A at its end.
-    pub text: String,
-    /// The status for the message.
-    pub status: Status,
-}
 
 /// Returns what is printed of the message in these bytes, which are those of a file or of a block in it: a line for each signer, or one that
 /// says that there is none, or one that says why the bytes are refused. The only error is `OutOfMemory`.

@@ -11,11 +11,3 @@ pub struct Request {
     pub line_ends: LineEnds,
 }
 
-/// The form of the output.
-#[derive(Debug, Clone, Copy, PartialEq, Eq)]
-pub enum Format {
-    /// Lines of text.
-    Text,
-    /// An object of JSON a line.
-    Json,
-}
