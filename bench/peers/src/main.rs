@@ -1,7 +1,7 @@
 //! The jobs of the project's driver, done by two Rust libraries. What is read is copied out of the input, as the
 //! project does.
 //!
-//!     peers FILE                           prints lines `LIBRARY JOB write|read NUMBER ps`, the least of the rounds
+//!     peers FILE LIBRARY                   prints lines `LIBRARY JOB write|read NUMBER ps`, the least of the rounds
 //!     peers FILE LIBRARY JOB WAY ROUNDS    does one job alone, as often, for valgrind
 //!
 //! The job `certificates-borrowed` only reads, and nothing is copied. The file has a line `key HEX` or `certificate
@@ -53,17 +53,17 @@ pub trait Library {
 
 const ROUNDS: usize = 9;
 
-/// What is done with the jobs: all are timed, or one of a library is repeated one way.
+/// What is done with the jobs of a library: all are timed, or one is repeated one way.
 enum Task<'a> {
     Time,
-    Repeat { library: &'a str, job: &'a str, way: &'a str, rounds: usize },
+    Repeat { job: &'a str, way: &'a str, rounds: usize },
 }
 
 impl Task<'_> {
-    fn wants<L: Library>(&self, name: &str) -> bool {
+    fn wants(&self, name: &str) -> bool {
         match self {
             Task::Time => true,
-            Task::Repeat { library, job, .. } => *library == L::NAME && *job == name,
+            Task::Repeat { job, .. } => *job == name,
         }
     }
 
@@ -99,8 +99,8 @@ fn run_struct<L: Library>(task: &Task) {
     let bytes = L::write_struct(&one);
     assert_eq!(bytes.len(), 23);
     assert_eq!(L::read_struct(&bytes), one);
-    task.run::<L, _>("struct", "write", (20_000, 1), || L::write_struct(black_box(&one)));
-    task.run::<L, _>("struct", "read", (20_000, 1), || L::read_struct(black_box(&bytes)));
+    task.run::<L, _>("struct", "write", (2_000, 1), || L::write_struct(black_box(&one)));
+    task.run::<L, _>("struct", "read", (2_000, 1), || L::read_struct(black_box(&bytes)));
 }
 
 fn run_structs<L: Library>(task: &Task) {
@@ -135,19 +135,19 @@ fn run_borrowed(task: &Task, job: &str, encodings: &[Vec<u8>], calls: usize) {
 }
 
 fn run<L: Library>(task: &Task, keys: &[Vec<u8>], certificates: &[Vec<u8>]) {
-    if task.wants::<L>("struct") {
+    if task.wants("struct") {
         run_struct::<L>(task);
     }
-    if task.wants::<L>("structs") {
+    if task.wants("structs") {
         run_structs::<L>(task);
     }
-    if task.wants::<L>("mebibyte") {
+    if task.wants("mebibyte") {
         run_octets::<L>(task);
     }
-    if task.wants::<L>("keys") {
+    if task.wants("keys") {
         run_all::<L, L::Key>(task, "keys", keys, 500);
     }
-    if task.wants::<L>("certificates") {
+    if task.wants("certificates") {
         run_all::<L, L::Certificate>(task, "certificates", certificates, 4);
     }
 }
@@ -166,16 +166,18 @@ fn main() {
     let words: Vec<String> = std::env::args().skip(1).collect();
     let text = std::fs::read_to_string(&words[0]).expect("a file that can be read");
     let (keys, certificates) = (encodings(&text, "key"), encodings(&text, "certificate"));
-    let task = match &words[1..] {
+    let task = match &words[2..] {
         [] => Task::Time,
-        [library, job, way, rounds] => {
-            Task::Repeat { library, job, way, rounds: rounds.parse().expect("a number") }
-        }
-        _ => panic!("usage: peers FILE [LIBRARY JOB WAY ROUNDS]"),
+        [job, way, rounds] => Task::Repeat { job, way, rounds: rounds.parse().expect("a number") },
+        _ => panic!("usage: peers FILE LIBRARY [JOB WAY ROUNDS]"),
     };
+    // one library in a process, so that none finds the memory as another left it
+    if words[1] == Bcder::NAME {
+        run::<Bcder>(&task, &keys, &certificates);
+        return;
+    }
     run::<Asn1>(&task, &keys, &certificates);
-    run::<Bcder>(&task, &keys, &certificates);
-    if task.wants::<Asn1>("certificates-borrowed") {
+    if task.wants("certificates-borrowed") {
         run_borrowed(&task, "certificates-borrowed", &certificates, 4);
     }
 }
