@@ -4,7 +4,8 @@ use clap::{Arg, ArgAction, Command};
 use std::alloc::{AllocError, Global};
 
 // What the help of each command ends with.
-const STATUSES: &str = "Exit status: 0 if all was read and, where something was compared, at least one thing was and all \
+const STATUSES: &str =
+    "Exit status: 0 if all was read and, where something was compared, at least one thing was and all \
                         agreed. 1 if something was refused or differs. 2 if the arguments are wrong, a file can't be \
                         read, the output can't be written, or there is too little memory. 3 if nothing was refused and \
                         nothing could be compared. Of several messages it is the status of the worst.";
@@ -25,21 +26,13 @@ pub fn command<'a>(alloc: Global) -> Result<Command<'a>, AllocError> {
 fn show_command<'a>(alloc: Global) -> Result<Command<'a>, AllocError> {
     let command = Command::new(alloc, "show")
         .about("Lists the elements of DER, with the rule and its clause where something isn't DER")
-        .arg(flag(
-            alloc,
-            "short",
-            "Print at most 48 bytes of a value",
-        ))?
+        .arg(flag(alloc, "short", "Print at most 48 bytes of a value"))?
         .arg(flag(
             alloc,
             "flat",
             "Don't list the DER in an OCTET STRING or a BIT STRING",
         ))?
-        .arg(flag(
-            alloc,
-            "keep-going",
-            "Go on after an element that isn't DER",
-        ))?
+        .arg(flag(alloc, "keep-going", "Go on after an element that isn't DER"))?
         .arg(
             Arg::new(alloc, "at")
                 .long("at")
@@ -77,8 +70,9 @@ fn cms_command<'a>(alloc: Global) -> Result<Command<'a>, AllocError> {
 }
 
 fn certificate_command<'a>(alloc: Global) -> Result<Command<'a>, AllocError> {
-    let command = Command::new(alloc, "certificate")
-        .about("Prints a line on each certificate (RFC 5280). No signature is verified");
+    let command = Command::new(alloc, "certificate").about(
+        "Prints a line on each certificate (RFC 5280). No signature is verified",
+    );
     with_inputs(alloc, command)
 }
 

@@ -2,9 +2,7 @@
 
 use crate::notes::{heading, refusal_note, skipped_note};
 use crate::request::{Action, Request};
-use der_program_base::{
-    Block, Blocks, Contents, Format, Printed, Status, contents_of, read_input,
-};
+use der_program_base::{Block, Blocks, Contents, Format, Printed, Status, contents_of, read_input};
 use der_read::{certificate_line, read_message};
 use der_show::{LineForm, ShowOptions, Source, show_as};
 use der_signers::signers_report;
@@ -162,7 +160,10 @@ fn print_heading<W: WriteExt>(
     if request.format == Format::Json {
         return Ok(());
     }
-    print_text(output, &heading(rt.alloc(), place.file, place.block, place.label)?)
+    print_text(
+        output,
+        &heading(rt.alloc(), place.file, place.block, place.label)?,
+    )
 }
 
 fn print_skipped<W: WriteExt>(
@@ -175,7 +176,10 @@ fn print_skipped<W: WriteExt>(
     if skipped == 0 {
         return Ok(());
     }
-    print_text(output, &skipped_note(rt.alloc(), request.format, file, skipped)?)
+    print_text(
+        output,
+        &skipped_note(rt.alloc(), request.format, file, skipped)?,
+    )
 }
 
 fn print_refusal<W: WriteExt>(

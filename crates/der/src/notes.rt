@@ -32,7 +32,10 @@ pub fn skipped_note(
             let place = place_line(alloc, file, None)?.into_string();
             format!(in alloc; "{place}: lines outside of blocks skipped: {skipped}\n")
         }
-        Format::Json => ended(alloc, &json!(in alloc; {"file": file, "skippedLines": skipped})?),
+        Format::Json => ended(
+            alloc,
+            &json!(in alloc; {"file": file, "skippedLines": skipped})?,
+        ),
     }
 }
 

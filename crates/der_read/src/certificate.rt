@@ -4,10 +4,10 @@ ghost use Rattle.serde_json.specs.View.{view};
 ghost use Rattle.der_types.specs.DateTimes.{date_time_text};
 ghost use Rattle.der_read.specs.Certificates.{algorithm_text, extension_count, key_text, validity_text, IsCertificatePrinted, IsOutcomeLine, IsSummary, IsTimeText, left_over_text, outcome_status, sameness_text, summary_data, summary_line, summary_text};
 
+use crate::explanation::explanation_of;
 use crate::names::{dotted_text, name_text};
 use crate::place::{block_value, place_text, text_or_bytes};
 use crate::printed::{ended, refusal_line};
-use crate::explanation::explanation_of;
 use crate::{Outcome, examine};
 use der_program_base::{Format, Printed, Status};
 use der_types::names::name_of;
@@ -77,7 +77,14 @@ fn outcome_line(
         Outcome::Refused(refusal) => {
             let reason = explanation_of(alloc, bytes, *refusal)?;
             let text = format!(in alloc; "no certificate: {reason}")?;
-            refusal_line(alloc, format, file, block, Value::from(reason.offset), &text)
+            refusal_line(
+                alloc,
+                format,
+                file,
+                block,
+                Value::from(reason.offset),
+                &text,
+            )
         }
         Outcome::LeftOver(taken) => {
             let text = left_over_text(alloc, *taken, bytes.len())?;

@@ -212,7 +212,8 @@ impl MessageType {
             MessageType::Crl => "list of revoked certificates (RFC 5280, 5.1)",
             MessageType::Csr => "request for a certificate, PKCS #10 (RFC 2986, 4.2)",
             MessageType::OcspRequest => "request for the status of certificates (RFC 6960, 4.1.1)",
-            MessageType::OcspResponse => "response with the status of certificates (RFC 6960, 4.2.1)",
+            MessageType::OcspResponse =>
+                "response with the status of certificates (RFC 6960, 4.2.1)",
             MessageType::TimestampQuery => "request for a time stamp (RFC 3161, 2.4.1)",
             MessageType::TimestampResponse => "response with a time stamp (RFC 3161, 2.4.2)",
             MessageType::Cms => "message of CMS with any content, PKCS #7 (RFC 5652, 3)",
@@ -220,7 +221,8 @@ impl MessageType {
             MessageType::EnvelopedData => "enveloped data, a content of CMS (RFC 5652, 6.1)",
             MessageType::DigestedData => "digested data, a content of CMS (RFC 5652, 7)",
             MessageType::EncryptedData => "encrypted data, a content of CMS (RFC 5652, 8)",
-            MessageType::AuthenticatedData => "authenticated data, a content of CMS (RFC 5652, 9.1)",
+            MessageType::AuthenticatedData =>
+                "authenticated data, a content of CMS (RFC 5652, 9.1)",
             MessageType::Pkcs8 => "private key of any algorithm, PKCS #8 (RFC 5208, 5)",
             MessageType::EncryptedKey => "encrypted private key, PKCS #8 (RFC 5208, 6)",
             MessageType::RsaKey => "private key of RSA, PKCS #1 (RFC 8017, A.1.2)",
@@ -228,7 +230,8 @@ impl MessageType {
             MessageType::PublicKey => "public key of any algorithm (RFC 5280, 4.1)",
             MessageType::RsaPublicKey => "public key of RSA, PKCS #1 (RFC 8017, A.1.1)",
             MessageType::Ticket => "ticket of Kerberos (RFC 4120, 5.3)",
-            MessageType::Krb => "message of Kerberos, any of those that follow (RFC 4120, 5.4 to 5.9)",
+            MessageType::Krb =>
+                "message of Kerberos, any of those that follow (RFC 4120, 5.4 to 5.9)",
             MessageType::AsReq => "request for a first ticket (RFC 4120, 5.4.1)",
             MessageType::AsRep => "response with a first ticket (RFC 4120, 5.4.2)",
             MessageType::TgsReq => "request for a ticket (RFC 4120, 5.4.1)",

@@ -142,11 +142,7 @@ fn escaped(alloc: Global, text: &str) -> Result<String, AllocError>
 }
 
 // The texts, one after another, with the separator between them.
-pub(crate) fn joined(
-    alloc: Global,
-    separator: &str,
-    texts: &[String],
-) -> Result<String, AllocError>
+pub(crate) fn joined(alloc: Global, separator: &str, texts: &[String]) -> Result<String, AllocError>
     ensures { IfOk result (λ text. string_bytes text
         ≡ joined separator.now (map string_bytes texts.now)) }
 {

@@ -57,7 +57,11 @@ fn not_read(alloc: Global, bytes: &[u8], refusal: DecodeError) -> Result<Outcome
 }
 
 // The outcome for the bytes of this certificate.
-fn written_again(alloc: Global, bytes: &[u8], certificate: Certificate) -> Result<Outcome, AllocError>
+fn written_again(
+    alloc: Global,
+    bytes: &[u8],
+    certificate: Certificate,
+) -> Result<Outcome, AllocError>
     requires { IsCertificate bytes.now certificate }
     ensures { IfOk result (IsOutcome bytes.now) }
 {

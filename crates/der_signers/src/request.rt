@@ -10,4 +10,3 @@ pub struct Request {
     /// How the lines of each content end.
     pub line_ends: LineEnds,
 }
-
