@@ -1,2 +1,3 @@
 pub mod CrlReason
+pub mod KeyVersion
 pub mod Notation

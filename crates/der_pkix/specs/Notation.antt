@@ -1,6 +1,6 @@
 -- The types as terms. Above each is its name in its module, and above each member the member's text.
 use Rattle.std.specs.Prelude.{[], ◌∷◌}
-use Rattle.der_types.specs.Notation.{Notation, BIT-STRING, BIT-STRING-named, BOOLEAN, ENUMERATED, GeneralizedTime, INTEGER, OBJECT-IDENTIFIER, OCTET-STRING, UTF8String, end, none, optional, required}
+use Rattle.der_types.specs.Notation.{Notation, BIT-STRING, BIT-STRING-named, BOOLEAN, ENUMERATED, GeneralizedTime, INTEGER, INTEGER-named, OBJECT-IDENTIFIER, OCTET-STRING, UTF8String, end, none, optional, required}
 use Rattle.der_types.specs.NotationForms.{ANY, BMPString, CHOICE, CONTEXT, EXPLICIT, FALSE, IA5String, IMPLICIT, INTEGER-from-to, MAX, Mode, SEQUENCE, SEQUENCE-OF, SET-OF, SIZE, VisibleString, default, default-as-optional, instead, ◌∣◌, ◌⨾◌}
 use Rattle.der_x509.specs.Notation.{AlgorithmIdentifier, AttributeType, AttributeValue, CertificateSerialNumber, Name, RelativeDistinguishedName, SubjectPublicKeyInfo}
 
@@ -8,9 +8,9 @@ use Rattle.der_x509.specs.Notation.{AlgorithmIdentifier, AttributeType, Attribut
 abbrev TAGS-PKIX1Implicit88 : Mode
 TAGS-PKIX1Implicit88 = IMPLICIT
 
--- PKCS-8 DEFINITIONS IMPLICIT TAGS
-abbrev TAGS-PKCS-8 : Mode
-TAGS-PKCS-8 = IMPLICIT
+-- AsymmetricKeyPackageModuleV1 DEFINITIONS IMPLICIT TAGS
+abbrev TAGS-AsymmetricKeyPackageModuleV1 : Mode
+TAGS-AsymmetricKeyPackageModuleV1 = IMPLICIT
 
 -- ECPrivateKey DEFINITIONS EXPLICIT TAGS
 abbrev TAGS-ECPrivateKey : Mode
@@ -78,9 +78,44 @@ Attribute = SEQUENCE (
     required (SET-OF AttributeValue) ⨾
     end)
 
--- Attributes of PKCS-8: SET OF Attribute
+-- Attributes of AsymmetricKeyPackageModuleV1: SET OF Attribute
 abbrev pub Attributes : Notation
 Attributes = SET-OF Attribute
+
+-- KeyVersion of AsymmetricKeyPackageModuleV1
+abbrev pub KeyVersion : Notation
+KeyVersion = INTEGER-named (0 ∷ 1 ∷ [])
+
+-- PrivateKey of AsymmetricKeyPackageModuleV1: OCTET STRING
+abbrev pub PrivateKey : Notation
+PrivateKey = OCTET-STRING
+
+-- PrivateKeyAlgorithmIdentifier of AsymmetricKeyPackageModuleV1: AlgorithmIdentifier
+abbrev pub PrivateKeyAlgorithmIdentifier : Notation
+PrivateKeyAlgorithmIdentifier = AlgorithmIdentifier
+
+-- PublicKey of AsymmetricKeyPackageModuleV1: BIT STRING
+abbrev pub PublicKey : Notation
+PublicKey = BIT-STRING
+
+-- OneAsymmetricKey of AsymmetricKeyPackageModuleV1
+abbrev pub OneAsymmetricKey : Notation
+OneAsymmetricKey = SEQUENCE (
+    -- version KeyVersion
+    required KeyVersion ⨾
+    -- privateKeyAlgorithm PrivateKeyAlgorithmIdentifier
+    required PrivateKeyAlgorithmIdentifier ⨾
+    -- privateKey PrivateKey
+    required PrivateKey ⨾
+    -- attributes [0] Attributes OPTIONAL
+    optional (CONTEXT 0 TAGS-AsymmetricKeyPackageModuleV1 Attributes) ⨾
+    -- publicKey [1] PublicKey OPTIONAL
+    optional (CONTEXT 1 TAGS-AsymmetricKeyPackageModuleV1 PublicKey) ⨾
+    end)
+
+-- AsymmetricKeyPackage of AsymmetricKeyPackageModuleV1: SEQUENCE SIZE (1..MAX) OF OneAsymmetricKey
+abbrev pub AsymmetricKeyPackage : Notation
+AsymmetricKeyPackage = SIZE 1 MAX (SEQUENCE-OF OneAsymmetricKey)
 
 -- AuthorityInfoAccessSyntax of PKIX1Implicit88: SEQUENCE SIZE (1..MAX) OF AccessDescription
 abbrev pub AuthorityInfoAccessSyntax : Notation
@@ -256,7 +291,7 @@ EcPrivateKey = SEQUENCE (
     optional (CONTEXT 1 TAGS-ECPrivateKey BIT-STRING) ⨾
     end)
 
--- EncryptedPrivateKeyInfo of PKCS-8
+-- EncryptedPrivateKeyInfo of AsymmetricKeyPackageModuleV1
 abbrev pub EncryptedPrivateKeyInfo : Notation
 EncryptedPrivateKeyInfo = SEQUENCE (
     -- encryptionAlgorithm AlgorithmIdentifier
@@ -380,26 +415,9 @@ PolicyMappings = SIZE 1 MAX (SEQUENCE-OF (SEQUENCE (
     required CertPolicyId ⨾
     end)))
 
--- PrivateKey of PKCS-8: OCTET STRING
-abbrev pub PrivateKey : Notation
-PrivateKey = OCTET-STRING
-
--- PrivateKeyAlgorithmIdentifier of PKCS-8: AlgorithmIdentifier
-abbrev pub PrivateKeyAlgorithmIdentifier : Notation
-PrivateKeyAlgorithmIdentifier = AlgorithmIdentifier
-
--- PrivateKeyInfo of PKCS-8
+-- PrivateKeyInfo of AsymmetricKeyPackageModuleV1: OneAsymmetricKey
 abbrev pub PrivateKeyInfo : Notation
-PrivateKeyInfo = SEQUENCE (
-    -- version INTEGER { v1 (0) } (v1)
-    required (INTEGER-from-to 0 0) ⨾
-    -- privateKeyAlgorithm PrivateKeyAlgorithmIdentifier
-    required PrivateKeyAlgorithmIdentifier ⨾
-    -- privateKey PrivateKey
-    required PrivateKey ⨾
-    -- attributes [0] Attributes OPTIONAL
-    optional (CONTEXT 0 TAGS-PKCS-8 Attributes) ⨾
-    end)
+PrivateKeyInfo = OneAsymmetricKey
 
 -- RSAVersion of PKCS-1: INTEGER { two-prime (0), multi (1) }
 abbrev pub RsaVersion : Notation

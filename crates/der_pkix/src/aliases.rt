@@ -1,15 +1,21 @@
 //! Type aliases.
 
 use crate::{
-    AccessDescription, Attribute, DistributionPoint, GeneralName, GeneralSubtree, OtherPrimeInfo,
-    PolicyInformation, PolicyMappingsItem,
+    AccessDescription, Attribute, DistributionPoint, GeneralName, GeneralSubtree, OneAsymmetricKey,
+    OtherPrimeInfo, PolicyInformation, PolicyMappingsItem,
 };
-use der_types::{GeneralizedTime, Ia5String, Integer, NamedBits, ObjectIdentifier, WithSize};
+use der_types::{
+    BitString, GeneralizedTime, Ia5String, Integer, NamedBits, ObjectIdentifier, WithSize,
+};
 use der_x509::AlgorithmIdentifier;
 use picky_asn1_der::Asn1RawDer;
 use picky_asn1_der::asn1::{Asn1SetOf, ByteBuf};
 
-/// `Attributes` of PKCS-8: `SET OF Attribute`.
+/// The content of a message whose content type is id-ct-KP-aKeyPackage. `AsymmetricKeyPackage` of
+/// AsymmetricKeyPackageModuleV1: `SEQUENCE SIZE (1..MAX) OF OneAsymmetricKey`.
+pub type AsymmetricKeyPackage = WithSize<Vec<OneAsymmetricKey>, 1, { usize::MAX }>;
+
+/// `Attributes` of AsymmetricKeyPackageModuleV1: `SET OF Attribute`.
 pub type Attributes = Asn1SetOf<Attribute>;
 
 /// `AuthorityInfoAccessSyntax` of PKIX1Implicit88: `SEQUENCE SIZE (1..MAX) OF AccessDescription`.
@@ -104,11 +110,18 @@ pub type PolicyMappings = WithSize<Vec<PolicyMappingsItem>, 1, { usize::MAX }>;
 /// `PolicyQualifierId` of PKIX1Implicit88: `OBJECT IDENTIFIER`.
 pub type PolicyQualifierId = ObjectIdentifier;
 
-/// `PrivateKey` of PKCS-8: `OCTET STRING`.
+/// `PrivateKey` of AsymmetricKeyPackageModuleV1: `OCTET STRING`.
 pub type PrivateKey = ByteBuf;
 
-/// `PrivateKeyAlgorithmIdentifier` of PKCS-8: `AlgorithmIdentifier`.
+/// `PrivateKeyAlgorithmIdentifier` of AsymmetricKeyPackageModuleV1: `AlgorithmIdentifier`.
 pub type PrivateKeyAlgorithmIdentifier = AlgorithmIdentifier;
+
+/// The name of RFC 5208, whose type had no public key. `PrivateKeyInfo` of
+/// AsymmetricKeyPackageModuleV1: `OneAsymmetricKey`.
+pub type PrivateKeyInfo = OneAsymmetricKey;
+
+/// `PublicKey` of AsymmetricKeyPackageModuleV1: `BIT STRING`.
+pub type PublicKey = BitString;
 
 /// `ReasonFlags` of PKIX1Implicit88: `BIT STRING { unused (0), keyCompromise (1), cACompromise (2),
 /// affiliationChanged (3), superseded (4), cessationOfOperation (5), certificateHold (6),

@@ -3,18 +3,19 @@ ghost use Rattle.std.specs.Prelude.{◌≡◌};
 ghost use Rattle.der_pkix.specs.Notation as notation;
 
 use crate::{
-    AccessDescription, AnotherName, Attribute, Attributes, AuthorityInfoAccessSyntax,
-    AuthorityKeyIdentifier, BaseCrlNumber, BaseDistance, BasicConstraints, CertPolicyId,
-    CertificateIssuer, CertificatePolicies, CertificationRequest, CertificationRequestInfo, CpSuri,
-    CriAttributes, CrlDistributionPoints, CrlNumber, CrlReason, DisplayText, DistributionPoint,
-    DistributionPointName, EcParameters, EcPrivateKey, EdiPartyName, EncryptedPrivateKeyInfo,
-    ExtKeyUsageSyntax, FreshestCrl, GeneralName, GeneralNames, GeneralSubtree, GeneralSubtrees,
-    HoldInstructionCode, InhibitAnyPolicy, InvalidityDate, IssuerAltName, IssuingDistributionPoint,
-    KeyIdentifier, KeyPurposeId, NameConstraints, NoticeReference, OrAddress, OtherPrimeInfo,
+    AccessDescription, AnotherName, AsymmetricKeyPackage, Attribute, Attributes,
+    AuthorityInfoAccessSyntax, AuthorityKeyIdentifier, BaseCrlNumber, BaseDistance,
+    BasicConstraints, CertPolicyId, CertificateIssuer, CertificatePolicies, CertificationRequest,
+    CertificationRequestInfo, CpSuri, CriAttributes, CrlDistributionPoints, CrlNumber, CrlReason,
+    DisplayText, DistributionPoint, DistributionPointName, EcParameters, EcPrivateKey,
+    EdiPartyName, EncryptedPrivateKeyInfo, ExtKeyUsageSyntax, FreshestCrl, GeneralName,
+    GeneralNames, GeneralSubtree, GeneralSubtrees, HoldInstructionCode, InhibitAnyPolicy,
+    InvalidityDate, IssuerAltName, IssuingDistributionPoint, KeyIdentifier, KeyPurposeId,
+    KeyVersion, NameConstraints, NoticeReference, OneAsymmetricKey, OrAddress, OtherPrimeInfo,
     OtherPrimeInfos, PolicyConstraints, PolicyInformation, PolicyMappings, PolicyQualifierId,
-    PolicyQualifierInfo, PrivateKey, PrivateKeyAlgorithmIdentifier, PrivateKeyInfo, ReasonFlags,
-    RsaPrivateKey, RsaPublicKey, RsaVersion, SkipCerts, SubjectAltName, SubjectInfoAccessSyntax,
-    SubjectKeyIdentifier, UserNotice,
+    PolicyQualifierInfo, PrivateKey, PrivateKeyAlgorithmIdentifier, PrivateKeyInfo, PublicKey,
+    ReasonFlags, RsaPrivateKey, RsaPublicKey, RsaVersion, SkipCerts, SubjectAltName,
+    SubjectInfoAccessSyntax, SubjectKeyIdentifier, UserNotice,
 };
 use der_types::Notated;
 
@@ -22,6 +23,7 @@ use der_types::Notated;
 pub fn types()
     ensures access_description { ⟦<AccessDescription as Notated>⟧.notation ≡ notation.AccessDescription }
     ensures another_name { ⟦<AnotherName as Notated>⟧.notation ≡ notation.AnotherName }
+    ensures asymmetric_key_package { ⟦<AsymmetricKeyPackage as Notated>⟧.notation ≡ notation.AsymmetricKeyPackage }
     ensures attribute { ⟦<Attribute as Notated>⟧.notation ≡ notation.Attribute }
     ensures attributes { ⟦<Attributes as Notated>⟧.notation ≡ notation.Attributes }
     ensures authority_info_access_syntax { ⟦<AuthorityInfoAccessSyntax as Notated>⟧.notation ≡ notation.AuthorityInfoAccessSyntax }
@@ -59,8 +61,10 @@ pub fn types()
     ensures issuing_distribution_point { ⟦<IssuingDistributionPoint as Notated>⟧.notation ≡ notation.IssuingDistributionPoint }
     ensures key_identifier { ⟦<KeyIdentifier as Notated>⟧.notation ≡ notation.KeyIdentifier }
     ensures key_purpose_id { ⟦<KeyPurposeId as Notated>⟧.notation ≡ notation.KeyPurposeId }
+    ensures key_version { ⟦<KeyVersion as Notated>⟧.notation ≡ notation.KeyVersion }
     ensures name_constraints { ⟦<NameConstraints as Notated>⟧.notation ≡ notation.NameConstraints }
     ensures notice_reference { ⟦<NoticeReference as Notated>⟧.notation ≡ notation.NoticeReference }
+    ensures one_asymmetric_key { ⟦<OneAsymmetricKey as Notated>⟧.notation ≡ notation.OneAsymmetricKey }
     ensures or_address { ⟦<OrAddress as Notated>⟧.notation ≡ notation.OrAddress }
     ensures other_prime_info { ⟦<OtherPrimeInfo as Notated>⟧.notation ≡ notation.OtherPrimeInfo }
     ensures other_prime_infos { ⟦<OtherPrimeInfos as Notated>⟧.notation ≡ notation.OtherPrimeInfos }
@@ -72,6 +76,7 @@ pub fn types()
     ensures private_key { ⟦<PrivateKey as Notated>⟧.notation ≡ notation.PrivateKey }
     ensures private_key_algorithm_identifier { ⟦<PrivateKeyAlgorithmIdentifier as Notated>⟧.notation ≡ notation.PrivateKeyAlgorithmIdentifier }
     ensures private_key_info { ⟦<PrivateKeyInfo as Notated>⟧.notation ≡ notation.PrivateKeyInfo }
+    ensures public_key { ⟦<PublicKey as Notated>⟧.notation ≡ notation.PublicKey }
     ensures reason_flags { ⟦<ReasonFlags as Notated>⟧.notation ≡ notation.ReasonFlags }
     ensures rsa_private_key { ⟦<RsaPrivateKey as Notated>⟧.notation ≡ notation.RsaPrivateKey }
     ensures rsa_public_key { ⟦<RsaPublicKey as Notated>⟧.notation ≡ notation.RsaPublicKey }
