@@ -74,8 +74,8 @@ abbrev pub Attribute : Notation
 Attribute = SEQUENCE (
     -- type AttributeType
     required AttributeType ⨾
-    -- values SET OF AttributeValue
-    required (SET-OF AttributeValue) ⨾
+    -- values SET SIZE (1..MAX) OF AttributeValue
+    required (SIZE 1 MAX (SET-OF AttributeValue)) ⨾
     end)
 
 -- Attributes of AsymmetricKeyPackageModuleV1: SET OF Attribute
