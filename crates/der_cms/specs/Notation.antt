@@ -502,8 +502,8 @@ abbrev pub Time : Notation
 Time = CHOICE (
     -- utcTime UTCTime
     UTCTime ∣
-    -- generalizedTime GeneralizedTime
-    GeneralizedTime ∣
+    -- generalizedTime GeneralizedTime (SIZE (15))
+    SIZE 15 15 GeneralizedTime ∣
     none)
 
 -- SigningTime of CryptographicMessageSyntax2004: Time

@@ -339,9 +339,9 @@ SkipCerts = instead INTEGER
 abbrev pub InhibitAnyPolicy : Notation
 InhibitAnyPolicy = SkipCerts
 
--- InvalidityDate of PKIX1Implicit88: GeneralizedTime
+-- InvalidityDate of PKIX1Implicit88: GeneralizedTime (SIZE (15))
 abbrev pub InvalidityDate : Notation
-InvalidityDate = GeneralizedTime
+InvalidityDate = SIZE 15 15 GeneralizedTime
 
 -- IssuerAltName of PKIX1Implicit88: GeneralNames
 abbrev pub IssuerAltName : Notation

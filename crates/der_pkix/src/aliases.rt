@@ -84,8 +84,9 @@ pub type HoldInstructionCode = ObjectIdentifier;
 /// Its values differ from the notation's. The crate lacks: a type of its own with `Constrained`.
 pub type InhibitAnyPolicy = SkipCerts;
 
-/// `InvalidityDate` of PKIX1Implicit88: `GeneralizedTime`.
-pub type InvalidityDate = GeneralizedTime;
+/// `YYYYMMDDHHMMSSZ`, without a fraction of a second. `InvalidityDate` of PKIX1Implicit88:
+/// `GeneralizedTime (SIZE (15))`.
+pub type InvalidityDate = WithSize<GeneralizedTime, 15, 15>;
 
 /// `IssuerAltName` of PKIX1Implicit88: `GeneralNames`.
 pub type IssuerAltName = GeneralNames;

@@ -5,7 +5,7 @@ ghost use Rattle.der_tool_text.specs.Line.{IsOneLine};
 
 use crate::names::push_name;
 use crate::{Outcome, examine};
-use der_tool_text::{Line, push_object_identifier, push_text_or_bytes};
+use der_tool_text::{Line, push_object_identifier};
 use der_types::DateTime;
 use der_x509::{TbsCertificate, Time};
 use picky_asn1_der::{Asn1DerError, Result};
@@ -93,14 +93,11 @@ fn members_of(alloc: Global, signed: &TbsCertificate) -> result::Result<String, 
     Ok(line.into_string())
 }
 
-// Appends the date and time, as 2026-11-27T23:12:00Z. A time with a fraction of a second is appended as it is in the input.
+// Appends the date and time, as 2026-11-27T23:12:00Z.
 fn push_time(line: &mut Line, time: &Time) -> result::Result<(), AllocError> {
     match time {
         Time::UtcTime(time) => push_date_time(line, time.date_time()),
-        Time::GeneralTime(time) => match time.date_time() {
-            Some(at) => push_date_time(line, at),
-            None => push_text_or_bytes(line, time.content()),
-        },
+        Time::GeneralTime(time) => push_date_time(line, time.get().whole_seconds()),
     }
 }
 
