@@ -2,10 +2,10 @@
 
 use crate::{
     AccessDescription, Attribute, DistributionPoint, GeneralName, GeneralSubtree, OneAsymmetricKey,
-    OtherPrimeInfo, PolicyInformation, PolicyMappingsItem,
+    OtherPrimeInfo, PolicyInformation, PolicyMappingsItem, Target,
 };
 use der_types::{
-    BitString, GeneralizedTime, Ia5String, Integer, NamedBits, ObjectIdentifier, WithSize,
+    BitString, GeneralizedTime, Ia5String, InRange, Integer, NamedBits, ObjectIdentifier, WithSize,
 };
 use der_x509::AlgorithmIdentifier;
 use picky_asn1_der::Asn1RawDer;
@@ -14,6 +14,12 @@ use picky_asn1_der::asn1::{Asn1SetOf, ByteBuf};
 /// The content of a message whose content type is id-ct-KP-aKeyPackage. `AsymmetricKeyPackage` of
 /// AsymmetricKeyPackageModuleV1: `SEQUENCE SIZE (1..MAX) OF OneAsymmetricKey`.
 pub type AsymmetricKeyPackage = WithSize<Vec<OneAsymmetricKey>, 1, { usize::MAX }>;
+
+/// `AttCertVersion` of PKIXAttributeCertificate-2008: `INTEGER { v2 (1) } (v2)`.
+pub type AttCertVersion = InRange<u8, 1, 1>;
+
+/// `AttrSpec` of PKIXAttributeCertificate-2008: `SEQUENCE OF OBJECT IDENTIFIER`.
+pub type AttrSpec = Vec<ObjectIdentifier>;
 
 /// `Attributes` of AsymmetricKeyPackageModuleV1: `SET OF Attribute`.
 pub type Attributes = Asn1SetOf<Attribute>;
@@ -39,6 +45,10 @@ pub type CertificateIssuer = GeneralNames;
 
 /// `CertificatePolicies` of PKIX1Implicit88: `SEQUENCE SIZE (1..MAX) OF PolicyInformation`.
 pub type CertificatePolicies = WithSize<Vec<PolicyInformation>, 1, { usize::MAX }>;
+
+/// `ClassList` of PKIXAttributeCertificate-2008: `BIT STRING { unmarked (0), unclassified (1),
+/// restricted (2), confidential (3), secret (4), topSecret (5) }`.
+pub type ClassList = NamedBits;
 
 /// `CPSuri` of PKIX1Implicit88: `IA5String`.
 pub type CpSuri = Ia5String;
@@ -121,6 +131,9 @@ pub type PrivateKeyAlgorithmIdentifier = AlgorithmIdentifier;
 /// AsymmetricKeyPackageModuleV1: `OneAsymmetricKey`.
 pub type PrivateKeyInfo = OneAsymmetricKey;
 
+/// `ProxyInfo` of PKIXAttributeCertificate-2008: `SEQUENCE OF Targets`.
+pub type ProxyInfo = Vec<Targets>;
+
 /// `PublicKey` of AsymmetricKeyPackageModuleV1: `BIT STRING`.
 pub type PublicKey = BitString;
 
@@ -146,3 +159,10 @@ pub type SubjectInfoAccessSyntax = WithSize<Vec<AccessDescription>, 1, { usize::
 
 /// `SubjectKeyIdentifier` of PKIX1Implicit88: `KeyIdentifier`.
 pub type SubjectKeyIdentifier = KeyIdentifier;
+
+/// The value of the extension id-ce-targetInformation. RFC 5755 gives this type no name.
+/// `TargetInformation` of PKIXAttributeCertificate-2008: `SEQUENCE OF Targets`.
+pub type TargetInformation = Vec<Targets>;
+
+/// `Targets` of PKIXAttributeCertificate-2008: `SEQUENCE OF Target`.
+pub type Targets = Vec<Target>;
