@@ -1,5 +1,5 @@
 -- Each name of an attribute is one of all.
-use Rattle.std.proofs.Common.{◌≡◌, ℕ, ◌<◌, length, get_or, refl, lit<}
+use Rattle.std.proofs.Common.{refl, lit<}
 use Rattle.std.specs.List.{Contains}
 use Rattle.der_read.specs.declared.attribute_name.AttributeName.{AttributeName}
 use Rattle.der_read.specs.declared.attribute_name.AttributeName.TheVariants as attribute

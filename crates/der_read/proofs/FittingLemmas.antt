@@ -23,9 +23,6 @@ module _ (bytes : List ℕ) (tried : List MessageType) (i : ℕ) (type : Message
   pub one_differs : (found : List MessageType) → (IsMessage type bytes → ⊥) → ComesTo bytes tried i found → ComesTo bytes tried (i + 1) found
   one_differs found other h = λ more rest. h more (subst (λ l. AreFitting bytes l more) (sym front) (differs type _ _ other rest))
 
-pub none_before : (bytes : List ℕ) (tried : List MessageType) → ComesTo bytes tried 0 []
-none_before bytes tried = λ more rest. rest
-
 -- at the end
 pub all_found : (bytes : List ℕ) (tried : List MessageType) (i : ℕ) (found : List MessageType) → drop i tried ≡ [] → ComesTo bytes tried i found → AreFitting bytes tried found
 all_found bytes tried i found ended h = subst (λ l. AreFitting bytes tried l) (append-nil found) (h [] (subst (λ l. AreFitting bytes l []) (sym ended) none))

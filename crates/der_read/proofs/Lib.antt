@@ -5,4 +5,3 @@ pub mod FittingLemmas
 pub mod Lists
 pub mod NoFloats
 pub mod StringLemmas
-pub mod VerdictLemmas

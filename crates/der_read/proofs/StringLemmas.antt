@@ -1,10 +1,10 @@
 -- Which bytes are strings, by the header at their front.
-use Rattle.std.proofs.Common.{◌≡◌, ◌≢◌, ℕ, ◌+◌, ◌^◌, ◌<◌, ◌≤◌, Bool, true, false, List, [], ◌∷◌, ◌++◌, length, Option, Some, None, MatchOption, String, string_bytes, refl, sym, ap, ◌∙◌, subst, arith, length-append, append-nil}
+use Rattle.std.proofs.Common.{◌≡◌, ◌≢◌, ℕ, ◌+◌, ◌^◌, ◌<◌, ◌≤◌, Bool, true, false, List, [], ◌∷◌, ◌++◌, length, Option, Some, None, MatchOption, String, string_bytes, refl, sym, ap, ◌∙◌, arith, length-append, append-nil}
 use Rattle.std.specs.Prelude.{slice_range, option_map}
 use Rattle.std.specs.declared.alloc.Global.{Global}
 use Rattle.std.specs.Str.{IsUtf8, is_utf8}
 use Rattle.std.proofs.lemmas.Str.{IsUtf8-from_is_utf8, is_utf8-from_IsUtf8}
-use Rattle.picky_der_core.specs.Element.{tlv, length_octets, IsElement}
+use Rattle.picky_der_core.specs.Element.{tlv, length_octets}
 use Rattle.picky_der_core.specs.ElementLaws.{tlv-same}
 use Rattle.der_show.specs.declared.header.Header.{Header}
 use Rattle.der_show.specs.declared.rule.Rule.{Rule}

@@ -1,9 +1,8 @@
 -- What is printed of a certificate.
 use Rattle.std.specs.Prelude.{◌≡◌, ℕ, ◌-◌, ◌<◌, Bool, List, [], ◌∷◌, ◌++◌, length, Option, None, Some, if◌then◌else◌, codes, decimal, string_bytes}
 use Rattle.hex.specs.Hex.{encode_lower}
-use Rattle.serde_json.specs.Data.{Data, null, boolean, number, unsigned, string, object, member, no_members}
+use Rattle.serde_json.specs.Data.{Data, boolean, number, unsigned, string, object, member, no_members}
 use Rattle.serde_json.specs.Written.{compact_text}
-use Rattle.picky_der_de.specs.declared.whole.DecodeError.{DecodeError}
 use Rattle.der_program_base.specs.declared.status.Status.{Status}
 use Rattle.der_program_base.specs.declared.status.Status.TheVariants as status
 use Rattle.der_program_base.specs.Texts.{text_or_bytes}

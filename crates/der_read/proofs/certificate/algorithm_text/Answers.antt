@@ -1,6 +1,5 @@
 use Rattle.std.proofs.Common.{Some, rules}
 use Rattle.std.proofs.lemmas.Result.{IfOk-weaker}
-use Rattle.der_read.specs.Certificates.{algorithm_text}
 use Rattle.der_read.proofs.certificate.algorithm_text.Goals as goal
 
 pub returns-in-Some : goal.returns-in-Some

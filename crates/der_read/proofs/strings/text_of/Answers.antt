@@ -1,4 +1,4 @@
-use Rattle.std.proofs.Common.{sym, arith}
+use Rattle.std.proofs.Common.{arith}
 use Rattle.std.proofs.lemmas.Result.{IfOk-weaker}
 use Rattle.der_read.proofs.StringLemmas.{no_header, inside, more_than_one, text_found}
 use Rattle.der_read.proofs.strings.text_of.Goals as goal
