@@ -17,8 +17,15 @@ NAMED = Path(__file__).resolve().parents[2] / "crates/der_types/src/names.rt"
 # the names of common object identifiers, as the comments of this file say them
 COMMON = {dotted: name for name, dotted in re.findall(r"^/// `(\S+)`, ([0-9.]+)\.$", NAMED.read_text(encoding="utf-8"), re.MULTILINE)}
 
-# the short names of RFC 4514 that der_x509_tool prints
-NAMES = {"2.5.4.3": "CN", "2.5.4.6": "C", "2.5.4.7": "L", "2.5.4.8": "ST", "2.5.4.9": "STREET", "2.5.4.10": "O", "2.5.4.11": "OU"}
+# the names of attributes that `der certificate` prints, as the comments of this file say them
+ATTRIBUTES = Path(__file__).resolve().parents[2] / "crates/der_read/src/attribute_name.rt"
+NAMES = {dotted: name for name, dotted in re.findall(r"^    /// `(\S+)`, ([0-9.]+)\.$", ATTRIBUTES.read_text(encoding="utf-8"), re.MULTILINE)}
+
+# the encodings of the string types that are printed as text
+ENCODINGS = {0x0C: "utf-8", 0x12: "ascii", 0x13: "ascii", 0x14: "ascii", 0x16: "ascii", 0x1A: "ascii", 0x1C: "utf-32-be", 0x1E: "utf-16-be"}
+
+# what is printed as the bytes of its UTF-8: characters that end a line, or that move or hide others
+DISRUPTIVE = re.compile("[\x00-\x1f\x7f-\x9f\u061c\u200b-\u200f\u2028-\u202e\u2060-\u2069\ufeff]")
 
 
 @dataclass(frozen=True)
@@ -74,11 +81,13 @@ def read_certificates(path: Path) -> list[Line]:
 
 
 def own_answer(line: Line, text: str) -> Answer:
-    """What der_tool or der_x509_tool means by this text."""
+    """What `der certificate` or der_tool means by this text. The former begins with the file and the number of the block."""
+    if line.word == "certificate":
+        text = re.sub(r"^-, block \d+: ", "", text)
     first, _, value = text.partition(" ")
     if first == "ok":
         return Answer(True, f"{len(line.data)} {value}" if line.word == "certificate" else value)
-    if not first.startswith("refused"):
+    if first != "refused" and not text.startswith("no certificate: "):
         raise ValueError(f"an answer of no known form: {text}")
     return REFUSED
 
@@ -97,7 +106,7 @@ def answer_of_peer(line: Line, text: str) -> Answer:
 
 
 def certificate_line(name: str, begin: str, end: str, algorithm: str, count: str) -> str:
-    """What der_x509_tool prints of a certificate with these members (docs/X509.md)."""
+    """What `der certificate` prints of a certificate with these members (docs/X509.md)."""
     return f"{name_text(name)}; {begin} to {end}; {identified(algorithm)}; {count} extensions; same bytes"
 
 
@@ -106,17 +115,22 @@ def name_text(name: str) -> str:
     steps: dict[int, list[str]] = {}
     for attribute in name.split(",") if name != "-" else []:
         step, kind, element = attribute.split(":")
-        text = f"{NAMES.get(kind) or identified(kind)}={value_text(bytes.fromhex(element))}"
+        text = f"{NAMES.get(kind) or dotted(kind)}={value_text(bytes.fromhex(element))}"
         steps.setdefault(int(step), []).append(text)
     return ", ".join(" + ".join(steps.get(it, [])) for it in range(max(steps, default=-1) + 1))
 
 
 def identified(kind: str) -> str:
-    """An object identifier, with its name if it is a common one, or by its bytes if an arc is 2^64 or more."""
+    """An object identifier, with its name if it is a common one."""
+    return f"{COMMON[kind]} ({dotted(kind)})" if kind in COMMON else dotted(kind)
+
+
+def dotted(kind: str) -> str:
+    """An object identifier, by its bytes if an arc is 2^64 or more."""
     first, second, *others = map(int, kind.split("."))
     if max(second, *others, 0) >= 2**64:
         return "#" + b"".join(map(base_128, [40 * first + second, *others])).hex().upper()
-    return f"{COMMON[kind]} ({kind})" if kind in COMMON else kind
+    return kind
 
 
 def base_128(number: int) -> bytes:
@@ -128,24 +142,18 @@ def base_128(number: int) -> bytes:
 
 
 def value_text(element: bytes) -> str:
-    """The text of a UTF8String or of a PrintableString in ASCII, or the bytes of another element."""
+    """The text of a string that names have, or the bytes of another element."""
     walk = Walk(element)
     content = walk.content(walk.header(0, len(element)))
-    encoding = {0x0C: "utf-8", 0x13: "ascii"}.get(element[0])
-    if encoding and is_text(content, encoding):
-        return readable(content)
+    encoding = ENCODINGS.get(element[0])
+    # a BMPString has no characters past FFFF
+    if encoding and is_text(content, encoding) and not (element[0] == 0x1E and max(content.decode(encoding), default="") > "\uffff"):
+        return "".join(map(escaped, content.decode(encoding)))
     return f"#{element.hex().upper()}"
-
-
-def readable(content: bytes) -> str:
-    """Bytes as text on one line, with a backslash before characters that have a meaning there, or as hexadecimal digits if they aren't UTF-8."""
-    if not is_text(content):
-        return f"#{content.hex().upper()}"
-    return "".join(map(escaped, content.decode()))
 
 
 def escaped(character: str) -> str:
     """A character of a text."""
-    if character < " " or "\x7f" <= character <= "\x9f":
+    if DISRUPTIVE.match(character):
         return "".join(f"\\{byte:02X}" for byte in character.encode())
     return f"\\{character}" if character in '"#+,;<=>\\' else character

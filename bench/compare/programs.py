@@ -32,12 +32,12 @@ def pieces_of(lines: list[Line]) -> Iterator[list[Line]]:
         yield piece
 
 
-def try_program(crate: str, inputs: list[str]) -> list[list[str]]:
+def try_program(crate: str, inputs: list[str], *arguments: str) -> list[list[str]]:
     """The lines that a program of this repository prints for each input, by `rt try`, which proves nothing."""
     with tempfile.TemporaryDirectory() as folder:
         for number, text in enumerate(inputs):
             Path(folder, f"{number:06}").write_text(text, encoding="utf-8")
-        command = ["rt", "try", "--steps", "1", "--seconds", "600", "--cases", folder]
+        command = ["rt", "try", "--steps", "1", "--seconds", "600", "--cases", folder, *(["--", *arguments] if arguments else [])]
         ran = subprocess.run(command, cwd=ROOT / "crates" / crate, capture_output=True, text=True, check=False)
     answers: list[list[str]] = []
     for text in ran.stdout.split("\n"):
@@ -55,7 +55,7 @@ def ask_this(lines: list[Line]) -> list[Answer]:
     is_certificates = lines[0].word == "certificate"
     pieces = list(pieces_of(lines))
     if is_certificates:
-        printed = try_program("der_x509_tool", ["".join(it.block() for it in piece) for piece in pieces])
+        printed = try_program("der", ["".join(it.block() for it in piece) for piece in pieces], "certificate", "-")
     else:
         printed = try_program("der_tool", ["".join(f"{it.text()}\n" for it in piece) for piece in pieces])
     answers = []

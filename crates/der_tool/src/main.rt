@@ -1,7 +1,7 @@
 //! Reads standard input line by line, and writes an answer to each line to standard output.
 #![tactic(auto)]
 
-use der_tool_io::standard_input;
+use der_program_base::standard_input;
 use der_tool_lib::{kind_word, run};
 use picky_der_core::Result;
 use picky_der_core::misc::Watched;

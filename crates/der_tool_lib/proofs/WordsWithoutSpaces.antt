@@ -1,7 +1,7 @@
 -- No word for a type has a space.
 use Rattle.std.proofs.Common.{refl}
-use Rattle.der_tool_io.specs.Words.{HasNo}
-use Rattle.der_tool_io.proofs.Separated.{none_passes}
+use Rattle.der_program_base.specs.Words.{HasNo}
+use Rattle.der_program_base.proofs.Separated.{none_passes}
 use Rattle.der_tool_lib.specs.declared.value.ValueType.{ValueType}
 use Rattle.der_tool_lib.specs.declared.value.ValueType.TheVariants as named
 use Rattle.der_tool_lib.specs.Line.{word_for}

@@ -4,7 +4,7 @@ ghost use Rattle.picky_der_core.specs.Equality.{IsKept};
 ghost use Rattle.der_tool_lib.specs.Line.{query_of, word_for, Asks, AsksTyped, IsNumberOf};
 
 use crate::ValueType;
-use der_tool_io::{after, first_word};
+use der_program_base::{after, first_word};
 use itoa::Buffer;
 
 /// What a line asks for.

@@ -3,12 +3,12 @@ ghost use Rattle.std.specs.Prelude.{◌≡◌, IfOk, OnOk, IfErr, string_bytes};
 ghost use Rattle.std.specs.Io.KnownBytes.{IsAtEnd};
 ghost use Rattle.picky_der_core.specs.Reader.{TellsFault};
 ghost use Rattle.picky_der_core.specs.WriterFaults.{IsOnceAtMost};
-ghost use Rattle.der_tool_io.specs.Run.{Stops};
-ghost use Rattle.der_tool_io.specs.Text.{WritesAnswers};
+ghost use Rattle.der_program_base.specs.Run.{Stops};
+ghost use Rattle.der_program_base.specs.Text.{WritesAnswers};
 ghost use Rattle.der_tool_lib.specs.Answer.{IsAnswerTo};
 
 use crate::answer_to;
-use der_tool_io::{Answers, answer_lines};
+use der_program_base::{Answers, answer_lines};
 use picky_der_core::misc::{ReadExt, WriteExt};
 use picky_der_core::{Asn1DerError, Result};
 use std::alloc::Global;

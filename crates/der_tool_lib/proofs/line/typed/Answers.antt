@@ -1,5 +1,5 @@
 use Rattle.std.proofs.Common.{sym, ◌∙◌}
-use Rattle.der_tool_io.proofs.Separated.{one_before, none_after}
+use Rattle.der_program_base.proofs.Separated.{one_before, none_after}
 use Rattle.der_tool_lib.proofs.WordsWithoutSpaces.{no_space}
 use Rattle.der_tool_lib.proofs.line.typed.Goals as goal
 

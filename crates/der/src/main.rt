@@ -1,0 +1,55 @@
+//! Shows DER, and reads messages in it. `der --help` lists its commands.
+#![tactic(auto)]
+
+mod arguments;
+mod inputs;
+mod notes;
+mod request;
+
+use crate::arguments::command;
+use crate::inputs::print_file;
+use crate::request::{Request, files_of, request_of};
+use clap::ArgMatches;
+use der_program_base::{Status, report};
+use picky_asn1_der::misc::Watched;
+use std::io::{self, BufWriter, Write};
+use std::process::ExitCode;
+
+fn main(rt: HostRuntime) -> ExitCode {
+    let status = match run(&rt) {
+        Ok(status) => status,
+        Err(error) => {
+            // If standard error can't be written either, the status is all that says so.
+            let _ = eprintln!(rt; "der: {error}");
+            Status::Trouble
+        }
+    };
+    ExitCode::from(status.code())
+}
+
+// Does what the arguments ask for, and returns the status.
+fn run(rt: &HostRuntime) -> io::Result<Status> {
+    let words: Vec<String> = std::env::args(rt)?.collect(rt.alloc())?;
+    let matches = match command(rt.alloc())?.try_get_matches_from(words.as_slice()) {
+        Ok(matches) => matches,
+        Err(error) => return report(rt, &error),
+    };
+    let Some((name, matches)) = matches.subcommand() else {
+        return Ok(Status::Trouble);
+    };
+    match request_of(rt, name, matches)? {
+        Some(request) => print_files(rt, &request, files_of(name, matches)),
+        None => Ok(Status::Trouble),
+    }
+}
+
+// Prints what is asked about files, and returns the worst status.
+fn print_files(rt: &HostRuntime, request: &Request, files: &[&str]) -> io::Result<Status> {
+    let mut output = Watched::new(BufWriter::new(rt.alloc(), io::writer(rt))?);
+    let mut status = Status::Fine;
+    for file in files {
+        status = status.worse(print_file(rt, request, *file, files.len() == 1, &mut output)?);
+    }
+    output.flush()?;
+    Ok(status)
+}

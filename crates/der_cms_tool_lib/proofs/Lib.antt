@@ -1,4 +1,0 @@
-pub mod ComparisonLine
-mod Writable
-mod Values
-mod Signers

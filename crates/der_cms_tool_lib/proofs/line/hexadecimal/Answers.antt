@@ -1,7 +1,0 @@
-use Rattle.std.proofs.Common.{sym, subst, arith}
-use Rattle.der_tool_text.specs.Line.{IsOneLine}
-use Rattle.der_cms_tool_lib.proofs.ComparisonLine.{hex_line}
-use Rattle.der_cms_tool_lib.proofs.line.hexadecimal.Goals as goal
-
-pub returns-clause-one_line : goal.returns-clause-one_line
-returns-clause-one_line c = subst IsOneLine (sym c.in_ok-encode.ensures) (hex_line c.args.bytes.now (λ i. omega (arith, c.type_inv.bytes i)))

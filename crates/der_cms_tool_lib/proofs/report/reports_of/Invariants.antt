@@ -1,8 +1,0 @@
-use Rattle.std.proofs.Common.{take}
-use Rattle.std.specs.List.{AllZip}
-use Rattle.std.specs.Option.{option_copied}
-use Rattle.der_cms_tool_lib.specs.Report.{IsReport}
-use Rattle.der_cms_tool_lib.proofs.report.reports_of.Given as goal
-
-abbrev pub invariant-loop-signer : goal.invariant-loop-signer
-invariant-loop-signer l = AllZip (IsReport (option_copied l.content)) (take l.signer-index l.signers) l.reports.items

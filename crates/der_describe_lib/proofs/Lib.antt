@@ -1,9 +1,0 @@
-pub mod HeaderLemmas
-pub mod MemberLemmas
-pub mod EndLemmas
-pub mod ContentLemmas
-pub mod Ranges
-pub mod Listed
-pub mod Fronts
-pub mod Walking
-pub mod Lines

@@ -1,8 +1,0 @@
-use Rattle.der_tool_text.specs.Line.{IsOneLine}
-use Rattle.der_describe_lib.proofs.Lines.{line_more}
-use Rattle.der_describe_lib.proofs.listing.push_complaint.Goals as goal
-
-pub returns-in_ok-push_line-in-Some : goal.returns-in_ok-push_line-in-Some
-returns-in_ok-push_line-in-Some c =
-    let one_line : IsOneLine c.deref.result.now = rw c.deref.ensures c.in_ok-line-in-Some.ensures in
-    rw c.in-Some.is (λ count h. line_more _ c.deref.result.now _ count h one_line c.in_ok-push_line-in-Some.ensures)

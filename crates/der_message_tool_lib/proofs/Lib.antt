@@ -1,2 +1,0 @@
-pub mod WordsWithoutSpaces
-pub mod MessageAnswers

@@ -1,0 +1,10 @@
+pub mod Elements
+pub mod Escapes
+pub mod Labels
+pub mod OneContents
+pub mod OneLine
+pub mod RunSteps
+pub mod RunStops
+pub mod Sectioning
+pub mod Separated
+pub mod Undone

@@ -1,0 +1,11 @@
+use Rattle.std.proofs.Common.{rules, tests, sym, ◌∙◌}
+use Rattle.std.proofs.lemmas.Iterator.{YieldsList-from_slice}
+use Rattle.std.proofs.lemmas.Iterator.Search.{any_from_yields_List}
+use Rattle.der_program_base.specs.Guess.{has_hyphens}
+use Rattle.der_program_base.proofs.Sectioning.{list_any-map}
+use Rattle.der_program_base.proofs.guess.some_hyphens.Goals as goal
+
+pub returns : goal.returns
+returns c =
+    any_from_yields_List (λ line. has_hyphens line.now) _ _ c.any.result c.any.ensures.ran (YieldsList-from_slice c.args.lines.now cc) (λ x b q k. search (rules, tests))
+    ∙ sym (list_any-map has_hyphens (λ line. line.now) c.args.lines.now)

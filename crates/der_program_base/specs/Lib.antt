@@ -1,0 +1,13 @@
+pub mod Boundaries
+pub mod Contents
+pub mod Guess
+pub mod Laws
+pub mod Line
+pub mod Lines
+pub mod Progress
+pub mod Run
+pub mod Sections
+pub mod Status
+pub mod Text
+pub mod Texts
+pub mod Words

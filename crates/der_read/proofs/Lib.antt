@@ -1,0 +1,7 @@
+pub mod AllTypes
+pub mod AttributeNameLemmas
+pub mod Examined
+pub mod FittingLemmas
+pub mod Lists
+pub mod NoFloats
+pub mod StringLemmas

@@ -1,0 +1,15 @@
+use Rattle.std.proofs.Common.{ap, ◌∙◌, map, string_bytes, codes}
+use Rattle.std.proofs.lemmas.Result.{IfOk-weaker}
+use Rattle.der_read.specs.Names.{joined, IsStepText}
+use Rattle.der_read.proofs.Lists.{zip_both}
+use Rattle.der_read.proofs.names.steps_text.Goals as goal
+
+pub returns : goal.returns
+returns c =
+    IfOk-weaker c.joined.result _ _
+    (λ text e. record {
+      texts = map string_bytes c.in_ok-texts.texts.items;
+      each = zip_both IsStepText _ string_bytes c.args.steps.now c.in_ok-texts.texts.items c.in_ok-texts.ensures;
+      is = e ∙ ap (λ l. joined (codes ", ") (map string_bytes l)) c.deref.ensures.value;
+    })
+    c.joined.ensures

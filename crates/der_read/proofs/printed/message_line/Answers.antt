@@ -1,0 +1,11 @@
+use Rattle.std.proofs.Common.{ap, ◌∙◌}
+use Rattle.std.proofs.lemmas.Result.{IfOk-weaker}
+use Rattle.serde_json.specs.Written.{compact_text, has_float}
+use Rattle.der_read.proofs.NoFloats.{message_no_float}
+use Rattle.der_read.proofs.printed.message_line.Goals as goal
+
+pub returns-in_ok-value-in-Json : goal.returns-in_ok-value-in-Json
+returns-in_ok-value-in-Json c =
+    let e = c.in_ok-value-in-Json.ensures in
+    let none = message_no_float c.args.file.now c.args.block c.args.size c.args.types.now in
+    rw c.in-Json.is (IfOk-weaker c.to_string.result _ _ (λ text h. h (ap has_float e ∙ none) ∙ ap compact_text e) c.to_string.ensures.text)

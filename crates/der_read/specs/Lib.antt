@@ -1,0 +1,12 @@
+pub mod AttributeNames
+pub mod Certificates
+pub mod Described
+pub mod Explanation
+pub mod Fitting
+pub mod Message
+pub mod Names
+pub mod Outcome
+pub mod Place
+pub mod Printed
+pub mod Types
+pub mod Verdict

@@ -1,0 +1,59 @@
+//! Why bytes are refused, in the words of `der_show`. The only error of each function is a failed allocation.
+ghost use Rattle.std.specs.Prelude.{◌≡◌, Some, IfOk, string_bytes};
+ghost use Rattle.der_read.specs.Explanation.{IsComplaintExplanation, IsExplanationOf};
+
+use der_show::{Cause, Complaint, Reason, reason_of};
+use picky_asn1_der::DecodeError;
+use std::alloc::{AllocError, Global};
+use std::fmt;
+
+/// Why bytes are refused, and where. It prints as its text.
+#[derive(Debug, Drop)]
+pub struct Explanation {
+    /// The offset of the element at which it was found.
+    pub offset: usize,
+    /// The place and the reason in words, as `refused at 402: another element or value than the type has`.
+    pub text: String,
+}
+
+impl fmt::Display for Explanation {
+    ghost output = { λ it. Some (string_bytes it.text) };
+
+    fn fmt<W: fmt::Write>(&self, f: &mut fmt::Formatter<W>) -> fmt::Result {
+        f.write_str(&self.text)
+    }
+}
+
+// Why bytes are refused as a value of a type.
+pub(crate) fn explanation_of(
+    alloc: Global,
+    bytes: &[u8],
+    refusal: DecodeError,
+) -> Result<Explanation, AllocError>
+    ensures { IfOk result (IsExplanationOf bytes.now refusal) }
+{
+    let reason = reason_of(alloc, bytes, refusal)?;
+    explained(alloc, reason)
+}
+
+// Why bytes aren't DER.
+pub(crate) fn complaint_explanation(
+    alloc: Global,
+    complaint: Complaint,
+) -> Result<Explanation, AllocError>
+    ensures { IfOk result (IsComplaintExplanation complaint) }
+{
+    let reason = Reason {
+        offset: complaint.offset,
+        cause: Cause::NotDer(complaint.rule),
+    };
+    explained(alloc, reason)
+}
+
+fn explained(alloc: Global, reason: Reason) -> Result<Explanation, AllocError>
+    ensures { IfOk result (λ it. it.offset ≡ reason.offset) }
+{
+    let offset = reason.offset;
+    let text = format!(in alloc; "{reason}")?;
+    Ok(Explanation { offset, text })
+}

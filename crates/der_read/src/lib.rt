@@ -1,0 +1,26 @@
+//! Messages, read from bytes as types that have words: what comes of it, and what is printed.
+#![tactic(auto)]
+
+mod attribute_name;
+mod certificate;
+mod explanation;
+mod kerberos_message;
+mod message;
+mod message_type;
+mod names;
+mod outcome;
+mod place;
+mod printed;
+mod strings;
+mod verdict;
+
+pub use certificate::certificate_line;
+pub use explanation::Explanation;
+pub use kerberos_message::KerberosMessage;
+pub use message::{type_of_label, type_of_word, types_of};
+use message::{refusal_as, reported};
+pub use message_type::{ALL_TYPES, Described, MessageType, TRIED_TYPES, refusal_of};
+pub use names::{name_text, push_name};
+pub use outcome::{Outcome, Reading, examine};
+pub use printed::read_message;
+pub use verdict::{Verdict, verdict_of};

@@ -1,0 +1,13 @@
+pub mod HeaderLemmas
+pub mod MemberLemmas
+pub mod EndLemmas
+pub mod ContentLemmas
+pub mod Ranges
+pub mod Listed
+pub mod Fronts
+pub mod Walking
+pub mod OpeningLemmas
+pub mod Places
+pub mod Texts
+pub mod Padding
+pub mod Showing

@@ -1,0 +1,13 @@
+pub mod Headers
+pub mod Members
+pub mod Contents
+pub mod Nodes
+pub mod Ends
+pub mod Outlines
+pub mod Openings
+pub mod Entries
+pub mod Steps
+pub mod Lines
+pub mod Json
+pub mod Shown
+pub mod Reasons

@@ -1,0 +1,5 @@
+mod Writable
+mod Values
+mod Signers
+mod Lists
+mod NoFloat

@@ -1,0 +1,14 @@
+pub mod Digest
+pub mod Algorithm
+pub mod LineEnds
+pub mod Attributes
+pub mod Comparison
+pub mod Who
+pub mod Report
+pub mod Message
+pub mod Outcome
+pub mod Reason
+pub mod Statuses
+pub mod Text
+pub mod Json
+pub mod Printed

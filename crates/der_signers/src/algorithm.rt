@@ -1,0 +1,246 @@
+//! Names of algorithms.
+ghost use Rattle.std.specs.Prelude.{◌≡◌, IfOk, map, option_map, string_bytes};
+ghost use Rattle.der_signers.specs.Algorithm.{algorithm_text, name_in, name_of};
+ghost use Rattle.der_signers.specs.Digest.{content_of};
+
+use der_types::ObjectIdentifier;
+use std::alloc::{AllocError, Global};
+
+// Algorithms of digests and signatures (RFC 3370, 5753, 5754, 8419, 8702, 9688): the content of the identifier, and the name, which is
+// OpenSSL's.
+static ALGORITHMS: [(&[u8], &str); 45] = [
+    // 1.2.840.113549.2.5
+    (&[0x2A, 0x86, 0x48, 0x86, 0xF7, 0x0D, 0x02, 0x05], "md5"),
+    // 1.3.14.3.2.26
+    (&[0x2B, 0x0E, 0x03, 0x02, 0x1A], "sha1"),
+    // 2.16.840.1.101.3.4.2.4
+    (
+        &[0x60, 0x86, 0x48, 0x01, 0x65, 0x03, 0x04, 0x02, 0x04],
+        "sha224",
+    ),
+    // 2.16.840.1.101.3.4.2.1
+    (
+        &[0x60, 0x86, 0x48, 0x01, 0x65, 0x03, 0x04, 0x02, 0x01],
+        "sha256",
+    ),
+    // 2.16.840.1.101.3.4.2.2
+    (
+        &[0x60, 0x86, 0x48, 0x01, 0x65, 0x03, 0x04, 0x02, 0x02],
+        "sha384",
+    ),
+    // 2.16.840.1.101.3.4.2.3
+    (
+        &[0x60, 0x86, 0x48, 0x01, 0x65, 0x03, 0x04, 0x02, 0x03],
+        "sha512",
+    ),
+    // 2.16.840.1.101.3.4.2.5
+    (
+        &[0x60, 0x86, 0x48, 0x01, 0x65, 0x03, 0x04, 0x02, 0x05],
+        "sha512-224",
+    ),
+    // 2.16.840.1.101.3.4.2.6
+    (
+        &[0x60, 0x86, 0x48, 0x01, 0x65, 0x03, 0x04, 0x02, 0x06],
+        "sha512-256",
+    ),
+    // 2.16.840.1.101.3.4.2.7
+    (
+        &[0x60, 0x86, 0x48, 0x01, 0x65, 0x03, 0x04, 0x02, 0x07],
+        "sha3-224",
+    ),
+    // 2.16.840.1.101.3.4.2.8
+    (
+        &[0x60, 0x86, 0x48, 0x01, 0x65, 0x03, 0x04, 0x02, 0x08],
+        "sha3-256",
+    ),
+    // 2.16.840.1.101.3.4.2.9
+    (
+        &[0x60, 0x86, 0x48, 0x01, 0x65, 0x03, 0x04, 0x02, 0x09],
+        "sha3-384",
+    ),
+    // 2.16.840.1.101.3.4.2.10
+    (
+        &[0x60, 0x86, 0x48, 0x01, 0x65, 0x03, 0x04, 0x02, 0x0A],
+        "sha3-512",
+    ),
+    // 2.16.840.1.101.3.4.2.11
+    (
+        &[0x60, 0x86, 0x48, 0x01, 0x65, 0x03, 0x04, 0x02, 0x0B],
+        "shake128",
+    ),
+    // 2.16.840.1.101.3.4.2.12
+    (
+        &[0x60, 0x86, 0x48, 0x01, 0x65, 0x03, 0x04, 0x02, 0x0C],
+        "shake256",
+    ),
+    // 1.3.36.3.2.1
+    (&[0x2B, 0x24, 0x03, 0x02, 0x01], "ripemd160"),
+    // 1.2.840.113549.1.1.1
+    (
+        &[0x2A, 0x86, 0x48, 0x86, 0xF7, 0x0D, 0x01, 0x01, 0x01],
+        "rsaEncryption",
+    ),
+    // 1.2.840.113549.1.1.4
+    (
+        &[0x2A, 0x86, 0x48, 0x86, 0xF7, 0x0D, 0x01, 0x01, 0x04],
+        "md5WithRSAEncryption",
+    ),
+    // 1.2.840.113549.1.1.5
+    (
+        &[0x2A, 0x86, 0x48, 0x86, 0xF7, 0x0D, 0x01, 0x01, 0x05],
+        "sha1WithRSAEncryption",
+    ),
+    // 1.2.840.113549.1.1.14
+    (
+        &[0x2A, 0x86, 0x48, 0x86, 0xF7, 0x0D, 0x01, 0x01, 0x0E],
+        "sha224WithRSAEncryption",
+    ),
+    // 1.2.840.113549.1.1.11
+    (
+        &[0x2A, 0x86, 0x48, 0x86, 0xF7, 0x0D, 0x01, 0x01, 0x0B],
+        "sha256WithRSAEncryption",
+    ),
+    // 1.2.840.113549.1.1.12
+    (
+        &[0x2A, 0x86, 0x48, 0x86, 0xF7, 0x0D, 0x01, 0x01, 0x0C],
+        "sha384WithRSAEncryption",
+    ),
+    // 1.2.840.113549.1.1.13
+    (
+        &[0x2A, 0x86, 0x48, 0x86, 0xF7, 0x0D, 0x01, 0x01, 0x0D],
+        "sha512WithRSAEncryption",
+    ),
+    // 1.2.840.113549.1.1.15
+    (
+        &[0x2A, 0x86, 0x48, 0x86, 0xF7, 0x0D, 0x01, 0x01, 0x0F],
+        "sha512-224WithRSAEncryption",
+    ),
+    // 1.2.840.113549.1.1.16
+    (
+        &[0x2A, 0x86, 0x48, 0x86, 0xF7, 0x0D, 0x01, 0x01, 0x10],
+        "sha512-256WithRSAEncryption",
+    ),
+    // 2.16.840.1.101.3.4.3.13
+    (
+        &[0x60, 0x86, 0x48, 0x01, 0x65, 0x03, 0x04, 0x03, 0x0D],
+        "RSA-SHA3-224",
+    ),
+    // 2.16.840.1.101.3.4.3.14
+    (
+        &[0x60, 0x86, 0x48, 0x01, 0x65, 0x03, 0x04, 0x03, 0x0E],
+        "RSA-SHA3-256",
+    ),
+    // 2.16.840.1.101.3.4.3.15
+    (
+        &[0x60, 0x86, 0x48, 0x01, 0x65, 0x03, 0x04, 0x03, 0x0F],
+        "RSA-SHA3-384",
+    ),
+    // 2.16.840.1.101.3.4.3.16
+    (
+        &[0x60, 0x86, 0x48, 0x01, 0x65, 0x03, 0x04, 0x03, 0x10],
+        "RSA-SHA3-512",
+    ),
+    // 1.2.840.113549.1.1.10
+    (
+        &[0x2A, 0x86, 0x48, 0x86, 0xF7, 0x0D, 0x01, 0x01, 0x0A],
+        "rsassaPss",
+    ),
+    // 1.2.840.10040.4.1
+    (&[0x2A, 0x86, 0x48, 0xCE, 0x38, 0x04, 0x01], "dsaEncryption"),
+    // 1.2.840.10040.4.3
+    (&[0x2A, 0x86, 0x48, 0xCE, 0x38, 0x04, 0x03], "dsaWithSHA1"),
+    // 2.16.840.1.101.3.4.3.1
+    (
+        &[0x60, 0x86, 0x48, 0x01, 0x65, 0x03, 0x04, 0x03, 0x01],
+        "dsa_with_SHA224",
+    ),
+    // 2.16.840.1.101.3.4.3.2
+    (
+        &[0x60, 0x86, 0x48, 0x01, 0x65, 0x03, 0x04, 0x03, 0x02],
+        "dsa_with_SHA256",
+    ),
+    // 1.2.840.10045.2.1
+    (
+        &[0x2A, 0x86, 0x48, 0xCE, 0x3D, 0x02, 0x01],
+        "id-ecPublicKey",
+    ),
+    // 1.2.840.10045.4.1
+    (
+        &[0x2A, 0x86, 0x48, 0xCE, 0x3D, 0x04, 0x01],
+        "ecdsa-with-SHA1",
+    ),
+    // 1.2.840.10045.4.3.1
+    (
+        &[0x2A, 0x86, 0x48, 0xCE, 0x3D, 0x04, 0x03, 0x01],
+        "ecdsa-with-SHA224",
+    ),
+    // 1.2.840.10045.4.3.2
+    (
+        &[0x2A, 0x86, 0x48, 0xCE, 0x3D, 0x04, 0x03, 0x02],
+        "ecdsa-with-SHA256",
+    ),
+    // 1.2.840.10045.4.3.3
+    (
+        &[0x2A, 0x86, 0x48, 0xCE, 0x3D, 0x04, 0x03, 0x03],
+        "ecdsa-with-SHA384",
+    ),
+    // 1.2.840.10045.4.3.4
+    (
+        &[0x2A, 0x86, 0x48, 0xCE, 0x3D, 0x04, 0x03, 0x04],
+        "ecdsa-with-SHA512",
+    ),
+    // 2.16.840.1.101.3.4.3.9
+    (
+        &[0x60, 0x86, 0x48, 0x01, 0x65, 0x03, 0x04, 0x03, 0x09],
+        "ecdsa_with_SHA3-224",
+    ),
+    // 2.16.840.1.101.3.4.3.10
+    (
+        &[0x60, 0x86, 0x48, 0x01, 0x65, 0x03, 0x04, 0x03, 0x0A],
+        "ecdsa_with_SHA3-256",
+    ),
+    // 2.16.840.1.101.3.4.3.11
+    (
+        &[0x60, 0x86, 0x48, 0x01, 0x65, 0x03, 0x04, 0x03, 0x0B],
+        "ecdsa_with_SHA3-384",
+    ),
+    // 2.16.840.1.101.3.4.3.12
+    (
+        &[0x60, 0x86, 0x48, 0x01, 0x65, 0x03, 0x04, 0x03, 0x0C],
+        "ecdsa_with_SHA3-512",
+    ),
+    // 1.3.101.112
+    (&[0x2B, 0x65, 0x70], "ED25519"),
+    // 1.3.101.113
+    (&[0x2B, 0x65, 0x71], "ED448"),
+];
+
+/// Returns the name of an algorithm, or its arcs with points between them if it has no name here. The only error is a failed allocation.
+pub fn algorithm_name(alloc: Global, identifier: &ObjectIdentifier) -> Result<String, AllocError>
+    ensures { IfOk result (λ name. string_bytes name ≡ algorithm_text (content_of identifier.now)) }
+{
+    match name_of(identifier.content()) {
+        Some(name) => String::from_str(alloc, name),
+        None => format!(in alloc; "{identifier}"),
+    }
+}
+
+// The name of the algorithm whose identifier has this content, or `None`.
+fn name_of(identifier: &[u8]) -> Option<&'static str>
+    ensures { option_map (λ name. name.now) result ≡ name_of identifier.now }
+{
+    name_in(&ALGORITHMS, identifier)
+}
+
+// The name beside this content in the table, or `None`.
+fn name_in<'a>(table: &[(&[u8], &'a str)], identifier: &[u8]) -> Option<&'a str>
+    ensures { option_map (λ name. name.now) result
+        ≡ name_in (map (λ entry. (entry.0.now, entry.1.now)) table.now) identifier.now }
+{
+    for (known, name) in table {
+        if *known == identifier {
+            return Some(*name);
+        }
+    }
+    None
+}

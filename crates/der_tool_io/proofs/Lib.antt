@@ -1,3 +1,0 @@
-pub mod RunSteps
-pub mod RunStops
-pub mod Separated

@@ -1,5 +1,0 @@
-pub mod Laws
-pub mod Progress
-pub mod Run
-pub mod Text
-pub mod Words

@@ -1,4 +1,0 @@
-pub mod Outcome
-pub mod Answer
-pub mod Blocks
-pub mod Run
