@@ -8,6 +8,8 @@ from .terms import Term, sized
 
 _INTEGER_FIRST = frozenset((UNIVERSAL_TAGS["INTEGER"],))
 _SIZED = frozenset((Core.CONTENTS, Core.OCTETS, Core.UTF8, Core.LIST))
+# types with `Contents` that have no size in the library
+_UNSIZED = frozenset(("ObjectIdentifier", "RelativeOid", "UtcTime"))
 
 
 def whole_number_limits(limits):
@@ -69,7 +71,7 @@ def _sized(found, size):
     rust = found.rust
     if not size.pairs:
         return found.lacking(Feature.NO_VALUES)
-    if rust.core not in _SIZED or not size.is_one_range() or rust.own or rust.bounded:
+    if rust.core not in _SIZED or rust.text in _UNSIZED or not size.is_one_range() or rust.own or rust.bounded:
         return found.as_(replace(rust, bounded=True, inner=rust)).noting(Note.CONSTRAINT)
     high = "{ usize::MAX }" if size.high == INFINITY else size.high
     text = f"WithSize<{rust.text}, {size.low}, {high}>"

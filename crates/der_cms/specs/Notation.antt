@@ -37,30 +37,32 @@ AuthAttributes = SIZE 1 MAX (SET-OF Attribute)
 abbrev pub CmsVersion : Notation
 CmsVersion = INTEGER
 
--- DigestAlgorithmIdentifier of CryptographicMessageSyntax2004: AlgorithmIdentifier
-abbrev pub DigestAlgorithmIdentifier : Notation
-DigestAlgorithmIdentifier = AlgorithmIdentifier
+-- ContentEncryptionAlgorithmIdentifier of CryptographicMessageSyntax2004: AlgorithmIdentifier
+abbrev pub ContentEncryptionAlgorithmIdentifier : Notation
+ContentEncryptionAlgorithmIdentifier = AlgorithmIdentifier
 
 -- ContentType of CryptographicMessageSyntax2004: OBJECT IDENTIFIER
 abbrev pub ContentType : Notation
 ContentType = OBJECT-IDENTIFIER
 
--- EncapsulatedContentInfo of CryptographicMessageSyntax2004
-abbrev pub EncapsulatedContentInfo : Notation
-EncapsulatedContentInfo = SEQUENCE (
-    -- eContentType ContentType
+-- EncryptedContent of CryptographicMessageSyntax2004: OCTET STRING
+abbrev pub EncryptedContent : Notation
+EncryptedContent = OCTET-STRING
+
+-- EncryptedContentInfo of CryptographicMessageSyntax2004
+abbrev pub EncryptedContentInfo : Notation
+EncryptedContentInfo = SEQUENCE (
+    -- contentType ContentType
     required ContentType ⨾
-    -- eContent [0] EXPLICIT OCTET STRING OPTIONAL
-    optional (CONTEXT 0 EXPLICIT OCTET-STRING) ⨾
+    -- contentEncryptionAlgorithm ContentEncryptionAlgorithmIdentifier
+    required ContentEncryptionAlgorithmIdentifier ⨾
+    -- encryptedContent [0] IMPLICIT EncryptedContent OPTIONAL
+    optional (CONTEXT 0 IMPLICIT EncryptedContent) ⨾
     end)
 
 -- MessageAuthenticationCode of CryptographicMessageSyntax2004: OCTET STRING
 abbrev pub MessageAuthenticationCode : Notation
 MessageAuthenticationCode = OCTET-STRING
-
--- MessageAuthenticationCodeAlgorithm of CryptographicMessageSyntax2004: AlgorithmIdentifier
-abbrev pub MessageAuthenticationCodeAlgorithm : Notation
-MessageAuthenticationCodeAlgorithm = AlgorithmIdentifier
 
 -- ExtendedCertificate of CryptographicMessageSyntax2004: SEQUENCE OF ANY
 abbrev pub ExtendedCertificate : Notation
@@ -322,6 +324,42 @@ RecipientInfos = SIZE 1 MAX (SET-OF RecipientInfo)
 abbrev pub UnauthAttributes : Notation
 UnauthAttributes = SIZE 1 MAX (SET-OF Attribute)
 
+-- AuthEnvelopedData of CMS-AuthEnvelopedData-2007
+abbrev pub AuthEnvelopedData : Notation
+AuthEnvelopedData = SEQUENCE (
+    -- version CMSVersion
+    required CmsVersion ⨾
+    -- originatorInfo [0] IMPLICIT OriginatorInfo OPTIONAL
+    optional (CONTEXT 0 IMPLICIT OriginatorInfo) ⨾
+    -- recipientInfos RecipientInfos
+    required RecipientInfos ⨾
+    -- authEncryptedContentInfo EncryptedContentInfo
+    required EncryptedContentInfo ⨾
+    -- authAttrs [1] IMPLICIT AuthAttributes OPTIONAL
+    optional (CONTEXT 1 IMPLICIT AuthAttributes) ⨾
+    -- mac MessageAuthenticationCode
+    required MessageAuthenticationCode ⨾
+    -- unauthAttrs [2] IMPLICIT UnauthAttributes OPTIONAL
+    optional (CONTEXT 2 IMPLICIT UnauthAttributes) ⨾
+    end)
+
+-- DigestAlgorithmIdentifier of CryptographicMessageSyntax2004: AlgorithmIdentifier
+abbrev pub DigestAlgorithmIdentifier : Notation
+DigestAlgorithmIdentifier = AlgorithmIdentifier
+
+-- EncapsulatedContentInfo of CryptographicMessageSyntax2004
+abbrev pub EncapsulatedContentInfo : Notation
+EncapsulatedContentInfo = SEQUENCE (
+    -- eContentType ContentType
+    required ContentType ⨾
+    -- eContent [0] EXPLICIT OCTET STRING OPTIONAL
+    optional (CONTEXT 0 EXPLICIT OCTET-STRING) ⨾
+    end)
+
+-- MessageAuthenticationCodeAlgorithm of CryptographicMessageSyntax2004: AlgorithmIdentifier
+abbrev pub MessageAuthenticationCodeAlgorithm : Notation
+MessageAuthenticationCodeAlgorithm = AlgorithmIdentifier
+
 -- AuthenticatedData of CryptographicMessageSyntax2004
 abbrev pub AuthenticatedData : Notation
 AuthenticatedData = SEQUENCE (
@@ -344,10 +382,6 @@ AuthenticatedData = SEQUENCE (
     -- unauthAttrs [3] IMPLICIT UnauthAttributes OPTIONAL
     optional (CONTEXT 3 IMPLICIT UnauthAttributes) ⨾
     end)
-
--- ContentEncryptionAlgorithmIdentifier of CryptographicMessageSyntax2004: AlgorithmIdentifier
-abbrev pub ContentEncryptionAlgorithmIdentifier : Notation
-ContentEncryptionAlgorithmIdentifier = AlgorithmIdentifier
 
 -- ContentInfo of CryptographicMessageSyntax2004
 abbrev pub ContentInfo : Notation
@@ -427,21 +461,6 @@ DigestedData = SEQUENCE (
     required Digest ⨾
     end)
 
--- EncryptedContent of CryptographicMessageSyntax2004: OCTET STRING
-abbrev pub EncryptedContent : Notation
-EncryptedContent = OCTET-STRING
-
--- EncryptedContentInfo of CryptographicMessageSyntax2004
-abbrev pub EncryptedContentInfo : Notation
-EncryptedContentInfo = SEQUENCE (
-    -- contentType ContentType
-    required ContentType ⨾
-    -- contentEncryptionAlgorithm ContentEncryptionAlgorithmIdentifier
-    required ContentEncryptionAlgorithmIdentifier ⨾
-    -- encryptedContent [0] IMPLICIT EncryptedContent OPTIONAL
-    optional (CONTEXT 0 IMPLICIT EncryptedContent) ⨾
-    end)
-
 -- UnprotectedAttributes of CryptographicMessageSyntax2004: SET SIZE (1..MAX) OF Attribute
 abbrev pub UnprotectedAttributes : Notation
 UnprotectedAttributes = SIZE 1 MAX (SET-OF Attribute)
@@ -502,8 +521,8 @@ abbrev pub Time : Notation
 Time = CHOICE (
     -- utcTime UTCTime
     UTCTime ∣
-    -- generalizedTime GeneralizedTime
-    GeneralizedTime ∣
+    -- generalizedTime GeneralizedTime (SIZE (15))
+    SIZE 15 15 GeneralizedTime ∣
     none)
 
 -- SigningTime of CryptographicMessageSyntax2004: Time

@@ -1,8 +1,10 @@
-//! The types of CryptographicMessageSyntax2004, written by tools/der_asn1.
+//! The types of CMS-AuthEnvelopedData-2007, CryptographicMessageSyntax2004, written by
+//! tools/der_asn1.
 #![tactic(auto)]
 
 mod aliases;
 mod attribute;
+mod auth_enveloped_data;
 mod authenticated_data;
 mod certificate_choices;
 mod content_info;
@@ -48,6 +50,7 @@ pub use aliases::{
     UnauthAttributes, UnprotectedAttributes, UnsignedAttributes, UserKeyingMaterial,
 };
 pub use attribute::Attribute;
+pub use auth_enveloped_data::AuthEnvelopedData;
 pub use authenticated_data::AuthenticatedData;
 pub use certificate_choices::CertificateChoices;
 pub use content_info::ContentInfo;

@@ -4,7 +4,7 @@ ghost use Rattle.der_cms.specs.Notation as notation;
 
 use crate::{
     Attribute, AttributeCertificateV1, AttributeCertificateV2, AttributeValue, AuthAttributes,
-    AuthenticatedData, CertificateChoices, CertificateSet, CmsVersion,
+    AuthEnvelopedData, AuthenticatedData, CertificateChoices, CertificateSet, CmsVersion,
     ContentEncryptionAlgorithmIdentifier, ContentInfo, ContentType, Countersignature, Digest,
     DigestAlgorithmIdentifier, DigestAlgorithmIdentifiers, DigestedData, EncapsulatedContentInfo,
     EncryptedContent, EncryptedContentInfo, EncryptedData, EncryptedKey, EnvelopedData,
@@ -29,6 +29,7 @@ pub fn types()
     ensures attribute_certificate_v2 { ⟦<AttributeCertificateV2 as Notated>⟧.notation ≡ notation.AttributeCertificateV2 }
     ensures attribute_value { ⟦<AttributeValue as Notated>⟧.notation ≡ notation.AttributeValue }
     ensures auth_attributes { ⟦<AuthAttributes as Notated>⟧.notation ≡ notation.AuthAttributes }
+    ensures auth_enveloped_data { ⟦<AuthEnvelopedData as Notated>⟧.notation ≡ notation.AuthEnvelopedData }
     ensures authenticated_data { ⟦<AuthenticatedData as Notated>⟧.notation ≡ notation.AuthenticatedData }
     ensures certificate_choices { ⟦<CertificateChoices as Notated>⟧.notation ≡ notation.CertificateChoices }
     ensures certificate_set { ⟦<CertificateSet as Notated>⟧.notation ≡ notation.CertificateSet }

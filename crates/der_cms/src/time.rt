@@ -6,7 +6,7 @@ ghost use Rattle.picky_der_de.specs.KnownChoices.{known_choice};
 ghost use Rattle.der_types.specs.Notation.{Notation};
 ghost use Rattle.der_cms.specs.declared.time.Time.TheVariants.{UtcTime, GeneralizedTime};
 
-use der_types::{GeneralizedTime, Notated, NotatedAlternatives, UtcTime};
+use der_types::{GeneralizedTime, Notated, NotatedAlternatives, UtcTime, WithSize};
 use picky_asn1_der::OneOf::{Other, This};
 use picky_asn1_der::asn1::Tag;
 use picky_asn1_der::de::{Begins, deserialize_choice_as};
@@ -20,11 +20,11 @@ use picky_asn1_der::{
 pub enum Time {
     /// `UTCTime`.
     UtcTime(UtcTime),
-    /// `GeneralizedTime`.
-    GeneralizedTime(GeneralizedTime),
+    /// `GeneralizedTime (SIZE (15))`.
+    GeneralizedTime(WithSize<GeneralizedTime, 15, 15>),
 }
 
-type Parts = OneOf<UtcTime, OneOf<GeneralizedTime, NoneOf>>;
+type Parts = OneOf<UtcTime, OneOf<WithSize<GeneralizedTime, 15, 15>, NoneOf>>;
 
 impl Choice for Time {
     type Alternatives = Parts;

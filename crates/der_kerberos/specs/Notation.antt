@@ -1,5 +1,5 @@
 -- The types as terms. Above each is its name in its module, and above each member the member's text.
-use Rattle.der_types.specs.Notation.{Notation, BIT-STRING, GeneralizedTime, INTEGER, OCTET-STRING, end, optional, required}
+use Rattle.der_types.specs.Notation.{Notation, BIT-STRING, GeneralizedTime, OCTET-STRING, end, optional, required}
 use Rattle.der_types.specs.NotationForms.{APPLICATION, CONTEXT, EXPLICIT, GeneralString, INTEGER-from-minus-to, INTEGER-from-to, MAX, Mode, SEQUENCE, SEQUENCE-OF, SIZE, instead, ◌⨾◌}
 
 -- KerberosV5Spec2 DEFINITIONS EXPLICIT TAGS
@@ -146,13 +146,13 @@ PaData = SEQUENCE (
     required (CONTEXT 2 TAGS OCTET-STRING) ⨾
     end)
 
--- KDC-REP of KerberosV5Spec2
-abbrev pub KdcRep : Notation
-KdcRep = SEQUENCE (
+-- AS-REP of KerberosV5Spec2
+abbrev pub AsRep : Notation
+AsRep = APPLICATION 11 TAGS (SEQUENCE (
     -- pvno [0] INTEGER (5)
     required (CONTEXT 0 TAGS (INTEGER-from-to 5 5)) ⨾
-    -- msg-type [1] INTEGER (11 | 13)
-    required (CONTEXT 1 TAGS (instead INTEGER)) ⨾
+    -- msg-type [1] INTEGER (11)
+    required (CONTEXT 1 TAGS (INTEGER-from-to 11 11)) ⨾
     -- padata [2] SEQUENCE OF PA-DATA OPTIONAL
     optional (CONTEXT 2 TAGS (SEQUENCE-OF PaData)) ⨾
     -- crealm [3] Realm
@@ -163,11 +163,7 @@ KdcRep = SEQUENCE (
     required (CONTEXT 5 TAGS Ticket) ⨾
     -- enc-part [6] EncryptedData
     required (CONTEXT 6 TAGS EncryptedData) ⨾
-    end)
-
--- AS-REP of KerberosV5Spec2: [APPLICATION 11] KDC-REP
-abbrev pub AsRep : Notation
-AsRep = APPLICATION 11 TAGS KdcRep
+    end))
 
 -- HostAddress of KerberosV5Spec2
 abbrev pub HostAddress : Notation
@@ -186,9 +182,9 @@ HostAddresses = SEQUENCE-OF HostAddress
 abbrev pub KdcOptions : Notation
 KdcOptions = KerberosFlags
 
--- KerberosTime of KerberosV5Spec2: GeneralizedTime
+-- KerberosTime of KerberosV5Spec2: GeneralizedTime (SIZE (15))
 abbrev pub KerberosTime : Notation
-KerberosTime = GeneralizedTime
+KerberosTime = SIZE 15 15 GeneralizedTime
 
 -- KDC-REQ-BODY of KerberosV5Spec2
 abbrev pub KdcReqBody : Notation
@@ -219,22 +215,18 @@ KdcReqBody = SEQUENCE (
     optional (CONTEXT 11 TAGS (SEQUENCE-OF Ticket)) ⨾
     end)
 
--- KDC-REQ of KerberosV5Spec2
-abbrev pub KdcReq : Notation
-KdcReq = SEQUENCE (
+-- AS-REQ of KerberosV5Spec2
+abbrev pub AsReq : Notation
+AsReq = APPLICATION 10 TAGS (SEQUENCE (
     -- pvno [1] INTEGER (5)
     required (CONTEXT 1 TAGS (INTEGER-from-to 5 5)) ⨾
-    -- msg-type [2] INTEGER (10 | 12)
-    required (CONTEXT 2 TAGS (instead INTEGER)) ⨾
+    -- msg-type [2] INTEGER (10)
+    required (CONTEXT 2 TAGS (INTEGER-from-to 10 10)) ⨾
     -- padata [3] SEQUENCE OF PA-DATA OPTIONAL
     optional (CONTEXT 3 TAGS (SEQUENCE-OF PaData)) ⨾
     -- req-body [4] KDC-REQ-BODY
     required (CONTEXT 4 TAGS KdcReqBody) ⨾
-    end)
-
--- AS-REQ of KerberosV5Spec2: [APPLICATION 10] KDC-REQ
-abbrev pub AsReq : Notation
-AsReq = APPLICATION 10 TAGS KdcReq
+    end))
 
 -- EncryptionKey of KerberosV5Spec2
 abbrev pub EncryptionKey : Notation
@@ -564,13 +556,37 @@ PaEncTsEnc = SEQUENCE (
     optional (CONTEXT 1 TAGS Microseconds) ⨾
     end)
 
--- TGS-REP of KerberosV5Spec2: [APPLICATION 13] KDC-REP
+-- TGS-REP of KerberosV5Spec2
 abbrev pub TgsRep : Notation
-TgsRep = APPLICATION 13 TAGS KdcRep
+TgsRep = APPLICATION 13 TAGS (SEQUENCE (
+    -- pvno [0] INTEGER (5)
+    required (CONTEXT 0 TAGS (INTEGER-from-to 5 5)) ⨾
+    -- msg-type [1] INTEGER (13)
+    required (CONTEXT 1 TAGS (INTEGER-from-to 13 13)) ⨾
+    -- padata [2] SEQUENCE OF PA-DATA OPTIONAL
+    optional (CONTEXT 2 TAGS (SEQUENCE-OF PaData)) ⨾
+    -- crealm [3] Realm
+    required (CONTEXT 3 TAGS Realm) ⨾
+    -- cname [4] PrincipalName
+    required (CONTEXT 4 TAGS PrincipalName) ⨾
+    -- ticket [5] Ticket
+    required (CONTEXT 5 TAGS Ticket) ⨾
+    -- enc-part [6] EncryptedData
+    required (CONTEXT 6 TAGS EncryptedData) ⨾
+    end))
 
--- TGS-REQ of KerberosV5Spec2: [APPLICATION 12] KDC-REQ
+-- TGS-REQ of KerberosV5Spec2
 abbrev pub TgsReq : Notation
-TgsReq = APPLICATION 12 TAGS KdcReq
+TgsReq = APPLICATION 12 TAGS (SEQUENCE (
+    -- pvno [1] INTEGER (5)
+    required (CONTEXT 1 TAGS (INTEGER-from-to 5 5)) ⨾
+    -- msg-type [2] INTEGER (12)
+    required (CONTEXT 2 TAGS (INTEGER-from-to 12 12)) ⨾
+    -- padata [3] SEQUENCE OF PA-DATA OPTIONAL
+    optional (CONTEXT 3 TAGS (SEQUENCE-OF PaData)) ⨾
+    -- req-body [4] KDC-REQ-BODY
+    required (CONTEXT 4 TAGS KdcReqBody) ⨾
+    end))
 
 -- TYPED-DATA of KerberosV5Spec2
 abbrev pub TypedData : Notation

@@ -1,11 +1,11 @@
 //! Type aliases.
 
 use crate::{
-    ApRepMembers, ApReqMembers, AuthenticatorMembers, AuthorizationDataItem, EncApRepPartMembers,
-    EncKdcRepPart, EncKrbCredPartMembers, EncKrbPrivPartMembers, EncTicketPartMembers,
-    EncryptedData, EtypeInfo2Entry, EtypeInfoEntry, HostAddress, KdcRep, KdcReq, KrbCredMembers,
-    KrbErrorMembers, KrbPrivMembers, KrbSafeMembers, LastReqItem, PaData, TicketMembers,
-    TypedDataItem,
+    ApRepMembers, ApReqMembers, AsRepMembers, AsReqMembers, AuthenticatorMembers,
+    AuthorizationDataItem, EncApRepPartMembers, EncKdcRepPart, EncKrbCredPartMembers,
+    EncKrbPrivPartMembers, EncTicketPartMembers, EncryptedData, EtypeInfo2Entry, EtypeInfoEntry,
+    HostAddress, KrbCredMembers, KrbErrorMembers, KrbPrivMembers, KrbSafeMembers, LastReqItem,
+    PaData, TgsRepMembers, TgsReqMembers, TicketMembers, TypedDataItem,
 };
 use der_types::{BitString, GeneralString, GeneralizedTime, InRange, WithSize};
 use picky_asn1_der::application_tag::ApplicationTag;
@@ -30,17 +30,20 @@ pub type ApRep = ApplicationTag<ApRepMembers, 15>;
 /// Its values differ from the notation's. The crate lacks: a `CharacterSet` of its own.
 pub type ApReq = ApplicationTag<ApReqMembers, 14>;
 
-/// `AS-REP` of KerberosV5Spec2: `[APPLICATION 11] KDC-REP`.
+/// `AS-REP` of KerberosV5Spec2: `[APPLICATION 11] SEQUENCE { pvno [0] INTEGER (5), msg-type [1]
+/// INTEGER (11), padata [2] SEQUENCE OF PA-DATA OPTIONAL, crealm [3] Realm, cname [4]
+/// PrincipalName, ticket [5] Ticket, enc-part [6] EncryptedData }`.
 ///
-/// Its values differ from the notation's. The crate lacks: a `CharacterSet` of its own; a type of
-/// its own with `Constrained`.
-pub type AsRep = ApplicationTag<KdcRep, 11>;
+/// Its values differ from the notation's. The crate lacks: a `CharacterSet` of its own.
+pub type AsRep = ApplicationTag<AsRepMembers, 11>;
 
-/// `AS-REQ` of KerberosV5Spec2: `[APPLICATION 10] KDC-REQ`.
+/// RFC 4120 has one type for the members of both requests, KDC-REQ, and one for those of both
+/// replies, KDC-REP. Each message has its own number here. `AS-REQ` of KerberosV5Spec2:
+/// `[APPLICATION 10] SEQUENCE { pvno [1] INTEGER (5), msg-type [2] INTEGER (10), padata [3]
+/// SEQUENCE OF PA-DATA OPTIONAL, req-body [4] KDC-REQ-BODY }`.
 ///
-/// Its values differ from the notation's. The crate lacks: a `CharacterSet` of its own; a type of
-/// its own with `Constrained`.
-pub type AsReq = ApplicationTag<KdcReq, 10>;
+/// Its values differ from the notation's. The crate lacks: a `CharacterSet` of its own.
+pub type AsReq = ApplicationTag<AsReqMembers, 10>;
 
 /// `Authenticator` of KerberosV5Spec2: `[APPLICATION 2] SEQUENCE { authenticator-vno [0] INTEGER
 /// (5), crealm [1] Realm, cname [2] PrincipalName, cksum [3] Checksum OPTIONAL, cusec [4]
@@ -118,8 +121,9 @@ pub type KerberosFlags = WithSize<BitString, 32, { usize::MAX }>;
 /// Its values differ from the notation's. The crate lacks: a `CharacterSet` of its own.
 pub type KerberosString = GeneralString;
 
-/// `KerberosTime` of KerberosV5Spec2: `GeneralizedTime`.
-pub type KerberosTime = GeneralizedTime;
+/// `YYYYMMDDHHMMSSZ`, without a fraction of a second. `KerberosTime` of KerberosV5Spec2:
+/// `GeneralizedTime (SIZE (15))`.
+pub type KerberosTime = WithSize<GeneralizedTime, 15, 15>;
 
 /// `KRB-CRED` of KerberosV5Spec2: `[APPLICATION 22] SEQUENCE { pvno [0] INTEGER (5), msg-type [1]
 /// INTEGER (22), tickets [2] SEQUENCE OF Ticket, enc-part [3] EncryptedData }`.
@@ -162,17 +166,18 @@ pub type PaEncTimestamp = EncryptedData;
 /// Its values differ from the notation's. The crate lacks: a `CharacterSet` of its own.
 pub type Realm = KerberosString;
 
-/// `TGS-REP` of KerberosV5Spec2: `[APPLICATION 13] KDC-REP`.
+/// `TGS-REP` of KerberosV5Spec2: `[APPLICATION 13] SEQUENCE { pvno [0] INTEGER (5), msg-type [1]
+/// INTEGER (13), padata [2] SEQUENCE OF PA-DATA OPTIONAL, crealm [3] Realm, cname [4]
+/// PrincipalName, ticket [5] Ticket, enc-part [6] EncryptedData }`.
 ///
-/// Its values differ from the notation's. The crate lacks: a `CharacterSet` of its own; a type of
-/// its own with `Constrained`.
-pub type TgsRep = ApplicationTag<KdcRep, 13>;
+/// Its values differ from the notation's. The crate lacks: a `CharacterSet` of its own.
+pub type TgsRep = ApplicationTag<TgsRepMembers, 13>;
 
-/// `TGS-REQ` of KerberosV5Spec2: `[APPLICATION 12] KDC-REQ`.
+/// `TGS-REQ` of KerberosV5Spec2: `[APPLICATION 12] SEQUENCE { pvno [1] INTEGER (5), msg-type [2]
+/// INTEGER (12), padata [3] SEQUENCE OF PA-DATA OPTIONAL, req-body [4] KDC-REQ-BODY }`.
 ///
-/// Its values differ from the notation's. The crate lacks: a `CharacterSet` of its own; a type of
-/// its own with `Constrained`.
-pub type TgsReq = ApplicationTag<KdcReq, 12>;
+/// Its values differ from the notation's. The crate lacks: a `CharacterSet` of its own.
+pub type TgsReq = ApplicationTag<TgsReqMembers, 12>;
 
 /// `Ticket` of KerberosV5Spec2: `[APPLICATION 1] SEQUENCE { tkt-vno [0] INTEGER (5), realm [1]
 /// Realm, sname [2] PrincipalName, enc-part [3] EncryptedData }`.

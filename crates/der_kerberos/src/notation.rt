@@ -7,9 +7,9 @@ use crate::{
     Authenticator, AuthorizationData, Checksum, EncApRepPart, EncAsRepPart, EncKdcRepPart,
     EncKrbCredPart, EncKrbPrivPart, EncTgsRepPart, EncTicketPart, EncryptedData, EncryptionKey,
     EtypeInfo, EtypeInfo2, EtypeInfo2Entry, EtypeInfoEntry, HostAddress, HostAddresses, Int32,
-    KdcOptions, KdcRep, KdcReq, KdcReqBody, KerberosFlags, KerberosString, KerberosTime, KrbCred,
-    KrbCredInfo, KrbError, KrbPriv, KrbSafe, KrbSafeBody, LastReq, MethodData, Microseconds,
-    PaData, PaEncTimestamp, PaEncTsEnc, PrincipalName, Realm, TgsRep, TgsReq, Ticket, TicketFlags,
+    KdcOptions, KdcReqBody, KerberosFlags, KerberosString, KerberosTime, KrbCred, KrbCredInfo,
+    KrbError, KrbPriv, KrbSafe, KrbSafeBody, LastReq, MethodData, Microseconds, PaData,
+    PaEncTimestamp, PaEncTsEnc, PrincipalName, Realm, TgsRep, TgsReq, Ticket, TicketFlags,
     TransitedEncoding, TypedData, UInt32,
 };
 use der_types::Notated;
@@ -45,8 +45,6 @@ pub fn types()
     ensures host_addresses { ⟦<HostAddresses as Notated>⟧.notation ≡ notation.HostAddresses }
     ensures int32 { ⟦<Int32 as Notated>⟧.notation ≡ notation.Int32 }
     ensures kdc_options { ⟦<KdcOptions as Notated>⟧.notation ≡ notation.KdcOptions }
-    ensures kdc_rep { ⟦<KdcRep as Notated>⟧.notation ≡ notation.KdcRep }
-    ensures kdc_req { ⟦<KdcReq as Notated>⟧.notation ≡ notation.KdcReq }
     ensures kdc_req_body { ⟦<KdcReqBody as Notated>⟧.notation ≡ notation.KdcReqBody }
     ensures kerberos_flags { ⟦<KerberosFlags as Notated>⟧.notation ≡ notation.KerberosFlags }
     ensures kerberos_string { ⟦<KerberosString as Notated>⟧.notation ≡ notation.KerberosString }

@@ -1,7 +1,9 @@
 //! The types of `der_cms`.
 
 use crate::trials::{Task, answer as answer_of};
-use der_cms::{ContentInfo, DigestedData, EncryptedData, EnvelopedData, SignedData};
+use der_cms::{
+    AuthEnvelopedData, ContentInfo, DigestedData, EncryptedData, EnvelopedData, SignedData, SigningTime,
+};
 use std::alloc::{AllocError, Global};
 use std::str::FromStr;
 
@@ -13,11 +15,13 @@ pub(crate) fn answer(
     bytes: &[u8],
 ) -> Result<String, AllocError> {
     match name {
+        "AuthEnvelopedData" => answer_of::<AuthEnvelopedData>(alloc, task, bytes),
         "ContentInfo" => answer_of::<ContentInfo>(alloc, task, bytes),
         "DigestedData" => answer_of::<DigestedData>(alloc, task, bytes),
         "EncryptedData" => answer_of::<EncryptedData>(alloc, task, bytes),
         "EnvelopedData" => answer_of::<EnvelopedData>(alloc, task, bytes),
         "SignedData" => answer_of::<SignedData>(alloc, task, bytes),
+        "SigningTime" => answer_of::<SigningTime>(alloc, task, bytes),
         _ => String::from_str(alloc, "no type"),
     }
 }

@@ -1,8 +1,10 @@
 //! For each row on standard input, writes a line to standard output that says how a message of another program is read and written back.
 #![tactic(auto)]
 
+mod algorithms;
 mod cms;
 mod kerberos;
+mod pkcs12;
 mod pkix;
 mod rows;
 mod signed;

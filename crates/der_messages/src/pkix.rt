@@ -2,12 +2,12 @@
 
 use crate::trials::{Task, answer as answer_of};
 use der_pkix::{
-    AuthorityInfoAccessSyntax, AuthorityKeyIdentifier, BaseCrlNumber, BasicConstraints,
+    AttributeCertificate, AuthorityInfoAccessSyntax, AuthorityKeyIdentifier, BaseCrlNumber, BasicConstraints,
     CertificateIssuer, CertificatePolicies, CertificationRequest, CrlDistributionPoints, CrlNumber,
     CrlReason, EcPrivateKey, EncryptedPrivateKeyInfo, ExtKeyUsageSyntax, FreshestCrl,
-    InhibitAnyPolicy, InvalidityDate, IssuerAltName, IssuingDistributionPoint, NameConstraints,
-    PolicyConstraints, PolicyMappings, PrivateKeyInfo, RsaPrivateKey, RsaPublicKey, SubjectAltName,
-    SubjectInfoAccessSyntax, SubjectKeyIdentifier, UserNotice,
+    IetfAttrSyntax, InhibitAnyPolicy, InvalidityDate, IssuerAltName, IssuingDistributionPoint, NameConstraints,
+    PolicyConstraints, PolicyMappings, PrivateKeyInfo, RoleSyntax, RsaPrivateKey, RsaPublicKey, SubjectAltName,
+    SubjectInfoAccessSyntax, SubjectKeyIdentifier, TargetInformation, UserNotice,
 };
 use std::alloc::{AllocError, Global};
 use std::str::FromStr;
@@ -20,6 +20,7 @@ pub(crate) fn answer(
     bytes: &[u8],
 ) -> Result<String, AllocError> {
     match name {
+        "AttributeCertificate" => answer_of::<AttributeCertificate>(alloc, task, bytes),
         "AuthorityInfoAccessSyntax" => answer_of::<AuthorityInfoAccessSyntax>(alloc, task, bytes),
         "AuthorityKeyIdentifier" => answer_of::<AuthorityKeyIdentifier>(alloc, task, bytes),
         "BaseCrlNumber" => answer_of::<BaseCrlNumber>(alloc, task, bytes),
@@ -34,6 +35,7 @@ pub(crate) fn answer(
         "EncryptedPrivateKeyInfo" => answer_of::<EncryptedPrivateKeyInfo>(alloc, task, bytes),
         "ExtKeyUsageSyntax" => answer_of::<ExtKeyUsageSyntax>(alloc, task, bytes),
         "FreshestCrl" => answer_of::<FreshestCrl>(alloc, task, bytes),
+        "IetfAttrSyntax" => answer_of::<IetfAttrSyntax>(alloc, task, bytes),
         "InhibitAnyPolicy" => answer_of::<InhibitAnyPolicy>(alloc, task, bytes),
         "InvalidityDate" => answer_of::<InvalidityDate>(alloc, task, bytes),
         "IssuerAltName" => answer_of::<IssuerAltName>(alloc, task, bytes),
@@ -42,11 +44,13 @@ pub(crate) fn answer(
         "PolicyConstraints" => answer_of::<PolicyConstraints>(alloc, task, bytes),
         "PolicyMappings" => answer_of::<PolicyMappings>(alloc, task, bytes),
         "PrivateKeyInfo" => answer_of::<PrivateKeyInfo>(alloc, task, bytes),
+        "RoleSyntax" => answer_of::<RoleSyntax>(alloc, task, bytes),
         "RsaPrivateKey" => answer_of::<RsaPrivateKey>(alloc, task, bytes),
         "RsaPublicKey" => answer_of::<RsaPublicKey>(alloc, task, bytes),
         "SubjectAltName" => answer_of::<SubjectAltName>(alloc, task, bytes),
         "SubjectInfoAccessSyntax" => answer_of::<SubjectInfoAccessSyntax>(alloc, task, bytes),
         "SubjectKeyIdentifier" => answer_of::<SubjectKeyIdentifier>(alloc, task, bytes),
+        "TargetInformation" => answer_of::<TargetInformation>(alloc, task, bytes),
         "UserNotice" => answer_of::<UserNotice>(alloc, task, bytes),
         _ => String::from_str(alloc, "no type"),
     }

@@ -2,7 +2,7 @@
 //! signed.
 
 use crate::trials::Task;
-use crate::{cms, kerberos, pkix, signed, status, x509};
+use crate::{algorithms, cms, kerberos, pkcs12, pkix, signed, status, x509};
 use der_fixtures::bytes_of;
 use std::alloc::{AllocError, Global};
 use std::str::FromStr;
@@ -31,8 +31,10 @@ pub(crate) fn answer_to(alloc: Global, row: &str) -> Result<String, AllocError> 
 // Handles bytes of a type, whose name is preceded by the name of its crate.
 fn of_type(alloc: Global, task: Task, name: &str, bytes: &[u8]) -> Result<String, AllocError> {
     match name.split_once("::") {
+        Some(("der_algorithms", name)) => algorithms::answer(alloc, task, name, bytes),
         Some(("der_cms", name)) => cms::answer(alloc, task, name, bytes),
         Some(("der_kerberos", name)) => kerberos::answer(alloc, task, name, bytes),
+        Some(("der_pkcs12", name)) => pkcs12::answer(alloc, task, name, bytes),
         Some(("der_pkix", name)) => pkix::answer(alloc, task, name, bytes),
         Some(("der_status", name)) => status::answer(alloc, task, name, bytes),
         Some(("der_x509", name)) => x509::answer(alloc, task, name, bytes),

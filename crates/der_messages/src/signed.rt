@@ -2,7 +2,7 @@
 
 use der_cms::{ContentInfo, SignedData, values};
 use der_fixtures::text_of;
-use der_pkix::CertificationRequest;
+use der_pkix::{AttributeCertificate, CertificationRequest};
 use der_status::BasicOcspResponse;
 use der_x509::{Certificate, CertificateList};
 use picky_der_core::{Asn1DerError, Result as DerResult};
@@ -16,6 +16,7 @@ pub(crate) fn answer(alloc: Global, name: &str, bytes: &[u8]) -> Result<String, 
     let signed = match name {
         "der_cms::ContentInfo" => of_message(alloc, bytes),
         "der_cms::SignedData" => of_signed_data(alloc, bytes),
+        "der_pkix::AttributeCertificate" => of_attributes(alloc, bytes),
         "der_pkix::CertificationRequest" => of_request(alloc, bytes),
         "der_status::BasicOcspResponse" => of_response(alloc, bytes),
         "der_x509::Certificate" => of_certificate(alloc, bytes),
@@ -31,6 +32,11 @@ pub(crate) fn answer(alloc: Global, name: &str, bytes: &[u8]) -> Result<String, 
 fn of_certificate(alloc: Global, bytes: &[u8]) -> DerResult<Vec<u8>> {
     let certificate: Certificate = from_bytes(alloc, bytes)?;
     to_vec(alloc, &certificate.tbs_certificate)
+}
+
+fn of_attributes(alloc: Global, bytes: &[u8]) -> DerResult<Vec<u8>> {
+    let certificate: AttributeCertificate = from_bytes(alloc, bytes)?;
+    to_vec(alloc, &certificate.acinfo)
 }
 
 fn of_list(alloc: Global, bytes: &[u8]) -> DerResult<Vec<u8>> {

@@ -1,2 +1,4 @@
 pub mod CrlReason
+pub mod DigestedObjectType
+pub mod KeyVersion
 pub mod Notation

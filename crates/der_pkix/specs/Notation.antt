@@ -1,16 +1,16 @@
 -- The types as terms. Above each is its name in its module, and above each member the member's text.
 use Rattle.std.specs.Prelude.{[], ◌∷◌}
-use Rattle.der_types.specs.Notation.{Notation, BIT-STRING, BIT-STRING-named, BOOLEAN, ENUMERATED, GeneralizedTime, INTEGER, OBJECT-IDENTIFIER, OCTET-STRING, UTF8String, end, none, optional, required}
-use Rattle.der_types.specs.NotationForms.{ANY, BMPString, CHOICE, CONTEXT, EXPLICIT, FALSE, IA5String, IMPLICIT, INTEGER-from-to, MAX, Mode, SEQUENCE, SEQUENCE-OF, SET-OF, SIZE, VisibleString, default, default-as-optional, instead, ◌∣◌, ◌⨾◌}
-use Rattle.der_x509.specs.Notation.{AlgorithmIdentifier, AttributeType, AttributeValue, CertificateSerialNumber, Name, RelativeDistinguishedName, SubjectPublicKeyInfo}
+use Rattle.der_types.specs.Notation.{Notation, BIT-STRING, BIT-STRING-named, BOOLEAN, ENUMERATED, GeneralizedTime, INTEGER, INTEGER-named, OBJECT-IDENTIFIER, OCTET-STRING, UTF8String, end, none, optional, required}
+use Rattle.der_types.specs.NotationForms.{ANY, BMPString, CHOICE, CONTEXT, EXPLICIT, FALSE, IA5String, IMPLICIT, INTEGER-from-to, MAX, Mode, SEQUENCE, SEQUENCE-OF, SET-OF, SIZE, TRUE, VisibleString, default, default-as-optional, instead, ◌∣◌, ◌⨾◌}
+use Rattle.der_x509.specs.Notation.{AlgorithmIdentifier, AttributeType, AttributeValue, CertificateSerialNumber, Extensions, Name, RelativeDistinguishedName, SubjectPublicKeyInfo, UniqueIdentifier}
 
 -- PKIX1Implicit88 DEFINITIONS IMPLICIT TAGS
 abbrev TAGS-PKIX1Implicit88 : Mode
 TAGS-PKIX1Implicit88 = IMPLICIT
 
--- PKCS-8 DEFINITIONS IMPLICIT TAGS
-abbrev TAGS-PKCS-8 : Mode
-TAGS-PKCS-8 = IMPLICIT
+-- AsymmetricKeyPackageModuleV1 DEFINITIONS IMPLICIT TAGS
+abbrev TAGS-AsymmetricKeyPackageModuleV1 : Mode
+TAGS-AsymmetricKeyPackageModuleV1 = IMPLICIT
 
 -- ECPrivateKey DEFINITIONS EXPLICIT TAGS
 abbrev TAGS-ECPrivateKey : Mode
@@ -19,6 +19,36 @@ TAGS-ECPrivateKey = EXPLICIT
 -- PKCS-10 DEFINITIONS IMPLICIT TAGS
 abbrev TAGS-PKCS-10 : Mode
 TAGS-PKCS-10 = IMPLICIT
+
+-- PKIXAttributeCertificate-2008 DEFINITIONS IMPLICIT TAGS
+abbrev TAGS-PKIXAttributeCertificate-2008 : Mode
+TAGS-PKIXAttributeCertificate-2008 = IMPLICIT
+
+-- AttrSpec of PKIXAttributeCertificate-2008: SEQUENCE OF OBJECT IDENTIFIER
+abbrev pub AttrSpec : Notation
+AttrSpec = SEQUENCE-OF OBJECT-IDENTIFIER
+
+-- AAControls of PKIXAttributeCertificate-2008
+abbrev pub AaControls : Notation
+AaControls = SEQUENCE (
+    -- pathLenConstraint INTEGER (0..MAX) OPTIONAL
+    optional (instead INTEGER) ⨾
+    -- permittedAttrs [0] AttrSpec OPTIONAL
+    optional (CONTEXT 0 TAGS-PKIXAttributeCertificate-2008 AttrSpec) ⨾
+    -- excludedAttrs [1] AttrSpec OPTIONAL
+    optional (CONTEXT 1 TAGS-PKIXAttributeCertificate-2008 AttrSpec) ⨾
+    -- permitUnSpecified BOOLEAN DEFAULT TRUE
+    default TRUE BOOLEAN ⨾
+    end)
+
+-- Attribute of PKIX1Explicit88
+abbrev pub Attribute : Notation
+Attribute = SEQUENCE (
+    -- type AttributeType
+    required AttributeType ⨾
+    -- values SET SIZE (1..MAX) OF AttributeValue
+    required (SIZE 1 MAX (SET-OF AttributeValue)) ⨾
+    end)
 
 -- AnotherName of PKIX1Implicit88
 abbrev pub AnotherName : Notation
@@ -60,6 +90,17 @@ GeneralName = CHOICE (
     CONTEXT 8 TAGS-PKIX1Implicit88 OBJECT-IDENTIFIER ∣
     none)
 
+-- ACClearAttrs of PKIXAttributeCertificate-2008
+abbrev pub AcClearAttrs : Notation
+AcClearAttrs = SEQUENCE (
+    -- acIssuer GeneralName
+    required GeneralName ⨾
+    -- acSerial INTEGER
+    required INTEGER ⨾
+    -- attrs SEQUENCE OF Attribute
+    required (SEQUENCE-OF Attribute) ⨾
+    end)
+
 -- AccessDescription of PKIX1Implicit88
 abbrev pub AccessDescription : Notation
 AccessDescription = SEQUENCE (
@@ -69,26 +110,158 @@ AccessDescription = SEQUENCE (
     required GeneralName ⨾
     end)
 
--- Attribute of PKIX1Explicit88
-abbrev pub Attribute : Notation
-Attribute = SEQUENCE (
-    -- type AttributeType
-    required AttributeType ⨾
-    -- values SET OF AttributeValue
-    required (SET-OF AttributeValue) ⨾
-    end)
-
--- Attributes of PKCS-8: SET OF Attribute
+-- Attributes of AsymmetricKeyPackageModuleV1: SET OF Attribute
 abbrev pub Attributes : Notation
 Attributes = SET-OF Attribute
 
--- AuthorityInfoAccessSyntax of PKIX1Implicit88: SEQUENCE SIZE (1..MAX) OF AccessDescription
-abbrev pub AuthorityInfoAccessSyntax : Notation
-AuthorityInfoAccessSyntax = SIZE 1 MAX (SEQUENCE-OF AccessDescription)
+-- KeyVersion of AsymmetricKeyPackageModuleV1
+abbrev pub KeyVersion : Notation
+KeyVersion = INTEGER-named (0 ∷ 1 ∷ [])
+
+-- PrivateKey of AsymmetricKeyPackageModuleV1: OCTET STRING
+abbrev pub PrivateKey : Notation
+PrivateKey = OCTET-STRING
+
+-- PrivateKeyAlgorithmIdentifier of AsymmetricKeyPackageModuleV1: AlgorithmIdentifier
+abbrev pub PrivateKeyAlgorithmIdentifier : Notation
+PrivateKeyAlgorithmIdentifier = AlgorithmIdentifier
+
+-- PublicKey of AsymmetricKeyPackageModuleV1: BIT STRING
+abbrev pub PublicKey : Notation
+PublicKey = BIT-STRING
+
+-- OneAsymmetricKey of AsymmetricKeyPackageModuleV1
+abbrev pub OneAsymmetricKey : Notation
+OneAsymmetricKey = SEQUENCE (
+    -- version KeyVersion
+    required KeyVersion ⨾
+    -- privateKeyAlgorithm PrivateKeyAlgorithmIdentifier
+    required PrivateKeyAlgorithmIdentifier ⨾
+    -- privateKey PrivateKey
+    required PrivateKey ⨾
+    -- attributes [0] Attributes OPTIONAL
+    optional (CONTEXT 0 TAGS-AsymmetricKeyPackageModuleV1 Attributes) ⨾
+    -- publicKey [1] PublicKey OPTIONAL
+    optional (CONTEXT 1 TAGS-AsymmetricKeyPackageModuleV1 PublicKey) ⨾
+    end)
+
+-- AsymmetricKeyPackage of AsymmetricKeyPackageModuleV1: SEQUENCE SIZE (1..MAX) OF OneAsymmetricKey
+abbrev pub AsymmetricKeyPackage : Notation
+AsymmetricKeyPackage = SIZE 1 MAX (SEQUENCE-OF OneAsymmetricKey)
 
 -- GeneralNames of PKIX1Implicit88: SEQUENCE SIZE (1..MAX) OF GeneralName
 abbrev pub GeneralNames : Notation
 GeneralNames = SIZE 1 MAX (SEQUENCE-OF GeneralName)
+
+-- IssuerSerial of PKIXAttributeCertificate-2008
+abbrev pub IssuerSerial : Notation
+IssuerSerial = SEQUENCE (
+    -- issuer GeneralNames
+    required GeneralNames ⨾
+    -- serial CertificateSerialNumber
+    required CertificateSerialNumber ⨾
+    -- issuerUID UniqueIdentifier OPTIONAL
+    optional UniqueIdentifier ⨾
+    end)
+
+-- DigestedObjectType of PKIXAttributeCertificate-2008
+abbrev pub DigestedObjectType : Notation
+DigestedObjectType = ENUMERATED (0 ∷ 1 ∷ 2 ∷ [])
+
+-- ObjectDigestInfo of PKIXAttributeCertificate-2008
+abbrev pub ObjectDigestInfo : Notation
+ObjectDigestInfo = SEQUENCE (
+    -- digestedObjectType DigestedObjectType
+    required DigestedObjectType ⨾
+    -- otherObjectTypeID OBJECT IDENTIFIER OPTIONAL
+    optional OBJECT-IDENTIFIER ⨾
+    -- digestAlgorithm AlgorithmIdentifier
+    required AlgorithmIdentifier ⨾
+    -- objectDigest BIT STRING
+    required BIT-STRING ⨾
+    end)
+
+-- V2Form of PKIXAttributeCertificate-2008
+abbrev pub V2Form : Notation
+V2Form = SEQUENCE (
+    -- issuerName GeneralNames OPTIONAL
+    optional GeneralNames ⨾
+    -- baseCertificateID [0] IssuerSerial OPTIONAL
+    optional (CONTEXT 0 TAGS-PKIXAttributeCertificate-2008 IssuerSerial) ⨾
+    -- objectDigestInfo [1] ObjectDigestInfo OPTIONAL
+    optional (CONTEXT 1 TAGS-PKIXAttributeCertificate-2008 ObjectDigestInfo) ⨾
+    end)
+
+-- AttCertIssuer of PKIXAttributeCertificate-2008
+abbrev pub AttCertIssuer : Notation
+AttCertIssuer = CHOICE (
+    -- v1Form GeneralNames
+    GeneralNames ∣
+    -- v2Form [0] V2Form
+    CONTEXT 0 TAGS-PKIXAttributeCertificate-2008 V2Form ∣
+    none)
+
+-- AttCertValidityPeriod of PKIXAttributeCertificate-2008
+abbrev pub AttCertValidityPeriod : Notation
+AttCertValidityPeriod = SEQUENCE (
+    -- notBeforeTime GeneralizedTime (SIZE (15))
+    required (SIZE 15 15 GeneralizedTime) ⨾
+    -- notAfterTime GeneralizedTime (SIZE (15))
+    required (SIZE 15 15 GeneralizedTime) ⨾
+    end)
+
+-- AttCertVersion of PKIXAttributeCertificate-2008: INTEGER { v2 (1) } (v2)
+abbrev pub AttCertVersion : Notation
+AttCertVersion = INTEGER-from-to 1 1
+
+-- Holder of PKIXAttributeCertificate-2008
+abbrev pub Holder : Notation
+Holder = SEQUENCE (
+    -- baseCertificateID [0] IssuerSerial OPTIONAL
+    optional (CONTEXT 0 TAGS-PKIXAttributeCertificate-2008 IssuerSerial) ⨾
+    -- entityName [1] GeneralNames OPTIONAL
+    optional (CONTEXT 1 TAGS-PKIXAttributeCertificate-2008 GeneralNames) ⨾
+    -- objectDigestInfo [2] ObjectDigestInfo OPTIONAL
+    optional (CONTEXT 2 TAGS-PKIXAttributeCertificate-2008 ObjectDigestInfo) ⨾
+    end)
+
+-- AttributeCertificateInfo of PKIXAttributeCertificate-2008
+abbrev pub AttributeCertificateInfo : Notation
+AttributeCertificateInfo = SEQUENCE (
+    -- version AttCertVersion
+    required AttCertVersion ⨾
+    -- holder Holder
+    required Holder ⨾
+    -- issuer AttCertIssuer
+    required AttCertIssuer ⨾
+    -- signature AlgorithmIdentifier
+    required AlgorithmIdentifier ⨾
+    -- serialNumber CertificateSerialNumber
+    required CertificateSerialNumber ⨾
+    -- attrCertValidityPeriod AttCertValidityPeriod
+    required AttCertValidityPeriod ⨾
+    -- attributes SEQUENCE OF Attribute
+    required (SEQUENCE-OF Attribute) ⨾
+    -- issuerUniqueID UniqueIdentifier OPTIONAL
+    optional UniqueIdentifier ⨾
+    -- extensions Extensions OPTIONAL
+    optional Extensions ⨾
+    end)
+
+-- AttributeCertificate of PKIXAttributeCertificate-2008
+abbrev pub AttributeCertificate : Notation
+AttributeCertificate = SEQUENCE (
+    -- acinfo AttributeCertificateInfo
+    required AttributeCertificateInfo ⨾
+    -- signatureAlgorithm AlgorithmIdentifier
+    required AlgorithmIdentifier ⨾
+    -- signatureValue BIT STRING
+    required BIT-STRING ⨾
+    end)
+
+-- AuthorityInfoAccessSyntax of PKIX1Implicit88: SEQUENCE SIZE (1..MAX) OF AccessDescription
+abbrev pub AuthorityInfoAccessSyntax : Notation
+AuthorityInfoAccessSyntax = SIZE 1 MAX (SEQUENCE-OF AccessDescription)
 
 -- KeyIdentifier of PKIX1Implicit88: OCTET STRING
 abbrev pub KeyIdentifier : Notation
@@ -188,6 +361,31 @@ CertificationRequest = SEQUENCE (
     required BIT-STRING ⨾
     end)
 
+-- ClassList of PKIXAttributeCertificate-2008: BIT STRING { unmarked (0), unclassified (1),
+-- restricted (2), confidential (3), secret (4), topSecret (5) }
+abbrev pub ClassList : Notation
+ClassList = BIT-STRING-named
+
+-- SecurityCategory of PKIXAttributeCertificate-2008
+abbrev pub SecurityCategory : Notation
+SecurityCategory = SEQUENCE (
+    -- type [0] OBJECT IDENTIFIER
+    required (CONTEXT 0 TAGS-PKIXAttributeCertificate-2008 OBJECT-IDENTIFIER) ⨾
+    -- value [1] EXPLICIT ANY DEFINED BY type
+    required (CONTEXT 1 EXPLICIT ANY) ⨾
+    end)
+
+-- Clearance of PKIXAttributeCertificate-2008
+abbrev pub Clearance : Notation
+Clearance = instead (SEQUENCE (
+    -- policyId OBJECT IDENTIFIER
+    required OBJECT-IDENTIFIER ⨾
+    -- classList ClassList DEFAULT { unclassified }
+    default-as-optional ClassList ⨾
+    -- securityCategories SET OF SecurityCategory OPTIONAL
+    optional (SET-OF SecurityCategory) ⨾
+    end))
+
 -- CPSuri of PKIX1Implicit88: IA5String
 abbrev pub CpSuri : Notation
 CpSuri = IA5String
@@ -256,7 +454,7 @@ EcPrivateKey = SEQUENCE (
     optional (CONTEXT 1 TAGS-ECPrivateKey BIT-STRING) ⨾
     end)
 
--- EncryptedPrivateKeyInfo of PKCS-8
+-- EncryptedPrivateKeyInfo of AsymmetricKeyPackageModuleV1
 abbrev pub EncryptedPrivateKeyInfo : Notation
 EncryptedPrivateKeyInfo = SEQUENCE (
     -- encryptionAlgorithm AlgorithmIdentifier
@@ -296,6 +494,26 @@ GeneralSubtrees = SIZE 1 MAX (SEQUENCE-OF GeneralSubtree)
 abbrev pub HoldInstructionCode : Notation
 HoldInstructionCode = OBJECT-IDENTIFIER
 
+-- IetfAttrValue of PKIXAttributeCertificate-2008
+abbrev pub IetfAttrValue : Notation
+IetfAttrValue = CHOICE (
+    -- octets OCTET STRING
+    OCTET-STRING ∣
+    -- oid OBJECT IDENTIFIER
+    OBJECT-IDENTIFIER ∣
+    -- string UTF8String
+    UTF8String ∣
+    none)
+
+-- IetfAttrSyntax of PKIXAttributeCertificate-2008
+abbrev pub IetfAttrSyntax : Notation
+IetfAttrSyntax = SEQUENCE (
+    -- policyAuthority [0] GeneralNames OPTIONAL
+    optional (CONTEXT 0 TAGS-PKIXAttributeCertificate-2008 GeneralNames) ⨾
+    -- values SEQUENCE OF IetfAttrValue
+    required (SEQUENCE-OF IetfAttrValue) ⨾
+    end)
+
 -- SkipCerts of PKIX1Implicit88: INTEGER (0..MAX)
 abbrev pub SkipCerts : Notation
 SkipCerts = instead INTEGER
@@ -304,9 +522,9 @@ SkipCerts = instead INTEGER
 abbrev pub InhibitAnyPolicy : Notation
 InhibitAnyPolicy = SkipCerts
 
--- InvalidityDate of PKIX1Implicit88: GeneralizedTime
+-- InvalidityDate of PKIX1Implicit88: GeneralizedTime (SIZE (15))
 abbrev pub InvalidityDate : Notation
-InvalidityDate = GeneralizedTime
+InvalidityDate = SIZE 15 15 GeneralizedTime
 
 -- IssuerAltName of PKIX1Implicit88: GeneralNames
 abbrev pub IssuerAltName : Notation
@@ -380,25 +598,47 @@ PolicyMappings = SIZE 1 MAX (SEQUENCE-OF (SEQUENCE (
     required CertPolicyId ⨾
     end)))
 
--- PrivateKey of PKCS-8: OCTET STRING
-abbrev pub PrivateKey : Notation
-PrivateKey = OCTET-STRING
-
--- PrivateKeyAlgorithmIdentifier of PKCS-8: AlgorithmIdentifier
-abbrev pub PrivateKeyAlgorithmIdentifier : Notation
-PrivateKeyAlgorithmIdentifier = AlgorithmIdentifier
-
--- PrivateKeyInfo of PKCS-8
+-- PrivateKeyInfo of AsymmetricKeyPackageModuleV1: OneAsymmetricKey
 abbrev pub PrivateKeyInfo : Notation
-PrivateKeyInfo = SEQUENCE (
-    -- version INTEGER { v1 (0) } (v1)
-    required (INTEGER-from-to 0 0) ⨾
-    -- privateKeyAlgorithm PrivateKeyAlgorithmIdentifier
-    required PrivateKeyAlgorithmIdentifier ⨾
-    -- privateKey PrivateKey
-    required PrivateKey ⨾
-    -- attributes [0] Attributes OPTIONAL
-    optional (CONTEXT 0 TAGS-PKCS-8 Attributes) ⨾
+PrivateKeyInfo = OneAsymmetricKey
+
+-- TargetCert of PKIXAttributeCertificate-2008
+abbrev pub TargetCert : Notation
+TargetCert = SEQUENCE (
+    -- targetCertificate IssuerSerial
+    required IssuerSerial ⨾
+    -- targetName GeneralName OPTIONAL
+    optional GeneralName ⨾
+    -- certDigestInfo ObjectDigestInfo OPTIONAL
+    optional ObjectDigestInfo ⨾
+    end)
+
+-- Target of PKIXAttributeCertificate-2008
+abbrev pub Target : Notation
+Target = CHOICE (
+    -- targetName [0] GeneralName
+    CONTEXT 0 TAGS-PKIXAttributeCertificate-2008 GeneralName ∣
+    -- targetGroup [1] GeneralName
+    CONTEXT 1 TAGS-PKIXAttributeCertificate-2008 GeneralName ∣
+    -- targetCert [2] TargetCert
+    CONTEXT 2 TAGS-PKIXAttributeCertificate-2008 TargetCert ∣
+    none)
+
+-- Targets of PKIXAttributeCertificate-2008: SEQUENCE OF Target
+abbrev pub Targets : Notation
+Targets = SEQUENCE-OF Target
+
+-- ProxyInfo of PKIXAttributeCertificate-2008: SEQUENCE OF Targets
+abbrev pub ProxyInfo : Notation
+ProxyInfo = SEQUENCE-OF Targets
+
+-- RoleSyntax of PKIXAttributeCertificate-2008
+abbrev pub RoleSyntax : Notation
+RoleSyntax = SEQUENCE (
+    -- roleAuthority [0] GeneralNames OPTIONAL
+    optional (CONTEXT 0 TAGS-PKIXAttributeCertificate-2008 GeneralNames) ⨾
+    -- roleName [1] GeneralName
+    required (CONTEXT 1 TAGS-PKIXAttributeCertificate-2008 GeneralName) ⨾
     end)
 
 -- RSAVersion of PKCS-1: INTEGER { two-prime (0), multi (1) }
@@ -450,6 +690,21 @@ SubjectInfoAccessSyntax = SIZE 1 MAX (SEQUENCE-OF AccessDescription)
 -- SubjectKeyIdentifier of PKIX1Implicit88: KeyIdentifier
 abbrev pub SubjectKeyIdentifier : Notation
 SubjectKeyIdentifier = KeyIdentifier
+
+-- SvceAuthInfo of PKIXAttributeCertificate-2008
+abbrev pub SvceAuthInfo : Notation
+SvceAuthInfo = SEQUENCE (
+    -- service GeneralName
+    required GeneralName ⨾
+    -- ident GeneralName
+    required GeneralName ⨾
+    -- authInfo OCTET STRING OPTIONAL
+    optional OCTET-STRING ⨾
+    end)
+
+-- TargetInformation of PKIXAttributeCertificate-2008: SEQUENCE OF Targets
+abbrev pub TargetInformation : Notation
+TargetInformation = SEQUENCE-OF Targets
 
 -- UserNotice of PKIX1Implicit88
 abbrev pub UserNotice : Notation

@@ -1,15 +1,27 @@
 //! Type aliases.
 
 use crate::{
-    AccessDescription, Attribute, DistributionPoint, GeneralName, GeneralSubtree, OtherPrimeInfo,
-    PolicyInformation, PolicyMappingsItem,
+    AccessDescription, Attribute, DistributionPoint, GeneralName, GeneralSubtree, OneAsymmetricKey,
+    OtherPrimeInfo, PolicyInformation, PolicyMappingsItem, Target,
 };
-use der_types::{GeneralizedTime, Ia5String, Integer, NamedBits, ObjectIdentifier, WithSize};
+use der_types::{
+    BitString, GeneralizedTime, Ia5String, InRange, Integer, NamedBits, ObjectIdentifier, WithSize,
+};
 use der_x509::AlgorithmIdentifier;
 use picky_asn1_der::Asn1RawDer;
 use picky_asn1_der::asn1::{Asn1SetOf, ByteBuf};
 
-/// `Attributes` of PKCS-8: `SET OF Attribute`.
+/// The content of a message whose content type is id-ct-KP-aKeyPackage. `AsymmetricKeyPackage` of
+/// AsymmetricKeyPackageModuleV1: `SEQUENCE SIZE (1..MAX) OF OneAsymmetricKey`.
+pub type AsymmetricKeyPackage = WithSize<Vec<OneAsymmetricKey>, 1, { usize::MAX }>;
+
+/// `AttCertVersion` of PKIXAttributeCertificate-2008: `INTEGER { v2 (1) } (v2)`.
+pub type AttCertVersion = InRange<u8, 1, 1>;
+
+/// `AttrSpec` of PKIXAttributeCertificate-2008: `SEQUENCE OF OBJECT IDENTIFIER`.
+pub type AttrSpec = Vec<ObjectIdentifier>;
+
+/// `Attributes` of AsymmetricKeyPackageModuleV1: `SET OF Attribute`.
 pub type Attributes = Asn1SetOf<Attribute>;
 
 /// `AuthorityInfoAccessSyntax` of PKIX1Implicit88: `SEQUENCE SIZE (1..MAX) OF AccessDescription`.
@@ -33,6 +45,10 @@ pub type CertificateIssuer = GeneralNames;
 
 /// `CertificatePolicies` of PKIX1Implicit88: `SEQUENCE SIZE (1..MAX) OF PolicyInformation`.
 pub type CertificatePolicies = WithSize<Vec<PolicyInformation>, 1, { usize::MAX }>;
+
+/// `ClassList` of PKIXAttributeCertificate-2008: `BIT STRING { unmarked (0), unclassified (1),
+/// restricted (2), confidential (3), secret (4), topSecret (5) }`.
+pub type ClassList = NamedBits;
 
 /// `CPSuri` of PKIX1Implicit88: `IA5String`.
 pub type CpSuri = Ia5String;
@@ -78,8 +94,9 @@ pub type HoldInstructionCode = ObjectIdentifier;
 /// Its values differ from the notation's. The crate lacks: a type of its own with `Constrained`.
 pub type InhibitAnyPolicy = SkipCerts;
 
-/// `InvalidityDate` of PKIX1Implicit88: `GeneralizedTime`.
-pub type InvalidityDate = GeneralizedTime;
+/// `YYYYMMDDHHMMSSZ`, without a fraction of a second. `InvalidityDate` of PKIX1Implicit88:
+/// `GeneralizedTime (SIZE (15))`.
+pub type InvalidityDate = WithSize<GeneralizedTime, 15, 15>;
 
 /// `IssuerAltName` of PKIX1Implicit88: `GeneralNames`.
 pub type IssuerAltName = GeneralNames;
@@ -104,11 +121,21 @@ pub type PolicyMappings = WithSize<Vec<PolicyMappingsItem>, 1, { usize::MAX }>;
 /// `PolicyQualifierId` of PKIX1Implicit88: `OBJECT IDENTIFIER`.
 pub type PolicyQualifierId = ObjectIdentifier;
 
-/// `PrivateKey` of PKCS-8: `OCTET STRING`.
+/// `PrivateKey` of AsymmetricKeyPackageModuleV1: `OCTET STRING`.
 pub type PrivateKey = ByteBuf;
 
-/// `PrivateKeyAlgorithmIdentifier` of PKCS-8: `AlgorithmIdentifier`.
+/// `PrivateKeyAlgorithmIdentifier` of AsymmetricKeyPackageModuleV1: `AlgorithmIdentifier`.
 pub type PrivateKeyAlgorithmIdentifier = AlgorithmIdentifier;
+
+/// The name of RFC 5208, whose type had no public key. `PrivateKeyInfo` of
+/// AsymmetricKeyPackageModuleV1: `OneAsymmetricKey`.
+pub type PrivateKeyInfo = OneAsymmetricKey;
+
+/// `ProxyInfo` of PKIXAttributeCertificate-2008: `SEQUENCE OF Targets`.
+pub type ProxyInfo = Vec<Targets>;
+
+/// `PublicKey` of AsymmetricKeyPackageModuleV1: `BIT STRING`.
+pub type PublicKey = BitString;
 
 /// `ReasonFlags` of PKIX1Implicit88: `BIT STRING { unused (0), keyCompromise (1), cACompromise (2),
 /// affiliationChanged (3), superseded (4), cessationOfOperation (5), certificateHold (6),
@@ -132,3 +159,10 @@ pub type SubjectInfoAccessSyntax = WithSize<Vec<AccessDescription>, 1, { usize::
 
 /// `SubjectKeyIdentifier` of PKIX1Implicit88: `KeyIdentifier`.
 pub type SubjectKeyIdentifier = KeyIdentifier;
+
+/// The value of the extension id-ce-targetInformation. RFC 5755 gives this type no name.
+/// `TargetInformation` of PKIXAttributeCertificate-2008: `SEQUENCE OF Targets`.
+pub type TargetInformation = Vec<Targets>;
+
+/// `Targets` of PKIXAttributeCertificate-2008: `SEQUENCE OF Target`.
+pub type Targets = Vec<Target>;

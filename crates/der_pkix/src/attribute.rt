@@ -3,7 +3,7 @@ ghost use Rattle.std.specs.Prelude.{refl};
 ghost use Rattle.picky_der_de.specs.KnownMembers.{known_struct, sequence_of, sequence_shape};
 ghost use Rattle.der_types.specs.Notation.{Notation};
 
-use der_types::{Notated, NotatedMembers};
+use der_types::{Notated, NotatedMembers, WithSize};
 use der_x509::{AttributeType, AttributeValue};
 use picky_asn1_der::asn1::{Asn1SetOf, Tag};
 use picky_asn1_der::de::Begins;
@@ -13,16 +13,21 @@ use picky_asn1_der::{
     Serializer, Struct, deserialize_struct_as,
 };
 
-/// An attribute with any number of values. `Attribute` of PKIX1Explicit88, as a SEQUENCE.
+/// An attribute with one value at least, as RFC 5280 says in words, and RFC 2986 by this size.
+/// `Attribute` of PKIX1Explicit88, as a SEQUENCE.
 #[derive(Debug, Drop, PartialEq, Eq)]
 pub struct Attribute {
     /// Which attribute it is. `AttributeType`.
     pub type_: AttributeType,
-    /// Its values. `SET OF AttributeValue`.
-    pub values: Asn1SetOf<AttributeValue>,
+    /// Its values. `SET SIZE (1..MAX) OF AttributeValue`.
+    pub values: WithSize<Asn1SetOf<AttributeValue>, 1, { usize::MAX }>,
 }
 
-type Members = (AttributeType, Asn1SetOf<AttributeValue>, ());
+type Members = (
+    AttributeType,
+    WithSize<Asn1SetOf<AttributeValue>, 1, { usize::MAX }>,
+    (),
+);
 
 impl Struct for Attribute {
     type Members = Members;

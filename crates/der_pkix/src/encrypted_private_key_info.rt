@@ -1,4 +1,4 @@
-//! EncryptedPrivateKeyInfo of PKCS-8.
+//! EncryptedPrivateKeyInfo of AsymmetricKeyPackageModuleV1.
 ghost use Rattle.std.specs.Prelude.{refl};
 ghost use Rattle.picky_der_de.specs.KnownMembers.{known_struct, sequence_of, sequence_shape};
 ghost use Rattle.der_types.specs.Notation.{Notation};
@@ -13,12 +13,13 @@ use picky_asn1_der::{
     Serializer, Struct, deserialize_struct_as,
 };
 
-/// The encrypted encoding of a PrivateKeyInfo. `EncryptedPrivateKeyInfo` of PKCS-8, as a SEQUENCE.
+/// The encrypted encoding of a OneAsymmetricKey. `EncryptedPrivateKeyInfo` of
+/// AsymmetricKeyPackageModuleV1, as a SEQUENCE.
 #[derive(Debug, Drop, PartialEq, Eq)]
 pub struct EncryptedPrivateKeyInfo {
-    /// `AlgorithmIdentifier`.
+    /// How it is encrypted, as by PBES2. `AlgorithmIdentifier`.
     pub encryption_algorithm: AlgorithmIdentifier,
-    /// `OCTET STRING`.
+    /// What is encrypted. `OCTET STRING`.
     pub encrypted_data: ByteBuf,
 }
 

@@ -5,13 +5,12 @@ use Rattle.serde_json.specs.Data.{Data, boolean, number, unsigned, string, objec
 use Rattle.serde_json.specs.Written.{compact_text}
 use Rattle.der_program_base.specs.declared.status.Status.{Status}
 use Rattle.der_program_base.specs.declared.status.Status.TheVariants as status
-use Rattle.der_program_base.specs.Texts.{text_or_bytes}
 use Rattle.der_types.specs.declared.date_time.DateTime.{DateTime}
-use Rattle.der_types.specs.declared.generalized_time.GeneralizedTime.{GeneralizedTime}
 use Rattle.der_types.specs.declared.utc_time.UtcTime as utc
 use Rattle.der_types.specs.declared.object_identifier.ObjectIdentifier.{ObjectIdentifier}
 use Rattle.der_types.specs.contracts.integer.IntegerContents.TheImpl as integer
 use Rattle.der_types.specs.DateTimes.{date_time_text}
+use Rattle.der_types.specs.TimeContents.{fraction_of}
 use Rattle.der_types.specs.TimeValues.{generalized_content}
 use Rattle.der_x509.specs.declared.tbs_certificate.TbsCertificate.{TbsCertificate}
 use Rattle.der_x509.specs.declared.time.Time.{Time}
@@ -31,11 +30,10 @@ use Rattle.der_read.specs.Explanation.{IsExplanationOf, explanation_text}
 
 -- ---- members
 
--- A time of whole seconds, as 2026-11-27T23:12:00Z. One with a fraction is as in the certificate.
+-- A time, as 2026-11-27T23:12:00Z. It has no fraction of a second: its content has 15 characters.
 pub data IsTimeText : Time → List ℕ → Type 0 where
   utc_time : (t : utc.UtcTime) (text : List ℕ) → text ≡ date_time_text t.at → IsTimeText (UtcTime t) text
-  whole_seconds : (t : GeneralizedTime) (text : List ℕ) (at : DateTime) → generalized_content at [] ≡ t.content.items → text ≡ date_time_text at → IsTimeText (GeneralTime t) text
-  fraction : (t : GeneralizedTime) (text : List ℕ) → 15 < length t.content.items → text ≡ text_or_bytes t.content.items → IsTimeText (GeneralTime t) text
+  general_time : (t : _) (text : List ℕ) (at : DateTime) → generalized_content at (fraction_of t.value.content.items) ≡ t.value.content.items → text ≡ date_time_text at → IsTimeText (GeneralTime t) text
 
 -- the name of an algorithm, if it has one, and its arcs
 abbrev pub algorithm_text : Option (List ℕ) → ObjectIdentifier → List ℕ

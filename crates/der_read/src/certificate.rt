@@ -6,7 +6,7 @@ ghost use Rattle.der_read.specs.Certificates.{algorithm_text, extension_count, k
 
 use crate::explanation::explanation_of;
 use crate::names::{dotted_text, name_text};
-use crate::place::{block_value, place_text, text_or_bytes};
+use crate::place::{block_value, place_text};
 use crate::printed::{ended, refusal_line};
 use crate::{Outcome, examine};
 use der_program_base::{Format, Printed, Status};
@@ -138,16 +138,13 @@ fn algorithm_text(alloc: Global, identifier: &ObjectIdentifier) -> Result<String
     }
 }
 
-// A time, as 2026-11-27T23:12:00Z. One with a fraction of a second is as in the certificate.
+// A time, as 2026-11-27T23:12:00Z.
 fn time_text(alloc: Global, time: &Time) -> Result<String, AllocError>
     ensures { IfOk result (λ text. IsTimeText time.now (string_bytes text)) }
 {
     match time {
         Time::UtcTime(time) => date_time_text(alloc, time.date_time()),
-        Time::GeneralTime(time) => match time.date_time() {
-            Some(at) => date_time_text(alloc, at),
-            None => text_or_bytes(alloc, time.content()),
-        },
+        Time::GeneralTime(time) => date_time_text(alloc, time.get().whole_seconds()),
     }
 }
 

@@ -46,6 +46,10 @@ ResponderId = CHOICE (
     CONTEXT 2 TAGS-OCSP-2013-88 KeyHash ∣
     none)
 
+-- ResponseTime of OCSP-2013-88: GeneralizedTime (SIZE (15))
+abbrev pub ResponseTime : Notation
+ResponseTime = SIZE 15 15 GeneralizedTime
+
 -- CertID of OCSP-2013-88
 abbrev pub CertId : Notation
 CertId = SEQUENCE (
@@ -62,8 +66,8 @@ CertId = SEQUENCE (
 -- RevokedInfo of OCSP-2013-88
 abbrev pub RevokedInfo : Notation
 RevokedInfo = SEQUENCE (
-    -- revocationTime GeneralizedTime
-    required GeneralizedTime ⨾
+    -- revocationTime ResponseTime
+    required ResponseTime ⨾
     -- revocationReason [0] EXPLICIT CRLReason OPTIONAL
     optional (CONTEXT 0 EXPLICIT CrlReason) ⨾
     end)
@@ -90,10 +94,10 @@ SingleResponse = SEQUENCE (
     required CertId ⨾
     -- certStatus CertStatus
     required CertStatus ⨾
-    -- thisUpdate GeneralizedTime
-    required GeneralizedTime ⨾
-    -- nextUpdate [0] EXPLICIT GeneralizedTime OPTIONAL
-    optional (CONTEXT 0 EXPLICIT GeneralizedTime) ⨾
+    -- thisUpdate ResponseTime
+    required ResponseTime ⨾
+    -- nextUpdate [0] EXPLICIT ResponseTime OPTIONAL
+    optional (CONTEXT 0 EXPLICIT ResponseTime) ⨾
     -- singleExtensions [1] EXPLICIT Extensions OPTIONAL
     optional (CONTEXT 1 EXPLICIT Extensions) ⨾
     end)
@@ -109,8 +113,8 @@ ResponseData = SEQUENCE (
     default-of 0 (CONTEXT 0 EXPLICIT Version) ⨾
     -- responderID ResponderID
     required ResponderId ⨾
-    -- producedAt GeneralizedTime
-    required GeneralizedTime ⨾
+    -- producedAt ResponseTime
+    required ResponseTime ⨾
     -- responses SEQUENCE OF SingleResponse
     required (SEQUENCE-OF SingleResponse) ⨾
     -- responseExtensions [1] EXPLICIT Extensions OPTIONAL

@@ -25,6 +25,10 @@ pub type PkiFreeText = WithSize<Vec<String>, 1, { usize::MAX }>;
 /// revocationWarning (4), revocationNotification (5) }`.
 pub type PkiStatus = Integer;
 
+/// `YYYYMMDDHHMMSSZ`, without a fraction of a second (4.2.2.1). RFC 6960 gives this type no name.
+/// `ResponseTime` of OCSP-2013-88: `GeneralizedTime (SIZE (15))`.
+pub type ResponseTime = WithSize<GeneralizedTime, 15, 15>;
+
 /// Signed data, whose content is a TSTInfo. `TimeStampToken` of PKIXTSP: `ContentInfo`.
 pub type TimeStampToken = ContentInfo;
 

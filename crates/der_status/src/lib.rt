@@ -28,7 +28,7 @@ pub mod values;
 pub use accuracy::Accuracy;
 pub use aliases::{
     AcceptableResponses, ArchiveCutoff, KeyHash, PkiFailureInfo, PkiFreeText, PkiStatus,
-    TimeStampToken, TsaPolicyId, UnknownInfo, Version,
+    ResponseTime, TimeStampToken, TsaPolicyId, UnknownInfo, Version,
 };
 pub use basic_ocsp_response::BasicOcspResponse;
 pub use cert_id::CertId;

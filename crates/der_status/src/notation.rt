@@ -5,9 +5,9 @@ ghost use Rattle.der_status.specs.Notation as notation;
 use crate::{
     AcceptableResponses, Accuracy, ArchiveCutoff, BasicOcspResponse, CertId, CertStatus, KeyHash,
     MessageImprint, OcspRequest, OcspResponse, OcspResponseStatus, PkiFailureInfo, PkiFreeText,
-    PkiStatus, PkiStatusInfo, Request, ResponderId, ResponseBytes, ResponseData, RevokedInfo,
-    Signature, SingleResponse, TbsRequest, TimeStampReq, TimeStampResp, TimeStampToken,
-    TsaPolicyId, TstInfo, UnknownInfo, Version,
+    PkiStatus, PkiStatusInfo, Request, ResponderId, ResponseBytes, ResponseData, ResponseTime,
+    RevokedInfo, Signature, SingleResponse, TbsRequest, TimeStampReq, TimeStampResp,
+    TimeStampToken, TsaPolicyId, TstInfo, UnknownInfo, Version,
 };
 use der_types::Notated;
 
@@ -32,6 +32,7 @@ pub fn types()
     ensures responder_id { ⟦<ResponderId as Notated>⟧.notation ≡ notation.ResponderId }
     ensures response_bytes { ⟦<ResponseBytes as Notated>⟧.notation ≡ notation.ResponseBytes }
     ensures response_data { ⟦<ResponseData as Notated>⟧.notation ≡ notation.ResponseData }
+    ensures response_time { ⟦<ResponseTime as Notated>⟧.notation ≡ notation.ResponseTime }
     ensures revoked_info { ⟦<RevokedInfo as Notated>⟧.notation ≡ notation.RevokedInfo }
     ensures signature { ⟦<Signature as Notated>⟧.notation ≡ notation.Signature }
     ensures single_response { ⟦<SingleResponse as Notated>⟧.notation ≡ notation.SingleResponse }

@@ -3,8 +3,8 @@ ghost use Rattle.std.specs.Prelude.{refl};
 ghost use Rattle.picky_der_de.specs.KnownMembers.{known_struct, sequence_of, sequence_shape};
 ghost use Rattle.der_types.specs.Notation.{Notation};
 
-use crate::{ResponderId, SingleResponse, Version};
-use der_types::{GeneralizedTime, Notated, NotatedMembers, OtherThan};
+use crate::{ResponderId, ResponseTime, SingleResponse, Version};
+use der_types::{Notated, NotatedMembers, OtherThan};
 use der_x509::Extensions;
 use picky_asn1_der::asn1::{ExplicitContextTag0, ExplicitContextTag1, Tag};
 use picky_asn1_der::de::Begins;
@@ -22,8 +22,8 @@ pub struct ResponseData {
     pub version: Option<ExplicitContextTag0<OtherThan<Version, 0>>>,
     /// `ResponderID`.
     pub responder_id: ResponderId,
-    /// `GeneralizedTime`.
-    pub produced_at: GeneralizedTime,
+    /// `ResponseTime`.
+    pub produced_at: ResponseTime,
     /// `SEQUENCE OF SingleResponse`.
     pub responses: Vec<SingleResponse>,
     /// `[1] EXPLICIT Extensions OPTIONAL`.
@@ -33,7 +33,7 @@ pub struct ResponseData {
 type Members = (
     Optional<ExplicitContextTag0<OtherThan<Version, 0>>>,
     ResponderId,
-    GeneralizedTime,
+    ResponseTime,
     Vec<SingleResponse>,
     Optional<ExplicitContextTag1<Extensions>>,
     (),

@@ -3,8 +3,9 @@ ghost use Rattle.std.specs.Prelude.{refl};
 ghost use Rattle.picky_der_de.specs.KnownMembers.{known_struct, sequence_of, sequence_shape};
 ghost use Rattle.der_types.specs.Notation.{Notation};
 
+use crate::ResponseTime;
 use der_pkix::CrlReason;
-use der_types::{GeneralizedTime, Notated, NotatedMembers};
+use der_types::{Notated, NotatedMembers};
 use picky_asn1_der::asn1::{ExplicitContextTag0, Tag};
 use picky_asn1_der::de::Begins;
 use picky_asn1_der::misc::{ReadExt, WriteExt};
@@ -17,17 +18,13 @@ use picky_asn1_der::{
 /// `RevokedInfo` of OCSP-2013-88, as a SEQUENCE.
 #[derive(Debug, Drop, PartialEq, Eq)]
 pub struct RevokedInfo {
-    /// `GeneralizedTime`.
-    pub revocation_time: GeneralizedTime,
+    /// `ResponseTime`.
+    pub revocation_time: ResponseTime,
     /// `[0] EXPLICIT CRLReason OPTIONAL`.
     pub revocation_reason: Option<ExplicitContextTag0<CrlReason>>,
 }
 
-type Members = (
-    GeneralizedTime,
-    Optional<ExplicitContextTag0<CrlReason>>,
-    (),
-);
+type Members = (ResponseTime, Optional<ExplicitContextTag0<CrlReason>>, ());
 
 impl Struct for RevokedInfo {
     type Members = Members;

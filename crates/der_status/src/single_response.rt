@@ -3,8 +3,8 @@ ghost use Rattle.std.specs.Prelude.{refl};
 ghost use Rattle.picky_der_de.specs.KnownMembers.{known_struct, sequence_of, sequence_shape};
 ghost use Rattle.der_types.specs.Notation.{Notation};
 
-use crate::{CertId, CertStatus};
-use der_types::{GeneralizedTime, Notated, NotatedMembers};
+use crate::{CertId, CertStatus, ResponseTime};
+use der_types::{Notated, NotatedMembers};
 use der_x509::Extensions;
 use picky_asn1_der::asn1::{ExplicitContextTag0, ExplicitContextTag1, Tag};
 use picky_asn1_der::de::Begins;
@@ -22,10 +22,10 @@ pub struct SingleResponse {
     pub cert_id: CertId,
     /// `CertStatus`.
     pub cert_status: CertStatus,
-    /// `GeneralizedTime`.
-    pub this_update: GeneralizedTime,
-    /// `[0] EXPLICIT GeneralizedTime OPTIONAL`.
-    pub next_update: Option<ExplicitContextTag0<GeneralizedTime>>,
+    /// `ResponseTime`.
+    pub this_update: ResponseTime,
+    /// `[0] EXPLICIT ResponseTime OPTIONAL`.
+    pub next_update: Option<ExplicitContextTag0<ResponseTime>>,
     /// `[1] EXPLICIT Extensions OPTIONAL`.
     pub single_extensions: Option<ExplicitContextTag1<Extensions>>,
 }
@@ -33,8 +33,8 @@ pub struct SingleResponse {
 type Members = (
     CertId,
     CertStatus,
-    GeneralizedTime,
-    Optional<ExplicitContextTag0<GeneralizedTime>>,
+    ResponseTime,
+    Optional<ExplicitContextTag0<ResponseTime>>,
     Optional<ExplicitContextTag1<Extensions>>,
     (),
 );

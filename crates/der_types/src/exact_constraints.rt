@@ -13,8 +13,8 @@ ghost use Rattle.der_types.specs.KnownContents.{contents_of};
 ghost use Rattle.der_types.specs.Notation.{Notation};
 
 use crate::{
-    BitString, Exact, InRange, Integer, OtherThan, RestrictedString, Size, StandardSet,
-    WholeNumber, WithSize,
+    BitString, Exact, GeneralizedTime, InRange, Integer, OtherThan, RestrictedString, Size,
+    StandardSet, WholeNumber, WithSize,
 };
 use picky_der_core::asn1::{Asn1SequenceOf, Asn1SetOf, ByteBuf};
 
@@ -86,6 +86,12 @@ impl ExactSize for ByteBuf {
 
 impl ExactSize for String {
     ghost sized = { sized_plainly (λ it. length (chars (string_bytes it))) (Notation.UTF8String) (λ it. Tree.primitive (Primitive.text (string_bytes it))) (λ it. refl) };
+
+    ghost exact_size = { Prim.assumption };
+}
+
+impl ExactSize for GeneralizedTime {
+    ghost sized = { sized_plainly (λ it. length it.content.items) (Notation.GeneralizedTime) (contents_of 0x18 (λ it. it.content.items)) (λ it. refl) };
 
     ghost exact_size = { Prim.assumption };
 }

@@ -7,7 +7,7 @@ ghost use Rattle.der_types.specs.CharacterStrings.{characters};
 ghost use Rattle.der_types.specs.Constraints.{tree_bytes};
 ghost use Rattle.der_types.specs.ConstraintLaws.{same_length};
 
-use crate::{BitString, CharacterSet, RestrictedString};
+use crate::{BitString, CharacterSet, GeneralizedTime, RestrictedString};
 use picky_der_core::asn1::{Asn1SequenceOf, Asn1SetOf, ByteBuf};
 use picky_der_ser::Serialize;
 
@@ -70,6 +70,17 @@ impl<S: CharacterSet> Size for RestrictedString<S> {
     }
 
     ghost told = { λ x y e. ap (λ t. length (characters S.WIDTH (tree_bytes t))) e };
+}
+
+// It is a string of characters of one byte each (X.680, 46.3).
+impl Size for GeneralizedTime {
+    ghost size = { λ it. length it.content.items };
+
+    fn size(&self) -> u128 {
+        self.content().len() as u128
+    }
+
+    ghost told = { λ x y e. ap (λ t. length (tree_bytes t)) e };
 }
 
 impl<T: Serialize> Size for Vec<T> {

@@ -85,8 +85,8 @@ abbrev pub Time : Notation
 Time = CHOICE (
     -- utcTime UTCTime
     UTCTime ∣
-    -- generalTime GeneralizedTime
-    GeneralizedTime ∣
+    -- generalTime GeneralizedTime (SIZE (15))
+    SIZE 15 15 GeneralizedTime ∣
     none)
 
 -- Validity of PKIX1Explicit88

@@ -6,7 +6,7 @@ ghost use Rattle.picky_der_de.specs.KnownChoices.{known_choice};
 ghost use Rattle.der_types.specs.Notation.{Notation};
 ghost use Rattle.der_x509.specs.declared.time.Time.TheVariants.{UtcTime, GeneralTime};
 
-use der_types::{GeneralizedTime, Notated, NotatedAlternatives, UtcTime};
+use der_types::{GeneralizedTime, Notated, NotatedAlternatives, UtcTime, WithSize};
 use picky_asn1_der::OneOf::{Other, This};
 use picky_asn1_der::asn1::Tag;
 use picky_asn1_der::de::{Begins, deserialize_choice_as};
@@ -15,17 +15,17 @@ use picky_asn1_der::{
     Alternatives, Choice, Deserialize, Deserializer, NoneOf, OneOf, Result, Serialize, Serializer,
 };
 
-/// A time: any that DER allows (X.690, 11.7, 11.8). RFC 5280, 4.1.2.5 wants a UTCTime up to 2049,
-/// and no fraction of a second. `Time` of PKIX1Explicit88, as a CHOICE.
+/// A time, without a fraction of a second (RFC 5280, 4.1.2.5). Any year is read in both forms,
+/// where RFC 5280 wants a UTCTime up to 2049. `Time` of PKIX1Explicit88, as a CHOICE.
 #[derive(Debug, Drop, PartialEq, Eq)]
 pub enum Time {
     /// A time in the years 1950 to 2049. `UTCTime`.
     UtcTime(UtcTime),
-    /// A time in the years 0 to 9999. `GeneralizedTime`.
-    GeneralTime(GeneralizedTime),
+    /// A time in the years 0 to 9999, as `YYYYMMDDHHMMSSZ`. `GeneralizedTime (SIZE (15))`.
+    GeneralTime(WithSize<GeneralizedTime, 15, 15>),
 }
 
-type Parts = OneOf<UtcTime, OneOf<GeneralizedTime, NoneOf>>;
+type Parts = OneOf<UtcTime, OneOf<WithSize<GeneralizedTime, 15, 15>, NoneOf>>;
 
 impl Choice for Time {
     type Alternatives = Parts;

@@ -1,10 +1,10 @@
-//! KDC-REP of KerberosV5Spec2.
+//! AS-REP of KerberosV5Spec2.
 ghost use Rattle.std.specs.Prelude.{refl};
 ghost use Rattle.picky_der_de.specs.KnownMembers.{known_struct, sequence_of, sequence_shape};
 ghost use Rattle.der_types.specs.Notation.{Notation};
 
 use crate::{EncryptedData, PaData, PrincipalName, Realm, Ticket};
-use der_types::{InRange, Integer, Notated, NotatedMembers};
+use der_types::{InRange, Notated, NotatedMembers};
 use picky_asn1_der::asn1::{
     ExplicitContextTag0, ExplicitContextTag1, ExplicitContextTag2, ExplicitContextTag3,
     ExplicitContextTag4, ExplicitContextTag5, ExplicitContextTag6, Tag,
@@ -17,16 +17,15 @@ use picky_asn1_der::{
     Serializer, Struct, deserialize_struct_as,
 };
 
-/// `KDC-REP` of KerberosV5Spec2, as a SEQUENCE.
+/// `AS-REP` of KerberosV5Spec2, as a SEQUENCE.
 ///
-/// Its values differ from the notation's. The crate lacks: a `CharacterSet` of its own; a type of
-/// its own with `Constrained`.
+/// Its values differ from the notation's. The crate lacks: a `CharacterSet` of its own.
 #[derive(Debug, Drop, PartialEq, Eq)]
-pub struct KdcRep {
+pub struct AsRepMembers {
     /// `[0] INTEGER (5)`.
     pub pvno: ExplicitContextTag0<InRange<u8, 5, 5>>,
-    /// AS-REP, TGS-REP. `[1] INTEGER (11 | 13)`.
-    pub msg_type: ExplicitContextTag1<Integer>,
+    /// `[1] INTEGER (11)`.
+    pub msg_type: ExplicitContextTag1<InRange<u8, 11, 11>>,
     /// `[2] SEQUENCE OF PA-DATA OPTIONAL`.
     pub padata: Option<ExplicitContextTag2<Vec<PaData>>>,
     /// `[3] Realm`.
@@ -41,7 +40,7 @@ pub struct KdcRep {
 
 type Members = (
     ExplicitContextTag0<InRange<u8, 5, 5>>,
-    ExplicitContextTag1<Integer>,
+    ExplicitContextTag1<InRange<u8, 11, 11>>,
     Optional<ExplicitContextTag2<Vec<PaData>>>,
     ExplicitContextTag3<Realm>,
     ExplicitContextTag4<PrincipalName>,
@@ -50,7 +49,7 @@ type Members = (
     (),
 );
 
-impl Struct for KdcRep {
+impl Struct for AsRepMembers {
     type Members = Members;
 
     ghost parts = { λ it. (
@@ -64,9 +63,9 @@ impl Struct for KdcRep {
       tt,
     ) };
 
-    fn from_parts(members: Members) -> KdcRep {
+    fn from_parts(members: Members) -> AsRepMembers {
         let (pvno, msg_type, Optional(padata), crealm, cname, ticket, enc_part, ()) = members;
-        KdcRep {
+        AsRepMembers {
             pvno,
             msg_type,
             padata,
@@ -78,7 +77,7 @@ impl Struct for KdcRep {
     }
 }
 
-impl Serialize for KdcRep {
+impl Serialize for AsRepMembers {
     ghost meaning = { sequence_of ⟦<Members as SerializeMembers>⟧.members ⟦<Self as Struct>⟧.parts };
 
     fn serialize<W: WriteExt>(&self, serializer: &mut Serializer<W>) -> Result<usize> {
@@ -96,29 +95,29 @@ impl Serialize for KdcRep {
     }
 }
 
-impl Deserialize for KdcRep {
+impl Deserialize for AsRepMembers {
     ghost shape = { sequence_shape ⟦<Members as DeserializeMembers>⟧.layout };
 
     ghost known = { known_struct ⟦<Members as DeserializeMembers>⟧.known refl ⟦<Self as Struct>⟧.parts };
 
-    fn deserialize<R: ReadExt>(deserializer: &mut Deserializer<R>) -> Result<KdcRep> {
+    fn deserialize<R: ReadExt>(deserializer: &mut Deserializer<R>) -> Result<AsRepMembers> {
         deserialize_struct_as(deserializer)
     }
 
     ghost tied = { Prim.assumption };
 }
 
-impl Begins for KdcRep {
+impl Begins for AsRepMembers {
     fn begins_with(tag: Tag) -> bool {
         tag == Tag::SEQUENCE
     }
 }
 
-impl List for KdcRep {
+impl List for AsRepMembers {
     ghost is_list = { λ it. tt };
 }
 
-impl Notated for KdcRep {
+impl Notated for AsRepMembers {
     ghost notation = { Notation.sequence ⟦<Members as NotatedMembers>⟧.members_notation };
 
     ghost denoted = { refl };

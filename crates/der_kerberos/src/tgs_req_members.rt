@@ -1,10 +1,10 @@
-//! KDC-REQ of KerberosV5Spec2.
+//! TGS-REQ of KerberosV5Spec2.
 ghost use Rattle.std.specs.Prelude.{refl};
 ghost use Rattle.picky_der_de.specs.KnownMembers.{known_struct, sequence_of, sequence_shape};
 ghost use Rattle.der_types.specs.Notation.{Notation};
 
 use crate::{KdcReqBody, PaData};
-use der_types::{InRange, Integer, Notated, NotatedMembers};
+use der_types::{InRange, Notated, NotatedMembers};
 use picky_asn1_der::asn1::{
     ExplicitContextTag1, ExplicitContextTag2, ExplicitContextTag3, ExplicitContextTag4, Tag,
 };
@@ -16,16 +16,15 @@ use picky_asn1_der::{
     Serializer, Struct, deserialize_struct_as,
 };
 
-/// `KDC-REQ` of KerberosV5Spec2, as a SEQUENCE.
+/// `TGS-REQ` of KerberosV5Spec2, as a SEQUENCE.
 ///
-/// Its values differ from the notation's. The crate lacks: a `CharacterSet` of its own; a type of
-/// its own with `Constrained`.
+/// Its values differ from the notation's. The crate lacks: a `CharacterSet` of its own.
 #[derive(Debug, Drop, PartialEq, Eq)]
-pub struct KdcReq {
+pub struct TgsReqMembers {
     /// `[1] INTEGER (5)`.
     pub pvno: ExplicitContextTag1<InRange<u8, 5, 5>>,
-    /// AS-REQ, TGS-REQ. `[2] INTEGER (10 | 12)`.
-    pub msg_type: ExplicitContextTag2<Integer>,
+    /// `[2] INTEGER (12)`.
+    pub msg_type: ExplicitContextTag2<InRange<u8, 12, 12>>,
     /// `[3] SEQUENCE OF PA-DATA OPTIONAL`.
     pub padata: Option<ExplicitContextTag3<Vec<PaData>>>,
     /// `[4] KDC-REQ-BODY`.
@@ -34,20 +33,20 @@ pub struct KdcReq {
 
 type Members = (
     ExplicitContextTag1<InRange<u8, 5, 5>>,
-    ExplicitContextTag2<Integer>,
+    ExplicitContextTag2<InRange<u8, 12, 12>>,
     Optional<ExplicitContextTag3<Vec<PaData>>>,
     ExplicitContextTag4<KdcReqBody>,
     (),
 );
 
-impl Struct for KdcReq {
+impl Struct for TgsReqMembers {
     type Members = Members;
 
     ghost parts = { λ it. (it.pvno, it.msg_type, record { 0 = it.padata }, it.req_body, tt) };
 
-    fn from_parts(members: Members) -> KdcReq {
+    fn from_parts(members: Members) -> TgsReqMembers {
         let (pvno, msg_type, Optional(padata), req_body, ()) = members;
-        KdcReq {
+        TgsReqMembers {
             pvno,
             msg_type,
             padata,
@@ -56,7 +55,7 @@ impl Struct for KdcReq {
     }
 }
 
-impl Serialize for KdcReq {
+impl Serialize for TgsReqMembers {
     ghost meaning = { sequence_of ⟦<Members as SerializeMembers>⟧.members ⟦<Self as Struct>⟧.parts };
 
     fn serialize<W: WriteExt>(&self, serializer: &mut Serializer<W>) -> Result<usize> {
@@ -71,29 +70,29 @@ impl Serialize for KdcReq {
     }
 }
 
-impl Deserialize for KdcReq {
+impl Deserialize for TgsReqMembers {
     ghost shape = { sequence_shape ⟦<Members as DeserializeMembers>⟧.layout };
 
     ghost known = { known_struct ⟦<Members as DeserializeMembers>⟧.known refl ⟦<Self as Struct>⟧.parts };
 
-    fn deserialize<R: ReadExt>(deserializer: &mut Deserializer<R>) -> Result<KdcReq> {
+    fn deserialize<R: ReadExt>(deserializer: &mut Deserializer<R>) -> Result<TgsReqMembers> {
         deserialize_struct_as(deserializer)
     }
 
     ghost tied = { Prim.assumption };
 }
 
-impl Begins for KdcReq {
+impl Begins for TgsReqMembers {
     fn begins_with(tag: Tag) -> bool {
         tag == Tag::SEQUENCE
     }
 }
 
-impl List for KdcReq {
+impl List for TgsReqMembers {
     ghost is_list = { λ it. tt };
 }
 
-impl Notated for KdcReq {
+impl Notated for TgsReqMembers {
     ghost notation = { Notation.sequence ⟦<Members as NotatedMembers>⟧.members_notation };
 
     ghost denoted = { refl };

@@ -1,0 +1,101 @@
+//! Holder of PKIXAttributeCertificate-2008.
+ghost use Rattle.std.specs.Prelude.{refl};
+ghost use Rattle.picky_der_de.specs.KnownMembers.{known_struct, sequence_of, sequence_shape};
+ghost use Rattle.der_types.specs.Notation.{Notation};
+
+use crate::{GeneralNames, IssuerSerial, ObjectDigestInfo};
+use der_types::{Notated, NotatedMembers};
+use picky_asn1_der::asn1::{ImplicitList0, ImplicitList1, ImplicitList2, Tag};
+use picky_asn1_der::de::Begins;
+use picky_asn1_der::misc::{ReadExt, WriteExt};
+use picky_asn1_der::ser::{Optional, OptionalRef};
+use picky_asn1_der::{
+    Deserialize, DeserializeMembers, Deserializer, List, Result, Serialize, SerializeMembers,
+    Serializer, Struct, deserialize_struct_as,
+};
+
+/// Whose attributes these are, in one or more of three ways. `Holder` of
+/// PKIXAttributeCertificate-2008, as a SEQUENCE.
+#[derive(Debug, Drop, PartialEq, Eq)]
+pub struct Holder {
+    /// `[0] IssuerSerial OPTIONAL`.
+    pub base_certificate_id: Option<ImplicitList0<IssuerSerial>>,
+    /// `[1] GeneralNames OPTIONAL`.
+    pub entity_name: Option<ImplicitList1<GeneralNames>>,
+    /// `[2] ObjectDigestInfo OPTIONAL`.
+    pub object_digest_info: Option<ImplicitList2<ObjectDigestInfo>>,
+}
+
+type Members = (
+    Optional<ImplicitList0<IssuerSerial>>,
+    Optional<ImplicitList1<GeneralNames>>,
+    Optional<ImplicitList2<ObjectDigestInfo>>,
+    (),
+);
+
+impl Struct for Holder {
+    type Members = Members;
+
+    ghost parts = { λ it. (
+      record { 0 = it.base_certificate_id },
+      record { 0 = it.entity_name },
+      record { 0 = it.object_digest_info },
+      tt,
+    ) };
+
+    fn from_parts(members: Members) -> Holder {
+        let (
+            Optional(base_certificate_id),
+            Optional(entity_name),
+            Optional(object_digest_info),
+            (),
+        ) = members;
+        Holder {
+            base_certificate_id,
+            entity_name,
+            object_digest_info,
+        }
+    }
+}
+
+impl Serialize for Holder {
+    ghost meaning = { sequence_of ⟦<Members as SerializeMembers>⟧.members ⟦<Self as Struct>⟧.parts };
+
+    fn serialize<W: WriteExt>(&self, serializer: &mut Serializer<W>) -> Result<usize> {
+        (
+            OptionalRef(&self.base_certificate_id),
+            OptionalRef(&self.entity_name),
+            OptionalRef(&self.object_digest_info),
+            (),
+        )
+            .serialize_sequence(serializer)
+    }
+}
+
+impl Deserialize for Holder {
+    ghost shape = { sequence_shape ⟦<Members as DeserializeMembers>⟧.layout };
+
+    ghost known = { known_struct ⟦<Members as DeserializeMembers>⟧.known refl ⟦<Self as Struct>⟧.parts };
+
+    fn deserialize<R: ReadExt>(deserializer: &mut Deserializer<R>) -> Result<Holder> {
+        deserialize_struct_as(deserializer)
+    }
+
+    ghost tied = { Prim.assumption };
+}
+
+impl Begins for Holder {
+    fn begins_with(tag: Tag) -> bool {
+        tag == Tag::SEQUENCE
+    }
+}
+
+impl List for Holder {
+    ghost is_list = { λ it. tt };
+}
+
+impl Notated for Holder {
+    ghost notation = { Notation.sequence ⟦<Members as NotatedMembers>⟧.members_notation };
+
+    ghost denoted = { refl };
+}
