@@ -12,7 +12,7 @@ use crate::request::{Request, files_of, request_of};
 use clap::ArgMatches;
 use der_program_base::{Status, report};
 use picky_asn1_der::misc::Watched;
-use std::io::{self, BufWriter, Write};
+use std::io::{self, BufWriter, ErrorKind, Write};
 use std::process::ExitCode;
 
 fn main(rt: HostRuntime) -> ExitCode {
@@ -43,8 +43,19 @@ fn run(rt: &HostRuntime) -> io::Result<Status> {
     }
 }
 
-// Prints what is asked about files, and returns the worst status.
+// Prints what is asked about files, and returns the worst status. If the output can't be written, it says so.
 fn print_files(rt: &HostRuntime, request: &Request, files: &[&str]) -> io::Result<Status> {
+    match print_each(rt, request, files) {
+        Err(error) if error.kind() != ErrorKind::OutOfMemory => {
+            eprintln!(rt; "der: the output can't be written: {error}")?;
+            Ok(Status::Trouble)
+        }
+        done => done,
+    }
+}
+
+// Prints what is asked about files, and returns the worst status. The error is that of the output, or `OutOfMemory`.
+fn print_each(rt: &HostRuntime, request: &Request, files: &[&str]) -> io::Result<Status> {
     let mut output = Watched::new(BufWriter::new(rt.alloc(), io::writer(rt))?);
     let mut status = Status::Fine;
     for file in files {

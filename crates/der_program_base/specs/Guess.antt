@@ -29,9 +29,9 @@ is_base64 input = is_ok (bytes_in (input ∷ []))
 abbrev pub is_mail_field : List ℕ → Bool
 is_mail_field line = starts_with nat_eq line (codes "MIME-Version:") || starts_with nat_eq line (codes "Content-Type:")
 
--- hyphens as before a label, also those of RFC 4716
+-- four hyphens, with which lines begin in PEM and in RFC 4716
 abbrev pub begins_with_hyphens : List ℕ → Bool
-begins_with_hyphens text = starts_with nat_eq text dashes || starts_with nat_eq text (codes "---- ")
+begins_with_hyphens text = starts_with nat_eq text (codes "----")
 
 abbrev pub has_hyphens : List ℕ → Bool
 has_hyphens line = begins_with_hyphens (trimmed line)

@@ -125,5 +125,5 @@ fn has_hyphens(line: &[u8]) -> bool
 fn begins_with_hyphens(text: &[u8]) -> bool
     ensures { result ≡ begins_with_hyphens text.now }
 {
-    text.starts_with(b"-----") || text.starts_with(b"---- ")
+    text.starts_with(b"----")
 }
