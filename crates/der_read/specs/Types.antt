@@ -8,23 +8,29 @@ use Rattle.der_read.specs.declared.message_type.MessageType.TheVariants as named
 abbrev pub word_of : MessageType → List ℕ
 word_of named.Certificate = codes "certificate"
 word_of named.Crl = codes "crl"
+word_of named.AttributeCertificate = codes "attribute-certificate"
 word_of named.Csr = codes "csr"
 word_of named.OcspRequest = codes "ocsp-request"
 word_of named.OcspResponse = codes "ocsp-response"
 word_of named.TimestampQuery = codes "timestamp-query"
 word_of named.TimestampResponse = codes "timestamp-response"
+word_of named.TstInfo = codes "tst-info"
 word_of named.Cms = codes "cms"
 word_of named.SignedData = codes "signed-data"
 word_of named.EnvelopedData = codes "enveloped-data"
 word_of named.DigestedData = codes "digested-data"
 word_of named.EncryptedData = codes "encrypted-data"
 word_of named.AuthenticatedData = codes "authenticated-data"
+word_of named.AuthEnvelopedData = codes "auth-enveloped-data"
 word_of named.Pkcs8 = codes "pkcs8"
 word_of named.EncryptedKey = codes "encrypted-key"
 word_of named.RsaKey = codes "rsa-key"
 word_of named.EcKey = codes "ec-key"
 word_of named.PublicKey = codes "public-key"
 word_of named.RsaPublicKey = codes "rsa-public-key"
+word_of named.EcParameters = codes "ec-parameters"
+word_of named.DsaParameters = codes "dsa-parameters"
+word_of named.Pkcs12 = codes "pkcs12"
 word_of named.Ticket = codes "ticket"
 word_of named.Krb = codes "krb"
 word_of named.AsReq = codes "as-req"
@@ -37,28 +43,41 @@ word_of named.KrbSafe = codes "krb-safe"
 word_of named.KrbPriv = codes "krb-priv"
 word_of named.KrbCred = codes "krb-cred"
 word_of named.KrbError = codes "krb-error"
+word_of named.Authenticator = codes "authenticator"
+word_of named.EncTicketPart = codes "enc-ticket-part"
+word_of named.EncAsRepPart = codes "enc-as-rep-part"
+word_of named.EncTgsRepPart = codes "enc-tgs-rep-part"
+word_of named.EncApRepPart = codes "enc-ap-rep-part"
+word_of named.EncKrbPrivPart = codes "enc-krb-priv-part"
+word_of named.EncKrbCredPart = codes "enc-krb-cred-part"
 
 -- what it is, and where it is defined
 abbrev pub title_of : MessageType → List ℕ
 title_of named.Certificate = codes "certificate of X.509 (RFC 5280, 4.1)"
 title_of named.Crl = codes "list of revoked certificates (RFC 5280, 5.1)"
+title_of named.AttributeCertificate = codes "certificate of attributes (RFC 5755, 4.1)"
 title_of named.Csr = codes "request for a certificate, PKCS #10 (RFC 2986, 4.2)"
 title_of named.OcspRequest = codes "request for the status of certificates (RFC 6960, 4.1.1)"
 title_of named.OcspResponse = codes "response with the status of certificates (RFC 6960, 4.2.1)"
 title_of named.TimestampQuery = codes "request for a time stamp (RFC 3161, 2.4.1)"
 title_of named.TimestampResponse = codes "response with a time stamp (RFC 3161, 2.4.2)"
+title_of named.TstInfo = codes "what a time stamp says, a content of CMS (RFC 3161, 2.4.2)"
 title_of named.Cms = codes "message of CMS with any content, PKCS #7 (RFC 5652, 3)"
 title_of named.SignedData = codes "signed data, a content of CMS (RFC 5652, 5.1)"
 title_of named.EnvelopedData = codes "enveloped data, a content of CMS (RFC 5652, 6.1)"
 title_of named.DigestedData = codes "digested data, a content of CMS (RFC 5652, 7)"
 title_of named.EncryptedData = codes "encrypted data, a content of CMS (RFC 5652, 8)"
 title_of named.AuthenticatedData = codes "authenticated data, a content of CMS (RFC 5652, 9.1)"
-title_of named.Pkcs8 = codes "private key of any algorithm, PKCS #8 (RFC 5208, 5)"
-title_of named.EncryptedKey = codes "encrypted private key, PKCS #8 (RFC 5208, 6)"
+title_of named.AuthEnvelopedData = codes "enveloped data with authentication, a content of CMS (RFC 5083, 2.1)"
+title_of named.Pkcs8 = codes "private key of any algorithm, PKCS #8 (RFC 5958, 2; RFC 5208, 5)"
+title_of named.EncryptedKey = codes "encrypted private key, PKCS #8 (RFC 5958, 3; RFC 5208, 6)"
 title_of named.RsaKey = codes "private key of RSA, PKCS #1 (RFC 8017, A.1.2)"
 title_of named.EcKey = codes "private key of an elliptic curve (RFC 5915, 3)"
 title_of named.PublicKey = codes "public key of any algorithm (RFC 5280, 4.1)"
 title_of named.RsaPublicKey = codes "public key of RSA, PKCS #1 (RFC 8017, A.1.1)"
+title_of named.EcParameters = codes "parameters of an elliptic curve (RFC 3279, 2.3.5)"
+title_of named.DsaParameters = codes "parameters of DSA (RFC 3279, 2.3.2)"
+title_of named.Pkcs12 = codes "store of keys and certificates, PKCS #12 (RFC 7292, 4)"
 title_of named.Ticket = codes "ticket of Kerberos (RFC 4120, 5.3)"
 title_of named.Krb = codes "message of Kerberos, any of those that follow (RFC 4120, 5.4 to 5.9)"
 title_of named.AsReq = codes "request for a first ticket (RFC 4120, 5.4.1)"
@@ -71,28 +90,41 @@ title_of named.KrbSafe = codes "message with a checksum (RFC 4120, 5.6.1)"
 title_of named.KrbPriv = codes "encrypted message (RFC 4120, 5.7.1)"
 title_of named.KrbCred = codes "tickets that are handed on (RFC 4120, 5.8.1)"
 title_of named.KrbError = codes "error of Kerberos (RFC 4120, 5.9.1)"
+title_of named.Authenticator = codes "what is encrypted in a request to a server (RFC 4120, 5.5.1)"
+title_of named.EncTicketPart = codes "what is encrypted in a ticket (RFC 4120, 5.3)"
+title_of named.EncAsRepPart = codes "what is encrypted in a response with a first ticket (RFC 4120, 5.4.2)"
+title_of named.EncTgsRepPart = codes "what is encrypted in a response with a ticket (RFC 4120, 5.4.2)"
+title_of named.EncApRepPart = codes "what is encrypted in a response of a server (RFC 4120, 5.5.2)"
+title_of named.EncKrbPrivPart = codes "what is encrypted in an encrypted message (RFC 4120, 5.7.1)"
+title_of named.EncKrbCredPart = codes "what is encrypted next to tickets that are handed on (RFC 4120, 5.8.1)"
 
 -- the labels of blocks of PEM that have a message of the type (RFC 7468, 4 to 13)
 abbrev pub labels_of : MessageType → List (List ℕ)
 labels_of named.Certificate = codes "CERTIFICATE" ∷ codes "X509 CERTIFICATE" ∷ []
 labels_of named.Crl = codes "X509 CRL" ∷ []
+labels_of named.AttributeCertificate = codes "ATTRIBUTE CERTIFICATE" ∷ []
 labels_of named.Csr = codes "CERTIFICATE REQUEST" ∷ codes "NEW CERTIFICATE REQUEST" ∷ []
 labels_of named.OcspRequest = []
 labels_of named.OcspResponse = []
 labels_of named.TimestampQuery = []
 labels_of named.TimestampResponse = []
+labels_of named.TstInfo = []
 labels_of named.Cms = codes "CMS" ∷ codes "PKCS7" ∷ []
 labels_of named.SignedData = []
 labels_of named.EnvelopedData = []
 labels_of named.DigestedData = []
 labels_of named.EncryptedData = []
 labels_of named.AuthenticatedData = []
+labels_of named.AuthEnvelopedData = []
 labels_of named.Pkcs8 = codes "PRIVATE KEY" ∷ []
 labels_of named.EncryptedKey = codes "ENCRYPTED PRIVATE KEY" ∷ []
 labels_of named.RsaKey = codes "RSA PRIVATE KEY" ∷ []
 labels_of named.EcKey = codes "EC PRIVATE KEY" ∷ []
 labels_of named.PublicKey = codes "PUBLIC KEY" ∷ []
 labels_of named.RsaPublicKey = codes "RSA PUBLIC KEY" ∷ []
+labels_of named.EcParameters = codes "EC PARAMETERS" ∷ []
+labels_of named.DsaParameters = codes "DSA PARAMETERS" ∷ []
+labels_of named.Pkcs12 = []
 labels_of named.Ticket = []
 labels_of named.Krb = []
 labels_of named.AsReq = []
@@ -105,10 +137,17 @@ labels_of named.KrbSafe = []
 labels_of named.KrbPriv = []
 labels_of named.KrbCred = []
 labels_of named.KrbError = []
+labels_of named.Authenticator = []
+labels_of named.EncTicketPart = []
+labels_of named.EncAsRepPart = []
+labels_of named.EncTgsRepPart = []
+labels_of named.EncApRepPart = []
+labels_of named.EncKrbPrivPart = []
+labels_of named.EncKrbCredPart = []
 
 abbrev pub all_types : List MessageType
-all_types = named.Certificate ∷ named.Crl ∷ named.Csr ∷ named.OcspRequest ∷ named.OcspResponse ∷ named.TimestampQuery ∷ named.TimestampResponse ∷ named.Cms ∷ named.SignedData ∷ named.EnvelopedData ∷ named.DigestedData ∷ named.EncryptedData ∷ named.AuthenticatedData ∷ named.Pkcs8 ∷ named.EncryptedKey ∷ named.RsaKey ∷ named.EcKey ∷ named.PublicKey ∷ named.RsaPublicKey ∷ named.Ticket ∷ named.Krb ∷ named.AsReq ∷ named.AsRep ∷ named.TgsReq ∷ named.TgsRep ∷ named.ApReq ∷ named.ApRep ∷ named.KrbSafe ∷ named.KrbPriv ∷ named.KrbCred ∷ named.KrbError ∷ []
+all_types = named.Certificate ∷ named.Crl ∷ named.AttributeCertificate ∷ named.Csr ∷ named.OcspRequest ∷ named.OcspResponse ∷ named.TimestampQuery ∷ named.TimestampResponse ∷ named.TstInfo ∷ named.Cms ∷ named.SignedData ∷ named.EnvelopedData ∷ named.DigestedData ∷ named.EncryptedData ∷ named.AuthenticatedData ∷ named.AuthEnvelopedData ∷ named.Pkcs8 ∷ named.EncryptedKey ∷ named.RsaKey ∷ named.EcKey ∷ named.PublicKey ∷ named.RsaPublicKey ∷ named.EcParameters ∷ named.DsaParameters ∷ named.Pkcs12 ∷ named.Ticket ∷ named.Krb ∷ named.AsReq ∷ named.AsRep ∷ named.TgsReq ∷ named.TgsRep ∷ named.ApReq ∷ named.ApRep ∷ named.KrbSafe ∷ named.KrbPriv ∷ named.KrbCred ∷ named.KrbError ∷ named.Authenticator ∷ named.EncTicketPart ∷ named.EncAsRepPart ∷ named.EncTgsRepPart ∷ named.EncApRepPart ∷ named.EncKrbPrivPart ∷ named.EncKrbCredPart ∷ []
 
 -- those that are tried where none is asked for, in this order
 abbrev pub tried_types : List MessageType
-tried_types = named.Certificate ∷ named.Crl ∷ named.Csr ∷ named.OcspRequest ∷ named.OcspResponse ∷ named.TimestampQuery ∷ named.TimestampResponse ∷ named.Cms ∷ named.SignedData ∷ named.EnvelopedData ∷ named.DigestedData ∷ named.EncryptedData ∷ named.AuthenticatedData ∷ named.Pkcs8 ∷ named.EncryptedKey ∷ named.RsaKey ∷ named.EcKey ∷ named.PublicKey ∷ named.RsaPublicKey ∷ named.Ticket ∷ named.AsReq ∷ named.AsRep ∷ named.TgsReq ∷ named.TgsRep ∷ named.ApReq ∷ named.ApRep ∷ named.KrbSafe ∷ named.KrbPriv ∷ named.KrbCred ∷ named.KrbError ∷ []
+tried_types = named.Certificate ∷ named.Crl ∷ named.AttributeCertificate ∷ named.Csr ∷ named.OcspRequest ∷ named.OcspResponse ∷ named.TimestampQuery ∷ named.TimestampResponse ∷ named.TstInfo ∷ named.Cms ∷ named.SignedData ∷ named.EnvelopedData ∷ named.DigestedData ∷ named.EncryptedData ∷ named.AuthenticatedData ∷ named.AuthEnvelopedData ∷ named.Pkcs8 ∷ named.EncryptedKey ∷ named.RsaKey ∷ named.EcKey ∷ named.PublicKey ∷ named.RsaPublicKey ∷ named.EcParameters ∷ named.DsaParameters ∷ named.Pkcs12 ∷ named.Ticket ∷ named.AsReq ∷ named.AsRep ∷ named.TgsReq ∷ named.TgsRep ∷ named.ApReq ∷ named.ApRep ∷ named.KrbSafe ∷ named.KrbPriv ∷ named.KrbCred ∷ named.KrbError ∷ named.Authenticator ∷ named.EncTicketPart ∷ named.EncAsRepPart ∷ named.EncTgsRepPart ∷ named.EncApRepPart ∷ named.EncKrbPrivPart ∷ named.EncKrbCredPart ∷ []

@@ -7,17 +7,22 @@ ghost use Rattle.der_read.specs.Message.{IsRefusalOf};
 ghost use Rattle.der_read.specs.Types.{word_of, title_of, labels_of};
 
 use crate::{KerberosMessage, refusal_as};
+use der_algorithms::{DssParms, EcpkParameters};
 use der_cms::{
-    AuthenticatedData, ContentInfo, DigestedData, EncryptedData, EnvelopedData, SignedData,
+    AuthEnvelopedData, AuthenticatedData, ContentInfo, DigestedData, EncryptedData, EnvelopedData,
+    SignedData,
 };
 use der_kerberos::{
-    ApRep, ApReq, AsRep, AsReq, KrbCred, KrbError, KrbPriv, KrbSafe, TgsRep, TgsReq, Ticket,
+    ApRep, ApReq, AsRep, AsReq, Authenticator, EncApRepPart, EncAsRepPart, EncKrbCredPart,
+    EncKrbPrivPart, EncTgsRepPart, EncTicketPart, KrbCred, KrbError, KrbPriv, KrbSafe, TgsRep,
+    TgsReq, Ticket,
 };
+use der_pkcs12::Pfx;
 use der_pkix::{
-    CertificationRequest, EcPrivateKey, EncryptedPrivateKeyInfo, PrivateKeyInfo, RsaPrivateKey,
-    RsaPublicKey,
+    AttributeCertificate, CertificationRequest, EcPrivateKey, EncryptedPrivateKeyInfo,
+    PrivateKeyInfo, RsaPrivateKey, RsaPublicKey,
 };
-use der_status::{OcspRequest, OcspResponse, TimeStampReq, TimeStampResp};
+use der_status::{OcspRequest, OcspResponse, TimeStampReq, TimeStampResp, TstInfo};
 use der_x509::{Certificate, CertificateList, SubjectPublicKeyInfo};
 use picky_asn1_der::{DecodeError, Deserialize, Serialize};
 use std::alloc::{AllocError, Global};
@@ -29,6 +34,8 @@ pub enum MessageType {
     Certificate,
     /// List of revoked certificates (RFC 5280, 5.1).
     Crl,
+    /// Certificate of attributes (RFC 5755, 4.1).
+    AttributeCertificate,
     /// Request for a certificate, PKCS #10 (RFC 2986, 4.2).
     Csr,
     /// Request for the status of certificates (RFC 6960, 4.1.1).
@@ -39,6 +46,8 @@ pub enum MessageType {
     TimestampQuery,
     /// Response with a time stamp (RFC 3161, 2.4.2).
     TimestampResponse,
+    /// What a time stamp says, a content of CMS (RFC 3161, 2.4.2).
+    TstInfo,
     /// Message of CMS with any content, PKCS #7 (RFC 5652, 3).
     Cms,
     /// Signed data, a content of CMS (RFC 5652, 5.1).
@@ -51,9 +60,11 @@ pub enum MessageType {
     EncryptedData,
     /// Authenticated data, a content of CMS (RFC 5652, 9.1).
     AuthenticatedData,
-    /// Private key of any algorithm, PKCS #8 (RFC 5208, 5).
+    /// Enveloped data with authentication, a content of CMS (RFC 5083, 2.1).
+    AuthEnvelopedData,
+    /// Private key of any algorithm, PKCS #8 (RFC 5958, 2; RFC 5208, 5).
     Pkcs8,
-    /// Encrypted private key, PKCS #8 (RFC 5208, 6).
+    /// Encrypted private key, PKCS #8 (RFC 5958, 3; RFC 5208, 6).
     EncryptedKey,
     /// Private key of RSA, PKCS #1 (RFC 8017, A.1.2).
     RsaKey,
@@ -63,6 +74,12 @@ pub enum MessageType {
     PublicKey,
     /// Public key of RSA, PKCS #1 (RFC 8017, A.1.1).
     RsaPublicKey,
+    /// Parameters of an elliptic curve (RFC 3279, 2.3.5).
+    EcParameters,
+    /// Parameters of DSA (RFC 3279, 2.3.2).
+    DsaParameters,
+    /// Store of keys and certificates, PKCS #12 (RFC 7292, 4).
+    Pkcs12,
     /// Ticket of Kerberos (RFC 4120, 5.3).
     Ticket,
     /// Message of Kerberos, any of those that follow (RFC 4120, 5.4 to 5.9).
@@ -87,29 +104,49 @@ pub enum MessageType {
     KrbCred,
     /// Error of Kerberos (RFC 4120, 5.9.1).
     KrbError,
+    /// What is encrypted in a request to a server (RFC 4120, 5.5.1).
+    Authenticator,
+    /// What is encrypted in a ticket (RFC 4120, 5.3).
+    EncTicketPart,
+    /// What is encrypted in a response with a first ticket (RFC 4120, 5.4.2).
+    EncAsRepPart,
+    /// What is encrypted in a response with a ticket (RFC 4120, 5.4.2).
+    EncTgsRepPart,
+    /// What is encrypted in a response of a server (RFC 4120, 5.5.2).
+    EncApRepPart,
+    /// What is encrypted in an encrypted message (RFC 4120, 5.7.1).
+    EncKrbPrivPart,
+    /// What is encrypted next to tickets that are handed on (RFC 4120, 5.8.1).
+    EncKrbCredPart,
 }
 
 /// All types of messages.
-pub static ALL_TYPES: [MessageType; 31] = [
+pub static ALL_TYPES: [MessageType; 44] = [
     MessageType::Certificate,
     MessageType::Crl,
+    MessageType::AttributeCertificate,
     MessageType::Csr,
     MessageType::OcspRequest,
     MessageType::OcspResponse,
     MessageType::TimestampQuery,
     MessageType::TimestampResponse,
+    MessageType::TstInfo,
     MessageType::Cms,
     MessageType::SignedData,
     MessageType::EnvelopedData,
     MessageType::DigestedData,
     MessageType::EncryptedData,
     MessageType::AuthenticatedData,
+    MessageType::AuthEnvelopedData,
     MessageType::Pkcs8,
     MessageType::EncryptedKey,
     MessageType::RsaKey,
     MessageType::EcKey,
     MessageType::PublicKey,
     MessageType::RsaPublicKey,
+    MessageType::EcParameters,
+    MessageType::DsaParameters,
+    MessageType::Pkcs12,
     MessageType::Ticket,
     MessageType::Krb,
     MessageType::AsReq,
@@ -122,29 +159,42 @@ pub static ALL_TYPES: [MessageType; 31] = [
     MessageType::KrbPriv,
     MessageType::KrbCred,
     MessageType::KrbError,
+    MessageType::Authenticator,
+    MessageType::EncTicketPart,
+    MessageType::EncAsRepPart,
+    MessageType::EncTgsRepPart,
+    MessageType::EncApRepPart,
+    MessageType::EncKrbPrivPart,
+    MessageType::EncKrbCredPart,
 ];
 
 /// The types that are tried where none is asked for, in this order: all but those that are any of others.
-pub static TRIED_TYPES: [MessageType; 30] = [
+pub static TRIED_TYPES: [MessageType; 43] = [
     MessageType::Certificate,
     MessageType::Crl,
+    MessageType::AttributeCertificate,
     MessageType::Csr,
     MessageType::OcspRequest,
     MessageType::OcspResponse,
     MessageType::TimestampQuery,
     MessageType::TimestampResponse,
+    MessageType::TstInfo,
     MessageType::Cms,
     MessageType::SignedData,
     MessageType::EnvelopedData,
     MessageType::DigestedData,
     MessageType::EncryptedData,
     MessageType::AuthenticatedData,
+    MessageType::AuthEnvelopedData,
     MessageType::Pkcs8,
     MessageType::EncryptedKey,
     MessageType::RsaKey,
     MessageType::EcKey,
     MessageType::PublicKey,
     MessageType::RsaPublicKey,
+    MessageType::EcParameters,
+    MessageType::DsaParameters,
+    MessageType::Pkcs12,
     MessageType::Ticket,
     MessageType::AsReq,
     MessageType::AsRep,
@@ -156,6 +206,13 @@ pub static TRIED_TYPES: [MessageType; 30] = [
     MessageType::KrbPriv,
     MessageType::KrbCred,
     MessageType::KrbError,
+    MessageType::Authenticator,
+    MessageType::EncTicketPart,
+    MessageType::EncAsRepPart,
+    MessageType::EncTgsRepPart,
+    MessageType::EncApRepPart,
+    MessageType::EncKrbPrivPart,
+    MessageType::EncKrbCredPart,
 ];
 
 impl MessageType {
@@ -171,23 +228,29 @@ impl MessageType {
         match self {
             MessageType::Certificate => "certificate",
             MessageType::Crl => "crl",
+            MessageType::AttributeCertificate => "attribute-certificate",
             MessageType::Csr => "csr",
             MessageType::OcspRequest => "ocsp-request",
             MessageType::OcspResponse => "ocsp-response",
             MessageType::TimestampQuery => "timestamp-query",
             MessageType::TimestampResponse => "timestamp-response",
+            MessageType::TstInfo => "tst-info",
             MessageType::Cms => "cms",
             MessageType::SignedData => "signed-data",
             MessageType::EnvelopedData => "enveloped-data",
             MessageType::DigestedData => "digested-data",
             MessageType::EncryptedData => "encrypted-data",
             MessageType::AuthenticatedData => "authenticated-data",
+            MessageType::AuthEnvelopedData => "auth-enveloped-data",
             MessageType::Pkcs8 => "pkcs8",
             MessageType::EncryptedKey => "encrypted-key",
             MessageType::RsaKey => "rsa-key",
             MessageType::EcKey => "ec-key",
             MessageType::PublicKey => "public-key",
             MessageType::RsaPublicKey => "rsa-public-key",
+            MessageType::EcParameters => "ec-parameters",
+            MessageType::DsaParameters => "dsa-parameters",
+            MessageType::Pkcs12 => "pkcs12",
             MessageType::Ticket => "ticket",
             MessageType::Krb => "krb",
             MessageType::AsReq => "as-req",
@@ -200,6 +263,13 @@ impl MessageType {
             MessageType::KrbPriv => "krb-priv",
             MessageType::KrbCred => "krb-cred",
             MessageType::KrbError => "krb-error",
+            MessageType::Authenticator => "authenticator",
+            MessageType::EncTicketPart => "enc-ticket-part",
+            MessageType::EncAsRepPart => "enc-as-rep-part",
+            MessageType::EncTgsRepPart => "enc-tgs-rep-part",
+            MessageType::EncApRepPart => "enc-ap-rep-part",
+            MessageType::EncKrbPrivPart => "enc-krb-priv-part",
+            MessageType::EncKrbCredPart => "enc-krb-cred-part",
         }
     }
 
@@ -210,12 +280,14 @@ impl MessageType {
         match self {
             MessageType::Certificate => "certificate of X.509 (RFC 5280, 4.1)",
             MessageType::Crl => "list of revoked certificates (RFC 5280, 5.1)",
+            MessageType::AttributeCertificate => "certificate of attributes (RFC 5755, 4.1)",
             MessageType::Csr => "request for a certificate, PKCS #10 (RFC 2986, 4.2)",
             MessageType::OcspRequest => "request for the status of certificates (RFC 6960, 4.1.1)",
             MessageType::OcspResponse =>
                 "response with the status of certificates (RFC 6960, 4.2.1)",
             MessageType::TimestampQuery => "request for a time stamp (RFC 3161, 2.4.1)",
             MessageType::TimestampResponse => "response with a time stamp (RFC 3161, 2.4.2)",
+            MessageType::TstInfo => "what a time stamp says, a content of CMS (RFC 3161, 2.4.2)",
             MessageType::Cms => "message of CMS with any content, PKCS #7 (RFC 5652, 3)",
             MessageType::SignedData => "signed data, a content of CMS (RFC 5652, 5.1)",
             MessageType::EnvelopedData => "enveloped data, a content of CMS (RFC 5652, 6.1)",
@@ -223,12 +295,19 @@ impl MessageType {
             MessageType::EncryptedData => "encrypted data, a content of CMS (RFC 5652, 8)",
             MessageType::AuthenticatedData =>
                 "authenticated data, a content of CMS (RFC 5652, 9.1)",
-            MessageType::Pkcs8 => "private key of any algorithm, PKCS #8 (RFC 5208, 5)",
-            MessageType::EncryptedKey => "encrypted private key, PKCS #8 (RFC 5208, 6)",
+            MessageType::AuthEnvelopedData =>
+                "enveloped data with authentication, a content of CMS (RFC 5083, 2.1)",
+            MessageType::Pkcs8 =>
+                "private key of any algorithm, PKCS #8 (RFC 5958, 2; RFC 5208, 5)",
+            MessageType::EncryptedKey =>
+                "encrypted private key, PKCS #8 (RFC 5958, 3; RFC 5208, 6)",
             MessageType::RsaKey => "private key of RSA, PKCS #1 (RFC 8017, A.1.2)",
             MessageType::EcKey => "private key of an elliptic curve (RFC 5915, 3)",
             MessageType::PublicKey => "public key of any algorithm (RFC 5280, 4.1)",
             MessageType::RsaPublicKey => "public key of RSA, PKCS #1 (RFC 8017, A.1.1)",
+            MessageType::EcParameters => "parameters of an elliptic curve (RFC 3279, 2.3.5)",
+            MessageType::DsaParameters => "parameters of DSA (RFC 3279, 2.3.2)",
+            MessageType::Pkcs12 => "store of keys and certificates, PKCS #12 (RFC 7292, 4)",
             MessageType::Ticket => "ticket of Kerberos (RFC 4120, 5.3)",
             MessageType::Krb =>
                 "message of Kerberos, any of those that follow (RFC 4120, 5.4 to 5.9)",
@@ -242,6 +321,19 @@ impl MessageType {
             MessageType::KrbPriv => "encrypted message (RFC 4120, 5.7.1)",
             MessageType::KrbCred => "tickets that are handed on (RFC 4120, 5.8.1)",
             MessageType::KrbError => "error of Kerberos (RFC 4120, 5.9.1)",
+            MessageType::Authenticator =>
+                "what is encrypted in a request to a server (RFC 4120, 5.5.1)",
+            MessageType::EncTicketPart => "what is encrypted in a ticket (RFC 4120, 5.3)",
+            MessageType::EncAsRepPart =>
+                "what is encrypted in a response with a first ticket (RFC 4120, 5.4.2)",
+            MessageType::EncTgsRepPart =>
+                "what is encrypted in a response with a ticket (RFC 4120, 5.4.2)",
+            MessageType::EncApRepPart =>
+                "what is encrypted in a response of a server (RFC 4120, 5.5.2)",
+            MessageType::EncKrbPrivPart =>
+                "what is encrypted in an encrypted message (RFC 4120, 5.7.1)",
+            MessageType::EncKrbCredPart =>
+                "what is encrypted next to tickets that are handed on (RFC 4120, 5.8.1)",
         }
     }
 
@@ -252,6 +344,7 @@ impl MessageType {
         match self {
             MessageType::Certificate => is(label, b"CERTIFICATE") || is(label, b"X509 CERTIFICATE"),
             MessageType::Crl => is(label, b"X509 CRL"),
+            MessageType::AttributeCertificate => is(label, b"ATTRIBUTE CERTIFICATE"),
             MessageType::Csr => {
                 is(label, b"CERTIFICATE REQUEST") || is(label, b"NEW CERTIFICATE REQUEST")
             }
@@ -259,18 +352,23 @@ impl MessageType {
             MessageType::OcspResponse => false,
             MessageType::TimestampQuery => false,
             MessageType::TimestampResponse => false,
+            MessageType::TstInfo => false,
             MessageType::Cms => is(label, b"CMS") || is(label, b"PKCS7"),
             MessageType::SignedData => false,
             MessageType::EnvelopedData => false,
             MessageType::DigestedData => false,
             MessageType::EncryptedData => false,
             MessageType::AuthenticatedData => false,
+            MessageType::AuthEnvelopedData => false,
             MessageType::Pkcs8 => is(label, b"PRIVATE KEY"),
             MessageType::EncryptedKey => is(label, b"ENCRYPTED PRIVATE KEY"),
             MessageType::RsaKey => is(label, b"RSA PRIVATE KEY"),
             MessageType::EcKey => is(label, b"EC PRIVATE KEY"),
             MessageType::PublicKey => is(label, b"PUBLIC KEY"),
             MessageType::RsaPublicKey => is(label, b"RSA PUBLIC KEY"),
+            MessageType::EcParameters => is(label, b"EC PARAMETERS"),
+            MessageType::DsaParameters => is(label, b"DSA PARAMETERS"),
+            MessageType::Pkcs12 => false,
             MessageType::Ticket => false,
             MessageType::Krb => false,
             MessageType::AsReq => false,
@@ -283,6 +381,13 @@ impl MessageType {
             MessageType::KrbPriv => false,
             MessageType::KrbCred => false,
             MessageType::KrbError => false,
+            MessageType::Authenticator => false,
+            MessageType::EncTicketPart => false,
+            MessageType::EncAsRepPart => false,
+            MessageType::EncTgsRepPart => false,
+            MessageType::EncApRepPart => false,
+            MessageType::EncKrbPrivPart => false,
+            MessageType::EncKrbCredPart => false,
         }
     }
 }
@@ -301,23 +406,29 @@ impl Described for MessageType {
     ghost description = { elim [
       | named.Certificate ↦ described ⟦<Certificate as Serialize>⟧.meaning ⟦<Certificate as Deserialize>⟧.shape
       | named.Crl ↦ described ⟦<CertificateList as Serialize>⟧.meaning ⟦<CertificateList as Deserialize>⟧.shape
+      | named.AttributeCertificate ↦ described ⟦<AttributeCertificate as Serialize>⟧.meaning ⟦<AttributeCertificate as Deserialize>⟧.shape
       | named.Csr ↦ described ⟦<CertificationRequest as Serialize>⟧.meaning ⟦<CertificationRequest as Deserialize>⟧.shape
       | named.OcspRequest ↦ described ⟦<OcspRequest as Serialize>⟧.meaning ⟦<OcspRequest as Deserialize>⟧.shape
       | named.OcspResponse ↦ described ⟦<OcspResponse as Serialize>⟧.meaning ⟦<OcspResponse as Deserialize>⟧.shape
       | named.TimestampQuery ↦ described ⟦<TimeStampReq as Serialize>⟧.meaning ⟦<TimeStampReq as Deserialize>⟧.shape
       | named.TimestampResponse ↦ described ⟦<TimeStampResp as Serialize>⟧.meaning ⟦<TimeStampResp as Deserialize>⟧.shape
+      | named.TstInfo ↦ described ⟦<TstInfo as Serialize>⟧.meaning ⟦<TstInfo as Deserialize>⟧.shape
       | named.Cms ↦ described ⟦<ContentInfo as Serialize>⟧.meaning ⟦<ContentInfo as Deserialize>⟧.shape
       | named.SignedData ↦ described ⟦<SignedData as Serialize>⟧.meaning ⟦<SignedData as Deserialize>⟧.shape
       | named.EnvelopedData ↦ described ⟦<EnvelopedData as Serialize>⟧.meaning ⟦<EnvelopedData as Deserialize>⟧.shape
       | named.DigestedData ↦ described ⟦<DigestedData as Serialize>⟧.meaning ⟦<DigestedData as Deserialize>⟧.shape
       | named.EncryptedData ↦ described ⟦<EncryptedData as Serialize>⟧.meaning ⟦<EncryptedData as Deserialize>⟧.shape
       | named.AuthenticatedData ↦ described ⟦<AuthenticatedData as Serialize>⟧.meaning ⟦<AuthenticatedData as Deserialize>⟧.shape
+      | named.AuthEnvelopedData ↦ described ⟦<AuthEnvelopedData as Serialize>⟧.meaning ⟦<AuthEnvelopedData as Deserialize>⟧.shape
       | named.Pkcs8 ↦ described ⟦<PrivateKeyInfo as Serialize>⟧.meaning ⟦<PrivateKeyInfo as Deserialize>⟧.shape
       | named.EncryptedKey ↦ described ⟦<EncryptedPrivateKeyInfo as Serialize>⟧.meaning ⟦<EncryptedPrivateKeyInfo as Deserialize>⟧.shape
       | named.RsaKey ↦ described ⟦<RsaPrivateKey as Serialize>⟧.meaning ⟦<RsaPrivateKey as Deserialize>⟧.shape
       | named.EcKey ↦ described ⟦<EcPrivateKey as Serialize>⟧.meaning ⟦<EcPrivateKey as Deserialize>⟧.shape
       | named.PublicKey ↦ described ⟦<SubjectPublicKeyInfo as Serialize>⟧.meaning ⟦<SubjectPublicKeyInfo as Deserialize>⟧.shape
       | named.RsaPublicKey ↦ described ⟦<RsaPublicKey as Serialize>⟧.meaning ⟦<RsaPublicKey as Deserialize>⟧.shape
+      | named.EcParameters ↦ described ⟦<EcpkParameters as Serialize>⟧.meaning ⟦<EcpkParameters as Deserialize>⟧.shape
+      | named.DsaParameters ↦ described ⟦<DssParms as Serialize>⟧.meaning ⟦<DssParms as Deserialize>⟧.shape
+      | named.Pkcs12 ↦ described ⟦<Pfx as Serialize>⟧.meaning ⟦<Pfx as Deserialize>⟧.shape
       | named.Ticket ↦ described ⟦<Ticket as Serialize>⟧.meaning ⟦<Ticket as Deserialize>⟧.shape
       | named.Krb ↦ described ⟦<KerberosMessage as Serialize>⟧.meaning ⟦<KerberosMessage as Deserialize>⟧.shape
       | named.AsReq ↦ described ⟦<AsReq as Serialize>⟧.meaning ⟦<AsReq as Deserialize>⟧.shape
@@ -330,6 +441,13 @@ impl Described for MessageType {
       | named.KrbPriv ↦ described ⟦<KrbPriv as Serialize>⟧.meaning ⟦<KrbPriv as Deserialize>⟧.shape
       | named.KrbCred ↦ described ⟦<KrbCred as Serialize>⟧.meaning ⟦<KrbCred as Deserialize>⟧.shape
       | named.KrbError ↦ described ⟦<KrbError as Serialize>⟧.meaning ⟦<KrbError as Deserialize>⟧.shape
+      | named.Authenticator ↦ described ⟦<Authenticator as Serialize>⟧.meaning ⟦<Authenticator as Deserialize>⟧.shape
+      | named.EncTicketPart ↦ described ⟦<EncTicketPart as Serialize>⟧.meaning ⟦<EncTicketPart as Deserialize>⟧.shape
+      | named.EncAsRepPart ↦ described ⟦<EncAsRepPart as Serialize>⟧.meaning ⟦<EncAsRepPart as Deserialize>⟧.shape
+      | named.EncTgsRepPart ↦ described ⟦<EncTgsRepPart as Serialize>⟧.meaning ⟦<EncTgsRepPart as Deserialize>⟧.shape
+      | named.EncApRepPart ↦ described ⟦<EncApRepPart as Serialize>⟧.meaning ⟦<EncApRepPart as Deserialize>⟧.shape
+      | named.EncKrbPrivPart ↦ described ⟦<EncKrbPrivPart as Serialize>⟧.meaning ⟦<EncKrbPrivPart as Deserialize>⟧.shape
+      | named.EncKrbCredPart ↦ described ⟦<EncKrbCredPart as Serialize>⟧.meaning ⟦<EncKrbCredPart as Deserialize>⟧.shape
     ] };
 }
 
@@ -344,23 +462,29 @@ pub fn refusal_of(
     match named {
         MessageType::Certificate => refusal_as::<Certificate>(alloc, bytes),
         MessageType::Crl => refusal_as::<CertificateList>(alloc, bytes),
+        MessageType::AttributeCertificate => refusal_as::<AttributeCertificate>(alloc, bytes),
         MessageType::Csr => refusal_as::<CertificationRequest>(alloc, bytes),
         MessageType::OcspRequest => refusal_as::<OcspRequest>(alloc, bytes),
         MessageType::OcspResponse => refusal_as::<OcspResponse>(alloc, bytes),
         MessageType::TimestampQuery => refusal_as::<TimeStampReq>(alloc, bytes),
         MessageType::TimestampResponse => refusal_as::<TimeStampResp>(alloc, bytes),
+        MessageType::TstInfo => refusal_as::<TstInfo>(alloc, bytes),
         MessageType::Cms => refusal_as::<ContentInfo>(alloc, bytes),
         MessageType::SignedData => refusal_as::<SignedData>(alloc, bytes),
         MessageType::EnvelopedData => refusal_as::<EnvelopedData>(alloc, bytes),
         MessageType::DigestedData => refusal_as::<DigestedData>(alloc, bytes),
         MessageType::EncryptedData => refusal_as::<EncryptedData>(alloc, bytes),
         MessageType::AuthenticatedData => refusal_as::<AuthenticatedData>(alloc, bytes),
+        MessageType::AuthEnvelopedData => refusal_as::<AuthEnvelopedData>(alloc, bytes),
         MessageType::Pkcs8 => refusal_as::<PrivateKeyInfo>(alloc, bytes),
         MessageType::EncryptedKey => refusal_as::<EncryptedPrivateKeyInfo>(alloc, bytes),
         MessageType::RsaKey => refusal_as::<RsaPrivateKey>(alloc, bytes),
         MessageType::EcKey => refusal_as::<EcPrivateKey>(alloc, bytes),
         MessageType::PublicKey => refusal_as::<SubjectPublicKeyInfo>(alloc, bytes),
         MessageType::RsaPublicKey => refusal_as::<RsaPublicKey>(alloc, bytes),
+        MessageType::EcParameters => refusal_as::<EcpkParameters>(alloc, bytes),
+        MessageType::DsaParameters => refusal_as::<DssParms>(alloc, bytes),
+        MessageType::Pkcs12 => refusal_as::<Pfx>(alloc, bytes),
         MessageType::Ticket => refusal_as::<Ticket>(alloc, bytes),
         MessageType::Krb => refusal_as::<KerberosMessage>(alloc, bytes),
         MessageType::AsReq => refusal_as::<AsReq>(alloc, bytes),
@@ -373,6 +497,13 @@ pub fn refusal_of(
         MessageType::KrbPriv => refusal_as::<KrbPriv>(alloc, bytes),
         MessageType::KrbCred => refusal_as::<KrbCred>(alloc, bytes),
         MessageType::KrbError => refusal_as::<KrbError>(alloc, bytes),
+        MessageType::Authenticator => refusal_as::<Authenticator>(alloc, bytes),
+        MessageType::EncTicketPart => refusal_as::<EncTicketPart>(alloc, bytes),
+        MessageType::EncAsRepPart => refusal_as::<EncAsRepPart>(alloc, bytes),
+        MessageType::EncTgsRepPart => refusal_as::<EncTgsRepPart>(alloc, bytes),
+        MessageType::EncApRepPart => refusal_as::<EncApRepPart>(alloc, bytes),
+        MessageType::EncKrbPrivPart => refusal_as::<EncKrbPrivPart>(alloc, bytes),
+        MessageType::EncKrbCredPart => refusal_as::<EncKrbCredPart>(alloc, bytes),
     }
 }
 

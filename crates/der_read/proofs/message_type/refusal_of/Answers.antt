@@ -7,6 +7,9 @@ returns-in-Certificate c = rw c.in-Certificate.is c.refusal_as.ensures
 pub returns-in-Crl : goal.returns-in-Crl
 returns-in-Crl c = rw c.in-Crl.is c.refusal_as-in-Crl.ensures
 
+pub returns-in-AttributeCertificate : goal.returns-in-AttributeCertificate
+returns-in-AttributeCertificate c = rw c.in-AttributeCertificate.is c.refusal_as-in-AttributeCertificate.ensures
+
 pub returns-in-Csr : goal.returns-in-Csr
 returns-in-Csr c = rw c.in-Csr.is c.refusal_as-in-Csr.ensures
 
@@ -21,6 +24,9 @@ returns-in-TimestampQuery c = rw c.in-TimestampQuery.is c.refusal_as-in-Timestam
 
 pub returns-in-TimestampResponse : goal.returns-in-TimestampResponse
 returns-in-TimestampResponse c = rw c.in-TimestampResponse.is c.refusal_as-in-TimestampResponse.ensures
+
+pub returns-in-TstInfo : goal.returns-in-TstInfo
+returns-in-TstInfo c = rw c.in-TstInfo.is c.refusal_as-in-TstInfo.ensures
 
 pub returns-in-Cms : goal.returns-in-Cms
 returns-in-Cms c = rw c.in-Cms.is c.refusal_as-in-Cms.ensures
@@ -40,6 +46,9 @@ returns-in-EncryptedData c = rw c.in-EncryptedData.is c.refusal_as-in-EncryptedD
 pub returns-in-AuthenticatedData : goal.returns-in-AuthenticatedData
 returns-in-AuthenticatedData c = rw c.in-AuthenticatedData.is c.refusal_as-in-AuthenticatedData.ensures
 
+pub returns-in-AuthEnvelopedData : goal.returns-in-AuthEnvelopedData
+returns-in-AuthEnvelopedData c = rw c.in-AuthEnvelopedData.is c.refusal_as-in-AuthEnvelopedData.ensures
+
 pub returns-in-Pkcs8 : goal.returns-in-Pkcs8
 returns-in-Pkcs8 c = rw c.in-Pkcs8.is c.refusal_as-in-Pkcs8.ensures
 
@@ -57,6 +66,15 @@ returns-in-PublicKey c = rw c.in-PublicKey.is c.refusal_as-in-PublicKey.ensures
 
 pub returns-in-RsaPublicKey : goal.returns-in-RsaPublicKey
 returns-in-RsaPublicKey c = rw c.in-RsaPublicKey.is c.refusal_as-in-RsaPublicKey.ensures
+
+pub returns-in-EcParameters : goal.returns-in-EcParameters
+returns-in-EcParameters c = rw c.in-EcParameters.is c.refusal_as-in-EcParameters.ensures
+
+pub returns-in-DsaParameters : goal.returns-in-DsaParameters
+returns-in-DsaParameters c = rw c.in-DsaParameters.is c.refusal_as-in-DsaParameters.ensures
+
+pub returns-in-Pkcs12 : goal.returns-in-Pkcs12
+returns-in-Pkcs12 c = rw c.in-Pkcs12.is c.refusal_as-in-Pkcs12.ensures
 
 pub returns-in-Ticket : goal.returns-in-Ticket
 returns-in-Ticket c = rw c.in-Ticket.is c.refusal_as-in-Ticket.ensures
@@ -93,3 +111,24 @@ returns-in-KrbCred c = rw c.in-KrbCred.is c.refusal_as-in-KrbCred.ensures
 
 pub returns-in-KrbError : goal.returns-in-KrbError
 returns-in-KrbError c = rw c.in-KrbError.is c.refusal_as-in-KrbError.ensures
+
+pub returns-in-Authenticator : goal.returns-in-Authenticator
+returns-in-Authenticator c = rw c.in-Authenticator.is c.refusal_as-in-Authenticator.ensures
+
+pub returns-in-EncTicketPart : goal.returns-in-EncTicketPart
+returns-in-EncTicketPart c = rw c.in-EncTicketPart.is c.refusal_as-in-EncTicketPart.ensures
+
+pub returns-in-EncAsRepPart : goal.returns-in-EncAsRepPart
+returns-in-EncAsRepPart c = rw c.in-EncAsRepPart.is c.refusal_as-in-EncAsRepPart.ensures
+
+pub returns-in-EncTgsRepPart : goal.returns-in-EncTgsRepPart
+returns-in-EncTgsRepPart c = rw c.in-EncTgsRepPart.is c.refusal_as-in-EncTgsRepPart.ensures
+
+pub returns-in-EncApRepPart : goal.returns-in-EncApRepPart
+returns-in-EncApRepPart c = rw c.in-EncApRepPart.is c.refusal_as-in-EncApRepPart.ensures
+
+pub returns-in-EncKrbPrivPart : goal.returns-in-EncKrbPrivPart
+returns-in-EncKrbPrivPart c = rw c.in-EncKrbPrivPart.is c.refusal_as-in-EncKrbPrivPart.ensures
+
+pub returns-in-EncKrbCredPart : goal.returns-in-EncKrbCredPart
+returns-in-EncKrbCredPart c = rw c.in-EncKrbCredPart.is c.refusal_as-in-EncKrbCredPart.ensures
