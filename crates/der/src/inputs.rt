@@ -8,7 +8,7 @@ use der_show::{LineForm, ShowOptions, Source, show_as};
 use der_signers::signers_report;
 use picky_asn1_der::Asn1DerError;
 use picky_asn1_der::misc::WriteExt;
-use std::io::{self, ErrorKind};
+use std::io::{self, ErrorKind, IsTerminal};
 
 // Where a message is, and what is known of it.
 #[derive(Clone, Copy)]
@@ -133,6 +133,7 @@ fn print_listing<W: WriteExt>(
     output: &mut W,
 ) -> io::Result<Status> {
     let form = match format {
+        Format::Text if has_colours(rt) => LineForm::Coloured,
         Format::Text => LineForm::Text,
         Format::Json => LineForm::Json(Source {
             file: place.file,
@@ -145,6 +146,15 @@ fn print_listing<W: WriteExt>(
     } else {
         Status::Refused
     })
+}
+
+// Whether the output is a terminal, and the variable `NO_COLOR` of the environment doesn't ask for a text without colours (no-color.org).
+fn has_colours(rt: &HostRuntime) -> bool {
+    let refuses = match std::env::var(rt, "NO_COLOR") {
+        Ok(text) => !text.is_empty(),
+        Err(_) => false,
+    };
+    rt.stdout().is_terminal() && !refuses
 }
 
 // The heading of a listing, where there may be several. Lines of the other commands name their message.

@@ -1,5 +1,5 @@
 -- What is written of a listing.
-use Rattle.std.specs.Prelude.{◌≡◌, ℕ, true, false, Option, List, [], ◌∷◌, ◌++◌, map, ⊤}
+use Rattle.std.specs.Prelude.{◌≡◌, ℕ, true, false, Option, List, [], ◌∷◌, ◌++◌, map, codes, ⊤}
 use Rattle.std.specs.List.{list_all}
 use Rattle.std.specs.Io.KnownBytes.{Appends}
 use Rattle.picky_der_core.specs.declared.error.Asn1DerError.{Asn1DerError}
@@ -37,6 +37,17 @@ pub record IsTextLine (e : Entry) (line : List ℕ) : Type 0 where
   pub one_line : IsOneLine words
   pub is : line ≡ entry_front e ++ words
 
+-- the colour of these columns on a terminal: faint, or red (ECMA-48, 8.3.117)
+abbrev pub colour_of : Entry → List ℕ
+colour_of (entry.Element _) = 0x1B ∷ codes "[2m"
+colour_of (entry.Complaint _) = 0x1B ∷ codes "[31m"
+
+-- the same line for a terminal: what begins and ends the colour is before and after the columns
+pub record IsColouredLine (e : Entry) (line : List ℕ) : Type 0 where
+  pub words : List ℕ
+  pub one_line : IsOneLine words
+  pub is : line ≡ colour_of e ++ (entry_front e ++ ((0x1B ∷ codes "[0m") ++ words))
+
 -- a line of JSON: the object of the element, with its type and its value in words, or that of the rule in words
 pub data IsJsonLine (s : Source) : Entry → List ℕ → Type 0 where
   element : (e : Element) (type_name : List ℕ) (value : Option (List ℕ)) (line : List ℕ) → line ≡ compact_text (element_data s e type_name value) → IsJsonLine s (entry.Element e) line
@@ -44,6 +55,7 @@ pub data IsJsonLine (s : Source) : Entry → List ℕ → Type 0 where
 
 abbrev pub IsLineOf : LineForm → Entry → List ℕ → Type 0
 IsLineOf line_form.Text e line = IsTextLine e line
+IsLineOf line_form.Coloured e line = IsColouredLine e line
 IsLineOf (line_form.Json s) e line = IsJsonLine s e line
 
 abbrev pub AreLinesOf : LineForm → List Entry → List (List ℕ) → Type 0

@@ -1,6 +1,7 @@
 //! The lines of a listing.
 ghost use Rattle.std.specs.Prelude.{◌≡◌, ◌∷◌, [], IfOk, OnOk, IfErr, string_bytes};
 ghost use Rattle.picky_der_core.specs.WriterFaults.{IsOnceAtMost};
+ghost use Rattle.der_program_base.specs.Line.{IsOneLine};
 ghost use Rattle.der_show.specs.Entries.{element_at};
 ghost use Rattle.der_show.specs.Steps.{step_entries};
 ghost use Rattle.der_show.specs.Shown.{IsTextLine, IsLineOf, WritesEntries, StopsAmong};
@@ -121,6 +122,16 @@ fn line_of(
     match (*format, entry) {
         (LineForm::Text, Entry::Element(element)) => element_line(alloc, ahead, element, form),
         (LineForm::Text, Entry::Complaint(complaint)) => complaint_line(alloc, complaint),
+        (LineForm::Coloured, Entry::Element(element)) => {
+            let front = front_of_element(alloc, element)?;
+            let words = element_words(alloc, ahead, element, form)?;
+            format!(in alloc; "\u{1b}[2m{front}\u{1b}[0m{words}")
+        }
+        (LineForm::Coloured, Entry::Complaint(complaint)) => {
+            let front = front_of_complaint(alloc, complaint.offset)?;
+            let words = complaint_words(alloc, complaint)?;
+            format!(in alloc; "\u{1b}[31m{front}\u{1b}[0m{words}")
+        }
         (LineForm::Json(source), Entry::Element(element)) => {
             let type_name = type_text(alloc, element.tag)?;
             let value = value_text(alloc, ahead, element, form)?;
@@ -173,15 +184,27 @@ fn element_line(
 ) -> std::result::Result<String, AllocError>
     ensures { IfOk result (λ line. IsTextLine (Entry.Element element.now) (string_bytes line)) }
 {
-    let mut rest = Line::new(alloc);
-    push_type_name(&mut rest, element.tag)?;
-    if let Some(form) = form {
-        push_content(alloc, &mut rest, form, ahead, element)?;
-    }
-    let rest = rest.into_string();
+    let words = element_words(alloc, ahead, element, form)?;
     let mut line = front_of_element(alloc, element)?;
-    line.push_str(&rest)?;
+    line.push_str(&words)?;
     Ok(line)
+}
+
+// The type of the element at the front of the bytes, and its value.
+fn element_words(
+    alloc: Global,
+    ahead: &[u8],
+    element: &Element,
+    form: Option<ValueForm>,
+) -> std::result::Result<String, AllocError>
+    ensures { IfOk result (λ words. IsOneLine (string_bytes words)) }
+{
+    let mut words = Line::new(alloc);
+    push_type_name(&mut words, element.tag)?;
+    if let Some(form) = form {
+        push_content(alloc, &mut words, form, ahead, element)?;
+    }
+    Ok(words.into_string())
 }
 
 // Appends the value of the element at the front of the bytes if it is primitive.
@@ -205,11 +228,18 @@ fn push_content(
 fn complaint_line(alloc: Global, complaint: &Complaint) -> std::result::Result<String, AllocError>
     ensures { IfOk result (λ line. IsTextLine (Entry.Complaint complaint.now) (string_bytes line)) }
 {
-    let mut rest = Line::new(alloc);
-    let rule = complaint.rule;
-    write!(rest, "{rule}")?;
-    let rest = rest.into_string();
+    let words = complaint_words(alloc, complaint)?;
     let mut line = front_of_complaint(alloc, complaint.offset)?;
-    line.push_str(&rest)?;
+    line.push_str(&words)?;
     Ok(line)
+}
+
+// The rule that is broken, with its clause.
+fn complaint_words(alloc: Global, complaint: &Complaint) -> std::result::Result<String, AllocError>
+    ensures { IfOk result (λ words. IsOneLine (string_bytes words)) }
+{
+    let mut words = Line::new(alloc);
+    let rule = complaint.rule;
+    write!(words, "{rule}")?;
+    Ok(words.into_string())
 }

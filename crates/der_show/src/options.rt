@@ -27,6 +27,8 @@ pub struct Source<'a> {
 pub enum LineForm<'a> {
     /// Text in columns.
     Text,
+    /// The same text for a terminal: grey columns before an element, and red ones before a broken rule.
+    Coloured,
     /// JSON: an object for each line, with the source.
     Json(Source<'a>),
 }
