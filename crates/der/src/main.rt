@@ -4,10 +4,12 @@
 mod arguments;
 mod inputs;
 mod notes;
+mod report;
 mod request;
 
 use crate::arguments::command;
-use crate::inputs::print_file;
+use crate::inputs::{has_colours, print_file};
+use crate::report::View;
 use crate::request::{Request, files_of, request_of};
 use clap::ArgMatches;
 use der_program_base::{Status, report};
@@ -57,9 +59,13 @@ fn print_files(rt: &HostRuntime, request: &Request, files: &[&str]) -> io::Resul
 // Prints what is asked about files, and returns the worst status. The error is that of the output, or `OutOfMemory`.
 fn print_each(rt: &HostRuntime, request: &Request, files: &[&str]) -> io::Result<Status> {
     let mut output = Watched::new(BufWriter::new(rt.alloc(), io::writer(rt))?);
+    let view = View {
+        has_headings: files.len() > 1,
+        has_colours: has_colours(rt),
+    };
     let mut status = Status::Fine;
     for file in files {
-        status = status.worse(print_file(rt, request, *file, files.len() == 1, &mut output)?);
+        status = status.worse(print_file(rt, request, view, *file, &mut output)?);
     }
     output.flush()?;
     Ok(status)

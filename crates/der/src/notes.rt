@@ -1,6 +1,11 @@
 //! What is printed of files, besides what is printed of the messages in them. The only error of each function is a failed allocation.
+ghost use Rattle.std.specs.Prelude.{◌≡◌, IfOk, string_bytes};
+ghost use Rattle.std.specs.Option.{option_copied};
+ghost use Rattle.serde_json.specs.View.{view};
+ghost use Rattle.der.specs.Notes.{heading_text, skipped_data, skipped_text, refused_data, refused_text};
 
-use der_program_base::{Format, Line, push_text_or_bytes};
+use der_program_base::{Format, text_or_bytes};
+use der_read::{block_value, place_name, place_text};
 use serde_json::{Value, json};
 use std::alloc::{AllocError, Global};
 
@@ -10,33 +15,49 @@ pub fn heading(
     file: &str,
     block: Option<usize>,
     label: Option<&[u8]>,
-) -> Result<String, AllocError> {
-    let mut line = place_line(alloc, file, block)?;
-    if let Some(label) = label {
-        line.push_str(", ")?;
-        push_text_or_bytes(&mut line, label)?;
+) -> Result<String, AllocError>
+    ensures { IfOk result (λ text. string_bytes text
+        ≡ heading_text file.now block (option_copied label.entry)) }
+{
+    let name = place_name(alloc, file, block)?;
+    match label {
+        Some(label) => {
+            let label = text_or_bytes(alloc, label)?;
+            format!(in alloc; "{name}, {label}:\n")
+        }
+        None => format!(in alloc; "{name}:\n"),
     }
-    let line = line.into_string();
-    format!(in alloc; "{line}:\n")
 }
 
-/// Returns the line that says how many lines outside of blocks of PEM weren't looked at.
+/// Returns the line that says how many lines outside of blocks of PEM weren't looked at, or nothing if there are none.
 pub fn skipped_note(
     alloc: Global,
     format: Format,
     file: &str,
     skipped: usize,
-) -> Result<String, AllocError> {
+) -> Result<String, AllocError>
+    ensures { IfOk result (λ text. string_bytes text ≡ skipped_text format file.now skipped) }
+{
+    if skipped == 0 {
+        return Ok(String::new(alloc));
+    }
     match format {
         Format::Text => {
-            let place = place_line(alloc, file, None)?.into_string();
-            format!(in alloc; "{place}: lines outside of blocks skipped: {skipped}\n")
+            let place = place_text(alloc, file, None)?;
+            format!(in alloc; "{place}lines outside of blocks skipped: {skipped}\n")
         }
-        Format::Json => ended(
-            alloc,
-            &json!(in alloc; {"file": file, "skippedLines": skipped})?,
-        ),
+        Format::Json => {
+            let object = skipped_value(alloc, file, skipped)?;
+            let line = object.to_string(alloc)?;
+            format!(in alloc; "{line}\n")
+        }
     }
+}
+
+fn skipped_value(alloc: Global, file: &str, skipped: usize) -> Result<Value, AllocError>
+    ensures { IfOk result (λ value. view value ≡ skipped_data file.now skipped) }
+{
+    json!(in alloc; {"file": file, "skippedLines": skipped})
 }
 
 /// Returns the line that says why a file or a block isn't looked at.
@@ -46,29 +67,31 @@ pub fn refusal_note(
     file: &str,
     block: Option<usize>,
     reason: &str,
-) -> Result<String, AllocError> {
+) -> Result<String, AllocError>
+    ensures { IfOk result (λ text. string_bytes text
+        ≡ refused_text format file.now block reason.now) }
+{
     match format {
         Format::Text => {
-            let place = place_line(alloc, file, block)?.into_string();
-            format!(in alloc; "{place}: refused: {reason}\n")
+            let place = place_text(alloc, file, block)?;
+            format!(in alloc; "{place}refused: {reason}\n")
         }
-        Format::Json => ended(
-            alloc,
-            &json!(in alloc; {"file": file, "block": block, "refused": reason})?,
-        ),
+        Format::Json => {
+            let object = refused_value(alloc, file, block, reason)?;
+            let line = object.to_string(alloc)?;
+            format!(in alloc; "{line}\n")
+        }
     }
 }
 
-fn ended(alloc: Global, value: &Value) -> Result<String, AllocError> {
-    let text = value.to_string(alloc)?;
-    format!(in alloc; "{text}\n")
-}
-
-fn place_line(alloc: Global, file: &str, block: Option<usize>) -> Result<Line, AllocError> {
-    let mut line = Line::new(alloc);
-    line.push_str(file)?;
-    if let Some(number) = block {
-        write!(line, ", block {number}")?;
-    }
-    Ok(line)
+fn refused_value(
+    alloc: Global,
+    file: &str,
+    block: Option<usize>,
+    reason: &str,
+) -> Result<Value, AllocError>
+    ensures { IfOk result (λ value. view value ≡ refused_data file.now block reason.now) }
+{
+    let block = block_value(block);
+    json!(in alloc; {"file": file, "block": block, "refused": reason})
 }

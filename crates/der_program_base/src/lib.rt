@@ -26,5 +26,5 @@ pub use printed::{Format, Printed};
 pub use progress::Progress;
 pub use source::{read_input, standard_input};
 pub use status::Status;
-pub use text::{push_bytes, push_quoted, push_text, push_text_or_bytes};
+pub use text::{push_bytes, push_quoted, push_text, push_text_or_bytes, shown, text_or_bytes};
 pub use words::{after, first_word};

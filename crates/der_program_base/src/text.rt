@@ -2,12 +2,12 @@
 //! appended.
 //!
 //! The escapes can be undone: different texts of a message are different on a line (`laws::one_text`).
-ghost use Rattle.std.specs.Prelude.{◌≡◌, ◌++◌, OnOk};
-ghost use Rattle.der_program_base.specs.Line.{escaped, escaped_character, is_special_in_names, is_special_in_quotes};
+ghost use Rattle.std.specs.Prelude.{◌≡◌, ◌++◌, OnOk, IfOk, string_bytes};
+ghost use Rattle.der_program_base.specs.Line.{escaped, escaped_character, shown, is_special_in_names, is_special_in_quotes};
 ghost use Rattle.der_program_base.specs.Texts.{marked_bytes, text_or_bytes, quoted};
 
 use crate::Line;
-use std::alloc::AllocError;
+use std::alloc::{AllocError, Global};
 
 /// Appends a text. Characters that separate names or begin bytes get a backslash before them, and so does a backslash
 /// (RFC 4514, 2.4).
@@ -47,6 +47,24 @@ pub fn push_text_or_bytes(line: &mut Line, bytes: &[u8]) -> Result<(), AllocErro
         Ok(text) => push_text(line, text),
         Err(_) => push_bytes(line, bytes),
     }
+}
+
+/// Returns a text on one line, as `Line::push_str` appends it.
+pub fn shown(alloc: Global, text: &str) -> Result<String, AllocError>
+    ensures { IfOk result (λ line. string_bytes line ≡ shown text.now) }
+{
+    let mut line = Line::new(alloc);
+    line.push_str(text)?;
+    Ok(line.into_string())
+}
+
+/// Returns bytes as text if they are UTF-8, and otherwise as bytes, as `push_text_or_bytes` appends them.
+pub fn text_or_bytes(alloc: Global, bytes: &[u8]) -> Result<String, AllocError>
+    ensures { IfOk result (λ text. string_bytes text ≡ text_or_bytes bytes.now) }
+{
+    let mut line = Line::new(alloc);
+    push_text_or_bytes(&mut line, bytes)?;
+    Ok(line.into_string())
 }
 
 fn push_in_name(line: &mut Line, character: char) -> Result<(), AllocError>

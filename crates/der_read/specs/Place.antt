@@ -3,10 +3,14 @@ use Rattle.std.specs.Prelude.{ℕ, List, ◌++◌, Option, None, Some, codes, de
 use Rattle.serde_json.specs.Data.{Data, null, number, unsigned}
 use Rattle.der_program_base.specs.Line.{shown}
 
+-- how a line names a message
+abbrev pub place_name : List ℕ → Option ℕ → List ℕ
+place_name file None = shown file
+place_name file (Some block) = shown file ++ (codes ", block " ++ decimal block)
+
 -- what a line on the message begins with
 abbrev pub place_text : List ℕ → Option ℕ → List ℕ
-place_text file None = shown file ++ codes ": "
-place_text file (Some block) = shown file ++ (codes ", block " ++ (decimal block ++ codes ": "))
+place_text file block = place_name file block ++ codes ": "
 
 -- the number of the block, in JSON
 abbrev pub block_data : Option ℕ → Data

@@ -6,9 +6,8 @@ ghost use Rattle.der_read.specs.Certificates.{algorithm_text, extension_count, k
 
 use crate::explanation::explanation_of;
 use crate::names::{dotted_text, name_text};
-use crate::place::{block_value, place_text};
 use crate::printed::{ended, refusal_line};
-use crate::{Outcome, examine};
+use crate::{Outcome, block_value, examine, place_text};
 use der_program_base::{Format, Printed, Status};
 use der_types::names::name_of;
 use der_types::{DateTime, ObjectIdentifier};

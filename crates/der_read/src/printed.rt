@@ -5,9 +5,8 @@ ghost use Rattle.serde_json.specs.View.{view};
 ghost use Rattle.serde_json.specs.Written.{has_float};
 ghost use Rattle.der_read.specs.Printed.{or_words, words_data, message_data, message_line, offset_data, refusal_data, refusal_line, refusal_text, verdict_line, IsReadMessage};
 
-use crate::place::{block_value, place_text, text_or_bytes};
-use crate::{MessageType, Verdict, verdict_of};
-use der_program_base::{Format, Printed};
+use crate::{MessageType, Verdict, block_value, place_text, verdict_of};
+use der_program_base::{Format, Printed, text_or_bytes};
 use serde_json::{Value, json};
 use std::alloc::{AllocError, Global};
 
