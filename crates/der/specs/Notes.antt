@@ -1,7 +1,7 @@
 -- What is printed of files, besides what is printed of the messages in them.
 use Rattle.std.specs.Prelude.{ℕ, List, [], ◌∷◌, ◌++◌, Option, None, Some, codes, decimal, if◌then◌else◌, ◌==◌}
 use Rattle.serde_json.specs.Data.{Data, number, unsigned, string, object, member, no_members}
-use Rattle.serde_json.specs.Written.{compact_text}
+use Rattle.der_program_base.specs.Json.{json_line}
 use Rattle.der_program_base.specs.Texts.{text_or_bytes}
 use Rattle.der_program_base.specs.declared.printed.Format.{Format}
 use Rattle.der_program_base.specs.declared.printed.Format.TheVariants.{Text, Json}
@@ -18,7 +18,7 @@ skipped_data file skipped = object (member (codes "file") (string file) (member 
 -- the line on lines outside of blocks
 abbrev pub skipped_line : Format → List ℕ → ℕ → List ℕ
 skipped_line Text file skipped = place_text file None ++ (codes "lines outside of blocks skipped: " ++ decimal skipped)
-skipped_line Json file skipped = compact_text (skipped_data file skipped)
+skipped_line Json file skipped = json_line (skipped_data file skipped)
 
 -- nothing if there are none
 abbrev pub skipped_text : Format → List ℕ → ℕ → List ℕ
@@ -30,7 +30,7 @@ refused_data file block reason = object (member (codes "block") (block_data bloc
 -- the line that says why something isn't looked at
 abbrev pub refused_line : Format → List ℕ → Option ℕ → List ℕ → List ℕ
 refused_line Text file block reason = place_text file block ++ (codes "refused: " ++ reason)
-refused_line Json file block reason = compact_text (refused_data file block reason)
+refused_line Json file block reason = json_line (refused_data file block reason)
 
 abbrev pub refused_text : Format → List ℕ → Option ℕ → List ℕ → List ℕ
 refused_text format file block reason = refused_line format file block reason ++ (0x0A ∷ [])

@@ -1,5 +1,5 @@
 -- What is printed of the bytes of a file.
-use Rattle.std.specs.Prelude.{◌≡◌, ℕ, ◌+◌, Bool, List, [], ◌∷◌, ◌++◌, length, Option, None, Some, Ok, Err, if◌then◌else◌, string_bytes}
+use Rattle.std.specs.Prelude.{◌≡◌, ℕ, ◌+◌, ◌<◌, ◌≤◌, Bool, List, [], ◌∷◌, ◌++◌, length, Option, None, Some, Ok, Err, if◌then◌else◌, string_bytes}
 use Rattle.std.specs.Io.KnownBytes.{Appends}
 use Rattle.der_program_base.specs.declared.blocks.Block.{Block}
 use Rattle.der_program_base.specs.declared.contents.Contents.{Contents}
@@ -31,6 +31,11 @@ use Rattle.der.specs.Notes.{heading_text, refused_text, skipped_text}
 abbrev pub Prints : (List ℕ → Type 0) → Option (List ℕ) → Option (List ℕ) → Type 0
 Prints Is old new = (text : List ℕ) × Is text × Appends old new text
 
+-- a line that says why something isn't looked at
+abbrev pub IsRefusalPrinted : Format → Source → Status → List ℕ → Type 0
+IsRefusalPrinted format source status text = (reason : List ℕ)
+    × (text ≡ refused_text format source.file.now source.block reason) × (status ≡ Refused)
+
 -- ---- messages
 
 -- the form of the lines of a listing
@@ -38,10 +43,15 @@ abbrev pub line_form : Format → View → Source → LineForm
 line_form Text view source = if view.has_colours then line_form.Coloured else line_form.Text
 line_form Json view source = line_form.Json source
 
--- the lines that are written first of all
+-- the lines of the elements, and the status
 abbrev pub IsListingPrinted : LineForm → ShowOptions → List ℕ → Status → List ℕ → Type 0
 IsListingPrinted form options bytes status text = (shown : Shown) × Shows form options bytes shown (Some []) (Some text)
     × (status ≡ if shown.is_der then Fine else Refused)
+
+-- the listing begins at one of the bytes; else nothing is listed
+pub data IsShowPrinted (format : Format) (view : View) (source : Source) (options : ShowOptions) (bytes : List ℕ) (status : Status) (text : List ℕ) : Type 0 where
+  listed : options.start < length bytes → IsListingPrinted (line_form format view source) options bytes status text → IsShowPrinted format view source options bytes status text
+  nothing : length bytes ≤ options.start → IsRefusalPrinted format source status text → IsShowPrinted format view source options bytes status text
 
 -- the lines and the status of a command
 abbrev pub AreLinesPrinted : (Printed → Type 0) → Status → List ℕ → Type 0
@@ -50,7 +60,7 @@ AreLinesPrinted Is status text = (printed : Printed) × Is printed × (text ≡ 
 
 -- what the command prints of these bytes
 abbrev pub IsActionPrinted : Action → Format → View → Source → Option (List ℕ) → List ℕ → Status → List ℕ → Type 0
-IsActionPrinted (action.Show options) format view source label bytes status text = IsListingPrinted (line_form format view source) options bytes status text
+IsActionPrinted (action.Show options) format view source label bytes status text = IsShowPrinted format view source options bytes status text
 IsActionPrinted (action.Read wanted) format view source label bytes status text = AreLinesPrinted (IsReadMessage format source.file.now source.block wanted label bytes) status text
 IsActionPrinted (action.Cms signers) format view source label bytes status text = AreLinesPrinted (IsPrinted source.file.now source.block bytes signers format) status text
 IsActionPrinted action.Certificate format view source label bytes status text = AreLinesPrinted (IsCertificatePrinted format source.file.now source.block bytes) status text
@@ -70,11 +80,6 @@ abbrev pub front_text : Request → Source → Option (List ℕ) → List ℕ
 front_text r source label = heading_if r.action r.format source label
 
 -- ---- blocks
-
--- a line that says why something isn't looked at
-abbrev pub IsRefusalPrinted : Format → Source → Status → List ℕ → Type 0
-IsRefusalPrinted format source status text = (reason : List ℕ)
-    × (text ≡ refused_text format source.file.now source.block reason) × (status ≡ Refused)
 
 -- a heading and what is printed of the bytes of a block, or why there are none
 abbrev pub IsBlockPrinted : Request → View → Source → Block → Status → List ℕ → Type 0

@@ -2,7 +2,7 @@
 
 use crate::report::{View, print_report};
 use crate::request::Request;
-use der_program_base::{Status, read_input};
+use der_program_base::{Status, read_input, shown};
 use picky_asn1_der::misc::WriteExt;
 use picky_asn1_der::{Asn1DerError, Result};
 use std::io::{self, ErrorKind, IsTerminal};
@@ -20,7 +20,8 @@ pub fn print_file<W: WriteExt>(
     match read_input(rt, file) {
         Ok(input) => of_output(print_report(rt.alloc(), request, view, file, &input, output)),
         Err(error) => {
-            eprintln!(rt; "der: {file}: {error}")?;
+            let name = shown(rt.alloc(), file)?;
+            eprintln!(rt; "der: {name}: {error}")?;
             Ok(Status::Trouble)
         }
     }

@@ -4,7 +4,7 @@ ghost use Rattle.std.specs.Option.{option_copied};
 ghost use Rattle.serde_json.specs.View.{view};
 ghost use Rattle.der.specs.Notes.{heading_text, skipped_data, skipped_text, refused_data, refused_text};
 
-use der_program_base::{Format, text_or_bytes};
+use der_program_base::{Format, json_line, text_or_bytes};
 use der_read::{block_value, place_name, place_text};
 use serde_json::{Value, json};
 use std::alloc::{AllocError, Global};
@@ -48,7 +48,7 @@ pub fn skipped_note(
         }
         Format::Json => {
             let object = skipped_value(alloc, file, skipped)?;
-            let line = object.to_string(alloc)?;
+            let line = json_line(alloc, &object)?;
             format!(in alloc; "{line}\n")
         }
     }
@@ -78,7 +78,7 @@ pub fn refusal_note(
         }
         Format::Json => {
             let object = refused_value(alloc, file, block, reason)?;
-            let line = object.to_string(alloc)?;
+            let line = json_line(alloc, &object)?;
             format!(in alloc; "{line}\n")
         }
     }

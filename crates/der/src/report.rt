@@ -4,7 +4,7 @@ ghost use Rattle.std.specs.Option.{option_copied};
 ghost use Rattle.std.specs.Io.KnownBytes.{Appends};
 ghost use Rattle.der_program_base.specs.declared.status.Status.TheVariants.{Refused};
 ghost use Rattle.der.specs.Notes.{refused_text, skipped_text};
-ghost use Rattle.der.specs.Report.{Prints, AreBlocksPrinted, IsBlockPrinted, IsMessagePrinted, IsReport, IsRefusalPrinted, IsListingPrinted, front_text, line_form};
+ghost use Rattle.der.specs.Report.{Prints, AreBlocksPrinted, IsBlockPrinted, IsMessagePrinted, IsReport, IsRefusalPrinted, IsListingPrinted, IsShowPrinted, front_text, line_form};
 
 use crate::notes::{heading, refusal_note, skipped_note};
 use crate::request::{Action, Request};
@@ -15,6 +15,8 @@ use der_signers::signers_report;
 use picky_asn1_der::Result;
 use picky_asn1_der::misc::WriteExt;
 use std::alloc::Global;
+
+const NOTHING_THERE: &str = "there is no byte at this offset";
 
 /// Which listings have headings and colours.
 #[derive(Debug, Clone, Copy, PartialEq, Eq)]
@@ -122,10 +124,7 @@ fn print_message<W: WriteExt>(
     let format = request.format;
     let Source { file, block } = source;
     match &request.action {
-        Action::Show(options) => {
-            let form = line_form(format, view, source);
-            print_listing(alloc, options, &form, bytes, output)
-        }
+        Action::Show(options) => print_shown(alloc, options, format, view, source, bytes, output),
         Action::Read(wanted) => {
             let printed = read_message(alloc, format, file, block, *wanted, label, bytes)?;
             print_lines(&printed, output)
@@ -139,6 +138,26 @@ fn print_message<W: WriteExt>(
             print_lines(&printed, output)
         }
     }
+}
+
+// Prints the elements of a message, or that there is none where the listing begins.
+fn print_shown<W: WriteExt>(
+    alloc: Global,
+    options: &ShowOptions,
+    format: Format,
+    view: View,
+    source: Source<'_>,
+    bytes: &[u8],
+    output: &mut W,
+) -> Result<Status>
+    ensures { IfOk result (λ status. Prints (IsShowPrinted format view source options.now bytes.now status)
+        (W.written output.old) (W.written output.new)) }
+{
+    if options.start < bytes.len() {
+        let form = line_form(format, view, source);
+        return print_listing(alloc, options, &form, bytes, output);
+    }
+    print_refusal(alloc, format, source, NOTHING_THERE, output)
 }
 
 // The form of the lines of a listing.

@@ -1,7 +1,7 @@
 //! What the arguments ask for.
 
 use clap::ArgMatches;
-use der_program_base::{Form, Format, read_input};
+use der_program_base::{Form, Format, read_input, shown};
 use der_read::{MessageType, type_of_word};
 use der_show::ShowOptions;
 use der_signers::LineEnds;
@@ -111,6 +111,7 @@ fn signers_request(
         Some(name) => match read_input(rt, name) {
             Ok(content) => Some(content),
             Err(error) => {
+                let name = shown(rt.alloc(), name)?;
                 eprintln!(rt; "der: {name}: {error}")?;
                 return Ok(None);
             }

@@ -103,10 +103,13 @@ map_same : (xs : List ℕ) → map (λ x. x) xs ≡ xs
 map_same [] = refl
 map_same (x ∷ xs) = ap (λ l. x ∷ l) (map_same xs)
 
+pub each_pushed : (written : ℕ → List ℕ) (text old new characters : List ℕ) → map (λ c. c) characters ≡ chars text
+    → new ≡ old ++ flat_map written characters → new ≡ old ++ flat_map written (chars text)
+each_pushed written text old new characters all e = e ∙ ap (λ l. old ++ flat_map written l) (sym (map_same characters) ∙ all)
+
 pub all_pushed : (special : ℕ → Bool) (text old new characters : List ℕ) → map (λ c. c) characters ≡ chars text
     → new ≡ old ++ flat_map (escaped_character special) characters → new ≡ old ++ escaped special text
-all_pushed special text old new characters all e = e
-    ∙ ap (λ l. old ++ flat_map (escaped_character special) l) (sym (map_same characters) ∙ all)
+all_pushed special text old new characters all e = each_pushed (escaped_character special) text old new characters all e
 
 -- At a literal of ASCII the test computes to true.
 all_ascii : (text : List ℕ) → list_all is_visible text ≡ true → IsAscii text

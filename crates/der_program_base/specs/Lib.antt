@@ -1,6 +1,7 @@
 pub mod Boundaries
 pub mod Contents
 pub mod Guess
+pub mod Json
 pub mod Laws
 pub mod Line
 pub mod Lines

@@ -125,7 +125,7 @@ impl Write for Line {
 
 // Whether a character ends a line, or moves or hides other characters.
 #[tactic(auto, using(std::proofs::lemmas::Bool::Decides::nat_tests), unfolding(crate::specs::Line::is_disruptive))]
-fn is_disruptive(character: char) -> bool
+pub(crate) fn is_disruptive(character: char) -> bool
     ensures { result ≡ is_disruptive character }
 {
     character.is_control()

@@ -2,7 +2,7 @@
 use Rattle.std.specs.Prelude.{◌≡◌, ℕ, ◌-◌, ◌<◌, Bool, List, [], ◌∷◌, ◌++◌, length, Option, None, Some, if◌then◌else◌, codes, decimal, string_bytes}
 use Rattle.hex.specs.Hex.{encode_lower}
 use Rattle.serde_json.specs.Data.{Data, boolean, number, unsigned, string, object, member, no_members}
-use Rattle.serde_json.specs.Written.{compact_text}
+use Rattle.der_program_base.specs.Json.{json_line}
 use Rattle.der_program_base.specs.declared.status.Status.{Status}
 use Rattle.der_program_base.specs.declared.status.Status.TheVariants as status
 use Rattle.der_types.specs.declared.date_time.DateTime.{DateTime}
@@ -83,7 +83,7 @@ summary_data file block s is_same =
 
 abbrev pub summary_line : Format → List ℕ → Option ℕ → Summary → Bool → List ℕ
 summary_line Text file block s is_same = place_text file block ++ summary_text s is_same
-summary_line Json file block s is_same = compact_text (summary_data file block s is_same)
+summary_line Json file block s is_same = json_line (summary_data file block s is_same)
 
 -- so many of so many bytes are a certificate
 abbrev pub left_over_text : ℕ → ℕ → List ℕ

@@ -3,7 +3,7 @@ use Rattle.std.specs.Prelude.{◌≡◌, ℕ, List, [], ◌∷◌, ◌++◌, map
 use Rattle.std.specs.List.{flat_map}
 use Rattle.serde_json.specs.Data.{Data, null, number, unsigned, string, array, object, member, no_members}
 use Rattle.serde_json.specs.View.{items_of}
-use Rattle.serde_json.specs.Written.{compact_text}
+use Rattle.der_program_base.specs.Json.{json_line}
 use Rattle.der_program_base.specs.Texts.{text_or_bytes}
 use Rattle.der_program_base.specs.declared.printed.Format.{Format}
 use Rattle.der_program_base.specs.declared.printed.Format.TheVariants.{Text, Json}
@@ -66,12 +66,12 @@ refusal_data file block offset refused =
 -- the line of a refusal
 abbrev pub refusal_line : Format → List ℕ → Option ℕ → Data → List ℕ → List ℕ
 refusal_line Text file block offset refused = place_text file block ++ refused
-refusal_line Json file block offset refused = compact_text (refusal_data file block offset refused)
+refusal_line Json file block offset refused = json_line (refusal_data file block offset refused)
 
 -- the line of a message
 abbrev pub message_line : Format → List ℕ → Option ℕ → ℕ → List MessageType → List ℕ
 message_line Text file block size types = place_text file block ++ message_text size types
-message_line Json file block size types = compact_text (message_data file block size types)
+message_line Json file block size types = json_line (message_data file block size types)
 
 -- ---- what is printed
 

@@ -8,7 +8,7 @@ use crate::explanation::explanation_of;
 use crate::names::{dotted_text, name_text};
 use crate::printed::{ended, refusal_line};
 use crate::{Outcome, block_value, examine, place_text};
-use der_program_base::{Format, Printed, Status};
+use der_program_base::{Format, Printed, Status, json_line};
 use der_types::names::name_of;
 use der_types::{DateTime, ObjectIdentifier};
 use der_x509::{TbsCertificate, Time};
@@ -173,7 +173,7 @@ fn summary_line(
         }
         Format::Json => {
             let value = summary_value(alloc, file, block, summary, is_same)?;
-            value.to_string(alloc)
+            json_line(alloc, &value)
         }
     }
 }

@@ -6,7 +6,7 @@ ghost use Rattle.serde_json.specs.Written.{has_float};
 ghost use Rattle.der_read.specs.Printed.{or_words, words_data, message_data, message_line, offset_data, refusal_data, refusal_line, refusal_text, verdict_line, IsReadMessage};
 
 use crate::{MessageType, Verdict, block_value, place_text, verdict_of};
-use der_program_base::{Format, Printed, text_or_bytes};
+use der_program_base::{Format, Printed, json_line, text_or_bytes};
 use serde_json::{Value, json};
 use std::alloc::{AllocError, Global};
 
@@ -79,7 +79,7 @@ fn message_line(
         }
         Format::Json => {
             let value = message_value(alloc, file, block, size, types)?;
-            value.to_string(alloc)
+            json_line(alloc, &value)
         }
     }
 }
@@ -119,7 +119,7 @@ pub(crate) fn refusal_line(
         }
         Format::Json => {
             let value = refusal_value(alloc, file, block, offset, text)?;
-            value.to_string(alloc)
+            json_line(alloc, &value)
         }
     }
 }

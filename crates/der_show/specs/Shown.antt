@@ -7,7 +7,7 @@ use Rattle.picky_der_core.specs.declared.error.Asn1DerError.TheVariants.{OutOfMe
 use Rattle.picky_der_core.specs.declared.misc.writer.WriteExt.{Ghosts}
 use Rattle.picky_der_core.specs.Writer.{AppendsBeginning}
 use Rattle.picky_der_core.specs.WriterFaults.{WriterFails}
-use Rattle.serde_json.specs.Written.{compact_text}
+use Rattle.der_program_base.specs.Json.{json_line}
 use Rattle.der_program_base.specs.Line.{IsOneLine}
 use Rattle.der_program_base.specs.Text.{text_of_lines}
 use Rattle.der_show.specs.declared.element.Element.{Element}
@@ -50,8 +50,8 @@ pub record IsColouredLine (e : Entry) (line : List ℕ) : Type 0 where
 
 -- a line of JSON: the object of the element, with its type and its value in words, or that of the rule in words
 pub data IsJsonLine (s : Source) : Entry → List ℕ → Type 0 where
-  element : (e : Element) (type_name : List ℕ) (value : Option (List ℕ)) (line : List ℕ) → line ≡ compact_text (element_data s e type_name value) → IsJsonLine s (entry.Element e) line
-  complaint : (c : Complaint) (rule clause : List ℕ) (line : List ℕ) → line ≡ compact_text (complaint_data s c.offset rule clause) → IsJsonLine s (entry.Complaint c) line
+  element : (e : Element) (type_name : List ℕ) (value : Option (List ℕ)) (line : List ℕ) → line ≡ json_line (element_data s e type_name value) → IsJsonLine s (entry.Element e) line
+  complaint : (c : Complaint) (rule clause : List ℕ) (line : List ℕ) → line ≡ json_line (complaint_data s c.offset rule clause) → IsJsonLine s (entry.Complaint c) line
 
 abbrev pub IsLineOf : LineForm → Entry → List ℕ → Type 0
 IsLineOf line_form.Text e line = IsTextLine e line

@@ -1,5 +1,5 @@
 //! The lines of a listing.
-ghost use Rattle.std.specs.Prelude.{◌≡◌, ◌∷◌, [], IfOk, OnOk, IfErr, string_bytes};
+ghost use Rattle.std.specs.Prelude.{◌≡◌, ◌∷◌, [], ◌++◌, IfOk, OnOk, IfErr, codes, string_bytes};
 ghost use Rattle.picky_der_core.specs.WriterFaults.{IsOnceAtMost};
 ghost use Rattle.der_program_base.specs.Line.{IsOneLine};
 ghost use Rattle.der_show.specs.Entries.{element_at};
@@ -17,6 +17,10 @@ use picky_der_core::asn1::Tag;
 use picky_der_core::misc::WriteExt;
 use picky_der_core::{Asn1DerError, Result};
 use std::alloc::{AllocError, Global};
+
+// What begins the colour of columns on a terminal (ECMA-48, 8.3.117).
+const FAINT: &str = "\u{1b}[2m";
+const RED: &str = "\u{1b}[31m";
 
 // Where an element is.
 #[derive(Clone, Copy)]
@@ -125,12 +129,12 @@ fn line_of(
         (LineForm::Coloured, Entry::Element(element)) => {
             let front = front_of_element(alloc, element)?;
             let words = element_words(alloc, ahead, element, form)?;
-            format!(in alloc; "\u{1b}[2m{front}\u{1b}[0m{words}")
+            coloured(alloc, FAINT, &front, &words)
         }
         (LineForm::Coloured, Entry::Complaint(complaint)) => {
             let front = front_of_complaint(alloc, complaint.offset)?;
             let words = complaint_words(alloc, complaint)?;
-            format!(in alloc; "\u{1b}[31m{front}\u{1b}[0m{words}")
+            coloured(alloc, RED, &front, &words)
         }
         (LineForm::Json(source), Entry::Element(element)) => {
             let type_name = type_text(alloc, element.tag)?;
@@ -148,6 +152,19 @@ fn line_of(
             )
         }
     }
+}
+
+// The columns of a line in a colour, and then its words.
+fn coloured(
+    alloc: Global,
+    colour: &str,
+    front: &str,
+    words: &str,
+) -> std::result::Result<String, AllocError>
+    ensures { IfOk result (λ line. string_bytes line
+        ≡ colour.now ++ (front.now ++ ((0x1B ∷ codes "[0m") ++ words.now))) }
+{
+    format!(in alloc; "{colour}{front}\u{1b}[0m{words}")
 }
 
 // The name of a tag.

@@ -1,10 +1,11 @@
 //! Lines of JSON. The only error of each function is a failed allocation.
 ghost use Rattle.std.specs.Prelude.{◌≡◌, IfOk, option_map, string_bytes};
 ghost use Rattle.serde_json.specs.View.{view};
-ghost use Rattle.serde_json.specs.Written.{compact_text};
+ghost use Rattle.der_program_base.specs.Json.{json_line};
 ghost use Rattle.der_show.specs.Json.{element_data, complaint_data, block_data, value_data};
 
 use crate::{Element, Source};
+use der_program_base::json_line;
 use serde_json::{Value, json};
 use std::alloc::{AllocError, Global};
 
@@ -16,10 +17,10 @@ pub(crate) fn json_of_element(
     type_name: &str,
     value: Option<String>,
 ) -> Result<String, AllocError>
-    ensures { IfOk result (λ text. string_bytes text ≡ compact_text (element_data source.now element.now type_name.now (option_map string_bytes value))) }
+    ensures { IfOk result (λ text. string_bytes text ≡ json_line (element_data source.now element.now type_name.now (option_map string_bytes value))) }
 {
     let data = element_value(alloc, source, element, type_name, value)?;
-    data.to_string(alloc)
+    json_line(alloc, &data)
 }
 
 fn element_value(
@@ -60,10 +61,10 @@ pub(crate) fn json_of_complaint(
     rule: &str,
     clause: &str,
 ) -> Result<String, AllocError>
-    ensures { IfOk result (λ text. string_bytes text ≡ compact_text (complaint_data source.now offset rule.now clause.now)) }
+    ensures { IfOk result (λ text. string_bytes text ≡ json_line (complaint_data source.now offset rule.now clause.now)) }
 {
     let data = complaint_value(alloc, source, offset, rule, clause)?;
-    data.to_string(alloc)
+    json_line(alloc, &data)
 }
 
 fn complaint_value(

@@ -87,7 +87,7 @@ impl Rule {
             Rule::IndefiniteLength => "the length is indefinite",
             Rule::WideLength => "the length takes more than eight bytes, which aren't read here",
             Rule::LongLength => "the length isn't in the fewest bytes",
-            Rule::PastEnd => "the content ends after the element around it",
+            Rule::PastEnd => "the content ends after the input or the element around it",
             Rule::EndOfContents => "end-of-contents bytes without an indefinite length",
             Rule::NotPrimitive => "the type's encoding isn't primitive",
             Rule::ConstructedString => "a string in parts",

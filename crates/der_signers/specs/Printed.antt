@@ -1,7 +1,7 @@
 -- What is printed of a message.
 use Rattle.std.specs.Prelude.{◌≡◌, ℕ, List, [], ◌∷◌, ◌++◌, Option, string_bytes}
 use Rattle.std.specs.List.{enumerate_from, flat_map}
-use Rattle.serde_json.specs.Written.{compact_text}
+use Rattle.der_program_base.specs.Json.{json_line}
 use Rattle.der_signers.specs.declared.comparison.ContentComparison.{ContentComparison}
 use Rattle.der_signers.specs.declared.message.Message.{Message}
 use Rattle.der_signers.specs.declared.outcome.Outcome.{Outcome}
@@ -24,7 +24,7 @@ use Rattle.der_signers.specs.Text.{signer_line, no_signers_line, refusal_line}
 -- of the signer with this index, counted from 0
 abbrev pub signer_text : Format → List ℕ → Option ℕ → Option ContentComparison → ℕ → Report → List ℕ
 signer_text Text file block content index r = signer_line file block content r
-signer_text Json file block content index r = compact_text (signer_data file block content index r) ++ 10 ∷ []
+signer_text Json file block content index r = json_line (signer_data file block content index r) ++ 10 ∷ []
 
 -- of each signer, in their order
 abbrev pub signers_text : Format → List ℕ → Option ℕ → Message → List ℕ
@@ -32,7 +32,7 @@ signers_text format file block m = flat_map (λ numbered. signer_text format fil
 
 abbrev pub no_signers_text : Format → List ℕ → Option ℕ → Message → List ℕ
 no_signers_text Text file block m = no_signers_line file block m
-no_signers_text Json file block m = compact_text (no_signers_data file block m) ++ 10 ∷ []
+no_signers_text Json file block m = json_line (no_signers_data file block m) ++ 10 ∷ []
 
 -- of each signer, or a line that says that there is none
 abbrev pub message_text : Format → List ℕ → Option ℕ → Message → List ℕ
@@ -45,7 +45,7 @@ message_text format file block m = lines_or_none m.reports.items (signers_text f
 -- of a message that is refused
 abbrev pub refusal_text : Format → List ℕ → Option ℕ → Reason → List ℕ
 refusal_text Text file block reason = refusal_line file block (string_bytes reason.text)
-refusal_text Json file block reason = compact_text (refused_data file block reason) ++ 10 ∷ []
+refusal_text Json file block reason = json_line (refused_data file block reason) ++ 10 ∷ []
 
 -- ---- the whole
 

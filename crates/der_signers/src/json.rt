@@ -1,7 +1,8 @@
 //! Lines of JSON. The only error of each function is a failed allocation.
 ghost use Rattle.std.specs.Prelude.{◌≡◌, ◌++◌, [], ◌∷◌, false, IfOk, option_map, string_bytes};
 ghost use Rattle.serde_json.specs.View.{view};
-ghost use Rattle.serde_json.specs.Written.{compact_text, has_float};
+ghost use Rattle.serde_json.specs.Written.{has_float};
+ghost use Rattle.der_program_base.specs.Json.{json_line};
 ghost use Rattle.der_signers.specs.Json.{number_data, certificate_data, comparisons_data, content_data, digest_data, digests_data, hint_data, no_signers_data, refused_data, signer_data, who_data};
 
 use crate::comparison::{ContentComparison, DigestComparison, listed_word};
@@ -9,6 +10,7 @@ use crate::message::Message;
 use crate::reason::Reason;
 use crate::report::{Report, Signed};
 use crate::who::{CertificateName, Who};
+use der_program_base::json_line;
 use serde_json::{Value, json};
 use std::alloc::{AllocError, Global};
 
@@ -22,7 +24,7 @@ pub fn signer_object(
     report: &Report,
 ) -> Result<String, AllocError>
     ensures { IfOk result (λ line. string_bytes line
-        ≡ compact_text (signer_data file.now block content index report.now) ++ 10 ∷ []) }
+        ≡ json_line (signer_data file.now block content index report.now) ++ 10 ∷ []) }
 {
     let value = signer_value(alloc, file, block, content, index, report)?;
     line_of(alloc, &value)
@@ -36,7 +38,7 @@ pub fn no_signers_object(
     message: &Message,
 ) -> Result<String, AllocError>
     ensures { IfOk result (λ line. string_bytes line
-        ≡ compact_text (no_signers_data file.now block message.now) ++ 10 ∷ []) }
+        ≡ json_line (no_signers_data file.now block message.now) ++ 10 ∷ []) }
 {
     let value = no_signers_value(alloc, file, block, message)?;
     line_of(alloc, &value)
@@ -50,7 +52,7 @@ pub fn refusal_object(
     reason: &Reason,
 ) -> Result<String, AllocError>
     ensures { IfOk result (λ line. string_bytes line
-        ≡ compact_text (refused_data file.now block reason.now) ++ 10 ∷ []) }
+        ≡ json_line (refused_data file.now block reason.now) ++ 10 ∷ []) }
 {
     let value = refused_value(alloc, file, block, reason)?;
     line_of(alloc, &value)
@@ -59,9 +61,9 @@ pub fn refusal_object(
 // The text of an object, with no space outside of its strings, and the end of the line.
 fn line_of(alloc: Global, value: &Value) -> Result<String, AllocError>
     requires { has_float (view value.now) ≡ false }
-    ensures { IfOk result (λ line. string_bytes line ≡ compact_text (view value.now) ++ 10 ∷ []) }
+    ensures { IfOk result (λ line. string_bytes line ≡ json_line (view value.now) ++ 10 ∷ []) }
 {
-    let mut line = value.to_string(alloc)?;
+    let mut line = json_line(alloc, value)?;
     line.push_str("\n")?;
     Ok(line)
 }
