@@ -31,7 +31,14 @@ fn main(rt: HostRuntime) -> ExitCode {
 
 // Does what the arguments ask for, and returns the status.
 fn run(rt: &HostRuntime) -> io::Result<Status> {
-    let words: Vec<String> = std::env::args(rt)?.collect(rt.alloc())?;
+    let words: Vec<String> = match std::env::args(rt) {
+        Ok(words) => words.collect(rt.alloc())?,
+        Err(error) if error.kind() == ErrorKind::InvalidData => {
+            eprintln!(rt; "der: an argument isn't UTF-8")?;
+            return Ok(Status::Trouble);
+        }
+        Err(error) => return Err(error),
+    };
     let matches = match command(rt.alloc())?.try_get_matches_from(words.as_slice()) {
         Ok(matches) => matches,
         Err(error) => return report(rt, &error),

@@ -33,6 +33,10 @@ pub fn request_of(
     name: &str,
     matches: &ArgMatches<'_>,
 ) -> io::Result<Option<Request>> {
+    if standard_inputs(name, matches) > 1 {
+        eprintln!(rt; "der: standard input is named more than once")?;
+        return Ok(None);
+    }
     let action = match name {
         "show" => show_options(rt, matches)?.map(Action::Show),
         "cms" => signers_request(rt, matches)?.map(Action::Cms),
@@ -58,6 +62,19 @@ pub fn files_of<'a>(name: &str, matches: &'a ArgMatches<'a>) -> &'a [&'a str] {
     match words_of(matches) {
         [_, files @ ..] if name == "read" && wanted_type(words_of(matches)).is_some() => files,
         files => files,
+    }
+}
+
+// How many of the files are standard input.
+fn standard_inputs(name: &str, matches: &ArgMatches<'_>) -> usize {
+    let files = files_of(name, matches)
+        .iter()
+        .filter(|file| **file == "-")
+        .count();
+    if name == "cms" && matches.get_str("content") == Some("-") {
+        files.saturating_add(1)
+    } else {
+        files
     }
 }
 

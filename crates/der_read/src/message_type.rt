@@ -7,7 +7,7 @@ ghost use Rattle.der_read.specs.Message.{IsRefusalOf};
 ghost use Rattle.der_read.specs.Types.{word_of, title_of, labels_of};
 
 use crate::{KerberosMessage, refusal_as};
-use der_algorithms::{DssParms, EcpkParameters};
+use der_algorithms::{DssParms, EcdsaSigValue, EcpkParameters};
 use der_cms::{
     AuthEnvelopedData, AuthenticatedData, ContentInfo, DigestedData, EncryptedData, EnvelopedData,
     SignedData,
@@ -22,7 +22,9 @@ use der_pkix::{
     AttributeCertificate, CertificationRequest, EcPrivateKey, EncryptedPrivateKeyInfo,
     PrivateKeyInfo, RsaPrivateKey, RsaPublicKey,
 };
-use der_status::{OcspRequest, OcspResponse, TimeStampReq, TimeStampResp, TstInfo};
+use der_status::{
+    BasicOcspResponse, OcspRequest, OcspResponse, TimeStampReq, TimeStampResp, TstInfo,
+};
 use der_x509::{Certificate, CertificateList, SubjectPublicKeyInfo};
 use picky_asn1_der::{DecodeError, Deserialize, Serialize};
 use std::alloc::{AllocError, Global};
@@ -42,6 +44,8 @@ pub enum MessageType {
     OcspRequest,
     /// Response with the status of certificates (RFC 6960, 4.2.1).
     OcspResponse,
+    /// What a response with the status of certificates says (RFC 6960, 4.2.1).
+    BasicOcspResponse,
     /// Request for a time stamp (RFC 3161, 2.4.1).
     TimestampQuery,
     /// Response with a time stamp (RFC 3161, 2.4.2).
@@ -74,6 +78,8 @@ pub enum MessageType {
     PublicKey,
     /// Public key of RSA, PKCS #1 (RFC 8017, A.1.1).
     RsaPublicKey,
+    /// Signature of ECDSA or DSA (RFC 3279, 2.2.3).
+    EcdsaSignature,
     /// Parameters of an elliptic curve (RFC 3279, 2.3.5).
     EcParameters,
     /// Parameters of DSA (RFC 3279, 2.3.2).
@@ -121,13 +127,14 @@ pub enum MessageType {
 }
 
 /// All types of messages.
-pub static ALL_TYPES: [MessageType; 44] = [
+pub static ALL_TYPES: [MessageType; 46] = [
     MessageType::Certificate,
     MessageType::Crl,
     MessageType::AttributeCertificate,
     MessageType::Csr,
     MessageType::OcspRequest,
     MessageType::OcspResponse,
+    MessageType::BasicOcspResponse,
     MessageType::TimestampQuery,
     MessageType::TimestampResponse,
     MessageType::TstInfo,
@@ -144,6 +151,7 @@ pub static ALL_TYPES: [MessageType; 44] = [
     MessageType::EcKey,
     MessageType::PublicKey,
     MessageType::RsaPublicKey,
+    MessageType::EcdsaSignature,
     MessageType::EcParameters,
     MessageType::DsaParameters,
     MessageType::Pkcs12,
@@ -169,13 +177,14 @@ pub static ALL_TYPES: [MessageType; 44] = [
 ];
 
 /// The types that are tried where none is asked for, in this order: all but those that are any of others.
-pub static TRIED_TYPES: [MessageType; 43] = [
+pub static TRIED_TYPES: [MessageType; 45] = [
     MessageType::Certificate,
     MessageType::Crl,
     MessageType::AttributeCertificate,
     MessageType::Csr,
     MessageType::OcspRequest,
     MessageType::OcspResponse,
+    MessageType::BasicOcspResponse,
     MessageType::TimestampQuery,
     MessageType::TimestampResponse,
     MessageType::TstInfo,
@@ -192,6 +201,7 @@ pub static TRIED_TYPES: [MessageType; 43] = [
     MessageType::EcKey,
     MessageType::PublicKey,
     MessageType::RsaPublicKey,
+    MessageType::EcdsaSignature,
     MessageType::EcParameters,
     MessageType::DsaParameters,
     MessageType::Pkcs12,
@@ -232,6 +242,7 @@ impl MessageType {
             MessageType::Csr => "csr",
             MessageType::OcspRequest => "ocsp-request",
             MessageType::OcspResponse => "ocsp-response",
+            MessageType::BasicOcspResponse => "basic-ocsp-response",
             MessageType::TimestampQuery => "timestamp-query",
             MessageType::TimestampResponse => "timestamp-response",
             MessageType::TstInfo => "tst-info",
@@ -248,6 +259,7 @@ impl MessageType {
             MessageType::EcKey => "ec-key",
             MessageType::PublicKey => "public-key",
             MessageType::RsaPublicKey => "rsa-public-key",
+            MessageType::EcdsaSignature => "ecdsa-signature",
             MessageType::EcParameters => "ec-parameters",
             MessageType::DsaParameters => "dsa-parameters",
             MessageType::Pkcs12 => "pkcs12",
@@ -285,6 +297,8 @@ impl MessageType {
             MessageType::OcspRequest => "request for the status of certificates (RFC 6960, 4.1.1)",
             MessageType::OcspResponse =>
                 "response with the status of certificates (RFC 6960, 4.2.1)",
+            MessageType::BasicOcspResponse =>
+                "what a response with the status of certificates says (RFC 6960, 4.2.1)",
             MessageType::TimestampQuery => "request for a time stamp (RFC 3161, 2.4.1)",
             MessageType::TimestampResponse => "response with a time stamp (RFC 3161, 2.4.2)",
             MessageType::TstInfo => "what a time stamp says, a content of CMS (RFC 3161, 2.4.2)",
@@ -305,6 +319,7 @@ impl MessageType {
             MessageType::EcKey => "private key of an elliptic curve (RFC 5915, 3)",
             MessageType::PublicKey => "public key of any algorithm (RFC 5280, 4.1)",
             MessageType::RsaPublicKey => "public key of RSA, PKCS #1 (RFC 8017, A.1.1)",
+            MessageType::EcdsaSignature => "signature of ECDSA or DSA (RFC 3279, 2.2.3)",
             MessageType::EcParameters => "parameters of an elliptic curve (RFC 3279, 2.3.5)",
             MessageType::DsaParameters => "parameters of DSA (RFC 3279, 2.3.2)",
             MessageType::Pkcs12 => "store of keys and certificates, PKCS #12 (RFC 7292, 4)",
@@ -350,6 +365,7 @@ impl MessageType {
             }
             MessageType::OcspRequest => false,
             MessageType::OcspResponse => false,
+            MessageType::BasicOcspResponse => false,
             MessageType::TimestampQuery => false,
             MessageType::TimestampResponse => false,
             MessageType::TstInfo => false,
@@ -366,6 +382,7 @@ impl MessageType {
             MessageType::EcKey => is(label, b"EC PRIVATE KEY"),
             MessageType::PublicKey => is(label, b"PUBLIC KEY"),
             MessageType::RsaPublicKey => is(label, b"RSA PUBLIC KEY"),
+            MessageType::EcdsaSignature => false,
             MessageType::EcParameters => is(label, b"EC PARAMETERS"),
             MessageType::DsaParameters => is(label, b"DSA PARAMETERS"),
             MessageType::Pkcs12 => false,
@@ -410,6 +427,7 @@ impl Described for MessageType {
       | named.Csr ↦ described ⟦<CertificationRequest as Serialize>⟧.meaning ⟦<CertificationRequest as Deserialize>⟧.shape
       | named.OcspRequest ↦ described ⟦<OcspRequest as Serialize>⟧.meaning ⟦<OcspRequest as Deserialize>⟧.shape
       | named.OcspResponse ↦ described ⟦<OcspResponse as Serialize>⟧.meaning ⟦<OcspResponse as Deserialize>⟧.shape
+      | named.BasicOcspResponse ↦ described ⟦<BasicOcspResponse as Serialize>⟧.meaning ⟦<BasicOcspResponse as Deserialize>⟧.shape
       | named.TimestampQuery ↦ described ⟦<TimeStampReq as Serialize>⟧.meaning ⟦<TimeStampReq as Deserialize>⟧.shape
       | named.TimestampResponse ↦ described ⟦<TimeStampResp as Serialize>⟧.meaning ⟦<TimeStampResp as Deserialize>⟧.shape
       | named.TstInfo ↦ described ⟦<TstInfo as Serialize>⟧.meaning ⟦<TstInfo as Deserialize>⟧.shape
@@ -426,6 +444,7 @@ impl Described for MessageType {
       | named.EcKey ↦ described ⟦<EcPrivateKey as Serialize>⟧.meaning ⟦<EcPrivateKey as Deserialize>⟧.shape
       | named.PublicKey ↦ described ⟦<SubjectPublicKeyInfo as Serialize>⟧.meaning ⟦<SubjectPublicKeyInfo as Deserialize>⟧.shape
       | named.RsaPublicKey ↦ described ⟦<RsaPublicKey as Serialize>⟧.meaning ⟦<RsaPublicKey as Deserialize>⟧.shape
+      | named.EcdsaSignature ↦ described ⟦<EcdsaSigValue as Serialize>⟧.meaning ⟦<EcdsaSigValue as Deserialize>⟧.shape
       | named.EcParameters ↦ described ⟦<EcpkParameters as Serialize>⟧.meaning ⟦<EcpkParameters as Deserialize>⟧.shape
       | named.DsaParameters ↦ described ⟦<DssParms as Serialize>⟧.meaning ⟦<DssParms as Deserialize>⟧.shape
       | named.Pkcs12 ↦ described ⟦<Pfx as Serialize>⟧.meaning ⟦<Pfx as Deserialize>⟧.shape
@@ -466,6 +485,7 @@ pub fn refusal_of(
         MessageType::Csr => refusal_as::<CertificationRequest>(alloc, bytes),
         MessageType::OcspRequest => refusal_as::<OcspRequest>(alloc, bytes),
         MessageType::OcspResponse => refusal_as::<OcspResponse>(alloc, bytes),
+        MessageType::BasicOcspResponse => refusal_as::<BasicOcspResponse>(alloc, bytes),
         MessageType::TimestampQuery => refusal_as::<TimeStampReq>(alloc, bytes),
         MessageType::TimestampResponse => refusal_as::<TimeStampResp>(alloc, bytes),
         MessageType::TstInfo => refusal_as::<TstInfo>(alloc, bytes),
@@ -482,6 +502,7 @@ pub fn refusal_of(
         MessageType::EcKey => refusal_as::<EcPrivateKey>(alloc, bytes),
         MessageType::PublicKey => refusal_as::<SubjectPublicKeyInfo>(alloc, bytes),
         MessageType::RsaPublicKey => refusal_as::<RsaPublicKey>(alloc, bytes),
+        MessageType::EcdsaSignature => refusal_as::<EcdsaSigValue>(alloc, bytes),
         MessageType::EcParameters => refusal_as::<EcpkParameters>(alloc, bytes),
         MessageType::DsaParameters => refusal_as::<DssParms>(alloc, bytes),
         MessageType::Pkcs12 => refusal_as::<Pfx>(alloc, bytes),

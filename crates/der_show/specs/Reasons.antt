@@ -1,5 +1,5 @@
 -- Why bytes were rejected.
-use Rattle.std.specs.Prelude.{◌≡◌, ℕ, ◌+◌, ◌/◌, Bool, false, ◌&&◌, not, ◌==◌, Option, Some, None, List, nat_lt, nat_le, find, reverse, take, drop, if◌then◌else◌}
+use Rattle.std.specs.Prelude.{◌≡◌, ℕ, ◌+◌, ◌-◌, ◌/◌, Bool, false, ◌&&◌, not, ◌==◌, Option, Some, None, List, length, nat_lt, nat_le, slice_get, find, reverse, take, drop, if◌then◌else◌}
 use Rattle.picky_der_core.specs.Order.{is_less}
 use Rattle.picky_der_de.specs.declared.whole.DecodeError.{DecodeError}
 use Rattle.der_show.specs.declared.element.Element.{Element}
@@ -36,14 +36,32 @@ may_be_set (Some parent) = not (parent.tag / 64 == 0)
 abbrev pub is_misplaced : List ℕ → List Element → Element → Bool
 is_misplaced bytes elements found = may_be_set (parent_of elements found) && is_below bytes found (previous_of elements found)
 
--- the reason where this is the last element before the position
-abbrev pub refused_by : List ℕ → List Element → DecodeError → Option Element → Reason
-refused_by bytes elements refusal None = record { offset = 0; cause = cause.Refused refusal.error }
-refused_by bytes elements refusal (Some found) =
-    record { offset = found.offset; cause = if is_misplaced bytes elements found then cause.RefusedOrder refusal.error else cause.Refused refusal.error }
+-- the element ends at this position
+abbrev pub ends_at : List ℕ → Element → ℕ → Bool
+ends_at bytes e position = nat_le e.offset position && (position - e.offset == length (encoding_of bytes e))
+
+-- the outermost element that ends there and is out of order, if it is a member of a SET OF
+abbrev pub misplaced_before : List ℕ → List Element → ℕ → Option Element
+misplaced_before bytes elements position = find (λ e. ends_at bytes e position && is_misplaced bytes elements e) elements
+
+-- the first element is before the position, and bytes follow
+abbrev pub has_more : List ℕ → Option Element → ℕ → Bool
+has_more bytes None position = false
+has_more bytes (Some first) position = nat_le (length (encoding_of bytes first)) position && nat_lt position (length bytes)
+
+-- of the last element before the position, or 0
+abbrev pub offset_before : List Element → ℕ → ℕ
+offset_before elements position = elim (last_before elements position) [ Some found ↦ found.offset | None ↦ 0 ]
+
+-- the reason where this member is out of order
+abbrev pub refused_by : List Element → DecodeError → Option Element → Reason
+refused_by elements refusal None = record { offset = offset_before elements refusal.position; cause = cause.Refused refusal.error }
+refused_by elements refusal (Some found) = record { offset = found.offset; cause = cause.RefusedOrder refusal.error }
 
 abbrev pub refused_at : List ℕ → List Element → DecodeError → Reason
-refused_at bytes elements refusal = refused_by bytes elements refusal (last_before elements refusal.position)
+refused_at bytes elements refusal =
+    if has_more bytes (slice_get elements 0) refusal.position then record { offset = refusal.position; cause = cause.BytesAfter }
+    else refused_by elements refusal (misplaced_before bytes elements refusal.position)
 
 -- the first rule that the bytes break, or where reading them stopped and with which error
 pub data IsReason (bytes : List ℕ) (refusal : DecodeError) (r : Reason) : Type 0 where

@@ -1,6 +1,6 @@
 //! Why bytes were rejected as a value of a type.
 ghost use Rattle.std.specs.Prelude.{◌≡◌, IfOk};
-ghost use Rattle.der_show.specs.Reasons.{IsReason, refused_at, last_before, previous_of, parent_of, encoding_of, is_below, may_be_set, is_misplaced};
+ghost use Rattle.der_show.specs.Reasons.{IsReason, refused_at, has_more, misplaced_before, ends_at, offset_before, last_before, previous_of, parent_of, encoding_of, is_below, may_be_set, is_misplaced};
 
 use crate::{Element, Rule, outline_of};
 use picky_der_core::Asn1DerError;
@@ -27,15 +27,18 @@ pub enum Cause {
     NotDer(Rule),
     /// They are elements in DER, but reading them as a value of the type gave this error.
     Refused(Asn1DerError),
-    /// The same, and the element at which reading stopped is less than the one before it. If they are members of a SET OF, they are out
-    /// of order (X.690, 11.6).
+    /// The same, and the element after which reading stopped is less than the one before it. If they are members of a SET OF, they are
+    /// out of order (X.690, 11.6).
     RefusedOrder(Asn1DerError),
+    /// They are elements in DER, and reading them as a value stopped after the first of them, though others follow it.
+    BytesAfter,
 }
 
 /// Returns why bytes were rejected with this error. The only error is a failed allocation.
 ///
-/// If the bytes aren't DER, it is the first rule that they break, with the offset of the element that breaks it. If they are, the offset is
-/// that of the last element that begins before the position at which reading stopped, or 0.
+/// If the bytes aren't DER, it is the first rule that they break, with the offset of the element that breaks it. If they are, and reading
+/// stopped after the first element, though bytes follow it, the offset is that of these bytes. Else it is that of the member of a SET OF
+/// that ends there and is out of order, or of the last element that begins before the position at which reading stopped, or 0.
 pub fn reason_of(alloc: Global, bytes: &[u8], refusal: DecodeError) -> Result<Reason, AllocError>
     ensures { IfOk result (IsReason bytes.now refusal) }
 {
@@ -53,20 +56,56 @@ pub fn reason_of(alloc: Global, bytes: &[u8], refusal: DecodeError) -> Result<Re
 fn refused_at(bytes: &[u8], elements: &[Element], refusal: DecodeError) -> Reason
     ensures { result ≡ refused_at bytes.now elements.now refusal }
 {
-    let error = refusal.error;
-    match last_before(elements, refusal.position) {
+    let DecodeError { error, position } = refusal;
+    if has_more(bytes, elements.first().copied(), position) {
+        return Reason {
+            offset: position,
+            cause: Cause::BytesAfter,
+        };
+    }
+    match misplaced_before(bytes, elements, position) {
         Some(found) => Reason {
             offset: found.offset,
-            cause: if is_misplaced(bytes, elements, &found) {
-                Cause::RefusedOrder(error)
-            } else {
-                Cause::Refused(error)
-            },
+            cause: Cause::RefusedOrder(error),
         },
         None => Reason {
-            offset: 0,
+            offset: offset_before(elements, position),
             cause: Cause::Refused(error),
         },
+    }
+}
+
+// Whether reading stopped after the first element, and there are bytes after it.
+fn has_more(bytes: &[u8], first: Option<Element>, position: usize) -> bool
+    ensures { result ≡ has_more bytes.now first position }
+{
+    match first {
+        Some(first) => encoding_of(bytes, &first).len() <= position && position < bytes.len(),
+        None => false,
+    }
+}
+
+// The first element that ends at a position, and is less than the member of a SET OF before it.
+fn misplaced_before(bytes: &[u8], elements: &[Element], position: usize) -> Option<Element>
+    ensures { result ≡ misplaced_before bytes.now elements.now position }
+{
+    elements.iter().copied().find(|element| ends_at(bytes, element, position)
+        && is_misplaced(bytes, elements, element))
+}
+
+fn ends_at(bytes: &[u8], element: &Element, position: usize) -> bool
+    ensures { result ≡ ends_at bytes.now element.now position }
+{
+    element.offset <= position && position - element.offset == encoding_of(bytes, element).len()
+}
+
+// The offset of the last element that begins before a position, or 0.
+fn offset_before(elements: &[Element], position: usize) -> usize
+    ensures { result ≡ offset_before elements.now position }
+{
+    match last_before(elements, position) {
+        Some(found) => found.offset,
+        None => 0,
     }
 }
 
@@ -155,6 +194,7 @@ impl fmt::Display for Cause {
             Cause::NotDer(rule) if rule.is_of_der_alone() => write!(f, "{rule}: this is BER"),
             Cause::NotDer(rule) => write!(f, "{rule}"),
             Cause::Refused(error) => write_error(f, error),
+            Cause::BytesAfter => f.write_str("more bytes follow the element"),
             Cause::RefusedOrder(error) => {
                 write_error(f, error)?;
                 write!(

@@ -19,6 +19,9 @@ returns-in-OcspRequest c = rw c.in-OcspRequest.is c.refusal_as-in-OcspRequest.en
 pub returns-in-OcspResponse : goal.returns-in-OcspResponse
 returns-in-OcspResponse c = rw c.in-OcspResponse.is c.refusal_as-in-OcspResponse.ensures
 
+pub returns-in-BasicOcspResponse : goal.returns-in-BasicOcspResponse
+returns-in-BasicOcspResponse c = rw c.in-BasicOcspResponse.is c.refusal_as-in-BasicOcspResponse.ensures
+
 pub returns-in-TimestampQuery : goal.returns-in-TimestampQuery
 returns-in-TimestampQuery c = rw c.in-TimestampQuery.is c.refusal_as-in-TimestampQuery.ensures
 
@@ -66,6 +69,9 @@ returns-in-PublicKey c = rw c.in-PublicKey.is c.refusal_as-in-PublicKey.ensures
 
 pub returns-in-RsaPublicKey : goal.returns-in-RsaPublicKey
 returns-in-RsaPublicKey c = rw c.in-RsaPublicKey.is c.refusal_as-in-RsaPublicKey.ensures
+
+pub returns-in-EcdsaSignature : goal.returns-in-EcdsaSignature
+returns-in-EcdsaSignature c = rw c.in-EcdsaSignature.is c.refusal_as-in-EcdsaSignature.ensures
 
 pub returns-in-EcParameters : goal.returns-in-EcParameters
 returns-in-EcParameters c = rw c.in-EcParameters.is c.refusal_as-in-EcParameters.ensures
