@@ -86,7 +86,7 @@ abbrev pub IsBlockPrinted : Request → View → Source → Block → Status →
 IsBlockPrinted r view source block status text =
     elim (items_of block.bytes) [
       | Ok bytes ↦ (own : List ℕ) × IsMessagePrinted r view source (Some block.label.items) bytes status own
-        × (text ≡ front_text r source (Some block.label.items) ++ own)
+          × (text ≡ front_text r source (Some block.label.items) ++ own)
       | Err fault ↦ IsRefusalPrinted r.format source status text
     ]
 
@@ -94,8 +94,8 @@ IsBlockPrinted r view source block status text =
 pub data AreBlocksPrinted (r : Request) (view : View) (file : List ℕ) : List Block → Status → List ℕ → Type 0 where
   none : AreBlocksPrinted r view file [] Fine []
   next : (blocks : List Block) (status : Status) (text : List ℕ) (block : Block) (source : Source) (own_status : Status) (own : List ℕ) → AreBlocksPrinted r view file blocks status text
-    → source.file.now ≡ file → source.block ≡ Some (length blocks + 1) → IsBlockPrinted r view source block own_status own
-    → AreBlocksPrinted r view file (blocks ++ block ∷ []) (worse_of status own_status) (text ++ (skipped_text r.format file block.skipped ++ own))
+      → source.file.now ≡ file → source.block ≡ Some (length blocks + 1) → IsBlockPrinted r view source block own_status own
+      → AreBlocksPrinted r view file (blocks ++ block ∷ []) (worse_of status own_status) (text ++ (skipped_text r.format file block.skipped ++ own))
 
 -- ---- files
 

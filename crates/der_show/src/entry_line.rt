@@ -20,6 +20,7 @@ use std::alloc::{AllocError, Global};
 
 // What begins the colour of columns on a terminal (ECMA-48, 8.3.117).
 const FAINT: &str = "\u{1b}[2m";
+
 const RED: &str = "\u{1b}[31m";
 
 // Where an element is.
