@@ -31,9 +31,11 @@ use Rattle.der_read.specs.Explanation.{IsExplanationOf, explanation_text}
 -- ---- members
 
 -- A time, as 2026-11-27T23:12:00Z. It has no fraction of a second: its content has 15 characters.
-pub data IsTimeText : Time → List ℕ → Type 0 where
-  utc_time : (t : utc.UtcTime) (text : List ℕ) → text ≡ date_time_text t.at → IsTimeText (UtcTime t) text
-  general_time : (t : _) (text : List ℕ) (at : DateTime) → generalized_content at (fraction_of t.value.content.items) ≡ t.value.content.items → text ≡ date_time_text at → IsTimeText (GeneralTime t) text
+abbrev pub IsTimeText : Time → List ℕ → Type 0
+IsTimeText (UtcTime t) text = text ≡ date_time_text t.at
+IsTimeText (GeneralTime t) text = (at : DateTime)
+    × (generalized_content at (fraction_of t.value.content.items) ≡ t.value.content.items)
+    × (text ≡ date_time_text at)
 
 -- the name of an algorithm, if it has one, and its arcs
 abbrev pub algorithm_text : Option (List ℕ) → ObjectIdentifier → List ℕ
