@@ -1,17 +1,44 @@
 -- What is printed of blocks, one after another.
-use Rattle.std.proofs.Common.{◌≡◌, ℕ, ◌+◌, ◌<◌, List, [], ◌∷◌, ◌++◌, length, take, get_or, Option, Some, sym, ap, ◌∙◌, subst, arith}
+use Rattle.std.proofs.Common.{◌≡◌, ℕ, ◌+◌, ◌<◌, List, [], ◌∷◌, ◌++◌, length, take, get_or, Option, Some, refl, sym, ap, ◌∙◌, subst, string_bytes, arith}
 use Rattle.std.specs.Io.KnownBytes.{Appends}
 use Rattle.std.proofs.KnownBytes.{Appends-nil, Appends-trans}
 use Rattle.std.proofs.lemmas.List.{take_more}
 use Rattle.der_program_base.specs.declared.blocks.Block.{Block}
+use Rattle.der_program_base.specs.declared.printed.Printed.{Printed}
 use Rattle.der_program_base.specs.declared.status.Status.{Status}
 use Rattle.der_program_base.specs.declared.status.Status.TheVariants.{Fine}
 use Rattle.der_program_base.specs.Status.{worse_of}
+use Rattle.der_show.specs.declared.listing.Shown.{Shown}
+use Rattle.der_show.specs.declared.options.LineForm.{LineForm}
+use Rattle.der_show.specs.declared.options.ShowOptions.{ShowOptions}
 use Rattle.der_show.specs.declared.options.Source.{Source}
+use Rattle.der_show.specs.Shown.{Shows}
 use Rattle.der.specs.declared.report.View.{View}
 use Rattle.der.specs.declared.request.Request.{Request}
 use Rattle.der.specs.Notes.{skipped_text}
-use Rattle.der.specs.Report.{AreBlocksPrinted, none, next, IsBlockPrinted, Prints}
+use Rattle.der.specs.Report.{AreBlocksPrinted, none, next, AreLinesPrinted, IsBlockPrinted, IsListingPrinted, Prints, listing_status}
+
+-- ---- one message
+
+pub listing_printed : (form : LineForm) (o : ShowOptions) (bytes : List ℕ) (shown : Shown) (status : Status) (a b : Option (List ℕ)) → Shows form o bytes shown a b → status ≡ listing_status shown
+    → Prints (IsListingPrinted form o bytes status) a b
+listing_printed form o bytes shown status a b s is =
+    let alone : Shows form o bytes shown (Some []) (Some s.text) = record { entries = s.entries; listing = s.listing; is_der = s.is_der; plain = s.plain; text = s.text; is_text = s.is_text; written = refl } in
+    (s.text, (shown, alone, is), s.written)
+
+pub lines_printed : (Is : Printed → Type 0) (printed : Printed) (status : Status) (a b : Option (List ℕ)) → Is printed → (status ≡ printed.status) × Appends a b (string_bytes printed.text)
+    → Prints (AreLinesPrinted Is status) a b
+lines_printed Is printed status a b is h = (string_bytes printed.text, (printed, is, refl, h.0), h.1)
+
+-- a text, and then one of which something holds
+pub prints_after : (Is : List ℕ → Type 0) (front : List ℕ) (a b c : Option (List ℕ)) → Appends a b front → Prints Is b c → Prints (λ text. (own : List ℕ) × Is own × (text ≡ front ++ own)) a c
+prints_after Is front a b c before here = (front ++ here.0, (here.0, here.1, refl), Appends-trans a b c front here.0 before here.2)
+
+-- and the same the other way round
+pub prints_before : (Is : List ℕ → Type 0) (back : List ℕ) (a b c : Option (List ℕ)) → Prints Is a b → Appends b c back → Prints (λ text. (own : List ℕ) × Is own × (text ≡ own ++ back)) a c
+prints_before Is back a b c here after = (here.0 ++ back, (here.0, here.1, refl), Appends-trans a b c here.0 back here.2 after)
+
+-- ---- blocks
 
 module _ (r : Request) (view : View) (file : List ℕ) where
   pub prints_none : (a : Option (List ℕ)) → Prints (AreBlocksPrinted r view file [] Fine) a a

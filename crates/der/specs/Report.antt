@@ -39,18 +39,22 @@ IsRefusalPrinted format source status text = (reason : List ℕ)
 -- ---- messages
 
 -- the form of the lines of a listing
-abbrev pub line_form : Format → View → Source → LineForm
-line_form Text view source = if view.has_colours then line_form.Coloured else line_form.Text
-line_form Json view source = line_form.Json source
+abbrev pub form_of : Format → View → Source → LineForm
+form_of Text view source = if view.has_colours then line_form.Coloured else line_form.Text
+form_of Json view source = line_form.Json source
+
+-- the status for a message with this listing
+abbrev pub listing_status : Shown → Status
+listing_status shown = if shown.is_der then Fine else Refused
 
 -- the lines of the elements, and the status
 abbrev pub IsListingPrinted : LineForm → ShowOptions → List ℕ → Status → List ℕ → Type 0
 IsListingPrinted form options bytes status text = (shown : Shown) × Shows form options bytes shown (Some []) (Some text)
-    × (status ≡ if shown.is_der then Fine else Refused)
+    × (status ≡ listing_status shown)
 
 -- the listing begins at one of the bytes; else nothing is listed
 pub data IsShowPrinted (format : Format) (view : View) (source : Source) (options : ShowOptions) (bytes : List ℕ) (status : Status) (text : List ℕ) : Type 0 where
-  listed : options.start < length bytes → IsListingPrinted (line_form format view source) options bytes status text → IsShowPrinted format view source options bytes status text
+  listed : options.start < length bytes → IsListingPrinted (form_of format view source) options bytes status text → IsShowPrinted format view source options bytes status text
   nothing : length bytes ≤ options.start → IsRefusalPrinted format source status text → IsShowPrinted format view source options bytes status text
 
 -- the lines and the status of a command

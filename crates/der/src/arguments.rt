@@ -10,6 +10,9 @@ const STATUSES: &str =
                         read, the output can't be written, or there is too little memory. 3 if nothing was refused and \
                         nothing could be compared. Of several messages it is the status of the worst.";
 
+/// The names of the commands.
+pub const COMMANDS: [&str; 4] = ["show", "read", "cms", "certificate"];
+
 // The program and its commands.
 pub fn command<'a>(alloc: Global) -> Result<Command<'a>, AllocError> {
     Command::new(alloc, "der")

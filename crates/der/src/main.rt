@@ -7,7 +7,7 @@ mod notes;
 mod report;
 mod request;
 
-use crate::arguments::command;
+use crate::arguments::{COMMANDS, command};
 use crate::inputs::{has_colours, print_file};
 use crate::report::View;
 use crate::request::{Request, files_of, request_of};
@@ -43,13 +43,15 @@ fn run(rt: &HostRuntime) -> io::Result<Status> {
         Ok(matches) => matches,
         Err(error) => return report(rt, &error),
     };
-    let Some((name, matches)) = matches.subcommand() else {
-        return Ok(Status::Trouble);
-    };
-    match request_of(rt, name, matches)? {
-        Some(request) => print_files(rt, &request, files_of(name, matches)),
-        None => Ok(Status::Trouble),
+    for name in &COMMANDS {
+        if let Some(found) = matches.subcommand_matches(*name) {
+            return match request_of(rt, *name, found)? {
+                Some(request) => print_files(rt, &request, files_of(*name, found)),
+                None => Ok(Status::Trouble),
+            };
+        }
     }
+    Ok(Status::Trouble)
 }
 
 // Prints what is asked about files, and returns the worst status. If the output can't be written, it says so.

@@ -4,13 +4,13 @@ ghost use Rattle.std.specs.Option.{option_copied};
 ghost use Rattle.std.specs.Io.KnownBytes.{Appends};
 ghost use Rattle.der_program_base.specs.declared.status.Status.TheVariants.{Refused};
 ghost use Rattle.der.specs.Notes.{refused_text, skipped_text};
-ghost use Rattle.der.specs.Report.{Prints, AreBlocksPrinted, IsBlockPrinted, IsMessagePrinted, IsReport, IsRefusalPrinted, IsListingPrinted, IsShowPrinted, front_text, line_form};
+ghost use Rattle.der.specs.Report.{Prints, AreBlocksPrinted, IsBlockPrinted, IsMessagePrinted, IsReport, IsRefusalPrinted, IsListingPrinted, IsShowPrinted, listing_status, front_text, form_of};
 
 use crate::notes::{heading, refusal_note, skipped_note};
 use crate::request::{Action, Request};
 use der_program_base::{Block, Contents, Format, Printed, Status, contents_of};
 use der_read::{certificate_line, read_message};
-use der_show::{LineForm, ShowOptions, Source, show_as};
+use der_show::{LineForm, ShowOptions, Shown, Source, show_as};
 use der_signers::signers_report;
 use picky_asn1_der::Result;
 use picky_asn1_der::misc::WriteExt;
@@ -45,9 +45,9 @@ pub fn print_report<W: WriteExt>(
     match contents_of(alloc, input, request.form)? {
         Contents::Der => {
             if view.has_headings {
-                print_heading(alloc, request, source, None, output)?;
+                print_heading(alloc, request, &source, None, output)?;
             }
-            print_message(alloc, request, view, source, None, input, output)
+            print_message(alloc, request, view, &source, None, input, output)
         }
         Contents::Pem(blocks) => {
             let status = print_blocks(alloc, request, view, file, &blocks.blocks, output)?;
@@ -55,7 +55,7 @@ pub fn print_report<W: WriteExt>(
             Ok(status)
         }
         Contents::Other(guess) => {
-            print_refusal(alloc, request.format, source, guess.sentence(), output)
+            print_refusal(alloc, request.format, &source, guess.sentence(), output)
         }
     }
 }
@@ -81,7 +81,7 @@ fn print_blocks<W: WriteExt>(
             file,
             block: Some(number),
         };
-        status = status.worse(print_block(alloc, request, view, source, block, output)?);
+        status = status.worse(print_block(alloc, request, view, &source, block, output)?);
     }
     Ok(status)
 }
@@ -91,11 +91,11 @@ fn print_block<W: WriteExt>(
     alloc: Global,
     request: &Request,
     view: View,
-    source: Source<'_>,
+    source: &Source<'_>,
     block: &Block,
     output: &mut W,
 ) -> Result<Status>
-    ensures { IfOk result (λ status. Prints (IsBlockPrinted request.now view source block.now status)
+    ensures { IfOk result (λ status. Prints (IsBlockPrinted request.now view source.now block.now status)
         (W.written output.old) (W.written output.new)) }
 {
     match &block.bytes {
@@ -113,16 +113,16 @@ fn print_message<W: WriteExt>(
     alloc: Global,
     request: &Request,
     view: View,
-    source: Source<'_>,
+    source: &Source<'_>,
     label: Option<&[u8]>,
     bytes: &[u8],
     output: &mut W,
 ) -> Result<Status>
-    ensures { IfOk result (λ status. Prints (IsMessagePrinted request.now view source
+    ensures { IfOk result (λ status. Prints (IsMessagePrinted request.now view source.now
         (option_copied label.entry) bytes.now status) (W.written output.old) (W.written output.new)) }
 {
     let format = request.format;
-    let Source { file, block } = source;
+    let Source { file, block } = *source;
     match &request.action {
         Action::Show(options) => print_shown(alloc, options, format, view, source, bytes, output),
         Action::Read(wanted) => {
@@ -146,11 +146,11 @@ fn print_shown<W: WriteExt>(
     options: &ShowOptions,
     format: Format,
     view: View,
-    source: Source<'_>,
+    source: &Source<'_>,
     bytes: &[u8],
     output: &mut W,
 ) -> Result<Status>
-    ensures { IfOk result (λ status. Prints (IsShowPrinted format view source options.now bytes.now status)
+    ensures { IfOk result (λ status. Prints (IsShowPrinted format view source.now options.now bytes.now status)
         (W.written output.old) (W.written output.new)) }
 {
     if options.start < bytes.len() {
@@ -161,11 +161,11 @@ fn print_shown<W: WriteExt>(
 }
 
 // The form of the lines of a listing.
-fn line_form<'a>(format: Format, view: View, source: Source<'a>) -> LineForm<'a>
-    ensures { result ≡ line_form format view source }
+fn line_form<'a>(format: Format, view: View, source: &Source<'a>) -> LineForm<'a>
+    ensures { result ≡ form_of format view source.now }
 {
     match format {
-        Format::Json => LineForm::Json(source),
+        Format::Json => LineForm::Json(*source),
         Format::Text => {
             if view.has_colours {
                 LineForm::Coloured
@@ -188,11 +188,18 @@ fn print_listing<W: WriteExt>(
         (W.written output.old) (W.written output.new)) }
 {
     let shown = show_as(alloc, bytes, options, form, output)?;
-    Ok(if shown.is_der {
+    Ok(status_of(shown))
+}
+
+// The status for a message with this listing.
+fn status_of(shown: Shown) -> Status
+    ensures { result ≡ listing_status shown }
+{
+    if shown.is_der {
         Status::Fine
     } else {
         Status::Refused
-    })
+    }
 }
 
 // Prints lines, and returns their status.
@@ -208,12 +215,12 @@ fn print_lines<W: WriteExt>(printed: &Printed, output: &mut W) -> Result<Status>
 fn print_heading<W: WriteExt>(
     alloc: Global,
     request: &Request,
-    source: Source<'_>,
+    source: &Source<'_>,
     label: Option<&[u8]>,
     output: &mut W,
 ) -> Result<()>
     ensures { OnOk result (Appends (W.written output.old) (W.written output.new)
-        (front_text request.now source (option_copied label.entry))) }
+        (front_text request.now source.now (option_copied label.entry))) }
 {
     if let (Action::Show(_), Format::Text) = (&request.action, request.format) {
         let heading = heading(alloc, source.file, source.block, label)?;
@@ -241,11 +248,11 @@ fn print_skipped<W: WriteExt>(
 fn print_refusal<W: WriteExt>(
     alloc: Global,
     format: Format,
-    source: Source<'_>,
+    source: &Source<'_>,
     reason: &str,
     output: &mut W,
 ) -> Result<Status>
-    ensures { IfOk result (λ status. Prints (IsRefusalPrinted format source status)
+    ensures { IfOk result (λ status. Prints (IsRefusalPrinted format source.now status)
         (W.written output.old) (W.written output.new)) }
 {
     let note = refusal_note(alloc, format, source.file, source.block, reason)?;

@@ -58,7 +58,7 @@ pub fn request_of(
 }
 
 /// Returns the names of the files: all words, or those after the type of `read`.
-pub fn files_of<'a>(name: &str, matches: &'a ArgMatches<'a>) -> &'a [&'a str] {
+pub fn files_of<'m, 'a: 'm>(name: &str, matches: &'m ArgMatches<'a>) -> &'m [&'a str] {
     match words_of(matches) {
         [_, files @ ..] if name == "read" && wanted_type(words_of(matches)).is_some() => files,
         files => files,
@@ -78,7 +78,7 @@ fn standard_inputs(name: &str, matches: &ArgMatches<'_>) -> usize {
     }
 }
 
-fn words_of<'a>(matches: &'a ArgMatches<'a>) -> &'a [&'a str] {
+fn words_of<'m, 'a: 'm>(matches: &'m ArgMatches<'a>) -> &'m [&'a str] {
     matches.get_strs("FILE").unwrap_or(&[])
 }
 
