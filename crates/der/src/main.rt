@@ -10,7 +10,7 @@ mod request;
 use crate::arguments::{COMMANDS, command};
 use crate::inputs::{has_colours, print_file};
 use crate::report::View;
-use crate::request::{Request, files_of, request_of};
+use crate::request::{Request, request_of, wanted_type};
 use clap::ArgMatches;
 use der_program_base::{Status, report};
 use picky_asn1_der::misc::Watched;
@@ -45,13 +45,29 @@ fn run(rt: &HostRuntime) -> io::Result<Status> {
     };
     for name in &COMMANDS {
         if let Some(found) = matches.subcommand_matches(*name) {
-            return match request_of(rt, *name, found)? {
-                Some(request) => print_files(rt, &request, files_of(*name, found)),
-                None => Ok(Status::Trouble),
-            };
+            let words = found.get_strs("FILE").unwrap_or(&[]);
+            return run_command(rt, *name, found, words);
         }
     }
     Ok(Status::Trouble)
+}
+
+// Does what the arguments of a command ask for. Of its words all are files, but for the type of `read`.
+fn run_command(
+    rt: &HostRuntime,
+    name: &str,
+    matches: &ArgMatches<'_>,
+    words: &[&str],
+) -> io::Result<Status> {
+    let Some(request) = request_of(rt, name, matches, words)? else {
+        return Ok(Status::Trouble);
+    };
+    match words {
+        [_, files @ ..] if name == "read" && wanted_type(words).is_some() => {
+            print_files(rt, &request, files)
+        }
+        files => print_files(rt, &request, files),
+    }
 }
 
 // Prints what is asked about files, and returns the worst status. If the output can't be written, it says so.

@@ -25,15 +25,17 @@ pub enum Action {
     Certificate,
 }
 
-/// Returns what the arguments of the command with this name ask for, or `None` after saying on standard error what is wrong with them.
+/// Returns what the arguments of the command with this name and these words ask for, or `None` after saying on standard error what is wrong
+/// with them.
 ///
 /// Returns the error of the system if that can't be written, and `OutOfMemory` if an allocation failed.
 pub fn request_of(
     rt: &HostRuntime,
     name: &str,
     matches: &ArgMatches<'_>,
+    words: &[&str],
 ) -> io::Result<Option<Request>> {
-    if standard_inputs(name, matches) > 1 {
+    if standard_inputs(name, matches, words) > 1 {
         eprintln!(rt; "der: standard input is named more than once")?;
         return Ok(None);
     }
@@ -41,7 +43,7 @@ pub fn request_of(
         "show" => show_options(rt, matches)?.map(Action::Show),
         "cms" => signers_request(rt, matches)?.map(Action::Cms),
         "certificate" => Some(Action::Certificate),
-        _ => Some(Action::Read(wanted_type(words_of(matches)))),
+        _ => Some(Action::Read(wanted_type(words))),
     };
     let Some(action) = action else {
         return Ok(None);
@@ -57,20 +59,9 @@ pub fn request_of(
     }))
 }
 
-/// Returns the names of the files: all words, or those after the type of `read`.
-pub fn files_of<'m, 'a: 'm>(name: &str, matches: &'m ArgMatches<'a>) -> &'m [&'a str] {
-    match words_of(matches) {
-        [_, files @ ..] if name == "read" && wanted_type(words_of(matches)).is_some() => files,
-        files => files,
-    }
-}
-
-// How many of the files are standard input.
-fn standard_inputs(name: &str, matches: &ArgMatches<'_>) -> usize {
-    let files = files_of(name, matches)
-        .iter()
-        .filter(|file| **file == "-")
-        .count();
+// How many of the inputs are standard input.
+fn standard_inputs(name: &str, matches: &ArgMatches<'_>, words: &[&str]) -> usize {
+    let files = words.iter().filter(|word| **word == "-").count();
     if name == "cms" && matches.get_str("content") == Some("-") {
         files.saturating_add(1)
     } else {
@@ -78,12 +69,8 @@ fn standard_inputs(name: &str, matches: &ArgMatches<'_>) -> usize {
     }
 }
 
-fn words_of<'m, 'a: 'm>(matches: &'m ArgMatches<'a>) -> &'m [&'a str] {
-    matches.get_strs("FILE").unwrap_or(&[])
-}
-
-// The type that the first of several words names. A word alone is a file.
-fn wanted_type(words: &[&str]) -> Option<MessageType> {
+/// Returns the type of messages that the first of several words names. A word alone is a file.
+pub fn wanted_type(words: &[&str]) -> Option<MessageType> {
     match words {
         [word, _, ..] => type_of_word(*word),
         _ => None,
