@@ -1,60 +1,14 @@
--- What is printed of blocks, one after another.
-use Rattle.std.proofs.Common.{◌≡◌, ℕ, ◌+◌, ◌<◌, List, [], ◌∷◌, ◌++◌, length, take, get_or, Option, Some, refl, sym, ap, ◌∙◌, subst, string_bytes, arith}
-use Rattle.std.specs.Io.KnownBytes.{Appends}
-use Rattle.std.proofs.KnownBytes.{Appends-nil, Appends-trans}
-use Rattle.std.proofs.lemmas.List.{take_more}
-use Rattle.der_program_base.specs.declared.blocks.Block.{Block}
-use Rattle.der_program_base.specs.declared.printed.Printed.{Printed}
+-- What is printed of a message.
+use Rattle.std.proofs.Common.{◌≡◌, ℕ, List, [], Option, Some, refl}
 use Rattle.der_program_base.specs.declared.status.Status.{Status}
-use Rattle.der_program_base.specs.declared.status.Status.TheVariants.{Fine}
-use Rattle.der_program_base.specs.Status.{worse_of}
 use Rattle.der_show.specs.declared.listing.Shown.{Shown}
 use Rattle.der_show.specs.declared.options.LineForm.{LineForm}
 use Rattle.der_show.specs.declared.options.ShowOptions.{ShowOptions}
-use Rattle.der_show.specs.declared.options.Source.{Source}
 use Rattle.der_show.specs.Shown.{Shows}
-use Rattle.der.specs.declared.report.View.{View}
-use Rattle.der.specs.declared.request.Request.{Request}
-use Rattle.der.specs.Notes.{skipped_text}
-use Rattle.der.specs.Report.{AreBlocksPrinted, none, next, AreLinesPrinted, IsBlockPrinted, IsListingPrinted, Prints, listing_status}
-
--- ---- one message
+use Rattle.der.specs.Report.{IsListingPrinted, Prints, listing_status}
 
 pub listing_printed : (form : LineForm) (o : ShowOptions) (bytes : List ℕ) (shown : Shown) (status : Status) (a b : Option (List ℕ)) → Shows form o bytes shown a b → status ≡ listing_status shown
     → Prints (IsListingPrinted form o bytes status) a b
 listing_printed form o bytes shown status a b s is =
     let alone : Shows form o bytes shown (Some []) (Some s.text) = record { entries = s.entries; listing = s.listing; is_der = s.is_der; plain = s.plain; text = s.text; is_text = s.is_text; written = refl } in
     (s.text, (shown, alone, is), s.written)
-
-pub lines_printed : (Is : Printed → Type 0) (printed : Printed) (status : Status) (a b : Option (List ℕ)) → Is printed → (status ≡ printed.status) × Appends a b (string_bytes printed.text)
-    → Prints (AreLinesPrinted Is status) a b
-lines_printed Is printed status a b is h = (string_bytes printed.text, (printed, is, refl, h.0), h.1)
-
--- a text, and then one of which something holds
-pub prints_after : (Is : List ℕ → Type 0) (front : List ℕ) (a b c : Option (List ℕ)) → Appends a b front → Prints Is b c → Prints (λ text. (own : List ℕ) × Is own × (text ≡ front ++ own)) a c
-prints_after Is front a b c before here = (front ++ here.0, (here.0, here.1, refl), Appends-trans a b c front here.0 before here.2)
-
--- and the same the other way round
-pub prints_before : (Is : List ℕ → Type 0) (back : List ℕ) (a b c : Option (List ℕ)) → Prints Is a b → Appends b c back → Prints (λ text. (own : List ℕ) × Is own × (text ≡ own ++ back)) a c
-prints_before Is back a b c here after = (here.0 ++ back, (here.0, here.1, refl), Appends-trans a b c here.0 back here.2 after)
-
--- ---- blocks
-
-module _ (r : Request) (view : View) (file : List ℕ) where
-  pub prints_none : (a : Option (List ℕ)) → Prints (AreBlocksPrinted r view file [] Fine) a a
-  prints_none a = ([], none, Appends-nil a)
-
-  pub prints_more : (blocks : List Block) (i : ℕ) (block : Block) (source : Source) (status own : Status) (a b c d : Option (List ℕ)) → i < length blocks → block ≡ get_or blocks i block
-      → source.file.now ≡ file → source.block ≡ Some (i + 1) → Prints (AreBlocksPrinted r view file (take i blocks) status) a b
-      → Appends b c (skipped_text r.format file block.skipped) → Prints (IsBlockPrinted r view source block own) c d
-      → Prints (AreBlocksPrinted r view file (take (i + 1) blocks) (worse_of status own)) a d
-  prints_more blocks i block source status own a b c d inside is named numbered before skipped here =
-      let note = skipped_text r.format file block.skipped in
-      let more : take (i + 1) blocks ≡ take i blocks ++ block ∷ [] = take_more blocks i block inside ∙ ap (λ z. take i blocks ++ z ∷ []) (sym is) in
-      let count : length (take i blocks) ≡ i = omega arith in
-      let block_number : source.block ≡ Some (length (take i blocks) + 1) = numbered ∙ ap (λ n. Some (n + 1)) (sym count) in
-      let all = next (take i blocks) status before.0 block source own here.0 before.1 named block_number here.1 in (
-        before.0 ++ (note ++ here.0),
-        subst (λ l. AreBlocksPrinted r view file l (worse_of status own) (before.0 ++ (note ++ here.0))) (sym more) all,
-        Appends-trans a b d before.0 (note ++ here.0) before.2 (Appends-trans b c d note here.0 skipped here.2),
-      )

@@ -2,7 +2,7 @@
 ghost use Rattle.std.specs.Prelude.{◌≡◌, IfOk, string_bytes};
 ghost use Rattle.std.specs.Option.{option_copied};
 ghost use Rattle.serde_json.specs.View.{view};
-ghost use Rattle.der.specs.Notes.{heading_text, skipped_data, skipped_text, refused_data, refused_text};
+ghost use Rattle.der.specs.Notes.{heading_text, skipped_data, skipped_line, skipped_text, refused_data, refused_text};
 
 use der_program_base::{Format, json_line, text_or_bytes};
 use der_read::{block_value, place_name, place_text};
@@ -41,15 +41,26 @@ pub fn skipped_note(
     if skipped == 0 {
         return Ok(String::new(alloc));
     }
+    let line = skipped_line(alloc, format, file, skipped)?;
+    format!(in alloc; "{line}\n")
+}
+
+fn skipped_line(
+    alloc: Global,
+    format: Format,
+    file: &str,
+    skipped: usize,
+) -> Result<String, AllocError>
+    ensures { IfOk result (λ line. string_bytes line ≡ skipped_line format file.now skipped) }
+{
     match format {
         Format::Text => {
             let place = place_text(alloc, file, None)?;
-            format!(in alloc; "{place}lines outside of blocks skipped: {skipped}\n")
+            format!(in alloc; "{place}lines outside of blocks skipped: {skipped}")
         }
         Format::Json => {
             let object = skipped_value(alloc, file, skipped)?;
-            let line = json_line(alloc, &object)?;
-            format!(in alloc; "{line}\n")
+            json_line(alloc, &object)
         }
     }
 }

