@@ -143,9 +143,10 @@ def value_file(values):
 
 
 def value_lines(before, content):
-    """A slice of bytes: on one line, or else as many on each line as fit."""
-    line = f"{before} &[{', '.join(content)}];"
-    if len(line) <= WIDTH:
+    """A slice of bytes: on one line if `rt fmt` leaves it there, or else as many on each line as fit."""
+    items = ", ".join(content)
+    line = f"{before} &[{items}];"
+    if len(line) <= WIDTH and len(items) <= 60:
         return [line]
     lines = filled("", "", content, "")
     return [f"{before} &[", *(lines[1:-1] if len(lines) > 1 else [f"    {', '.join(content)},"]), "];"]

@@ -1,7 +1,12 @@
 //! The types of `der_algorithms`.
 
 use crate::trials::{Task, answer as answer_of};
-use der_algorithms::{AesIv, CharacteristicTwo, Curve, DomainParameters, DssParms, DssSigValue, EcParameters, EcdsaSigValue, EcpkParameters, FieldId, GcmParameters, PbeParameter, Pbes2Params, Pbkdf2Params, Pentanomial, PrimeP, Rc2CbcParameter, RsaesOaepParams, RsassaPssParams, ScryptParams, Trinomial};
+use der_algorithms::{
+    AesIv, CharacteristicTwo, Curve, DomainParameters, DssParms, DssSigValue, EcParameters,
+    EcdsaSigValue, EcpkParameters, FieldId, GcmParameters, PbeParameter, Pbes2Params, Pbkdf2Params,
+    Pentanomial, PrimeP, Rc2CbcParameter, RsaesOaepParams, RsassaPssParams, ScryptParams,
+    Trinomial,
+};
 use std::alloc::{AllocError, Global};
 use std::str::FromStr;
 

@@ -2,7 +2,8 @@
 
 use crate::trials::{Task, answer as answer_of};
 use der_cms::{
-    AuthEnvelopedData, ContentInfo, DigestedData, EncryptedData, EnvelopedData, SignedData, SigningTime,
+    AuthEnvelopedData, ContentInfo, DigestedData, EncryptedData, EnvelopedData, SignedData,
+    SigningTime,
 };
 use std::alloc::{AllocError, Global};
 use std::str::FromStr;

@@ -1,7 +1,10 @@
 //! The types of `der_pkcs12`.
 
 use crate::trials::{Task, answer as answer_of};
-use der_pkcs12::{AuthenticatedSafe, CertBag, KeyBag, MacData, Pfx, Pkcs12PbeParams, Pkcs8ShroudedKeyBag, SafeBag, SafeContents, SecretBag};
+use der_pkcs12::{
+    AuthenticatedSafe, CertBag, KeyBag, MacData, Pfx, Pkcs8ShroudedKeyBag, Pkcs12PbeParams,
+    SafeBag, SafeContents, SecretBag,
+};
 use std::alloc::{AllocError, Global};
 use std::str::FromStr;
 

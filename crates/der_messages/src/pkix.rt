@@ -2,11 +2,12 @@
 
 use crate::trials::{Task, answer as answer_of};
 use der_pkix::{
-    AttributeCertificate, AuthorityInfoAccessSyntax, AuthorityKeyIdentifier, BaseCrlNumber, BasicConstraints,
-    CertificateIssuer, CertificatePolicies, CertificationRequest, CrlDistributionPoints, CrlNumber,
-    CrlReason, EcPrivateKey, EncryptedPrivateKeyInfo, ExtKeyUsageSyntax, FreshestCrl,
-    IetfAttrSyntax, InhibitAnyPolicy, InvalidityDate, IssuerAltName, IssuingDistributionPoint, NameConstraints,
-    PolicyConstraints, PolicyMappings, PrivateKeyInfo, RoleSyntax, RsaPrivateKey, RsaPublicKey, SubjectAltName,
+    AttributeCertificate, AuthorityInfoAccessSyntax, AuthorityKeyIdentifier, BaseCrlNumber,
+    BasicConstraints, CertificateIssuer, CertificatePolicies, CertificationRequest,
+    CrlDistributionPoints, CrlNumber, CrlReason, EcPrivateKey, EncryptedPrivateKeyInfo,
+    ExtKeyUsageSyntax, FreshestCrl, IetfAttrSyntax, InhibitAnyPolicy, InvalidityDate,
+    IssuerAltName, IssuingDistributionPoint, NameConstraints, PolicyConstraints, PolicyMappings,
+    PrivateKeyInfo, RoleSyntax, RsaPrivateKey, RsaPublicKey, SubjectAltName,
     SubjectInfoAccessSyntax, SubjectKeyIdentifier, TargetInformation, UserNotice,
 };
 use std::alloc::{AllocError, Global};
