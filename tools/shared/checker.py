@@ -4,12 +4,12 @@ import re
 from dataclasses import dataclass
 
 from . import rattle_source as source
-from .edits import Edit, Function
+from .edits import Edit, Function, file_of
 
 # an error, what it says where a proof file names what isn't there, and what it says of a text that can't be read
 ERROR = re.compile(r"(?:\./)?(\S+?):(\d+):\d+: error(?:\[[\w-]+\])?: (?:`([^`]*)`: )?(.*)")
-NAMES = re.compile(r"has no field|is not in scope|has no `|was not admitted|was not checked")
-UNREAD = re.compile(r"has no field|is not in scope|is no name|operand is missing|expected the end|cannot continue")
+NAMES = re.compile(r"has no field|has no constructor|is not in scope|has no `|was not admitted|was not checked")
+UNREAD = re.compile(r"has no field|has no constructor|is not in scope|is no name|operand is missing|expected the end|cannot continue")
 
 
 @dataclass(frozen=True)
@@ -56,10 +56,10 @@ class Said:
         return min(fits, key=len, default=None) or next((it for it, _, own, _ in parts if own == block), None)
 
     def impls(self, edit: Edit) -> list[str]:
-        """The implementation in the name of an edit that is about no function, as about a law, or the constant of one."""
+        """The implementation in the name of an edit that is about no function, as about a law, or the constant of one; and its functions."""
         file, called = edit.name.split(".")[:2]
-        label = "::".join([self.crate, *file.split("-"), *called.split("-")])
-        return [label] if label in self.status else []
+        label = "::".join([self.crate, *source.module_of(file_of(file)), *called.split("-")])
+        return [it for it in self.status if it == label or it.startswith(f"{label}::")]
 
     def refused_at(self, label: str) -> tuple[list[str], list[str]]:
         """The goals at which a function is refused, and what is said where its proof files name what isn't there any more."""

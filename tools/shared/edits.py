@@ -72,6 +72,8 @@ class Edit:
         before, after = all_functions(texts), all_functions(texts_after)
         self.changed = {it: after.get(it) for it in {*before, *after} if before.get(it) != after.get(it)}
         named, old = [it for it in before if self.names(it)], [it for it in self.changed if it in before]
+        if not any(map(self.names, self.changed)) and not self.is_about(named, before, texts_after):
+            raise BadEdit("the function in its name is none of those that it changes")
         self.own = sorted([it for it in named if it in old] or named or old or self.changed)
         self.touched = {*self.own, *self.changed, *(it[1:] for it in self.changed if it not in before)}
 
@@ -80,6 +82,20 @@ class Edit:
         path, block, name = function
         file, called = self.name.split(".")[:2]
         return path == file_of(file) and called in (name, f"{block}-{name}")
+
+    def is_about(self, named: list[Function], before: dict[Function, str], after: Texts) -> bool:
+        """Whether an edit that doesn't change the function in its name is about that one, or about the implementation in its name.
+
+        It may be about a law, whatever it changes. It may be about another function, or an implementation, if it changes no function
+        but what they use. It is about an implementation if it changes or adds one of its functions.
+        """
+        file, called = self.name.split(".")[:2]
+        block, path = called.split("-")[0], file_of(file)
+        if named:
+            return not self.changed or all(before[it].endswith("{}") for it in named)
+        if any(it[:2] == (path, block) for it in self.changed):
+            return block == called
+        return not self.changed and block in blocks_of(after.get(path, ""))
 
 
 def file_of(module: str) -> str:
@@ -95,6 +111,11 @@ def functions_of(path: str, text: str) -> dict[Function, str]:
         bare = re.sub(r"/\*.*?\*/|//[^\n]*", " ", text[start:end], flags=re.S)
         found[path, block, name] = " ".join(bare.split())
     return found
+
+
+def blocks_of(text: str) -> set[str]:
+    """The names of the blocks of a file."""
+    return {source.block_of(header) for header, _, _ in source.parts(text)[1]}
 
 
 def all_functions(texts: Texts) -> dict[Function, str]:
