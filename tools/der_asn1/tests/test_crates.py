@@ -9,9 +9,9 @@ import unittest
 
 from .. import command, emit_crate
 from . import given
+from .stored import GOLDEN, files_below
 
 TOOL = os.path.join(os.path.dirname(os.path.dirname(os.path.realpath(__file__))), "der_asn1")
-GOLDEN = os.path.join(os.path.dirname(os.path.realpath(__file__)), "golden")
 
 FLAGS = """F DEFINITIONS ::= BEGIN
 -- What is on.
@@ -103,15 +103,9 @@ class Determinism(unittest.TestCase):
 
     def written(self, crate, seed, module):
         """The files of the crate, written by a run of its own."""
-        words = [sys.executable, TOOL, "--out", crate, os.path.join(GOLDEN, f"{module}.asn1")]
+        words = [sys.executable, TOOL, "--out", crate, str(GOLDEN / f"{module}.asn1")]
         subprocess.run(words, check=True, capture_output=True, env={**os.environ, "PYTHONHASHSEED": seed})
-        found = {}
-        for home, _, names in os.walk(crate):
-            for it in names:
-                path = os.path.join(home, it)
-                with open(path, encoding="utf-8") as file:
-                    found[os.path.relpath(path, crate)] = file.read()
-        return found
+        return files_below(crate)
 
 
 if __name__ == "__main__":

@@ -10,7 +10,8 @@ from .. import command, emit_crate
 from ..emit_choice import parts_type, pattern, place, term
 from ..layout import assigned, comment, filled, item_lines, natural, tuple_lines, type_lines
 from ..wording import joined, snake
-from . import given, golden_options
+from . import given
+from .stored import GOLDEN, files_below, golden_names, golden_options, stored_files, stored_text
 
 ROOT = os.path.dirname(os.path.dirname(os.path.dirname(os.path.dirname(os.path.realpath(__file__)))))
 
@@ -274,34 +275,28 @@ class Names(unittest.TestCase):
         self.assertEqual(["dns_name", "crl_sign", "x_axis", "e_type"], [snake(it) for it in ("dNSName", "cRLSign", "xAxis", "e-TYPE")])
 
 
-def golden_files(folder):
-    """The files of a stored crate, by their paths in it. Each has `.txt` after its name, since a crate has to be in `crates`."""
-    found = {}
-    for home, _, names in os.walk(folder):
-        for it in names:
-            path = os.path.join(home, it)
-            with open(path, encoding="utf-8") as file:
-                found[os.path.relpath(path, folder).removesuffix(".txt")] = file.read()
-    return found
-
-
 class Golden(unittest.TestCase):
     """The crates of small modules. Each was read before it was stored, and `tools/der_asn1/golden` writes it anew."""
 
     maxDiff = None
 
     def test_each(self):
-        folder = os.path.join(os.path.dirname(os.path.realpath(__file__)), "golden")
-        names = sorted(os.path.splitext(it)[0] for it in os.listdir(folder) if it.endswith(".asn1"))
+        names = golden_names()
         self.assertEqual(10, len(names))
         with tempfile.TemporaryDirectory() as there:
             for it in names:
                 with self.subTest(it):
                     printed = io.StringIO()
                     with contextlib.redirect_stdout(io.StringIO()), contextlib.redirect_stderr(printed):
-                        status = command.main(golden_options(it, folder, there))
+                        status = command.main(golden_options(it, there))
                     self.assertEqual((0, ""), (status, printed.getvalue()))
-                    self.assertEqual(golden_files(os.path.join(folder, it)), golden_files(os.path.join(there, it)))
+                    stored = (GOLDEN / f"{it}.crate").read_text(encoding="utf-8")
+                    self.assertEqual(stored_files(stored), files_below(os.path.join(there, it)))
+
+    def test_a_crate_as_one_text(self):
+        files = {"src/a.rt": "//! A.\n==> \n", "src/lib.rt": "mod a;\n"}
+        self.assertEqual("==> src/a.rt <==\n//! A.\n==> \n==> src/lib.rt <==\nmod a;\n", stored_text(files))
+        self.assertEqual(files, stored_files(stored_text(files)))
 
 
 class Values(unittest.TestCase):
