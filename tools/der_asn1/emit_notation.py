@@ -1,25 +1,13 @@
 """The types of a crate as terms below their texts, and the law that each type is the one of its term."""
 from .emit_imports import imports
 from .layout import natural
+from .library_table import TERM_HOMES
 from .terms import default_tags, definition, names_of
 from .tree import TagMode
 from .wording import snake
 
 _TAGS = "TAGS"
 
-# the terms of der_types, by the file that each is of
-_HOMES = {
-    "Notation": frozenset(
-        """BIT-STRING BIT-STRING-named BOOLEAN ENUMERATED ENUMERATED-extensible GeneralizedTime INTEGER INTEGER-named NULL
-        OBJECT-IDENTIFIER OCTET-STRING RELATIVE-OID UTCTime UTF8String any-content content-under end none optional required""".split()
-    ),
-    "NotationForms": frozenset(
-        """ANY APPLICATION AUTOMATIC BIT-STRING-CONTAINING BMPString CHOICE CONTEXT EXPLICIT GeneralString IA5String IMPLICIT
-        FALSE INTEGER-from-minus-to INTEGER-from-to ISO646String MAX Mode NumericString OCTET-STRING-CONTAINING PRIVATE PrintableString
-        SEQUENCE SEQUENCE-OF SET SET-OF SIZE T61String TRUE TeletexString UNIVERSAL UniversalString VisibleString added
-        default default-as-optional default-of instead later-alternatives-refused later-members later-members-refused minus number ◌⨾◌ ◌∣◌""".split()
-    ),
-}
 _PRELUDE = ("[]", "◌∷◌")
 
 
@@ -63,7 +51,7 @@ def notation_terms(types, modules, homes):
 def form_imports(names):
     """The imports of these names from der_types."""
     lines = []
-    for home, own in _HOMES.items():
+    for home, own in TERM_HOMES.items():
         found = sorted(names & own, key=natural)
         found = (["Notation"] if home == "Notation" else []) + found
         if found:

@@ -7,62 +7,6 @@ from .terms import Term, any_content
 
 ANY_FIRST = frozenset(it for it in range(256) if it & 0x1F != 0x1F)
 
-# the identifier byte of each simple type (X.680, 8.6; X.690, 8.1.2), with the bit of a constructed one
-UNIVERSAL_TAGS = {
-    "BOOLEAN": 0x01,
-    "INTEGER": 0x02,
-    "BIT STRING": 0x03,
-    "OCTET STRING": 0x04,
-    "NULL": 0x05,
-    "OBJECT IDENTIFIER": 0x06,
-    "ObjectDescriptor": 0x07,
-    "EXTERNAL": 0x28,
-    "REAL": 0x09,
-    "ENUMERATED": 0x0A,
-    "EMBEDDED PDV": 0x2B,
-    "UTF8String": 0x0C,
-    "RELATIVE-OID": 0x0D,
-    "SEQUENCE": 0x30,
-    "SET": 0x31,
-    "NumericString": 0x12,
-    "PrintableString": 0x13,
-    "TeletexString": 0x14,
-    "T61String": 0x14,
-    "VideotexString": 0x15,
-    "IA5String": 0x16,
-    "UTCTime": 0x17,
-    "GeneralizedTime": 0x18,
-    "GraphicString": 0x19,
-    "VisibleString": 0x1A,
-    "ISO646String": 0x1A,
-    "GeneralString": 0x1B,
-    "UniversalString": 0x1C,
-    "CHARACTER STRING": 0x3D,
-    "BMPString": 0x1E,
-}
-
-# the restricted strings and the other types with `Contents` of der_types
-CONTENTS_TYPES = {
-    "OBJECT IDENTIFIER": "ObjectIdentifier",
-    "RELATIVE-OID": "RelativeOid",
-    "NumericString": "NumericString",
-    "PrintableString": "PrintableString",
-    "TeletexString": "TeletexString",
-    "T61String": "TeletexString",
-    "IA5String": "Ia5String",
-    "VisibleString": "VisibleString",
-    "ISO646String": "VisibleString",
-    "GeneralString": "GeneralString",
-    "UniversalString": "UniversalString",
-    "BMPString": "BmpString",
-    "UTCTime": "UtcTime",
-    "GeneralizedTime": "GeneralizedTime",
-}
-# of these every byte is read, whatever character it is of
-UNCHECKED_CHARACTERS = frozenset(("TeletexString", "T61String", "GeneralString"))
-# strings of which der_types has no name: a set of characters of one's own has any byte
-OTHER_STRINGS = frozenset(("VideotexString", "GraphicString", "ObjectDescriptor"))
-
 MAX_TAG = 30
 LAST_NAMED_TAG = 15
 LAST_NAMED_LIST = 7

@@ -3,13 +3,14 @@ from dataclasses import replace
 
 from .features import Feature, Note
 from .intervals import ALL, INFINITY, NATURAL
-from .library import U64_MAX, UNIVERSAL_TAGS, Core, Rust, signed_exactly, unsigned_for
+from .library import U64_MAX, Core, Rust, signed_exactly, unsigned_for
+from .library_table import BY_NAME, TYPES, UNIVERSAL_TAGS
 from .terms import Term, sized
 
 _INTEGER_FIRST = frozenset((UNIVERSAL_TAGS["INTEGER"],))
 _SIZED = frozenset((Core.CONTENTS, Core.OCTETS, Core.UTF8, Core.LIST))
 # types with `Contents` that have no size in the library
-_UNSIZED = frozenset(("ObjectIdentifier", "RelativeOid", "UtcTime"))
+_UNSIZED = frozenset(it.rust for it in TYPES if not it.is_sized)
 
 
 def whole_number_limits(limits):
@@ -20,7 +21,8 @@ def whole_number_limits(limits):
 def integer(meaning, limits):
     """The meaning of an INTEGER with these limits, made by `meaning`."""
     numbers, other = limits
-    any_size = Rust("Integer", Core.NUMBER, _INTEGER_FIRST, term=Term("INTEGER"))
+    found = BY_NAME["INTEGER"]
+    any_size = Rust(found.rust, found.core, _INTEGER_FIRST, term=Term(found.term))
     if not numbers.pairs:
         return meaning(any_size).lacking(Feature.NO_VALUES)
     if numbers.is_all():

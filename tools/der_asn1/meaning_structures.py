@@ -7,7 +7,8 @@ from .emit_choice import parts_type
 from .emit_enum import ONE_BYTE
 from .features import Feature, Level, Note
 from .intervals import Intervals
-from .library import ANY_FIRST, DEFAULT_SIGNED, DEFAULT_UNSIGNED, U64_MAX, UNIVERSAL_TAGS, Core, Rust, any_element, tagged_bytes
+from .library import ANY_FIRST, DEFAULT_SIGNED, DEFAULT_UNSIGNED, U64_MAX, Core, Rust, any_element, tagged_bytes
+from .library_table import UNIVERSAL_TAGS
 from .members import ResolvedMember, is_extensible, members_of
 from .meaning import Meaning, lacks
 from .source import NotationError

@@ -2,7 +2,8 @@
 from dataclasses import replace
 
 from .features import Feature, Level, Note
-from .library import MAX_TAG, UNIVERSAL_TAGS, Core, Rust, context_tag, retagged, tagged_bytes
+from .library import MAX_TAG, Core, Rust, context_tag, retagged, tagged_bytes
+from .library_table import UNIVERSAL_TAGS
 from .terms import Term, content_under
 from .tree import TagClass, TagMode
 

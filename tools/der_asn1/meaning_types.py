@@ -4,7 +4,8 @@ from dataclasses import replace
 from . import tree
 from .declarations import AliasDeclaration, Declarations, Hint, NewtypeDeclaration
 from .features import Feature, Level, Note
-from .library import CONTENTS_TYPES, OTHER_STRINGS, UNCHECKED_CHARACTERS, UNIVERSAL_TAGS, Core, Rust, any_element, tagged_bytes
+from .library import Core, Rust, any_element, tagged_bytes
+from .library_table import BY_NAME, UNIVERSAL_TAGS, LibraryType
 from .meaning import Meaning, lacks
 from .meaning_bounds import bounded, integer, whole_number_limits
 from .meaning_structures import choice, enumeration, named_integer, structure
@@ -55,9 +56,9 @@ def type_name(type_):
     return named.get(type(type_), getattr(type_, "name", "").replace(" ", "-"))
 
 
-def word(name):
-    """The term of a type that has a name in the standard."""
-    return Term(name.replace(" ", "-"))
+def library_type(found: LibraryType) -> Rust:
+    """A type of the library by its row of the table."""
+    return Rust(found.rust, found.core, frozenset((found.tag,)), term=Term(found.term))
 
 
 # of which a struct of its own may be made: what has no parts, and so no trait of its own but `Begins`
@@ -178,24 +179,15 @@ class Meanings:
     # ---- types without parts
 
     def of_simpletype(self, type_, scope, hint, constraints):
-        name, tag = type_.name, UNIVERSAL_TAGS[type_.name]
-        firsts = frozenset((tag,))
-        if name == "EXTERNAL":
+        if type_.name == "EXTERNAL":
             return self.of_associated("External")
-        if name in ("REAL", "EMBEDDED PDV", "CHARACTER STRING"):
-            return Meaning(tagged_bytes(tag)).lacking(Feature.RARE)
-        if name == "OCTET STRING":
+        if type_.name == "OCTET STRING":
             return self.of_octets(type_, scope, hint, constraints)
-        simple = {"BOOLEAN": ("bool", Core.BOOL), "NULL": ("()", Core.NULL), "UTF8String": ("String", Core.UTF8)}
-        if name in simple:
-            meaning = Meaning(Rust(*simple[name], firsts, term=word(name)))
-        elif name in OTHER_STRINGS:
-            meaning = Meaning(tagged_bytes(tag)).noting(Note.ALPHABET)
-        else:
-            meaning = Meaning(Rust(CONTENTS_TYPES[name], Core.CONTENTS, firsts, term=word(name)))
-        if name in UNCHECKED_CHARACTERS:
-            meaning = meaning.noting(Note.CHARACTERS)
-        return self.checked(meaning, type_, scope, constraints)
+        found = BY_NAME[type_.name]
+        meaning = Meaning(library_type(found) if found.rust else tagged_bytes(found.tag))
+        if isinstance(found.lacks, Feature):
+            return meaning.lacking(found.lacks)
+        return self.checked(meaning.noting(*filter(None, [found.lacks])), type_, scope, constraints)
 
     def of_integertype(self, type_, scope, hint, constraints):
         limits = self.limits(constraints, type_, scope)
@@ -206,9 +198,8 @@ class Meanings:
 
     def of_enumeratedtype(self, type_, scope, hint, constraints):
         """An enum of its own, or any number if later versions may have others (X.680, 20)."""
-        firsts = frozenset((UNIVERSAL_TAGS["ENUMERATED"],))
         if type_.extensible or scope.module.extensibility_implied:
-            meaning = Meaning(Rust("Enumerated", Core.CONTENTS, firsts, term=Term("ENUMERATED-extensible")))
+            meaning = Meaning(library_type(BY_NAME["ENUMERATED"]))
         else:
             meaning = enumeration(self, type_, scope, hint)
         return self.checked(meaning, type_, scope, constraints)
@@ -219,7 +210,7 @@ class Meanings:
         if contents and contents.constraint.type is not None:
             return self.checked(self.container(contents, "BitStringAsn1Container", firsts, hint), type_, scope, constraints)
         if not type_.named:
-            return self.checked(Meaning(Rust("BitString", Core.CONTENTS, firsts, term=Term("BIT-STRING"))), type_, scope, constraints)
+            return self.checked(Meaning(library_type(BY_NAME["BIT STRING"])), type_, scope, constraints)
         meaning = Meaning(Rust("NamedBits", Core.CONTENTS, firsts, term=Term("BIT-STRING-named")))
         limits = self.limits(constraints, type_, scope)
         if limits.size.pairs and limits.size.high != float("inf"):
@@ -231,7 +222,7 @@ class Meanings:
         contents = only_contents(constraints)
         if contents and contents.constraint.type is not None:
             return self.checked(self.container(contents, "OctetStringAsn1Container", firsts, hint), type_, scope, constraints)
-        return self.checked(Meaning(Rust("ByteBuf", Core.OCTETS, firsts, term=Term("OCTET-STRING"))), type_, scope, constraints)
+        return self.checked(Meaning(library_type(BY_NAME["OCTET STRING"])), type_, scope, constraints)
 
     def container(self, contents, name, firsts, hint):
         """A string with the encoding of a value in it (X.682, 11). One of another encoding than DER is kept as it is."""

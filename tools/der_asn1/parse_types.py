@@ -1,22 +1,16 @@
 """The parser's part for types (X.680, 17 to 48)."""
 from . import tree
 from .cursor import split
+from .library_table import TYPES
 from .parse_constraints import ConstraintParser
 from .source import NotationError
 from .tokens import Kind
 
-SIMPLE = frozenset(
-    """BOOLEAN NULL REAL EXTERNAL RELATIVE-OID UTF8String NumericString PrintableString TeletexString T61String VideotexString IA5String
-    GraphicString VisibleString ISO646String GeneralString UniversalString BMPString ObjectDescriptor UTCTime GeneralizedTime""".split()
-)
+# types whose notation is their name alone: those of one word, and the second word and the clause of each other by the first
+SIMPLE = frozenset(it.name for it in TYPES if it.clause and " " not in it.name)
+_TWO_WORDS = {it.name.split()[0]: (it.name.split()[1], it.clause) for it in TYPES if it.clause and " " in it.name}
 
 _CHOICE = "X.680, 29.1"
-_TWO_WORDS = {
-    "OBJECT": ("IDENTIFIER", "X.680, 32.1"),
-    "OCTET": ("STRING", "X.680, 23.1"),
-    "EMBEDDED": ("PDV", "X.680, 36.1"),
-    "CHARACTER": ("STRING", "X.680, 44.1"),
-}
 
 
 class TypeParser(ConstraintParser):

@@ -2,7 +2,8 @@
 from dataclasses import replace
 
 from . import tree
-from .library import ANY_FIRST, MAX_TAG, UNIVERSAL_TAGS
+from .library import ANY_FIRST, MAX_TAG
+from .library_table import UNIVERSAL_TAGS
 from .members import members_of, selected
 from .objects import class_named
 from .scopes import target_of

@@ -1,7 +1,7 @@
 """Names of ASN.1 as names of Rust."""
 import re
 
-from .emit_imports import LIBRARY_NAMES
+from .library_table import LIBRARY_NAMES
 
 _WORD = re.compile(r"[A-Z]+(?![a-z])[0-9]*|[A-Z]?[a-z][a-z0-9]*|[A-Z][0-9]*|[0-9]+")
 
