@@ -10,15 +10,19 @@ from .wording import camel
 
 @dataclass(frozen=True)
 class Hint:
-    """What a type is called after. A type that is all of an assignment has the key of that, and the comment above it."""
+    """What a type is called after. A type that is all of an assignment has the key of that, and the comment above it.
+
+    `root` is the name of the assignment that it is all or a part of.
+    """
 
     text: str
     key: tuple = ()
     comment: str = ""
+    root: str = ""
 
-    def part(self, name):
+    def part(self, name: str) -> "Hint":
         """What a part of the type is called after."""
-        return Hint(f"{self.text}-{name}")
+        return Hint(f"{self.text}-{name}", root=self.root)
 
 
 @dataclass
@@ -41,6 +45,7 @@ class Field:
 class Declaration:
     """A type that has a name: where it is defined, under which name, and with which comment.
 
+    `root` is the name of the assignment that it is all or a part of.
     `term` is the type that an assignment defines, as a term of der_types. What is only a part of one has none.
     """
 
@@ -52,6 +57,7 @@ class Declaration:
     level: Level = Level.EXACT
     lacks: list = field(default_factory=list)
     term: object = field(default=None, compare=False)
+    root: str = ""
 
     def differences(self):
         """Why its values, or the values of a part, differ from the notation's. An open type is any element, as the notation says."""

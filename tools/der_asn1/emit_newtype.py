@@ -1,26 +1,23 @@
-"""A struct of its own round another type, as a file of a crate, in the form of docs/YOUR_TYPES.md."""
-from .emit_imports import imports, words_of
-from .emit_struct import difference_note, sentence
+"""A struct of its own round another type, in the form of docs/YOUR_TYPES.md."""
+from .declarations import NewtypeDeclaration
+from .emit_comments import difference_note, sentence
+from .emit_imports import PRELUDE, Uses, words_of
 from .layout import STEP, WIDTH, comment, signature
 
 _TWO = STEP * 2
 
-_GHOST_IMPORTS = """ghost use Rattle.std.specs.Prelude.{refl};
-ghost use Rattle.picky_der_de.specs.Known.{known_as};
-""".splitlines()
-
+_TERMS = {PRELUDE: {"refl"}, "Rattle.picky_der_de.specs.Known": {"known_as"}}
 _NAMES = "ReadExt WriteExt Alike Deserialize Deserializer Result Serialize Serializer deserialize_as Begins Tag Notated".split()
 
 
-def newtype_file(declared, homes):
-    """The lines of the file of a struct round another type."""
-    used = {*_NAMES, *words_of(declared.type_text)} - {declared.name}
+def newtype_uses(declared: NewtypeDeclaration) -> Uses:
+    """What the items of a struct round another type name."""
+    return Uses({*_NAMES, *words_of(declared.type_text)}, terms=_TERMS)
+
+
+def newtype_lines(declared: NewtypeDeclaration) -> list[str]:
+    """The items of a struct round another type."""
     return [
-        f"//! {declared.source} of {declared.module}.",
-        *_GHOST_IMPORTS,
-        "",
-        *imports(used, homes),
-        "",
         *definition(declared),
         "",
         *serialize_impl(declared),
@@ -35,12 +32,12 @@ def newtype_file(declared, homes):
     ]
 
 
-def quoted(declared, trait):
+def quoted(declared: NewtypeDeclaration, trait: str) -> str:
     """The implementation of a trait for the type inside, in a term."""
     return f"⟦<{declared.type_text} as {trait}>⟧"
 
 
-def definition(declared):
+def definition(declared: NewtypeDeclaration) -> list[str]:
     """The struct with its comments."""
     lines = comment("", "///", f"{sentence(declared.comment)} `{declared.source}` of {declared.module}: `{declared.notation}`.")
     lines += difference_note(declared)
@@ -49,7 +46,7 @@ def definition(declared):
     return [*lines, line] if len(line) <= WIDTH else [*lines, f"pub struct {declared.name}(", f"{STEP}pub {declared.type_text},", ");"]
 
 
-def serialize_impl(declared):
+def serialize_impl(declared: NewtypeDeclaration) -> list[str]:
     """The implementation of `Serialize`: as the type inside."""
     return [
         f"impl Serialize for {declared.name} {{",
@@ -62,7 +59,7 @@ def serialize_impl(declared):
     ]
 
 
-def alike_impl(declared):
+def alike_impl(declared: NewtypeDeclaration) -> list[str]:
     """The implementation of `Alike`, whose twin is the type inside."""
     return [
         f"impl Alike for {declared.name} {{",
@@ -77,7 +74,7 @@ def alike_impl(declared):
     ]
 
 
-def deserialize_impl(declared):
+def deserialize_impl(declared: NewtypeDeclaration) -> list[str]:
     """The implementation of `Deserialize`: as the type inside."""
     return [
         f"impl Deserialize for {declared.name} {{",
@@ -94,7 +91,7 @@ def deserialize_impl(declared):
     ]
 
 
-def begins_impl(declared):
+def begins_impl(declared: NewtypeDeclaration) -> list[str]:
     """What it needs to be a member that may be absent, or an alternative."""
     return [
         f"impl Begins for {declared.name} {{",
@@ -105,7 +102,7 @@ def begins_impl(declared):
     ]
 
 
-def notated_impl(declared):
+def notated_impl(declared: NewtypeDeclaration) -> list[str]:
     """The implementation of `Notated`: the type of ASN.1 that the type inside is."""
     return [
         f"impl Notated for {declared.name} {{",

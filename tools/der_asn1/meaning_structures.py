@@ -156,7 +156,7 @@ def declare(meanings, declared, type_, scope, hint, meaning, suffix):
     else:
         wanted = f"{hint.text}-{suffix}" if hint.key else hint.text
         declared.name = meanings.declarations.fresh(wanted, (*scope.key, str(type_.place)), declared.module)
-    declared.comment, declared.level, declared.lacks = hint.comment, meaning.level, lacks(meaning)
+    declared.comment, declared.root, declared.level, declared.lacks = hint.comment, hint.root, meaning.level, lacks(meaning)
     meanings.declarations.add(declared)
     return declared.name
 

@@ -50,6 +50,11 @@ def instance_name(found):
     return "-".join(it for it in [found.assignment.name, *given] if it)
 
 
+def hint_of(found: Found, key: tuple) -> Hint:
+    """What the type of an assignment is called after."""
+    return Hint(instance_name(found), key, " ".join(found.assignment.comment), found.assignment.name)
+
+
 def type_name(type_):
     """The name of a type that is given for a parameter, or nothing if it has none."""
     named = {tree.IntegerType: "INTEGER", tree.BitStringType: "BIT-STRING", tree.EnumeratedType: "ENUMERATED", tree.AnyType: "ANY"}
@@ -68,7 +73,7 @@ _SIMPLE = frozenset((Core.BOOL, Core.NULL, Core.UNSIGNED, Core.SIGNED, Core.CONT
 def alias(name, found, type_, meaning, kind):
     """The declaration of a name of another type, or of a struct round it."""
     source, comment = found.assignment.name, " ".join(found.assignment.comment)
-    declared = kind(name, found.assignment.place, found.scope.module.name, source, comment)
+    declared = kind(name, found.assignment.place, found.scope.module.name, source, comment, root=source)
     declared.level, declared.lacks, declared.term = meaning.level, lacks(meaning), meaning.rust.term
     declared.type_text, declared.notation = meaning.rust.text, type_.text
     return declared
@@ -98,7 +103,7 @@ class Meanings:
             return self.raw(type_, found.scope, Feature.RECURSION)
         self.busy.append(key)
         try:
-            meaning = self.of_type(type_, found.scope, Hint(instance_name(found), key, " ".join(found.assignment.comment)))
+            meaning = self.of_type(type_, found.scope, hint_of(found, key))
         finally:
             self.busy.pop()
         if meaning.rust:
@@ -266,7 +271,7 @@ class Meanings:
             return self.raw(target.type, target.scope, Feature.RECURSION)
         self.busy.append(key)
         try:
-            return self.of_type(target.type, target.scope, Hint(found.assignment.name), constraints)
+            return self.of_type(target.type, target.scope, Hint(found.assignment.name, root=found.assignment.name), constraints)
         finally:
             self.busy.pop()
 

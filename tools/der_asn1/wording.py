@@ -16,8 +16,8 @@ KEYWORDS = frozenset(
 # names that a type can't have, since every file has another one with that name, or may import one
 TAKEN = LIBRARY_NAMES | frozenset(
     """Option Vec String Result Some None Ok Err Box Drop Clone Copy Default
-    PartialEq Eq Debug Self Members OtherMembers LastMembers Parts First Second
-    Third Fourth Later This Other Last Type Notation""".split()
+    PartialEq Eq Debug Self First Second
+    Third Fourth Later This Other Type Notation""".split()
 )
 
 
@@ -52,9 +52,3 @@ def snake(name):
     if not found[:1].isalpha():
         found = f"n{found}"
     return f"{found}_" if found in KEYWORDS else found
-
-
-def file_stem(name):
-    """The name of the file of a type, which is none of a file that has another use."""
-    found = snake(name)
-    return f"{found}_type" if found in ("aliases", "values", "notation", "lib", "main") else found

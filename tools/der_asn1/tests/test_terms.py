@@ -137,7 +137,7 @@ class Definitions(unittest.TestCase):
 
     def test_a_name_that_the_type_under_a_tag_has_not(self):
         crate = crate_of("A ::= SEQUENCE { b [0] IMPLICIT B } B ::= SET { c NULL }", "A")
-        self.assertIn("RetaggedSet<BMembers, 0xA0>", crate.files()["src/a.rt"])
+        self.assertIn("RetaggedSet<BMembers, 0xA0>", crate.files()["src/types.rt"])
         self.assertEqual(["A", "B", "BMembers"], sorted(crate.types))
 
     def test_the_law(self):
