@@ -58,28 +58,28 @@ class Rust:
     is_foreign: bool = False
     term: Optional[Term] = field(default=None, compare=False)
 
-    def is_constructed(self):
+    def is_constructed(self) -> bool:
         """Whether its encoding is constructed, where it has one tag alone (X.690, 8.14.3)."""
         return all(it & 0x20 for it in self.firsts)
 
 
-def tagged_bytes(tag):
+def tagged_bytes(tag: int) -> Rust:
     """Any content under this identifier byte."""
     return Rust(f"TaggedBytes<0x{tag:02X}>", Core.BYTES, frozenset((tag,)), term=any_content(tag))
 
 
-def any_element():
+def any_element() -> Rust:
     """Any element, as it is."""
     return Rust("Asn1RawDer", Core.ELEMENT, ANY_FIRST, is_open=True, term=Term("ANY"))
 
 
-def context_tag(mode, inner, number):
+def context_tag(mode: str, inner: Rust, number: int) -> str:
     """ExplicitContextTag or ImplicitContextTag, by the short name if there is one."""
     name = f"{mode}ContextTag"
     return f"{name}{number}<{inner.text}>" if number <= LAST_NAMED_TAG else f"{name}<{inner.text}, {number}>"
 
 
-def retagged(inner, tag):
+def retagged(inner: Rust, tag: int) -> str:
     """Retagged, by the short name if there is one."""
     number = tag & 0x1F
     if tag & 0xE0 == 0xA0 and number <= LAST_NAMED_LIST:
@@ -87,11 +87,11 @@ def retagged(inner, tag):
     return f"Retagged<{inner.text}, 0x{tag:02X}>"
 
 
-def unsigned_for(high):
+def unsigned_for(high: float) -> Optional[str]:
     """The least unsigned type that holds these numbers, or None."""
     return next((f"u{it}" for it in WIDTHS if high < 2**it), None)
 
 
-def signed_exactly(low, high):
+def signed_exactly(low: float, high: float) -> Optional[str]:
     """The signed type that has exactly these numbers, or None."""
     return next((f"i{it}" for it in WIDTHS if (low, high) == (-(2 ** (it - 1)), 2 ** (it - 1) - 1)), None)

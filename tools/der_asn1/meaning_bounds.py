@@ -1,10 +1,13 @@
 """The types of the library for constraints (X.680, 51): integers, sizes, and what needs a type of one's own."""
 from dataclasses import replace
+from typing import Callable
 
 from .features import Feature, Note
-from .intervals import ALL, INFINITY, NATURAL
+from .intervals import ALL, INFINITY, NATURAL, Intervals
 from .library import U64_MAX, Core, Rust, signed_exactly, unsigned_for
 from .library_table import BY_NAME, TYPES, UNIVERSAL_TAGS
+from .meaning import Meaning
+from .subtypes import Limits
 from .terms import Term, sized
 
 _INTEGER_FIRST = frozenset((UNIVERSAL_TAGS["INTEGER"],))
@@ -13,12 +16,12 @@ _SIZED = frozenset((Core.CONTENTS, Core.OCTETS, Core.UTF8, Core.LIST))
 _UNSIZED = frozenset(it.rust for it in TYPES if not it.is_sized)
 
 
-def whole_number_limits(limits):
+def whole_number_limits(limits: Limits) -> tuple[Intervals, bool]:
     """The numbers that an INTEGER has, and whether a constraint says something that isn't about numbers."""
     return limits.numbers, limits.other or limits.alphabet or limits.size != NATURAL
 
 
-def integer(meaning, limits):
+def integer(meaning: Callable[[Rust], Meaning], limits: tuple[Intervals, bool]) -> Meaning:
     """The meaning of an INTEGER with these limits, made by `meaning`."""
     numbers, other = limits
     found = BY_NAME["INTEGER"]
@@ -34,7 +37,7 @@ def integer(meaning, limits):
     return found.noting(Note.CONSTRAINT) if other else found
 
 
-def _range(meaning, low, high, any_size):
+def _range(meaning: Callable[[Rust], Meaning], low: float, high: float, any_size: Rust) -> Meaning:
     """An INTEGER of one range: a width of Rust, `InRange`, or a type of one's own."""
     signed = signed_exactly(low, high)
     if signed:
@@ -50,7 +53,7 @@ def _range(meaning, low, high, any_size):
     return meaning(own).noting(Note.CONSTRAINT)
 
 
-def bounded(found, limits):
+def bounded(found: Meaning, limits: Limits) -> Meaning:
     """The same meaning with types around it for the size, the characters, and all else that a constraint says."""
     if found.rust is None:
         return found
@@ -68,7 +71,7 @@ def bounded(found, limits):
     return found
 
 
-def _sized(found, size):
+def _sized(found: Meaning, size: Intervals) -> Meaning:
     """`WithSize`, or a type of one's own if the sizes aren't one range or the type has no size in the library."""
     rust = found.rust
     if not size.pairs:

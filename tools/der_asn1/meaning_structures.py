@@ -1,8 +1,9 @@
 """The meanings of SEQUENCE, SET and CHOICE (X.680, 25, 27 and 29)."""
 from dataclasses import dataclass, replace
+from typing import TYPE_CHECKING, Iterable, Optional, Union
 
 from . import tree
-from .declarations import ChoiceDeclaration, EnumDeclaration, Field, Item, StructDeclaration
+from .declarations import ChoiceDeclaration, Declaration, EnumDeclaration, Field, Hint, Item, StructDeclaration
 from .emit_choice import parts_type
 from .emit_enum import ONE_BYTE
 from .features import Feature, Level, Note
@@ -11,10 +12,14 @@ from .library import ANY_FIRST, DEFAULT_SIGNED, DEFAULT_UNSIGNED, U64_MAX, Core,
 from .library_table import UNIVERSAL_TAGS
 from .members import ResolvedMember, is_extensible, members_of
 from .meaning import Meaning, lacks
+from .scopes import Program, Scope
 from .source import NotationError
 from .terms import Item as TermItem, Term, number_list
 from .values import enumerated_numbers, integer_of, named_numbers, value_of
 from .wording import snake, variant
+
+if TYPE_CHECKING:
+    from .meaning_types import Meanings
 
 
 # the words of a term after the last member of an extensible type
@@ -29,21 +34,21 @@ class Part:
     meaning: Meaning
 
     @property
-    def firsts(self):
+    def firsts(self) -> frozenset[int]:
         """The bytes that its encoding may begin with."""
         return self.meaning.rust.firsts
 
-    def is_unknown(self):
+    def is_unknown(self) -> bool:
         """Whether nothing is known of its tag, since its type isn't given."""
         return self.meaning.rust.is_open and bool(self.meaning.features & {Feature.IMPORT, Feature.UNDEFINED})
 
     @property
-    def name(self):
+    def name(self) -> str:
         """Its name in the module."""
         return self.resolved.member.name
 
 
-def parts_of(meanings, type_, scope, hint):
+def parts_of(meanings: "Meanings", type_: tree.Type, scope: Scope, hint: Hint) -> list[Part]:
     """The members or alternatives with their meanings."""
     found = []
     for it in members_of(meanings.program, type_, scope):
@@ -52,7 +57,7 @@ def parts_of(meanings, type_, scope, hint):
     return found
 
 
-def structure(meanings, type_, scope, hint):
+def structure(meanings: "Meanings", type_: tree.StructureType, scope: Scope, hint: Hint) -> Meaning:
     """A SEQUENCE or SET of members."""
     first = UNIVERSAL_TAGS[type_.form.value]
     try:
@@ -76,7 +81,7 @@ def structure(meanings, type_, scope, hint):
     return found.called(structure_term(meanings, type_, written, end, (found.rust.inner or found.rust).text))
 
 
-def declared_struct(meanings, type_, scope, hint, parts):
+def declared_struct(meanings: "Meanings", type_: tree.StructureType, scope: Scope, hint: Hint, parts: list[Part]) -> Meaning:
     """The struct of these members, which is declared. A SET has the type of the library around it."""
     found = Meaning(None).containing(*(it.meaning for it in parts))
     fields = []
@@ -97,13 +102,13 @@ def declared_struct(meanings, type_, scope, hint, parts):
     return found.as_(Rust(f"Asn1Set<{name}>", Core.SET, frozenset((UNIVERSAL_TAGS["SET"],)), record) if is_set else record)
 
 
-def structure_term(meanings, type_, parts, end, name):
+def structure_term(meanings: "Meanings", type_: tree.StructureType, parts: list[Part], end: str, name: str) -> Term:
     """The term of a SEQUENCE or SET, its members in the order of the text, with the name of its struct."""
     items = tuple(TermItem(item_text(it), presence_word(meanings, it), it.meaning.rust.term) for it in parts)
     return Term(type_.form.value, items=items, end=end, name=name)
 
 
-def last_word(type_, scope, parts):
+def last_word(type_: tree.StructureType, scope: Scope, parts: list[Part]) -> str:
     """The word of a term after the last member: whether members of later versions may follow, and whether the struct has them.
 
     A SET has none, nor has a SEQUENCE whose root goes on after them. What may be absent before them can't be any element.
@@ -114,25 +119,25 @@ def last_word(type_, scope, parts):
     return NO_LATER if type_.form is tree.Form.SET or type_.goes_on or is_any else LATER
 
 
-def before_later(parts):
+def before_later(parts: list[Part]) -> list[Part]:
     """The members directly before those of later versions that may be absent."""
     last = max((index for index, it in enumerate(parts, 1) if not it.resolved.may_be_absent()), default=0)
     return parts[last:]
 
 
-def later_field(parts, fields):
+def later_field(parts: list[Part], fields: list[Field]) -> Field:
     """The field of the members of later versions. Its type has those of the members directly before that may be absent."""
     before = fields[len(parts) - len(before_later(parts)) :]
     types = parts_type([it.type_text for it in before])
     return Field("later_members", f"LaterMembers<{types}>", notation="...", comment="The members of later versions, in their order.")
 
 
-def item_text(part):
+def item_text(part: Part) -> str:
     """A member or an alternative as the module has it."""
     return f"{part.name} {part.resolved.member.text}"
 
 
-def presence_word(meanings, part):
+def presence_word(meanings: "Meanings", part: Part) -> str:
     """How a member is there."""
     member = part.resolved.member
     if member.presence is tree.Presence.DEFAULT:
@@ -142,7 +147,7 @@ def presence_word(meanings, part):
     return "required" if member.group is None else "added"
 
 
-def declare(meanings, declared, type_, scope, hint, meaning, suffix):
+def declare(meanings: "Meanings", declared: Declaration, type_: tree.Type, scope: Scope, hint: Hint, meaning: Meaning, suffix: str) -> str:
     """Keeps a declaration, and returns its name, which is that of an equal one if there is one.
 
     The name is that of its assignment, or one with a suffix if a tag or a SET is around it.
@@ -161,7 +166,7 @@ def declare(meanings, declared, type_, scope, hint, meaning, suffix):
     return declared.name
 
 
-def field_of(part, default):
+def field_of(part: Part, default: "Default") -> Field:
     """A member as a field. One with a default that the library hasn't is as one that may be absent."""
     member = part.resolved.member
     presence = tree.Presence.REQUIRED
@@ -173,13 +178,13 @@ def field_of(part, default):
     return Field(snake(part.name), type_text, presence, default.type_text, member.text, member.comment, bool(default.others))
 
 
-def variant_of(part):
+def variant_of(part: Part) -> Field:
     """An alternative as a variant."""
     member = part.resolved.member
     return Field(variant(part.name), part.meaning.rust.text, notation=member.text, comment=member.comment)
 
 
-def unique(fields):
+def unique(fields: list[Union[Field, Item]]) -> list[Union[Field, Item]]:
     """The same fields with a number after a name that another one has."""
     taken = set()
     for it in fields:
@@ -191,7 +196,7 @@ def unique(fields):
     return fields
 
 
-def empty(type_, scope, first):
+def empty(type_: tree.StructureType, scope: Scope, first: int) -> Meaning:
     """A SEQUENCE or SET without members, which is a list of none, or of any that later versions have."""
     name = "Vec" if type_.form is tree.Form.SEQUENCE else "Asn1SetOf"
     firsts, form = frozenset((first,)), type_.form.value
@@ -203,7 +208,7 @@ def empty(type_, scope, first):
     return Meaning(Rust(f"WithSize<{name}<()>, 0, 0>", Core.LIST, firsts, bounded=True, term=Term(f"{form} end")))
 
 
-def _raw(rust, parts, *features):
+def _raw(rust: Rust, parts: list[Part], *features: Feature) -> Meaning:
     """A type that is kept as bytes for what is missing in its parts."""
     found = Meaning(rust, Level.RAW).lacking(*features)
     return replace(found, features=found.features.union(*(it.meaning.features for it in parts)))
@@ -212,7 +217,7 @@ def _raw(rust, parts, *features):
 # ---- what distinguishes members
 
 
-def are_distinct(meanings, parts, form):
+def are_distinct(meanings: "Meanings", parts: list[Part], form: tree.Form) -> bool:
     """Whether the next byte says which member comes (X.680, 25.6 and 27.3)."""
     for index, it in enumerate(parts):
         if not it.resolved.may_be_absent():
@@ -230,12 +235,12 @@ def are_distinct(meanings, parts, form):
     return True
 
 
-def ambiguity(parts):
+def ambiguity(parts: list[Part]) -> tuple[Feature, ...]:
     """What is missing where no first byte distinguishes these parts: nothing more, if the type of one isn't given."""
     return () if any(it.is_unknown() for it in parts) else (Feature.AMBIGUOUS,)
 
 
-def in_tag_order(parts):
+def in_tag_order(parts: list[Part]) -> Optional[list[Part]]:
     """The members of a SET in the order of their tags (X.690, 10.3). None if it depends on the value."""
     ordered = sorted(parts, key=lambda it: min(map(tag_key, it.firsts)))
     for before, after in zip(ordered, ordered[1:]):
@@ -244,7 +249,7 @@ def in_tag_order(parts):
     return ordered
 
 
-def tag_key(first):
+def tag_key(first: int) -> tuple[int, int]:
     """The class and the number of a tag (X.680, 8.6)."""
     return first & 0xC0, first & 0x1F
 
@@ -267,7 +272,7 @@ class Default:
     notes: tuple = ()
 
 
-def default_of(meanings, part):
+def default_of(meanings: "Meanings", part: Part) -> Default:
     """The default of a member. It may be one of its own; or else the member is read as OPTIONAL is."""
     member, scope = part.resolved.member, part.resolved.scope
     if member.presence is not tree.Presence.DEFAULT:
@@ -298,7 +303,7 @@ class NamedDefault:
     number: int
 
 
-def item_of(meanings, value, scope, rust):
+def item_of(meanings: "Meanings", value: tree.Value, scope: Scope, rust: Rust) -> Optional[NamedDefault]:
     """A named item of an enumeration that is the default (X.680, 20.8), with the type that says so, or None."""
     declared = meanings.declarations.without_aliases(rust.text)
     if not isinstance(declared, EnumDeclaration) or rust.bounded:
@@ -313,14 +318,14 @@ def item_of(meanings, value, scope, rust):
     return item and NamedDefault(meanings.declarations.default_item(declared, item), item.number)
 
 
-def number_of(program, member, scope):
+def number_of(program: Program, member: tree.Member, scope: Scope) -> Optional[int]:
     """The number that is a default, or None. The named numbers of the type come before values with the same names (X.680, 19.12)."""
     named = named_numbers(program, member.type, scope)
     number = integer_of(program, member.default, scope, named)
     return number if number is not None else integer_of(program, *value_of(program, member.default, scope), named)
 
 
-def number_default(outer, rust, number):
+def number_default(outer: Rust, rust: Rust, number: int) -> Default:
     """The default of an INTEGER, which may be under tags."""
     allowed, name = (DEFAULT_UNSIGNED, "Number") if rust.core is Core.UNSIGNED else (DEFAULT_SIGNED, "SignedNumber")
     if rust.core is not Core.NUMBER and number in allowed and not rust.bounded:
@@ -331,7 +336,7 @@ def number_default(outer, rust, number):
     return Default(features=(Feature.DEFAULT_CONSTRAINED if rust.bounded or rust.core is not Core.NUMBER else Feature.DEFAULT_INTEGER,))
 
 
-def other_than(rust, number):
+def other_than(rust: Rust, number: int) -> Optional[str]:
     """The type of the other numbers, below the tags. None if the type with its tags has another name."""
     if rust.core not in (Core.EXPLICIT, Core.IMPLICIT):
         return f"OtherThan<{rust.text}, {number}>"
@@ -343,7 +348,7 @@ def other_than(rust, number):
 # ---- enumerations
 
 
-def enumeration(meanings, type_, scope, hint):
+def enumeration(meanings: "Meanings", type_: tree.EnumeratedType, scope: Scope, hint: Hint) -> Meaning:
     """An enum of the crate's own. One with a number of more than a byte is any number, which the library has a type for."""
     numbers = enumerated_numbers(meanings.program, type_.items, scope)
     first = frozenset((UNIVERSAL_TAGS["ENUMERATED"],))
@@ -355,7 +360,7 @@ def enumeration(meanings, type_, scope, hint):
     return declared_enum(meanings, type_, scope, hint, zip(type_.items, numbers), "ENUMERATED")
 
 
-def named_integer(meanings, type_, scope, hint, numbers):
+def named_integer(meanings: "Meanings", type_: tree.IntegerType, scope: Scope, hint: Hint, numbers: Intervals) -> Optional[Meaning]:
     """An INTEGER that has a name and only these numbers, if there are several of one byte, each with a name: an enum of its own. Else None."""
     named = [(it, integer_of(meanings.program, it.number, scope)) for it in type_.named]
     known = [number for _, number in named]
@@ -366,7 +371,14 @@ def named_integer(meanings, type_, scope, hint, numbers):
     return declared_enum(meanings, type_, scope, hint, sorted(named, key=lambda it: it[1]), "INTEGER")
 
 
-def declared_enum(meanings, type_, scope, hint, items, form):
+def declared_enum(
+    meanings: "Meanings",
+    type_: tree.Type,
+    scope: Scope,
+    hint: Hint,
+    items: Iterable[tuple[tree.NamedNumber, int]],
+    form: str,
+) -> Meaning:
     """The enum of these items with their numbers, which is declared."""
     tag = UNIVERSAL_TAGS[form]
     found = [Item(variant(it.name), it.name, number, it.comment) for it, number in items]
@@ -381,7 +393,7 @@ def declared_enum(meanings, type_, scope, hint, items, form):
 # ---- choices
 
 
-def choice(meanings, type_, scope, hint):
+def choice(meanings: "Meanings", type_: tree.ChoiceType, scope: Scope, hint: Hint) -> Meaning:
     """A CHOICE."""
     parts = parts_of(meanings, type_, scope, hint)
     if not parts:
@@ -399,7 +411,7 @@ def choice(meanings, type_, scope, hint):
     return declared_choice(meanings, type_, scope, hint, parts)
 
 
-def declared_choice(meanings, type_, scope, hint, parts):
+def declared_choice(meanings: "Meanings", type_: tree.ChoiceType, scope: Scope, hint: Hint, parts: list[Part]) -> Meaning:
     """The choice of these alternatives, which is declared."""
     firsts = frozenset().union(*(it.firsts for it in parts))
     found = Meaning(None).containing(*(it.meaning for it in parts))

@@ -1,9 +1,11 @@
 """The types of the library for tags (X.680, 31.2; X.690, 8.14)."""
 from dataclasses import replace
 
+from . import tree
 from .features import Feature, Level, Note
 from .library import MAX_TAG, Core, Rust, context_tag, retagged, tagged_bytes
 from .library_table import UNIVERSAL_TAGS
+from .meaning import Meaning
 from .terms import Term, content_under
 from .tree import TagClass, TagMode
 
@@ -11,7 +13,7 @@ _CONSTRUCTED = 0x20
 _BIT_STRING = frozenset((UNIVERSAL_TAGS["BIT STRING"],))
 
 
-def wrapped(meaning, tag_class, number, mode):
+def wrapped(meaning: Meaning, tag_class: tree.TagClass, number: int, mode: tree.TagMode) -> Meaning:
     """The meaning of a type under a tag. It has a term only where it isn't what the text says."""
     if number > MAX_TAG:
         return replace(meaning.lacking(Feature.LONG_TAG), rust=None)
@@ -43,7 +45,7 @@ def wrapped(meaning, tag_class, number, mode):
     return primitive(meaning, inner, tag)
 
 
-def content_of(inner):
+def content_of(inner: Rust) -> Rust:
     """What the library has under an IMPLICIT tag. The content of an octet string that holds an encoding is that of a list of one."""
     if inner.core is not Core.CONTAINER:
         return inner
@@ -52,7 +54,7 @@ def content_of(inner):
     return replace(inner.inner, text=f"({inner.inner.text},)")
 
 
-def explicit(inner, tag_class, number):
+def explicit(inner: Rust, tag_class: tree.TagClass, number: int) -> Rust:
     """An EXPLICIT tag. One that is private or universal is a list of one member under that tag."""
     tag = tag_class.value | _CONSTRUCTED | number
     firsts = frozenset((tag,))
@@ -63,7 +65,7 @@ def explicit(inner, tag_class, number):
     return Rust(f"Retagged<({inner.text},), 0x{tag:02X}>", Core.EXPLICIT, firsts, inner)
 
 
-def primitive(meaning, inner, tag):
+def primitive(meaning: Meaning, inner: Rust, tag: int) -> Meaning:
     """An IMPLICIT tag of another class than context over a primitive type."""
     firsts = frozenset((tag,))
     if inner.core is Core.OCTETS:
@@ -84,6 +86,6 @@ def primitive(meaning, inner, tag):
     return kept(meaning, tag, Feature.FOREIGN_TAG)
 
 
-def kept(meaning, tag, feature):
+def kept(meaning: Meaning, tag: int, feature: Feature) -> Meaning:
     """The content under a tag as bytes, for what the library lacks."""
     return replace(meaning.as_(tagged_bytes(tag)).lacking(feature), level=max(Level.RAW, meaning.level))

@@ -21,7 +21,7 @@ TAKEN = LIBRARY_NAMES | frozenset(
 )
 
 
-def words(name):
+def words(name: str) -> list[str]:
     """The words of a name, which hyphens and capital letters divide. An abbreviation may begin with a small letter, as in `dNSName`."""
     found = [it for part in re.split(r"[-_]", name) for it in _WORD.findall(part)]
     if len(found) > 1 and len(found[0]) == 1 and found[0].islower() and found[1].isupper() and name[1:2] not in "-_":
@@ -29,24 +29,24 @@ def words(name):
     return found
 
 
-def joined(name):
+def joined(name: str) -> str:
     """The words of a name, each with a capital letter."""
     return "".join(it[0].upper() + it[1:].lower() for it in words(name))
 
 
-def camel(name):
+def camel(name: str) -> str:
     """The name of a type."""
     found = joined(name)
     return f"Asn{found}" if found in TAKEN or not found[:1].isalpha() else found
 
 
-def variant(name):
+def variant(name: str) -> str:
     """The name of a variant."""
     found = joined(name)
     return f"The{found}" if found in ("Self", "Type") or not found[:1].isalpha() else found
 
 
-def snake(name):
+def snake(name: str) -> str:
     """The name of a member or a file."""
     found = "_".join(words(name)).lower()
     if not found[:1].isalpha():
