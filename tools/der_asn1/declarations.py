@@ -4,6 +4,7 @@ from typing import Optional
 
 from .features import Level
 from .other_crates import OtherCrates
+from .rust_types import UNIT, RustType
 from .source import Place
 from .tree import Presence
 from .wording import camel
@@ -34,9 +35,9 @@ class Field:
     """
 
     name: str
-    type_text: str
+    type: RustType
     presence: Presence = Presence.REQUIRED
-    default: str = ""
+    default: Optional[RustType] = None
     notation: str = ""
     comment: str = ""
     is_other: bool = False
@@ -127,12 +128,12 @@ class EnumDeclaration(Declaration):
 class AliasDeclaration(Declaration):
     """A name of another type."""
 
-    type_text: str = ""
+    type: RustType = UNIT
     notation: str = ""
 
-    def parts(self) -> str:
+    def parts(self) -> RustType:
         """The type that it is a name of."""
-        return self.type_text
+        return self.type
 
 
 @dataclass
@@ -186,7 +187,7 @@ class Declarations:
         """The struct, choice or enumeration that a name is one of, through names of other types, or None."""
         found = self.by_name.get(name)
         while type(found) is AliasDeclaration:
-            found = self.by_name.get(found.type_text)
+            found = self.by_name.get(str(found.type))
         return found
 
     def add(self, declaration: Declaration) -> None:

@@ -1,14 +1,14 @@
 """A choice, in the form of docs/YOUR_TYPES.md, with the proof of what it writes."""
 from .declarations import ChoiceDeclaration, Declaration, Field
 from .emit_comments import difference_note, sentence
-from .emit_imports import PRELUDE, Uses, words_of
+from .emit_imports import PRELUDE, Uses
 from .layout import GHOST_WIDTH, STEP, WIDTH, comment, signature, type_lines
+from .library import FOUR, parts_type
 from .private_names import PrivateNames
 from .wording import snake
 
 _TWO = STEP * 2
 _THREE = STEP * 3
-FOUR = 4
 _FOUR_NAMES = ["First", "Second", "Third", "Fourth"]
 _VARIANTS = "Rattle.picky_der_de.specs.declared.{}.TheVariants"
 # the constructors of the alternatives, by their types, and the modules of terms that have them
@@ -47,15 +47,6 @@ def pattern(constructors: list[str], value: str) -> str:
     return value
 
 
-def parts_type(types: list[str]) -> str:
-    """The type of the alternatives."""
-    if not types:
-        return "NoneOf"
-    if len(types) >= FOUR:
-        return f"OneOf4<{', '.join(types[:FOUR])}, {parts_type(types[FOUR:])}>"
-    return f"OneOf<{types[0]}, {parts_type(types[1:])}>"
-
-
 def choice_uses(declared: ChoiceDeclaration, names: PrivateNames, home: str) -> Uses:
     """What the items of a choice name. `home` is the module of terms of the types of its file."""
     count = len(declared.variants)
@@ -68,7 +59,7 @@ def choice_uses(declared: ChoiceDeclaration, names: PrivateNames, home: str) -> 
         "Rattle.der_types.specs.Notation": {"Notation"},
         **{_CONSTRUCTOR_HOMES[it]: found for it, found in used.items()},
     }
-    rust = {*_NAMES, *words_of(parts_type([it.type_text for it in declared.variants]))}
+    rust = {*_NAMES, *parts_type([it.type for it in declared.variants]).names()}
     return Uses(rust, used, terms, {(f"{home}.{declared.name}.TheVariants", variants_name(declared, names))})
 
 
@@ -78,7 +69,7 @@ def choice_lines(declared: ChoiceDeclaration, names: PrivateNames) -> list[str]:
     return [
         *definition(declared),
         "",
-        *type_lines("", f"type {parts} = ", parts_type([it.type_text for it in declared.variants]), ";"),
+        *type_lines("", f"type {parts} = ", str(parts_type([it.type for it in declared.variants])), ";"),
         "",
         *choice_impl(declared, parts, variants),
         "",
@@ -110,8 +101,8 @@ def definition(declared: ChoiceDeclaration) -> list[str]:
 
 def variant_lines(it: Field) -> list[str]:
     """A variant with its type."""
-    line = f"{STEP}{it.name}({it.type_text}),"
-    return [line] if len(line) <= WIDTH else [f"{STEP}{it.name}(", *type_lines(_TWO, "", it.type_text, ","), f"{STEP}),"]
+    line = f"{STEP}{it.name}({it.type}),"
+    return [line] if len(line) <= WIDTH else [f"{STEP}{it.name}(", *type_lines(_TWO, "", str(it.type), ","), f"{STEP}),"]
 
 
 def choice_impl(declared: ChoiceDeclaration, parts: str, named: str) -> list[str]:

@@ -7,7 +7,6 @@ from . import tree
 from .declarations import AliasDeclaration, ChoiceDeclaration, Declaration, Declarations, EnumDeclaration, StructDeclaration
 from .emit_choice import answers_path, serialize_answers
 from .emit_enum import TERMS_FILE, terms_file
-from .emit_imports import words_of
 from .emit_notation import defined, notation_file, notation_terms
 from .emit_struct import REFERENCES
 from .emit_types import ONLY, Context, stems_of, types_file
@@ -165,17 +164,17 @@ def all_reached(declarations: Declarations, names: Iterable[str]) -> dict[str, D
             continue
         found[name] = declarations.by_name[name]
         if name not in declarations.elsewhere:
-            left += sorted(words_of(" ".join(texts(found[name]))) | named_in_term(found[name]))
+            left += sorted(named_in_types(found[name]) | named_in_term(found[name]))
     return found
 
 
-def texts(declared: Declaration) -> list[str]:
-    """The types of Rust that a declaration names."""
+def named_in_types(declared: Declaration) -> set[str]:
+    """The names of the types that a declaration is made of."""
     if isinstance(declared, AliasDeclaration):
-        return [declared.type_text]
+        return declared.type.names()
     if isinstance(declared, EnumDeclaration):
-        return []
-    return [it.type_text for it in declared.parts()]
+        return set()
+    return set().union(*(it.type.names() for it in declared.parts()))
 
 
 def named_in_term(declared: Declaration) -> set[str]:

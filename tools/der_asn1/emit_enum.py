@@ -10,9 +10,6 @@ from .wording import snake
 _TWO = STEP * 2
 _THREE = STEP * 3
 
-# numbers whose content is one byte (X.690, 8.3 and 8.4), and that are that byte
-ONE_BYTE = range(128)
-
 _CONTENTS = "Rattle.der_types.specs.KnownContents"
 _TERMS = {
     "Rattle.std.proofs.Common": {"lit≤"},

@@ -1,5 +1,4 @@
 """The imports of a file: which names its items use, and where they are from."""
-import re
 from dataclasses import dataclass, field
 from typing import Iterable
 
@@ -74,11 +73,6 @@ def term_imports(home: str, names: list[str]) -> list[str]:
 def term_line(home: str, names: list[str]) -> str:
     """An import of terms."""
     return f"ghost use {home}.{{{', '.join(names)}}};"
-
-
-def words_of(text: str) -> set[str]:
-    """The names and the paths in a text of Rust."""
-    return set(re.findall(r"[A-Za-z_]\w*(?:::[A-Za-z_]\w*)*", text))
 
 
 def imports(names: Iterable[str], homes: dict[str, str], variants: Iterable[tuple[str, Iterable[str]]] = ()) -> list[str]:

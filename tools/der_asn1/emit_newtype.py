@@ -1,7 +1,7 @@
 """A struct of its own round another type, in the form of docs/YOUR_TYPES.md."""
 from .declarations import NewtypeDeclaration
 from .emit_comments import difference_note, sentence
-from .emit_imports import PRELUDE, Uses, words_of
+from .emit_imports import PRELUDE, Uses
 from .layout import STEP, WIDTH, comment, signature
 
 _TWO = STEP * 2
@@ -12,7 +12,7 @@ _NAMES = "ReadExt WriteExt Alike Deserialize Deserializer Result Serialize Seria
 
 def newtype_uses(declared: NewtypeDeclaration) -> Uses:
     """What the items of a struct round another type name."""
-    return Uses({*_NAMES, *words_of(declared.type_text)}, terms=_TERMS)
+    return Uses({*_NAMES, *declared.type.names()}, terms=_TERMS)
 
 
 def newtype_lines(declared: NewtypeDeclaration) -> list[str]:
@@ -34,7 +34,7 @@ def newtype_lines(declared: NewtypeDeclaration) -> list[str]:
 
 def quoted(declared: NewtypeDeclaration, trait: str) -> str:
     """The implementation of a trait for the type inside, in a term."""
-    return f"⟦<{declared.type_text} as {trait}>⟧"
+    return f"⟦<{declared.type} as {trait}>⟧"
 
 
 def definition(declared: NewtypeDeclaration) -> list[str]:
@@ -42,8 +42,8 @@ def definition(declared: NewtypeDeclaration) -> list[str]:
     lines = comment("", "///", f"{sentence(declared.comment)} `{declared.source}` of {declared.module}: `{declared.notation}`.")
     lines += difference_note(declared)
     lines += ["#[derive(Debug, Drop, PartialEq, Eq)]"]
-    line = f"pub struct {declared.name}(pub {declared.type_text});"
-    return [*lines, line] if len(line) <= WIDTH else [*lines, f"pub struct {declared.name}(", f"{STEP}pub {declared.type_text},", ");"]
+    line = f"pub struct {declared.name}(pub {declared.type});"
+    return [*lines, line] if len(line) <= WIDTH else [*lines, f"pub struct {declared.name}(", f"{STEP}pub {declared.type},", ");"]
 
 
 def serialize_impl(declared: NewtypeDeclaration) -> list[str]:
@@ -63,11 +63,11 @@ def alike_impl(declared: NewtypeDeclaration) -> list[str]:
     """The implementation of `Alike`, whose twin is the type inside."""
     return [
         f"impl Alike for {declared.name} {{",
-        f"{STEP}type As = {declared.type_text};",
+        f"{STEP}type As = {declared.type};",
         "",
         f"{STEP}ghost parts = {{ λ it. it.0 }};",
         "",
-        *signature(STEP, "from_parts", [f"value: {declared.type_text}"], declared.name),
+        *signature(STEP, "from_parts", [f"value: {declared.type}"], declared.name),
         f"{_TWO}{declared.name}(value)",
         f"{STEP}}}",
         "}",
@@ -96,7 +96,7 @@ def begins_impl(declared: NewtypeDeclaration) -> list[str]:
     return [
         f"impl Begins for {declared.name} {{",
         f"{STEP}fn begins_with(tag: Tag) -> bool {{",
-        f"{_TWO}<{declared.type_text} as Begins>::begins_with(tag)",
+        f"{_TWO}<{declared.type} as Begins>::begins_with(tag)",
         f"{STEP}}}",
         "}",
     ]

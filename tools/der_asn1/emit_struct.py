@@ -1,9 +1,10 @@
 """A struct, in the form of docs/YOUR_TYPES.md."""
 from .declarations import Field, StructDeclaration
 from .emit_comments import default_note, difference_note, sentence
-from .emit_imports import PRELUDE, Uses, words_of
+from .emit_imports import PRELUDE, Uses
 from .layout import GHOST_WIDTH, STEP, STRUCT_LITERAL_WIDTH, TUPLE_WIDTH, WIDTH, assigned, comment, signature, tuple_lines
 from .private_names import PrivateNames
+from .rust_types import RustType, of
 from .tree import Presence
 
 CHUNK = 8  # members of one tuple of types
@@ -38,11 +39,11 @@ def variable_names(declared: StructDeclaration) -> list[str]:
     return [f"{it}_members" if it in taken else it for it in found]
 
 
-def member_type(it: Field) -> str:
+def member_type(it: Field) -> RustType:
     """A member in the tuple of types."""
     if it.presence is Presence.OPTIONAL:
-        return f"Optional<{it.type_text}>"
-    return f"Defaulted<{it.type_text}, {it.default}>" if it.presence is Presence.DEFAULT else it.type_text
+        return of("Optional", it.type)
+    return of("Defaulted", it.type, it.default) if it.presence is Presence.DEFAULT else it.type
 
 
 def member_part(it: Field, before: str = "it") -> str:
@@ -59,13 +60,13 @@ def member_reference(it: Field, before: str = "self") -> str:
     if it.presence is Presence.OPTIONAL:
         return f"OptionalRef(&{before}.{it.name})"
     if it.presence is Presence.DEFAULT:
-        return f"DefaultedRef::<{it.type_text}, {it.default}>::new(&{before}.{it.name})"
+        return f"DefaultedRef::<{it.type}, {it.default}>::new(&{before}.{it.name})"
     return f"&{before}.{it.name}"
 
 
 def struct_uses(declared: StructDeclaration) -> Uses:
     """What the items of a struct name."""
-    used = {*_NAMES, *(name for it in declared.parts() for name in words_of(member_type(it)))}
+    used = {*_NAMES, *(name for it in declared.parts() for name in member_type(it).names())}
     presences = {it.presence for it in declared.fields}
     used |= {"OptionalRef"} if Presence.OPTIONAL in presences else set()
     used |= {"DefaultedRef"} if Presence.DEFAULT in presences else set()
@@ -101,9 +102,9 @@ def definition(declared: StructDeclaration) -> list[str]:
     lines += difference_note(declared)
     lines += ["#[derive(Debug, Drop, PartialEq, Eq)]", f"pub struct {declared.name} {{"]
     for it in declared.parts():
-        type_text = f"Option<{it.type_text}>" if it.presence is Presence.OPTIONAL else it.type_text
+        type_ = of("Option", it.type) if it.presence is Presence.OPTIONAL else it.type
         lines += comment(STEP, "///", f"{sentence(it.comment)} `{it.notation}`{default_note(it)}.")
-        lines += assigned(STEP, f"pub {it.name}:", type_text, ",")
+        lines += assigned(STEP, f"pub {it.name}:", str(type_), ",")
     return [*lines, "}"]
 
 
@@ -111,8 +112,8 @@ def member_types(declared: StructDeclaration, names: list[str]) -> list[str]:
     """The tuples of types, which have these names."""
     parts, lines = chunks(declared.fields), []
     for index, (name, part) in enumerate(zip(names, parts)):
-        rest = names[index + 1] if index + 1 < len(names) else declared.later.type_text if declared.later else "()"
-        items = [*(member_type(it) for it in part), rest]
+        rest = names[index + 1] if index + 1 < len(names) else str(declared.later.type) if declared.later else "()"
+        items = [*(str(member_type(it)) for it in part), rest]
         lines += [*tuple_lines("", f"type {name} = ", items, ";"), ""]
     return lines
 

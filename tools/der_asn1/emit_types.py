@@ -5,7 +5,7 @@ from .declarations import AliasDeclaration, ChoiceDeclaration, Declaration, Enum
 from .emit_choice import choice_lines, choice_uses
 from .emit_comments import difference_note, sentence
 from .emit_enum import enum_lines, enum_uses
-from .emit_imports import Uses, words_of
+from .emit_imports import Uses
 from .emit_newtype import newtype_lines, newtype_uses
 from .emit_struct import struct_lines, struct_uses
 from .layout import assigned, comment
@@ -66,7 +66,7 @@ def uses_of(declared: Declaration, stem: str, context: Context) -> Uses:
         return choice_uses(declared, context.names, home)
     if isinstance(declared, EnumDeclaration):
         return enum_uses(declared, context.names, context.crate, home)
-    return Uses(words_of(declared.type_text))
+    return Uses(declared.type.names())
 
 
 def lines_of(declared: Declaration, names: PrivateNames) -> list[str]:
@@ -87,5 +87,5 @@ def alias_lines(declared: AliasDeclaration) -> list[str]:
     return [
         *comment("", "///", f"{sentence(declared.comment)} `{declared.source}` of {declared.module}: `{declared.notation}`."),
         *difference_note(declared),
-        *assigned("", f"pub type {declared.name} =", declared.type_text, ";"),
+        *assigned("", f"pub type {declared.name} =", str(declared.type), ";"),
     ]

@@ -3,6 +3,7 @@ from dataclasses import dataclass, field
 from enum import Enum, auto
 from typing import Optional
 
+from .rust_types import RustType, of
 from .terms import Term, any_content
 
 ANY_FIRST = frozenset(it for it in range(256) if it & 0x1F != 0x1F)
@@ -13,6 +14,10 @@ LAST_NAMED_LIST = 7
 U64_MAX = 2**64 - 1
 DEFAULT_UNSIGNED = range(0, 256)
 DEFAULT_SIGNED = range(-128, 128)
+# how many alternatives `OneOf4` has
+FOUR = 4
+# numbers whose content is one byte (X.690, 8.3 and 8.4), and that are that byte
+ONE_BYTE = range(128)
 WIDTHS = (8, 16, 32, 64, 128)
 
 
@@ -42,13 +47,13 @@ class Core(Enum):
 
 @dataclass(frozen=True)
 class Rust:
-    """A type as Rust has it. `firsts` are the bytes that an encoding may begin with; `inner` is what a tag is around.
+    """A type of Rust for one of the notation. `firsts` are the bytes that an encoding may begin with; `inner` is what a tag is around.
 
     `bounded` says that a type of a constraint is around it, or should be, and `own` that its content has a type of one's own.
     `is_foreign` says that it is under an IMPLICIT tag of another class than context. `term` is the type as a term of der_types.
     """
 
-    text: str
+    type: RustType
     core: Core
     firsts: frozenset
     inner: Optional["Rust"] = None
@@ -58,6 +63,11 @@ class Rust:
     is_foreign: bool = False
     term: Optional[Term] = field(default=None, compare=False)
 
+    @property
+    def text(self) -> str:
+        """The type as it is written."""
+        return str(self.type)
+
     def is_constructed(self) -> bool:
         """Whether its encoding is constructed, where it has one tag alone (X.690, 8.14.3)."""
         return all(it & 0x20 for it in self.firsts)
@@ -65,26 +75,35 @@ class Rust:
 
 def tagged_bytes(tag: int) -> Rust:
     """Any content under this identifier byte."""
-    return Rust(f"TaggedBytes<0x{tag:02X}>", Core.BYTES, frozenset((tag,)), term=any_content(tag))
+    return Rust(of("TaggedBytes", f"0x{tag:02X}"), Core.BYTES, frozenset((tag,)), term=any_content(tag))
 
 
 def any_element() -> Rust:
     """Any element, as it is."""
-    return Rust("Asn1RawDer", Core.ELEMENT, ANY_FIRST, is_open=True, term=Term("ANY"))
+    return Rust(of("Asn1RawDer"), Core.ELEMENT, ANY_FIRST, is_open=True, term=Term("ANY"))
 
 
-def context_tag(mode: str, inner: Rust, number: int) -> str:
+def context_tag(mode: str, inner: RustType, number: int) -> RustType:
     """ExplicitContextTag or ImplicitContextTag, by the short name if there is one."""
     name = f"{mode}ContextTag"
-    return f"{name}{number}<{inner.text}>" if number <= LAST_NAMED_TAG else f"{name}<{inner.text}, {number}>"
+    return of(f"{name}{number}", inner) if number <= LAST_NAMED_TAG else of(name, inner, str(number))
 
 
-def retagged(inner: Rust, tag: int) -> str:
+def retagged(inner: RustType, tag: int) -> RustType:
     """Retagged, by the short name if there is one."""
     number = tag & 0x1F
     if tag & 0xE0 == 0xA0 and number <= LAST_NAMED_LIST:
-        return f"ImplicitList{number}<{inner.text}>"
-    return f"Retagged<{inner.text}, 0x{tag:02X}>"
+        return of(f"ImplicitList{number}", inner)
+    return of("Retagged", inner, f"0x{tag:02X}")
+
+
+def parts_type(types: list[RustType]) -> RustType:
+    """The type of the alternatives of a choice."""
+    if not types:
+        return of("NoneOf")
+    if len(types) >= FOUR:
+        return of("OneOf4", *types[:FOUR], parts_type(types[FOUR:]))
+    return of("OneOf", types[0], parts_type(types[1:]))
 
 
 def unsigned_for(high: float) -> Optional[str]:

@@ -7,6 +7,7 @@ from .intervals import ALL, INFINITY, NATURAL, Intervals
 from .library import U64_MAX, Core, Rust, signed_exactly, unsigned_for
 from .library_table import BY_NAME, TYPES, UNIVERSAL_TAGS
 from .meaning import Meaning
+from .rust_types import of
 from .subtypes import Limits
 from .terms import Term, sized
 
@@ -25,7 +26,7 @@ def integer(meaning: Callable[[Rust], Meaning], limits: tuple[Intervals, bool]) 
     """The meaning of an INTEGER with these limits, made by `meaning`."""
     numbers, other = limits
     found = BY_NAME["INTEGER"]
-    any_size = Rust(found.rust, found.core, _INTEGER_FIRST, term=Term(found.term))
+    any_size = Rust(of(found.rust), found.core, _INTEGER_FIRST, term=Term(found.term))
     if not numbers.pairs:
         return meaning(any_size).lacking(Feature.NO_VALUES)
     if numbers.is_all():
@@ -41,14 +42,14 @@ def _range(meaning: Callable[[Rust], Meaning], low: float, high: float, any_size
     """An INTEGER of one range: a width of Rust, `InRange`, or a type of one's own."""
     signed = signed_exactly(low, high)
     if signed:
-        return meaning(Rust(signed, Core.SIGNED, _INTEGER_FIRST, term=Term(f"INTEGER-from-minus-to {-low} {high}")))
+        return meaning(Rust(of(signed), Core.SIGNED, _INTEGER_FIRST, term=Term(f"INTEGER-from-minus-to {-low} {high}")))
     width = unsigned_for(high) if low >= 0 and high != INFINITY else None
     term = Term(f"INTEGER-from-to {low} {high}")
     if width and low == 0 and high == 2 ** int(width[1:]) - 1:
-        return meaning(Rust(width, Core.UNSIGNED, _INTEGER_FIRST, term=term))
+        return meaning(Rust(of(width), Core.UNSIGNED, _INTEGER_FIRST, term=term))
     if width and high <= U64_MAX:
-        plain = Rust(width, Core.UNSIGNED, _INTEGER_FIRST)
-        return meaning(Rust(f"InRange<{width}, {low}, {high}>", Core.UNSIGNED, _INTEGER_FIRST, plain, bounded=True, term=term))
+        plain = Rust(of(width), Core.UNSIGNED, _INTEGER_FIRST)
+        return meaning(Rust(of("InRange", of(width), str(low), str(high)), Core.UNSIGNED, _INTEGER_FIRST, plain, bounded=True, term=term))
     own = replace(any_size, bounded=True, inner=any_size)
     return meaning(own).noting(Note.CONSTRAINT)
 
@@ -79,6 +80,6 @@ def _sized(found: Meaning, size: Intervals) -> Meaning:
     if rust.core not in _SIZED or rust.text in _UNSIZED or not size.is_one_range() or rust.own or rust.bounded:
         return found.as_(replace(rust, bounded=True, inner=rust)).noting(Note.CONSTRAINT)
     high = "{ usize::MAX }" if size.high == INFINITY else size.high
-    text = f"WithSize<{rust.text}, {size.low}, {high}>"
+    around = of("WithSize", rust.type, str(size.low), str(high))
     term = sized(size.low, "MAX" if size.high == INFINITY else size.high, rust.term)
-    return found.as_(replace(rust, text=text, bounded=True, inner=rust, term=term))
+    return found.as_(replace(rust, type=around, bounded=True, inner=rust, term=term))

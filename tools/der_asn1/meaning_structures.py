@@ -4,14 +4,13 @@ from typing import TYPE_CHECKING, Iterable, Optional, Union
 
 from . import tree
 from .declarations import ChoiceDeclaration, Declaration, EnumDeclaration, Field, Hint, Item, StructDeclaration
-from .emit_choice import parts_type
-from .emit_enum import ONE_BYTE
 from .features import Feature, Level, Note
 from .intervals import Intervals
-from .library import ANY_FIRST, DEFAULT_SIGNED, DEFAULT_UNSIGNED, U64_MAX, Core, Rust, any_element, tagged_bytes
+from .library import ANY_FIRST, DEFAULT_SIGNED, DEFAULT_UNSIGNED, ONE_BYTE, U64_MAX, Core, Rust, any_element, parts_type, tagged_bytes
 from .library_table import UNIVERSAL_TAGS
 from .members import ResolvedMember, is_extensible, members_of
 from .meaning import Meaning, lacks
+from .rust_types import UNIT, RustType, of
 from .scopes import Program, Scope
 from .source import NotationError
 from .terms import Item as TermItem, Term, number_list
@@ -98,8 +97,8 @@ def declared_struct(meanings: "Meanings", type_: tree.StructureType, scope: Scop
     declared = StructDeclaration("", type_.place, scope.module.name, hint.text, is_set=is_set, later=later)
     declared.fields = fields[:-1] if later else fields
     name = declare(meanings, declared, type_, scope, hint, found, "members")
-    record = Rust(name, Core.LIST, frozenset((UNIVERSAL_TAGS["SEQUENCE"],)))
-    return found.as_(Rust(f"Asn1Set<{name}>", Core.SET, frozenset((UNIVERSAL_TAGS["SET"],)), record) if is_set else record)
+    record = Rust(of(name), Core.LIST, frozenset((UNIVERSAL_TAGS["SEQUENCE"],)))
+    return found.as_(Rust(of("Asn1Set", record.type), Core.SET, frozenset((UNIVERSAL_TAGS["SET"],)), record) if is_set else record)
 
 
 def structure_term(meanings: "Meanings", type_: tree.StructureType, parts: list[Part], end: str, name: str) -> Term:
@@ -128,8 +127,8 @@ def before_later(parts: list[Part]) -> list[Part]:
 def later_field(parts: list[Part], fields: list[Field]) -> Field:
     """The field of the members of later versions. Its type has those of the members directly before that may be absent."""
     before = fields[len(parts) - len(before_later(parts)) :]
-    types = parts_type([it.type_text for it in before])
-    return Field("later_members", f"LaterMembers<{types}>", notation="...", comment="The members of later versions, in their order.")
+    types = parts_type([it.type for it in before])
+    return Field("later_members", of("LaterMembers", types), notation="...", comment="The members of later versions, in their order.")
 
 
 def item_text(part: Part) -> str:
@@ -170,18 +169,18 @@ def field_of(part: Part, default: "Default") -> Field:
     """A member as a field. One with a default that the library hasn't is as one that may be absent."""
     member = part.resolved.member
     presence = tree.Presence.REQUIRED
-    if default.type_text:
+    if default.type:
         presence = tree.Presence.DEFAULT
     elif part.resolved.may_be_absent():
         presence = tree.Presence.OPTIONAL
-    type_text = default.others or part.meaning.rust.text
-    return Field(snake(part.name), type_text, presence, default.type_text, member.text, member.comment, bool(default.others))
+    type_ = default.others or part.meaning.rust.type
+    return Field(snake(part.name), type_, presence, default.type, member.text, member.comment, bool(default.others))
 
 
 def variant_of(part: Part) -> Field:
     """An alternative as a variant."""
     member = part.resolved.member
-    return Field(variant(part.name), part.meaning.rust.text, notation=member.text, comment=member.comment)
+    return Field(variant(part.name), part.meaning.rust.type, notation=member.text, comment=member.comment)
 
 
 def unique(fields: list[Union[Field, Item]]) -> list[Union[Field, Item]]:
@@ -201,11 +200,11 @@ def empty(type_: tree.StructureType, scope: Scope, first: int) -> Meaning:
     name = "Vec" if type_.form is tree.Form.SEQUENCE else "Asn1SetOf"
     firsts, form = frozenset((first,)), type_.form.value
     if is_extensible(type_, scope) and type_.form is tree.Form.SEQUENCE:
-        return Meaning(Rust(f"{name}<Asn1RawDer>", Core.LIST, firsts, term=Term(f"{form} {LATER}")))
+        return Meaning(Rust(of(name, of("Asn1RawDer")), Core.LIST, firsts, term=Term(f"{form} {LATER}")))
     if is_extensible(type_, scope):
         term = Term(f"{form}-OF", Term("ANY"))
-        return Meaning(Rust(f"{name}<Asn1RawDer>", Core.LIST, firsts, term=term)).lacking(Feature.EXTENSION)
-    return Meaning(Rust(f"WithSize<{name}<()>, 0, 0>", Core.LIST, firsts, bounded=True, term=Term(f"{form} end")))
+        return Meaning(Rust(of(name, of("Asn1RawDer")), Core.LIST, firsts, term=term)).lacking(Feature.EXTENSION)
+    return Meaning(Rust(of("WithSize", of(name, UNIT), "0", "0"), Core.LIST, firsts, bounded=True, term=Term(f"{form} end")))
 
 
 def _raw(rust: Rust, parts: list[Part], *features: Feature) -> Meaning:
@@ -265,8 +264,8 @@ class Default:
     the member is there in a term.
     """
 
-    type_text: str = ""
-    others: str = ""
+    type: Optional[RustType] = None
+    others: Optional[RustType] = None
     word: str = "default-as-optional"
     features: tuple = ()
     notes: tuple = ()
@@ -282,14 +281,14 @@ def default_of(meanings: "Meanings", part: Part) -> Default:
         rust = rust.inner
     item = item_of(meanings, member.default, scope, rust)
     if item:
-        return Default(item.type_text, word=f"default (number {item.number})")
+        return Default(of(item.type_name), word=f"default (number {item.number})")
     if rust.core in (Core.UNSIGNED, Core.SIGNED, Core.NUMBER):
         number = number_of(meanings.program, member, scope)
         if number is not None:
             return number_default(part.meaning.rust, rust, number)
     value, _ = value_of(meanings.program, member.default, scope)
     if rust.core is Core.BOOL and isinstance(value, tree.BooleanValue) and not rust.bounded:
-        return Default("True" if value.truth else "False", word="default TRUE" if value.truth else "default FALSE")
+        return Default(of("True" if value.truth else "False"), word="default TRUE" if value.truth else "default FALSE")
     if rust.own and rust.core is Core.CONTENTS and not rust.bounded:
         return Default(notes=(Note.DEFAULT,))
     return Default(features=(Feature.DEFAULT_OTHER,))
@@ -299,7 +298,7 @@ def default_of(meanings: "Meanings", part: Part) -> Default:
 class NamedDefault:
     """The type that says that an item of an enumeration is the default, and the number of the item."""
 
-    type_text: str
+    type_name: str
     number: int
 
 
@@ -329,20 +328,19 @@ def number_default(outer: Rust, rust: Rust, number: int) -> Default:
     """The default of an INTEGER, which may be under tags."""
     allowed, name = (DEFAULT_UNSIGNED, "Number") if rust.core is Core.UNSIGNED else (DEFAULT_SIGNED, "SignedNumber")
     if rust.core is not Core.NUMBER and number in allowed and not rust.bounded:
-        return Default(f"{name}<{number}>", word=f"default ({f'number {number}' if number >= 0 else f'minus {-number}'})")
+        return Default(of(name, str(number)), word=f"default ({f'number {number}' if number >= 0 else f'minus {-number}'})")
     others = other_than(outer, number) if rust.core is not Core.SIGNED and 0 <= number <= U64_MAX else None
     if others and not (rust.core is Core.NUMBER and rust.bounded):
         return Default(others=others, word=f"default-of {number}")
     return Default(features=(Feature.DEFAULT_CONSTRAINED if rust.bounded or rust.core is not Core.NUMBER else Feature.DEFAULT_INTEGER,))
 
 
-def other_than(rust: Rust, number: int) -> Optional[str]:
+def other_than(rust: Rust, number: int) -> Optional[RustType]:
     """The type of the other numbers, below the tags. None if the type with its tags has another name."""
     if rust.core not in (Core.EXPLICIT, Core.IMPLICIT):
-        return f"OtherThan<{rust.text}, {number}>"
-    before = f"<{rust.inner.text}"
-    inner = other_than(rust.inner, number) if before in rust.text else None
-    return inner and rust.text.replace(before, f"<{inner}", 1)
+        return of("OtherThan", rust.type, str(number))
+    inner = other_than(rust.inner, number) if rust.inner.type in rust.type.arguments else None
+    return inner and rust.type.replaced(rust.inner.type, inner)
 
 
 # ---- enumerations
@@ -355,7 +353,7 @@ def enumeration(meanings: "Meanings", type_: tree.EnumeratedType, scope: Scope, 
     if len(set(numbers)) < len(numbers):
         meanings.program.problems.error(type_.place, "two items of the enumeration have the same number", "X.680, 20.3")
     if not all(it in ONE_BYTE for it in numbers) or len(set(numbers)) < len(numbers):
-        rust = Rust("Enumerated", Core.CONTENTS, first, own=True, term=Term("ENUMERATED-extensible"))
+        rust = Rust(of("Enumerated"), Core.CONTENTS, first, own=True, term=Term("ENUMERATED-extensible"))
         return Meaning(rust).noting(Note.WIDE_ENUMERATION)
     return declared_enum(meanings, type_, scope, hint, zip(type_.items, numbers), "ENUMERATED")
 
@@ -387,7 +385,7 @@ def declared_enum(
     name = declare(meanings, declared, type_, scope, hint, meaning, "values")
     word = "ENUMERATED" if form == "ENUMERATED" else "INTEGER-named"
     term = Term(f"{word} {number_list(it.number for it in declared.items)}")
-    return meaning.as_(Rust(name, Core.CONTENTS, frozenset((tag,)), own=True, term=term))
+    return meaning.as_(Rust(of(name), Core.CONTENTS, frozenset((tag,)), own=True, term=term))
 
 
 # ---- choices
@@ -423,4 +421,4 @@ def declared_choice(meanings: "Meanings", type_: tree.ChoiceType, scope: Scope, 
     items = tuple(TermItem(item_text(it), "", it.meaning.rust.term) for it in parts)
     end = "later-alternatives-refused" if is_extensible(type_, scope) else "none"
     term = Term("CHOICE", items=items, end=end, name=name)
-    return found.as_(Rust(name, Core.CHOICE, firsts, is_open=True, term=term))
+    return found.as_(Rust(of(name), Core.CHOICE, firsts, is_open=True, term=term))

@@ -6,6 +6,7 @@ from .features import Feature, Level, Note
 from .library import MAX_TAG, Core, Rust, context_tag, retagged, tagged_bytes
 from .library_table import UNIVERSAL_TAGS
 from .meaning import Meaning
+from .rust_types import RustType, of, tuple_of
 from .terms import Term, content_under
 from .tree import TagClass, TagMode
 
@@ -33,11 +34,11 @@ def wrapped(meaning: Meaning, tag_class: tree.TagClass, number: int, mode: tree.
         members = inner.inner
         while members.core is Core.SET:  # a constraint is around the set
             members = members.inner
-        text = f"RetaggedSet<{members.text}, 0x{tag | _CONSTRUCTED:02X}>"
-        return meaning.as_(Rust(text, Core.RETAGGED, frozenset((tag | _CONSTRUCTED,)), inner))
+        around = of("RetaggedSet", members.type, f"0x{tag | _CONSTRUCTED:02X}")
+        return meaning.as_(Rust(around, Core.RETAGGED, frozenset((tag | _CONSTRUCTED,)), inner))
     if inner.core is Core.LIST:
         tag |= _CONSTRUCTED
-        return meaning.as_(Rust(retagged(inner, tag), Core.RETAGGED, frozenset((tag,)), inner))
+        return meaning.as_(Rust(retagged(inner.type, tag), Core.RETAGGED, frozenset((tag,)), inner))
     if inner.core is Core.CONTAINER and inner.firsts == _BIT_STRING:
         return kept(meaning, tag, Feature.CONTAINER_TAG)
     if tag_class is TagClass.CONTEXT:
@@ -45,13 +46,13 @@ def wrapped(meaning: Meaning, tag_class: tree.TagClass, number: int, mode: tree.
     return primitive(meaning, inner, tag)
 
 
-def content_of(inner: Rust) -> Rust:
+def content_of(inner: Rust) -> RustType:
     """What the library has under an IMPLICIT tag. The content of an octet string that holds an encoding is that of a list of one."""
     if inner.core is not Core.CONTAINER:
-        return inner
+        return inner.type
     while inner.bounded:  # a constraint is around the string
         inner = inner.inner
-    return replace(inner.inner, text=f"({inner.inner.text},)")
+    return tuple_of(inner.inner.type)
 
 
 def explicit(inner: Rust, tag_class: tree.TagClass, number: int) -> Rust:
@@ -59,10 +60,10 @@ def explicit(inner: Rust, tag_class: tree.TagClass, number: int) -> Rust:
     tag = tag_class.value | _CONSTRUCTED | number
     firsts = frozenset((tag,))
     if tag_class is TagClass.CONTEXT:
-        return Rust(context_tag("Explicit", inner, number), Core.EXPLICIT, firsts, inner)
+        return Rust(context_tag("Explicit", inner.type, number), Core.EXPLICIT, firsts, inner)
     if tag_class is TagClass.APPLICATION:
-        return Rust(f"ApplicationTag<{inner.text}, {number}>", Core.APPLICATION, firsts, inner)
-    return Rust(f"Retagged<({inner.text},), 0x{tag:02X}>", Core.EXPLICIT, firsts, inner)
+        return Rust(of("ApplicationTag", inner.type, str(number)), Core.APPLICATION, firsts, inner)
+    return Rust(of("Retagged", tuple_of(inner.type), f"0x{tag:02X}"), Core.EXPLICIT, firsts, inner)
 
 
 def primitive(meaning: Meaning, inner: Rust, tag: int) -> Meaning:
@@ -75,11 +76,12 @@ def primitive(meaning: Meaning, inner: Rust, tag: int) -> Meaning:
         return meaning.as_(replace(tagged_bytes(tag), bounded=True)).noting(Note.CONSTRAINT)
     if inner.core in (Core.UNSIGNED, Core.SIGNED):
         term = content_under(tag, Term("INTEGER"))
-        rust = Rust(f"RetaggedPrimitive<Integer, 0x{tag:02X}>", Core.IMPLICIT, firsts, inner, bounded=True, is_foreign=True, term=term)
+        rust = Rust(of("RetaggedPrimitive", of("Integer"), f"0x{tag:02X}"), Core.IMPLICIT, firsts, inner, bounded=True, is_foreign=True, term=term)
         return meaning.as_(rust).noting(Note.CONSTRAINT)
     if inner.core in (Core.CONTENTS, Core.NUMBER):
         content = inner.inner if inner.bounded and inner.inner else inner
-        rust = Rust(f"RetaggedPrimitive<{content.text}, 0x{tag:02X}>", Core.IMPLICIT, firsts, inner, bounded=inner.bounded, is_foreign=True)
+        around = of("RetaggedPrimitive", content.type, f"0x{tag:02X}")
+        rust = Rust(around, Core.IMPLICIT, firsts, inner, bounded=inner.bounded, is_foreign=True)
         if inner.bounded:
             return meaning.as_(rust).called(content_under(tag, content.term)).noting(Note.CONSTRAINT)
         return meaning.as_(rust)

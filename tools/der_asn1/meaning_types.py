@@ -14,6 +14,7 @@ from .meaning_tags import wrapped
 from .members import selected
 from .objects import BUILT_IN_CLASSES, ObjectSet, class_named, set_of
 from .parse_modules import read_text
+from .rust_types import UNIT, of
 from .scopes import BUILT_IN_ANY, Binding, Found, Program, Resolved, Scope, resolve, target_of
 from .source import Problems
 from .subtypes import Limits, Reader, ScopedConstraint, only_contents
@@ -64,7 +65,7 @@ def type_name(type_: tree.Type) -> str:
 
 def library_type(found: LibraryType) -> Rust:
     """A type of the library by its row of the table."""
-    return Rust(found.rust, found.core, frozenset((found.tag,)), term=Term(found.term))
+    return Rust(of(found.rust) if found.rust != "()" else UNIT, found.core, frozenset((found.tag,)), term=Term(found.term))
 
 
 # of which a struct of its own may be made: what has no parts, and so no trait of its own but `Begins`
@@ -76,7 +77,7 @@ def alias(name: str, found: Found, type_: tree.Type, meaning: Meaning, kind: typ
     source, comment = found.assignment.name, " ".join(found.assignment.comment)
     declared = kind(name, found.assignment.place, found.scope.module.name, source, comment, root=source)
     declared.level, declared.lacks, declared.term = meaning.level, lacks(meaning), meaning.rust.term
-    declared.type_text, declared.notation = meaning.rust.text, type_.text
+    declared.type, declared.notation = meaning.rust.type, type_.text
     return declared
 
 
@@ -119,7 +120,7 @@ class Meanings:
             declared.term = meaning.rust.term
             return meaning.called(Term(declared.name))
         name = self.declarations.fresh(instance_name(found), key, found.scope.module.name)
-        rust = replace(meaning.rust, text=name, term=Term(name))
+        rust = replace(meaning.rust, type=of(name), term=Term(name))
         if found.assignment.name not in self.distinct:
             self.declarations.add(alias(name, found, type_, meaning, AliasDeclaration))
             return meaning.as_(rust)
@@ -217,7 +218,7 @@ class Meanings:
             return self.checked(self.container(contents, "BitStringAsn1Container", firsts, hint), type_, scope, constraints)
         if not type_.named:
             return self.checked(Meaning(library_type(BY_NAME["BIT STRING"])), type_, scope, constraints)
-        meaning = Meaning(Rust("NamedBits", Core.CONTENTS, firsts, term=Term("BIT-STRING-named")))
+        meaning = Meaning(Rust(of("NamedBits"), Core.CONTENTS, firsts, term=Term("BIT-STRING-named")))
         limits = self.limits(constraints, type_, scope)
         if limits.size.pairs and limits.size.high != float("inf"):
             meaning = meaning.lacking(Feature.NAMED_BITS_SIZE)
@@ -240,7 +241,7 @@ class Meanings:
             return self.unknown(Feature.UNDEFINED).containing(inner)
         form = "OCTET-STRING" if name.startswith("Octet") else "BIT-STRING"
         term = Term(f"{form}-CONTAINING", inner.rust.term)
-        return Meaning(Rust(f"{name}<{inner.rust.text}>", Core.CONTAINER, firsts, inner.rust, term=term)).containing(inner)
+        return Meaning(Rust(of(name, inner.rust.type), Core.CONTAINER, firsts, inner.rust, term=term)).containing(inner)
 
     # ---- names
 
@@ -364,5 +365,5 @@ class Meanings:
             return Meaning(tagged_bytes(*firsts), Level.RAW).containing(replace(element, level=Level.RAW))
         name = "Vec" if type_.form is tree.Form.SEQUENCE else "Asn1SetOf"
         term = Term(f"{type_.form.value}-OF", element.rust.term)
-        found = Meaning(Rust(f"{name}<{element.rust.text}>", Core.LIST, firsts, element.rust, term=term)).containing(element)
+        found = Meaning(Rust(of(name, element.rust.type), Core.LIST, firsts, element.rust, term=term)).containing(element)
         return self.checked(found, type_, scope, constraints)

@@ -8,7 +8,7 @@ import unittest
 
 from .. import command, emit_crate, emit_values
 from ..declarations import ChoiceDeclaration
-from ..emit_choice import parts_type, pattern, place, term
+from ..emit_choice import pattern, place, term
 from ..emit_enum import enum_terms
 from ..emit_imports import term_imports
 from ..emit_types import lines_of
@@ -16,7 +16,9 @@ from ..folder import difference, write
 from ..parse_modules import read_text
 from ..source import Problems
 from ..layout import assigned, comment, filled, item_lines, natural, tuple_lines, type_lines
+from ..library import parts_type
 from ..private_names import PrivateNames
+from ..rust_types import UNIT, of, tuple_of
 from ..wording import joined, snake
 from . import Given, given
 from .stored import GOLDEN, files_below, golden_names, golden_options, stored_files, stored_text
@@ -480,6 +482,19 @@ class Layout(unittest.TestCase):
         self.assertEqual(["type Parts = OneOf<", f"    {'A' * 50},", f"    {inner},", ">;"], lines)
 
 
+class RustTypes(unittest.TestCase):
+    def test_their_text(self):
+        one = of("Option", of("InRange", of("u8"), "0", "{ usize::MAX }"))
+        self.assertEqual("Option<InRange<u8, 0, { usize::MAX }>>", str(one))
+        self.assertEqual(["()", "(A,)", "(A, B)"], [str(it) for it in (UNIT, tuple_of(of("A")), tuple_of(of("A"), of("B")))])
+
+    def test_their_names(self):
+        self.assertEqual({"A", "low::B", "u8"}, of("A", tuple_of(of("low::B"), UNIT), of("u8"), "MAX").names())
+
+    def test_a_part_in_place_of_another(self):
+        self.assertEqual("A<C, B<B>>", str(of("A", of("B"), of("B", of("B"))).replaced(of("B"), of("C"))))
+
+
 class Alternatives(unittest.TestCase):
     def test_places(self):
         self.assertEqual([["This"], ["Other", "This"], ["Other", "Other", "This"]], [place(it, 3) for it in range(3)])
@@ -487,8 +502,8 @@ class Alternatives(unittest.TestCase):
         self.assertEqual(["Later", "Later", "Fourth"], place(11, 12))
 
     def test_types(self):
-        self.assertEqual("OneOf<A, NoneOf>", parts_type(["A"]))
-        self.assertEqual("OneOf4<A, B, C, D, OneOf<E, NoneOf>>", parts_type(list("ABCDE")))
+        self.assertEqual("OneOf<A, NoneOf>", str(parts_type([of("A")])))
+        self.assertEqual("OneOf4<A, B, C, D, OneOf<E, NoneOf>>", str(parts_type([of(it) for it in "ABCDE"])))
 
     def test_terms_and_patterns(self):
         self.assertEqual("Later (Later (This x))", term(["Later", "Later", "This"], "x"))
