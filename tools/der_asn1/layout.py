@@ -4,7 +4,7 @@ from typing import Optional
 
 WIDTH = 100
 IMPORT_WIDTH = 98  # an import on one line
-FILLED_WIDTH = 99  # a line of many names
+FILLED_WIDTH = 99  # a line of many names that isn't the last one
 GHOST_WIDTH = 120
 COMMENT_WIDTH = 100
 STRUCT_LITERAL_WIDTH = 18
@@ -40,9 +40,9 @@ def filled(indent: str, before: str, items: list[str], after: str) -> list[str]:
     if len(line) <= IMPORT_WIDTH:
         return [line]
     lines, now = [], ""
-    for it in items:
+    for index, it in enumerate(items, 1):
         longer = f"{now} {it}," if now else f"{indent}{STEP}{it},"
-        if now and len(longer) > FILLED_WIDTH:
+        if now and len(longer) > (FILLED_WIDTH if index < len(items) else WIDTH):
             lines.append(now)
             now = f"{indent}{STEP}{it},"
         else:

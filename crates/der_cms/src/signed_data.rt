@@ -17,8 +17,7 @@ use crate::{
 use der_types::{Notated, NotatedAlternatives, NotatedMembers, WithSize};
 use picky_asn1_der::OneOf::{Other, This};
 use picky_asn1_der::asn1::{
-    Asn1SetOf, ByteBuf, ExplicitContextTag0, ImplicitContextTag0, ImplicitList0, ImplicitList1,
-    Tag,
+    Asn1SetOf, ByteBuf, ExplicitContextTag0, ImplicitContextTag0, ImplicitList0, ImplicitList1, Tag,
 };
 use picky_asn1_der::de::{Begins, deserialize_choice_as};
 use picky_asn1_der::misc::{ReadExt, WriteExt};

@@ -462,6 +462,11 @@ class Layout(unittest.TestCase):
         self.assertTrue(all(len(it) <= 100 for it in lines))
         self.assertEqual(("use a::{", "};"), (lines[0], lines[-1]))
 
+    def test_the_last_line_of_imports_is_as_wide_as_others(self):
+        for width, count in ((100, 3), (101, 4)):
+            self.assertEqual(count, len(filled("", "use a::", ["A" * 60, "B" * (width - 67)], ";")))
+        self.assertEqual(4, len(filled("", "use a::", ["A" * 60, "B" * 33, "C"], ";")))
+
     def test_the_width_of_imports(self):
         for width, count in ((98, 1), (99, 3)):
             self.assertEqual(count, len(filled("", "use a::", ["A" * (width - 13), "B"], ";")))
