@@ -47,8 +47,8 @@ def pattern(constructors: list[str], value: str) -> str:
     return value
 
 
-def choice_uses(declared: ChoiceDeclaration, names: PrivateNames, home: str) -> Uses:
-    """What the items of a choice name. `home` is the module of terms of the types of its file."""
+def choice_uses(declared: ChoiceDeclaration) -> Uses:
+    """What the items of a choice name."""
     count = len(declared.variants)
     constructors = {name for index in range(count) for name in place(index, count)}
     used = {it: constructors.intersection(own) for it, own in _CONSTRUCTORS.items() if constructors.intersection(own)}
@@ -60,12 +60,12 @@ def choice_uses(declared: ChoiceDeclaration, names: PrivateNames, home: str) -> 
         **{_CONSTRUCTOR_HOMES[it]: found for it, found in used.items()},
     }
     rust = {*_NAMES, *parts_type([it.type for it in declared.variants]).names()}
-    return Uses(rust, used, terms, {(f"{home}.{declared.name}.TheVariants", variants_name(declared, names))})
+    return Uses(rust, used, terms)
 
 
-def choice_lines(declared: ChoiceDeclaration, names: PrivateNames) -> list[str]:
-    """The items of a choice."""
-    parts, variants = names.of(declared, "Parts"), variants_name(declared, names)
+def choice_lines(declared: ChoiceDeclaration, names: PrivateNames, home: str) -> list[str]:
+    """The items of a choice. `home` is the module of terms of the types of its file."""
+    parts, variants = names.of(declared, "Parts"), variants_import(declared, home)
     return [
         *definition(declared),
         "",
@@ -83,9 +83,13 @@ def choice_lines(declared: ChoiceDeclaration, names: PrivateNames) -> list[str]:
     ]
 
 
-def variants_name(declared: Declaration, names: PrivateNames) -> str:
-    """What the module of the variants of a type is called in terms."""
-    return names.numbered(f"{snake(declared.name)}_variants")
+def variants_import(declared: Declaration, home: str) -> list[str]:
+    """The import of the variants of a type, as `variants`, for an implementation that names them. `home` is the module of terms of its file.
+
+    The module of variants imports the implementations of the types in them, and these import what their file does. So an import by the file
+    would go in a circle.
+    """
+    return [f"{STEP}ghost use {home}.{declared.name}.TheVariants as variants;", ""]
 
 
 def definition(declared: ChoiceDeclaration) -> list[str]:
@@ -105,10 +109,10 @@ def variant_lines(it: Field) -> list[str]:
     return [line] if len(line) <= WIDTH else [f"{STEP}{it.name}(", *type_lines(_TWO, "", str(it.type), ","), f"{STEP}),"]
 
 
-def choice_impl(declared: ChoiceDeclaration, parts: str, named: str) -> list[str]:
+def choice_impl(declared: ChoiceDeclaration, parts: str, imported: list[str]) -> list[str]:
     """The implementation of `Choice`."""
     variants, count = declared.variants, len(declared.variants)
-    cases = [f"{named}.{it.name} x ↦ {term(place(index, count), 'x')}" for index, it in enumerate(variants)]
+    cases = [f"variants.{it.name} x ↦ {term(place(index, count), 'x')}" for index, it in enumerate(variants)]
     line = f"{STEP}ghost parts = {{ elim [ {' | '.join(cases)} ] }};"
     lines = [line] if len(line) <= GHOST_WIDTH else [f"{STEP}ghost parts = {{ elim [", *(f"{STEP}  | {it}" for it in cases), f"{STEP}] }};"]
     arms = []
@@ -116,6 +120,7 @@ def choice_impl(declared: ChoiceDeclaration, parts: str, named: str) -> list[str
         arms += arm(pattern(place(index, count), bound(it)), f"{declared.name}::{it.name}({bound(it)})")
     return [
         f"impl Choice for {declared.name} {{",
+        *imported,
         f"{STEP}type Alternatives = {parts};",
         "",
         *lines,
@@ -181,15 +186,16 @@ def serialize_answers(declared: ChoiceDeclaration, crate: str, stem: str) -> lis
     return lines
 
 
-def deserialize_impl(declared: ChoiceDeclaration, parts: str, named: str) -> list[str]:
+def deserialize_impl(declared: ChoiceDeclaration, parts: str, imported: list[str]) -> list[str]:
     """The implementation of `Deserialize`."""
     known = f"known_choice ⟦<{parts} as Alternatives>⟧.known refl ⟦<Self as Choice>⟧.parts ⟦<Self as PartialEq>⟧.eq"
     return [
         f"impl Deserialize for {declared.name} {{",
+        *imported,
         f"{STEP}ghost shape = {{ Shape.choice ⟦<{parts} as Alternatives>⟧.shapes }};",
         "",
         f"{STEP}ghost known = {{ {known}",
-        f"{_TWO}({equal_alternatives(declared, named)}) }};",
+        f"{_TWO}({equal_alternatives(declared)}) }};",
         "",
         f"{STEP}ghost tied = {{ Prim.assumption }};",
         "",
@@ -200,9 +206,9 @@ def deserialize_impl(declared: ChoiceDeclaration, parts: str, named: str) -> lis
     ]
 
 
-def equal_alternatives(declared: ChoiceDeclaration, named: str) -> str:
+def equal_alternatives(declared: ChoiceDeclaration) -> str:
     """The term by which values of one alternative are equal where their fields are: it names the first variant alone."""
-    first = f"{named}.{declared.variants[0].name} _"
+    first = f"variants.{declared.variants[0].name} _"
     if len(declared.variants) == 1:
         return f"elim [ {first} ↦ elim [ {first} ↦ λ h. h ] ]"
     pair = f"elim [ {first} ↦ λ h. h | _ ↦ λ h. h ]"

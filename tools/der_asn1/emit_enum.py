@@ -1,6 +1,6 @@
 """An enumeration, with the terms that its contracts cite, in the form of docs/YOUR_TYPES.md."""
 from .declarations import EnumDeclaration, Item
-from .emit_choice import variants_name
+from .emit_choice import variants_import
 from .emit_comments import sentence
 from .emit_imports import PRELUDE, Uses
 from .layout import STEP, comment, signature
@@ -74,25 +74,24 @@ def default_proof(name: str) -> str:
     return f"{snake(name)}_by_tree"
 
 
-def enum_uses(declared: EnumDeclaration, names: PrivateNames, crate: str, home: str) -> Uses:
-    """What the items of an enumeration name. `home` is the module of terms of the types of its file."""
+def enum_uses(declared: EnumDeclaration, crate: str) -> Uses:
+    """What the items of an enumeration name."""
     uses = Uses({*_NAMES}, terms={f"Rattle.{crate}.specs.{TERMS_FILE}": own_terms(declared)})
     uses.add(Uses(terms=_TERMS))
     if declared.defaults:
         uses.add(Uses({"DefaultOf", "NotatedDefault"}, terms={"Rattle.std.proofs.Common": {"sym"}}))
-    uses.modules.add((f"{home}.{declared.name}.TheVariants", variants_name(declared, names)))
     return uses
 
 
-def enum_lines(declared: EnumDeclaration, names: PrivateNames) -> list[str]:
-    """The items of an enumeration."""
-    variants = variants_name(declared, names)
+def enum_lines(declared: EnumDeclaration, home: str) -> list[str]:
+    """The items of an enumeration. `home` is the module of terms of the types of its file."""
+    imported = variants_import(declared, home)
     return [
         *definition(declared),
         "",
         *number_impl(declared),
         "",
-        *contents_impl(declared, variants),
+        *contents_impl(declared, imported),
         "",
         *serialize_impl(declared),
         "",
@@ -100,8 +99,8 @@ def enum_lines(declared: EnumDeclaration, names: PrivateNames) -> list[str]:
         "",
         *begins_impl(declared),
         "",
-        *notated_impl(declared, variants),
-        *(line for name, it in declared.defaults.items() for line in ["", *default_lines(declared, name, it, variants)]),
+        *notated_impl(declared, imported),
+        *(line for name, it in declared.defaults.items() for line in ["", *default_lines(declared, name, it, imported)]),
     ]
 
 
@@ -132,10 +131,11 @@ def number_impl(declared: EnumDeclaration) -> list[str]:
     ]
 
 
-def contents_impl(declared: EnumDeclaration, variants: str) -> list[str]:
+def contents_impl(declared: EnumDeclaration, imported: list[str]) -> list[str]:
     """The implementation of `Contents`."""
     return [
         f"impl Contents for {declared.name} {{",
+        *imported,
         f"{STEP}ghost TAG = {{ {tag_text(declared)} }};",
         "",
         f"{STEP}ghost is_content = {{ {test_term(declared)} }};",
@@ -162,7 +162,7 @@ def contents_impl(declared: EnumDeclaration, variants: str) -> list[str]:
         f"{STEP}ghost short = {{ lit≤ tt }};",
         "",
         f"{STEP}ghost valid = {{ elim [",
-        *(f"{STEP}  | {variants}.{it.name} ↦ refl" for it in declared.items),
+        *(f"{STEP}  | variants.{it.name} ↦ refl" for it in declared.items),
         f"{STEP}] }};",
         "",
         f"{STEP}ghost equal_so = {{ Prim.assumption }};",
@@ -212,11 +212,12 @@ def begins_impl(declared: EnumDeclaration) -> list[str]:
     ]
 
 
-def notated_impl(declared: EnumDeclaration, variants: str) -> list[str]:
+def notated_impl(declared: EnumDeclaration, imported: list[str]) -> list[str]:
     """The implementation of `Notated`: an ENUMERATED, or an INTEGER, with the numbers of the items."""
-    numbers = [f"{number_term(declared)} {variants}.{it.name} ∷" for it in declared.items]
+    numbers = [f"{number_term(declared)} variants.{it.name} ∷" for it in declared.items]
     return [
         f"impl Notated for {declared.name} {{",
+        *imported,
         f"{STEP}ghost notation = {{ Notation.{_FORMS[declared.tag][2]} (",
         *(f"{_TWO}{it}" for it in numbers),
         f"{_TWO}[]) }};",
@@ -226,18 +227,19 @@ def notated_impl(declared: EnumDeclaration, variants: str) -> list[str]:
     ]
 
 
-def default_lines(declared: EnumDeclaration, name: str, item: Item, variants: str) -> list[str]:
+def default_lines(declared: EnumDeclaration, name: str, item: Item, imported: list[str]) -> list[str]:
     """The type that says that an item is the default of a member."""
     cases = []
     for it in declared.items:
         same, other = ("λ h k. k", "λ h k. k") if it is item else ("λ h k. refl", "λ h k. h")
         rest = f" | _ ↦ {other}" if len(declared.items) > 1 else ""
-        cases.append(f"{STEP}  | {variants}.{it.name} ↦ elim [ {variants}.{it.name} ↦ {same}{rest} ]")
+        cases.append(f"{STEP}  | variants.{it.name} ↦ elim [ variants.{it.name} ↦ {same}{rest} ]")
     return [
         *comment("", "///", f"The default `{item.source}` of `{declared.source}`."),
         f"pub struct {name};",
         "",
         f"impl DefaultOf<{declared.name}> for {name} {{",
+        *imported,
         f"{STEP}ghost left_out = {{ {default_term(name)} }};",
         "",
         f"{STEP}ghost equal = {{ ⟦<{declared.name} as PartialEq>⟧.eq }};",
@@ -260,9 +262,10 @@ def default_lines(declared: EnumDeclaration, name: str, item: Item, variants: st
         "}",
         "",
         f"impl NotatedDefault<{declared.name}> for {name} {{",
-        f"{STEP}ghost value = {{ contents_of {tag_text(declared)} {content_term(declared)} {variants}.{item.name} }};",
+        *imported,
+        f"{STEP}ghost value = {{ contents_of {tag_text(declared)} {content_term(declared)} variants.{item.name} }};",
         "",
-        f"{STEP}ghost is_value = {{ λ it h. sym (({default_proof(name)} {variants}.{item.name} it refl).0 h) }};",
+        f"{STEP}ghost is_value = {{ λ it h. sym (({default_proof(name)} variants.{item.name} it refl).0 h) }};",
         "}",
     ]
 

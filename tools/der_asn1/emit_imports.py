@@ -31,18 +31,16 @@ class Uses:
     """What the items of a file name.
 
     `names` are names of Rust, and `parts` the constructors of a choice's parts by the type that they are of. `terms` are names of terms by
-    their modules. `modules` are modules of terms that have a name of their own in the file, as pairs of both.
+    their modules.
     """
 
     names: set[str] = field(default_factory=set)
     parts: dict[str, set[str]] = field(default_factory=dict)
     terms: dict[str, set[str]] = field(default_factory=dict)
-    modules: set[tuple[str, str]] = field(default_factory=set)
 
     def add(self, other: "Uses") -> None:
         """Takes over what other items name."""
         self.names |= other.names
-        self.modules |= other.modules
         for mine, others in ((self.parts, other.parts), (self.terms, other.terms)):
             for home, names in others.items():
                 mine.setdefault(home, set()).update(names)
@@ -56,7 +54,7 @@ class Uses:
         lines = []
         for home in sorted(self.terms, key=lambda it: (_TERM_ORDER.index(it) if it in _TERM_ORDER else len(_TERM_ORDER), it)):
             lines += term_imports(home, sorted(self.terms[home], key=natural))
-        return [*lines, *(f"ghost use {home} as {name};" for home, name in sorted(self.modules))]
+        return lines
 
 
 def term_imports(home: str, names: list[str]) -> list[str]:

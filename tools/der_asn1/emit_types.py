@@ -46,8 +46,8 @@ def types_file(types: list[Declaration], stem: str, context: Context) -> list[st
     """The lines of a file of types, after its first one: their items in the order of the modules."""
     uses, body = Uses(), []
     for it in types:
-        uses.add(uses_of(it, stem, context))
-        body += ["", *lines_of(it, context.names)]
+        uses.add(uses_of(it, context))
+        body += ["", *lines_of(it, stem, context)]
     own = {it.name for it in types} | {name for it in types for name in getattr(it, "defaults", [])}
     terms, rust = uses.term_lines(), uses.rust_lines(context.homes, own)
     modules = list(dict.fromkeys(it.module for it in types))
@@ -55,30 +55,30 @@ def types_file(types: list[Declaration], stem: str, context: Context) -> list[st
     return [*about, *terms, *([""] if rust else []), *rust, *body]
 
 
-def uses_of(declared: Declaration, stem: str, context: Context) -> Uses:
+def uses_of(declared: Declaration, context: Context) -> Uses:
     """What the items of a type name."""
-    home = f"Rattle.{context.crate}.specs.declared.{stem}"
     if isinstance(declared, NewtypeDeclaration):
         return newtype_uses(declared)
     if isinstance(declared, StructDeclaration):
         return struct_uses(declared)
     if isinstance(declared, ChoiceDeclaration):
-        return choice_uses(declared, context.names, home)
+        return choice_uses(declared)
     if isinstance(declared, EnumDeclaration):
-        return enum_uses(declared, context.names, context.crate, home)
+        return enum_uses(declared, context.crate)
     return Uses(declared.type.names())
 
 
-def lines_of(declared: Declaration, names: PrivateNames) -> list[str]:
+def lines_of(declared: Declaration, stem: str, context: Context) -> list[str]:
     """The items of a type."""
+    home = f"Rattle.{context.crate}.specs.declared.{stem}"
     if isinstance(declared, NewtypeDeclaration):
         return newtype_lines(declared)
     if isinstance(declared, StructDeclaration):
-        return struct_lines(declared, names)
+        return struct_lines(declared, context.names)
     if isinstance(declared, ChoiceDeclaration):
-        return choice_lines(declared, names)
+        return choice_lines(declared, context.names, home)
     if isinstance(declared, EnumDeclaration):
-        return enum_lines(declared, names)
+        return enum_lines(declared, home)
     return alias_lines(declared)
 
 

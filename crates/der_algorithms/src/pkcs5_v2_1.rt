@@ -7,7 +7,6 @@ ghost use Rattle.picky_der_de.specs.declared.alternatives.OneOf.TheVariants.{Oth
 ghost use Rattle.picky_der_de.specs.KnownChoices.{known_choice};
 ghost use Rattle.picky_der_de.specs.KnownMembers.{known_struct, sequence_of, sequence_shape};
 ghost use Rattle.der_types.specs.Notation.{Notation};
-ghost use Rattle.der_algorithms.specs.declared.pkcs5_v2_1.Pbkdf2Salt.TheVariants as pbkdf2_salt_variants;
 
 use der_types::{Integer, Notated, NotatedAlternatives, NotatedMembers, WithSize};
 use der_x509::AlgorithmIdentifier;
@@ -118,12 +117,11 @@ pub enum Pbkdf2Salt {
 type Pbkdf2SaltParts = OneOf<ByteBuf, OneOf<WithSize<Vec<Asn1RawDer>, 1, 2>, NoneOf>>;
 
 impl Choice for Pbkdf2Salt {
+    ghost use Rattle.der_algorithms.specs.declared.pkcs5_v2_1.Pbkdf2Salt.TheVariants as variants;
+
     type Alternatives = Pbkdf2SaltParts;
 
-    ghost parts = { elim [
-      | pbkdf2_salt_variants.Specified x ↦ This x
-      | pbkdf2_salt_variants.OtherSource x ↦ Other (This x)
-    ] };
+    ghost parts = { elim [ variants.Specified x ↦ This x | variants.OtherSource x ↦ Other (This x) ] };
 
     fn from_parts(value: Pbkdf2SaltParts) -> Pbkdf2Salt {
         match value {
@@ -145,10 +143,12 @@ impl Serialize for Pbkdf2Salt {
 }
 
 impl Deserialize for Pbkdf2Salt {
+    ghost use Rattle.der_algorithms.specs.declared.pkcs5_v2_1.Pbkdf2Salt.TheVariants as variants;
+
     ghost shape = { Shape.choice ⟦<Pbkdf2SaltParts as Alternatives>⟧.shapes };
 
     ghost known = { known_choice ⟦<Pbkdf2SaltParts as Alternatives>⟧.known refl ⟦<Self as Choice>⟧.parts ⟦<Self as PartialEq>⟧.eq
-        (elim [ pbkdf2_salt_variants.Specified _ ↦ elim [ pbkdf2_salt_variants.Specified _ ↦ λ h. h | _ ↦ λ h. h ] | _ ↦ elim [ pbkdf2_salt_variants.Specified _ ↦ λ h. h | _ ↦ λ h. h ] ]) };
+        (elim [ variants.Specified _ ↦ elim [ variants.Specified _ ↦ λ h. h | _ ↦ λ h. h ] | _ ↦ elim [ variants.Specified _ ↦ λ h. h | _ ↦ λ h. h ] ]) };
 
     ghost tied = { Prim.assumption };
 

@@ -7,7 +7,6 @@ ghost use Rattle.picky_der_de.specs.declared.alternatives.OneOf.TheVariants.{Oth
 ghost use Rattle.picky_der_de.specs.KnownChoices.{known_choice};
 ghost use Rattle.picky_der_de.specs.KnownMembers.{known_struct, sequence_of, sequence_shape};
 ghost use Rattle.der_types.specs.Notation.{Notation};
-ghost use Rattle.der_algorithms.specs.declared.pkix1_algorithms88.EcpkParameters.TheVariants as ecpk_parameters_variants;
 
 use der_types::{
     BitString, Integer, Notated, NotatedAlternatives, NotatedMembers, ObjectIdentifier,
@@ -362,12 +361,14 @@ pub enum EcpkParameters {
 type EcpkParametersParts = OneOf<EcParameters, OneOf<ObjectIdentifier, OneOf<(), NoneOf>>>;
 
 impl Choice for EcpkParameters {
+    ghost use Rattle.der_algorithms.specs.declared.pkix1_algorithms88.EcpkParameters.TheVariants as variants;
+
     type Alternatives = EcpkParametersParts;
 
     ghost parts = { elim [
-      | ecpk_parameters_variants.EcParameters x ↦ This x
-      | ecpk_parameters_variants.NamedCurve x ↦ Other (This x)
-      | ecpk_parameters_variants.ImplicitlyCa x ↦ Other (Other (This x))
+      | variants.EcParameters x ↦ This x
+      | variants.NamedCurve x ↦ Other (This x)
+      | variants.ImplicitlyCa x ↦ Other (Other (This x))
     ] };
 
     fn from_parts(value: EcpkParametersParts) -> EcpkParameters {
@@ -396,10 +397,12 @@ impl Serialize for EcpkParameters {
 }
 
 impl Deserialize for EcpkParameters {
+    ghost use Rattle.der_algorithms.specs.declared.pkix1_algorithms88.EcpkParameters.TheVariants as variants;
+
     ghost shape = { Shape.choice ⟦<EcpkParametersParts as Alternatives>⟧.shapes };
 
     ghost known = { known_choice ⟦<EcpkParametersParts as Alternatives>⟧.known refl ⟦<Self as Choice>⟧.parts ⟦<Self as PartialEq>⟧.eq
-        (elim [ ecpk_parameters_variants.EcParameters _ ↦ elim [ ecpk_parameters_variants.EcParameters _ ↦ λ h. h | _ ↦ λ h. h ] | _ ↦ elim [ ecpk_parameters_variants.EcParameters _ ↦ λ h. h | _ ↦ λ h. h ] ]) };
+        (elim [ variants.EcParameters _ ↦ elim [ variants.EcParameters _ ↦ λ h. h | _ ↦ λ h. h ] | _ ↦ elim [ variants.EcParameters _ ↦ λ h. h | _ ↦ λ h. h ] ]) };
 
     ghost tied = { Prim.assumption };
 

@@ -8,8 +8,6 @@ ghost use Rattle.picky_der_de.specs.declared.alternatives4.OneOf4.TheVariants.{F
 ghost use Rattle.picky_der_de.specs.KnownChoices.{known_choice};
 ghost use Rattle.picky_der_de.specs.KnownMembers.{known_struct, sequence_of, sequence_shape};
 ghost use Rattle.der_types.specs.Notation.{Notation};
-ghost use Rattle.der_cms.specs.declared.certificates.CertificateChoices.TheVariants as certificate_choices_variants;
-ghost use Rattle.der_cms.specs.declared.certificates.RevocationInfoChoice.TheVariants as revocation_info_choice_variants;
 
 use der_types::{Notated, NotatedAlternatives, NotatedMembers, ObjectIdentifier};
 use der_x509::{Certificate, CertificateList, CertificateSerialNumber, Name};
@@ -43,12 +41,11 @@ type RevocationInfoChoiceParts = OneOf<
 >;
 
 impl Choice for RevocationInfoChoice {
+    ghost use Rattle.der_cms.specs.declared.certificates.RevocationInfoChoice.TheVariants as variants;
+
     type Alternatives = RevocationInfoChoiceParts;
 
-    ghost parts = { elim [
-      | revocation_info_choice_variants.Crl x ↦ This x
-      | revocation_info_choice_variants.Other x ↦ Other (This x)
-    ] };
+    ghost parts = { elim [ variants.Crl x ↦ This x | variants.Other x ↦ Other (This x) ] };
 
     fn from_parts(value: RevocationInfoChoiceParts) -> RevocationInfoChoice {
         match value {
@@ -70,10 +67,12 @@ impl Serialize for RevocationInfoChoice {
 }
 
 impl Deserialize for RevocationInfoChoice {
+    ghost use Rattle.der_cms.specs.declared.certificates.RevocationInfoChoice.TheVariants as variants;
+
     ghost shape = { Shape.choice ⟦<RevocationInfoChoiceParts as Alternatives>⟧.shapes };
 
     ghost known = { known_choice ⟦<RevocationInfoChoiceParts as Alternatives>⟧.known refl ⟦<Self as Choice>⟧.parts ⟦<Self as PartialEq>⟧.eq
-        (elim [ revocation_info_choice_variants.Crl _ ↦ elim [ revocation_info_choice_variants.Crl _ ↦ λ h. h | _ ↦ λ h. h ] | _ ↦ elim [ revocation_info_choice_variants.Crl _ ↦ λ h. h | _ ↦ λ h. h ] ]) };
+        (elim [ variants.Crl _ ↦ elim [ variants.Crl _ ↦ λ h. h | _ ↦ λ h. h ] | _ ↦ elim [ variants.Crl _ ↦ λ h. h | _ ↦ λ h. h ] ]) };
 
     ghost tied = { Prim.assumption };
 
@@ -181,14 +180,16 @@ type CertificateChoicesParts = OneOf4<
 >;
 
 impl Choice for CertificateChoices {
+    ghost use Rattle.der_cms.specs.declared.certificates.CertificateChoices.TheVariants as variants;
+
     type Alternatives = CertificateChoicesParts;
 
     ghost parts = { elim [
-      | certificate_choices_variants.Certificate x ↦ First x
-      | certificate_choices_variants.ExtendedCertificate x ↦ Second x
-      | certificate_choices_variants.V1AttrCert x ↦ Third x
-      | certificate_choices_variants.V2AttrCert x ↦ Fourth x
-      | certificate_choices_variants.Other x ↦ Later (This x)
+      | variants.Certificate x ↦ First x
+      | variants.ExtendedCertificate x ↦ Second x
+      | variants.V1AttrCert x ↦ Third x
+      | variants.V2AttrCert x ↦ Fourth x
+      | variants.Other x ↦ Later (This x)
     ] };
 
     fn from_parts(value: CertificateChoicesParts) -> CertificateChoices {
@@ -227,10 +228,12 @@ impl Serialize for CertificateChoices {
 }
 
 impl Deserialize for CertificateChoices {
+    ghost use Rattle.der_cms.specs.declared.certificates.CertificateChoices.TheVariants as variants;
+
     ghost shape = { Shape.choice ⟦<CertificateChoicesParts as Alternatives>⟧.shapes };
 
     ghost known = { known_choice ⟦<CertificateChoicesParts as Alternatives>⟧.known refl ⟦<Self as Choice>⟧.parts ⟦<Self as PartialEq>⟧.eq
-        (elim [ certificate_choices_variants.Certificate _ ↦ elim [ certificate_choices_variants.Certificate _ ↦ λ h. h | _ ↦ λ h. h ] | _ ↦ elim [ certificate_choices_variants.Certificate _ ↦ λ h. h | _ ↦ λ h. h ] ]) };
+        (elim [ variants.Certificate _ ↦ elim [ variants.Certificate _ ↦ λ h. h | _ ↦ λ h. h ] | _ ↦ elim [ variants.Certificate _ ↦ λ h. h | _ ↦ λ h. h ] ]) };
 
     ghost tied = { Prim.assumption };
 

@@ -7,7 +7,6 @@ ghost use Rattle.picky_der_de.specs.declared.alternatives.OneOf.TheVariants.{Oth
 ghost use Rattle.picky_der_de.specs.KnownChoices.{known_choice};
 ghost use Rattle.picky_der_de.specs.KnownMembers.{known_struct, sequence_of, sequence_shape};
 ghost use Rattle.der_types.specs.Notation.{Notation};
-ghost use Rattle.der_cms.specs.declared.cryptographic_message_syntax2004.Time.TheVariants as time_variants;
 
 use crate::{
     EncapsulatedContentInfo, EncryptedContentInfo, OriginatorInfo, RecipientInfos, SignerInfo,
@@ -494,9 +493,11 @@ pub enum Time {
 type TimeParts = OneOf<UtcTime, OneOf<WithSize<GeneralizedTime, 15, 15>, NoneOf>>;
 
 impl Choice for Time {
+    ghost use Rattle.der_cms.specs.declared.cryptographic_message_syntax2004.Time.TheVariants as variants;
+
     type Alternatives = TimeParts;
 
-    ghost parts = { elim [ time_variants.UtcTime x ↦ This x | time_variants.GeneralizedTime x ↦ Other (This x) ] };
+    ghost parts = { elim [ variants.UtcTime x ↦ This x | variants.GeneralizedTime x ↦ Other (This x) ] };
 
     fn from_parts(value: TimeParts) -> Time {
         match value {
@@ -520,10 +521,12 @@ impl Serialize for Time {
 }
 
 impl Deserialize for Time {
+    ghost use Rattle.der_cms.specs.declared.cryptographic_message_syntax2004.Time.TheVariants as variants;
+
     ghost shape = { Shape.choice ⟦<TimeParts as Alternatives>⟧.shapes };
 
     ghost known = { known_choice ⟦<TimeParts as Alternatives>⟧.known refl ⟦<Self as Choice>⟧.parts ⟦<Self as PartialEq>⟧.eq
-        (elim [ time_variants.UtcTime _ ↦ elim [ time_variants.UtcTime _ ↦ λ h. h | _ ↦ λ h. h ] | _ ↦ elim [ time_variants.UtcTime _ ↦ λ h. h | _ ↦ λ h. h ] ]) };
+        (elim [ variants.UtcTime _ ↦ elim [ variants.UtcTime _ ↦ λ h. h | _ ↦ λ h. h ] | _ ↦ elim [ variants.UtcTime _ ↦ λ h. h | _ ↦ λ h. h ] ]) };
 
     ghost tied = { Prim.assumption };
 

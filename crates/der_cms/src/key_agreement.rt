@@ -7,8 +7,6 @@ ghost use Rattle.picky_der_de.specs.declared.alternatives.OneOf.TheVariants.{Oth
 ghost use Rattle.picky_der_de.specs.KnownChoices.{known_choice};
 ghost use Rattle.picky_der_de.specs.KnownMembers.{known_struct, sequence_of, sequence_shape};
 ghost use Rattle.der_types.specs.Notation.{Notation};
-ghost use Rattle.der_cms.specs.declared.key_agreement.KeyAgreeRecipientIdentifier.TheVariants as key_agree_recipient_identifier_variants;
-ghost use Rattle.der_cms.specs.declared.key_agreement.OriginatorIdentifierOrKey.TheVariants as originator_identifier_or_key_variants;
 
 use crate::{
     CmsVersion, EncryptedKey, IssuerAndSerialNumber, KeyEncryptionAlgorithmIdentifier,
@@ -150,12 +148,14 @@ type OriginatorIdentifierOrKeyParts = OneOf<
 >;
 
 impl Choice for OriginatorIdentifierOrKey {
+    ghost use Rattle.der_cms.specs.declared.key_agreement.OriginatorIdentifierOrKey.TheVariants as variants;
+
     type Alternatives = OriginatorIdentifierOrKeyParts;
 
     ghost parts = { elim [
-      | originator_identifier_or_key_variants.IssuerAndSerialNumber x ↦ This x
-      | originator_identifier_or_key_variants.SubjectKeyIdentifier x ↦ Other (This x)
-      | originator_identifier_or_key_variants.OriginatorKey x ↦ Other (Other (This x))
+      | variants.IssuerAndSerialNumber x ↦ This x
+      | variants.SubjectKeyIdentifier x ↦ Other (This x)
+      | variants.OriginatorKey x ↦ Other (Other (This x))
     ] };
 
     fn from_parts(value: OriginatorIdentifierOrKeyParts) -> OriginatorIdentifierOrKey {
@@ -192,10 +192,12 @@ impl Serialize for OriginatorIdentifierOrKey {
 }
 
 impl Deserialize for OriginatorIdentifierOrKey {
+    ghost use Rattle.der_cms.specs.declared.key_agreement.OriginatorIdentifierOrKey.TheVariants as variants;
+
     ghost shape = { Shape.choice ⟦<OriginatorIdentifierOrKeyParts as Alternatives>⟧.shapes };
 
     ghost known = { known_choice ⟦<OriginatorIdentifierOrKeyParts as Alternatives>⟧.known refl ⟦<Self as Choice>⟧.parts ⟦<Self as PartialEq>⟧.eq
-        (elim [ originator_identifier_or_key_variants.IssuerAndSerialNumber _ ↦ elim [ originator_identifier_or_key_variants.IssuerAndSerialNumber _ ↦ λ h. h | _ ↦ λ h. h ] | _ ↦ elim [ originator_identifier_or_key_variants.IssuerAndSerialNumber _ ↦ λ h. h | _ ↦ λ h. h ] ]) };
+        (elim [ variants.IssuerAndSerialNumber _ ↦ elim [ variants.IssuerAndSerialNumber _ ↦ λ h. h | _ ↦ λ h. h ] | _ ↦ elim [ variants.IssuerAndSerialNumber _ ↦ λ h. h | _ ↦ λ h. h ] ]) };
 
     ghost tied = { Prim.assumption };
 
@@ -357,12 +359,11 @@ type KeyAgreeRecipientIdentifierParts = OneOf<
 >;
 
 impl Choice for KeyAgreeRecipientIdentifier {
+    ghost use Rattle.der_cms.specs.declared.key_agreement.KeyAgreeRecipientIdentifier.TheVariants as variants;
+
     type Alternatives = KeyAgreeRecipientIdentifierParts;
 
-    ghost parts = { elim [
-      | key_agree_recipient_identifier_variants.IssuerAndSerialNumber x ↦ This x
-      | key_agree_recipient_identifier_variants.RKeyId x ↦ Other (This x)
-    ] };
+    ghost parts = { elim [ variants.IssuerAndSerialNumber x ↦ This x | variants.RKeyId x ↦ Other (This x) ] };
 
     fn from_parts(value: KeyAgreeRecipientIdentifierParts) -> KeyAgreeRecipientIdentifier {
         match value {
@@ -388,10 +389,12 @@ impl Serialize for KeyAgreeRecipientIdentifier {
 }
 
 impl Deserialize for KeyAgreeRecipientIdentifier {
+    ghost use Rattle.der_cms.specs.declared.key_agreement.KeyAgreeRecipientIdentifier.TheVariants as variants;
+
     ghost shape = { Shape.choice ⟦<KeyAgreeRecipientIdentifierParts as Alternatives>⟧.shapes };
 
     ghost known = { known_choice ⟦<KeyAgreeRecipientIdentifierParts as Alternatives>⟧.known refl ⟦<Self as Choice>⟧.parts ⟦<Self as PartialEq>⟧.eq
-        (elim [ key_agree_recipient_identifier_variants.IssuerAndSerialNumber _ ↦ elim [ key_agree_recipient_identifier_variants.IssuerAndSerialNumber _ ↦ λ h. h | _ ↦ λ h. h ] | _ ↦ elim [ key_agree_recipient_identifier_variants.IssuerAndSerialNumber _ ↦ λ h. h | _ ↦ λ h. h ] ]) };
+        (elim [ variants.IssuerAndSerialNumber _ ↦ elim [ variants.IssuerAndSerialNumber _ ↦ λ h. h | _ ↦ λ h. h ] | _ ↦ elim [ variants.IssuerAndSerialNumber _ ↦ λ h. h | _ ↦ λ h. h ] ]) };
 
     ghost tied = { Prim.assumption };
 

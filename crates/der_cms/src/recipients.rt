@@ -8,8 +8,6 @@ ghost use Rattle.picky_der_de.specs.declared.alternatives4.OneOf4.TheVariants.{F
 ghost use Rattle.picky_der_de.specs.KnownChoices.{known_choice};
 ghost use Rattle.picky_der_de.specs.KnownMembers.{known_struct, sequence_of, sequence_shape};
 ghost use Rattle.der_types.specs.Notation.{Notation};
-ghost use Rattle.der_cms.specs.declared.recipients.RecipientIdentifier.TheVariants as recipient_identifier_variants;
-ghost use Rattle.der_cms.specs.declared.recipients.RecipientInfo.TheVariants as recipient_info_variants;
 
 use crate::{
     CmsVersion, IssuerAndSerialNumber, KeyAgreeRecipientInfo, KeyDerivationAlgorithmIdentifier,
@@ -59,14 +57,16 @@ type RecipientInfoParts = OneOf4<
 >;
 
 impl Choice for RecipientInfo {
+    ghost use Rattle.der_cms.specs.declared.recipients.RecipientInfo.TheVariants as variants;
+
     type Alternatives = RecipientInfoParts;
 
     ghost parts = { elim [
-      | recipient_info_variants.Ktri x ↦ First x
-      | recipient_info_variants.Kari x ↦ Second x
-      | recipient_info_variants.Kekri x ↦ Third x
-      | recipient_info_variants.Pwri x ↦ Fourth x
-      | recipient_info_variants.Ori x ↦ Later (This x)
+      | variants.Ktri x ↦ First x
+      | variants.Kari x ↦ Second x
+      | variants.Kekri x ↦ Third x
+      | variants.Pwri x ↦ Fourth x
+      | variants.Ori x ↦ Later (This x)
     ] };
 
     fn from_parts(value: RecipientInfoParts) -> RecipientInfo {
@@ -95,10 +95,12 @@ impl Serialize for RecipientInfo {
 }
 
 impl Deserialize for RecipientInfo {
+    ghost use Rattle.der_cms.specs.declared.recipients.RecipientInfo.TheVariants as variants;
+
     ghost shape = { Shape.choice ⟦<RecipientInfoParts as Alternatives>⟧.shapes };
 
     ghost known = { known_choice ⟦<RecipientInfoParts as Alternatives>⟧.known refl ⟦<Self as Choice>⟧.parts ⟦<Self as PartialEq>⟧.eq
-        (elim [ recipient_info_variants.Ktri _ ↦ elim [ recipient_info_variants.Ktri _ ↦ λ h. h | _ ↦ λ h. h ] | _ ↦ elim [ recipient_info_variants.Ktri _ ↦ λ h. h | _ ↦ λ h. h ] ]) };
+        (elim [ variants.Ktri _ ↦ elim [ variants.Ktri _ ↦ λ h. h | _ ↦ λ h. h ] | _ ↦ elim [ variants.Ktri _ ↦ λ h. h | _ ↦ λ h. h ] ]) };
 
     ghost tied = { Prim.assumption };
 
@@ -219,11 +221,13 @@ type RecipientIdentifierParts = OneOf<
 >;
 
 impl Choice for RecipientIdentifier {
+    ghost use Rattle.der_cms.specs.declared.recipients.RecipientIdentifier.TheVariants as variants;
+
     type Alternatives = RecipientIdentifierParts;
 
     ghost parts = { elim [
-      | recipient_identifier_variants.IssuerAndSerialNumber x ↦ This x
-      | recipient_identifier_variants.SubjectKeyIdentifier x ↦ Other (This x)
+      | variants.IssuerAndSerialNumber x ↦ This x
+      | variants.SubjectKeyIdentifier x ↦ Other (This x)
     ] };
 
     fn from_parts(value: RecipientIdentifierParts) -> RecipientIdentifier {
@@ -254,10 +258,12 @@ impl Serialize for RecipientIdentifier {
 }
 
 impl Deserialize for RecipientIdentifier {
+    ghost use Rattle.der_cms.specs.declared.recipients.RecipientIdentifier.TheVariants as variants;
+
     ghost shape = { Shape.choice ⟦<RecipientIdentifierParts as Alternatives>⟧.shapes };
 
     ghost known = { known_choice ⟦<RecipientIdentifierParts as Alternatives>⟧.known refl ⟦<Self as Choice>⟧.parts ⟦<Self as PartialEq>⟧.eq
-        (elim [ recipient_identifier_variants.IssuerAndSerialNumber _ ↦ elim [ recipient_identifier_variants.IssuerAndSerialNumber _ ↦ λ h. h | _ ↦ λ h. h ] | _ ↦ elim [ recipient_identifier_variants.IssuerAndSerialNumber _ ↦ λ h. h | _ ↦ λ h. h ] ]) };
+        (elim [ variants.IssuerAndSerialNumber _ ↦ elim [ variants.IssuerAndSerialNumber _ ↦ λ h. h | _ ↦ λ h. h ] | _ ↦ elim [ variants.IssuerAndSerialNumber _ ↦ λ h. h | _ ↦ λ h. h ] ]) };
 
     ghost tied = { Prim.assumption };
 

@@ -7,7 +7,6 @@ ghost use Rattle.picky_der_de.specs.declared.alternatives.OneOf.TheVariants.{Oth
 ghost use Rattle.picky_der_de.specs.KnownChoices.{known_choice};
 ghost use Rattle.picky_der_de.specs.KnownMembers.{known_struct, sequence_of, sequence_shape};
 ghost use Rattle.der_types.specs.Notation.{Notation};
-ghost use Rattle.der_cms.specs.declared.signed_data.SignerIdentifier.TheVariants as signer_identifier_variants;
 
 use crate::{
     Attribute, CertificateSet, CmsVersion, ContentType, DigestAlgorithmIdentifier,
@@ -333,11 +332,13 @@ type SignerIdentifierParts = OneOf<
 >;
 
 impl Choice for SignerIdentifier {
+    ghost use Rattle.der_cms.specs.declared.signed_data.SignerIdentifier.TheVariants as variants;
+
     type Alternatives = SignerIdentifierParts;
 
     ghost parts = { elim [
-      | signer_identifier_variants.IssuerAndSerialNumber x ↦ This x
-      | signer_identifier_variants.SubjectKeyIdentifier x ↦ Other (This x)
+      | variants.IssuerAndSerialNumber x ↦ This x
+      | variants.SubjectKeyIdentifier x ↦ Other (This x)
     ] };
 
     fn from_parts(value: SignerIdentifierParts) -> SignerIdentifier {
@@ -368,10 +369,12 @@ impl Serialize for SignerIdentifier {
 }
 
 impl Deserialize for SignerIdentifier {
+    ghost use Rattle.der_cms.specs.declared.signed_data.SignerIdentifier.TheVariants as variants;
+
     ghost shape = { Shape.choice ⟦<SignerIdentifierParts as Alternatives>⟧.shapes };
 
     ghost known = { known_choice ⟦<SignerIdentifierParts as Alternatives>⟧.known refl ⟦<Self as Choice>⟧.parts ⟦<Self as PartialEq>⟧.eq
-        (elim [ signer_identifier_variants.IssuerAndSerialNumber _ ↦ elim [ signer_identifier_variants.IssuerAndSerialNumber _ ↦ λ h. h | _ ↦ λ h. h ] | _ ↦ elim [ signer_identifier_variants.IssuerAndSerialNumber _ ↦ λ h. h | _ ↦ λ h. h ] ]) };
+        (elim [ variants.IssuerAndSerialNumber _ ↦ elim [ variants.IssuerAndSerialNumber _ ↦ λ h. h | _ ↦ λ h. h ] | _ ↦ elim [ variants.IssuerAndSerialNumber _ ↦ λ h. h | _ ↦ λ h. h ] ]) };
 
     ghost tied = { Prim.assumption };
 

@@ -7,7 +7,6 @@ ghost use Rattle.picky_der_de.specs.KnownMembers.{known_struct, sequence_of, seq
 ghost use Rattle.der_types.specs.KnownContents.{contents_of, contents_shape, known_contents};
 ghost use Rattle.der_types.specs.Notation.{Notation};
 ghost use Rattle.der_pkix.specs.Enumerations.{is_key_version, key_version_number, same_key_version};
-ghost use Rattle.der_pkix.specs.declared.asymmetric_key_package_module_v1.KeyVersion.TheVariants as key_version_variants;
 
 use crate::Attribute;
 use der_types::{BitString, Contents, Notated, NotatedMembers, WithSize, deserialize_contents_as};
@@ -152,6 +151,8 @@ impl KeyVersion {
 }
 
 impl Contents for KeyVersion {
+    ghost use Rattle.der_pkix.specs.declared.asymmetric_key_package_module_v1.KeyVersion.TheVariants as variants;
+
     ghost TAG = { 0x02 };
 
     ghost is_content = { is_key_version };
@@ -183,8 +184,8 @@ impl Contents for KeyVersion {
     ghost short = { lit≤ tt };
 
     ghost valid = { elim [
-      | key_version_variants.V1 ↦ refl
-      | key_version_variants.V2 ↦ refl
+      | variants.V1 ↦ refl
+      | variants.V2 ↦ refl
     ] };
 
     ghost equal_so = { Prim.assumption };
@@ -217,9 +218,11 @@ impl Begins for KeyVersion {
 }
 
 impl Notated for KeyVersion {
+    ghost use Rattle.der_pkix.specs.declared.asymmetric_key_package_module_v1.KeyVersion.TheVariants as variants;
+
     ghost notation = { Notation.INTEGER-named (
-        key_version_number key_version_variants.V1 ∷
-        key_version_number key_version_variants.V2 ∷
+        key_version_number variants.V1 ∷
+        key_version_number variants.V2 ∷
         []) };
 
     ghost denoted = { refl };

@@ -8,7 +8,6 @@ ghost use Rattle.picky_der_de.specs.declared.alternatives4.OneOf4.TheVariants.{F
 ghost use Rattle.picky_der_de.specs.KnownChoices.{known_choice};
 ghost use Rattle.picky_der_de.specs.KnownMembers.{known_struct, sequence_of, sequence_shape};
 ghost use Rattle.der_types.specs.Notation.{Notation};
-ghost use Rattle.der_pkix.specs.declared.general_names.GeneralName.TheVariants as general_name_variants;
 
 use der_types::{
     Ia5String, Notated, NotatedAlternatives, NotatedMembers, ObjectIdentifier, WithSize,
@@ -72,18 +71,20 @@ type GeneralNameParts = OneOf4<
 >;
 
 impl Choice for GeneralName {
+    ghost use Rattle.der_pkix.specs.declared.general_names.GeneralName.TheVariants as variants;
+
     type Alternatives = GeneralNameParts;
 
     ghost parts = { elim [
-      | general_name_variants.OtherName x ↦ First x
-      | general_name_variants.Rfc822Name x ↦ Second x
-      | general_name_variants.DnsName x ↦ Third x
-      | general_name_variants.X400Address x ↦ Fourth x
-      | general_name_variants.DirectoryName x ↦ Later (First x)
-      | general_name_variants.EdiPartyName x ↦ Later (Second x)
-      | general_name_variants.UniformResourceIdentifier x ↦ Later (Third x)
-      | general_name_variants.IpAddress x ↦ Later (Fourth x)
-      | general_name_variants.RegisteredId x ↦ Later (Later (This x))
+      | variants.OtherName x ↦ First x
+      | variants.Rfc822Name x ↦ Second x
+      | variants.DnsName x ↦ Third x
+      | variants.X400Address x ↦ Fourth x
+      | variants.DirectoryName x ↦ Later (First x)
+      | variants.EdiPartyName x ↦ Later (Second x)
+      | variants.UniformResourceIdentifier x ↦ Later (Third x)
+      | variants.IpAddress x ↦ Later (Fourth x)
+      | variants.RegisteredId x ↦ Later (Later (This x))
     ] };
 
     fn from_parts(value: GeneralNameParts) -> GeneralName {
@@ -128,10 +129,12 @@ impl Serialize for GeneralName {
 }
 
 impl Deserialize for GeneralName {
+    ghost use Rattle.der_pkix.specs.declared.general_names.GeneralName.TheVariants as variants;
+
     ghost shape = { Shape.choice ⟦<GeneralNameParts as Alternatives>⟧.shapes };
 
     ghost known = { known_choice ⟦<GeneralNameParts as Alternatives>⟧.known refl ⟦<Self as Choice>⟧.parts ⟦<Self as PartialEq>⟧.eq
-        (elim [ general_name_variants.OtherName _ ↦ elim [ general_name_variants.OtherName _ ↦ λ h. h | _ ↦ λ h. h ] | _ ↦ elim [ general_name_variants.OtherName _ ↦ λ h. h | _ ↦ λ h. h ] ]) };
+        (elim [ variants.OtherName _ ↦ elim [ variants.OtherName _ ↦ λ h. h | _ ↦ λ h. h ] | _ ↦ elim [ variants.OtherName _ ↦ λ h. h | _ ↦ λ h. h ] ]) };
 
     ghost tied = { Prim.assumption };
 

@@ -10,8 +10,6 @@ ghost use Rattle.picky_der_de.specs.KnownMembers.{known_struct, sequence_of, seq
 ghost use Rattle.der_types.specs.KnownContents.{contents_of, contents_shape, known_contents};
 ghost use Rattle.der_types.specs.Notation.{Notation};
 ghost use Rattle.der_pkix.specs.Enumerations.{digested_object_type_number, is_digested_object_type, same_digested_object_type};
-ghost use Rattle.der_pkix.specs.declared.holders.AttCertIssuer.TheVariants as att_cert_issuer_variants;
-ghost use Rattle.der_pkix.specs.declared.holders.DigestedObjectType.TheVariants as digested_object_type_variants;
 
 use crate::GeneralNames;
 use der_types::{
@@ -233,6 +231,8 @@ impl DigestedObjectType {
 }
 
 impl Contents for DigestedObjectType {
+    ghost use Rattle.der_pkix.specs.declared.holders.DigestedObjectType.TheVariants as variants;
+
     ghost TAG = { 0x0A };
 
     ghost is_content = { is_digested_object_type };
@@ -265,9 +265,9 @@ impl Contents for DigestedObjectType {
     ghost short = { lit≤ tt };
 
     ghost valid = { elim [
-      | digested_object_type_variants.PublicKey ↦ refl
-      | digested_object_type_variants.PublicKeyCert ↦ refl
-      | digested_object_type_variants.OtherObjectTypes ↦ refl
+      | variants.PublicKey ↦ refl
+      | variants.PublicKeyCert ↦ refl
+      | variants.OtherObjectTypes ↦ refl
     ] };
 
     ghost equal_so = { Prim.assumption };
@@ -300,10 +300,12 @@ impl Begins for DigestedObjectType {
 }
 
 impl Notated for DigestedObjectType {
+    ghost use Rattle.der_pkix.specs.declared.holders.DigestedObjectType.TheVariants as variants;
+
     ghost notation = { Notation.ENUMERATED (
-        digested_object_type_number digested_object_type_variants.PublicKey ∷
-        digested_object_type_number digested_object_type_variants.PublicKeyCert ∷
-        digested_object_type_number digested_object_type_variants.OtherObjectTypes ∷
+        digested_object_type_number variants.PublicKey ∷
+        digested_object_type_number variants.PublicKeyCert ∷
+        digested_object_type_number variants.OtherObjectTypes ∷
         []) };
 
     ghost denoted = { refl };
@@ -321,12 +323,11 @@ pub enum AttCertIssuer {
 type AttCertIssuerParts = OneOf<GeneralNames, OneOf<ImplicitList0<V2Form>, NoneOf>>;
 
 impl Choice for AttCertIssuer {
+    ghost use Rattle.der_pkix.specs.declared.holders.AttCertIssuer.TheVariants as variants;
+
     type Alternatives = AttCertIssuerParts;
 
-    ghost parts = { elim [
-      | att_cert_issuer_variants.V1Form x ↦ This x
-      | att_cert_issuer_variants.V2Form x ↦ Other (This x)
-    ] };
+    ghost parts = { elim [ variants.V1Form x ↦ This x | variants.V2Form x ↦ Other (This x) ] };
 
     fn from_parts(value: AttCertIssuerParts) -> AttCertIssuer {
         match value {
@@ -348,10 +349,12 @@ impl Serialize for AttCertIssuer {
 }
 
 impl Deserialize for AttCertIssuer {
+    ghost use Rattle.der_pkix.specs.declared.holders.AttCertIssuer.TheVariants as variants;
+
     ghost shape = { Shape.choice ⟦<AttCertIssuerParts as Alternatives>⟧.shapes };
 
     ghost known = { known_choice ⟦<AttCertIssuerParts as Alternatives>⟧.known refl ⟦<Self as Choice>⟧.parts ⟦<Self as PartialEq>⟧.eq
-        (elim [ att_cert_issuer_variants.V1Form _ ↦ elim [ att_cert_issuer_variants.V1Form _ ↦ λ h. h | _ ↦ λ h. h ] | _ ↦ elim [ att_cert_issuer_variants.V1Form _ ↦ λ h. h | _ ↦ λ h. h ] ]) };
+        (elim [ variants.V1Form _ ↦ elim [ variants.V1Form _ ↦ λ h. h | _ ↦ λ h. h ] | _ ↦ elim [ variants.V1Form _ ↦ λ h. h | _ ↦ λ h. h ] ]) };
 
     ghost tied = { Prim.assumption };
 

@@ -7,7 +7,6 @@ ghost use Rattle.picky_der_de.specs.declared.alternatives.OneOf.TheVariants.{Oth
 ghost use Rattle.picky_der_de.specs.KnownChoices.{known_choice};
 ghost use Rattle.picky_der_de.specs.KnownMembers.{known_struct, sequence_of, sequence_shape};
 ghost use Rattle.der_types.specs.Notation.{Notation};
-ghost use Rattle.der_pkix.specs.declared.pkix_attribute_certificate_2008.Target.TheVariants as target_variants;
 
 use crate::{AttCertIssuer, Attribute, GeneralName, Holder, IssuerSerial, ObjectDigestInfo};
 use der_types::{
@@ -322,12 +321,14 @@ type TargetParts = OneOf<
 >;
 
 impl Choice for Target {
+    ghost use Rattle.der_pkix.specs.declared.pkix_attribute_certificate_2008.Target.TheVariants as variants;
+
     type Alternatives = TargetParts;
 
     ghost parts = { elim [
-      | target_variants.TargetName x ↦ This x
-      | target_variants.TargetGroup x ↦ Other (This x)
-      | target_variants.TargetCert x ↦ Other (Other (This x))
+      | variants.TargetName x ↦ This x
+      | variants.TargetGroup x ↦ Other (This x)
+      | variants.TargetCert x ↦ Other (Other (This x))
     ] };
 
     fn from_parts(value: TargetParts) -> Target {
@@ -352,10 +353,12 @@ impl Serialize for Target {
 }
 
 impl Deserialize for Target {
+    ghost use Rattle.der_pkix.specs.declared.pkix_attribute_certificate_2008.Target.TheVariants as variants;
+
     ghost shape = { Shape.choice ⟦<TargetParts as Alternatives>⟧.shapes };
 
     ghost known = { known_choice ⟦<TargetParts as Alternatives>⟧.known refl ⟦<Self as Choice>⟧.parts ⟦<Self as PartialEq>⟧.eq
-        (elim [ target_variants.TargetName _ ↦ elim [ target_variants.TargetName _ ↦ λ h. h | _ ↦ λ h. h ] | _ ↦ elim [ target_variants.TargetName _ ↦ λ h. h | _ ↦ λ h. h ] ]) };
+        (elim [ variants.TargetName _ ↦ elim [ variants.TargetName _ ↦ λ h. h | _ ↦ λ h. h ] | _ ↦ elim [ variants.TargetName _ ↦ λ h. h | _ ↦ λ h. h ] ]) };
 
     ghost tied = { Prim.assumption };
 

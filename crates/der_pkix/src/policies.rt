@@ -7,7 +7,6 @@ ghost use Rattle.picky_der_de.specs.declared.alternatives4.OneOf4.TheVariants.{F
 ghost use Rattle.picky_der_de.specs.KnownChoices.{known_choice};
 ghost use Rattle.picky_der_de.specs.KnownMembers.{known_struct, sequence_of, sequence_shape};
 ghost use Rattle.der_types.specs.Notation.{Notation};
-ghost use Rattle.der_pkix.specs.declared.policies.DisplayText.TheVariants as display_text_variants;
 
 use der_types::{
     BmpString, Ia5String, Integer, Notated, NotatedAlternatives, NotatedMembers, ObjectIdentifier,
@@ -315,13 +314,15 @@ type DisplayTextParts = OneOf4<
 >;
 
 impl Choice for DisplayText {
+    ghost use Rattle.der_pkix.specs.declared.policies.DisplayText.TheVariants as variants;
+
     type Alternatives = DisplayTextParts;
 
     ghost parts = { elim [
-      | display_text_variants.Ia5String x ↦ First x
-      | display_text_variants.VisibleString x ↦ Second x
-      | display_text_variants.BmpString x ↦ Third x
-      | display_text_variants.Utf8String x ↦ Fourth x
+      | variants.Ia5String x ↦ First x
+      | variants.VisibleString x ↦ Second x
+      | variants.BmpString x ↦ Third x
+      | variants.Utf8String x ↦ Fourth x
     ] };
 
     fn from_parts(value: DisplayTextParts) -> DisplayText {
@@ -350,10 +351,12 @@ impl Serialize for DisplayText {
 }
 
 impl Deserialize for DisplayText {
+    ghost use Rattle.der_pkix.specs.declared.policies.DisplayText.TheVariants as variants;
+
     ghost shape = { Shape.choice ⟦<DisplayTextParts as Alternatives>⟧.shapes };
 
     ghost known = { known_choice ⟦<DisplayTextParts as Alternatives>⟧.known refl ⟦<Self as Choice>⟧.parts ⟦<Self as PartialEq>⟧.eq
-        (elim [ display_text_variants.Ia5String _ ↦ elim [ display_text_variants.Ia5String _ ↦ λ h. h | _ ↦ λ h. h ] | _ ↦ elim [ display_text_variants.Ia5String _ ↦ λ h. h | _ ↦ λ h. h ] ]) };
+        (elim [ variants.Ia5String _ ↦ elim [ variants.Ia5String _ ↦ λ h. h | _ ↦ λ h. h ] | _ ↦ elim [ variants.Ia5String _ ↦ λ h. h | _ ↦ λ h. h ] ]) };
 
     ghost tied = { Prim.assumption };
 

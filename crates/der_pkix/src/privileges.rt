@@ -7,7 +7,6 @@ ghost use Rattle.picky_der_de.specs.declared.alternatives.OneOf.TheVariants.{Oth
 ghost use Rattle.picky_der_de.specs.KnownChoices.{known_choice};
 ghost use Rattle.picky_der_de.specs.KnownMembers.{known_struct, sequence_of, sequence_shape};
 ghost use Rattle.der_types.specs.Notation.{Notation};
-ghost use Rattle.der_pkix.specs.declared.privileges.IetfAttrValue.TheVariants as ietf_attr_value_variants;
 
 use crate::{Attribute, GeneralName, GeneralNames};
 use der_types::{
@@ -104,12 +103,14 @@ pub enum IetfAttrValue {
 type IetfAttrValueParts = OneOf<ByteBuf, OneOf<ObjectIdentifier, OneOf<String, NoneOf>>>;
 
 impl Choice for IetfAttrValue {
+    ghost use Rattle.der_pkix.specs.declared.privileges.IetfAttrValue.TheVariants as variants;
+
     type Alternatives = IetfAttrValueParts;
 
     ghost parts = { elim [
-      | ietf_attr_value_variants.Octets x ↦ This x
-      | ietf_attr_value_variants.Oid x ↦ Other (This x)
-      | ietf_attr_value_variants.String x ↦ Other (Other (This x))
+      | variants.Octets x ↦ This x
+      | variants.Oid x ↦ Other (This x)
+      | variants.String x ↦ Other (Other (This x))
     ] };
 
     fn from_parts(value: IetfAttrValueParts) -> IetfAttrValue {
@@ -134,10 +135,12 @@ impl Serialize for IetfAttrValue {
 }
 
 impl Deserialize for IetfAttrValue {
+    ghost use Rattle.der_pkix.specs.declared.privileges.IetfAttrValue.TheVariants as variants;
+
     ghost shape = { Shape.choice ⟦<IetfAttrValueParts as Alternatives>⟧.shapes };
 
     ghost known = { known_choice ⟦<IetfAttrValueParts as Alternatives>⟧.known refl ⟦<Self as Choice>⟧.parts ⟦<Self as PartialEq>⟧.eq
-        (elim [ ietf_attr_value_variants.Octets _ ↦ elim [ ietf_attr_value_variants.Octets _ ↦ λ h. h | _ ↦ λ h. h ] | _ ↦ elim [ ietf_attr_value_variants.Octets _ ↦ λ h. h | _ ↦ λ h. h ] ]) };
+        (elim [ variants.Octets _ ↦ elim [ variants.Octets _ ↦ λ h. h | _ ↦ λ h. h ] | _ ↦ elim [ variants.Octets _ ↦ λ h. h | _ ↦ λ h. h ] ]) };
 
     ghost tied = { Prim.assumption };
 

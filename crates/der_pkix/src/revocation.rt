@@ -10,8 +10,6 @@ ghost use Rattle.picky_der_de.specs.KnownMembers.{known_struct, sequence_of, seq
 ghost use Rattle.der_types.specs.KnownContents.{contents_of, contents_shape, known_contents};
 ghost use Rattle.der_types.specs.Notation.{Notation};
 ghost use Rattle.der_pkix.specs.Enumerations.{crl_reason_number, is_crl_reason, same_crl_reason};
-ghost use Rattle.der_pkix.specs.declared.revocation.CrlReason.TheVariants as crl_reason_variants;
-ghost use Rattle.der_pkix.specs.declared.revocation.DistributionPointName.TheVariants as distribution_point_name_variants;
 
 use crate::GeneralNames;
 use der_types::{
@@ -130,12 +128,11 @@ type DistributionPointNameParts = OneOf<
 >;
 
 impl Choice for DistributionPointName {
+    ghost use Rattle.der_pkix.specs.declared.revocation.DistributionPointName.TheVariants as variants;
+
     type Alternatives = DistributionPointNameParts;
 
-    ghost parts = { elim [
-      | distribution_point_name_variants.FullName x ↦ This x
-      | distribution_point_name_variants.NameRelativeToCrlIssuer x ↦ Other (This x)
-    ] };
+    ghost parts = { elim [ variants.FullName x ↦ This x | variants.NameRelativeToCrlIssuer x ↦ Other (This x) ] };
 
     fn from_parts(value: DistributionPointNameParts) -> DistributionPointName {
         match value {
@@ -161,10 +158,12 @@ impl Serialize for DistributionPointName {
 }
 
 impl Deserialize for DistributionPointName {
+    ghost use Rattle.der_pkix.specs.declared.revocation.DistributionPointName.TheVariants as variants;
+
     ghost shape = { Shape.choice ⟦<DistributionPointNameParts as Alternatives>⟧.shapes };
 
     ghost known = { known_choice ⟦<DistributionPointNameParts as Alternatives>⟧.known refl ⟦<Self as Choice>⟧.parts ⟦<Self as PartialEq>⟧.eq
-        (elim [ distribution_point_name_variants.FullName _ ↦ elim [ distribution_point_name_variants.FullName _ ↦ λ h. h | _ ↦ λ h. h ] | _ ↦ elim [ distribution_point_name_variants.FullName _ ↦ λ h. h | _ ↦ λ h. h ] ]) };
+        (elim [ variants.FullName _ ↦ elim [ variants.FullName _ ↦ λ h. h | _ ↦ λ h. h ] | _ ↦ elim [ variants.FullName _ ↦ λ h. h | _ ↦ λ h. h ] ]) };
 
     ghost tied = { Prim.assumption };
 
@@ -362,6 +361,8 @@ impl CrlReason {
 }
 
 impl Contents for CrlReason {
+    ghost use Rattle.der_pkix.specs.declared.revocation.CrlReason.TheVariants as variants;
+
     ghost TAG = { 0x0A };
 
     ghost is_content = { is_crl_reason };
@@ -401,16 +402,16 @@ impl Contents for CrlReason {
     ghost short = { lit≤ tt };
 
     ghost valid = { elim [
-      | crl_reason_variants.Unspecified ↦ refl
-      | crl_reason_variants.KeyCompromise ↦ refl
-      | crl_reason_variants.CaCompromise ↦ refl
-      | crl_reason_variants.AffiliationChanged ↦ refl
-      | crl_reason_variants.Superseded ↦ refl
-      | crl_reason_variants.CessationOfOperation ↦ refl
-      | crl_reason_variants.CertificateHold ↦ refl
-      | crl_reason_variants.RemoveFromCrl ↦ refl
-      | crl_reason_variants.PrivilegeWithdrawn ↦ refl
-      | crl_reason_variants.AaCompromise ↦ refl
+      | variants.Unspecified ↦ refl
+      | variants.KeyCompromise ↦ refl
+      | variants.CaCompromise ↦ refl
+      | variants.AffiliationChanged ↦ refl
+      | variants.Superseded ↦ refl
+      | variants.CessationOfOperation ↦ refl
+      | variants.CertificateHold ↦ refl
+      | variants.RemoveFromCrl ↦ refl
+      | variants.PrivilegeWithdrawn ↦ refl
+      | variants.AaCompromise ↦ refl
     ] };
 
     ghost equal_so = { Prim.assumption };
@@ -443,17 +444,19 @@ impl Begins for CrlReason {
 }
 
 impl Notated for CrlReason {
+    ghost use Rattle.der_pkix.specs.declared.revocation.CrlReason.TheVariants as variants;
+
     ghost notation = { Notation.ENUMERATED (
-        crl_reason_number crl_reason_variants.Unspecified ∷
-        crl_reason_number crl_reason_variants.KeyCompromise ∷
-        crl_reason_number crl_reason_variants.CaCompromise ∷
-        crl_reason_number crl_reason_variants.AffiliationChanged ∷
-        crl_reason_number crl_reason_variants.Superseded ∷
-        crl_reason_number crl_reason_variants.CessationOfOperation ∷
-        crl_reason_number crl_reason_variants.CertificateHold ∷
-        crl_reason_number crl_reason_variants.RemoveFromCrl ∷
-        crl_reason_number crl_reason_variants.PrivilegeWithdrawn ∷
-        crl_reason_number crl_reason_variants.AaCompromise ∷
+        crl_reason_number variants.Unspecified ∷
+        crl_reason_number variants.KeyCompromise ∷
+        crl_reason_number variants.CaCompromise ∷
+        crl_reason_number variants.AffiliationChanged ∷
+        crl_reason_number variants.Superseded ∷
+        crl_reason_number variants.CessationOfOperation ∷
+        crl_reason_number variants.CertificateHold ∷
+        crl_reason_number variants.RemoveFromCrl ∷
+        crl_reason_number variants.PrivilegeWithdrawn ∷
+        crl_reason_number variants.AaCompromise ∷
         []) };
 
     ghost denoted = { refl };

@@ -10,9 +10,6 @@ ghost use Rattle.picky_der_de.specs.KnownMembers.{known_struct, sequence_of, seq
 ghost use Rattle.der_types.specs.KnownContents.{contents_of, contents_shape, known_contents};
 ghost use Rattle.der_types.specs.Notation.{Notation};
 ghost use Rattle.der_status.specs.Enumerations.{is_ocsp_response_status, ocsp_response_status_number, same_ocsp_response_status};
-ghost use Rattle.der_status.specs.declared.ocsp_2013_88.CertStatus.TheVariants as cert_status_variants;
-ghost use Rattle.der_status.specs.declared.ocsp_2013_88.OcspResponseStatus.TheVariants as ocsp_response_status_variants;
-ghost use Rattle.der_status.specs.declared.ocsp_2013_88.ResponderId.TheVariants as responder_id_variants;
 
 use crate::{CertId, Version};
 use der_pkix::CrlReason;
@@ -140,6 +137,8 @@ impl OcspResponseStatus {
 }
 
 impl Contents for OcspResponseStatus {
+    ghost use Rattle.der_status.specs.declared.ocsp_2013_88.OcspResponseStatus.TheVariants as variants;
+
     ghost TAG = { 0x0A };
 
     ghost is_content = { is_ocsp_response_status };
@@ -175,12 +174,12 @@ impl Contents for OcspResponseStatus {
     ghost short = { lit≤ tt };
 
     ghost valid = { elim [
-      | ocsp_response_status_variants.Successful ↦ refl
-      | ocsp_response_status_variants.MalformedRequest ↦ refl
-      | ocsp_response_status_variants.InternalError ↦ refl
-      | ocsp_response_status_variants.TryLater ↦ refl
-      | ocsp_response_status_variants.SigRequired ↦ refl
-      | ocsp_response_status_variants.Unauthorized ↦ refl
+      | variants.Successful ↦ refl
+      | variants.MalformedRequest ↦ refl
+      | variants.InternalError ↦ refl
+      | variants.TryLater ↦ refl
+      | variants.SigRequired ↦ refl
+      | variants.Unauthorized ↦ refl
     ] };
 
     ghost equal_so = { Prim.assumption };
@@ -213,13 +212,15 @@ impl Begins for OcspResponseStatus {
 }
 
 impl Notated for OcspResponseStatus {
+    ghost use Rattle.der_status.specs.declared.ocsp_2013_88.OcspResponseStatus.TheVariants as variants;
+
     ghost notation = { Notation.ENUMERATED (
-        ocsp_response_status_number ocsp_response_status_variants.Successful ∷
-        ocsp_response_status_number ocsp_response_status_variants.MalformedRequest ∷
-        ocsp_response_status_number ocsp_response_status_variants.InternalError ∷
-        ocsp_response_status_number ocsp_response_status_variants.TryLater ∷
-        ocsp_response_status_number ocsp_response_status_variants.SigRequired ∷
-        ocsp_response_status_number ocsp_response_status_variants.Unauthorized ∷
+        ocsp_response_status_number variants.Successful ∷
+        ocsp_response_status_number variants.MalformedRequest ∷
+        ocsp_response_status_number variants.InternalError ∷
+        ocsp_response_status_number variants.TryLater ∷
+        ocsp_response_status_number variants.SigRequired ∷
+        ocsp_response_status_number variants.Unauthorized ∷
         []) };
 
     ghost denoted = { refl };
@@ -482,9 +483,11 @@ type ResponderIdParts = OneOf<
 >;
 
 impl Choice for ResponderId {
+    ghost use Rattle.der_status.specs.declared.ocsp_2013_88.ResponderId.TheVariants as variants;
+
     type Alternatives = ResponderIdParts;
 
-    ghost parts = { elim [ responder_id_variants.ByName x ↦ This x | responder_id_variants.ByKey x ↦ Other (This x) ] };
+    ghost parts = { elim [ variants.ByName x ↦ This x | variants.ByKey x ↦ Other (This x) ] };
 
     fn from_parts(value: ResponderIdParts) -> ResponderId {
         match value {
@@ -506,10 +509,12 @@ impl Serialize for ResponderId {
 }
 
 impl Deserialize for ResponderId {
+    ghost use Rattle.der_status.specs.declared.ocsp_2013_88.ResponderId.TheVariants as variants;
+
     ghost shape = { Shape.choice ⟦<ResponderIdParts as Alternatives>⟧.shapes };
 
     ghost known = { known_choice ⟦<ResponderIdParts as Alternatives>⟧.known refl ⟦<Self as Choice>⟧.parts ⟦<Self as PartialEq>⟧.eq
-        (elim [ responder_id_variants.ByName _ ↦ elim [ responder_id_variants.ByName _ ↦ λ h. h | _ ↦ λ h. h ] | _ ↦ elim [ responder_id_variants.ByName _ ↦ λ h. h | _ ↦ λ h. h ] ]) };
+        (elim [ variants.ByName _ ↦ elim [ variants.ByName _ ↦ λ h. h | _ ↦ λ h. h ] | _ ↦ elim [ variants.ByName _ ↦ λ h. h | _ ↦ λ h. h ] ]) };
 
     ghost tied = { Prim.assumption };
 
@@ -649,12 +654,14 @@ type CertStatusParts = OneOf<
 >;
 
 impl Choice for CertStatus {
+    ghost use Rattle.der_status.specs.declared.ocsp_2013_88.CertStatus.TheVariants as variants;
+
     type Alternatives = CertStatusParts;
 
     ghost parts = { elim [
-      | cert_status_variants.Good x ↦ This x
-      | cert_status_variants.Revoked x ↦ Other (This x)
-      | cert_status_variants.Unknown x ↦ Other (Other (This x))
+      | variants.Good x ↦ This x
+      | variants.Revoked x ↦ Other (This x)
+      | variants.Unknown x ↦ Other (Other (This x))
     ] };
 
     fn from_parts(value: CertStatusParts) -> CertStatus {
@@ -679,10 +686,12 @@ impl Serialize for CertStatus {
 }
 
 impl Deserialize for CertStatus {
+    ghost use Rattle.der_status.specs.declared.ocsp_2013_88.CertStatus.TheVariants as variants;
+
     ghost shape = { Shape.choice ⟦<CertStatusParts as Alternatives>⟧.shapes };
 
     ghost known = { known_choice ⟦<CertStatusParts as Alternatives>⟧.known refl ⟦<Self as Choice>⟧.parts ⟦<Self as PartialEq>⟧.eq
-        (elim [ cert_status_variants.Good _ ↦ elim [ cert_status_variants.Good _ ↦ λ h. h | _ ↦ λ h. h ] | _ ↦ elim [ cert_status_variants.Good _ ↦ λ h. h | _ ↦ λ h. h ] ]) };
+        (elim [ variants.Good _ ↦ elim [ variants.Good _ ↦ λ h. h | _ ↦ λ h. h ] | _ ↦ elim [ variants.Good _ ↦ λ h. h | _ ↦ λ h. h ] ]) };
 
     ghost tied = { Prim.assumption };
 

@@ -7,7 +7,6 @@ ghost use Rattle.picky_der_de.specs.declared.alternatives.OneOf.TheVariants.{Thi
 ghost use Rattle.picky_der_de.specs.KnownChoices.{known_choice};
 ghost use Rattle.picky_der_de.specs.KnownMembers.{known_struct, sequence_of, sequence_shape};
 ghost use Rattle.der_types.specs.Notation.{Notation};
-ghost use Rattle.der_x509.specs.declared.names.Name.TheVariants as name_variants;
 
 use der_types::{Notated, NotatedAlternatives, NotatedMembers, ObjectIdentifier, WithSize};
 use picky_asn1_der::OneOf::This;
@@ -29,9 +28,11 @@ pub enum Name {
 type NameParts = OneOf<RdnSequence, NoneOf>;
 
 impl Choice for Name {
+    ghost use Rattle.der_x509.specs.declared.names.Name.TheVariants as variants;
+
     type Alternatives = NameParts;
 
-    ghost parts = { elim [ name_variants.RdnSequence x ↦ This x ] };
+    ghost parts = { elim [ variants.RdnSequence x ↦ This x ] };
 
     fn from_parts(value: NameParts) -> Name {
         match value {
@@ -51,10 +52,12 @@ impl Serialize for Name {
 }
 
 impl Deserialize for Name {
+    ghost use Rattle.der_x509.specs.declared.names.Name.TheVariants as variants;
+
     ghost shape = { Shape.choice ⟦<NameParts as Alternatives>⟧.shapes };
 
     ghost known = { known_choice ⟦<NameParts as Alternatives>⟧.known refl ⟦<Self as Choice>⟧.parts ⟦<Self as PartialEq>⟧.eq
-        (elim [ name_variants.RdnSequence _ ↦ elim [ name_variants.RdnSequence _ ↦ λ h. h ] ]) };
+        (elim [ variants.RdnSequence _ ↦ elim [ variants.RdnSequence _ ↦ λ h. h ] ]) };
 
     ghost tied = { Prim.assumption };
 

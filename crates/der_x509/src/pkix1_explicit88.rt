@@ -10,8 +10,6 @@ ghost use Rattle.picky_der_de.specs.KnownMembers.{known_struct, sequence_of, seq
 ghost use Rattle.der_types.specs.KnownContents.{contents_of, contents_shape, known_contents};
 ghost use Rattle.der_types.specs.Notation.{Notation};
 ghost use Rattle.der_x509.specs.Enumerations.{is_default_version_v1, is_version, same_version, version_number, version_v1_by_tree};
-ghost use Rattle.der_x509.specs.declared.pkix1_explicit88.Time.TheVariants as time_variants;
-ghost use Rattle.der_x509.specs.declared.pkix1_explicit88.Version.TheVariants as version_variants;
 
 use crate::Name;
 use der_types::{
@@ -267,6 +265,8 @@ impl Version {
 }
 
 impl Contents for Version {
+    ghost use Rattle.der_x509.specs.declared.pkix1_explicit88.Version.TheVariants as variants;
+
     ghost TAG = { 0x02 };
 
     ghost is_content = { is_version };
@@ -299,9 +299,9 @@ impl Contents for Version {
     ghost short = { lit≤ tt };
 
     ghost valid = { elim [
-      | version_variants.V1 ↦ refl
-      | version_variants.V2 ↦ refl
-      | version_variants.V3 ↦ refl
+      | variants.V1 ↦ refl
+      | variants.V2 ↦ refl
+      | variants.V3 ↦ refl
     ] };
 
     ghost equal_so = { Prim.assumption };
@@ -334,10 +334,12 @@ impl Begins for Version {
 }
 
 impl Notated for Version {
+    ghost use Rattle.der_x509.specs.declared.pkix1_explicit88.Version.TheVariants as variants;
+
     ghost notation = { Notation.INTEGER-named (
-        version_number version_variants.V1 ∷
-        version_number version_variants.V2 ∷
-        version_number version_variants.V3 ∷
+        version_number variants.V1 ∷
+        version_number variants.V2 ∷
+        version_number variants.V3 ∷
         []) };
 
     ghost denoted = { refl };
@@ -347,14 +349,16 @@ impl Notated for Version {
 pub struct VersionV1;
 
 impl DefaultOf<Version> for VersionV1 {
+    ghost use Rattle.der_x509.specs.declared.pkix1_explicit88.Version.TheVariants as variants;
+
     ghost left_out = { is_default_version_v1 };
 
     ghost equal = { ⟦<Version as PartialEq>⟧.eq };
 
     ghost one = { elim [
-      | version_variants.V1 ↦ elim [ version_variants.V1 ↦ λ h k. k | _ ↦ λ h k. k ]
-      | version_variants.V2 ↦ elim [ version_variants.V2 ↦ λ h k. refl | _ ↦ λ h k. h ]
-      | version_variants.V3 ↦ elim [ version_variants.V3 ↦ λ h k. refl | _ ↦ λ h k. h ]
+      | variants.V1 ↦ elim [ variants.V1 ↦ λ h k. k | _ ↦ λ h k. k ]
+      | variants.V2 ↦ elim [ variants.V2 ↦ λ h k. refl | _ ↦ λ h k. h ]
+      | variants.V3 ↦ elim [ variants.V3 ↦ λ h k. refl | _ ↦ λ h k. h ]
     ] };
 
     fn is_default(value: &Version) -> bool {
@@ -371,9 +375,11 @@ impl DefaultOf<Version> for VersionV1 {
 }
 
 impl NotatedDefault<Version> for VersionV1 {
-    ghost value = { contents_of 0x02 (λ it. version_number it ∷ []) version_variants.V1 };
+    ghost use Rattle.der_x509.specs.declared.pkix1_explicit88.Version.TheVariants as variants;
 
-    ghost is_value = { λ it h. sym ((version_v1_by_tree version_variants.V1 it refl).0 h) };
+    ghost value = { contents_of 0x02 (λ it. version_number it ∷ []) variants.V1 };
+
+    ghost is_value = { λ it h. sym ((version_v1_by_tree variants.V1 it refl).0 h) };
 }
 
 /// The serial number of a certificate (RFC 5280, 4.1.2.2). `CertificateSerialNumber` of
@@ -455,9 +461,11 @@ pub enum Time {
 type TimeParts = OneOf<UtcTime, OneOf<WithSize<GeneralizedTime, 15, 15>, NoneOf>>;
 
 impl Choice for Time {
+    ghost use Rattle.der_x509.specs.declared.pkix1_explicit88.Time.TheVariants as variants;
+
     type Alternatives = TimeParts;
 
-    ghost parts = { elim [ time_variants.UtcTime x ↦ This x | time_variants.GeneralTime x ↦ Other (This x) ] };
+    ghost parts = { elim [ variants.UtcTime x ↦ This x | variants.GeneralTime x ↦ Other (This x) ] };
 
     fn from_parts(value: TimeParts) -> Time {
         match value {
@@ -479,10 +487,12 @@ impl Serialize for Time {
 }
 
 impl Deserialize for Time {
+    ghost use Rattle.der_x509.specs.declared.pkix1_explicit88.Time.TheVariants as variants;
+
     ghost shape = { Shape.choice ⟦<TimeParts as Alternatives>⟧.shapes };
 
     ghost known = { known_choice ⟦<TimeParts as Alternatives>⟧.known refl ⟦<Self as Choice>⟧.parts ⟦<Self as PartialEq>⟧.eq
-        (elim [ time_variants.UtcTime _ ↦ elim [ time_variants.UtcTime _ ↦ λ h. h | _ ↦ λ h. h ] | _ ↦ elim [ time_variants.UtcTime _ ↦ λ h. h | _ ↦ λ h. h ] ]) };
+        (elim [ variants.UtcTime _ ↦ elim [ variants.UtcTime _ ↦ λ h. h | _ ↦ λ h. h ] | _ ↦ elim [ variants.UtcTime _ ↦ λ h. h | _ ↦ λ h. h ] ]) };
 
     ghost tied = { Prim.assumption };
 

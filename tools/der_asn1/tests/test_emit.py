@@ -11,11 +11,11 @@ from ..declarations import ChoiceDeclaration
 from ..emit_choice import pattern, place, term
 from ..emit_enum import enum_terms
 from ..emit_imports import term_imports
-from ..emit_types import lines_of
+from ..emit_types import Context, lines_of
 from ..folder import difference, write
 from ..parse_modules import read_text
 from ..source import Problems
-from ..layout import assigned, comment, filled, item_lines, natural, tuple_lines, type_lines
+from ..layout import GHOST_WIDTH, assigned, comment, filled, item_lines, natural, tuple_lines, type_lines
 from ..library import parts_type
 from ..private_names import PrivateNames
 from ..rust_types import UNIT, of, tuple_of
@@ -53,20 +53,25 @@ def by_hand(path):
 
 
 class NamesByHand(PrivateNames):
-    """What files by hand call parts of their one type. The variants of a choice have their names alone."""
+    """What files by hand call parts of their one type."""
 
     _TUPLES = {"Parts": "Members", "Parts2": "OtherMembers", "Parts3": "LastMembers"}
 
     def of(self, declared, suffix):
         return suffix if isinstance(declared, ChoiceDeclaration) else self._TUPLES.get(suffix, suffix)
 
-    def numbered(self, wanted):
-        return "q"
-
 
 def as_by_hand(crate, name):
-    """The items of a type, with the names of files by hand."""
-    return re.sub(r"\bq\.", "", "\n".join(lines_of(crate.types[name], NamesByHand())))
+    """The items of a type, with the names of files by hand, which import the variants of their one choice by their names."""
+    text = "\n".join(lines_of(crate.types[name], "types", Context(crate.name, {}, NamesByHand())))
+    text = re.sub(r" +ghost use \S+ as variants;\n\n|\bvariants\.", "", text)
+    return re.sub(r"( +ghost parts = )\{ elim \[\n((?: +\| .+\n)+) +\] \};", cases_on_one_line, text)
+
+
+def cases_on_one_line(match):
+    """The cases of a term on its first line, if they fit there."""
+    line = f"{match[1]}{{ elim [ {' | '.join(re.findall(r'[|] (.+)', match[2]))} ] }};"
+    return line if len(line) <= GHOST_WIDTH else match[0]
 
 
 class AsByHand(unittest.TestCase):
@@ -231,7 +236,7 @@ class Imports(unittest.TestCase):
         self.assertIn("use picky_asn1_der::OneOf::{Other, This};\n", text)
         self.assertNotIn("use crate", text)
         self.assertIn("ghost use Rattle.std.specs.Prelude.{refl};\n", text)
-        self.assertIn("ghost use Rattle.der_examples.specs.declared.types.C.TheVariants as c_variants;\n", text)
+        self.assertEqual(2, text.count("{\n    ghost use Rattle.der_examples.specs.declared.types.C.TheVariants as variants;\n"))
 
     def test_terms_that_are_many(self):
         lines = term_imports("Rattle.a", [f"name_of_a_term_{it}" for it in range(12)])
@@ -239,7 +244,7 @@ class Imports(unittest.TestCase):
 
     def test_variants_are_named_by_their_choice(self):
         text = crate_of("A ::= CHOICE { other NULL, this BOOLEAN }", "A").files()["src/types.rt"]
-        self.assertIn("elim [ a_variants.Other x ↦ This x | a_variants.This x ↦ Other (This x) ]", text)
+        self.assertIn("elim [ variants.Other x ↦ This x | variants.This x ↦ Other (This x) ]", text)
         self.assertIn("This(other) => A::Other(other),", text)
 
 
@@ -312,10 +317,8 @@ class Names(unittest.TestCase):
 
     def test_of_parts_are_free(self):
         """A part of a struct has none of the names of types and fields, and each part of a file its own."""
-        files = crate_of("A ::= SEQUENCE { a AParts, a-variants C } AParts ::= SEQUENCE { a NULL } C ::= CHOICE { b NULL }", "A").files()
+        files = crate_of("A ::= SEQUENCE { a AParts, b C } AParts ::= SEQUENCE { a NULL } C ::= CHOICE { b NULL }", "A").files()
         self.assertEqual(["AParts2", "APartsParts", "CParts"], re.findall(r"^type (\w+)", files["src/types.rt"], re.M))
-        files = crate_of("C ::= SEQUENCE { d-variants D } D ::= CHOICE { b NULL }", "C").files()
-        self.assertIn("D.TheVariants as d_variants2;\n", files["src/types.rt"])
 
     def test_only_what_is_reached_is_written(self):
         self.assertEqual(["A", "B"], sorted(crate_of("A ::= SEQUENCE { b B } B ::= INTEGER C ::= NULL", "A").types))
