@@ -8,7 +8,7 @@ from .der import number
 DATA = ROOT / "data"
 
 # the steps to the nonce of a request, and of what is encrypted in a response (RFC 4120, 5.4.1, 5.4.2)
-NONCES = {
+NONCES: dict[str, tuple[int, ...]] = {
     **dict.fromkeys(("der_kerberos::AsReq", "der_kerberos::TgsReq"), (0x30, 0xA4, 0x30, 0xA7, 0x02)),
     **dict.fromkeys(("der_kerberos::EncAsRepPart", "der_kerberos::EncTgsRepPart"), (0x30, 0xA2, 0x02)),
 }

@@ -96,13 +96,15 @@ def block_of(header: str) -> str:
             return "Any" + words_of(trait, parameters)
         own = words_of(implementer if found else header, parameters)
         return own + words_of(trait, parameters) + arguments_of(trait, parameters) if found else own
-    return re.match(r"trait\s+(\w+)", header)[1]
+    return re.findall(r"\w+", header)[1]
 
 
 def parts(text: str) -> tuple[list[Part], list[Block]]:
     """The functions of a file, each as the header of its block (or an empty text), its name, and the indices of its beginning, its
     body and its end; and the blocks, each as its header and the indices of its beginning and end."""
-    code, found, blocks, at = blanked(text), [], [], 0
+    found: list[Part] = []
+    blocks: list[Block] = []
+    code, at = blanked(text), 0
     pattern = re.compile(r"\bfn\s+(\w+)|\b((?:impl|trait)\b(?:[^;{\[]|\[[^\]]*\])*)\{")
     for it in iter(lambda: pattern.search(code, at), None):
         if it[1]:
