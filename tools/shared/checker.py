@@ -53,7 +53,8 @@ class Said:
         if not block:
             return next((it for it, *_ in parts if it == f"{front}::{name}"), None)
         fits = [it for it, module, own, _ in parts if module == front and own.startswith(block)]
-        return min(fits, key=len, default=None) or next((it for it, _, own, _ in parts if own == block), None)
+        fits = sorted(fits, key=len) or [it for it, _, own, _ in parts if own == block]
+        return fits[0] if fits else None
 
     def impls(self, edit: Edit) -> list[str]:
         """The implementation in the name of an edit that is about no function, as about a law, or the constant of one; and its functions."""

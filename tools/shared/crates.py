@@ -1,5 +1,5 @@
 """The crates of the repository, as crates.txt and the folders have them."""
-from collections.abc import Iterable
+from collections.abc import Iterable, Mapping
 from pathlib import Path
 
 ROOT = Path(__file__).resolve().parents[2]
@@ -64,7 +64,7 @@ def generated() -> list[str]:
     return [name_in(line) for line in text.splitlines() if line.strip() and not line.startswith("#")]
 
 
-def chosen(without: dict[str, Iterable[str]]) -> list[str]:
+def chosen(without: Mapping[str, Iterable[str]]) -> list[str]:
     """All crates but those that are left out for one of these reasons, in the order of crates.txt. It prints which ones these are."""
     left, found = list(uses()), []
     for reason, names in without.items():

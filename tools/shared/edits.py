@@ -83,7 +83,7 @@ class Edit:
         if not any(map(self.names, self.changed)) and not self.is_about(named, before, texts_after):
             raise BadEdit("the function in its name is none of those that it changes")
         self.own = sorted([it for it in named if it in old] or named or old or self.changed)
-        self.touched = {*self.own, *self.changed, *(it[1:] for it in self.changed if it not in before)}
+        self.touched: set[tuple[str, ...]] = {*self.own, *self.changed, *(it[1:] for it in self.changed if it not in before)}
 
     def names(self, function: Function) -> bool:
         """Whether this is the function in the edit's name."""

@@ -13,7 +13,7 @@ def blanked(text: str) -> str:
     return re.sub(kinds, lambda it: re.sub(r"[^\n]", " ", it[0]), text, flags=re.S)
 
 
-def behind(text: str, at: int, opening: str = "{", closing: str = "}") -> int:
+def after_bracket(text: str, at: int, opening: str = "{", closing: str = "}") -> int:
     """The place after the bracket that closes the one at this place."""
     depth = 0
     for place in range(at, len(text)):
@@ -28,13 +28,13 @@ def body_of(text: str, at: int) -> int:
     begin = at
     while at < len(text):
         if text[at] in "([":
-            at = behind(text, at, text[at], ")" if text[at] == "(" else "]")
+            at = after_bracket(text, at, text[at], ")" if text[at] == "(" else "]")
         elif text[at] == ";":
             return at
         elif text[at] == "{":
             if not re.search(r"(requires|ensures)\*?(\s+\w+)?\s*$|\bghost\s+\w+\s*:\s*$", text[begin:at]):
                 return at
-            at = begin = behind(text, at)
+            at = begin = after_bracket(text, at)
         else:
             at += 1
     return at
@@ -88,7 +88,7 @@ def block_of(header: str) -> str:
     if header.startswith("impl"):
         header, parameters = header[len("impl") :].strip(), []
         if header.startswith("<"):
-            end = behind(header.replace("->", "  "), 0, "<", ">")
+            end = after_bracket(header.replace("->", "  "), 0, "<", ">")
             parameters = [it.split(":")[0].strip() for it in split(header[1 : end - 1])]
             header = header[end:].strip()
         trait, found, implementer = header.partition(" for ")
@@ -96,23 +96,25 @@ def block_of(header: str) -> str:
             return "Any" + words_of(trait, parameters)
         own = words_of(implementer if found else header, parameters)
         return own + words_of(trait, parameters) + arguments_of(trait, parameters) if found else own
-    return re.match(r"trait\s+(\w+)", header)[1]
+    return re.findall(r"\w+", header)[1]
 
 
 def parts(text: str) -> tuple[list[Part], list[Block]]:
     """The functions of a file, each as the header of its block (or an empty text), its name, and the indices of its beginning, its
     body and its end; and the blocks, each as its header and the indices of its beginning and end."""
-    code, found, blocks, at = blanked(text), [], [], 0
+    found: list[Part] = []
+    blocks: list[Block] = []
+    code, at = blanked(text), 0
     pattern = re.compile(r"\bfn\s+(\w+)|\b((?:impl|trait)\b(?:[^;{\[]|\[[^\]]*\])*)\{")
     for it in iter(lambda: pattern.search(code, at), None):
         if it[1]:
             begin = max(code.rfind(sign, 0, it.start()) for sign in "{};") + 1
             body = body_of(code, it.end())
-            at = body + 1 if code[body : body + 1] == ";" else behind(code, body)
+            at = body + 1 if code[body : body + 1] == ";" else after_bracket(code, body)
             own = [header for header, start, end in blocks if start < begin < end]
             found.append((own[-1] if own else "", it[1], begin, body, at))
         else:
-            blocks.append((it[2].strip(), it.start(), behind(code, it.end() - 1)))
+            blocks.append((it[2].strip(), it.start(), after_bracket(code, it.end() - 1)))
             at = it.end()
     return found, blocks
 

@@ -1,12 +1,15 @@
 """Files that a script writes or compares, the rows of programs, and the line that counts tests."""
 import argparse
+import sys
 from collections.abc import Iterable, Mapping
 from pathlib import Path
 
-from .crates import ROOT
+from .crates import ROOT, folder_of
 
 # what a file should have: text, or bytes
 Content = str | bytes
+# a row for a program, and the answer that it must get
+Row = tuple[str, str]
 
 
 def parser_of(about: str | None) -> argparse.ArgumentParser:
@@ -44,6 +47,31 @@ def write_or_check(files: Mapping[Path, Content], check: bool, script: str) -> i
         return 0
     wrong = [f"{path.relative_to(ROOT)} isn't what {script} writes" for path in differing(files)]
     return report(len(files) - len(wrong), wrong)
+
+
+def built(crate: str) -> Path:
+    """The program of a crate that is built. If it isn't, that is a test that fails, and the script ends."""
+    program = folder_of(crate) / "out" / crate
+    if not program.exists():
+        sys.exit(report(0, [f"crates/{crate} isn't built: call rt run there"]))
+    return program
+
+
+def heading(text: str) -> Row:
+    """A comment among rows, which is printed as it is."""
+    return f"# {text}", f"# {text}"
+
+
+def in_lines(lines: Iterable[str]) -> str:
+    """Lines as the text of a file."""
+    return "".join(f"{it}\n" for it in lines)
+
+
+def files_of(crate: str, rows: Iterable[Row]) -> dict[Path, Content]:
+    """The files of a crate with the rows and their answers."""
+    both = list(rows)
+    folder = folder_of(crate)
+    return {folder / "stdin": in_lines(row for row, _ in both), folder / "stdout": in_lines(answer for _, answer in both)}
 
 
 def report(passed: int, wrong: Iterable[str]) -> int:
