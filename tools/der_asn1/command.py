@@ -1,8 +1,8 @@
 """The command line.
 
     der_asn1 --report [--types] [OPTION ..] MODULE.asn1 ..
-    der_asn1 --out crates/NAME [--type TYPE,..] [--crate MODULE=CRATE ..] [--distinct TYPE,..] [--own FILE=NAME,..] [--own-terms NAME,..]
-        [--check] [--allow-raw] [--allow-wider] [OPTION ..] MODULE.asn1 ..
+    der_asn1 --out crates/NAME [--type TYPE,..] [--group FILE=TYPE,..] [--crate MODULE=CRATE ..] [--distinct TYPE,..] [--own MODULE=NAME,..]
+        [--own-terms NAME,..] [--check] [--allow-raw] [--allow-wider] [OPTION ..] MODULE.asn1 ..
 
 `--report` prints for each module how many of its types are expressed exactly, and which features of the library are missing for the
 others. `--types` adds a line for each type.
@@ -11,11 +11,14 @@ others. `--types` adds a line for each type.
 `--check` writes nothing, and fails if a file isn't what would be written. A type that would be kept as bytes, or in part, is an error
 without `--allow-raw`. A type that would have more values than the notation is an error without `--allow-wider`. An open type is any element.
 
+The types of a module are in one file, which has the module's name, or is `types.rt` if the crate is of one module alone.
+`--group FILE=TYPE,..` puts types with their parts into another file.
+
 `--crate MODULE=CRATE` uses the types of a module from another crate in the same folder, as far as that crate has them.
 
-`--distinct` writes structs of their own for types that would be names of other types, which lets a crate give them methods. Files of your
-own in the crate are left alone: `--own FILE=NAME,..` names a file of `src` with the names of it that the root exports, and
-`--own-terms NAME,..` names files of `specs`.
+`--distinct` writes structs of their own for types that would be names of other types, which lets a crate give them methods. Modules of your
+own in the crate are left alone, which are files with the folders of their names: `--own MODULE=NAME,..` names a module of `src` with the
+names of it that the root exports, and `--own-terms NAME,..` names modules of `specs`.
 
 A file after `--import` is read for the names that the modules import. `--strict` refuses what the standard doesn't allow and is otherwise
 accepted. The status is 1 if there is an error.
@@ -23,10 +26,13 @@ accepted. The status is 1 if there is an error.
 import argparse
 import os
 import sys
+from typing import Iterable, Optional
 
 from . import tree
 from .declarations import Declarations, NewtypeDeclaration
-from .emit_crate import Crate, difference, own_paths, reached, reached_elsewhere, refusals, values_of, write
+from .emit_crate import NEEDS, RESERVED, Crate, reached, reached_elsewhere, refusals
+from .emit_values import values_of
+from .folder import difference, own_paths, write
 from .meaning import lacks
 from .meaning_types import ASSOCIATED, Meanings
 from .other_crates import OtherCrates, other_crates
@@ -38,10 +44,8 @@ from .source import NotationError, Problems, Severity
 # types inside of each other, each of which takes some calls
 _DEPTH = 10000
 
-NEEDS = "der_types picky_asn1_der picky_der_core picky_der_ser picky_der_de"
 
-
-def arguments(words):
+def arguments(words: Optional[list[str]]) -> argparse.Namespace:
     """The options and the files."""
     parser = argparse.ArgumentParser(prog="der_asn1", description="Compiles ASN.1 notation to types of this library.")
     parser.add_argument("files", nargs="+", metavar="MODULE.asn1", help="a file with one or more modules; imports are found among all files")
@@ -50,10 +54,11 @@ def arguments(words):
     what.add_argument("--out", metavar="FOLDER", help="write a crate, whose name is that of the folder")
     parser.add_argument("--types", action="store_true", help="print a line for each type in the report, too")
     parser.add_argument("--type", action="append", default=[], metavar="TYPE,..", help="write these types and what they need")
+    parser.add_argument("--group", action="append", default=[], metavar="FILE=TYPE,..", help="write these types into a file of their own")
     parser.add_argument("--crate", action="append", default=[], metavar="MODULE=CRATE", help="take the types of a module from another crate")
     parser.add_argument("--distinct", action="append", default=[], metavar="TYPE,..", help="write these types as structs, and not as names of others")
-    parser.add_argument("--own", action="append", default=[], metavar="FILE=NAME,..", help="a file of one's own in src, with its public names")
-    parser.add_argument("--own-terms", action="append", default=[], metavar="NAME,..", help="files of one's own in specs")
+    parser.add_argument("--own", action="append", default=[], metavar="MODULE=NAME,..", help="a module of one's own in src, with its public names")
+    parser.add_argument("--own-terms", action="append", default=[], metavar="NAME,..", help="modules of one's own in specs")
     parser.add_argument("--check", action="store_true", help="write nothing, and fail where a file is another one")
     parser.add_argument("--allow-raw", action="store_true", help="keep as bytes what the library has no type for")
     parser.add_argument("--allow-wider", action="store_true", help="use a type that has more values, where it should be one of its own")
@@ -62,7 +67,7 @@ def arguments(words):
     return parser.parse_args(words)
 
 
-def read(files, problems):
+def read(files: list[str], problems: Problems) -> list[tree.Module]:
     """The modules of the files. A file that can't be read on is an error."""
     modules = []
     for path in files:
@@ -75,7 +80,7 @@ def read(files, problems):
     return modules
 
 
-def said(problems):
+def said(problems: Problems) -> bool:
     """Prints the warnings and the errors. Returns whether there is an error."""
     for severity in (Severity.WARNING, Severity.ERROR):
         for it in problems.of(severity):
@@ -83,7 +88,7 @@ def said(problems):
     return bool(problems.of(Severity.ERROR))
 
 
-def main(words=None):
+def main(words: Optional[list[str]] = None) -> int:
     """Runs the command. Returns 1 if there is an error, else 0."""
     sys.setrecursionlimit(_DEPTH)
     options = arguments(words)
@@ -99,7 +104,7 @@ def main(words=None):
     return 1 if failed else 0
 
 
-def written(options, modules, imported, problems):
+def written(options: argparse.Namespace, modules: list[tree.Module], imported: list[tree.Module], problems: Problems) -> int:
     """Writes the crate, or compares it with what is there."""
     folder, name = os.path.split(os.path.abspath(options.out))
     try:
@@ -107,33 +112,57 @@ def written(options, modules, imported, problems):
     except OSError as error:
         sys.exit(f"{error.filename}: {error.strerror}")
     crate = crate_of(name, modules, imported, listed(options.type), problems, others, listed(options.distinct))
-    crate.own, crate.own_terms = own_files(options.own), listed(options.own_terms)
+    crate.own, crate.own_terms, crate.groups = named_lists(options.own), listed(options.own_terms), named_lists(options.group)
+    check_groups(crate, problems)
     for place, text in refusals(crate.types, options.allow_raw, options.allow_wider):
         problems.error(place, text, "docs/ASN1.md")
     if said(problems):
         return 1
-    files = crate.files()
+    files, own = crate.files(), own_paths(list(crate.own), crate.own_terms)
     if options.check:
-        wrong = difference(options.out, files, own_paths(crate))
+        wrong = difference(options.out, files, own)
         for path in wrong:
             print(f"{options.out}/{path} isn't what would be written")
         return 1 if wrong else 0
-    write(options.out, files)
-    print(" ".join([f"{name}:", *sorted({*crate.elsewhere.values()}), NEEDS]))
+    write(options.out, files, own)
+    print(" ".join([f"{name}:", *sorted({*crate.elsewhere.values()}), *NEEDS]))
     return 0
 
 
-def listed(given):
+def listed(given: list[str]) -> list[str]:
     """The names after an option that may be given several times."""
     return [name for it in given for name in it.split(",") if name]
 
 
-def own_files(given):
-    """The files after `--own`, each with the names that the root has of it."""
-    return {it.partition("=")[0]: listed([it.partition("=")[2]]) for it in given}
+def named_lists(given: list[str]) -> dict[str, list[str]]:
+    """The names after `=` in these words, by what is before it."""
+    found: dict[str, list[str]] = {}
+    for it in given:
+        key, _, names = it.partition("=")
+        found.setdefault(key, []).extend(listed([names]))
+    return found
 
 
-def crate_of(name, modules, imported, names, problems, others=OtherCrates(), distinct=()):
+def check_groups(crate: Crate, problems: Problems) -> None:
+    """Says which groups can't be: those with a type that the crate hasn't, or a name that isn't free."""
+    roots = {it.root for it in crate.types.values()}
+    for stem, names in crate.groups.items():
+        missing = [it for it in names if it not in roots]
+        if missing:
+            problems.error(crate.modules[0].place, f"the crate has no type `{missing[0]}` for `{stem}.rt`", "docs/ASN1.md")
+        if stem in crate.own or stem in RESERVED:
+            problems.error(crate.modules[0].place, f"a group can't be called `{stem}`", "docs/ASN1.md")
+
+
+def crate_of(
+    name: str,
+    modules: list[tree.Module],
+    imported: list[tree.Module],
+    names: list[str],
+    problems: Problems,
+    others: OtherCrates = OtherCrates(),
+    distinct: Iterable[str] = (),
+) -> Crate:
     """The crate of all types of the modules, or of those with these names. Those in `distinct` are structs of their own.
 
     Types of `others` are named and not declared. Which of these are used is found at first, so that their names are free else.
@@ -153,7 +182,7 @@ def crate_of(name, modules, imported, names, problems, others=OtherCrates(), dis
     return Crate(name, types, values, [*modules, *imported, *ASSOCIATED.modules], homes)
 
 
-def declared(program, names, distinct, others):
+def declared(program: Program, names: list[str], distinct: Iterable[str], others: OtherCrates) -> tuple[Declarations, list[str]]:
     """All declarations, and the types of Rust of these names, or of all types of the program's own modules."""
     modules, problems = program.modules, program.problems
     meanings = Meanings(program, Declarations(others), distinct)

@@ -1,7 +1,8 @@
 """A place among the lexical items, and what the parser asks there."""
 from dataclasses import replace
+from typing import NoReturn, Optional
 
-from .source import NotationError
+from .source import NotationError, Place, Problems
 from .tokens import Kind, Token
 
 OPENING = {"{": "}", "(": ")", "[": "]", "[[": "]]"}
@@ -21,54 +22,54 @@ RESERVED = frozenset(
 class Cursor:
     """Goes over lexical items. The parser's parts are its subclasses."""
 
-    def __init__(self, tokens, problems):
+    def __init__(self, tokens: list[Token], problems: Optional[Problems]) -> None:
         self.tokens, self.problems, self.index = tokens, problems, 0
 
     @property
-    def now(self):
+    def now(self) -> Token:
         """The next item."""
         return self.tokens[self.index]
 
-    def ahead(self, count=1):
+    def ahead(self, count: int = 1) -> Token:
         """The item so many places after the next one."""
         return self.tokens[min(self.index + count, len(self.tokens) - 1)]
 
-    def take(self):
+    def take(self) -> Token:
         """Consumes the next item and returns it."""
         token = self.now
         if token.kind is not Kind.END:
             self.index += 1
         return token
 
-    def at(self, *texts):
+    def at(self, *texts: str) -> bool:
         """Whether the next item is one of these symbols or words."""
         return self.now.is_symbol(*texts)
 
-    def accept(self, *texts):
+    def accept(self, *texts: str) -> Optional[Token]:
         """Consumes the next item if it is one of these."""
         return self.take() if self.at(*texts) else None
 
-    def refuse(self, wanted, clause):
+    def refuse(self, wanted: str, clause: str) -> NoReturn:
         """Stops at the next item, which isn't what is wanted."""
         raise NotationError(self.now.place, f"expected {wanted}, found {self.now.shown()}", clause)
 
-    def expect(self, text, clause):
+    def expect(self, text: str, clause: str) -> Token:
         """Consumes this symbol or word."""
         if not self.at(text):
             self.refuse(f"`{text}`", clause)
         return self.take()
 
-    def expect_kind(self, kind, wanted, clause):
+    def expect_kind(self, kind: Kind, wanted: str, clause: str) -> Token:
         """Consumes an item of this kind that is no reserved word."""
         if self.now.kind is not kind or self.now.text in RESERVED:
             self.refuse(wanted, clause)
         return self.take()
 
-    def at_name(self):
+    def at_name(self) -> bool:
         """Whether a name is next that is no reserved word."""
         return self.now.kind in (Kind.UPPER, Kind.LOWER) and self.now.text not in RESERVED
 
-    def braced(self, clause="X.680, 12.37"):
+    def braced(self, clause: str = "X.680, 12.37") -> list[Token]:
         """Consumes a bracket with all up to the one that closes it. Returns what is between them."""
         opened, start = [self.take()], self.index
         while True:
@@ -83,7 +84,7 @@ class Cursor:
                     return self.tokens[start : self.index - 1]
 
     @staticmethod
-    def check_closed(opened, closing, clause):
+    def check_closed(opened: list[Token], closing: Token, clause: str) -> None:
         """Takes the bracket that is closed off the open ones. Two single brackets may be written as one symbol."""
         opening = opened.pop()
         if opening.text == "[" and closing.text == "]]" and opened and opened[-1].text == "[":
@@ -94,17 +95,17 @@ class Cursor:
             found = f"found `{closing.text}` at {closing.place.line}:{closing.place.column}"
             raise NotationError(opening.place, f"`{opening.text}` isn't closed by `{OPENING[opening.text]}`: {found}", clause)
 
-    def within(self, tokens, place):
+    def within(self, tokens: list[Token], place: Place) -> "Cursor":
         """A parser of the same kind over these items, which are those of a bracket that opens at `place`."""
         last = tokens[-1].place if tokens else place
         return type(self)([*tokens, Token(Kind.END, "the closing bracket", last)], self.problems)
 
-    def source(self, start, end=None):
+    def source(self, start: int, end: Optional[int] = None) -> str:
         """The items from `start` on as one line of text."""
         return shown(self.tokens[start : self.index if end is None else end])
 
 
-def shown(tokens):
+def shown(tokens: list[Token]) -> str:
     """Items as one line of text, with the spaces that a reader expects."""
     line, before = "", None
     for token in tokens:
@@ -115,7 +116,7 @@ def shown(tokens):
     return line
 
 
-def split(tokens, *separators):
+def split(tokens: list[Token], *separators: str) -> list[list[Token]]:
     """The items between separators that are in no bracket."""
     parts, part, depth = [], [], 0
     for token in tokens:

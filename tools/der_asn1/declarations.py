@@ -1,8 +1,10 @@
 """The types of Rust that a crate declares: structs, choices and names of other types."""
 from dataclasses import dataclass, field
+from typing import Optional
 
 from .features import Level
 from .other_crates import OtherCrates
+from .rust_types import UNIT, RustType
 from .source import Place
 from .tree import Presence
 from .wording import camel
@@ -10,15 +12,19 @@ from .wording import camel
 
 @dataclass(frozen=True)
 class Hint:
-    """What a type is called after. A type that is all of an assignment has the key of that, and the comment above it."""
+    """What a type is called after. A type that is all of an assignment has the key of that, and the comment above it.
+
+    `root` is the name of the assignment that it is all or a part of.
+    """
 
     text: str
     key: tuple = ()
     comment: str = ""
+    root: str = ""
 
-    def part(self, name):
+    def part(self, name: str) -> "Hint":
         """What a part of the type is called after."""
-        return Hint(f"{self.text}-{name}")
+        return Hint(f"{self.text}-{name}", root=self.root)
 
 
 @dataclass
@@ -29,9 +35,9 @@ class Field:
     """
 
     name: str
-    type_text: str
+    type: RustType
     presence: Presence = Presence.REQUIRED
-    default: str = ""
+    default: Optional[RustType] = None
     notation: str = ""
     comment: str = ""
     is_other: bool = False
@@ -41,6 +47,7 @@ class Field:
 class Declaration:
     """A type that has a name: where it is defined, under which name, and with which comment.
 
+    `root` is the name of the assignment that it is all or a part of.
     `term` is the type that an assignment defines, as a term of der_types. What is only a part of one has none.
     """
 
@@ -52,16 +59,17 @@ class Declaration:
     level: Level = Level.EXACT
     lacks: list = field(default_factory=list)
     term: object = field(default=None, compare=False)
+    root: str = ""
 
-    def differences(self):
+    def differences(self) -> list[str]:
         """Why its values, or the values of a part, differ from the notation's. An open type is any element, as the notation says."""
         return [it for it in self.lacks if not it.startswith("open types")]
 
-    def parts(self):
+    def parts(self) -> object:
         """What the type is made of."""
         return []
 
-    def has_parts_of(self, other):
+    def has_parts_of(self, other: "Declaration") -> bool:
         """Whether both are of one kind and made of the same."""
         return type(self) is type(other) and self.parts() == other.parts()
 
@@ -74,7 +82,7 @@ class StructDeclaration(Declaration):
     is_set: bool = False
     later: Field = None
 
-    def parts(self):
+    def parts(self) -> list[Field]:
         """Its members."""
         return [*self.fields, self.later] if self.later else self.fields
 
@@ -85,7 +93,7 @@ class ChoiceDeclaration(Declaration):
 
     variants: list = field(default_factory=list)
 
-    def parts(self):
+    def parts(self) -> list[Field]:
         """Its alternatives."""
         return self.variants
 
@@ -111,7 +119,7 @@ class EnumDeclaration(Declaration):
     tag: int = 0x0A
     defaults: dict = field(default_factory=dict)
 
-    def parts(self):
+    def parts(self) -> list[Item]:
         """Its items."""
         return self.items
 
@@ -120,12 +128,12 @@ class EnumDeclaration(Declaration):
 class AliasDeclaration(Declaration):
     """A name of another type."""
 
-    type_text: str = ""
+    type: RustType = UNIT
     notation: str = ""
 
-    def parts(self):
+    def parts(self) -> RustType:
         """The type that it is a name of."""
-        return self.type_text
+        return self.type
 
 
 @dataclass
@@ -136,14 +144,14 @@ class NewtypeDeclaration(AliasDeclaration):
 class Declarations:
     """All types that are declared, by their names. Those of `others` are declared elsewhere."""
 
-    def __init__(self, others=None):
+    def __init__(self, others: Optional[OtherCrates] = None) -> None:
         self.by_name, self.by_place, self.keys = {}, {}, {}
         self.renamed = {}  # the name that was wanted, by the one that a type has in its place
         self.others, self.elsewhere = others or OtherCrates(), {}  # the path of a type of another crate, by its name here
         for path in self.others.used:
             self.keys[self.others.shown(path).lower()] = path
 
-    def fresh(self, wanted, key, module):
+    def fresh(self, wanted: str, key: tuple, module: str) -> str:
         """A name for what has this key and is of this module: the one that is wanted, with a number after it if another type has that."""
         crate = self.others.crate_of(module)
         if crate:
@@ -157,7 +165,7 @@ class Declarations:
             self.renamed[name] = camel(wanted)
         return name
 
-    def numbered(self, first, key):
+    def numbered(self, first: str, key: tuple) -> str:
         """This name, or with a number after it if what has another key is called so."""
         name, number, between = first, 1, "No" if first[-1].isdigit() else ""
         while self.keys.setdefault(name.lower(), key) != key:
@@ -165,24 +173,24 @@ class Declarations:
             name = f"{first}{between}{number}"
         return name
 
-    def same(self, declared):
+    def same(self, declared: Declaration) -> Optional[Declaration]:
         """The type that was declared from the same place with the same parts, as by other arguments of its parameters, or None."""
         return next((it for it in self.by_place.get(declared.place, []) if it.has_parts_of(declared)), None)
 
-    def default_item(self, declared, item):
+    def default_item(self, declared: EnumDeclaration, item: Item) -> str:
         """The name of the type that says that this item of an enumeration is the default. It is declared with the enumeration."""
         name = self.fresh(f"{declared.name}-{item.source}", (declared.name, item.name, "DEFAULT"), declared.module)
         declared.defaults[name] = item
         return name
 
-    def without_aliases(self, name):
+    def without_aliases(self, name: str) -> Optional[Declaration]:
         """The struct, choice or enumeration that a name is one of, through names of other types, or None."""
         found = self.by_name.get(name)
         while type(found) is AliasDeclaration:
-            found = self.by_name.get(found.type_text)
+            found = self.by_name.get(str(found.type))
         return found
 
-    def add(self, declaration):
+    def add(self, declaration: Declaration) -> None:
         """Declares a type, once."""
         if declaration.name not in self.by_name:
             self.by_name[declaration.name] = declaration

@@ -1,113 +1,132 @@
-"""The files of a crate: one for each struct and choice, one of names of other types, one of values, and the root."""
-import os
+"""The files of a crate: its root, its types, its values, and the terms with the law that each type is the one of its term."""
 from dataclasses import dataclass, field
+from pathlib import Path
+from typing import Iterable
 
 from . import tree
-from .declarations import AliasDeclaration, ChoiceDeclaration, EnumDeclaration, NewtypeDeclaration, StructDeclaration
-from .emit_choice import answers_path, choice_file, serialize_answers
-from .emit_enum import enum_file, enum_terms
-from .emit_imports import imports, words_of
-from .emit_newtype import newtype_file
+from .declarations import AliasDeclaration, ChoiceDeclaration, Declaration, Declarations, EnumDeclaration, StructDeclaration
+from .emit_choice import answers_path, serialize_answers
+from .emit_enum import TERMS_FILE, terms_file
 from .emit_notation import defined, notation_file, notation_terms
-from .emit_struct import REFERENCES, difference_note, sentence, struct_file
+from .emit_struct import REFERENCES
+from .emit_types import ONLY, Context, stems_of, types_file
+from .emit_values import Value, value_file
 from .features import Level
-from .layout import WIDTH, assigned, comment, filled, natural
+from .folder import NOTE
+from .layout import comment, filled, natural
+from .library_table import LIBRARY_NAMES
+from .private_names import PrivateNames
+from .source import Place
 from .terms import names_of
-from .values import arcs_of
-from .wording import file_stem, words
 
 MOST_MEMBERS = 2 * REFERENCES
 # with more names than these `rt fmt` has each import on a line of its own
 MOST_GROUPED = 100
-
-
-@dataclass
-class Value:
-    """An object identifier that has a name, by its arcs."""
-
-    name: str
-    source: str
-    arcs: list
-
-    def content(self):
-        """The bytes of its content (X.690, 8.19)."""
-        found = []
-        for number in [self.arcs[0] * 40 + self.arcs[1], *self.arcs[2:]]:
-            groups = [number & 0x7F]
-            while number > 0x7F:
-                number >>= 7
-                groups.insert(0, number & 0x7F | 0x80)
-            found += groups
-        return found
+# the crates that each crate uses
+NEEDS = "der_types picky_asn1_der picky_der_core picky_der_ser picky_der_de".split()
+# what no file of a module or a group can be called
+RESERVED = frozenset([ONLY, "values", "notation", "lib", "main", *NEEDS])
+_REPOSITORY = Path(__file__).resolve().parent.parent.parent
 
 
 @dataclass
 class Crate:
     """What a crate declares: its name, its types by their names, its values, and the modules that they are of.
 
-    `elsewhere` has the other crate of each type that it names and doesn't declare.
-    `own` are the files of the crate's own in `src`, by their names: the public names of each that the root exports.
-    `own_terms` are the files of `specs`.
+    `elsewhere` has the other crate of each type that it names and doesn't declare. `groups` has the names of the types of each file that
+    isn't the one of a module. `own` are the modules of `src` that are written by hand, by their names: the public names of each that the
+    root exports. `own_terms` are those of `specs`.
     """
 
     name: str
-    types: dict
-    values: list
-    modules: list
-    elsewhere: dict = field(default_factory=dict)
-    own: dict = field(default_factory=dict)
-    own_terms: list = field(default_factory=list)
+    types: dict[str, Declaration]
+    values: list[Value]
+    modules: list[tree.Module]
+    elsewhere: dict[str, str] = field(default_factory=dict)
+    groups: dict[str, list[str]] = field(default_factory=dict)
+    own: dict[str, list[str]] = field(default_factory=dict)
+    own_terms: list[str] = field(default_factory=list)
 
-    def files(self):
+    def files(self) -> dict[str, str]:
         """The text of each file, by its path in the crate."""
-        found, homes = {"src/lib.rt": self.root()}, self.homes()
-        aliases = [it for it in self.sorted_types() if type(it) is AliasDeclaration]
-        for it in self.sorted_types():
-            if isinstance(it, NewtypeDeclaration):
-                found[f"src/{file_stem(it.name)}.rt"] = newtype_file(it, homes)
-            elif isinstance(it, StructDeclaration):
-                found[f"src/{file_stem(it.name)}.rt"] = struct_file(it, homes)
-            elif isinstance(it, ChoiceDeclaration):
-                found[f"src/{file_stem(it.name)}.rt"] = choice_file(it, homes, self.name)
-                found[answers_path(it)] = serialize_answers(it, self.name)
-            elif isinstance(it, EnumDeclaration):
-                found[f"src/{file_stem(it.name)}.rt"] = enum_file(it, self.name)
-                found[f"specs/{it.name}.antt"] = enum_terms(it, self.name)
-        if aliases:
-            found["src/aliases.rt"] = alias_file(aliases, homes)
-        types = defined(self.sorted_types())
-        if types:
-            found["src/notation.rt"] = notation_file(types, homes, self.name)
-            found["specs/Notation.antt"] = notation_terms(types, self.modules, homes)
-        terms = [it.name for it in self.sorted_types() if isinstance(it, EnumDeclaration)] + (["Notation"] if types else []) + self.own_terms
-        if terms:
-            found["specs/Lib.antt"] = [f"pub mod {it}" for it in sorted(terms)]
+        found = {**self.type_files(), **self.term_files(), "src/lib.rt": self.file("//!", self.root(), self.module_names())}
         if self.values:
-            found["src/values.rt"] = value_file(self.values)
-        return {path: "\n".join(lines) + "\n" for path, lines in sorted(found.items()) if lines}
+            found["src/values.rt"] = self.file("//!", value_file(self.values), {it.module for it in self.values})
+        return dict(sorted(found.items()))
 
-    def homes(self):
+    def type_files(self) -> dict[str, str]:
+        """The files of types, and the proofs of choices."""
+        found, stems, context = {}, self.stems(), self.context()
+        for stem, types in self.types_by_stem().items():
+            found[f"src/{stem}.rt"] = self.file("//!", types_file(types, stem, context), {it.module for it in types})
+        for it in self.sorted_types():
+            answers = serialize_answers(it, self.name, stems[it.name]) if isinstance(it, ChoiceDeclaration) else []
+            if answers:
+                found[answers_path(it, stems[it.name])] = self.file("--", answers, {it.module})
+        return found
+
+    def term_files(self) -> dict[str, str]:
+        """The files of terms, and that of the law."""
+        types, context = defined(self.sorted_types()), self.context()
+        found = {}
+        if types:
+            modules = {it.module for it in types}
+            found["src/notation.rt"] = self.file("//!", notation_file(types, context.homes, self.name), modules)
+            found["specs/Notation.antt"] = self.file("--", notation_terms(types, self.modules, context.homes), modules)
+        enumerations = [it for it in self.sorted_types() if isinstance(it, EnumDeclaration)]
+        if enumerations:
+            lines = terms_file(enumerations, self.name, self.stems())
+            found[f"specs/{TERMS_FILE}.antt"] = self.file("--", lines, {it.module for it in enumerations})
+        names = sorted([*(Path(it).stem for it in found if it.startswith("specs/")), *self.own_terms])
+        if names:
+            found["specs/Lib.antt"] = self.file("--", [f"pub mod {it}" for it in names], self.module_names())
+        return found
+
+    def file(self, mark: str, lines: list[str], modules: set[str]) -> str:
+        """The text of a file: a note that says what it is made from, and its lines."""
+        paths = list(dict.fromkeys(shown(it.path) for it in self.modules if it.name in modules and Path(it.path).suffix))
+        origin = "" if not paths else f" from {paths[0] if len(paths) == 1 else f'{len(paths)} modules of ASN.1'}"
+        return "\n".join([f"{mark} {NOTE}{origin}. Don't edit.", *([mark] if mark == "//!" else []), *lines]) + "\n"
+
+    def module_names(self) -> set[str]:
+        """The names of the modules that something of the crate is of."""
+        return {it.module for it in [*self.types.values(), *self.values]}
+
+    def context(self) -> Context:
+        """What the files of types depend on."""
+        fields = {part.name for it in self.types.values() if not isinstance(it, AliasDeclaration) for part in it.parts()}
+        return Context(self.name, self.homes(), PrivateNames([*self.homes(), *LIBRARY_NAMES, *fields]))
+
+    def homes(self) -> dict[str, str]:
         """The crate of each type, by its name, and of the defaults of enumerations: `crate` for this one."""
         defaults = [name for it in self.types.values() if isinstance(it, EnumDeclaration) for name in it.defaults]
         return {**dict.fromkeys([*self.types, *defaults], "crate"), **self.elsewhere}
 
-    def sorted_types(self):
+    def sorted_types(self) -> list[Declaration]:
         """The types in the order of their names."""
         return [self.types[it] for it in sorted(self.types, key=natural)]
 
-    def root(self):
-        """The lines of `lib.rt`."""
-        homes = {it.name: "aliases" if type(it) is AliasDeclaration else file_stem(it.name) for it in self.sorted_types()}
-        by_home = {}
-        for name, home in homes.items():
-            by_home.setdefault(home, []).append(name)
-            by_home[home] += getattr(self.types[name], "defaults", [])
+    def stems(self) -> dict[str, str]:
+        """The name of the file of each type, by the name of the type."""
+        taken = RESERVED | {*self.own, *self.groups, *self.elsewhere.values()}
+        return stems_of(list(self.types.values()), self.groups, frozenset(taken))
+
+    def types_by_stem(self) -> dict[str, list[Declaration]]:
+        """The types of each file, in the order of the modules, by the name of the file."""
+        order = {it.name: index for index, it in enumerate(self.modules)}
+        stems, found = self.stems(), {}
+        for it in sorted(self.types.values(), key=lambda it: (order.get(it.module, len(order)), it.place, natural(it.name))):
+            found.setdefault(stems[it.name], []).append(it)
+        return found
+
+    def root(self) -> list[str]:
+        """The lines of `lib.rt`, after its first one."""
+        by_home = {stem: [name for it in types for name in (it.name, *getattr(it, "defaults", []))] for stem, types in self.types_by_stem().items()}
         by_home.update(self.own)
         public = [*(["notation"] if defined(self.sorted_types()) else []), *(["values"] if self.values else [])]
-        modules = sorted({*by_home, *public})
         sources = ", ".join(sorted({it.module for it in self.types.values()}))
-        lines = [*comment("", "//!", f"The types of {sources}, written by tools/der_asn1."), "#![tactic(auto)]", ""]
-        lines += [f"pub mod {it};" if it in public else f"mod {it};" for it in modules]
+        lines = [*comment("", "//!", f"The types of {sources}."), "#![tactic(auto)]", ""]
+        lines += [f"pub mod {it};" if it in public else f"mod {it};" for it in sorted({*by_home, *public})]
         lines += [""] if by_home else []
         is_grouped = sum(map(len, by_home.values())) <= MOST_GROUPED
         for home in sorted(by_home, key=natural):
@@ -119,51 +138,24 @@ class Crate:
         return lines
 
 
-def alias_file(aliases, homes):
-    """The lines of the file of names of other types."""
-    names = {it.name for it in aliases}
-    used = {name for it in aliases for name in words_of(it.type_text)} - names
-    lines = ["//! Type aliases.", "", *imports(used, homes)]
-    for it in aliases:
-        lines.append("")
-        lines += comment("", "///", f"{sentence(it.comment)} `{it.source}` of {it.module}: `{it.notation}`.")
-        lines += difference_note(it)
-        lines += assigned("", f"pub type {it.name} =", it.type_text, ";")
-    return lines
+def shown(path: str) -> str:
+    """The path of a module in the repository, or the name of its file alone."""
+    whole = Path(path).resolve()
+    return whole.relative_to(_REPOSITORY).as_posix() if whole.is_relative_to(_REPOSITORY) else whole.name
 
 
-def value_file(values):
-    """The lines of the file of object identifiers."""
-    lines = ["//! Object identifiers, by their contents: `identifier.is(values::NAME)`."]
-    for it in values:
-        content = [f"0x{byte:02X}" for byte in it.content()]
-        lines += ["", *comment("", "///", f"`{it.source}`, {'.'.join(map(str, it.arcs))}.")]
-        lines += value_lines(f"pub const {it.name}: &[u8] =", content)
-    return lines
-
-
-def value_lines(before, content):
-    """A slice of bytes: on one line if `rt fmt` leaves it there, or else as many on each line as fit."""
-    items = ", ".join(content)
-    line = f"{before} &[{items}];"
-    if len(line) <= WIDTH and len(items) <= 60:
-        return [line]
-    lines = filled("", "", content, "")
-    return [f"{before} &[", *(lines[1:-1] if len(lines) > 1 else [f"    {', '.join(content)},"]), "];"]
-
-
-def reached(declarations, names):
+def reached(declarations: Declarations, names: Iterable[str]) -> dict[str, Declaration]:
     """The declarations that these names lead to."""
     return {name: it for name, it in all_reached(declarations, names).items() if name not in declarations.elsewhere}
 
 
-def reached_elsewhere(declarations, names):
+def reached_elsewhere(declarations: Declarations, names: Iterable[str]) -> dict[str, str]:
     """The paths of the types of other crates that these names lead to, by their names here."""
     found = all_reached(declarations, names)
     return {name: path for name, path in declarations.elsewhere.items() if name in found}
 
 
-def all_reached(declarations, names):
+def all_reached(declarations: Declarations, names: Iterable[str]) -> dict[str, Declaration]:
     """The declarations that these names lead to, those of other crates without what they lead to."""
     found, left = {}, list(names)
     while left:
@@ -172,39 +164,25 @@ def all_reached(declarations, names):
             continue
         found[name] = declarations.by_name[name]
         if name not in declarations.elsewhere:
-            left += sorted(words_of(" ".join(texts(found[name]))) | named_in_term(found[name]))
+            left += sorted(named_in_types(found[name]) | named_in_term(found[name]))
     return found
 
 
-def texts(declared):
-    """The types of Rust that a declaration names."""
+def named_in_types(declared: Declaration) -> set[str]:
+    """The names of the types that a declaration is made of."""
     if isinstance(declared, AliasDeclaration):
-        return [declared.type_text]
+        return declared.type.names()
     if isinstance(declared, EnumDeclaration):
-        return []
-    return [it.type_text for it in declared.parts()]
+        return set()
+    return set().union(*(it.type.names() for it in declared.parts()))
 
 
-def named_in_term(declared):
+def named_in_term(declared: Declaration) -> set[str]:
     """The names in the term of a declaration. A tag may be around what a name stands for, so that the type hasn't the name."""
     return names_of([declared.term.inline()]) if declared.term else set()
 
 
-def values_of(program, modules):
-    """The object identifiers of modules, each under its name in Rust."""
-    found = {}
-    for module in modules:
-        for it in module.assignments:
-            arcs = None
-            if isinstance(it, tree.ValueAssignment) and not it.parameters and isinstance(it.type, (tree.SimpleType, tree.ReferenceType)):
-                arcs = arcs_of(program, it.value, program.scope_of(module))
-            if arcs and len(arcs) > 1:
-                name = "_".join(words(it.name)).upper()
-                found.setdefault(name, Value(name, it.name, arcs))
-    return list(found.values())
-
-
-def refusals(types, allow_raw, allow_wider):
+def refusals(types: dict[str, Declaration], allow_raw: bool, allow_wider: bool) -> list[tuple[Place, str]]:
     """What keeps a crate from being written: types that are bytes, need one of their own, or have too many members."""
     found = []
     for it in types.values():
@@ -216,28 +194,3 @@ def refusals(types, allow_raw, allow_wider):
         if isinstance(it, StructDeclaration) and len(it.fields) > MOST_MEMBERS:
             found.append((it.place, f"`{it.source}` has more than {MOST_MEMBERS} members"))
     return found
-
-
-def difference(folder, files, own=()):
-    """The paths of a crate's files that aren't what would be written, or wouldn't be there. Those in `own` are left alone."""
-    there = [f"{part}/{it}" for part in ("src", "specs") if os.path.isdir(f"{folder}/{part}") for it in sorted(os.listdir(f"{folder}/{part}"))]
-    found = [it for it in there if it not in files and it not in own]
-    for path, text in files.items():
-        whole = os.path.join(folder, path)
-        if not os.path.exists(whole) or open(whole, encoding="utf-8").read() != text:
-            found.append(path)
-    return found
-
-
-def own_paths(crate):
-    """The paths of the files of one's own."""
-    return [*(f"src/{it}.rt" for it in crate.own), *(f"specs/{it}.antt" for it in crate.own_terms)]
-
-
-def write(folder, files):
-    """Writes the files of a crate."""
-    for path, text in files.items():
-        whole = os.path.join(folder, path)
-        os.makedirs(os.path.dirname(whole), exist_ok=True)
-        with open(whole, "w", encoding="utf-8") as it:
-            it.write(text)

@@ -1,25 +1,29 @@
-"""An enumeration as a file of a crate, with the file of terms that its contracts cite, in the form of docs/YOUR_TYPES.md."""
-from .emit_imports import imports
-from .emit_struct import sentence
+"""An enumeration, with the terms that its contracts cite, in the form of docs/YOUR_TYPES.md."""
+from .declarations import EnumDeclaration, Item
+from .emit_choice import variants_name
+from .emit_comments import sentence
+from .emit_imports import PRELUDE, Uses
 from .layout import STEP, comment, signature
-from .wording import file_stem, snake
+from .private_names import PrivateNames
+from .wording import snake
 
 _TWO = STEP * 2
 _THREE = STEP * 3
 
-# numbers whose content is one byte (X.690, 8.3 and 8.4), and that are that byte
-ONE_BYTE = range(128)
+_CONTENTS = "Rattle.der_types.specs.KnownContents"
+_TERMS = {
+    "Rattle.std.proofs.Common": {"lit≤"},
+    PRELUDE: {"◌≡◌", "[]", "◌∷◌", "refl"},
+    _CONTENTS: {"contents_of", "contents_shape", "known_contents"},
+    "Rattle.der_types.specs.Notation": {"Notation"},
+}
 
-_GHOST_IMPORTS = """ghost use Rattle.std.proofs.Common.{lit≤};
-ghost use Rattle.std.specs.Prelude.{◌≡◌, [], ◌∷◌, refl};
-ghost use Rattle.der_types.specs.KnownContents.{contents_of, contents_shape, known_contents};
-ghost use Rattle.der_types.specs.Notation.{Notation};
-""".splitlines()
-
+# the file of the terms of all enumerations, and what it imports
+TERMS_FILE = "Enumerations"
+_PRELUDE_ORDER = ["ℕ", "Bool", "true", "false", "◌||◌", "◌==◌", "nat_lt", "List", "[]", "◌∷◌", "◌≡◌", "refl"]
 _PROOF_IMPORTS = """use Rattle.std.proofs.Common.{◌∙◌}
 use Rattle.std.proofs.lemmas.Bool.{eq-eqb}
 """.splitlines()
-
 _DEFAULT_IMPORTS = """use Rattle.picky_der_ser.specs.Defaults.{IsByTree}
 use Rattle.der_types.specs.KnownContents.{contents_of}
 """.splitlines()
@@ -35,59 +39,60 @@ _FORMS = {
 _NAMES = """Contents Notated deserialize_contents_as Tag Begins ReadExt WriteExt Deserialize Deserializer Result Serialize Serializer""".split()
 
 
-def tag_text(declared):
+def tag_text(declared: EnumDeclaration) -> str:
     """The tag of its encoding."""
     return f"0x{declared.tag:02X}"
 
 
-def content_term(declared):
+def content_term(declared: EnumDeclaration) -> str:
     """The term of the content of a value."""
     return f"(λ it. {number_term(declared)} it ∷ [])"
 
 
-def number_term(declared):
+def number_term(declared: EnumDeclaration) -> str:
     """The name of the term that is the number of a value."""
     return f"{snake(declared.name)}_number"
 
 
-def test_term(declared):
+def test_term(declared: EnumDeclaration) -> str:
     """The name of the term that is the test of a content."""
     return f"is_{snake(declared.name)}"
 
 
-def same_proof(declared):
+def same_proof(declared: EnumDeclaration) -> str:
     """The name of the proof that values with one content are equal."""
     return f"same_{snake(declared.name)}"
 
 
-def default_term(name):
+def default_term(name: str) -> str:
     """The name of the term that is the test of a default."""
     return f"is_default_{snake(name)}"
 
 
-def default_proof(name):
+def default_proof(name: str) -> str:
     """The name of the proof that the encoding distinguishes the default."""
     return f"{snake(name)}_by_tree"
 
 
-def enum_file(declared, crate):
-    """The lines of the file of an enumeration."""
-    own = f"ghost use Rattle.{crate}.specs"
-    terms = [number_term(declared), test_term(declared), same_proof(declared)]
-    terms += [term(it) for it in declared.defaults for term in (default_term, default_proof)]
+def enum_uses(declared: EnumDeclaration, names: PrivateNames, crate: str, home: str) -> Uses:
+    """What the items of an enumeration name. `home` is the module of terms of the types of its file."""
+    uses = Uses({*_NAMES}, terms={f"Rattle.{crate}.specs.{TERMS_FILE}": own_terms(declared)})
+    uses.add(Uses(terms=_TERMS))
+    if declared.defaults:
+        uses.add(Uses({"DefaultOf", "NotatedDefault"}, terms={"Rattle.std.proofs.Common": {"sym"}}))
+    uses.modules.add((f"{home}.{declared.name}.TheVariants", variants_name(declared, names)))
+    return uses
+
+
+def enum_lines(declared: EnumDeclaration, names: PrivateNames) -> list[str]:
+    """The items of an enumeration."""
+    variants = variants_name(declared, names)
     return [
-        f"//! {declared.source} of {declared.module}.",
-        *(it.replace("{lit≤}", "{lit≤, sym}") if declared.defaults else it for it in _GHOST_IMPORTS),
-        f"{own}.declared.{file_stem(declared.name)}.{declared.name}.TheVariants as variant;",
-        f"{own}.{declared.name}.{{{', '.join(terms)}}};",
-        "",
-        *imports([*_NAMES, *(["DefaultOf", "NotatedDefault"] if declared.defaults else [])], {}),
-        "",
         *definition(declared),
         "",
         *number_impl(declared),
         "",
-        *contents_impl(declared),
+        *contents_impl(declared, variants),
         "",
         *serialize_impl(declared),
         "",
@@ -95,12 +100,12 @@ def enum_file(declared, crate):
         "",
         *begins_impl(declared),
         "",
-        *notated_impl(declared),
-        *(line for name, it in declared.defaults.items() for line in ["", *default_lines(declared, name, it)]),
+        *notated_impl(declared, variants),
+        *(line for name, it in declared.defaults.items() for line in ["", *default_lines(declared, name, it, variants)]),
     ]
 
 
-def definition(declared):
+def definition(declared: EnumDeclaration) -> list[str]:
     """The enum with its comments: the module's comments, and the number of each item."""
     form, _, _ = _FORMS[declared.tag]
     text = f"{sentence(declared.comment)} `{declared.source}` of {declared.module}, as {form}. Every other content is rejected with `InvalidData`."
@@ -111,7 +116,7 @@ def definition(declared):
     return [*lines, "}"]
 
 
-def number_impl(declared):
+def number_impl(declared: EnumDeclaration) -> list[str]:
     """The number of a value, as a function."""
     return [
         f"impl {declared.name} {{",
@@ -127,7 +132,7 @@ def number_impl(declared):
     ]
 
 
-def contents_impl(declared):
+def contents_impl(declared: EnumDeclaration, variants: str) -> list[str]:
     """The implementation of `Contents`."""
     return [
         f"impl Contents for {declared.name} {{",
@@ -157,7 +162,7 @@ def contents_impl(declared):
         f"{STEP}ghost short = {{ lit≤ tt }};",
         "",
         f"{STEP}ghost valid = {{ elim [",
-        *(f"{STEP}  | variant.{it.name} ↦ refl" for it in declared.items),
+        *(f"{STEP}  | {variants}.{it.name} ↦ refl" for it in declared.items),
         f"{STEP}] }};",
         "",
         f"{STEP}ghost equal_so = {{ Prim.assumption }};",
@@ -165,7 +170,7 @@ def contents_impl(declared):
     ]
 
 
-def serialize_impl(declared):
+def serialize_impl(declared: EnumDeclaration) -> list[str]:
     """The implementation of `Serialize`."""
     return [
         f"impl Serialize for {declared.name} {{",
@@ -178,7 +183,7 @@ def serialize_impl(declared):
     ]
 
 
-def deserialize_impl(declared):
+def deserialize_impl(declared: EnumDeclaration) -> list[str]:
     """The implementation of `Deserialize`."""
     known = f"known_contents {tag_text(declared)} {content_term(declared)} ⟦<Self as PartialEq>⟧.eq ⟦<Self as Contents>⟧.same"
     return [
@@ -196,7 +201,7 @@ def deserialize_impl(declared):
     ]
 
 
-def begins_impl(declared):
+def begins_impl(declared: EnumDeclaration) -> list[str]:
     """What an enumeration needs to be a member that may be absent, or an alternative."""
     return [
         f"impl Begins for {declared.name} {{",
@@ -207,9 +212,9 @@ def begins_impl(declared):
     ]
 
 
-def notated_impl(declared):
+def notated_impl(declared: EnumDeclaration, variants: str) -> list[str]:
     """The implementation of `Notated`: an ENUMERATED, or an INTEGER, with the numbers of the items."""
-    numbers = [f"{number_term(declared)} variant.{it.name} ∷" for it in declared.items]
+    numbers = [f"{number_term(declared)} {variants}.{it.name} ∷" for it in declared.items]
     return [
         f"impl Notated for {declared.name} {{",
         f"{STEP}ghost notation = {{ Notation.{_FORMS[declared.tag][2]} (",
@@ -221,13 +226,13 @@ def notated_impl(declared):
     ]
 
 
-def default_lines(declared, name, item):
+def default_lines(declared: EnumDeclaration, name: str, item: Item, variants: str) -> list[str]:
     """The type that says that an item is the default of a member."""
     cases = []
     for it in declared.items:
         same, other = ("λ h k. k", "λ h k. k") if it is item else ("λ h k. refl", "λ h k. h")
         rest = f" | _ ↦ {other}" if len(declared.items) > 1 else ""
-        cases.append(f"{STEP}  | variant.{it.name} ↦ elim [ variant.{it.name} ↦ {same}{rest} ]")
+        cases.append(f"{STEP}  | {variants}.{it.name} ↦ elim [ {variants}.{it.name} ↦ {same}{rest} ]")
     return [
         *comment("", "///", f"The default `{item.source}` of `{declared.source}`."),
         f"pub struct {name};",
@@ -255,69 +260,91 @@ def default_lines(declared, name, item):
         "}",
         "",
         f"impl NotatedDefault<{declared.name}> for {name} {{",
-        f"{STEP}ghost value = {{ contents_of {tag_text(declared)} {content_term(declared)} variant.{item.name} }};",
+        f"{STEP}ghost value = {{ contents_of {tag_text(declared)} {content_term(declared)} {variants}.{item.name} }};",
         "",
-        f"{STEP}ghost is_value = {{ λ it h. sym (({default_proof(name)} variant.{item.name} it refl).0 h) }};",
+        f"{STEP}ghost is_value = {{ λ it h. sym (({default_proof(name)} {variants}.{item.name} it refl).0 h) }};",
         "}",
     ]
 
 
-def default_terms(declared, name, item):
+def default_terms(declared: EnumDeclaration, name: str, item: Item, variants: str) -> list[str]:
     """The terms of a default: the test of it, and the proof that the encoding distinguishes it."""
     test, proof = default_term(name), default_proof(name)
     lines = ["", f"abbrev pub {test} : {declared.name} → Bool"]
-    lines += [f"{test} {it.name} = {'true' if it is item else 'false'}" for it in declared.items]
+    lines += [f"{test} {variants}.{it.name} = {'true' if it is item else 'false'}" for it in declared.items]
     lines += ["", f"pub {proof} : IsByTree (contents_of {tag_text(declared)} {content_term(declared)}) {test}"]
     for it in declared.items:
         if it is item:
-            lines += [f"{proof} {it.name} {other.name} h = {_SAME if other is item else _OTHER}" for other in declared.items]
+            pairs = [(other, _SAME if other is item else _OTHER) for other in declared.items]
+            lines += [f"{proof} {variants}.{it.name} {variants}.{other.name} h = {words}" for other, words in pairs]
         else:
-            lines.append(f"{proof} {it.name} y h = cc")
+            lines.append(f"{proof} {variants}.{it.name} y h = cc")
     return lines
 
 
-def enum_terms(declared, crate):
-    """The lines of the file of terms: the number of each value, and the test of a content."""
-    home = f"Rattle.{crate}.specs.declared.{file_stem(declared.name)}.{declared.name}"
-    names = ", ".join(it.name for it in declared.items)
+def terms_file(enumerations: list[EnumDeclaration], crate: str, stems: dict[str, str]) -> list[str]:
+    """The lines of the file of terms, after its first one. `stems` has the name of the file of each type."""
+    names = PrivateNames(term for it in enumerations for term in own_terms(it))
+    aliases = {it.name: (names.numbered(snake(it.name)), names.numbered(f"{snake(it.name)}_compared")) for it in enumerations}
+    lines = [
+        "-- The numbers of enumerations, which their contracts cite.",
+        f"use {PRELUDE}.{{{', '.join(prelude(enumerations))}}}",
+        *_PROOF_IMPORTS,
+        *(_DEFAULT_IMPORTS if any(it.defaults for it in enumerations) else []),
+    ]
+    for it in enumerations:
+        stem, (variants, compared) = stems[it.name], aliases[it.name]
+        lines += [
+            f"use Rattle.{crate}.specs.declared.{stem}.{it.name}.{{{it.name}}}",
+            f"use Rattle.{crate}.specs.declared.{stem}.{it.name}.TheVariants as {variants}",
+            f"use Rattle.{crate}.specs.contracts.{stem}.{it.name}PartialEq.TheImpl as {compared}",
+        ]
+    return [*lines, *(line for it in enumerations for line in ["", *enum_terms(it, *aliases[it.name])])]
+
+
+def own_terms(declared: EnumDeclaration) -> set[str]:
+    """The names of the terms of an enumeration that others may cite."""
+    names = {number_term(declared), test_term(declared), same_proof(declared)}
+    return names | {term(it) for it in declared.defaults for term in (default_term, default_proof)}
+
+
+def enum_terms(declared: EnumDeclaration, variants: str, compared: str) -> list[str]:
+    """The terms of an enumeration: the number of each value, and the test of a content.
+
+    Its variants and its `==` are in modules with these names.
+    """
     number, test = number_term(declared), test_term(declared)
     return [
-        f"-- The numbers of {declared.source} of {declared.module}.",
-        f"use Rattle.std.specs.Prelude.{{{', '.join(prelude(declared))}}}",
-        *_PROOF_IMPORTS,
-        *(_DEFAULT_IMPORTS if declared.defaults else []),
-        f"use {home}.{{{declared.name}}}",
-        f"use {home}.TheVariants.{{{names}}}",
-        f"use Rattle.{crate}.specs.contracts.{file_stem(declared.name)}.{declared.name}PartialEq.TheImpl as compared",
-        "",
+        f"-- {declared.source} of {declared.module}",
         f"abbrev pub {number} : {declared.name} → ℕ",
-        *(f"{number} {it.name} = {it.number}" for it in declared.items),
+        *(f"{number} {variants}.{it.name} = {it.number}" for it in declared.items),
         "",
         "-- the content is one of these numbers",
         f"abbrev pub {test} : List ℕ → Bool",
         f"{test} (n ∷ []) = {number_test(declared)}",
         f"{test} _ = false",
-        *same_terms(declared),
-        *(line for name, it in declared.defaults.items() for line in default_terms(declared, name, it)),
+        *same_terms(declared, variants, compared),
+        *(line for name, it in declared.defaults.items() for line in default_terms(declared, name, it, variants)),
     ]
 
 
-def same_terms(declared):
+def same_terms(declared: EnumDeclaration, variants: str, compared: str) -> list[str]:
     """The proof that values with one content are equal, by their numbers."""
     name, number, same = declared.name, number_term(declared), same_proof(declared)
+    equal = f"equal_{snake(name)}"
     rest = " | _ ↦ refl" if len(declared.items) > 1 else ""
     return [
         "",
         "-- two are equal where their numbers are",
-        f"equal_by_number : (x y : {name}) → compared.ghosts.eq x y ≡ ({number} x == {number} y)",
-        *(f"equal_by_number {it.name} = elim [ {it.name} ↦ refl{rest} ]" for it in declared.items),
+        f"{equal} : (x y : {name}) → {compared}.ghosts.eq x y ≡ ({number} x == {number} y)",
+        *(f"{equal} {variants}.{it.name} = elim [ {variants}.{it.name} ↦ refl{rest} ]" for it in declared.items),
         "",
-        f"pub {same} : (x y : {name}) → {number} x ∷ [] ≡ {number} y ∷ [] → compared.ghosts.eq x y ≡ true",
-        f"{same} x y e = equal_by_number x y ∙ eq-eqb _ _ cc",
+        f"pub {same} : (x y : {name}) → {number} x ∷ [] ≡ {number} y ∷ [] → {compared}.ghosts.eq x y ≡ true",
+        f"{same} x y e = {equal} x y ∙ eq-eqb _ _ cc",
     ]
 
 
-def run_length(declared):
+def run_length(declared: EnumDeclaration) -> int:
     """How many numbers from 0 on are all there."""
     numbers, length = {it.number for it in declared.items}, 0
     while length in numbers:
@@ -325,16 +352,15 @@ def run_length(declared):
     return length
 
 
-def number_test(declared):
+def number_test(declared: EnumDeclaration) -> str:
     """The test of a number: whether it is below the length of the first run, or one of the others."""
     length = run_length(declared)
     others = sorted(it.number for it in declared.items if it.number >= length)
     return " || ".join([*([f"nat_lt n {length}"] if length else []), *(f"n == {it}" for it in others)])
 
 
-def prelude(declared):
+def prelude(enumerations: list[EnumDeclaration]) -> list[str]:
     """The names of the prelude that the file of terms uses."""
-    test = number_test(declared)
-    found = ["◌||◌"] if "||" in test else []
-    runs = ["nat_lt"] if "nat_lt" in test else []
-    return ["ℕ", "Bool", "true", "false", *found, "◌==◌", *runs, "List", "[]", "◌∷◌", "◌≡◌", "refl"]
+    tests = " ".join(map(number_test, enumerations))
+    unused = {it for it, word in (("◌||◌", "||"), ("nat_lt", "nat_lt")) if word not in tests}
+    return [it for it in _PRELUDE_ORDER if it not in unused]

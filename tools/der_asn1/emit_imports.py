@@ -1,54 +1,86 @@
-"""The imports of a file: which names it uses, and where they are from."""
-import re
+"""The imports of a file: which names its items use, and where they are from."""
+from dataclasses import dataclass, field
+from typing import Iterable
 
 from .layout import filled, natural
+from .library_table import HOME_ORDER, home_of
 
-_ASN1 = """Asn1SequenceOf Asn1SetOf BitStringAsn1Container ByteBuf ExplicitContextTag ImplicitContextTag OctetStringAsn1Container Retagged
-TaggedBytes Tag""".split()
-_NUMBERED = re.compile(r"(ExplicitContextTag|ImplicitContextTag|ImplicitList)\d+$")
-_SER = "DefaultOf Defaulted DefaultedRef False Number Optional OptionalRef Sequence SignedNumber True".split()
-_ROOT = """Alike Alternatives Asn1RawDer Choice Deserialize DeserializeMembers Deserializer LaterMembers List NoneOf OneOf OneOf4 Result
-Serialize SerializeMembers Serializer Struct deserialize_as deserialize_struct_as""".split()
-_TYPES = """Contents deserialize_contents_as
-Asn1Set BitString BmpString Enumerated GeneralString GeneralizedTime Ia5String InRange Integer NamedBits NumericString
-Notated NotatedAlternatives NotatedDefault NotatedMembers
-ObjectIdentifier OtherThan PrintableString RelativeOid RetaggedPrimitive RetaggedSet TagOrdered TeletexString UniversalString UtcTime
-VisibleString WithSize""".split()
-
-# where each name of the library is from, the modules in the order of their imports
-_HOMES = {
-    **dict.fromkeys(_TYPES, "der_types"),
-    **dict.fromkeys(["ApplicationTag"], "picky_asn1_der::application_tag"),
-    **dict.fromkeys(_ASN1, "picky_asn1_der::asn1"),
-    **dict.fromkeys(["Begins", "deserialize_choice_as"], "picky_asn1_der::de"),
-    **dict.fromkeys(["ReadExt", "WriteExt"], "picky_asn1_der::misc"),
-    **dict.fromkeys(_SER, "picky_asn1_der::ser"),
-    **dict.fromkeys(_ROOT, "picky_asn1_der"),
-}
 _ROOT_PATH = "picky_asn1_der"
-_ORDER = list(dict.fromkeys(["der_types", "picky_asn1_der::OneOf", "picky_asn1_der::OneOf4", *_HOMES.values()]))
+_ORDER = ["der_types", "picky_asn1_der::OneOf", "picky_asn1_der::OneOf4", *HOME_ORDER[1:]]
+
+PRELUDE = "Rattle.std.specs.Prelude"
+# the modules of terms that files of any crate import, in the order of imports
+_TERM_ORDER = [
+    "Rattle.std.proofs.Common",
+    PRELUDE,
+    "Rattle.picky_der_core.specs.Shape",
+    "Rattle.picky_der_de.specs.declared.alternatives.OneOf.TheVariants",
+    "Rattle.picky_der_de.specs.declared.alternatives4.OneOf4.TheVariants",
+    "Rattle.picky_der_de.specs.Known",
+    "Rattle.picky_der_de.specs.KnownChoices",
+    "Rattle.picky_der_de.specs.KnownMembers",
+    "Rattle.der_types.specs.KnownContents",
+    "Rattle.der_types.specs.Notation",
+]
+# how wide a line of imports of terms is
+_TERMS_WIDTH = 140
 
 
-# what a type of a crate can't be called, since a file may import it
-LIBRARY_NAMES = frozenset(_HOMES)
+@dataclass
+class Uses:
+    """What the items of a file name.
+
+    `names` are names of Rust, and `parts` the constructors of a choice's parts by the type that they are of. `terms` are names of terms by
+    their modules. `modules` are modules of terms that have a name of their own in the file, as pairs of both.
+    """
+
+    names: set[str] = field(default_factory=set)
+    parts: dict[str, set[str]] = field(default_factory=dict)
+    terms: dict[str, set[str]] = field(default_factory=dict)
+    modules: set[tuple[str, str]] = field(default_factory=set)
+
+    def add(self, other: "Uses") -> None:
+        """Takes over what other items name."""
+        self.names |= other.names
+        self.modules |= other.modules
+        for mine, others in ((self.parts, other.parts), (self.terms, other.terms)):
+            for home, names in others.items():
+                mine.setdefault(home, set()).update(names)
+
+    def rust_lines(self, homes: dict[str, str], own: set[str]) -> list[str]:
+        """The imports of Rust, without those of the file's own types."""
+        return imports(self.names - own, homes, [(f"picky_asn1_der::{it}", found) for it, found in self.parts.items()])
+
+    def term_lines(self) -> list[str]:
+        """The imports of terms."""
+        lines = []
+        for home in sorted(self.terms, key=lambda it: (_TERM_ORDER.index(it) if it in _TERM_ORDER else len(_TERM_ORDER), it)):
+            lines += term_imports(home, sorted(self.terms[home], key=natural))
+        return [*lines, *(f"ghost use {home} as {name};" for home, name in sorted(self.modules))]
 
 
-def words_of(text):
-    """The names and the paths in a text of Rust."""
-    return set(re.findall(r"[A-Za-z_]\w*(?:::[A-Za-z_]\w*)*", text))
+def term_imports(home: str, names: list[str]) -> list[str]:
+    """The imports of these terms of a module: as many on each line as fit."""
+    lines, now = [], []
+    for it in names:
+        if now and len(term_line(home, [*now, it])) > _TERMS_WIDTH:
+            lines.append(term_line(home, now))
+            now = []
+        now.append(it)
+    return [*lines, term_line(home, now)]
 
 
-def home_of(name):
-    """The module that a name of the library is from, or None."""
-    return "picky_asn1_der::asn1" if _NUMBERED.match(name) else _HOMES.get(name)
+def term_line(home: str, names: list[str]) -> str:
+    """An import of terms."""
+    return f"ghost use {home}.{{{', '.join(names)}}};"
 
 
-def imports(names, homes, variants=()):
+def imports(names: Iterable[str], homes: dict[str, str], variants: Iterable[tuple[str, Iterable[str]]] = ()) -> list[str]:
     """The lines of the imports of these names: of those in `homes` from the crate there, of others from the library.
 
     Those of the crate's own types come first, and those of a choice's parts as they are.
     """
-    by_home = {}
+    by_home: dict[str, list[str]] = {}
     for it in names:
         home = homes.get(it) or home_of(it)
         if home:
@@ -62,7 +94,7 @@ def imports(names, homes, variants=()):
     return lines
 
 
-def order(home, names):
+def order(home: str, names: list[str]) -> tuple[int, object]:
     """Where the import of a module comes. A single type of the root comes before the modules of the crate, and several after them."""
     if home == "crate":
         return 0, home

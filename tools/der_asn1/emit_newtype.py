@@ -1,26 +1,23 @@
-"""A struct of its own round another type, as a file of a crate, in the form of docs/YOUR_TYPES.md."""
-from .emit_imports import imports, words_of
-from .emit_struct import difference_note, sentence
+"""A struct of its own round another type, in the form of docs/YOUR_TYPES.md."""
+from .declarations import NewtypeDeclaration
+from .emit_comments import difference_note, sentence
+from .emit_imports import PRELUDE, Uses
 from .layout import STEP, WIDTH, comment, signature
 
 _TWO = STEP * 2
 
-_GHOST_IMPORTS = """ghost use Rattle.std.specs.Prelude.{refl};
-ghost use Rattle.picky_der_de.specs.Known.{known_as};
-""".splitlines()
-
+_TERMS = {PRELUDE: {"refl"}, "Rattle.picky_der_de.specs.Known": {"known_as"}}
 _NAMES = "ReadExt WriteExt Alike Deserialize Deserializer Result Serialize Serializer deserialize_as Begins Tag Notated".split()
 
 
-def newtype_file(declared, homes):
-    """The lines of the file of a struct round another type."""
-    used = {*_NAMES, *words_of(declared.type_text)} - {declared.name}
+def newtype_uses(declared: NewtypeDeclaration) -> Uses:
+    """What the items of a struct round another type name."""
+    return Uses({*_NAMES, *declared.type.names()}, terms=_TERMS)
+
+
+def newtype_lines(declared: NewtypeDeclaration) -> list[str]:
+    """The items of a struct round another type."""
     return [
-        f"//! {declared.source} of {declared.module}.",
-        *_GHOST_IMPORTS,
-        "",
-        *imports(used, homes),
-        "",
         *definition(declared),
         "",
         *serialize_impl(declared),
@@ -35,21 +32,21 @@ def newtype_file(declared, homes):
     ]
 
 
-def quoted(declared, trait):
+def quoted(declared: NewtypeDeclaration, trait: str) -> str:
     """The implementation of a trait for the type inside, in a term."""
-    return f"⟦<{declared.type_text} as {trait}>⟧"
+    return f"⟦<{declared.type} as {trait}>⟧"
 
 
-def definition(declared):
+def definition(declared: NewtypeDeclaration) -> list[str]:
     """The struct with its comments."""
     lines = comment("", "///", f"{sentence(declared.comment)} `{declared.source}` of {declared.module}: `{declared.notation}`.")
     lines += difference_note(declared)
     lines += ["#[derive(Debug, Drop, PartialEq, Eq)]"]
-    line = f"pub struct {declared.name}(pub {declared.type_text});"
-    return [*lines, line] if len(line) <= WIDTH else [*lines, f"pub struct {declared.name}(", f"{STEP}pub {declared.type_text},", ");"]
+    line = f"pub struct {declared.name}(pub {declared.type});"
+    return [*lines, line] if len(line) <= WIDTH else [*lines, f"pub struct {declared.name}(", f"{STEP}pub {declared.type},", ");"]
 
 
-def serialize_impl(declared):
+def serialize_impl(declared: NewtypeDeclaration) -> list[str]:
     """The implementation of `Serialize`: as the type inside."""
     return [
         f"impl Serialize for {declared.name} {{",
@@ -62,22 +59,22 @@ def serialize_impl(declared):
     ]
 
 
-def alike_impl(declared):
+def alike_impl(declared: NewtypeDeclaration) -> list[str]:
     """The implementation of `Alike`, whose twin is the type inside."""
     return [
         f"impl Alike for {declared.name} {{",
-        f"{STEP}type As = {declared.type_text};",
+        f"{STEP}type As = {declared.type};",
         "",
         f"{STEP}ghost parts = {{ λ it. it.0 }};",
         "",
-        *signature(STEP, "from_parts", [f"value: {declared.type_text}"], declared.name),
+        *signature(STEP, "from_parts", [f"value: {declared.type}"], declared.name),
         f"{_TWO}{declared.name}(value)",
         f"{STEP}}}",
         "}",
     ]
 
 
-def deserialize_impl(declared):
+def deserialize_impl(declared: NewtypeDeclaration) -> list[str]:
     """The implementation of `Deserialize`: as the type inside."""
     return [
         f"impl Deserialize for {declared.name} {{",
@@ -94,18 +91,18 @@ def deserialize_impl(declared):
     ]
 
 
-def begins_impl(declared):
+def begins_impl(declared: NewtypeDeclaration) -> list[str]:
     """What it needs to be a member that may be absent, or an alternative."""
     return [
         f"impl Begins for {declared.name} {{",
         f"{STEP}fn begins_with(tag: Tag) -> bool {{",
-        f"{_TWO}<{declared.type_text} as Begins>::begins_with(tag)",
+        f"{_TWO}<{declared.type} as Begins>::begins_with(tag)",
         f"{STEP}}}",
         "}",
     ]
 
 
-def notated_impl(declared):
+def notated_impl(declared: NewtypeDeclaration) -> list[str]:
     """The implementation of `Notated`: the type of ASN.1 that the type inside is."""
     return [
         f"impl Notated for {declared.name} {{",

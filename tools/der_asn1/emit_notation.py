@@ -1,34 +1,26 @@
 """The types of a crate as terms below their texts, and the law that each type is the one of its term."""
+from typing import Iterable
+
+from . import tree
+from .declarations import Declaration
 from .emit_imports import imports
 from .layout import natural
+from .library_table import TERM_HOMES
 from .terms import default_tags, definition, names_of
 from .tree import TagMode
 from .wording import snake
 
 _TAGS = "TAGS"
 
-# the terms of der_types, by the file that each is of
-_HOMES = {
-    "Notation": frozenset(
-        """BIT-STRING BIT-STRING-named BOOLEAN ENUMERATED ENUMERATED-extensible GeneralizedTime INTEGER INTEGER-named NULL
-        OBJECT-IDENTIFIER OCTET-STRING RELATIVE-OID UTCTime UTF8String any-content content-under end none optional required""".split()
-    ),
-    "NotationForms": frozenset(
-        """ANY APPLICATION AUTOMATIC BIT-STRING-CONTAINING BMPString CHOICE CONTEXT EXPLICIT GeneralString IA5String IMPLICIT
-        FALSE INTEGER-from-minus-to INTEGER-from-to ISO646String MAX Mode NumericString OCTET-STRING-CONTAINING PRIVATE PrintableString
-        SEQUENCE SEQUENCE-OF SET SET-OF SIZE T61String TRUE TeletexString UNIVERSAL UniversalString VisibleString added
-        default default-as-optional default-of instead later-alternatives-refused later-members later-members-refused minus number ◌⨾◌ ◌∣◌""".split()
-    ),
-}
 _PRELUDE = ("[]", "◌∷◌")
 
 
-def defined(types):
+def defined(types: Iterable[Declaration]) -> list[Declaration]:
     """The types that assignments define, each after those that it names."""
     named = {it.name: it for it in types if it.term}
     found = {}
 
-    def add(it):
+    def add(it: Declaration) -> None:
         if it.name not in found:
             for name in sorted(names_of([it.term.inline()]) & named.keys() - {it.name}, key=natural):
                 add(named[name])
@@ -40,7 +32,7 @@ def defined(types):
     return list(found.values())
 
 
-def notation_terms(types, modules, homes):
+def notation_terms(types: list[Declaration], modules: list[tree.Module], homes: dict[str, str]) -> list[str]:
     """The lines of the file of terms. `modules` are those that the types are of, and `homes` the crates of types that are named."""
     body = [line for it in types for line in ["", *type_lines(it)]]
     used = [it for it in modules if default_tags(it.name) in names_of(body)]
@@ -60,10 +52,10 @@ def notation_terms(types, modules, homes):
     ]
 
 
-def form_imports(names):
+def form_imports(names: set[str]) -> list[str]:
     """The imports of these names from der_types."""
     lines = []
-    for home, own in _HOMES.items():
+    for home, own in TERM_HOMES.items():
         found = sorted(names & own, key=natural)
         found = (["Notation"] if home == "Notation" else []) + found
         if found:
@@ -71,7 +63,7 @@ def form_imports(names):
     return lines
 
 
-def crate_imports(names, homes):
+def crate_imports(names: set[str], homes: dict[str, str]) -> list[str]:
     """The imports of the terms that other crates have."""
     lines = []
     for crate in sorted({it for it in homes.values() if it != "crate"}):
@@ -81,20 +73,20 @@ def crate_imports(names, homes):
     return lines
 
 
-def mode_lines(module):
+def mode_lines(module: tree.Module) -> list[str]:
     """The mode of the tags of a module that say none (X.680, 13.2)."""
     name, mode = default_tags(module.name), module.tag_default
     value = TagMode.EXPLICIT if mode is TagMode.EXPLICIT else TagMode.IMPLICIT
     return ["", f"-- {module.name} DEFINITIONS {mode.name} TAGS", f"abbrev {name} : Mode", f"{name} = {value.name}"]
 
 
-def type_lines(declared):
+def type_lines(declared: Declaration) -> list[str]:
     """A type as a term."""
     text = getattr(declared, "notation", "") if not declared.term.group() else ""
     return definition(declared.name, declared.term, [f"{declared.source} of {declared.module}{f': {text}' if text else ''}"])
 
 
-def notation_file(types, homes, crate):
+def notation_file(types: list[Declaration], homes: dict[str, str], crate: str) -> list[str]:
     """The lines of the file of the law."""
     names = [it.name for it in types]
     return [

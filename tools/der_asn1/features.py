@@ -13,7 +13,7 @@ class Level(IntEnum):
     REFUSED = 5  # there is no type
 
     @property
-    def shown(self):
+    def shown(self) -> str:
         """The level as a table says it."""
         return self.name.lower().replace("_", " ")
 
@@ -41,7 +41,7 @@ class Feature(Enum):
     LONG_TAG = ("tags with a number above 30", Level.REFUSED)
     NOT_READ = ("not read", Level.REFUSED)
 
-    def __init__(self, text, level):
+    def __init__(self, text: str, level: Level) -> None:
         self.text, self.level = text, level
 
 
@@ -62,6 +62,6 @@ class Note(Enum):
     USER_CONSTRAINT = "CONSTRAINED BY, which says something in words alone"
 
     @property
-    def is_own(self):
+    def is_own(self) -> bool:
         """Whether a crate needs a type of its own for it, which this compiler doesn't write."""
         return self in (Note.WIDE_ENUMERATION, Note.CONSTRAINT, Note.ALPHABET, Note.DEFAULT)

@@ -11,7 +11,7 @@ class Intervals:
     pairs: tuple
 
     @classmethod
-    def of(cls, *pairs):
+    def of(cls, *pairs: tuple[float, float]) -> "Intervals":
         """The union of pairs in any order. A pair whose first number is above the second has no number."""
         merged = []
         for low, high in sorted(it for it in pairs if it[0] <= it[1]):
@@ -21,15 +21,15 @@ class Intervals:
                 merged.append((low, high))
         return cls(tuple(merged))
 
-    def union(self, other):
+    def union(self, other: "Intervals") -> "Intervals":
         """The numbers of either."""
         return Intervals.of(*self.pairs, *other.pairs)
 
-    def intersection(self, other):
+    def intersection(self, other: "Intervals") -> "Intervals":
         """The numbers of both."""
         return Intervals.of(*((max(a, c), min(b, d)) for a, b in self.pairs for c, d in other.pairs))
 
-    def complement(self):
+    def complement(self) -> "Intervals":
         """All other numbers."""
         edges, start = [], -INFINITY
         for low, high in self.pairs:
@@ -38,20 +38,20 @@ class Intervals:
         return Intervals.of(*(it for it in (*edges, (start, INFINITY)) if it[0] != INFINITY and it[1] != -INFINITY))
 
     @property
-    def low(self):
+    def low(self) -> float:
         """The least number, or minus infinity."""
         return self.pairs[0][0]
 
     @property
-    def high(self):
+    def high(self) -> float:
         """The greatest number, or infinity."""
         return self.pairs[-1][1]
 
-    def is_all(self):
+    def is_all(self) -> bool:
         """Whether it has every number."""
         return self.pairs == ((-INFINITY, INFINITY),)
 
-    def is_one_range(self):
+    def is_one_range(self) -> bool:
         """Whether it is a single interval."""
         return len(self.pairs) == 1
 

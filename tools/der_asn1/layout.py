@@ -1,9 +1,10 @@
 """The layout of `rt fmt`: when a list is on one line, and how it is broken else."""
 import re
+from typing import Optional
 
 WIDTH = 100
 IMPORT_WIDTH = 98  # an import on one line
-FILLED_WIDTH = 99  # a line of many names
+FILLED_WIDTH = 99  # a line of many names that isn't the last one
 GHOST_WIDTH = 120
 COMMENT_WIDTH = 100
 STRUCT_LITERAL_WIDTH = 18
@@ -11,12 +12,12 @@ TUPLE_WIDTH = 60
 STEP = "    "
 
 
-def natural(name):
+def natural(name: str) -> list[tuple[int, int, str]]:
     """The order of names in an import: `_` before digits, digits by the number that they are, and letters after them."""
     return [(1, int(it), "") if it.isdigit() else (0 if it == "_" else 2, 0, it) for it in re.findall(r"\d+|\D", name)]
 
 
-def tuple_lines(indent, before, items, after):
+def tuple_lines(indent: str, before: str, items: list[str], after: str) -> list[str]:
     """A tuple, of types or of values: on one line if that fits, or else with each item on its own."""
     inner = ", ".join(items)
     line = f"{indent}{before}({inner}){after}"
@@ -25,7 +26,7 @@ def tuple_lines(indent, before, items, after):
     return [f"{indent}{before}(", *(line for it in items for line in item_lines(indent + STEP, it)), f"{indent}){after}"]
 
 
-def item_lines(indent, item):
+def item_lines(indent: str, item: str) -> list[str]:
     """An item on its own: a type or a call, which is broken at its arguments if it doesn't fit."""
     call = re.fullmatch(r"(.*::new)\((.*)\)", item)
     if len(f"{indent}{item},") > WIDTH and call:
@@ -33,15 +34,15 @@ def item_lines(indent, item):
     return type_lines(indent, "", item, ",")
 
 
-def filled(indent, before, items, after):
+def filled(indent: str, before: str, items: list[str], after: str) -> list[str]:
     """Items in braces: on one line if that fits, or else as many on each line as fit."""
     line = f"{indent}{before}{{{', '.join(items)}}}{after}"
     if len(line) <= IMPORT_WIDTH:
         return [line]
     lines, now = [], ""
-    for it in items:
+    for index, it in enumerate(items, 1):
         longer = f"{now} {it}," if now else f"{indent}{STEP}{it},"
-        if now and len(longer) > FILLED_WIDTH:
+        if now and len(longer) > (FILLED_WIDTH if index < len(items) else WIDTH):
             lines.append(now)
             now = f"{indent}{STEP}{it},"
         else:
@@ -49,7 +50,7 @@ def filled(indent, before, items, after):
     return [f"{indent}{before}{{", *lines, now, f"{indent}}}{after}"]
 
 
-def comment(indent, mark, text):
+def comment(indent: str, mark: str, text: str) -> list[str]:
     """A comment over as many lines as it needs."""
     lines, now = [], ""
     for word in text.split():
@@ -62,7 +63,7 @@ def comment(indent, mark, text):
     return [f"{indent}{mark} {it}" for it in [*lines, now] if it]
 
 
-def signature(indent, name, parameters, result, generics=""):
+def signature(indent: str, name: str, parameters: list[str], result: str, generics: str = "") -> list[str]:
     """The first line of a function, or its lines with a parameter on each."""
     line = f"{indent}fn {name}{generics}({', '.join(parameters)}) -> {result} {{"
     if len(line) <= WIDTH:
@@ -70,7 +71,7 @@ def signature(indent, name, parameters, result, generics=""):
     return [f"{indent}fn {name}{generics}(", *(f"{indent}{STEP}{it}," for it in parameters), f"{indent}) -> {result} {{"]
 
 
-def assigned(indent, before, type_text, after):
+def assigned(indent: str, before: str, type_text: str, after: str) -> list[str]:
     """`before` and a type: on one line, or else broken at the type's arguments. A type without arguments is on the next line then."""
     line = f"{indent}{before} {type_text}{after}"
     if len(line) <= WIDTH:
@@ -80,7 +81,7 @@ def assigned(indent, before, type_text, after):
     return type_lines(indent, f"{before} ", type_text, after)
 
 
-def arguments(text):
+def arguments(text: str) -> tuple[str, Optional[list[str]]]:
     """A type with arguments as its name and the arguments, or None in place of them."""
     if not text.endswith(">") or text.startswith("("):
         return text, None
@@ -96,7 +97,7 @@ def arguments(text):
     return name, [*parts, now.strip()]
 
 
-def type_lines(indent, before, text, after):
+def type_lines(indent: str, before: str, text: str, after: str) -> list[str]:
     """A type: on one line if that fits, or else each of its arguments on lines of its own."""
     line = f"{indent}{before}{text}{after}"
     name, parts = arguments(text)

@@ -3,65 +3,10 @@ from dataclasses import dataclass, field
 from enum import Enum, auto
 from typing import Optional
 
+from .rust_types import RustType, of
 from .terms import Term, any_content
 
 ANY_FIRST = frozenset(it for it in range(256) if it & 0x1F != 0x1F)
-
-# the identifier byte of each simple type (X.680, 8.6; X.690, 8.1.2), with the bit of a constructed one
-UNIVERSAL_TAGS = {
-    "BOOLEAN": 0x01,
-    "INTEGER": 0x02,
-    "BIT STRING": 0x03,
-    "OCTET STRING": 0x04,
-    "NULL": 0x05,
-    "OBJECT IDENTIFIER": 0x06,
-    "ObjectDescriptor": 0x07,
-    "EXTERNAL": 0x28,
-    "REAL": 0x09,
-    "ENUMERATED": 0x0A,
-    "EMBEDDED PDV": 0x2B,
-    "UTF8String": 0x0C,
-    "RELATIVE-OID": 0x0D,
-    "SEQUENCE": 0x30,
-    "SET": 0x31,
-    "NumericString": 0x12,
-    "PrintableString": 0x13,
-    "TeletexString": 0x14,
-    "T61String": 0x14,
-    "VideotexString": 0x15,
-    "IA5String": 0x16,
-    "UTCTime": 0x17,
-    "GeneralizedTime": 0x18,
-    "GraphicString": 0x19,
-    "VisibleString": 0x1A,
-    "ISO646String": 0x1A,
-    "GeneralString": 0x1B,
-    "UniversalString": 0x1C,
-    "CHARACTER STRING": 0x3D,
-    "BMPString": 0x1E,
-}
-
-# the restricted strings and the other types with `Contents` of der_types
-CONTENTS_TYPES = {
-    "OBJECT IDENTIFIER": "ObjectIdentifier",
-    "RELATIVE-OID": "RelativeOid",
-    "NumericString": "NumericString",
-    "PrintableString": "PrintableString",
-    "TeletexString": "TeletexString",
-    "T61String": "TeletexString",
-    "IA5String": "Ia5String",
-    "VisibleString": "VisibleString",
-    "ISO646String": "VisibleString",
-    "GeneralString": "GeneralString",
-    "UniversalString": "UniversalString",
-    "BMPString": "BmpString",
-    "UTCTime": "UtcTime",
-    "GeneralizedTime": "GeneralizedTime",
-}
-# of these every byte is read, whatever character it is of
-UNCHECKED_CHARACTERS = frozenset(("TeletexString", "T61String", "GeneralString"))
-# strings of which der_types has no name: a set of characters of one's own has any byte
-OTHER_STRINGS = frozenset(("VideotexString", "GraphicString", "ObjectDescriptor"))
 
 MAX_TAG = 30
 LAST_NAMED_TAG = 15
@@ -69,6 +14,10 @@ LAST_NAMED_LIST = 7
 U64_MAX = 2**64 - 1
 DEFAULT_UNSIGNED = range(0, 256)
 DEFAULT_SIGNED = range(-128, 128)
+# how many alternatives `OneOf4` has
+FOUR = 4
+# numbers whose content is one byte (X.690, 8.3 and 8.4), and that are that byte
+ONE_BYTE = range(128)
 WIDTHS = (8, 16, 32, 64, 128)
 
 
@@ -98,13 +47,13 @@ class Core(Enum):
 
 @dataclass(frozen=True)
 class Rust:
-    """A type as Rust has it. `firsts` are the bytes that an encoding may begin with; `inner` is what a tag is around.
+    """A type of Rust for one of the notation. `firsts` are the bytes that an encoding may begin with; `inner` is what a tag is around.
 
     `bounded` says that a type of a constraint is around it, or should be, and `own` that its content has a type of one's own.
     `is_foreign` says that it is under an IMPLICIT tag of another class than context. `term` is the type as a term of der_types.
     """
 
-    text: str
+    type: RustType
     core: Core
     firsts: frozenset
     inner: Optional["Rust"] = None
@@ -114,40 +63,54 @@ class Rust:
     is_foreign: bool = False
     term: Optional[Term] = field(default=None, compare=False)
 
-    def is_constructed(self):
+    @property
+    def text(self) -> str:
+        """The type as it is written."""
+        return str(self.type)
+
+    def is_constructed(self) -> bool:
         """Whether its encoding is constructed, where it has one tag alone (X.690, 8.14.3)."""
         return all(it & 0x20 for it in self.firsts)
 
 
-def tagged_bytes(tag):
+def tagged_bytes(tag: int) -> Rust:
     """Any content under this identifier byte."""
-    return Rust(f"TaggedBytes<0x{tag:02X}>", Core.BYTES, frozenset((tag,)), term=any_content(tag))
+    return Rust(of("TaggedBytes", f"0x{tag:02X}"), Core.BYTES, frozenset((tag,)), term=any_content(tag))
 
 
-def any_element():
+def any_element() -> Rust:
     """Any element, as it is."""
-    return Rust("Asn1RawDer", Core.ELEMENT, ANY_FIRST, is_open=True, term=Term("ANY"))
+    return Rust(of("Asn1RawDer"), Core.ELEMENT, ANY_FIRST, is_open=True, term=Term("ANY"))
 
 
-def context_tag(mode, inner, number):
+def context_tag(mode: str, inner: RustType, number: int) -> RustType:
     """ExplicitContextTag or ImplicitContextTag, by the short name if there is one."""
     name = f"{mode}ContextTag"
-    return f"{name}{number}<{inner.text}>" if number <= LAST_NAMED_TAG else f"{name}<{inner.text}, {number}>"
+    return of(f"{name}{number}", inner) if number <= LAST_NAMED_TAG else of(name, inner, str(number))
 
 
-def retagged(inner, tag):
+def retagged(inner: RustType, tag: int) -> RustType:
     """Retagged, by the short name if there is one."""
     number = tag & 0x1F
     if tag & 0xE0 == 0xA0 and number <= LAST_NAMED_LIST:
-        return f"ImplicitList{number}<{inner.text}>"
-    return f"Retagged<{inner.text}, 0x{tag:02X}>"
+        return of(f"ImplicitList{number}", inner)
+    return of("Retagged", inner, f"0x{tag:02X}")
 
 
-def unsigned_for(high):
+def parts_type(types: list[RustType]) -> RustType:
+    """The type of the alternatives of a choice."""
+    if not types:
+        return of("NoneOf")
+    if len(types) >= FOUR:
+        return of("OneOf4", *types[:FOUR], parts_type(types[FOUR:]))
+    return of("OneOf", types[0], parts_type(types[1:]))
+
+
+def unsigned_for(high: float) -> Optional[str]:
     """The least unsigned type that holds these numbers, or None."""
     return next((f"u{it}" for it in WIDTHS if high < 2**it), None)
 
 
-def signed_exactly(low, high):
+def signed_exactly(low: float, high: float) -> Optional[str]:
     """The signed type that has exactly these numbers, or None."""
     return next((f"i{it}" for it in WIDTHS if (low, high) == (-(2 ** (it - 1)), 2 ** (it - 1) - 1)), None)

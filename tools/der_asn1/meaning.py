@@ -2,9 +2,9 @@
 from dataclasses import dataclass, replace
 from typing import Optional
 
-from .features import Level
+from .features import Feature, Level, Note
 from .library import Rust
-from .terms import instead
+from .terms import Term, instead
 
 
 @dataclass(frozen=True)
@@ -20,37 +20,37 @@ class Meaning:
     notes: frozenset = frozenset()
     is_other: bool = False
 
-    def lacking(self, *features):
+    def lacking(self, *features: Feature) -> "Meaning":
         """The same with features that the library lacks."""
         level = max([self.level, *(it.level for it in features)])
         return replace(self, level=level, features=self.features | set(features), is_other=self.is_other or bool(features))
 
-    def noting(self, *notes):
+    def noting(self, *notes: Note) -> "Meaning":
         """The same with notes."""
         is_other = self.is_other or any(it.is_own for it in notes)
         return replace(self, notes=self.notes | set(notes), is_other=is_other)
 
-    def as_(self, rust):
+    def as_(self, rust: Optional[Rust]) -> "Meaning":
         """The same for a type around it."""
         return replace(self, rust=rust)
 
-    def containing(self, *parts):
+    def containing(self, *parts: "Meaning") -> "Meaning":
         """The same with what is missing in its parts. What is raw there is a raw part here."""
         level = max([self.level, *(Level.PARTLY_RAW if it.level is Level.RAW else it.level for it in parts)])
         features = self.features.union(*(it.features for it in parts))
         return Meaning(self.rust, level, features, self.notes.union(*(it.notes for it in parts)), self.is_other)
 
-    def called(self, term):
+    def called(self, term: Optional[Term]) -> "Meaning":
         """The same with this term."""
         return replace(self, rust=replace(self.rust, term=term)) if self.rust else self
 
-    def settled(self):
+    def settled(self) -> "Meaning":
         """The same with a term that says so if the type isn't that of the notation."""
         if not self.is_other or self.rust is None:
             return self
         return replace(self.called(instead(self.rust.term)), is_other=False)
 
 
-def lacks(meaning):
+def lacks(meaning: Meaning) -> list[str]:
     """What is missing for a type, and what it needs of its own, as text."""
     return sorted([*(it.text for it in meaning.features), *(it.value for it in meaning.notes if it.is_own)])

@@ -1,26 +1,32 @@
 """The types of the library for constraints (X.680, 51): integers, sizes, and what needs a type of one's own."""
 from dataclasses import replace
+from typing import Callable
 
 from .features import Feature, Note
-from .intervals import ALL, INFINITY, NATURAL
-from .library import U64_MAX, UNIVERSAL_TAGS, Core, Rust, signed_exactly, unsigned_for
+from .intervals import ALL, INFINITY, NATURAL, Intervals
+from .library import U64_MAX, Core, Rust, signed_exactly, unsigned_for
+from .library_table import BY_NAME, TYPES, UNIVERSAL_TAGS
+from .meaning import Meaning
+from .rust_types import of
+from .subtypes import Limits
 from .terms import Term, sized
 
 _INTEGER_FIRST = frozenset((UNIVERSAL_TAGS["INTEGER"],))
 _SIZED = frozenset((Core.CONTENTS, Core.OCTETS, Core.UTF8, Core.LIST))
 # types with `Contents` that have no size in the library
-_UNSIZED = frozenset(("ObjectIdentifier", "RelativeOid", "UtcTime"))
+_UNSIZED = frozenset(it.rust for it in TYPES if not it.is_sized)
 
 
-def whole_number_limits(limits):
+def whole_number_limits(limits: Limits) -> tuple[Intervals, bool]:
     """The numbers that an INTEGER has, and whether a constraint says something that isn't about numbers."""
     return limits.numbers, limits.other or limits.alphabet or limits.size != NATURAL
 
 
-def integer(meaning, limits):
+def integer(meaning: Callable[[Rust], Meaning], limits: tuple[Intervals, bool]) -> Meaning:
     """The meaning of an INTEGER with these limits, made by `meaning`."""
     numbers, other = limits
-    any_size = Rust("Integer", Core.NUMBER, _INTEGER_FIRST, term=Term("INTEGER"))
+    found = BY_NAME["INTEGER"]
+    any_size = Rust(of(found.rust), found.core, _INTEGER_FIRST, term=Term(found.term))
     if not numbers.pairs:
         return meaning(any_size).lacking(Feature.NO_VALUES)
     if numbers.is_all():
@@ -32,23 +38,23 @@ def integer(meaning, limits):
     return found.noting(Note.CONSTRAINT) if other else found
 
 
-def _range(meaning, low, high, any_size):
+def _range(meaning: Callable[[Rust], Meaning], low: float, high: float, any_size: Rust) -> Meaning:
     """An INTEGER of one range: a width of Rust, `InRange`, or a type of one's own."""
     signed = signed_exactly(low, high)
     if signed:
-        return meaning(Rust(signed, Core.SIGNED, _INTEGER_FIRST, term=Term(f"INTEGER-from-minus-to {-low} {high}")))
+        return meaning(Rust(of(signed), Core.SIGNED, _INTEGER_FIRST, term=Term(f"INTEGER-from-minus-to {-low} {high}")))
     width = unsigned_for(high) if low >= 0 and high != INFINITY else None
     term = Term(f"INTEGER-from-to {low} {high}")
     if width and low == 0 and high == 2 ** int(width[1:]) - 1:
-        return meaning(Rust(width, Core.UNSIGNED, _INTEGER_FIRST, term=term))
+        return meaning(Rust(of(width), Core.UNSIGNED, _INTEGER_FIRST, term=term))
     if width and high <= U64_MAX:
-        plain = Rust(width, Core.UNSIGNED, _INTEGER_FIRST)
-        return meaning(Rust(f"InRange<{width}, {low}, {high}>", Core.UNSIGNED, _INTEGER_FIRST, plain, bounded=True, term=term))
+        plain = Rust(of(width), Core.UNSIGNED, _INTEGER_FIRST)
+        return meaning(Rust(of("InRange", of(width), str(low), str(high)), Core.UNSIGNED, _INTEGER_FIRST, plain, bounded=True, term=term))
     own = replace(any_size, bounded=True, inner=any_size)
     return meaning(own).noting(Note.CONSTRAINT)
 
 
-def bounded(found, limits):
+def bounded(found: Meaning, limits: Limits) -> Meaning:
     """The same meaning with types around it for the size, the characters, and all else that a constraint says."""
     if found.rust is None:
         return found
@@ -66,7 +72,7 @@ def bounded(found, limits):
     return found
 
 
-def _sized(found, size):
+def _sized(found: Meaning, size: Intervals) -> Meaning:
     """`WithSize`, or a type of one's own if the sizes aren't one range or the type has no size in the library."""
     rust = found.rust
     if not size.pairs:
@@ -74,6 +80,6 @@ def _sized(found, size):
     if rust.core not in _SIZED or rust.text in _UNSIZED or not size.is_one_range() or rust.own or rust.bounded:
         return found.as_(replace(rust, bounded=True, inner=rust)).noting(Note.CONSTRAINT)
     high = "{ usize::MAX }" if size.high == INFINITY else size.high
-    text = f"WithSize<{rust.text}, {size.low}, {high}>"
+    around = of("WithSize", rust.type, str(size.low), str(high))
     term = sized(size.low, "MAX" if size.high == INFINITY else size.high, rust.term)
-    return found.as_(replace(rust, text=text, bounded=True, inner=rust, term=term))
+    return found.as_(replace(rust, type=around, bounded=True, inner=rust, term=term))

@@ -1,19 +1,24 @@
 """The meanings of SEQUENCE, SET and CHOICE (X.680, 25, 27 and 29)."""
 from dataclasses import dataclass, replace
+from typing import TYPE_CHECKING, Iterable, Optional, Union
 
 from . import tree
-from .declarations import ChoiceDeclaration, EnumDeclaration, Field, Item, StructDeclaration
-from .emit_choice import parts_type
-from .emit_enum import ONE_BYTE
+from .declarations import ChoiceDeclaration, Declaration, EnumDeclaration, Field, Hint, Item, StructDeclaration
 from .features import Feature, Level, Note
 from .intervals import Intervals
-from .library import ANY_FIRST, DEFAULT_SIGNED, DEFAULT_UNSIGNED, U64_MAX, UNIVERSAL_TAGS, Core, Rust, any_element, tagged_bytes
+from .library import ANY_FIRST, DEFAULT_SIGNED, DEFAULT_UNSIGNED, ONE_BYTE, U64_MAX, Core, Rust, any_element, parts_type, tagged_bytes
+from .library_table import UNIVERSAL_TAGS
 from .members import ResolvedMember, is_extensible, members_of
 from .meaning import Meaning, lacks
+from .rust_types import UNIT, RustType, of
+from .scopes import Program, Scope
 from .source import NotationError
 from .terms import Item as TermItem, Term, number_list
 from .values import enumerated_numbers, integer_of, named_numbers, value_of
 from .wording import snake, variant
+
+if TYPE_CHECKING:
+    from .meaning_types import Meanings
 
 
 # the words of a term after the last member of an extensible type
@@ -28,21 +33,21 @@ class Part:
     meaning: Meaning
 
     @property
-    def firsts(self):
+    def firsts(self) -> frozenset[int]:
         """The bytes that its encoding may begin with."""
         return self.meaning.rust.firsts
 
-    def is_unknown(self):
+    def is_unknown(self) -> bool:
         """Whether nothing is known of its tag, since its type isn't given."""
         return self.meaning.rust.is_open and bool(self.meaning.features & {Feature.IMPORT, Feature.UNDEFINED})
 
     @property
-    def name(self):
+    def name(self) -> str:
         """Its name in the module."""
         return self.resolved.member.name
 
 
-def parts_of(meanings, type_, scope, hint):
+def parts_of(meanings: "Meanings", type_: tree.Type, scope: Scope, hint: Hint) -> list[Part]:
     """The members or alternatives with their meanings."""
     found = []
     for it in members_of(meanings.program, type_, scope):
@@ -51,7 +56,7 @@ def parts_of(meanings, type_, scope, hint):
     return found
 
 
-def structure(meanings, type_, scope, hint):
+def structure(meanings: "Meanings", type_: tree.StructureType, scope: Scope, hint: Hint) -> Meaning:
     """A SEQUENCE or SET of members."""
     first = UNIVERSAL_TAGS[type_.form.value]
     try:
@@ -75,7 +80,7 @@ def structure(meanings, type_, scope, hint):
     return found.called(structure_term(meanings, type_, written, end, (found.rust.inner or found.rust).text))
 
 
-def declared_struct(meanings, type_, scope, hint, parts):
+def declared_struct(meanings: "Meanings", type_: tree.StructureType, scope: Scope, hint: Hint, parts: list[Part]) -> Meaning:
     """The struct of these members, which is declared. A SET has the type of the library around it."""
     found = Meaning(None).containing(*(it.meaning for it in parts))
     fields = []
@@ -92,17 +97,17 @@ def declared_struct(meanings, type_, scope, hint, parts):
     declared = StructDeclaration("", type_.place, scope.module.name, hint.text, is_set=is_set, later=later)
     declared.fields = fields[:-1] if later else fields
     name = declare(meanings, declared, type_, scope, hint, found, "members")
-    record = Rust(name, Core.LIST, frozenset((UNIVERSAL_TAGS["SEQUENCE"],)))
-    return found.as_(Rust(f"Asn1Set<{name}>", Core.SET, frozenset((UNIVERSAL_TAGS["SET"],)), record) if is_set else record)
+    record = Rust(of(name), Core.LIST, frozenset((UNIVERSAL_TAGS["SEQUENCE"],)))
+    return found.as_(Rust(of("Asn1Set", record.type), Core.SET, frozenset((UNIVERSAL_TAGS["SET"],)), record) if is_set else record)
 
 
-def structure_term(meanings, type_, parts, end, name):
+def structure_term(meanings: "Meanings", type_: tree.StructureType, parts: list[Part], end: str, name: str) -> Term:
     """The term of a SEQUENCE or SET, its members in the order of the text, with the name of its struct."""
     items = tuple(TermItem(item_text(it), presence_word(meanings, it), it.meaning.rust.term) for it in parts)
     return Term(type_.form.value, items=items, end=end, name=name)
 
 
-def last_word(type_, scope, parts):
+def last_word(type_: tree.StructureType, scope: Scope, parts: list[Part]) -> str:
     """The word of a term after the last member: whether members of later versions may follow, and whether the struct has them.
 
     A SET has none, nor has a SEQUENCE whose root goes on after them. What may be absent before them can't be any element.
@@ -113,25 +118,25 @@ def last_word(type_, scope, parts):
     return NO_LATER if type_.form is tree.Form.SET or type_.goes_on or is_any else LATER
 
 
-def before_later(parts):
+def before_later(parts: list[Part]) -> list[Part]:
     """The members directly before those of later versions that may be absent."""
     last = max((index for index, it in enumerate(parts, 1) if not it.resolved.may_be_absent()), default=0)
     return parts[last:]
 
 
-def later_field(parts, fields):
+def later_field(parts: list[Part], fields: list[Field]) -> Field:
     """The field of the members of later versions. Its type has those of the members directly before that may be absent."""
     before = fields[len(parts) - len(before_later(parts)) :]
-    types = parts_type([it.type_text for it in before])
-    return Field("later_members", f"LaterMembers<{types}>", notation="...", comment="The members of later versions, in their order.")
+    types = parts_type([it.type for it in before])
+    return Field("later_members", of("LaterMembers", types), notation="...", comment="The members of later versions, in their order.")
 
 
-def item_text(part):
+def item_text(part: Part) -> str:
     """A member or an alternative as the module has it."""
     return f"{part.name} {part.resolved.member.text}"
 
 
-def presence_word(meanings, part):
+def presence_word(meanings: "Meanings", part: Part) -> str:
     """How a member is there."""
     member = part.resolved.member
     if member.presence is tree.Presence.DEFAULT:
@@ -141,7 +146,7 @@ def presence_word(meanings, part):
     return "required" if member.group is None else "added"
 
 
-def declare(meanings, declared, type_, scope, hint, meaning, suffix):
+def declare(meanings: "Meanings", declared: Declaration, type_: tree.Type, scope: Scope, hint: Hint, meaning: Meaning, suffix: str) -> str:
     """Keeps a declaration, and returns its name, which is that of an equal one if there is one.
 
     The name is that of its assignment, or one with a suffix if a tag or a SET is around it.
@@ -155,30 +160,30 @@ def declare(meanings, declared, type_, scope, hint, meaning, suffix):
     else:
         wanted = f"{hint.text}-{suffix}" if hint.key else hint.text
         declared.name = meanings.declarations.fresh(wanted, (*scope.key, str(type_.place)), declared.module)
-    declared.comment, declared.level, declared.lacks = hint.comment, meaning.level, lacks(meaning)
+    declared.comment, declared.root, declared.level, declared.lacks = hint.comment, hint.root, meaning.level, lacks(meaning)
     meanings.declarations.add(declared)
     return declared.name
 
 
-def field_of(part, default):
+def field_of(part: Part, default: "Default") -> Field:
     """A member as a field. One with a default that the library hasn't is as one that may be absent."""
     member = part.resolved.member
     presence = tree.Presence.REQUIRED
-    if default.type_text:
+    if default.type:
         presence = tree.Presence.DEFAULT
     elif part.resolved.may_be_absent():
         presence = tree.Presence.OPTIONAL
-    type_text = default.others or part.meaning.rust.text
-    return Field(snake(part.name), type_text, presence, default.type_text, member.text, member.comment, bool(default.others))
+    type_ = default.others or part.meaning.rust.type
+    return Field(snake(part.name), type_, presence, default.type, member.text, member.comment, bool(default.others))
 
 
-def variant_of(part):
+def variant_of(part: Part) -> Field:
     """An alternative as a variant."""
     member = part.resolved.member
-    return Field(variant(part.name), part.meaning.rust.text, notation=member.text, comment=member.comment)
+    return Field(variant(part.name), part.meaning.rust.type, notation=member.text, comment=member.comment)
 
 
-def unique(fields):
+def unique(fields: list[Union[Field, Item]]) -> list[Union[Field, Item]]:
     """The same fields with a number after a name that another one has."""
     taken = set()
     for it in fields:
@@ -190,19 +195,19 @@ def unique(fields):
     return fields
 
 
-def empty(type_, scope, first):
+def empty(type_: tree.StructureType, scope: Scope, first: int) -> Meaning:
     """A SEQUENCE or SET without members, which is a list of none, or of any that later versions have."""
     name = "Vec" if type_.form is tree.Form.SEQUENCE else "Asn1SetOf"
     firsts, form = frozenset((first,)), type_.form.value
     if is_extensible(type_, scope) and type_.form is tree.Form.SEQUENCE:
-        return Meaning(Rust(f"{name}<Asn1RawDer>", Core.LIST, firsts, term=Term(f"{form} {LATER}")))
+        return Meaning(Rust(of(name, of("Asn1RawDer")), Core.LIST, firsts, term=Term(f"{form} {LATER}")))
     if is_extensible(type_, scope):
         term = Term(f"{form}-OF", Term("ANY"))
-        return Meaning(Rust(f"{name}<Asn1RawDer>", Core.LIST, firsts, term=term)).lacking(Feature.EXTENSION)
-    return Meaning(Rust(f"WithSize<{name}<()>, 0, 0>", Core.LIST, firsts, bounded=True, term=Term(f"{form} end")))
+        return Meaning(Rust(of(name, of("Asn1RawDer")), Core.LIST, firsts, term=term)).lacking(Feature.EXTENSION)
+    return Meaning(Rust(of("WithSize", of(name, UNIT), "0", "0"), Core.LIST, firsts, bounded=True, term=Term(f"{form} end")))
 
 
-def _raw(rust, parts, *features):
+def _raw(rust: Rust, parts: list[Part], *features: Feature) -> Meaning:
     """A type that is kept as bytes for what is missing in its parts."""
     found = Meaning(rust, Level.RAW).lacking(*features)
     return replace(found, features=found.features.union(*(it.meaning.features for it in parts)))
@@ -211,7 +216,7 @@ def _raw(rust, parts, *features):
 # ---- what distinguishes members
 
 
-def are_distinct(meanings, parts, form):
+def are_distinct(meanings: "Meanings", parts: list[Part], form: tree.Form) -> bool:
     """Whether the next byte says which member comes (X.680, 25.6 and 27.3)."""
     for index, it in enumerate(parts):
         if not it.resolved.may_be_absent():
@@ -229,12 +234,12 @@ def are_distinct(meanings, parts, form):
     return True
 
 
-def ambiguity(parts):
+def ambiguity(parts: list[Part]) -> tuple[Feature, ...]:
     """What is missing where no first byte distinguishes these parts: nothing more, if the type of one isn't given."""
     return () if any(it.is_unknown() for it in parts) else (Feature.AMBIGUOUS,)
 
 
-def in_tag_order(parts):
+def in_tag_order(parts: list[Part]) -> Optional[list[Part]]:
     """The members of a SET in the order of their tags (X.690, 10.3). None if it depends on the value."""
     ordered = sorted(parts, key=lambda it: min(map(tag_key, it.firsts)))
     for before, after in zip(ordered, ordered[1:]):
@@ -243,7 +248,7 @@ def in_tag_order(parts):
     return ordered
 
 
-def tag_key(first):
+def tag_key(first: int) -> tuple[int, int]:
     """The class and the number of a tag (X.680, 8.6)."""
     return first & 0xC0, first & 0x1F
 
@@ -259,14 +264,14 @@ class Default:
     the member is there in a term.
     """
 
-    type_text: str = ""
-    others: str = ""
+    type: Optional[RustType] = None
+    others: Optional[RustType] = None
     word: str = "default-as-optional"
     features: tuple = ()
     notes: tuple = ()
 
 
-def default_of(meanings, part):
+def default_of(meanings: "Meanings", part: Part) -> Default:
     """The default of a member. It may be one of its own; or else the member is read as OPTIONAL is."""
     member, scope = part.resolved.member, part.resolved.scope
     if member.presence is not tree.Presence.DEFAULT:
@@ -276,14 +281,14 @@ def default_of(meanings, part):
         rust = rust.inner
     item = item_of(meanings, member.default, scope, rust)
     if item:
-        return Default(item.type_text, word=f"default (number {item.number})")
+        return Default(of(item.type_name), word=f"default (number {item.number})")
     if rust.core in (Core.UNSIGNED, Core.SIGNED, Core.NUMBER):
         number = number_of(meanings.program, member, scope)
         if number is not None:
             return number_default(part.meaning.rust, rust, number)
     value, _ = value_of(meanings.program, member.default, scope)
     if rust.core is Core.BOOL and isinstance(value, tree.BooleanValue) and not rust.bounded:
-        return Default("True" if value.truth else "False", word="default TRUE" if value.truth else "default FALSE")
+        return Default(of("True" if value.truth else "False"), word="default TRUE" if value.truth else "default FALSE")
     if rust.own and rust.core is Core.CONTENTS and not rust.bounded:
         return Default(notes=(Note.DEFAULT,))
     return Default(features=(Feature.DEFAULT_OTHER,))
@@ -293,11 +298,11 @@ def default_of(meanings, part):
 class NamedDefault:
     """The type that says that an item of an enumeration is the default, and the number of the item."""
 
-    type_text: str
+    type_name: str
     number: int
 
 
-def item_of(meanings, value, scope, rust):
+def item_of(meanings: "Meanings", value: tree.Value, scope: Scope, rust: Rust) -> Optional[NamedDefault]:
     """A named item of an enumeration that is the default (X.680, 20.8), with the type that says so, or None."""
     declared = meanings.declarations.without_aliases(rust.text)
     if not isinstance(declared, EnumDeclaration) or rust.bounded:
@@ -312,49 +317,48 @@ def item_of(meanings, value, scope, rust):
     return item and NamedDefault(meanings.declarations.default_item(declared, item), item.number)
 
 
-def number_of(program, member, scope):
+def number_of(program: Program, member: tree.Member, scope: Scope) -> Optional[int]:
     """The number that is a default, or None. The named numbers of the type come before values with the same names (X.680, 19.12)."""
     named = named_numbers(program, member.type, scope)
     number = integer_of(program, member.default, scope, named)
     return number if number is not None else integer_of(program, *value_of(program, member.default, scope), named)
 
 
-def number_default(outer, rust, number):
+def number_default(outer: Rust, rust: Rust, number: int) -> Default:
     """The default of an INTEGER, which may be under tags."""
     allowed, name = (DEFAULT_UNSIGNED, "Number") if rust.core is Core.UNSIGNED else (DEFAULT_SIGNED, "SignedNumber")
     if rust.core is not Core.NUMBER and number in allowed and not rust.bounded:
-        return Default(f"{name}<{number}>", word=f"default ({f'number {number}' if number >= 0 else f'minus {-number}'})")
+        return Default(of(name, str(number)), word=f"default ({f'number {number}' if number >= 0 else f'minus {-number}'})")
     others = other_than(outer, number) if rust.core is not Core.SIGNED and 0 <= number <= U64_MAX else None
     if others and not (rust.core is Core.NUMBER and rust.bounded):
         return Default(others=others, word=f"default-of {number}")
     return Default(features=(Feature.DEFAULT_CONSTRAINED if rust.bounded or rust.core is not Core.NUMBER else Feature.DEFAULT_INTEGER,))
 
 
-def other_than(rust, number):
+def other_than(rust: Rust, number: int) -> Optional[RustType]:
     """The type of the other numbers, below the tags. None if the type with its tags has another name."""
     if rust.core not in (Core.EXPLICIT, Core.IMPLICIT):
-        return f"OtherThan<{rust.text}, {number}>"
-    before = f"<{rust.inner.text}"
-    inner = other_than(rust.inner, number) if before in rust.text else None
-    return inner and rust.text.replace(before, f"<{inner}", 1)
+        return of("OtherThan", rust.type, str(number))
+    inner = other_than(rust.inner, number) if rust.inner.type in rust.type.arguments else None
+    return inner and rust.type.replaced(rust.inner.type, inner)
 
 
 # ---- enumerations
 
 
-def enumeration(meanings, type_, scope, hint):
+def enumeration(meanings: "Meanings", type_: tree.EnumeratedType, scope: Scope, hint: Hint) -> Meaning:
     """An enum of the crate's own. One with a number of more than a byte is any number, which the library has a type for."""
     numbers = enumerated_numbers(meanings.program, type_.items, scope)
     first = frozenset((UNIVERSAL_TAGS["ENUMERATED"],))
     if len(set(numbers)) < len(numbers):
         meanings.program.problems.error(type_.place, "two items of the enumeration have the same number", "X.680, 20.3")
     if not all(it in ONE_BYTE for it in numbers) or len(set(numbers)) < len(numbers):
-        rust = Rust("Enumerated", Core.CONTENTS, first, own=True, term=Term("ENUMERATED-extensible"))
+        rust = Rust(of("Enumerated"), Core.CONTENTS, first, own=True, term=Term("ENUMERATED-extensible"))
         return Meaning(rust).noting(Note.WIDE_ENUMERATION)
     return declared_enum(meanings, type_, scope, hint, zip(type_.items, numbers), "ENUMERATED")
 
 
-def named_integer(meanings, type_, scope, hint, numbers):
+def named_integer(meanings: "Meanings", type_: tree.IntegerType, scope: Scope, hint: Hint, numbers: Intervals) -> Optional[Meaning]:
     """An INTEGER that has a name and only these numbers, if there are several of one byte, each with a name: an enum of its own. Else None."""
     named = [(it, integer_of(meanings.program, it.number, scope)) for it in type_.named]
     known = [number for _, number in named]
@@ -365,7 +369,14 @@ def named_integer(meanings, type_, scope, hint, numbers):
     return declared_enum(meanings, type_, scope, hint, sorted(named, key=lambda it: it[1]), "INTEGER")
 
 
-def declared_enum(meanings, type_, scope, hint, items, form):
+def declared_enum(
+    meanings: "Meanings",
+    type_: tree.Type,
+    scope: Scope,
+    hint: Hint,
+    items: Iterable[tuple[tree.NamedNumber, int]],
+    form: str,
+) -> Meaning:
     """The enum of these items with their numbers, which is declared."""
     tag = UNIVERSAL_TAGS[form]
     found = [Item(variant(it.name), it.name, number, it.comment) for it, number in items]
@@ -374,13 +385,13 @@ def declared_enum(meanings, type_, scope, hint, items, form):
     name = declare(meanings, declared, type_, scope, hint, meaning, "values")
     word = "ENUMERATED" if form == "ENUMERATED" else "INTEGER-named"
     term = Term(f"{word} {number_list(it.number for it in declared.items)}")
-    return meaning.as_(Rust(name, Core.CONTENTS, frozenset((tag,)), own=True, term=term))
+    return meaning.as_(Rust(of(name), Core.CONTENTS, frozenset((tag,)), own=True, term=term))
 
 
 # ---- choices
 
 
-def choice(meanings, type_, scope, hint):
+def choice(meanings: "Meanings", type_: tree.ChoiceType, scope: Scope, hint: Hint) -> Meaning:
     """A CHOICE."""
     parts = parts_of(meanings, type_, scope, hint)
     if not parts:
@@ -398,7 +409,7 @@ def choice(meanings, type_, scope, hint):
     return declared_choice(meanings, type_, scope, hint, parts)
 
 
-def declared_choice(meanings, type_, scope, hint, parts):
+def declared_choice(meanings: "Meanings", type_: tree.ChoiceType, scope: Scope, hint: Hint, parts: list[Part]) -> Meaning:
     """The choice of these alternatives, which is declared."""
     firsts = frozenset().union(*(it.firsts for it in parts))
     found = Meaning(None).containing(*(it.meaning for it in parts))
@@ -410,4 +421,4 @@ def declared_choice(meanings, type_, scope, hint, parts):
     items = tuple(TermItem(item_text(it), "", it.meaning.rust.term) for it in parts)
     end = "later-alternatives-refused" if is_extensible(type_, scope) else "none"
     term = Term("CHOICE", items=items, end=end, name=name)
-    return found.as_(Rust(name, Core.CHOICE, firsts, is_open=True, term=term))
+    return found.as_(Rust(of(name), Core.CHOICE, firsts, is_open=True, term=term))

@@ -1,8 +1,12 @@
 """The types of the library for tags (X.680, 31.2; X.690, 8.14)."""
 from dataclasses import replace
 
+from . import tree
 from .features import Feature, Level, Note
-from .library import MAX_TAG, UNIVERSAL_TAGS, Core, Rust, context_tag, retagged, tagged_bytes
+from .library import MAX_TAG, Core, Rust, context_tag, retagged, tagged_bytes
+from .library_table import UNIVERSAL_TAGS
+from .meaning import Meaning
+from .rust_types import RustType, of, tuple_of
 from .terms import Term, content_under
 from .tree import TagClass, TagMode
 
@@ -10,7 +14,7 @@ _CONSTRUCTED = 0x20
 _BIT_STRING = frozenset((UNIVERSAL_TAGS["BIT STRING"],))
 
 
-def wrapped(meaning, tag_class, number, mode):
+def wrapped(meaning: Meaning, tag_class: tree.TagClass, number: int, mode: tree.TagMode) -> Meaning:
     """The meaning of a type under a tag. It has a term only where it isn't what the text says."""
     if number > MAX_TAG:
         return replace(meaning.lacking(Feature.LONG_TAG), rust=None)
@@ -30,11 +34,11 @@ def wrapped(meaning, tag_class, number, mode):
         members = inner.inner
         while members.core is Core.SET:  # a constraint is around the set
             members = members.inner
-        text = f"RetaggedSet<{members.text}, 0x{tag | _CONSTRUCTED:02X}>"
-        return meaning.as_(Rust(text, Core.RETAGGED, frozenset((tag | _CONSTRUCTED,)), inner))
+        around = of("RetaggedSet", members.type, f"0x{tag | _CONSTRUCTED:02X}")
+        return meaning.as_(Rust(around, Core.RETAGGED, frozenset((tag | _CONSTRUCTED,)), inner))
     if inner.core is Core.LIST:
         tag |= _CONSTRUCTED
-        return meaning.as_(Rust(retagged(inner, tag), Core.RETAGGED, frozenset((tag,)), inner))
+        return meaning.as_(Rust(retagged(inner.type, tag), Core.RETAGGED, frozenset((tag,)), inner))
     if inner.core is Core.CONTAINER and inner.firsts == _BIT_STRING:
         return kept(meaning, tag, Feature.CONTAINER_TAG)
     if tag_class is TagClass.CONTEXT:
@@ -42,27 +46,27 @@ def wrapped(meaning, tag_class, number, mode):
     return primitive(meaning, inner, tag)
 
 
-def content_of(inner):
+def content_of(inner: Rust) -> RustType:
     """What the library has under an IMPLICIT tag. The content of an octet string that holds an encoding is that of a list of one."""
     if inner.core is not Core.CONTAINER:
-        return inner
+        return inner.type
     while inner.bounded:  # a constraint is around the string
         inner = inner.inner
-    return replace(inner.inner, text=f"({inner.inner.text},)")
+    return tuple_of(inner.inner.type)
 
 
-def explicit(inner, tag_class, number):
+def explicit(inner: Rust, tag_class: tree.TagClass, number: int) -> Rust:
     """An EXPLICIT tag. One that is private or universal is a list of one member under that tag."""
     tag = tag_class.value | _CONSTRUCTED | number
     firsts = frozenset((tag,))
     if tag_class is TagClass.CONTEXT:
-        return Rust(context_tag("Explicit", inner, number), Core.EXPLICIT, firsts, inner)
+        return Rust(context_tag("Explicit", inner.type, number), Core.EXPLICIT, firsts, inner)
     if tag_class is TagClass.APPLICATION:
-        return Rust(f"ApplicationTag<{inner.text}, {number}>", Core.APPLICATION, firsts, inner)
-    return Rust(f"Retagged<({inner.text},), 0x{tag:02X}>", Core.EXPLICIT, firsts, inner)
+        return Rust(of("ApplicationTag", inner.type, str(number)), Core.APPLICATION, firsts, inner)
+    return Rust(of("Retagged", tuple_of(inner.type), f"0x{tag:02X}"), Core.EXPLICIT, firsts, inner)
 
 
-def primitive(meaning, inner, tag):
+def primitive(meaning: Meaning, inner: Rust, tag: int) -> Meaning:
     """An IMPLICIT tag of another class than context over a primitive type."""
     firsts = frozenset((tag,))
     if inner.core is Core.OCTETS:
@@ -72,17 +76,18 @@ def primitive(meaning, inner, tag):
         return meaning.as_(replace(tagged_bytes(tag), bounded=True)).noting(Note.CONSTRAINT)
     if inner.core in (Core.UNSIGNED, Core.SIGNED):
         term = content_under(tag, Term("INTEGER"))
-        rust = Rust(f"RetaggedPrimitive<Integer, 0x{tag:02X}>", Core.IMPLICIT, firsts, inner, bounded=True, is_foreign=True, term=term)
+        rust = Rust(of("RetaggedPrimitive", of("Integer"), f"0x{tag:02X}"), Core.IMPLICIT, firsts, inner, bounded=True, is_foreign=True, term=term)
         return meaning.as_(rust).noting(Note.CONSTRAINT)
     if inner.core in (Core.CONTENTS, Core.NUMBER):
         content = inner.inner if inner.bounded and inner.inner else inner
-        rust = Rust(f"RetaggedPrimitive<{content.text}, 0x{tag:02X}>", Core.IMPLICIT, firsts, inner, bounded=inner.bounded, is_foreign=True)
+        around = of("RetaggedPrimitive", content.type, f"0x{tag:02X}")
+        rust = Rust(around, Core.IMPLICIT, firsts, inner, bounded=inner.bounded, is_foreign=True)
         if inner.bounded:
             return meaning.as_(rust).called(content_under(tag, content.term)).noting(Note.CONSTRAINT)
         return meaning.as_(rust)
     return kept(meaning, tag, Feature.FOREIGN_TAG)
 
 
-def kept(meaning, tag, feature):
+def kept(meaning: Meaning, tag: int, feature: Feature) -> Meaning:
     """The content under a tag as bytes, for what the library lacks."""
     return replace(meaning.as_(tagged_bytes(tag)).lacking(feature), level=max(Level.RAW, meaning.level))

@@ -1,8 +1,9 @@
 """The members of a constructed type, with COMPONENTS OF and automatic tags (X.680, 25.4 to 25.8 and 29.2 to 29.5)."""
 from dataclasses import dataclass, replace
+from typing import Optional
 
 from . import tree
-from .scopes import Scope, resolve
+from .scopes import Program, Scope, resolve
 from .source import NotationError
 
 _DEPTH = 20
@@ -15,24 +16,24 @@ class ResolvedMember:
     member: tree.Member
     scope: Scope
 
-    def may_be_absent(self):
+    def may_be_absent(self) -> bool:
         """Whether it is OPTIONAL, has a default, or is an extension addition."""
         return self.member.presence is not tree.Presence.REQUIRED or self.member.group is not None
 
 
-def is_extensible(type_, scope):
+def is_extensible(type_: tree.Type, scope: Scope) -> bool:
     """Whether a constructed type has an extension marker, or its module implies one (X.680, 13.4)."""
     return type_.extensible or scope.module.extensibility_implied
 
 
-def selected(program, type_, scope):
+def selected(program: Program, type_: tree.Type, scope: Scope) -> Optional[ResolvedMember]:
     """The alternative that a selection type selects (X.680, 30), or None."""
     choice = resolve(program, type_.choice, scope)
     found = members_of(program, choice.type, choice.scope) if isinstance(choice.type, tree.ChoiceType) else []
     return next((it for it in found if it.member.name == type_.name), None)
 
 
-def members_of(program, type_, scope, depth=0):
+def members_of(program: Program, type_: tree.Type, scope: Scope, depth: int = 0) -> list[ResolvedMember]:
     """The members of a SEQUENCE, a SET or a CHOICE, in their order, with those that COMPONENTS OF names."""
     written = type_.members if isinstance(type_, tree.StructureType) else type_.alternatives
     found = []
@@ -43,7 +44,7 @@ def members_of(program, type_, scope, depth=0):
     return found
 
 
-def _components(program, included, type_, scope, depth):
+def _components(program: Program, included: tree.ComponentsOf, type_: tree.Type, scope: Scope, depth: int) -> list[ResolvedMember]:
     """The members of the root of another type (X.680, 25.5), without its extension additions."""
     found = resolve(program, included.type, scope)
     if not isinstance(found.type, tree.StructureType) or depth > _DEPTH:
@@ -54,14 +55,14 @@ def _components(program, included, type_, scope, depth):
     return [replace(it, member=replace(it.member, group=included.group)) for it in inner if it.member.group is None]
 
 
-def _automatically_tagged(members):
+def _automatically_tagged(members: list[ResolvedMember]) -> list[ResolvedMember]:
     """Members with context tags counted from 0, those of the root first (X.680, 25.7)."""
     order = [it for it in members if it.member.group is None] + [it for it in members if it.member.group is not None]
     numbers = {id(it): number for number, it in enumerate(order)}
     return [_with_tag(it, numbers[id(it)]) for it in members]
 
 
-def _with_tag(resolved, number):
+def _with_tag(resolved: ResolvedMember, number: int) -> ResolvedMember:
     member = resolved.member
     tag = tree.Tag(member.place, tree.TagClass.CONTEXT, tree.IntegerValue(member.place, number), tree.TagMode.IMPLICIT, True)
     return replace(resolved, member=replace(member, type=replace(member.type, tags=[tag, *member.type.tags])))

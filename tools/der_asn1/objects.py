@@ -5,7 +5,7 @@ from typing import Optional
 from . import tree
 from .cursor import split
 from .parse_types import TypeParser
-from .scopes import Binding, Scope
+from .scopes import Binding, Program, Scope
 from .source import NotationError, Place
 from .tokens import Kind, Token
 
@@ -54,7 +54,7 @@ class InformationObject:
     scope: Scope
     settings: list[Setting] = field(default_factory=list)
 
-    def setting(self, field_name):
+    def setting(self, field_name: str) -> Optional[Setting]:
         """What the object has for a field, or None."""
         return next((it for it in self.settings if it.field_name == field_name), None)
 
@@ -67,14 +67,14 @@ class ObjectSet:
     extensible: bool = False
     complete: bool = True
 
-    def add(self, other):
+    def add(self, other: "ObjectSet") -> None:
         """Takes over what another set has."""
         self.objects += other.objects
         self.extensible |= other.extensible
         self.complete &= other.complete
 
 
-def class_named(program, name, scope, depth=0):
+def class_named(program: Program, name: str, scope: Scope, depth: int = 0) -> Optional[ClassInScope]:
     """The class with this name, or None."""
     if name in BUILT_IN_CLASSES:
         return ClassInScope(_TYPE_IDENTIFIER, scope)
@@ -96,7 +96,7 @@ def class_named(program, name, scope, depth=0):
 class _ObjectParser(TypeParser):
     """Reads an object by the syntax of its class (X.681, 10.12 and 11.5)."""
 
-    def settings(self, definition):
+    def settings(self, definition: tree.ClassDefinition) -> list[Setting]:
         """What the object has for the fields of its class."""
         if definition.syntax is None:
             return self.default_syntax(definition)
@@ -106,7 +106,7 @@ class _ObjectParser(TypeParser):
             self.refuse("the end of the object", "X.681, 11.5")
         return found
 
-    def default_syntax(self, definition):
+    def default_syntax(self, definition: tree.ClassDefinition) -> list[Setting]:
         """`{ &field setting, .. }` (X.681, 11.5)."""
         found = []
         while self.now.kind is Kind.FIELD:
@@ -114,7 +114,7 @@ class _ObjectParser(TypeParser):
             self.accept(",")
         return found
 
-    def items(self, items, definition, found):
+    def items(self, items: list[tree.SyntaxItem], definition: tree.ClassDefinition, found: list[Setting]) -> None:
         """Reads items of the syntax, and keeps the settings in `found`."""
         for it in items:
             if it.group is not None:
@@ -125,7 +125,7 @@ class _ObjectParser(TypeParser):
             else:
                 found.append(self.setting(definition, it.field_name))
 
-    def begins_group(self, group, definition):
+    def begins_group(self, group: list[tree.SyntaxItem], definition: tree.ClassDefinition) -> bool:
         """Whether the next item begins this optional group (X.681, 10.12)."""
         first = group[0]
         if first.group is not None:
@@ -134,7 +134,7 @@ class _ObjectParser(TypeParser):
             return self.at(first.literal)
         return self.now.kind is not Kind.END and not self.at(",")
 
-    def setting(self, definition, field_name):
+    def setting(self, definition: tree.ClassDefinition, field_name: str) -> Setting:
         """What stands for one field: a type, a value, or what is in braces."""
         known = definition.field_named(field_name)
         if known is None:
@@ -153,7 +153,13 @@ class _ObjectParser(TypeParser):
         return Setting(field_name, value=self.value())
 
 
-def object_of(program, tokens, class_, scope, place=_NOWHERE):
+def object_of(
+    program: Program,
+    tokens: list[Token],
+    class_: Optional[ClassInScope],
+    scope: Scope,
+    place: Place = _NOWHERE,
+) -> Optional[InformationObject]:
     """The object that is written in braces, or None if it isn't one of the class."""
     parser = _ObjectParser([*tokens, Token(Kind.END, "the closing bracket", place)], program.problems)
     try:
@@ -163,7 +169,7 @@ def object_of(program, tokens, class_, scope, place=_NOWHERE):
         return None
 
 
-def object_named(program, name, scope, class_=None, depth=0):
+def object_named(program: Program, name: str, scope: Scope, class_: Optional[ClassInScope] = None, depth: int = 0) -> InformationObject:
     """The object with this name, or None."""
     found = program.find(name, scope)
     if isinstance(found, Binding):
@@ -180,7 +186,7 @@ def object_named(program, name, scope, class_=None, depth=0):
     return object_of(program, value.tokens, own or class_, found.scope, value.place)
 
 
-def set_of(program, tokens, class_, scope, depth=0):
+def set_of(program: Program, tokens: list[Token], class_: Optional[ClassInScope], scope: Scope, depth: int = 0) -> ObjectSet:
     """The objects of the set that is written so (X.681, 12.3)."""
     found = ObjectSet()
     for part in split(tokens, "|", "UNION", ","):
@@ -201,14 +207,14 @@ def set_of(program, tokens, class_, scope, depth=0):
     return found
 
 
-def _add(found, one):
+def _add(found: ObjectSet, one: Optional[InformationObject]) -> None:
     if one is None:
         found.complete = False
     else:
         found.objects.append(one)
 
 
-def set_named(program, tokens, class_, scope, depth=0):
+def set_named(program: Program, tokens: list[Token], class_: Optional[ClassInScope], scope: Scope, depth: int = 0) -> ObjectSet:
     """The objects of the set that a name stands for, which may have arguments in braces."""
     unknown = ObjectSet(complete=False)
     found = program.find(tokens[0].text, scope)

@@ -1,12 +1,13 @@
 """Modules whose types other crates have."""
 import os
 import re
+from typing import Iterable, Optional
 
 _USE = re.compile(r"^pub use \w+::(?:\{([^}]*)\}|(\w+));", re.MULTILINE)
 _TERM = re.compile(r"^abbrev pub (\w+) : Notation$", re.MULTILINE)
 
 
-def exported(root_text, terms_text):
+def exported(root_text: str, terms_text: str) -> frozenset[str]:
     """The names of types that the root of a crate exports, and that have a term. A name without one is another's type."""
     names = {name for group, single in _USE.findall(root_text) for name in re.findall(r"\w+", group or single)}
     return frozenset(names & set(_TERM.findall(terms_text)))
@@ -19,28 +20,33 @@ class OtherCrates:
     with its crate, or its name alone once it is known that the crate which is written uses it (`used`, by paths).
     """
 
-    def __init__(self, crates=None, names=None, used=frozenset()):
+    def __init__(
+        self,
+        crates: Optional[dict[str, str]] = None,
+        names: Optional[dict[str, frozenset[str]]] = None,
+        used: frozenset[str] = frozenset(),
+    ) -> None:
         self.crates, self.names, self.used = crates or {}, names or {}, used
 
-    def using(self, paths):
+    def using(self, paths: Iterable[str]) -> "OtherCrates":
         """The same, where these types are used."""
         return OtherCrates(self.crates, self.names, frozenset(paths))
 
-    def crate_of(self, module):
+    def crate_of(self, module: str) -> Optional[str]:
         """The crate that has the types of a module, or None."""
         return self.crates.get(module.lower())
 
-    def exports(self, path):
+    def exports(self, path: str) -> bool:
         """Whether a crate exports this name."""
         crate, name = path.split("::")
         return name in self.names[crate]
 
-    def shown(self, path):
+    def shown(self, path: str) -> str:
         """A type as this crate names it."""
         return path.split("::")[1] if path in self.used else path
 
 
-def other_crates(given, folder):
+def other_crates(given: list[str], folder: str) -> OtherCrates:
     """What the words `MODULE=CRATE` say, where the crates are in this folder. Raises an OSError for a crate that the compiler didn't write."""
     crates, names = {}, {}
     for it in given:
@@ -50,7 +56,7 @@ def other_crates(given, folder):
     return OtherCrates(crates, names)
 
 
-def text_of(path):
+def text_of(path: str) -> str:
     """The text of a file."""
     with open(path, encoding="utf-8") as it:
         return it.read()

@@ -5,13 +5,13 @@ from . import tree
 from .cursor import OPENING
 from .parse_types import TypeParser
 from .source import NotationError
-from .tokens import Kind
+from .tokens import Kind, Token
 
 
 class ClassParser(TypeParser):
     """Reads the definitions of classes."""
 
-    def class_definition(self):
+    def class_definition(self) -> tree.ClassDefinition:
         """`CLASS { fields } WITH SYNTAX { .. }` (X.681, 9.3)."""
         place = self.expect("CLASS", "X.681, 9.3").place
         self.expect("{", "X.681, 9.3")
@@ -29,7 +29,7 @@ class ClassParser(TypeParser):
             found.syntax = syntax_items(tokens, found)
         return found
 
-    def class_field(self):
+    def class_field(self) -> tree.ClassField:
         """A field of a class (X.681, 9.4)."""
         name = self.expect_kind(Kind.FIELD, "the name of a field", "X.681, 9.4")
         found = tree.ClassField(name.place, name.text)
@@ -44,7 +44,7 @@ class ClassParser(TypeParser):
             self.default_setting(name.text)
         return found
 
-    def default_setting(self, field_name):
+    def default_setting(self, field_name: str) -> None:
         """What a field has by default: a type, a value or a set. It isn't needed."""
         if self.at("{"):
             self.braced("X.681, 9.4")
@@ -54,14 +54,14 @@ class ClassParser(TypeParser):
             self.value()
 
 
-def halves(token):
+def halves(token: Token) -> list[Token]:
     """A pair of brackets that was read as one symbol, as the two brackets that it is in WITH SYNTAX."""
     if token.is_symbol("[[", "]]"):
         return [replace(token, text=token.text[0])] * 2
     return [token]
 
 
-def syntax_items(tokens, definition):
+def syntax_items(tokens: list[Token], definition: tree.ClassDefinition) -> list[tree.SyntaxItem]:
     """The items of WITH SYNTAX (X.681, 10.5)."""
     found, index = [], 0
     while index < len(tokens):
@@ -80,7 +80,7 @@ def syntax_items(tokens, definition):
     return found
 
 
-def closing_index(tokens, start):
+def closing_index(tokens: list[Token], start: int) -> int:
     """Where the bracket that opens at `start` is closed."""
     depth = 0
     for index in range(start, len(tokens)):

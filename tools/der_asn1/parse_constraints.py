@@ -2,17 +2,18 @@
 from . import tree
 from .cursor import split
 from .parse_values import ValueParser
+from .source import Place
 from .tokens import Kind
 
 
 class ConstraintParser(ValueParser):
     """Reads constraints. Types are read by the subclass."""
 
-    def type(self):
+    def type(self) -> tree.Type:
         """A type, which the subclass reads."""
         raise NotImplementedError
 
-    def constraints(self):
+    def constraints(self) -> list[tree.Constraint]:
         """All constraints that follow a type."""
         found = []
         while self.at("(", "SIZE"):
@@ -23,12 +24,12 @@ class ConstraintParser(ValueParser):
                 found.append(self.constraint())
         return found
 
-    def size_alone(self):
+    def size_alone(self) -> tree.ElementSet:
         """`SIZE (..)` without parentheses around it, as before OF (X.680, 49.5)."""
         place = self.now.place
         return tree.ElementSet(place, self.element())
 
-    def constraint(self):
+    def constraint(self) -> tree.Constraint:
         """A constraint in its parentheses (X.680, 49.6)."""
         place = self.expect("(", "X.680, 49.6").place
         found = self.unparenthesized(place)
@@ -37,7 +38,7 @@ class ConstraintParser(ValueParser):
         self.close(place)
         return found
 
-    def close(self, opening):
+    def close(self, opening: Place) -> None:
         """The closing parenthesis. One that is missing at the end of a member is accepted."""
         if self.at("}", ",") and not self.at(")"):
             text = f"expected `)`, found {self.now.shown()}, for the `(` at {opening.line}:{opening.column}"
@@ -45,7 +46,7 @@ class ConstraintParser(ValueParser):
             return
         self.expect(")", "X.680, 49.6")
 
-    def unparenthesized(self, place):
+    def unparenthesized(self, place: Place) -> tree.Constraint:
         """A constraint by its first items: a table, CONSTRAINED BY, the type of contents, or a set of values."""
         if self.at("{") and self.ahead().is_symbol("}") or self.at("{") and self.ahead().kind is Kind.UPPER:
             return self.table(place)
@@ -57,14 +58,14 @@ class ConstraintParser(ValueParser):
             return self.contents(place)
         return self.element_set()
 
-    def exception(self):
+    def exception(self) -> None:
         """An exception identifier (X.680, 53.4), which says nothing of values."""
         if not self.at_value() and not self.at(")"):
             self.type()
             self.expect(":", "X.680, 53.4")
         self.value()
 
-    def table(self, place):
+    def table(self, place: Place) -> tree.TableConstraint:
         """`{Set}` and `{Set}{@member}` (X.682, 10.3)."""
         tokens = self.braced("X.682, 10.3")
         names = []
@@ -73,7 +74,7 @@ class ConstraintParser(ValueParser):
                 names.append("".join(it.text for it in part if it.text != "@"))
         return tree.TableConstraint(place, tokens, names)
 
-    def contents(self, place):
+    def contents(self, place: Place) -> tree.ContentsConstraint:
         """CONTAINING and ENCODED BY (X.682, 11.4)."""
         inner = self.type() if self.accept("CONTAINING") else None
         encoded_by = None
@@ -84,7 +85,7 @@ class ConstraintParser(ValueParser):
 
     # ---- sets of values (X.680, 50)
 
-    def element_set(self):
+    def element_set(self) -> tree.ElementSet:
         """A set of values, which may be extensible (X.680, 50.1)."""
         place = self.now.place
         root, extensible, additions = self.unions(), False, None
@@ -95,7 +96,7 @@ class ConstraintParser(ValueParser):
                 additions = self.unions()
         return tree.ElementSet(place, root, extensible, additions)
 
-    def unions(self):
+    def unions(self) -> tree.Element:
         """A union, whose parts are intersections (X.680, 50.1)."""
         place = self.now.place
         if self.accept("ALL"):
@@ -106,7 +107,7 @@ class ConstraintParser(ValueParser):
             parts.append(self.intersections())
         return parts[0] if len(parts) == 1 else tree.Union_(place, parts)
 
-    def intersections(self):
+    def intersections(self) -> tree.Element:
         """An intersection, whose parts may leave values out (X.680, 50.1)."""
         place = self.now.place
         parts = [self.exclusion()]
@@ -114,12 +115,12 @@ class ConstraintParser(ValueParser):
             parts.append(self.exclusion())
         return parts[0] if len(parts) == 1 else tree.Intersection(place, parts)
 
-    def exclusion(self):
+    def exclusion(self) -> tree.Element:
         """An element, perhaps without another one (X.680, 50.1)."""
         part = self.element()
         return tree.Except(part.place, part, self.element()) if self.accept("EXCEPT") else part
 
-    def element(self):
+    def element(self) -> tree.Element:
         """One element (X.680, 50.5 and 51.1)."""
         place = self.now.place
         if self.accept("("):
@@ -140,13 +141,13 @@ class ConstraintParser(ValueParser):
             return self.value_or_range()
         return tree.ContainedSubtype(place, self.contained())
 
-    def contained(self):
+    def contained(self) -> tree.Type:
         """The type of a contained subtype (X.680, 51.3)."""
         if self.now.kind is not Kind.UPPER and not self.at("["):
             self.refuse("a value, a range, a type or a constraint", "X.680, 51.1")
         return self.type()
 
-    def inner_set(self, clause):
+    def inner_set(self, clause: str) -> tree.ElementSet:
         """The constraint after SIZE or FROM."""
         if self.at("("):
             self.take()
@@ -157,7 +158,7 @@ class ConstraintParser(ValueParser):
         self.problems.deviation(self.now.place, f"expected `(`, found {self.now.shown()}", clause)
         return tree.ElementSet(self.now.place, self.value_or_range())
 
-    def inner_subtyping(self, place):
+    def inner_subtyping(self, place: Place) -> tree.InnerSubtyping:
         """WITH COMPONENT and WITH COMPONENTS (X.680, 51.8)."""
         if self.accept("COMPONENT"):
             start = self.index
@@ -168,7 +169,7 @@ class ConstraintParser(ValueParser):
             self.refuse("`{`", "X.680, 51.8.5")
         return tree.InnerSubtyping(place, self.braced("X.680, 51.8.5"))
 
-    def value_or_range(self):
+    def value_or_range(self) -> tree.Element:
         """A single value (X.680, 51.2) or a range (51.4)."""
         place = self.now.place
         low = None if self.accept("MIN") else self.value()

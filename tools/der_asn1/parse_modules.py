@@ -2,16 +2,16 @@
 from . import tree
 from .cursor import CLOSING, OPENING, split
 from .parse_classes import ClassParser
-from .source import NotationError
-from .tokens import Kind, scan
+from .source import NotationError, Problems
+from .tokens import Kind, Token, scan
 
 
-def read_text(text, path, problems):
+def read_text(text: str, path: str, problems: Problems) -> list[tree.Module]:
     """The modules of a text. An assignment that can't be read is an error, and the others are still read."""
     return ModuleParser(scan(text, path, problems), problems).modules()
 
 
-def read_file(path, problems):
+def read_file(path: str, problems: Problems) -> list[tree.Module]:
     """The modules of a file."""
     with open(path, encoding="utf-8", errors="replace") as it:
         return read_text(it.read(), path, problems)
@@ -20,7 +20,7 @@ def read_file(path, problems):
 class ModuleParser(ClassParser):
     """Reads modules."""
 
-    def modules(self):
+    def modules(self) -> list[tree.Module]:
         """All modules up to the end of the file."""
         found = []
         while self.now.kind is not Kind.END:
@@ -30,7 +30,7 @@ class ModuleParser(ClassParser):
             found.append(self.module())
         return found
 
-    def module(self):
+    def module(self) -> tree.Module:
         """A module with its header (X.680, 13.1)."""
         name = self.now
         if name.kind is Kind.LOWER and self.ahead().is_symbol("{", "DEFINITIONS"):
@@ -52,7 +52,7 @@ class ModuleParser(ClassParser):
         self.assignments(found)
         return found
 
-    def defaults(self, module):
+    def defaults(self, module: tree.Module) -> None:
         """The default of tags (X.680, 13.2) and of extensibility (13.4)."""
         if self.at("EXPLICIT", "IMPLICIT", "AUTOMATIC"):
             module.tag_default = tree.TagMode[self.take().text]
@@ -61,7 +61,7 @@ class ModuleParser(ClassParser):
             self.expect("IMPLIED", "X.680, 13.4")
             module.extensibility_implied = True
 
-    def exports(self, module):
+    def exports(self, module: tree.Module) -> None:
         """EXPORTS (X.680, 13.1). None stands for all."""
         start = self.accept("EXPORTS")
         if not start:
@@ -77,7 +77,7 @@ class ModuleParser(ClassParser):
             if token.kind in (Kind.UPPER, Kind.LOWER):
                 module.exports.append(token.text)
 
-    def imports(self, module):
+    def imports(self, module: tree.Module) -> None:
         """IMPORTS (X.680, 13.16)."""
         start = self.accept("IMPORTS")
         while start and not self.accept(";"):
@@ -89,7 +89,7 @@ class ModuleParser(ClassParser):
             self.assigned_identifier()
             module.imports.extend(tree.Import(it.place, it.text, source.text) for it in names)
 
-    def symbol(self, start):
+    def symbol(self, start: Token) -> Token:
         """A name that is imported. It may be that of a macro or a class whose name is reserved today."""
         if self.now.kind not in (Kind.UPPER, Kind.LOWER):
             if self.now.kind is Kind.END:
@@ -100,7 +100,7 @@ class ModuleParser(ClassParser):
             self.braced()
         return token
 
-    def assigned_identifier(self):
+    def assigned_identifier(self) -> None:
         """The object identifier of the module that is imported from (X.680, 13.16)."""
         if self.at("{"):
             self.braced("X.680, 13.16")
@@ -111,7 +111,7 @@ class ModuleParser(ClassParser):
 
     # ---- assignments
 
-    def assignments(self, module):
+    def assignments(self, module: tree.Module) -> None:
         """All assignments up to END."""
         while not self.accept("END"):
             start = self.index
@@ -127,7 +127,7 @@ class ModuleParser(ClassParser):
                 module.assignments.append(tree.UnreadAssignment(head.place, head.text, error.problem))
                 self.recover(start)
 
-    def recover(self, start):
+    def recover(self, start: int) -> None:
         """Goes on at the next line that looks like the first one of an assignment."""
         self.index = max(start + 1, min(self.index, len(self.tokens) - 1))
         while self.now.kind is not Kind.END and not self.at("END"):
@@ -136,7 +136,7 @@ class ModuleParser(ClassParser):
                 return
             self.index += 1
 
-    def begins_assignment(self):
+    def begins_assignment(self) -> bool:
         """Whether a name is next, and `::=` a few items later in no bracket."""
         if not self.at_name():
             return False
@@ -150,7 +150,7 @@ class ModuleParser(ClassParser):
             depth += token.is_symbol(*OPENING) - token.is_symbol(*CLOSING)
         return False
 
-    def assignment(self):
+    def assignment(self) -> tree.Assignment:
         """One assignment (X.680, 13.1)."""
         head = self.now
         if head.kind not in (Kind.UPPER, Kind.LOWER):
@@ -168,7 +168,7 @@ class ModuleParser(ClassParser):
             return self.type_assignment(head, parameters)
         return self.set_assignment(head, parameters)
 
-    def type_assignment(self, head, parameters):
+    def type_assignment(self, head: Token, parameters: list[tree.Parameter]) -> tree.Assignment:
         """A type (X.680, 16.1) or a class (X.681, 9.1)."""
         self.expect("::=", "X.680, 16.1")
         if self.at("CLASS"):
@@ -179,7 +179,7 @@ class ModuleParser(ClassParser):
         found = self.type()
         return tree.TypeAssignment(head.place, head.text, found, parameters=parameters, comment=head.above)
 
-    def value_assignment(self, head, parameters):
+    def value_assignment(self, head: Token, parameters: list[tree.Parameter]) -> tree.Assignment:
         """A value (X.680, 16.2) or an information object (X.681, 11.1)."""
         governor = self.governor()
         if not self.at("::=") and isinstance(governor, tree.ReferenceType) and governor.name.isupper():
@@ -188,7 +188,7 @@ class ModuleParser(ClassParser):
         found = self.value()
         return tree.ValueAssignment(head.place, head.text, governor, found, parameters=parameters, comment=head.above)
 
-    def governor(self):
+    def governor(self) -> tree.Type:
         """The type before a `::=`."""
         self.governs_value = True
         try:
@@ -196,7 +196,7 @@ class ModuleParser(ClassParser):
         finally:
             self.governs_value = False
 
-    def set_assignment(self, head, parameters):
+    def set_assignment(self, head: Token, parameters: list[tree.Parameter]) -> tree.Assignment:
         """A set of values (X.680, 16.6) or of information objects (X.681, 12.1)."""
         governor = self.governor()
         self.expect("::=", "X.680, 16.6")
@@ -207,7 +207,7 @@ class ModuleParser(ClassParser):
             self.refuse("`{`", "X.680, 16.6")
         return tree.SetAssignment(head.place, head.text, governor, self.braced("X.680, 16.6"), parameters=parameters, comment=head.above)
 
-    def parameters(self):
+    def parameters(self) -> list[tree.Parameter]:
         """The parameters of an assignment (X.683, 8.2)."""
         opening, found = self.now, []
         for part in split(self.braced("X.683, 8.2"), ","):
@@ -219,7 +219,7 @@ class ModuleParser(ClassParser):
 
     # ---- macros of 1988
 
-    def macro(self, head):
+    def macro(self, head: Token) -> tree.MacroAssignment:
         """The definition of a MACRO (X.208, annex A), which isn't read."""
         self.problems.warn(head.place, f"the macro `{head.text}` of 1988 isn't read", "X.208, annex A")
         while not self.accept("END"):
@@ -228,7 +228,7 @@ class ModuleParser(ClassParser):
             self.take()
         return tree.MacroAssignment(head.place, head.text, comment=head.above)
 
-    def macro_value(self, head):
+    def macro_value(self, head: Token) -> tree.MacroAssignment:
         """A value in the notation of a macro (X.208, annex A), which isn't read."""
         self.problems.warn(head.place, f"`{head.text}`, in the notation of a macro of 1988, isn't read", "X.208, annex A")
         while not self.accept("::="):

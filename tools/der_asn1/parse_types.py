@@ -1,22 +1,18 @@
 """The parser's part for types (X.680, 17 to 48)."""
+from typing import Optional, Union
+
 from . import tree
 from .cursor import split
+from .library_table import TYPES
 from .parse_constraints import ConstraintParser
-from .source import NotationError
-from .tokens import Kind
+from .source import NotationError, Place
+from .tokens import Kind, Token
 
-SIMPLE = frozenset(
-    """BOOLEAN NULL REAL EXTERNAL RELATIVE-OID UTF8String NumericString PrintableString TeletexString T61String VideotexString IA5String
-    GraphicString VisibleString ISO646String GeneralString UniversalString BMPString ObjectDescriptor UTCTime GeneralizedTime""".split()
-)
+# types whose notation is their name alone: those of one word, and the second word and the clause of each other by the first
+SIMPLE = frozenset(it.name for it in TYPES if it.clause and " " not in it.name)
+_TWO_WORDS = {it.name.split()[0]: (it.name.split()[1], it.clause) for it in TYPES if it.clause and " " in it.name}
 
 _CHOICE = "X.680, 29.1"
-_TWO_WORDS = {
-    "OBJECT": ("IDENTIFIER", "X.680, 32.1"),
-    "OCTET": ("STRING", "X.680, 23.1"),
-    "EMBEDDED": ("PDV", "X.680, 36.1"),
-    "CHARACTER": ("STRING", "X.680, 44.1"),
-}
 
 
 class TypeParser(ConstraintParser):
@@ -24,7 +20,7 @@ class TypeParser(ConstraintParser):
 
     governs_value = False  # whether the type is that of a value, whose `::=` follows
 
-    def type(self):
+    def type(self) -> tree.Type:
         """A type with its tags and constraints."""
         start = self.index
         tags = []
@@ -36,7 +32,7 @@ class TypeParser(ConstraintParser):
         found.text = self.source(start)
         return found
 
-    def tag(self):
+    def tag(self) -> tree.Tag:
         """A tag (X.680, 31.2.1)."""
         place, tag_class = self.take().place, tree.TagClass.CONTEXT
         if self.at("UNIVERSAL", "APPLICATION", "PRIVATE"):
@@ -48,7 +44,7 @@ class TypeParser(ConstraintParser):
         mode = tree.TagMode[self.take().text] if self.at("IMPLICIT", "EXPLICIT") else None
         return tree.Tag(place, tag_class, number, mode)
 
-    def untagged(self):
+    def untagged(self) -> tree.Type:
         """A type without its tags and constraints (X.680, 17.1)."""
         token = self.now
         place, word = token.place, token.text
@@ -73,7 +69,7 @@ class TypeParser(ConstraintParser):
             self.refuse("a type", "X.680, 17.1")
         return self.reference()
 
-    def small_letter(self):
+    def small_letter(self) -> tree.Type:
         """A selection type (X.680, 30.1), a type from an object (X.681, 15.1), or a name that should have a capital letter."""
         token = self.take()
         if self.accept("<"):
@@ -85,7 +81,7 @@ class TypeParser(ConstraintParser):
         self.problems.deviation(token.place, f"the name of a type begins with a capital letter: `{token.text}`", "X.680, 12.2.1")
         return tree.ReferenceType(token.place, token.text)
 
-    def set_field(self):
+    def set_field(self) -> tree.ObjectFieldType:
         """`{Set}.&field` (X.681, 15.1)."""
         opening = self.now
         inner = self.braced("X.681, 15.1")
@@ -93,7 +89,7 @@ class TypeParser(ConstraintParser):
             raise NotationError(opening.place, "expected a type, found `{`", "X.680, 17.1")
         return self.object_field([opening, *inner])
 
-    def object_field(self, tokens):
+    def object_field(self, tokens: list[Token]) -> tree.ObjectFieldType:
         """The fields after an object or a set of them (X.681, 15.1)."""
         while self.accept("."):
             tokens.append(self.take())
@@ -101,16 +97,16 @@ class TypeParser(ConstraintParser):
 
     # ---- types with a notation of their own
 
-    def integer(self, place):
+    def integer(self, place: Place) -> tree.IntegerType:
         """INTEGER (X.680, 19.1)."""
         return tree.IntegerType(place, self.named_numbers("X.680, 19.1"))
 
-    def bit_string(self, place):
+    def bit_string(self, place: Place) -> tree.BitStringType:
         """BIT STRING (X.680, 22.1)."""
         self.expect("STRING", "X.680, 22.1")
         return tree.BitStringType(place, self.named_numbers("X.680, 22.1"))
 
-    def named_numbers(self, clause):
+    def named_numbers(self, clause: str) -> list[tree.NamedNumber]:
         """`{ name(number), .. }`, if it is there."""
         if not self.at("{"):
             return []
@@ -124,7 +120,7 @@ class TypeParser(ConstraintParser):
             found.append(self.named_number(clause))
         return found
 
-    def named_number(self, clause):
+    def named_number(self, clause: str) -> tree.NamedNumber:
         """A name with a number in parentheses."""
         name = self.small_name("a name", clause)
         self.expect("(", clause)
@@ -134,20 +130,20 @@ class TypeParser(ConstraintParser):
         self.expect(")", clause)
         return tree.NamedNumber(name.place, name.text, number, self.comment(name))
 
-    def small_name(self, wanted, clause):
+    def small_name(self, wanted: str, clause: str) -> Token:
         """A name that begins with a small letter, or should."""
         if self.now.kind is Kind.UPPER and self.at_name():
             self.problems.deviation(self.now.place, f"the name begins with a small letter: `{self.now.text}`", "X.680, 12.3")
             return self.take()
         return self.expect_kind(Kind.LOWER, wanted, clause)
 
-    def comment(self, name):
+    def comment(self, name: Token) -> str:
         """The comments of a member: the ones above its name, and the ones on the line of its last item or of the comma after it."""
         last = self.now if self.at(",") else self.tokens[self.index - 1]
         beside = last.beside or self.tokens[self.index - 1].beside
         return " ".join(it for it in (*name.above, beside) if it)
 
-    def enumerated(self, place):
+    def enumerated(self, place: Place) -> tree.EnumeratedType:
         """ENUMERATED (X.680, 20.1)."""
         opening = self.expect("{", "X.680, 20.1")
         found = tree.EnumeratedType(place, [])
@@ -168,22 +164,22 @@ class TypeParser(ConstraintParser):
             raise NotationError(place, "an enumeration has an item at least", "X.680, 20.1")
         return found
 
-    def enumeration_item(self):
+    def enumeration_item(self) -> tree.NamedNumber:
         """An item of an enumeration, with or without its number (X.680, 20.1)."""
         if self.ahead().is_symbol("("):
             return self.named_number("X.680, 20.1")
         name = self.small_name("an item of the enumeration", "X.680, 20.1")
         return tree.NamedNumber(name.place, name.text, None, self.comment(name))
 
-    def sequence(self, place):
+    def sequence(self, place: Place) -> tree.Type:
         """SEQUENCE (X.680, 25 and 26)."""
         return self.structure_or_list(place, tree.Form.SEQUENCE, "X.680, 25.1")
 
-    def set(self, place):
+    def set(self, place: Place) -> tree.Type:
         """SET (X.680, 27 and 28)."""
         return self.structure_or_list(place, tree.Form.SET, "X.680, 27.1")
 
-    def structure_or_list(self, place, form, clause):
+    def structure_or_list(self, place: Place, form: tree.Form, clause: str) -> tree.Type:
         """SEQUENCE and SET, of members or OF (X.680, 25 to 28)."""
         if self.at("{"):
             members, extensible, goes_on = self.members(clause)
@@ -201,32 +197,32 @@ class TypeParser(ConstraintParser):
             name = self.take().text
         return tree.ListType(place, form, self.type(), name, constraints=constraints)
 
-    def ends_here(self):
+    def ends_here(self) -> bool:
         """Whether the small name that is next is the whole type: nothing that begins a type follows it."""
         after = self.ahead()
         begins = after.kind is Kind.UPPER and after.text not in ("OPTIONAL", "DEFAULT", "END") or after.is_symbol("[")
         return not begins or self.ahead(2).is_symbol("::=")
 
-    def choice(self, place):
+    def choice(self, place: Place) -> tree.ChoiceType:
         """CHOICE (X.680, 29.1)."""
         alternatives, extensible, _ = self.members(_CHOICE)
         return tree.ChoiceType(place, alternatives, extensible)
 
-    def any(self, place):
+    def any(self, place: Place) -> tree.AnyType:
         """ANY (X.208, 27)."""
         if not self.accept("DEFINED"):
             return tree.AnyType(place)
         self.expect("BY", "X.208, 27.1")
         return tree.AnyType(place, self.small_name("the name of a member", "X.208, 27.1").text)
 
-    def instance_of(self, place):
+    def instance_of(self, place: Place) -> tree.InstanceOfType:
         """INSTANCE OF (X.681, annex C)."""
         self.expect("OF", "X.681, C.1")
         return tree.InstanceOfType(place, self.expect_kind(Kind.UPPER, "the name of a class", "X.681, C.1").text)
 
     # ---- members
 
-    def members(self, clause):
+    def members(self, clause: str) -> tuple[list[Union[tree.ComponentsOf, tree.Member]], bool, bool]:
         """The members in braces, whether there is an extension marker, and whether members come after a second one."""
         opening = self.expect("{", clause)
         found, markers, group, bracketed = [], 0, 0, False
@@ -252,7 +248,7 @@ class TypeParser(ConstraintParser):
         self.take()
         return found, markers > 0, goes_on
 
-    def version(self):
+    def version(self) -> Optional[int]:
         """The number of a version, if it is there (X.680, 25.1)."""
         if self.now.kind is not Kind.NUMBER:
             return None
@@ -260,7 +256,7 @@ class TypeParser(ConstraintParser):
         self.expect(":", "X.680, 25.1")
         return int(number)
 
-    def comma(self, opening, clause):
+    def comma(self, opening: Union[Token, tree.NamedNumber], clause: str) -> None:
         """The comma between members. One that is missing or of no use is accepted where it is plain what is meant."""
         if not self.accept(","):
             if not (self.at_name() and self.now.place.line > self.tokens[self.index - 1].place.line):
@@ -271,7 +267,7 @@ class TypeParser(ConstraintParser):
         if self.at("}"):
             self.problems.deviation(self.now.place, "expected a member, found `}`", clause)
 
-    def member(self, clause, group, version):
+    def member(self, clause: str, group: Optional[int], version: Optional[int]) -> Union[tree.ComponentsOf, tree.Member]:
         """A member, or COMPONENTS OF."""
         if self.at("COMPONENTS") and clause != _CHOICE:
             place = self.take().place
@@ -296,7 +292,7 @@ class TypeParser(ConstraintParser):
         return found
 
     @staticmethod
-    def begins_type(token):
+    def begins_type(token: Token) -> bool:
         """Whether a type can begin with this item."""
         if token.kind is Kind.UPPER:
             return token.text not in ("OPTIONAL", "DEFAULT", "FROM", "COMPONENTS")
@@ -304,7 +300,7 @@ class TypeParser(ConstraintParser):
 
     # ---- references
 
-    def reference(self):
+    def reference(self) -> tree.Type:
         """A name of a type (X.680, 14.1), a field of a class (X.681, 14.1) or a type with arguments (X.683, 9.2)."""
         token = self.take()
         module, name = None, token.text
@@ -316,12 +312,12 @@ class TypeParser(ConstraintParser):
         arguments = self.arguments() if self.at("{") else None
         return tree.ReferenceType(token.place, name, module, arguments)
 
-    def arguments(self):
+    def arguments(self) -> list[tree.Argument]:
         """The arguments in braces (X.683, 9.5)."""
         opening = self.now
         return [self.within(part, opening.place).argument() for part in split(self.braced("X.683, 9.5"), ",")]
 
-    def argument(self):
+    def argument(self) -> tree.Argument:
         """One argument: a type, a value or a set."""
         place = self.now.place
         text = self.source(0, len(self.tokens) - 1)

@@ -9,11 +9,11 @@ _VALUE_KINDS = (Kind.LOWER, Kind.NUMBER, Kind.REAL, Kind.TEXT, Kind.BITS)
 class ValueParser(Cursor):
     """Reads values. What a name or braces mean is found later, by the type."""
 
-    def at_value(self):
+    def at_value(self) -> bool:
         """Whether a value can begin with the next item."""
         return self.now.kind in _VALUE_KINDS or self.at("TRUE", "FALSE", "NULL", "-", "{", "PLUS-INFINITY", "MINUS-INFINITY")
 
-    def value(self):
+    def value(self) -> tree.Value:
         """A value of any type."""
         token = self.now
         if self.at("{"):
@@ -30,7 +30,7 @@ class ValueParser(Cursor):
             return tree.ChosenValue(token.place, token.text, self.value())
         return self.word_value()
 
-    def numeric(self):
+    def numeric(self) -> tree.IntegerValue:
         """A number with its sign (X.680, 19.2 and 21.6)."""
         place = self.now.place
         sign = -1 if self.accept("-") else 1
@@ -40,12 +40,12 @@ class ValueParser(Cursor):
             self.refuse("a number", "X.680, 19.2")
         return tree.IntegerValue(place, sign * number_of(self.take().text))
 
-    def bits(self):
+    def bits(self) -> tree.BitsValue:
         """A bstring or an hstring (X.680, 12.10 and 12.12)."""
         token = self.take()
         return tree.BitsValue(token.place, "".join(token.text[1:-2].split()), 1 if token.text.endswith("B") else 4)
 
-    def word_value(self):
+    def word_value(self) -> tree.Value:
         """A value that begins with a word."""
         token = self.now
         if self.accept("TRUE", "FALSE"):
@@ -67,7 +67,7 @@ class ValueParser(Cursor):
         self.problems.deviation(token.place, f"the name of a value begins with a small letter: `{token.text}`", "X.680, 12.4")
         return tree.NamedValue(token.place, token.text)
 
-    def fields(self):
+    def fields(self) -> list[str]:
         """`.&field`, once or more (X.681, 14.1 and 15.1)."""
         found = []
         while self.at(".") and self.ahead().kind is Kind.FIELD:
@@ -76,6 +76,6 @@ class ValueParser(Cursor):
         return found
 
 
-def number_of(text):
+def number_of(text: str) -> int:
     """The number that digits are. `0x` isn't of the standard, and the scanner warns of it."""
     return int(text, 16) if text.startswith("0x") else int(text)

@@ -1,6 +1,7 @@
 """The table of how well the types of modules are expressed, and which features are missing."""
 from collections import Counter
 from dataclasses import dataclass, field
+from typing import Iterable
 
 from . import tree
 from .features import OUTSIDE, Feature, Level, Note
@@ -8,6 +9,7 @@ from .meaning import Meaning
 from .meaning_types import Meanings
 from .objects import class_named
 from .scopes import Program
+from .source import Problems
 
 
 @dataclass
@@ -19,7 +21,7 @@ class Row:
     meaning: Meaning
 
     @property
-    def level(self):
+    def level(self) -> Level:
         """How well it is expressed."""
         return self.meaning.level
 
@@ -33,7 +35,7 @@ class Report:
     templates: int = 0
     values: int = 0
 
-    def add(self, other):
+    def add(self, other: "Report") -> None:
         """Takes over another report."""
         self.rows += other.rows
         self.modules += other.modules
@@ -41,7 +43,7 @@ class Report:
         self.values += other.values
 
 
-def report_of(modules, problems, imported=()):
+def report_of(modules: list[tree.Module], problems: Problems, imported: Iterable[tree.Module] = ()) -> Report:
     """The report of modules that see each other, and those that are imported from."""
     program = Program(modules, problems, imported)
     meanings = Meanings(program)
@@ -52,7 +54,7 @@ def report_of(modules, problems, imported=()):
     return found
 
 
-def _add(report, meanings, module, assignment):
+def _add(report: Report, meanings: Meanings, module: tree.Module, assignment: tree.Assignment) -> None:
     if isinstance(assignment, tree.UnreadAssignment):
         report.rows.append(Row(module, assignment.name, Meaning(None).lacking(Feature.NOT_READ)))
     elif isinstance(assignment, tree.ValueAssignment):
@@ -64,7 +66,7 @@ def _add(report, meanings, module, assignment):
             report.rows.append(Row(module, assignment.name, meanings.of_assignment(assignment, module)))
 
 
-def _names_a_class(meanings, assignment, module):
+def _names_a_class(meanings: Meanings, assignment: tree.TypeAssignment, module: tree.Module) -> bool:
     type_ = assignment.type
     return isinstance(type_, tree.ReferenceType) and class_named(meanings.program, type_.name, meanings.program.scope_of(module)) is not None
 
@@ -74,18 +76,18 @@ def _names_a_class(meanings, assignment, module):
 _LEVELS = list(Level)
 
 
-def counts_line(label, rows, width):
+def counts_line(label: str, rows: list[Row], width: int) -> str:
     """One line of the table."""
     counts = Counter(it.level for it in rows)
     return f"{label:{width}} {len(rows):6}" + "".join(f"{counts[it]:12}" for it in _LEVELS)
 
 
-def heading(width):
+def heading(width: int) -> str:
     """The first line of the table."""
     return f"{'':{width}} {'types':>6}" + "".join(f"{it.shown:>12}" for it in _LEVELS)
 
 
-def table(report):
+def table(report: Report) -> list[str]:
     """The table by modules, and the line of all."""
     width = max([8, *(len(it.name) for it in report.modules)])
     lines = [heading(width)]
@@ -94,7 +96,7 @@ def table(report):
     return [*lines, counts_line("in all", report.rows, width)]
 
 
-def types_table(report):
+def types_table(report: Report) -> list[str]:
     """A line for each type that isn't exact: where it is, what it is, and what is missing."""
     lines = []
     for it in report.rows:
@@ -104,7 +106,7 @@ def types_table(report):
     return lines
 
 
-def summary(report):
+def summary(report: Report) -> list[str]:
     """How many types are exact, what they need of their own, and what is missing for the others."""
     total = len(report.rows)
     exact = [it for it in report.rows if it.level is Level.EXACT]
@@ -120,12 +122,12 @@ def summary(report):
     return lines
 
 
-def share(count, total):
+def share(count: int, total: int) -> str:
     """A count with its part of the whole."""
     return f"{count} of {total} ({100 * count / total if total else 0:.1f} %)"
 
 
-def features_table(report):
+def features_table(report: Report) -> list[str]:
     """How many types each missing feature stops, and how many lack it alone."""
     stops, alone = Counter(), Counter()
     for it in report.rows:
@@ -137,7 +139,7 @@ def features_table(report):
     return lines + [f"{stops[it]:6} {alone[it]:6}  {it.text}" for it in ordered]
 
 
-def greedy(report):
+def greedy(report: Report) -> list[str]:
     """The missing features in the order in which each makes the most further types exact."""
     missing = [it.meaning.features for it in report.rows]
     done, lines = frozenset(), []
@@ -154,16 +156,16 @@ def greedy(report):
     return lines
 
 
-def _exact_with(missing, done):
+def _exact_with(missing: list[frozenset[Feature]], done: frozenset[Feature]) -> int:
     return sum(it <= done for it in missing)
 
 
-def _weight(missing, done, feature):
+def _weight(missing: list[frozenset[Feature]], done: frozenset[Feature], feature: Feature) -> float:
     """How near types that lack a feature are to being exact with it."""
     return sum(1 / len(it - done) for it in missing if feature in it)
 
 
-def whole(report):
+def whole(report: Report) -> list[str]:
     """All of the report as lines."""
     return [
         *table(report),

@@ -1,9 +1,10 @@
 """Names, across the modules that are given (X.680, 13 and 14; X.683, 9)."""
 import os
 from dataclasses import dataclass, field
-from typing import Optional
+from typing import Iterable, Optional, Union
 
 from . import tree
+from .source import Place, Problems
 
 # Names for an element of any type, which compilers of others have without a definition.
 BUILT_IN_ANY = frozenset(("heim_any", "heim_any_set", "HEIM_ANY", "HEIM_ANY_SET"))
@@ -25,7 +26,7 @@ class Scope:
     key: tuple = ()
     bindings: tuple = field(default=(), hash=False, compare=False)
 
-    def binding(self, name):
+    def binding(self, name: str) -> Optional[Binding]:
         """What a parameter stands for, or None if the name is none."""
         return next((it for known, it in self.bindings if known == name), None)
 
@@ -41,7 +42,7 @@ class Found:
 class Program:
     """The modules that are given, by their names. The `imported` ones are there for what the others import."""
 
-    def __init__(self, modules, problems, imported=()):
+    def __init__(self, modules: list[tree.Module], problems: Problems, imported: Iterable[tree.Module] = ()) -> None:
         self.modules, self.problems = modules, problems
         self.by_name, self.by_stem, self.indexes = {}, {}, {}
         for module in modules:
@@ -49,7 +50,7 @@ class Program:
         for module in imported:
             self.add(module, False)
 
-    def add(self, module, is_own):
+    def add(self, module: tree.Module, is_own: bool) -> None:
         """Makes a module known by its name and that of its file. The first one of a name has it."""
         first = self.by_name.setdefault(module.name.lower(), module)
         if is_own and first is not module:
@@ -57,7 +58,7 @@ class Program:
         self.by_stem.setdefault(os.path.splitext(os.path.basename(module.path))[0].lower(), module)
         self.indexes[id(module)] = self.index(module)
 
-    def index(self, module):
+    def index(self, module: tree.Module) -> dict[str, tree.Assignment]:
         """The assignments of a module by their names. A name has one of them (X.680, 13.10)."""
         found = {}
         for it in module.assignments:
@@ -67,20 +68,26 @@ class Program:
             found.setdefault(it.name, it)
         return found
 
-    def module_named(self, name, asking=None):
+    def module_named(self, name: str, asking: Optional[tree.Module] = None) -> Optional[tree.Module]:
         """The module with this name, or else in a file with this name. It isn't the module that asks."""
         found = self.by_name.get(name.lower()) or self.by_stem.get(name.lower())
         return None if found is asking else found
 
-    def scope_of(self, module):
+    def scope_of(self, module: tree.Module) -> Scope:
         """The scope of a module's own names."""
         return Scope(module, (module.path, module.name))
 
-    def source_of(self, name, module):
+    def source_of(self, name: str, module: tree.Module) -> Optional[str]:
         """The name of the module that a name is imported from, or None."""
         return next((it.module for it in module.imports if it.name == name), None)
 
-    def find(self, name, scope, module_name=None, place=None):
+    def find(
+        self,
+        name: str,
+        scope: Scope,
+        module_name: Optional[str] = None,
+        place: Optional[Place] = None,
+    ) -> Optional[Union[Binding, Found]]:
         """The assignment or the binding of a name, or None. A name at a place may be one that isn't imported, though it should be."""
         if module_name is None and scope.binding(name):
             return scope.binding(name)
@@ -88,7 +95,7 @@ class Program:
         found = self.find_in(name, home, ())
         return found or self.find_unimported(name, scope.module, place) if place else found
 
-    def find_unimported(self, name, module, place):
+    def find_unimported(self, name: str, module: tree.Module, place: Place) -> Optional[Found]:
         """The assignment of a name that isn't imported: the only one of that name, in the module's folder or else anywhere."""
         if self.source_of(name, module):
             return None
@@ -100,7 +107,7 @@ class Program:
         self.problems.deviation(place, f"`{name}` of the module `{homes[0].name}` isn't imported", "X.680, 13.16")
         return self.find_in(name, homes[0], ())
 
-    def find_in(self, name, module, visited):
+    def find_in(self, name: str, module: Optional[tree.Module], visited: tuple[int, ...]) -> Optional[Found]:
         """The assignment of a name that is seen in a module."""
         if module is None or id(module) in visited:
             return None
@@ -110,7 +117,7 @@ class Program:
         source = self.source_of(name, module)
         return self.find_in(name, self.module_named(source, module), (*visited, id(module))) if source else None
 
-    def apply(self, found, arguments, scope):
+    def apply(self, found: Found, arguments: list[tree.Argument], scope: Scope) -> Optional[Scope]:
         """The scope inside of a parameterized assignment with these arguments, or None if there are too few (X.683, 9.7)."""
         parameters = found.assignment.parameters
         if len(arguments) != len(parameters):
@@ -119,7 +126,7 @@ class Program:
         key = (*found.scope.key, found.assignment.name, *((it.argument.text, it.scope.key) for _, it in bindings))
         return Scope(found.scope.module, key, bindings)
 
-    def bind(self, argument, scope):
+    def bind(self, argument: tree.Argument, scope: Scope) -> Binding:
         """The binding of an argument. One that is a parameter itself is what that one stands for."""
         name = None
         if isinstance(argument.type, tree.ReferenceType) and not argument.type.arguments and not argument.type.tags:
@@ -139,7 +146,7 @@ class Resolved:
     scope: Scope
 
 
-def resolve(program, type_, scope, depth=0):
+def resolve(program: Program, type_: tree.Type, scope: Scope, depth: int = 0) -> Resolved:
     """The type that names without tags lead to. None in place of the type if a name leads nowhere."""
     if not isinstance(type_, tree.ReferenceType) or depth > 40:
         return Resolved(type_ if depth <= 40 else None, scope)
@@ -147,7 +154,7 @@ def resolve(program, type_, scope, depth=0):
     return resolve(program, target.type, target.scope, depth + 1) if target else Resolved(None, scope)
 
 
-def target_of(program, reference, scope):
+def target_of(program: Program, reference: tree.ReferenceType, scope: Scope) -> Optional[Resolved]:
     """What a reference to a type names: the type and its scope, or None."""
     found = program.find(reference.name, scope, reference.module, reference.place)
     if isinstance(found, Binding):

@@ -1,30 +1,32 @@
 """The tags of a type as they are encoded (X.680, 31.2; X.690, 8.14), without looking inside of it."""
 from dataclasses import replace
+from typing import Optional
 
 from . import tree
-from .library import ANY_FIRST, MAX_TAG, UNIVERSAL_TAGS
+from .library import ANY_FIRST, MAX_TAG
+from .library_table import UNIVERSAL_TAGS
 from .members import members_of, selected
 from .objects import class_named
-from .scopes import target_of
+from .scopes import Program, Scope, target_of
 from .source import NotationError
 from .values import integer_of
 
 _DEPTH = 40
 
 
-def default_mode(scope):
+def default_mode(scope: Scope) -> tree.TagMode:
     """The mode of a tag that says none, in this module (X.680, 31.2.7)."""
     return tree.TagMode.EXPLICIT if scope.module.tag_default is tree.TagMode.EXPLICIT else tree.TagMode.IMPLICIT
 
 
-def fixed_field_type(program, type_, scope):
+def fixed_field_type(program: Program, type_: tree.Type, scope: Scope) -> Optional[tuple[tree.Type, Scope]]:
     """The type of a field of values with its scope, or None if the field is one of types (X.681, 14.2)."""
     found = class_named(program, type_.class_name, scope)
     known = found.definition.field_named(type_.fields[0]) if found and len(type_.fields) == 1 else None
     return (known.type, found.scope) if known and known.type and type_.fields[0][1].islower() else None
 
 
-def is_untagged(program, type_, scope, depth=0):
+def is_untagged(program: Program, type_: tree.Type, scope: Scope, depth: int = 0) -> bool:
     """Whether it is a CHOICE, an open type or a parameter without a tag, over which IMPLICIT is EXPLICIT (X.680, 31.2.7 c)."""
     if type_ is None or type_.tags or depth > _DEPTH:
         return type_ is None or depth > _DEPTH
@@ -41,7 +43,7 @@ def is_untagged(program, type_, scope, depth=0):
     return isinstance(type_, (tree.ChoiceType, tree.AnyType, tree.ObjectFieldType))
 
 
-def effective_mode(program, tag, inner, scope):
+def effective_mode(program: Program, tag: tree.Tag, inner: Optional[tree.Type], scope: Scope) -> tree.TagMode:
     """The mode of a tag around a type, by the rule of X.680, 31.2.7. `inner` is None where another tag is inside."""
     mode = tag.mode or default_mode(scope)
     if mode is tree.TagMode.EXPLICIT or inner is None or not is_untagged(program, inner, scope):
@@ -51,7 +53,7 @@ def effective_mode(program, tag, inner, scope):
     return tree.TagMode.EXPLICIT
 
 
-def first_bytes(program, type_, scope, depth=0):
+def first_bytes(program: Program, type_: tree.Type, scope: Scope, depth: int = 0) -> Optional[frozenset[int]]:
     """The bytes that an encoding may begin with. All of them for an open type, and None for a tag that has no single byte."""
     if type_ is None or depth > _DEPTH:
         return ANY_FIRST
@@ -72,7 +74,7 @@ def first_bytes(program, type_, scope, depth=0):
     return frozenset((UNIVERSAL_TAGS[name],)) if name else ANY_FIRST
 
 
-def _universal_name(type_):
+def _universal_name(type_: tree.Type) -> Optional[str]:
     if isinstance(type_, tree.SimpleType):
         return type_.name
     if isinstance(type_, (tree.StructureType, tree.ListType)):
@@ -81,7 +83,7 @@ def _universal_name(type_):
     return names.get(type(type_))
 
 
-def _choice(program, type_, scope, depth):
+def _choice(program: Program, type_: tree.Type, scope: Scope, depth: int) -> frozenset[int]:
     found = set()
     try:
         for it in members_of(program, type_, scope):
@@ -91,7 +93,7 @@ def _choice(program, type_, scope, depth):
     return frozenset(found)
 
 
-def _tagged(program, type_, scope, depth):
+def _tagged(program: Program, type_: tree.Type, scope: Scope, depth: int) -> Optional[frozenset[int]]:
     """The byte of the outermost tag. It is constructed if any tag inside is EXPLICIT, or else as the type is."""
     outer, rest = type_.tags[0], replace(type_, tags=type_.tags[1:])
     number = integer_of(program, outer.number, scope)

@@ -1,8 +1,9 @@
 """Types of the notation as terms of der_types, in the forms of its specs/NotationForms.antt."""
 import re
 from dataclasses import dataclass, replace
-from typing import Optional
+from typing import Iterable, Optional, Union
 
+from . import tree
 from .layout import comment
 from .tree import TagClass, TagMode
 
@@ -40,37 +41,37 @@ class Term:
     end: str = ""
     name: str = ""
 
-    def inline(self):
+    def inline(self) -> str:
         """The term on one line."""
         if self.items is not None:
             return f"{self.head} ({f' {self.between()} '.join([*map(item_inline, self.items), self.end])})"
         return f"{self.head} {argument(self.inner)}" if self.inner else self.head
 
-    def between(self):
+    def between(self) -> str:
         """The operator between the items."""
         return _ALTERNATIVES if self.head == "CHOICE" else _MEMBERS
 
-    def group(self):
+    def group(self) -> "Optional[Term]":
         """The term with members or alternatives that it is, or that is inside of its tags, or None."""
         return self if self.items is not None else self.inner and self.inner.group()
 
-    def shortened(self):
+    def shortened(self) -> "Term":
         """The term with the name in place of the members or alternatives."""
         return Term(self.name) if self.items is not None else replace(self, inner=self.inner.shortened())
 
 
-def argument(term):
+def argument(term: Term) -> str:
     """A term as an argument."""
     text = term.inline()
     return f"({text})" if " " in text else text
 
 
-def item_inline(item):
+def item_inline(item: Item) -> str:
     """A member or an alternative on one line."""
     return f"{item.presence} {argument(item.term)}" if item.presence else item.term.inline()
 
 
-def definition(name, term, comments):
+def definition(name: str, term: Term, comments: list[str]) -> list[str]:
     """The definition of a term, after those of parts that are too long for a line. A member or an alternative has its own line, below its text."""
     lines, before = [], []
     group = term.group()
@@ -84,12 +85,12 @@ def definition(name, term, comments):
     return [*before, *(line for it in comments for line in comment("", "--", it)), f"abbrev pub {name} : Notation", *whole(name, term, lines)]
 
 
-def item_line(item, group):
+def item_line(item: Item, group: Term) -> str:
     """The line of a member or an alternative."""
     return f"{_STEP}{item_inline(item)} {group.between()}"
 
 
-def whole(name, term, lines):
+def whole(name: str, term: Term, lines: list[str]) -> list[str]:
     """The equation of a term, with the lines of its members or alternatives."""
     if not term.group():
         return [f"{name} = {term.inline()}"]
@@ -99,32 +100,32 @@ def whole(name, term, lines):
     return [f"{name} = {''.join(words)}{term.head} (", *lines, f"{_STEP}{term.end}{after}"]
 
 
-def instead(term):
+def instead(term: Term) -> Term:
     """The term of what the library has in place of a type."""
     return term if term.head == "instead" else Term("instead", term)
 
 
-def any_content(tag):
+def any_content(tag: int) -> Term:
     """Any content under an identifier byte."""
     return Term(f"any-content 0x{tag:02X}")
 
 
-def content_under(tag, inner):
+def content_under(tag: int, inner: Term) -> Term:
     """A content under an identifier byte in place of its own."""
     return Term(f"content-under 0x{tag:02X}", inner)
 
 
-def sized(low, high, inner):
+def sized(low: int, high: Union[int, str], inner: Term) -> Term:
     """A type with a size."""
     return Term(f"SIZE {low} {high}", inner)
 
 
-def default_tags(module):
+def default_tags(module: str) -> str:
     """The name of the mode of the tags of a module that say none."""
     return f"TAGS-{module}"
 
 
-def tagged(tag, number, inner, module, is_explicit):
+def tagged(tag: tree.Tag, number: int, inner: Term, module: str, is_explicit: bool) -> Term:
     """A type under a tag. `is_explicit` says that it is EXPLICIT by a rule that the text doesn't show."""
     mode = tag.mode.name if tag.mode else default_tags(module)
     if tag.is_automatic:
@@ -132,12 +133,12 @@ def tagged(tag, number, inner, module, is_explicit):
     return Term(f"{_CLASSES[tag.tag_class]} {number} {TagMode.EXPLICIT.name if is_explicit else mode}", inner)
 
 
-def number_list(values):
+def number_list(values: Iterable[int]) -> str:
     """A list of numbers."""
     return f"({' ∷ '.join([*map(str, values), '[]'])})"
 
 
-def names_of(lines):
+def names_of(lines: list[str]) -> set[str]:
     """The names and the operators in lines of terms, without those of comments."""
     text = "\n".join(it for it in lines if not it.lstrip().startswith("--"))
     return set(re.findall(r"[A-Za-z][\w-]*(?:::[A-Za-z]\w*)*", text)) | {f"◌{it}◌" for it in (_MEMBERS, _ALTERNATIVES, "∷") if it in text}

@@ -3,7 +3,7 @@ import re
 from dataclasses import dataclass, field
 from enum import Enum
 
-from .source import NotationError, Place
+from .source import NotationError, Place, Problems
 
 
 class Kind(Enum):
@@ -32,11 +32,11 @@ class Token:
     beside_column: int = 0
     spaced: bool = True
 
-    def is_symbol(self, *texts):
+    def is_symbol(self, *texts: str) -> bool:
         """Whether it is one of these symbols or words, and no string."""
         return self.text in texts and self.kind not in (Kind.TEXT, Kind.BITS, Kind.END)
 
-    def shown(self):
+    def shown(self) -> str:
         """The item as a message says it."""
         return (self.text or "the end of the file") if self.kind is Kind.END else f"`{self.text}`"
 
@@ -60,7 +60,7 @@ _BLOCK_EDGE = re.compile(r"/\*|\*/")
 class _Scanner:
     """Goes over a text once."""
 
-    def __init__(self, text, path, problems):
+    def __init__(self, text: str, path: str, problems: Problems) -> None:
         self.text, self.path, self.problems = text, path, problems
         self.index, self.line, self.line_start = 0, 1, 0
         self.tokens = []
@@ -68,11 +68,11 @@ class _Scanner:
         self.fresh = True  # no token on this line yet
         self.spaced = True
 
-    def place(self):
+    def place(self) -> Place:
         """Where the next character is."""
         return Place(self.path, self.line, self.index - self.line_start + 1)
 
-    def advance(self, end):
+    def advance(self, end: int) -> None:
         """Goes to `end`, and counts the lines up to there."""
         lines = self.text.count("\n", self.index, end)
         if lines:
@@ -80,7 +80,7 @@ class _Scanner:
             self.line_start = self.text.rindex("\n", self.index, end) + 1
         self.index = end
 
-    def scan(self):
+    def scan(self) -> list[Token]:
         """All items."""
         while self.index < len(self.text):
             if self.text.startswith("--", self.index):
@@ -92,7 +92,7 @@ class _Scanner:
         self.tokens.append(Token(Kind.END, "", self.place(), self.above(self.line)))
         return self.tokens
 
-    def line_comment(self):
+    def line_comment(self) -> None:
         """A comment up to the end of the line or the next pair of hyphens (X.680, 12.6.3)."""
         place, start = self.place(), self.index + 2
         ends = [it for it in (self.text.find("--", start), self.text.find("\n", start)) if it >= 0]
@@ -101,7 +101,7 @@ class _Scanner:
         self.advance(end + 2 if self.text.startswith("--", end) else end)
         self.spaced = True
 
-    def block_comment(self):
+    def block_comment(self) -> None:
         """A comment between `/*` and `*/`, which may hold others (X.680, 12.6.4)."""
         place, depth, end = self.place(), 0, self.index
         while True:
@@ -115,7 +115,7 @@ class _Scanner:
         self.advance(end)
         self.spaced = True
 
-    def comment(self, place, words):
+    def comment(self, place: Place, words: str) -> None:
         """Gives a comment to the item before it, if it is on its line or continues below, or else keeps it for the next item."""
         last = self.tokens[-1] if self.tokens else None
         goes_on = last and last.beside and self.fresh and not self.pending and place.column >= last.beside_column - 1
@@ -125,7 +125,7 @@ class _Scanner:
         else:
             self.pending.append((place.line, words))
 
-    def above(self, line):
+    def above(self, line: int) -> list[str]:
         """The pending comments on the lines right above this one."""
         taken = []
         for number, words in reversed(self.pending):
@@ -136,7 +136,7 @@ class _Scanner:
         self.pending = []
         return taken
 
-    def item(self):
+    def item(self) -> None:
         """An item, or what is between items."""
         found = _ITEM.match(self.text, self.index)
         if not found:
@@ -152,7 +152,7 @@ class _Scanner:
         self.tokens.append(Token(kind, words, place, self.above(place.line), spaced=self.spaced))
         self.fresh = self.spaced = False
 
-    def check(self, kind, words, place):
+    def check(self, kind: Kind, words: str, place: Place) -> None:
         """Says what of an item isn't as the standard has it."""
         if kind is Kind.NUMBER and len(words) > 1 and words.startswith("0"):
             self.problems.deviation(place, f"a number has digits alone, and none is a needless 0: `{words}`", "X.680, 12.8")
@@ -160,6 +160,6 @@ class _Scanner:
             self.problems.deviation(place, f"a name has letters, digits and hyphens: `{words}`", "X.680, 12.2.1")
 
 
-def scan(text, path, problems):
+def scan(text: str, path: str, problems: Problems) -> list[Token]:
     """The lexical items of a text, the last of which is the end of the file."""
     return _Scanner(text, path, problems).scan()

@@ -450,7 +450,7 @@ class ClassDefinition:
     fields: list[ClassField]
     syntax: Optional[list[SyntaxItem]] = None
 
-    def field_named(self, name):
+    def field_named(self, name: str) -> Optional[ClassField]:
         """The field with this name, or None."""
         return next((it for it in self.fields if it.name == name), None)
 
@@ -540,6 +540,6 @@ class Module:
     assignments: list[Assignment] = field(default_factory=list)
 
     @property
-    def path(self):
+    def path(self) -> str:
         """The file that it is in."""
         return self.place.path

@@ -1,7 +1,9 @@
 """Values, through the names that lead to them (X.680, 19, 22 and 32)."""
+from typing import Iterable, Optional
+
 from . import tree
 from .cursor import Cursor
-from .scopes import Binding, resolve
+from .scopes import Binding, Program, Scope, resolve
 from .tokens import Kind, Token
 
 DEPTH = 40
@@ -15,13 +17,13 @@ _SECOND_ARCS = {
 }
 
 
-def named_numbers(program, type_, scope):
+def named_numbers(program: Program, type_: tree.Type, scope: Scope) -> list[tree.NamedNumber]:
     """The named numbers that a type has, through references."""
     found = resolve(program, type_, scope)
     return getattr(found.type, "named", []) if found.type else []
 
 
-def enumerated_numbers(program, items, scope):
+def enumerated_numbers(program: Program, items: list[tree.NamedNumber], scope: Scope) -> list[int]:
     """The numbers of the items of an enumeration: one without a number has the least that no other has (X.680, 20.5)."""
     given = [integer_of(program, it.number, scope) if it.number is not None else None for it in items]
     taken = {it for it in given if it is not None}
@@ -35,7 +37,7 @@ def enumerated_numbers(program, items, scope):
     return found
 
 
-def value_of(program, value, scope, depth=0):
+def value_of(program: Program, value: tree.Value, scope: Scope, depth: int = 0) -> tuple[tree.Value, Scope]:
     """A value that is no name, with its scope and its governor's named numbers: through value references (X.680, 14)."""
     if not isinstance(value, tree.NamedValue) or depth > DEPTH:
         return value, scope
@@ -47,7 +49,13 @@ def value_of(program, value, scope, depth=0):
     return value, scope
 
 
-def integer_of(program, value, scope, named=(), depth=0):
+def integer_of(
+    program: Program,
+    value: tree.Value,
+    scope: Scope,
+    named: Iterable[tree.NamedNumber] = (),
+    depth: int = 0,
+) -> Optional[int]:
     """The number that a value is, or None. `named` are the named numbers of its type, which come first (X.680, 19.12)."""
     if isinstance(value, tree.IntegerValue):
         return value.number
@@ -65,7 +73,7 @@ def integer_of(program, value, scope, named=(), depth=0):
     return None
 
 
-def arcs_of(program, value, scope, depth=0):
+def arcs_of(program: Program, value: tree.Value, scope: Scope, depth: int = 0) -> Optional[list[int]]:
     """The arcs of an object identifier (X.680, 32.3), or None."""
     if depth > DEPTH:
         return None
@@ -81,7 +89,7 @@ def arcs_of(program, value, scope, depth=0):
     return _arcs_in_braces(program, value, scope, depth)
 
 
-def _arcs_in_braces(program, value, scope, depth):
+def _arcs_in_braces(program: Program, value: tree.Value, scope: Scope, depth: int) -> Optional[list[int]]:
     cursor = Cursor([*value.tokens, Token(Kind.END, "", value.place)], None)
     arcs = []
     while cursor.now.kind is not Kind.END:
@@ -98,7 +106,7 @@ def _arcs_in_braces(program, value, scope, depth):
     return arcs or None
 
 
-def _arc(program, token, scope, arcs, depth):
+def _arc(program: Program, token: Token, scope: Scope, arcs: list[int], depth: int) -> Optional[list[int]]:
     """The arcs of one item in the braces, or None."""
     if token.kind is Kind.NUMBER:
         return [int(token.text)]

@@ -1,7 +1,7 @@
 """Names of ASN.1 as names of Rust."""
 import re
 
-from .emit_imports import LIBRARY_NAMES
+from .library_table import LIBRARY_NAMES
 
 _WORD = re.compile(r"[A-Z]+(?![a-z])[0-9]*|[A-Z]?[a-z][a-z0-9]*|[A-Z][0-9]*|[0-9]+")
 
@@ -16,12 +16,12 @@ KEYWORDS = frozenset(
 # names that a type can't have, since every file has another one with that name, or may import one
 TAKEN = LIBRARY_NAMES | frozenset(
     """Option Vec String Result Some None Ok Err Box Drop Clone Copy Default
-    PartialEq Eq Debug Self Members OtherMembers LastMembers Parts First Second
-    Third Fourth Later This Other Last Type Notation""".split()
+    PartialEq Eq Debug Self First Second
+    Third Fourth Later This Other Type Notation""".split()
 )
 
 
-def words(name):
+def words(name: str) -> list[str]:
     """The words of a name, which hyphens and capital letters divide. An abbreviation may begin with a small letter, as in `dNSName`."""
     found = [it for part in re.split(r"[-_]", name) for it in _WORD.findall(part)]
     if len(found) > 1 and len(found[0]) == 1 and found[0].islower() and found[1].isupper() and name[1:2] not in "-_":
@@ -29,32 +29,26 @@ def words(name):
     return found
 
 
-def joined(name):
+def joined(name: str) -> str:
     """The words of a name, each with a capital letter."""
     return "".join(it[0].upper() + it[1:].lower() for it in words(name))
 
 
-def camel(name):
+def camel(name: str) -> str:
     """The name of a type."""
     found = joined(name)
     return f"Asn{found}" if found in TAKEN or not found[:1].isalpha() else found
 
 
-def variant(name):
+def variant(name: str) -> str:
     """The name of a variant."""
     found = joined(name)
     return f"The{found}" if found in ("Self", "Type") or not found[:1].isalpha() else found
 
 
-def snake(name):
+def snake(name: str) -> str:
     """The name of a member or a file."""
     found = "_".join(words(name)).lower()
     if not found[:1].isalpha():
         found = f"n{found}"
     return f"{found}_" if found in KEYWORDS else found
-
-
-def file_stem(name):
-    """The name of the file of a type, which is none of a file that has another use."""
-    found = snake(name)
-    return f"{found}_type" if found in ("aliases", "values", "notation", "lib", "main") else found

@@ -1,7 +1,7 @@
 """Wrong bodies: edits of a crate's files, and the functions that they change.
 
 An edit has a name, MODULE.FUNCTION.what_is_wrong, and lines `file: PATH`, `old: TEXT` and `new: TEXT`. Each TEXT is one line, or a part of
-one, and the old one is exactly once in its file. A line `survives: WHY` says that the contracts let the edit through, and one
+one, and the old one is exactly once in its file, or in the function that the edit's name has. A line `survives: WHY` says that the contracts let the edit through, and one
 `survives by hand: WHY` that only a proof by hand would show this. A line that begins with `//` is a comment.
 
 must-fail/NAME.edit has one edit. wrong-bodies/FOLDER.bodies has the edits of the modules in a folder of src/, or in src/ itself. If these are
@@ -55,11 +55,19 @@ class Edit:
         if self.problem:
             raise BadEdit(self.problem)
         for path, old, new in self.pairs:
-            count = texts.get(path, "").count(old) if old else 0
-            if count != 1:
-                raise BadEdit(f"an old text is in {path} {count} times, and not once")
-            texts[path] = texts[path].replace(old, new)
+            texts[path] = self.replaced(path, texts.get(path, ""), old, new)
         return texts
+
+    def replaced(self, path: str, text: str, old: str, new: str) -> str:
+        """The text of a file with this pair: the old text is once in the file, or once in the function in the edit's name."""
+        count = text.count(old) if old else 0
+        if count == 1:
+            return text.replace(old, new)
+        named = [(begin, end) for block, name, begin, end in source.functions(text) if self.names((path, block, name))]
+        if not old or len(named) != 1 or text.count(old, *named[0]) != 1:
+            raise BadEdit(f"an old text is in {path} {count} times, and not once, nor once in the function of the edit's name")
+        (begin, end), = named
+        return text[:begin] + text[begin:end].replace(old, new) + text[end:]
 
     def look_at(self, texts: Texts) -> None:
         """Finds `changed`, what the edit makes of each function of these texts that it changes or adds; `own`, the functions that it is

@@ -12,9 +12,9 @@ use Rattle.der_types.specs.contracts.integer.IntegerContents.TheImpl as integer
 use Rattle.der_types.specs.DateTimes.{date_time_text}
 use Rattle.der_types.specs.TimeContents.{fraction_of}
 use Rattle.der_types.specs.TimeValues.{generalized_content}
-use Rattle.der_x509.specs.declared.tbs_certificate.TbsCertificate.{TbsCertificate}
-use Rattle.der_x509.specs.declared.time.Time.{Time}
-use Rattle.der_x509.specs.declared.time.Time.TheVariants.{UtcTime, GeneralTime}
+use Rattle.der_x509.specs.declared.pkix1_explicit88.TbsCertificate.{TbsCertificate}
+use Rattle.der_x509.specs.declared.pkix1_explicit88.Time.{Time}
+use Rattle.der_x509.specs.declared.pkix1_explicit88.Time.TheVariants.{UtcTime, GeneralTime}
 use Rattle.der_read.specs.declared.certificate.Summary.{Summary}
 use Rattle.der_program_base.specs.declared.printed.Format.{Format}
 use Rattle.der_program_base.specs.declared.printed.Format.TheVariants.{Text, Json}

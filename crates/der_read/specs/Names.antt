@@ -12,9 +12,9 @@ use Rattle.der_types.specs.declared.width.Width.TheVariants.{Two, Four}
 use Rattle.der_types.specs.CharacterStrings.{is_ia5, is_bmp, is_universal, is_string_content, characters}
 use Rattle.der_types.specs.Dotted.{dotted_or_marked, fitted}
 use Rattle.der_types.specs.ObjectIdentifier.{arcs_of}
-use Rattle.der_x509.specs.declared.attribute_type_and_value.AttributeTypeAndValue.{AttributeTypeAndValue}
-use Rattle.der_x509.specs.declared.name.Name.{Name}
-use Rattle.der_x509.specs.declared.name.Name.TheVariants.{RdnSequence}
+use Rattle.der_x509.specs.declared.names.AttributeTypeAndValue.{AttributeTypeAndValue}
+use Rattle.der_x509.specs.declared.names.Name.{Name}
+use Rattle.der_x509.specs.declared.names.Name.TheVariants.{RdnSequence}
 use Rattle.der_read.specs.declared.attribute_name.AttributeName.{AttributeName}
 use Rattle.der_read.specs.AttributeNames.{IsNameOf, content_of, name_of}
 

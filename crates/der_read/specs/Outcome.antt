@@ -4,10 +4,10 @@ use Rattle.picky_der_core.specs.declared.error.Asn1DerError.TheVariants.{OutOfMe
 use Rattle.picky_der_core.specs.Reading.{ReadsFrom}
 use Rattle.picky_der_de.specs.declared.whole.DecodeError.{DecodeError}
 use Rattle.picky_der_de.specs.Whole.{IsWhole, IsNoEncoding}
-use Rattle.der_x509.specs.declared.certificate.Certificate.{Certificate}
-use Rattle.der_x509.specs.contracts.certificate.CertificateSerialize.TheImpl as certificate_written
-use Rattle.der_x509.specs.contracts.certificate.CertificateDeserialize.TheImpl as certificate_read
-use Rattle.der_x509.specs.contracts.certificate.CertificatePartialEq.TheImpl as certificate_compared
+use Rattle.der_x509.specs.declared.pkix1_explicit88.Certificate.{Certificate}
+use Rattle.der_x509.specs.contracts.pkix1_explicit88.CertificateSerialize.TheImpl as certificate_written
+use Rattle.der_x509.specs.contracts.pkix1_explicit88.CertificateDeserialize.TheImpl as certificate_read
+use Rattle.der_x509.specs.contracts.pkix1_explicit88.CertificatePartialEq.TheImpl as certificate_compared
 use Rattle.der_read.specs.declared.outcome.Reading.{Reading}
 use Rattle.der_read.specs.declared.outcome.Outcome.{Outcome}
 use Rattle.der_read.specs.declared.outcome.Outcome.TheVariants as outcome

@@ -6,9 +6,9 @@ use Rattle.picky_der_core.specs.Primitive.{Primitive}
 use Rattle.picky_der_core.specs.Tree.{ListKind, Tree}
 use Rattle.picky_der_core.specs.Encoding.{der}
 use Rattle.picky_der_ser.specs.Meaning.{list_meaning}
-use Rattle.der_cms.specs.declared.attribute.Attribute.{Attribute}
-use Rattle.der_cms.specs.declared.signer_info.SignerInfo.{SignerInfo}
-use Rattle.der_cms.specs.contracts.attribute.AttributeSerialize.TheImpl as attribute
+use Rattle.der_cms.specs.declared.cryptographic_message_syntax2004.Attribute.{Attribute}
+use Rattle.der_cms.specs.declared.signed_data.SignerInfo.{SignerInfo}
+use Rattle.der_cms.specs.contracts.cryptographic_message_syntax2004.AttributeSerialize.TheImpl as attribute
 use Rattle.der_signers.specs.declared.comparison.TypeComparison.{TypeComparison}
 use Rattle.der_signers.specs.declared.comparison.TypeComparison.TheVariants as type
 use Rattle.der_signers.specs.declared.comparison.RequiredAttributes.{RequiredAttributes}

@@ -4,11 +4,11 @@ use Rattle.picky_der_core.specs.declared.error.Asn1DerError.TheVariants.{OutOfMe
 use Rattle.picky_der_de.specs.declared.whole.DecodeError.{DecodeError}
 use Rattle.picky_der_de.specs.Whole.{IsWhole, IsNoEncoding}
 use Rattle.der_types.specs.declared.object_identifier.ObjectIdentifier.{ObjectIdentifier}
-use Rattle.der_cms.specs.declared.content_info.ContentInfo.{ContentInfo}
+use Rattle.der_cms.specs.declared.cryptographic_message_syntax2004.ContentInfo.{ContentInfo}
 use Rattle.der_cms.specs.declared.signed_data.SignedData.{SignedData}
-use Rattle.der_cms.specs.contracts.content_info.ContentInfoSerialize.TheImpl as content_info_written
-use Rattle.der_cms.specs.contracts.content_info.ContentInfoDeserialize.TheImpl as content_info_read
-use Rattle.der_cms.specs.contracts.content_info.ContentInfoPartialEq.TheImpl as content_info_compared
+use Rattle.der_cms.specs.contracts.cryptographic_message_syntax2004.ContentInfoSerialize.TheImpl as content_info_written
+use Rattle.der_cms.specs.contracts.cryptographic_message_syntax2004.ContentInfoDeserialize.TheImpl as content_info_read
+use Rattle.der_cms.specs.contracts.cryptographic_message_syntax2004.ContentInfoPartialEq.TheImpl as content_info_compared
 use Rattle.der_cms.specs.contracts.signed_data.SignedDataSerialize.TheImpl as signed_data_written
 use Rattle.der_cms.specs.contracts.signed_data.SignedDataDeserialize.TheImpl as signed_data_read
 use Rattle.der_cms.specs.contracts.signed_data.SignedDataPartialEq.TheImpl as signed_data_compared

@@ -2,8 +2,8 @@
 use Rattle.std.specs.Prelude.{◌≡◌, string_bytes}
 use Rattle.der_program_base.specs.Line.{IsOneLine}
 use Rattle.der_types.specs.contracts.integer.IntegerContents.TheImpl as integer
-use Rattle.der_cms.specs.declared.signer_identifier.SignerIdentifier.{SignerIdentifier}
-use Rattle.der_cms.specs.declared.signer_identifier.SignerIdentifier.TheVariants.{IssuerAndSerialNumber, SubjectKeyIdentifier}
+use Rattle.der_cms.specs.declared.signed_data.SignerIdentifier.{SignerIdentifier}
+use Rattle.der_cms.specs.declared.signed_data.SignerIdentifier.TheVariants.{IssuerAndSerialNumber, SubjectKeyIdentifier}
 use Rattle.der_signers.specs.declared.who.Who.{Who}
 use Rattle.der_signers.specs.declared.who.Who.TheVariants.{Certificate, KeyIdentifier}
 

@@ -1,1 +1,1 @@
-pub mod KeyUsageBits
+pub mod by_hand

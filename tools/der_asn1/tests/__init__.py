@@ -1,6 +1,4 @@
 """Tests of the compiler. What they expect is worked out from the standards, and written before it is run."""
-import os
-
 from ..meaning_types import Meanings
 from ..parse_modules import read_text
 from ..scopes import Program
@@ -34,19 +32,6 @@ def type_of(case, notation, header="EXPLICIT TAGS"):
 def value_of(case, notation, type_="INTEGER"):
     """A value as it is read."""
     return read_clean(case, f"v {type_} ::= {notation}").assignments[0].value
-
-
-# the modules that are over the crate of another one, which comes before them in the order of names
-_OVER = {"stamp": ("Request", "request")}
-
-
-def golden_options(name, modules, folder):
-    """The words of the command that writes the stored crate of a module to this folder."""
-    words = ["--strict", "--out", os.path.join(folder, name)]
-    if name in _OVER:
-        module, crate = _OVER[name]
-        words += ["--crate", f"{module}={crate}", "--import", os.path.join(modules, f"{crate}.asn1")]
-    return [*words, os.path.join(modules, f"{name}.asn1")]
 
 
 class Given:

@@ -9,9 +9,9 @@ import unittest
 
 from .. import command, emit_crate
 from . import given
+from .stored import GOLDEN, files_below
 
 TOOL = os.path.join(os.path.dirname(os.path.dirname(os.path.realpath(__file__))), "der_asn1")
-GOLDEN = os.path.join(os.path.dirname(os.path.realpath(__file__)), "golden")
 
 FLAGS = """F DEFINITIONS ::= BEGIN
 -- What is on.
@@ -28,18 +28,18 @@ class NamedNumbers(unittest.TestCase):
 
     def test_all_numbers_have_names(self):
         files = self.files("A ::= SEQUENCE { a Version DEFAULT v1, b [0] Version DEFAULT 2 } Version ::= INTEGER { v3(2), v1(0), v2(1) } (v1 | v2 | v3)")
-        text = files["src/version.rt"]
+        text = files["src/types.rt"]
         self.assertIn("    ghost TAG = { 0x02 };\n", text)
         self.assertIn("            [2] => Some(Version::V3),\n", text)
         self.assertIn("self.serialize_under(Tag::INTEGER, serializer)", text)
         self.assertIn("Version = INTEGER-named (0 ∷ 1 ∷ 2 ∷ [])\n", files["specs/Notation.antt"])
         self.assertIn("default (number 2) (CONTEXT 0 TAGS Version)", files["specs/Notation.antt"])
-        self.assertIn("Defaulted<Version, VersionV1>,\n    Defaulted<ExplicitContextTag0<Version>, VersionV3>,", files["src/a.rt"])
+        self.assertIn("Defaulted<Version, VersionV1>,\n    Defaulted<ExplicitContextTag0<Version>, VersionV3>,", files["src/types.rt"])
 
     def test_some_numbers_have_none(self):
         files = self.files("A ::= SEQUENCE { a Version, b Level } Version ::= INTEGER { v1(0), v2(1) } Level ::= INTEGER { low(0), high(2) } (0..2)")
-        self.assertIn("pub type Version = Integer;\n", files["src/aliases.rt"])
-        self.assertIn("pub type Level = InRange<u8, 0, 2>;\n", files["src/aliases.rt"])
+        self.assertIn("pub type Version = Integer;\n", files["src/types.rt"])
+        self.assertIn("pub type Level = InRange<u8, 0, 2>;\n", files["src/types.rt"])
 
 
 class OwnFiles(unittest.TestCase):
@@ -63,9 +63,9 @@ class OwnFiles(unittest.TestCase):
 
     def test_a_struct_of_its_own(self):
         self.assertEqual(0, self.run_tool("--distinct", "Flags")[0])
-        self.assertIn("/// What is on. `Flags` of F: `BIT STRING { red (0), green (1) }`.\n", self.text("src/flags.rt"))
-        self.assertIn("pub struct Flags(pub NamedBits);\n", self.text("src/flags.rt"))
-        self.assertIn("    pub more: Option<ImplicitContextTag0<Flags>>,\n", self.text("src/lamp.rt"))
+        self.assertIn("/// What is on. `Flags` of F: `BIT STRING { red (0), green (1) }`.\n", self.text("src/types.rt"))
+        self.assertIn("pub struct Flags(pub NamedBits);\n", self.text("src/types.rt"))
+        self.assertIn("    pub more: Option<ImplicitContextTag0<Flags>>,\n", self.text("src/types.rt"))
         self.assertIn("Flags = BIT-STRING-named\n", self.text("specs/Notation.antt"))
 
     def test_a_struct_of_its_own_has_no_parts(self):
@@ -75,14 +75,15 @@ class OwnFiles(unittest.TestCase):
     def test_they_are_in_the_root(self):
         self.assertEqual(0, self.run_tool("--own", "lights=Light,Lights", "--own", "laws", "--own-terms", "Lights")[0])
         root = self.text("src/lib.rt")
-        self.assertIn("mod lamp;\nmod laws;\nmod lights;\npub mod notation;\n", root)
+        self.assertIn("mod laws;\nmod lights;\npub mod notation;\nmod types;\n", root)
         self.assertIn("pub use lights::{Light, Lights};\n", root)
         self.assertIn("pub mod Lights\npub mod Notation\n", self.text("specs/Lib.antt"))
 
     def test_they_are_left_alone(self):
         own = ("--own", "lights=Light", "--own-terms", "Lights")
         self.run_tool(*own)
-        for path in ("src/lights.rt", "specs/Lights.antt"):
+        for path in ("src/lights.rt", "src/lights/red.rt", "specs/Lights.antt"):
+            os.makedirs(os.path.dirname(os.path.join(self.crate, path)), exist_ok=True)
             with open(os.path.join(self.crate, path), "w", encoding="utf-8") as it:
                 it.write("-- by hand")
         self.assertEqual((0, ""), self.run_tool("--check", *own))
@@ -103,15 +104,9 @@ class Determinism(unittest.TestCase):
 
     def written(self, crate, seed, module):
         """The files of the crate, written by a run of its own."""
-        words = [sys.executable, TOOL, "--out", crate, os.path.join(GOLDEN, f"{module}.asn1")]
+        words = [sys.executable, TOOL, "--out", crate, str(GOLDEN / f"{module}.asn1")]
         subprocess.run(words, check=True, capture_output=True, env={**os.environ, "PYTHONHASHSEED": seed})
-        found = {}
-        for home, _, names in os.walk(crate):
-            for it in names:
-                path = os.path.join(home, it)
-                with open(path, encoding="utf-8") as file:
-                    found[os.path.relpath(path, crate)] = file.read()
-        return found
+        return files_below(crate)
 
 
 if __name__ == "__main__":

@@ -6,11 +6,22 @@ import re
 import tempfile
 import unittest
 
-from .. import command, emit_crate
-from ..emit_choice import parts_type, pattern, place, term
+from .. import command, emit_crate, emit_values
+from ..declarations import ChoiceDeclaration
+from ..emit_choice import pattern, place, term
+from ..emit_enum import enum_terms
+from ..emit_imports import term_imports
+from ..emit_types import lines_of
+from ..folder import difference, write
+from ..parse_modules import read_text
+from ..source import Problems
 from ..layout import assigned, comment, filled, item_lines, natural, tuple_lines, type_lines
+from ..library import parts_type
+from ..private_names import PrivateNames
+from ..rust_types import UNIT, of, tuple_of
 from ..wording import joined, snake
-from . import given, golden_options
+from . import Given, given
+from .stored import GOLDEN, files_below, golden_names, golden_options, stored_files, stored_text
 
 ROOT = os.path.dirname(os.path.dirname(os.path.dirname(os.path.dirname(os.path.realpath(__file__)))))
 
@@ -41,13 +52,30 @@ def by_hand(path):
         return it.read()
 
 
+class NamesByHand(PrivateNames):
+    """What files by hand call parts of their one type. The variants of a choice have their names alone."""
+
+    _TUPLES = {"Parts": "Members", "Parts2": "OtherMembers", "Parts3": "LastMembers"}
+
+    def of(self, declared, suffix):
+        return suffix if isinstance(declared, ChoiceDeclaration) else self._TUPLES.get(suffix, suffix)
+
+    def numbered(self, wanted):
+        return "q"
+
+
+def as_by_hand(crate, name):
+    """The items of a type, with the names of files by hand."""
+    return re.sub(r"\bq\.", "", "\n".join(lines_of(crate.types[name], NamesByHand())))
+
+
 class AsByHand(unittest.TestCase):
     """Each item that is written is one of a file by hand, but for those in `more`."""
 
     maxDiff = None
 
     def check(self, body, name, path, more=(), replaced=(), header="EXPLICIT TAGS"):
-        text = crate_of(body, name, header=header).files()[f"src/{os.path.basename(path)}"]
+        text = as_by_hand(crate_of(body, name, header=header), name)
         for before, after in replaced:
             text = text.replace(before, after)
         hand = items(by_hand(path))
@@ -96,11 +124,11 @@ class AsByHand(unittest.TestCase):
             C ::= SET { a NULL }"""
         crate = crate_of(body, "Personnel")
         hand = items(by_hand("der_examples/src/personnel_record.rt"))
-        text = crate.files()["src/personnel_members.rt"]
+        text = as_by_hand(crate, "PersonnelMembers")
         for item in items(text.replace("<C>", "<Asn1Set<ChildInformation>>")):
             if not item.startswith(("impl Begins", "impl Notated")):
                 self.assertIn(item, hand)
-        aliases = crate.files()["src/aliases.rt"]
+        aliases = crate.files()["src/types.rt"]
         self.assertIn("pub type Personnel = RetaggedSet<PersonnelMembers, 0x60>;\n", aliases)
         self.assertIn("pub type EmployeeNumber = RetaggedPrimitive<Integer, 0x42>;\n", aliases)
 
@@ -116,7 +144,7 @@ class AsByHand(unittest.TestCase):
 
     def test_a_choice_of_four(self):
         body = "Host ::= CHOICE { email UTF8String, domain [2] IMPLICIT IA5String, owner SEQUENCE OF OCTET STRING, address OCTET STRING }"
-        changes = [("Ia5String", "Ia5StringAsn1"), ("Email x ↦ First x", "Email e ↦ First e"), ("Domain x ↦ Second x", "Domain d ↦ Second d")]
+        changes = [("elim [\n      | ", "elim [ "), ("\n      |", " |"), ("\n    ] };", " ] };"), ("Ia5String", "Ia5StringAsn1"), ("Email x ↦ First x", "Email e ↦ First e"), ("Domain x ↦ Second x", "Domain d ↦ Second d")]
         changes += [("Owner x ↦ Third x", "Owner o ↦ Third o"), ("Address x ↦ Fourth x", "Address a ↦ Fourth a")]
         self.check(body, "Host", "der_examples/src/host.rt", replaced=changes)
 
@@ -127,7 +155,7 @@ class AsByHand(unittest.TestCase):
             repeat [9] IMPLICIT INTEGER (0..18446744073709551615), mark [10] Marker, forget [11] SET OF OCTET STRING }
             Point ::= SEQUENCE { x NULL } Marker ::= SEQUENCE { x NULL }
             Setting ::= CHOICE { a INTEGER, b UTF8String }"""
-        text = crate_of(body, "Command").files()["src/command.rt"]
+        text = as_by_hand(crate_of(body, "Command"), "Command")
         hand = items(by_hand("der_examples/src/script.rt"))
         for item in items(text):
             if not item.startswith(("impl Choice", "impl Serialize", "impl Notated")):
@@ -139,45 +167,54 @@ class AsByHand(unittest.TestCase):
     def test_an_enumeration(self):
         body = """ResponseStatus ::= ENUMERATED { successful(0), malformedRequest(1), internalError(2), tryLater(3), sigRequired(5),
             unauthorized(6) }"""
-        changes = [("variant.", "status."), ("response_status_number", "status_number"), ("is_response_status", "is_status"), ("same_response_status", "same_status")]
+        variants = "Successful MalformedRequest InternalError TryLater SigRequired Unauthorized".split()
+        changes = [*((f"| {it} ↦", f"| status.{it} ↦") for it in variants), ("response_status_number", "status_number"), ("is_response_status", "is_status"), ("same_response_status", "same_status")]
         self.check(body, "ResponseStatus", "der_examples/src/response_status.rt", replaced=changes)
 
     def test_the_terms_of_an_enumeration(self):
         body = """ResponseStatus ::= ENUMERATED { successful(0), malformedRequest(1), internalError(2), tryLater(3), sigRequired(5),
             unauthorized(6) }"""
-        text = crate_of(body, "ResponseStatus").files()["specs/ResponseStatus.antt"]
+        crate = crate_of(body, "ResponseStatus")
+        text = "\n".join([*enum_terms(crate.types["ResponseStatus"], "q", "compared")[1:], ""]).replace("q.", "")
         text = text.replace("response_status_number", "status_number").replace("is_response_status", "is_status").replace("same_response_status", "same_status")
-        self.assertEqual(by_hand("der_examples/specs/ResponseStatus.antt").split("\n")[1:], text.split("\n")[1:])
-        self.assertEqual("pub mod Notation\npub mod ResponseStatus\n", crate_of(body, "ResponseStatus").files()["specs/Lib.antt"])
+        hand = by_hand("der_examples/specs/ResponseStatus.antt")
+        self.assertEqual(hand[hand.index("abbrev pub") :], text.replace("equal_response_status", "equal_by_number"))
+        self.assertEqual(["pub mod Enumerations", "pub mod Notation"], crate.files()["specs/Lib.antt"].splitlines()[1:])
+
+    def test_the_imports_of_the_terms_of_enumerations(self):
+        body = "A ::= SEQUENCE { e E, f F } E ::= ENUMERATED { x(3), y(9) } F ::= ENUMERATED { x(0), y(1) }"
+        found = [it for it in crate_of(body, "A").files()["specs/Enumerations.antt"].split("\n") if it.startswith("use Rattle.der_examples")]
+        home = "use Rattle.der_examples.specs"
+        wanted = [(f"declared.types.{it}.{{{it}}}", f"declared.types.{it}.TheVariants as {it.lower()}") for it in "EF"]
+        pairs = [[*pair, f"contracts.types.{it}PartialEq.TheImpl as {it.lower()}_compared"] for it, pair in zip("EF", wanted)]
+        self.assertEqual([f"{home}.{line}" for pair in pairs for line in pair], found)
 
 
 class Defaults(unittest.TestCase):
     def test_a_named_number_comes_before_a_value(self):
-        text = crate_of("A ::= SEQUENCE { a INTEGER { one(1) } (0..255) DEFAULT one } one INTEGER ::= 7", "A").files()["src/a.rt"]
+        text = crate_of("A ::= SEQUENCE { a INTEGER { one(1) } (0..255) DEFAULT one } one INTEGER ::= 7", "A").files()["src/types.rt"]
         self.assertIn("Defaulted<u8, Number<1>>", text)
 
     def test_an_item_of_an_enumeration(self):
         body = """A ::= SEQUENCE { a E DEFAULT y, b [0] F DEFAULT v, c [1] IMPLICIT E DEFAULT y } E ::= ENUMERATED { x(3), y(9) } F ::= E v F ::= x
             y INTEGER ::= 5"""
         files = crate_of(body, "A").files()
-        members = "type Members = (\n    Defaulted<E, EY>,\n    Defaulted<ExplicitContextTag0<F>, EX>,\n    Defaulted<ImplicitContextTag1<E>, EY>,"
-        self.assertIn(members, files["src/a.rt"])
-        self.assertIn("use crate::{E, EX, EY, F};\n", files["src/a.rt"])
-        self.assertIn("pub use e::{E, EX, EY};\n", files["src/lib.rt"])
-        self.assertEqual(["EY", "EX"], re.findall(r"pub struct (\w+);", files["src/e.rt"]))
-        self.assertIn("        matches!(*value, E::Y)\n", files["src/e.rt"])
-        terms = files["specs/E.antt"]
+        members = "type AParts = (\n    Defaulted<E, EY>,\n    Defaulted<ExplicitContextTag0<F>, EX>,\n    Defaulted<ImplicitContextTag1<E>, EY>,"
+        self.assertIn(members, files["src/types.rt"])
+        self.assertIn("pub use types::{A, E, EX, EY, F};\n", files["src/lib.rt"])
+        self.assertEqual(["EY", "EX"], re.findall(r"pub struct (\w+);", files["src/types.rt"]))
+        self.assertIn("        matches!(*value, E::Y)\n", files["src/types.rt"])
+        terms = re.sub(r"\be\.(?=[XY])", "", files["specs/Enumerations.antt"])
         self.assertIn("is_default_ey X = false\nis_default_ey Y = true\n", terms)
         self.assertIn("ey_by_tree X y h = cc\ney_by_tree Y X h = (λ k. cc, λ e. cc)\ney_by_tree Y Y h = (λ k. refl, λ e. refl)\n", terms)
 
 
 class Imports(unittest.TestCase):
     def test_of_a_struct(self):
-        text = crate_of("A ::= SEQUENCE { a B, b [10] INTEGER OPTIONAL, c [2] ANY OPTIONAL } B ::= SEQUENCE { a NULL }", "A").files()["src/a.rt"]
-        found = text[text.index("use crate") : text.index("use picky_asn1_der::{")]
+        text = crate_of("A ::= SEQUENCE { a B, b [10] INTEGER OPTIONAL, c [2] ANY OPTIONAL } B ::= SEQUENCE { a NULL }", "A").files()["src/types.rt"]
+        found = text[text.index("use der_types") : text.index("use picky_asn1_der::{")]
         self.assertEqual(
             [
-                "use crate::B;",
                 "use der_types::{Integer, Notated, NotatedMembers};",
                 "use picky_asn1_der::asn1::{ExplicitContextTag2, ExplicitContextTag10, Tag};",
                 "use picky_asn1_der::de::Begins;",
@@ -187,30 +224,42 @@ class Imports(unittest.TestCase):
             found.strip().split("\n"),
         )
 
-    def test_variants_that_other_names_hide(self):
-        text = crate_of("A ::= CHOICE { other NULL, this BOOLEAN }", "A").files()["src/a.rt"]
-        self.assertIn("ghost use Rattle.der_examples.specs.declared.a.A.TheVariants as variant;\n", text)
-        self.assertIn("elim [ variant.Other x ↦ This x | variant.This x ↦ Other (This x) ]", text)
+    def test_of_two_types(self):
+        """A file imports what both use once, and what only one uses, and nothing of its own."""
+        text = crate_of("A ::= SEQUENCE { a C } C ::= CHOICE { b NULL, c INTEGER }", "A").files()["src/types.rt"]
+        self.assertEqual(1, text.count("use picky_asn1_der::de::{Begins, deserialize_choice_as};\n"))
+        self.assertIn("use picky_asn1_der::OneOf::{Other, This};\n", text)
+        self.assertNotIn("use crate", text)
+        self.assertIn("ghost use Rattle.std.specs.Prelude.{refl};\n", text)
+        self.assertIn("ghost use Rattle.der_examples.specs.declared.types.C.TheVariants as c_variants;\n", text)
+
+    def test_terms_that_are_many(self):
+        lines = term_imports("Rattle.a", [f"name_of_a_term_{it}" for it in range(12)])
+        self.assertTrue(len(lines) > 1 and all(len(it) <= 140 and it.startswith("ghost use Rattle.a.{name") for it in lines))
+
+    def test_variants_are_named_by_their_choice(self):
+        text = crate_of("A ::= CHOICE { other NULL, this BOOLEAN }", "A").files()["src/types.rt"]
+        self.assertIn("elim [ a_variants.Other x ↦ This x | a_variants.This x ↦ Other (This x) ]", text)
         self.assertIn("This(other) => A::Other(other),", text)
 
 
 class Comments(unittest.TestCase):
     def test_those_of_the_module_and_the_notation(self):
         body = "-- What it is.\nA ::= SEQUENCE {\n  a [0] IMPLICIT NULL OPTIONAL, -- only sometimes\n  b BOOLEAN DEFAULT TRUE\n}"
-        text = crate_of(body, "A").files()["src/a.rt"]
+        text = crate_of(body, "A").files()["src/types.rt"]
         self.assertIn("/// What it is. `A` of M, as a SEQUENCE.\n", text)
         self.assertIn("    /// only sometimes. `[0] IMPLICIT NULL OPTIONAL`.\n", text)
         self.assertIn("    /// `BOOLEAN DEFAULT TRUE`.\n", text)
 
     def test_a_default_that_isnt_one(self):
-        text = crate_of("A ::= SEQUENCE { a INTEGER DEFAULT -1 }", "A").files()["src/a.rt"]
+        text = crate_of("A ::= SEQUENCE { a INTEGER DEFAULT -1 }", "A").files()["src/types.rt"]
         wanted = "as a SEQUENCE.\n///\n/// Its values differ from the notation's. The crate lacks: DEFAULT of an INTEGER without bounds.\n#[derive"
         self.assertIn(wanted, text)
         self.assertIn("/// `INTEGER DEFAULT -1`. A default that is written out is read, too.\n    pub a: Option<Integer>,\n", text)
 
     def test_a_default_of_which_the_other_numbers_are_a_type(self):
         body = "A ::= SEQUENCE { v [0] V DEFAULT v1, n [1] INTEGER (0..9) DEFAULT 5, m [2] INTEGER (0..65535) DEFAULT 256 } V ::= INTEGER { v1(0) }"
-        text = crate_of(body, "A").files()["src/a.rt"]
+        text = crate_of(body, "A").files()["src/types.rt"]
         self.assertIn("/// `[0] V DEFAULT v1`. `None` is the default.\n    pub v: Option<ExplicitContextTag0<OtherThan<V, 0>>>,\n", text)
         self.assertIn("pub n: Option<ExplicitContextTag1<OtherThan<InRange<u8, 0, 9>, 5>>>,\n", text)
         self.assertIn("pub m: Option<ExplicitContextTag2<OtherThan<u16, 256>>>,\n", text)
@@ -218,27 +267,27 @@ class Comments(unittest.TestCase):
 
 
     def test_an_open_type_is_what_the_notation_says(self):
-        self.assertNotIn("aren't exactly", crate_of("A ::= SEQUENCE { a ANY }", "A").files()["src/a.rt"])
+        self.assertNotIn("aren't exactly", crate_of("A ::= SEQUENCE { a ANY }", "A").files()["src/types.rt"])
 
     def test_another_name_of_a_type_that_has_more_values(self):
-        text = crate_of("A ::= INTEGER (0..MAX)", "A").files()["src/aliases.rt"]
+        text = crate_of("A ::= INTEGER (0..MAX)", "A").files()["src/types.rt"]
         self.assertIn("/// Its values differ from the notation's. The crate lacks: a type of its own with `Constrained`.\npub type A = Integer;\n", text)
 
 
 class Names(unittest.TestCase):
     def test_words_of_proofs(self):
-        self.assertIn("    TheType(()),\n", crate_of("A ::= CHOICE { type NULL, b BOOLEAN }", "A").files()["src/a.rt"])
+        self.assertIn("    TheType(()),\n", crate_of("A ::= CHOICE { type NULL, b BOOLEAN }", "A").files()["src/types.rt"])
         self.assertEqual(["AsnType"], list(crate_of("Type ::= SEQUENCE { a NULL }", "Type").types))
 
     def test_words_of_rust(self):
-        text = crate_of("A ::= SEQUENCE { type NULL, serial-Number NULL, n2 NULL }", "A").files()["src/a.rt"]
+        text = crate_of("A ::= SEQUENCE { type NULL, serial-Number NULL, n2 NULL }", "A").files()["src/types.rt"]
         self.assertEqual(["type_", "serial_number", "n2"], re.findall(r"pub (\w+):", text))
 
     def test_members_that_are_called_as_a_variable_is(self):
         body = "A ::= SEQUENCE { others NULL, " + ", ".join(f"a{it} NULL" for it in range(8)) + " }"
-        text = crate_of(body, "A").files()["src/a.rt"]
+        text = crate_of(body, "A").files()["src/types.rt"]
         self.assertIn("let (others, a0, a1, a2, a3, a4, a5, a6, others_members) = members;\n        let (a7, ()) = others_members;\n", text)
-        text = crate_of("A ::= CHOICE { serializer NULL, b BOOLEAN }", "A").files()["src/a.rt"]
+        text = crate_of("A ::= CHOICE { serializer NULL, b BOOLEAN }", "A").files()["src/types.rt"]
         self.assertIn("A::Serializer(it) => serializer.serialize_choice(it),", text)
 
     def test_names_that_are_the_same_in_rust(self):
@@ -259,10 +308,14 @@ class Names(unittest.TestCase):
     def test_a_struct_under_a_tag_has_a_name_of_its_own(self):
         crate = crate_of("A ::= [APPLICATION 1] SEQUENCE { a SEQUENCE OF SEQUENCE { b NULL } }", "A")
         self.assertEqual(["A", "AAItem", "AMembers"], sorted(crate.types))
-        self.assertIn("pub type A = ApplicationTag<AMembers, 1>;\n", crate.files()["src/aliases.rt"])
+        self.assertIn("pub type A = ApplicationTag<AMembers, 1>;\n", crate.files()["src/types.rt"])
 
-    def test_a_file_that_has_another_use(self):
-        self.assertIn("src/values_type.rt", crate_of("Values ::= SEQUENCE { a NULL }", "Values").files())
+    def test_of_parts_are_free(self):
+        """A part of a struct has none of the names of types and fields, and each part of a file its own."""
+        files = crate_of("A ::= SEQUENCE { a AParts, a-variants C } AParts ::= SEQUENCE { a NULL } C ::= CHOICE { b NULL }", "A").files()
+        self.assertEqual(["AParts2", "APartsParts", "CParts"], re.findall(r"^type (\w+)", files["src/types.rt"], re.M))
+        files = crate_of("C ::= SEQUENCE { d-variants D } D ::= CHOICE { b NULL }", "C").files()
+        self.assertIn("D.TheVariants as d_variants2;\n", files["src/types.rt"])
 
     def test_only_what_is_reached_is_written(self):
         self.assertEqual(["A", "B"], sorted(crate_of("A ::= SEQUENCE { b B } B ::= INTEGER C ::= NULL", "A").types))
@@ -274,66 +327,118 @@ class Names(unittest.TestCase):
         self.assertEqual(["dns_name", "crl_sign", "x_axis", "e_type"], [snake(it) for it in ("dNSName", "cRLSign", "xAxis", "e-TYPE")])
 
 
-def golden_files(folder):
-    """The files of a stored crate, by their paths in it. Each has `.txt` after its name, since a crate has to be in `crates`."""
-    found = {}
-    for home, _, names in os.walk(folder):
-        for it in names:
-            path = os.path.join(home, it)
-            with open(path, encoding="utf-8") as file:
-                found[os.path.relpath(path, folder).removesuffix(".txt")] = file.read()
-    return found
-
-
 class Golden(unittest.TestCase):
     """The crates of small modules. Each was read before it was stored, and `tools/der_asn1/golden` writes it anew."""
 
     maxDiff = None
 
     def test_each(self):
-        folder = os.path.join(os.path.dirname(os.path.realpath(__file__)), "golden")
-        names = sorted(os.path.splitext(it)[0] for it in os.listdir(folder) if it.endswith(".asn1"))
+        names = golden_names()
         self.assertEqual(10, len(names))
         with tempfile.TemporaryDirectory() as there:
             for it in names:
                 with self.subTest(it):
                     printed = io.StringIO()
                     with contextlib.redirect_stdout(io.StringIO()), contextlib.redirect_stderr(printed):
-                        status = command.main(golden_options(it, folder, there))
+                        status = command.main(golden_options(it, there))
                     self.assertEqual((0, ""), (status, printed.getvalue()))
-                    self.assertEqual(golden_files(os.path.join(folder, it)), golden_files(os.path.join(there, it)))
+                    stored = (GOLDEN / f"{it}.crate").read_text(encoding="utf-8")
+                    self.assertEqual(stored_files(stored), files_below(os.path.join(there, it)))
+
+    def test_a_crate_as_one_text(self):
+        files = {"src/a.rt": "//! A.\n==> \n", "src/lib.rt": "mod a;\n"}
+        self.assertEqual("==> src/a.rt <==\n//! A.\n==> \n==> src/lib.rt <==\nmod a;\n", stored_text(files))
+        self.assertEqual(files, stored_files(stored_text(files)))
 
 
 class Values(unittest.TestCase):
     def test_object_identifiers(self):
         one = given("id-at OBJECT IDENTIFIER ::= { 2 5 4 }\nid-rsa OBJECT IDENTIFIER ::= { iso(1) member-body(2) us(840) 113549 }\nn INTEGER ::= 5")
-        found = emit_crate.values_of(one.program, one.program.modules)
+        found = emit_values.values_of(one.program, one.program.modules)
         self.assertEqual([("ID_AT", [0x55, 0x04]), ("ID_RSA", [0x2A, 0x86, 0x48, 0x86, 0xF7, 0x0D])], [(it.name, it.content()) for it in found])
 
     def test_their_file(self):
         one = given("id-at OBJECT IDENTIFIER ::= { 2 5 4 }")
-        lines = emit_crate.value_file(emit_crate.values_of(one.program, one.program.modules))
+        lines = emit_values.value_file(emit_values.values_of(one.program, one.program.modules))
         self.assertEqual(["", "/// `id-at`, 2.5.4.", "pub const ID_AT: &[u8] = &[0x55, 0x04];"], lines[1:])
 
 
 class Files(unittest.TestCase):
     def test_the_root(self):
         text = crate_of("A ::= SEQUENCE { b B } B ::= INTEGER", "A").files()["src/lib.rt"]
-        self.assertTrue(text.startswith("//! The types of M, written by tools/der_asn1.\n#![tactic(auto)]\n\n"))
-        self.assertTrue(text.endswith("\n\nmod a;\nmod aliases;\npub mod notation;\n\npub use a::A;\npub use aliases::B;\n"))
+        self.assertIn("\n//!\n//! The types of M.\n#![tactic(auto)]\n\n", text)
+        self.assertTrue(text.endswith("\n\npub mod notation;\nmod types;\n\npub use types::{A, B};\n"))
 
     def test_more_than_a_hundred_names(self):
-        for count, wanted in ((100, "pub use aliases::{\n"), (101, "pub use aliases::T0;\npub use aliases::T1;\n")):
+        for count, wanted in ((100, "pub use types::{\n"), (101, "pub use types::T0;\npub use types::T1;\n")):
             body = "\n".join(f"T{it} ::= INTEGER" for it in range(count))
             text = crate_of(body, *(f"T{it}" for it in range(count))).files()["src/lib.rt"]
             self.assertIn(wanted, text)
 
+    def test_the_first_line_of_each_says_where_it_is_from(self):
+        def first_lines(*paths):
+            modules = [read_text(f"M{it} DEFINITIONS ::= BEGIN C{it} ::= CHOICE {{ a NULL, e ENUMERATED {{ b(0) }} }} END", path, Problems())[0] for it, path in enumerate(paths)]
+            crate = command.crate_of("it", modules, [], [], Problems())
+            return {path: text.split("\n")[0] for path, text in crate.files().items()}
+
+        one = first_lines(os.path.join(ROOT, "modules", "M.asn1"))
+        self.assertEqual({"//! ", "-- "}, {it.partition("Generated")[0] for it in one.values()})
+        self.assertEqual({"by tools/der_asn1 from modules/M.asn1. Don't edit."}, {it.partition("Generated ")[2] for it in one.values()})
+        self.assertIn("specs/Enumerations.antt", one)
+        two = first_lines(os.path.join(ROOT, "modules", "M.asn1"), "/elsewhere/N.asn1")
+        self.assertEqual("//! Generated by tools/der_asn1 from 2 modules of ASN.1. Don't edit.", two["src/notation.rt"])
+        self.assertEqual("//! Generated by tools/der_asn1 from N.asn1. Don't edit.", two["src/m1.rt"])
+
+    def test_the_order_of_types_is_that_of_the_module(self):
+        text = crate_of("B ::= SEQUENCE { c CHOICE { d NULL }, a A }\nA ::= INTEGER", "B").files()["src/types.rt"]
+        self.assertEqual(["B", "BC", "A"], re.findall(r"^pub (?:struct|enum|type) (\w+)", text, re.M))
+
     def test_writing_and_checking(self):
         files = crate_of("A ::= SEQUENCE { b NULL }", "A").files()
         with tempfile.TemporaryDirectory() as folder:
-            self.assertEqual(sorted(files), emit_crate.difference(folder, files))
-            emit_crate.write(folder, files)
-            self.assertEqual([], emit_crate.difference(folder, files))
+            self.assertEqual(sorted(files), difference(folder, files, []))
+            write(folder, files, [])
+            self.assertEqual([], difference(folder, files, []))
+
+    def test_a_file_that_is_no_longer_written_is_removed(self):
+        files = crate_of("A ::= CHOICE { b NULL, c BOOLEAN }", "A").files()
+        moved = {path.replace("types", "other"): text for path, text in files.items()}
+        with tempfile.TemporaryDirectory() as folder:
+            write(folder, files, [])
+            by_hand = os.path.join(folder, "src", "mine.rt")
+            with open(by_hand, "w", encoding="utf-8") as it:
+                it.write("//! By hand.\n")
+            gone = ["src/types.rt", "proofs/types/ASerialize/serialize/Answers.antt"]
+            self.assertEqual({"src/mine.rt", *gone}, {*difference(folder, moved, [])} - {*moved})
+            write(folder, moved, [])
+            self.assertEqual(["src/mine.rt"], difference(folder, moved, []))
+
+
+class Groups(unittest.TestCase):
+    """Which file each type is in."""
+
+    TWO = "N DEFINITIONS ::= BEGIN C ::= SEQUENCE { d CHOICE { e NULL } } F ::= NULL END"
+
+    def files(self, groups, *texts):
+        one = Given(*texts)
+        names = [one.meaning(it.name, at).rust.text for at, module in enumerate(one.program.modules) for it in module.assignments]
+        types = emit_crate.reached(one.meanings.declarations, names)
+        crate = emit_crate.Crate("it", types, [], one.program.modules, groups=groups)
+        return {stem: [it.name for it in found] for stem, found in crate.types_by_stem().items()}
+
+    def test_of_one_module(self):
+        self.assertEqual({"types": ["C", "CD", "F"]}, self.files({}, self.TWO))
+
+    def test_of_modules(self):
+        one = "My-Module1 DEFINITIONS ::= BEGIN A ::= NULL END"
+        self.assertEqual({"my_module1": ["A"], "n": ["C", "CD", "F"]}, self.files({}, one, self.TWO))
+
+    def test_a_module_that_is_called_as_another_file(self):
+        one = "Values DEFINITIONS ::= BEGIN A ::= NULL END"
+        self.assertEqual({"values_types": ["A"], "n": ["C", "CD", "F"]}, self.files({}, one, self.TWO))
+
+    def test_a_group_has_the_parts_of_its_types(self):
+        self.assertEqual({"of_c": ["C", "CD"], "types": ["F"]}, self.files({"of_c": ["C"]}, self.TWO))
 
 
 class Layout(unittest.TestCase):
@@ -357,6 +462,11 @@ class Layout(unittest.TestCase):
         self.assertTrue(all(len(it) <= 100 for it in lines))
         self.assertEqual(("use a::{", "};"), (lines[0], lines[-1]))
 
+    def test_the_last_line_of_imports_is_as_wide_as_others(self):
+        for width, count in ((100, 3), (101, 4)):
+            self.assertEqual(count, len(filled("", "use a::", ["A" * 60, "B" * (width - 67)], ";")))
+        self.assertEqual(4, len(filled("", "use a::", ["A" * 60, "B" * 33, "C"], ";")))
+
     def test_the_width_of_imports(self):
         for width, count in ((98, 1), (99, 3)):
             self.assertEqual(count, len(filled("", "use a::", ["A" * (width - 13), "B"], ";")))
@@ -377,6 +487,19 @@ class Layout(unittest.TestCase):
         self.assertEqual(["type Parts = OneOf<", f"    {'A' * 50},", f"    {inner},", ">;"], lines)
 
 
+class RustTypes(unittest.TestCase):
+    def test_their_text(self):
+        one = of("Option", of("InRange", of("u8"), "0", "{ usize::MAX }"))
+        self.assertEqual("Option<InRange<u8, 0, { usize::MAX }>>", str(one))
+        self.assertEqual(["()", "(A,)", "(A, B)"], [str(it) for it in (UNIT, tuple_of(of("A")), tuple_of(of("A"), of("B")))])
+
+    def test_their_names(self):
+        self.assertEqual({"A", "low::B", "u8"}, of("A", tuple_of(of("low::B"), UNIT), of("u8"), "MAX").names())
+
+    def test_a_part_in_place_of_another(self):
+        self.assertEqual("A<C, B<B>>", str(of("A", of("B"), of("B", of("B"))).replaced(of("B"), of("C"))))
+
+
 class Alternatives(unittest.TestCase):
     def test_places(self):
         self.assertEqual([["This"], ["Other", "This"], ["Other", "Other", "This"]], [place(it, 3) for it in range(3)])
@@ -384,8 +507,8 @@ class Alternatives(unittest.TestCase):
         self.assertEqual(["Later", "Later", "Fourth"], place(11, 12))
 
     def test_types(self):
-        self.assertEqual("OneOf<A, NoneOf>", parts_type(["A"]))
-        self.assertEqual("OneOf4<A, B, C, D, OneOf<E, NoneOf>>", parts_type(list("ABCDE")))
+        self.assertEqual("OneOf<A, NoneOf>", str(parts_type([of("A")])))
+        self.assertEqual("OneOf4<A, B, C, D, OneOf<E, NoneOf>>", str(parts_type([of(it) for it in "ABCDE"])))
 
     def test_terms_and_patterns(self):
         self.assertEqual("Later (Later (This x))", term(["Later", "Later", "This"], "x"))

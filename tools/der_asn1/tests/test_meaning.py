@@ -245,9 +245,9 @@ class Parts(unittest.TestCase):
     def test_members_of_later_versions(self):
         body = "T ::= SEQUENCE { a NULL OPTIONAL, b INTEGER, ... }\nU ::= SEQUENCE { a NULL, b INTEGER (0..255) OPTIONAL, ..., c BOOLEAN }\nV ::= SEQUENCE { ... }"
         one = given(body)
-        types = [one.meanings.declarations.by_name[one.meaning(it).rust.text].later.type_text for it in "TU"]
+        types = [str(one.meanings.declarations.by_name[one.meaning(it).rust.text].later.type) for it in "TU"]
         self.assertEqual(["LaterMembers<NoneOf>", "LaterMembers<OneOf<u8, OneOf<bool, NoneOf>>>"], types)
-        self.assertEqual((Level.EXACT, "Vec<Asn1RawDer>"), (one.meaning("V").level, one.meanings.declarations.by_name["V"].type_text))
+        self.assertEqual((Level.EXACT, "Vec<Asn1RawDer>"), (one.meaning("V").level, str(one.meanings.declarations.by_name["V"].type)))
 
     def test_implied_extensibility(self):
         one = given("T ::= SEQUENCE { a NULL }\nU ::= CHOICE { a NULL }", "AUTOMATIC TAGS EXTENSIBILITY IMPLIED")

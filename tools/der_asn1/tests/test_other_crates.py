@@ -26,9 +26,9 @@ class Types(unittest.TestCase):
         crate, said = crate_of("A ::= SEQUENCE { a Name, b [0] IMPLICIT Part OPTIONAL }")
         self.assertEqual((["A"], {"Name": "low", "Part": "low"}, []), (list(crate.types), crate.elsewhere, said))
         files = crate.files()
-        self.assertIn("use low::{Name, Part};\n", files["src/a.rt"])
-        self.assertIn("    pub a: Name,\n", files["src/a.rt"])
-        self.assertIn("Option<ImplicitList0<Part>>", files["src/a.rt"])
+        self.assertIn("use low::{Name, Part};\n", files["src/types.rt"])
+        self.assertIn("    pub a: Name,\n", files["src/types.rt"])
+        self.assertIn("Option<ImplicitList0<Part>>", files["src/types.rt"])
         self.assertIn("\nuse Rattle.low.specs.Notation.{Name, Part}\n", files["specs/Notation.antt"])
         self.assertNotIn("use low", files["src/notation.rt"])
 
@@ -42,7 +42,7 @@ class Types(unittest.TestCase):
 
     def test_another_name_of_one(self):
         crate, _ = crate_of("A ::= Name")
-        self.assertIn("use low::Name;\n\n/// `A` of High: `Name`.\npub type A = Name;\n", crate.files()["src/aliases.rt"])
+        self.assertIn("use low::Name;\n\n/// `A` of High: `Name`.\npub type A = Name;\n", crate.files()["src/types.rt"])
 
     def test_the_name_of_one_that_is_not_used_is_free(self):
         crate, said = crate_of("Part ::= SEQUENCE { a Name } Inner ::= INTEGER")
@@ -79,6 +79,6 @@ class Roots(unittest.TestCase):
 class Order(unittest.TestCase):
     def test_of_imports(self):
         crate, _ = crate_of("A ::= SEQUENCE { a Name, b INTEGER, c B } B ::= SEQUENCE { d NULL }")
-        text = crate.files()["src/a.rt"]
+        text = crate.files()["src/types.rt"]
         found = [it.split("::")[0] for it in text.split("\n") if it.startswith("use ")]
-        self.assertEqual(["use crate", "use der_types", "use low", "use picky_asn1_der"], list(dict.fromkeys(found)))
+        self.assertEqual(["use der_types", "use low", "use picky_asn1_der"], list(dict.fromkeys(found)))

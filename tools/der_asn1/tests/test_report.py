@@ -2,6 +2,7 @@
 import contextlib
 import io
 import os
+import re
 import tempfile
 import unittest
 
@@ -115,20 +116,32 @@ class Command(unittest.TestCase):
             self.assertEqual(1, self.run_on(texts, "--out", out, "--check")[0])
             status, printed, _ = self.run_on(texts, "--out", out)
             self.assertEqual((0, "mine: der_types picky_asn1_der picky_der_core picky_der_ser picky_der_de\n"), (status, printed))
-            self.assertEqual(["aliases.rt", "lib.rt", "notation.rt", "t.rt", "values.rt"], sorted(os.listdir(os.path.join(out, "src"))))
+            self.assertEqual(["lib.rt", "notation.rt", "types.rt", "values.rt"], sorted(os.listdir(os.path.join(out, "src"))))
             self.assertEqual((0, "", ""), self.run_on(texts, "--out", out, "--check"))
             open(os.path.join(out, "src", "other.rt"), "w", encoding="utf-8").close()
             self.assertEqual((1, f"{out}/src/other.rt isn't what would be written\n", ""), self.run_on(texts, "--out", out, "--check"))
             os.remove(os.path.join(out, "src", "other.rt"))
-            with open(os.path.join(out, "src", "t.rt"), "a", encoding="utf-8") as it:
+            with open(os.path.join(out, "src", "types.rt"), "a", encoding="utf-8") as it:
                 it.write("\n")
-            self.assertEqual((1, f"{out}/src/t.rt isn't what would be written\n", ""), self.run_on(texts, "--out", out, "--check"))
+            self.assertEqual((1, f"{out}/src/types.rt isn't what would be written\n", ""), self.run_on(texts, "--out", out, "--check"))
 
     def test_some_types_of_a_crate(self):
         with tempfile.TemporaryDirectory() as folder:
             texts = {"m.asn1": module_text("T ::= SEQUENCE { a U } U ::= SEQUENCE { a NULL } V ::= REAL")}
             self.assertEqual(0, self.run_on(texts, "--out", folder, "--type", "T")[0])
-            self.assertEqual(["lib.rt", "notation.rt", "t.rt", "u.rt"], sorted(os.listdir(os.path.join(folder, "src"))))
+            self.assertEqual(["lib.rt", "notation.rt", "types.rt"], sorted(os.listdir(os.path.join(folder, "src"))))
+            with open(os.path.join(folder, "src", "types.rt"), encoding="utf-8") as it:
+                self.assertEqual(["T", "U"], re.findall(r"^pub struct (\w+)", it.read(), re.M))
+
+    def test_groups_of_types(self):
+        texts = {"m.asn1": module_text("T ::= SEQUENCE { a U } U ::= SEQUENCE { a NULL } V ::= NULL")}
+        with tempfile.TemporaryDirectory() as folder:
+            self.assertEqual(0, self.run_on(texts, "--out", folder, "--group", "mine=T", "--group", "mine=V")[0])
+            self.assertEqual(["lib.rt", "mine.rt", "notation.rt", "types.rt"], sorted(os.listdir(os.path.join(folder, "src"))))
+            status, _, err = self.run_on(texts, "--out", folder, "--group", "mine=T,W")
+            self.assertEqual((1, "m.asn1:1:1: error: the crate has no type `W` for `mine.rt` (docs/ASN1.md)\n"), (status, err))
+            status, _, err = self.run_on(texts, "--out", folder, "--group", "values=T")
+            self.assertEqual((1, "m.asn1:1:1: error: a group can't be called `values` (docs/ASN1.md)\n"), (status, err))
 
     def test_types_that_are_called_the_same_in_rust(self):
         with tempfile.TemporaryDirectory() as folder:
@@ -157,7 +170,7 @@ class Command(unittest.TestCase):
         for notation, option, wanted in (raw, bits, wider):
             with self.subTest(notation), tempfile.TemporaryDirectory() as folder:
                 self.assertEqual(0, self.run_on({"m.asn1": module_text(notation)}, "--out", folder, option)[0])
-                with open(os.path.join(folder, "src", "aliases.rt"), encoding="utf-8") as it:
+                with open(os.path.join(folder, "src", "types.rt"), encoding="utf-8") as it:
                     self.assertIn(f"pub type T = {wanted};\n", it.read())
 
     def test_the_same_input_gives_the_same_output(self):

@@ -188,7 +188,7 @@ class Tags(unittest.TestCase):
     def test_implicit_over_a_parameter_is_explicit(self):
         one = given("T { P } ::= SEQUENCE { a [1] P }\nU ::= T { INTEGER }", "IMPLICIT TAGS")
         one.meaning("U")
-        self.assertEqual(["ExplicitContextTag1<Integer>"], [it.type_text for it in one.meanings.declarations.by_name["TInteger"].fields])
+        self.assertEqual(["ExplicitContextTag1<Integer>"], [str(it.type) for it in one.meanings.declarations.by_name["TInteger"].fields])
 
     def test_implicit_that_is_written_over_a_choice(self):
         one = given("T ::= SEQUENCE { a [1] IMPLICIT CHOICE { x NULL } }")
@@ -201,7 +201,7 @@ class Tags(unittest.TestCase):
         one.meaning("T")
         self.assertEqual([], one.problems.found)
         fields = one.meanings.declarations.by_name["T"].fields
-        self.assertEqual(["ExplicitContextTag0<TA>", "ImplicitContextTag1<()>"], [it.type_text for it in fields])
+        self.assertEqual(["ExplicitContextTag0<TA>", "ImplicitContextTag1<()>"], [str(it.type) for it in fields])
 
     def test_a_selection_is_tagged_as_its_alternative(self):
         self.assertEqual([0x81], self.firsts("[1] IMPLICIT a < C", "C ::= CHOICE { a NULL }"))

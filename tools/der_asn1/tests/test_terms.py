@@ -53,7 +53,7 @@ class Terms(unittest.TestCase):
 
     def test_a_tag_over_a_set_with_a_constraint(self):
         one = given("T ::= [1] IMPLICIT S (WITH COMPONENTS { a PRESENT })\nS ::= SET { a NULL OPTIONAL }")
-        self.assertEqual("RetaggedSet<SMembers, 0xA1>", one.meanings.declarations.by_name[one.meaning("T").rust.text].type_text)
+        self.assertEqual("RetaggedSet<SMembers, 0xA1>", str(one.meanings.declarations.by_name[one.meaning("T").rust.text].type))
 
     def test_a_tag_over_a_string_of_which_the_library_has_only_bytes(self):
         pairs = [("[0] GraphicString", "CONTEXT 0 TAGS-M (instead (any-content 0x19))")]
@@ -62,7 +62,7 @@ class Terms(unittest.TestCase):
 
     def field(self):
         one = given("T ::= SEQUENCE { a [APPLICATION 3] IMPLICIT GraphicString }")
-        return one.meanings.declarations.by_name[one.meaning("T").rust.text].fields[0].type_text
+        return str(one.meanings.declarations.by_name[one.meaning("T").rust.text].fields[0].type)
 
     def test_members(self):
         wanted = "SEQUENCE (required NULL ⨾ optional BOOLEAN ⨾ default TRUE (CONTEXT 0 TAGS-M BOOLEAN) ⨾ end)"
@@ -137,7 +137,7 @@ class Definitions(unittest.TestCase):
 
     def test_a_name_that_the_type_under_a_tag_has_not(self):
         crate = crate_of("A ::= SEQUENCE { b [0] IMPLICIT B } B ::= SET { c NULL }", "A")
-        self.assertIn("RetaggedSet<BMembers, 0xA0>", crate.files()["src/a.rt"])
+        self.assertIn("RetaggedSet<BMembers, 0xA0>", crate.files()["src/types.rt"])
         self.assertEqual(["A", "B", "BMembers"], sorted(crate.types))
 
     def test_the_law(self):

@@ -1,0 +1,91 @@
+"""The files of a crate's types: which file each type is in, and the lines of a file."""
+from dataclasses import dataclass
+
+from .declarations import AliasDeclaration, ChoiceDeclaration, Declaration, EnumDeclaration, NewtypeDeclaration, StructDeclaration
+from .emit_choice import choice_lines, choice_uses
+from .emit_comments import difference_note, sentence
+from .emit_enum import enum_lines, enum_uses
+from .emit_imports import Uses
+from .emit_newtype import newtype_lines, newtype_uses
+from .emit_struct import struct_lines, struct_uses
+from .layout import assigned, comment
+from .private_names import PrivateNames
+from .wording import snake
+
+# the file of the types of a crate of one module, without those of groups
+ONLY = "types"
+
+
+@dataclass(frozen=True)
+class Context:
+    """What the lines of a file depend on: the crate, the crates of types that are named, and the names of what is private."""
+
+    crate: str
+    homes: dict[str, str]
+    names: PrivateNames
+
+
+def stems_of(types: list[Declaration], groups: dict[str, list[str]], taken: frozenset[str]) -> dict[str, str]:
+    """The name of the file of each type, by the name of the type.
+
+    A type is in the file of the group that has it, or that has what it is a part of. All others of a module are in its file, which is
+    `types` if the crate is of one module alone. No file of a module has a name in `taken`.
+    """
+    group_of = {source: stem for stem, sources in groups.items() for source in sources}
+    is_one_module = len({it.module for it in types}) == 1
+    return {it.name: group_of.get(it.root) or (ONLY if is_one_module else module_stem(it.module, taken)) for it in types}
+
+
+def module_stem(module: str, taken: frozenset[str]) -> str:
+    """The name of the file of a module."""
+    found = snake(module)
+    return f"{found}_types" if found in taken else found
+
+
+def types_file(types: list[Declaration], stem: str, context: Context) -> list[str]:
+    """The lines of a file of types, after its first one: their items in the order of the modules."""
+    uses, body = Uses(), []
+    for it in types:
+        uses.add(uses_of(it, stem, context))
+        body += ["", *lines_of(it, context.names)]
+    own = {it.name for it in types} | {name for it in types for name in getattr(it, "defaults", [])}
+    terms, rust = uses.term_lines(), uses.rust_lines(context.homes, own)
+    modules = list(dict.fromkeys(it.module for it in types))
+    about = comment("", "//!", f"Types of {', '.join(modules)}.")
+    return [*about, *terms, *([""] if rust else []), *rust, *body]
+
+
+def uses_of(declared: Declaration, stem: str, context: Context) -> Uses:
+    """What the items of a type name."""
+    home = f"Rattle.{context.crate}.specs.declared.{stem}"
+    if isinstance(declared, NewtypeDeclaration):
+        return newtype_uses(declared)
+    if isinstance(declared, StructDeclaration):
+        return struct_uses(declared)
+    if isinstance(declared, ChoiceDeclaration):
+        return choice_uses(declared, context.names, home)
+    if isinstance(declared, EnumDeclaration):
+        return enum_uses(declared, context.names, context.crate, home)
+    return Uses(declared.type.names())
+
+
+def lines_of(declared: Declaration, names: PrivateNames) -> list[str]:
+    """The items of a type."""
+    if isinstance(declared, NewtypeDeclaration):
+        return newtype_lines(declared)
+    if isinstance(declared, StructDeclaration):
+        return struct_lines(declared, names)
+    if isinstance(declared, ChoiceDeclaration):
+        return choice_lines(declared, names)
+    if isinstance(declared, EnumDeclaration):
+        return enum_lines(declared, names)
+    return alias_lines(declared)
+
+
+def alias_lines(declared: AliasDeclaration) -> list[str]:
+    """A name of another type."""
+    return [
+        *comment("", "///", f"{sentence(declared.comment)} `{declared.source}` of {declared.module}: `{declared.notation}`."),
+        *difference_note(declared),
+        *assigned("", f"pub type {declared.name} =", str(declared.type), ";"),
+    ]
