@@ -24,8 +24,8 @@ def pieces(text: str) -> Lines:
 
 
 def word_of(lines: Lines) -> str:
-    """How a module is declared: one with items that others name by its path is for the crate."""
-    return "pub(crate) mod" if any(line.startswith("pub(crate) fn") for line in lines) else "mod"
+    """How a module is declared: one with items that others name is public."""
+    return "pub mod" if any(line.startswith(("pub ", "pub(crate) fn")) for line in lines) else "mod"
 
 
 def with_modules(files: Files) -> Files:
@@ -35,7 +35,7 @@ def with_modules(files: Files) -> Files:
         folder, found, name = path.partition("/src/generated/")
         if found:
             modules.setdefault(f"{folder}/src/generated.rt", []).append(f"{word_of(lines)} {name.removesuffix('.rt')};")
-    declared = {path: [*source("What repeats for each width or type."), "", *sorted(names)] for path, names in modules.items()}
+    declared = {path: [*source("What repeats for each width or type."), "", *sorted(names, key=lambda it: it.split()[-1])] for path, names in modules.items()}
     return {**declared, **files}
 
 

@@ -37,9 +37,9 @@ SIGNED = [
 ]
 
 
-def each(template: str, numbers: list[Number]) -> Lines:
-    """The template for each of these types."""
-    return [line for number in numbers for line in pieces(Template(template).substitute(asdict(number)))]
+def each(template: str, numbers: list[Number], **words: str) -> Lines:
+    """The template for each of these types, with these words too."""
+    return [line for number in numbers for line in pieces(Template(template).substitute(asdict(number), **words))]
 
 
 # ---- as a sign and bits
@@ -392,33 +392,6 @@ def named_numbers() -> Lines:
     ]
 
 
-# ---- notation
-
-NOTATED_UNSIGNED = """
-impl Notated for $name {
-    ghost notation = { Notation.unsigned $bits };
-
-    ghost denoted = { refl };
-}
-"""
-
-NOTATED_SIGNED = NOTATED_UNSIGNED.replace("unsigned", "signed")
-
-
-def notated_numbers() -> Lines:
-    """The ASN.1 types of numbers."""
-    return [
-        *source("The ASN.1 types of numbers of each width."),
-        "ghost use Rattle.std.specs.Prelude.{refl};",
-        "ghost use Rattle.der_types.specs.Notation.{Notation};",
-        "",
-        "use crate::Notated;",
-        "",
-        *each(NOTATED_UNSIGNED, UNSIGNED),
-        *each(NOTATED_SIGNED, SIGNED),
-    ]
-
-
 def files() -> Files:
     """The files of numbers."""
     proofs = "crates/picky_der_de/proofs/generated/numbers"
@@ -428,7 +401,6 @@ def files() -> Files:
         "crates/picky_der_ser/src/generated/defaults.rt": defaults(),
         "crates/picky_der_de/src/generated/numbers.rt": read_numbers(),
         "crates/der_tool_lib/src/generated/numbers.rt": named_numbers(),
-        "crates/der_types/src/generated/numbers.rt": notated_numbers(),
         f"{proofs}/UsizeDeserialize/deserialize/Answers.antt": read_usize_proof(),
     }
     for number in UNSIGNED:

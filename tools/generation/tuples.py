@@ -6,6 +6,8 @@ LENT = ["One", "Two", "Three", "Four", "Five", "Six", "Seven", "Eight"]
 PARTS = ["first", "second", "third", "fourth", "fifth", "sixth", "seventh", "eighth"]
 # the widths of a tuple that is written, of members that are written, and of both that are read
 WIDEST, AT_ONCE = 16, 8
+# what members say of being exact, by the traits
+EXACT_FACTS = [("ExactMembers", "all_values"), ("NotatedMembers", "members_notation"), ("SerializeMembers", "members")]
 # a part of a tuple of more than this many is named by its way through pairs
 FLAT = 12
 
@@ -301,10 +303,13 @@ def read_tuples() -> Lines:
 def notation_of_members() -> Lines:
     text = [
         *source("The ASN.1 members of a tuple of members, and the members after them."),
+        "ghost use Rattle.std.specs.Prelude.{refl};",
+        "ghost use Rattle.der_types.specs.ExactMembers.{row_values};",
         "ghost use Rattle.der_types.specs.Notation.{Members};",
         "ghost use Rattle.der_types.specs.NotationLaws.{in_front};",
         "",
-        "use crate::{NotatedMember, NotatedMembers};",
+        "use crate::{ExactMember, ExactMembers, NotatedMember, NotatedMembers};",
+        "use picky_der_ser::SerializeMembers;",
         "",
     ]
     for width in range(1, AT_ONCE + 1):
@@ -320,6 +325,27 @@ def notation_of_members() -> Lines:
     return text
 
 
+def exact_members() -> Lines:
+    """Members in a tuple that are exactly those of ASN.1: the first one, and a tuple of the others."""
+    text: Lines = []
+    for width in range(1, AT_ONCE + 1):
+        names = NAMES[:width]
+        whole, others = tuple_of([*names, "Z"]), tuple_of([*names[1:], "Z"])
+        of_others = [f"⟦<{others} as {trait}>⟧.{name}" for trait, name in EXACT_FACTS] if width > 1 else [f"Z.{name}" for _, name in EXACT_FACTS]
+        rest = tuple_of([f"it.{at}" for at in range(1, width + 1)]) if width > 1 else "it.1"
+        parts = ["x", *(f"r.{at}" for at in range(width))] if width > 1 else ["x", "r"]
+        values = f"row_values A.member_values A.member A.in_front {' '.join(of_others)}"
+        text += [
+            f"impl{of(names, 'ExactMember', 'ExactMembers')} ExactMembers for {whole} {{",
+            f"    ghost all_values = {{ {values} (λ it. it.0) (λ it. {rest}) (λ x r. ({tuple_of(parts)}, refl {{a = x}}, refl {{a = r}})) }};",
+            "",
+            "    ghost exact_members = { Prim.assumption };",
+            "}",
+            "",
+        ]
+    return text
+
+
 def files() -> Files:
     """The files of tuples."""
     ser, de, types = "crates/picky_der_ser", "crates/picky_der_de", "crates/der_types"
@@ -329,7 +355,7 @@ def files() -> Files:
         f"{ser}/src/generated/tuples.rt": written_tuples(),
         f"{de}/src/generated/members.rt": read_members(),
         f"{de}/src/generated/tuples.rt": read_tuples(),
-        f"{types}/src/generated/members.rt": notation_of_members(),
+        f"{types}/src/generated/members.rt": [*notation_of_members(), *exact_members()],
     }
     for name in LENT:
         found[f"{ser}/proofs/generated/lent/{name}SerializeMembers/serialize_members/Answers.antt"] = lent_proof(name)

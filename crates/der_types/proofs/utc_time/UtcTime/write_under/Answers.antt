@@ -3,7 +3,7 @@ use Rattle.picky_der_core.specs.Primitive.{Primitive}
 use Rattle.picky_der_core.specs.Tree.{Tree}
 use Rattle.picky_der_ser.specs.Calls.{WritesPrimitive}
 use Rattle.der_types.specs.TimeLaws.{utc_tail}
-use Rattle.der_types.proofs.utc_time.UtcTimeContents.serialize_under.Goals as goal
+use Rattle.der_types.proofs.utc_time.UtcTime.write_under.Goals as goal
 
 pub returns : goal.returns
 returns g c =
