@@ -24,6 +24,7 @@ mod apart;
 mod calls;
 mod copies;
 mod devices;
+mod generated;
 mod growths;
 mod hand_written;
 mod hostile;
@@ -48,7 +49,6 @@ mod sweeps;
 mod tool;
 mod typed;
 mod values;
-mod widths;
 mod wrappers;
 mod writing;
 

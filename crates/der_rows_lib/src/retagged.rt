@@ -1,7 +1,7 @@
 //! Lists under tags instead of their own.
 
 use crate::answers::{RowBytes, Writing, read_as, read_copied, written};
-use crate::widths;
+use crate::generated::widths;
 use der_examples::{Attribute, CertificationRequestInfo, SignedData};
 use der_x509::AlgorithmIdentifier;
 use picky_asn1_der::asn1::{

@@ -1,8 +1,8 @@
 //! Calls of one serializer, one after another.
 
 use crate::calls::shown;
+use crate::generated::widths::serialize_members;
 use crate::reading::newtype;
-use crate::widths::serialize_members;
 use der_fixtures::{FailingWriter, WriterFault, text_of};
 use picky_asn1_der::asn1::Tag;
 use picky_asn1_der::misc::{Watched, WriteExt};

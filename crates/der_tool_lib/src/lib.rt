@@ -3,6 +3,7 @@
 
 mod algorithm_identifier;
 mod answer;
+mod generated;
 mod line;
 mod lines;
 mod subject_public_key_info;

@@ -7,7 +7,7 @@ mod named;
 mod texts;
 
 use crate::{SubjectPublicKeyInfo, TestStruct};
-use named::Named;
+pub(crate) use named::Named;
 use picky_asn1_der::asn1::ByteBuf;
 use picky_asn1_der::{Asn1DerError, Asn1RawDer, Deserializer, Result};
 use std::alloc::Global;

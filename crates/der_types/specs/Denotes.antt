@@ -1,35 +1,15 @@
 -- Which trees the types of ASN.1 denote, with their contents and ranges. The clauses are clauses of X.680 unless another one is named.
 use Rattle.std.specs.Prelude.{◌≡◌, ◌≢◌, ℕ, ◌-◌, ◌^◌, ◌≤◌, ◌<◌, ℤ, pos, negsuc, Bool, true, false, ◌&&◌, ◌⊎◌, ◌==◌, nat_lt, nat_le, not, List, length, chars, IsTrue, ⊤, if◌then◌else◌}
-use Rattle.picky_der_core.specs.Integer.{is_integer, integer_content, integer_value, integer_tree, fits_signed}
+use Rattle.picky_der_core.specs.Integer.{integer_content, integer_value, integer_tree, fits_signed}
 use Rattle.picky_der_core.specs.Primitive.{Primitive, primitive_content}
 use Rattle.picky_der_core.specs.Readable.{IsReadable}
 use Rattle.picky_der_core.specs.Shape.{AreOthers, EachIs, FirstAndRest, FirstOrNone, IsEmpty, contains}
 use Rattle.picky_der_core.specs.Tree.{ListKind, Tree, Trees}
-use Rattle.der_types.specs.declared.width.Width.{Width}
-use Rattle.der_types.specs.declared.width.Width.TheVariants.{One, Two, Four}
-use Rattle.der_types.specs.BitString.{is_bit_string, is_named_bits, bits_of}
-use Rattle.der_types.specs.CharacterStrings.{is_numeric, is_printable, is_any_byte, is_ia5, is_visible, is_universal, is_bmp, characters, is_string_content}
+use Rattle.der_types.specs.CharacterStrings.{characters, is_string_content}
 use Rattle.der_types.specs.Constraints.{is_size, is_between, tree_bytes, list_size, member_count}
+use Rattle.der_types.specs.ContentTypes.{ContentType, tag_of, test_of, size_of, string_width, string_character}
 use Rattle.der_types.specs.Notation.{Notation, Member, Members, Alternatives}
-use Rattle.der_types.specs.ObjectIdentifier.{is_object_identifier}
 use Rattle.der_types.specs.PrimitiveForm.{primitive_form}
-use Rattle.der_types.specs.RelativeOid.{is_relative_oid}
-use Rattle.der_types.specs.TimeContents.{is_utc_time, is_generalized_time}
-
--- ---- the restricted strings by their tags (41, table 8)
-
-abbrev pub string_width : ℕ → Width
-string_width tag = if tag == 0x1C then Four else (if tag == 0x1E then Two else One)
-
--- the set of characters of NumericString, PrintableString, IA5String, VisibleString, UniversalString and BMPString; and of the others any bytes
-abbrev pub string_character : ℕ → ℕ → Bool
-string_character tag =
-    if tag == 0x12 then is_numeric
-    else (if tag == 0x13 then is_printable
-    else (if tag == 0x16 then is_ia5
-    else (if tag == 0x1A then is_visible
-    else (if tag == 0x1C then is_universal
-    else (if tag == 0x1E then is_bmp else is_any_byte)))))
 
 -- ---- numbers and sizes
 
@@ -47,7 +27,7 @@ is_from_minus least most (negsuc n) = nat_lt n least
 
 -- how many bits, bytes, characters or members a tree of the type has (51.5.3)
 abbrev pub tree_size : Notation → Tree → ℕ
-tree_size Notation.BIT-STRING t = length (bits_of (tree_bytes t))
+tree_size (Notation.checked-content c) t = size_of c (tree_bytes t)
 tree_size Notation.UTF8String t = length (chars (tree_bytes t))
 tree_size (Notation.restricted-string tag) t = length (characters (string_width tag) (tree_bytes t))
 tree_size (Notation.list-of kind u) t = list_size t
@@ -70,22 +50,15 @@ HasContent tag test = IsMade (content_tree tag) (λ s. test s ≡ true)
 abbrev mutual
   pub Denotes : Notation → Tree → Type 0
   Denotes Notation.BOOLEAN = IsMade (λ b. Tree.primitive (Primitive.boolean b)) (λ b. ⊤)
-  Denotes Notation.INTEGER = HasContent 0x02 is_integer
+  Denotes (Notation.checked-content c) = HasContent (tag_of c) (test_of c)
   Denotes (Notation.unsigned bits) = IsMade (λ n. Tree.primitive (Primitive.unsigned n)) (λ n. n ≤ 2 ^ bits - 1)
   Denotes (Notation.signed bits) = IsMade integer_tree (λ z. fits_signed bits z ≡ true)
   Denotes (Notation.ENUMERATED numbers) = IsMade (λ n. content_tree 0x0A (integer_content (pos n))) (λ n. IsTrue (contains numbers n))
-  Denotes Notation.ENUMERATED-extensible = HasContent 0x0A is_integer
   Denotes (Notation.INTEGER-named numbers) = IsMade (λ n. content_tree 0x02 (integer_content (pos n))) (λ n. IsTrue (contains numbers n))
-  Denotes Notation.BIT-STRING = HasContent 0x03 is_bit_string
-  Denotes Notation.BIT-STRING-named = HasContent 0x03 is_named_bits
   Denotes Notation.OCTET-STRING = IsMade (content_tree 0x04) (λ s. ⊤)
   Denotes Notation.NULL = λ t. t ≡ Tree.primitive Primitive.null
-  Denotes Notation.OBJECT-IDENTIFIER = HasContent 0x06 is_object_identifier
-  Denotes Notation.RELATIVE-OID = HasContent 0x0D is_relative_oid
   Denotes Notation.UTF8String = IsMade (λ s. Tree.primitive (Primitive.text s)) (λ s. ⊤)
   Denotes (Notation.restricted-string tag) = HasContent tag (is_string_content (string_width tag) (string_character tag))
-  Denotes Notation.GeneralizedTime = HasContent 0x18 is_generalized_time
-  Denotes Notation.UTCTime = HasContent 0x17 is_utc_time
   Denotes (Notation.any-content tag) = IsMade (content_tree tag) (λ s. ⊤)
   Denotes Notation.any-element = IsMade Tree.raw (λ s. ⊤)
   Denotes (Notation.sequence ms) = IsMade (Tree.list ListKind.sequence) (DenoteMembers ms)

@@ -14,7 +14,8 @@ use Rattle.der_types.specs.declared.width.Width.{Width}
 use Rattle.der_types.specs.CharacterStrings.{is_string_content}
 use Rattle.der_types.specs.PrimitiveForm.{primitive_form}
 use Rattle.der_types.specs.Notation.{Notation}
-use Rattle.der_types.specs.Denotes.{Denotes, IsMade, content_tree, HasContent, string_width, string_character}
+use Rattle.der_types.specs.ContentTypes.{string_width, string_character}
+use Rattle.der_types.specs.Denotes.{Denotes, IsMade, content_tree, HasContent}
 use Rattle.der_types.specs.Exact.{IsExact, made_exact, Values, TiedValues, is_exact, plain_values, content_exact}
 
 content_same : (x y : ℕ) (xs ys : List ℕ) → content_tree x xs ≡ content_tree y ys → xs ≡ ys

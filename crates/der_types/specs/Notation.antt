@@ -1,41 +1,34 @@
--- Types of ASN.1 (X.680), as the types of these crates have them, and the shapes that they denote. `NotationForms` has the forms of modules.
+-- Types of ASN.1 (X.680), as the types of these crates have them, and the shapes that they denote. `ContentForms` and
+-- `NotationForms` have the forms of modules.
 use Rattle.std.specs.Prelude.{ℕ, ◌-◌, ◌^◌, List}
 use Rattle.picky_der_core.specs.declared.asn1.wrapper.Wrapper.{Wrapper}
 use Rattle.picky_der_core.specs.Primitive.{PrimitiveShape}
 use Rattle.picky_der_core.specs.Tree.{ListKind, Tree}
 use Rattle.picky_der_core.specs.Shape.{Shape, Shapes, Layout}
+use Rattle.der_types.specs.ContentTypes.{ContentType, tag_of}
 use Rattle.der_types.specs.PrimitiveForm.{primitive_form}
 
 mutual
   pub data Notation : Type 0 where
     -- 18
     BOOLEAN : Notation
-    -- 19: of any size, with a sign
-    INTEGER : Notation
+    -- a content under a tag of its own that passes a test (19, 20, 22, 32, 33, 46, 47)
+    checked-content : ContentType → Notation
     -- 19.1: one of these numbers, each of which has a name
     INTEGER-named : List ℕ → Notation
     -- from 0, in so many bits
     unsigned : ℕ → Notation
     -- of either sign, in so many bits with that of the sign
     signed : ℕ → Notation
-    -- 20: with these numbers; and with an extension marker, of any number
+    -- 20: with these numbers
     ENUMERATED : List ℕ → Notation
-    ENUMERATED-extensible : Notation
-    -- 22: and one with names for bits, in which zeros at the end don't count (22.7)
-    BIT-STRING : Notation
-    BIT-STRING-named : Notation
     -- 23
     OCTET-STRING : Notation
     -- 24
     NULL : Notation
-    -- 32, 33
-    OBJECT-IDENTIFIER : Notation
-    RELATIVE-OID : Notation
-    -- 41: a restricted string by its tag; 46, 47: times
+    -- 41: a restricted string by its tag
     UTF8String : Notation
     restricted-string : ℕ → Notation
-    GeneralizedTime : Notation
-    UTCTime : Notation
     -- any content under this tag; and any element, as of an open type (X.681, 14.2)
     any-content : ℕ → Notation
     any-element : Notation
@@ -75,21 +68,14 @@ abbrev mutual
   pub shape_of : Notation → Shape
   shape_of Notation.BOOLEAN = Shape.primitive PrimitiveShape.boolean
   shape_of (Notation.unsigned bits) = Shape.primitive (PrimitiveShape.unsigned (2 ^ bits - 1))
-  shape_of Notation.INTEGER = Shape.primitive (PrimitiveShape.bytes 0x02)
+  shape_of (Notation.checked-content c) = Shape.primitive (PrimitiveShape.bytes (tag_of c))
   shape_of (Notation.INTEGER-named numbers) = Shape.primitive (PrimitiveShape.bytes 0x02)
   shape_of (Notation.signed bits) = Shape.primitive (PrimitiveShape.bytes 0x02)
   shape_of (Notation.ENUMERATED numbers) = Shape.primitive (PrimitiveShape.bytes 0x0A)
-  shape_of Notation.ENUMERATED-extensible = Shape.primitive (PrimitiveShape.bytes 0x0A)
-  shape_of Notation.BIT-STRING = Shape.primitive (PrimitiveShape.bytes 0x03)
-  shape_of Notation.BIT-STRING-named = Shape.primitive (PrimitiveShape.bytes 0x03)
   shape_of Notation.OCTET-STRING = Shape.primitive (PrimitiveShape.bytes 0x04)
   shape_of Notation.NULL = Shape.primitive PrimitiveShape.null
-  shape_of Notation.OBJECT-IDENTIFIER = Shape.primitive (PrimitiveShape.bytes 0x06)
-  shape_of Notation.RELATIVE-OID = Shape.primitive (PrimitiveShape.bytes 0x0D)
   shape_of Notation.UTF8String = Shape.primitive PrimitiveShape.text
   shape_of (Notation.restricted-string tag) = Shape.primitive (PrimitiveShape.bytes tag)
-  shape_of Notation.GeneralizedTime = Shape.primitive (PrimitiveShape.bytes 0x18)
-  shape_of Notation.UTCTime = Shape.primitive (PrimitiveShape.bytes 0x17)
   shape_of (Notation.any-content tag) = Shape.primitive (PrimitiveShape.bytes tag)
   shape_of Notation.any-element = Shape.raw
   shape_of (Notation.sequence ms) = Shape.fields ListKind.sequence (layout_of ms)

@@ -8,6 +8,7 @@ use Rattle.picky_der_core.specs.Integer.{fits_signed, int_tree, unsigned_tree}
 use Rattle.picky_der_core.specs.Primitive.{Primitive}
 use Rattle.picky_der_core.specs.Tree.{ListKind, Tree}
 use Rattle.picky_der_core.specs.Shape.{firsts}
+use Rattle.der_types.specs.ContentForms.{INTEGER}
 use Rattle.der_types.specs.Notation.{Notation, Member, Members, Alternatives, shape_of}
 use Rattle.der_types.specs.TagOrder.{tag_place}
 
@@ -18,40 +19,6 @@ instead t = t
 -- no type of the library is this one: it has no values
 abbrev no_type : Notation
 no_type = Notation.choice Alternatives.none
-
--- ---- types without parts, but for those that `Notation` has by their names
-
--- 41, table 8
-
-abbrev pub NumericString : Notation
-NumericString = Notation.restricted-string 0x12
-
-abbrev pub PrintableString : Notation
-PrintableString = Notation.restricted-string 0x13
-
-abbrev pub TeletexString : Notation
-TeletexString = Notation.restricted-string 0x14
-
-abbrev pub T61String : Notation
-T61String = TeletexString
-
-abbrev pub IA5String : Notation
-IA5String = Notation.restricted-string 0x16
-
-abbrev pub VisibleString : Notation
-VisibleString = Notation.restricted-string 0x1A
-
-abbrev pub ISO646String : Notation
-ISO646String = VisibleString
-
-abbrev pub GeneralString : Notation
-GeneralString = Notation.restricted-string 0x1B
-
-abbrev pub UniversalString : Notation
-UniversalString = Notation.restricted-string 0x1C
-
-abbrev pub BMPString : Notation
-BMPString = Notation.restricted-string 0x1E
 
 -- an open type (X.681, 14.2), and ANY of 1988
 abbrev pub ANY : Notation
@@ -77,7 +44,7 @@ INTEGER-from-to least most =
 abbrev pub INTEGER-from-minus-to : ℕ → ℕ → Notation
 INTEGER-from-minus-to least most =
     let bits : ℕ = bits_for (least + most) in
-    if least == 2 ^ (bits - 1) && (most + 1 == least) then Notation.signed bits else Notation.from-minus least most Notation.INTEGER
+    if least == 2 ^ (bits - 1) && (most + 1 == least) then Notation.signed bits else Notation.from-minus least most INTEGER
 
 -- 51.5
 abbrev pub SIZE : ℕ → ℕ → Notation → Notation

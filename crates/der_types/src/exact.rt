@@ -1,25 +1,17 @@
 //! Types whose values are exactly the values of their ASN.1 types.
-ghost use Rattle.std.specs.Prelude.{◌≡◌, ◌-◌, ◌^◌, refl, string_bytes};
+ghost use Rattle.std.specs.Prelude.{◌≡◌, refl, string_bytes};
 ghost use Rattle.picky_der_core.specs.declared.asn1.wrapper.Wrapper.TheVariants as wrapper;
-ghost use Rattle.picky_der_core.specs.Integer.{fits_signed, is_integer, int_tree, unsigned_tree};
 ghost use Rattle.picky_der_core.specs.Primitive.{Primitive};
 ghost use Rattle.picky_der_core.specs.Readable.{IsReadable};
 ghost use Rattle.picky_der_core.specs.Tree.{ListKind, Tree};
-ghost use Rattle.der_types.specs.BitString.{is_bit_string, is_named_bits};
 ghost use Rattle.der_types.specs.Denotes.{Denotes, IsShort};
-ghost use Rattle.der_types.specs.Exact.{Values, TiedValues, plain_values, content_exact, list_values, wrapped_values};
-ghost use Rattle.der_types.specs.ExactContents.{boolean_exact, null_exact, unsigned_values, signed_values, text_exact, raw_exact, any_content_exact};
+ghost use Rattle.der_types.specs.Exact.{Values, TiedValues, plain_values, list_values, wrapped_values};
+ghost use Rattle.der_types.specs.ExactContents.{boolean_exact, null_exact, text_exact, raw_exact, any_content_exact};
 ghost use Rattle.der_types.specs.KnownContents.{contents_of};
-ghost use Rattle.der_types.specs.MadeValues.{vec_of, small_vec_of, text_of};
+ghost use Rattle.der_types.specs.MadeValues.{vec_of, text_of};
 ghost use Rattle.der_types.specs.Notation.{Notation};
-ghost use Rattle.der_types.specs.ObjectIdentifier.{is_object_identifier};
-ghost use Rattle.der_types.specs.RelativeOid.{is_relative_oid};
-ghost use Rattle.der_types.specs.TimeContents.{is_generalized_time};
 
-use crate::{
-    BitString, Enumerated, GeneralizedTime, Integer, NamedBits, Notated, ObjectIdentifier,
-    RelativeOid, RetaggedSet, TagOrdered,
-};
+use crate::{Notated, RetaggedSet, TagOrdered};
 use picky_asn1_der::Asn1RawDer;
 use picky_asn1_der::application_tag::ApplicationTag;
 use picky_der_core::asn1::{
@@ -43,66 +35,6 @@ pub trait Exact: Notated {
 
 impl Exact for bool {
     ghost values = { plain_values Notation.BOOLEAN (λ it. Tree.primitive (Primitive.boolean it)) boolean_exact };
-
-    ghost exact = { Prim.assumption };
-}
-
-impl Exact for u8 {
-    ghost values = { unsigned_values 8 refl };
-
-    ghost exact = { Prim.assumption };
-}
-
-impl Exact for u16 {
-    ghost values = { unsigned_values 16 refl };
-
-    ghost exact = { Prim.assumption };
-}
-
-impl Exact for u32 {
-    ghost values = { unsigned_values 32 refl };
-
-    ghost exact = { Prim.assumption };
-}
-
-impl Exact for u64 {
-    ghost values = { unsigned_values 64 refl };
-
-    ghost exact = { Prim.assumption };
-}
-
-impl Exact for u128 {
-    ghost values = { unsigned_values 128 refl };
-
-    ghost exact = { Prim.assumption };
-}
-
-impl Exact for i8 {
-    ghost values = { signed_values 8 };
-
-    ghost exact = { Prim.assumption };
-}
-
-impl Exact for i16 {
-    ghost values = { signed_values 16 };
-
-    ghost exact = { Prim.assumption };
-}
-
-impl Exact for i32 {
-    ghost values = { signed_values 32 };
-
-    ghost exact = { Prim.assumption };
-}
-
-impl Exact for i64 {
-    ghost values = { signed_values 64 };
-
-    ghost exact = { Prim.assumption };
-}
-
-impl Exact for i128 {
-    ghost values = { signed_values 128 };
 
     ghost exact = { Prim.assumption };
 }
@@ -133,48 +65,6 @@ impl<const TAG: u8> Exact for TaggedBytes<TAG> {
 
 impl Exact for Asn1RawDer {
     ghost values = { plain_values Notation.any-element (λ it. Tree.raw it.0.items) (raw_exact (λ it. it.0.items) (λ s e h. (record { 0 = vec_of s h }, refl))) };
-
-    ghost exact = { Prim.assumption };
-}
-
-impl Exact for Integer {
-    ghost values = { plain_values Notation.INTEGER (contents_of 0x02 (λ it. it.content.items)) (content_exact 0x02 is_integer (λ it. it.content.items) (λ it. it.canonical) (λ s e h. (record { content = vec_of s h; canonical = e }, refl))) };
-
-    ghost exact = { Prim.assumption };
-}
-
-impl Exact for Enumerated {
-    ghost values = { plain_values Notation.ENUMERATED-extensible (contents_of 0x0A (λ it. it.0.content.items)) (content_exact 0x0A is_integer (λ it. it.0.content.items) (λ it. it.0.canonical) (λ s e h. (record { 0 = record { content = vec_of s h; canonical = e } }, refl))) };
-
-    ghost exact = { Prim.assumption };
-}
-
-impl Exact for BitString {
-    ghost values = { plain_values Notation.BIT-STRING (contents_of 0x03 (λ it. it.content.items)) (content_exact 0x03 is_bit_string (λ it. it.content.items) (λ it. it.canonical) (λ s e h. (record { content = vec_of s h; canonical = e }, refl))) };
-
-    ghost exact = { Prim.assumption };
-}
-
-impl Exact for NamedBits {
-    ghost values = { plain_values Notation.BIT-STRING-named (contents_of 0x03 (λ it. it.content.items)) (content_exact 0x03 is_named_bits (λ it. it.content.items) (λ it. it.canonical) (λ s e h. (record { content = vec_of s h; canonical = e }, refl))) };
-
-    ghost exact = { Prim.assumption };
-}
-
-impl Exact for ObjectIdentifier {
-    ghost values = { plain_values Notation.OBJECT-IDENTIFIER (contents_of 0x06 (λ it. it.content.items)) (content_exact 0x06 is_object_identifier (λ it. it.content.items) (λ it. it.canonical) (λ s e h. (record { content = small_vec_of s; canonical = e }, refl))) };
-
-    ghost exact = { Prim.assumption };
-}
-
-impl Exact for RelativeOid {
-    ghost values = { plain_values Notation.RELATIVE-OID (contents_of 0x0D (λ it. it.content.items)) (content_exact 0x0D is_relative_oid (λ it. it.content.items) (λ it. it.canonical) (λ s e h. (record { content = vec_of s h; canonical = e }, refl))) };
-
-    ghost exact = { Prim.assumption };
-}
-
-impl Exact for GeneralizedTime {
-    ghost values = { plain_values Notation.GeneralizedTime (contents_of 0x18 (λ it. it.content.items)) (content_exact 0x18 is_generalized_time (λ it. it.content.items) (λ it. it.canonical) (λ s e h. (record { content = vec_of s h; canonical = e }, refl))) };
 
     ghost exact = { Prim.assumption };
 }

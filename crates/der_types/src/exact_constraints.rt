@@ -1,5 +1,5 @@
 //! Types with a constraint whose values are exactly the values that the constraint allows.
-ghost use Rattle.std.specs.Prelude.{◌^◌, ◌-◌, length, chars, string_bytes, refl};
+ghost use Rattle.std.specs.Prelude.{length, chars, string_bytes, refl};
 ghost use Rattle.std.proofs.Common.{ap};
 ghost use Rattle.picky_der_core.specs.Integer.{integer_value};
 ghost use Rattle.picky_der_core.specs.Primitive.{Primitive};
@@ -7,14 +7,14 @@ ghost use Rattle.picky_der_core.specs.Tree.{ListKind, Tree};
 ghost use Rattle.picky_der_ser.specs.Meaning.{list_meaning};
 ghost use Rattle.der_types.specs.BitString.{bits_of};
 ghost use Rattle.der_types.specs.CharacterStrings.{characters};
-ghost use Rattle.der_types.specs.ExactConstraints.{Numbered, TiedNumber, Sized, TiedSize, numbered_unsigned, sized_plainly, counted, in_range_values, other_than_values, sized_values};
+ghost use Rattle.der_types.specs.ExactConstraints.{Numbered, TiedNumber, Sized, TiedSize, sized_plainly, counted};
 ghost use Rattle.der_types.specs.ExactContents.{IsStandard};
+ghost use Rattle.der_types.specs.ContentForms as form;
 ghost use Rattle.der_types.specs.KnownContents.{contents_of};
 ghost use Rattle.der_types.specs.Notation.{Notation};
 
 use crate::{
-    BitString, Exact, GeneralizedTime, InRange, Integer, OtherThan, RestrictedString, Size,
-    StandardSet, WholeNumber, WithSize,
+    BitString, Exact, GeneralizedTime, Integer, RestrictedString, Size, StandardSet, WholeNumber,
 };
 use picky_der_core::asn1::{Asn1SequenceOf, Asn1SetOf, ByteBuf};
 
@@ -36,36 +36,6 @@ pub trait ExactSize: Exact + Size {
     ghost exact_size: { TiedSize sized Self.size Self.notation Self.meaning };
 }
 
-impl ExactNumber for u8 {
-    ghost numbered = { numbered_unsigned (2 ^ 8 - 1) };
-
-    ghost exact_number = { Prim.assumption };
-}
-
-impl ExactNumber for u16 {
-    ghost numbered = { numbered_unsigned (2 ^ 16 - 1) };
-
-    ghost exact_number = { Prim.assumption };
-}
-
-impl ExactNumber for u32 {
-    ghost numbered = { numbered_unsigned (2 ^ 32 - 1) };
-
-    ghost exact_number = { Prim.assumption };
-}
-
-impl ExactNumber for u64 {
-    ghost numbered = { numbered_unsigned (2 ^ 64 - 1) };
-
-    ghost exact_number = { Prim.assumption };
-}
-
-impl ExactNumber for u128 {
-    ghost numbered = { numbered_unsigned (2 ^ 128 - 1) };
-
-    ghost exact_number = { Prim.assumption };
-}
-
 impl ExactNumber for Integer {
     ghost numbered = { record { number = λ it. integer_value it.content.items; meaning = contents_of 0x02 (λ it. it.content.items); same = λ it. refl } };
 
@@ -73,7 +43,7 @@ impl ExactNumber for Integer {
 }
 
 impl ExactSize for BitString {
-    ghost sized = { sized_plainly (λ it. length (bits_of it.content.items)) (Notation.BIT-STRING) (contents_of 0x03 (λ it. it.content.items)) (λ it. refl) };
+    ghost sized = { sized_plainly (λ it. length (bits_of it.content.items)) form.BIT-STRING (contents_of 0x03 (λ it. it.content.items)) (λ it. refl) };
 
     ghost exact_size = { Prim.assumption };
 }
@@ -91,7 +61,7 @@ impl ExactSize for String {
 }
 
 impl ExactSize for GeneralizedTime {
-    ghost sized = { sized_plainly (λ it. length it.content.items) (Notation.GeneralizedTime) (contents_of 0x18 (λ it. it.content.items)) (λ it. refl) };
+    ghost sized = { sized_plainly (λ it. length it.content.items) form.GeneralizedTime (contents_of 0x18 (λ it. it.content.items)) (λ it. refl) };
 
     ghost exact_size = { Prim.assumption };
 }
@@ -124,22 +94,4 @@ impl<S: StandardSet> ExactSize for RestrictedString<S> {
     } };
 
     ghost exact_size = { Prim.assumption };
-}
-
-impl<T: ExactNumber, const MIN: u64, const MAX: u64> Exact for InRange<T, MIN, MAX> {
-    ghost values = { in_range_values T.values T.notation T.meaning (λ it. it.value) MIN MAX T.numbered T.number (λ it. it.allowed) (λ x e. (record { value = x; allowed = e }, refl)) };
-
-    ghost exact = { Prim.assumption };
-}
-
-impl<T: ExactNumber, const N: u64> Exact for OtherThan<T, N> {
-    ghost values = { other_than_values T.values T.notation T.meaning (λ it. it.value) N T.numbered T.number (λ it. it.allowed) (λ x e. (record { value = x; allowed = e }, refl)) };
-
-    ghost exact = { Prim.assumption };
-}
-
-impl<T: ExactSize, const MIN: usize, const MAX: usize> Exact for WithSize<T, MIN, MAX> {
-    ghost values = { sized_values T.values T.notation T.meaning (λ it. it.value) MIN MAX T.sized T.size (λ it. it.allowed) (λ x e. (record { value = x; allowed = e }, refl)) };
-
-    ghost exact = { Prim.assumption };
 }

@@ -1,14 +1,13 @@
 //! Exact types for the defaults of members.
-ghost use Rattle.std.specs.Prelude.{◌≡◌, ◌^◌, ◌-◌, Bool, true, false, refl};
-ghost use Rattle.picky_der_core.specs.Integer.{fits_signed};
+ghost use Rattle.std.specs.Prelude.{◌≡◌, Bool, true, false, refl};
 ghost use Rattle.picky_der_core.specs.declared.asn1.wrapper.Wrapper.TheVariants as wrapper;
-ghost use Rattle.der_types.specs.ExactDefaults.{false_default, true_default, number_default, signed_default, wrapped_default, wrapped_tied};
+ghost use Rattle.der_types.specs.ExactDefaults.{false_default, true_default, wrapped_default, wrapped_tied};
 ghost use Rattle.der_types.specs.ExactMembers.{Default, TiedDefault, defaulted_values};
 
 use crate::{Exact, ExactMember, NotatedDefault};
 use picky_der_core::asn1::{ExplicitContextTag, ImplicitContextTag, Retagged};
 use picky_der_de::Begins;
-use picky_der_ser::{Defaulted, False, List, Number, Serialize, SignedNumber, True};
+use picky_der_ser::{Defaulted, False, List, Serialize, True};
 
 /// A default that is the value of its member's type with the encoding that its notation names.
 pub trait ExactDefault<T: Serialize + PartialEq>: NotatedDefault<T> {
@@ -33,66 +32,6 @@ impl ExactDefault<bool> for False {
 
 impl ExactDefault<bool> for True {
     ghost default = { true_default };
-
-    ghost exact_default = { Prim.assumption };
-}
-
-impl<const N: u8> ExactDefault<u8> for Number<N> {
-    ghost default = { number_default (2 ^ 8 - 1) N };
-
-    ghost exact_default = { Prim.assumption };
-}
-
-impl<const N: u8> ExactDefault<u16> for Number<N> {
-    ghost default = { number_default (2 ^ 16 - 1) N };
-
-    ghost exact_default = { Prim.assumption };
-}
-
-impl<const N: u8> ExactDefault<u32> for Number<N> {
-    ghost default = { number_default (2 ^ 32 - 1) N };
-
-    ghost exact_default = { Prim.assumption };
-}
-
-impl<const N: u8> ExactDefault<u64> for Number<N> {
-    ghost default = { number_default (2 ^ 64 - 1) N };
-
-    ghost exact_default = { Prim.assumption };
-}
-
-impl<const N: u8> ExactDefault<u128> for Number<N> {
-    ghost default = { number_default (2 ^ 128 - 1) N };
-
-    ghost exact_default = { Prim.assumption };
-}
-
-impl<const N: i8> ExactDefault<i8> for SignedNumber<N> {
-    ghost default = { signed_default (fits_signed 8) N };
-
-    ghost exact_default = { Prim.assumption };
-}
-
-impl<const N: i8> ExactDefault<i16> for SignedNumber<N> {
-    ghost default = { signed_default (fits_signed 16) N };
-
-    ghost exact_default = { Prim.assumption };
-}
-
-impl<const N: i8> ExactDefault<i32> for SignedNumber<N> {
-    ghost default = { signed_default (fits_signed 32) N };
-
-    ghost exact_default = { Prim.assumption };
-}
-
-impl<const N: i8> ExactDefault<i64> for SignedNumber<N> {
-    ghost default = { signed_default (fits_signed 64) N };
-
-    ghost exact_default = { Prim.assumption };
-}
-
-impl<const N: i8> ExactDefault<i128> for SignedNumber<N> {
-    ghost default = { signed_default (fits_signed 128) N };
 
     ghost exact_default = { Prim.assumption };
 }

@@ -1,22 +1,16 @@
 //! Times whose year has four digits.
-ghost use Rattle.std.proofs.Common.{lit≤, rules};
+ghost use Rattle.std.proofs.Common.{rules};
 ghost use Rattle.std.specs.Prelude.{◌≡◌, ◌≤◌, ◌<◌, ◌⊎◌, ◌==◌, [], true, false, refl, length, IfSome, IfNone, IfOk, IfErr};
 ghost use Rattle.std.specs.Cmp.{partial_order_from_own_ties};
 ghost use Rattle.std.specs.Cmp.Rules.{comparing};
 ghost use Rattle.std.specs.Cmp.Lexicographic.{pointwise, slice_cmp, bytes_decides};
 ghost use Rattle.std.specs.Ordering.{on, nat_cmp, as_partial_cmp};
 ghost use Rattle.std.specs.Hash as fed;
-ghost use Rattle.der_types.specs.KnownContents.{contents_of, contents_shape};
-ghost use Rattle.der_types.specs.ContentTests.{ReadsContent, RefusesContent};
 ghost use Rattle.der_types.specs.TimeContents.{is_generalized_time, fraction_of};
 
-use crate::time_contents::{content_of, date_time_at, is_generalized_time, year_at_first};
-use crate::{Contents, DateTime, deserialize_contents_as};
-use picky_der_core::asn1::Tag;
-use picky_der_core::misc::{ReadExt, WriteExt};
+use crate::DateTime;
+use crate::time_contents::{content_of, date_time_at, year_at_first};
 use picky_der_core::{Asn1DerError, Result};
-use picky_der_de::{Begins, Deserialize, Deserializer};
-use picky_der_ser::{Serialize, Serializer};
 use std::alloc::Global;
 use std::cmp::Ordering;
 use std::hash::{Hash, Hasher};
@@ -25,7 +19,7 @@ use std::hash::{Hash, Hasher};
 /// second may be, of any length: a point and digits, of which the last isn't 0. Its order is that of time.
 #[derive(Debug, Drop)]
 pub struct GeneralizedTime {
-    content: Vec<u8>,
+    pub(crate) content: Vec<u8>,
     ghost canonical: { is_generalized_time content.items ≡ true },
 }
 
@@ -79,16 +73,6 @@ impl GeneralizedTime {
             return None;
         }
         Some(self.whole_seconds())
-    }
-
-    /// A copy, on the same allocator. `OutOfMemory` if the allocation fails.
-    pub fn clone(&self) -> Result<GeneralizedTime>
-        ensures same { IfOk result (λ copy. copy.content.items ≡ self.now.content.items) }
-        ensures memory { IfErr result (λ e. e ≡ Asn1DerError.OutOfMemory) }
-    {
-        Ok(GeneralizedTime {
-            content: self.content.clone()?,
-        })
     }
 
     // The content without the Z. Bytes of one are in the order of time: a point is below each digit, and the end below all.
@@ -152,79 +136,5 @@ impl Hash for GeneralizedTime {
 
     fn hash<H: Hasher>(&self, state: &mut H) {
         self.key().hash(state);
-    }
-}
-
-impl Contents for GeneralizedTime {
-    ghost use Rattle.der_types.specs.GeneralizedTimeLaws.{same-equal};
-
-    ghost TAG = { 0x18 };
-
-    ghost is_content = { is_generalized_time };
-
-    ghost content = { λ it. it.content.items };
-
-    ghost equal = { ⟦<Self as PartialEq>⟧.eq };
-
-    ghost same = { same-equal };
-
-    const TAG: u8 = 0x18;
-
-    fn from_content(content: Vec<u8>) -> Option<GeneralizedTime>
-        ensures some { IfSome result (λ it. it.content ≡ content) }
-        ensures none { IfNone result (is_generalized_time content.items ≡ false) }
-    {
-        if is_generalized_time(&content) {
-            Some(GeneralizedTime { content })
-        } else {
-            None
-        }
-    }
-
-    fn serialize_under<W: WriteExt>(
-        &self,
-        tag: Tag,
-        serializer: &mut Serializer<W>,
-    ) -> Result<usize> {
-        serializer.serialize_tagged_bytes(tag, &self.content)
-    }
-
-    ghost short = { lit≤ tt };
-
-    ghost valid = { λ it. it.canonical };
-
-    ghost equal_so = { Prim.assumption };
-}
-
-impl Serialize for GeneralizedTime {
-    ghost meaning = { contents_of 0x18 (λ it. it.content.items) };
-
-    fn serialize<W: WriteExt>(&self, serializer: &mut Serializer<W>) -> Result<usize> {
-        self.serialize_under(Tag::GENERALIZED_TIME, serializer)
-    }
-}
-
-impl Deserialize for GeneralizedTime {
-    ghost use Rattle.der_types.specs.KnownContents.{contents_of, contents_shape, known_contents};
-
-    ghost shape = { contents_shape 0x18 };
-
-    ghost known = { known_contents 0x18 (λ it. it.content.items) ⟦<Self as PartialEq>⟧.eq ⟦<Self as Contents>⟧.same };
-
-    ghost tied = { Prim.assumption };
-
-    fn deserialize<R: ReadExt>(deserializer: &mut Deserializer<R>) -> Result<GeneralizedTime>
-        ensures read { IfOk result (λ it. ReadsContent 0x18 is_generalized_time deserializer.old
-            deserializer.new it.content.items) }
-        ensures refused { IfErr result (RefusesContent ⟦<GeneralizedTime as Contents>⟧.content 0x18
-            is_generalized_time deserializer.old deserializer.new) }
-    {
-        deserialize_contents_as(deserializer)
-    }
-}
-
-impl Begins for GeneralizedTime {
-    fn begins_with(tag: Tag) -> bool {
-        tag == Tag::GENERALIZED_TIME
     }
 }

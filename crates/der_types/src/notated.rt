@@ -8,9 +8,8 @@ ghost use Rattle.der_types.specs.Notation.{Notation, Member, Members, Alternativ
 ghost use Rattle.der_types.specs.NotationLaws.{IsMember, one_or_other};
 
 use crate::{
-    BitString, CharacterSet, Contents, Enumerated, GeneralizedTime, InRange, Integer, NamedBits,
-    NotatedDefault, ObjectIdentifier, OtherThan, RelativeOid, RestrictedString, RetaggedPrimitive,
-    RetaggedSet, Size, TagOrdered, UtcTime, WholeNumber, WithSize,
+    CharacterSet, Contents, InRange, NotatedDefault, OtherThan, RestrictedString,
+    RetaggedPrimitive, RetaggedSet, Size, TagOrdered, WholeNumber, WithSize,
 };
 use picky_asn1_der::application_tag::ApplicationTag;
 use picky_asn1_der::{Asn1RawDer, LaterMembers};
@@ -82,54 +81,6 @@ impl Notated for String {
 
 impl Notated for ByteBuf {
     ghost notation = { Notation.OCTET-STRING };
-
-    ghost denoted = { refl };
-}
-
-impl Notated for Integer {
-    ghost notation = { Notation.INTEGER };
-
-    ghost denoted = { refl };
-}
-
-impl Notated for Enumerated {
-    ghost notation = { Notation.ENUMERATED-extensible };
-
-    ghost denoted = { refl };
-}
-
-impl Notated for BitString {
-    ghost notation = { Notation.BIT-STRING };
-
-    ghost denoted = { refl };
-}
-
-impl Notated for NamedBits {
-    ghost notation = { Notation.BIT-STRING-named };
-
-    ghost denoted = { refl };
-}
-
-impl Notated for ObjectIdentifier {
-    ghost notation = { Notation.OBJECT-IDENTIFIER };
-
-    ghost denoted = { refl };
-}
-
-impl Notated for RelativeOid {
-    ghost notation = { Notation.RELATIVE-OID };
-
-    ghost denoted = { refl };
-}
-
-impl Notated for GeneralizedTime {
-    ghost notation = { Notation.GeneralizedTime };
-
-    ghost denoted = { refl };
-}
-
-impl Notated for UtcTime {
-    ghost notation = { Notation.UTCTime };
 
     ghost denoted = { refl };
 }
@@ -216,24 +167,6 @@ impl<T: Notated + Contents, const TAG: u8> Notated for RetaggedPrimitive<T, TAG>
     ghost notation = { Notation.content-under TAG T.notation };
 
     ghost denoted = { refl };
-}
-
-impl<T: Notated + WholeNumber, const MIN: u64, const MAX: u64> Notated for InRange<T, MIN, MAX> {
-    ghost notation = { Notation.in-range MIN MAX T.notation };
-
-    ghost denoted = { T.denoted };
-}
-
-impl<T: Notated + WholeNumber, const N: u64> Notated for OtherThan<T, N> {
-    ghost notation = { Notation.other-than N T.notation };
-
-    ghost denoted = { T.denoted };
-}
-
-impl<T: Notated + Size, const MIN: usize, const MAX: usize> Notated for WithSize<T, MIN, MAX> {
-    ghost notation = { Notation.sized MIN MAX T.notation };
-
-    ghost denoted = { T.denoted };
 }
 
 impl<T: Notated> NotatedMember for T {

@@ -1,35 +1,25 @@
 //! Object identifiers.
-ghost use Rattle.std.proofs.Common.{rules};
-ghost use Rattle.std.specs.Prelude.{◌≡◌, ◌↔◌, ◌⊎◌, Some, true, false, map, IsTrue, IfSome, IfNone, OnOk, IfOk, IfErr};
-ghost use Rattle.std.specs.Cmp.Lexicographic.{bytes_decides};
-ghost use Rattle.picky_der_de.specs.Known.{known_bytes};
-ghost use Rattle.der_types.specs.KnownContents.{contents_of, contents_shape};
-ghost use Rattle.der_types.specs.ContentTests.{ReadsContent, RefusesContent};
+ghost use Rattle.std.specs.Prelude.{◌≡◌, ◌↔◌, ◌⊎◌, Some, true, false, map, IsTrue, OnOk, IfOk, IfErr};
 ghost use Rattle.der_types.specs.Dotted.{dotted_or_marked, fitted};
 ghost use Rattle.der_types.specs.Arcs.{arcs_left};
 ghost use Rattle.der_types.specs.ObjectIdentifier.{is_object_identifier, are_arcs, object_identifier_content, arcs_of, arcs_error, RefusesArcs, IsText, RefusesOidText};
 
 use crate::dotted::arcs_of_text;
-use crate::subidentifiers::{is_subidentifiers, push_subidentifier, push_subidentifiers};
-use crate::{Arcs, Contents, OidError, deserialize_contents_as};
-use picky_der_core::asn1::Tag;
-use picky_der_core::misc::{ReadExt, WriteExt};
-use picky_der_core::{Asn1DerError, Result};
-use picky_der_de::{Begins, Deserialize, Deserializer};
-use picky_der_ser::{Serialize, Serializer};
+use crate::subidentifiers::{push_subidentifier, push_subidentifiers};
+use crate::{Arcs, Contents, OidError};
 use smallvec::SmallVec;
 use std::alloc::{AllocError, Global};
 use std::fmt;
 
 // So many bytes of a content are kept in the value itself.
-const INLINE: usize = 16;
+pub(crate) const INLINE: usize = 16;
 
 /// An object identifier (X.690, 8.19), by its content. No number in it begins with a needless 80, and the last one ends.
 ///
 /// It prints as its arcs with points between them, as `2.5.4.3`; an arc above `u64::MAX` prints as `(above 64 bits)`.
 #[derive(Debug, Drop, PartialEq, Eq, Hash)]
 pub struct ObjectIdentifier {
-    content: SmallVec<u8, INLINE>,
+    pub(crate) content: SmallVec<u8, INLINE>,
     ghost canonical: { is_object_identifier content.items ≡ true },
 }
 
@@ -88,15 +78,6 @@ impl ObjectIdentifier {
         ObjectIdentifier::from_arcs(alloc, &arcs)
     }
 
-    /// A copy, on the same allocator. `OutOfMemory` where the allocation fails.
-    pub fn clone(&self) -> Result<ObjectIdentifier>
-        ensures same { IfOk result (λ copy. ⟦<ObjectIdentifier as Contents>⟧.content copy ≡ ⟦<ObjectIdentifier as Contents>⟧.content self.now) }
-        ensures memory { IfErr result (λ e. e ≡ Asn1DerError.OutOfMemory) }
-    {
-        let content = self.content.clone()?;
-        Ok(ObjectIdentifier { content })
-    }
-
     /// The bytes of its content (X.690, 8.19.2), as they are behind the tag and the length.
     pub fn content(&self) -> &[u8]
         ensures { result.now ≡ ⟦<ObjectIdentifier as Contents>⟧.content self.now }
@@ -124,86 +105,5 @@ impl fmt::Display for ObjectIdentifier {
 
     fn fmt<W: fmt::Write>(&self, f: &mut fmt::Formatter<W>) -> fmt::Result {
         self.arcs().fmt(f)
-    }
-}
-
-impl Contents for ObjectIdentifier {
-    ghost TAG = { 0x06 };
-
-    ghost is_content = { is_object_identifier };
-
-    ghost content = { λ it. it.content.items };
-
-    ghost equal = { ⟦<Self as PartialEq>⟧.eq };
-
-    ghost same = { λ x y e. (bytes_decides x.content.items y.content.items).1 e };
-
-    const TAG: u8 = 0x06;
-
-    fn from_content(content: Vec<u8>) -> Option<ObjectIdentifier>
-        ensures some { IfSome result (λ it. ⟦<ObjectIdentifier as Contents>⟧.content it ≡ content.items) }
-        ensures none { IfNone result (is_object_identifier content.items ≡ false) }
-    {
-        if is_subidentifiers(&content) {
-            let content = SmallVec::from_vec(content);
-            Some(ObjectIdentifier { content })
-        } else {
-            None
-        }
-    }
-
-    fn from_short(alloc: Global, bytes: &[u8]) -> Option<ObjectIdentifier> {
-        if bytes.len() > INLINE || !is_subidentifiers(bytes) {
-            return None;
-        }
-        match SmallVec::from_slice(alloc, bytes) {
-            Ok(content) => Some(ObjectIdentifier { content }),
-            Err(_) => None,
-        }
-    }
-
-    fn serialize_under<W: WriteExt>(
-        &self,
-        tag: Tag,
-        serializer: &mut Serializer<W>,
-    ) -> Result<usize> {
-        serializer.serialize_tagged_bytes(tag, &self.content)
-    }
-
-    ghost short = { Prim.search rules };
-
-    ghost valid = { λ it. it.canonical };
-
-    ghost equal_so = { Prim.assumption };
-}
-
-impl Serialize for ObjectIdentifier {
-    ghost meaning = { contents_of 0x06 (λ it. it.content.items) };
-
-    fn serialize<W: WriteExt>(&self, serializer: &mut Serializer<W>) -> Result<usize> {
-        self.serialize_under(Tag::OID, serializer)
-    }
-}
-
-impl Deserialize for ObjectIdentifier {
-    ghost shape = { contents_shape 0x06 };
-
-    ghost known = { known_bytes 0x06 (λ it. it.content.items) };
-
-    ghost tied = { Prim.assumption };
-
-    fn deserialize<R: ReadExt>(deserializer: &mut Deserializer<R>) -> Result<ObjectIdentifier>
-        ensures read { IfOk result (λ it. ReadsContent 0x06 is_object_identifier deserializer.old
-            deserializer.new (⟦<ObjectIdentifier as Contents>⟧.content it)) }
-        ensures refused { IfErr result (RefusesContent ⟦<ObjectIdentifier as Contents>⟧.content 0x06 is_object_identifier
-            deserializer.old deserializer.new) }
-    {
-        deserialize_contents_as(deserializer)
-    }
-}
-
-impl Begins for ObjectIdentifier {
-    fn begins_with(tag: Tag) -> bool {
-        tag == Tag::OID
     }
 }

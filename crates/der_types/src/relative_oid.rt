@@ -1,23 +1,13 @@
 //! Relative object identifiers.
-ghost use Rattle.std.specs.Prelude.{◌≡◌, ◌⊎◌, Some, true, false, map, IfSome, IfNone, OnOk, IfOk, IfErr};
-ghost use Rattle.std.proofs.Common.{rules};
-ghost use Rattle.std.specs.Cmp.Lexicographic.{bytes_decides};
-ghost use Rattle.picky_der_de.specs.Known.{known_bytes};
-ghost use Rattle.der_types.specs.KnownContents.{contents_of, contents_shape};
-ghost use Rattle.der_types.specs.ContentTests.{ReadsContent, RefusesContent};
+ghost use Rattle.std.specs.Prelude.{◌≡◌, ◌⊎◌, Some, true, false, map, OnOk, IfOk, IfErr};
 ghost use Rattle.der_types.specs.Subidentifiers.{numbers_behind};
 ghost use Rattle.der_types.specs.Dotted.{dotted_or_marked, fitted, RefusesText};
 ghost use Rattle.der_types.specs.Arcs.{arcs_left};
 ghost use Rattle.der_types.specs.RelativeOid.{is_relative_oid, are_relative_arcs, relative_oid_content, IsRelativeText};
 
 use crate::dotted::arcs_of_text;
-use crate::subidentifiers::{is_subidentifiers, push_subidentifiers};
-use crate::{Arcs, Contents, OidError, deserialize_contents_as};
-use picky_der_core::asn1::Tag;
-use picky_der_core::misc::{ReadExt, WriteExt};
-use picky_der_core::{Asn1DerError, Result};
-use picky_der_de::{Begins, Deserialize, Deserializer};
-use picky_der_ser::{Serialize, Serializer};
+use crate::subidentifiers::push_subidentifiers;
+use crate::{Arcs, OidError};
 use std::alloc::{AllocError, Global};
 use std::fmt;
 
@@ -27,7 +17,7 @@ use std::fmt;
 /// It prints as its arcs with points between them, as `8571.3.2`. An arc above `u64::MAX` prints as `(above 64 bits)`.
 #[derive(Debug, Drop, PartialEq, Eq, Hash)]
 pub struct RelativeOid {
-    content: Vec<u8>,
+    pub(crate) content: Vec<u8>,
     ghost canonical: { is_relative_oid content.items ≡ true },
 }
 
@@ -67,15 +57,6 @@ impl RelativeOid {
         RelativeOid::from_arcs(alloc, &arcs)
     }
 
-    /// Returns a copy, on the same allocator. `OutOfMemory` if the allocation fails.
-    pub fn clone(&self) -> Result<RelativeOid>
-        ensures same { IfOk result (λ copy. copy.content.items ≡ self.now.content.items) }
-        ensures memory { IfErr result (λ e. e ≡ Asn1DerError.OutOfMemory) }
-    {
-        let content = self.content.clone()?;
-        Ok(RelativeOid { content })
-    }
-
     /// Returns the bytes of its content, without the tag and the length (X.690, 8.20.2).
     pub fn content(&self) -> &[u8]
         ensures { result.now ≡ self.now.content.items }
@@ -96,75 +77,5 @@ impl fmt::Display for RelativeOid {
 
     fn fmt<W: fmt::Write>(&self, f: &mut fmt::Formatter<W>) -> fmt::Result {
         self.arcs().fmt(f)
-    }
-}
-
-impl Contents for RelativeOid {
-    ghost TAG = { 0x0D };
-
-    ghost is_content = { is_relative_oid };
-
-    ghost content = { λ it. it.content.items };
-
-    ghost equal = { ⟦<Self as PartialEq>⟧.eq };
-
-    ghost same = { λ x y e. (bytes_decides x.content.items y.content.items).1 e };
-
-    const TAG: u8 = 0x0D;
-
-    fn from_content(content: Vec<u8>) -> Option<RelativeOid>
-        ensures some { IfSome result (λ it. it.content ≡ content) }
-        ensures none { IfNone result (is_relative_oid content.items ≡ false) }
-    {
-        if is_subidentifiers(&content) {
-            Some(RelativeOid { content })
-        } else {
-            None
-        }
-    }
-
-    fn serialize_under<W: WriteExt>(
-        &self,
-        tag: Tag,
-        serializer: &mut Serializer<W>,
-    ) -> Result<usize> {
-        serializer.serialize_tagged_bytes(tag, &self.content)
-    }
-
-    ghost short = { Prim.search rules };
-
-    ghost valid = { λ it. it.canonical };
-
-    ghost equal_so = { Prim.assumption };
-}
-
-impl Serialize for RelativeOid {
-    ghost meaning = { contents_of 0x0D (λ it. it.content.items) };
-
-    fn serialize<W: WriteExt>(&self, serializer: &mut Serializer<W>) -> Result<usize> {
-        self.serialize_under(Tag::RELATIVE_OID, serializer)
-    }
-}
-
-impl Deserialize for RelativeOid {
-    ghost shape = { contents_shape 0x0D };
-
-    ghost known = { known_bytes 0x0D (λ it. it.content.items) };
-
-    ghost tied = { Prim.assumption };
-
-    fn deserialize<R: ReadExt>(deserializer: &mut Deserializer<R>) -> Result<RelativeOid>
-        ensures read { IfOk result (λ it. ReadsContent 0x0D is_relative_oid deserializer.old
-            deserializer.new it.content.items) }
-        ensures refused { IfErr result (RefusesContent ⟦<RelativeOid as Contents>⟧.content 0x0D is_relative_oid
-            deserializer.old deserializer.new) }
-    {
-        deserialize_contents_as(deserializer)
-    }
-}
-
-impl Begins for RelativeOid {
-    fn begins_with(tag: Tag) -> bool {
-        tag == Tag::RELATIVE_OID
     }
 }

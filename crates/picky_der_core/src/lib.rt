@@ -4,6 +4,7 @@
 pub mod asn1;
 mod error;
 mod failure;
+mod generated;
 mod int;
 pub mod integer;
 pub mod laws;

@@ -2,9 +2,9 @@
 
 mod arrays;
 mod begins;
+mod booleans;
 mod bytes;
 mod lists;
-mod numbers;
 mod options;
 mod texts;
 mod wrappers;

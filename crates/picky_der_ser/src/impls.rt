@@ -1,8 +1,8 @@
 //! What the built-in types mean.
 
+mod booleans;
 mod bytes;
 mod lists;
-mod numbers;
 mod options;
 mod references;
 mod texts;

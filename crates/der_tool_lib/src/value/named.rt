@@ -1,8 +1,6 @@
 //! The types that lines name, for reading.
-ghost use Rattle.std.proofs.Common.{sym};
-ghost use Rattle.std.specs.Prelude.{◌≡◌, ◌^◌, ◌-◌, IfOk, IfErr, string_bytes, refl};
+ghost use Rattle.std.specs.Prelude.{◌≡◌, IfOk, IfErr, string_bytes, refl};
 ghost use Rattle.picky_der_core.specs.Shape.{IsOf};
-ghost use Rattle.picky_der_core.specs.UnsignedTreeLaws.{unsigned_tree-within};
 ghost use Rattle.der_tool_lib.specs.Value.{description_of};
 ghost use Rattle.der_tool_lib.specs.Reads.{ReadsNamed, RefusesNamed};
 
@@ -12,7 +10,7 @@ use picky_asn1_der::misc::ReadExt;
 use picky_asn1_der::{Asn1RawDer, Deserialize, Deserializer, Result};
 
 // A type that lines name. Its description says which error a rejected input has.
-pub(super) trait Named: Deserialize {
+pub(crate) trait Named: Deserialize {
     ghost use Rattle.der_tool_lib.specs.declared.value.ValueType.{ValueType};
 
     ghost named: { ValueType };
@@ -40,76 +38,6 @@ impl Named for bool {
 
     fn read<R: ReadExt>(de: &mut Deserializer<R>) -> Result<bool> {
         de.deserialize_bool()
-    }
-}
-
-impl Named for u8 {
-    ghost use Rattle.der_tool_lib.specs.declared.value.ValueType.TheVariants.{U8};
-
-    ghost named = { U8 };
-
-    ghost described_as = { λ v. v };
-
-    ghost same_meaning = { λ v of_shape. sym (unsigned_tree-within (2 ^ 8 - 1) v of_shape.0) };
-
-    fn read<R: ReadExt>(de: &mut Deserializer<R>) -> Result<u8> {
-        de.deserialize_u8()
-    }
-}
-
-impl Named for u16 {
-    ghost use Rattle.der_tool_lib.specs.declared.value.ValueType.TheVariants.{U16};
-
-    ghost named = { U16 };
-
-    ghost described_as = { λ v. v };
-
-    ghost same_meaning = { λ v of_shape. sym (unsigned_tree-within (2 ^ 16 - 1) v of_shape.0) };
-
-    fn read<R: ReadExt>(de: &mut Deserializer<R>) -> Result<u16> {
-        de.deserialize_u16()
-    }
-}
-
-impl Named for u32 {
-    ghost use Rattle.der_tool_lib.specs.declared.value.ValueType.TheVariants.{U32};
-
-    ghost named = { U32 };
-
-    ghost described_as = { λ v. v };
-
-    ghost same_meaning = { λ v of_shape. sym (unsigned_tree-within (2 ^ 32 - 1) v of_shape.0) };
-
-    fn read<R: ReadExt>(de: &mut Deserializer<R>) -> Result<u32> {
-        de.deserialize_u32()
-    }
-}
-
-impl Named for u64 {
-    ghost use Rattle.der_tool_lib.specs.declared.value.ValueType.TheVariants.{U64};
-
-    ghost named = { U64 };
-
-    ghost described_as = { λ v. v };
-
-    ghost same_meaning = { λ v of_shape. sym (unsigned_tree-within (2 ^ 64 - 1) v of_shape.0) };
-
-    fn read<R: ReadExt>(de: &mut Deserializer<R>) -> Result<u64> {
-        de.deserialize_u64()
-    }
-}
-
-impl Named for u128 {
-    ghost use Rattle.der_tool_lib.specs.declared.value.ValueType.TheVariants.{U128};
-
-    ghost named = { U128 };
-
-    ghost described_as = { λ v. v };
-
-    ghost same_meaning = { λ v of_shape. sym (unsigned_tree-within (2 ^ 128 - 1) v of_shape.0) };
-
-    fn read<R: ReadExt>(de: &mut Deserializer<R>) -> Result<u128> {
-        de.deserialize_u128()
     }
 }
 

@@ -1,0 +1,30 @@
+//! Bools, as they are read.
+ghost use Rattle.std.specs.Prelude.{IfOk, IfErr};
+ghost use Rattle.picky_der_core.specs.Primitive.{Primitive, PrimitiveShape};
+ghost use Rattle.picky_der_core.specs.Shape.{Shape};
+ghost use Rattle.picky_der_input.specs.Steps.{TakesNoMemory};
+ghost use Rattle.picky_der_input.specs.Reading.{ReadsPrimitive, RefusesPrimitive};
+ghost use Rattle.picky_der_de.specs.Known.{known_boolean};
+
+use crate::{Deserialize, Deserializer};
+use picky_der_core::Result;
+use picky_der_core::misc::ReadExt;
+
+impl Deserialize for bool {
+    ghost shape = { Shape.primitive PrimitiveShape.boolean };
+
+    ghost known = { known_boolean };
+
+    ghost tied = { Prim.assumption };
+
+    #[inline(always)]
+    fn deserialize<R: ReadExt>(de: &mut Deserializer<R>) -> Result<bool>
+        ensures read { IfOk result (λ value. ReadsPrimitive PrimitiveShape.boolean
+            de.old de.new (Primitive.boolean value)) }
+        ensures refused { IfErr result (RefusesPrimitive Primitive.boolean PrimitiveShape.boolean
+            de.old de.new) }
+        ensures memory { IfErr result (TakesNoMemory de.old de.new) }
+    {
+        de.deserialize_bool()
+    }
+}

@@ -1,0 +1,1 @@
+"""What tools/generate writes, a subject a module."""

@@ -1,0 +1,183 @@
+"""The types of der_types whose values a constraint allows: one template for all."""
+from string import Template
+
+from generation.files import Files, Lines, source
+from generation.table import Constraint, constraints
+
+TYPE = """
+ghost use Rattle.std.proofs.Common.{ap};
+ghost use Rattle.std.specs.Prelude.{◌≡◌, true, false, not, refl, IfSome, IfNone, IfOk, IfErr};
+ghost use Rattle.picky_der_input.specs.Reading.{Reads, Refuses};
+ghost use Rattle.picky_der_de.specs.Known.{known_part};
+ghost use Rattle.der_types.specs.Constraints.{$test_name, RefusesConstrained};
+ghost use Rattle.der_types.specs.ExactConstraints.{$exact_values};
+ghost use Rattle.der_types.specs.Notation.{Notation};
+
+use crate::{Constrained, Exact, $uses, deserialize_constrained_as};
+use picky_der_core::Result;
+use picky_der_core::asn1::Tag;
+use picky_der_core::misc::{ReadExt, WriteExt};
+use picky_der_de::{Begins, Deserialize, Deserializer};
+use picky_der_ser::{$list_use Serialize, Serializer};
+
+$doc
+#[derive(Debug, Drop, PartialEq, Eq)]
+pub struct $name<T: $of, $parameters> {
+    value: T,
+    ghost allowed: { $test_value ≡ $holds },
+}
+
+impl<T: $of, $parameters> $type {
+    /// Returns the $value, or `None` if $refused.
+    pub fn new(value: T) -> Option<$type>
+    where
+        T: Drop,
+        ensures some { IfSome result (λ it. it.value ≡ value) }
+        ensures none { IfNone result ($test_value ≡ $fails) }
+    {
+$first        if $code {
+            $then
+        } else {
+            $else
+        }
+    }
+
+    /// Returns the $value.
+    pub fn get(&self) -> &T
+        ensures value { result.now ≡ self.now.value }
+        ensures allowed { $test_now ≡ $holds }
+    {
+        &self.value
+    }
+
+    /// Returns the $value.
+    pub fn into_inner(self) -> T
+        ensures value { result ≡ self.value }
+        ensures allowed { $test_result ≡ $holds }
+    {
+        let $name { value } = self;
+        value
+    }
+}
+
+impl<T: $of + Deserialize, $parameters> Constrained for $type {
+    type Of = T;
+
+    ghost unconstrained = { λ it. it.value };
+
+    ghost allows = { λ value. $allows };
+
+    fn constrain(value: T) -> Option<$type> {
+        $name::new(value)
+    }
+
+    ghost kept = { λ it. $kept };
+
+    ghost told = { λ x y e. ap $compared (T.told x y e) };
+}
+
+impl<T: $of, $parameters> Serialize for $type {
+    ghost meaning = { λ it. T.meaning it.value };
+
+    fn serialize<W: WriteExt>(&self, serializer: &mut Serializer<W>) -> Result<usize> {
+        self.value.serialize(serializer)
+    }
+}
+
+$list
+impl<T: $of + Deserialize, $parameters> Deserialize for $type {
+    ghost shape = { T.shape };
+
+    ghost known = { known_part T.known T.meaning T.eq (λ it. it.value) };
+
+    ghost tied = { Prim.assumption };
+
+    fn deserialize<R: ReadExt>(deserializer: &mut Deserializer<R>) -> Result<$type>
+        ensures ok { IfOk result (λ it. Reads T.shape deserializer.old deserializer.new
+            (T.meaning it.value)) }
+        ensures err { IfErr result (Refuses ⟦<$type as Serialize>⟧.meaning T.shape
+            deserializer.old deserializer.new) }
+        ensures refused { IfErr result (RefusesConstrained T.meaning T.shape
+            (λ value. $allows) deserializer.old deserializer.new) }
+    {
+        deserialize_constrained_as(deserializer)
+    }
+}
+
+impl<T: $of + Begins, $parameters> Begins for $type {
+    fn begins_with(tag: Tag) -> bool {
+        T::begins_with(tag)
+    }
+}
+
+impl<T: Notated + $of, $parameters> Notated for $type {
+    ghost notation = { Notation.$notation $names T.notation };
+
+    ghost denoted = { T.denoted };
+}
+
+impl<T: $exact, $parameters> Exact for $type {
+    ghost values = { $exact_values T.values T.notation T.meaning (λ it. it.value) $names T.$stated T.$measure (λ it. it.allowed) (λ x e. (record { value = x; allowed = e }, refl)) };
+
+    ghost exact = { Prim.assumption };
+}
+"""
+
+# what a constraint measures: the trait that says it of exact types, what such a type states, and the measure
+MEASURES = {"Size": ("ExactSize", "sized", "size"), "WholeNumber": ("ExactNumber", "numbered", "number")}
+
+LIST = """
+impl<T: $of + List, $parameters> List for $type {
+    ghost is_list = { λ it. T.is_list it.value };
+}
+
+"""
+
+
+def words_of(row: Constraint) -> dict[str, str]:
+    """What the template names of a row. A test that has to fail is denied."""
+    names = [name for name, _ in row.parameters]
+    word = {True: "true", False: "false"}
+    exact, stated, measure = MEASURES[row.of]
+    some, none = f"Some({row.name} {{ value }})", "None"
+    words = {
+        "name": row.name,
+        "type": f"{row.name}<{', '.join(['T', *names])}>",
+        "of": row.of,
+        "uses": ", ".join(sorted([exact, "Notated", row.of])),
+        "parameters": ", ".join(f"const {name}: {kind}" for name, kind in row.parameters),
+        "doc": "\n".join(f"/// {line}".rstrip() for line in row.doc.split("\n")),
+        "value": row.value,
+        "refused": row.refused,
+        "code": row.code,
+        "first": f"        {row.first}\n" if row.first else "",
+        "then": some if row.holds else none,
+        "else": none if row.holds else some,
+        "holds": word[row.holds],
+        "fails": word[not row.holds],
+        "kept": "it.allowed" if row.holds else "ap not it.allowed",
+        "compared": f"({row.compared})" if row.holds else f"(λ z. not ({row.compared} z))",
+        "test_name": row.test.split()[0],
+        "list_use": "List," if row.is_list else "",
+        "notation": row.notation,
+        "names": " ".join(names),
+        "exact": exact,
+        "exact_values": row.exact_values,
+        "stated": stated,
+        "measure": measure,
+    }
+    for key, value in (("test_value", "value"), ("test_now", "result.now"), ("test_result", "result")):
+        words[key] = Template(row.test).substitute(value=value)
+    words["allows"] = words["test_value"] if row.holds else f"not ({words['test_value']})"
+    words["list"] = Template(LIST.lstrip("\n")).substitute(words) if row.is_list else ""
+    return words
+
+
+def constrained(row: Constraint) -> Lines:
+    """The file of a type."""
+    return [*source(row.about), *Template(TYPE.strip("\n")).substitute(words_of(row)).split("\n")]
+
+
+def files() -> Files:
+    """The files of all such types."""
+    return {f"crates/der_types/src/generated/{row.module}.rt": constrained(row) for row in constraints()}

@@ -1,0 +1,118 @@
+"""What der_types says of each type of numbers: its notation, that it is exact, its defaults, and its numbers as whole numbers."""
+from generation.files import Files, Lines, source
+from generation.numbers import SIGNED, UNSIGNED, USIZE, each
+
+UNSIGNED_TYPE = """
+impl Notated for $name {
+    ghost notation = { Notation.unsigned $bits };
+
+    ghost denoted = { refl };
+}
+
+impl Exact for $name {
+    ghost values = { unsigned_values $bits refl };
+
+    ghost exact = { Prim.assumption };
+}
+
+impl ExactNumber for $name {
+    ghost numbered = { numbered_unsigned (2 ^ $bits - 1) };
+
+    ghost exact_number = { Prim.assumption };
+}
+
+impl<const N: u8> NotatedDefault<$name> for Number<N> {
+    ghost value = { unsigned_tree (2 ^ $bits - 1) N };
+
+    ghost is_value = { λ it h. ap (unsigned_tree (2 ^ $bits - 1)) (eqb-true it N h) };
+}
+
+impl<const N: u8> ExactDefault<$name> for Number<N> {
+    ghost default = { number_default (2 ^ $bits - 1) N };
+
+    ghost exact_default = { Prim.assumption };
+}
+"""
+
+SIGNED_TYPE = """
+impl Notated for $name {
+    ghost notation = { Notation.signed $bits };
+
+    ghost denoted = { refl };
+}
+
+impl Exact for $name {
+    ghost values = { signed_values $bits };
+
+    ghost exact = { Prim.assumption };
+}
+
+impl<const N: i8> NotatedDefault<$name> for SignedNumber<N> {
+    ghost value = { int_tree (fits_signed $bits) N };
+
+    ghost is_value = { λ it h. ap (int_tree (fits_signed $bits)) ((Decides-int_eq it N).0 h) };
+}
+
+impl<const N: i8> ExactDefault<$name> for SignedNumber<N> {
+    ghost default = { signed_default (fits_signed $bits) N };
+
+    ghost exact_default = { Prim.assumption };
+}
+"""
+
+WHOLE_NUMBER = """
+impl WholeNumber for $name {
+    ghost number = { pos };
+
+    fn is_between(&self, least: u64, most: u64) -> bool {
+        $between
+    }
+
+    ghost told = { λ x y e. ap pos (unsigned_tree-same (2 ^ $bits - 1) x y e) };
+}
+"""
+
+# a number is compared with the bounds in the wider one of its type and `u64`, that of the bounds
+NARROW = "let number = u64::from(*self);\n        least <= number && number <= most"
+BETWEEN = {
+    "u8": NARROW,
+    "u16": NARROW,
+    "u32": NARROW,
+    "u64": "least <= *self && *self <= most",
+    "u128": "u128::from(least) <= *self && *self <= u128::from(most)",
+    "usize": "let number = *self as u64;\n        least <= number && number <= most",
+}
+
+
+def whole_numbers() -> Lines:
+    """The unsigned types as whole numbers."""
+    return [line for number in [*UNSIGNED, USIZE] for line in each(WHOLE_NUMBER, [number], between=BETWEEN[number.name])]
+
+
+def notated_numbers() -> Lines:
+    """The file of the types of numbers."""
+    return [
+        *source("The types of numbers of each width as types of ASN.1."),
+        "ghost use Rattle.std.proofs.Common.{ap, eqb-true};",
+        "ghost use Rattle.std.proofs.lemmas.Bool.Decides.{Decides-int_eq};",
+        "ghost use Rattle.std.specs.Prelude.{◌≡◌, ◌^◌, ◌-◌, pos, true, refl};",
+        "ghost use Rattle.picky_der_core.specs.Integer.{fits_signed, int_tree, unsigned_tree};",
+        "ghost use Rattle.picky_der_core.specs.UnsignedTreeLaws.{unsigned_tree-same};",
+        "ghost use Rattle.der_types.specs.Constraints.{is_between};",
+        "ghost use Rattle.der_types.specs.ExactConstraints.{numbered_unsigned};",
+        "ghost use Rattle.der_types.specs.ExactContents.{signed_values, unsigned_values};",
+        "ghost use Rattle.der_types.specs.ExactDefaults.{number_default, signed_default};",
+        "ghost use Rattle.der_types.specs.Notation.{Notation};",
+        "",
+        "use crate::{Exact, ExactDefault, ExactNumber, Notated, NotatedDefault, WholeNumber};",
+        "use picky_der_ser::{Number, SignedNumber};",
+        "",
+        *each(UNSIGNED_TYPE, UNSIGNED),
+        *each(SIGNED_TYPE, SIGNED),
+        *whole_numbers(),
+    ]
+
+
+def files() -> Files:
+    """The file of der_types."""
+    return {"crates/der_types/src/generated/numbers.rt": notated_numbers()}

@@ -1,0 +1,111 @@
+"""The rows of crates/der_types/types.toml."""
+import tomllib
+from dataclasses import dataclass
+from typing import Any
+
+from shared.crates import ROOT
+
+TABLE = ROOT / "crates/der_types/types.toml"
+
+
+def snake(name: str) -> str:
+    """The module of a type."""
+    return "".join(("_" if it.isupper() and at else "") + it.lower() for at, it in enumerate(name))
+
+
+@dataclass(frozen=True)
+class Named:
+    """A name of a file of specs, and the proof that is made of it."""
+
+    name: str
+    specs: str
+    proof: str = ""
+
+
+@dataclass(frozen=True)
+class Content:
+    """A type whose content passes a test. The table says what each column is."""
+
+    name: str
+    asn1: str
+    term: str
+    clause: str
+    tag: int
+    constant: str
+    test: str
+    specs: str
+    form: str
+    note: str = ""
+    code: str = ""
+    named: bool = False
+    sized: bool = True
+    size: Named | None = None
+    equality: Named | None = None
+
+    @property
+    def module(self) -> str:
+        """The name of its files."""
+        return snake(self.name)
+
+
+@dataclass(frozen=True)
+class Characters:
+    """A set of characters with its string type."""
+
+    name: str
+    string: str
+    asn1: list[str]
+    tag: int
+    width: str
+    kind: str
+    test: str
+    code: str
+    doc: str
+
+
+@dataclass(frozen=True)
+class Constraint:
+    """A type of the values that a constraint allows."""
+
+    name: str
+    about: str
+    doc: str
+    of: str
+    value: str
+    parameters: list[list[str]]
+    test: str
+    holds: bool
+    compared: str
+    refused: str
+    code: str
+    is_list: bool
+    notation: str
+    exact_values: str
+    first: str = ""
+
+    @property
+    def module(self) -> str:
+        """The name of its file."""
+        return snake(self.name)
+
+
+def load(kind: str) -> list[dict[str, Any]]:
+    """The rows of one kind as the table has them."""
+    with open(TABLE, "rb") as file:
+        return tomllib.load(file)[kind]
+
+
+def contents() -> list[Content]:
+    """The types whose content passes a test."""
+    named = ("size", "equality")
+    return [Content(**{key: Named(**it) if key in named else it for key, it in row.items()}) for row in load("content")]
+
+
+def characters() -> list[Characters]:
+    """The sets of characters."""
+    return [Characters(**row) for row in load("characters")]
+
+
+def constraints() -> list[Constraint]:
+    """The constraints."""
+    return [Constraint(**row) for row in load("constraint")]
