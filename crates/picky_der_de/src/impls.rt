@@ -2,9 +2,7 @@
 
 mod arrays;
 mod begins;
-mod bytes;
+mod contents;
 mod lists;
 mod numbers;
-mod options;
-mod texts;
 mod wrappers;
