@@ -7,7 +7,7 @@ from generation.table import Constraint, constraints
 TYPE = """
 ghost use Rattle.std.proofs.Common.{ap};
 ghost use Rattle.std.specs.Prelude.{◌≡◌, true, false, not, refl, IfSome, IfNone, IfOk, IfErr};
-ghost use Rattle.picky_der_input.specs.Reading.{Reads, Refuses};
+ghost use Rattle.picky_der_de.specs.Reading.{Reads, Refuses};
 ghost use Rattle.picky_der_de.specs.Known.{known_part};
 ghost use Rattle.der_types.specs.Constraints.{$test_name, RefusesConstrained};
 ghost use Rattle.der_types.specs.ExactConstraints.{$exact_values};

@@ -5,9 +5,9 @@ use Rattle.picky_der_core.specs.declared.error.Asn1DerError.{Asn1DerError}
 use Rattle.picky_der_core.specs.declared.error.Asn1DerError.TheVariants.{InvalidData}
 use Rattle.picky_der_core.specs.Tree.{Tree, Trees}
 use Rattle.picky_der_core.specs.Shape.{Shape}
-use Rattle.picky_der_input.specs.State.{State}
-use Rattle.picky_der_input.specs.Refusing.{FailsAs}
-use Rattle.picky_der_input.specs.Reading.{Reads, Refuses}
+use Rattle.picky_der_de.specs.State.{State}
+use Rattle.picky_der_de.specs.Refusing.{FailsAs}
+use Rattle.picky_der_de.specs.Reading.{Reads, Refuses}
 
 -- ---- which values are allowed
 

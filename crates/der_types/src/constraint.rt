@@ -1,6 +1,6 @@
 //! Types with a constraint: their values are the values of another type that the constraint allows (X.680, 49).
 ghost use Rattle.std.specs.Prelude.{◌≡◌, Bool, true, false, IfSome, IfNone, IfOk, IfErr};
-ghost use Rattle.picky_der_input.specs.Reading.{Reads, Refuses};
+ghost use Rattle.picky_der_de.specs.Reading.{Reads, Refuses};
 ghost use Rattle.der_types.specs.Constraints.{RefusesConstrained};
 
 use picky_der_core::misc::ReadExt;

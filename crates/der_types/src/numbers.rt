@@ -1,7 +1,7 @@
 //! The integer types of Rust, written and read as an INTEGER.
 ghost use Rattle.std.specs.Prelude.{IfOk, IfErr};
 ghost use Rattle.picky_der_core.specs.Integer.{integer_tree};
-ghost use Rattle.picky_der_input.specs.Reading.{ReadsInt, RefusesInt};
+ghost use Rattle.picky_der_de.specs.Reading.{ReadsInt, RefusesInt};
 ghost use Rattle.picky_der_ser.specs.Calls.{WritesPlain};
 
 use picky_der_core::misc::{ReadExt, WriteExt};

@@ -7,7 +7,7 @@ pub mod application_tag;
 pub mod de {
     pub use picky_der_de::{
         Alike, Alternatives, Begins, Boolean, Choice, DEFAULT_MAX_LEN, DecodeError, Deserialize,
-        DeserializeMember, DeserializeMembers, Deserializer, End, Int, NoneOf, Null, OneOf, OneOf4,
+        DeserializeMember, DeserializeMembers, Deserializer, Int, NoneOf, Null, OneOf, OneOf4,
         Sequence, Struct, TryAlike, UInt, UnsignedInteger, Utf8String, deserialize_as,
         deserialize_choice_as, deserialize_struct_as, from_bytes, from_der, from_reader,
         from_reader_with_max_len, next_from_bytes, next_from_reader, try_deserialize_as,

@@ -7,8 +7,8 @@ ghost use Rattle.picky_der_core.specs.Equality.{IsEqualityOf, IsThatOf, IsKept};
 ghost use Rattle.picky_der_core.specs.Tree.{Tree};
 ghost use Rattle.picky_der_core.specs.Shape.{Shape};
 ghost use Rattle.picky_der_ser.specs.Calls.{WritesPlain};
-ghost use Rattle.picky_der_input.specs.Reading.{Reads, Refuses};
-ghost use Rattle.picky_der_input.specs.Elements.{RefusesRaw};
+ghost use Rattle.picky_der_de.specs.Reading.{Reads, Refuses};
+ghost use Rattle.picky_der_de.specs.Elements.{RefusesRaw};
 ghost use Rattle.picky_der_de.specs.Known.{known_raw};
 
 use picky_der_core::asn1::Tag;

@@ -5,16 +5,16 @@ use Rattle.picky_der_core.specs.Tree.{ListKind, Tree, trees}
 use Rattle.picky_der_core.specs.Readable.{AreReadable}
 use Rattle.picky_der_core.specs.Encoding.{encodings, list_tag}
 use Rattle.picky_der_core.specs.Shape.{Shape, IsOf, IsFirst, AreMembersOf, EachIs}
-use Rattle.picky_der_input.specs.State.{State}
-use Rattle.picky_der_input.specs.Steps.{Takes, Fails, IsJudged, place_of}
-use Rattle.picky_der_input.specs.Order.{AreInOrder, without_order}
-use Rattle.picky_der_input.specs.Reading.{Reads, Refuses}
-use Rattle.picky_der_input.specs.Ends.{Outer, OpensList, RefusesList}
+use Rattle.picky_der_de.specs.State.{State}
+use Rattle.picky_der_de.specs.Steps.{Takes, Fails, IsJudged, place_of}
+use Rattle.picky_der_de.specs.Order.{AreInOrder, without_order}
+use Rattle.picky_der_de.specs.Reading.{Reads, Refuses}
+use Rattle.picky_der_de.specs.Ends.{Outer, OpensList, RefusesList}
 use Rattle.picky_der_de.specs.Members.{ReadsMember, RefusesMember, members_encoding, StandUpToEnd, ReadsRow, RefusesRest}
 use Rattle.picky_der_core.specs.Reading.{StandsAt}
 use Rattle.picky_der_ser.specs.Meaning.{list_meaning, array_meaning}
 use Rattle.picky_der_de.specs.ArrayLaws.{times, array_of, array_meaning-list, array_meaning-readable}
-use Rattle.picky_der_input.proofs.Steps.{takes_none, takes_then}
+use Rattle.picky_der_de.proofs.Steps.{takes_none, takes_then}
 use Rattle.picky_der_de.proofs.MemberReads.{members_encoding-none, takes_member, member_not_implicit, none_left}
 use Rattle.picky_der_de.proofs.Rests.{FirstIsUnread, unread_first, IsAhead, Follow, rest_head, rest_after, rest_unopened, rest_refused}
 use Rattle.picky_der_de.proofs.ListReads.{members_encoding-push, each-push, readable-push, LeadOn, leads-none, leads-push, leads-all}

@@ -6,15 +6,15 @@ use Rattle.picky_der_core.specs.EncodingLaws.{der-choice}
 use Rattle.picky_der_core.specs.Shape.{Shape, Shapes, IsOf, IsFirst, AreTold, firsts, firsts_of, contains}
 use Rattle.picky_der_core.specs.FirstLaws.{apart_contains, contains-append_left, contains-append_right}
 use Rattle.picky_der_core.specs.Reading.{Place, written_at, MayStand, StandsAt}
-use Rattle.picky_der_input.specs.State.{State}
-use Rattle.picky_der_input.specs.Steps.{Takes, IsJudged, place_in, place_of}
-use Rattle.picky_der_input.specs.Reading.{Concerns, Reads, Refuses}
-use Rattle.picky_der_input.specs.LookAhead.{Peeks, HidesChoice, no_byte, implicit, RefusesChoice}
+use Rattle.picky_der_de.specs.State.{State}
+use Rattle.picky_der_de.specs.Steps.{Takes, IsJudged, place_in, place_of}
+use Rattle.picky_der_de.specs.Reading.{Concerns, Reads, Refuses}
+use Rattle.picky_der_de.specs.LookAhead.{Peeks, HidesChoice, no_byte, implicit, RefusesChoice}
 use Rattle.picky_der_de.specs.declared.alternatives.OneOf.{OneOf}
 use Rattle.picky_der_de.specs.declared.alternatives.OneOf.TheVariants.{This, Other}
 use Rattle.picky_der_de.specs.Firsts.{IsBegunBy, begins_among}
 use Rattle.picky_der_de.specs.Choices.{chosen_of, ReadsBehind, RefusesBehind, of_this, of_other}
-use Rattle.picky_der_input.proofs.Refusals.{missing_first}
+use Rattle.picky_der_de.proofs.Refusals.{missing_first}
 use Rattle.picky_der_de.proofs.Peeked.{no_implicit_tag, peeks_takes, peeks_fails, peeks_judged, peeks_concerns, peeks_front, peeked_first, is_whole, nothing_whole}
 
 -- ---- where a choice is

@@ -13,14 +13,14 @@ use Rattle.picky_der_core.specs.Faults.{Fault}
 use Rattle.picky_der_core.specs.Reader.{TellsFault}
 use Rattle.picky_der_core.specs.ReaderLaws.{not_more}
 use Rattle.picky_der_core.proofs.Unique.{same_tree}
-use Rattle.picky_der_input.specs.State.{State, fresh}
+use Rattle.picky_der_de.specs.State.{State, fresh}
 use Rattle.picky_der_core.specs.Peeking.{in_front, count_of_any}
-use Rattle.picky_der_input.specs.Steps.{IsJudged, IsOther}
-use Rattle.picky_der_input.specs.Reading.{Reads, Refuses, now}
-use Rattle.picky_der_input.specs.FinalRefusals.{not_mendable}
+use Rattle.picky_der_de.specs.Steps.{IsJudged, IsOther}
+use Rattle.picky_der_de.specs.Reading.{Reads, Refuses, now}
+use Rattle.picky_der_de.specs.FinalRefusals.{not_mendable}
 use Rattle.picky_der_de.specs.InjectiveLaws.{IsInjective}
 use Rattle.picky_der_de.specs.Entry.{any_length, IsFront, HasNoFront, ReaderView, ReadsFront, Draws, RefusesFront, RefusesNextValue}
-use Rattle.picky_der_input.proofs.Refusals.{front_consumed}
+use Rattle.picky_der_de.proofs.Refusals.{front_consumed}
 
 -- ---- what is left in the reader
 

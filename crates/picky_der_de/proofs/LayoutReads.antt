@@ -10,21 +10,21 @@ use Rattle.picky_der_core.specs.Readable.{IsReadable, AreReadable}
 use Rattle.picky_der_core.specs.Shape.{Shape, Layout, IsOf, IsSound, AreMembersOf, AreMembersTold, IsFirst, firsts, next_firsts, contains, are_apart}
 use Rattle.picky_der_core.specs.FirstLaws.{begins_in, begins_next, apart_contains}
 use Rattle.picky_der_core.proofs.Unique.{same_tree}
-use Rattle.picky_der_input.specs.State.{State}
-use Rattle.picky_der_input.specs.Steps.{Takes, Fails, IsJudged}
-use Rattle.picky_der_input.specs.Order.{AreInOrder, without_order}
-use Rattle.picky_der_input.specs.Reading.{Concerns, Reads, Refuses}
-use Rattle.picky_der_input.specs.Ends.{Outer, Closes, RefusesClose, OpensList, RefusesList}
-use Rattle.picky_der_input.specs.LookAhead.{Peeks, IdentifiesIn, Identifies, RefusesIdentifier}
+use Rattle.picky_der_de.specs.State.{State}
+use Rattle.picky_der_de.specs.Steps.{Takes, Fails, IsJudged}
+use Rattle.picky_der_de.specs.Order.{AreInOrder, without_order}
+use Rattle.picky_der_de.specs.Reading.{Concerns, Reads, Refuses}
+use Rattle.picky_der_de.specs.Ends.{Outer, Closes, RefusesClose, OpensList, RefusesList}
+use Rattle.picky_der_de.specs.LookAhead.{Peeks, IdentifiesIn, Identifies, RefusesIdentifier}
 use Rattle.picky_der_ser.specs.Meaning.{maybe_more}
 use Rattle.picky_der_ser.specs.Defaults.{IsByTree}
 use Rattle.picky_der_de.specs.Firsts.{IsBegunBy}
 use Rattle.picky_der_de.specs.Members.{ReadsMember, RefusesMember, members_encoding, StandUpToEnd}
 use Rattle.picky_der_de.specs.Layouts.{Presence, always, perhaps, component_then, RefusesComponent, Lacks, no_more, begins_otherwise, RefusesOptional, no_tag, no_member, RefusesDefault, as_optional, written_out, PeeksAtMost, same, looked, Passes, ReadsLayout, RefusesLayout, AreBegunBy}
 use Rattle.picky_der_de.specs.LayoutLaws.{IsThere, IsComponent, IsLeftOut, AreComponents, first_is_present, first_is_absent}
-use Rattle.picky_der_input.proofs.Steps.{takes_none, takes_then}
-use Rattle.picky_der_input.proofs.Order.{fails_behind, judged_behind}
-use Rattle.picky_der_input.proofs.Refusals.{missing_here}
+use Rattle.picky_der_de.proofs.Steps.{takes_none, takes_then}
+use Rattle.picky_der_de.proofs.Order.{fails_behind, judged_behind}
+use Rattle.picky_der_de.proofs.Refusals.{missing_here}
 use Rattle.picky_der_de.proofs.Rests.{FirstIsUnread, IsAhead, Follow, unread_first, rest_head, rest_after}
 use Rattle.picky_der_de.proofs.Peeked.{peeks_takes, peeks_fails, peeks_judged, peeks_concerns, peeks_front}
 use Rattle.picky_der_de.proofs.MemberReads.{members_encoding-more, members_encoding-none, no_members_in_order, takes_member, member_ahead, members_lead, next_order, next_up_to_end, none_left, list_refused, list_unopened, list_reads}

@@ -1,3 +1,22 @@
+pub mod Steps
+pub mod Order
+pub mod ReaderFaults
+pub mod Numbers
+pub mod Contents
+pub mod Lengths
+pub mod Refusals
+pub mod KnownBytes
+pub mod Headers
+pub mod PlainReads
+pub mod LookAhead
+pub mod Elements
+pub mod Ends
+pub mod Wrappers
+pub mod Openings
+pub mod Pieces
+pub mod Ahead
+pub mod Seen
+pub mod WholeElements
 pub mod Options
 pub mod EntryReads
 pub mod WholeInputs
@@ -15,4 +34,3 @@ pub mod OtherReads
 pub mod ListReads
 pub mod SetOrder
 pub mod ArrayReads
-pub use Rattle.picky_der_input.proofs.PlainReads

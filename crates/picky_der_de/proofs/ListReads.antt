@@ -8,15 +8,15 @@ use Rattle.picky_der_core.specs.Encoding.{tree_bytes, der, encodings, list_tag}
 use Rattle.picky_der_core.specs.Readable.{IsReadable, AreReadable}
 use Rattle.picky_der_core.specs.Shape.{Shape, IsOf, IsFirst, EachIs}
 use Rattle.picky_der_ser.specs.Sequences.{IsListTag, list_kind}
-use Rattle.picky_der_input.specs.State.{State}
-use Rattle.picky_der_input.specs.Steps.{Takes, Fails, IsJudged}
-use Rattle.picky_der_input.specs.Order.{AreInOrder, without_order}
-use Rattle.picky_der_input.specs.Reading.{Reads, Refuses}
-use Rattle.picky_der_input.specs.Ends.{Outer, Closes, RefusesClose, OpensList, RefusesList}
+use Rattle.picky_der_de.specs.State.{State}
+use Rattle.picky_der_de.specs.Steps.{Takes, Fails, IsJudged}
+use Rattle.picky_der_de.specs.Order.{AreInOrder, without_order}
+use Rattle.picky_der_de.specs.Reading.{Reads, Refuses}
+use Rattle.picky_der_de.specs.Ends.{Outer, Closes, RefusesClose, OpensList, RefusesList}
 use Rattle.picky_der_de.specs.Members.{ReadsMember, RefusesMember, HasNoMore, members_encoding, StandBefore, TakesRow, BreaksOrder, RefusesTaken, ReadsAll, RefusesAll}
 use Rattle.picky_der_de.proofs.Rests.{FirstIsUnread, nothing, unread_first, IsAhead, Follow, rest_head, rest_after}
-use Rattle.picky_der_input.proofs.Steps.{takes_none, takes_then}
-use Rattle.picky_der_input.proofs.Order.{judged_behind, order_none}
+use Rattle.picky_der_de.proofs.Steps.{takes_none, takes_then}
+use Rattle.picky_der_de.proofs.Order.{judged_behind, order_none}
 use Rattle.picky_der_de.proofs.MemberReads.{members_encoding-more, members_encoding-none, takes_member, member_not_implicit, member_leads, next_member, same_member, order_ahead, order_behind, no_members_in_order, no_member_in_order, member_refused_less, list_refused, list_unopened, list_reads}
 
 -- ---- one member more after others

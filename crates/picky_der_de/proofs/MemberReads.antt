@@ -9,18 +9,18 @@ use Rattle.picky_der_core.specs.EncodingLaws.{same_encoding, length-der, list_co
 use Rattle.picky_der_core.specs.Readable.{IsReadable, AreReadable, IsInOrder}
 use Rattle.picky_der_core.specs.Shape.{Shape, IsOf, IsFirst}
 use Rattle.picky_der_core.specs.Reading.{Place, written_at, StandsAt}
-use Rattle.picky_der_input.specs.declared.end.End.TheVariants.{Soft}
-use Rattle.picky_der_input.specs.State.{OpenSets, State}
-use Rattle.picky_der_input.specs.Steps.{Takes, Fails, IsJudged, place_in, place_of, drawn_count}
-use Rattle.picky_der_input.specs.Order.{order_of, sets_inside, is_out_of_order, with_last, AreInOrder, without_order, RefusesTest, out_of_order, without_memory}
-use Rattle.picky_der_input.specs.Reading.{Concerns, now, ever, Reads, Refuses}
-use Rattle.picky_der_input.specs.Ends.{Outer, with_inner_end, Closes, OpensList, RefusesList}
+use Rattle.picky_der_de.specs.declared.end.End.TheVariants.{Soft}
+use Rattle.picky_der_de.specs.State.{OpenSets, State}
+use Rattle.picky_der_de.specs.Steps.{Takes, Fails, IsJudged, place_in, place_of, drawn_count}
+use Rattle.picky_der_de.specs.Order.{order_of, sets_inside, is_out_of_order, with_last, AreInOrder, without_order, RefusesTest, out_of_order, without_memory}
+use Rattle.picky_der_de.specs.Reading.{Concerns, now, ever, Reads, Refuses}
+use Rattle.picky_der_de.specs.Ends.{Outer, with_inner_end, Closes, OpensList, RefusesList}
 use Rattle.picky_der_de.specs.Members.{ReadsMember, RefusesNext, no_value, behind_value, RefusesMember, HasNoMore, members_encoding, StandBefore, StandUpToEnd, RefusesTaken}
-use Rattle.picky_der_input.proofs.Steps.{fails_after, fails_again, judged_after}
-use Rattle.picky_der_input.proofs.Order.{concerns_alike, concerns_without_order, judged_alike, fails_alike, takes_without_order, order_none, order_first, order_next, order_more, order_begins, order_whole}
-use Rattle.picky_der_input.proofs.Refusals.{concerns_behind, failed_grows, end_below}
-use Rattle.picky_der_input.proofs.PlainReads.{no_plain, seen_content, takes_plain, may_stand, first_of_header}
-use Rattle.picky_der_input.proofs.Ends.{concerns_with_inner_end, concerns_room, judged_with_inner_end, fails_without_inner_end, closes_behind}
+use Rattle.picky_der_de.proofs.Steps.{fails_after, fails_again, judged_after}
+use Rattle.picky_der_de.proofs.Order.{concerns_alike, concerns_without_order, judged_alike, fails_alike, takes_without_order, order_none, order_first, order_next, order_more, order_begins, order_whole}
+use Rattle.picky_der_de.proofs.Refusals.{concerns_behind, failed_grows, end_below}
+use Rattle.picky_der_de.proofs.PlainReads.{no_plain, seen_content, takes_plain, may_stand, first_of_header}
+use Rattle.picky_der_de.proofs.Ends.{concerns_with_inner_end, concerns_room, judged_with_inner_end, fails_without_inner_end, closes_behind}
 
 -- ---- the content of a list
 

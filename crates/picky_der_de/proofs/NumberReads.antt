@@ -1,5 +1,5 @@
 -- A number that was read or refused, by what numbers of its type mean.
-use Rattle.std.proofs.Common.{ℕ, ◌≡◌, sym, subst}
+use Rattle.std.proofs.Common.{ℕ, sym, subst}
 use Rattle.picky_der_core.specs.Primitive.{Primitive, PrimitiveShape}
 use Rattle.picky_der_core.specs.declared.error.Asn1DerError.{Asn1DerError}
 use Rattle.picky_der_core.specs.Tree.{Tree}
@@ -7,9 +7,9 @@ use Rattle.picky_der_core.specs.Shape.{Shape}
 use Rattle.picky_der_core.specs.Integer.{unsigned_tree}
 use Rattle.picky_der_core.specs.Reading.{StandsAt}
 use Rattle.picky_der_core.specs.UnsignedTreeLaws.{unsigned_tree-within, unsigned_tree-of}
-use Rattle.picky_der_input.specs.State.{State}
-use Rattle.picky_der_input.specs.Steps.{place_of}
-use Rattle.picky_der_input.specs.Reading.{Reads, Refuses}
+use Rattle.picky_der_de.specs.State.{State}
+use Rattle.picky_der_de.specs.Steps.{place_of}
+use Rattle.picky_der_de.specs.Reading.{Reads, Refuses}
 
 module _ {most : ℕ} {a b : State} where
   pub reads_within : {n : ℕ} → Reads (Shape.primitive (PrimitiveShape.unsigned most)) a b (Tree.primitive (Primitive.unsigned n)) → Reads (Shape.primitive (PrimitiveShape.unsigned most)) a b (unsigned_tree most n)

@@ -6,8 +6,8 @@ use Rattle.picky_der_core.specs.Shape.{Shape, IsOf}
 use Rattle.picky_der_core.specs.FirstLaws.{is_of-optional}
 use Rattle.picky_der_core.specs.Reading.{Place, StandsAt}
 use Rattle.picky_der_ser.specs.Meaning.{option_meaning}
-use Rattle.picky_der_input.specs.State.{State}
-use Rattle.picky_der_input.specs.Reading.{Reads, Refuses}
+use Rattle.picky_der_de.specs.State.{State}
+use Rattle.picky_der_de.specs.Reading.{Reads, Refuses}
 
 pub reads_optional : {s : Shape} {a c : State} {t : Tree} → Reads s a c t → Reads (Shape.optional s) a c t
 reads_optional h = record { of_shape = inr h.of_shape; readable = h.readable; may_stand = h.may_stand; takes = h.takes; implicit_tag = h.implicit_tag }

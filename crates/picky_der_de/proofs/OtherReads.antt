@@ -7,17 +7,17 @@ use Rattle.picky_der_core.specs.EncodingLaws.{length-der}
 use Rattle.picky_der_core.specs.Readable.{IsReadable, AreReadable}
 use Rattle.picky_der_core.specs.Shape.{Shape, Layout, AreOthers, contains, begins_outside, next_firsts, tags_below}
 use Rattle.picky_der_core.specs.FirstLaws.{begins_next, others_each}
-use Rattle.picky_der_input.specs.State.{State}
-use Rattle.picky_der_input.specs.Steps.{Takes, Fails}
-use Rattle.picky_der_input.specs.Order.{AreInOrder, without_order}
-use Rattle.picky_der_input.specs.LookAhead.{Peeks, Identifies}
+use Rattle.picky_der_de.specs.State.{State}
+use Rattle.picky_der_de.specs.Steps.{Takes, Fails}
+use Rattle.picky_der_de.specs.Order.{AreInOrder, without_order}
+use Rattle.picky_der_de.specs.LookAhead.{Peeks, Identifies}
 use Rattle.picky_der_de.specs.FirstTests.{excluded_not_left}
 use Rattle.picky_der_de.specs.Members.{members_encoding, StandUpToEnd, TakesRow, ReadsAll, RefusesAll}
 use Rattle.picky_der_de.specs.Layouts.{PeeksAtMost, same, looked, Passes, ReadsLayout, RefusesLayout}
 use Rattle.picky_der_de.specs.OtherLaws.{others_of, are_outside, others_have_layout}
-use Rattle.picky_der_input.proofs.Steps.{takes_none}
-use Rattle.picky_der_input.proofs.Order.{fails_behind, concerns_without_order}
-use Rattle.picky_der_input.proofs.Refusals.{concerns_behind, failed_grows}
+use Rattle.picky_der_de.proofs.Steps.{takes_none}
+use Rattle.picky_der_de.proofs.Order.{fails_behind, concerns_without_order}
+use Rattle.picky_der_de.proofs.Refusals.{concerns_behind, failed_grows}
 use Rattle.picky_der_de.proofs.Peeked.{peeks_fails}
 use Rattle.picky_der_de.proofs.MemberReads.{members_encoding-more, members_encoding-none, none_left}
 use Rattle.picky_der_de.proofs.LayoutReads.{as_look, peeks_at_most_here, peeks_at_most_takes, first_is, Skips}

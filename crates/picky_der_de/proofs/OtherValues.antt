@@ -5,13 +5,13 @@ use Rattle.picky_der_core.specs.declared.error.Asn1DerError.TheVariants.{Truncat
 use Rattle.picky_der_core.specs.Tree.{Tree}
 use Rattle.picky_der_core.specs.Shape.{Shape, IsOf, IsSound}
 use Rattle.picky_der_core.proofs.UniqueAt.{same_tree_at}
-use Rattle.picky_der_input.specs.State.{State}
-use Rattle.picky_der_input.specs.Steps.{Fails, place_of}
+use Rattle.picky_der_de.specs.State.{State}
+use Rattle.picky_der_de.specs.Steps.{Fails, place_of}
 use Rattle.picky_der_core.specs.Failure.{IsAnswer}
-use Rattle.picky_der_input.specs.Refusing.{FailsAs}
-use Rattle.picky_der_input.specs.Reading.{Reads, Refuses, NoValue}
-use Rattle.picky_der_input.proofs.Steps.{fails_after}
-use Rattle.picky_der_input.proofs.Refusals.{tells_after}
+use Rattle.picky_der_de.specs.Refusing.{FailsAs}
+use Rattle.picky_der_de.specs.Reading.{Reads, Refuses, NoValue}
+use Rattle.picky_der_de.proofs.Steps.{fails_after}
+use Rattle.picky_der_de.proofs.Refusals.{tells_after}
 
 -- It was read, and refused with an error that more bytes can't change. Where an allocation failed nothing is owed.
 pub other_unless_memory : {V : Type 0} {meaning : V → Tree} {s : Shape} {a b c : State} {t : Tree} {kind e : Asn1DerError} → IsSound s → Reads s a b t → FailsAs kind b e c → Fails b c e → kind ≢ TruncatedData

@@ -3,8 +3,8 @@ use Rattle.std.proofs.Common.{◌≡◌, IfErr, IsErrAnd, Result, Ok, Err}
 use Rattle.picky_der_core.specs.declared.error.Asn1DerError.{Asn1DerError}
 use Rattle.picky_der_core.specs.Tree.{Tree}
 use Rattle.picky_der_core.specs.Shape.{Shape}
-use Rattle.picky_der_input.specs.State.{State}
-use Rattle.picky_der_input.specs.Reading.{Reads, Refuses}
+use Rattle.picky_der_de.specs.State.{State}
+use Rattle.picky_der_de.specs.Reading.{Reads, Refuses}
 
 -- the error that was passed on, and the state in which the last call left the deserializer
 pub passed_on : {T : Type 0} {x y : State} {e : Asn1DerError} (P : State → Asn1DerError → Type 0) (r : Result T Asn1DerError) → IsErrAnd r (λ error. error ≡ e) → x ≡ y → P y e → IfErr r (P x)

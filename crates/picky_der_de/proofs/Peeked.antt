@@ -11,14 +11,14 @@ use Rattle.picky_der_core.specs.EncodingLaws.{length-der}
 use Rattle.picky_der_core.specs.Reader.{TellsFault}
 use Rattle.picky_der_core.specs.Shape.{Shape}
 use Rattle.picky_der_core.specs.Reading.{Place, StandsAt}
-use Rattle.picky_der_input.specs.State.{State}
-use Rattle.picky_der_input.specs.Steps.{Takes, Fails, IsJudged, IsMissing, drawn_count, mendable_limit, place_in, place_of}
-use Rattle.picky_der_input.specs.Reading.{Concerns, now, ever, Refuses}
-use Rattle.picky_der_input.specs.LookAhead.{Peeks, IdentifiesIn, Identifies, RefusesIdentifier}
-use Rattle.picky_der_input.proofs.Steps.{there_after}
-use Rattle.picky_der_input.proofs.ReaderFaults.{keeps_consumes}
-use Rattle.picky_der_input.proofs.Refusals.{split_behind, missing_here, missing_first}
-use Rattle.picky_der_input.proofs.Known.{kept_known}
+use Rattle.picky_der_de.specs.State.{State}
+use Rattle.picky_der_de.specs.Steps.{Takes, Fails, IsJudged, IsMissing, drawn_count, mendable_limit, place_in, place_of}
+use Rattle.picky_der_de.specs.Reading.{Concerns, now, ever, Refuses}
+use Rattle.picky_der_de.specs.LookAhead.{Peeks, IdentifiesIn, Identifies, RefusesIdentifier}
+use Rattle.picky_der_de.proofs.Steps.{there_after}
+use Rattle.picky_der_de.proofs.ReaderFaults.{keeps_consumes}
+use Rattle.picky_der_de.proofs.Refusals.{split_behind, missing_here, missing_first}
+use Rattle.picky_der_de.proofs.KnownBytes.{kept_known}
 
 at_most_one : (p : Option ℕ) → count_of_any p ≤ 1
 at_most_one None = omega arith

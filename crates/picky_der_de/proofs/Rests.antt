@@ -8,14 +8,14 @@ use Rattle.picky_der_core.specs.Encoding.{tree_bytes, der, encodings, list_tag}
 use Rattle.picky_der_core.specs.Readable.{IsReadable, AreReadable}
 use Rattle.picky_der_core.specs.Shape.{Shape, Layout, IsOf, IsFirst}
 use Rattle.picky_der_core.specs.Reading.{written_at, MayStand}
-use Rattle.picky_der_input.specs.State.{State}
-use Rattle.picky_der_input.specs.Steps.{Takes, IsJudged, place_in}
-use Rattle.picky_der_input.specs.Order.{AreInOrder, Follows, without_order}
-use Rattle.picky_der_input.specs.Reading.{Reads, Refuses}
-use Rattle.picky_der_input.specs.Ends.{Outer, Closes, RefusesClose, OpensList, RefusesList}
+use Rattle.picky_der_de.specs.State.{State}
+use Rattle.picky_der_de.specs.Steps.{Takes, IsJudged, place_in}
+use Rattle.picky_der_de.specs.Order.{AreInOrder, Follows, without_order}
+use Rattle.picky_der_de.specs.Reading.{Reads, Refuses}
+use Rattle.picky_der_de.specs.Ends.{Outer, Closes, RefusesClose, OpensList, RefusesList}
 use Rattle.picky_der_de.specs.Members.{ReadsMember, RefusesMember, HasNoMore, members_encoding, StandUpToEnd, RefusesRest, ReadsRow}
-use Rattle.picky_der_input.proofs.Steps.{takes_none, takes_then}
-use Rattle.picky_der_input.proofs.Order.{fails_behind, judged_behind}
+use Rattle.picky_der_de.proofs.Steps.{takes_none, takes_then}
+use Rattle.picky_der_de.proofs.Order.{fails_behind, judged_behind}
 use Rattle.picky_der_de.proofs.MemberReads.{members_encoding-more, members_encoding-none, no_members_in_order, takes_member, members_lead, member_not_implicit, member_ahead, next_order, next_up_to_end, no_member, none_left, list_refused, list_unopened, list_reads}
 
 -- the members after the first one

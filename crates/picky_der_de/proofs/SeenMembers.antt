@@ -6,12 +6,12 @@ use Rattle.picky_der_core.specs.Tree.{Tree}
 use Rattle.picky_der_core.specs.Encoding.{der}
 use Rattle.picky_der_core.specs.EncodingLaws.{der-element, same_element}
 use Rattle.picky_der_core.specs.Shape.{Shape}
-use Rattle.picky_der_input.specs.State.{OpenSets, State}
-use Rattle.picky_der_input.specs.Steps.{Takes, Fails, failed_with}
-use Rattle.picky_der_input.specs.Order.{is_out_of_order, with_last, sets_seen, SeesMember, out_of_order}
-use Rattle.picky_der_input.specs.Reading.{Reads, Refuses}
-use Rattle.picky_der_input.proofs.Order.{concerns_alike, judged_alike, fails_alike}
-use Rattle.picky_der_input.proofs.Refusals.{front_consumed}
+use Rattle.picky_der_de.specs.State.{OpenSets, State}
+use Rattle.picky_der_de.specs.Steps.{Takes, Fails, failed_with}
+use Rattle.picky_der_de.specs.Order.{is_out_of_order, with_last, sets_seen, SeesMember, out_of_order}
+use Rattle.picky_der_de.specs.Reading.{Reads, Refuses}
+use Rattle.picky_der_de.proofs.Order.{concerns_alike, judged_alike, fails_alike}
+use Rattle.picky_der_de.proofs.Refusals.{front_consumed}
 use Rattle.picky_der_de.specs.Members.{ReadsMember, RefusesMember}
 use Rattle.picky_der_de.proofs.MemberReads.{takes_whole, member_unread, member_untested}
 

@@ -8,18 +8,18 @@ use Rattle.picky_der_core.specs.ElementLaws.{length_octets_prefix}
 use Rattle.picky_der_core.specs.Refusal.{Refusal, refusal_of, header_refusal}
 use Rattle.picky_der_core.specs.Shape.{Shape}
 use Rattle.picky_der_core.specs.Tree.{ListKind, Tree, trees}
-use Rattle.picky_der_input.specs.declared.end.End.TheVariants.{Soft}
-use Rattle.picky_der_input.specs.State.{State}
-use Rattle.picky_der_input.specs.Steps.{IsJudged, is_hard}
-use Rattle.picky_der_input.specs.Order.{order_of, sets_inside, AreInOrder}
-use Rattle.picky_der_input.specs.Reading.{now}
-use Rattle.picky_der_input.specs.Headers.{header_bytes}
-use Rattle.picky_der_input.specs.Ends.{Outer, OpensList, RefusesList}
-use Rattle.picky_der_input.proofs.Steps.{judged_after}
-use Rattle.picky_der_input.proofs.Order.{judged_alike}
-use Rattle.picky_der_input.proofs.Ends.{judged_with_inner_end}
-use Rattle.picky_der_input.proofs.Headers.{header-read}
-use Rattle.picky_der_input.proofs.Refusals.{front_consumed}
+use Rattle.picky_der_de.specs.declared.end.End.TheVariants.{Soft}
+use Rattle.picky_der_de.specs.State.{State}
+use Rattle.picky_der_de.specs.Steps.{IsJudged, is_hard}
+use Rattle.picky_der_de.specs.Order.{order_of, sets_inside, AreInOrder}
+use Rattle.picky_der_de.specs.Reading.{now}
+use Rattle.picky_der_de.specs.Headers.{header_bytes}
+use Rattle.picky_der_de.specs.Ends.{Outer, OpensList, RefusesList}
+use Rattle.picky_der_de.proofs.Steps.{judged_after}
+use Rattle.picky_der_de.proofs.Order.{judged_alike}
+use Rattle.picky_der_de.proofs.Ends.{judged_with_inner_end}
+use Rattle.picky_der_de.proofs.Headers.{header-read}
+use Rattle.picky_der_de.proofs.Refusals.{front_consumed}
 use Rattle.picky_der_de.specs.Members.{members_encoding, StandBefore, BreaksOrder, RefusesAll, RefusesUnordered}
 use Rattle.picky_der_de.proofs.MemberReads.{opened_in_order, whole_in_order}
 

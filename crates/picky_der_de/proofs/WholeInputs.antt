@@ -13,9 +13,9 @@ use Rattle.picky_der_core.specs.Encoding.{der}
 use Rattle.picky_der_core.specs.Shape.{Shape, IsSound}
 use Rattle.picky_der_core.specs.Reading.{Place, StandsAt}
 use Rattle.picky_der_core.proofs.Unique.{same_tree}
-use Rattle.picky_der_input.specs.State.{State, fresh}
-use Rattle.picky_der_input.specs.Steps.{IsJudged, drawn_count}
-use Rattle.picky_der_input.specs.Reading.{Reads, Refuses, now, ever}
+use Rattle.picky_der_de.specs.State.{State, fresh}
+use Rattle.picky_der_de.specs.Steps.{IsJudged, drawn_count}
+use Rattle.picky_der_de.specs.Reading.{Reads, Refuses, now, ever}
 use Rattle.picky_der_de.specs.Entry.{any_length, IsFront}
 use Rattle.picky_der_de.specs.Whole.{IsEncodingOf, IsWhole, IsNoEncoding}
 

@@ -13,17 +13,17 @@ use Rattle.picky_der_core.specs.Reading.{Place, written_at, MayStand, StandsAt}
 use Rattle.picky_der_core.specs.Shape.{Shape, IsOf, IsFirst}
 use Rattle.picky_der_core.specs.ShapeLaws.{is_plain_shape, plain_by_shape}
 use Rattle.picky_der_core.specs.declared.asn1.wrapper.Wrapper.{Wrapper}
-use Rattle.picky_der_input.specs.State.{OpenSets, State}
-use Rattle.picky_der_input.specs.Steps.{Takes, Fails, IsJudged, place_in, place_of}
-use Rattle.picky_der_input.specs.Reading.{Concerns, Reads, Refuses}
-use Rattle.picky_der_input.specs.Ends.{Outer, Closes, with_outer_end}
-use Rattle.picky_der_input.specs.Order.{cut_at}
-use Rattle.picky_der_input.specs.Wrappers.{implicit_tag_of, wrapper_opening, OpensWrapper, RefusesOpening, ReadsWrapped, RefusesWrapped, before_value, in_value, behind_value}
-use Rattle.picky_der_input.proofs.Steps.{takes_then, fails_after, judged_after}
-use Rattle.picky_der_input.proofs.Refusals.{concerns_behind, failed_grows, end_below, taken_first}
-use Rattle.picky_der_input.proofs.Headers.{header_length, length_tlv}
-use Rattle.picky_der_input.proofs.Wrappers.{readable_wrapped, may_stand_inner, may_stand_wrapped, written_wrapped, first_wrapped}
-use Rattle.picky_der_input.proofs.Openings.{own_concerns}
+use Rattle.picky_der_de.specs.State.{OpenSets, State}
+use Rattle.picky_der_de.specs.Steps.{Takes, Fails, IsJudged, place_in, place_of}
+use Rattle.picky_der_de.specs.Reading.{Concerns, Reads, Refuses}
+use Rattle.picky_der_de.specs.Ends.{Outer, Closes, with_outer_end}
+use Rattle.picky_der_de.specs.Order.{cut_at}
+use Rattle.picky_der_de.specs.Wrappers.{implicit_tag_of, wrapper_opening, OpensWrapper, RefusesOpening, ReadsWrapped, RefusesWrapped, before_value, in_value, behind_value}
+use Rattle.picky_der_de.proofs.Steps.{takes_then, fails_after, judged_after}
+use Rattle.picky_der_de.proofs.Refusals.{concerns_behind, failed_grows, end_below, taken_first}
+use Rattle.picky_der_de.proofs.Headers.{header_length, length_tlv}
+use Rattle.picky_der_de.proofs.Wrappers.{readable_wrapped, may_stand_inner, may_stand_wrapped, written_wrapped, first_wrapped}
+use Rattle.picky_der_de.proofs.Openings.{own_concerns}
 
 -- ---- the end around
 

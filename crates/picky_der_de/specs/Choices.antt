@@ -6,10 +6,10 @@ use Rattle.picky_der_core.specs.Tree.{Tree}
 use Rattle.picky_der_core.specs.Readable.{IsReadable}
 use Rattle.picky_der_core.specs.Shape.{Shape, Shapes, IsOf, IsOneOf, AreTold, firsts, firsts_of, are_apart}
 use Rattle.picky_der_core.specs.FirstLaws.{begins_in, begins_in_one, apart_differ, contains-append_left, contains-append_right}
-use Rattle.picky_der_input.specs.State.{State}
-use Rattle.picky_der_input.specs.Steps.{Fails}
-use Rattle.picky_der_input.specs.Reading.{Reads, Refuses}
-use Rattle.picky_der_input.specs.LookAhead.{Peeks}
+use Rattle.picky_der_de.specs.State.{State}
+use Rattle.picky_der_de.specs.Steps.{Fails}
+use Rattle.picky_der_de.specs.Reading.{Reads, Refuses}
+use Rattle.picky_der_de.specs.LookAhead.{Peeks}
 use Rattle.picky_der_de.specs.declared.alternatives.OneOf.{OneOf}
 use Rattle.picky_der_de.specs.declared.alternatives.OneOf.TheVariants.{This, Other}
 use Rattle.picky_der_de.specs.Firsts.{IsBegunBy, begins_among}

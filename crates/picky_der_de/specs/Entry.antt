@@ -10,7 +10,7 @@ use Rattle.picky_der_core.specs.Encoding.{der}
 use Rattle.picky_der_core.specs.Readable.{IsReadable}
 use Rattle.picky_der_core.specs.Shape.{Shape, IsOf, IsFirst}
 use Rattle.picky_der_core.specs.Reading.{Place, ReadsFrom, IsMendable}
-use Rattle.picky_der_input.specs.Steps.{IsOther}
+use Rattle.picky_der_de.specs.Steps.{IsOther}
 
 -- the value at the front of the input, and the only one: any other there means the same tree, and is equal by `==`
 pub record IsFront {V : Type 0} (meaning : V → Tree) (s : Shape) (eq : V → V → Bool) (input : List ℕ) (limit : ℕ) (v : V) : Type 0 where

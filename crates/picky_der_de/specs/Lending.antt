@@ -3,12 +3,12 @@
 use Rattle.std.specs.Prelude.{ℕ, List, Result, MatchResult, IfErr}
 use Rattle.std.specs.Borrow.{Bor, MutBor, RattleType, Fml, RestsIfErr}
 use Rattle.std.specs.declared.io.Read as read
-use Rattle.picky_der_input.specs.Reading.{ReadsPrimitive, RefusesPrimitive}
+use Rattle.picky_der_de.specs.Reading.{ReadsPrimitive, RefusesPrimitive}
 use Rattle.picky_der_core.specs.Primitive.{Primitive, PrimitiveShape}
 use Rattle.picky_der_core.specs.declared.error.Asn1DerError.{Asn1DerError}
 use Rattle.picky_der_core.specs.declared.misc.reader.ReadExt as reader
-use Rattle.picky_der_input.specs.State.{State}
-use Rattle.picky_der_input.specs.Ends.{RefusesList}
+use Rattle.picky_der_de.specs.State.{State}
+use Rattle.picky_der_de.specs.Ends.{RefusesList}
 use Rattle.picky_der_de.specs.contracts.deserializer.Deserializer.{the_row}
 use Rattle.picky_der_de.specs.declared.sequence.Sequence.{Sequence}
 use Rattle.picky_der_de.specs.SequenceState.{borrowed_by}

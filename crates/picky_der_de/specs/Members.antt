@@ -8,12 +8,12 @@ use Rattle.picky_der_core.specs.Tree.{Tree, Trees, trees}
 use Rattle.picky_der_core.specs.Encoding.{der, encodings}
 use Rattle.picky_der_core.specs.Readable.{AreReadable}
 use Rattle.picky_der_core.specs.Shape.{Shape, Layout, IsOf, AreMembersOf, EachIs}
-use Rattle.picky_der_input.specs.declared.end.End.TheVariants.{Soft}
-use Rattle.picky_der_input.specs.State.{State}
-use Rattle.picky_der_input.specs.Steps.{Takes, Fails, IsJudged, failed_with}
-use Rattle.picky_der_input.specs.Headers.{header_bytes}
-use Rattle.picky_der_input.specs.Order.{AreInOrder, without_order, SeesMember, Follows, RefusesTest}
-use Rattle.picky_der_input.specs.Reading.{Reads, Refuses, Concerns}
+use Rattle.picky_der_de.specs.declared.end.End.TheVariants.{Soft}
+use Rattle.picky_der_de.specs.State.{State}
+use Rattle.picky_der_de.specs.Steps.{Takes, Fails, IsJudged, failed_with}
+use Rattle.picky_der_de.specs.Headers.{header_bytes}
+use Rattle.picky_der_de.specs.Order.{AreInOrder, without_order, SeesMember, Follows, RefusesTest}
+use Rattle.picky_der_de.specs.Reading.{Reads, Refuses, Concerns}
 
 -- ---- one member
 

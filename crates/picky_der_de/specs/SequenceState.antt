@@ -3,8 +3,8 @@ use Rattle.std.specs.Borrow.{GName}
 use Rattle.std.specs.declared.io.Read as read
 use Rattle.picky_der_core.specs.declared.misc.reader.ReadExt as reader
 use Rattle.picky_der_de.specs.declared.sequence.Sequence.{Sequence}
-use Rattle.picky_der_input.specs.State.{State}
-use Rattle.picky_der_input.specs.Ends.{Outer}
+use Rattle.picky_der_de.specs.State.{State}
+use Rattle.picky_der_de.specs.Ends.{Outer}
 
 module _ {R : Type 0} {g : reader.Ghosts R} {h : read.Ghosts R} where
   -- the state of the deserializer

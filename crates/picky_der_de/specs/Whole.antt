@@ -7,7 +7,7 @@ use Rattle.picky_der_core.specs.Encoding.{der}
 use Rattle.picky_der_core.specs.Readable.{IsReadable}
 use Rattle.picky_der_core.specs.Shape.{Shape, IsOf, IsFirst}
 use Rattle.picky_der_core.specs.Reading.{ReadsFrom}
-use Rattle.picky_der_input.specs.Steps.{IsOther}
+use Rattle.picky_der_de.specs.Steps.{IsOther}
 use Rattle.picky_der_de.specs.Entry.{any_length}
 
 -- the bytes are the encoding of a value v of a type, known by what it means

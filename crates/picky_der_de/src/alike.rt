@@ -1,6 +1,6 @@
 //! Types that are read as values of another type.
 ghost use Rattle.std.specs.Prelude.{◌≡◌, IfOk, IfErr};
-ghost use Rattle.picky_der_input.specs.Reading.{Reads, Refuses};
+ghost use Rattle.picky_der_de.specs.Reading.{Reads, Refuses};
 ghost use Rattle.picky_der_de.specs.Twins.{TellsNone};
 
 use crate::{Deserialize, Deserializer};

@@ -1,45 +1,80 @@
-//! What reads values of any type from an input.
-ghost use Rattle.std.specs.Prelude.{◌≡◌, ℕ, List, [], length, false, Option, None, Some};
+//! What reads values of any type from an input, and how far the input may be read.
+ghost use Rattle.std.specs.Prelude.{◌≡◌, ◌<◌, ◌^◌, ℕ, List, [], length, false, Option, None, Some, IfNone, IfSome};
+ghost use Rattle.picky_der_de.specs.State.{fresh};
+ghost use Rattle.std.specs.IoError.{error_kind};
+ghost use Rattle.picky_der_core.specs.Error.{error_of_kind};
 ghost use Rattle.picky_der_core.specs.Failure.{failure_of};
 ghost use Rattle.picky_der_core.specs.Peeking.{in_front};
-ghost use Rattle.picky_der_input.specs.State.{fresh};
-ghost use Rattle.picky_der_input.specs.Steps.{Fails, IsOther, IsWithin};
+ghost use Rattle.picky_der_de.specs.Steps.{IsWithin, Fails, IsOther, failed_with};
 
-mod application;
-mod lists;
+mod ahead;
+mod draw;
+mod header;
 mod nesting;
 mod octets;
-mod options;
 mod order;
 mod peek;
 mod plain;
 mod raw;
 mod refusals;
 mod texts;
-mod unsupported;
 mod wrapper;
 
-use picky_der_core::misc::ReadExt;
-use picky_der_core::{Asn1DerError, Result};
-use picky_der_input::Input;
+use crate::End;
+pub(crate) use nesting::Outer;
+use picky_der_core::misc::{PeekableReader, ReadExt};
+use picky_der_core::{Asn1DerError, Failure, Result};
 use std::alloc::Global;
+use std::io;
 use std::marker::Model;
 
 /// Reads values from a reader. After an error it has failed: each later call returns an error of its kind and consumes nothing.
 #[derive(Drop)]
 pub struct Deserializer<R: ReadExt> {
-    input: Input<R>,
+    alloc: Global,
+    reader: PeekableReader<R>,
+    limit: usize,
+    // The innermost end: how many bytes are before it, and what it is.
+    until_end: usize,
+    end: End,
+    // The encodings of the last members of the sets that are open, one after the other.
+    kept: Vec<u8>,
+    // If the innermost end is that of a set: how many of these bytes are before its own.
+    last_start: Option<usize>,
+    implicit_tag: Option<u8>,
+    failed: Option<Failure>,
     // The content to which a reference was returned last.
     content: Vec<u8>,
     text: String,
 }
 
 impl<R: ReadExt> Model for Deserializer<R> {
-    ghost use Rattle.picky_der_input.specs.State.{State};
+    ghost use Rattle.std.specs.Prelude.{◌+◌, ◌<◌, ◌≤◌, ◌^◌, IfSome, length};
+    ghost use Rattle.picky_der_de.specs.State.{State};
+    ghost use Rattle.picky_der_de.specs.Order.{cut_at};
+    ghost use Rattle.picky_der_core.specs.Peeking.{count_of_any, left_in};
+    ghost use Rattle.picky_der_de.specs.Steps.{IsUnpeekedIfImplicit};
 
     ghost Value = { State };
 
-    ghost view = { λ d. d.input };
+    ghost view = { λ d. record {
+      input = left_in R.remaining d.reader;
+      peeked = d.reader.peeked;
+      taken = d.reader.pos;
+      limit = d.limit;
+      until_end = d.until_end;
+      end = d.end;
+      sets = cut_at d.last_start d.kept.items;
+      implicit_tag = d.implicit_tag;
+      failed = d.failed;
+      faults = R.faults d.reader.reader;
+      references = R.references d.reader.reader;
+    } };
+
+    // No more is consumed than the limit allows, and no end is past it.
+    ghost invariant = { λ d. (d.reader.pos + d.until_end < 2 ^ 64) × IsUnpeekedIfImplicit d.implicit_tag d.reader.peeked
+        × (d.reader.pos + d.until_end ≤ d.limit) × (d.reader.pos + count_of_any d.reader.peeked ≤ d.limit)
+        × IfSome d.last_start (λ start. start ≤ length d.kept.items) };
 }
 
 impl<'a> Deserializer<&'a [u8]> {
@@ -55,7 +90,7 @@ impl<'a> Deserializer<&'a [u8]> {
         ensures no_fault { self.now.faults ≡ [] }
         ensures left { (left : Option (List ℕ)) × (self.now.input ≡ in_front self.now.peeked left) }
     {
-        self.input.has_no_faults();
+        self.reader.peeked_is_left();
     }
 }
 
@@ -66,7 +101,15 @@ impl<R: ReadExt> Deserializer<R> {
             (R.references reader) }
     {
         Deserializer {
-            input: Input::new(alloc, reader, max_len),
+            alloc,
+            reader: PeekableReader::new(reader),
+            limit: max_len,
+            until_end: max_len,
+            end: End::Limit,
+            kept: Vec::new(alloc),
+            last_start: None,
+            implicit_tag: None,
+            failed: None,
             content: Vec::new(alloc),
             text: String::new(alloc),
         }
@@ -79,11 +122,19 @@ impl<R: ReadExt> Deserializer<R> {
         ensures same_references { R.references result ≡ self.references }
     {
         let Deserializer {
-            input,
+            alloc: _,
+            reader,
+            limit: _,
+            until_end: _,
+            end: _,
+            kept: _,
+            last_start: _,
+            implicit_tag: _,
+            failed: _,
             content: _,
             text: _,
         } = self;
-        input.into_reader()
+        reader.into_inner()
     }
 
     /// The number of bytes that were consumed so far. A peeked byte isn't counted. With it the number is at most the limit.
@@ -91,7 +142,7 @@ impl<R: ReadExt> Deserializer<R> {
         ensures taken { result ≡ self.now.taken }
         ensures within { IsWithin self.now }
     {
-        self.input.taken()
+        self.reader.pos()
     }
 
     /// Returns false: DER is a binary encoding.
@@ -103,10 +154,22 @@ impl<R: ReadExt> Deserializer<R> {
 
     // The allocator of the vectors.
     pub(crate) fn alloc(&self) -> Global {
-        *self.content.allocator()
+        self.alloc
     }
 
-    // Fails with this error, which is no I/O error of the reader.
+    // The error that it returns again if it has failed.
+    pub(crate) fn earlier(&self) -> Option<Asn1DerError>
+        ensures again { IfSome result (λ e. self.now.failed ≡ Some (failure_of e)) }
+        ensures not_failed { IfNone result (self.now.failed ≡ None) }
+        ensures bounded { self.now.until_end < 2 ^ 64 }
+    {
+        match self.failed {
+            Some(failure) => Some(failure.error()),
+            None => None,
+        }
+    }
+
+    // Fails with this error, which is no I/O error of the reader, and returns it.
     pub(crate) fn fail(&mut self, error: Asn1DerError) -> Asn1DerError
         requires had_not_failed { self.old.failed ≡ None }
         requires no_fault { IsOther error → ⊥ }
@@ -114,6 +177,18 @@ impl<R: ReadExt> Deserializer<R> {
         ensures same { self.new ≡ record self.old { failed = Some (failure_of error) } }
         ensures fails { Fails self.old self.new result }
     {
-        self.input.fail(error)
+        self.reader.peeked_is_left();
+        self.failed = Some(Failure::of(error));
+        error
+    }
+
+    // Fails with this I/O error of the reader.
+    pub(crate) fn fault(&mut self, error: io::Error) -> Asn1DerError
+        ensures error { result ≡ error_of_kind (error_kind error) }
+        ensures same { self.new ≡ failed_with self.old result }
+    {
+        let error = Asn1DerError::from(error);
+        self.failed = Some(Failure::of(error));
+        error
     }
 }

@@ -3,8 +3,6 @@
 mod arrays;
 mod begins;
 mod booleans;
-mod bytes;
+mod contents;
 mod lists;
-mod options;
-mod texts;
 mod wrappers;

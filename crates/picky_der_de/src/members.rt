@@ -1,15 +1,175 @@
-//! All members of a SEQUENCE, as they are read, and structs of them.
-ghost use Rattle.std.specs.Prelude.{◌≡◌, true, None, IfOk, IfErr};
-ghost use Rattle.picky_der_core.specs.Shape.{Layout};
-ghost use Rattle.picky_der_input.specs.Reading.{Reads, Refuses};
-ghost use Rattle.picky_der_de.specs.Layouts.{ReadsLayout, RefusesLayout};
+//! The members of a SEQUENCE, as they are read: one, which is always there or may be absent, all of them, and structs of them.
+ghost use Rattle.std.specs.Prelude.{◌≡◌, Bool, false, Option, Some, IfOk, IfErr, IfSome, IfNone, true, None};
+ghost use Rattle.picky_der_core.specs.Shape.{Shape, Layout};
+ghost use Rattle.picky_der_core.specs.Tree.{Tree};
+ghost use Rattle.picky_der_ser.specs.Meaning.{unless_default};
+ghost use Rattle.picky_der_de.specs.Members.{ReadsMember};
+ghost use Rattle.picky_der_de.specs.Layouts.{Presence, always, perhaps, Lacks, RefusesComponent, ReadsLayout, RefusesLayout};
+ghost use Rattle.picky_der_de.specs.LayoutLaws.{IsLeftOut, none_left_out, default_left_out};
+ghost use Rattle.picky_der_de.specs.KnownMembers.{KnownMember, TiedMember, known_always, known_element, known_perhaps, known_default, KnownMembers, TiedMembers, known_none, sequence_of, sequence_shape};
+ghost use Rattle.picky_der_de.specs.Reading.{Reads, Refuses};
 ghost use Rattle.picky_der_de.specs.FirstTests.{are_members_told};
-ghost use Rattle.picky_der_de.specs.KnownMembers.{KnownMembers, TiedMembers, known_none, sequence_of, sequence_shape};
 
-use crate::{Deserializer, Sequence};
+use crate::{Begins, Deserialize, Deserializer, Sequence};
 use picky_der_core::Result;
+use picky_der_core::asn1::Tag;
 use picky_der_core::misc::ReadExt;
-use picky_der_ser::SerializeMembers;
+use picky_der_ser::{DefaultOf, Defaulted, Element, Optional, SerializeMember, SerializeMembers};
+
+/// A member of a struct that can be read: a value that is always there, or one that may be absent, as `Optional` and
+/// `Defaulted` are.
+pub trait DeserializeMember: SerializeMember + PartialEq + Drop + Sized {
+    ghost use Rattle.picky_der_de.specs.SequenceState.{borrowed_by, outer_of, state_of};
+
+    /// The type of the value that is there.
+    type Item;
+
+    // The trees of the values that are there.
+    ghost shape: { Shape };
+
+    // The tree of a value that is there.
+    ghost item_meaning: { Self.Item → Tree };
+
+    // Which of them are equal.
+    ghost item_eq: { Self.Item → Self.Item → Bool };
+
+    // Whether it is always there.
+    ghost presence: { Presence };
+
+    // The value that is there, if one is.
+    ghost item: { Self → Option Self.Item };
+
+    // What is never written.
+    ghost left_out: { Self.Item → Bool };
+
+    // What is known of the member: which trees it means, that these determine it, and what is owed for it.
+    ghost known: { KnownMember Self presence shape item_meaning item_eq item };
+
+    /// Reads the member. The errors are those of `next_field`, `next_optional` or `next_or_default`.
+    fn deserialize_member<R: ReadExt>(sequence: &mut Sequence<'_, R>) -> Result<Self>
+        ensures same_reference { borrowed_by sequence.new ≡ borrowed_by sequence.old }
+        ensures outer { outer_of sequence.new ≡ outer_of sequence.old }
+        ensures member { IfOk result (λ slot. IfSome (item slot)
+            (λ value. ReadsMember shape (state_of sequence.old) (state_of sequence.new)
+            (item_meaning value))) }
+        ensures none { IfOk result (λ slot. IfNone (item slot)
+            (Lacks shape (state_of sequence.old) (state_of sequence.new))) }
+        ensures err { IfErr result (RefusesComponent presence item_meaning left_out shape
+            (state_of sequence.old) (state_of sequence.new)) };
+
+    // The tree determines which values are never written.
+    ghost distinguished: { IsLeftOut item_meaning item left_out };
+
+    // What is owed, and that `SerializeMember` writes what is there.
+    ghost tied: { TiedMember known Self.in_front };
+}
+
+impl<T: Deserialize> DeserializeMember for T {
+    type Item = T;
+
+    ghost shape = { T.shape };
+
+    ghost item_meaning = { T.meaning };
+
+    ghost item_eq = { T.eq };
+
+    ghost presence = { always };
+
+    ghost item = { λ value. Some value };
+
+    ghost left_out = { λ _. false };
+
+    ghost known = { known_always T.known T.meaning T.eq };
+
+    fn deserialize_member<R: ReadExt>(sequence: &mut Sequence<'_, R>) -> Result<T> {
+        sequence.next_field::<T>()
+    }
+
+    ghost distinguished = { none_left_out (λ value. Some value) };
+
+    ghost tied = { Prim.assumption };
+}
+
+impl<T: Deserialize> DeserializeMember for Element<T> {
+    type Item = T;
+
+    ghost shape = { T.shape };
+
+    ghost item_meaning = { T.meaning };
+
+    ghost item_eq = { T.eq };
+
+    ghost presence = { always };
+
+    ghost item = { λ element. Some element.0 };
+
+    ghost left_out = { λ _. false };
+
+    ghost known = { known_element T.known T.meaning T.eq (λ element. element.0) };
+
+    fn deserialize_member<R: ReadExt>(sequence: &mut Sequence<'_, R>) -> Result<Element<T>> {
+        let value = sequence.next_field::<T>()?;
+        Ok(Element(value))
+    }
+
+    ghost distinguished = { none_left_out (λ element. Some element.0) };
+
+    ghost tied = { Prim.assumption };
+}
+
+impl<T: Begins> DeserializeMember for Optional<T> {
+    type Item = T;
+
+    ghost shape = { T.shape };
+
+    ghost item_meaning = { T.meaning };
+
+    ghost item_eq = { T.eq };
+
+    ghost presence = { perhaps };
+
+    ghost item = { λ member. member.0 };
+
+    ghost left_out = { λ _. false };
+
+    ghost known = { known_perhaps T.known T.meaning T.eq (λ member. member.0) };
+
+    fn deserialize_member<R: ReadExt>(sequence: &mut Sequence<'_, R>) -> Result<Optional<T>> {
+        let value = sequence.next_optional::<T>()?;
+        Ok(Optional(value))
+    }
+
+    ghost distinguished = { none_left_out (λ member. member.0) };
+
+    ghost tied = { Prim.assumption };
+}
+
+impl<T: Begins, D: DefaultOf<T>> DeserializeMember for Defaulted<T, D> {
+    type Item = T;
+
+    ghost shape = { T.shape };
+
+    ghost item_meaning = { T.meaning };
+
+    ghost item_eq = { T.eq };
+
+    ghost presence = { perhaps };
+
+    ghost item = { λ member. unless_default D.left_out member.value };
+
+    ghost left_out = { D.left_out };
+
+    ghost known = { known_default T.known T.meaning T.eq D.left_out D.equal D.one (λ member. member.value) };
+
+    fn deserialize_member<R: ReadExt>(sequence: &mut Sequence<'_, R>) -> Result<Defaulted<T, D>> {
+        let value = sequence.next_or_default::<T, D>()?;
+        Ok(Defaulted::new(value))
+    }
+
+    ghost distinguished = { default_left_out D.left_out D.by_tree (λ member. member.value) };
+
+    ghost tied = { Prim.assumption };
+}
 
 /// Members of a sequence that can be read, of which some may be absent. They are `()` or a tuple of up to eight members and the
 /// members after them, as `(A, Optional<B>, C, ())`.
@@ -82,7 +242,7 @@ pub fn deserialize_struct_as<T: Struct, R: ReadExt>(de: &mut Deserializer<R>) ->
     ensures err { IfErr result (Refuses (sequence_of T.Members.members T.parts)
         (sequence_shape T.Members.layout) de.old de.new) }
 {
-    let mut sequence = de.deserialize_seq()?;
+    let mut sequence = de.begin_list(Tag::SEQUENCE)?;
     let members = T::Members::deserialize_members(&mut sequence)?;
     sequence.end()?;
     Ok(T::from_parts(members))

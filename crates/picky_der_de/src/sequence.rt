@@ -1,11 +1,11 @@
 //! Sequences and sets that are being read (X.690, 8.9 to 8.12).
 ghost use Rattle.std.specs.Prelude.{◌≡◌, ◌≤◌, ◌+◌, ◌++◌, ◌∷◌, [], None, OnOk};
 
+use crate::deserializer::Outer;
 use crate::{Begins, Deserialize, Deserializer};
 use picky_der_core::asn1::Tag;
 use picky_der_core::misc::ReadExt;
 use picky_der_core::{Asn1DerError, Result};
-use picky_der_input::Outer;
 use picky_der_ser::DefaultOf;
 use std::alloc::AllocError;
 
@@ -36,10 +36,10 @@ pub struct Sequence<'a, R: ReadExt> {
 impl<'a, R: ReadExt> Sequence<'a, R> {
     ghost use Rattle.picky_der_de.specs.SequenceState.{borrowed_by, outer_of, state_of};
     ghost use Rattle.std.specs.Prelude.{◌≡◌, ◌≢◌, ◌+◌, ◌<◌, ◌≤◌, None, Err, IfNone, IfSome, IfOk, IfErr, OnOk};
-    ghost use Rattle.picky_der_input.specs.Steps.{Fails, IsOther, failed_with};
-    ghost use Rattle.picky_der_input.specs.Refusing.{FailsAs};
-    ghost use Rattle.picky_der_input.specs.Ends.{OpensLazily, Closes, RefusesClose};
-    ghost use Rattle.picky_der_input.specs.LookAhead.{Identifies, RefusesIdentifier};
+    ghost use Rattle.picky_der_de.specs.Steps.{Fails, IsOther, failed_with};
+    ghost use Rattle.picky_der_de.specs.Refusing.{FailsAs};
+    ghost use Rattle.picky_der_de.specs.Ends.{OpensLazily, Closes, RefusesClose};
+    ghost use Rattle.picky_der_de.specs.LookAhead.{Identifies, RefusesIdentifier};
     ghost use Rattle.picky_der_de.specs.Members.{ReadsMember, RefusesMember, HasNoMore, ReadsAll, RefusesAll};
     ghost use Rattle.picky_der_ser.specs.Meaning.{unless_default};
     ghost use Rattle.picky_der_de.specs.Layouts.{Lacks, RefusesOptional, RefusesDefault};
@@ -78,7 +78,7 @@ impl<'a, R: ReadExt> Sequence<'a, R> {
         if self.de.is_at_end()? {
             return Ok(None);
         }
-        Ok(Some(self.read_member::<T>()?))
+        Ok(Some(self.de.next_member::<T>()?))
     }
 
     /// The next member. At the end the error is `TruncatedData`, and nothing is consumed. Any other error is that of
@@ -97,7 +97,7 @@ impl<'a, R: ReadExt> Sequence<'a, R> {
         if self.de.is_at_end()? {
             return Err(self.de.fail(Asn1DerError::TruncatedData));
         }
-        self.read_member()
+        self.de.next_member()
     }
 
     // The next member, if the end isn't here.
@@ -111,10 +111,7 @@ impl<'a, R: ReadExt> Sequence<'a, R> {
         ensures err { IfErr result (RefusesMember T.meaning T.shape (state_of self.old)
             (state_of self.new)) }
     {
-        if self.de.is_in_set() {
-            return self.de.next_in_set();
-        }
-        T::deserialize(self.de)
+        self.de.next_member()
     }
 
     /// The tag of the next member, without consuming it, or `None` exactly at the end. Nothing is allocated.
@@ -242,11 +239,76 @@ impl<'a, R: ReadExt> Sequence<'a, R> {
 
 impl<R: ReadExt> Deserializer<R> {
     ghost use Rattle.picky_der_de.specs.SequenceState.{borrowed_by, outer_of, state_of};
-    ghost use Rattle.std.specs.Prelude.{◌≡◌, IfOk};
+    ghost use Rattle.std.specs.Prelude.{◌≡◌, map, IfOk, IfErr};
     ghost use Rattle.std.specs.Borrow.{sem};
+    ghost use Rattle.picky_der_core.specs.Tree.{Tree, trees};
+    ghost use Rattle.picky_der_core.specs.Shape.{Shape};
     ghost use Rattle.picky_der_core.specs.Tag.{number_of, IsTagNumber};
-    ghost use Rattle.picky_der_input.specs.Ends.{OpensList};
+    ghost use Rattle.picky_der_ser.specs.Sequences.{IsListTag, list_kind};
+    ghost use Rattle.picky_der_de.specs.Reading.{Reads, Refuses};
+    ghost use Rattle.picky_der_de.specs.Ends.{OpensList};
     ghost use Rattle.picky_der_de.specs.Lending.{LendsList};
+    ghost use Rattle.picky_der_de.specs.Members.{RefusesUnordered};
+
+    /// Begins to read a sequence (X.690, 8.9 and 8.10). Directly under an implicit tag the header is that of the tag. The tag's
+    /// end is a soft one then, until the sequence is closed.
+    ///
+    /// `InvalidData` for another tag. Any other error is that of a header or of an end, or the reader's I/O error.
+    #[inline(always)]
+    pub fn deserialize_seq(&mut self) -> Result<Sequence<'_, R>>
+        ensures* rests { sem 𝓛 (LendsList R.row R.ReadExt.own R.Read 0x30 self.entry result) }
+        ensures same_reference { IfOk result (λ q. borrowed_by q ≡ self.entry.ghost_name) }
+        ensures ok { IfOk result (λ q. OpensList 0x30 self.old (state_of q) (outer_of q)) }
+    {
+        self.begin_list(Tag::SEQUENCE)
+    }
+
+    /// Begins to read a set (X.690, 8.11 and 8.12), with the tag `31`. The errors are those of `deserialize_seq`.
+    ///
+    /// The order of the members is tested as each is read (11.6). For a SET with members of several types, 10.3 has the order
+    /// of their tags instead; this library tests the order of their encodings.
+    pub fn deserialize_set(&mut self) -> Result<Sequence<'_, R>>
+        ensures* rests { sem 𝓛 (LendsList R.row R.ReadExt.own R.Read 0x31 self.entry result) }
+        ensures same_reference { IfOk result (λ q. borrowed_by q ≡ self.entry.ghost_name) }
+        ensures ok { IfOk result (λ q. OpensList 0x31 self.old (state_of q) (outer_of q)) }
+    {
+        self.begin_list(Tag::SET)
+    }
+
+    /// Begins to read a tuple as a sequence, with the errors of `deserialize_seq`. The length isn't used.
+    pub fn deserialize_tuple(&mut self, _len: usize) -> Result<Sequence<'_, R>>
+        ensures* rests { sem 𝓛 (LendsList R.row R.ReadExt.own R.Read 0x30 self.entry result) }
+        ensures same_reference { IfOk result (λ q. borrowed_by q ≡ self.entry.ghost_name) }
+        ensures ok { IfOk result (λ q. OpensList 0x30 self.old (state_of q) (outer_of q)) }
+    {
+        self.deserialize_seq()
+    }
+
+    /// Begins to read a named tuple as a sequence, with the errors of `deserialize_seq`. The name and the length aren't used.
+    pub fn deserialize_tuple_struct(
+        &mut self,
+        _name: &'static str,
+        _len: usize,
+    ) -> Result<Sequence<'_, R>>
+        ensures* rests { sem 𝓛 (LendsList R.row R.ReadExt.own R.Read 0x30 self.entry result) }
+        ensures same_reference { IfOk result (λ q. borrowed_by q ≡ self.entry.ghost_name) }
+        ensures ok { IfOk result (λ q. OpensList 0x30 self.old (state_of q) (outer_of q)) }
+    {
+        self.deserialize_seq()
+    }
+
+    /// Begins to read a struct as a sequence, with the errors of `deserialize_seq`. The names aren't used.
+    pub fn deserialize_struct(
+        &mut self,
+        _name: &'static str,
+        _fields: &'static [&'static str],
+    ) -> Result<Sequence<'_, R>>
+        ensures* rests { sem 𝓛 (LendsList R.row R.ReadExt.own R.Read 0x30 self.entry result) }
+        ensures same_reference { IfOk result (λ q. borrowed_by q ≡ self.entry.ghost_name) }
+        ensures ok { IfOk result (λ q. OpensList 0x30 self.old (state_of q) (outer_of q)) }
+    {
+        self.deserialize_seq()
+    }
 
     // Begins a sequence or set under this tag.
     #[inline(always)]
@@ -258,5 +320,23 @@ impl<R: ReadExt> Deserializer<R> {
     {
         let outer = self.open_list(tag)?;
         Ok(Sequence { de: self, outer })
+    }
+
+    // The members of a sequence or set of values of one type, under this tag.
+    pub(crate) fn read_list<T: Deserialize>(&mut self, tag: Tag) -> Result<Vec<T>>
+        requires { IsListTag tag }
+        ensures ok { IfOk result (λ values. Reads
+            (Shape.list_of (list_kind tag) T.shape) self.old self.new
+            (Tree.list (list_kind tag) (trees (map T.meaning values.items)))) }
+        ensures err { IfErr result (Refuses (λ values. Tree.list (list_kind tag)
+            (trees (map T.meaning values))) (Shape.list_of (list_kind tag) T.shape) self.old
+            self.new) }
+        ensures order { tag ≡ 0x31 → IfErr result (RefusesUnordered T.meaning T.shape self.old
+            self.new) }
+    {
+        let mut members = self.begin_list(tag)?;
+        let values = members.remaining::<T>()?;
+        members.end()?;
+        Ok(values)
     }
 }

@@ -1,10 +1,10 @@
 //! Values that follow each other.
 ghost use Rattle.std.specs.Prelude.{◌≡◌, ◌≢◌, ◌<◌, ◌≤◌, [], length, None, IfNone, IfSome, IfOk, IfErr};
 ghost use Rattle.picky_der_core.specs.Encoding.{der};
-ghost use Rattle.picky_der_input.specs.LookAhead.{HasEnded};
-ghost use Rattle.picky_der_input.specs.Reading.{Reads, Refuses};
+ghost use Rattle.picky_der_de.specs.LookAhead.{HasEnded};
+ghost use Rattle.picky_der_de.specs.Reading.{Reads, Refuses};
 ghost use Rattle.picky_der_core.specs.Reading.{Place, IsMendable};
-ghost use Rattle.picky_der_input.specs.Steps.{IsJudged, IsOther};
+ghost use Rattle.picky_der_de.specs.Steps.{IsJudged, IsOther};
 ghost use Rattle.picky_der_de.specs.Entry.{IsFront, HasNoFront, ReadsFront, HasNoneLeft, RefusesNextValue};
 ghost use Rattle.picky_der_de.specs.Entry.{view_of, any_length};
 

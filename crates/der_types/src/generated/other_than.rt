@@ -2,7 +2,7 @@
 //! Numbers other than one.
 ghost use Rattle.std.proofs.Common.{ap};
 ghost use Rattle.std.specs.Prelude.{◌≡◌, true, false, not, refl, IfSome, IfNone, IfOk, IfErr};
-ghost use Rattle.picky_der_input.specs.Reading.{Reads, Refuses};
+ghost use Rattle.picky_der_de.specs.Reading.{Reads, Refuses};
 ghost use Rattle.picky_der_de.specs.Known.{known_part};
 ghost use Rattle.der_types.specs.Constraints.{is_between, RefusesConstrained};
 ghost use Rattle.der_types.specs.ExactConstraints.{other_than_values};
@@ -13,7 +13,7 @@ use picky_der_core::Result;
 use picky_der_core::asn1::Tag;
 use picky_der_core::misc::{ReadExt, WriteExt};
 use picky_der_de::{Begins, Deserialize, Deserializer};
-use picky_der_ser::{Serialize, Serializer};
+use picky_der_ser::{ Serialize, Serializer};
 
 /// A number other than `N`. It is encoded as the number.
 ///
@@ -81,6 +81,7 @@ impl<T: WholeNumber, const N: u64> Serialize for OtherThan<T, N> {
         self.value.serialize(serializer)
     }
 }
+
 
 impl<T: WholeNumber + Deserialize, const N: u64> Deserialize for OtherThan<T, N> {
     ghost shape = { T.shape };

@@ -2,7 +2,7 @@
 //! Values of a bounded size.
 ghost use Rattle.std.proofs.Common.{ap};
 ghost use Rattle.std.specs.Prelude.{◌≡◌, true, false, not, refl, IfSome, IfNone, IfOk, IfErr};
-ghost use Rattle.picky_der_input.specs.Reading.{Reads, Refuses};
+ghost use Rattle.picky_der_de.specs.Reading.{Reads, Refuses};
 ghost use Rattle.picky_der_de.specs.Known.{known_part};
 ghost use Rattle.der_types.specs.Constraints.{is_size, RefusesConstrained};
 ghost use Rattle.der_types.specs.ExactConstraints.{sized_values};
@@ -56,8 +56,7 @@ impl<T: Size, const MIN: usize, const MAX: usize> WithSize<T, MIN, MAX> {
     }
 }
 
-impl<T: Size + Deserialize, const MIN: usize, const MAX: usize> Constrained
-    for WithSize<T, MIN, MAX> {
+impl<T: Size + Deserialize, const MIN: usize, const MAX: usize> Constrained for WithSize<T, MIN, MAX> {
     type Of = T;
 
     ghost unconstrained = { λ it. it.value };
@@ -85,8 +84,8 @@ impl<T: Size + List, const MIN: usize, const MAX: usize> List for WithSize<T, MI
     ghost is_list = { λ it. T.is_list it.value };
 }
 
-impl<T: Size + Deserialize, const MIN: usize, const MAX: usize> Deserialize
-    for WithSize<T, MIN, MAX> {
+
+impl<T: Size + Deserialize, const MIN: usize, const MAX: usize> Deserialize for WithSize<T, MIN, MAX> {
     ghost shape = { T.shape };
 
     ghost known = { known_part T.known T.meaning T.eq (λ it. it.value) };

@@ -3,7 +3,7 @@ ghost use Rattle.std.specs.Prelude.{[], ◌∷◌};
 
 use picky_asn1_der::Deserializer;
 use picky_asn1_der::asn1::Tag;
-use picky_der_input::ShortContent;
+use picky_der_de::ShortContent;
 use std::alloc::Global;
 use std::test::Fail;
 

@@ -1,22 +1,103 @@
-//! What is passed on to the `Input`: the ends of sequences and sets, and what is around values in wrappers and application tags.
-ghost use Rattle.std.specs.Prelude.{◌≡◌, ◌+◌, ◌≤◌, ◌↔◌, None, Some, IsTrue, IfOk, IfErr, OnOk};
-ghost use Rattle.picky_der_core.specs.Wrapper.{HasTagNumber};
+//! What is around values: headers, and the ends of sequences, sets and wrappers, as they are opened and closed.
 ghost use Rattle.picky_der_core.specs.Failure.{failure_of};
+ghost use Rattle.std.specs.Prelude.{◌≡◌, ◌+◌, ◌≤◌, ◌<◌, ◌↔◌, ◌∷◌, [], None, Some};
+ghost use Rattle.std.specs.Prelude.{IsTrue, IfNone, IfSome, IfOk, IfErr, OnOk};
 ghost use Rattle.picky_der_core.specs.Tag.{number_of, IsTagNumber};
-ghost use Rattle.picky_der_input.specs.Ends.{Closes, RefusesClose, OpensList, RefusesList, OpensLazily};
-ghost use Rattle.picky_der_input.specs.Wrappers.{ReadsWrapped, RefusesWrapped};
-ghost use Rattle.picky_der_input.specs.TagNumbers.{RefusesNumber};
+ghost use Rattle.picky_der_core.specs.Wrapper.{HasTagNumber};
+ghost use Rattle.picky_der_de.specs.Steps.{Takes, TakesNoMemory};
+ghost use Rattle.picky_der_de.specs.Headers.{BeginsContent, RefusesBegin};
+ghost use Rattle.picky_der_de.specs.Ends.{innermost, with_inner_end, Closes, RefusesClose, OpensList, RefusesList, OpensLazily};
+ghost use Rattle.picky_der_de.specs.Order.{order_of, cut_at};
+ghost use Rattle.picky_der_de.specs.Wrappers.{implicit_tag_of, BeginsWrapper, OpensWrapper, RefusesOpening, RefusesUnusedBits};
+ghost use Rattle.picky_der_de.specs.Members.{ReadsMember, RefusesMember};
+ghost use Rattle.picky_der_de.specs.Wrappers.{ReadsWrapped, RefusesWrapped};
+ghost use Rattle.picky_der_de.specs.TagNumbers.{RefusesNumber};
 
 use super::Deserializer;
-use crate::Deserialize;
-use picky_der_core::Result;
+use crate::{Deserialize, End};
 use picky_der_core::asn1::{Tag, Wrapper};
 use picky_der_core::misc::ReadExt;
-use picky_der_input::Outer;
+use picky_der_core::{Asn1DerError, Failure, Result};
+use std::marker::Model;
+
+// The end around an open one. It becomes the innermost end again when the open one is closed.
+#[derive(Drop)]
+pub(crate) struct Outer {
+    // How many bytes are consumed before it.
+    position: usize,
+    kind: End,
+    // If it is that of a set: how many bytes are kept before the encoding of its last member.
+    last_start: Option<usize>,
+}
+
+impl Model for Outer {
+    ghost use Rattle.picky_der_de.specs.Ends.{Outer as OuterEnd};
+
+    ghost Value = { OuterEnd };
+
+    ghost view = { λ o. record { position = o.position; kind = o.kind; last_start = o.last_start } };
+}
+
+// The implicit tag directly under which the value is: the byte that replaces its own.
+fn implicit_tag(wrapper: Wrapper) -> Option<u8>
+    requires { HasTagNumber wrapper }
+    ensures { result ≡ implicit_tag_of wrapper }
+{
+    if wrapper.keeps_header() {
+        return None;
+    }
+    Some(wrapper.tag().inner())
+}
 
 impl<R: ReadExt> Deserializer<R> {
-    // Consumes the header of a sequence or set under this tag, and opens its end. Directly under an implicit tag the header was
-    // consumed already.
+    // Opens an end `len` bytes from here, and returns the one around it.
+    pub(crate) fn open_end(&mut self, len: usize, kind: End) -> Outer
+        requires { len ≤ self.old.until_end }
+        ensures opened { self.new ≡ with_inner_end self.old len kind }
+        ensures outer_end { result ≡ innermost self.old }
+        ensures bounded { result.position ≤ self.new.limit }
+    {
+        let outer = Outer {
+            position: self.reader.pos() + self.until_end,
+            kind: self.end,
+            last_start: self.last_start.take(),
+        };
+        self.until_end = len;
+        self.end = kind;
+        outer
+    }
+
+    // The length of the content of a plain value with this tag. Directly under an implicit tag the header is that tag's, and
+    // all bytes before its end are the content.
+    #[inline(always)]
+    pub(crate) fn begin(&mut self, tag: Tag) -> Result<usize>
+        requires number { IsTagNumber (number_of tag) }
+        ensures ok { IfOk result (BeginsContent tag self.old self.new) }
+        ensures err { IfErr result (RefusesBegin tag self.old self.new) }
+        ensures memory { IfErr result (TakesNoMemory self.old self.new) }
+    {
+        match self.begin_ahead(tag) {
+            Some(len) => Ok(len),
+            None => self.draw_begin(tag),
+        }
+    }
+
+    // The same, if the header is ahead whole.
+    #[inline(always)]
+    fn begin_ahead(&mut self, tag: Tag) -> Option<usize>
+        ensures some { IfSome result (BeginsContent tag self.old self.new) }
+        ensures none { IfNone result (self.new ≡ self.old) }
+    {
+        if !self.wants_header() {
+            return None;
+        }
+        self.take_header_ahead(tag)
+    }
+
+    // Consumes the header of a sequence or set under this tag, and opens its end. Directly under an implicit tag the header
+    // was consumed with that tag. In a set the order of the members is tested from here on (X.690, 11.6).
+    //
+    // `InvalidData` for another tag. Any other error is that of a header or of an end, or the reader's I/O error.
     #[inline(always)]
     pub(crate) fn open_list(&mut self, tag: Tag) -> Result<Outer>
         requires number { IsTagNumber (number_of tag) }
@@ -24,34 +105,146 @@ impl<R: ReadExt> Deserializer<R> {
         ensures bounded { IfOk result (λ outer. outer.position ≤ self.new.limit) }
         ensures err { IfErr result (RefusesList tag self.old self.new) }
     {
-        self.input.open_list(tag)
+        let len = self.begin(tag)?;
+        let outer = self.open_end(len, End::Soft);
+        self.order_members(tag);
+        Ok(outer)
     }
 
-    // Opens a soft end `len` bytes from here. If that is past the innermost end, it has failed.
+    // Prepares for the members of a list under this tag. Only the order of a set's members is tested.
+    fn order_members(&mut self, tag: Tag)
+        requires { self.old.sets.last ≡ None }
+        ensures { self.new ≡ record self.old {
+          sets = record self.old.sets { last = order_of tag };
+        } }
+    {
+        if tag == Tag::SET {
+            self.last_start = Some(self.kept.len());
+        }
+    }
+
+    // Opens a soft end `len` bytes from here, before which no order is tested. Directly under an implicit tag the contents
+    // have their own header.
+    //
+    // If these bytes reach past the innermost end, the input has failed: with `InvalidData` at a hard end, and else with
+    // `TruncatedData`. If it had failed before, nothing changes.
     pub(crate) fn open_lazily(&mut self, len: usize) -> Outer
         ensures opened { OpensLazily len self.old self.new result }
         ensures bounded { result.position ≤ self.new.limit }
     {
-        self.input.open_lazily(len)
+        if self.failed.is_none() && len <= self.until_end {
+            self.implicit_tag = None;
+            return self.open_end(len, End::Soft);
+        }
+        if self.failed.is_none() {
+            self.failed = Some(Failure::of(self.end.missing()));
+        }
+        Outer {
+            position: self.reader.pos() + self.until_end,
+            kind: self.end,
+            last_start: self.last_start,
+        }
+    }
+
+    // Consumes the header of a wrapper, and opens its end. Directly under an implicit tag it has its own header too.
+    fn begin_wrapper(&mut self, wrapper: Wrapper) -> Result<Outer>
+        ensures ok { IfOk result (BeginsWrapper wrapper self.old self.new) }
+        ensures bounded { IfOk result (λ outer. outer.position ≤ self.new.limit) }
+        ensures err { IfErr result (RefusesOpening wrapper self.old self.new) }
+        ensures unsupported { (HasTagNumber wrapper → ⊥) → RefusesNumber self.old result self.new }
+    {
+        if let Some(error) = self.earlier() {
+            return Err(error);
+        }
+        if !wrapper.has_tag_number() {
+            return Err(self.fail(Asn1DerError::UnsupportedValue));
+        }
+        let len = self.read_header(wrapper.tag())?;
+        Ok(self.open_end(len, End::Hard))
+    }
+
+    // Consumes the byte that counts the unused bits of a bit string, which must be 00.
+    fn take_unused_bits(&mut self) -> Result<()>
+        requires had_not_failed { self.old.failed ≡ None }
+        ensures ok { OnOk result (Takes self.old self.new (0x00 ∷ [])) }
+        ensures err { IfErr result (RefusesUnusedBits self.old self.new) }
+    {
+        if self.next_byte()? != 0x00 {
+            return Err(self.fail(Asn1DerError::InvalidData));
+        }
+        Ok(())
+    }
+
+    // Consumes the bytes before the value in a wrapper, and opens the wrapper's end.
+    //
+    // `UnsupportedValue` for a tag number past 30, and for a tag in place of a list's own that isn't constructed: nothing is
+    // consumed then. `InvalidData` for another tag, and for unused bits (X.690, 8.6.2). Any other error is that of a header or
+    // of an end, or the reader's I/O error.
+    pub(crate) fn open_wrapper(&mut self, wrapper: Wrapper) -> Result<Outer>
+        ensures ok { IfOk result (OpensWrapper wrapper self.old self.new) }
+        ensures bounded { IfOk result (λ outer. outer.position ≤ self.new.limit) }
+        ensures err { IfErr result (RefusesOpening wrapper self.old self.new) }
+        ensures unsupported { (HasTagNumber wrapper → ⊥) → RefusesNumber self.old result self.new }
+    {
+        let outer = self.begin_wrapper(wrapper)?;
+        if wrapper.counts_unused_bits() {
+            self.take_unused_bits()?;
+        }
+        self.implicit_tag = implicit_tag(wrapper);
+        Ok(outer)
+    }
+
+    // Forgets what is kept of the innermost set. The set around it is the innermost one again.
+    fn leave_set(&mut self, outer: Option<usize>)
+        ensures { self.new ≡ record self.old { sets = cut_at outer self.old.sets.around } }
+    {
+        // Most ends aren't those of sets, and aren't in a set.
+        if self.last_start.is_none() && outer.is_none() {
+            return;
+        }
+        if let Some(begin) = self.last_start {
+            self.kept.truncate(begin);
+        }
+        self.last_start = match outer {
+            Some(start) => Some(start.min(self.kept.len())),
+            None => None,
+        };
     }
 
     // Closes the innermost end, if it was reached. The end around it is the innermost one again.
+    //
+    // `InvalidData` if bytes are left before it: none of them is consumed.
     pub(crate) fn close_end(&mut self, outer: Outer) -> Result<()>
         requires within { self.old.taken + self.old.until_end ≤ outer.position }
         requires bounded { outer.position ≤ self.old.limit }
         ensures ok { OnOk result (Closes outer self.old self.new) }
         ensures err { IfErr result (RefusesClose self.old self.new) }
     {
-        self.input.close_end(outer)
+        if let Some(error) = self.earlier() {
+            return Err(error);
+        }
+        if self.until_end > 0 {
+            return Err(self.fail(Asn1DerError::InvalidData));
+        }
+        self.until_end = outer.position - self.reader.pos();
+        self.end = outer.kind;
+        self.leave_set(outer.last_start);
+        Ok(())
     }
 
-    // Whether the innermost end is reached.
-    pub(crate) fn is_at_end(&self) -> Result<bool>
-        ensures ok { IfOk result (λ here. (self.now.failed ≡ None)
-            × (IsTrue here ↔ (self.now.until_end ≡ 0))) }
-        ensures err { IfErr result (λ e. self.now.failed ≡ Some (failure_of e)) }
+    // The next member of a sequence or set.
+    #[inline(always)]
+    pub(crate) fn next_member<T: Deserialize>(&mut self) -> Result<T>
+        requires had_not_failed { self.old.failed ≡ None }
+        requires whole { self.old.implicit_tag ≡ None }
+        ensures ok { IfOk result (λ value. ReadsMember T.shape self.old self.new
+            (T.meaning value)) }
+        ensures err { IfErr result (RefusesMember T.meaning T.shape self.old self.new) }
     {
-        self.input.is_at_end()
+        if self.last_start.is_some() {
+            return self.next_in_set();
+        }
+        T::deserialize(self)
     }
 
     // Reads a value in this wrapper.
@@ -62,9 +255,21 @@ impl<R: ReadExt> Deserializer<R> {
         ensures unsupported { (HasTagNumber wrapper → ⊥)
             → RefusesNumber self.old result self.new }
     {
-        let outer = self.input.open_wrapper(wrapper)?;
+        let outer = self.open_wrapper(wrapper)?;
         let value = T::deserialize(self)?;
         self.close_end(outer)?;
         Ok(value)
+    }
+
+    // Whether the innermost end is reached. The only error is the earlier one, if the input has failed.
+    pub(crate) fn is_at_end(&self) -> Result<bool>
+        ensures ok { IfOk result (λ here. (self.now.failed ≡ None)
+            × (IsTrue here ↔ (self.now.until_end ≡ 0))) }
+        ensures err { IfErr result (λ e. self.now.failed ≡ Some (failure_of e)) }
+    {
+        match self.earlier() {
+            Some(error) => Err(error),
+            None => Ok(self.until_end == 0),
+        }
     }
 }

@@ -2,19 +2,20 @@
 ghost use Rattle.std.specs.Prelude.{◌≡◌, ◌<◌, length, IfOk, IfErr, IfSome, IfNone};
 ghost use Rattle.std.specs.Borrow.{sem};
 ghost use Rattle.std.specs.Io.BufRead.{Rests};
-ghost use Rattle.picky_der_input.specs.Reading.{ReadsPrimitive, RefusesPrimitive};
 ghost use Rattle.picky_der_core.specs.Primitive.{Primitive, PrimitiveShape};
-ghost use Rattle.picky_der_de.specs.contracts.deserializer.Deserializer.{the_row};
-ghost use Rattle.picky_der_input.specs.State.{State};
-ghost use Rattle.picky_der_de.specs.Lending.{LendsBytes};
 ghost use Rattle.picky_der_core.specs.Tag.{number_of};
-ghost use Rattle.picky_der_input.specs.TagNumbers.{RefusesNumber};
+ghost use Rattle.picky_der_de.specs.Reading.{ReadsPrimitive, RefusesPrimitive};
+ghost use Rattle.picky_der_de.specs.State.{State};
+ghost use Rattle.picky_der_de.specs.Lending.{LendsBytes};
+ghost use Rattle.picky_der_de.specs.contracts.deserializer.Deserializer.{the_row};
+ghost use Rattle.picky_der_de.specs.TagNumbers.{RefusesNumber};
 
 use super::Deserializer;
+use super::ahead::{near, short_in_front};
+use crate::ShortContent;
 use picky_der_core::asn1::Tag;
 use picky_der_core::misc::ReadExt;
 use picky_der_core::{Asn1DerError, Result};
-use picky_der_input::ShortContent;
 
 impl<R: ReadExt> Deserializer<R> {
     /// Reads the content under this tag into one vector. The content isn't checked. The vector grows only as bytes are read.
@@ -24,13 +25,20 @@ impl<R: ReadExt> Deserializer<R> {
     /// or the reader's I/O error.
     #[inline(always)]
     pub fn deserialize_tagged_bytes(&mut self, tag: Tag) -> Result<Vec<u8>>
-        ensures ok { IfOk result (λ content. ReadsPrimitive (PrimitiveShape.bytes tag)
-            self.old self.new (Primitive.bytes tag content.items)) }
+        ensures ok { IfOk result (λ content. ReadsPrimitive (PrimitiveShape.bytes tag) self.old self.new
+            (Primitive.bytes tag content.items)) }
         ensures err { IfErr result (RefusesPrimitive (Primitive.bytes tag) (PrimitiveShape.bytes tag)
             self.old self.new) }
         ensures unsupported { 30 < number_of tag → RefusesNumber self.old result self.new }
     {
-        self.input.read_tagged_bytes(tag)
+        if tag.number() <= Tag::MAX_NUMBER {
+            match self.copy_content_ahead(tag) {
+                Ok(Some(content)) => return Ok(content),
+                Ok(None) => {}
+                Err(error) => return Err(error),
+            }
+        }
+        self.draw_tagged_bytes(tag)
     }
 
     /// Reads the content under this tag into a value in one step. The whole element has to be in memory before the innermost
@@ -45,7 +53,35 @@ impl<R: ReadExt> Deserializer<R> {
         ensures short { IfSome result (λ it. length (C.content it) < 128) }
         ensures none { IfNone result (self.new ≡ self.old) }
     {
-        self.input.read_short::<C>(tag)
+        if tag.number() > Tag::MAX_NUMBER || !self.wants_header() {
+            return None;
+        }
+        let content = short_in_front(near(&self.reader, self.until_end), tag)?;
+        let count = content.len() + 2;
+        let value = C::of_short(self.alloc, content)?;
+        self.reader.take_few(count);
+        self.until_end -= count;
+        Some(value)
+    }
+
+    // The same, the header byte by byte.
+    #[cold]
+    #[inline(never)]
+    fn draw_tagged_bytes(&mut self, tag: Tag) -> Result<Vec<u8>>
+        ensures ok { IfOk result (λ content. ReadsPrimitive (PrimitiveShape.bytes tag) self.old self.new
+            (Primitive.bytes tag content.items)) }
+        ensures err { IfErr result (RefusesPrimitive (Primitive.bytes tag) (PrimitiveShape.bytes tag)
+            self.old self.new) }
+        ensures unsupported { 30 < number_of tag → RefusesNumber self.old result self.new }
+    {
+        if let Some(error) = self.earlier() {
+            return Err(error);
+        }
+        if tag.number() > Tag::MAX_NUMBER {
+            return Err(self.fail(Asn1DerError::UnsupportedValue));
+        }
+        let len = self.begin(tag)?;
+        self.draw_vec(len)
     }
 
     /// Reads an octet string (X.690, 8.7) into one vector. The errors are those of `deserialize_tagged_bytes`.

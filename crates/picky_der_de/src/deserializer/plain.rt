@@ -1,12 +1,16 @@
-//! Bools, numbers and nulls.
-ghost use Rattle.std.specs.Prelude.{◌^◌, ◌-◌, IfOk, IfErr, OnOk};
-ghost use Rattle.picky_der_core.specs.Primitive.{PrimitiveShape, Primitive};
+//! Bools, numbers and nulls: a header, a content, and its judge.
+ghost use Rattle.std.specs.Prelude.{◌≡◌, ◌^◌, ◌-◌, None, IfNone, IfSome, IfOk, IfErr, OnOk};
+ghost use Rattle.picky_der_core.specs.Primitive.{Primitive, PrimitiveShape};
 ghost use Rattle.picky_der_core.specs.Shape.{Shape};
 ghost use Rattle.picky_der_core.specs.Integer.{int_tree};
-ghost use Rattle.picky_der_input.specs.Steps.{TakesNoMemory};
-ghost use Rattle.picky_der_input.specs.Reading.{Reads, ReadsInt, RefusesInt, ReadsPrimitive, RefusesPrimitive};
+ghost use Rattle.picky_der_de.specs.Steps.{TakesNoMemory};
+ghost use Rattle.picky_der_de.specs.Reading.{Reads, ReadsInt, RefusesInt, ReadsJudged, RefusesJudged, ReadsPrimitive, RefusesPrimitive};
 
 use super::Deserializer;
+use super::ahead::{near, short_in_front};
+use crate::any_integer::AnyInteger;
+use crate::plain_kind::PlainKind;
+use crate::{Boolean, Null, UnsignedInteger};
 use picky_der_core::misc::ReadExt;
 use picky_der_core::{Int, Result};
 
@@ -17,13 +21,13 @@ impl<R: ReadExt> Deserializer<R> {
     /// Any other error is that of a header or of an end, or the reader's I/O error.
     #[inline(always)]
     pub fn deserialize_bool(&mut self) -> Result<bool>
-        ensures ok { IfOk result (λ value. ReadsPrimitive PrimitiveShape.boolean
-            self.old self.new (Primitive.boolean value)) }
+        ensures ok { IfOk result (λ value. ReadsPrimitive PrimitiveShape.boolean self.old self.new
+            (Primitive.boolean value)) }
         ensures err { IfErr result (RefusesPrimitive Primitive.boolean PrimitiveShape.boolean
             self.old self.new) }
         ensures memory { IfErr result (TakesNoMemory self.old self.new) }
     {
-        self.input.read_bool()
+        self.read_plain::<Boolean, bool>()
     }
 
     /// Reads an unsigned number of 8 bits (X.690, 8.3).
@@ -39,7 +43,7 @@ impl<R: ReadExt> Deserializer<R> {
             self.old self.new) }
         ensures memory { IfErr result (TakesNoMemory self.old self.new) }
     {
-        self.input.read_unsigned()
+        self.read_plain::<UnsignedInteger, u8>()
     }
 
     /// Reads an unsigned number of 16 bits. The errors are those of `deserialize_u8`.
@@ -51,7 +55,7 @@ impl<R: ReadExt> Deserializer<R> {
             self.old self.new) }
         ensures memory { IfErr result (TakesNoMemory self.old self.new) }
     {
-        self.input.read_unsigned()
+        self.read_plain::<UnsignedInteger, u16>()
     }
 
     /// Reads an unsigned number of 32 bits. The errors are those of `deserialize_u8`.
@@ -63,7 +67,7 @@ impl<R: ReadExt> Deserializer<R> {
             self.old self.new) }
         ensures memory { IfErr result (TakesNoMemory self.old self.new) }
     {
-        self.input.read_unsigned()
+        self.read_plain::<UnsignedInteger, u32>()
     }
 
     /// Reads an unsigned number of 64 bits. The errors are those of `deserialize_u8`.
@@ -75,7 +79,7 @@ impl<R: ReadExt> Deserializer<R> {
             self.old self.new) }
         ensures memory { IfErr result (TakesNoMemory self.old self.new) }
     {
-        self.input.read_unsigned()
+        self.read_plain::<UnsignedInteger, u64>()
     }
 
     /// Reads an unsigned number of 128 bits. The errors are those of `deserialize_u8`.
@@ -87,7 +91,7 @@ impl<R: ReadExt> Deserializer<R> {
             self.old self.new) }
         ensures memory { IfErr result (TakesNoMemory self.old self.new) }
     {
-        self.input.read_unsigned()
+        self.read_plain::<UnsignedInteger, u128>()
     }
 
     /// Reads an INTEGER into an integer type, signed or not (X.690, 8.3).
@@ -96,13 +100,12 @@ impl<R: ReadExt> Deserializer<R> {
     /// a number that the type doesn't have. Any other error is that of a header or of an end, or the reader's I/O error.
     pub fn deserialize_int<N: Int>(&mut self) -> Result<N>
         ensures ok { IfOk result (λ value. ReadsInt N.fits self.old self.new (N.number value)) }
-        ensures meant { IfOk result (λ value. Reads (Shape.primitive (PrimitiveShape.bytes 0x02))
-            self.old self.new
+        ensures meant { IfOk result (λ value. Reads (Shape.primitive (PrimitiveShape.bytes 0x02)) self.old self.new
             (int_tree N.fits (N.number value))) }
         ensures err { IfErr result (RefusesInt N.fits self.old self.new) }
         ensures memory { IfErr result (TakesNoMemory self.old self.new) }
     {
-        self.input.read_int()
+        self.read_plain::<AnyInteger, N>()
     }
 
     /// Reads a null (X.690, 8.8).
@@ -111,13 +114,13 @@ impl<R: ReadExt> Deserializer<R> {
     /// the reader's I/O error.
     #[inline(always)]
     pub fn deserialize_unit(&mut self) -> Result<()>
-        ensures ok { OnOk result (ReadsPrimitive PrimitiveShape.null
-            self.old self.new Primitive.null) }
-        ensures err { IfErr result (RefusesPrimitive (λ (_ : Unit {0}). Primitive.null) PrimitiveShape.null
-            self.old self.new) }
+        ensures ok { OnOk result (ReadsPrimitive PrimitiveShape.null self.old self.new
+            Primitive.null) }
+        ensures err { IfErr result (RefusesPrimitive (λ (_ : Unit {0}). Primitive.null)
+            PrimitiveShape.null self.old self.new) }
         ensures memory { IfErr result (TakesNoMemory self.old self.new) }
     {
-        self.input.read_unit()
+        self.read_plain::<Null, ()>()
     }
 
     /// Reads a struct without fields as a null, with the errors of `deserialize_unit`. The name isn't used.
@@ -130,5 +133,56 @@ impl<R: ReadExt> Deserializer<R> {
         ensures memory { IfErr result (TakesNoMemory self.old self.new) }
     {
         self.deserialize_unit()
+    }
+
+    // Reads a value of this kind.
+    #[inline(always)]
+    pub(crate) fn read_plain<K: PlainKind<V>, V: Copy>(&mut self) -> Result<V>
+        ensures ok { IfOk result (λ value. ReadsJudged K.shape K.judge self.old self.new
+            (K.meaning (K.view value))) }
+        ensures err { IfErr result (RefusesJudged K.meaning K.shape K.judge self.old self.new) }
+        ensures memory { IfErr result (TakesNoMemory self.old self.new) }
+    {
+        match self.short_plain::<K, V>() {
+            Some(value) => Ok(value),
+            None => self.draw_plain::<K, V>(),
+        }
+    }
+
+    // Reads a value that is ahead whole.
+    #[inline(always)]
+    fn short_plain<K: PlainKind<V>, V: Copy>(&mut self) -> Option<V>
+        ensures read { IfSome result (λ value. ReadsJudged K.shape K.judge self.old self.new
+            (K.meaning (K.view value))) }
+        ensures none { IfNone result (self.new ≡ self.old) }
+    {
+        if !self.wants_header() {
+            return None;
+        }
+        let content = short_in_front(near(&self.reader, self.until_end), K::tag())?;
+        let count = content.len() + 2;
+        let Ok(value) = K::of_content(content) else {
+            return None;
+        };
+        self.reader.take_few(count);
+        self.until_end -= count;
+        Some(value)
+    }
+
+    // Reads a value byte by byte.
+    #[cold]
+    #[inline(never)]
+    fn draw_plain<K: PlainKind<V>, V: Copy>(&mut self) -> Result<V>
+        ensures ok { IfOk result (λ value. ReadsJudged K.shape K.judge self.old self.new
+            (K.meaning (K.view value))) }
+        ensures err { IfErr result (RefusesJudged K.meaning K.shape K.judge self.old self.new) }
+        ensures memory { IfErr result (TakesNoMemory self.old self.new) }
+    {
+        let len = self.begin(K::tag())?;
+        let content = self.draw_kept(len)?;
+        match K::of_content(&content) {
+            Ok(value) => Ok(value),
+            Err(error) => Err(self.fail(error)),
+        }
     }
 }

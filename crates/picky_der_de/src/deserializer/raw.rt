@@ -1,13 +1,46 @@
 //! Elements that are consumed whole, whatever their tag (X.690, 8.1.1).
-ghost use Rattle.std.specs.Prelude.{ℕ, List, IfOk, IfErr, OnOk};
-ghost use Rattle.picky_der_input.specs.Steps.{TakesNoMemory};
-ghost use Rattle.picky_der_input.specs.Elements.{ReadsRaw, RefusesRaw};
+ghost use Rattle.std.specs.Prelude.{◌≡◌, ◌∷◌, ℕ, List, IfOk, IfErr, OnOk};
+ghost use Rattle.picky_der_core.specs.Element.{length_octets};
+ghost use Rattle.picky_der_de.specs.Steps.{TakesNoMemory};
+ghost use Rattle.picky_der_de.specs.Elements.{BeginsElement, ReadsRaw, RefusesRaw};
 
 use super::Deserializer;
-use picky_der_core::Result;
-use picky_der_core::misc::ReadExt;
+use picky_der_core::asn1::Tag;
+use picky_der_core::misc::{Length, ReadExt};
+use picky_der_core::{Asn1DerError, Result};
+use std::alloc::Global;
+
+// A header, in a vector to which the content can be appended.
+fn header(alloc: Global, tag: Tag, len: usize) -> Result<Vec<u8>>
+    ensures ok { IfOk result (λ bytes. bytes.items ≡ tag ∷ length_octets len) }
+    ensures err { IfErr result (λ e. e ≡ Asn1DerError.OutOfMemory) }
+{
+    let mut bytes = Vec::new(alloc);
+    if bytes.push(tag.inner()).is_err() || bytes.extend_from_slice(&Length::bytes(len)).is_err() {
+        return Err(Asn1DerError::OutOfMemory);
+    }
+    Ok(bytes)
+}
 
 impl<R: ReadExt> Deserializer<R> {
+    // The tag and the length of the content of the next element. Directly under an implicit tag it has a header too.
+    fn begin_element(&mut self) -> Result<(Tag, usize)>
+        ensures ok { IfOk result (λ h. BeginsElement self.old self.new h.0 h.1) }
+        ensures err { IfErr result (RefusesRaw self.old self.new) }
+        ensures memory { IfErr result (TakesNoMemory self.old self.new) }
+    {
+        if let Some(error) = self.earlier() {
+            return Err(error);
+        }
+        self.implicit_tag = None;
+        let tag = Tag::from(self.next_byte()?);
+        if tag.number() > Tag::MAX_NUMBER {
+            return Err(self.fail(Asn1DerError::UnsupportedValue));
+        }
+        let len = self.read_content_length()?;
+        Ok((tag, len))
+    }
+
     /// Reads the next element whole, and returns its bytes with its header. Its content isn't checked. Directly under an
     /// implicit tag the element has its own header.
     ///
@@ -17,7 +50,31 @@ impl<R: ReadExt> Deserializer<R> {
         ensures ok { IfOk result (λ bytes. ReadsRaw self.old self.new bytes.items) }
         ensures err { IfErr result (RefusesRaw self.old self.new) }
     {
-        self.input.read_raw()
+        match self.copy_element_ahead() {
+            Ok(Some(bytes)) => Ok(bytes),
+            Ok(None) => self.draw_raw(),
+            Err(error) => Err(error),
+        }
+    }
+
+    // The same, byte by byte and piece by piece.
+    #[cold]
+    #[inline(never)]
+    fn draw_raw(&mut self) -> Result<Vec<u8>>
+        ensures ok { IfOk result (λ bytes. ReadsRaw self.old self.new bytes.items) }
+        ensures err { IfErr result (RefusesRaw self.old self.new) }
+    {
+        let (tag, len) = match self.begin_element() {
+            Ok(header) => header,
+            Err(error) => return Err(error),
+        };
+        match header(self.alloc, tag, len) {
+            Ok(mut bytes) => {
+                self.draw_behind(&mut bytes, len)?;
+                Ok(bytes)
+            }
+            Err(error) => Err(self.fail(error)),
+        }
     }
 
     /// Consumes the next element whole, and returns nothing of it. The errors are those of `deserialize_raw`, but nothing is
@@ -27,6 +84,10 @@ impl<R: ReadExt> Deserializer<R> {
         ensures err { IfErr result (RefusesRaw self.old self.new) }
         ensures memory { IfErr result (TakesNoMemory self.old self.new) }
     {
-        self.input.skip_raw()
+        let (_tag, len) = match self.begin_element() {
+            Ok(header) => header,
+            Err(error) => return Err(error),
+        };
+        self.skip(len)
     }
 }

@@ -1,14 +1,15 @@
-//! Wrappers, as a deserializer reads them.
-ghost use Rattle.std.specs.Prelude.{◌≡◌, Some, IfOk, IfErr};
-ghost use Rattle.picky_der_core.specs.declared.asn1.wrapper.Wrapper.TheVariants.{Retagged};
+//! Wrappers and application tags (X.690, 8.14), as a deserializer reads them. Values that may be missing.
+ghost use Rattle.std.specs.Prelude.{◌≡◌, Some, IfOk, IfErr, ◌<◌};
+ghost use Rattle.picky_der_core.specs.declared.asn1.wrapper.Wrapper.TheVariants.{Retagged, Application};
 ghost use Rattle.picky_der_core.specs.OpenWrappers.{wrapper_of, wrap_if, HasTagNumberIfAny};
 ghost use Rattle.picky_der_core.specs.declared.asn1.wrapper.Wrapper.{Wrapper as WrapperOf};
 ghost use Rattle.picky_der_core.specs.Shape.{Shape};
 ghost use Rattle.picky_der_core.specs.Tag.{IsConstructedTag};
 ghost use Rattle.picky_der_core.specs.Tree.{Tree};
-ghost use Rattle.picky_der_input.specs.Reading.{Reads, Refuses, AreNotRefused};
-ghost use Rattle.picky_der_input.specs.Wrappers.{wrap_shape_if, opening_refusal, RefusesWrapped};
-ghost use Rattle.picky_der_input.specs.TagNumbers.{RefusesNumber};
+ghost use Rattle.picky_der_de.specs.Reading.{Reads, Refuses, AreNotRefused};
+ghost use Rattle.picky_der_de.specs.Wrappers.{wrap_shape_if, opening_refusal, RefusesWrapped};
+ghost use Rattle.picky_der_de.specs.TagNumbers.{RefusesNumber};
+ghost use Rattle.picky_der_ser.specs.Meaning.{option_meaning};
 
 use super::Deserializer;
 use crate::Deserialize;
@@ -64,5 +65,38 @@ impl<R: ReadExt> Deserializer<R> {
         ensures unsupported { (IsConstructedTag tag → ⊥) → RefusesNumber self.old result self.new }
     {
         self.read_wrapped(Wrapper::Retagged(tag.inner()))
+    }
+
+    /// Reads the value under the explicit application tag with this number (X.690, 8.14). Directly under an implicit tag the
+    /// application tag has its header too.
+    ///
+    /// `UnsupportedValue` for a number past 30: nothing is consumed or allocated then. `InvalidData` for a tag of another class
+    /// or number. `InvalidData` too for bytes that are left over before the tag's end: none of them is consumed.
+    ///
+    /// Any other error is that of a header, of an end, or of the value.
+    pub fn deserialize_application<T: Deserialize>(&mut self, number: u8) -> Result<T>
+        ensures ok { IfOk result (λ value. Reads
+            (Shape.wrapped (Application number) T.shape) self.old self.new
+            (Tree.wrapped (Application number) (T.meaning value))) }
+        ensures err { IfErr result (Refuses (λ (value : T). Tree.wrapped (Application number)
+            (T.meaning value)) (Shape.wrapped (Application number) T.shape) self.old self.new) }
+        ensures no_refusal { IfOk result (λ value. AreNotRefused
+            (opening_refusal (Application number) self.old) self.old) }
+        ensures refused { IfErr result (RefusesWrapped T.meaning T.shape
+            (Application number) self.old self.new) }
+        ensures unsupported { 30 < number → RefusesNumber self.old result self.new }
+    {
+        self.read_wrapped(Wrapper::Application(number))
+    }
+
+    /// Reads a value that could be missing, and returns `Some`. A missing value has no bytes, so only the call that reads its
+    /// list can find it missing. Each error is the value's.
+    pub fn deserialize_option<T: Deserialize>(&mut self) -> Result<Option<T>>
+        ensures ok { IfOk result (λ value. Reads (Shape.optional T.shape) self.old self.new
+            (option_meaning T.meaning value)) }
+        ensures err { IfErr result (Refuses (option_meaning T.meaning)
+            (Shape.optional T.shape) self.old self.new) }
+    {
+        Ok(Some(T::deserialize(self)?))
     }
 }

@@ -4,9 +4,9 @@ ghost use Rattle.std.specs.Prelude.{◌^◌, ◌-◌, IfOk, IfErr, refl};
 ghost use Rattle.picky_der_core.specs.Primitive.{Primitive, PrimitiveShape};
 ghost use Rattle.picky_der_core.specs.Shape.{Shape};
 ghost use Rattle.picky_der_core.specs.Integer.{fits_signed, int_tree, unsigned_tree};
-ghost use Rattle.picky_der_input.specs.Steps.{TakesNoMemory};
-ghost use Rattle.picky_der_input.specs.Reading.{Reads, Refuses, ReadsPrimitive, RefusesPrimitive};
-ghost use Rattle.picky_der_input.specs.Reading.{ReadsInt, RefusesInt};
+ghost use Rattle.picky_der_de.specs.Steps.{TakesNoMemory};
+ghost use Rattle.picky_der_de.specs.Reading.{Reads, Refuses, ReadsPrimitive, RefusesPrimitive};
+ghost use Rattle.picky_der_de.specs.Reading.{ReadsInt, RefusesInt};
 ghost use Rattle.picky_der_de.specs.Known.{known_unsigned, known_int};
 
 use crate::{Deserialize, Deserializer};

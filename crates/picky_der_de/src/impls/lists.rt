@@ -2,7 +2,7 @@
 ghost use Rattle.std.specs.Prelude.{map, IfOk, IfErr};
 ghost use Rattle.picky_der_core.specs.Tree.{ListKind, Tree, trees};
 ghost use Rattle.picky_der_core.specs.Shape.{Shape};
-ghost use Rattle.picky_der_input.specs.Reading.{Reads, Refuses};
+ghost use Rattle.picky_der_de.specs.Reading.{Reads, Refuses};
 ghost use Rattle.picky_der_de.specs.Members.{RefusesUnordered};
 ghost use Rattle.picky_der_de.specs.KnownContainers.{known_list};
 

@@ -1,5 +1,5 @@
 use Rattle.std.proofs.Common.{◌≡◌, true, false, rules, sym, ◌∙◌}
-use Rattle.picky_der_input.proofs.PlainReads.{refuses_of}
+use Rattle.picky_der_de.proofs.PlainReads.{refuses_of}
 use Rattle.picky_der_de.specs.Known.{is_known}
 use Rattle.picky_der_de.proofs.OtherValues.{other_value}
 use Rattle.picky_der_de.proofs.PassedOn.{refusal_passed_on}

@@ -2,7 +2,7 @@ use Rattle.std.proofs.Common.{◌^◌, ◌<◌, length, subst, arith, IfErr}
 use Rattle.picky_der_core.specs.Primitive.{Primitive, PrimitiveShape}
 use Rattle.picky_der_core.specs.Tree.{Tree}
 use Rattle.picky_der_core.specs.Shape.{Shape}
-use Rattle.picky_der_input.specs.Reading.{Refuses}
+use Rattle.picky_der_de.specs.Reading.{Refuses}
 use Rattle.der_types.specs.ContentTests.{test_error}
 use Rattle.der_types.proofs.ContentReads.{reads_judged, passes}
 use Rattle.der_types.proofs.contents.deserialize_contents_under.Goals as goal

@@ -3,7 +3,7 @@ use Rattle.picky_der_core.specs.Primitive.{Primitive, PrimitiveShape}
 use Rattle.picky_der_core.specs.declared.error.Asn1DerError.TheVariants.{InvalidData}
 use Rattle.picky_der_core.specs.Tree.{Tree}
 use Rattle.picky_der_core.specs.Shape.{Shape}
-use Rattle.picky_der_input.specs.Reading.{ReadsPlain}
+use Rattle.picky_der_de.specs.Reading.{ReadsPlain}
 use Rattle.picky_der_de.proofs.PassedOn.{passed_on, refusal_passed_on}
 use Rattle.der_types.specs.ContentTests.{test_error, RefusesContent}
 use Rattle.der_types.proofs.ContentReads.{reads_judged, refuses_judged, refuses_before, passes, fails}

@@ -2,7 +2,7 @@ use Rattle.std.proofs.Common.{◌≡◌, ◌≢◌, refl, sym, ◌∙◌, inl, i
 use Rattle.picky_der_core.specs.declared.error.Asn1DerError.{Asn1DerError}
 use Rattle.picky_der_core.specs.declared.error.Asn1DerError.TheVariants.{TruncatedData, InvalidData, OutOfMemory}
 use Rattle.picky_der_core.specs.Tree.{Tree}
-use Rattle.picky_der_input.proofs.PlainReads.{refuses_of}
+use Rattle.picky_der_de.proofs.PlainReads.{refuses_of}
 use Rattle.picky_der_de.specs.Known.{is_known}
 use Rattle.picky_der_de.specs.Twins.{TellsNone}
 use Rattle.picky_der_de.proofs.OtherValues.{other_unless_memory}

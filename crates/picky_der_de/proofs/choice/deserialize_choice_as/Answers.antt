@@ -1,5 +1,5 @@
 use Rattle.std.proofs.lemmas.Result.{err_from_is_err_and}
-use Rattle.picky_der_input.proofs.PlainReads.{refuses_of}
+use Rattle.picky_der_de.proofs.PlainReads.{refuses_of}
 use Rattle.picky_der_de.specs.KnownChoices.{alternatives_told}
 use Rattle.picky_der_de.proofs.Choices.{refuses_hidden}
 use Rattle.picky_der_de.proofs.choice.deserialize_choice_as.Goals as goal

@@ -2,7 +2,7 @@ use Rattle.std.proofs.Common.{subst}
 use Rattle.std.proofs.lemmas.Result.{err_from_is_err_and}
 use Rattle.picky_der_core.specs.Primitive.{Primitive}
 use Rattle.picky_der_core.specs.Tree.{Tree}
-use Rattle.picky_der_input.proofs.PlainReads.{refuses_of}
+use Rattle.picky_der_de.proofs.PlainReads.{refuses_of}
 use Rattle.der_types.specs.ContentTests.{RefusesContent}
 use Rattle.der_types.specs.PrimitiveForm.{primitive_form}
 use Rattle.der_types.proofs.retagged_primitive.RetaggedPrimitiveDeserialize.deserialize.Given.{Over}

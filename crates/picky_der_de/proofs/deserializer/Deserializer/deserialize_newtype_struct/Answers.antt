@@ -2,8 +2,8 @@ use Rattle.std.proofs.Common.{◌≡◌, Option, None, Some, sym, ◌∙◌, sub
 use Rattle.std.proofs.lemmas.Result.{MatchResult-weaker}
 use Rattle.picky_der_core.specs.OpenWrappers.{wrapper_of, wrap_if}
 use Rattle.picky_der_core.specs.declared.asn1.wrapper.Wrapper.{Wrapper}
-use Rattle.picky_der_input.specs.Reading.{Refuses}
-use Rattle.picky_der_input.specs.Wrappers.{wrap_shape_if}
+use Rattle.picky_der_de.specs.Reading.{Refuses}
+use Rattle.picky_der_de.specs.Wrappers.{wrap_shape_if}
 use Rattle.picky_der_de.proofs.WrapperReads.{refuses_wrapped}
 use Rattle.picky_der_de.proofs.deserializer.Deserializer.deserialize_newtype_struct.Goals as goal
 

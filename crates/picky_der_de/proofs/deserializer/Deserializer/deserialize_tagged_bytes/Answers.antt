@@ -1,11 +1,11 @@
-use Rattle.std.proofs.Common.{rules}
+use Rattle.std.proofs.Common.{◌≡◌, rules}
 use Rattle.picky_der_de.proofs.deserializer.Deserializer.deserialize_tagged_bytes.Goals as goal
-
-pub returns-clause-ok : goal.returns-clause-ok
-returns-clause-ok c = search rules
+use Rattle.picky_der_de.proofs.deserializer.Deserializer.deserialize_tagged_bytes.Goals.{then-number-le-MAX_NUMBER+in-Ok-None, else-number-le-MAX_NUMBER}
 
 pub returns-clause-err : goal.returns-clause-err
-returns-clause-err g c = rw c.self.view_is at c.read_tagged_bytes.ensures.err
-
-pub returns-clause-unsupported : goal.returns-clause-unsupported
-returns-clause-unsupported c = search rules
+returns-clause-err g c =
+    let same : c.if-number-le-MAX_NUMBER.self ≡ c.args.self.now = elim c.if-number-le-MAX_NUMBER.branch [
+      | then-number-le-MAX_NUMBER+in-Ok-None w ↦ search rules
+      | else-number-le-MAX_NUMBER w ↦ w.self-is
+    ] in
+    rw (← same) c.draw_tagged_bytes.ensures.err

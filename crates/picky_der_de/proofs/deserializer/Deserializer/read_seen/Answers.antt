@@ -1,6 +1,6 @@
-use Rattle.picky_der_input.proofs.Contents.{failed_same}
+use Rattle.picky_der_de.proofs.Contents.{failed_same}
 use Rattle.picky_der_de.proofs.SeenMembers.{seen_refused, seen_reads, seen_less}
-use Rattle.picky_der_input.specs.Order.{SeesMember}
+use Rattle.picky_der_de.specs.Order.{SeesMember}
 use Rattle.std.proofs.Common.{subst}
 use Rattle.picky_der_de.proofs.deserializer.Deserializer.read_seen.Goals as goal
 

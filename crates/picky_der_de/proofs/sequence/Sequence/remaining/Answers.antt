@@ -3,7 +3,7 @@ use Rattle.std.proofs.lemmas.Result.{err_from_is_err_and}
 use Rattle.picky_der_core.specs.declared.error.Asn1DerError.{Asn1DerError}
 use Rattle.picky_der_core.specs.Failure.{failure_of}
 use Rattle.picky_der_core.specs.EncodingLaws.{length-der}
-use Rattle.picky_der_input.specs.State.{State}
+use Rattle.picky_der_de.specs.State.{State}
 use Rattle.picky_der_de.proofs.MemberReads.{takes_member, member_again}
 use Rattle.picky_der_de.proofs.ListReads.{all_refused, all_next, all_for_memory, some_none, some_more, some_all}
 use Rattle.picky_der_de.proofs.sequence.Sequence.remaining.Goals as goal

@@ -53,7 +53,7 @@ use Rattle.picky_der_core.specs.declared.misc.reader.ReadExt as read_ext
 use Rattle.picky_der_core.specs.contracts.error.Asn1DerError as error
 use Rattle.picky_der_core.proofs.error.Asn1DerError.TheLaws as error_laws
 use Rattle.picky_der_ser.specs.declared.serializer.Serialize as serialize
-use Rattle.picky_der_input.specs.Reading.{Reads, Refuses}
+use Rattle.picky_der_de.specs.Reading.{Reads, Refuses}
 use Rattle.picky_der_de.specs.declared.deserialize.Deserialize as deserialize
 use Rattle.picky_der_de.specs.declared.impls.arrays.Fill as filled
 use Rattle.picky_der_de.specs.contracts.deserializer.Deserializer as deserializer

@@ -1,5 +1,5 @@
 use Rattle.std.proofs.lemmas.Result.{err_from_is_err_and}
-use Rattle.picky_der_input.proofs.PlainReads.{refuses_of}
+use Rattle.picky_der_de.proofs.PlainReads.{refuses_of}
 use Rattle.picky_der_de.proofs.impls.lists.Asn1SequenceOfDeserialize.deserialize.Goals as goal
 
 pub returns-in_err-read_list-clause-err : goal.returns-in_err-read_list-clause-err

@@ -1,7 +1,7 @@
 use Rattle.std.proofs.lemmas.Result.{err_from_is_err_and}
 use Rattle.picky_der_core.specs.declared.asn1.wrapper.Wrapper.TheVariants.{Explicit}
 use Rattle.picky_der_core.specs.Tree.{Tree}
-use Rattle.picky_der_input.proofs.PlainReads.{refuses_of}
+use Rattle.picky_der_de.proofs.PlainReads.{refuses_of}
 use Rattle.picky_der_de.proofs.impls.wrappers.ExplicitContextTagDeserialize.deserialize.Goals as goal
 
 pub returns-in_err-value-clause-err : goal.returns-in_err-value-clause-err

@@ -1,0 +1,10 @@
+use Rattle.std.proofs.Common.{◌∙◌, sym, ap}
+use Rattle.std.proofs.lemmas.Result.{MatchResult-weaker}
+use Rattle.picky_der_de.specs.State.{State}
+use Rattle.picky_der_de.proofs.LookAhead.{identifier_unread}
+use Rattle.picky_der_de.proofs.deserializer.Deserializer.identify_next.Goals as goal
+
+pub returns-in-None-clause-err : goal.returns-in-None-clause-err
+returns-in-None-clause-err g c =
+    let whole = sym (ap (λ (s : State). s.implicit_tag) c.self.view_is) ∙ c.in-None.is in
+    MatchResult-weaker c.peek_next.result c.peek_next.ensures.err (λ tag k. tt) (λ e k. identifier_unread whole k)

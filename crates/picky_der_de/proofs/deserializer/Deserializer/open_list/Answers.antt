@@ -1,0 +1,11 @@
+use Rattle.std.proofs.Common.{◌∙◌, ap}
+use Rattle.picky_der_de.specs.Order.{order_of}
+use Rattle.picky_der_de.specs.State.{State}
+use Rattle.picky_der_de.proofs.Ends.{opens_list}
+use Rattle.picky_der_de.proofs.deserializer.Deserializer.open_list.Goals as goal
+
+pub returns-clause-ok : goal.returns-clause-ok
+returns-clause-ok g c =
+    let opened = c.open_end-outer.ensures in
+    let is = c.order_members.ensures ∙ ap (λ (s : State). record s { sets = record s.sets { last = order_of c.args.tag } }) opened.opened in
+    opens_list c.requires.number c.in_ok-len.ensures.ok is opened.outer_end

@@ -1,8 +1,0 @@
-use Rattle.std.proofs.Common.{String, Global, string_bytes}
-use Rattle.std.proofs.lemmas.Result.{MatchResult-weaker}
-use Rattle.picky_der_input.proofs.PlainReads.{refuses_of}
-use Rattle.picky_der_de.proofs.impls.texts.StringDeserialize.deserialize.Goals as goal
-
-pub returns-clause-err : goal.returns-clause-err
-returns-clause-err g c =
-    MatchResult-weaker c.deserialize_string.result c.deserialize_string.ensures.err (λ v h. tt) (λ e h. refuses_of (λ (s : String Global). string_bytes s) h.refuses)

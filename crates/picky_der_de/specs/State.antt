@@ -1,0 +1,52 @@
+-- What contracts see of an input, and of the deserializer that holds it.
+use Rattle.std.specs.Prelude.{ℕ, List, [], Option, None}
+use Rattle.picky_der_core.specs.declared.failure.Failure.{Failure}
+use Rattle.picky_der_core.specs.Faults.{Fault}
+use Rattle.picky_der_de.specs.declared.end.End.{End}
+use Rattle.picky_der_de.specs.declared.end.End.TheVariants.{Limit}
+
+-- What is kept of the sets that are open: the encodings of their last members.
+pub record OpenSets : Type 0 where
+  -- where the innermost end is that of a set, the member that was read last, and no bytes before the first one
+  pub last : Option (List ℕ)
+  -- the encodings of the sets around it, one after the other
+  pub around : List ℕ
+
+pub record State : Type 0 where
+  -- the known bytes that are left in the reader, with a peeked byte in front
+  pub input : Option (List ℕ)
+  -- the byte that was peeked
+  pub peeked : Option ℕ
+  -- how many bytes were consumed, a peeked one not counted
+  pub taken : ℕ
+  -- this many bytes may be consumed in all
+  pub limit : ℕ
+  -- how far ahead the innermost end is, and what it is
+  pub until_end : ℕ
+  pub end : End
+  -- the last members of the sets that are open
+  pub sets : OpenSets
+  -- the number of the implicit tag directly under which it is
+  pub implicit_tag : Option ℕ
+  -- the kind of the error that it has failed with
+  pub failed : Option Failure
+  -- how the reader failed so far, the last I/O error first
+  pub faults : List Fault
+  -- the references that it reads through, outermost first
+  pub references : List ℕ
+
+-- a deserializer that has consumed nothing
+abbrev pub fresh : Option (List ℕ) → ℕ → List Fault → List ℕ → State
+fresh input limit faults references = record {
+  input = input;
+  peeked = None;
+  taken = 0;
+  limit = limit;
+  until_end = limit;
+  end = Limit;
+  sets = record { last = None; around = [] };
+  implicit_tag = None;
+  failed = None;
+  faults = faults;
+  references = references;
+}

@@ -1,7 +1,0 @@
-use Rattle.std.proofs.Common.{◌≡◌, ◌<◌, ◌^◌}
-use Rattle.picky_der_input.specs.Headers.{ReadsDigits}
-use Rattle.picky_der_input.proofs.input.Input.read_digits.Given as goal
-
-abbrev pub invariant-loop-i : goal.invariant-loop-i
-invariant-loop-i g l =
-    ReadsDigits l.initial.self l.self l._i l.len × (l.len < 256 ^ l._i) × (l.self.implicit_tag ≡ l.initial.self.implicit_tag)
