@@ -5,6 +5,5 @@ pub mod EncodingExamples
 pub mod RefusalExamples
 pub mod ShapeExamples
 pub mod LengthSteps
-pub mod PeekedBytes
-pub mod RetaggedLists
 pub mod DigitLaws
+pub mod LawProofs

@@ -79,10 +79,6 @@ implicit_content-plain (Tree.primitive p) h = refl
 implicit_content-plain (Tree.list kind ts) h = refl
 implicit_content-plain _ h = cc
 
-pub implicit_content-choice : (t : Tree) → implicit_content (Tree.choice t) ≡ implicit_content t
-unfolding implicit_content tree_bytes
-implicit_content-choice t = refl
-
 -- what is neither plain nor a choice keeps its header
 pub implicit_content-other : (t : Tree) → is_plain t ≡ false → IsNoChoice t → implicit_content t ≡ der t
 unfolding implicit_content der tree_bytes
@@ -101,15 +97,6 @@ encodings-trees (t ∷ ts) = ap (λ l. der t ∷ l) (encodings-trees ts)
 pub der-list : (kind : ListKind) (ts : List Tree) → der (Tree.list kind (trees ts)) ≡ tlv (list_tag kind) (list_content kind (map der ts))
 unfolding der tree_bytes plain_encoding
 der-list kind ts = ap (λ l. tlv (list_tag kind) (list_content kind l)) (encodings-trees ts)
-
--- a list of what values mean
-pub der-list_of_meanings : {V : Type 0} (meaning : V → Tree) (kind : ListKind) (vs : List V) → der (Tree.list kind (trees (map meaning vs))) ≡ tlv (list_tag kind) (list_content kind (map (λ v. der (meaning v)) vs))
-der-list_of_meanings {V} meaning kind vs =
-    der-list kind (map meaning vs) ∙ ap (λ l. tlv (list_tag kind) (list_content kind l)) (each vs)
-  where
-    each : (us : List V) → map der (map meaning us) ≡ map (λ v. der (meaning v)) us
-    each [] = refl
-    each (u ∷ us) = ap (λ l. der (meaning u) ∷ l) (each us)
 
 -- ---- the content of a list
 

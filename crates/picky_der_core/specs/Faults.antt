@@ -1,6 +1,6 @@
 -- The I/O errors of a reader.
 use Rattle.std.specs.Prelude.{ℕ, List, [], ◌∷◌, length, Option, map, refl}
-use Rattle.std.specs.Coded.{Coded, code_by, coded×}
+use Rattle.std.specs.Coded.{Coded, code_by, coded×, coded_list}
 use Rattle.std.specs.declared.io.ErrorKind.{ErrorKind}
 use Rattle.std.specs.contracts.io.ErrorKind as error_kind
 use Rattle.picky_der_core.specs.declared.misc.faults.Faults.{Faults}
@@ -31,3 +31,14 @@ count_of faults = length (faults_in faults)
 -- the bytes of a reader, as far as they are known, at each of its I/O errors
 abbrev pub faults_told : {T : Type 0} → (T → Option (List ℕ)) → List (FaultOf T) → List Fault
 faults_told bytes faults = map (λ f. record { kind = f.kind; left = bytes f.device }) faults
+
+-- ---- what contracts see of a watched reader or writer
+
+pub record WatchedState (T : Type 0) : Type 0 where
+  pub inner : T
+  -- how it failed so far, the last I/O error first
+  pub faults : List (FaultOf T)
+
+abbrev pub watching_code : {T : Type 0} → Coded T → Coded (WatchedState T)
+watching_code {T} inner =
+    code_by (T × List (FaultOf T)) (coded× inner (coded_list (fault_of_code inner))) (λ w. (w.inner, w.faults)) (λ p. record { inner = p.0; faults = p.1 }) (λ _. refl)

@@ -118,52 +118,12 @@ length_of-length_octets lacking n rest h = elim (cases_lt n 0x80) [
       rw (length_octets-long n long) (length_of-shortest lacking (0x80 + length ds) (length ds) ds rest count refl (AreBytes-big_endian n) size ∙ ap (λ m. Ok (m, rest)) (number-big_endian n))
 ]
 
--- one result is one number and one rest
-same_read : {m n : ℕ} {xs ys : List ℕ} → ◌≡◌ {A = ReadOutcome ℕ} (Ok (m, xs)) (Ok (n, ys)) → (m ≡ n) × (xs ≡ ys)
-same_read {m} {n} {xs} {ys} e = let same : ◌≡◌ {A = ℕ × List ℕ} (m, xs) (n, ys) = cc in (ap (λ p. p.0) same, ap (λ p. p.1) same)
-
--- what is read was written: in the long form
-length_octets-from_long : (lacking : Asn1DerError) (first k : ℕ) (ds left : List ℕ) (n : ℕ) (rest : List ℕ) → IsLongCount first k → length ds ≡ k → AreBytes ds
-    → length_of lacking (first ∷ ds ++ left) ≡ Ok (n, rest) → (first ∷ ds ++ left ≡ length_octets n ++ rest) × (n < 2 ^ 64)
-length_octets-from_long lacking first k ds left n rest count e h read = elim (cases_eq (length (length_octets (number_from_digits 256 ds))) (1 + k)) [
-  | inl size ↦
-      let (number, behind) = same_read (sym (length_of-shortest lacking first k ds left count e h size) ∙ read) in
-      let below : number_from_digits 256 ds < 256 ^ 8 = omega (arith, number_lt 256 ds h, pow-le-pow_right {n = 256} (omega arith) {i = length ds} {j = 8} (omega arith)) in
-      (rw (← number, length_octets-number first k ds count e h size, behind) refl, omega arith)
-  | inr more ↦ cc (length_of-longer lacking first k ds left count e h more)
-]
-
 -- a front of bytes is bytes
 taken_bytes : (k : ℕ) (bs : List ℕ) → AreBytes bs → AreBytes (take k bs)
 taken_bytes zero [] h = tt
 taken_bytes (suc k) [] h = tt
 taken_bytes zero (b ∷ bs) h = tt
 taken_bytes (suc k) (b ∷ bs) h = (h.0, taken_bytes k bs h.1)
-
--- and in any
-pub length_octets-from_length_of : (lacking : Asn1DerError) (bs : List ℕ) (n : ℕ) (rest : List ℕ) → AreBytes bs → length_of lacking bs ≡ Ok (n, rest) → (bs ≡ length_octets n ++ rest) × (n < 2 ^ 64)
-length_octets-from_length_of lacking [] n rest h read = cc
-length_octets-from_length_of lacking (b ∷ bs) n rest h read = elim (cases_lt b 0x80) [
-  | inl short ↦
-      let (number, behind) = same_read (sym (length_of-short lacking b bs short) ∙ read) in
-      (rw (length_octets-short n (omega arith), number, behind) refl, omega arith)
-  | inr long ↦ elim (cases_eq b 0x80) [
-    | inl none ↦ cc (length_of-none lacking b bs none)
-    | inr some ↦ elim (cases_lt 0x88 b) [
-      | inl many ↦ cc (length_of-too_many lacking b bs many)
-      | inr few ↦
-          let k = b - 0x80 in
-          let count : IsLongCount b k = record { is = omega arith; some = omega arith; most = omega arith } in
-          elim (cases_lt (length bs) k) [
-            | inl cut ↦ cc (length_of-cut lacking b k bs count cut)
-            | inr there ↦
-                let parts : take k bs ++ drop k bs ≡ bs = take-append-drop k bs in
-                subst (λ l. (b ∷ l ≡ length_octets n ++ rest) × (n < 2 ^ 64)) parts
-                (length_octets-from_long lacking b k (take k bs) (drop k bs) n rest count (length-take-le k bs there) (taken_bytes k bs h.1) (ap (λ l. length_of lacking (b ∷ l)) parts ∙ read))
-          ]
-    ]
-  ]
-]
 
 -- if none is read, none is there
 pub no_length_begins : (lacking : Asn1DerError) (bs : List ℕ) (e : Refusal) → length_of lacking bs ≡ Err e → (n : ℕ) → n < 2 ^ 64 → IsPrefix (length_octets n) bs → ⊥

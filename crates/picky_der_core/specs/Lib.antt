@@ -2,7 +2,6 @@ pub mod Error
 pub mod Failure
 pub mod Equality
 pub mod Tag
-pub mod TagLaws
 pub mod Element
 pub mod Primitive
 pub mod Wrapper
@@ -30,7 +29,6 @@ pub mod Faults
 pub mod Reader
 pub mod ReaderLaws
 pub mod Writer
-pub mod Watching
 pub mod Peeking
 pub mod Sink
 pub mod SliceSink

@@ -34,12 +34,6 @@ module _ {X : Type 0} (less : X → X → Bool) where
       let next : suc (k + 1) ≡ suc k + 1 = omega arith in
       subst (λ n. less (get_or (a ∷ b ∷ ys) n d) (get_or (b ∷ ys) k d) ≡ false) next (up k d (omega arith) (omega arith))
 
-  -- the front of a list in order is in order
-  pub IsSortedBy-front : (xs ys : List X) → IsSortedBy less (xs ++ ys) → IsSortedBy less xs
-  IsSortedBy-front xs ys up k d low high =
-      let size = length-append xs ys in
-      sym (ap₂ less (get_or_append_left xs ys d (k + 1) high) (get_or_append_left xs ys d k (omega arith))) ∙ up k d low (omega arith)
-
   -- two lists in order that share an element: the last of the one is the first of the other
   pub IsSortedBy-join : (xs : List X) (b : X) (zs : List X) → IsSortedBy less (xs ++ b ∷ []) → IsSortedBy less (b ∷ zs)
       → IsSortedBy less (xs ++ b ∷ zs)
@@ -48,10 +42,6 @@ module _ {X : Type 0} (less : X → X → Bool) where
   IsSortedBy-join (a ∷ c ∷ xs) b zs up on =
       let others = IsSortedBy-join (c ∷ xs) b zs (IsSortedBy-tail a (c ∷ xs ++ b ∷ []) up) on in
       IsSortedBy-cons a c (xs ++ b ∷ zs) (IsSortedBy-first a c (xs ++ b ∷ []) up) others
-
-  -- one more after the last, which isn't less
-  pub IsSortedBy-push : (xs : List X) (a b : X) → IsSortedBy less (xs ++ a ∷ []) → less b a ≡ false → IsSortedBy less (xs ++ a ∷ b ∷ [])
-  IsSortedBy-push xs a b up last = IsSortedBy-join xs a (b ∷ []) up (IsSortedBy-cons a b [] last (IsSortedBy-one b))
 
   -- no list is in order in which one is less than the one before it, whatever follows
   pub IsSortedBy-broken : (xs : List X) (a b : X) (ys : List X) → less b a ≡ true → IsSortedBy less (xs ++ a ∷ b ∷ ys) → ⊥

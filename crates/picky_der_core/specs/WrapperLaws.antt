@@ -1,12 +1,22 @@
 -- What holds of each wrapper.
-use Rattle.std.proofs.Common.{◌≡◌, ℕ, Bool, true, false, ◌⊎◌, inl, inr, List, [], ◌∷◌, ◌++◌, refl, arith}
+use Rattle.std.proofs.Common.{◌≡◌, ℕ, Bool, true, false, ◌⊎◌, inl, inr, List, [], ◌∷◌, ◌++◌, refl, arith, ◌/◌, ◌%◌}
 use Rattle.std.specs.Prelude.{if◌then◌else◌}
-use Rattle.std.proofs.lemmas.Bool.Decides.{leb_tells}
+use Rattle.std.proofs.lemmas.Bool.Decides.{leb_tells, eqb_tells}
 use Rattle.picky_der_core.specs.declared.asn1.wrapper.Wrapper.{Wrapper}
 use Rattle.picky_der_core.specs.declared.asn1.wrapper.Wrapper.TheVariants.{OctetContainer, BitContainer, Explicit, Implicit, Application, Retagged}
-use Rattle.picky_der_core.specs.Tag.{number_of, is_tag_number, IsTagNumber}
-use Rattle.picky_der_core.specs.TagLaws.{constructed_tag_tells}
+use Rattle.picky_der_core.specs.Tag.{number_of, is_tag_number, IsTagNumber, IsConstructedTag, is_constructed_tag}
 use Rattle.picky_der_core.specs.Wrapper.{wrapper_tag, wrapper_number, wrapper_front, counts_unused_bits, keeps_header, HasTagNumber, has_tag_number}
+
+pub constructed_tag_tells : (tag : ℕ) → ((is_constructed_tag tag ≡ true) × IsConstructedTag tag) ⊎ ((is_constructed_tag tag ≡ false) × (IsConstructedTag tag → ⊥))
+constructed_tag_tells tag = elim (leb_tells (number_of tag) 30) [
+  | inl few ↦ elim (eqb_tells (tag / 32 % 2) 1) [
+    | inl one ↦ inl (rw (few.0, one.0) refl, (few.1, one.1))
+    | inr other ↦ inr (rw (few.0, other.0) refl, λ h. other.1 h.1)
+  ]
+  | inr past ↦ inr (rw past.0 refl, λ h. absurd (omega (arith, past.1, h.0)))
+]
+
+-- ---- wrappers
 
 pub wrapper_tag_number : (w : Wrapper) → HasTagNumber w → IsTagNumber (number_of (wrapper_tag w))
 wrapper_tag_number OctetContainer h = omega arith

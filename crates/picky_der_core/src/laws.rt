@@ -16,16 +16,19 @@ pub fn length_both_ways()
 
 /// Around something, a wrapper whose tag can be written is one element that holds exactly what it should, at every depth. An
 /// application tag is one around anything.
+#[tactic(auto, using(crate::proofs::LawProofs::wrapper_lengths))]
 pub fn wrapper_lengths()
     ensures { WrapperLengths }
 {}
 
 /// The encoding of a readable tree isn't empty, and its first byte is one of its shape's.
+#[tactic(auto, using(crate::proofs::LawProofs::firsts_tell))]
 pub fn firsts_tell()
     ensures { FirstsTell }
 {}
 
 /// If the encoding of one of two readable trees begins the other's, and one sound shape has both, the trees are equal.
+#[tactic(auto, using(crate::proofs::LawProofs::unique_readability))]
 pub fn unique_readability()
     ensures { UniqueReadability }
 {}
@@ -41,6 +44,7 @@ pub fn round_trip()
 {}
 
 /// Lists of readable trees of a sound shape are equal exactly if their encodings, one after another, are equal.
+#[tactic(auto, using(crate::proofs::LawProofs::same_bytes))]
 pub fn same_bytes()
     ensures { SameBytes }
 {}
@@ -51,6 +55,7 @@ pub fn one_inside()
 {}
 
 /// Sets of the same members, in any order, have the same encoding (X.690, 11.6). Each member is as often in both.
+#[tactic(auto, using(crate::proofs::LawProofs::set_order))]
 pub fn set_order()
     ensures { SetOrder }
 {}

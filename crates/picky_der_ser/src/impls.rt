@@ -1,9 +1,6 @@
 //! What the built-in types mean.
 
 mod booleans;
-mod bytes;
 mod lists;
-mod options;
-mod references;
-mod texts;
+mod plain;
 mod wrappers;

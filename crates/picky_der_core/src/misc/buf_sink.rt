@@ -57,7 +57,7 @@ impl<'a> BufSink<'a> {
         BufSink {
             buf,
             at: 0,
-            faults: Faults::new(),
+            faults: Faults::Fresh,
         }
     }
 

@@ -37,7 +37,7 @@ impl<'a> SliceSink<'a> {
         SliceSink {
             buf,
             at: 0,
-            faults: Faults::new(),
+            faults: Faults::Fresh,
         }
     }
 

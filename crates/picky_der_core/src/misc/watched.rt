@@ -22,7 +22,7 @@ pub struct Watched<T> {
 }
 
 impl<T> Model for Watched<T> {
-    ghost use Rattle.picky_der_core.specs.Watching.{WatchedState, watching_code};
+    ghost use Rattle.picky_der_core.specs.Faults.{WatchedState, watching_code};
     ghost use Rattle.picky_der_core.specs.Faults.{faults_in};
 
     ghost Value = { WatchedState T };

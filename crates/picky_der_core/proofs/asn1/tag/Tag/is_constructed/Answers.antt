@@ -18,8 +18,5 @@ tests_bit_six n = elim (eqb_tells (n / 32 % 2) 1) [
   | inr clear ↦ let zero : bit_and n 32 ≡ 0 = omega (arith, bit_six n, clear.1) in rw (zero, clear.0) refl
 ]
 
-pub returns-clause-set : goal.returns-clause-set
-returns-clause-set c = search rules
-
 pub returns-clause-bit : goal.returns-clause-bit
 returns-clause-bit c = rw (← c.self.view_is) (tests_bit_six c.self.inside.0)

@@ -1,7 +1,11 @@
-use Rattle.std.proofs.Common.{◌<◌, length, arith}
+use Rattle.std.proofs.Common.{◌≡◌, ℕ, ◌<◌, List, [], ◌∷◌, length, take, slice_set, refl, arith}
 use Rattle.std.proofs.lemmas.Grind.{common_steps}
-use Rattle.picky_der_core.proofs.PeekedBytes.{first_of}
 use Rattle.picky_der_core.proofs.misc.peekable.PeekableReaderReadExt.read_some.Goals as goal
+
+-- the first byte of a buffer that it was put into
+first_of : (bs : List ℕ) (b : ℕ) → 0 < length bs → take 1 (slice_set bs 0 b) ≡ b ∷ []
+first_of [] b h = absurd (omega (arith, h))
+first_of (x ∷ xs) b h = refl
 
 pub returns-in-Some-clause-bytes : goal.returns-in-Some-clause-bytes
 returns-in-Some-clause-bytes g c =

@@ -1,5 +1,0 @@
-use Rattle.std.proofs.Common.{rules}
-use Rattle.picky_der_core.proofs.asn1.tag.TagFromU8.from.Goals as goal
-
-pub returns : goal.returns
-returns c = search rules

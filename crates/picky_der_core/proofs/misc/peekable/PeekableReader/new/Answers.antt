@@ -1,5 +1,0 @@
-use Rattle.std.proofs.Common.{rules}
-use Rattle.picky_der_core.proofs.misc.peekable.PeekableReader.new.Goals as goal
-
-pub returns : goal.returns
-returns c = search rules
