@@ -246,6 +246,7 @@ def read_members_proof(width: int) -> Lines:
 
 
 def read_tuples() -> Lines:
+    """Tuples of each width, as they are read."""
     text = [
         *source("Tuples, as they are read: each as a struct of its elements."),
         "ghost use Rattle.std.specs.Prelude.{refl};",
@@ -259,42 +260,46 @@ def read_tuples() -> Lines:
         "",
     ]
     for width in range(1, AT_ONCE + 1):
-        names = NAMES[:width]
-        whole = tuple_of(names)
-        layout = nested([f"Layout.required {it}.shape" for it in names], "Layout.empty")
-        known = nested([f"known_field (λ it. it.{at}) {it}.known {it}.meaning {it}.eq" for at, it in enumerate(names)], "known_none")
-        text += [
-            f"impl{of(names, 'Deserialize')} Struct for {whole} {{",
-            f"    type Members = {tuple_of([*names, '()'])};",
-            "",
-            f"    ghost parts = {{ λ t. ({', '.join([f't.{at}' for at in range(width)] + ['tt'])}) }};",
-            "",
-            f"    fn from_parts(members: Self::Members) -> {whole} {{",
-            f"        let ({', '.join([*PARTS[:width], '()'])}) = members;",
-            f"        {tuple_of(PARTS[:width])}",
-            "    }",
-            "}",
-            "",
-            f"impl{of(names, 'Deserialize')} Deserialize for {whole} {{",
-            f"    ghost shape = {{ sequence_shape ({layout}) }};",
-            "",
-            f"    ghost known = {{ known_tuple ({known}) refl (λ it. it) }};",
-            "",
-            f"    fn deserialize<R: ReadExt>(de: &mut Deserializer<R>) -> Result<{whole}> {{",
-            "        deserialize_struct_as(de)",
-            "    }",
-            "",
-            "    ghost tied = { Prim.assumption };",
-            "}",
-            "",
-            f"impl{of(names, 'Deserialize')} Begins for {whole} {{",
-            "    fn begins_with(tag: Tag) -> bool {",
-            "        tag == Tag::SEQUENCE",
-            "    }",
-            "}",
-            "",
-        ]
+        text += read_tuple(NAMES[:width])
     return text
+
+
+def read_tuple(names: str) -> Lines:
+    """How a tuple of these types is read."""
+    width, whole = len(names), tuple_of(names)
+    layout = nested([f"Layout.required {it}.shape" for it in names], "Layout.empty")
+    known = nested([f"known_field (λ it. it.{at}) {it}.known {it}.meaning {it}.eq" for at, it in enumerate(names)], "known_none")
+    return [
+        f"impl{of(names, 'Deserialize')} Struct for {whole} {{",
+        f"    type Members = {tuple_of([*names, '()'])};",
+        "",
+        f"    ghost parts = {{ λ t. ({', '.join([f't.{at}' for at in range(width)] + ['tt'])}) }};",
+        "",
+        f"    fn from_parts(members: Self::Members) -> {whole} {{",
+        f"        let ({', '.join([*PARTS[:width], '()'])}) = members;",
+        f"        {tuple_of(PARTS[:width])}",
+        "    }",
+        "}",
+        "",
+        f"impl{of(names, 'Deserialize')} Deserialize for {whole} {{",
+        f"    ghost shape = {{ sequence_shape ({layout}) }};",
+        "",
+        f"    ghost known = {{ known_tuple ({known}) refl (λ it. it) }};",
+        "",
+        f"    fn deserialize<R: ReadExt>(de: &mut Deserializer<R>) -> Result<{whole}> {{",
+        "        deserialize_struct_as(de)",
+        "    }",
+        "",
+        "    ghost tied = { Prim.assumption };",
+        "}",
+        "",
+        f"impl{of(names, 'Deserialize')} Begins for {whole} {{",
+        "    fn begins_with(tag: Tag) -> bool {",
+        "        tag == Tag::SEQUENCE",
+        "    }",
+        "}",
+        "",
+    ]
 
 
 # ---- notation

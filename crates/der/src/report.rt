@@ -144,7 +144,15 @@ fn print_read<W: WriteExt>(
     ensures { IfOk result (λ status. Prints (IsReadPrinted format source.now wanted
         (option_copied label.entry) bytes.now status) (W.written output.old) (W.written output.new)) }
 {
-    let printed = read_message(alloc, format, source.file, source.block, wanted, label, bytes)?;
+    let printed = read_message(
+        alloc,
+        format,
+        source.file,
+        source.block,
+        wanted,
+        label,
+        bytes,
+    )?;
     print_lines(&printed, output)
 }
 

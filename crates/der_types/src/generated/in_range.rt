@@ -13,7 +13,7 @@ use picky_der_core::Result;
 use picky_der_core::asn1::Tag;
 use picky_der_core::misc::{ReadExt, WriteExt};
 use picky_der_de::{Begins, Deserialize, Deserializer};
-use picky_der_ser::{ Serialize, Serializer};
+use picky_der_ser::{Serialize, Serializer};
 
 /// A number from `MIN` to `MAX`, as in `INTEGER (MIN..MAX)` (X.680, 51.4). It is encoded as the number. For a range that begins below zero,
 /// implement `Constrained`.
@@ -56,7 +56,8 @@ impl<T: WholeNumber, const MIN: u64, const MAX: u64> InRange<T, MIN, MAX> {
     }
 }
 
-impl<T: WholeNumber + Deserialize, const MIN: u64, const MAX: u64> Constrained for InRange<T, MIN, MAX> {
+impl<T: WholeNumber + Deserialize, const MIN: u64, const MAX: u64> Constrained
+    for InRange<T, MIN, MAX> {
     type Of = T;
 
     ghost unconstrained = { λ it. it.value };
@@ -80,8 +81,8 @@ impl<T: WholeNumber, const MIN: u64, const MAX: u64> Serialize for InRange<T, MI
     }
 }
 
-
-impl<T: WholeNumber + Deserialize, const MIN: u64, const MAX: u64> Deserialize for InRange<T, MIN, MAX> {
+impl<T: WholeNumber + Deserialize, const MIN: u64, const MAX: u64> Deserialize
+    for InRange<T, MIN, MAX> {
     ghost shape = { T.shape };
 
     ghost known = { known_part T.known T.meaning T.eq (λ it. it.value) };

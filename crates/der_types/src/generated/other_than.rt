@@ -13,7 +13,7 @@ use picky_der_core::Result;
 use picky_der_core::asn1::Tag;
 use picky_der_core::misc::{ReadExt, WriteExt};
 use picky_der_de::{Begins, Deserialize, Deserializer};
-use picky_der_ser::{ Serialize, Serializer};
+use picky_der_ser::{Serialize, Serializer};
 
 /// A number other than `N`. It is encoded as the number.
 ///
@@ -81,7 +81,6 @@ impl<T: WholeNumber, const N: u64> Serialize for OtherThan<T, N> {
         self.value.serialize(serializer)
     }
 }
-
 
 impl<T: WholeNumber + Deserialize, const N: u64> Deserialize for OtherThan<T, N> {
     ghost shape = { T.shape };
