@@ -4,7 +4,7 @@ ghost use Rattle.std.specs.Option.{option_copied};
 ghost use Rattle.std.specs.Io.KnownBytes.{Appends};
 ghost use Rattle.der_program_base.specs.declared.status.Status.TheVariants.{Refused};
 ghost use Rattle.der.specs.Notes.{refused_text, skipped_text};
-ghost use Rattle.der.specs.Report.{Prints, AreBlocksPrinted, IsBlockPrinted, IsMessagePrinted, IsReport, IsRefusalPrinted, IsListingPrinted, IsShowPrinted, listing_status, front_text, form_of};
+ghost use Rattle.der.specs.Report.{Prints, AreBlocksPrinted, IsBlockPrinted, IsMessagePrinted, IsReport, IsRefusalPrinted, IsListingPrinted, IsShowPrinted, IsReadPrinted, IsCmsPrinted, AreCertificatesPrinted, listing_status, front_text, form_of};
 
 use crate::notes::{heading, refusal_note, skipped_note};
 use crate::request::{Action, Request};
@@ -131,7 +131,6 @@ fn print_message<W: WriteExt>(
 }
 
 // Prints of which type a message is.
-#[tactic(auto, using(crate::proofs::Reports::read_printed))]
 fn print_read<W: WriteExt>(
     alloc: Global,
     format: Format,
@@ -157,7 +156,6 @@ fn print_read<W: WriteExt>(
 }
 
 // Prints what agrees for each signer of a message.
-#[tactic(auto, using(crate::proofs::Reports::cms_printed))]
 fn print_signers<W: WriteExt>(
     alloc: Global,
     format: Format,
@@ -174,7 +172,6 @@ fn print_signers<W: WriteExt>(
 }
 
 // Prints a line on a certificate.
-#[tactic(auto, using(crate::proofs::Reports::certificates_printed))]
 fn print_certificate<W: WriteExt>(
     alloc: Global,
     format: Format,
