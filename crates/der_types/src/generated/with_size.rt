@@ -56,7 +56,8 @@ impl<T: Size, const MIN: usize, const MAX: usize> WithSize<T, MIN, MAX> {
     }
 }
 
-impl<T: Size + Deserialize, const MIN: usize, const MAX: usize> Constrained for WithSize<T, MIN, MAX> {
+impl<T: Size + Deserialize, const MIN: usize, const MAX: usize> Constrained
+    for WithSize<T, MIN, MAX> {
     type Of = T;
 
     ghost unconstrained = { λ it. it.value };
@@ -84,8 +85,8 @@ impl<T: Size + List, const MIN: usize, const MAX: usize> List for WithSize<T, MI
     ghost is_list = { λ it. T.is_list it.value };
 }
 
-
-impl<T: Size + Deserialize, const MIN: usize, const MAX: usize> Deserialize for WithSize<T, MIN, MAX> {
+impl<T: Size + Deserialize, const MIN: usize, const MAX: usize> Deserialize
+    for WithSize<T, MIN, MAX> {
     ghost shape = { T.shape };
 
     ghost known = { known_part T.known T.meaning T.eq (λ it. it.value) };
