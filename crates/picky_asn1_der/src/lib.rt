@@ -17,10 +17,9 @@ pub mod de {
 /// Writes values.
 pub mod ser {
     pub use picky_der_ser::{
-        Boolean, DefaultOf, Defaulted, DefaultedRef, Element, False, Header, Int, List, Null,
-        Number, Optional, OptionalRef, Sequence, Serialize, SerializeMember, SerializeMembers,
-        Serializer, SignedNumber, True, UInt, UnsignedInteger, Utf8String, to_byte_buf, to_bytes,
-        to_vec, to_writer,
+        DefaultOf, Defaulted, DefaultedRef, Element, False, Header, Int, List, Number, Optional,
+        OptionalRef, Sequence, Serialize, SerializeMember, SerializeMembers, Serializer,
+        SignedNumber, True, UInt, to_byte_buf, to_bytes, to_vec, to_writer,
     };
 }
 

@@ -1,15 +1,32 @@
 -- What is written of trees that are written alike.
-use Rattle.std.proofs.Common.{◌≡◌, ◌<◌, ◌^◌, List, [], ◌∷◌, length, Option, None, Some, sym, ap, ◌∙◌, subst, Result, Ok, Err, IfOk, IfErr, ℕ}
+use Rattle.std.proofs.Common.{Bool, refl, ◌≡◌, ◌<◌, ◌^◌, List, [], ◌∷◌, length, Option, None, Some, sym, ap, ◌∙◌, subst, Result, Ok, Err, IfOk, IfErr, ℕ, ◌+◌, true, false, ◌&&◌, arith, le-leb, append-nil}
 use Rattle.std.specs.Prelude.{IfNone, IsTrue}
 use Rattle.picky_der_core.specs.Primitive.{Primitive, primitive_tag, primitive_content}
-use Rattle.picky_der_core.specs.OpenWrapperLaws.{AreAlike, alike-under, der-alike, alike-sym, alike-bytes}
+use Rattle.picky_der_core.specs.OpenWrapperLaws.{AreAlike, alike-under, der-alike, alike-sym, alike-bytes, alike-choice, CanVanish, der-under_absent}
 use Rattle.picky_der_core.specs.declared.failure.Failure.{Failure}
 use Rattle.picky_der_core.specs.declared.misc.writer.WriteExt.{Ghosts}
 use Rattle.picky_der_core.specs.declared.error.Asn1DerError.{Asn1DerError}
 use Rattle.picky_der_core.specs.Tree.{Tree}
-use Rattle.picky_der_core.specs.Readable.{IsWritable}
-use Rattle.picky_der_ser.specs.State.{State, Level}
-use Rattle.picky_der_ser.specs.Calls.{Adds, Excuse, no_memory, unwritable, no_sink, MemoryExcuse, no_room, no_way, SinkRefuses, RefusesIn, Writes, RefusesWrite, OnlySinkFails, RefusesUnwritable, WritesPrimitive}
+use Rattle.picky_der_core.specs.Readable.{IsWritable, has_tag_numbers}
+use Rattle.picky_der_ser.specs.State.{State, Level, with_bytes}
+use Rattle.picky_der_ser.specs.Calls.{Adds, Excuse, no_memory, unwritable, no_sink, MemoryExcuse, no_room, no_way, SinkRefuses, RefusesIn, Writes, RefusesWrite, OnlySinkFails, RefusesUnwritable, WritesPrimitive, WritesPlain, AddsIn, WritesAbsent}
+use Rattle.std.proofs.lemmas.Bool.{lt-leb}
+use Rattle.picky_der_core.specs.OpenWrappers.{under}
+use Rattle.picky_der_core.specs.Failure.{failure_of}
+use Rattle.picky_der_core.specs.declared.asn1.wrapper.Wrapper.{Wrapper}
+use Rattle.picky_der_core.specs.declared.asn1.wrapper.Wrapper.TheVariants as wrapper
+use Rattle.picky_der_core.specs.Wrapper.{has_tag_number}
+use Rattle.picky_der_core.specs.Tag.{number_of, is_tag_number, IsTagNumber}
+use Rattle.picky_der_core.specs.ElementLaws.{length-tlv}
+use Rattle.picky_der_core.specs.Writer.{beginning_none}
+use Rattle.picky_der_core.specs.declared.error.Asn1DerError.TheVariants.{UnsupportedValue}
+use Rattle.picky_der_core.specs.Encoding.{der}
+use Rattle.picky_der_core.specs.EncodingLaws.{der-primitive, der-wrapped, der-raw}
+use Rattle.picky_der_ser.specs.declared.header.Header.{Header}
+use Rattle.picky_der_ser.specs.declared.header.Header.TheVariants.{Tagged, Application, Raw}
+use Rattle.picky_der_ser.specs.Headers.{tree_of, HasNumber, CanAllBeOpen}
+use Rattle.std.proofs.KnownBytes.{Appends-nil}
+use Rattle.picky_der_ser.proofs.StateWrites.{numbers_writable}
 
 pub writable-alike : (t u : Tree) → AreAlike t u → IsWritable t → IsWritable u
 writable-alike t u a h = record { numbers = subst IsTrue a.numbers_same h.numbers; fits = subst (λ l. length l < 2 ^ 64) (der-alike t u a) h.fits }
@@ -75,4 +92,108 @@ module _ {W : Type 0} (g : Ghosts W) where
         refuses_unwritable = refuses_unwritable-alike t u old new r a k.refuses_unwritable;
         counted = k.counted;
         goes_on = k.goes_on;
+      }
+
+-- ---- choices, which are written as the alternative that was chosen
+
+alike-chosen : (t : Tree) → AreAlike t (Tree.choice t)
+alike-chosen t = alike-sym (Tree.choice t) t (alike-choice t)
+
+module _ {W : Type 0} (g : Ghosts W) where
+  pub choice_wrote : (t : Tree) (old new : State W) (r : Result ℕ Asn1DerError) → IfOk r (λ n. Writes g t old n new) → IfOk r (λ n. Writes g (Tree.choice t) old n new)
+  choice_wrote t old new r h = writes-alike g t (Tree.choice t) old new r (alike-chosen t) h
+
+  pub choice_failed : (t : Tree) (old new : State W) (r : Result ℕ Asn1DerError) → IfErr r (λ e. RefusesWrite g t old e new) → IfErr r (λ e. RefusesWrite g (Tree.choice t) old e new)
+  choice_failed t old new r h = fails-alike g t (Tree.choice t) old new r (alike-chosen t) h
+
+  -- the alternative is a plain value
+  pub choice_wrote_plain : (t : Tree) (old new : State W) (r : Result ℕ Asn1DerError) → WritesPlain g t old r new → IfOk r (λ n. Writes g (Tree.choice t) old n new)
+  choice_wrote_plain t old new r h = choice_wrote t old new r h.wrote
+
+  pub choice_failed_plain : (t : Tree) (old new : State W) (r : Result ℕ Asn1DerError) → WritesPlain g t old r new → IfErr r (λ e. RefusesWrite g (Tree.choice t) old e new)
+  choice_failed_plain t old new r h = choice_failed t old new r h.failed
+
+-- all that a choice asks for
+pub ruleset choice = (choice_wrote, choice_failed, choice_wrote_plain, choice_failed_plain)
+
+-- ---- which plain values can be written
+
+pub writable-bytes : (tag : ℕ) (c : List ℕ) → IsTagNumber (number_of tag) → length c + 10 < 2 ^ 64 → IsWritable (Tree.primitive (Primitive.bytes tag c))
+writable-bytes tag c h l = record {
+  numbers = le-leb (number_of tag) 30 h;
+  fits = let d = der-primitive (Primitive.bytes tag c) in let m = length-tlv tag c (omega arith) in rw d (omega (arith, m));
+}
+
+-- a content that is in memory, under its header
+pub writable-content : (h : Header) (c : List ℕ) → HasNumber h → length c + 10 < 2 ^ 64 → IsWritable (tree_of h c)
+writable-content (Tagged tag) c n l = writable-bytes tag c n l
+writable-content (Application k) c n l = record {
+  numbers = let e : is_tag_number k ≡ true = le-leb k 30 n in rw e refl;
+  fits = let d = der-wrapped (wrapper.Application k) (Tree.raw c) refl in let m = length-tlv (0x60 + k) c (omega arith) in rw (d, der-raw c) (omega (arith, m));
+}
+writable-content Raw c n l = record { numbers = refl; fits = rw (der-raw c) (omega arith) }
+
+-- a tag number past 30 stays in wrappers
+and_false : (b c : Bool) → c ≡ false → (b && c) ≡ false
+and_false true c e = e
+and_false false c e = refl
+
+pub past_under : (ws : List Wrapper) (t : Tree) → has_tag_numbers t ≡ false → has_tag_numbers (under ws t) ≡ false
+past_under [] t e = e
+past_under (w ∷ ws) t e = and_false (has_tag_number w) _ (past_under ws t e)
+
+pub unwritable-by : (t : Tree) → has_tag_numbers t ≡ false → ¬ IsWritable t
+unwritable-by t e h = let q : false ≡ true = sym e ∙ h.numbers in cc
+
+module _ {W : Type 0} (g : Ghosts W) where
+  pub refused_unwritable : (inside : List Level) (t : Tree) (sink : W) → ¬ IsWritable t → RefusesIn g inside t sink UnsupportedValue sink
+  refused_unwritable [] t sink n = record { begins = beginning_none (g.written sink) (der t); excuse = unwritable refl n refl }
+  refused_unwritable (l ∷ ls) t sink n = (no_way refl n, refl)
+
+  -- a tag number past 30
+  pub plain_past : (tag : ℕ) (c : List ℕ) (old : State W) → 30 < number_of tag → old.failed ≡ None → g.later old.sink old.sink → WritesPrimitive g (Primitive.bytes tag c) old (Err UnsupportedValue) (record old { failed = Some (failure_of UnsupportedValue) })
+  plain_past tag c old h f later =
+      let t = Tree.primitive (Primitive.bytes tag c) in
+      let past : has_tag_numbers t ≡ false = lt-leb (number_of tag) 30 h in
+      let refused = refused_unwritable old.inside (under old.around t) old.sink (unwritable-by (under old.around t) (past_under old.around t past)) in
+      record {
+        wrote = tt;
+        failed = record { failed = refl; again = rw f tt; reason = rw f refused };
+        outside = λ w. absurd (unwritable-by t past w);
+        untouched = record { same = λ well. refl };
+        refuses_unwritable = λ n failed. (refl, refl);
+        counted = (omega arith, omega arith);
+        goes_on = later;
+      }
+
+-- ---- a value that isn't there: nothing is written, and no wrapper stays open
+
+nothing_more : (l : Level) → l ≡ with_bytes l []
+nothing_more l = ap (λ c. record l { content = c }) (sym (append-nil l.content))
+
+can_vanish-open : (ws : List Wrapper) → CanAllBeOpen ws → CanVanish ws
+can_vanish-open [] h = tt
+can_vanish-open (w ∷ ws) h = (h.0.1, can_vanish-open ws h.1)
+
+module _ {W : Type 0} (g : Ghosts W) where
+  adds_none : (inside : List Level) (sink : W) → AddsIn g inside inside sink sink []
+  adds_none [] sink = (refl, Appends-nil (g.written sink))
+  adds_none (l ∷ ls) sink = (ap (λ m. m ∷ ls) (nothing_more l), refl)
+
+  pub absent-ok : (old : State W) → old.failed ≡ None → CanAllBeOpen old.around → WritesAbsent g old (Ok 0) (record old { around = []; pending = None })
+  absent-ok old f n =
+      let none = der-under_absent old.around Tree.absent (can_vanish-open old.around n) refl in
+      record {
+        wrote = record {
+          had_not_failed = f;
+          writable = record { numbers = numbers_writable old.around Tree.absent n refl; fits = rw none (omega arith) };
+          count = ap length (sym none);
+          adds = rw none (adds_none old.inside old.sink);
+          closed = refl;
+          not_failed = f;
+          no_fault = refl;
+        };
+        count = refl;
+        again = tt;
+        same = refl;
       }

@@ -3,7 +3,7 @@ use Rattle.std.proofs.Common.{◌≡◌, ℕ, ◌+◌, ◌-◌, ◌≤◌, List,
 use Rattle.std.proofs.Math.Seq.{take-append_seam, drop-append_seam, take-append-add, drop-append-add}
 use Rattle.std.proofs.lemmas.List.{drop-append-le, take-append-le, take-take, length-drop}
 use Rattle.std.specs.List.{slice_rotate_right}
-use Rattle.picky_der_ser.specs.Overwrite.{with_overwrite}
+use Rattle.picky_der_ser.specs.Headers.{with_overwrite}
 
 -- the last bytes of a list, before the others
 rotated : (c h : List ℕ) (room more : ℕ) → length h ≡ room + more → slice_rotate_right (c ++ h) more ≡ drop room h ++ (c ++ take room h)

@@ -9,13 +9,10 @@ use Rattle.picky_der_core.specs.Encoding.{der}
 use Rattle.picky_der_ser.specs.declared.marks.Mark.{Mark}
 use Rattle.picky_der_ser.specs.declared.header.Header.TheVariants.{Raw}
 use Rattle.picky_der_ser.specs.State.{Level, Stack, with_bytes, at_next_member, in_order, final_content}
-use Rattle.picky_der_ser.specs.Heading.{tree_of}
-use Rattle.picky_der_ser.specs.Headers.{headers}
-use Rattle.picky_der_ser.specs.Sealed.{as_raw_level}
+use Rattle.picky_der_ser.specs.Headers.{tree_of, headers}
 use Rattle.picky_der_ser.specs.Marks.{level_at, levels_of, inside_of, pending_of, IsMark, AreMarks, AreRooms, HasMark}
 use Rattle.picky_der_ser.specs.Seams.{AreSeams, last_seam, next_seams}
-use Rattle.picky_der_ser.proofs.Seams.{seams-next, last_seam-next, drop-next_seams, take-next_seams, length-next_seams}
-use Rattle.picky_der_ser.proofs.SetBytes.{final_content-uncut, in_order-uncut}
+use Rattle.picky_der_ser.proofs.ListBytes.{seams-next, last_seam-next, drop-next_seams, take-next_seams, length-next_seams, final_content-uncut, in_order-uncut}
 
 -- ---- marks within more bytes, and fewer marks
 
@@ -103,6 +100,12 @@ levels-grown (m ∷ ms) s q bs w l ls h e =
 abbrev pub stack_at : Bool → List Mark → List ℕ → List ℕ → List Wrapper → List Wrapper → Stack
 stack_at pending ms s q w a = record { inside = inside_of pending ms s q w; pending = pending_of pending ms s q w; around = a }
 
+-- bytes were added to the level of which a member is being written
+pub stack-grown : (pending : Bool) (ms : List Mark) (s t q bs : List ℕ) (w a : List Wrapper) (l : Level) (ls : List Level) → pending ≡ false → AreMarks ms (length s) q w → inside_of pending ms s q w ≡ l ∷ ls → t ≡ s ++ bs
+    → stack_at pending ms t q w a ≡ record { inside = with_bytes l bs ∷ ls; pending = None; around = a }
+stack-grown true ms s t q bs w a l ls entered marks inside e = cc
+stack-grown false ms s t q bs w a l ls entered marks inside e = rw e (ap (λ x. record { inside = x; pending = None; around = a }) (levels-grown ms s q bs w l ls marks inside))
+
 -- another member of what is pending begins
 pub stack-at_next_member : (pending : Bool) {m : Mark} {vs ms : List Mark} (s q r : List ℕ) (w a : List Wrapper) → vs ≡ m ∷ ms → AreMarks vs (length s) q w → r ≡ next_seams m.header q (length s - m.start)
     → IfSome (pending_of pending vs s q w) (λ l. stack_at pending vs s r w a ≡ record (stack_at pending vs s q w a) { pending = Some (at_next_member l) })
@@ -124,25 +127,6 @@ stack-uncut true {m} {vs} {ms} s q w a was h =
     let none : drop m.first_seam q ≡ [] = drop_all m.first_seam q h in
     let order : level_at m s q w ≡ in_order (level_at m s q w) = in_order-uncut (level_at m s q w) none in
     rw was (ap (λ l. record { inside = levels_of ms (take m.at s) (take m.first_seam q) (take m.first_wrapper w); pending = Some l; around = a }) order)
-
--- what is pending holds its whole encoding
-pub stack-as_raw_level : (pending : Bool) {m : Mark} {vs us ms : List Mark} (s t q r : List ℕ) (w a : List Wrapper) → vs ≡ m ∷ ms → us ≡ record m { start = m.at; header = Raw } ∷ ms → drop m.first_wrapper w ≡ [] → AreMarks vs (length s) q w
-    → t ≡ take m.at s ++ der (under (drop m.first_wrapper w) (tree_of m.header (drop m.start s))) → r ≡ take m.first_seam q
-    → IfSome (pending_of pending vs s q w) (λ l. stack_at pending us t r w a ≡ record (stack_at pending vs s q w a) { pending = Some (as_raw_level l) })
-stack-as_raw_level false s t q r w a was now bare marks e f = tt
-stack-as_raw_level true {m} {vs} {us} {ms} s t q r w a was now bare marks e f =
-    let mark : IsMark m (length s) q w = mark-last was marks in
-    let within = mark.within in
-    let room = mark.room in
-    let whole = der (under (drop m.first_wrapper w) (tree_of m.header (drop m.start s))) in
-    let front = take m.at s in
-    let size : length front ≡ m.at = length-take-le m.at s (omega (arith, within, room)) in
-    let count : length (take m.first_seam q) ≡ m.first_seam = length-take-le m.first_seam q mark.within_seams in
-    let all : drop m.at t ≡ whole = ap (λ k. drop k t) (sym size) ∙ ap (drop (length front)) e ∙ drop-append_seam front whole in
-    let none : drop m.first_seam r ≡ [] = ap (drop m.first_seam) f ∙ drop_all m.first_seam (take m.first_seam q) (omega (arith, count)) in
-    let bytes : take m.at t ≡ front = ap (λ k. take k t) (sym size) ∙ ap (take (length front)) e ∙ take-append_seam front whole in
-    let seams : take m.first_seam r ≡ take m.first_seam q = ap (take m.first_seam) f ∙ take-take m.first_seam m.first_seam q (omega arith) in
-    rw (was, now, bytes, seams, all, none) (ap (λ x. record { inside = levels_of ms front (take m.first_seam q) (take m.first_wrapper w); pending = Some (record { header = Raw; around = x; content = whole; seams = [] }); around = a }) bare)
 
 -- what is pending gets its headers
 pub stack-headed : (pending : Bool) {m : Mark} {vs ms : List Mark} (s t q : List ℕ) (w a : List Wrapper) (n : ℕ) → vs ≡ m ∷ ms → AreMarks vs (length s) q w → t ≡ s ++ headers (drop m.first_wrapper w) m.header n
@@ -196,17 +180,18 @@ module _ {m : Mark} {vs ms : List Mark} (seams : List ℕ) (w : List Wrapper) (w
       ap (λ x. stack_at false ms x (take m.first_seam seams) (take m.first_wrapper w) a) g ∙ stack-merged m ms s seams _ w a l ls before inside
       ∙ ap (λ (x : Level). record { inside = with_bytes l (der (under x.around (tree_of x.header x.content))) ∷ ls; pending = None; around = a }) level
 
-  -- the same of one that has no seams
-  pub stack-enclosed_uncut : (pending : Bool) (s t : List ℕ) (a : List Wrapper) (o l : Level) (ls : List Level) → AreMarks vs (length s) seams w → length seams ≤ m.first_seam → pending_of pending vs s seams w ≡ Some o
-      → inside_of pending vs s seams w ≡ l ∷ ls → t ≡ take m.at s ++ der (under (drop m.first_wrapper w) (tree_of m.header (drop m.start s)))
-      → stack_at false ms t seams (take m.first_wrapper w) a ≡ record { inside = with_bytes l (der (under o.around (tree_of o.header (final_content o)))) ∷ ls; pending = None; around = a }
-  stack-enclosed_uncut false s t a o l ls marks none e f g = cc
-  stack-enclosed_uncut true s t a o l ls marks none e f g =
+  -- the same of one that has no seams and no wrappers, where none is open
+  pub stack-enclosed_uncut : (pending : Bool) (s t : List ℕ) (a : List Wrapper) (o l : Level) (ls : List Level) → AreMarks vs (length s) seams w → length seams ≤ m.first_seam → length w ≤ m.first_wrapper → a ≡ []
+      → pending_of pending vs s seams w ≡ Some o → inside_of pending vs s seams w ≡ l ∷ ls → t ≡ take m.at s ++ der (under (drop m.first_wrapper w) (tree_of m.header (drop m.start s)))
+      → stack_at false ms t seams w a ≡ record { inside = with_bytes l (der (under o.around (tree_of o.header (final_content o)))) ∷ ls; pending = None; around = [] }
+  stack-enclosed_uncut false s t a o l ls marks none outer bare e f g = cc
+  stack-enclosed_uncut true s t a o l ls marks none outer bare e f g =
       let level : level_at m s seams w ≡ o = let some : Some (level_at m s seams w) ≡ Some o = ap (λ x. pending_of true x s seams w) (sym was) ∙ e in cc in
       let uncut : o.seams ≡ [] = ap (λ (x : Level). x.seams) (sym level) ∙ drop_all m.first_seam seams none in
       let all : seams ≡ take m.first_seam seams = sym (take_all m.first_seam seams none) in
-      ap (λ r. stack_at false ms t r (take m.first_wrapper w) a) all ∙ stack-enclosed true s t a o l ls marks e f g
-      ∙ ap (λ c. record { inside = with_bytes l (der (under o.around (tree_of o.header c))) ∷ ls; pending = None; around = a }) (sym (final_content-uncut o uncut))
+      let around : w ≡ take m.first_wrapper w = sym (take_all m.first_wrapper w outer) in
+      ap₂ (λ r v. stack_at false ms t r v a) all around ∙ stack-enclosed true s t a o l ls marks e f g
+      ∙ ap₂ (λ c b. record { inside = with_bytes l (der (under o.around (tree_of o.header c))) ∷ ls; pending = None; around = b }) (sym (final_content-uncut o uncut)) bare
 
 -- how long it is then
 pub count-uncut : (pending : Bool) {m : Mark} {vs ms : List Mark} (s q : List ℕ) (w : List Wrapper) (n : ℕ) → vs ≡ m ∷ ms → length q ≤ m.first_seam → n ≡ length (der (under (drop m.first_wrapper w) (tree_of m.header (drop m.start s))))

@@ -1,20 +1,10 @@
 pub mod Alike
-pub mod Numbers
-pub mod PlainWrites
-pub mod AbsentWrites
 pub mod HeaderBytes
-pub mod HeaderLoop
 pub mod LevelMarks
-pub mod LevelWrites
 pub mod StateWrites
 pub mod WrapWrites
 pub mod Brought
 pub mod EntryWrites
-pub mod Seams
-pub mod SetBytes
 pub mod ListBytes
 pub mod MemberWrites
-pub mod Items
-pub mod ApplicationWrites
 mod RowWrites
-pub mod Choices

@@ -1,5 +1,5 @@
 -- A list that is being written: the members that it has, and the members that it still awaits.
-use Rattle.std.proofs.Common.{◌≡◌, ℕ, List, [], ◌∷◌, ◌++◌, map, Option, None, Some, refl, sym, ap, ◌∙◌, subst, inl, inr, Result, Ok, Err, IfOk, IfErr}
+use Rattle.std.proofs.Common.{◌≡◌, ℕ, List, [], ◌∷◌, ◌++◌, map, Option, None, Some, refl, sym, ap, ◌∙◌, subst, inl, inr, Result, Ok, Err, IfOk, IfErr, zero, suc, ◌+◌, ◌<◌, ◌≤◌, length, drop, get_or, arith, add-one}
 use Rattle.std.specs.Prelude.{IfSome, IfNone, IsTrue}
 use Rattle.picky_der_core.specs.Primitive.{Primitive}
 use Rattle.picky_der_core.specs.OpenWrapperLaws.{AreAlike}
@@ -15,11 +15,9 @@ use Rattle.picky_der_ser.specs.declared.header.Header.TheVariants.{Tagged}
 use Rattle.picky_der_ser.specs.State.{State, Level, with_member, with_members, final_content}
 use Rattle.picky_der_ser.specs.Sequences.{IsListTag, list_kind}
 use Rattle.picky_der_ser.specs.Calls.{UntouchedUnlessFailed, MemoryExcuse, no_room, no_way, RefusesIn, Writes, RefusesWrite, OpensLevel, RefusesBefore, AddsMember, RefusesToAdd, WritesContent, EndsLevel}
-use Rattle.picky_der_ser.proofs.Alike.{writes-alike, fails-alike}
-use Rattle.picky_der_ser.proofs.PlainWrites.{refused_unwritable}
+use Rattle.picky_der_ser.proofs.Alike.{writes-alike, fails-alike, refused_unwritable}
 use Rattle.picky_der_ser.proofs.StateWrites.{refused_memory}
-use Rattle.picky_der_ser.proofs.ListBytes.{before, before_none, before_next, numbers_next, map_next, alike_list, member_writable}
-use Rattle.picky_der_ser.proofs.SetBytes.{list_level, members_header, members_around, members-push, final_content-members}
+use Rattle.picky_der_ser.proofs.ListBytes.{before, before_none, before_next, numbers_next, map_next, alike_list, member_writable, list_level, members_header, members_around, members-push, final_content-members}
 
 module _ {W : Type 0} where
   -- the list, opened on this serializer, with these members
@@ -127,3 +125,24 @@ module _ {W : Type 0} (g : Ghosts W) where
 
   pub list_untouched : (kind : ListKind) (all : Trees) (old now new : State W) (r : Result ℕ Asn1DerError) (e : Asn1DerError) → EndsLevel g now r new → r ≡ Err e → Awaits kind Trees.none all old now → UntouchedUnlessFailed g old.sink e new.sink
   list_untouched kind all old now new r e h i a = subst (λ v. IfErr v (λ m. UntouchedUnlessFailed g old.sink m new.sink)) i (ended kind all old now new r h a).untouched
+
+-- ---- the items of a list
+
+next_at : {A : Type 0} (m : A → Tree) (xs : List A) (i : ℕ) (x : A) → i < length xs → x ≡ get_or xs i x → trees (map m (drop i xs)) ≡ Trees.more (m x) (trees (map m (drop (suc i) xs)))
+next_at m [] i x h e = absurd (omega arith)
+next_at m (y ∷ ys) zero x h e = ap (λ z. Trees.more (m z) (trees (map m ys))) (sym e)
+next_at m (y ∷ ys) (suc i) x h e = next_at m ys i x (omega arith) e
+
+-- the next of the items
+pub item_at : {A : Type 0} (m : A → Tree) (xs : List A) (i : ℕ) (x : A) → i < length xs → x ≡ get_or xs i x → trees (map m (drop i xs)) ≡ Trees.more (m x) (trees (map m (drop (i + 1) xs)))
+item_at m xs i x h e = next_at m xs i x h e ∙ ap (λ n. Trees.more (m x) (trees (map m (drop n xs)))) (sym (add-one i))
+
+-- and none after the last
+pub items_end : {A : Type 0} (m : A → Tree) (xs : List A) (i : ℕ) → length xs ≤ i → trees (map m (drop i xs)) ≡ Trees.none
+items_end m [] i h = none_of i
+  where
+    none_of : (j : ℕ) → trees (map m (drop j [])) ≡ Trees.none
+    none_of zero = refl
+    none_of (suc j) = refl
+items_end m (y ∷ ys) zero h = absurd (omega arith)
+items_end m (y ∷ ys) (suc i) h = items_end m ys i (omega arith)

@@ -16,7 +16,7 @@ use Rattle.picky_der_core.specs.Encoding.{encodings, der}
 use Rattle.picky_der_core.specs.Readable.{IsWritable}
 use Rattle.picky_der_core.specs.Wrapper.{HasTagNumber}
 use Rattle.picky_der_ser.specs.declared.header.Header.{Header}
-use Rattle.picky_der_ser.specs.Heading.{tree_of}
+use Rattle.picky_der_ser.specs.Headers.{tree_of}
 use Rattle.picky_der_ser.specs.State.{State, Level, with_bytes, with_member, with_members, final_content}
 
 -- each of the trees can be written

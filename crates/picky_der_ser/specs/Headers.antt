@@ -1,5 +1,5 @@
 -- The bytes before a content: the headers of the wrappers around it, and its own.
-use Rattle.std.specs.Prelude.{ℕ, ◌+◌, ⊤, IsTrue, List, [], ◌∷◌, ◌++◌, length, take, ◌-◌, Option, None, Some, if◌then◌else◌}
+use Rattle.std.specs.Prelude.{ℕ, ◌+◌, ⊤, IsTrue, List, [], ◌∷◌, ◌++◌, length, take, ◌-◌, Option, None, Some, if◌then◌else◌, drop, Bool, false, nat_eq}
 use Rattle.std.specs.Option.{unwrap_or}
 use Rattle.picky_der_core.specs.declared.asn1.wrapper.Wrapper.{Wrapper}
 use Rattle.picky_der_core.specs.Element.{length_octets}
@@ -7,6 +7,23 @@ use Rattle.picky_der_core.specs.Tag.{IsTagNumber, number_of}
 use Rattle.picky_der_core.specs.Wrapper.{wrapper_tag, wrapper_front, keeps_header, can_vanish, HasTagNumber}
 use Rattle.picky_der_ser.specs.declared.header.Header.{Header}
 use Rattle.picky_der_ser.specs.declared.header.Header.TheVariants.{Tagged, Application, Raw}
+use Rattle.picky_der_core.specs.declared.asn1.wrapper.Wrapper.TheVariants as wrapper
+use Rattle.picky_der_core.specs.Primitive.{Primitive}
+use Rattle.picky_der_core.specs.Tree.{Tree}
+
+-- the tree of this content under the header
+abbrev pub tree_of : Header → List ℕ → Tree
+tree_of (Tagged tag) c = Tree.primitive (Primitive.bytes tag c)
+tree_of (Application n) c = Tree.wrapped (wrapper.Application n) (Tree.raw c)
+tree_of Raw c = Tree.raw c
+
+-- whether the members under the header are sorted
+abbrev pub is_set : Header → Bool
+is_set (Tagged tag) = nat_eq tag 0x31
+is_set (Application n) = false
+is_set Raw = false
+
+-- ---- the bytes
 
 -- what a wrapper puts before n bytes
 abbrev pub wrapper_opening : Wrapper → ℕ → List ℕ
@@ -56,3 +73,9 @@ CanBeOpen w = HasTagNumber w × IsTrue (can_vanish w)
 abbrev pub CanAllBeOpen : List Wrapper → Type 0
 CanAllBeOpen [] = ⊤
 CanAllBeOpen (w ∷ ws) = CanBeOpen w × CanAllBeOpen ws
+
+-- ---- the end of a list in place of other elements of it
+
+-- the bytes from `kept` on are in place of as many from `at` on
+abbrev pub with_overwrite : ℕ → ℕ → ℕ → List ℕ → List ℕ
+with_overwrite at count kept bs = take at bs ++ (drop kept bs ++ drop (at + count) (take kept bs))

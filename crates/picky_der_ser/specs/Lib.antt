@@ -1,17 +1,11 @@
-pub mod Heading
 pub mod Headers
 pub mod Seams
-pub mod Wrappers
-pub mod KeptMarks
 pub mod Marks
-pub mod Overwrite
 pub mod State
 pub mod Calls
 pub mod Entry
-pub mod Integer
 pub mod Meaning
 pub mod Sequences
 pub mod SequenceState
 pub mod Lending
 pub mod Defaults
-pub mod Sealed

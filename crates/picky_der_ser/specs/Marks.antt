@@ -1,10 +1,14 @@
 -- How marks divide one list of bytes, one of seams and one of wrappers among the levels.
-use Rattle.std.specs.Prelude.{ℕ, ◌≢◌, ◌+◌, ◌<◌, ◌≤◌, ⊤, Bool, true, false, List, [], ◌∷◌, length, take, drop, Option, None, Some}
+use Rattle.std.specs.Prelude.{ℕ, ◌≢◌, ◌+◌, ◌<◌, ◌≤◌, ⊤, Bool, true, false, List, [], ◌∷◌, length, take, drop, Option, None, Some, refl}
 use Rattle.picky_der_core.specs.declared.asn1.wrapper.Wrapper.{Wrapper}
 use Rattle.picky_der_ser.specs.declared.marks.Mark.{Mark}
 use Rattle.picky_der_ser.specs.State.{Level}
 use Rattle.picky_der_ser.specs.Headers.{HasNumber, CanAllBeOpen}
 use Rattle.picky_der_ser.specs.Seams.{AreSeams, last_seam}
+use Rattle.std.specs.Coded.{Coded, code_by, coded×, coded_list, coded_ℕ}
+use Rattle.picky_der_ser.specs.declared.header.Header.TheVariants.{Raw}
+use Rattle.picky_der_ser.specs.contracts.marks.Mark as mark
+use Rattle.picky_der_core.specs.contracts.asn1.wrapper.Wrapper as wrapper
 
 -- the level of a mark, which is the last one, where these are all bytes, seams and wrappers
 abbrev pub level_at : Mark → List ℕ → List ℕ → List Wrapper → Level
@@ -51,3 +55,27 @@ AreRooms (m ∷ ms) n = (m.at ≤ m.start) × (m.start ≤ n) × AreRooms ms m.a
 abbrev pub HasMark : Bool → List Mark → ℕ → Type 0
 HasMark true ms spare = ms ≢ []
 HasMark false ms spare = 0 < spare
+
+-- ---- what a serializer keeps
+
+-- the marks of all levels, innermost first, and for how many more there is room
+pub record KeptMarks : Type 0 where
+  pub marks : List Mark
+  pub spare : ℕ
+
+abbrev pub kept_marks_code : Coded KeptMarks
+kept_marks_code = code_by (List Mark × ℕ) (coded× (coded_list mark.the_row.coded) coded_ℕ) (λ k. (k.marks, k.spare)) (λ p. record { marks = p.0; spare = p.1 }) (λ _. refl)
+
+-- that of a root, before whose content nothing is
+abbrev pub root_mark : Mark
+root_mark = record { at = 0; start = 0; first_seam = 0; first_wrapper = 0; header = Raw }
+
+-- ---- the wrappers that it keeps
+
+-- the wrappers around the levels, the outermost first, and the open ones
+pub record KeptWrappers : Type 0 where
+  pub of_levels : List Wrapper
+  pub around : List Wrapper
+
+abbrev pub kept_wrappers_code : Coded KeptWrappers
+kept_wrappers_code = code_by (List Wrapper × List Wrapper) (coded× (coded_list wrapper.the_row.coded) (coded_list wrapper.the_row.coded)) (λ k. (k.of_levels, k.around)) (λ p. record { of_levels = p.0; around = p.1 }) (λ _. refl)

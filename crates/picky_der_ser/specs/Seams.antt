@@ -2,7 +2,7 @@
 use Rattle.std.specs.Prelude.{ℕ, ◌≤◌, List, [], ◌∷◌, ◌++◌, ◌&&◌, drop, nat_lt, if◌then◌else◌, ⊤}
 use Rattle.std.specs.List.{between}
 use Rattle.picky_der_ser.specs.declared.header.Header.{Header}
-use Rattle.picky_der_ser.specs.Heading.{is_set}
+use Rattle.picky_der_ser.specs.Headers.{is_set}
 
 -- the pieces between the seams, from the byte at `start` on
 abbrev pub cut_from : ℕ → List ℕ → List ℕ → List (List ℕ)

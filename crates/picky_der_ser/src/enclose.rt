@@ -1,18 +1,13 @@
 //! Contents with their headers before them.
-ghost use Rattle.std.specs.Prelude.{◌≡◌, ◌≤◌, ◌<◌, ◌+◌, ◌-◌, ◌∷◌, ◌++◌, length, take, drop, vec_len};
-ghost use Rattle.std.specs.Prelude.{vec_capacity, OnOk, OnErr};
+ghost use Rattle.std.specs.Prelude.{◌≡◌, ◌≤◌, ◌+◌, ◌-◌, ◌++◌, length, take, drop, vec_len, OnOk, OnErr};
 ghost use Rattle.std.specs.List.{slice_rotate_right};
-ghost use Rattle.picky_der_core.specs.Primitive.{Primitive};
 ghost use Rattle.picky_der_core.specs.OpenWrappers.{under};
 ghost use Rattle.picky_der_core.specs.Encoding.{der};
-ghost use Rattle.picky_der_core.specs.Tree.{Tree};
-ghost use Rattle.picky_der_ser.specs.Heading.{tree_of};
-ghost use Rattle.picky_der_ser.specs.Headers.{HasNumber, CanAllBeOpen};
-ghost use Rattle.picky_der_ser.specs.Overwrite.{with_overwrite};
+ghost use Rattle.picky_der_ser.specs.Headers.{tree_of, HasNumber, CanAllBeOpen, with_overwrite};
 
 use crate::Header;
-use crate::header::{push_headers, short_identifier};
-use picky_der_core::asn1::{Tag, Wrapper};
+use crate::header::{fill_short, push_headers};
+use picky_der_core::asn1::Wrapper;
 use std::alloc::AllocError;
 
 // Moves the last bytes before the others. Headers mostly grow by one byte or two. A turn by one byte is one move of memory. Two
@@ -67,16 +62,6 @@ fn fill_from_last(out: &mut Vec<u8>, at: usize, count: usize)
     out.truncate(kept);
 }
 
-// Writes a header of two bytes over the bytes from `at` on.
-pub(crate) fn fill_short(out: &mut Vec<u8>, at: usize, identifier: u8, len: u8)
-    requires { at + 2 ≤ vec_len out.old }
-    ensures items { out.new.items ≡ take at out.old.items ++
-        (identifier ∷ len ∷ drop (at + 2) out.old.items) }
-    ensures len { vec_len out.new ≡ vec_len out.old }
-{
-    out[at..at + 2].copy_from_slice(&[identifier, len]);
-}
-
 // Adds a content with its headers before it.
 pub(crate) fn push_enclosed(
     out: &mut Vec<u8>,
@@ -92,49 +77,6 @@ pub(crate) fn push_enclosed(
     push_headers(out, around, header, content.len())?;
     out.extend_from_slice(content)?;
     Ok(())
-}
-
-// Makes the room for the header of a content that hasn't come yet, if this is two bytes for which the vector has room. Else
-// nothing is done.
-#[inline(always)]
-pub(crate) fn make_short_room(out: &mut Vec<u8>, around: &[Wrapper], header: &Header)
-    requires { HasNumber header.now }
-    ensures front { take (vec_len out.old) out.new.items ≡ out.old.items }
-    ensures grows { vec_len out.old ≤ vec_len out.new }
-{
-    if out.capacity() - out.len() >= 2 {
-        if let Some(identifier) = short_identifier(around, header, 0) {
-            // There is room, so this doesn't fail.
-            let _ = out.extend_from_slice(&[identifier, 0]);
-        }
-    }
-}
-
-// Adds an element whose length is one byte, for which there is room.
-#[inline(always)]
-pub(crate) fn push_short(out: &mut Vec<u8>, tag: Tag, content: &[u8])
-    requires short { length content.now < 0x80 }
-    requires room { vec_len out.old + 2 + length content.now ≤ vec_capacity out.old }
-    ensures items { out.new.items ≡ out.old.items ++ der (Tree.primitive (Primitive.bytes tag content.now)) }
-    ensures count { length (der (Tree.primitive (Primitive.bytes tag content.now))) ≡ 2 + length content.now }
-{
-    // There is room, so this doesn't fail. The content of a small number, one byte, is added together with its header.
-    if content.len() == 1 {
-        let _ = out.extend_from_slice(&[tag.inner(), 1, content[0]]);
-    } else {
-        let _ = out.extend_from_slice(&[tag.inner(), content.len() as u8]);
-        let _ = out.extend_from_slice(content);
-    }
-}
-
-// Adds bytes for which there is room.
-#[inline(always)]
-pub(crate) fn push_few(out: &mut Vec<u8>, bytes: &[u8])
-    requires { vec_len out.old + length bytes.now ≤ vec_capacity out.old }
-    ensures { out.new.items ≡ out.old.items ++ bytes.now }
-{
-    // There is room, so this doesn't fail.
-    let _ = out.extend_from_slice(bytes);
 }
 
 // Drops what is more than `size` bytes of the room from `at` to `start`. Returns the width of the room after that.
@@ -198,12 +140,8 @@ pub(crate) fn enclose(
         (under around.now (tree_of header (drop start out.old.items)))) }
     ensures grows { at ≤ vec_len out.new }
 {
-    let len = out.len() - start;
-    match short_identifier(around, &header, len) {
-        Some(identifier) if start - at == 2 => {
-            fill_short(out, at, identifier, len as u8);
-            Ok(())
-        }
-        _ => enclose_nested(out, at, start, around, header),
+    if fill_short(out, at, start, around, &header) {
+        return Ok(());
     }
+    enclose_nested(out, at, start, around, header)
 }

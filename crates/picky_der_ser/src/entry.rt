@@ -7,7 +7,7 @@ ghost use Rattle.picky_der_core.specs.SliceSink.{slice_of};
 ghost use Rattle.picky_der_ser.specs.Calls.{MemoryExcuse, SinkWrites, SinkRefuses};
 ghost use Rattle.picky_der_ser.specs.Entry.{Overwrites, VecRefuses, SliceRefuses};
 
-use crate::levels::FIRST_ROOM;
+use crate::levels::{FIRST_ROOM, Levels};
 use crate::{Serialize, Serializer};
 use picky_der_core::Result;
 use picky_der_core::misc::{BufSink, SliceSink, WriteExt};
@@ -60,9 +60,21 @@ pub fn to_vec<T: Serialize>(alloc: Global, value: &T) -> Result<Vec<u8>>
 {
     let mut untouched = [];
     let scratch = Vec::with_capacity(alloc, FIRST_ROOM)?;
-    let mut ser = Serializer::new_in_root(alloc, scratch, &mut untouched);
-    value.serialize(&mut ser)?;
-    Ok(ser.into_content())
+    // All is written into a level, so the sink isn't touched.
+    let mut serializer = Serializer {
+        sink: SliceSink::new(&mut untouched),
+        failed: None,
+        levels: Levels::new_in_root(alloc, scratch),
+        alloc,
+    };
+    value.serialize(&mut serializer)?;
+    let Serializer {
+        sink: _,
+        failed: _,
+        levels,
+        alloc: _,
+    } = serializer;
+    Ok(levels.into_content())
 }
 
 /// Writes the canonical encoding of a value to a writer, after what was written before, and returns its length in bytes.

@@ -1,12 +1,14 @@
 //! The bytes before a content that is being written: the headers of the wrappers around it, and its own.
 ghost use Rattle.std.specs.Prelude.{◌≡◌, ◌+◌, ◌^◌, ◌<◌, ◌≤◌, ◌∷◌, ◌++◌, reverse, take, drop, vec_len};
-ghost use Rattle.std.specs.Prelude.{[], IfSome, IsSome, OnOk};
+ghost use Rattle.std.specs.Prelude.{[], true, false, length, vec_capacity, IfSome, IsSome, OnOk};
 ghost use Rattle.picky_der_core.specs.Element.{length_octets};
 ghost use Rattle.picky_der_core.specs.Equality.{IsEqualityOf, IsKept};
+ghost use Rattle.picky_der_core.specs.Encoding.{der};
+ghost use Rattle.picky_der_core.specs.OpenWrappers.{under};
+ghost use Rattle.picky_der_core.specs.Primitive.{Primitive};
+ghost use Rattle.picky_der_core.specs.Tree.{Tree};
 ghost use Rattle.picky_der_core.specs.Wrapper.{HasTagNumber};
-ghost use Rattle.picky_der_ser.specs.Heading.{is_set};
-ghost use Rattle.picky_der_ser.specs.Headers.{wrapper_opening, own_header, headers, joint_header};
-ghost use Rattle.picky_der_ser.specs.Headers.{innermost_joint_header, HasNumber, CanAllBeOpen};
+ghost use Rattle.picky_der_ser.specs.Headers.{is_set, tree_of, wrapper_opening, own_header, headers, joint_header, innermost_joint_header, HasNumber, CanAllBeOpen};
 
 use picky_der_core::asn1::{Tag, Wrapper};
 use picky_der_core::misc::Length;
@@ -169,6 +171,62 @@ pub(crate) fn short_identifier(around: &[Wrapper], header: &Header, len: usize) 
         Header::Application(number) => Some(Tag::application_constructed(*number).inner()),
         Header::Raw => None,
     }
+}
+
+// Writes the header of the content from `start` on into the room from `at` to `start`, if it is a short one that fits exactly.
+// Else nothing is done.
+#[inline(always)]
+pub(crate) fn fill_short(
+    out: &mut Vec<u8>,
+    at: usize,
+    start: usize,
+    around: &[Wrapper],
+    header: &Header,
+) -> bool
+    requires number { HasNumber header.now }
+    requires room { at ≤ start }
+    requires within { start ≤ vec_len out.old }
+    ensures yes { result ≡ true → out.new.items ≡ take at out.old.items ++ der
+        (under around.now (tree_of header.now (drop start out.old.items))) }
+    ensures bare { result ≡ true → around.now ≡ [] }
+    ensures len { vec_len out.new ≡ vec_len out.old }
+    ensures no { result ≡ false → out.new ≡ out.old }
+{
+    let len = out.len() - start;
+    match short_identifier(around, header, len) {
+        Some(identifier) if start - at == 2 => {
+            out[at..at + 2].copy_from_slice(&[identifier, len as u8]);
+            true
+        }
+        _ => false,
+    }
+}
+
+// Adds an element whose length is one byte, for which there is room.
+#[inline(always)]
+pub(crate) fn push_short(out: &mut Vec<u8>, tag: Tag, content: &[u8])
+    requires short { length content.now < 0x80 }
+    requires room { vec_len out.old + 2 + length content.now ≤ vec_capacity out.old }
+    ensures items { out.new.items ≡ out.old.items ++ der (Tree.primitive (Primitive.bytes tag content.now)) }
+    ensures count { length (der (Tree.primitive (Primitive.bytes tag content.now))) ≡ 2 + length content.now }
+{
+    // There is room, so this doesn't fail. The content of a small number, one byte, is added together with its header.
+    if content.len() == 1 {
+        let _ = out.extend_from_slice(&[tag.inner(), 1, content[0]]);
+    } else {
+        let _ = out.extend_from_slice(&[tag.inner(), content.len() as u8]);
+        let _ = out.extend_from_slice(content);
+    }
+}
+
+// Adds bytes for which there is room.
+#[inline(always)]
+pub(crate) fn push_few(out: &mut Vec<u8>, bytes: &[u8])
+    requires { vec_len out.old + length bytes.now ≤ vec_capacity out.old }
+    ensures { out.new.items ≡ out.old.items ++ bytes.now }
+{
+    // There is room, so this doesn't fail.
+    let _ = out.extend_from_slice(bytes);
 }
 
 // Adds all headers before a content of `len` bytes, the innermost first.

@@ -5,14 +5,12 @@ ghost use Rattle.picky_der_core.specs.Primitive.{Primitive};
 ghost use Rattle.picky_der_core.specs.OpenWrappers.{under};
 ghost use Rattle.picky_der_core.specs.Encoding.{der};
 ghost use Rattle.picky_der_core.specs.Tree.{Tree};
-ghost use Rattle.picky_der_ser.specs.Heading.{tree_of};
-ghost use Rattle.picky_der_ser.specs.Headers.{headers, HasNumber, CanBeOpen, CanAllBeOpen};
+ghost use Rattle.picky_der_ser.specs.Headers.{tree_of, headers, HasNumber, CanBeOpen, CanAllBeOpen};
 ghost use Rattle.picky_der_ser.specs.State.{Level, root, with_bytes, at_next_member, in_order, final_content, EntersLevel, HasLevelNumbers};
-ghost use Rattle.picky_der_ser.specs.Sealed.{as_raw_level};
 
 use crate::Header;
-use crate::enclose::{enclose, fill_short, make_short_room, push_enclosed, push_few, push_short};
-use crate::header::{push_headers, short_identifier};
+use crate::enclose::{enclose, push_enclosed};
+use crate::header::{fill_short, push_few, push_headers, push_short};
 use crate::marks::{Mark, Marks};
 use crate::order::{arrange, begin_member};
 use crate::widen::widen_rooms;
@@ -182,9 +180,11 @@ impl Levels {
     {
         self.give_up();
         let at = self.scratch.len();
+        // The room for a short header, if there is room for it, so that this doesn't fail.
+        if self.wrappers.is_bare() && self.scratch.capacity() - at >= 2 {
+            let _ = self.scratch.extend_from_slice(&[0; 2]);
+        }
         let first_wrapper = self.wrappers.take();
-        let around = self.wrappers.around_from(first_wrapper);
-        make_short_room(&mut self.scratch, around, &header);
         self.marks.push(Mark {
             header,
             at,
@@ -201,10 +201,9 @@ impl Levels {
     {
         if let Some(mark) = self.marks.last() {
             if self.scratch.len() == mark.at {
-                let header = mark.header;
                 let around = self.wrappers.around_from(mark.first_wrapper);
                 push_headers(&mut self.scratch, around, mark.header, 0)?;
-                self.marks.set_last(self.scratch.len(), header);
+                self.marks.set_start(self.scratch.len());
             }
         }
         Ok(())
@@ -239,8 +238,9 @@ impl Levels {
         Ok(())
     }
 
-    // The same if nothing has to be prepared, as nearly always. Else nothing is done.
-    pub(crate) fn enter_again(&mut self) -> bool
+    // The same if no wrapper is open and nothing has to be prepared, as nearly always. Else nothing is done.
+    pub(crate) fn enter_short(&mut self) -> bool
+        ensures bare { result ≡ true → self.old.around ≡ [] }
         ensures yes { result ≡ true → EntersLevel self.old self.new }
         ensures no { result ≡ false → self.new ≡ self.old }
     {
@@ -249,7 +249,8 @@ impl Levels {
         };
         let len = self.scratch.len();
         let has_seam = mark.header.is_set() && len > mark.start;
-        if len == mark.at || has_seam || !self.pending || !self.marks.has_room() {
+        let is_bare = self.wrappers.is_bare();
+        if !is_bare || len == mark.at || has_seam || !self.pending || !self.marks.has_room() {
             return false;
         }
         self.pending = false;
@@ -265,8 +266,8 @@ impl Levels {
         self.pending = self.is_inside();
     }
 
-    // Adds an element with a length of one byte to the level of which a member is being written, if no level was opened in it
-    // and there is room for the element. Else nothing is done.
+    // Adds an element with a length of one byte to the level of which a member is being written, if no wrapper is open, no level
+    // was opened in it, and there is room for the element. Else nothing is done.
     #[inline(always)]
     pub(crate) fn append_short(&mut self, tag: Tag, content: &[u8]) -> bool
         ensures inside { result ≡ true → self.old.inside ≢ [] }
@@ -278,19 +279,21 @@ impl Levels {
               pending = None;
             } }
         ensures around { self.new.around ≡ self.old.around }
+        ensures bare { result ≡ true → self.old.around ≡ [] }
         ensures no { result ≡ false → self.new ≡ self.old }
     {
         let len = content.len();
         let room = self.scratch.capacity() - self.scratch.len();
-        if self.pending || !self.is_inside() || len >= 0x80 || room < 2 + len {
+        let is_bare = self.wrappers.is_bare();
+        if !is_bare || self.pending || !self.is_inside() || len >= 0x80 || room < 2 + len {
             return false;
         }
         push_short(&mut self.scratch, tag, content);
         true
     }
 
-    // Adds less than 128 bytes as they are to the level of which a member is being written, if no level was opened in it and
-    // there is room for them. Else nothing is done.
+    // Adds less than 128 bytes as they are to the level of which a member is being written, if no wrapper is open, no level was
+    // opened in it, and there is room for them. Else nothing is done.
     #[inline(always)]
     pub(crate) fn append_few(&mut self, bytes: &[u8]) -> bool
         ensures inside { result ≡ true → self.old.inside ≢ [] }
@@ -300,11 +303,13 @@ impl Levels {
               pending = None;
             } }
         ensures around { self.new.around ≡ self.old.around }
+        ensures bare { result ≡ true → self.old.around ≡ [] }
         ensures no { result ≡ false → self.new ≡ self.old }
     {
         let len = bytes.len();
         let room = self.scratch.capacity() - self.scratch.len();
-        if self.pending || !self.is_inside() || len >= 0x80 || room < len {
+        let is_bare = self.wrappers.is_bare();
+        if !is_bare || self.pending || !self.is_inside() || len >= 0x80 || room < len {
             return false;
         }
         push_few(&mut self.scratch, bytes);
@@ -404,8 +409,8 @@ impl Levels {
         Ok(self.scratch.len() - mark.at)
     }
 
-    // Ends the level that was opened last as `arrange` and `merge` do. This is for a level in another one, without seams, whose
-    // header fits the two bytes before it, as most do. Else it does nothing and returns `None`.
+    // Ends the level that was opened last as `arrange` and `merge` do. This is for a level in another one, without seams or open
+    // wrappers, whose header fits the two bytes before it, as most do. Else it does nothing and returns `None`.
     #[inline(always)]
     pub(crate) fn merge_short(&mut self) -> Option<usize>
         requires { IsSome self.old.pending }
@@ -422,27 +427,24 @@ impl Levels {
             } }
         ensures none { IfNone result (self.new ≡ self.old) }
     {
-        if !self.is_inside() {
+        if !self.is_inside() || !self.wrappers.is_bare() {
             return None;
         }
         let Some(mark) = self.marks.last() else {
             return None;
         };
-        let len = self.scratch.len() - mark.start;
-        let first_wrapper = mark.first_wrapper;
-        let around = self.wrappers.around_from(first_wrapper);
-        let Some(identifier) = short_identifier(around, &mark.header, len) else {
-            return None;
-        };
         let has_seams = mark.first_seam < self.seams.len();
-        if has_seams || mark.start - mark.at != 2 {
+        if has_seams {
             return None;
         }
-        fill_short(&mut self.scratch, mark.at, identifier, len as u8);
-        self.wrappers.truncate(first_wrapper);
+        let at = mark.at;
+        let around = self.wrappers.around_from(mark.first_wrapper);
+        if !fill_short(&mut self.scratch, at, mark.start, around, &mark.header) {
+            return None;
+        }
         self.marks.pop();
         self.pending = false;
-        Some(2 + len)
+        Some(self.scratch.len() - at)
     }
 
     // Adds the headers of a content of `len` bytes to the level that was opened last.
@@ -461,30 +463,6 @@ impl Levels {
             push_headers(&mut self.scratch, around, mark.header, len)?;
         }
         Ok(())
-    }
-
-    // Writes the header of the level that was opened last into the room for it, if it fits, and returns whether it did. If so,
-    // the level holds its whole encoding.
-    pub(crate) fn seal(&mut self) -> bool
-        ensures numbers { HasLevelNumbers self.old }
-        ensures yes { result ≡ true → IfSome self.old.pending
-            (λ p. self.new ≡ record self.old { pending = Some (as_raw_level p) }) }
-        ensures no { result ≡ false → self.new ≡ self.old }
-    {
-        if let Some(mark) = self.marks.last() {
-            let len = self.scratch.len() - mark.start;
-            let around = self.wrappers.around_from(mark.first_wrapper);
-            if let Some(identifier) = short_identifier(around, &mark.header, len) {
-                if mark.start - mark.at == 2 {
-                    let at = mark.at;
-                    fill_short(&mut self.scratch, at, identifier, len as u8);
-                    self.seams.truncate(mark.first_seam);
-                    self.marks.set_last(at, Header::Raw);
-                    return true;
-                }
-            }
-        }
-        false
     }
 
     // The content of the level that was opened last.

@@ -1,7 +1,7 @@
 //! The marks of open levels.
 ghost use Rattle.std.specs.Prelude.{◌≡◌, ◌<◌, ◌≤◌, ◌+◌, List, [], ◌∷◌, IfSome, IfNone, OnOk, true, false, length, drop};
 ghost use Rattle.picky_der_ser.specs.declared.marks.Mark.{Mark};
-ghost use Rattle.picky_der_ser.specs.KeptMarks.{root_mark};
+ghost use Rattle.picky_der_ser.specs.Marks.{root_mark};
 
 use crate::Header;
 use std::alloc::{AllocError, Global};
@@ -41,7 +41,7 @@ pub(crate) struct Marks {
 
 impl Model for Marks {
     ghost use Rattle.std.specs.Prelude.{◌≡◌, ◌≤◌, ◌<◌, ◌+◌, ◌-◌, ◌++◌, [], reverse, take, length, vec_len, vec_capacity};
-    ghost use Rattle.picky_der_ser.specs.KeptMarks.{KeptMarks, kept_marks_code};
+    ghost use Rattle.picky_der_ser.specs.Marks.{KeptMarks, kept_marks_code};
 
     ghost Value = { KeptMarks };
 
@@ -166,18 +166,14 @@ impl Marks {
         Some(self.near[self.depth])
     }
 
-    // The content of the innermost level begins there, and this is its header.
-    pub(crate) fn set_last(&mut self, start: usize, header: Header)
+    // The content of the innermost level begins there.
+    pub(crate) fn set_start(&mut self, start: usize)
         ensures marks { (m : Mark) (ms : List Mark) → self.old.marks ≡ m ∷ ms
-            → self.new.marks ≡ record m { start = start; header = header } ∷ ms }
+            → self.new.marks ≡ record m { start = start } ∷ ms }
         ensures spare { self.new.spare ≡ self.old.spare }
     {
         if let Some(mark) = self.pop() {
-            self.push(Mark {
-                start,
-                header,
-                ..mark
-            });
+            self.push(Mark { start, ..mark });
         }
     }
 }

@@ -31,7 +31,7 @@ impl<T: Serialize> SerializeMember for T {
     ghost in_front = { λ value. Trees.more (T.meaning value) };
 
     fn serialize_member<W: WriteExt>(&self, sequence: &mut Sequence<'_, W>) -> Result<()> {
-        sequence.serialize_element(self)
+        sequence.ser.write_member(self)
     }
 }
 
@@ -51,7 +51,7 @@ impl<T: Serialize> SerializeMember for Element<T> {
     ghost in_front = { λ element. Trees.more (T.meaning element.0) };
 
     fn serialize_member<W: WriteExt>(&self, sequence: &mut Sequence<'_, W>) -> Result<()> {
-        sequence.serialize_element(&self.0)
+        sequence.ser.write_member(&self.0)
     }
 }
 
@@ -84,6 +84,16 @@ pub trait SerializeMembers {
         let mut sequence = Sequence::serialize_lazy(ser, Tag::SEQUENCE);
         self.serialize_members(&mut sequence)?;
         sequence.end()
+    }
+}
+
+/// A member by reference, for a field of a struct.
+impl<T: Serialize> Serialize for &T {
+    ghost meaning = { λ value. T.meaning value.now };
+
+    #[inline(always)]
+    fn serialize<W: WriteExt>(&self, ser: &mut Serializer<W>) -> Result<usize> {
+        T::serialize(self, ser)
     }
 }
 

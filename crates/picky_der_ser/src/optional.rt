@@ -1,12 +1,23 @@
-//! Members of a sequence that may be absent.
+//! Values that may be absent.
 ghost use Rattle.std.specs.Prelude.{◌≡◌, MatchOption, IsSomeAnd};
 ghost use Rattle.std.specs.Option.{option_eq};
 ghost use Rattle.picky_der_core.specs.Equality.{IsThatOf, IsCopied};
-ghost use Rattle.picky_der_ser.specs.Meaning.{maybe_more};
+ghost use Rattle.picky_der_ser.specs.Meaning.{maybe_more, option_meaning};
 
-use crate::{Sequence, Serialize, SerializeMember};
+use crate::{Sequence, Serialize, SerializeMember, Serializer};
 use picky_der_core::Result;
 use picky_der_core::misc::WriteExt;
+
+impl<T: Serialize> Serialize for Option<T> {
+    ghost meaning = { option_meaning T.meaning };
+
+    fn serialize<W: WriteExt>(&self, ser: &mut Serializer<W>) -> Result<usize> {
+        match self {
+            Some(value) => ser.serialize_some(value),
+            None => ser.serialize_none(),
+        }
+    }
+}
 
 /// A member of a row that may be absent (ASN.1's OPTIONAL). An absent member isn't written, and the other members are written
 /// as without it.

@@ -12,7 +12,7 @@ use picky_der_core::misc::WriteExt;
 /// open when it began are dropped.
 #[derive(Drop)]
 pub struct Sequence<'a, W: WriteExt> {
-    ser: &'a mut Serializer<W>,
+    pub(crate) ser: &'a mut Serializer<W>,
     // Unless the serializer has failed, a level is open.
     ghost open: { HasOpenLevel ser.now.failed ser.now.pending } by { HasOpenLevel-prop ser.now.failed ser.now.pending },
 }
@@ -28,7 +28,7 @@ impl<'a, W: WriteExt> Sequence<'a, W> {
         ensures same_reference { borrowed_by result ≡ ser.entry.ghost_name }
         ensures opened { OpensLevel W.WriteExt.own (Header.Tagged tag) ser.old (state_of result) }
     {
-        ser.open(Header::Tagged(tag));
+        ser.levels.open(Header::Tagged(tag));
         Sequence { ser }
     }
 
@@ -63,11 +63,15 @@ impl<'a, W: WriteExt> Sequence<'a, W> {
     ///
     /// If the serializer has failed before, its earlier error is returned. `OutOfMemory` if an allocation fails; if it is the
     /// allocation for the order of a set, nothing was written. Any other error is the sink's.
-    #[inline(always)]
     pub fn end(self) -> Result<usize>
         ensures { EndsLevel W.WriteExt.own (state_of self.entry) result self.exit.0.now }
     {
         let ser: &mut Serializer<W> = self.ser;
+        if ser.failed.is_none() {
+            if let Some(count) = ser.levels.merge_short() {
+                return Ok(count);
+            }
+        }
         ser.close()
     }
 }

@@ -3,7 +3,6 @@ ghost use Rattle.std.specs.Prelude.{◌≡◌, List, [], ◌∷◌, None, Some, 
 ghost use Rattle.picky_der_core.specs.WriterFaults.{IsOnceAtMost};
 ghost use Rattle.picky_der_core.specs.Failure.{failure_of};
 ghost use Rattle.picky_der_core.specs.Tree.{Tree};
-ghost use Rattle.picky_der_ser.specs.State.{Level, root};
 ghost use Rattle.picky_der_ser.specs.Calls.{Writes, RefusesWrite};
 
 mod application;
@@ -55,10 +54,10 @@ pub trait Serialize {
 /// your own. Else nothing was written.
 #[derive(Drop)]
 pub struct Serializer<W: WriteExt> {
-    sink: W,
-    failed: Option<Failure>,
-    levels: Levels,
-    alloc: Global,
+    pub(crate) sink: W,
+    pub(crate) failed: Option<Failure>,
+    pub(crate) levels: Levels,
+    pub(crate) alloc: Global,
 }
 
 impl<W: WriteExt> Model for Serializer<W> {
@@ -93,37 +92,6 @@ impl<'a> Serializer<SliceSink<'a>> {
     {
         Serializer::new_to_writer(alloc, SliceSink::new(buf))
     }
-
-    // Writes into a level that is around all, in this vector, which has no bytes. The slice isn't touched.
-    #[inline(always)]
-    pub(crate) fn new_in_root(
-        alloc: Global,
-        scratch: Vec<u8>,
-        untouched: &'a mut [u8],
-    ) -> Serializer<SliceSink<'a>>
-        requires { scratch.items ≡ [] }
-        ensures around { result.around ≡ [] }
-        ensures failed { result.failed ≡ None }
-        ensures inside { result.inside ≡ root ∷ [] }
-    {
-        let sink = SliceSink::new(untouched);
-        Serializer::with_levels(alloc, sink, Levels::new_in_root(alloc, scratch))
-    }
-
-    // Returns what is in the level of which a member was being written.
-    #[inline(always)]
-    pub(crate) fn into_content(self) -> Vec<u8>
-        ensures { (l : Level) (ls : List Level) → self.entry.inside ≡ l ∷ ls
-            → result.items ≡ l.content }
-    {
-        let Serializer {
-            sink: _,
-            failed: _,
-            levels,
-            alloc: _,
-        } = self;
-        levels.into_content()
-    }
 }
 
 impl<'a> Serializer<BufSink<'a>> {
@@ -153,22 +121,10 @@ impl<W: WriteExt> Serializer<W> {
         ensures outside { result.inside ≡ [] }
         ensures pending { result.pending ≡ None }
     {
-        Serializer::with_levels(alloc, writer, Levels::new(alloc))
-    }
-
-    // Inlined, so that the levels aren't copied.
-    #[inline(always)]
-    fn with_levels(alloc: Global, sink: W, levels: Levels) -> Serializer<W>
-        ensures same { result.sink ≡ sink }
-        ensures around { result.around ≡ levels.around }
-        ensures failed { result.failed ≡ None }
-        ensures inside { result.inside ≡ levels.inside }
-        ensures pending { result.pending ≡ levels.pending }
-    {
         Serializer {
-            sink,
+            sink: writer,
             failed: None,
-            levels,
+            levels: Levels::new(alloc),
             alloc,
         }
     }

@@ -18,7 +18,7 @@ pub(crate) struct Wrappers {
 impl Model for Wrappers {
     ghost use Rattle.std.specs.Prelude.{◌≤◌, length, take, drop};
     ghost use Rattle.picky_der_ser.specs.Headers.{CanAllBeOpen};
-    ghost use Rattle.picky_der_ser.specs.Wrappers.{KeptWrappers, kept_wrappers_code};
+    ghost use Rattle.picky_der_ser.specs.Marks.{KeptWrappers, kept_wrappers_code};
 
     ghost Value = { KeptWrappers };
 

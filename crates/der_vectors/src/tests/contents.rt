@@ -6,10 +6,10 @@ use picky_asn1_der::{Result as DerResult, Serializer, de, ser};
 
 // Writes four contents one after another, and returns the length of each.
 fn write_contents<W: WriteExt>(ser: &mut Serializer<W>) -> DerResult<[usize; 4]> {
-    let boolean = ser::Boolean::serialize(false, ser)?;
-    let number = ser::UnsignedInteger::serialize(0x0Ausize, ser)?;
-    let null = ser::Null::serialize(ser)?;
-    let text = ser::Utf8String::serialize("z", ser)?;
+    let boolean = ser.serialize_bool(false)?;
+    let number = ser.serialize_u128(0x0A)?;
+    let null = ser.serialize_unit()?;
+    let text = ser.serialize_str("z")?;
     Ok([boolean, number, null, text])
 }
 

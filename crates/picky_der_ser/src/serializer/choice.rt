@@ -11,7 +11,7 @@ use picky_der_core::misc::WriteExt;
 
 impl<W: WriteExt> Serializer<W> {
     /// Writes the value of an alternative of a choice, as the value itself is written. Each error is the value's.
-    #[tactic(auto, using(crate::proofs::Choices::choice))]
+    #[tactic(auto, using(crate::proofs::Alike::choice))]
     pub fn serialize_choice<T: Serialize>(&mut self, value: &T) -> Result<usize>
         ensures wrote { IfOk result (λ n. Writes W.WriteExt.own
             (Tree.choice (T.meaning value.now)) self.old n self.new) }

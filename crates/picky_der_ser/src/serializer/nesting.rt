@@ -3,8 +3,7 @@ ghost use Rattle.std.specs.Prelude.{◌≡◌, ◌≢◌, List, [], ◌∷◌, N
 ghost use Rattle.std.specs.Prelude.{IfErr, OnOk};
 ghost use Rattle.picky_der_core.specs.OpenWrappers.{under};
 ghost use Rattle.picky_der_core.specs.WriterFaults.{IsOnceAtMost};
-ghost use Rattle.picky_der_ser.specs.Heading.{tree_of};
-ghost use Rattle.picky_der_ser.specs.Headers.{HasNumber};
+ghost use Rattle.picky_der_ser.specs.Headers.{tree_of, HasNumber};
 ghost use Rattle.picky_der_ser.specs.State.{Level, at_next_member};
 ghost use Rattle.picky_der_ser.specs.Calls.{UntouchedUnlessFailed, SinkWrites, SinkRefuses, RefusesToEnter, OpensLevel};
 ghost use Rattle.picky_der_ser.specs.Calls.{AddsMember, RefusesToAdd, WritesContent, EndsLevel};
@@ -52,7 +51,7 @@ impl<W: WriteExt> Serializer<W> {
     }
 
     // Writes the level that was opened last to the sink.
-    fn end_outside(&mut self) -> Result<usize>
+    fn put_level(&mut self) -> Result<usize>
         requires opened { IsSome self.old.pending }
         requires outside { self.old.inside ≡ [] }
         ensures kept { (self.new.around ≡ self.old.around) × (self.new.failed ≡ self.old.failed) }
@@ -69,11 +68,6 @@ impl<W: WriteExt> Serializer<W> {
         ensures no_fault { OnOk result (W.faults self.new.sink ≡ W.faults self.old.sink) }
         ensures goes_on { W.later self.old.sink self.new.sink }
     {
-        if self.levels.seal() {
-            let outcome = put_headed(&mut self.sink, &[], self.levels.content());
-            self.levels.give_up();
-            return outcome;
-        }
         let held = self.levels.content().len();
         let Ok(()) = self.levels.add_headers(held) else {
             return Err(Asn1DerError::OutOfMemory);
@@ -84,53 +78,11 @@ impl<W: WriteExt> Serializer<W> {
         outcome
     }
 
-    // Ends the level that was opened last, while a member of another is being written.
-    #[inline(always)]
-    fn close_inside(&mut self) -> Result<usize>
-        requires had_not_failed { self.old.failed ≡ None }
-        requires opened { IsSome self.old.pending }
-        requires inside { self.old.inside ≢ [] }
-        ensures { IfSome self.old.pending (λ l. WritesContent W.WriteExt.own l.header l.content
-            (record self.old { around = l.around }) result self.new) }
-    {
-        match self.levels.merge() {
-            Ok(count) => Ok(count),
-            Err(_) => Err(self.fail(Asn1DerError::OutOfMemory)),
-        }
-    }
-
-    // Ends the level that was opened last, outside others.
-    #[cold]
-    #[inline(never)]
-    fn close_outside(&mut self) -> Result<usize>
-        requires had_not_failed { self.old.failed ≡ None }
-        requires opened { IsSome self.old.pending }
-        requires outside { self.old.inside ≡ [] }
-        ensures { IfSome self.old.pending (λ l. WritesContent W.WriteExt.own l.header l.content
-            (record self.old { around = l.around }) result self.new) }
-    {
-        let outcome = self.end_outside();
-        self.settle(outcome)
-    }
-
     // Writes the level that was opened last, in its wrappers, with the members of a set in order. If an allocation for this
     // order fails, nothing of the set is written.
-    pub(crate) fn close(&mut self) -> Result<usize>
-        requires { IfNone self.old.failed (IsSome self.old.pending) }
-        ensures { EndsLevel W.WriteExt.own self.old result self.new }
-    {
-        if self.failed.is_none() {
-            if let Some(count) = self.levels.merge_short() {
-                return Ok(count);
-            }
-        }
-        self.close_slowly()
-    }
-
-    // The same for all cases.
     #[cold]
     #[inline(never)]
-    fn close_slowly(&mut self) -> Result<usize>
+    pub(crate) fn close(&mut self) -> Result<usize>
         requires { IfNone self.old.failed (IsSome self.old.pending) }
         ensures { EndsLevel W.WriteExt.own self.old result self.new }
     {
@@ -140,13 +92,19 @@ impl<W: WriteExt> Serializer<W> {
         let Ok(()) = self.levels.arrange(self.alloc) else {
             return Err(self.fail(Asn1DerError::OutOfMemory));
         };
-        if self.levels.is_inside() {
-            return self.close_inside();
+        if !self.levels.is_inside() {
+            let outcome = self.put_level();
+            return self.settle(outcome);
         }
-        self.close_outside()
+        match self.levels.merge() {
+            Ok(count) => Ok(count),
+            Err(_) => Err(self.fail(Asn1DerError::OutOfMemory)),
+        }
     }
 
     // From here on a member of the level that was opened last is written.
+    #[cold]
+    #[inline(never)]
     fn enter(&mut self) -> Result<()>
         requires { IfNone self.old.failed (IsSome self.old.pending) }
         ensures ok { OnOk result (IfSome self.old.pending
@@ -161,21 +119,11 @@ impl<W: WriteExt> Serializer<W> {
         if let Some(error) = self.earlier() {
             return Err(error);
         }
-        if !self.levels.enter_again() {
-            let Ok(()) = self.levels.enter() else {
-                return Err(self.fail(Asn1DerError::OutOfMemory));
-            };
-        }
+        let Ok(()) = self.levels.enter() else {
+            return Err(self.fail(Asn1DerError::OutOfMemory));
+        };
         self.levels.close_wrappers();
         Ok(())
-    }
-
-    // The member has been written.
-    fn leave(&mut self)
-        ensures { (l : Level) (ls : List Level) → self.old.inside ≡ l ∷ ls
-            → self.new ≡ record self.old { inside = ls; pending = Some l } }
-    {
-        self.levels.leave();
     }
 
     // Writes the value as a member of the level that was opened last.
@@ -187,9 +135,11 @@ impl<W: WriteExt> Serializer<W> {
         ensures err { IfErr result (λ e. RefusesToAdd W.WriteExt.own
             (T.meaning value.now) self.old e self.new) }
     {
-        self.enter()?;
+        if self.failed.is_some() || !self.levels.enter_short() {
+            self.enter()?;
+        }
         value.serialize(self)?;
-        self.leave();
+        self.levels.leave();
         Ok(())
     }
 }

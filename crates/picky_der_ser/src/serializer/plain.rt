@@ -1,19 +1,26 @@
 //! Plain values, written.
 ghost use Rattle.std.specs.Prelude.{◌≡◌, ◌≢◌, [], encode_utf8};
-ghost use Rattle.picky_der_core.specs.Primitive.{Primitive};
+ghost use Rattle.picky_der_core.specs.Primitive.{boolean_content, Primitive};
 ghost use Rattle.picky_der_core.specs.Tag.{number_of, IsTagNumber};
 ghost use Rattle.picky_der_core.specs.Integer.{integer_tree, int_tree};
-ghost use Rattle.picky_der_ser.specs.Heading.{tree_of};
-ghost use Rattle.picky_der_ser.specs.Headers.{HasNumber};
+ghost use Rattle.picky_der_ser.specs.Headers.{tree_of, HasNumber};
 ghost use Rattle.picky_der_ser.specs.Calls.{WritesPlain, WritesPrimitive};
 
 use super::Serializer;
+use crate::Header;
+use crate::integer::UnsignedContent;
 use crate::sink::put_element;
-use crate::{Boolean, Header, Null, UnsignedInteger, Utf8String};
 use picky_der_core::asn1::Tag;
 use picky_der_core::integer::IntContent;
 use picky_der_core::misc::WriteExt;
 use picky_der_core::{Asn1DerError, Int, Result};
+
+// The content of a bool.
+fn boolean_content(value: bool) -> [u8; 1]
+    ensures { result ≡ boolean_content value }
+{
+    if value { [0xFF] } else { [0x00] }
+}
 
 impl<W: WriteExt> Serializer<W> {
     // Writes a plain element in the open wrappers. Mostly it is a short one in a level and in no wrapper.
@@ -22,10 +29,8 @@ impl<W: WriteExt> Serializer<W> {
         requires { IsTagNumber (number_of tag) }
         ensures { WritesPrimitive W.WriteExt.own (Primitive.bytes tag content.now) self.old result self.new }
     {
-        if self.failed.is_none() && self.levels.is_bare() {
-            if self.levels.append_short(tag, content) {
-                return Ok(2 + content.len());
-            }
+        if self.failed.is_none() && self.levels.append_short(tag, content) {
+            return Ok(2 + content.len());
         }
         self.write_any_plain(tag, content)
     }
@@ -91,13 +96,22 @@ impl<W: WriteExt> Serializer<W> {
         self.settle(outcome)
     }
 
+    // Writes an unsigned number of any length.
+    #[inline(never)]
+    fn write_unsigned(&mut self, number: u128) -> Result<usize>
+        ensures { WritesPrimitive W.WriteExt.own (Primitive.unsigned number) self.old result self.new }
+    {
+        let digits = UnsignedContent::of(number);
+        self.write_plain(Tag::INTEGER, digits.as_slice())
+    }
+
     /// Writes a BOOLEAN (X.690, 8.2 and 11.1). Outside wrappers, sequences and application tags nothing is allocated, and each
     /// error is the sink's. The same holds for the other calls of plain values.
     #[inline(always)]
     pub fn serialize_bool(&mut self, value: bool) -> Result<usize>
         ensures { WritesPrimitive W.WriteExt.own (Primitive.boolean value) self.old result self.new }
     {
-        Boolean::serialize(value, self)
+        self.write_plain(Tag::BOOLEAN, &boolean_content(value))
     }
 
     /// Writes an unsigned number of 8 bits (X.690, 8.3).
@@ -105,7 +119,7 @@ impl<W: WriteExt> Serializer<W> {
     pub fn serialize_u8(&mut self, value: u8) -> Result<usize>
         ensures { WritesPrimitive W.WriteExt.own (Primitive.unsigned value) self.old result self.new }
     {
-        UnsignedInteger::serialize(value, self)
+        self.serialize_u128(u128::from(value))
     }
 
     /// Writes a number of 16 bits.
@@ -113,7 +127,7 @@ impl<W: WriteExt> Serializer<W> {
     pub fn serialize_u16(&mut self, value: u16) -> Result<usize>
         ensures { WritesPrimitive W.WriteExt.own (Primitive.unsigned value) self.old result self.new }
     {
-        UnsignedInteger::serialize(value, self)
+        self.serialize_u128(u128::from(value))
     }
 
     /// Writes a number of 32 bits.
@@ -121,7 +135,7 @@ impl<W: WriteExt> Serializer<W> {
     pub fn serialize_u32(&mut self, value: u32) -> Result<usize>
         ensures { WritesPrimitive W.WriteExt.own (Primitive.unsigned value) self.old result self.new }
     {
-        UnsignedInteger::serialize(value, self)
+        self.serialize_u128(u128::from(value))
     }
 
     /// Writes a number of 64 bits.
@@ -129,7 +143,7 @@ impl<W: WriteExt> Serializer<W> {
     pub fn serialize_u64(&mut self, value: u64) -> Result<usize>
         ensures { WritesPrimitive W.WriteExt.own (Primitive.unsigned value) self.old result self.new }
     {
-        UnsignedInteger::serialize(value, self)
+        self.serialize_u128(u128::from(value))
     }
 
     /// Writes a number of 128 bits.
@@ -137,7 +151,11 @@ impl<W: WriteExt> Serializer<W> {
     pub fn serialize_u128(&mut self, value: u128) -> Result<usize>
         ensures { WritesPrimitive W.WriteExt.own (Primitive.unsigned value) self.old result self.new }
     {
-        UnsignedInteger::serialize(value, self)
+        // Mostly the content is one byte.
+        if value < 0x80 {
+            return self.write_plain(Tag::INTEGER, &[value as u8]);
+        }
+        self.write_unsigned(value)
     }
 
     /// Writes a number of an integer type, signed or not, as an INTEGER (X.690, 8.3).
@@ -163,14 +181,14 @@ impl<W: WriteExt> Serializer<W> {
     pub fn serialize_unit(&mut self) -> Result<usize>
         ensures { WritesPrimitive W.WriteExt.own Primitive.null self.old result self.new }
     {
-        Null::serialize(self)
+        self.write_plain(Tag::NULL, &[])
     }
 
     /// Writes a null for a struct without fields. The name isn't written.
     pub fn serialize_unit_struct(&mut self, _name: &'static str) -> Result<usize>
         ensures { WritesPrimitive W.WriteExt.own Primitive.null self.old result self.new }
     {
-        Null::serialize(self)
+        self.serialize_unit()
     }
 
     /// Writes a character, as the text of only this character (X.690, 8.23).
@@ -179,14 +197,14 @@ impl<W: WriteExt> Serializer<W> {
             (Primitive.text (encode_utf8 value)) self.old result self.new }
     {
         let mut room = [0; 4];
-        Utf8String::serialize(value.encode_utf8(&mut room), self)
+        self.serialize_str(value.encode_utf8(&mut room))
     }
 
     /// Writes a text in UTF-8 (X.690, 8.23).
     pub fn serialize_str(&mut self, value: &str) -> Result<usize>
         ensures { WritesPrimitive W.WriteExt.own (Primitive.text value.now) self.old result self.new }
     {
-        Utf8String::serialize(value, self)
+        self.write_plain(Tag::UTF8_STRING, value.as_bytes())
     }
 
     /// Writes a content under this tag, unchecked.

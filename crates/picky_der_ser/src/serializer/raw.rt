@@ -45,10 +45,8 @@ impl<W: WriteExt> Serializer<W> {
     pub fn serialize_raw(&mut self, bytes: &[u8]) -> Result<usize>
         ensures { WritesPlain W.WriteExt.own (Tree.raw bytes.now) self.old result self.new }
     {
-        if self.failed.is_none() && self.levels.is_bare() {
-            if self.levels.append_few(bytes) {
-                return Ok(bytes.len());
-            }
+        if self.failed.is_none() && self.levels.append_few(bytes) {
+            return Ok(bytes.len());
         }
         self.write_any_raw(bytes)
     }

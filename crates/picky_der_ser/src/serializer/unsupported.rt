@@ -1,4 +1,4 @@
-//! What serde can write and DER as it is here can't: numbers with a sign, maps, and the variants of its enums.
+//! The calls of the Rust crate that only fail with `UnsupportedType`: numbers with a sign, maps, and the variants of enums.
 ghost use Rattle.picky_der_ser.specs.Calls.{IsUnsupported};
 
 use super::Serializer;
@@ -17,49 +17,50 @@ impl<W: WriteExt> Serializer<W> {
         }
     }
 
-    /// Returns `UnsupportedType`, as do all the calls below. Nothing is written or allocated.
+    /// Only fails, with `UnsupportedType`: `(-1i8).serialize(..)` writes such a number. As in all calls below, nothing is written
+    /// or allocated, and a serializer that has failed returns its earlier error.
     pub fn serialize_i8(&mut self, _value: i8) -> Result<usize>
         ensures { IsUnsupported self.old result self.new }
     {
         self.refuse_type()
     }
 
-    /// Returns `UnsupportedType`.
+    /// Only fails, with `UnsupportedType`: `(-1i16).serialize(..)` writes such a number.
     pub fn serialize_i16(&mut self, _value: i16) -> Result<usize>
         ensures { IsUnsupported self.old result self.new }
     {
         self.refuse_type()
     }
 
-    /// Returns `UnsupportedType`.
+    /// Only fails, with `UnsupportedType`: `(-1i32).serialize(..)` writes such a number.
     pub fn serialize_i32(&mut self, _value: i32) -> Result<usize>
         ensures { IsUnsupported self.old result self.new }
     {
         self.refuse_type()
     }
 
-    /// Returns `UnsupportedType`.
+    /// Only fails, with `UnsupportedType`: `(-1i64).serialize(..)` writes such a number.
     pub fn serialize_i64(&mut self, _value: i64) -> Result<usize>
         ensures { IsUnsupported self.old result self.new }
     {
         self.refuse_type()
     }
 
-    /// Returns `UnsupportedType`.
+    /// Only fails, with `UnsupportedType`: `(-1i128).serialize(..)` writes such a number.
     pub fn serialize_i128(&mut self, _value: i128) -> Result<usize>
         ensures { IsUnsupported self.old result self.new }
     {
         self.refuse_type()
     }
 
-    /// Returns `UnsupportedType`. It begins no writer of maps.
+    /// Only fails, with `UnsupportedType`: a list of pairs, such as a `Vec<(K, V)>`, is written by its `serialize`.
     pub fn serialize_map(&mut self, _len: Option<usize>) -> Result<usize>
         ensures { IsUnsupported self.old result self.new }
     {
         self.refuse_type()
     }
 
-    /// Returns `UnsupportedType`.
+    /// Only fails, with `UnsupportedType`: a variant is written by `serialize_choice` of its value, here of `()`.
     pub fn serialize_unit_variant(
         &mut self,
         _name: &'static str,
@@ -71,7 +72,7 @@ impl<W: WriteExt> Serializer<W> {
         self.refuse_type()
     }
 
-    /// Returns `UnsupportedType`. The value isn't used.
+    /// Only fails, with `UnsupportedType`: a variant is written by `serialize_choice` of its value.
     pub fn serialize_newtype_variant<T: Serialize>(
         &mut self,
         _name: &'static str,
@@ -84,7 +85,7 @@ impl<W: WriteExt> Serializer<W> {
         self.refuse_type()
     }
 
-    /// Returns `UnsupportedType`. It begins no writer of variants.
+    /// Only fails, with `UnsupportedType`: a variant is written by `serialize_choice` of its value, here of a tuple.
     pub fn serialize_tuple_variant(
         &mut self,
         _name: &'static str,
@@ -97,7 +98,7 @@ impl<W: WriteExt> Serializer<W> {
         self.refuse_type()
     }
 
-    /// Returns `UnsupportedType`. It begins no writer of variants.
+    /// Only fails, with `UnsupportedType`: a variant is written by `serialize_choice` of its value, here of a struct.
     pub fn serialize_struct_variant(
         &mut self,
         _name: &'static str,

@@ -1,7 +1,6 @@
 use Rattle.std.proofs.Common.{◌≡◌, ◌≤◌, ◌+◌, ◌-◌, ◌++◌, length, take, drop, sym, ◌∙◌, ap, arith, length-append}
 use Rattle.std.proofs.lemmas.List.{length-drop}
-use Rattle.picky_der_ser.specs.Headers.{headers}
-use Rattle.picky_der_ser.specs.Overwrite.{with_overwrite}
+use Rattle.picky_der_ser.specs.Headers.{headers, with_overwrite}
 use Rattle.picky_der_ser.proofs.HeaderBytes.{der-headers}
 use Rattle.picky_der_ser.proofs.Brought.{in_front_of_content}
 use Rattle.picky_der_ser.proofs.enclose.enclose_nested.Goals as goal

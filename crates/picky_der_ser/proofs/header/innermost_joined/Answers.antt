@@ -1,6 +1,6 @@
 use Rattle.std.proofs.Common.{sym, ◌∙◌, ap, subst}
 use Rattle.picky_der_ser.specs.Headers.{innermost_joint_header, CanAllBeOpen}
-use Rattle.picky_der_ser.proofs.HeaderLoop.{last_number, innermost_joint_header-append}
+use Rattle.picky_der_ser.proofs.HeaderBytes.{last_number, innermost_joint_header-append}
 use Rattle.picky_der_ser.proofs.header.innermost_joined.Goals as goal
 
 pub joined-requires : goal.joined-requires

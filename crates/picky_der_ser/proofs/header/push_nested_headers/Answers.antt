@@ -2,7 +2,7 @@ use Rattle.std.proofs.Common.{◌≡◌, [], ◌++◌, take, drop, reverse, leng
 use mir.Val.{bool_byte}
 use Rattle.std.specs.Option.{is_some, unwrap_or}
 use Rattle.picky_der_ser.specs.Headers.{HasNumber, CanAllBeOpen, innermost_joint_header, own_header}
-use Rattle.picky_der_ser.proofs.HeaderLoop.{nil_of, last_number, outer_numbers, innermost_number, kept_numbers, kept_first, pushed_first, pushed_more, pushed_count, pushed_all}
+use Rattle.picky_der_ser.proofs.HeaderBytes.{nil_of, last_number, outer_numbers, innermost_number, kept_numbers, kept_first, pushed_first, pushed_more, pushed_count, pushed_all}
 use Rattle.picky_der_ser.proofs.header.push_nested_headers.Goals as goal
 
 pub push_own_header-requires : goal.push_own_header-requires

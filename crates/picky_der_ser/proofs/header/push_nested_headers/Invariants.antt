@@ -1,7 +1,7 @@
 use Rattle.std.proofs.Common.{◌≡◌, length}
 use Rattle.std.specs.Option.{unwrap_or}
 use Rattle.picky_der_ser.specs.Headers.{own_header, innermost_joint_header, headed_wrappers, CanAllBeOpen}
-use Rattle.picky_der_ser.proofs.HeaderLoop.{PushesHeaders}
+use Rattle.picky_der_ser.proofs.HeaderBytes.{PushesHeaders}
 use Rattle.picky_der_ser.proofs.header.push_nested_headers.Given as goal
 
 -- the wrappers that are left, and the headers of the others

@@ -1,7 +1,7 @@
 use Rattle.std.proofs.Common.{◌≡◌, [], ◌∷◌, sym, ap, ◌∙◌, arith}
 use Rattle.std.proofs.lemmas.Bool.Decides.{nat_tests}
 use Rattle.picky_der_core.specs.ElementLaws.{length_octets-short}
-use Rattle.picky_der_ser.proofs.HeaderLoop.{nil_of}
+use Rattle.picky_der_ser.proofs.HeaderBytes.{nil_of}
 use Rattle.picky_der_ser.proofs.header.short_identifier.Goals as goal
 
 pub returns-in-Tagged-clause-header : goal.returns-in-Tagged-clause-header

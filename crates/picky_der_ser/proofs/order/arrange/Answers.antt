@@ -4,7 +4,7 @@ use Rattle.std.proofs.lemmas.List.{length-drop}
 use Rattle.std.proofs.lemmas.Slice.{between_to_end}
 use Rattle.picky_der_core.specs.Order.{in_ascending_order}
 use Rattle.picky_der_ser.specs.Seams.{cut_at_seams}
-use Rattle.picky_der_ser.proofs.Seams.{length-in_order}
+use Rattle.picky_der_ser.proofs.ListBytes.{length-in_order}
 use Rattle.picky_der_ser.proofs.order.arrange.Goals as goal
 
 pub copy_from_slice-requires : goal.copy_from_slice-requires

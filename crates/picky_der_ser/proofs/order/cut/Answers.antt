@@ -1,7 +1,7 @@
 use Rattle.std.proofs.Common.{◌≤◌, ◌+◌, ◌∷◌, length, drop, slice_index_or, subst, arith}
 use Rattle.std.proofs.lemmas.List.{drop_more}
 use Rattle.picky_der_ser.specs.Seams.{AreSeams, last_seam}
-use Rattle.picky_der_ser.proofs.Seams.{last_seam-least}
+use Rattle.picky_der_ser.proofs.ListBytes.{last_seam-least}
 use Rattle.picky_der_ser.proofs.order.cut.Goals as goal
 
 pub slice_bounds-push-end : goal.slice_bounds-push-end

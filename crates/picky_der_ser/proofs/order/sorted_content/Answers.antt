@@ -1,4 +1,4 @@
-use Rattle.picky_der_ser.proofs.Seams.{joined-sorted}
+use Rattle.picky_der_ser.proofs.ListBytes.{joined-sorted}
 use Rattle.picky_der_ser.proofs.order.sorted_content.Goals as goal
 
 pub returns : goal.returns

@@ -2,8 +2,7 @@ use Rattle.std.proofs.Common.{rules, map, refl, subst, arith}
 use Rattle.std.proofs.lemmas.Result.{err_from_is_err_and}
 use Rattle.picky_der_core.specs.Tree.{trees}
 use Rattle.picky_der_ser.specs.Sequences.{list_kind}
-use Rattle.picky_der_ser.proofs.MemberWrites.{Awaits, list_opened_by, list_gained, list_refused, list_wrote, list_failed, list_untouched}
-use Rattle.picky_der_ser.proofs.Items.{item_at, items_end}
+use Rattle.picky_der_ser.proofs.MemberWrites.{Awaits, list_opened_by, list_gained, list_refused, list_wrote, list_failed, list_untouched, item_at, items_end}
 use Rattle.picky_der_ser.proofs.impls.lists.write_items.Goals as goal
 
 pub loop-item-init : goal.loop-item-init
@@ -38,29 +37,17 @@ loop-item-preserved g c =
       awaits = list_gained g.W.WriteExt (list_kind c.args.tag) _ all _ _ _ _ c.in_ok-serialize_element.ensures.added a;
     }
 
-pub returns-clause-wrote : goal.returns-clause-wrote
-returns-clause-wrote g c =
+pub returns : goal.returns
+returns g c =
     let xs = c.args.items.now in
     let m = g.T.Serialize.meaning in
     let all = trees (map m xs) in
     let past = items_end m xs c.loop-item.item-index (omega (arith, c.loop-item-test.false)) in
     let a = subst (λ us. Awaits (list_kind c.args.tag) us all c.args.ser.now c.loop-item.seq.ser.now) past c.loop-item.invariant.awaits in
-    grind (arith, list_wrote, a)
-
-pub returns-clause-failed : goal.returns-clause-failed
-returns-clause-failed g c =
-    let xs = c.args.items.now in
-    let m = g.T.Serialize.meaning in
-    let all = trees (map m xs) in
-    let past = items_end m xs c.loop-item.item-index (omega (arith, c.loop-item-test.false)) in
-    let a = subst (λ us. Awaits (list_kind c.args.tag) us all c.args.ser.now c.loop-item.seq.ser.now) past c.loop-item.invariant.awaits in
-    grind (arith, list_failed, a)
-
-pub returns-clause-untouched : goal.returns-clause-untouched
-returns-clause-untouched g c =
-    let xs = c.args.items.now in
-    let m = g.T.Serialize.meaning in
-    let all = trees (map m xs) in
-    let past = items_end m xs c.loop-item.item-index (omega (arith, c.loop-item-test.false)) in
-    let a = subst (λ us. Awaits (list_kind c.args.tag) us all c.args.ser.now c.loop-item.seq.ser.now) past c.loop-item.invariant.awaits in
-    grind (arith, list_untouched, a)
+    record {
+      wrote = grind (arith, list_wrote, a);
+      failed = grind (arith, list_failed, a);
+      untouched = grind (arith, list_untouched, a);
+      counted = grind (arith, a);
+      goes_on = grind (arith, a);
+    }

@@ -1,7 +1,7 @@
 use Rattle.std.proofs.Common.{◌≡◌, ◌∷◌, ◌++◌, vec_len, None, sym, ap, ap₂, ◌∙◌, arith}
 use Rattle.picky_der_core.specs.OpenWrappers.{under}
 use Rattle.picky_der_core.specs.Encoding.{der}
-use Rattle.picky_der_ser.specs.Heading.{tree_of}
+use Rattle.picky_der_ser.specs.Headers.{tree_of}
 use Rattle.picky_der_ser.specs.State.{Stack}
 use Rattle.picky_der_ser.specs.Marks.{levels_of, inside_of, AreMarks}
 use Rattle.picky_der_ser.proofs.LevelMarks.{marks-more, rooms-of, stack_at, levels-grown, not_pending, room-kept}

@@ -1,7 +1,7 @@
 use Rattle.std.proofs.Common.{◌≤◌, ◌++◌, length, take, drop, ap, ◌∙◌, arith}
 use Rattle.picky_der_core.specs.OpenWrappers.{under}
 use Rattle.picky_der_core.specs.Encoding.{der}
-use Rattle.picky_der_ser.specs.Heading.{tree_of}
+use Rattle.picky_der_ser.specs.Headers.{tree_of}
 use Rattle.picky_der_ser.specs.State.{Stack}
 use Rattle.picky_der_ser.proofs.LevelMarks.{marks-taken, stack-enclosed}
 use Rattle.picky_der_ser.proofs.levels.Levels.merge.Goals as goal

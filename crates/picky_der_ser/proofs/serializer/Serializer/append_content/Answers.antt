@@ -1,11 +1,10 @@
 use Rattle.std.proofs.Common.{◌<◌, ◌^◌, length, ap, ◌∙◌, arith, refl}
 use Rattle.picky_der_core.specs.OpenWrappers.{under}
 use Rattle.picky_der_core.specs.Encoding.{der}
-use Rattle.picky_der_ser.specs.Heading.{tree_of}
+use Rattle.picky_der_ser.specs.Headers.{tree_of}
 use Rattle.picky_der_ser.specs.State.{Stack}
-use Rattle.picky_der_ser.proofs.PlainWrites.{writable-content}
-use Rattle.picky_der_ser.proofs.LevelWrites.{writable_counted}
-use Rattle.picky_der_ser.proofs.StateWrites.{plain_inside, plain_refused, writes_inside, fails_memory}
+use Rattle.picky_der_ser.proofs.Alike.{writable-content}
+use Rattle.picky_der_ser.proofs.StateWrites.{writable_counted, plain_inside, plain_refused, writes_inside, fails_memory}
 use Rattle.picky_der_ser.proofs.serializer.Serializer.append_content.Goals as goal
 
 pub returns-in-Ok : goal.returns-in-Ok

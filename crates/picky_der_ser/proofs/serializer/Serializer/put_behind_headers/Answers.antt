@@ -1,5 +1,5 @@
 use Rattle.std.proofs.Common.{◌<◌, ◌+◌, ◌^◌, length, refl, arith}
-use Rattle.picky_der_ser.proofs.LevelWrites.{encoding_behind, with_content, wrote_level, refused_level}
+use Rattle.picky_der_ser.proofs.StateWrites.{encoding_behind, with_content, wrote_level, refused_level}
 use Rattle.picky_der_ser.proofs.serializer.Serializer.put_behind_headers.Goals as goal
 
 pub returns-clause-wrote : goal.returns-clause-wrote

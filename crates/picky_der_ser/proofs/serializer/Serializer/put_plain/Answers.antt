@@ -4,7 +4,7 @@ use Rattle.picky_der_core.specs.Tree.{Tree}
 use Rattle.picky_der_core.specs.WriterFaults.{once_at_most}
 use Rattle.picky_der_core.specs.EncodingLaws.{der-primitive}
 use Rattle.picky_der_ser.specs.State.{Stack}
-use Rattle.picky_der_ser.proofs.PlainWrites.{writable-bytes}
+use Rattle.picky_der_ser.proofs.Alike.{writable-bytes}
 use Rattle.picky_der_ser.proofs.StateWrites.{plain_outside, bare_wrote, bare_refused, bare_fault, untouched_by_fault, on_ok}
 use Rattle.picky_der_ser.proofs.serializer.Serializer.put_plain.Goals as goal
 

@@ -4,7 +4,7 @@ use Rattle.picky_der_core.specs.EncodingLaws.{der-raw}
 use Rattle.picky_der_ser.specs.declared.header.Header.TheVariants.{Raw}
 use Rattle.picky_der_core.specs.WriterFaults.{once_at_most}
 use Rattle.picky_der_ser.specs.State.{Stack}
-use Rattle.picky_der_ser.proofs.PlainWrites.{writable-content}
+use Rattle.picky_der_ser.proofs.Alike.{writable-content}
 use Rattle.picky_der_ser.proofs.StateWrites.{plain_outside, bare_wrote, bare_refused, bare_fault, untouched_by_fault, on_ok}
 use Rattle.picky_der_ser.proofs.serializer.Serializer.put_raw.Goals as goal
 

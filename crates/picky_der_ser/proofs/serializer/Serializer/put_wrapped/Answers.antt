@@ -1,6 +1,6 @@
 use Rattle.std.proofs.Common.{◌≡◌, [], ap, ◌∙◌, arith, subst, OnOk}
-use Rattle.picky_der_ser.specs.Heading.{tree_of}
-use Rattle.picky_der_ser.proofs.PlainWrites.{writable-content}
+use Rattle.picky_der_ser.specs.Headers.{tree_of}
+use Rattle.picky_der_ser.proofs.Alike.{writable-content}
 use Rattle.picky_der_ser.proofs.StateWrites.{plain_outside, wrapped_fault}
 use Rattle.picky_der_ser.proofs.serializer.Serializer.put_wrapped.Goals as goal
 

@@ -1,4 +1,4 @@
-use Rattle.picky_der_ser.proofs.AbsentWrites.{absent-ok}
+use Rattle.picky_der_ser.proofs.Alike.{absent-ok}
 use Rattle.picky_der_ser.proofs.serializer.Serializer.serialize_none.Goals as goal
 
 pub returns : goal.returns

@@ -1,6 +1,6 @@
 use Rattle.std.proofs.Common.{◌<◌, arith}
 use Rattle.picky_der_core.specs.Tag.{number_of}
-use Rattle.picky_der_ser.proofs.PlainWrites.{plain_past}
+use Rattle.picky_der_ser.proofs.Alike.{plain_past}
 use Rattle.picky_der_ser.proofs.serializer.Serializer.serialize_tagged_bytes.Goals as goal
 
 pub returns-then-number-gt-MAX_NUMBER : goal.returns-then-number-gt-MAX_NUMBER

@@ -1,6 +1,6 @@
 use Rattle.std.proofs.Common.{◌≡◌, ◌+◌, ◌-◌, length, take, drop, sym, ap, ◌∙◌, arith}
 use Rattle.std.proofs.lemmas.List.{drop-take, length-take-le}
-use Rattle.picky_der_ser.specs.Wrappers.{KeptWrappers}
+use Rattle.picky_der_ser.specs.Marks.{KeptWrappers}
 use Rattle.picky_der_ser.proofs.wrapper_stack.Wrappers.around_from.Goals as goal
 
 pub returns : goal.returns

@@ -1,7 +1,7 @@
 use Rattle.std.proofs.Common.{◌≡◌, [], length, drop, ap, ◌∙◌, arith}
 use Rattle.std.proofs.lemmas.Bool.Decides.{nat_tests}
 use Rattle.std.proofs.lemmas.List.{length-drop}
-use Rattle.picky_der_ser.specs.Wrappers.{KeptWrappers}
+use Rattle.picky_der_ser.specs.Marks.{KeptWrappers}
 use Rattle.picky_der_ser.proofs.wrapper_stack.Wrappers.is_bare.Goals as goal
 
 pub returns-clause-no : goal.returns-clause-no

@@ -1,5 +1,0 @@
-use Rattle.std.proofs.Common.{rules}
-use Rattle.picky_der_ser.proofs.sequence.Sequence.serialize_element.Goals as goal
-
-pub returns-clause-added : goal.returns-clause-added
-returns-clause-added c = search rules
