@@ -4,12 +4,12 @@ ghost use Rattle.std.specs.Option.{option_copied};
 ghost use Rattle.std.specs.Io.KnownBytes.{Appends};
 ghost use Rattle.der_program_base.specs.declared.status.Status.TheVariants.{Refused};
 ghost use Rattle.der.specs.Notes.{refused_text, skipped_text};
-ghost use Rattle.der.specs.Report.{Prints, IsRefusalPrinted, IsListingPrinted, IsShowPrinted, listing_status, front_text, form_of};
+ghost use Rattle.der.specs.Report.{Prints, AreBlocksPrinted, IsBlockPrinted, IsMessagePrinted, IsReport, IsRefusalPrinted, IsListingPrinted, IsShowPrinted, IsReadPrinted, IsCmsPrinted, AreCertificatesPrinted, listing_status, front_text, form_of};
 
 use crate::notes::{heading, refusal_note, skipped_note};
 use crate::request::{Action, Request};
 use der_program_base::{Block, Contents, Format, Printed, Status, contents_of};
-use der_read::{certificate_line, read_message};
+use der_read::{MessageType, certificate_line, read_message};
 use der_show::{LineForm, ShowOptions, Shown, Source, show_as};
 use der_signers::signers_report;
 use picky_asn1_der::Result;
@@ -37,7 +37,10 @@ pub fn print_report<W: WriteExt>(
     file: &str,
     input: &[u8],
     output: &mut W,
-) -> Result<Status> {
+) -> Result<Status>
+    ensures { IfOk result (λ status. Prints (IsReport request.now view file.now input.now status)
+        (W.written output.old) (W.written output.new)) }
+{
     let source = Source { file, block: None };
     match contents_of(alloc, input, request.form)? {
         Contents::Der => {
@@ -65,7 +68,10 @@ fn print_blocks<W: WriteExt>(
     file: &str,
     blocks: &[Block],
     output: &mut W,
-) -> Result<Status> {
+) -> Result<Status>
+    ensures { IfOk result (λ status. Prints (AreBlocksPrinted request.now view file.now blocks.now status)
+        (W.written output.old) (W.written output.new)) }
+{
     let mut status = Status::Fine;
     let mut number: usize = 0;
     for block in blocks {
@@ -88,7 +94,10 @@ fn print_block<W: WriteExt>(
     source: &Source<'_>,
     block: &Block,
     output: &mut W,
-) -> Result<Status> {
+) -> Result<Status>
+    ensures { IfOk result (λ status. Prints (IsBlockPrinted request.now view source.now block.now status)
+        (W.written output.old) (W.written output.new)) }
+{
     match &block.bytes {
         Ok(bytes) => {
             let label = Some(block.label.as_slice());
@@ -108,24 +117,73 @@ fn print_message<W: WriteExt>(
     label: Option<&[u8]>,
     bytes: &[u8],
     output: &mut W,
-) -> Result<Status> {
+) -> Result<Status>
+    ensures { IfOk result (λ status. Prints (IsMessagePrinted request.now view source.now
+        (option_copied label.entry) bytes.now status) (W.written output.old) (W.written output.new)) }
+{
     let format = request.format;
-    let Source { file, block } = *source;
     match &request.action {
         Action::Show(options) => print_shown(alloc, options, format, view, source, bytes, output),
-        Action::Read(wanted) => {
-            let printed = read_message(alloc, format, file, block, *wanted, label, bytes)?;
-            print_lines(&printed, output)
-        }
-        Action::Cms(signers) => {
-            let printed = signers_report(alloc, file, block, bytes, signers, format)?;
-            print_lines(&printed, output)
-        }
-        Action::Certificate => {
-            let printed = certificate_line(alloc, format, file, block, bytes)?;
-            print_lines(&printed, output)
-        }
+        Action::Read(wanted) => print_read(alloc, format, source, *wanted, label, bytes, output),
+        Action::Cms(signers) => print_signers(alloc, format, source, signers, bytes, output),
+        Action::Certificate => print_certificate(alloc, format, source, bytes, output),
     }
+}
+
+// Prints of which type a message is.
+fn print_read<W: WriteExt>(
+    alloc: Global,
+    format: Format,
+    source: &Source<'_>,
+    wanted: Option<MessageType>,
+    label: Option<&[u8]>,
+    bytes: &[u8],
+    output: &mut W,
+) -> Result<Status>
+    ensures { IfOk result (λ status. Prints (IsReadPrinted format source.now wanted
+        (option_copied label.entry) bytes.now status) (W.written output.old) (W.written output.new)) }
+{
+    let printed = read_message(
+        alloc,
+        format,
+        source.file,
+        source.block,
+        wanted,
+        label,
+        bytes,
+    )?;
+    print_lines(&printed, output)
+}
+
+// Prints what agrees for each signer of a message.
+fn print_signers<W: WriteExt>(
+    alloc: Global,
+    format: Format,
+    source: &Source<'_>,
+    signers: &der_signers::Request,
+    bytes: &[u8],
+    output: &mut W,
+) -> Result<Status>
+    ensures { IfOk result (λ status. Prints (IsCmsPrinted format source.now signers.now bytes.now status)
+        (W.written output.old) (W.written output.new)) }
+{
+    let printed = signers_report(alloc, source.file, source.block, bytes, signers, format)?;
+    print_lines(&printed, output)
+}
+
+// Prints a line on a certificate.
+fn print_certificate<W: WriteExt>(
+    alloc: Global,
+    format: Format,
+    source: &Source<'_>,
+    bytes: &[u8],
+    output: &mut W,
+) -> Result<Status>
+    ensures { IfOk result (λ status. Prints (AreCertificatesPrinted format source.now bytes.now status)
+        (W.written output.old) (W.written output.new)) }
+{
+    let printed = certificate_line(alloc, format, source.file, source.block, bytes)?;
+    print_lines(&printed, output)
 }
 
 // Prints the elements of a message, or that there is none where the listing begins.
