@@ -1,13 +1,15 @@
 -- What is printed of blocks, one after another.
-use Rattle.std.proofs.Common.{◌≡◌, ℕ, ◌+◌, ◌<◌, List, [], ◌∷◌, ◌++◌, length, take, get_or, Option, Some, refl, sym, ap, ◌∙◌, subst, string_bytes, arith, length-take-le}
+use Rattle.std.proofs.Common.{◌≡◌, ℕ, ◌+◌, ◌<◌, List, [], ◌∷◌, ◌++◌, length, take, get_or, Option, None, Some, refl, sym, ap, ◌∙◌, subst, string_bytes, arith, length-take-le}
 use Rattle.std.specs.Io.KnownBytes.{Appends}
 use Rattle.std.proofs.KnownBytes.{Appends-nil, Appends-trans}
 use Rattle.std.proofs.lemmas.List.{take_more}
 use Rattle.der_program_base.specs.declared.blocks.Block.{Block}
+use Rattle.der_program_base.specs.declared.contents.Contents.{Contents}
 use Rattle.der_program_base.specs.declared.printed.Format.{Format}
 use Rattle.der_program_base.specs.declared.printed.Printed.{Printed}
 use Rattle.der_program_base.specs.declared.status.Status.{Status}
 use Rattle.der_program_base.specs.declared.status.Status.TheVariants.{Fine}
+use Rattle.der_program_base.specs.Contents.{IsContentsOf}
 use Rattle.der_program_base.specs.Status.{worse_of}
 use Rattle.der_read.specs.Certificates.{IsCertificatePrinted}
 use Rattle.der_read.specs.declared.message_type.MessageType.{MessageType}
@@ -22,7 +24,7 @@ use Rattle.der_signers.specs.Printed.{IsPrinted}
 use Rattle.der.specs.declared.report.View.{View}
 use Rattle.der.specs.declared.request.Request.{Request}
 use Rattle.der.specs.Notes.{skipped_text}
-use Rattle.der.specs.Report.{AreBlocksPrinted, none, next, IsBlockPrinted, IsListingPrinted, IsReadPrinted, read_lines, IsCmsPrinted, cms_lines, AreCertificatesPrinted, certificate_lines, Prints, listing_status}
+use Rattle.der.specs.Report.{AreBlocksPrinted, none, next, IsBlockPrinted, IsListingPrinted, IsReadPrinted, read_lines, IsCmsPrinted, cms_lines, AreCertificatesPrinted, certificate_lines, AreContentsPrinted, IsReport, Prints, listing_status}
 
 -- ---- one message
 
@@ -77,3 +79,11 @@ module _ (r : Request) (view : View) (file : List ℕ) where
         subst (λ l. AreBlocksPrinted r view file l (worse_of status own) (before.0 ++ (note ++ here.0))) (sym more) all,
         Appends-trans a b d before.0 (note ++ here.0) before.2 (Appends-trans b c d note here.0 skipped here.2),
       )
+
+-- ---- files
+
+pub reported : (r : Request) (view : View) (source : Source) (file input : List ℕ) (contents : Contents) (status : Status) (a b : Option (List ℕ))
+    → source.file.now ≡ file → source.block ≡ None → IsContentsOf r.form input contents
+    → Prints (AreContentsPrinted r view source input contents status) a b → Prints (IsReport r view file input status) a b
+reported r view source file input contents status a b named whole are p =
+    (p.0, record { source = source; is_source = named; whole = whole; contents = contents; are_contents = are; printed = p.1 }, p.2)
