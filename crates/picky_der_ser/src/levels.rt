@@ -10,7 +10,7 @@ ghost use Rattle.picky_der_ser.specs.State.{Level, root, with_bytes, at_next_mem
 
 use crate::Header;
 use crate::enclose::{enclose, push_enclosed};
-use crate::header::{fill_short, make_short_room, push_few, push_headers, push_short};
+use crate::header::{fill_short, push_few, push_headers, push_short};
 use crate::marks::{Mark, Marks};
 use crate::order::{arrange, begin_member};
 use crate::widen::widen_rooms;
@@ -180,7 +180,10 @@ impl Levels {
     {
         self.give_up();
         let at = self.scratch.len();
-        make_short_room(&mut self.scratch, self.wrappers.is_bare());
+        // The room for a short header, if there is room for it, so that this doesn't fail.
+        if self.wrappers.is_bare() && self.scratch.capacity() - at >= 2 {
+            let _ = self.scratch.extend_from_slice(&[0; 2]);
+        }
         let first_wrapper = self.wrappers.take();
         self.marks.push(Mark {
             header,
