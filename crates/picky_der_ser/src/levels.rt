@@ -1,6 +1,6 @@
 //! The levels of a serializer, in one vector.
 ghost use Rattle.std.specs.Prelude.{◌≡◌, ◌≢◌, ◌<◌, ◌≤◌, ◌^◌, ◌+◌, List, [], ◌∷◌, ◌++◌};
-ghost use Rattle.std.specs.Prelude.{true, false, length, drop, vec_len, None, Some, IfSome, IfNone, IsSome, IfOk, OnOk};
+ghost use Rattle.std.specs.Prelude.{true, false, length, None, Some, IfSome, IfNone, IsSome, IfOk, OnOk};
 ghost use Rattle.picky_der_core.specs.Primitive.{Primitive};
 ghost use Rattle.picky_der_core.specs.OpenWrappers.{under};
 ghost use Rattle.picky_der_core.specs.Encoding.{der};
@@ -60,16 +60,6 @@ impl Model for Levels {
 
     ghost invariant = { λ s. AreMarks s.marks.marks (length s.scratch.items) s.seams.items s.wrappers.of_levels
         × HasMark s.pending s.marks.marks s.marks.spare };
-}
-
-// Drops the bytes before this index.
-#[cold]
-#[inline(never)]
-fn drop_front(out: &mut Vec<u8>, start: usize)
-    requires { start ≤ vec_len out.old }
-    ensures { out.new.items ≡ drop start out.old.items }
-{
-    out.drain(..start);
 }
 
 impl Levels {
@@ -134,7 +124,7 @@ impl Levels {
             marks: _,
             pending: _,
         } = self;
-        drop_front(&mut scratch, start);
+        scratch.drain(..start);
         scratch
     }
 
