@@ -13,21 +13,20 @@ class Number:
     bits: int
     # the variant of `ValueType` of der_tool_lib
     variant: str = ""
-    # how it is written and read: `usize` has no call of its own
-    write: str = ""
+    # how it is read: `usize` has no call of its own
     read: str = ""
     # a default, whose type has 8 bits, as such a number
     default: str = ""
 
 
 UNSIGNED = [
-    Number("u8", 8, "U8", "ser.serialize_u8(*self)", "de.deserialize_u8()", "N"),
-    Number("u16", 16, "U16", "ser.serialize_u16(*self)", "de.deserialize_u16()", "u16::from(N)"),
-    Number("u32", 32, "U32", "ser.serialize_u32(*self)", "de.deserialize_u32()", "u32::from(N)"),
-    Number("u64", 64, "U64", "ser.serialize_u64(*self)", "de.deserialize_u64()", "u64::from(N)"),
-    Number("u128", 128, "U128", "ser.serialize_u128(*self)", "de.deserialize_u128()", "u128::from(N)"),
+    Number("u8", 8, "U8", "de.deserialize_u8()", "N"),
+    Number("u16", 16, "U16", "de.deserialize_u16()", "u16::from(N)"),
+    Number("u32", 32, "U32", "de.deserialize_u32()", "u32::from(N)"),
+    Number("u64", 64, "U64", "de.deserialize_u64()", "u64::from(N)"),
+    Number("u128", 128, "U128", "de.deserialize_u128()", "u128::from(N)"),
 ]
-USIZE = Number("usize", 64, "", "ser.serialize_u128(*self as u128)", "Ok(de.deserialize_u64()? as usize)", "N as usize")
+USIZE = Number("usize", 64, "", "Ok(de.deserialize_u64()? as usize)", "N as usize")
 SIGNED = [
     Number("i8", 8, default="N"),
     Number("i16", 16, default="i16::from(N)"),
@@ -153,7 +152,7 @@ impl Serialize for $name {
         ensures meant { WritesPlain W.WriteExt.own (unsigned_tree (2 ^ $bits - 1) self.now)
             ser.old result ser.new }
     {
-        $write
+        ser.serialize_u128($number)
     }
 }
 """
@@ -187,7 +186,9 @@ def written_numbers() -> Lines:
         "use picky_der_core::Result;",
         "use picky_der_core::misc::WriteExt;",
         "",
-        *each(WRITE_UNSIGNED, [*UNSIGNED, USIZE]),
+        *each(WRITE_UNSIGNED, UNSIGNED[:-1], number="u128::from(*self)"),
+        *each(WRITE_UNSIGNED, UNSIGNED[-1:], number="*self"),
+        *each(WRITE_UNSIGNED, [USIZE], number="*self as u128"),
         *each(WRITE_SIGNED, SIGNED),
     ]
 

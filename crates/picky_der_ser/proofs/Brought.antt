@@ -1,9 +1,14 @@
 -- Headers that are brought before a content.
 use Rattle.std.proofs.Common.{◌≡◌, ℕ, ◌+◌, ◌-◌, ◌≤◌, List, ◌++◌, length, take, drop, refl, sym, ◌∙◌, ap, ap₂, arith, append_assoc, append-nil, length-append, take-append-drop, length-take-le}
+use Rattle.std.proofs.lemmas.Bool.Decides.{nat_tests}
 use Rattle.std.proofs.Math.Seq.{take-append_seam, drop-append_seam, take-append-add, drop-append-add}
 use Rattle.std.proofs.lemmas.List.{drop-append-le, take-append-le, take-take, length-drop}
 use Rattle.std.specs.List.{slice_rotate_right}
 use Rattle.picky_der_ser.specs.Headers.{with_overwrite}
+use Rattle.picky_der_ser.proofs.HeaderBytes.{der-headers}
+
+-- all that a content after its headers asks for
+pub ruleset enclosed = (der-headers, append_assoc)
 
 -- the last bytes of a list, before the others
 rotated : (c h : List ℕ) (room more : ℕ) → length h ≡ room + more → slice_rotate_right (c ++ h) more ≡ drop room h ++ (c ++ take room h)
@@ -38,6 +43,9 @@ turn_twice bs i j h =
     ap (λ x. drop x (last ++ front) ++ take x (last ++ front)) n
     ∙ ap₂ (λ x y. x ++ y) (drop-append-add last front m) (take-append-add last front m ∙ ap (λ x. last ++ x) (take-take m k bs (omega arith)))
     ∙ sym (append_assoc (drop m front) last (take m bs)) ∙ ap (λ x. x ++ take m bs) (sym before)
+
+-- all that a turn by two bytes asks for
+pub ruleset turn = (turn_twice, nat_tests)
 
 -- the last `count` of these bytes in place of the bytes after `a`
 filled : (a r x f : List ℕ) (at count n : ℕ) → length a ≡ at → length r ≡ count → length f ≡ count → n ≡ at + count + length x

@@ -12,6 +12,7 @@ use std::alloc::AllocError;
 
 // Moves the last bytes before the others. Headers mostly grow by one byte or two. A turn by one byte is one move of memory. Two
 // of them are faster than one turn by two, which clears a buffer of its own first.
+#[tactic(auto, using(crate::proofs::Brought::turn))]
 fn turn(bytes: &mut [u8], count: usize)
     requires { count ≤ length bytes.old }
     ensures { bytes.new ≡ slice_rotate_right bytes.old count }
@@ -38,6 +39,7 @@ fn rotate_from(out: &mut Vec<u8>, start: usize, count: usize)
 const BLANK: [u8; 10] = [0; 10];
 
 // Makes room for `count` bytes before the bytes from `at` on.
+#[tactic(auto, using(crate::proofs::Brought::behind_turned))]
 pub(crate) fn insert_room(out: &mut Vec<u8>, at: usize, count: usize) -> Result<(), AllocError>
     requires within { at ≤ vec_len out.old }
     requires count { count ≤ 10 }
@@ -63,6 +65,7 @@ fn fill_from_last(out: &mut Vec<u8>, at: usize, count: usize)
 }
 
 // Adds a content with its headers before it.
+#[tactic(auto, using(crate::proofs::Brought::enclosed))]
 pub(crate) fn push_enclosed(
     out: &mut Vec<u8>,
     around: &[Wrapper],
