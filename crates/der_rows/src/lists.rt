@@ -18,6 +18,12 @@ pub(crate) fn answer(alloc: Global, name: &str, row: &RowBytes) -> Result<String
         "Vec<Vec<ByteBuf>>" => read_as::<Vec<Vec<ByteBuf>>>(alloc, row),
         "Vec<Option<u8>>" => read_as::<Vec<Option<u8>>>(alloc, row),
         "Vec<Asn1RawDer>" => read_as::<Vec<Asn1RawDer>>(alloc, row),
+        _ => asn1_list(alloc, name, row),
+    }
+}
+
+fn asn1_list(alloc: Global, name: &str, row: &RowBytes) -> Result<String, AllocError> {
+    match name {
         "Asn1SequenceOf<u8>" => read_copied::<Asn1SequenceOf<u8>>(alloc, row),
         "Asn1SetOf<u8>" => read_copied::<Asn1SetOf<u8>>(alloc, row),
         "Asn1SetOf<u16>" => read_copied::<Asn1SetOf<u16>>(alloc, row),
@@ -27,6 +33,12 @@ pub(crate) fn answer(alloc: Global, name: &str, row: &RowBytes) -> Result<String
             Asn1SetOf<ExplicitContextTag0<Asn1SetOf<u8>>>,
         >(alloc, row),
         "Asn1SetOf<Vec<Asn1SetOf<u8>>>" => read_copied::<Asn1SetOf<Vec<Asn1SetOf<u8>>>>(alloc, row),
+        _ => array_or_tuple(alloc, name, row),
+    }
+}
+
+fn array_or_tuple(alloc: Global, name: &str, row: &RowBytes) -> Result<String, AllocError> {
+    match name {
         "[u8; 0]" => read_as::<[u8; 0]>(alloc, row),
         "[u8; 1]" => read_as::<[u8; 1]>(alloc, row),
         "[u8; 2]" => read_as::<[u8; 2]>(alloc, row),
@@ -39,6 +51,13 @@ pub(crate) fn answer(alloc: Global, name: &str, row: &RowBytes) -> Result<String
         "(u8, u8, u8, u8, u8, u8, u8, u8)" => read_as::<(u8, u8, u8, u8, u8, u8, u8, u8)>(
             alloc, row,
         ),
+        _ => mixed(alloc, name, row),
+    }
+}
+
+// Tuples and rows of members of different types.
+fn mixed(alloc: Global, name: &str, row: &RowBytes) -> Result<String, AllocError> {
+    match name {
         "(u8, (String, u8))" => read_as::<(u8, (String, u8))>(alloc, row),
         "(ObjectIdentifierAsn1, ())" => read_as::<(ObjectIdentifierAsn1, ())>(alloc, row),
         "Row<()>" => read_as::<Row<()>>(alloc, row),

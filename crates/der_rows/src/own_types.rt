@@ -32,6 +32,12 @@ pub(crate) fn answer(alloc: Global, name: &str, row: &RowBytes) -> Result<String
         "Vec<GeneralName>" => read_as::<Vec<GeneralName>>(alloc, row),
         "TbsCertificate" => read_as::<TbsCertificate>(alloc, row),
         "CertificateList" => read_as::<CertificateList>(alloc, row),
+        _ => of_a_protocol(alloc, name, row),
+    }
+}
+
+fn of_a_protocol(alloc: Global, name: &str, row: &RowBytes) -> Result<String, AllocError> {
+    match name {
         "Extension" => read_as::<Extension>(alloc, row),
         "ImplicitContextTag1<Extension>" => read_as::<ImplicitContextTag1<Extension>>(alloc, row),
         "der_x509::AlgorithmIdentifier" => { read_as::<der_x509::AlgorithmIdentifier>(alloc, row) }
@@ -42,12 +48,12 @@ pub(crate) fn answer(alloc: Global, name: &str, row: &RowBytes) -> Result<String
         "Ticket" => read_as::<Ticket>(alloc, row),
         "Version" => read_as::<Version>(alloc, row),
         "ImplicitContextTag1<Version>" => read_copied::<ImplicitContextTag1<Version>>(alloc, row),
-        _ => answer_for_examples(alloc, name, row),
+        _ => example(alloc, name, row),
     }
 }
 
 // The same for types that aren't in a protocol.
-fn answer_for_examples(alloc: Global, name: &str, row: &RowBytes) -> Result<String, AllocError> {
+fn example(alloc: Global, name: &str, row: &RowBytes) -> Result<String, AllocError> {
     match name {
         "NumberOrFlag" => read_as::<NumberOrFlag>(alloc, row),
         "Setting" => read_as::<Setting>(alloc, row),
@@ -60,6 +66,12 @@ fn answer_for_examples(alloc: Global, name: &str, row: &RowBytes) -> Result<Stri
         "Stay" => read_as::<Stay>(alloc, row),
         "Gust" => read_as::<Gust>(alloc, row),
         "Report" => read_as::<Report>(alloc, row),
+        _ => generic_example(alloc, name, row),
+    }
+}
+
+fn generic_example(alloc: Global, name: &str, row: &RowBytes) -> Result<String, AllocError> {
+    match name {
         "Lamp" => read_as::<Lamp>(alloc, row),
         "Noted<u8>" => read_as::<Noted<u8>>(alloc, row),
         "OctetStringAsn1Container<Noted<u8>>" => read_as::<OctetStringAsn1Container<Noted<u8>>>(
@@ -75,6 +87,12 @@ fn answer_for_examples(alloc: Global, name: &str, row: &RowBytes) -> Result<Stri
         ),
         "ExplicitContextTag0<Named<u8>>" => read_as::<ExplicitContextTag0<Named<u8>>>(alloc, row),
         "ImplicitContextTag1<Point>" => read_as::<ImplicitContextTag1<Point>>(alloc, row),
+        _ => last_example(alloc, name, row),
+    }
+}
+
+fn last_example(alloc: Global, name: &str, row: &RowBytes) -> Result<String, AllocError> {
+    match name {
         "Marker" => read_as::<Marker>(alloc, row),
         "Parcel" => read_as::<Parcel>(alloc, row),
         "Track" => read_as::<Track>(alloc, row),

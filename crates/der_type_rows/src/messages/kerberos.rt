@@ -9,7 +9,8 @@ use der_kerberos::{
 };
 use std::alloc::{AllocError, Global};
 
-/// The result of bytes of the type with this name.
+/// The result of bytes of the type with this name. A name that is not in a function is in the next one, since a proof about many names in one
+/// `match` takes many times as long.
 pub(crate) fn result_of(
     alloc: Global,
     task: Task,
@@ -26,6 +27,17 @@ pub(crate) fn result_of(
         "AuthorizationData" => result_as::<AuthorizationData>(alloc, task, bytes),
         "EncApRepPart" => result_as::<EncApRepPart>(alloc, task, bytes),
         "EncAsRepPart" => result_as::<EncAsRepPart>(alloc, task, bytes),
+        _ => from_enc_krb_cred_part(alloc, task, name, bytes),
+    }
+}
+
+fn from_enc_krb_cred_part(
+    alloc: Global,
+    task: Task,
+    name: &str,
+    bytes: &[u8],
+) -> Result<String, AllocError> {
+    match name {
         "EncKrbCredPart" => result_as::<EncKrbCredPart>(alloc, task, bytes),
         "EncKrbPrivPart" => result_as::<EncKrbPrivPart>(alloc, task, bytes),
         "EncTgsRepPart" => result_as::<EncTgsRepPart>(alloc, task, bytes),
@@ -34,6 +46,17 @@ pub(crate) fn result_of(
         "KrbCred" => result_as::<KrbCred>(alloc, task, bytes),
         "KrbError" => result_as::<KrbError>(alloc, task, bytes),
         "KrbPriv" => result_as::<KrbPriv>(alloc, task, bytes),
+        _ => from_krb_safe(alloc, task, name, bytes),
+    }
+}
+
+fn from_krb_safe(
+    alloc: Global,
+    task: Task,
+    name: &str,
+    bytes: &[u8],
+) -> Result<String, AllocError> {
+    match name {
         "KrbSafe" => result_as::<KrbSafe>(alloc, task, bytes),
         "MethodData" => result_as::<MethodData>(alloc, task, bytes),
         "PaEncTimestamp" => result_as::<PaEncTimestamp>(alloc, task, bytes),

@@ -12,7 +12,8 @@ use der_pkix::{
 };
 use std::alloc::{AllocError, Global};
 
-/// The result of bytes of the type with this name.
+/// The result of bytes of the type with this name. A name that is not in a function is in the next one, since a proof about many names in one
+/// `match` takes many times as long.
 pub(crate) fn result_of(
     alloc: Global,
     task: Task,
@@ -29,6 +30,17 @@ pub(crate) fn result_of(
         "CertificatePolicies" => result_as::<CertificatePolicies>(alloc, task, bytes),
         "CertificationRequest" => result_as::<CertificationRequest>(alloc, task, bytes),
         "CrlDistributionPoints" => result_as::<CrlDistributionPoints>(alloc, task, bytes),
+        _ => from_crl_number(alloc, task, name, bytes),
+    }
+}
+
+fn from_crl_number(
+    alloc: Global,
+    task: Task,
+    name: &str,
+    bytes: &[u8],
+) -> Result<String, AllocError> {
+    match name {
         "CrlNumber" => result_as::<CrlNumber>(alloc, task, bytes),
         "CrlReason" => result_as::<CrlReason>(alloc, task, bytes),
         "EcPrivateKey" => result_as::<EcPrivateKey>(alloc, task, bytes),
@@ -37,6 +49,17 @@ pub(crate) fn result_of(
         "FreshestCrl" => result_as::<FreshestCrl>(alloc, task, bytes),
         "IetfAttrSyntax" => result_as::<IetfAttrSyntax>(alloc, task, bytes),
         "InhibitAnyPolicy" => result_as::<InhibitAnyPolicy>(alloc, task, bytes),
+        _ => from_invalidity_date(alloc, task, name, bytes),
+    }
+}
+
+fn from_invalidity_date(
+    alloc: Global,
+    task: Task,
+    name: &str,
+    bytes: &[u8],
+) -> Result<String, AllocError> {
+    match name {
         "InvalidityDate" => result_as::<InvalidityDate>(alloc, task, bytes),
         "IssuerAltName" => result_as::<IssuerAltName>(alloc, task, bytes),
         "IssuingDistributionPoint" => result_as::<IssuingDistributionPoint>(alloc, task, bytes),
@@ -44,6 +67,17 @@ pub(crate) fn result_of(
         "PolicyConstraints" => result_as::<PolicyConstraints>(alloc, task, bytes),
         "PolicyMappings" => result_as::<PolicyMappings>(alloc, task, bytes),
         "PrivateKeyInfo" => result_as::<PrivateKeyInfo>(alloc, task, bytes),
+        _ => from_role_syntax(alloc, task, name, bytes),
+    }
+}
+
+fn from_role_syntax(
+    alloc: Global,
+    task: Task,
+    name: &str,
+    bytes: &[u8],
+) -> Result<String, AllocError> {
+    match name {
         "RoleSyntax" => result_as::<RoleSyntax>(alloc, task, bytes),
         "RsaPrivateKey" => result_as::<RsaPrivateKey>(alloc, task, bytes),
         "RsaPublicKey" => result_as::<RsaPublicKey>(alloc, task, bytes),

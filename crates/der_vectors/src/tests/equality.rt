@@ -7,7 +7,6 @@ use picky_asn1_der::asn1::{
     ExplicitContextTag, ImplicitContextTag, Newtype, OctetStringAsn1Container, Tag, TagClass,
     Wrapper,
 };
-use picky_asn1_der::de::End;
 use picky_asn1_der::ser::{Defaulted, False, Header, Optional};
 use picky_asn1_der::{Asn1DerError, Asn1RawDer, NoneOf, OneOf, OneOf4};
 use picky_der_core::Failure;
@@ -150,8 +149,7 @@ fn errors_differ(rt: HostRuntime) {
 }
 
 #[test]
-fn headers_and_ends_differ(rt: HostRuntime) {
-    all_differ(&rt, &[End::Limit, End::Soft, End::Hard]);
+fn headers_differ(rt: HostRuntime) {
     all_differ(
         &rt,
         &[

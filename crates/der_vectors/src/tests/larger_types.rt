@@ -144,7 +144,7 @@ fn add(rt: &impl Abort, script: &mut Script, at: u32, command: Command) {
 
 // The first six alternatives.
 fn add_first(rt: &(impl Abort + AllocGlobal), script: &mut Script) {
-    let points = list(rt, &[ORIGIN, FAR]);
+    let points = vec![in rt.alloc(); ORIGIN, FAR].expect(rt, "memory");
     let text = text(rt, "hi");
     add(rt, script, 0, Command::Move(ExplicitContextTag(FAR)));
     add(rt, script, 100, Command::Wait(ImplicitContextTag(200)));
