@@ -1,7 +1,7 @@
 -- The types of attributes of names that have names of their own (RFC 4514, 3; X.520).
 use Rattle.std.specs.Prelude.{◌≡◌, ◌≢◌, ℕ, List, [], ◌∷◌, Option, MatchOption, codes}
 use Rattle.der_types.specs.declared.object_identifier.ObjectIdentifier.{ObjectIdentifier}
-use Rattle.der_types.specs.contracts.object_identifier.ObjectIdentifierContents.TheImpl as identifier
+use Rattle.der_types.specs.contracts.generated.object_identifier.ObjectIdentifierContents.TheImpl as identifier
 use Rattle.der_read.specs.declared.attribute_name.AttributeName.{AttributeName}
 use Rattle.der_read.specs.declared.attribute_name.AttributeName.TheVariants as attribute
 

@@ -8,7 +8,7 @@ use Rattle.der_program_base.specs.declared.status.Status.TheVariants as status
 use Rattle.der_types.specs.declared.date_time.DateTime.{DateTime}
 use Rattle.der_types.specs.declared.utc_time.UtcTime as utc
 use Rattle.der_types.specs.declared.object_identifier.ObjectIdentifier.{ObjectIdentifier}
-use Rattle.der_types.specs.contracts.integer.IntegerContents.TheImpl as integer
+use Rattle.der_types.specs.contracts.generated.integer.IntegerContents.TheImpl as integer
 use Rattle.der_types.specs.DateTimes.{date_time_text}
 use Rattle.der_types.specs.TimeContents.{fraction_of}
 use Rattle.der_types.specs.TimeValues.{generalized_content}

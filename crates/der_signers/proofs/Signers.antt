@@ -5,7 +5,7 @@ use Rattle.picky_der_core.specs.Tree.{ListKind}
 use Rattle.der_cms.specs.declared.signed_data.SignerInfo.{SignerInfo}
 use Rattle.der_cms.specs.declared.signed_data.SignedData.{SignedData}
 use Rattle.picky_der_core.specs.Readable.{IsWritable}
-use Rattle.der_types.specs.contracts.object_identifier.ObjectIdentifierSerialize.TheImpl as identifier
+use Rattle.der_types.specs.contracts.generated.object_identifier.ObjectIdentifierSerialize.TheImpl as identifier
 use Rattle.der_cms.specs.contracts.signed_data.SignerInfoSerialize.TheImpl as signer
 use Rattle.der_cms.specs.contracts.signed_data.SignedDataSerialize.TheImpl as signed_data
 use Rattle.der_signers.specs.Attributes.{set_of}

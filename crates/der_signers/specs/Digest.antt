@@ -5,7 +5,7 @@ use Rattle.sha1.specs.Sha1.{sha1}
 use Rattle.sha2.specs.Sha256.{sha224, sha256}
 use Rattle.sha2.specs.Sha512.{sha384, sha512, sha512_224, sha512_256}
 use Rattle.der_types.specs.declared.object_identifier.ObjectIdentifier.{ObjectIdentifier}
-use Rattle.der_types.specs.contracts.object_identifier.ObjectIdentifierContents.TheImpl as identifier
+use Rattle.der_types.specs.contracts.generated.object_identifier.ObjectIdentifierContents.TheImpl as identifier
 use Rattle.der_signers.specs.declared.digest.DigestAlgorithm.{DigestAlgorithm}
 use Rattle.der_signers.specs.declared.digest.DigestAlgorithm.TheVariants.{Md5, Sha1, Sha224, Sha256, Sha384, Sha512, Sha512To224, Sha512To256}
 

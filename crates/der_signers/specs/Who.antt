@@ -1,7 +1,7 @@
 -- Who a signer is (RFC 5652, 5.3).
 use Rattle.std.specs.Prelude.{◌≡◌, string_bytes}
 use Rattle.der_program_base.specs.Line.{IsOneLine}
-use Rattle.der_types.specs.contracts.integer.IntegerContents.TheImpl as integer
+use Rattle.der_types.specs.contracts.generated.integer.IntegerContents.TheImpl as integer
 use Rattle.der_cms.specs.declared.signed_data.SignerIdentifier.{SignerIdentifier}
 use Rattle.der_cms.specs.declared.signed_data.SignerIdentifier.TheVariants.{IssuerAndSerialNumber, SubjectKeyIdentifier}
 use Rattle.der_signers.specs.declared.who.Who.{Who}

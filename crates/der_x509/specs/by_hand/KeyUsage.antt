@@ -2,7 +2,7 @@
 use Rattle.std.specs.Prelude.{ℕ, Bool, false, List, [], ◌∷◌, map, slice_index_or}
 use Rattle.std.specs.List.{list_any}
 use Rattle.der_types.specs.BitString.{bits_of}
-use Rattle.der_types.specs.contracts.named_bits.NamedBitsContents.TheImpl as named_bits
+use Rattle.der_types.specs.contracts.generated.named_bits.NamedBitsContents.TheImpl as named_bits
 use Rattle.der_x509.specs.declared.pkix1_implicit88.KeyUsage.{KeyUsage}
 use Rattle.der_x509.specs.declared.by_hand.key_usage_flag.KeyUsageFlag.{KeyUsageFlag}
 use Rattle.der_x509.specs.declared.by_hand.key_usage_flag.KeyUsageFlag.TheVariants.{DigitalSignature, ContentCommitment, KeyEncipherment, DataEncipherment, KeyAgreement, KeyCertSign, CrlSign, EncipherOnly, DecipherOnly}
