@@ -25,7 +25,7 @@ fn number_in(name: &str, of: &str) -> Option<u8> {
     }
 }
 
-// A number selects its arm at once. A proof about as many names in one `match` takes twice as long.
+// A number selects its arm without a comparison of names.
 fn explicit(alloc: Global, number: u8, row: &RowBytes) -> Result<String, AllocError> {
     match number {
         0 => read_copied::<ExplicitContextTag0<u8>>(alloc, row),
