@@ -1,4 +1,4 @@
-"""What the rows of der_rows_lib write and read of each width of a tuple that no other row has."""
+"""What the rows of der_rows write and read of each width of a tuple that no other row has."""
 from generation.files import Files, Lines, source
 
 # the numbers of elements of the tuples that are read and written, and of the members that are written one by one
@@ -147,4 +147,4 @@ def files() -> Files:
     """The file of these rows."""
     about = "Tuples, rows and structs of the widths that no other row has."
     text = [*source(about), *HEAD.strip("\n").split("\n"), "", *answer(), *written_value(), *serialize_members(), *eighteen(), *eighteen_both_ways()]
-    return {"crates/der_rows_lib/src/generated/widths.rt": text}
+    return {"crates/der_rows/src/generated/widths.rt": text}
