@@ -1,8 +1,9 @@
 -- Types of which some value is readable, and such values.
-use Rattle.std.specs.Prelude.{◌≡◌, ◌^◌, ◌<◌, ℤ, pos, Bool, true, [], ◌∷◌, encode_utf8, String, IsUtf8, refl}
+use Rattle.std.specs.Prelude.{◌≡◌, ℕ, ◌^◌, ◌<◌, ℤ, pos, Bool, true, [], ◌∷◌, encode_utf8, String, IsUtf8, refl}
 use Rattle.std.proofs.Common.{subst, sym, arith}
 use lib.Utf8.{encode}
 use Rattle.std.specs.Global.{Vec, Global}
+use Rattle.picky_der_core.specs.Element.{tlv, length_octets}
 use Rattle.picky_der_core.specs.EncodingLaws.{encodings-trees}
 use Rattle.picky_der_core.specs.Integer.{int_tree, integer_tree}
 use Rattle.picky_der_core.specs.Order.{IsAscending}
@@ -19,6 +20,9 @@ HasReadable {V} meaning = (value : V) × IsReadable (meaning value)
 -- no items, and no text
 pub small_enough : 0 < 2 ^ 63
 small_enough = omega arith
+
+pub two_enough : 2 < 2 ^ 63
+two_enough = omega arith
 
 abbrev pub empty_vec : {A : Type 0} → Vec A
 empty_vec = vec_of [] small_enough
@@ -49,3 +53,12 @@ empty_list_readable ListKind.set = (subst IsAscending (sym (encodings-trees []))
 -- an octet string without bytes
 pub no_octets_readable : IsReadable (Tree.primitive (Primitive.bytes 0x04 []))
 no_octets_readable = (omega arith, tt)
+
+-- a NULL as an element
+abbrev pub null_element : Vec ℕ
+null_element = vec_of (0x05 ∷ 0x00 ∷ []) two_enough
+
+pub null_element_readable : IsReadable (Tree.raw (0x05 ∷ 0x00 ∷ []))
+unfolding tlv length_octets
+null_element_readable =
+    (record { tag = 0x05; content = []; number = omega arith; is = refl }, (omega arith, (omega arith, tt)))
