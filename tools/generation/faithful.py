@@ -3,49 +3,61 @@ from generation.files import Files, Lines, pieces, source
 from generation.numbers import SIGNED, UNSIGNED, USIZE
 from generation.tuples import AT_ONCE, NAMES, nested, of, tuple_of
 
+# the parameters of a tuple of each width
+WIDTHS = [NAMES[:width] for width in range(1, AT_ONCE + 1)]
 
-def implementation(parameters: str, trait: str, value: str, ghost: str) -> Lines:
-    """One implementation, of a trait with one ghost member."""
-    return pieces(f"impl{parameters} {trait} for {value} {{\n    ghost {ghost};\n}}")
+
+def implementation(parameters: str, trait: str, value: str, *ghosts: str) -> Lines:
+    """One implementation, of a trait with only ghost members."""
+    members = "\n\n".join(f"    ghost {ghost};" for ghost in ghosts)
+    return pieces(f"impl{parameters} {trait} for {value} {{\n{members}\n}}")
+
+
+def same(parameters: str, trait: str, value: str, sameness: str) -> Lines:
+    """One implementation of `Faithful`, or of members."""
+    return implementation(parameters, trait, value, f"sameness = {{ {sameness} }}", "respects = { Prim.assumption }")
 
 
 def faithful_numbers() -> Lines:
     """Equal numbers mean the same tree."""
     found = []
     for number in [*UNSIGNED, USIZE]:
-        found += implementation("", "Faithful", number.name, f"respects = {{ unsigned_respects (2 ^ {number.bits} - 1) }}")
+        most = f"(2 ^ {number.bits} - 1)"
+        found += same("", "Faithful", number.name, f"plain_sameness nat_eq (unsigned_tree {most}) (unsigned_respects {most})")
     for number in SIGNED:
-        found += implementation("", "Faithful", number.name, f"respects = {{ int_respects (fits_signed {number.bits}) }}")
+        fits = f"(fits_signed {number.bits})"
+        found += same("", "Faithful", number.name, f"plain_sameness int_eq (int_tree {fits}) (int_respects {fits})")
     return found
 
 
-def faithful_tuples() -> Lines:
-    """Equal members of a tuple, and equal tuples, mean the same trees."""
-    found = []
-    for names in [NAMES[:width] for width in range(1, AT_ONCE + 1)]:
-        heads = [f"member_respects (λ it. it.{at}) {it}.respects" for at, it in enumerate(names)]
-        members = nested(heads, f"(members_respect (λ it. it.{len(names)}) Z.respect)")
-        parameters = of(names, "FaithfulMember", "FaithfulMembers")
-        found += implementation(parameters, "FaithfulMembers", tuple_of([*names, "Z"]), f"respect = {{ {members} }}")
-        heads = [f"member_respects (λ it. it.{at}) (always_respects {it}.respects (λ it. it))" for at, it in enumerate(names)]
-        elements = nested(heads, "none_respect")
-        found += implementation(of(names, "Faithful"), "Faithful", tuple_of(names), f"respects = {{ tuple_respects ({elements}) (λ it. it) }}")
-    return found
+def faithful_members(names: str) -> Lines:
+    """Equal members of a tuple mean the same trees."""
+    heads = [f"member_then (λ it. it.{at}) {it}.sameness {it}.known.eq {it}.in_front" for at, it in enumerate(names)]
+    sameness = nested(heads, f"(members_at (λ it. it.{len(names)}) Z.sameness Z.known.tests Z.members)")
+    return same(of(names, "FaithfulMember", "FaithfulMembers"), "FaithfulMembers", tuple_of([*names, "Z"]), sameness)
+
+
+def faithful_tuple(names: str) -> Lines:
+    """Equal tuples mean the same tree."""
+    heads = [f"element_then (λ it. it.{at}) {it}.sameness {it}.eq {it}.meaning" for at, it in enumerate(names)]
+    sameness = f"tuple_sameness ({nested(heads, 'no_members')}) (λ it. it)"
+    return same(of(names, "Faithful"), "Faithful", tuple_of(names), sameness)
 
 
 def faithful() -> Lines:
     """The file of what equal numbers and tuples mean."""
     return [
         *source("Equal numbers and equal tuples mean the same tree."),
-        "ghost use Rattle.std.specs.Prelude.{◌^◌, ◌-◌};",
-        "ghost use Rattle.picky_der_core.specs.Integer.{fits_signed};",
-        "ghost use Rattle.picky_der_de.specs.Faithful.{unsigned_respects, int_respects, always_respects, none_respect};",
-        "ghost use Rattle.picky_der_de.specs.Faithful.{member_respects, members_respect, tuple_respects};",
+        "ghost use Rattle.std.specs.Prelude.{◌^◌, ◌-◌, nat_eq};",
+        "ghost use Rattle.std.specs.Ordering.{int_eq};",
+        "ghost use Rattle.picky_der_core.specs.Integer.{fits_signed, int_tree, unsigned_tree};",
+        "ghost use Rattle.picky_der_de.specs.Faithful.{plain_sameness, unsigned_respects, int_respects, no_members};",
+        "ghost use Rattle.picky_der_de.specs.Faithful.{element_then, member_then, members_at, tuple_sameness};",
         "",
         "use crate::{Faithful, FaithfulMember, FaithfulMembers};",
         "",
         *faithful_numbers(),
-        *faithful_tuples(),
+        *[line for names in WIDTHS for line in [*faithful_members(names), *faithful_tuple(names)]],
     ]
 
 
@@ -62,7 +74,7 @@ def inhabited_numbers() -> Lines:
 def inhabited_tuples() -> Lines:
     """A tuple of readable values is readable."""
     found = []
-    for names in [NAMES[:width] for width in range(1, AT_ONCE + 1)]:
+    for names in WIDTHS:
         value = "record { 0 = A.example.0 }" if len(names) == 1 else tuple_of([f"{it}.example.0" for it in names])
         readable = "".join(f"({it}.example.1, " for it in names) + "tt" + ")" * len(names)
         found += implementation(of(names, "Inhabited"), "Inhabited", tuple_of(names), f"example = {{ ({value}, (tt, {readable})) }}")

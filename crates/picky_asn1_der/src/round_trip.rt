@@ -16,6 +16,11 @@ pub fn readable_has_shape<T: Deserialize>()
     ensures { (value : T) → IsReadable (T.meaning value) → IsOf T.shape (T.meaning value) }
 {}
 
+/// Two values of a type with `Faithful` that are equal by `==` mean the same tree.
+pub fn equal_meanings<T: Faithful>()
+    ensures { (x y : T) → T.eq x y ≡ true → T.meaning x ≡ T.meaning y }
+{}
+
 /// Two readable values of a type with `Faithful` are equal by `==` exactly if their encodings are the same.
 pub fn equal_encodings<T: Faithful>()
     ensures { (x y : T) → IsReadable (T.meaning x) → IsReadable (T.meaning y)
@@ -30,6 +35,7 @@ pub fn reads_back<T: Faithful>(alloc: Global, value: &T) -> Result<bool>
     ensures err { IfErr result (MemoryExcuse (IsWritable (T.meaning value.now))) }
 {
     readable_has_shape::<T>();
+    equal_meanings::<T>();
     let bytes = to_vec(alloc, value)?;
     match from_der::<T>(alloc, &bytes) {
         Ok(back) => Ok(back == *value),

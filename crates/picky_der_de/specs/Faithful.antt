@@ -1,8 +1,8 @@
 -- Values that are equal by the `==` of their type mean the same tree.
-use Rattle.std.specs.Prelude.{◌≡◌, ℕ, ℤ, Bool, true, false, List, [], ◌∷◌, ◌&&◌, Option, Some, None, if◌then◌else◌, length, map, encode_utf8, refl}
+use Rattle.std.specs.Prelude.{◌≡◌, ℕ, ℤ, Bool, true, false, List, [], ◌∷◌, ◌&&◌, Option, Some, None, if◌then◌else◌, length, map, encode_utf8, refl, ⊤}
 use Rattle.std.specs.Option.{option_eq}
 use Rattle.std.specs.Ordering.{int_eq}
-use Rattle.std.proofs.Common.{ap, ◌∙◌, sym, eqb-true, arith}
+use Rattle.std.proofs.Common.{ap, ◌∙◌, sym, subst, eqb-true, arith}
 use Rattle.std.proofs.lemmas.Bool.{and_parts}
 use Rattle.std.proofs.lemmas.Bool.Decides.{Decides-int_eq}
 use mathlib.Core.Bool.{beq}
@@ -206,3 +206,147 @@ module _ {V P : Type 0} {equal : P → P → Bool} {chosen : P → Tree} (same :
   pub choice_respects : {eq : V → V → Bool} → ((v w : V) → eq v w ≡ true → equal (parts v) (parts w) ≡ true)
       → Respects eq (λ v. Tree.choice (chosen (parts v)))
   choice_respects so v w h = ap Tree.choice (same (parts v) (parts w) (so v w h))
+
+-- ---- what a type says of its values, and what is owed for it
+
+-- Values that are equal by this `==` mean the same tree, where what is owed holds: that the parts are what they say.
+pub record Sameness (V : Type 0) : Type 1 where
+  pub eq : V → V → Bool
+  pub meaning : V → Tree
+  pub Owed : Type 0
+  pub holds : Owed → Respects eq meaning
+
+-- It is said of this `==` and of what the values mean.
+pub record TiedSameness {V : Type 0} (sameness : Sameness V) (eq : V → V → Bool) (meaning : V → Tree) : Type 0 where
+  pub owed : sameness.Owed
+  pub means : sameness.meaning ≡ meaning
+  pub equal : (x y : V) → eq x y ≡ true → sameness.eq x y ≡ true
+
+pub respects_of : {V : Type 0} (sameness : Sameness V) {eq : V → V → Bool} {meaning : V → Tree} → TiedSameness sameness eq meaning → Respects eq meaning
+respects_of {V} sameness {eq = eq} t =
+    subst (λ (m : V → Tree). Respects eq m) t.means (λ x y h. sameness.holds t.owed x y (t.equal x y h))
+
+-- of which nothing is owed
+abbrev pub plain_sameness : {V : Type 0} (eq : V → V → Bool) (meaning : V → Tree) → Respects eq meaning → Sameness V
+plain_sameness eq meaning r = record { eq = eq; meaning = meaning; Owed = ⊤; holds = λ o. r }
+
+-- by what the type of a part says of itself
+abbrev pub sameness_by : {V A : Type 0} (a : Sameness A) (equal : A → A → Bool) (means : A → Tree) (eq : V → V → Bool) (meaning : V → Tree)
+    → (Respects equal means → Respects eq meaning) → Sameness V
+sameness_by a equal means eq meaning so = record { eq = eq; meaning = meaning; Owed = TiedSameness a equal means; holds = λ t. so (respects_of a t) }
+
+module _ {V A : Type 0} (a : Sameness A) where
+  -- as that of a part
+  abbrev pub sameness_as : (part : V → A) → Sameness V
+  sameness_as part = record {
+    eq = λ x y. a.eq (part x) (part y);
+    meaning = λ v. a.meaning (part v);
+    Owed = a.Owed;
+    holds = λ o. part_respects part (a.holds o);
+  }
+
+  abbrev pub wrapped_sameness : (equal : A → A → Bool) (means : A → Tree) (w : Wrapper) (part : V → A) → Sameness V
+  wrapped_sameness equal means w part = sameness_by a equal means (λ x y. equal (part x) (part y)) (λ v. Tree.wrapped w (means (part v))) (λ r. wrapped_respects part r w)
+
+-- one member
+pub record MemberSameness (V : Type 0) : Type 1 where
+  pub eq : V → V → Bool
+  pub in_front : V → Trees → Trees
+  pub Owed : Type 0
+  pub holds : Owed → RespectsMember eq in_front
+
+pub record TiedMemberSameness {V : Type 0} (sameness : MemberSameness V) (eq : V → V → Bool) (in_front : V → Trees → Trees) : Type 0 where
+  pub owed : sameness.Owed
+  pub means : sameness.in_front ≡ in_front
+  pub equal : (x y : V) → eq x y ≡ true → sameness.eq x y ≡ true
+
+pub respects_member_of : {V : Type 0} (sameness : MemberSameness V) {eq : V → V → Bool} {in_front : V → Trees → Trees}
+    → TiedMemberSameness sameness eq in_front → RespectsMember eq in_front
+respects_member_of {V} sameness {eq = eq} t =
+    subst (λ (m : V → Trees → Trees). RespectsMember eq m) t.means (λ x y h. sameness.holds t.owed x y (t.equal x y h))
+
+module _ {V A : Type 0} (a : Sameness A) (equal : A → A → Bool) (means : A → Tree) where
+  abbrev pub member_by : (eq : V → V → Bool) (in_front : V → Trees → Trees) → (Respects equal means → RespectsMember eq in_front) → MemberSameness V
+  member_by eq in_front so = record { eq = eq; in_front = in_front; Owed = TiedSameness a equal means; holds = λ t. so (respects_of a t) }
+
+-- all members
+pub record MembersSameness (P : Type 0) : Type 1 where
+  pub tests : P → P → List Bool
+  pub members : P → Trees
+  pub Owed : Type 0
+  pub holds : Owed → RespectMembers tests members
+
+pub record TiedMembersSameness {P : Type 0} (sameness : MembersSameness P) (tests : P → P → List Bool) (members : P → Trees) : Type 0 where
+  pub owed : sameness.Owed
+  pub means : sameness.members ≡ members
+  pub equal : (x y : P) → AreTrue (tests x y) → AreTrue (sameness.tests x y)
+
+pub respect_of : {P : Type 0} (sameness : MembersSameness P) {tests : P → P → List Bool} {members : P → Trees}
+    → TiedMembersSameness sameness tests members → RespectMembers tests members
+respect_of {P} sameness {tests = tests} t =
+    subst (λ (m : P → Trees). RespectMembers tests m) t.means (record { same = λ x y h. (sameness.holds t.owed).same x y (t.equal x y h) })
+
+abbrev pub plain_members : {P : Type 0} (tests : P → P → List Bool) (members : P → Trees) → RespectMembers tests members → MembersSameness P
+plain_members tests members r = record { tests = tests; members = members; Owed = ⊤; holds = λ o. r }
+
+abbrev pub no_members : {P : Type 0} → MembersSameness P
+no_members = plain_members (λ _ _. []) (λ _. Trees.none) none_respect
+
+module _ {P : Type 0} where
+  abbrev pub member_then : {A : Type 0} (first : P → A) (a : MemberSameness A) (eq : A → A → Bool) (in_front : A → Trees → Trees) → MembersSameness P → MembersSameness P
+  member_then first a eq in_front others = record {
+    tests = λ x y. eq (first x) (first y) ∷ others.tests x y;
+    members = λ x. in_front (first x) (others.members x);
+    Owed = TiedMemberSameness a eq in_front × others.Owed;
+    holds = λ o. member_respects first (respects_member_of a o.0) (others.holds o.1);
+  }
+
+  abbrev pub element_then : {A : Type 0} (first : P → A) (a : Sameness A) (eq : A → A → Bool) (meaning : A → Tree) → MembersSameness P → MembersSameness P
+  element_then first a eq meaning = member_then first (member_by a eq meaning eq (λ v. Trees.more (meaning v)) (λ r. always_respects r (λ v. v))) eq (λ v. Trees.more (meaning v))
+
+  abbrev pub members_at : {Q : Type 0} (part : P → Q) (q : MembersSameness Q) (tests : Q → Q → List Bool) (members : Q → Trees) → MembersSameness P
+  members_at part q tests members = record {
+    tests = λ x y. tests (part x) (part y);
+    members = λ x. members (part x);
+    Owed = TiedMembersSameness q tests members;
+    holds = λ t. members_respect part (respect_of q t);
+  }
+
+module _ {S P : Type 0} (m : MembersSameness P) (parts : S → P) where
+  -- a struct with a derived `==`, and a tuple
+  abbrev pub struct_sameness : Sameness S
+  struct_sameness = record {
+    eq = λ x y. conjunction (m.tests (parts x) (parts y));
+    meaning = sequence_of m.members parts;
+    Owed = m.Owed;
+    holds = λ o. struct_respects (m.holds o) parts;
+  }
+
+  abbrev pub tuple_sameness : Sameness S
+  tuple_sameness = record {
+    eq = λ x y. conjunction_after true (m.tests (parts x) (parts y));
+    meaning = sequence_of m.members parts;
+    Owed = m.Owed;
+    holds = λ o. tuple_respects (m.holds o) parts;
+  }
+
+-- alternatives
+abbrev pub this_or_other_sameness : {A B : Type 0} (a : Sameness A) (equal : A → A → Bool) (means : A → Tree) (b : Sameness B) (other : B → B → Bool) (chosen : B → Tree) → Sameness (OneOf A B)
+this_or_other_sameness a equal means b other chosen = record {
+  eq = equal_this_or_other equal other;
+  meaning = chosen_of means chosen;
+  Owed = TiedSameness a equal means × TiedSameness b other chosen;
+  holds = λ o. this_or_other_respects (respects_of a o.0) (respects_of b o.1);
+}
+
+abbrev pub this_or_other_by : {A B : Type 0} (a : Sameness A) (equal : A → A → Bool) (means : A → Tree) (b : Sameness B) → Sameness (OneOf A B)
+this_or_other_by a equal means b = this_or_other_sameness a equal means b b.eq b.meaning
+
+-- a choice of them with this `==`: values that are equal have equal alternatives
+abbrev pub choice_sameness : {V P : Type 0} (c : Sameness P) (parts : V → P) (eq : V → V → Bool) → ((v w : V) → eq v w ≡ true → c.eq (parts v) (parts w) ≡ true) → Sameness V
+choice_sameness c parts eq so = record {
+  eq = eq;
+  meaning = λ v. Tree.choice (c.meaning (parts v));
+  Owed = c.Owed;
+  holds = λ o. choice_respects (c.holds o) parts so;
+}
