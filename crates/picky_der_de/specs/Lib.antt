@@ -26,6 +26,9 @@ pub mod Known
 pub mod KnownChoices
 pub mod KnownContainers
 pub mod KnownMembers
+pub mod Faithful
+pub mod MadeValues
+pub mod Examples
 pub mod LayoutLaws
 pub mod Layouts
 pub mod Lending
