@@ -6,9 +6,9 @@ use Rattle.std.proofs.Math.Seq.{take-append_seam}
 use Rattle.std.proofs.lemmas.List.{take-append-drop}
 use Rattle.std.proofs.lemmas.Grind.{common_steps}
 use Rattle.std.specs.Int.Digits.{number_from_digits}
-use Rattle.picky_der_core.specs.Element.{length_octets, big_endian, AreBytes, IsPrefix}
-use Rattle.picky_der_core.specs.ElementLaws.{length_octets-short, length_octets-long}
-use Rattle.picky_der_core.specs.BigEndianLaws.{big_endian-number}
+use Rattle.picky_der_core.specs.Element.{length_octets, AreBytes, IsPrefix}
+use Rattle.picky_der_core.specs.ElementLaws.{length_octets-short}
+use Rattle.picky_der_core.specs.LengthLaws.{length_octets-number}
 use Rattle.picky_der_core.specs.Tag.{number_of, IsTagNumber}
 use Rattle.std.specs.Io.KnownBytes.{Consumes}
 use Rattle.picky_der_core.specs.Peeking.{position_behind, count_of_any}
@@ -20,33 +20,28 @@ use Rattle.picky_der_de.proofs.Pieces.{bytes_in_front, moved_few}
 
 -- ---- lengths in front
 
--- the long form of one and of two bytes
-long_one : (b : ℕ) → 0x80 ≤ b → b < 256 → length_octets b ≡ 0x81 ∷ b ∷ []
-long_one b long byte =
-    let number : b ≡ number_from_digits 256 (b ∷ []) = omega arith in
-    let is : big_endian b ≡ b ∷ [] = ap big_endian number ∙ big_endian-number b [] (omega arith) (byte, tt) in
-    length_octets-long b long ∙ rw is refl
-
-long_two : (b d : ℕ) → 0 < b → b < 256 → d < 256 → length_octets (b * 256 + d) ≡ 0x82 ∷ b ∷ d ∷ []
-long_two b d some byte other =
-    let number : b * 256 + d ≡ number_from_digits 256 (b ∷ d ∷ []) = omega arith in
-    let is : big_endian (b * 256 + d) ≡ b ∷ d ∷ [] = ap big_endian number ∙ big_endian-number b (d ∷ []) some (byte, (other, tt)) in
-    length_octets-long (b * 256 + d) (omega arith) ∙ rw is refl
-
+-- one byte
 pub short_front : (bs : List ℕ) (n : ℕ) → 0 < length bs → get_or bs 0 0 ≡ n → n < 0x80 → IsPrefix (length_octets n) bs × (1 ≡ length (length_octets n))
 short_front [] n some e h = absurd (omega arith)
 short_front (b ∷ bs) n some e h = rw (length_octets-short n h) (record { rest = bs; is = ap (λ x. x ∷ bs) e }, refl)
 
-pub one_front : (bs : List ℕ) (n : ℕ) → 1 < length bs → get_or bs 0 0 ≡ 0x81 → get_or bs 1 0 ≡ n → 0x80 ≤ n → n < 256 → IsPrefix (length_octets n) bs × (2 ≡ length (length_octets n))
-one_front [] n some f e h l = absurd (omega arith)
-one_front (b ∷ []) n some f e h l = absurd (omega arith)
-one_front (b ∷ d ∷ bs) n some f e h l = rw (long_one n h l) (record { rest = bs; is = rw (f, e) refl }, refl)
+-- the long form of one and of two bytes
+pub one_front : (bs : List ℕ) (n : ℕ) → 1 < length bs → get_or bs 0 0 ≡ 0x81 → get_or bs 1 0 ≡ n → n < 256 → length (length_octets n) ≡ 2 → IsPrefix (length_octets n) bs
+one_front [] n some f e l size = absurd (omega arith)
+one_front (b ∷ []) n some f e l size = absurd (omega arith)
+one_front (b ∷ d ∷ bs) n some f e l size =
+    let number : number_from_digits 256 (n ∷ []) ≡ n = omega arith in
+    let is = length_octets-number 0x81 1 (n ∷ []) (record { is = refl; some = omega arith; most = omega arith }) refl (l, tt) (ap (λ m. length (length_octets m)) number ∙ size) in
+    rw (ap length_octets (sym number) ∙ is) (record { rest = bs; is = rw (f, e) refl })
 
-pub two_front : (bs : List ℕ) (n m : ℕ) → 2 < length bs → get_or bs 0 0 ≡ 0x82 → get_or bs 1 0 ≡ n → get_or bs 2 0 ≡ m → 0 < n → n < 256 → m < 256 → IsPrefix (length_octets (n * 256 + m)) bs × (3 ≡ length (length_octets (n * 256 + m)))
-two_front [] n m some f e g h l k = absurd (omega arith)
-two_front (b ∷ []) n m some f e g h l k = absurd (omega arith)
-two_front (b ∷ d ∷ []) n m some f e g h l k = absurd (omega arith)
-two_front (b ∷ d ∷ x ∷ bs) n m some f e g h l k = rw (long_two n m h l k) (record { rest = bs; is = rw (f, e, g) refl }, refl)
+pub two_front : (bs : List ℕ) (n m : ℕ) → 2 < length bs → get_or bs 0 0 ≡ 0x82 → get_or bs 1 0 ≡ n → get_or bs 2 0 ≡ m → n < 256 → m < 256 → length (length_octets (n * 256 + m)) ≡ 3 → IsPrefix (length_octets (n * 256 + m)) bs
+two_front [] n m some f e g l k size = absurd (omega arith)
+two_front (b ∷ []) n m some f e g l k size = absurd (omega arith)
+two_front (b ∷ d ∷ []) n m some f e g l k size = absurd (omega arith)
+two_front (b ∷ d ∷ x ∷ bs) n m some f e g l k size =
+    let number : number_from_digits 256 (n ∷ m ∷ []) ≡ n * 256 + m = omega arith in
+    let is = length_octets-number 0x82 2 (n ∷ m ∷ []) (record { is = refl; some = omega arith; most = omega arith }) refl (l, (k, tt)) (ap (λ i. length (length_octets i)) number ∙ size) in
+    rw (ap length_octets (sym number) ∙ is) (record { rest = bs; is = rw (f, e, g) refl })
 
 -- ---- what is shown
 

@@ -111,9 +111,6 @@ module _ {V : Type 0} (meaning : V → Tree) (n : ℕ) (s : Shape) {a : State} w
   array_refused o r = rest_refused {kind = ListKind.sequence} (array_first n s) (λ v of_shape. of_shape.1) o r
 
   -- by what arrays mean
-  pub array_reads : {b : State} (vs : List V) → length vs ≡ n → Reads (array_of n s) a b (list_meaning ListKind.sequence meaning vs) → Reads (array_of n s) a b (array_meaning n meaning vs)
-  array_reads {b} vs full h = subst (Reads (array_of n s) a b) (sym (array_meaning-list meaning n vs full)) h
-
   pub array_refuses : {b : State} {e : Asn1DerError} (slots : ℕ) → slots ≡ n → Refuses (list_meaning ListKind.sequence meaning) (array_of slots s) a b e → Refuses (array_meaning n meaning) (array_of n s) a b e
   array_refuses {b} {e} slots same r =
       let h = subst (λ m. Refuses (list_meaning ListKind.sequence meaning) (array_of m s) a b e) same r in

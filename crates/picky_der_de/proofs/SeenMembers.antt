@@ -89,7 +89,3 @@ seen_less {before = before} {a = a} {c = c} {s = s} {t = t} h whole r f is same 
     let less : is_out_of_order c.sets (der t) ≡ true = ap (λ x. is_out_of_order x (der t)) sets ∙ ap (λ x. is_out_of_order before.sets x) (seen_is_read h whole r) ∙ h.order in
     let q : Reads s before c t = subst (λ (z : State). Reads s z c t) h.same r in
     member_untested q (out_of_order (record { fails = f; less = less; error = is; same = same })) (λ w. was_whole h whole)
-
--- the allocation for it failed
-pub unseen : {V : Type 0} {meaning : V → Tree} {s : Shape} {a c : State} {e : Asn1DerError} → a.implicit_tag ≡ None → Fails a c e → e ≡ OutOfMemory → RefusesMember meaning s a c e
-unseen whole f is = member_unread (record { fails = f; none = λ j. absurd (j.memory is); first = λ j. absurd (j.memory is) }) (λ w. whole)
