@@ -1,7 +1,6 @@
 use Rattle.std.proofs.Common.{[], sym, ◌∙◌, arith}
 use Rattle.picky_der_de.specs.Known.{is_known}
-use Rattle.picky_der_de.proofs.EntryReads.{front_read}
-use Rattle.picky_der_de.proofs.WholeInputs.{taken_all, is_whole, left_over, no_encoding}
+use Rattle.picky_der_de.proofs.EntryReads.{front_read, taken_all, is_whole, left_over, no_encoding}
 use Rattle.picky_der_de.proofs.whole.from_der.Goals as goal
 
 pub returns-then-position-bytes-clause-err : goal.returns-then-position-bytes-clause-err

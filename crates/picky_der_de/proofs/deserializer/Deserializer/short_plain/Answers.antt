@@ -1,8 +1,7 @@
 use Rattle.std.proofs.Common.{◌≡◌, suc, ◌+◌, ◌<◌, ◌≤◌, ◌^◌, length, None, ◌∙◌, refl, ap, arith}
 use Rattle.picky_der_core.specs.Peeking.{count_of_any}
 use Rattle.picky_der_de.specs.State.{State}
-use Rattle.picky_der_de.proofs.Ahead.{at_most_one, prefix_fits, shown_prefix, takes_shown}
-use Rattle.picky_der_de.proofs.WholeElements.{reads_short}
+use Rattle.picky_der_de.proofs.Ahead.{at_most_one, prefix_fits, shown_prefix, takes_shown, reads_short}
 use Rattle.picky_der_de.proofs.deserializer.Deserializer.short_plain.Goals as goal
 
 pub returns-clause-read : goal.returns-clause-read
