@@ -1,15 +1,15 @@
 -- Plain values, read and refused.
-use Rattle.std.proofs.Common.{◌≡◌, ℕ, ◌+◌, ◌<◌, ◌≤◌, ◌^◌, inl, inr, true, false, List, [], ◌∷◌, ◌++◌, length, take, Option, Some, None, IfSome, Ok, Err, refl, sym, ◌∙◌, ap, subst, arith, length-append, append_assoc, lt-ltb, le-ltb}
+use Rattle.std.proofs.Common.{◌≡◌, ℕ, ◌+◌, ◌<◌, ◌≤◌, ◌^◌, inl, inr, true, false, List, [], ◌∷◌, ◌++◌, length, take, Option, Some, None, IfSome, Ok, Err, refl, sym, ◌∙◌, ap, subst, arith, length-append, append_assoc, lt-ltb, le-ltb, suc, ◌*◌, get_or, nat_lt, add-one}
 use Rattle.std.specs.Io.KnownBytes.{Consumes}
 use Rattle.std.proofs.Math.Seq.{take-append_seam, drop-append_seam}
 use Rattle.std.proofs.lemmas.Bool.Decides.{nat_tests}
 use Rattle.std.proofs.lemmas.Grind.{common_steps}
 use Rattle.picky_der_core.specs.declared.error.Asn1DerError.{Asn1DerError}
 use Rattle.picky_der_core.specs.declared.error.Asn1DerError.TheVariants.{TruncatedData, UnsupportedValue}
-use Rattle.picky_der_core.specs.Element.{length_octets, tlv}
+use Rattle.picky_der_core.specs.Element.{length_octets, tlv, AreBytes}
 use Rattle.picky_der_core.specs.ElementLaws.{same_front}
 use Rattle.picky_der_core.specs.Tag.{number_of, is_tag_number, IsTagNumber}
-use Rattle.picky_der_core.specs.Primitive.{Primitive, PrimitiveShape, primitive_content, IsPrimitive, IsReadablePrimitive, shape_tag}
+use Rattle.picky_der_core.specs.Primitive.{Primitive, PrimitiveShape, primitive_content, IsPrimitive, IsReadablePrimitive, shape_tag, unsigned_content}
 use Rattle.picky_der_core.specs.PrimitiveLaws.{primitive_tag-shape}
 use Rattle.picky_der_core.specs.Tree.{Tree, is_plain}
 use Rattle.picky_der_core.specs.Encoding.{der, implicit_content, content, plain_tag}
@@ -18,7 +18,7 @@ use Rattle.picky_der_core.specs.FirstLaws.{contains_numbered}
 use Rattle.picky_der_core.specs.Readable.{IsNoChoice}
 use Rattle.picky_der_core.specs.Shape.{Shape, IsFirst}
 use Rattle.picky_der_core.specs.Reading.{written_at, MayStand, StandsAt}
-use Rattle.picky_der_core.specs.Refusal.{Judge, Refusal, refusal_leaving, header, header_refusal, refusal_of, content_refusal, ReadOutcome}
+use Rattle.picky_der_core.specs.Refusal.{Judge, Refusal, refusal_leaving, header, header_refusal, refusal_of, content_refusal, ReadOutcome, unsigned_error, number_error}
 use Rattle.picky_der_de.specs.State.{State}
 use Rattle.picky_der_de.specs.Steps.{Takes, TakesKept, Fails, IsCut, StopsShort, IsJudged, failed_with, is_hard, place_in, place_of, drawn_count}
 use Rattle.picky_der_de.specs.PlainKinds.{IsPlainKind, IsShortKind}
@@ -26,9 +26,11 @@ use Rattle.picky_der_de.specs.Reading.{Concerns, Refuses, refusal_in, refusal_at
 use Rattle.picky_der_de.specs.Headers.{header_bytes, BeginsContent, RefusesBegin, NoElement}
 use Rattle.picky_der_de.proofs.Steps.{takes_then, fails_after, judged_after}
 use Rattle.picky_der_de.proofs.Refusals.{concerns_behind, failed_grows, cut_grows, missing_here, end_below, taken_first}
-use Rattle.picky_der_de.proofs.Lengths.{cut_after}
+use Rattle.picky_der_de.proofs.Headers.{cut_after, header_length, length_tlv, header-read}
 use Rattle.picky_der_de.proofs.KnownBytes.{front_of, just_cut, just_taken, just_untaken, missing_before}
-use Rattle.picky_der_de.proofs.Headers.{header_length, length_tlv, header-read}
+use Rattle.std.specs.Int.Digits.{number_from_digits}
+use Rattle.std.proofs.Math.Nat.{pow-suc, pow-le-pow_right}
+use Rattle.picky_der_core.specs.UnsignedLaws.{content-unsigned_error}
 
 -- ---- what follows the header
 
@@ -272,3 +274,38 @@ refuses_kept {judge = judge} kind h k f bad same =
 -- the same of values that hold such a value
 pub refuses_of : {V W : Type 0} {meaning : V → Tree} {s : Shape} {a c : State} {e : Asn1DerError} (part : W → V) → Refuses meaning s a c e → Refuses (λ w. meaning (part w)) s a c e
 refuses_of part h = record { fails = h.fails; none = λ j end bs k w. h.none j end bs k (part w); first = h.first }
+
+-- ---- numbers and the bytes that they are read from
+
+pub more_bytes : (k n d : ℕ) → n < 256 ^ k → d < 256 → n * 256 + d < 256 ^ (k + 1)
+more_bytes k n d h l =
+    let e : 256 ^ (k + 1) ≡ 256 ^ k * 256 = ap (λ m. 256 ^ m) (add-one k) ∙ pow-suc 256 k in
+    omega (arith, e)
+
+-- and it has at most so many bits
+pub more_bytes_fit : (k m n d : ℕ) → k < m → n < 256 ^ k → d < 256 → n * 256 + d < 256 ^ m
+more_bytes_fit k m n d l h b =
+    let most : 256 ^ (k + 1) ≤ 256 ^ m = pow-le-pow_right {n = 256} (omega arith) (omega arith) in
+    omega (arith, more_bytes k n d h b, most)
+
+-- a list that holds a byte at each index
+pub bytes_by_index : (bs : List ℕ) → ((i : ℕ) → get_or bs i 0 < 256) → AreBytes bs
+bytes_by_index [] h = tt
+bytes_by_index (b ∷ bs) h = (h 0, bytes_by_index bs (λ i. h (suc i)))
+
+-- the content from which a number was read
+pub content_of_number : (n : ℕ) (content digits : List ℕ) → AreBytes content → ((most : ℕ) → unsigned_error most content ≡ number_error most digits) → length digits ≤ 16
+    → n ≡ number_from_digits 256 digits → number_from_digits 256 digits ≡ number_from_digits 256 content → content ≡ unsigned_content n
+content_of_number n content digits bytes same short e f =
+    let a : nat_lt 16 (length digits) ≡ false = grind (arith, nat_tests) in
+    let b : nat_lt n (number_from_digits 256 digits) ≡ false = grind (arith, nat_tests) in
+    let none : number_error n digits ≡ None = rw (a, b) refl in
+    (content-unsigned_error n content bytes (same n ∙ none)).0 ∙ ap unsigned_content (sym f ∙ sym e)
+
+-- the content of one byte that isn't that of a negative number
+pub content_of_digit : (n : ℕ) (content : List ℕ) → 1 ≤ length content → length content < 2 → get_or content 0 0 < 0x80 → n ≡ get_or content 0 0 → content ≡ unsigned_content n
+content_of_digit n [] some one small e = absurd (omega arith)
+content_of_digit n (b ∷ []) some one small e =
+    let a : nat_lt b 0x80 ≡ true = grind (arith, nat_tests) in
+    content_of_number n (b ∷ []) (b ∷ []) (omega arith, tt) (λ most. rw a refl) (omega arith) (omega arith) refl
+content_of_digit n (b ∷ d ∷ bs) some one small e = absurd (omega arith)

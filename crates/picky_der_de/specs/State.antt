@@ -1,4 +1,4 @@
--- What contracts see of an input, and of the deserializer that holds it.
+-- What contracts see of a deserializer.
 use Rattle.std.specs.Prelude.{ℕ, List, [], Option, None}
 use Rattle.picky_der_core.specs.declared.failure.Failure.{Failure}
 use Rattle.picky_der_core.specs.Faults.{Fault}

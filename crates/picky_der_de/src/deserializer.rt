@@ -1,11 +1,12 @@
 //! What reads values of any type from an input, and how far the input may be read.
-ghost use Rattle.std.specs.Prelude.{◌≡◌, ◌<◌, ◌^◌, ℕ, List, [], length, false, Option, None, Some, IfNone, IfSome};
+ghost use Rattle.std.specs.Prelude.{◌≡◌, ◌≢◌, ◌<◌, ◌^◌, ℕ, List, [], length, false, Option, None, Some, IfNone, IfSome};
 ghost use Rattle.picky_der_de.specs.State.{fresh};
 ghost use Rattle.std.specs.IoError.{error_kind};
 ghost use Rattle.picky_der_core.specs.Error.{error_of_kind};
 ghost use Rattle.picky_der_core.specs.Failure.{failure_of};
 ghost use Rattle.picky_der_core.specs.Peeking.{in_front};
 ghost use Rattle.picky_der_de.specs.Steps.{IsWithin, Fails, IsOther, failed_with};
+ghost use Rattle.picky_der_de.specs.Refusing.{FailsAs};
 
 mod ahead;
 mod draw;
@@ -16,8 +17,8 @@ mod order;
 mod peek;
 mod plain;
 mod raw;
-mod refusals;
 mod texts;
+mod unsupported;
 mod wrapper;
 
 use crate::End;
@@ -150,6 +151,23 @@ impl<R: ReadExt> Deserializer<R> {
         ensures { result ≡ false }
     {
         false
+    }
+
+    /// Makes the deserializer fail with this error, and returns it. If it has failed before, nothing changes and the earlier
+    /// error is returned. Nothing is consumed.
+    ///
+    /// A hand-written `deserialize` calls it if the parts that it has read make no value. More bytes can't change that, and the
+    /// reader didn't fail, so the error may be neither `TruncatedData` nor `Other`.
+    pub fn refuse(&mut self, kind: Asn1DerError) -> Asn1DerError
+        requires no_fault { IsOther kind → ⊥ }
+        requires lasting { kind ≢ Asn1DerError.TruncatedData }
+        ensures is { FailsAs kind self.old result self.new }
+        ensures fails { Fails self.old self.new result }
+    {
+        match self.earlier() {
+            Some(error) => error,
+            None => self.fail(kind),
+        }
     }
 
     // The allocator of the vectors.

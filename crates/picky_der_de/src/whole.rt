@@ -44,7 +44,7 @@ pub fn from_der<T: Deserialize>(alloc: Global, bytes: &[u8]) -> Result<T, Decode
     ensures err { IfErr result (λ refusal. IsNoEncoding T.meaning T.shape bytes.now
         refusal.error refusal.position) }
 {
-    let mut de = Deserializer::new_from_bytes(alloc, bytes);
+    let mut de = Deserializer::new_from_reader(alloc, bytes, bytes.len());
     let outcome = T::deserialize(&mut de);
     let position = de.taken();
     // No effect at run time.

@@ -14,7 +14,7 @@ ghost use Rattle.picky_der_de.specs.Reading.{ReadsPrimitive, RefusesPrimitive};
 
 use super::Deserializer;
 use picky_der_core::asn1::Tag;
-use picky_der_core::misc::{PeekableReader, ReadExt};
+use picky_der_core::misc::{Length, PeekableReader, ReadExt};
 use picky_der_core::{Asn1DerError, Result};
 use std::alloc::{AllocError, Global};
 
@@ -31,12 +31,12 @@ fn length_in_front(bytes: &[u8]) -> Option<(usize, usize)>
     if bytes[0] < 0x80 {
         return Some((usize::from(bytes[0]), 1));
     }
-    if bytes[0] == 0x81 && bytes.len() > 1 && bytes[1] >= 0x80 {
-        return Some((usize::from(bytes[1]), 2));
+    if bytes[0] == 0x81 && bytes.len() > 1 {
+        return Some((Length::shortest(1, usize::from(bytes[1])).ok()?, 2));
     }
-    if bytes[0] == 0x82 && bytes.len() > 2 && bytes[1] > 0x00 {
+    if bytes[0] == 0x82 && bytes.len() > 2 {
         let len = usize::from(bytes[1]) * 256 + usize::from(bytes[2]);
-        return Some((len, 3));
+        return Some((Length::shortest(2, len).ok()?, 3));
     }
     None
 }

@@ -76,22 +76,13 @@ impl<R: ReadExt> Deserializer<R> {
         ensures err { IfErr result (RefusesBegin tag self.old self.new) }
         ensures memory { IfErr result (TakesNoMemory self.old self.new) }
     {
-        match self.begin_ahead(tag) {
+        if !self.wants_header() {
+            return self.draw_begin(tag);
+        }
+        match self.take_header_ahead(tag) {
             Some(len) => Ok(len),
             None => self.draw_begin(tag),
         }
-    }
-
-    // The same, if the header is ahead whole.
-    #[inline(always)]
-    fn begin_ahead(&mut self, tag: Tag) -> Option<usize>
-        ensures some { IfSome result (BeginsContent tag self.old self.new) }
-        ensures none { IfNone result (self.new ≡ self.old) }
-    {
-        if !self.wants_header() {
-            return None;
-        }
-        self.take_header_ahead(tag)
     }
 
     // Consumes the header of a sequence or set under this tag, and opens its end. Directly under an implicit tag the header
@@ -107,26 +98,14 @@ impl<R: ReadExt> Deserializer<R> {
     {
         let len = self.begin(tag)?;
         let outer = self.open_end(len, End::Soft);
-        self.order_members(tag);
+        self.last_start = (tag == Tag::SET).then_some(self.kept.len());
         Ok(outer)
-    }
-
-    // Prepares for the members of a list under this tag. Only the order of a set's members is tested.
-    fn order_members(&mut self, tag: Tag)
-        requires { self.old.sets.last ≡ None }
-        ensures { self.new ≡ record self.old {
-          sets = record self.old.sets { last = order_of tag };
-        } }
-    {
-        if tag == Tag::SET {
-            self.last_start = Some(self.kept.len());
-        }
     }
 
     // Opens a soft end `len` bytes from here, before which no order is tested. Directly under an implicit tag the contents
     // have their own header.
     //
-    // If these bytes reach past the innermost end, the input has failed: with `InvalidData` at a hard end, and else with
+    // If these bytes reach past the innermost end, the deserializer has failed: with `InvalidData` at a hard end, and else with
     // `TruncatedData`. If it had failed before, nothing changes.
     pub(crate) fn open_lazily(&mut self, len: usize) -> Outer
         ensures opened { OpensLazily len self.old self.new result }
@@ -261,7 +240,7 @@ impl<R: ReadExt> Deserializer<R> {
         Ok(value)
     }
 
-    // Whether the innermost end is reached. The only error is the earlier one, if the input has failed.
+    // Whether the innermost end is reached. The only error is the earlier one, if the deserializer has failed.
     pub(crate) fn is_at_end(&self) -> Result<bool>
         ensures ok { IfOk result (λ here. (self.now.failed ≡ None)
             × (IsTrue here ↔ (self.now.until_end ≡ 0))) }

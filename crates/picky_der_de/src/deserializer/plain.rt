@@ -159,7 +159,7 @@ impl<R: ReadExt> Deserializer<R> {
         if !self.wants_header() {
             return None;
         }
-        let content = short_in_front(near(&self.reader, self.until_end), K::tag())?;
+        let content = short_in_front(near(&self.reader, self.until_end), K::TAG)?;
         let count = content.len() + 2;
         let Ok(value) = K::of_content(content) else {
             return None;
@@ -178,7 +178,7 @@ impl<R: ReadExt> Deserializer<R> {
         ensures err { IfErr result (RefusesJudged K.meaning K.shape K.judge self.old self.new) }
         ensures memory { IfErr result (TakesNoMemory self.old self.new) }
     {
-        let len = self.begin(K::tag())?;
+        let len = self.begin(K::TAG)?;
         let content = self.draw_kept(len)?;
         match K::of_content(&content) {
             Ok(value) => Ok(value),

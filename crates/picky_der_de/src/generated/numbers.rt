@@ -9,8 +9,9 @@ ghost use Rattle.picky_der_de.specs.Reading.{Reads, Refuses, ReadsPrimitive, Ref
 ghost use Rattle.picky_der_de.specs.Reading.{ReadsInt, RefusesInt};
 ghost use Rattle.picky_der_de.specs.Known.{known_unsigned, known_int};
 
-use crate::{Deserialize, Deserializer};
+use crate::{Begins, Deserialize, Deserializer, UnsignedInteger};
 use picky_der_core::Result;
+use picky_der_core::asn1::Tag;
 use picky_der_core::misc::ReadExt;
 
 impl Deserialize for u8 {
@@ -21,7 +22,7 @@ impl Deserialize for u8 {
     ghost tied = { Prim.assumption };
 
     #[inline(always)]
-    #[tactic(auto, using(crate::proofs::NumberReads::reads_within))]
+    #[tactic(auto, using(crate::proofs::NumberReads::number))]
     fn deserialize<R: ReadExt>(de: &mut Deserializer<R>) -> Result<u8>
         ensures read { IfOk result (λ value. ReadsPrimitive (PrimitiveShape.unsigned (2 ^ 8 - 1))
             de.old de.new (Primitive.unsigned value)) }
@@ -34,7 +35,13 @@ impl Deserialize for u8 {
             de.old de.new) }
         ensures memory { IfErr result (TakesNoMemory de.old de.new) }
     {
-        de.deserialize_u8()
+        de.read_plain::<UnsignedInteger, u8>()
+    }
+}
+
+impl Begins for u8 {
+    fn begins_with(tag: Tag) -> bool {
+        tag == Tag::INTEGER
     }
 }
 
@@ -46,7 +53,7 @@ impl Deserialize for u16 {
     ghost tied = { Prim.assumption };
 
     #[inline(always)]
-    #[tactic(auto, using(crate::proofs::NumberReads::reads_within))]
+    #[tactic(auto, using(crate::proofs::NumberReads::number))]
     fn deserialize<R: ReadExt>(de: &mut Deserializer<R>) -> Result<u16>
         ensures read { IfOk result (λ value. ReadsPrimitive (PrimitiveShape.unsigned (2 ^ 16 - 1))
             de.old de.new (Primitive.unsigned value)) }
@@ -59,7 +66,13 @@ impl Deserialize for u16 {
             de.old de.new) }
         ensures memory { IfErr result (TakesNoMemory de.old de.new) }
     {
-        de.deserialize_u16()
+        de.read_plain::<UnsignedInteger, u16>()
+    }
+}
+
+impl Begins for u16 {
+    fn begins_with(tag: Tag) -> bool {
+        tag == Tag::INTEGER
     }
 }
 
@@ -71,7 +84,7 @@ impl Deserialize for u32 {
     ghost tied = { Prim.assumption };
 
     #[inline(always)]
-    #[tactic(auto, using(crate::proofs::NumberReads::reads_within))]
+    #[tactic(auto, using(crate::proofs::NumberReads::number))]
     fn deserialize<R: ReadExt>(de: &mut Deserializer<R>) -> Result<u32>
         ensures read { IfOk result (λ value. ReadsPrimitive (PrimitiveShape.unsigned (2 ^ 32 - 1))
             de.old de.new (Primitive.unsigned value)) }
@@ -84,7 +97,13 @@ impl Deserialize for u32 {
             de.old de.new) }
         ensures memory { IfErr result (TakesNoMemory de.old de.new) }
     {
-        de.deserialize_u32()
+        de.read_plain::<UnsignedInteger, u32>()
+    }
+}
+
+impl Begins for u32 {
+    fn begins_with(tag: Tag) -> bool {
+        tag == Tag::INTEGER
     }
 }
 
@@ -96,7 +115,7 @@ impl Deserialize for u64 {
     ghost tied = { Prim.assumption };
 
     #[inline(always)]
-    #[tactic(auto, using(crate::proofs::NumberReads::reads_within))]
+    #[tactic(auto, using(crate::proofs::NumberReads::number))]
     fn deserialize<R: ReadExt>(de: &mut Deserializer<R>) -> Result<u64>
         ensures read { IfOk result (λ value. ReadsPrimitive (PrimitiveShape.unsigned (2 ^ 64 - 1))
             de.old de.new (Primitive.unsigned value)) }
@@ -109,7 +128,13 @@ impl Deserialize for u64 {
             de.old de.new) }
         ensures memory { IfErr result (TakesNoMemory de.old de.new) }
     {
-        de.deserialize_u64()
+        de.read_plain::<UnsignedInteger, u64>()
+    }
+}
+
+impl Begins for u64 {
+    fn begins_with(tag: Tag) -> bool {
+        tag == Tag::INTEGER
     }
 }
 
@@ -121,7 +146,7 @@ impl Deserialize for u128 {
     ghost tied = { Prim.assumption };
 
     #[inline(always)]
-    #[tactic(auto, using(crate::proofs::NumberReads::reads_within))]
+    #[tactic(auto, using(crate::proofs::NumberReads::number))]
     fn deserialize<R: ReadExt>(de: &mut Deserializer<R>) -> Result<u128>
         ensures read { IfOk result (λ value. ReadsPrimitive (PrimitiveShape.unsigned (2 ^ 128 - 1))
             de.old de.new (Primitive.unsigned value)) }
@@ -134,7 +159,13 @@ impl Deserialize for u128 {
             de.old de.new) }
         ensures memory { IfErr result (TakesNoMemory de.old de.new) }
     {
-        de.deserialize_u128()
+        de.read_plain::<UnsignedInteger, u128>()
+    }
+}
+
+impl Begins for u128 {
+    fn begins_with(tag: Tag) -> bool {
+        tag == Tag::INTEGER
     }
 }
 
@@ -146,7 +177,7 @@ impl Deserialize for usize {
     ghost tied = { Prim.assumption };
 
     #[inline(always)]
-    #[tactic(auto, using(crate::proofs::NumberReads::reads_within))]
+    #[tactic(auto, using(crate::proofs::NumberReads::number))]
     fn deserialize<R: ReadExt>(de: &mut Deserializer<R>) -> Result<usize>
         ensures read { IfOk result (λ value. ReadsPrimitive (PrimitiveShape.unsigned (2 ^ 64 - 1))
             de.old de.new (Primitive.unsigned value)) }
@@ -159,7 +190,13 @@ impl Deserialize for usize {
             de.old de.new) }
         ensures memory { IfErr result (TakesNoMemory de.old de.new) }
     {
-        Ok(de.deserialize_u64()? as usize)
+        de.read_plain::<UnsignedInteger, usize>()
+    }
+}
+
+impl Begins for usize {
+    fn begins_with(tag: Tag) -> bool {
+        tag == Tag::INTEGER
     }
 }
 
@@ -184,6 +221,12 @@ impl Deserialize for i8 {
     }
 }
 
+impl Begins for i8 {
+    fn begins_with(tag: Tag) -> bool {
+        tag == Tag::INTEGER
+    }
+}
+
 impl Deserialize for i16 {
     ghost shape = { Shape.primitive (PrimitiveShape.bytes 0x02) };
 
@@ -202,6 +245,12 @@ impl Deserialize for i16 {
         ensures memory { IfErr result (TakesNoMemory de.old de.new) }
     {
         de.deserialize_int()
+    }
+}
+
+impl Begins for i16 {
+    fn begins_with(tag: Tag) -> bool {
+        tag == Tag::INTEGER
     }
 }
 
@@ -226,6 +275,12 @@ impl Deserialize for i32 {
     }
 }
 
+impl Begins for i32 {
+    fn begins_with(tag: Tag) -> bool {
+        tag == Tag::INTEGER
+    }
+}
+
 impl Deserialize for i64 {
     ghost shape = { Shape.primitive (PrimitiveShape.bytes 0x02) };
 
@@ -247,6 +302,12 @@ impl Deserialize for i64 {
     }
 }
 
+impl Begins for i64 {
+    fn begins_with(tag: Tag) -> bool {
+        tag == Tag::INTEGER
+    }
+}
+
 impl Deserialize for i128 {
     ghost shape = { Shape.primitive (PrimitiveShape.bytes 0x02) };
 
@@ -265,5 +326,11 @@ impl Deserialize for i128 {
         ensures memory { IfErr result (TakesNoMemory de.old de.new) }
     {
         de.deserialize_int()
+    }
+}
+
+impl Begins for i128 {
+    fn begins_with(tag: Tag) -> bool {
+        tag == Tag::INTEGER
     }
 }

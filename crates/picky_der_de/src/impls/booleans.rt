@@ -6,7 +6,7 @@ ghost use Rattle.picky_der_de.specs.Steps.{TakesNoMemory};
 ghost use Rattle.picky_der_de.specs.Reading.{ReadsPrimitive, RefusesPrimitive};
 ghost use Rattle.picky_der_de.specs.Known.{known_boolean};
 
-use crate::{Deserialize, Deserializer};
+use crate::{Boolean, Deserialize, Deserializer};
 use picky_der_core::Result;
 use picky_der_core::misc::ReadExt;
 
@@ -25,6 +25,6 @@ impl Deserialize for bool {
             de.old de.new) }
         ensures memory { IfErr result (TakesNoMemory de.old de.new) }
     {
-        de.deserialize_bool()
+        de.read_plain::<Boolean, bool>()
     }
 }

@@ -11,7 +11,7 @@ ghost use Rattle.std.proofs.Common.{String, Global};
 ghost use Rattle.picky_der_de.specs.Steps.{TakesNoMemory};
 ghost use Rattle.picky_der_de.specs.KnownContainers.{known_option};
 
-use crate::{Deserialize, Deserializer, Null};
+use crate::{Deserialize, Deserializer, Null, Utf8String};
 use picky_der_core::Result;
 use picky_der_core::asn1::{ByteBuf, Tag, TaggedBytes};
 use picky_der_core::misc::ReadExt;
@@ -72,7 +72,7 @@ impl Deserialize for char {
             de.old de.new) }
         ensures memory { IfErr result (TakesNoMemory de.old de.new) }
     {
-        de.deserialize_char()
+        de.read_plain::<Utf8String, char>()
     }
 }
 

@@ -2,8 +2,7 @@ use Rattle.std.proofs.Common.{◌≡◌, ◌+◌, ◌-◌, ◌<◌, ◌≤◌, �
 use Rattle.picky_der_core.specs.Element.{length_octets, AreBytes}
 use Rattle.picky_der_core.specs.Peeking.{count_of_any}
 use Rattle.picky_der_de.specs.State.{State}
-use Rattle.picky_der_de.proofs.Ahead.{at_most_one, content_shown, shown_prefix, takes_shown}
-use Rattle.picky_der_de.proofs.WholeElements.{begins_whole, reads_content, refuses_for_memory}
+use Rattle.picky_der_de.proofs.Ahead.{at_most_one, content_shown, shown_prefix, takes_shown, begins_whole, reads_content, refuses_for_memory}
 use Rattle.picky_der_de.proofs.deserializer.Deserializer.copy_content_ahead.Goals as goal
 
 pub returns-clause-read : goal.returns-clause-read

@@ -2,8 +2,7 @@ use Rattle.std.proofs.Common.{◌≡◌, ◌≤◌, ◌<◌, ◌^◌, length, ta
 use Rattle.std.proofs.lemmas.Grind.{common_steps}
 use Rattle.picky_der_core.specs.Peeking.{count_of_any}
 use Rattle.picky_der_de.specs.State.{State}
-use Rattle.picky_der_de.proofs.Ahead.{at_most_one, element_alone, element_some, shown_first, takes_shown}
-use Rattle.picky_der_de.proofs.WholeElements.{reads_whole}
+use Rattle.picky_der_de.proofs.Ahead.{at_most_one, element_alone, element_some, shown_first, takes_shown, reads_whole}
 use Rattle.picky_der_de.proofs.deserializer.Deserializer.copy_element_ahead.Goals as goal
 
 pub returns-clause-read : goal.returns-clause-read

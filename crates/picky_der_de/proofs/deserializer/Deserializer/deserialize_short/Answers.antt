@@ -4,8 +4,7 @@ use Rattle.picky_der_core.specs.ElementLaws.{length_octets-short}
 use Rattle.picky_der_core.specs.Peeking.{count_of_any}
 use Rattle.picky_der_de.specs.State.{State}
 use Rattle.picky_der_de.specs.Steps.{Takes}
-use Rattle.picky_der_de.proofs.Ahead.{at_most_one, prefix_fits, shown_prefix, takes_shown}
-use Rattle.picky_der_de.proofs.WholeElements.{reads_content}
+use Rattle.picky_der_de.proofs.Ahead.{at_most_one, prefix_fits, shown_prefix, takes_shown, reads_content}
 use Rattle.picky_der_de.proofs.deserializer.Deserializer.deserialize_short.Goals as goal
 
 pub returns-clause-read : goal.returns-clause-read

@@ -1,7 +1,7 @@
 use Rattle.std.proofs.Common.{◌≡◌, ◌∙◌, ◌≤◌, ◌<◌, None, length, take, sym, ap, refl, arith, length-take, rules}
 use Rattle.picky_der_de.specs.State.{State}
-use Rattle.picky_der_de.proofs.Pieces.{given_piece}
-use Rattle.picky_der_de.proofs.ReaderFaults.{StopsAt, read_fails, read_missing, fault}
+use Rattle.picky_der_de.proofs.Contents.{given_piece}
+use Rattle.picky_der_de.proofs.Refusals.{StopsAt, read_fails, read_missing, fault}
 use Rattle.picky_der_de.proofs.deserializer.Deserializer.draw_piece.Goals as goal
 
 pub returns-in-Ok-clause-ok : goal.returns-in-Ok-clause-ok

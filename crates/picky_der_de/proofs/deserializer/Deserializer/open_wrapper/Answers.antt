@@ -1,7 +1,7 @@
 use Rattle.std.proofs.Common.{◌≡◌, sym, ◌∙◌, ap}
 use Rattle.std.proofs.lemmas.Result.{err_from_is_err_and}
 use Rattle.picky_der_de.specs.State.{State}
-use Rattle.picky_der_de.proofs.Openings.{opening_unused, opens_at_once, opens_behind_count}
+use Rattle.picky_der_de.proofs.WrapperReads.{opening_unused, opens_at_once, opens_behind_count}
 use Rattle.picky_der_de.proofs.deserializer.Deserializer.open_wrapper.Goals as goal
 use Rattle.picky_der_de.proofs.deserializer.Deserializer.open_wrapper.Goals.{then-counts_unused_bits+in_ok-take_unused_bits, else-counts_unused_bits}
 

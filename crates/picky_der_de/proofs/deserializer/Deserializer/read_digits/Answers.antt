@@ -1,8 +1,8 @@
 use Rattle.std.proofs.Common.{◌≡◌, ◌+◌, ◌*◌, ◌<◌, ◌∙◌, sym, ap, arith, refl}
 use Rattle.std.proofs.lemmas.Result.{err_from_is_err_and}
-use Rattle.picky_der_de.proofs.Numbers.{more_bytes, more_bytes_fit}
+use Rattle.picky_der_de.proofs.PlainReads.{more_bytes, more_bytes_fit}
 use Rattle.picky_der_de.proofs.Contents.{stops_short}
-use Rattle.picky_der_de.proofs.Lengths.{digits_none, digits_more}
+use Rattle.picky_der_de.proofs.Headers.{digits_none, digits_more}
 use Rattle.picky_der_de.proofs.deserializer.Deserializer.read_digits.Goals as goal
 
 pub loop-i-init : goal.loop-i-init

@@ -2,7 +2,7 @@ use Rattle.std.proofs.Common.{arith, refl}
 use Rattle.std.proofs.lemmas.Result.{err_from_is_err_and}
 use Rattle.picky_der_de.proofs.Steps.{takes_none, takes_then}
 use Rattle.picky_der_de.proofs.Contents.{stops_short}
-use Rattle.picky_der_de.proofs.Lengths.{takes_short, takes_long, refuses_at_first, refuses_at_digits, refuses_bad, no_long_count, longer}
+use Rattle.picky_der_de.proofs.Headers.{takes_short, takes_long, refuses_at_first, refuses_at_digits, refuses_bad, no_long_count, longer}
 use Rattle.picky_der_de.proofs.deserializer.Deserializer.read_length.Goals as goal
 
 pub returns-in_err-first-clause-err : goal.returns-in_err-first-clause-err

@@ -1,5 +1,5 @@
 use Rattle.std.proofs.Common.{take, refl}
-use Rattle.picky_der_de.proofs.Seen.{known_next, element_next, cut_member, order_seen}
+use Rattle.picky_der_de.proofs.SetOrder.{known_next, element_next, cut_member, order_seen}
 use Rattle.picky_der_de.proofs.deserializer.Deserializer.see_member.Goals as goal
 
 pub returns-then-is_before-clause-seen : goal.returns-then-is_before-clause-seen

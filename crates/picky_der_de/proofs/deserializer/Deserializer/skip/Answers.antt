@@ -1,7 +1,6 @@
 use Rattle.std.proofs.Common.{◌≡◌, ◌+◌, ◌-◌, ◌<◌, ◌++◌, take, ◌∙◌, arith}
 use Rattle.std.proofs.lemmas.Result.{err_from_is_err_and}
-use Rattle.picky_der_de.proofs.Contents.{stops_short}
-use Rattle.picky_der_de.proofs.Pieces.{takes_bytes-piece}
+use Rattle.picky_der_de.proofs.Contents.{stops_short, takes_bytes-piece}
 use Rattle.picky_der_de.proofs.deserializer.Deserializer.skip.Goals as goal
 
 pub loop-left-preserved : goal.loop-left-preserved

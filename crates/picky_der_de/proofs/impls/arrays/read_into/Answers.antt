@@ -3,7 +3,7 @@ use Rattle.std.proofs.lemmas.List.{take_more_set, take_all, length-set, length-t
 use Rattle.std.proofs.lemmas.Result.{IfErr-weaker, on_ok_weaker}
 use Rattle.picky_der_de.proofs.PassedOn.{refusal_passed_on, reads_at, refuses_at}
 use Rattle.picky_der_de.proofs.Rests.{row_reads}
-use Rattle.picky_der_de.proofs.ArrayReads.{ReadsFirst, first_none, first_more, first_all, first_refused, first_left, array_unopened, array_refused}
+use Rattle.picky_der_de.proofs.ListReads.{ReadsFirst, first_none, first_more, first_all, first_refused, first_left, array_unopened, array_refused}
 use Rattle.picky_der_de.proofs.impls.arrays.read_into.Goals as goal
 
 pub returns-in_err-members-clause-err : goal.returns-in_err-members-clause-err
