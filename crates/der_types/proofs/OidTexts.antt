@@ -1,13 +1,11 @@
 -- Arcs of an object identifier, and of a text.
-use Rattle.std.proofs.Common.{◌≡◌, ◌≢◌, ◌⊎◌, ℕ, ◌<◌, ◌==◌, Bool, true, false, not, ◌&&◌, ◌||◌, List, [], ◌∷◌, length, map, nat_lt, Some, None, Result, Ok, Err, IfErr, refl, sym, ap, ◌∙◌, inl, inr, arith}
+use Rattle.std.proofs.Common.{◌≡◌, ◌≢◌, ◌⊎◌, ℕ, ◌==◌, Bool, true, false, not, ◌&&◌, ◌||◌, List, [], ◌∷◌, map, nat_lt, Some, None, Result, Ok, Err, IfErr, refl, sym, ap, ◌∙◌, inl, inr, arith}
 use Rattle.std.specs.Prelude.{if◌then◌else◌}
 use Rattle.std.specs.Fmt.{decimal}
 use Rattle.std.proofs.lemmas.Bool.Decides.{nat_tests}
 use Rattle.std.proofs.lemmas.Fmt.{decimal_injective}
 use Rattle.der_types.specs.declared.oid_error.OidError.{OidError}
 use Rattle.der_types.specs.declared.oid_error.OidError.TheVariants.{FirstArc, SecondArc, OutOfMemory}
-use Rattle.der_types.specs.Subidentifiers.{subidentifiers}
-use Rattle.der_types.specs.SubidentifierLaws.{valid_subidentifiers, subidentifier-some}
 use Rattle.der_types.specs.Dotted.{dotted, AreFitting, parts_of, RefusesText}
 use Rattle.der_types.specs.ObjectIdentifier.{are_arcs, arcs_error, RefusesArcs, RefusesOidText}
 use Rattle.der_types.proofs.DottedLemmas.{slice_split-dotted}
