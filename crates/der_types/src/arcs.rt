@@ -67,8 +67,8 @@ impl<'a> Arcs<'a> {
         }
     }
 
-    // The arcs of the relative object identifier with this content.
-    pub(crate) fn of_relative_oid(content: &'a [u8]) -> Arcs<'a>
+    // The arcs that are the numbers of this content.
+    pub(crate) fn of_numbers(content: &'a [u8]) -> Arcs<'a>
         ensures { arcs_left result ≡ numbers_behind 0 content.now }
     {
         Arcs {

@@ -57,6 +57,7 @@ pub fn object_identifiers()
 
 /// Each list of at least one arc has a content as a RELATIVE-OID, each content encodes such a list, and different lists have different
 /// contents.
+#[tactic(auto, using(crate::specs::RelativeOidLaws::valid_relative, crate::specs::RelativeOidLaws::relative_arcs, crate::specs::RelativeOidLaws::same_relative))]
 pub fn relative_oids()
     ensures made { (arcs : List ℕ) → are_relative_arcs arcs ≡ true
         → is_relative_oid (relative_oid_content arcs) ≡ true }

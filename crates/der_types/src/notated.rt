@@ -14,8 +14,8 @@ use crate::{
 use picky_asn1_der::application_tag::ApplicationTag;
 use picky_asn1_der::{Asn1RawDer, LaterMembers};
 use picky_der_core::asn1::{
-    Asn1SequenceOf, Asn1SetOf, BitStringAsn1Container, ByteBuf, ExplicitContextTag,
-    ImplicitContextTag, OctetStringAsn1Container, Retagged, TaggedBytes,
+    Asn1SequenceOf, Asn1SetOf, BitStringAsn1Container, ExplicitContextTag, ImplicitContextTag,
+    OctetStringAsn1Container, Retagged, TaggedBytes,
 };
 use picky_der_de::{
     Alternatives, Begins, Deserialize, DeserializeMember, DeserializeMembers, NoneOf, OneOf, OneOf4,
@@ -59,30 +59,6 @@ pub trait NotatedAlternatives: Alternatives {
 
     // They have the shapes of those alternatives.
     ghost offered: { Self.shapes ≡ shapes_of alternatives_notation };
-}
-
-impl Notated for bool {
-    ghost notation = { Notation.BOOLEAN };
-
-    ghost denoted = { refl };
-}
-
-impl Notated for () {
-    ghost notation = { Notation.NULL };
-
-    ghost denoted = { refl };
-}
-
-impl Notated for String {
-    ghost notation = { Notation.UTF8String };
-
-    ghost denoted = { refl };
-}
-
-impl Notated for ByteBuf {
-    ghost notation = { Notation.OCTET-STRING };
-
-    ghost denoted = { refl };
 }
 
 impl<S: CharacterSet> Notated for RestrictedString<S> {

@@ -95,7 +95,7 @@ class Terms(unittest.TestCase):
         self.check([("CHOICE { a NULL, ... }", "instead (CHOICE (NULL ∣ later-alternatives-refused))")])
 
     def test_what_is_kept_as_bytes(self):
-        self.check([("REAL", "instead (any-content 0x09)"), ("SEQUENCE { a T2 }", "SEQUENCE (required (instead ANY) ⨾ end)")])
+        self.check([("CHARACTER STRING", "instead (any-content 0x3D)"), ("SEQUENCE { a T2 }", "SEQUENCE (required (instead ANY) ⨾ end)")])
 
     def test_strings_that_contain_a_value(self):
         self.check([("OCTET STRING (CONTAINING NULL)", "OCTET-STRING-CONTAINING NULL")])
