@@ -30,6 +30,18 @@ def faithful_numbers() -> Lines:
     return found
 
 
+def faithful_defaults() -> Lines:
+    """Equal numbers are both a default, or neither is."""
+    found = []
+    for number in [*UNSIGNED, USIZE]:
+        out = "(λ it. nat_eq it N)"
+        found += same("<const N: u8>", f"FaithfulDefault<{number.name}>", "Number<N>", f"plain_default nat_eq {out} (number_alike {out})")
+    for number in SIGNED:
+        out = "(λ it. int_eq it N)"
+        found += same("<const N: i8>", f"FaithfulDefault<{number.name}>", "SignedNumber<N>", f"plain_default int_eq {out} (int_alike {out})")
+    return found
+
+
 def faithful_members(names: str) -> Lines:
     """Equal members of a tuple mean the same trees."""
     heads = [f"member_then (λ it. it.{at}) {it}.sameness {it}.known.eq {it}.in_front" for at, it in enumerate(names)]
@@ -53,10 +65,13 @@ def faithful() -> Lines:
         "ghost use Rattle.picky_der_core.specs.Integer.{fits_signed, int_tree, unsigned_tree};",
         "ghost use Rattle.picky_der_de.specs.Faithful.{plain_sameness, unsigned_respects, int_respects, no_members};",
         "ghost use Rattle.picky_der_de.specs.Faithful.{element_then, member_then, members_at, tuple_sameness};",
+        "ghost use Rattle.picky_der_de.specs.Faithful.{plain_default, number_alike, int_alike};",
         "",
-        "use crate::{Faithful, FaithfulMember, FaithfulMembers};",
+        "use crate::{Faithful, FaithfulDefault, FaithfulMember, FaithfulMembers};",
+        "use picky_der_ser::{Number, SignedNumber};",
         "",
         *faithful_numbers(),
+        *faithful_defaults(),
         *[line for names in WIDTHS for line in [*faithful_members(names), *faithful_tuple(names)]],
     ]
 

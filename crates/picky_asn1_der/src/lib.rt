@@ -8,10 +8,10 @@ pub mod de {
     pub use picky_der_de::{
         Alike, Alternatives, Begins, Boolean, Choice, DEFAULT_MAX_LEN, DecodeError, Deserialize,
         DeserializeMember, DeserializeMembers, Deserializer, Faithful, FaithfulAlternatives,
-        FaithfulMember, FaithfulMembers, Inhabited, Int, NoneOf, Null, OneOf, OneOf4, Sequence,
-        Struct, TryAlike, UInt, UnsignedInteger, Utf8String, deserialize_as, deserialize_choice_as,
-        deserialize_struct_as, from_bytes, from_der, from_reader, from_reader_with_max_len,
-        next_from_bytes, next_from_reader, try_deserialize_as,
+        FaithfulDefault, FaithfulMember, FaithfulMembers, Inhabited, Int, NoneOf, Null, OneOf,
+        OneOf4, Sequence, Struct, TryAlike, UInt, UnsignedInteger, Utf8String, deserialize_as,
+        deserialize_choice_as, deserialize_struct_as, from_bytes, from_der, from_reader,
+        from_reader_with_max_len, next_from_bytes, next_from_reader, try_deserialize_as,
     };
 }
 
@@ -36,9 +36,10 @@ pub use picky_der_core::misc::Length;
 pub use picky_der_core::{Asn1DerError, Result, asn1, laws, misc};
 pub use picky_der_de::{
     Alike, Alternatives, Choice, DecodeError, Deserialize, DeserializeMembers, Deserializer,
-    Faithful, FaithfulAlternatives, FaithfulMember, FaithfulMembers, Inhabited, NoneOf, OneOf,
-    OneOf4, Struct, TryAlike, deserialize_as, deserialize_struct_as, from_bytes, from_der,
-    from_reader, from_reader_with_max_len, next_from_bytes, next_from_reader, try_deserialize_as,
+    Faithful, FaithfulAlternatives, FaithfulDefault, FaithfulMember, FaithfulMembers, Inhabited,
+    NoneOf, OneOf, OneOf4, Struct, TryAlike, deserialize_as, deserialize_struct_as, from_bytes,
+    from_der, from_reader, from_reader_with_max_len, next_from_bytes, next_from_reader,
+    try_deserialize_as,
 };
 pub use picky_der_ser::{
     List, Serialize, SerializeMembers, Serializer, to_byte_buf, to_bytes, to_vec, to_writer,

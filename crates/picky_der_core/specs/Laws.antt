@@ -1,5 +1,5 @@
 -- The laws of canonical DER, each over the definitions alone.
-use Rattle.std.specs.Prelude.{◌≡◌, ℕ, ◌&&◌, ◌≤◌, ◌↔◌, List, ◌∷◌, ◌++◌, length, map, IsFalse}
+use Rattle.std.specs.Prelude.{◌≡◌, ℕ, ◌+◌, ◌*◌, ◌&&◌, ◌≤◌, ◌↔◌, List, ◌∷◌, ◌++◌, length, map, IsFalse}
 use Rattle.std.specs.List.{AllByRecursion, concat}
 use Rattle.std.specs.List.Sorted.{IsPermutation}
 use Rattle.picky_der_core.specs.OpenWrappers.{wrapped_content}
@@ -8,6 +8,7 @@ use Rattle.picky_der_core.specs.Tag.{number_of, IsTagNumber}
 use Rattle.picky_der_core.specs.Element.{length_octets, tlv, IsPrefix}
 use Rattle.picky_der_core.specs.Tree.{ListKind, Tree, trees, is_absent}
 use Rattle.picky_der_core.specs.Encoding.{der}
+use Rattle.picky_der_core.specs.Held.{held}
 use Rattle.picky_der_core.specs.Readable.{IsReadable}
 use Rattle.picky_der_core.specs.Shape.{Shape, IsOf, IsSound, IsFirst}
 use Rattle.picky_der_core.specs.Wrapper.{wrapper_tag, can_vanish, HasTagNumber}
@@ -64,3 +65,7 @@ OneInside =
 -- sets of the same members, each as often, in any order, have one encoding
 abbrev pub SetOrder : Type 0
 SetOrder = (ts us : List Tree) → IsPermutation ts us → der (Tree.list ListKind.set (trees ts)) ≡ der (Tree.list ListKind.set (trees us))
+
+-- a readable tree holds less than twice its encoding
+abbrev pub NoAmplification : Type 0
+NoAmplification = (t : Tree) → IsReadable t → held t + 1 ≤ 2 * length (der t)

@@ -13,7 +13,6 @@ use Rattle.picky_der_core.specs.Integer.{int_tree, unsigned_tree}
 use Rattle.picky_der_core.specs.Primitive.{Primitive}
 use Rattle.picky_der_core.specs.Tree.{ListKind, Tree, Trees, trees}
 use Rattle.picky_der_ser.specs.Meaning.{array_meaning, maybe_more, option_meaning, unless_default}
-use Rattle.picky_der_ser.specs.Defaults.{IsByTree}
 use Rattle.picky_der_de.specs.KnownMembers.{AreTrue, conjunction, conjunction_after, sequence_of}
 use Rattle.picky_der_de.specs.OtherLaws.{others_of}
 use Rattle.picky_der_de.specs.declared.alternatives.OneOf.{OneOf}
@@ -131,18 +130,19 @@ module _ {A : Type 0} {eq : A → A → Bool} {meaning : A → Tree} (same : Res
   perhaps_respects item x y h ts = maybe_more_same (item x) (item y) ts h
 
   -- one that is left out where it is the default
-  module _ (left_out : A → Bool) (by_tree : IsByTree meaning left_out) where
-    unless_default_same : (a b : A) (p q : Bool) → left_out a ≡ p → left_out b ≡ q → meaning a ≡ meaning b → (ts : Trees)
+  module _ (left_out : A → Bool) (alike : (a b : A) → eq a b ≡ true → left_out a ≡ left_out b) where
+    unless_default_same : (a b : A) (p q : Bool) → p ≡ q → meaning a ≡ meaning b → (ts : Trees)
         → maybe_more meaning (if p then None else Some a) ts ≡ maybe_more meaning (if q then None else Some b) ts
-    unless_default_same a b true true p q e ts = refl
-    unless_default_same a b true false p q e ts = let r : left_out b ≡ true = (by_tree a b p).1 e in cc
-    unless_default_same a b false true p q e ts = let r : left_out a ≡ true = (by_tree b a q).1 (sym e) in cc
-    unless_default_same a b false false p q e ts = ap (λ t. Trees.more t ts) e
+    unless_default_same a b true true p e ts = refl
+    unless_default_same a b true false p e ts = cc
+    unless_default_same a b false true p e ts = cc
+    unless_default_same a b false false p e ts = ap (λ t. Trees.more t ts) e
 
     pub default_respects : {V : Type 0} (value : V → A)
         → RespectsMember (λ x y. eq (value x) (value y)) (λ v. maybe_more meaning (unless_default left_out (value v)))
     default_respects value x y h ts =
-        unless_default_same (value x) (value y) (left_out (value x)) (left_out (value y)) refl refl (same (value x) (value y) h) ts
+        let out = alike (value x) (value y) h in
+        unless_default_same (value x) (value y) (left_out (value x)) (left_out (value y)) out (same (value x) (value y) h) ts
 
 pub none_respect : {P : Type 0} → RespectMembers (λ (x y : P). []) (λ x. Trees.none)
 none_respect = record { same = λ x y h. refl }
@@ -268,6 +268,54 @@ respects_member_of {V} sameness {eq = eq} t =
 module _ {V A : Type 0} (a : Sameness A) (equal : A → A → Bool) (means : A → Tree) where
   abbrev pub member_by : (eq : V → V → Bool) (in_front : V → Trees → Trees) → (Respects equal means → RespectsMember eq in_front) → MemberSameness V
   member_by eq in_front so = record { eq = eq; in_front = in_front; Owed = TiedSameness a equal means; holds = λ t. so (respects_of a t) }
+
+-- equal values are both a default, or neither
+pub record DefaultSameness (A : Type 0) : Type 1 where
+  pub eq : A → A → Bool
+  pub left_out : A → Bool
+  pub Owed : Type 0
+  pub holds : Owed → (x y : A) → eq x y ≡ true → left_out x ≡ left_out y
+
+pub record TiedDefaultSameness {A : Type 0} (sameness : DefaultSameness A) (eq : A → A → Bool) (left_out : A → Bool) : Type 0 where
+  pub owed : sameness.Owed
+  pub means : sameness.left_out ≡ left_out
+  pub equal : (x y : A) → eq x y ≡ true → sameness.eq x y ≡ true
+
+pub alike_of : {A : Type 0} (sameness : DefaultSameness A) {eq : A → A → Bool} {left_out : A → Bool} → TiedDefaultSameness sameness eq left_out
+    → (x y : A) → eq x y ≡ true → left_out x ≡ left_out y
+alike_of {A} sameness t x y h =
+    subst (λ (out : A → Bool). out x ≡ out y) t.means (sameness.holds t.owed x y (t.equal x y h))
+
+module _ {A : Type 0} (eq : A → A → Bool) (left_out : A → Bool) where
+  abbrev pub plain_default : ((x y : A) → eq x y ≡ true → left_out x ≡ left_out y) → DefaultSameness A
+  plain_default alike = record { eq = eq; left_out = left_out; Owed = ⊤; holds = λ o. alike }
+
+  -- of a value that holds another
+  abbrev pub default_as : {V : Type 0} (d : DefaultSameness A) (part : V → A) → DefaultSameness V
+  default_as d part = record {
+    eq = λ x y. eq (part x) (part y);
+    left_out = λ v. left_out (part v);
+    Owed = TiedDefaultSameness d eq left_out;
+    holds = λ t x y. alike_of d t (part x) (part y);
+  }
+
+pub boolean_alike : (left_out : Bool → Bool) (x y : Bool) → beq x y ≡ true → left_out x ≡ left_out y
+boolean_alike left_out x y h = ap left_out (same_boolean x y h)
+
+pub number_alike : (left_out : ℕ → Bool) (x y : ℕ) → eqb x y ≡ true → left_out x ≡ left_out y
+number_alike left_out x y h = ap left_out (eqb-true x y h)
+
+pub int_alike : (left_out : ℤ → Bool) (x y : ℤ) → int_eq x y ≡ true → left_out x ≡ left_out y
+int_alike left_out x y h = ap left_out ((Decides-int_eq x y).0 h)
+
+module _ {V A : Type 0} (a : Sameness A) (equal : A → A → Bool) (means : A → Tree) (d : DefaultSameness A) (left_out : A → Bool) where
+  abbrev pub default_member : (value : V → A) → MemberSameness V
+  default_member value = record {
+    eq = λ x y. equal (value x) (value y);
+    in_front = λ v. maybe_more means (unless_default left_out (value v));
+    Owed = TiedSameness a equal means × TiedDefaultSameness d equal left_out;
+    holds = λ o. default_respects (respects_of a o.0) left_out (alike_of d o.1) value;
+  }
 
 -- all members
 pub record MembersSameness (P : Type 0) : Type 1 where

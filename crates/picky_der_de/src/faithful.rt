@@ -1,5 +1,5 @@
 //! Types whose `==` is sameness of encodings: values that are equal by it mean the same tree.
-ghost use Rattle.std.specs.Prelude.{nat_eq, true, encode_utf8, string_bytes, refl};
+ghost use Rattle.std.specs.Prelude.{nat_eq, not, true, encode_utf8, string_bytes, refl};
 ghost use Rattle.std.specs.Option.{option_eq};
 ghost use mathlib.Core.Bool.{beq};
 ghost use lib.Dec.{eqb};
@@ -14,7 +14,8 @@ ghost use Rattle.picky_der_de.specs.Faithful.{MembersSameness, TiedMembersSamene
 ghost use Rattle.picky_der_de.specs.Faithful.{sameness_as, wrapped_sameness, member_by};
 ghost use Rattle.picky_der_de.specs.Faithful.{this_or_other_sameness, this_or_other_by, boolean_respects, bytes_respect};
 ghost use Rattle.picky_der_de.specs.Faithful.{character_respects, option_respects, list_respects, array_respects};
-ghost use Rattle.picky_der_de.specs.Faithful.{always_respects, perhaps_respects};
+ghost use Rattle.picky_der_de.specs.Faithful.{DefaultSameness, TiedDefaultSameness, plain_default, default_as};
+ghost use Rattle.picky_der_de.specs.Faithful.{default_member, boolean_alike, always_respects, perhaps_respects};
 
 use crate::{
     Alternatives, Begins, Deserialize, DeserializeMember, DeserializeMembers, NoneOf, OneOf, OneOf4,
@@ -23,7 +24,7 @@ use picky_der_core::asn1::{
     Asn1SequenceOf, Asn1SetOf, BitStringAsn1Container, ByteBuf, ExplicitContextTag,
     ImplicitContextTag, OctetStringAsn1Container, Retagged, TaggedBytes,
 };
-use picky_der_ser::{Element, List, Optional};
+use picky_der_ser::{DefaultOf, Defaulted, Element, False, List, Optional, Serialize, True};
 
 /// A type whose equal values have the same encoding. Of readable values the converse holds for each type, so that `==` of such a
 /// type is sameness of encodings.
@@ -44,6 +45,15 @@ pub trait FaithfulMember: DeserializeMember {
 
     // What is owed, and that it is said of the member's own `==` and of what is before others.
     ghost respects: { TiedMemberSameness sameness Self.known.eq Self.in_front };
+}
+
+/// A default of members of which equal values are written alike: both are the default, or neither is.
+pub trait FaithfulDefault<T: Serialize + PartialEq>: DefaultOf<T> {
+    // Which values are the default, by which `==`, and what is owed for it.
+    ghost sameness: { DefaultSameness T };
+
+    // What is owed, and that it is said of the default and of the type's own `==`.
+    ghost respects: { TiedDefaultSameness sameness T.eq Self.left_out };
 }
 
 /// Members of a sequence of which equal values are written alike.
@@ -178,6 +188,47 @@ impl<T: Faithful + Begins> FaithfulMember for Optional<T> {
     ghost respects = { Prim.assumption };
 }
 
+impl<T: Faithful + Begins, D: FaithfulDefault<T>> FaithfulMember for Defaulted<T, D> {
+    ghost sameness = { default_member T.sameness T.eq T.meaning D.sameness D.left_out (λ member. member.value) };
+
+    ghost respects = { Prim.assumption };
+}
+
+impl FaithfulDefault<bool> for False {
+    ghost sameness = { plain_default beq not (boolean_alike not) };
+
+    ghost respects = { Prim.assumption };
+}
+
+impl FaithfulDefault<bool> for True {
+    ghost sameness = { plain_default beq (λ value. value) (boolean_alike (λ value. value)) };
+
+    ghost respects = { Prim.assumption };
+}
+
+impl<T: Serialize + PartialEq, D: FaithfulDefault<T>, const N: u8> FaithfulDefault<
+    ExplicitContextTag<T, N>,
+> for D {
+    ghost sameness = { default_as T.eq D.left_out D.sameness (λ tagged. tagged.0) };
+
+    ghost respects = { Prim.assumption };
+}
+
+impl<T: Serialize + PartialEq, D: FaithfulDefault<T>, const N: u8> FaithfulDefault<
+    ImplicitContextTag<T, N>,
+> for D {
+    ghost sameness = { default_as T.eq D.left_out D.sameness (λ tagged. tagged.0) };
+
+    ghost respects = { Prim.assumption };
+}
+
+impl<T: List + PartialEq, D: FaithfulDefault<T>, const TAG: u8> FaithfulDefault<Retagged<T, TAG>>
+    for D {
+    ghost sameness = { default_as T.eq D.left_out D.sameness (λ tagged. tagged.0) };
+
+    ghost respects = { Prim.assumption };
+}
+
 impl FaithfulMembers for () {
     ghost sameness = { no_members };
 
@@ -185,7 +236,7 @@ impl FaithfulMembers for () {
 }
 
 impl FaithfulAlternatives for NoneOf {
-    ghost sameness = { plain_sameness (λ v. elim v [ ]) (λ v. elim v [ ]) (λ v. elim v [ ]) };
+    ghost sameness = { plain_sameness ⟦<NoneOf as Alternatives>⟧.known.eq ⟦<NoneOf as Alternatives>⟧.chosen (λ v. elim v [ ]) };
 
     ghost respects = { Prim.assumption };
 }

@@ -36,7 +36,9 @@ pub use deserialize::Deserialize;
 pub use deserializer::Deserializer;
 use end::End;
 pub use entry::{DEFAULT_MAX_LEN, from_bytes, from_reader, from_reader_with_max_len};
-pub use faithful::{Faithful, FaithfulAlternatives, FaithfulMember, FaithfulMembers};
+pub use faithful::{
+    Faithful, FaithfulAlternatives, FaithfulDefault, FaithfulMember, FaithfulMembers,
+};
 pub use inhabited::Inhabited;
 pub use integer::UnsignedInteger;
 pub use members::{DeserializeMember, DeserializeMembers, Struct, deserialize_struct_as};

@@ -5,8 +5,10 @@ ghost use Rattle.std.specs.Ordering.{int_eq};
 ghost use Rattle.picky_der_core.specs.Integer.{fits_signed, int_tree, unsigned_tree};
 ghost use Rattle.picky_der_de.specs.Faithful.{plain_sameness, unsigned_respects, int_respects, no_members};
 ghost use Rattle.picky_der_de.specs.Faithful.{element_then, member_then, members_at, tuple_sameness};
+ghost use Rattle.picky_der_de.specs.Faithful.{plain_default, number_alike, int_alike};
 
-use crate::{Faithful, FaithfulMember, FaithfulMembers};
+use crate::{Faithful, FaithfulDefault, FaithfulMember, FaithfulMembers};
+use picky_der_ser::{Number, SignedNumber};
 
 impl Faithful for u8 {
     ghost sameness = { plain_sameness nat_eq (unsigned_tree (2 ^ 8 - 1)) (unsigned_respects (2 ^ 8 - 1)) };
@@ -70,6 +72,72 @@ impl Faithful for i64 {
 
 impl Faithful for i128 {
     ghost sameness = { plain_sameness int_eq (int_tree (fits_signed 128)) (int_respects (fits_signed 128)) };
+
+    ghost respects = { Prim.assumption };
+}
+
+impl<const N: u8> FaithfulDefault<u8> for Number<N> {
+    ghost sameness = { plain_default nat_eq (λ it. nat_eq it N) (number_alike (λ it. nat_eq it N)) };
+
+    ghost respects = { Prim.assumption };
+}
+
+impl<const N: u8> FaithfulDefault<u16> for Number<N> {
+    ghost sameness = { plain_default nat_eq (λ it. nat_eq it N) (number_alike (λ it. nat_eq it N)) };
+
+    ghost respects = { Prim.assumption };
+}
+
+impl<const N: u8> FaithfulDefault<u32> for Number<N> {
+    ghost sameness = { plain_default nat_eq (λ it. nat_eq it N) (number_alike (λ it. nat_eq it N)) };
+
+    ghost respects = { Prim.assumption };
+}
+
+impl<const N: u8> FaithfulDefault<u64> for Number<N> {
+    ghost sameness = { plain_default nat_eq (λ it. nat_eq it N) (number_alike (λ it. nat_eq it N)) };
+
+    ghost respects = { Prim.assumption };
+}
+
+impl<const N: u8> FaithfulDefault<u128> for Number<N> {
+    ghost sameness = { plain_default nat_eq (λ it. nat_eq it N) (number_alike (λ it. nat_eq it N)) };
+
+    ghost respects = { Prim.assumption };
+}
+
+impl<const N: u8> FaithfulDefault<usize> for Number<N> {
+    ghost sameness = { plain_default nat_eq (λ it. nat_eq it N) (number_alike (λ it. nat_eq it N)) };
+
+    ghost respects = { Prim.assumption };
+}
+
+impl<const N: i8> FaithfulDefault<i8> for SignedNumber<N> {
+    ghost sameness = { plain_default int_eq (λ it. int_eq it N) (int_alike (λ it. int_eq it N)) };
+
+    ghost respects = { Prim.assumption };
+}
+
+impl<const N: i8> FaithfulDefault<i16> for SignedNumber<N> {
+    ghost sameness = { plain_default int_eq (λ it. int_eq it N) (int_alike (λ it. int_eq it N)) };
+
+    ghost respects = { Prim.assumption };
+}
+
+impl<const N: i8> FaithfulDefault<i32> for SignedNumber<N> {
+    ghost sameness = { plain_default int_eq (λ it. int_eq it N) (int_alike (λ it. int_eq it N)) };
+
+    ghost respects = { Prim.assumption };
+}
+
+impl<const N: i8> FaithfulDefault<i64> for SignedNumber<N> {
+    ghost sameness = { plain_default int_eq (λ it. int_eq it N) (int_alike (λ it. int_eq it N)) };
+
+    ghost respects = { Prim.assumption };
+}
+
+impl<const N: i8> FaithfulDefault<i128> for SignedNumber<N> {
+    ghost sameness = { plain_default int_eq (λ it. int_eq it N) (int_alike (λ it. int_eq it N)) };
 
     ghost respects = { Prim.assumption };
 }
