@@ -1,7 +1,7 @@
 //! For each row on standard input, writes its result to standard output as a line.
 //!
-//! A row names a type in its Rust spelling and bytes to be read as that type, or a value to be written. The rows and their expected results
-//! were worked out by hand from the rules of the encoding.
+//! A row names a type in its Rust spelling and bytes to be read as that type, or a value to be written. The rows and
+//! their expected results were worked out by hand from the rules of the encoding.
 #![tactic(auto)]
 
 // The result of each part of a text, with the same text between two results as between the parts.

@@ -1,5 +1,5 @@
-//! For each row on standard input, writes its result to standard output as a line: what bytes are read as in the types of `der_types` and of
-//! messages, and how their values are written.
+//! For each row on standard input, writes its result to standard output as a line: what bytes are read as in the types
+//! of `der_types` and of messages, and how their values are written.
 #![tactic(auto)]
 
 mod bits;

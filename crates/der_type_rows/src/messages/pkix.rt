@@ -12,8 +12,8 @@ use der_pkix::{
 };
 use std::alloc::{AllocError, Global};
 
-/// The result of bytes of the type with this name. A name that is not in a function is in the next one, since a proof about many names in one
-/// `match` takes many times as long.
+/// The result of bytes of the type with this name. A name that is not in a function is in the next one, since a proof
+/// about many names in one `match` takes many times as long.
 pub(crate) fn result_of(
     alloc: Global,
     task: Task,

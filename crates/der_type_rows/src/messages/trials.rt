@@ -66,8 +66,8 @@ impl From<AllocError> for Wrong {
     }
 }
 
-// Reads the whole message. Then each prefix must be refused as cut short, and each change must be refused or be the encoding of another
-// value.
+// Reads the whole message. Then each prefix must be refused as cut short, and each change must be refused or be the
+// encoding of another value.
 fn tried<T: Deserialize>(alloc: Global, bytes: &[u8]) -> Result<String, AllocError> {
     let whole = read::<T>(alloc, bytes)?;
     match try_fronts::<T>(alloc, bytes).and_then(|_| try_changes::<T>(alloc, bytes)) {

@@ -1,6 +1,7 @@
-//! The comparisons that tests use. They end the program where a comparison or an allocation fails, so that a test is a list of calls.
+//! The comparisons that tests use. They end the program where a comparison or an allocation fails, so that a test is a
+//! list of calls.
 //!
-//! An `assert_eq!`, a loop and a `?` each cost a proof of some seconds. A call of these functions costs well under one second.
+//! An `assert_eq!` costs a proof of some seconds at each use. A call of these functions costs well under one second.
 
 use der_fixtures::bytes_of;
 use picky_asn1_der::{Asn1DerError, Deserialize, Serialize, from_bytes, to_vec};

@@ -51,8 +51,8 @@ fn curve_of(algorithm: &KeyAlgorithm) -> &[u8] {
     }
 }
 
-// For RSA: no parameters, and an INTEGER. For a curve: no parameters, a NULL, and a SEQUENCE as `openssl ecparam -param_enc explicit`
-// writes one.
+// For RSA: no parameters, and an INTEGER. For a curve: no parameters, a NULL, and a SEQUENCE as `openssl ecparam
+// -param_enc explicit` writes one.
 #[test]
 fn other_parameters_are_refused(rt: HostRuntime) {
     is_none(&rt, "30 0B 06 09 2A 86 48 86 F7 0D 01 01 01", InvalidData);

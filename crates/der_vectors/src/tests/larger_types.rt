@@ -1,7 +1,8 @@
 //! A struct of twenty members, a choice of twelve alternatives in a list, and an envelope around values of three types.
 //!
-//! The encodings are from pyasn1 0.6.3, by `pyasn1.codec.der.encoder.encode` of the same ASN.1 types. It leaves out the default and the
-//! absent members, and sorts the SET OF. A refused input is such an encoding with one change, which its test names.
+//! The encodings are from pyasn1 0.6.3, by `pyasn1.codec.der.encoder.encode` of the same ASN.1 types. It leaves out the
+//! default and the absent members, and sorts the SET OF. A refused input is such an encoding with one change, which its
+//! test names.
 
 use crate::tests::checks::{is_encoded, is_refused, text};
 use der_examples::{
