@@ -5,10 +5,10 @@ use der_fixtures::{SlowReader, SlowWriter};
 use picky_asn1_der::Asn1DerError::{InvalidData, InvalidSink, TruncatedData};
 use picky_asn1_der::asn1::{ByteBuf, Bytes, PrintableStringAsn1};
 use picky_asn1_der::misc::{PeekableReader, ReadExt, Watched};
-use picky_asn1_der::round_trip::{read_back, written_back};
+use picky_asn1_der::round_trip::{read_back, reads_back, written_back};
 use picky_asn1_der::{
-    Length, Result as DerResult, Serializer, de, from_bytes, from_reader, from_reader_with_max_len,
-    next_from_reader, to_writer,
+    Asn1RawDer, Length, Result as DerResult, Serializer, de, from_bytes, from_reader,
+    from_reader_with_max_len, next_from_reader, to_writer,
 };
 use std::alloc::Global;
 use std::process::Abort;
@@ -19,6 +19,15 @@ fn a_value_goes_there_and_back(rt: HostRuntime) {
     let again = written_back::<u8>(rt.alloc(), &[0x02, 0x02, 0x00, 0x80, 0x05, 0x00]);
     same!(rt; again, Ok(bytes(&rt, "02 02 00 80")));
     same!(rt; written_back::<u8>(rt.alloc(), &[0x02, 0x02, 0x00]).err(), Some(TruncatedData));
+}
+
+#[test]
+fn a_value_reads_back_or_does_not(rt: HostRuntime) {
+    let whole = Asn1RawDer::from(bytes(&rt, "02 01 05"));
+    let cut = Asn1RawDer::from(bytes(&rt, "02 02 05"));
+    same!(rt; reads_back(rt.alloc(), &128u8), Ok(true));
+    same!(rt; reads_back(rt.alloc(), &whole), Ok(true));
+    same!(rt; reads_back(rt.alloc(), &cut), Ok(false));
 }
 
 #[test]
