@@ -78,15 +78,15 @@ UNIVERSAL_TAGS = {it.name: it.tag for it in TYPES}
 
 # the other names of the library that a crate may import, by their modules, in the order of imports
 _NAMES = {
-    _TYPES: """Asn1Set Contents InRange NamedBits Notated NotatedAlternatives NotatedDefault NotatedMembers OtherThan RetaggedPrimitive
-        RetaggedSet TagOrdered WithSize deserialize_contents_as""",
+    _TYPES: """Asn1Set Contents InRange NamedBits Notated NotatedAlternatives NotatedDefault NotatedMembers OtherThan ImplicitPrimitive
+        ImplicitSet TagOrdered WithSize deserialize_contents_as""",
     "picky_asn1_der::application_tag": "ApplicationTag",
-    _ASN1: """Asn1SequenceOf Asn1SetOf BitStringAsn1Container ExplicitContextTag ImplicitContextTag OctetStringAsn1Container Retagged
+    _ASN1: """Asn1SequenceOf Asn1SetOf BitStringAsn1Container ExplicitContextTag ImplicitContextTag OctetStringAsn1Container ImplicitList
         TaggedBytes Tag""",
     "picky_asn1_der::de": "Begins deserialize_choice_as",
     "picky_asn1_der::misc": "ReadExt WriteExt",
     "picky_asn1_der::ser": "DefaultOf Defaulted DefaultedRef False Number Optional OptionalRef Sequence SignedNumber True",
-    _ROOT: """Alike Alternatives Asn1RawDer Choice Deserialize DeserializeMembers Deserializer LaterMembers List NoneOf OneOf OneOf4 Result
+    _ROOT: """Via Alternatives Asn1RawDer Choice Deserialize DeserializeMembers Deserializer LaterMembers List NoneOf OneOf Choice4 Result
         Serialize SerializeMembers Serializer Struct deserialize_as deserialize_struct_as""",
 }
 _NUMBERED = re.compile(r"(ExplicitContextTag|ImplicitContextTag|ImplicitList)\d+$")
@@ -105,7 +105,7 @@ _TERMS = {
     "Notation": "INTEGER-named ENUMERATED any-content content-under end none optional required",
     "NotationForms": """ANY APPLICATION AUTOMATIC BIT-STRING-CONTAINING CHOICE CONTEXT EXPLICIT FALSE IMPLICIT INTEGER-from-minus-to
         INTEGER-from-to MAX Mode OCTET-STRING-CONTAINING PRIVATE SEQUENCE SEQUENCE-OF SET SET-OF SIZE TRUE UNIVERSAL added default
-        default-as-optional default-of instead later-alternatives-refused later-members later-members-refused minus number ◌⨾◌ ◌∣◌""",
+        default-as-optional default-of wider later-alternatives-refused later-members later-members-refused minus number ◌⨾◌ ◌∣◌""",
 }
 _OWN_TERMS = {
     "ContentForms": [it.term for it in TYPES if it.is_checked],

@@ -44,8 +44,8 @@ def faithful_defaults() -> Lines:
 
 def faithful_members(names: str) -> Lines:
     """Equal members of a tuple mean the same trees."""
-    heads = [f"member_then (λ it. it.{at}) {it}.sameness {it}.known.eq {it}.in_front" for at, it in enumerate(names)]
-    sameness = nested(heads, f"(members_at (λ it. it.{len(names)}) Z.sameness Z.known.tests Z.members)")
+    heads = [f"member_then (λ it. it.{at}) {it}.sameness {it}.facts.eq {it}.prepend" for at, it in enumerate(names)]
+    sameness = nested(heads, f"(members_at (λ it. it.{len(names)}) Z.sameness Z.facts.tests Z.members)")
     return same(of(names, "FaithfulMember", "FaithfulMembers"), "FaithfulMembers", tuple_of([*names, "Z"]), sameness)
 
 

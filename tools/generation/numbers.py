@@ -258,9 +258,9 @@ READ_UNSIGNED = """
 impl Deserialize for $name {
     ghost shape = { Shape.primitive (PrimitiveShape.unsigned (2 ^ $bits - 1)) };
 
-    ghost known = { known_unsigned (2 ^ $bits - 1) refl };
+    ghost facts = { unsigned_facts (2 ^ $bits - 1) refl };
 
-    ghost tied = { Prim.assumption };
+    ghost proved = { Prim.assumption };
 
     #[inline(always)]
     #[tactic(auto, using(crate::proofs::NumberReads::number))]
@@ -274,7 +274,7 @@ impl Deserialize for $name {
             (Shape.primitive (PrimitiveShape.unsigned (2 ^ $bits - 1))) de.old de.new) }
         ensures refused { IfErr result (RefusesPrimitive Primitive.unsigned (PrimitiveShape.unsigned (2 ^ $bits - 1))
             de.old de.new) }
-        ensures memory { IfErr result (TakesNoMemory de.old de.new) }
+        ensures memory { IfErr result (UsesNoMemory de.old de.new) }
     {
         de.read_plain::<UnsignedInteger, $name>()
     }
@@ -291,9 +291,9 @@ READ_SIGNED = """
 impl Deserialize for $name {
     ghost shape = { Shape.primitive (PrimitiveShape.bytes 0x02) };
 
-    ghost known = { known_int (fits_signed $bits) };
+    ghost facts = { int_facts (fits_signed $bits) };
 
-    ghost tied = { Prim.assumption };
+    ghost proved = { Prim.assumption };
 
     fn deserialize<R: ReadExt>(de: &mut Deserializer<R>) -> Result<$name>
         ensures ok { IfOk result (λ value. Reads (Shape.primitive (PrimitiveShape.bytes 0x02))
@@ -303,7 +303,7 @@ impl Deserialize for $name {
             de.old de.new) }
         ensures read { IfOk result (ReadsInt (fits_signed $bits) de.old de.new) }
         ensures refused { IfErr result (RefusesInt (fits_signed $bits) de.old de.new) }
-        ensures memory { IfErr result (TakesNoMemory de.old de.new) }
+        ensures memory { IfErr result (UsesNoMemory de.old de.new) }
     {
         de.deserialize_int()
     }
@@ -325,10 +325,10 @@ def read_numbers() -> Lines:
         "ghost use Rattle.picky_der_core.specs.Primitive.{Primitive, PrimitiveShape};",
         "ghost use Rattle.picky_der_core.specs.Shape.{Shape};",
         "ghost use Rattle.picky_der_core.specs.Integer.{fits_signed, int_tree, unsigned_tree};",
-        "ghost use Rattle.picky_der_de.specs.Steps.{TakesNoMemory};",
+        "ghost use Rattle.picky_der_de.specs.Steps.{UsesNoMemory};",
         "ghost use Rattle.picky_der_de.specs.Reading.{Reads, Refuses, ReadsPrimitive, RefusesPrimitive};",
         "ghost use Rattle.picky_der_de.specs.Reading.{ReadsInt, RefusesInt};",
-        "ghost use Rattle.picky_der_de.specs.Known.{known_unsigned, known_int};",
+        "ghost use Rattle.picky_der_de.specs.Facts.{unsigned_facts, int_facts};",
         "",
         "use crate::{Begins, Deserialize, Deserializer, UnsignedInteger};",
         "use picky_der_core::Result;",

@@ -29,10 +29,10 @@ only_memory (no_way m n) = absurd (n one_is_writable)
 
 module _ {W : Type 0} (g : Ghosts W) where
   -- an allocation failed after the encoding
-  refused_behind : (inside levels : List Level) (t : Tree) (old mid new : W) {e : Asn1DerError} → e ≡ OutOfMemory → AddsIn g inside levels old mid (der t) → new ≡ mid → RefusesIn g inside t old e new
-  refused_behind [] levels t old mid new none a same =
+  refused_after : (inside levels : List Level) (t : Tree) (old mid new : W) {e : Asn1DerError} → e ≡ OutOfMemory → AddsIn g inside levels old mid (der t) → new ≡ mid → RefusesIn g inside t old e new
+  refused_after [] levels t old mid new none a same =
       record { begins = record { front = der t; rest = []; is = sym (append-nil (der t)); appends = subst (λ s. Appends (g.written old) (g.written s) (der t)) (sym same) a.1 }; excuse = no_memory none }
-  refused_behind (l ∷ ls) levels t old mid new none a same = (no_room none, same ∙ a.1)
+  refused_after (l ∷ ls) levels t old mid new none a same = (no_room none, same ∙ a.1)
 
   -- the tree was written, a sequence was begun after it, and the sequence's member was refused
   left_open : (t : Tree) (header : Header) {old mid lazy new : State W} {n : ℕ} {e : Asn1DerError} → Writes g t old n mid → OpensLevel g header mid lazy → RefusesToAdd g (Tree.primitive (Primitive.unsigned 1)) lazy e new → RefusesWrite g t old e new
@@ -43,7 +43,7 @@ module _ {W : Type 0} (g : Ghosts W) where
       record {
         failed = r.failed;
         again = rw h.had_not_failed tt;
-        reason = rw h.had_not_failed (refused_behind old.inside mid.inside (under old.around t) old.sink mid.sink new.sink (only_memory excuse) h.adds (r.same ∙ sink));
+        reason = rw h.had_not_failed (refused_after old.inside mid.inside (under old.around t) old.sink mid.sink new.sink (only_memory excuse) h.adds (r.same ∙ sink));
       }
 
   -- the same for the result that passes the error on

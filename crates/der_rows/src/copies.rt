@@ -6,8 +6,8 @@ use picky_asn1_der::Asn1DerError::OutOfMemory;
 use picky_asn1_der::application_tag::ApplicationTag;
 use picky_asn1_der::asn1::{
     Asn1SequenceOf, Asn1SetOf, BitStringAsn1Container, ByteBuf, ExplicitContextTag,
-    ExplicitContextTag0, ImplicitContextTag, ImplicitContextTag1, ImplicitList1,
-    OctetStringAsn1Container, Retagged, TaggedBytes,
+    ExplicitContextTag0, ImplicitContextTag, ImplicitContextTag1, ImplicitList, ImplicitList1,
+    OctetStringAsn1Container, TaggedBytes,
 };
 use picky_asn1_der::{Asn1RawDer, Deserialize, List, Result as DerResult};
 use std::alloc::Global;
@@ -79,8 +79,8 @@ impl<T: Deserialize + Debug + Clone, const N: u8> Copied for ApplicationTag<T, N
     }
 }
 
-impl<T: List + Deserialize + Clone, const TAG: u8> Copied for Retagged<T, TAG> {
-    fn copied(&self) -> DerResult<Retagged<T, TAG>> {
+impl<T: List + Deserialize + Clone, const TAG: u8> Copied for ImplicitList<T, TAG> {
+    fn copied(&self) -> DerResult<ImplicitList<T, TAG>> {
         self.clone()
     }
 }

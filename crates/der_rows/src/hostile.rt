@@ -140,7 +140,7 @@ fn try_fronts<T: Deserialize>(alloc: Global, encoding: &[u8]) -> Result<(), Wron
 // Other bytes follow it, and none of them is read. A limit below its length counts as the end of the input.
 fn try_limits<T: Deserialize>(alloc: Global, encoding: &[u8], value: &T) -> Result<(), Wrong> {
     let len = encoding.len();
-    let input = with_others_behind(alloc, encoding, len)?;
+    let input = with_others_after(alloc, encoding, len)?;
     for limit in 0..len.saturating_add(4) {
         let (outcome, drawn) = below_limit::<T>(alloc, &input, limit);
         let right = match &outcome {
@@ -155,7 +155,7 @@ fn try_limits<T: Deserialize>(alloc: Global, encoding: &[u8], value: &T) -> Resu
 }
 
 // The first `len` bytes of the front, followed by 64 bytes that begin nothing.
-fn with_others_behind(alloc: Global, front: &[u8], len: usize) -> Result<Vec<u8>, AllocError> {
+fn with_others_after(alloc: Global, front: &[u8], len: usize) -> Result<Vec<u8>, AllocError> {
     let mut bytes = Vec::from_slice(alloc, front)?;
     bytes.truncate(len);
     bytes.extend_from_slice(&[0xFF; 64])?;
@@ -236,7 +236,7 @@ fn outcome_of<T: Deserialize>(
     if let Err(TruncatedData) = answer {
         return Ok(Outcome::Truncated);
     }
-    let input = with_others_behind(alloc, bytes, used)?;
+    let input = with_others_after(alloc, bytes, used)?;
     let (again, used_again) = read::<T>(alloc, source, &input);
     match answer {
         Ok(value) => {

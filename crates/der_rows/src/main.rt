@@ -28,6 +28,7 @@ mod generated;
 mod growths;
 mod hand_written;
 mod hostile;
+mod implicit_list;
 mod kept;
 mod lamp;
 mod lists;
@@ -39,7 +40,6 @@ mod own_types;
 mod plain;
 mod reading;
 mod reads;
-mod retagged;
 mod row;
 mod rows;
 mod runs;
@@ -52,13 +52,13 @@ mod values;
 mod wrappers;
 mod writing;
 
-use rows::answer_to;
+use rows::output_of;
 use std::io;
 
 fn main(rt: HostRuntime) -> io::Result<()> {
     let rows = io::read_to_string(rt.alloc(), rt.reader())?;
     for row in rows.lines() {
-        let answer = answer_to(rt.alloc(), row)?;
+        let answer = output_of(rt.alloc(), row)?;
         println!(rt; "{answer}")?;
     }
     Ok(())

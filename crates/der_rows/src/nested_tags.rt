@@ -1,10 +1,10 @@
 //! Explicit tags in one another.
-ghost use Rattle.picky_der_de.specs.Known.{known_as};
+ghost use Rattle.picky_der_de.specs.Facts.{facts_as};
 
 use picky_asn1_der::asn1::ExplicitContextTag;
 use picky_asn1_der::misc::{ReadExt, WriteExt};
 use picky_asn1_der::{
-    Alike, Deserialize, Deserializer, Result, Serialize, Serializer, deserialize_as,
+    Deserialize, Deserializer, Result, Serialize, Serializer, Via, deserialize_as,
 };
 
 // Two explicit tags around a value, the first one outermost.
@@ -32,7 +32,7 @@ impl Serialize for LastEight {
     }
 }
 
-impl Alike for LastEight {
+impl Via for LastEight {
     type As = Eight;
 
     ghost parts = { λ x. x.0 };
@@ -45,9 +45,9 @@ impl Alike for LastEight {
 impl Deserialize for LastEight {
     ghost shape = { ⟦<Eight as Deserialize>⟧.shape };
 
-    ghost known = { known_as ⟦<Eight as Deserialize>⟧.known (λ x. x.0) };
+    ghost facts = { facts_as ⟦<Eight as Deserialize>⟧.facts (λ x. x.0) };
 
-    ghost tied = { Prim.assumption };
+    ghost proved = { Prim.assumption };
 
     fn deserialize<R: ReadExt>(deserializer: &mut Deserializer<R>) -> Result<LastEight> {
         deserialize_as(deserializer)

@@ -1,10 +1,10 @@
 //! Types that are written by hand.
 
 use crate::answers::{RowBytes, read_as, read_copied};
+use crate::implicit_list;
 use crate::kept::Kept;
 use crate::lamp::Lamp;
 use crate::nested_tags::{FourTags, SixteenTags};
-use crate::retagged;
 use crate::seen::Seen;
 use der_examples::{
     AgeGroups, Change, EncryptedData, GeneralName, Gust, Host, Interval, Marker, Moment, Named,
@@ -102,6 +102,6 @@ fn last_example(alloc: Global, name: &str, row: &RowBytes) -> Result<String, All
         "ImplicitContextTag1<Seen>" => read_as::<ImplicitContextTag1<Seen>>(alloc, row),
         "FourTags" => read_as::<FourTags>(alloc, row),
         "SixteenTags" => read_as::<SixteenTags>(alloc, row),
-        _ => retagged::answer(alloc, name, row),
+        _ => implicit_list::answer(alloc, name, row),
     }
 }

@@ -1,7 +1,7 @@
 //! Members of a SEQUENCE as values of their own, by the names that the rows have for them.
 ghost use Rattle.std.specs.Prelude.{refl};
 ghost use Rattle.std.proofs.Common.{rules};
-ghost use Rattle.picky_der_de.specs.KnownMembers.{known_struct, sequence_of, sequence_shape};
+ghost use Rattle.picky_der_de.specs.MembersFacts.{struct_facts, sequence_of, sequence_shape};
 
 use picky_asn1_der::misc::{ReadExt, WriteExt};
 use picky_asn1_der::{
@@ -34,13 +34,13 @@ impl Struct for Row<()> {
 impl Deserialize for Row<()> {
     ghost shape = { sequence_shape ⟦<() as DeserializeMembers>⟧.layout };
 
-    ghost known = { known_struct ⟦<() as DeserializeMembers>⟧.known refl (λ row. row.0) };
+    ghost facts = { struct_facts ⟦<() as DeserializeMembers>⟧.facts refl (λ row. row.0) };
 
     fn deserialize<R: ReadExt>(deserializer: &mut Deserializer<R>) -> Result<Row<()>> {
         deserialize_struct_as(deserializer)
     }
 
-    ghost tied = { record { owed = Prim.assumption; means = refl; equal = Prim.search rules } };
+    ghost proved = { record { premise = Prim.assumption; means = refl; equal = Prim.search rules } };
 }
 
 impl Struct for Row<(u8, ())> {
@@ -56,13 +56,13 @@ impl Struct for Row<(u8, ())> {
 impl Deserialize for Row<(u8, ())> {
     ghost shape = { sequence_shape ⟦<(u8, ()) as DeserializeMembers>⟧.layout };
 
-    ghost known = { known_struct ⟦<(u8, ()) as DeserializeMembers>⟧.known refl (λ row. row.0) };
+    ghost facts = { struct_facts ⟦<(u8, ()) as DeserializeMembers>⟧.facts refl (λ row. row.0) };
 
     fn deserialize<R: ReadExt>(deserializer: &mut Deserializer<R>) -> Result<Row<(u8, ())>> {
         deserialize_struct_as(deserializer)
     }
 
-    ghost tied = { record { owed = Prim.assumption; means = refl; equal = Prim.search rules } };
+    ghost proved = { record { premise = Prim.assumption; means = refl; equal = Prim.search rules } };
 }
 
 impl Struct for Row<(u8, (u8, ()))> {
@@ -78,13 +78,13 @@ impl Struct for Row<(u8, (u8, ()))> {
 impl Deserialize for Row<(u8, (u8, ()))> {
     ghost shape = { sequence_shape ⟦<(u8, (u8, ())) as DeserializeMembers>⟧.layout };
 
-    ghost known = { known_struct ⟦<(u8, (u8, ())) as DeserializeMembers>⟧.known refl (λ row. row.0) };
+    ghost facts = { struct_facts ⟦<(u8, (u8, ())) as DeserializeMembers>⟧.facts refl (λ row. row.0) };
 
     fn deserialize<R: ReadExt>(deserializer: &mut Deserializer<R>) -> Result<Row<(u8, (u8, ()))>> {
         deserialize_struct_as(deserializer)
     }
 
-    ghost tied = { record { owed = Prim.assumption; means = refl; equal = Prim.search rules } };
+    ghost proved = { record { premise = Prim.assumption; means = refl; equal = Prim.search rules } };
 }
 
 impl Struct for Row<(u8, (bool, ()))> {
@@ -100,7 +100,7 @@ impl Struct for Row<(u8, (bool, ()))> {
 impl Deserialize for Row<(u8, (bool, ()))> {
     ghost shape = { sequence_shape ⟦<(u8, (bool, ())) as DeserializeMembers>⟧.layout };
 
-    ghost known = { known_struct ⟦<(u8, (bool, ())) as DeserializeMembers>⟧.known refl (λ row. row.0) };
+    ghost facts = { struct_facts ⟦<(u8, (bool, ())) as DeserializeMembers>⟧.facts refl (λ row. row.0) };
 
     fn deserialize<R: ReadExt>(
         deserializer: &mut Deserializer<R>,
@@ -108,7 +108,7 @@ impl Deserialize for Row<(u8, (bool, ()))> {
         deserialize_struct_as(deserializer)
     }
 
-    ghost tied = { record { owed = Prim.assumption; means = refl; equal = Prim.search rules } };
+    ghost proved = { record { premise = Prim.assumption; means = refl; equal = Prim.search rules } };
 }
 
 impl Struct for Row<(u8, (bool, ((), ((u8,), ()))))> {
@@ -126,7 +126,7 @@ impl Struct for Row<(u8, (bool, ((), ((u8,), ()))))> {
 impl Deserialize for Row<(u8, (bool, ((), ((u8,), ()))))> {
     ghost shape = { sequence_shape ⟦<(u8, (bool, ((), ((u8,), ())))) as DeserializeMembers>⟧.layout };
 
-    ghost known = { known_struct ⟦<(u8, (bool, ((), ((u8,), ())))) as DeserializeMembers>⟧.known refl (λ row. row.0) };
+    ghost facts = { struct_facts ⟦<(u8, (bool, ((), ((u8,), ())))) as DeserializeMembers>⟧.facts refl (λ row. row.0) };
 
     fn deserialize<R: ReadExt>(
         deserializer: &mut Deserializer<R>,
@@ -134,7 +134,7 @@ impl Deserialize for Row<(u8, (bool, ((), ((u8,), ()))))> {
         deserialize_struct_as(deserializer)
     }
 
-    ghost tied = { record { owed = Prim.assumption; means = refl; equal = Prim.search rules } };
+    ghost proved = { record { premise = Prim.assumption; means = refl; equal = Prim.search rules } };
 }
 
 impl Struct for Row<(u8, u8, u8, u8, u8, u8, ())> {
@@ -150,7 +150,7 @@ impl Struct for Row<(u8, u8, u8, u8, u8, u8, ())> {
 impl Deserialize for Row<(u8, u8, u8, u8, u8, u8, ())> {
     ghost shape = { sequence_shape ⟦<(u8, u8, u8, u8, u8, u8, ()) as DeserializeMembers>⟧.layout };
 
-    ghost known = { known_struct ⟦<(u8, u8, u8, u8, u8, u8, ()) as DeserializeMembers>⟧.known refl (λ row. row.0) };
+    ghost facts = { struct_facts ⟦<(u8, u8, u8, u8, u8, u8, ()) as DeserializeMembers>⟧.facts refl (λ row. row.0) };
 
     fn deserialize<R: ReadExt>(
         deserializer: &mut Deserializer<R>,
@@ -158,5 +158,5 @@ impl Deserialize for Row<(u8, u8, u8, u8, u8, u8, ())> {
         deserialize_struct_as(deserializer)
     }
 
-    ghost tied = { record { owed = Prim.assumption; means = refl; equal = Prim.search rules } };
+    ghost proved = { record { premise = Prim.assumption; means = refl; equal = Prim.search rules } };
 }

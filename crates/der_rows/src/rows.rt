@@ -44,7 +44,7 @@ use std::alloc::{AllocError, Global};
 /// call returned that error and left what it should. It is `wrong CALL` if a call did anything else.
 ///
 /// A part that repeats N times in bytes and lines may be written as `N*PART`.
-pub(crate) fn answer_to(alloc: Global, row: &str) -> Result<String, AllocError> {
+pub(crate) fn output_of(alloc: Global, row: &str) -> Result<String, AllocError> {
     if row.is_empty() || row.starts_with('#') {
         return String::from_str(alloc, row);
     }

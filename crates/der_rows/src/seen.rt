@@ -2,7 +2,7 @@
 ghost use Rattle.std.specs.Prelude.{◌^◌, ◌-◌, nat_eq, refl};
 ghost use Rattle.std.proofs.Common.{rules};
 ghost use Rattle.picky_der_core.specs.Integer.{unsigned_tree};
-ghost use Rattle.picky_der_de.specs.Known.{known_number};
+ghost use Rattle.picky_der_de.specs.Facts.{number_facts};
 
 use picky_asn1_der::misc::{ReadExt, WriteExt};
 use picky_asn1_der::{Deserialize, Deserializer, Result, Serialize, Serializer};
@@ -35,9 +35,9 @@ impl Serialize for Seen {
 impl Deserialize for Seen {
     ghost shape = { ⟦<u8 as Deserialize>⟧.shape };
 
-    ghost known = { known_number (2 ^ 8 - 1) refl (λ x. x.number) (λ x y. nat_eq x.number y.number) (λ x y h. h) };
+    ghost facts = { number_facts (2 ^ 8 - 1) refl (λ x. x.number) (λ x y. nat_eq x.number y.number) (λ x y h. h) };
 
-    ghost tied = { Prim.assumption };
+    ghost proved = { Prim.assumption };
 
     fn deserialize<R: ReadExt>(deserializer: &mut Deserializer<R>) -> Result<Seen> {
         let tag = match deserializer.deserialize_identifier() {

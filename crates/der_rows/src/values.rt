@@ -2,7 +2,7 @@
 
 use crate::answers::{Writing, written};
 use crate::hand_written::{Discarding, Littering, Untouched};
-use crate::retagged;
+use crate::implicit_list;
 use der_examples::NumberOrFlag;
 use der_tool_lib::{AlgorithmIdentifier, SubjectPublicKeyInfo, TestStruct};
 use picky_asn1_der::Asn1RawDer;
@@ -237,6 +237,6 @@ fn application(alloc: Global, how: Writing, name: &str) -> Result<String, AllocE
             how,
             &(7u8, ApplicationTag::<u8, 31>(7)),
         ),
-        _ => retagged::written_value(alloc, how, name),
+        _ => implicit_list::written_value(alloc, how, name),
     }
 }

@@ -53,7 +53,7 @@ fn first_two(number: u128) -> (u64, u128)
 }
 
 impl<'a> Arcs<'a> {
-    ghost use Rattle.der_types.specs.Subidentifiers.{numbers_behind};
+    ghost use Rattle.der_types.specs.Subidentifiers.{numbers_after};
     ghost use Rattle.der_types.specs.ObjectIdentifier.{arcs_of};
     ghost use Rattle.der_types.specs.Arcs.{arcs_left};
 
@@ -69,7 +69,7 @@ impl<'a> Arcs<'a> {
 
     // The arcs that are the numbers of this content.
     pub(crate) fn of_numbers(content: &'a [u8]) -> Arcs<'a>
-        ensures { arcs_left result ≡ numbers_behind 0 content.now }
+        ensures { arcs_left result ≡ numbers_after 0 content.now }
     {
         Arcs {
             next: Next::Another,

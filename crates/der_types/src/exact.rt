@@ -4,18 +4,18 @@ ghost use Rattle.picky_der_core.specs.declared.asn1.wrapper.Wrapper.TheVariants 
 ghost use Rattle.picky_der_core.specs.Readable.{IsReadable};
 ghost use Rattle.picky_der_core.specs.Tree.{ListKind, Tree};
 ghost use Rattle.der_types.specs.Denotes.{Denotes, IsShort};
-ghost use Rattle.der_types.specs.Exact.{Values, TiedValues, plain_values, list_values, wrapped_values};
+ghost use Rattle.der_types.specs.Exact.{Values, ProvedValues, plain_values, list_values, wrapped_values};
 ghost use Rattle.der_types.specs.ExactContents.{raw_exact, any_content_exact};
-ghost use Rattle.der_types.specs.KnownContents.{contents_of};
+ghost use Rattle.der_types.specs.ContentsFacts.{contents_of};
 ghost use Rattle.der_types.specs.MadeValues.{vec_of};
 ghost use Rattle.der_types.specs.Notation.{Notation};
 
-use crate::{Notated, RetaggedSet, TagOrdered};
+use crate::{ImplicitSet, Notated, TagOrdered};
 use picky_asn1_der::Asn1RawDer;
 use picky_asn1_der::application_tag::ApplicationTag;
 use picky_der_core::asn1::{
     Asn1SequenceOf, Asn1SetOf, BitStringAsn1Container, ExplicitContextTag, ImplicitContextTag,
-    OctetStringAsn1Container, Retagged, TaggedBytes,
+    ImplicitList, OctetStringAsn1Container, TaggedBytes,
 };
 use picky_der_ser::List;
 use std::fmt::Debug;
@@ -29,7 +29,7 @@ pub trait Exact: Notated {
     ghost values: { Values Self };
 
     // The proof, and that the statement is about the type's own notation and meaning.
-    ghost exact: { TiedValues values Self.notation Self.meaning };
+    ghost exact: { ProvedValues values Self.notation Self.meaning };
 }
 
 impl<const TAG: u8> Exact for TaggedBytes<TAG> {
@@ -92,14 +92,14 @@ impl<V: Exact + Debug, const T: u8> Exact for ApplicationTag<V, T> {
     ghost exact = { Prim.assumption };
 }
 
-impl<T: Exact + List, const TAG: u8> Exact for Retagged<T, TAG> {
-    ghost values = { wrapped_values T.values T.notation T.meaning (wrapper.Retagged TAG) (λ it. it.0) (λ x. (record { 0 = x }, refl)) };
+impl<T: Exact + List, const TAG: u8> Exact for ImplicitList<T, TAG> {
+    ghost values = { wrapped_values T.values T.notation T.meaning (wrapper.ImplicitList TAG) (λ it. it.0) (λ x. (record { 0 = x }, refl)) };
 
     ghost exact = { Prim.assumption };
 }
 
-impl<T: Exact + TagOrdered, const TAG: u8> Exact for RetaggedSet<T, TAG> {
-    ghost values = { wrapped_values T.values T.notation T.meaning (wrapper.Retagged TAG) (λ it. it.0) (λ x. (record { 0 = x }, refl)) };
+impl<T: Exact + TagOrdered, const TAG: u8> Exact for ImplicitSet<T, TAG> {
+    ghost values = { wrapped_values T.values T.notation T.meaning (wrapper.ImplicitList TAG) (λ it. it.0) (λ x. (record { 0 = x }, refl)) };
 
     ghost exact = { Prim.assumption };
 }

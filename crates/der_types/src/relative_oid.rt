@@ -1,6 +1,6 @@
 //! Relative object identifiers.
 ghost use Rattle.std.specs.Prelude.{◌≡◌, ◌⊎◌, Some, true, false, map, OnOk, IfOk, IfErr};
-ghost use Rattle.der_types.specs.Subidentifiers.{numbers_behind};
+ghost use Rattle.der_types.specs.Subidentifiers.{numbers_after};
 ghost use Rattle.der_types.specs.Dotted.{dotted_or_marked, fitted, RefusesText};
 ghost use Rattle.der_types.specs.Arcs.{arcs_left};
 ghost use Rattle.der_types.specs.RelativeOid.{is_relative_oid, are_relative_arcs, relative_oid_content, IsRelativeText};
@@ -67,14 +67,14 @@ impl RelativeOid {
 
     /// Returns its arcs, in order. An arc above `u64::MAX` is returned as the error `ArcTooLarge`.
     pub fn arcs(&self) -> Arcs<'_>
-        ensures { arcs_left result ≡ numbers_behind 0 self.now.content.items }
+        ensures { arcs_left result ≡ numbers_after 0 self.now.content.items }
     {
         Arcs::of_numbers(&self.content)
     }
 }
 
 impl fmt::Display for RelativeOid {
-    ghost output = { λ it. Some (dotted_or_marked (map fitted (numbers_behind 0 it.content.items))) };
+    ghost output = { λ it. Some (dotted_or_marked (map fitted (numbers_after 0 it.content.items))) };
 
     fn fmt<W: fmt::Write>(&self, f: &mut fmt::Formatter<W>) -> fmt::Result {
         self.arcs().fmt(f)

@@ -5,7 +5,7 @@ use Rattle.picky_der_core.specs.declared.error.Asn1DerError.{Asn1DerError}
 use Rattle.picky_der_core.specs.Tree.{Tree}
 use Rattle.picky_der_core.specs.Shape.{Shape}
 use Rattle.picky_der_core.specs.Integer.{unsigned_tree}
-use Rattle.picky_der_core.specs.Reading.{StandsAt}
+use Rattle.picky_der_core.specs.Reading.{IsAtFront}
 use Rattle.picky_der_core.specs.UnsignedTreeLaws.{unsigned_tree-within, unsigned_tree-of}
 use Rattle.picky_der_de.specs.State.{State}
 use Rattle.picky_der_de.specs.Steps.{place_of}
@@ -18,7 +18,7 @@ module _ {most : ℕ} {a b : State} where
   pub refuses_within : {e : Asn1DerError} → Refuses (λ n. Tree.primitive (Primitive.unsigned n)) (Shape.primitive (PrimitiveShape.unsigned most)) a b e → Refuses (unsigned_tree most) (Shape.primitive (PrimitiveShape.unsigned most)) a b e
   refuses_within h = record {
     fails = h.fails;
-    none = λ j end bs k n st. h.none j end bs k n (subst (StandsAt (place_of a) (Shape.primitive (PrimitiveShape.unsigned most)) bs end) (unsigned_tree-of most n st.of_shape) st);
+    none = λ j end bs k n st. h.none j end bs k n (subst (IsAtFront (place_of a) (Shape.primitive (PrimitiveShape.unsigned most)) bs end) (unsigned_tree-of most n st.of_shape) st);
     first = h.first;
   }
 

@@ -7,7 +7,7 @@ use Rattle.picky_der_core.specs.Element.{length_octets, tlv, IsElement}
 use Rattle.picky_der_core.specs.Order.{is_less}
 use Rattle.picky_der_de.specs.Ahead.{IsElementInFront}
 use Rattle.picky_der_de.specs.Order.{cut_at, with_last, is_out_of_order, sets_seen, SeesMember, out_of_order, order_of, sets_inside, AreInOrder}
-use Rattle.picky_der_de.proofs.Order.{cut_behind, concerns_alike, judged_alike, fails_alike}
+use Rattle.picky_der_de.proofs.Order.{cut_after, concerns_alike, judged_alike, fails_alike}
 use Rattle.picky_der_core.specs.declared.error.Asn1DerError.{Asn1DerError}
 use Rattle.picky_der_core.specs.declared.error.Asn1DerError.TheVariants.{InvalidData, OutOfMemory}
 use Rattle.picky_der_core.specs.Tree.{Tree, ListKind, trees}
@@ -15,17 +15,17 @@ use Rattle.picky_der_core.specs.Encoding.{der}
 use Rattle.picky_der_core.specs.EncodingLaws.{der-element, same_element}
 use Rattle.picky_der_core.specs.Shape.{Shape}
 use Rattle.picky_der_de.specs.State.{OpenSets, State}
-use Rattle.picky_der_de.specs.Steps.{Takes, Fails, failed_with, IsJudged, is_hard}
+use Rattle.picky_der_de.specs.Steps.{Consumed, Fails, failed_with, IsJudged, is_hard}
 use Rattle.picky_der_de.specs.Reading.{Reads, Refuses, now}
 use Rattle.picky_der_de.proofs.Refusals.{front_consumed}
-use Rattle.picky_der_de.specs.Members.{ReadsMember, RefusesMember, members_encoding, StandBefore, BreaksOrder, RefusesAll, RefusesUnordered}
-use Rattle.picky_der_de.proofs.MemberReads.{takes_whole, member_unread, member_untested, opened_in_order, whole_in_order}
+use Rattle.picky_der_de.specs.Members.{ReadsMember, RefusesMember, members_encoding, AreBefore, BreaksOrder, RefusesAll, RefusesUnordered}
+use Rattle.picky_der_de.proofs.MemberReads.{consumes_whole, member_unread, member_untested, opened_in_order, whole_in_order}
 use Rattle.std.proofs.Math.Seq.{take-append-add}
 use Rattle.picky_der_core.specs.ElementLaws.{length_octets_prefix}
 use Rattle.picky_der_core.specs.Refusal.{Refusal, refusal_of, header_refusal}
 use Rattle.picky_der_de.specs.declared.end.End.TheVariants.{Soft}
 use Rattle.picky_der_de.specs.Headers.{header_bytes}
-use Rattle.picky_der_de.specs.Ends.{Outer, OpensList, RefusesList}
+use Rattle.picky_der_de.specs.Ends.{EnclosingEnd, OpensList, RefusesList}
 use Rattle.picky_der_de.proofs.Steps.{judged_after}
 use Rattle.picky_der_de.proofs.Ends.{judged_with_inner_end}
 use Rattle.picky_der_de.proofs.Headers.{header-read}
@@ -61,7 +61,7 @@ cut_member None start kept member e l = absurd (let q : None ≡ Some start = e 
 cut_member (Some n) start kept member e l =
     let same : n ≡ start = cc in
     let size : length (take start kept) ≡ start = grind (arith, common_steps) in
-    let q = cut_behind (take start kept) member in
+    let q = cut_after (take start kept) member in
     rw same (subst (λ k. cut_at (Some k) (take start kept ++ member) ≡ record { last = Some member; around = take start kept }) size q)
 
 -- whether it is less than the last one, which is from there on
@@ -75,16 +75,16 @@ order_seen d start kept all member b r e l h k =
 with_sets : (c : State) (x : OpenSets) → c.sets ≡ x → c ≡ record c { sets = x }
 with_sets c x e = subst (λ (y : OpenSets). c ≡ record c { sets = y }) e refl
 
-takes_alike : (a : State) {c : State} {x : List ℕ} (s p : OpenSets) → Takes (record a { sets = s }) c x → Takes (record a { sets = p }) (record c { sets = p }) x
-takes_alike a s p t = record {
+consumes_alike : (a : State) {c : State} {x : List ℕ} (s p : OpenSets) → Consumed (record a { sets = s }) c x → Consumed (record a { sets = p }) (record c { sets = p }) x
+consumes_alike a s p t = record {
   input = t.input;
-  taken = t.taken;
+  consumed = t.consumed;
   until_end = t.until_end;
   end = t.end;
   limit = t.limit;
   sets = refl;
   unpeeked = t.unpeeked;
-  drawn = t.drawn;
+  fetched = t.fetched;
   had_not_failed = t.had_not_failed;
   not_failed = t.not_failed;
   faults = t.faults;
@@ -104,15 +104,15 @@ module _ {before a : State} {less : Bool} (h : SeesMember before a less) (whole 
       record {
         of_shape = q.of_shape;
         readable = q.readable;
-        may_stand = q.may_stand;
-        takes = takes_alike before (sets_seen less before.sets h.member) before.sets q.takes;
+        may_be_there = q.may_be_there;
+        consumes = consumes_alike before (sets_seen less before.sets h.member) before.sets q.consumes;
         implicit_tag = q.implicit_tag;
       }
 
   -- what was read is what was seen
   seen_is_read : {s : Shape} {c : State} {t : Tree} → Reads s a c t → der t ≡ h.member
   seen_is_read {s} {c} {t} r =
-      let m : Takes before (record c { sets = before.sets }) (der t) = takes_whole (reads_before r) was_whole in
+      let m : Consumed before (record c { sets = before.sets }) (der t) = consumes_whole (reads_before r) was_whole in
       let p = front_consumed before.input c.input (der t) (h.member ++ h.left) m.input h.known in
       sym (same_element h.member (der t) h.left p.0 h.element (der-element t r.readable) p.2).0
 
@@ -132,7 +132,7 @@ module _ {before a : State} {less : Bool} (h : SeesMember before a less) (whole 
 pub seen_reads : {before a c : State} {s : Shape} {t : Tree} → SeesMember before a false → a.implicit_tag ≡ None → Reads s a c t → ReadsMember s before c t
 seen_reads {before} {a} {c} {s} {t} h whole r =
     let is = seen_is_read h whole r in
-    let last : c.sets ≡ with_last before.sets (der t) = r.takes.sets ∙ ap (λ (z : State). z.sets) h.same ∙ ap (λ x. with_last before.sets x) (sym is) in
+    let last : c.sets ≡ with_last before.sets (der t) = r.consumes.sets ∙ ap (λ (z : State). z.sets) h.same ∙ ap (λ x. with_last before.sets x) (sym is) in
     record {
       mid = record c { sets = before.sets };
       reads = reads_before h whole r;
@@ -142,7 +142,7 @@ seen_reads {before} {a} {c} {s} {t} h whole r =
 
 pub seen_less : {V : Type 0} {meaning : V → Tree} {before a c d : State} {s : Shape} {t : Tree} {e : Asn1DerError} → SeesMember before a true → a.implicit_tag ≡ None → Reads s a c t → Fails c d e → e ≡ InvalidData → d ≡ failed_with c e → RefusesMember meaning s before d e
 seen_less {before = before} {a = a} {c = c} {s = s} {t = t} h whole r f is same =
-    let sets : c.sets ≡ before.sets = r.takes.sets ∙ ap (λ (z : State). z.sets) h.same in
+    let sets : c.sets ≡ before.sets = r.consumes.sets ∙ ap (λ (z : State). z.sets) h.same in
     let less : is_out_of_order c.sets (der t) ≡ true = ap (λ x. is_out_of_order x (der t)) sets ∙ ap (λ x. is_out_of_order before.sets x) (seen_is_read h whole r) ∙ h.order in
     let q : Reads s before c t = subst (λ (z : State). Reads s z c t) h.same r in
     member_untested q (out_of_order (record { fails = f; less = less; error = is; same = same })) (λ w. was_whole h whole)
@@ -171,14 +171,14 @@ no_header_refused (Some number) n until_end y hard r d small fits is = cc
 
 module _ {V : Type 0} {meaning : V → Tree} {s : Shape} where
   -- a member was refused
-  pub unordered_refused : {a b c : State} {outer : Outer} {e : Asn1DerError} → OpensList 0x31 a b outer → RefusesAll meaning s b c e → RefusesUnordered meaning s a c e
+  pub unordered_refused : {a b c : State} {outer : EnclosingEnd} {e : Asn1DerError} → OpensList 0x31 a b outer → RefusesAll meaning s b c e → RefusesUnordered meaning s a c e
   unordered_refused {a} {b} {c} {outer} {e} h r j vs v out bs rest known in_set =
       let members = members_encoding (trees (map meaning (vs ++ v ∷ []))) in
-      let p = front_consumed a.input h.mid.input (header_bytes a.implicit_tag 0x31 h.size) bs h.begins.takes.input known in
-      let q = same_header a.implicit_tag in_set.size h.size a.until_end h.mid.until_end (members ++ rest) p.0 h.begins.takes.until_end in_set.all h.begins.all (sym in_set.begins ∙ p.2) in
+      let p = front_consumed a.input h.mid.input (header_bytes a.implicit_tag 0x31 h.size) bs h.begins.consumes.input known in
+      let q = same_header a.implicit_tag in_set.size h.size a.until_end h.mid.until_end (members ++ rest) p.0 h.begins.consumes.until_end in_set.all h.begins.all (sym in_set.begins ∙ p.2) in
       let open_input : b.input ≡ Some p.0 = ap (λ (z : State). z.input) h.opened ∙ p.1 in
       let ahead : b.until_end ≡ h.size = ap (λ (z : State). z.until_end) h.opened in
-      let stand : StandBefore b c e members = record {
+      let are_before : AreBefore b c e members = record {
         soft = ap (λ (z : State). z.end) h.opened;
         seen = p.0;
         concerns = now open_input refl;
@@ -186,20 +186,20 @@ module _ {V : Type 0} {meaning : V → Tree} {s : Shape} where
         begins = sym q.1;
         within = omega (arith, in_set.within, q.0, ahead);
       } in
-      let judged : IsJudged b c e = subst (λ z. IsJudged z c e) (sym h.opened) (judged_alike (sets_inside (order_of 0x31) h.mid.sets) (judged_with_inner_end h.size Soft (judged_after h.begins.takes j))) in
+      let judged : IsJudged b c e = subst (λ z. IsJudged z c e) (sym h.opened) (judged_alike (sets_inside (order_of 0x31) h.mid.sets) (judged_with_inner_end h.size Soft (judged_after h.begins.consumes j))) in
       let breaks : BreaksOrder meaning s (AreInOrder b.sets) vs v = record {
         of_shape = out.of_shape;
         readable = out.readable;
         in_order = opened_in_order ListKind.set (trees (map meaning vs)) h out.in_order;
         broken = λ o. out.broken (whole_in_order ListKind.set (trees (map meaning (vs ++ v ∷ []))) h o);
       } in
-      let t = r.lesser judged vs v breaks stand in
-      let left = front_consumed b.input t.mid.input members p.0 t.takes.input open_input in
+      let t = r.lesser judged vs v breaks are_before in
+      let left = front_consumed b.input t.mid.input members p.0 t.consumes.input open_input in
       let same : left.0 ≡ rest = append_cancel_left members left.0 rest (sym left.2 ∙ sym q.1) in
       record {
         error = t.error;
         input = ap (λ (z : State). z.input) t.same ∙ left.1 ∙ ap (λ x. Some x) same;
-        unpeeked = ap (λ (z : State). z.peeked) t.same ∙ t.takes.unpeeked;
+        unpeeked = ap (λ (z : State). z.peeked) t.same ∙ t.consumes.unpeeked;
       }
 
   -- the header was refused, so none is there

@@ -13,7 +13,7 @@ use Rattle.picky_der_core.specs.Integer.{int_tree, unsigned_tree}
 use Rattle.picky_der_core.specs.Primitive.{Primitive}
 use Rattle.picky_der_core.specs.Tree.{ListKind, Tree, Trees, trees}
 use Rattle.picky_der_ser.specs.Meaning.{array_meaning, maybe_more, option_meaning, unless_default}
-use Rattle.picky_der_de.specs.KnownMembers.{AreTrue, conjunction, conjunction_after, sequence_of}
+use Rattle.picky_der_de.specs.MembersFacts.{AreTrue, conjunction, conjunction_after, sequence_of}
 use Rattle.picky_der_de.specs.OtherLaws.{others_of}
 use Rattle.picky_der_de.specs.declared.alternatives.OneOf.{OneOf}
 use Rattle.picky_der_de.specs.declared.alternatives.OneOf.TheVariants.{This, Other}
@@ -108,7 +108,7 @@ module _ {A : Type 0} {eq : A → A → Bool} {meaning : A → Tree} (same : Res
 
 -- one, before others
 abbrev pub RespectsMember : {V : Type 0} → (V → V → Bool) → (V → Trees → Trees) → Type 0
-RespectsMember {V} eq in_front = (x y : V) → eq x y ≡ true → (ts : Trees) → in_front x ts ≡ in_front y ts
+RespectsMember {V} eq prepend = (x y : V) → eq x y ≡ true → (ts : Trees) → prepend x ts ≡ prepend y ts
 
 -- all of them, each by its own test
 pub record RespectMembers {P : Type 0} (tests : P → P → List Bool) (members : P → Trees) : Type 0 where
@@ -148,11 +148,11 @@ pub none_respect : {P : Type 0} → RespectMembers (λ (x y : P). []) (λ x. Tre
 none_respect = record { same = λ x y h. refl }
 
 -- a member before others
-module _ {P A : Type 0} (first : P → A) {eq : A → A → Bool} {in_front : A → Trees → Trees} where
-  pub member_respects : {tests : P → P → List Bool} {members : P → Trees} → RespectsMember eq in_front → RespectMembers tests members
-      → RespectMembers (λ x y. eq (first x) (first y) ∷ tests x y) (λ x. in_front (first x) (members x))
+module _ {P A : Type 0} (first : P → A) {eq : A → A → Bool} {prepend : A → Trees → Trees} where
+  pub member_respects : {tests : P → P → List Bool} {members : P → Trees} → RespectsMember eq prepend → RespectMembers tests members
+      → RespectMembers (λ x y. eq (first x) (first y) ∷ tests x y) (λ x. prepend (first x) (members x))
   member_respects {members = members} one others = record {
-    same = λ x y h. one (first x) (first y) h.0 (members x) ∙ ap (in_front (first y)) (others.same x y h.1);
+    same = λ x y h. one (first x) (first y) h.0 (members x) ∙ ap (prepend (first y)) (others.same x y h.1);
   }
 
 -- where they are a part
@@ -213,27 +213,27 @@ module _ {V P : Type 0} {equal : P → P → Bool} {chosen : P → Tree} (same :
 pub record Sameness (V : Type 0) : Type 1 where
   pub eq : V → V → Bool
   pub meaning : V → Tree
-  pub Owed : Type 0
-  pub holds : Owed → Respects eq meaning
+  pub Premise : Type 0
+  pub follows : Premise → Respects eq meaning
 
 -- It is said of this `==` and of what the values mean.
-pub record TiedSameness {V : Type 0} (sameness : Sameness V) (eq : V → V → Bool) (meaning : V → Tree) : Type 0 where
-  pub owed : sameness.Owed
+pub record ProvedSameness {V : Type 0} (sameness : Sameness V) (eq : V → V → Bool) (meaning : V → Tree) : Type 0 where
+  pub premise : sameness.Premise
   pub means : sameness.meaning ≡ meaning
   pub equal : (x y : V) → eq x y ≡ true → sameness.eq x y ≡ true
 
-pub respects_of : {V : Type 0} (sameness : Sameness V) {eq : V → V → Bool} {meaning : V → Tree} → TiedSameness sameness eq meaning → Respects eq meaning
+pub respects_of : {V : Type 0} (sameness : Sameness V) {eq : V → V → Bool} {meaning : V → Tree} → ProvedSameness sameness eq meaning → Respects eq meaning
 respects_of {V} sameness {eq = eq} t =
-    subst (λ (m : V → Tree). Respects eq m) t.means (λ x y h. sameness.holds t.owed x y (t.equal x y h))
+    subst (λ (m : V → Tree). Respects eq m) t.means (λ x y h. sameness.follows t.premise x y (t.equal x y h))
 
 -- of which nothing is owed
 abbrev pub plain_sameness : {V : Type 0} (eq : V → V → Bool) (meaning : V → Tree) → Respects eq meaning → Sameness V
-plain_sameness eq meaning r = record { eq = eq; meaning = meaning; Owed = ⊤; holds = λ o. r }
+plain_sameness eq meaning r = record { eq = eq; meaning = meaning; Premise = ⊤; follows = λ o. r }
 
 -- by what the type of a part says of itself
 abbrev pub sameness_by : {V A : Type 0} (a : Sameness A) (equal : A → A → Bool) (means : A → Tree) (eq : V → V → Bool) (meaning : V → Tree)
     → (Respects equal means → Respects eq meaning) → Sameness V
-sameness_by a equal means eq meaning so = record { eq = eq; meaning = meaning; Owed = TiedSameness a equal means; holds = λ t. so (respects_of a t) }
+sameness_by a equal means eq meaning so = record { eq = eq; meaning = meaning; Premise = ProvedSameness a equal means; follows = λ t. so (respects_of a t) }
 
 module _ {V A : Type 0} (a : Sameness A) where
   -- as that of a part
@@ -241,8 +241,8 @@ module _ {V A : Type 0} (a : Sameness A) where
   sameness_as part = record {
     eq = λ x y. a.eq (part x) (part y);
     meaning = λ v. a.meaning (part v);
-    Owed = a.Owed;
-    holds = λ o. part_respects part (a.holds o);
+    Premise = a.Premise;
+    follows = λ o. part_respects part (a.follows o);
   }
 
   abbrev pub wrapped_sameness : (equal : A → A → Bool) (means : A → Tree) (w : Wrapper) (part : V → A) → Sameness V
@@ -251,52 +251,52 @@ module _ {V A : Type 0} (a : Sameness A) where
 -- one member
 pub record MemberSameness (V : Type 0) : Type 1 where
   pub eq : V → V → Bool
-  pub in_front : V → Trees → Trees
-  pub Owed : Type 0
-  pub holds : Owed → RespectsMember eq in_front
+  pub prepend : V → Trees → Trees
+  pub Premise : Type 0
+  pub follows : Premise → RespectsMember eq prepend
 
-pub record TiedMemberSameness {V : Type 0} (sameness : MemberSameness V) (eq : V → V → Bool) (in_front : V → Trees → Trees) : Type 0 where
-  pub owed : sameness.Owed
-  pub means : sameness.in_front ≡ in_front
+pub record ProvedMemberSameness {V : Type 0} (sameness : MemberSameness V) (eq : V → V → Bool) (prepend : V → Trees → Trees) : Type 0 where
+  pub premise : sameness.Premise
+  pub means : sameness.prepend ≡ prepend
   pub equal : (x y : V) → eq x y ≡ true → sameness.eq x y ≡ true
 
-pub respects_member_of : {V : Type 0} (sameness : MemberSameness V) {eq : V → V → Bool} {in_front : V → Trees → Trees}
-    → TiedMemberSameness sameness eq in_front → RespectsMember eq in_front
+pub respects_member_of : {V : Type 0} (sameness : MemberSameness V) {eq : V → V → Bool} {prepend : V → Trees → Trees}
+    → ProvedMemberSameness sameness eq prepend → RespectsMember eq prepend
 respects_member_of {V} sameness {eq = eq} t =
-    subst (λ (m : V → Trees → Trees). RespectsMember eq m) t.means (λ x y h. sameness.holds t.owed x y (t.equal x y h))
+    subst (λ (m : V → Trees → Trees). RespectsMember eq m) t.means (λ x y h. sameness.follows t.premise x y (t.equal x y h))
 
 module _ {V A : Type 0} (a : Sameness A) (equal : A → A → Bool) (means : A → Tree) where
-  abbrev pub member_by : (eq : V → V → Bool) (in_front : V → Trees → Trees) → (Respects equal means → RespectsMember eq in_front) → MemberSameness V
-  member_by eq in_front so = record { eq = eq; in_front = in_front; Owed = TiedSameness a equal means; holds = λ t. so (respects_of a t) }
+  abbrev pub member_by : (eq : V → V → Bool) (prepend : V → Trees → Trees) → (Respects equal means → RespectsMember eq prepend) → MemberSameness V
+  member_by eq prepend so = record { eq = eq; prepend = prepend; Premise = ProvedSameness a equal means; follows = λ t. so (respects_of a t) }
 
 -- equal values are both a default, or neither
 pub record DefaultSameness (A : Type 0) : Type 1 where
   pub eq : A → A → Bool
   pub left_out : A → Bool
-  pub Owed : Type 0
-  pub holds : Owed → (x y : A) → eq x y ≡ true → left_out x ≡ left_out y
+  pub Premise : Type 0
+  pub follows : Premise → (x y : A) → eq x y ≡ true → left_out x ≡ left_out y
 
-pub record TiedDefaultSameness {A : Type 0} (sameness : DefaultSameness A) (eq : A → A → Bool) (left_out : A → Bool) : Type 0 where
-  pub owed : sameness.Owed
+pub record ProvedDefaultSameness {A : Type 0} (sameness : DefaultSameness A) (eq : A → A → Bool) (left_out : A → Bool) : Type 0 where
+  pub premise : sameness.Premise
   pub means : sameness.left_out ≡ left_out
   pub equal : (x y : A) → eq x y ≡ true → sameness.eq x y ≡ true
 
-pub alike_of : {A : Type 0} (sameness : DefaultSameness A) {eq : A → A → Bool} {left_out : A → Bool} → TiedDefaultSameness sameness eq left_out
+pub alike_of : {A : Type 0} (sameness : DefaultSameness A) {eq : A → A → Bool} {left_out : A → Bool} → ProvedDefaultSameness sameness eq left_out
     → (x y : A) → eq x y ≡ true → left_out x ≡ left_out y
 alike_of {A} sameness t x y h =
-    subst (λ (out : A → Bool). out x ≡ out y) t.means (sameness.holds t.owed x y (t.equal x y h))
+    subst (λ (out : A → Bool). out x ≡ out y) t.means (sameness.follows t.premise x y (t.equal x y h))
 
 module _ {A : Type 0} (eq : A → A → Bool) (left_out : A → Bool) where
   abbrev pub plain_default : ((x y : A) → eq x y ≡ true → left_out x ≡ left_out y) → DefaultSameness A
-  plain_default alike = record { eq = eq; left_out = left_out; Owed = ⊤; holds = λ o. alike }
+  plain_default alike = record { eq = eq; left_out = left_out; Premise = ⊤; follows = λ o. alike }
 
   -- of a value that holds another
   abbrev pub default_as : {V : Type 0} (d : DefaultSameness A) (part : V → A) → DefaultSameness V
   default_as d part = record {
     eq = λ x y. eq (part x) (part y);
     left_out = λ v. left_out (part v);
-    Owed = TiedDefaultSameness d eq left_out;
-    holds = λ t x y. alike_of d t (part x) (part y);
+    Premise = ProvedDefaultSameness d eq left_out;
+    follows = λ t x y. alike_of d t (part x) (part y);
   }
 
 pub boolean_alike : (left_out : Bool → Bool) (x y : Bool) → beq x y ≡ true → left_out x ≡ left_out y
@@ -312,41 +312,41 @@ module _ {V A : Type 0} (a : Sameness A) (equal : A → A → Bool) (means : A �
   abbrev pub default_member : (value : V → A) → MemberSameness V
   default_member value = record {
     eq = λ x y. equal (value x) (value y);
-    in_front = λ v. maybe_more means (unless_default left_out (value v));
-    Owed = TiedSameness a equal means × TiedDefaultSameness d equal left_out;
-    holds = λ o. default_respects (respects_of a o.0) left_out (alike_of d o.1) value;
+    prepend = λ v. maybe_more means (unless_default left_out (value v));
+    Premise = ProvedSameness a equal means × ProvedDefaultSameness d equal left_out;
+    follows = λ o. default_respects (respects_of a o.0) left_out (alike_of d o.1) value;
   }
 
 -- all members
 pub record MembersSameness (P : Type 0) : Type 1 where
   pub tests : P → P → List Bool
   pub members : P → Trees
-  pub Owed : Type 0
-  pub holds : Owed → RespectMembers tests members
+  pub Premise : Type 0
+  pub follows : Premise → RespectMembers tests members
 
-pub record TiedMembersSameness {P : Type 0} (sameness : MembersSameness P) (tests : P → P → List Bool) (members : P → Trees) : Type 0 where
-  pub owed : sameness.Owed
+pub record ProvedMembersSameness {P : Type 0} (sameness : MembersSameness P) (tests : P → P → List Bool) (members : P → Trees) : Type 0 where
+  pub premise : sameness.Premise
   pub means : sameness.members ≡ members
   pub equal : (x y : P) → AreTrue (tests x y) → AreTrue (sameness.tests x y)
 
 pub respect_of : {P : Type 0} (sameness : MembersSameness P) {tests : P → P → List Bool} {members : P → Trees}
-    → TiedMembersSameness sameness tests members → RespectMembers tests members
+    → ProvedMembersSameness sameness tests members → RespectMembers tests members
 respect_of {P} sameness {tests = tests} t =
-    subst (λ (m : P → Trees). RespectMembers tests m) t.means (record { same = λ x y h. (sameness.holds t.owed).same x y (t.equal x y h) })
+    subst (λ (m : P → Trees). RespectMembers tests m) t.means (record { same = λ x y h. (sameness.follows t.premise).same x y (t.equal x y h) })
 
 abbrev pub plain_members : {P : Type 0} (tests : P → P → List Bool) (members : P → Trees) → RespectMembers tests members → MembersSameness P
-plain_members tests members r = record { tests = tests; members = members; Owed = ⊤; holds = λ o. r }
+plain_members tests members r = record { tests = tests; members = members; Premise = ⊤; follows = λ o. r }
 
 abbrev pub no_members : {P : Type 0} → MembersSameness P
 no_members = plain_members (λ _ _. []) (λ _. Trees.none) none_respect
 
 module _ {P : Type 0} where
-  abbrev pub member_then : {A : Type 0} (first : P → A) (a : MemberSameness A) (eq : A → A → Bool) (in_front : A → Trees → Trees) → MembersSameness P → MembersSameness P
-  member_then first a eq in_front others = record {
+  abbrev pub member_then : {A : Type 0} (first : P → A) (a : MemberSameness A) (eq : A → A → Bool) (prepend : A → Trees → Trees) → MembersSameness P → MembersSameness P
+  member_then first a eq prepend others = record {
     tests = λ x y. eq (first x) (first y) ∷ others.tests x y;
-    members = λ x. in_front (first x) (others.members x);
-    Owed = TiedMemberSameness a eq in_front × others.Owed;
-    holds = λ o. member_respects first (respects_member_of a o.0) (others.holds o.1);
+    members = λ x. prepend (first x) (others.members x);
+    Premise = ProvedMemberSameness a eq prepend × others.Premise;
+    follows = λ o. member_respects first (respects_member_of a o.0) (others.follows o.1);
   }
 
   abbrev pub element_then : {A : Type 0} (first : P → A) (a : Sameness A) (eq : A → A → Bool) (meaning : A → Tree) → MembersSameness P → MembersSameness P
@@ -356,8 +356,8 @@ module _ {P : Type 0} where
   members_at part q tests members = record {
     tests = λ x y. tests (part x) (part y);
     members = λ x. members (part x);
-    Owed = TiedMembersSameness q tests members;
-    holds = λ t. members_respect part (respect_of q t);
+    Premise = ProvedMembersSameness q tests members;
+    follows = λ t. members_respect part (respect_of q t);
   }
 
 module _ {S P : Type 0} (m : MembersSameness P) (parts : S → P) where
@@ -366,16 +366,16 @@ module _ {S P : Type 0} (m : MembersSameness P) (parts : S → P) where
   struct_sameness = record {
     eq = λ x y. conjunction (m.tests (parts x) (parts y));
     meaning = sequence_of m.members parts;
-    Owed = m.Owed;
-    holds = λ o. struct_respects (m.holds o) parts;
+    Premise = m.Premise;
+    follows = λ o. struct_respects (m.follows o) parts;
   }
 
   abbrev pub tuple_sameness : Sameness S
   tuple_sameness = record {
     eq = λ x y. conjunction_after true (m.tests (parts x) (parts y));
     meaning = sequence_of m.members parts;
-    Owed = m.Owed;
-    holds = λ o. tuple_respects (m.holds o) parts;
+    Premise = m.Premise;
+    follows = λ o. tuple_respects (m.follows o) parts;
   }
 
 -- alternatives
@@ -383,8 +383,8 @@ abbrev pub this_or_other_sameness : {A B : Type 0} (a : Sameness A) (equal : A �
 this_or_other_sameness a equal means b other chosen = record {
   eq = equal_this_or_other equal other;
   meaning = chosen_of means chosen;
-  Owed = TiedSameness a equal means × TiedSameness b other chosen;
-  holds = λ o. this_or_other_respects (respects_of a o.0) (respects_of b o.1);
+  Premise = ProvedSameness a equal means × ProvedSameness b other chosen;
+  follows = λ o. this_or_other_respects (respects_of a o.0) (respects_of b o.1);
 }
 
 abbrev pub this_or_other_by : {A B : Type 0} (a : Sameness A) (equal : A → A → Bool) (means : A → Tree) (b : Sameness B) → Sameness (OneOf A B)
@@ -395,6 +395,6 @@ abbrev pub choice_sameness : {V P : Type 0} (c : Sameness P) (parts : V → P) (
 choice_sameness c parts eq so = record {
   eq = eq;
   meaning = λ v. Tree.choice (c.meaning (parts v));
-  Owed = c.Owed;
-  holds = λ o. choice_respects (c.holds o) parts so;
+  Premise = c.Premise;
+  follows = λ o. choice_respects (c.follows o) parts so;
 }

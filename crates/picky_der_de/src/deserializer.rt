@@ -4,12 +4,12 @@ ghost use Rattle.picky_der_de.specs.State.{fresh};
 ghost use Rattle.std.specs.IoError.{error_kind};
 ghost use Rattle.picky_der_core.specs.Error.{error_of_kind};
 ghost use Rattle.picky_der_core.specs.Failure.{failure_of};
-ghost use Rattle.picky_der_core.specs.Peeking.{in_front};
+ghost use Rattle.picky_der_core.specs.Peeking.{prepend};
 ghost use Rattle.picky_der_de.specs.Steps.{IsWithin, Fails, IsOther, failed_with};
 ghost use Rattle.picky_der_de.specs.Refusing.{FailsAs};
 
 mod ahead;
-mod draw;
+mod fetch;
 mod header;
 mod nesting;
 mod octets;
@@ -22,7 +22,7 @@ mod unsupported;
 mod wrapper;
 
 use crate::End;
-pub(crate) use nesting::Outer;
+pub(crate) use nesting::EnclosingEnd;
 use picky_der_core::misc::{PeekableReader, ReadExt};
 use picky_der_core::{Asn1DerError, Failure, Result};
 use std::alloc::Global;
@@ -61,7 +61,7 @@ impl<R: ReadExt> Model for Deserializer<R> {
     ghost view = { λ d. record {
       input = left_in R.remaining d.reader;
       peeked = d.reader.peeked;
-      taken = d.reader.pos;
+      consumed = d.reader.pos;
       limit = d.limit;
       until_end = d.until_end;
       end = d.end;
@@ -89,7 +89,7 @@ impl<'a> Deserializer<&'a [u8]> {
     // A slice has no I/O errors, and a peeked byte is the first byte that is left.
     pub(crate) fn has_no_faults(&self)
         ensures no_fault { self.now.faults ≡ [] }
-        ensures left { (left : Option (List ℕ)) × (self.now.input ≡ in_front self.now.peeked left) }
+        ensures left { (left : Option (List ℕ)) × (self.now.input ≡ prepend self.now.peeked left) }
     {
         self.reader.peeked_is_left();
     }
@@ -118,7 +118,7 @@ impl<R: ReadExt> Deserializer<R> {
 
     /// Returns the reader. A byte that was peeked was consumed from it.
     pub fn into_reader(self) -> R
-        ensures input { self.input ≡ in_front self.peeked (R.remaining result) }
+        ensures input { self.input ≡ prepend self.peeked (R.remaining result) }
         ensures faults { R.faults result ≡ self.faults }
         ensures same_references { R.references result ≡ self.references }
     {
@@ -140,7 +140,7 @@ impl<R: ReadExt> Deserializer<R> {
 
     /// The number of bytes that were consumed so far. A peeked byte isn't counted. With it the number is at most the limit.
     pub fn taken(&self) -> usize
-        ensures taken { result ≡ self.now.taken }
+        ensures consumed { result ≡ self.now.consumed }
         ensures within { IsWithin self.now }
     {
         self.reader.pos()

@@ -9,20 +9,21 @@ ghost use Rattle.picky_der_core.specs.Primitive.{Primitive};
 ghost use Rattle.picky_der_core.specs.Tree.{ListKind, Tree, Trees};
 ghost use Rattle.picky_der_ser.specs.Meaning.{array_meaning, list_meaning, maybe_more, option_meaning};
 ghost use Rattle.picky_der_de.specs.FourChoices.{one_by_one};
-ghost use Rattle.picky_der_de.specs.Faithful.{Sameness, TiedSameness, MemberSameness, TiedMemberSameness};
-ghost use Rattle.picky_der_de.specs.Faithful.{MembersSameness, TiedMembersSameness, plain_sameness, sameness_by, no_members};
+ghost use Rattle.picky_der_de.specs.Faithful.{Sameness, ProvedSameness, MemberSameness, ProvedMemberSameness};
+ghost use Rattle.picky_der_de.specs.Faithful.{MembersSameness, ProvedMembersSameness, plain_sameness, sameness_by, no_members};
 ghost use Rattle.picky_der_de.specs.Faithful.{sameness_as, wrapped_sameness, member_by};
 ghost use Rattle.picky_der_de.specs.Faithful.{this_or_other_sameness, this_or_other_by, boolean_respects, bytes_respect};
 ghost use Rattle.picky_der_de.specs.Faithful.{character_respects, option_respects, list_respects, array_respects};
-ghost use Rattle.picky_der_de.specs.Faithful.{DefaultSameness, TiedDefaultSameness, plain_default, default_as};
+ghost use Rattle.picky_der_de.specs.Faithful.{DefaultSameness, ProvedDefaultSameness, plain_default, default_as};
 ghost use Rattle.picky_der_de.specs.Faithful.{default_member, boolean_alike, always_respects, perhaps_respects};
 
 use crate::{
-    Alternatives, Begins, Deserialize, DeserializeMember, DeserializeMembers, NoneOf, OneOf, OneOf4,
+    Alternatives, Begins, Choice4, Deserialize, DeserializeMember, DeserializeMembers, NoneOf,
+    OneOf,
 };
 use picky_der_core::asn1::{
     Asn1SequenceOf, Asn1SetOf, BitStringAsn1Container, ByteBuf, ExplicitContextTag,
-    ImplicitContextTag, OctetStringAsn1Container, Retagged, TaggedBytes,
+    ImplicitContextTag, ImplicitList, OctetStringAsn1Container, TaggedBytes,
 };
 use picky_der_ser::{DefaultOf, Defaulted, Element, False, List, Optional, Serialize, True};
 
@@ -35,7 +36,7 @@ pub trait Faithful: Deserialize {
     ghost sameness: { Sameness Self };
 
     // What is owed, and that it is said of the type's own `==` and meaning.
-    ghost respects: { TiedSameness sameness Self.eq Self.meaning };
+    ghost respects: { ProvedSameness sameness Self.eq Self.meaning };
 }
 
 /// A member of a struct of which equal values are written alike.
@@ -44,7 +45,7 @@ pub trait FaithfulMember: DeserializeMember {
     ghost sameness: { MemberSameness Self };
 
     // What is owed, and that it is said of the member's own `==` and of what is before others.
-    ghost respects: { TiedMemberSameness sameness Self.known.eq Self.in_front };
+    ghost respects: { ProvedMemberSameness sameness Self.facts.eq Self.prepend };
 }
 
 /// A default of members of which equal values are written alike: both are the default, or neither is.
@@ -53,7 +54,7 @@ pub trait FaithfulDefault<T: Serialize + PartialEq>: DefaultOf<T> {
     ghost sameness: { DefaultSameness T };
 
     // What is owed, and that it is said of the default and of the type's own `==`.
-    ghost respects: { TiedDefaultSameness sameness T.eq Self.left_out };
+    ghost respects: { ProvedDefaultSameness sameness T.eq Self.left_out };
 }
 
 /// Members of a sequence of which equal values are written alike.
@@ -62,7 +63,7 @@ pub trait FaithfulMembers: DeserializeMembers {
     ghost sameness: { MembersSameness Self };
 
     // What is owed, and that it is said of the members' own tests and meaning.
-    ghost respects: { TiedMembersSameness sameness Self.known.tests Self.members };
+    ghost respects: { ProvedMembersSameness sameness Self.facts.tests Self.members };
 }
 
 /// Alternatives of a choice of which equal values are written alike.
@@ -71,7 +72,7 @@ pub trait FaithfulAlternatives: Alternatives {
     ghost sameness: { Sameness Self };
 
     // What is owed, and that it is said of the alternatives' own `==` and meaning.
-    ghost respects: { TiedSameness sameness Self.known.eq Self.chosen };
+    ghost respects: { ProvedSameness sameness Self.facts.eq Self.chosen };
 }
 
 impl Faithful for bool {
@@ -164,8 +165,8 @@ impl<T: Faithful, const N: u8> Faithful for ImplicitContextTag<T, N> {
     ghost respects = { Prim.assumption };
 }
 
-impl<T: List + Faithful, const TAG: u8> Faithful for Retagged<T, TAG> {
-    ghost sameness = { wrapped_sameness T.sameness T.eq T.meaning (wrapper.Retagged TAG) (λ it. it.0) };
+impl<T: List + Faithful, const TAG: u8> Faithful for ImplicitList<T, TAG> {
+    ghost sameness = { wrapped_sameness T.sameness T.eq T.meaning (wrapper.ImplicitList TAG) (λ it. it.0) };
 
     ghost respects = { Prim.assumption };
 }
@@ -222,8 +223,9 @@ impl<T: Serialize + PartialEq, D: FaithfulDefault<T>, const N: u8> FaithfulDefau
     ghost respects = { Prim.assumption };
 }
 
-impl<T: List + PartialEq, D: FaithfulDefault<T>, const TAG: u8> FaithfulDefault<Retagged<T, TAG>>
-    for D {
+impl<T: List + PartialEq, D: FaithfulDefault<T>, const TAG: u8> FaithfulDefault<
+    ImplicitList<T, TAG>,
+> for D {
     ghost sameness = { default_as T.eq D.left_out D.sameness (λ tagged. tagged.0) };
 
     ghost respects = { Prim.assumption };
@@ -236,13 +238,13 @@ impl FaithfulMembers for () {
 }
 
 impl FaithfulAlternatives for NoneOf {
-    ghost sameness = { plain_sameness ⟦<NoneOf as Alternatives>⟧.known.eq ⟦<NoneOf as Alternatives>⟧.chosen (λ v. elim v [ ]) };
+    ghost sameness = { plain_sameness ⟦<NoneOf as Alternatives>⟧.facts.eq ⟦<NoneOf as Alternatives>⟧.chosen (λ v. elim v [ ]) };
 
     ghost respects = { Prim.assumption };
 }
 
 impl<A: Begins + Faithful, B: FaithfulAlternatives> FaithfulAlternatives for OneOf<A, B> {
-    ghost sameness = { this_or_other_sameness A.sameness A.eq A.meaning B.sameness B.known.eq B.chosen };
+    ghost sameness = { this_or_other_sameness A.sameness A.eq A.meaning B.sameness B.facts.eq B.chosen };
 
     ghost respects = { Prim.assumption };
 }
@@ -253,9 +255,9 @@ impl<
     C: Begins + Faithful,
     D: Begins + Faithful,
     E: FaithfulAlternatives,
-> FaithfulAlternatives for OneOf4<A, B, C, D, E> {
+> FaithfulAlternatives for Choice4<A, B, C, D, E> {
     ghost sameness = { sameness_as (this_or_other_by A.sameness A.eq A.meaning (this_or_other_by B.sameness B.eq B.meaning
-        (this_or_other_by C.sameness C.eq C.meaning (this_or_other_sameness D.sameness D.eq D.meaning E.sameness E.known.eq E.chosen)))) one_by_one };
+        (this_or_other_by C.sameness C.eq C.meaning (this_or_other_sameness D.sameness D.eq D.meaning E.sameness E.facts.eq E.chosen)))) one_by_one };
 
     ghost respects = { Prim.assumption };
 }

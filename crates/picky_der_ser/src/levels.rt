@@ -9,11 +9,11 @@ ghost use Rattle.picky_der_ser.specs.Headers.{tree_of, headers, HasNumber, CanBe
 ghost use Rattle.picky_der_ser.specs.State.{Level, root, with_bytes, at_next_member, in_order, final_content, EntersLevel, HasLevelNumbers};
 
 use crate::Header;
-use crate::enclose::{enclose, push_enclosed};
 use crate::header::{fill_short, push_few, push_headers, push_short};
+use crate::header_insertion::{enclose, push_enclosed};
+use crate::header_room::widen_rooms;
 use crate::marks::{Mark, Marks};
 use crate::order::{arrange, begin_member};
-use crate::widen::widen_rooms;
 use crate::wrapper_stack::Wrappers;
 use picky_der_core::asn1::{Tag, Wrapper};
 use std::alloc::{AllocError, Global};

@@ -45,7 +45,7 @@ impl<T: Clone> Optional<T> {
 pub struct OptionalRef<'a, T>(pub &'a Option<T>);
 
 impl<T: Serialize> SerializeMember for Optional<T> {
-    ghost in_front = { λ member. maybe_more T.meaning member.0 };
+    ghost prepend = { λ member. maybe_more T.meaning member.0 };
 
     fn serialize_member<W: WriteExt>(&self, sequence: &mut Sequence<'_, W>) -> Result<()> {
         OptionalRef(&self.0).serialize_member(sequence)
@@ -53,7 +53,7 @@ impl<T: Serialize> SerializeMember for Optional<T> {
 }
 
 impl<T: Serialize> SerializeMember for OptionalRef<'_, T> {
-    ghost in_front = { λ member. maybe_more T.meaning member.0.now };
+    ghost prepend = { λ member. maybe_more T.meaning member.0.now };
 
     fn serialize_member<W: WriteExt>(&self, sequence: &mut Sequence<'_, W>) -> Result<()> {
         match self.0 {

@@ -41,7 +41,7 @@ pub trait Serialize {
         ensures failed { IfErr result (λ e. RefusesWrite W.WriteExt.own
             (meaning self.now) ser.old e ser.new) }
         ensures counted { IsOnceAtMost (W.faults ser.old.sink) (W.faults ser.new.sink) }
-        ensures goes_on { W.later ser.old.sink ser.new.sink };
+        ensures continues { W.later ser.old.sink ser.new.sink };
 }
 
 /// Writes values to a sink. After an error it has failed: each later call returns an error of its kind and writes nothing.

@@ -4,8 +4,8 @@ ghost use Rattle.std.specs.Prelude.{◌≡◌, refl, string_bytes};
 ghost use Rattle.picky_der_core.specs.Primitive.{Primitive};
 ghost use Rattle.picky_der_core.specs.Tree.{Tree};
 ghost use Rattle.der_types.specs.Exact.{plain_values};
+ghost use Rattle.der_types.specs.ContentsFacts.{contents_of};
 ghost use Rattle.der_types.specs.ExactContents.{boolean_exact, any_content_exact, null_exact, text_exact};
-ghost use Rattle.der_types.specs.KnownContents.{contents_of};
 ghost use Rattle.der_types.specs.MadeValues.{vec_of, text_of};
 ghost use Rattle.der_types.specs.Notation.{Notation};
 

@@ -8,7 +8,7 @@ use picky_asn1_der::asn1::{
     Wrapper,
 };
 use picky_asn1_der::ser::{Defaulted, False, Header, Optional};
-use picky_asn1_der::{Asn1DerError, Asn1RawDer, NoneOf, OneOf, OneOf4};
+use picky_asn1_der::{Asn1DerError, Asn1RawDer, Choice4, NoneOf, OneOf};
 use picky_der_core::Failure;
 use std::io::ErrorKind;
 use std::process::Abort;
@@ -105,8 +105,8 @@ fn wrappers_differ(rt: HostRuntime) {
             Wrapper::Implicit(1),
             Wrapper::Application(0),
             Wrapper::Application(1),
-            Wrapper::Retagged(0xA0),
-            Wrapper::Retagged(0xA1),
+            Wrapper::ImplicitList(0xA0),
+            Wrapper::ImplicitList(0xA1),
         ],
     );
     all_differ(
@@ -184,11 +184,11 @@ fn members_and_alternatives_differ(rt: HostRuntime) {
     all_differ(
         &rt,
         &[
-            OneOf4::<u8, u8, u8, u8, NoneOf>::First(1),
-            OneOf4::First(2),
-            OneOf4::Second(1),
-            OneOf4::Third(1),
-            OneOf4::Fourth(1),
+            Choice4::<u8, u8, u8, u8, NoneOf>::First(1),
+            Choice4::First(2),
+            Choice4::Second(1),
+            Choice4::Third(1),
+            Choice4::Fourth(1),
         ],
     );
 }

@@ -11,7 +11,9 @@ use der_examples::{
 use der_types::{BitString, ObjectIdentifier};
 use der_x509::AlgorithmIdentifier;
 use picky_asn1_der::Asn1DerError::{InvalidData, TruncatedData};
-use picky_asn1_der::asn1::{Asn1SetOf, ByteBuf, ExplicitContextTag, ImplicitContextTag, Retagged};
+use picky_asn1_der::asn1::{
+    Asn1SetOf, ByteBuf, ExplicitContextTag, ImplicitContextTag, ImplicitList,
+};
 use picky_asn1_der::{Asn1DerError, Asn1RawDer};
 use std::process::Abort;
 
@@ -169,7 +171,7 @@ fn add_last(rt: &(impl Abort + AllocGlobal), script: &mut Script) {
     let names = vec![in rt.alloc(); octets(rt, &[2]), octets(rt, &[1, 0])].expect(rt, "memory");
     add(rt, script, 600, Command::Stop(ImplicitContextTag(())));
     add(rt, script, 700, Command::Load(ImplicitContextTag(font)));
-    add(rt, script, 800, Command::Speeds(Retagged(speeds)));
+    add(rt, script, 800, Command::Speeds(ImplicitList(speeds)));
     add(
         rt,
         script,

@@ -50,7 +50,7 @@ fn every_other_form_is_refused(rt: HostRuntime) {
 }
 
 #[test]
-fn the_bytes_behind_the_first_are_counted(rt: HostRuntime) {
+fn the_bytes_after_the_first_are_counted(rt: HostRuntime) {
     same!(rt; Length::long_count(0x80), Err(InvalidData));
     same!(rt; Length::long_count(0x82), Ok(2));
     same!(rt; Length::long_count(0x89), Err(UnsupportedValue));

@@ -62,9 +62,9 @@ fn goes_there_and_back(
     match less {
         None => same!(*rt; read, Ok(set)),
         Some(place) => {
-            let behind = (set.0.len() - place).saturating_sub(2).saturating_mul(4);
+            let after = (set.0.len() - place).saturating_sub(2).saturating_mul(4);
             same!(*rt; read.err(), Some(InvalidData));
-            same!(*rt; reader.get_ref().given(), given.len().saturating_sub(behind));
+            same!(*rt; reader.get_ref().given(), given.len().saturating_sub(after));
         }
     }
 }

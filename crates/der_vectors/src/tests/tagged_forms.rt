@@ -4,7 +4,7 @@
 
 use crate::tests::checks::{is_refused, read_back};
 use der_examples::PersonnelRecord;
-use der_types::{Encoded, Integer, ObjectIdentifier, RetaggedPrimitive, names};
+use der_types::{Encoded, ImplicitPrimitive, Integer, ObjectIdentifier, names};
 use picky_asn1_der::Asn1DerError::{InvalidData, UnsupportedValue};
 use picky_asn1_der::asn1::SetOfAsGiven;
 
@@ -26,12 +26,12 @@ fn a_set_has_its_members_in_the_order_of_their_tags(rt: HostRuntime) {
 
 #[test]
 fn primitive_values_stand_under_other_tags(rt: HostRuntime) {
-    let private: RetaggedPrimitive<Integer, 0xC3> = read_back(&rt, "C3 02 FF 7F");
+    let private: ImplicitPrimitive<Integer, 0xC3> = read_back(&rt, "C3 02 FF 7F");
     same!(rt; private.0.to_int::<i16>(), Some(-129));
-    is_refused::<RetaggedPrimitive<Integer, 0xC3>>(&rt, "C3 02 00 7F", InvalidData);
-    is_refused::<RetaggedPrimitive<Integer, 0x43>>(&rt, "C3 01 07", InvalidData);
-    is_refused::<RetaggedPrimitive<Integer, 0x63>>(&rt, "63 01 07", UnsupportedValue);
-    is_refused::<RetaggedPrimitive<Integer, 0x5F>>(&rt, "5F 01 07", UnsupportedValue);
+    is_refused::<ImplicitPrimitive<Integer, 0xC3>>(&rt, "C3 02 00 7F", InvalidData);
+    is_refused::<ImplicitPrimitive<Integer, 0x43>>(&rt, "C3 01 07", InvalidData);
+    is_refused::<ImplicitPrimitive<Integer, 0x63>>(&rt, "63 01 07", UnsupportedValue);
+    is_refused::<ImplicitPrimitive<Integer, 0x5F>>(&rt, "5F 01 07", UnsupportedValue);
 }
 
 #[test]

@@ -11,7 +11,7 @@ use std::io::ErrorKind;
 use std::process::Abort;
 
 #[test]
-fn a_slice_has_one_value_behind_another(rt: HostRuntime) {
+fn a_slice_has_one_value_after_another(rt: HostRuntime) {
     let alloc = rt.alloc();
     let bytes: &[u8] = &[0x02, 0x02, 0x00, 0x80, 0x05, 0x00, 0x02, 0x01];
     same!(rt; next_from_bytes::<u8>(alloc, bytes), Ok((128, 4)));
@@ -24,7 +24,7 @@ fn a_slice_has_one_value_behind_another(rt: HostRuntime) {
 }
 
 #[test]
-fn a_reader_ends_behind_its_last_value(rt: HostRuntime) {
+fn a_reader_ends_after_its_last_value(rt: HostRuntime) {
     let alloc = rt.alloc();
     let bytes: &[u8] = &[0x02, 0x01, 0x07, 0x02, 0x01, 0x08];
     let mut reader = Watched::new(SlowReader::new(bytes));
@@ -83,7 +83,7 @@ fn a_fault_is_no_end(rt: HostRuntime) {
 }
 
 #[test]
-fn values_of_two_types_stand_behind_each_other(rt: HostRuntime) {
+fn values_of_two_types_stand_after_each_other(rt: HostRuntime) {
     let alloc = rt.alloc();
     let bytes: &[u8] = &[0x02, 0x01, 0x07, 0x0C, 0x02, 0x68, 0x69];
     same!(rt; number_and_text(alloc, bytes), Ok((7, text(&rt, "hi"))));

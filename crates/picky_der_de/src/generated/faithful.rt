@@ -143,7 +143,7 @@ impl<const N: i8> FaithfulDefault<i128> for SignedNumber<N> {
 }
 
 impl<A: FaithfulMember, Z: FaithfulMembers> FaithfulMembers for (A, Z) {
-    ghost sameness = { member_then (λ it. it.0) A.sameness A.known.eq A.in_front (members_at (λ it. it.1) Z.sameness Z.known.tests Z.members) };
+    ghost sameness = { member_then (λ it. it.0) A.sameness A.facts.eq A.prepend (members_at (λ it. it.1) Z.sameness Z.facts.tests Z.members) };
 
     ghost respects = { Prim.assumption };
 }
@@ -155,7 +155,7 @@ impl<A: Faithful> Faithful for (A,) {
 }
 
 impl<A: FaithfulMember, B: FaithfulMember, Z: FaithfulMembers> FaithfulMembers for (A, B, Z) {
-    ghost sameness = { member_then (λ it. it.0) A.sameness A.known.eq A.in_front (member_then (λ it. it.1) B.sameness B.known.eq B.in_front (members_at (λ it. it.2) Z.sameness Z.known.tests Z.members)) };
+    ghost sameness = { member_then (λ it. it.0) A.sameness A.facts.eq A.prepend (member_then (λ it. it.1) B.sameness B.facts.eq B.prepend (members_at (λ it. it.2) Z.sameness Z.facts.tests Z.members)) };
 
     ghost respects = { Prim.assumption };
 }
@@ -168,7 +168,7 @@ impl<A: Faithful, B: Faithful> Faithful for (A, B) {
 
 impl<A: FaithfulMember, B: FaithfulMember, C: FaithfulMember, Z: FaithfulMembers> FaithfulMembers
     for (A, B, C, Z) {
-    ghost sameness = { member_then (λ it. it.0) A.sameness A.known.eq A.in_front (member_then (λ it. it.1) B.sameness B.known.eq B.in_front (member_then (λ it. it.2) C.sameness C.known.eq C.in_front (members_at (λ it. it.3) Z.sameness Z.known.tests Z.members))) };
+    ghost sameness = { member_then (λ it. it.0) A.sameness A.facts.eq A.prepend (member_then (λ it. it.1) B.sameness B.facts.eq B.prepend (member_then (λ it. it.2) C.sameness C.facts.eq C.prepend (members_at (λ it. it.3) Z.sameness Z.facts.tests Z.members))) };
 
     ghost respects = { Prim.assumption };
 }
@@ -186,7 +186,7 @@ impl<
     D: FaithfulMember,
     Z: FaithfulMembers,
 > FaithfulMembers for (A, B, C, D, Z) {
-    ghost sameness = { member_then (λ it. it.0) A.sameness A.known.eq A.in_front (member_then (λ it. it.1) B.sameness B.known.eq B.in_front (member_then (λ it. it.2) C.sameness C.known.eq C.in_front (member_then (λ it. it.3) D.sameness D.known.eq D.in_front (members_at (λ it. it.4) Z.sameness Z.known.tests Z.members)))) };
+    ghost sameness = { member_then (λ it. it.0) A.sameness A.facts.eq A.prepend (member_then (λ it. it.1) B.sameness B.facts.eq B.prepend (member_then (λ it. it.2) C.sameness C.facts.eq C.prepend (member_then (λ it. it.3) D.sameness D.facts.eq D.prepend (members_at (λ it. it.4) Z.sameness Z.facts.tests Z.members)))) };
 
     ghost respects = { Prim.assumption };
 }
@@ -205,7 +205,7 @@ impl<
     E: FaithfulMember,
     Z: FaithfulMembers,
 > FaithfulMembers for (A, B, C, D, E, Z) {
-    ghost sameness = { member_then (λ it. it.0) A.sameness A.known.eq A.in_front (member_then (λ it. it.1) B.sameness B.known.eq B.in_front (member_then (λ it. it.2) C.sameness C.known.eq C.in_front (member_then (λ it. it.3) D.sameness D.known.eq D.in_front (member_then (λ it. it.4) E.sameness E.known.eq E.in_front (members_at (λ it. it.5) Z.sameness Z.known.tests Z.members))))) };
+    ghost sameness = { member_then (λ it. it.0) A.sameness A.facts.eq A.prepend (member_then (λ it. it.1) B.sameness B.facts.eq B.prepend (member_then (λ it. it.2) C.sameness C.facts.eq C.prepend (member_then (λ it. it.3) D.sameness D.facts.eq D.prepend (member_then (λ it. it.4) E.sameness E.facts.eq E.prepend (members_at (λ it. it.5) Z.sameness Z.facts.tests Z.members))))) };
 
     ghost respects = { Prim.assumption };
 }
@@ -225,7 +225,7 @@ impl<
     F: FaithfulMember,
     Z: FaithfulMembers,
 > FaithfulMembers for (A, B, C, D, E, F, Z) {
-    ghost sameness = { member_then (λ it. it.0) A.sameness A.known.eq A.in_front (member_then (λ it. it.1) B.sameness B.known.eq B.in_front (member_then (λ it. it.2) C.sameness C.known.eq C.in_front (member_then (λ it. it.3) D.sameness D.known.eq D.in_front (member_then (λ it. it.4) E.sameness E.known.eq E.in_front (member_then (λ it. it.5) F.sameness F.known.eq F.in_front (members_at (λ it. it.6) Z.sameness Z.known.tests Z.members)))))) };
+    ghost sameness = { member_then (λ it. it.0) A.sameness A.facts.eq A.prepend (member_then (λ it. it.1) B.sameness B.facts.eq B.prepend (member_then (λ it. it.2) C.sameness C.facts.eq C.prepend (member_then (λ it. it.3) D.sameness D.facts.eq D.prepend (member_then (λ it. it.4) E.sameness E.facts.eq E.prepend (member_then (λ it. it.5) F.sameness F.facts.eq F.prepend (members_at (λ it. it.6) Z.sameness Z.facts.tests Z.members)))))) };
 
     ghost respects = { Prim.assumption };
 }
@@ -247,7 +247,7 @@ impl<
     G: FaithfulMember,
     Z: FaithfulMembers,
 > FaithfulMembers for (A, B, C, D, E, F, G, Z) {
-    ghost sameness = { member_then (λ it. it.0) A.sameness A.known.eq A.in_front (member_then (λ it. it.1) B.sameness B.known.eq B.in_front (member_then (λ it. it.2) C.sameness C.known.eq C.in_front (member_then (λ it. it.3) D.sameness D.known.eq D.in_front (member_then (λ it. it.4) E.sameness E.known.eq E.in_front (member_then (λ it. it.5) F.sameness F.known.eq F.in_front (member_then (λ it. it.6) G.sameness G.known.eq G.in_front (members_at (λ it. it.7) Z.sameness Z.known.tests Z.members))))))) };
+    ghost sameness = { member_then (λ it. it.0) A.sameness A.facts.eq A.prepend (member_then (λ it. it.1) B.sameness B.facts.eq B.prepend (member_then (λ it. it.2) C.sameness C.facts.eq C.prepend (member_then (λ it. it.3) D.sameness D.facts.eq D.prepend (member_then (λ it. it.4) E.sameness E.facts.eq E.prepend (member_then (λ it. it.5) F.sameness F.facts.eq F.prepend (member_then (λ it. it.6) G.sameness G.facts.eq G.prepend (members_at (λ it. it.7) Z.sameness Z.facts.tests Z.members))))))) };
 
     ghost respects = { Prim.assumption };
 }
@@ -277,7 +277,7 @@ impl<
     H: FaithfulMember,
     Z: FaithfulMembers,
 > FaithfulMembers for (A, B, C, D, E, F, G, H, Z) {
-    ghost sameness = { member_then (λ it. it.0) A.sameness A.known.eq A.in_front (member_then (λ it. it.1) B.sameness B.known.eq B.in_front (member_then (λ it. it.2) C.sameness C.known.eq C.in_front (member_then (λ it. it.3) D.sameness D.known.eq D.in_front (member_then (λ it. it.4) E.sameness E.known.eq E.in_front (member_then (λ it. it.5) F.sameness F.known.eq F.in_front (member_then (λ it. it.6) G.sameness G.known.eq G.in_front (member_then (λ it. it.7) H.sameness H.known.eq H.in_front (members_at (λ it. it.8) Z.sameness Z.known.tests Z.members)))))))) };
+    ghost sameness = { member_then (λ it. it.0) A.sameness A.facts.eq A.prepend (member_then (λ it. it.1) B.sameness B.facts.eq B.prepend (member_then (λ it. it.2) C.sameness C.facts.eq C.prepend (member_then (λ it. it.3) D.sameness D.facts.eq D.prepend (member_then (λ it. it.4) E.sameness E.facts.eq E.prepend (member_then (λ it. it.5) F.sameness F.facts.eq F.prepend (member_then (λ it. it.6) G.sameness G.facts.eq G.prepend (member_then (λ it. it.7) H.sameness H.facts.eq H.prepend (members_at (λ it. it.8) Z.sameness Z.facts.tests Z.members)))))))) };
 
     ghost respects = { Prim.assumption };
 }

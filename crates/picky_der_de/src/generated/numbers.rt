@@ -4,10 +4,10 @@ ghost use Rattle.std.specs.Prelude.{◌^◌, ◌-◌, IfOk, IfErr, refl};
 ghost use Rattle.picky_der_core.specs.Primitive.{Primitive, PrimitiveShape};
 ghost use Rattle.picky_der_core.specs.Shape.{Shape};
 ghost use Rattle.picky_der_core.specs.Integer.{fits_signed, int_tree, unsigned_tree};
-ghost use Rattle.picky_der_de.specs.Steps.{TakesNoMemory};
+ghost use Rattle.picky_der_de.specs.Steps.{UsesNoMemory};
 ghost use Rattle.picky_der_de.specs.Reading.{Reads, Refuses, ReadsPrimitive, RefusesPrimitive};
 ghost use Rattle.picky_der_de.specs.Reading.{ReadsInt, RefusesInt};
-ghost use Rattle.picky_der_de.specs.Known.{known_unsigned, known_int};
+ghost use Rattle.picky_der_de.specs.Facts.{unsigned_facts, int_facts};
 
 use crate::{Begins, Deserialize, Deserializer, UnsignedInteger};
 use picky_der_core::Result;
@@ -17,9 +17,9 @@ use picky_der_core::misc::ReadExt;
 impl Deserialize for u8 {
     ghost shape = { Shape.primitive (PrimitiveShape.unsigned (2 ^ 8 - 1)) };
 
-    ghost known = { known_unsigned (2 ^ 8 - 1) refl };
+    ghost facts = { unsigned_facts (2 ^ 8 - 1) refl };
 
-    ghost tied = { Prim.assumption };
+    ghost proved = { Prim.assumption };
 
     #[inline(always)]
     #[tactic(auto, using(crate::proofs::NumberReads::number))]
@@ -33,7 +33,7 @@ impl Deserialize for u8 {
             (Shape.primitive (PrimitiveShape.unsigned (2 ^ 8 - 1))) de.old de.new) }
         ensures refused { IfErr result (RefusesPrimitive Primitive.unsigned (PrimitiveShape.unsigned (2 ^ 8 - 1))
             de.old de.new) }
-        ensures memory { IfErr result (TakesNoMemory de.old de.new) }
+        ensures memory { IfErr result (UsesNoMemory de.old de.new) }
     {
         de.read_plain::<UnsignedInteger, u8>()
     }
@@ -48,9 +48,9 @@ impl Begins for u8 {
 impl Deserialize for u16 {
     ghost shape = { Shape.primitive (PrimitiveShape.unsigned (2 ^ 16 - 1)) };
 
-    ghost known = { known_unsigned (2 ^ 16 - 1) refl };
+    ghost facts = { unsigned_facts (2 ^ 16 - 1) refl };
 
-    ghost tied = { Prim.assumption };
+    ghost proved = { Prim.assumption };
 
     #[inline(always)]
     #[tactic(auto, using(crate::proofs::NumberReads::number))]
@@ -64,7 +64,7 @@ impl Deserialize for u16 {
             (Shape.primitive (PrimitiveShape.unsigned (2 ^ 16 - 1))) de.old de.new) }
         ensures refused { IfErr result (RefusesPrimitive Primitive.unsigned (PrimitiveShape.unsigned (2 ^ 16 - 1))
             de.old de.new) }
-        ensures memory { IfErr result (TakesNoMemory de.old de.new) }
+        ensures memory { IfErr result (UsesNoMemory de.old de.new) }
     {
         de.read_plain::<UnsignedInteger, u16>()
     }
@@ -79,9 +79,9 @@ impl Begins for u16 {
 impl Deserialize for u32 {
     ghost shape = { Shape.primitive (PrimitiveShape.unsigned (2 ^ 32 - 1)) };
 
-    ghost known = { known_unsigned (2 ^ 32 - 1) refl };
+    ghost facts = { unsigned_facts (2 ^ 32 - 1) refl };
 
-    ghost tied = { Prim.assumption };
+    ghost proved = { Prim.assumption };
 
     #[inline(always)]
     #[tactic(auto, using(crate::proofs::NumberReads::number))]
@@ -95,7 +95,7 @@ impl Deserialize for u32 {
             (Shape.primitive (PrimitiveShape.unsigned (2 ^ 32 - 1))) de.old de.new) }
         ensures refused { IfErr result (RefusesPrimitive Primitive.unsigned (PrimitiveShape.unsigned (2 ^ 32 - 1))
             de.old de.new) }
-        ensures memory { IfErr result (TakesNoMemory de.old de.new) }
+        ensures memory { IfErr result (UsesNoMemory de.old de.new) }
     {
         de.read_plain::<UnsignedInteger, u32>()
     }
@@ -110,9 +110,9 @@ impl Begins for u32 {
 impl Deserialize for u64 {
     ghost shape = { Shape.primitive (PrimitiveShape.unsigned (2 ^ 64 - 1)) };
 
-    ghost known = { known_unsigned (2 ^ 64 - 1) refl };
+    ghost facts = { unsigned_facts (2 ^ 64 - 1) refl };
 
-    ghost tied = { Prim.assumption };
+    ghost proved = { Prim.assumption };
 
     #[inline(always)]
     #[tactic(auto, using(crate::proofs::NumberReads::number))]
@@ -126,7 +126,7 @@ impl Deserialize for u64 {
             (Shape.primitive (PrimitiveShape.unsigned (2 ^ 64 - 1))) de.old de.new) }
         ensures refused { IfErr result (RefusesPrimitive Primitive.unsigned (PrimitiveShape.unsigned (2 ^ 64 - 1))
             de.old de.new) }
-        ensures memory { IfErr result (TakesNoMemory de.old de.new) }
+        ensures memory { IfErr result (UsesNoMemory de.old de.new) }
     {
         de.read_plain::<UnsignedInteger, u64>()
     }
@@ -141,9 +141,9 @@ impl Begins for u64 {
 impl Deserialize for u128 {
     ghost shape = { Shape.primitive (PrimitiveShape.unsigned (2 ^ 128 - 1)) };
 
-    ghost known = { known_unsigned (2 ^ 128 - 1) refl };
+    ghost facts = { unsigned_facts (2 ^ 128 - 1) refl };
 
-    ghost tied = { Prim.assumption };
+    ghost proved = { Prim.assumption };
 
     #[inline(always)]
     #[tactic(auto, using(crate::proofs::NumberReads::number))]
@@ -157,7 +157,7 @@ impl Deserialize for u128 {
             (Shape.primitive (PrimitiveShape.unsigned (2 ^ 128 - 1))) de.old de.new) }
         ensures refused { IfErr result (RefusesPrimitive Primitive.unsigned (PrimitiveShape.unsigned (2 ^ 128 - 1))
             de.old de.new) }
-        ensures memory { IfErr result (TakesNoMemory de.old de.new) }
+        ensures memory { IfErr result (UsesNoMemory de.old de.new) }
     {
         de.read_plain::<UnsignedInteger, u128>()
     }
@@ -172,9 +172,9 @@ impl Begins for u128 {
 impl Deserialize for usize {
     ghost shape = { Shape.primitive (PrimitiveShape.unsigned (2 ^ 64 - 1)) };
 
-    ghost known = { known_unsigned (2 ^ 64 - 1) refl };
+    ghost facts = { unsigned_facts (2 ^ 64 - 1) refl };
 
-    ghost tied = { Prim.assumption };
+    ghost proved = { Prim.assumption };
 
     #[inline(always)]
     #[tactic(auto, using(crate::proofs::NumberReads::number))]
@@ -188,7 +188,7 @@ impl Deserialize for usize {
             (Shape.primitive (PrimitiveShape.unsigned (2 ^ 64 - 1))) de.old de.new) }
         ensures refused { IfErr result (RefusesPrimitive Primitive.unsigned (PrimitiveShape.unsigned (2 ^ 64 - 1))
             de.old de.new) }
-        ensures memory { IfErr result (TakesNoMemory de.old de.new) }
+        ensures memory { IfErr result (UsesNoMemory de.old de.new) }
     {
         de.read_plain::<UnsignedInteger, usize>()
     }
@@ -203,9 +203,9 @@ impl Begins for usize {
 impl Deserialize for i8 {
     ghost shape = { Shape.primitive (PrimitiveShape.bytes 0x02) };
 
-    ghost known = { known_int (fits_signed 8) };
+    ghost facts = { int_facts (fits_signed 8) };
 
-    ghost tied = { Prim.assumption };
+    ghost proved = { Prim.assumption };
 
     fn deserialize<R: ReadExt>(de: &mut Deserializer<R>) -> Result<i8>
         ensures ok { IfOk result (λ value. Reads (Shape.primitive (PrimitiveShape.bytes 0x02))
@@ -215,7 +215,7 @@ impl Deserialize for i8 {
             de.old de.new) }
         ensures read { IfOk result (ReadsInt (fits_signed 8) de.old de.new) }
         ensures refused { IfErr result (RefusesInt (fits_signed 8) de.old de.new) }
-        ensures memory { IfErr result (TakesNoMemory de.old de.new) }
+        ensures memory { IfErr result (UsesNoMemory de.old de.new) }
     {
         de.deserialize_int()
     }
@@ -230,9 +230,9 @@ impl Begins for i8 {
 impl Deserialize for i16 {
     ghost shape = { Shape.primitive (PrimitiveShape.bytes 0x02) };
 
-    ghost known = { known_int (fits_signed 16) };
+    ghost facts = { int_facts (fits_signed 16) };
 
-    ghost tied = { Prim.assumption };
+    ghost proved = { Prim.assumption };
 
     fn deserialize<R: ReadExt>(de: &mut Deserializer<R>) -> Result<i16>
         ensures ok { IfOk result (λ value. Reads (Shape.primitive (PrimitiveShape.bytes 0x02))
@@ -242,7 +242,7 @@ impl Deserialize for i16 {
             de.old de.new) }
         ensures read { IfOk result (ReadsInt (fits_signed 16) de.old de.new) }
         ensures refused { IfErr result (RefusesInt (fits_signed 16) de.old de.new) }
-        ensures memory { IfErr result (TakesNoMemory de.old de.new) }
+        ensures memory { IfErr result (UsesNoMemory de.old de.new) }
     {
         de.deserialize_int()
     }
@@ -257,9 +257,9 @@ impl Begins for i16 {
 impl Deserialize for i32 {
     ghost shape = { Shape.primitive (PrimitiveShape.bytes 0x02) };
 
-    ghost known = { known_int (fits_signed 32) };
+    ghost facts = { int_facts (fits_signed 32) };
 
-    ghost tied = { Prim.assumption };
+    ghost proved = { Prim.assumption };
 
     fn deserialize<R: ReadExt>(de: &mut Deserializer<R>) -> Result<i32>
         ensures ok { IfOk result (λ value. Reads (Shape.primitive (PrimitiveShape.bytes 0x02))
@@ -269,7 +269,7 @@ impl Deserialize for i32 {
             de.old de.new) }
         ensures read { IfOk result (ReadsInt (fits_signed 32) de.old de.new) }
         ensures refused { IfErr result (RefusesInt (fits_signed 32) de.old de.new) }
-        ensures memory { IfErr result (TakesNoMemory de.old de.new) }
+        ensures memory { IfErr result (UsesNoMemory de.old de.new) }
     {
         de.deserialize_int()
     }
@@ -284,9 +284,9 @@ impl Begins for i32 {
 impl Deserialize for i64 {
     ghost shape = { Shape.primitive (PrimitiveShape.bytes 0x02) };
 
-    ghost known = { known_int (fits_signed 64) };
+    ghost facts = { int_facts (fits_signed 64) };
 
-    ghost tied = { Prim.assumption };
+    ghost proved = { Prim.assumption };
 
     fn deserialize<R: ReadExt>(de: &mut Deserializer<R>) -> Result<i64>
         ensures ok { IfOk result (λ value. Reads (Shape.primitive (PrimitiveShape.bytes 0x02))
@@ -296,7 +296,7 @@ impl Deserialize for i64 {
             de.old de.new) }
         ensures read { IfOk result (ReadsInt (fits_signed 64) de.old de.new) }
         ensures refused { IfErr result (RefusesInt (fits_signed 64) de.old de.new) }
-        ensures memory { IfErr result (TakesNoMemory de.old de.new) }
+        ensures memory { IfErr result (UsesNoMemory de.old de.new) }
     {
         de.deserialize_int()
     }
@@ -311,9 +311,9 @@ impl Begins for i64 {
 impl Deserialize for i128 {
     ghost shape = { Shape.primitive (PrimitiveShape.bytes 0x02) };
 
-    ghost known = { known_int (fits_signed 128) };
+    ghost facts = { int_facts (fits_signed 128) };
 
-    ghost tied = { Prim.assumption };
+    ghost proved = { Prim.assumption };
 
     fn deserialize<R: ReadExt>(de: &mut Deserializer<R>) -> Result<i128>
         ensures ok { IfOk result (λ value. Reads (Shape.primitive (PrimitiveShape.bytes 0x02))
@@ -323,7 +323,7 @@ impl Deserialize for i128 {
             de.old de.new) }
         ensures read { IfOk result (ReadsInt (fits_signed 128) de.old de.new) }
         ensures refused { IfErr result (RefusesInt (fits_signed 128) de.old de.new) }
-        ensures memory { IfErr result (TakesNoMemory de.old de.new) }
+        ensures memory { IfErr result (UsesNoMemory de.old de.new) }
     {
         de.deserialize_int()
     }

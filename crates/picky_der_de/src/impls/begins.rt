@@ -6,7 +6,7 @@ ghost use Rattle.picky_der_core.specs.Shape.{contains, tag_with_number};
 use crate::{Begins, Deserialize};
 use picky_der_core::asn1::{
     Asn1SequenceOf, Asn1SetOf, BitStringAsn1Container, ByteBuf, ExplicitContextTag,
-    ImplicitContextTag, OctetStringAsn1Container, Retagged, Tag, TaggedBytes,
+    ImplicitContextTag, ImplicitList, OctetStringAsn1Container, Tag, TaggedBytes,
 };
 use picky_der_ser::List;
 
@@ -116,7 +116,7 @@ impl<T: Deserialize, const N: u8> Begins for ImplicitContextTag<T, N> {
     }
 }
 
-impl<T: List + Deserialize, const TAG: u8> Begins for Retagged<T, TAG> {
+impl<T: List + Deserialize, const TAG: u8> Begins for ImplicitList<T, TAG> {
     fn begins_with(tag: Tag) -> bool {
         is_tag(tag, TAG)
     }

@@ -24,7 +24,7 @@ impl<W: WriteExt> Serializer<W> {
     }
 
     // Writes the headers of the level that was opened last, and this content, to the sink.
-    pub(crate) fn put_behind_headers(&mut self, content: &[u8]) -> Result<usize>
+    pub(crate) fn put_after_headers(&mut self, content: &[u8]) -> Result<usize>
         requires opened { IsSome self.old.pending }
         requires empty { IfSome self.old.pending (λ l. l.content ≡ []) }
         requires outside { self.old.inside ≡ [] }
@@ -40,7 +40,7 @@ impl<W: WriteExt> Serializer<W> {
             self.new.sink) }
         ensures counted { IsOnceAtMost (W.faults self.old.sink) (W.faults self.new.sink) }
         ensures no_fault { OnOk result (W.faults self.new.sink ≡ W.faults self.old.sink) }
-        ensures goes_on { W.later self.old.sink self.new.sink }
+        ensures continues { W.later self.old.sink self.new.sink }
     {
         let Ok(()) = self.levels.add_headers(content.len()) else {
             return Err(Asn1DerError::OutOfMemory);
@@ -66,7 +66,7 @@ impl<W: WriteExt> Serializer<W> {
             self.new.sink) }
         ensures counted { IsOnceAtMost (W.faults self.old.sink) (W.faults self.new.sink) }
         ensures no_fault { OnOk result (W.faults self.new.sink ≡ W.faults self.old.sink) }
-        ensures goes_on { W.later self.old.sink self.new.sink }
+        ensures continues { W.later self.old.sink self.new.sink }
     {
         let held = self.levels.content().len();
         let Ok(()) = self.levels.add_headers(held) else {

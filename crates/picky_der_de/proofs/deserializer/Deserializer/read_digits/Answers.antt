@@ -28,6 +28,6 @@ loop-i-preserved g c =
 pub returns-in_err-next_byte-clause-err : goal.returns-in_err-next_byte-clause-err
 returns-in_err-next_byte-clause-err g c =
     let p = err_from_is_err_and c.from_residual.result c.from_residual.ensures.1 in
-    let i = c.loop-i.invariant.0.takes in
+    let i = c.loop-i.invariant.0.consumes in
     let e = c.in_err-next_byte.ensures in
-    rw (p.1, p.2) (stops_short i.takes i.count c.loop-i-test.true e.err e.missing e.unmoved)
+    rw (p.1, p.2) (stops_short i.consumes i.count c.loop-i-test.true e.err e.missing e.unmoved)
