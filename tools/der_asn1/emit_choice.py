@@ -188,13 +188,13 @@ def serialize_answers(declared: ChoiceDeclaration, crate: str, stem: str) -> lis
 
 def deserialize_impl(declared: ChoiceDeclaration, parts: str, imported: list[str]) -> list[str]:
     """The implementation of `Deserialize`."""
-    known = f"choice_facts ⟦<{parts} as Alternatives>⟧.facts refl ⟦<Self as Choice>⟧.parts ⟦<Self as PartialEq>⟧.eq"
+    facts = f"choice_facts ⟦<{parts} as Alternatives>⟧.facts refl ⟦<Self as Choice>⟧.parts ⟦<Self as PartialEq>⟧.eq"
     return [
         f"impl Deserialize for {declared.name} {{",
         *imported,
         f"{STEP}ghost shape = {{ Shape.choice ⟦<{parts} as Alternatives>⟧.shapes }};",
         "",
-        f"{STEP}ghost facts = {{ {known}",
+        f"{STEP}ghost facts = {{ {facts}",
         f"{_TWO}({equal_alternatives(declared)}) }};",
         "",
         f"{STEP}ghost proved = {{ Prim.assumption }};",

@@ -247,12 +247,12 @@ def last_impl(declared: StructDeclaration, tuples: list[str], names: PrivateName
 
 def deserialize_impl(declared: StructDeclaration, members: str) -> list[str]:
     """The implementation of `Deserialize`."""
-    known = f"struct_facts ⟦<{members} as DeserializeMembers>⟧.facts refl ⟦<Self as Struct>⟧.parts"
+    facts = f"struct_facts ⟦<{members} as DeserializeMembers>⟧.facts refl ⟦<Self as Struct>⟧.parts"
     return [
         f"impl Deserialize for {declared.name} {{",
         f"{STEP}ghost shape = {{ sequence_shape ⟦<{members} as DeserializeMembers>⟧.layout }};",
         "",
-        f"{STEP}ghost facts = {{ {known} }};",
+        f"{STEP}ghost facts = {{ {facts} }};",
         "",
         *signature(STEP, "deserialize", ["deserializer: &mut Deserializer<R>"], f"Result<{declared.name}>", "<R: ReadExt>"),
         f"{_TWO}deserialize_struct_as(deserializer)",

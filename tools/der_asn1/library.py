@@ -90,7 +90,7 @@ def context_tag(mode: str, inner: RustType, number: int) -> RustType:
 
 
 def retagged(inner: RustType, tag: int) -> RustType:
-    """Retagged, by the short name if there is one."""
+    """`ImplicitList`, by the short name if there is one."""
     number = tag & 0x1F
     if tag & 0xE0 == 0xA0 and number <= LAST_NAMED_LIST:
         return of(f"ImplicitList{number}", inner)

@@ -203,7 +203,7 @@ impl Serialize for $name {
 impl Deserialize for $name {
     ghost shape = { contents_shape $tag };
 
-    ghost facts = { $known };
+    ghost facts = { $facts };
 
     ghost proved = { Prim.assumption };
 
@@ -265,7 +265,7 @@ def words_of(row: Content) -> dict[str, str]:
         words["it_shown"] = f"({words['it_shown']})"
     words |= {"valid": form.valid, "whole": form.whole}
     words["same"] = row.equality.proof if row.equality else filled(DERIVED_SAME, **words)
-    words["known"] = filled(PROVED_FACTS if row.equality else DERIVED_FACTS, **words)
+    words["facts"] = filled(PROVED_FACTS if row.equality else DERIVED_FACTS, **words)
     words["functions"] = filled(form.functions, **words)
     words["copy"] = filled(form.copy, **words)
     return words
@@ -275,7 +275,7 @@ def ghost_uses(row: Content) -> Lines:
     """The imports of its contracts."""
     form = FORMS[row.form]
     equality = [f"Rattle.{row.equality.specs}.{{{row.equality.name}}}"] if row.equality else ["Rattle.std.specs.Cmp.Lexicographic.{bytes_decides}"]
-    known = "ContentsFacts.{contents_of, contents_shape, contents_facts}" if row.equality else "ContentsFacts.{contents_of, contents_shape}"
+    facts = "ContentsFacts.{contents_of, contents_shape, contents_facts}" if row.equality else "ContentsFacts.{contents_of, contents_shape}"
     return [
         "ghost use Rattle.std.proofs.Common.{lit≤};",
         "ghost use Rattle.std.specs.Prelude.{◌≡◌, true, false, refl, IfSome, IfNone, IfOk, IfErr};",
@@ -286,7 +286,7 @@ def ghost_uses(row: Content) -> Lines:
         "ghost use Rattle.der_types.specs.ContentTests.{ReadsContent, RefusesContent};",
         "ghost use Rattle.der_types.specs.Exact.{content_exact, plain_values};",
         "ghost use Rattle.der_types.specs.ExactContents.{own_contents};",
-        f"ghost use Rattle.der_types.specs.{known};",
+        f"ghost use Rattle.der_types.specs.{facts};",
         *(f"ghost use {it};" for it in form.ghost_uses),
     ]
 

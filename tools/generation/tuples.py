@@ -182,12 +182,12 @@ def read_members() -> Lines:
         names = NAMES[:width]
         whole = tuple_of([*names, "Z"])
         layout = nested([f"layout_with {it}.presence {it}.shape" for it in names], "Z.layout")
-        known = nested([f"member_facts (λ it. it.{at}) {it}.facts {it}.prepend" for at, it in enumerate(names)], f"(members_facts (λ it. it.{width}) Z.facts Z.members)")
+        facts = nested([f"member_facts (λ it. it.{at}) {it}.facts {it}.prepend" for at, it in enumerate(names)], f"(members_facts (λ it. it.{width}) Z.facts Z.members)")
         text += [
             f"impl{of(names, 'DeserializeMember', 'DeserializeMembers')} DeserializeMembers for {whole} {{",
             f"    ghost layout = {{ {layout} }};",
             "",
-            f"    ghost facts = {{ {known} }};",
+            f"    ghost facts = {{ {facts} }};",
             "",
             f"    fn deserialize_members<R: ReadExt>(sequence: &mut Sequence<'_, R>) -> Result<{whole}> {{",
             "        let first = A::deserialize_member(sequence)?;",
@@ -206,7 +206,7 @@ def read_members() -> Lines:
 
 
 def component(name: str) -> str:
-    """What is known of the member that has this parameter's type."""
+    """The facts of the member that has this parameter's type."""
     return f"(layout_member g.{name}.DeserializeMember.facts g.met.{name}.DeserializeMember.proved)"
 
 
@@ -218,7 +218,7 @@ def read_members_proof(width: int) -> Lines:
         rest = "(layout_members g.Z.DeserializeMembers.facts g.met.Z.DeserializeMembers.proved)"
         return nested([*heads, f"after (λ v. v.{first + len(names)})"], rest)
 
-    behind = tuple_of([f"v.{at}" for at in range(1, width + 1)]) if width > 1 else "v.1"
+    after = tuple_of([f"v.{at}" for at in range(1, width + 1)]) if width > 1 else "v.1"
     inner = others(0) if width > 1 else "layout_members g.Z.DeserializeMembers.facts g.met.Z.DeserializeMembers.proved"
     first = component("A")
     read = "c.in_ok-first.ensures.member c.in_ok-first.ensures.none"
@@ -238,7 +238,7 @@ def read_members_proof(width: int) -> Lines:
         "pub returns-in_err-others-clause-err : goal.returns-in_err-others-clause-err",
         "returns-in_err-others-clause-err g c =",
         "    let p = err_from_is_err_and c.from_residual-in_err-others.result c.from_residual-in_err-others.ensures.1 in",
-        f"    rw (p.1, p.2) (layout_member_next {first} (λ v. v.0) (λ v. {behind}) ({inner}) c.in_ok-first.first c.requires.implicit_tag {read} c.in_err-others.ensures.err)",
+        f"    rw (p.1, p.2) (layout_member_next {first} (λ v. v.0) (λ v. {after}) ({inner}) c.in_ok-first.first c.requires.implicit_tag {read} c.in_err-others.ensures.err)",
         "",
         "pub returns-clause-ok : goal.returns-clause-ok",
         f"returns-clause-ok g c = layout_member_read {first} c.in_ok-first.first c.requires.implicit_tag {read} c.in_ok-others.ensures.ok",
@@ -268,7 +268,7 @@ def read_tuple(names: str) -> Lines:
     """How a tuple of these types is read."""
     width, whole = len(names), tuple_of(names)
     layout = nested([f"Layout.required {it}.shape" for it in names], "Layout.empty")
-    known = nested([f"required_facts (λ it. it.{at}) {it}.facts {it}.meaning {it}.eq" for at, it in enumerate(names)], "none_facts")
+    facts = nested([f"required_facts (λ it. it.{at}) {it}.facts {it}.meaning {it}.eq" for at, it in enumerate(names)], "none_facts")
     return [
         f"impl{of(names, 'Deserialize')} Struct for {whole} {{",
         f"    type Members = {tuple_of([*names, '()'])};",
@@ -284,7 +284,7 @@ def read_tuple(names: str) -> Lines:
         f"impl{of(names, 'Deserialize')} Deserialize for {whole} {{",
         f"    ghost shape = {{ sequence_shape ({layout}) }};",
         "",
-        f"    ghost facts = {{ tuple_facts ({known}) refl (λ it. it) }};",
+        f"    ghost facts = {{ tuple_facts ({facts}) refl (λ it. it) }};",
         "",
         f"    fn deserialize<R: ReadExt>(de: &mut Deserializer<R>) -> Result<{whole}> {{",
         "        deserialize_struct_as(de)",

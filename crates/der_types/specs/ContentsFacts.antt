@@ -1,4 +1,4 @@
--- Types whose values are distinguished by their contents: what they mean, and what is known of them.
+-- Types whose values are distinguished by their contents: what they mean, and their facts.
 use Rattle.std.specs.Prelude.{◌≡◌, ℕ, List, Bool, true, refl}
 use Rattle.picky_der_core.specs.Primitive.{Primitive, PrimitiveShape}
 use Rattle.picky_der_core.specs.Tree.{Tree}

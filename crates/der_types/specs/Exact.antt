@@ -17,7 +17,7 @@ pub record IsExact {V : Type 0} (P : Tree → Type 0) (meaning : V → Tree) : T
   -- each such tree is what some value means, if vectors can hold it
   pub complete : (t : Tree) → P t → IsReadable t → IsShort t → (v : V) × (meaning v ≡ t)
 
--- What a type says of its values, and that they are exact where what is owed holds: that its parts are what they say.
+-- What a type says of its values, and that they are exact by a premise: that its parts are what they say.
 pub record Values (V : Type 0) : Type 1 where
   pub notation : Notation
   pub meaning : V → Tree

@@ -151,7 +151,7 @@ module _ {A V : Type 0} (n : Notation) (means : A → Tree) (is : IsExact (Denot
   pub optional_exact : IsExactMember (Member.optional n) (λ v. maybe_more means (part v))
   optional_exact = record { sound = λ Q. maybe_sound (Denotes n) means part may_be Q; complete = λ Q. maybe_complete (Denotes n) means part may_be Q }
 
--- What is owed of a default: it is known by its tree, it means this one, and there is such a value.
+-- The premise of a default: it is known by its tree, it means this one, and there is such a value.
 pub record IsDefault {A : Type 0} (means : A → Tree) (left_out : A → Bool) (value : Tree) (one : A) : Type 0 where
   pub by_tree : IsByTree means left_out
   pub is_value : (it : A) → IsTrue (left_out it) → means it ≡ value

@@ -35,7 +35,7 @@ arcs-content (x ∷ y ∷ arcs) e = ap arcs_of_numbers (numbers-content ((40 * x
         rw (le-ltb (40 * x + y) 80 (omega arith), after, two) refl
     first_two false q false f g h e = cc
 
--- two rows of arcs with one content are one
+-- two lists of arcs with one content are one
 pub same_arcs : (a b : List ℕ) → are_arcs a ≡ true → are_arcs b ≡ true → object_identifier_content a ≡ object_identifier_content b → a ≡ b
 same_arcs a b p q e = sym (arcs-content a p) ∙ ap arcs_of e ∙ arcs-content b q
 

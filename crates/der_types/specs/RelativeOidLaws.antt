@@ -10,7 +10,7 @@ pub valid_relative : (arcs : List ℕ) → are_relative_arcs arcs ≡ true → i
 valid_relative [] e = cc
 valid_relative (x ∷ arcs) e = subidentifier-some x (subidentifiers arcs) ∙ valid_subidentifiers (x ∷ arcs)
 
--- two rows of arcs with one content are one
+-- two lists of arcs with one content are one
 pub same_relative : (a b : List ℕ) → relative_oid_content a ≡ relative_oid_content b → a ≡ b
 same_relative a b e = sym (numbers-content a) ∙ ap (numbers_after 0) e ∙ numbers-content b
 

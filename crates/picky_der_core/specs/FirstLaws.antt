@@ -71,7 +71,7 @@ not_both : (b : Bool) → not b ≡ true → b ≡ true → ⊥
 not_both true h k = cc
 not_both false h k = cc
 
--- no byte is in both of two lists that are apart
+-- no byte is in both of two disjoint lists
 pub disjoint_contains : (x : ℕ) (xs ys : List ℕ) → are_disjoint xs ys ≡ true → contains xs x ≡ true → contains ys x ≡ true → ⊥
 disjoint_contains x [] ys a h k = cc
 disjoint_contains x (y ∷ xs) ys a h k =
@@ -102,7 +102,7 @@ contains-tags_below x (suc n) l h = by_last (x == n) refl (λ k. contains-tags_b
         let less : x < n = omega (arith, false-eqb x n (sym e)) in
         contains-append_right x (tag_with_number (number_of n) n) (tags_below n) (next less)
 
--- trees that begin with bytes of two lists apart aren't written alike
+-- trees that begin with bytes of two disjoint lists aren't written alike
 pub disjoint_differ : (fs gs : List ℕ) (t u : Tree) → are_disjoint fs gs ≡ true → BeginsIn fs t → BeginsIn gs u → der t ≡ der u → ⊥
 disjoint_differ fs gs t u a b c e =
     let same : b.first ∷ b.others ≡ c.first ∷ c.others = sym b.is ∙ e ∙ c.is in

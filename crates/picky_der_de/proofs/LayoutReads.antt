@@ -343,7 +343,7 @@ maybe_next meaning others s l part rest begins begin (Some w) whole r h n = ther
 
 module _ {V W U : Type 0} (meaning : W → Tree) (left_out : W → Bool) (others : U → Trees) (s : Shape) (l : Layout) (item : V → Option W) (rest : V → U) (written : (v : V) → IfSome (item v) (λ w. left_out w ≡ false)) (by_tree : IsByTree meaning left_out) (sound : IsSound s)
     (begins : (w : W) → IsBegunBy (firsts s) (meaning w)) (begin : (u : U) → AreBegunBy (next_firsts l) (others u)) where
-  -- the default is there, and in no row
+  -- the default is there, and isn't written
   left_out_found : {b c d : State} {e : Asn1DerError} (x : W) → IsTrue (left_out x) → ReadsMember s b c (meaning x) → Fails c d e → AreMembersDistinct (Layout.maybe s l) → (o : Option W) (u : U) → IfSome o (λ w. left_out w ≡ false)
       → AreMembersOf (Layout.maybe s l) (maybe_more meaning o (others u)) → AreReadable (maybe_more meaning o (others u)) → AreUpToEnd b d e (members_encoding (maybe_more meaning o (others u))) → ⊥
   left_out_found x is r f distinct None u q are readable w = not_absent_read s l (others u) distinct.0 r f (first_is_absent s l distinct.0 (others u) (begin u) readable are) readable w

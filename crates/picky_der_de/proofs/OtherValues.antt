@@ -13,7 +13,7 @@ use Rattle.picky_der_de.specs.Reading.{Reads, Refuses, NoValue}
 use Rattle.picky_der_de.proofs.Steps.{fails_after}
 use Rattle.picky_der_de.proofs.Refusals.{tells_after}
 
--- It was read, and refused with an error that more bytes can't change. Where an allocation failed nothing is owed.
+-- It was read, and refused with an error that more bytes can't change. Where an allocation failed nothing is said.
 pub other_unless_memory : {V : Type 0} {meaning : V → Tree} {s : Shape} {a b c : State} {t : Tree} {kind e : Asn1DerError} → IsSound s → Reads s a b t → FailsAs kind b e c → Fails b c e → kind ≢ TruncatedData
     → (kind ≢ OutOfMemory → (v : V) → IsOf s (meaning v) → meaning v ≢ t) → Refuses meaning s a c e
 other_unless_memory {meaning = meaning} {s = s} {a = a} {b = b} {t = t} {kind = kind} {e = e} sound r is f final others =

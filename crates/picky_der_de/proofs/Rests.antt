@@ -1,4 +1,4 @@
--- Members from one on up to the end of their list, read and refused. They are members of rows, lists, arrays and layouts, and of types whose values don't all
+-- Members from one on up to the end of their list, read and refused. They are members of lists, arrays and layouts, and of types whose values don't all
 -- have as many. Each call gives one record, for one lemma.
 use Rattle.std.specs.Prelude.{⊤}
 use Rattle.std.proofs.Common.{◌≡◌, ◌<◌, ◌∷◌, ◌++◌, None, refl, sym, ◌∙◌, ap, subst, arith}

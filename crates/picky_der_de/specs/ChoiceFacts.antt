@@ -1,4 +1,4 @@
--- What is known of choices: the values of alternatives.
+-- The facts of choices: of the values of alternatives.
 use Rattle.std.specs.Prelude.{◌≡◌, Bool, true, ◌&&◌, ⊤}
 use Rattle.std.proofs.lemmas.Bool.{and_parts}
 use Rattle.picky_der_core.specs.Tree.{Tree}
@@ -19,7 +19,7 @@ pub record AreLawful {V : Type 0} (ss : Shapes) (chosen : V → Tree) (eq : V �
   pub injective : AreInjective chosen ss eq
   pub sound : AreSound ss
 
--- It is known by what is owed of the alternatives.
+-- It follows from the premise, that of the alternatives.
 pub record ChoiceFacts (V : Type 0) (ss : Shapes) (chosen : V → Tree) : Type 1 where
   pub eq : V → V → Bool
   pub Premise : Type 0

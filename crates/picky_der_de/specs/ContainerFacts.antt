@@ -1,4 +1,4 @@
--- What is known of values that hold others of one type, which says this of itself: options, lists, arrays and wrappers.
+-- The facts of values that hold others of one type, made of that type's facts: options, lists, arrays and wrappers.
 use Rattle.std.specs.Prelude.{ℕ, List, Bool, Option, map, refl}
 use Rattle.std.specs.Option.{option_eq}
 use lib.Pointwise.{pointwise}

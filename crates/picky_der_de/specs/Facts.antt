@@ -1,5 +1,4 @@
--- What is known of the values of a type: the tree that each means, and that the tree determines the value. It is one value, so that it is made of what is known
--- of the parts.
+-- The facts of a type: the tree that each value means, and that the tree determines the value. They are one value, made of the facts of the parts.
 use Rattle.std.specs.Prelude.{◌≡◌, ℕ, ℤ, ◌^◌, List, Bool, true, nat_eq, nat_lt, encode_utf8, refl, ⊤}
 use Rattle.std.specs.Ordering.{int_eq}
 use Rattle.std.proofs.Common.{subst, ltb-true}
@@ -25,7 +24,7 @@ pub record IsLawful {V : Type 0} (s : Shape) (meaning : V → Tree) (eq : V → 
   -- no value begins with another byte
   pub begun : (v : V) → IsBegunBy (firsts s) (meaning v)
 
--- What a type says of its values, and that they are known by it where what is owed holds: that its parts are what they say.
+-- What a type says of its values, and that this follows from a premise: that its parts are what they say.
 pub record Facts (V : Type 0) (s : Shape) : Type 1 where
   -- what a value means
   pub meaning : V → Tree
@@ -34,7 +33,7 @@ pub record Facts (V : Type 0) (s : Shape) : Type 1 where
   pub Premise : Type 0
   pub follows : Premise → IsLawful s meaning eq
 
--- The values mean this, and are equal by this `==` where they are by the one that is known.
+-- The values mean this, and are equal by this `==` where they are by that of the facts.
 pub record Proved {V : Type 0} {s : Shape} (facts : Facts V s) (meaning : V → Tree) (eq : V → V → Bool) : Type 0 where
   pub premise : facts.Premise
   pub means : facts.meaning ≡ meaning
@@ -46,7 +45,7 @@ module _ {V : Type 0} {s : Shape} (facts : Facts V s) {meaning : V → Tree} {eq
       let is : IsLawful s meaning facts.eq = subst (λ (m : V → Tree). IsLawful s m facts.eq) t.means (facts.follows t.premise) in
       record { has_shape = is.has_shape; injective = λ x y p q r e. t.equal x y (is.injective x y p q r e); sound = is.sound; begun = is.begun }
 
--- ---- plain values, of which nothing is owed
+-- ---- plain values, without a premise
 
 module _ {V : Type 0} {s : Shape} where
   abbrev pub plain_facts : (meaning : V → Tree) (eq : V → V → Bool) → IsLawful s meaning eq → Facts V s

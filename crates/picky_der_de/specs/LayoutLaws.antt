@@ -111,7 +111,7 @@ pub record AreLayoutMembers {V : Type 0} (members : V → Trees) (l : Layout) (A
   pub begins : (v : V) → AreBegunBy (next_firsts l) (members v)
   -- readable members are of the layout
   pub has_layout : (v : V) → AreReadable (members v) → AreMembersOf l (members v)
-  -- two rows of readable members with the same trees are equal, where missing members are distinguished by the first byte
+  -- two lists of readable members with the same trees are equal, where missing members are distinguished by the first byte
   pub injective : AreMembersDistinct l → (x y : V) → AreMembersOf l (members x) → AreMembersOf l (members y) → AreReadable (members x) → members x ≡ members y → AreEqual x y
   -- the choices in the shapes are distinguished by their first byte
   pub sound : AreMembersSound l

@@ -1,4 +1,4 @@
--- Members one after another, of which some may be absent: what is known of them, and by which tests two are equal.
+-- Members one after another, of which some may be absent: their facts, and by which tests two are equal.
 use Rattle.std.specs.Prelude.{◌≡◌, List, [], ◌∷◌, ℕ, Bool, true, false, not, ◌&&◌, ◌||◌, Option, Some, refl, ⊤}
 use Rattle.std.specs.List.{AllByRecursion}
 use Rattle.std.specs.Option.{option_eq}
@@ -56,7 +56,7 @@ abbrev mutual
 
 -- ---- one member
 
--- What a member V says of itself, where a W is what is written, and that it is known by it where its part is what it says.
+-- What a member V says of itself, where a W is what is written, and that this follows where its part is what it says.
 pub record MemberFacts (V : Type 0) {W : Type 0} (presence : Presence) (s : Shape) (meaning : W → Tree) (equal : W → W → Bool) (item : V → Option W) : Type 1 where
   pub eq : V → V → Bool
   -- whether one that is always there can't be absent, as one with no encoding is
@@ -123,7 +123,7 @@ pub record MembersFacts (P : Type 0) (l : Layout) : Type 1 where
   -- whether each member that is always there can't be absent
   pub there : Bool
   pub Premise : Type 0
-  -- two rows of readable members with the same trees pass them, where the first byte distinguishes missing members
+  -- two lists of readable members with the same trees pass them, where the first byte distinguishes missing members
   pub follows : Premise → AreLayoutMembers members l (λ x y. AreTrue (tests x y))
 
 -- the members mean these trees

@@ -41,7 +41,7 @@ pub trait Alternatives: Sized {
     // The tree of the value that was chosen, as a value of its own type.
     ghost chosen: { Self → Tree };
 
-    // What is known of the values: that these trees determine them, and what is owed for it.
+    // What the type says of its values: that these trees determine them. It follows from the premise.
     ghost facts: { ChoiceFacts Self shapes chosen };
 
     // The tree of the value as a choice.
@@ -58,7 +58,7 @@ pub trait Alternatives: Sized {
         ensures ok { IfOk result (λ value. ReadsAfter shapes tag de.old de.new (chosen value)) }
         ensures err { IfErr result (RefusesAfter chosen shapes tag de.old de.new) };
 
-    // What is owed.
+    // The premise, proved.
     ghost premise: { facts.Premise };
 }
 

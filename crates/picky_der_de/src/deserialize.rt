@@ -14,7 +14,7 @@ pub trait Deserialize: Serialize + PartialEq + Drop + Sized {
     // The trees of its values.
     ghost shape: { Shape };
 
-    // What is known of the values: which trees they mean, that these determine them, and what is owed for it.
+    // What the type says of its values: which trees they mean, and that these determine them. It follows from the premise.
     ghost facts: { Facts Self shape };
 
     /// Reads a value, and consumes exactly the bytes of its encoding. Directly under an implicit tag it consumes the bytes of
@@ -28,6 +28,6 @@ pub trait Deserialize: Serialize + PartialEq + Drop + Sized {
         ensures ok { IfOk result (λ value. Reads shape de.old de.new (Self.meaning value)) }
         ensures err { IfErr result (Refuses Self.meaning shape de.old de.new) };
 
-    // What is owed, and that it is known of what the values mean to `Serialize`, and of their `==`.
+    // The premise, and that the facts are of what the values mean to `Serialize`, and of their `==`.
     ghost proved: { Proved facts Self.meaning Self.eq };
 }

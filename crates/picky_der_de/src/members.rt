@@ -42,7 +42,7 @@ pub trait DeserializeMember: SerializeMember + PartialEq + Drop + Sized {
     // What is never written.
     ghost left_out: { Self.Item → Bool };
 
-    // What is known of the member: which trees it means, that these determine it, and what is owed for it.
+    // What the member says of itself: which trees it means, and that these determine it. It follows from the premise.
     ghost facts: { MemberFacts Self presence shape item_meaning item_eq item };
 
     /// Reads the member. The errors are those of `next_field`, `next_optional` or `next_or_default`.
@@ -60,7 +60,7 @@ pub trait DeserializeMember: SerializeMember + PartialEq + Drop + Sized {
     // The tree determines which values are never written.
     ghost distinguished: { IsLeftOut item_meaning item left_out };
 
-    // What is owed, and that `SerializeMember` writes what is there.
+    // The premise, and that `SerializeMember` writes what is there.
     ghost proved: { ProvedMember facts Self.prepend };
 }
 
@@ -179,7 +179,7 @@ pub trait DeserializeMembers: SerializeMembers + PartialEq + Drop + Sized {
     // The shapes of the members, and which may be missing.
     ghost layout: { Layout };
 
-    // What is known of the members: which trees they mean, that these determine them, and what is owed for it.
+    // What the members say of themselves: which trees they mean, and that these determine them. It follows from the premise.
     ghost facts: { MembersFacts Self layout };
 
     /// Reads the members, from a sequence that hasn't failed and of which no member is awaited directly under an implicit tag.
@@ -197,7 +197,7 @@ pub trait DeserializeMembers: SerializeMembers + PartialEq + Drop + Sized {
         ensures err { IfErr result (RefusesLayout Self.members layout (state_of sequence.old)
             (state_of sequence.new)) };
 
-    // What is owed, and that the members mean the same to `SerializeMembers`.
+    // The premise, and that the members mean the same to `SerializeMembers`.
     ghost proved: { ProvedMembers facts Self.members };
 }
 

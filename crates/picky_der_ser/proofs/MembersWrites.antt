@@ -1,4 +1,4 @@
--- The members of a row, added to a list that is being written.
+-- Members, added to a list that is being written.
 use Rattle.std.proofs.Common.{◌≡◌, List, [], ◌∷◌, ◌++◌, Option, None, Some, refl, sym, ap, ◌∙◌, subst, Result, Ok, Err, IfErr}
 use Rattle.std.specs.Prelude.{IfSome, IfNone, IsSome, OnOk}
 use Rattle.picky_der_core.specs.OpenWrappers.{under}
@@ -84,7 +84,7 @@ module _ {W : Type 0} (g : Ghosts W) where
 
   -- ---- the list
 
-  -- the first member of a row, and the members after it
+  -- the first member, and the members after it
   members_parted : (l : Level) (t : Tree) (ts : Trees) (now new : State W) → now.pending ≡ Some l → AddsMembers g (Trees.more t ts) now new
       → AddsMember g t now (with_level now (with_member l (der t))) × AddsAll g ts (with_level now (with_member l (der t))) new
   members_parted l t ts now new p h = (first, others ts h)
@@ -99,7 +99,7 @@ module _ {W : Type 0} (g : Ghosts W) where
       others Trees.none k = all Trees.none k ∙ ap (with_level now) (one_member l t)
       others (Trees.more u us) k = record { had_not_failed = refl; writable = k.writable.1; added = all (Trees.more u us) k ∙ ap (with_level now) (sym (members_after l t (Trees.more u us))) }
 
-  -- the members of a row were added
+  -- all members were added
   pub members_gained : (kind : ListKind) (ts all : Trees) (old now new : State W) → AddsAll g ts now new → Awaits kind ts all old now → Awaits kind Trees.none all old new
   members_gained kind Trees.none all old now new h a = subst (λ s. Awaits kind Trees.none all old s) (sym h) a
   members_gained kind (Trees.more t ts) all old now new h a =

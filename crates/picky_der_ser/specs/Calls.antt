@@ -155,7 +155,7 @@ module _ {W : Type 0} (g : Ghosts W) where
     pub writable : AreWritable ts
     pub added : IfSome old.pending (λ l. new ≡ record { sink = old.sink; around = []; failed = None; inside = old.inside; pending = Some (with_members l (encodings ts)) })
 
-  -- the members of a row were added; without any, nothing was done
+  -- all of these members were added; without any, nothing was done
   abbrev pub AddsAll : Trees → State W → State W → Type 0
   AddsAll Trees.none old new = new ≡ old
   AddsAll (Trees.more t ts) old new = AddsMembers (Trees.more t ts) old new
@@ -165,12 +165,12 @@ module _ {W : Type 0} (g : Ghosts W) where
   RefusesToAddAll Trees.none old e new = ⊥
   RefusesToAddAll (Trees.more t ts) old e new = RefusesBefore (AreWritable (Trees.more t ts)) old e new
 
-  -- What comes before members was added: they are added, or refused, as the row of it and of them is.
+  -- What comes before members was added: they are added, or refused, as it and they together are.
   pub record AddsPrepended (prepend : Trees → Trees) (old new : State W) : Type 0 where
     pub added : (ts : Trees) (last : State W) → AddsAll ts new last → AddsAll (prepend ts) old last
     pub refused : (ts : Trees) (e : Asn1DerError) (last : State W) → RefusesToAddAll ts new e last → RefusesToAddAll (prepend ts) old e last
 
-  -- It wasn't added, and so no row is that begins with it.
+  -- It wasn't added, and so no members are that begin with it.
   abbrev pub RefusesPrepended : (Trees → Trees) → State W → Asn1DerError → State W → Type 0
   RefusesPrepended prepend old e new = (ts : Trees) → RefusesToAddAll (prepend ts) old e new
 

@@ -39,7 +39,7 @@ pub trait DefaultOf<T: Serialize + PartialEq> {
     ghost equal_so: { (x y : T) → equal x y ≡ true → T.eq x y ≡ true };
 }
 
-/// A member of a row with the default `D`. A value that is the default isn't written (X.690, 11.5), and the other members are
+/// A member with the default `D`. A value that is the default isn't written (X.690, 11.5), and the other members are
 /// written as without it.
 #[derive(Drop)]
 #[derive_where(Debug, PartialEq, Eq; T)]
@@ -70,7 +70,7 @@ impl<T: PartialEq, D> Defaulted<T, D> {
     {}
 }
 
-/// A member of a row with the default `D`, by reference, for the field of a struct.
+/// A member with the default `D`, by reference, for the field of a struct.
 #[derive(Drop)]
 pub struct DefaultedRef<'a, T, D> {
     /// The value, which isn't written if it is the default.

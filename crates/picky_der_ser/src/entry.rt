@@ -19,7 +19,7 @@ use std::alloc::Global;
 /// can't be written: the slice is unchanged then. `OutOfMemory` if an allocation fails.
 ///
 /// After `OutOfMemory` the slice may hold a beginning of the encoding, if the value's type allocates after it began to write.
-/// Plain values, lists, rows, tuples and application tags never do.
+/// Plain values, lists, structs, tuples and application tags never do.
 pub fn to_bytes<T: Serialize>(alloc: Global, value: &T, buf: &mut [u8]) -> Result<usize>
     ensures ok { IfOk result (λ n. Overwrites (T.meaning value.now) buf.old n buf.new) }
     ensures fits { OnOk result (length (der (T.meaning value.now)) ≤ length buf.old) }
@@ -83,7 +83,7 @@ pub fn to_vec<T: Serialize>(alloc: Global, value: &T) -> Result<Vec<u8>>
 /// beginning of the encoding is written then, and at least one byte is missing. `OutOfMemory` if an allocation fails.
 ///
 /// After `OutOfMemory` a beginning of the encoding may be written, if the value's type allocates after it began to write. Plain
-/// values, lists, rows, tuples and application tags never do.
+/// values, lists, structs, tuples and application tags never do.
 pub fn to_writer<T: Serialize, W: WriteExt>(
     alloc: Global,
     value: &T,

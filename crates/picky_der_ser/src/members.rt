@@ -11,7 +11,7 @@ use picky_der_core::Result;
 use picky_der_core::asn1::Tag;
 use picky_der_core::misc::WriteExt;
 
-/// A member of a row: a value that is always there, or one that may be absent.
+/// A member of a SEQUENCE: a value that is always there, or one that may be absent.
 pub trait SerializeMember {
     ghost use Rattle.picky_der_ser.specs.SequenceState.{borrowed_by, state_of};
 

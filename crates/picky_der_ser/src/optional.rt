@@ -19,7 +19,7 @@ impl<T: Serialize> Serialize for Option<T> {
     }
 }
 
-/// A member of a row that may be absent (ASN.1's OPTIONAL). An absent member isn't written, and the other members are written
+/// A member that may be absent (ASN.1's OPTIONAL). An absent member isn't written, and the other members are written
 /// as without it.
 #[derive(Debug, Clone, Drop, PartialEq, Eq)]
 pub struct Optional<T>(pub Option<T>);
@@ -40,7 +40,7 @@ impl<T: Clone> Optional<T> {
     {}
 }
 
-/// A member of a row that may be absent, by reference, for the field of a struct.
+/// A member that may be absent, by reference, for the field of a struct.
 #[derive(Drop)]
 pub struct OptionalRef<'a, T>(pub &'a Option<T>);
 

@@ -31,7 +31,7 @@ pub trait Serialize {
     ///
     /// `UnsupportedValue` if the value can't be written: nothing is written then. `OutOfMemory` if an allocation fails. Any
     /// other error is the sink's. After an error of the sink, or `OutOfMemory`, a beginning of the encoding may be written. If
-    /// only an allocation failed, the plain values, lists and rows of this library leave the sink unchanged (`untouched`).
+    /// only an allocation failed, the plain values, lists and tuples of this library leave the sink unchanged (`untouched`).
     ///
     /// An implementation returns the errors of the calls that it makes, and makes none of its own. After an error the
     /// serializer has failed with it.

@@ -50,5 +50,5 @@ pub type ImplicitList6<T> = ImplicitList<T, 0xA6>;
 pub type ImplicitList7<T> = ImplicitList<T, 0xA7>;
 
 /// A SET OF whose members are read in any order and written in that order. It is for data that isn't DER, since X.690 (11.6)
-/// requires ascending order. `Asn1SetOf` writes ascending order, and rejects any other.
+/// requires ascending order. `Asn1SetOf` writes ascending order, and refuses any other.
 pub type SetOfAsGiven<T> = ImplicitList<Vec<T>, 0x31>;

@@ -124,7 +124,7 @@ impl<R: ReadExt> Deserializer<R> {
         }
     }
 
-    // Reads a member whose encoding was compared, and rejects it if it is less than the one before it.
+    // Reads a member whose encoding was compared, and refuses it if it is less than the one before it.
     fn read_seen<T: Deserialize>(&mut self, less: bool) -> Result<T>
         requires had_not_failed { self.old.failed ≡ None }
         requires whole { self.old.implicit_tag ≡ None }

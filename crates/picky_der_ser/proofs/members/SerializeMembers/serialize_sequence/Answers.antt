@@ -10,11 +10,11 @@ returns-in_err-serialize_members g c =
     let all = g.Self.SerializeMembers.members c.args.self.now in
     let a = list_opened g.W.WriteExt ListKind.sequence all _ _ c.serialize_lazy-sequence.ensures.opened in
     let p = err_from_is_err_and c.from_residual.result c.from_residual.ensures.1 in
-    let rejected = members_refused g.W.WriteExt ListKind.sequence all all _ _ _ _ _ c.in_err-serialize_members.ensures.err refl a in
+    let refused = members_refused g.W.WriteExt ListKind.sequence all all _ _ _ _ _ c.in_err-serialize_members.ensures.err refl a in
     let same = members_untouched g.W.WriteExt ListKind.sequence all all _ _ _ _ c.in_err-serialize_members.ensures.err a in
     record {
       wrote = search rules;
-      failed = rw (p.1, p.2) (search (rules, rejected));
+      failed = rw (p.1, p.2) (search (rules, refused));
       untouched = search (rules, same);
       counted = search (rules, same);
       continues = search (rules, same);
