@@ -55,13 +55,14 @@ def lent() -> Lines:
         names = NAMES[:width]
         heads = [f"{it}.in_front row.{at}.now" for at, it in enumerate(names)]
         rest = ", ".join(f"self.{at}" for at in range(1, width + 1))
-        others = f"{LENT[width - 2]}({rest}).serialize_members(sequence)" if width > 1 else "self.1.serialize_members(sequence)"
+        others = f"One(self.0, &{LENT[width - 2]}({rest})).serialize_members(sequence)" if width > 1 else "self.1.serialize_members(sequence)"
+        first = [] if width > 1 else ["        self.0.serialize_member(sequence)?;"]
         text += [
             f"impl{of(names, 'SerializeMember', 'SerializeMembers')} SerializeMembers for {name}<'_, {', '.join(names)}, Z> {{",
             f"    ghost members = {{ λ row. {nested(heads, f'(Z.members row.{width}.now)')} }};",
             "",
             "    fn serialize_members<W: WriteExt>(&self, sequence: &mut Sequence<'_, W>) -> Result<()> {",
-            "        self.0.serialize_member(sequence)?;",
+            *first,
             f"        {others}",
             "    }",
             "}",
@@ -70,12 +71,13 @@ def lent() -> Lines:
     return text
 
 
-def lent_proof(name: str) -> Lines:
+def lent_proof() -> Lines:
+    """The proof of `One`, which adds a member and those after it. The others call it."""
     return [
         *proof(),
         "use Rattle.std.proofs.lemmas.Result.{err_from_is_err_and}",
-        "use Rattle.picky_der_ser.proofs.RowWrites.{row_goes_on, row_stops}",
-        f"use Rattle.picky_der_ser.proofs.generated.lent.{name}SerializeMembers.serialize_members.Goals as goal",
+        "use Rattle.picky_der_ser.proofs.MemberWrites.{row_goes_on, row_stops}",
+        "use Rattle.picky_der_ser.proofs.generated.lent.OneSerializeMembers.serialize_members.Goals as goal",
         "",
         "pub returns-in_err-serialize_member-clause-err : goal.returns-in_err-serialize_member-clause-err",
         "returns-in_err-serialize_member-clause-err g c =",
@@ -356,14 +358,13 @@ def files() -> Files:
     ser, de, types = "crates/picky_der_ser", "crates/picky_der_de", "crates/der_types"
     found = {
         f"{ser}/src/generated/lent.rt": lent(),
+        f"{ser}/proofs/generated/lent/OneSerializeMembers/serialize_members/Answers.antt": lent_proof(),
         f"{ser}/src/generated/members.rt": written_members(),
         f"{ser}/src/generated/tuples.rt": written_tuples(),
         f"{de}/src/generated/members.rt": read_members(),
         f"{de}/src/generated/tuples.rt": read_tuples(),
         f"{types}/src/generated/members.rt": [*notation_of_members(), *exact_members()],
     }
-    for name in LENT:
-        found[f"{ser}/proofs/generated/lent/{name}SerializeMembers/serialize_members/Answers.antt"] = lent_proof(name)
     for width in range(1, AT_ONCE + 1):
         found[f"{de}/proofs/generated/members/Tuple{width + 1}DeserializeMembers/deserialize_members/Answers.antt"] = read_members_proof(width)
     return found

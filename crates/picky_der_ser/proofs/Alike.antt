@@ -1,7 +1,11 @@
 -- What is written of trees that are written alike.
-use Rattle.std.proofs.Common.{Bool, refl, ◌≡◌, ◌<◌, ◌^◌, List, [], ◌∷◌, length, Option, None, Some, sym, ap, ◌∙◌, subst, Result, Ok, Err, IfOk, IfErr, ℕ, ◌+◌, true, false, ◌&&◌, arith, le-leb, append-nil}
+use Rattle.std.proofs.Common.{Bool, zero, suc, lt-ltb, refl, ◌≡◌, ◌<◌, ◌^◌, List, [], ◌∷◌, length, Option, None, Some, sym, ap, ◌∙◌, subst, Result, Ok, Err, IfOk, IfErr, ℕ, ◌+◌, true, false, ◌&&◌, arith, le-leb, append-nil}
 use Rattle.std.specs.Prelude.{IfNone, IsTrue}
-use Rattle.picky_der_core.specs.Primitive.{Primitive, primitive_tag, primitive_content}
+use Rattle.std.specs.Int.Digits.{number_from_digits}
+use Rattle.picky_der_core.specs.Primitive.{Primitive, primitive_tag, primitive_content, unsigned_content}
+use Rattle.picky_der_core.specs.Element.{big_endian, AreBytes}
+use Rattle.picky_der_core.specs.BigEndianLaws.{big_endian-zero, big_endian-number}
+use Rattle.picky_der_core.specs.IntLaws.{within-fits}
 use Rattle.picky_der_core.specs.OpenWrapperLaws.{AreAlike, alike-under, der-alike, alike-sym, alike-bytes, alike-choice, CanVanish, der-under_absent}
 use Rattle.picky_der_core.specs.declared.failure.Failure.{Failure}
 use Rattle.picky_der_core.specs.declared.misc.writer.WriteExt.{Ghosts}
@@ -78,8 +82,8 @@ module _ {W : Type 0} (g : Ghosts W) where
   refuses_unwritable-alike t u old new r a h = λ n. h (λ w. n (writable-alike t u a w))
 
   -- a value of a primitive kind is written as bytes under its tag
-  pub writes_primitive-as : (p : Primitive) (c : List ℕ) → c ≡ primitive_content p → (old new : State W) (r : Result ℕ Asn1DerError) → WritesPrimitive g (Primitive.bytes (primitive_tag p) c) old r new → WritesPrimitive g p old r new
-  writes_primitive-as p c e old new r h =
+  pub writes_primitive-as : (p : Primitive) (old new : State W) (r : Result ℕ Asn1DerError) (c : List ℕ) → WritesPrimitive g (Primitive.bytes (primitive_tag p) c) old r new → c ≡ primitive_content p → WritesPrimitive g p old r new
+  writes_primitive-as p old new r c h e =
       let a = alike-bytes p in
       let t = Tree.primitive (Primitive.bytes (primitive_tag p) (primitive_content p)) in
       let u = Tree.primitive p in
@@ -93,6 +97,23 @@ module _ {W : Type 0} (g : Ghosts W) where
         counted = k.counted;
         goes_on = k.goes_on;
       }
+
+-- all that a value of a primitive kind asks for
+pub ruleset primitive = (writes_primitive-as)
+
+-- the content of a number below 128 is one byte, the number itself
+pub one_byte : (n : ℕ) → n < 0x80 → unsigned_content n ≡ n ∷ []
+unfolding unsigned_content
+one_byte zero h = rw big_endian-zero refl
+one_byte (suc n) h =
+    let bytes : AreBytes (suc n ∷ []) = (omega arith, tt) in
+    let number : number_from_digits 256 (suc n ∷ []) ≡ suc n = omega arith in
+    let is : big_endian (suc n) ≡ suc n ∷ [] = ap big_endian (sym number) ∙ big_endian-number (suc n) [] (omega arith) bytes in
+    rw (is, lt-ltb (suc n) 0x80 h) refl
+
+-- all that a number asks for, unsigned or not
+pub ruleset unsigned = (writes_primitive-as, one_byte)
+pub ruleset integer = (writes_primitive-as, within-fits)
 
 -- ---- choices, which are written as the alternative that was chosen
 
@@ -180,10 +201,10 @@ module _ {W : Type 0} (g : Ghosts W) where
   adds_none [] sink = (refl, Appends-nil (g.written sink))
   adds_none (l ∷ ls) sink = (ap (λ m. m ∷ ls) (nothing_more l), refl)
 
-  pub absent-ok : (old : State W) → old.failed ≡ None → CanAllBeOpen old.around → WritesAbsent g old (Ok 0) (record old { around = []; pending = None })
-  absent-ok old f n =
+  pub writes_absent : (old new : State W) → old.failed ≡ None → CanAllBeOpen old.around → new ≡ record old { around = []; pending = None } → WritesAbsent g old (Ok 0) new
+  writes_absent old new f n is =
       let none = der-under_absent old.around Tree.absent (can_vanish-open old.around n) refl in
-      record {
+      rw is (record {
         wrote = record {
           had_not_failed = f;
           writable = record { numbers = numbers_writable old.around Tree.absent n refl; fits = rw none (omega arith) };

@@ -7,4 +7,3 @@ pub mod Brought
 pub mod EntryWrites
 pub mod ListBytes
 pub mod MemberWrites
-mod RowWrites

@@ -1,6 +1,6 @@
 -- A list that is being written: the members that it has, and the members that it still awaits.
 use Rattle.std.proofs.Common.{◌≡◌, ℕ, List, [], ◌∷◌, ◌++◌, map, Option, None, Some, refl, sym, ap, ◌∙◌, subst, inl, inr, Result, Ok, Err, IfOk, IfErr, zero, suc, ◌+◌, ◌<◌, ◌≤◌, length, drop, get_or, arith, add-one}
-use Rattle.std.specs.Prelude.{IfSome, IfNone, IsTrue}
+use Rattle.std.specs.Prelude.{IfSome, IfNone, IsTrue, IsSome, OnOk}
 use Rattle.picky_der_core.specs.Primitive.{Primitive}
 use Rattle.picky_der_core.specs.OpenWrapperLaws.{AreAlike}
 use Rattle.picky_der_core.specs.OpenWrappers.{under}
@@ -9,15 +9,16 @@ use Rattle.picky_der_core.specs.declared.failure.Failure.{Failure}
 use Rattle.picky_der_core.specs.declared.misc.writer.WriteExt.{Ghosts}
 use Rattle.picky_der_core.specs.declared.error.Asn1DerError.{Asn1DerError}
 use Rattle.picky_der_core.specs.Tree.{ListKind, Tree, Trees, trees}
-use Rattle.picky_der_core.specs.Encoding.{list_content, list_tag, der}
+use Rattle.picky_der_core.specs.Encoding.{list_content, list_tag, der, tree_bytes, encodings}
 use Rattle.picky_der_core.specs.Readable.{have_tag_numbers, IsWritable}
 use Rattle.picky_der_ser.specs.declared.header.Header.TheVariants.{Tagged}
 use Rattle.picky_der_ser.specs.State.{State, Level, with_member, with_members, final_content}
 use Rattle.picky_der_ser.specs.Sequences.{IsListTag, list_kind}
-use Rattle.picky_der_ser.specs.Calls.{UntouchedUnlessFailed, MemoryExcuse, no_room, no_way, RefusesIn, Writes, RefusesWrite, OpensLevel, RefusesBefore, AddsMember, RefusesToAdd, WritesContent, EndsLevel}
-use Rattle.picky_der_ser.proofs.Alike.{writes-alike, fails-alike, refused_unwritable}
+use Rattle.picky_der_ser.specs.Calls.{UntouchedUnlessFailed, MemoryExcuse, no_room, no_way, RefusesIn, Writes, RefusesWrite, OpensLevel, RefusesBefore, AddsMember, RefusesToAdd, WritesContent, EndsLevel, AreWritable, AddsMembers, AddsRow, RefusesToAddRow, AddsInFront}
+use Rattle.picky_der_ser.proofs.Alike.{writes-alike, fails-alike, refused_unwritable, excuse_of_part}
 use Rattle.picky_der_ser.proofs.StateWrites.{refused_memory}
 use Rattle.picky_der_ser.proofs.ListBytes.{before, before_none, before_next, numbers_next, map_next, alike_list, member_writable, list_level, members_header, members_around, members-push, final_content-members}
+use Rattle.picky_der_core.specs.declared.asn1.wrapper.Wrapper.{Wrapper}
 
 module _ {W : Type 0} where
   -- the list, opened on this serializer, with these members
@@ -146,3 +147,106 @@ items_end m [] i h = none_of i
     none_of (suc j) = refl
 items_end m (y ∷ ys) zero h = absurd (omega arith)
 items_end m (y ∷ ys) (suc i) h = items_end m ys i (omega arith)
+
+-- ---- the members of a row, added to a list that is being written
+
+-- a member, and the members after it
+members_behind : (l : Level) (t : Tree) (ts : Trees) → with_members (with_member l (der t)) (encodings ts) ≡ with_members l (encodings (Trees.more t ts))
+unfolding der tree_bytes
+members_behind l t ts = refl
+
+one_member : (l : Level) (t : Tree) → with_members l (encodings (Trees.more t Trees.none)) ≡ with_member l (der t)
+unfolding der tree_bytes
+one_member l t = refl
+
+-- a list is written only if its last members are
+members_writable : (ws : List Wrapper) (kind : ListKind) (ts : List Tree) (us : Trees) → IsWritable (under ws (Tree.list kind (before ts us))) → AreWritable us
+members_writable ws kind ts Trees.none h = tt
+members_writable ws kind ts (Trees.more t us) h =
+    (member_writable ws kind ts t us h, members_writable ws kind (ts ++ (t ∷ [])) us (subst (λ v. IsWritable (under ws (Tree.list kind v))) (before_next ts t us) h))
+
+module _ {W : Type 0} where
+  -- the state in which this level was opened last
+  abbrev with_level : State W → Level → State W
+  with_level now l = record { sink = now.sink; around = []; failed = None; inside = now.inside; pending = Some l }
+
+module _ {W : Type 0} (g : Ghosts W) where
+  -- ---- what the calls for one member and for the members after it do together
+
+  -- all of them were added
+  all_gained : {t : Tree} {old between : State W} (ts : Trees) (new : State W) → AddsMember g t old between → AddsRow g ts between new → AddsMembers g (Trees.more t ts) old new
+  all_gained {t} {old} {between} Trees.none new a h = record { had_not_failed = a.had_not_failed; writable = (a.writable, tt); added = added old.pending a.added }
+    where
+      added : (o : Option Level) → IfSome o (λ l. between ≡ with_level old (with_member l (der t))) → IfSome o (λ l. new ≡ with_level old (with_members l (encodings (Trees.more t Trees.none))))
+      added None k = tt
+      added (Some l) k = h ∙ k ∙ ap (with_level old) (sym (one_member l t))
+  all_gained {t} {old} {between} (Trees.more u us) new a h = record { had_not_failed = a.had_not_failed; writable = (a.writable, h.writable); added = added old.pending a.added }
+    where
+      all : Trees
+      all = Trees.more u us
+
+      added : (o : Option Level) → IfSome o (λ l. between ≡ with_level old (with_member l (der t))) → IfSome o (λ l. new ≡ with_level old (with_members l (encodings (Trees.more t all))))
+      added None k = tt
+      added (Some l) k =
+          let rest : new ≡ with_level old (with_members (with_member l (der t)) (encodings all)) =
+          subst (λ (s : State W). IfSome s.pending (λ m. new ≡ with_level s (with_members m (encodings all)))) k h.added in
+          rest ∙ ap (with_level old) (members_behind l t all)
+
+  -- one after the first was
+  all_stopped : {t : Tree} {old between : State W} {e : Asn1DerError} (ts : Trees) (new : State W) → IfNone old.failed (IsSome old.pending) → AddsMember g t old between → RefusesToAddRow g ts between e new → RefusesToAddRow g (Trees.more t ts) old e new
+  all_stopped Trees.none new opened a h = absurd h
+  all_stopped {t} {old} {between} {e} (Trees.more u us) new opened a h =
+      let now = with_it old.pending (subst (λ o. IfNone o (IsSome old.pending)) a.had_not_failed opened) a.added in
+      record { failed = h.failed; same = h.same ∙ now.0; again = rw a.had_not_failed tt; reason = rw a.had_not_failed (excuse_of_part (λ w. w.1) (subst (λ o. IfNone o (MemoryExcuse (AreWritable (Trees.more u us)) e)) now.1 h.reason)) }
+    where
+      with_it : (o : Option Level) → IsSome o → IfSome o (λ l. between ≡ with_level old (with_member l (der t))) → (between.sink ≡ old.sink) × (between.failed ≡ None)
+      with_it None is k = cc
+      with_it (Some l) is k = (ap (λ (s : State W). s.sink) k, ap (λ (s : State W). s.failed) k)
+
+  -- a member comes before others
+  pub leads_row : (t : Tree) (old between : State W) → IfNone old.failed (IsSome old.pending) → AddsMember g t old between → AddsInFront g (Trees.more t) old between
+  leads_row t old between opened a = record { added = λ ts last h. all_gained ts last a h; refused = λ ts e last h. all_stopped ts last opened a h }
+
+  -- ---- what the calls for what comes in front and for the members after it do together
+
+  pub row_goes_on : {T : Type 0} (r : Result T Asn1DerError) (ts : Trees) (new : State W) {in_front : Trees → Trees} {old between : State W} → AddsInFront g in_front old between → OnOk r (AddsRow g ts between new) → OnOk r (AddsRow g (in_front ts) old new)
+  row_goes_on (Ok v) ts new a h = a.added ts new h
+  row_goes_on (Err e) ts new a h = tt
+
+  pub row_stops : {T : Type 0} (r : Result T Asn1DerError) (ts : Trees) (new : State W) {in_front : Trees → Trees} {old between : State W} → AddsInFront g in_front old between → IfErr r (λ e. RefusesToAddRow g ts between e new) → IfErr r (λ e. RefusesToAddRow g (in_front ts) old e new)
+  row_stops (Ok v) ts new a h = tt
+  row_stops (Err e) ts new a h = a.refused ts e new h
+
+  -- ---- the list
+
+  -- the first member of a row, and the members after it
+  row_parted : (l : Level) (t : Tree) (ts : Trees) (now new : State W) → now.pending ≡ Some l → AddsMembers g (Trees.more t ts) now new
+      → AddsMember g t now (with_level now (with_member l (der t))) × AddsRow g ts (with_level now (with_member l (der t))) new
+  row_parted l t ts now new p h = (first, others ts h)
+    where
+      first : AddsMember g t now (with_level now (with_member l (der t)))
+      first = record { had_not_failed = h.had_not_failed; writable = h.writable.0; added = subst (λ o. IfSome o (λ m. with_level now (with_member l (der t)) ≡ with_level now (with_member m (der t)))) (sym p) refl }
+
+      all : (us : Trees) → AddsMembers g (Trees.more t us) now new → new ≡ with_level now (with_members l (encodings (Trees.more t us)))
+      all us k = subst (λ o. IfSome o (λ m. new ≡ with_level now (with_members m (encodings (Trees.more t us))))) p k.added
+
+      others : (us : Trees) → AddsMembers g (Trees.more t us) now new → AddsRow g us (with_level now (with_member l (der t))) new
+      others Trees.none k = all Trees.none k ∙ ap (with_level now) (one_member l t)
+      others (Trees.more u us) k = record { had_not_failed = refl; writable = k.writable.1; added = all (Trees.more u us) k ∙ ap (with_level now) (sym (members_behind l t (Trees.more u us))) }
+
+  -- the members of a row were added
+  pub row_gained : (kind : ListKind) (ts all : Trees) (old now new : State W) → AddsRow g ts now new → Awaits kind ts all old now → Awaits kind Trees.none all old new
+  row_gained kind Trees.none all old now new h a = subst (λ s. Awaits kind Trees.none all old s) (sym h) a
+  row_gained kind (Trees.more t ts) all old now new h a =
+      let p = row_parted (level_with kind a.done old) t ts now new (ap (λ (s : State W). s.pending) a.is) h in
+      row_gained kind ts all old _ new p.1 (list_gained g kind ts all t old now _ p.0 a)
+
+  -- one of them was refused, so the list is
+  pub row_rejected : (kind : ListKind) (ts all : Trees) (old now new : State W) (d e : Asn1DerError) → RefusesToAddRow g ts now e new → d ≡ e → Awaits kind ts all old now → RefusesWrite g (Tree.list kind all) old d new
+  row_rejected kind Trees.none all old now new d e h i a = absurd h
+  row_rejected kind (Trees.more t ts) all old now new d e h i a = list_stopped g kind (Trees.more t ts) all old now new d e (λ b. members_writable old.around kind b.done (Trees.more t ts)) h i a
+
+  -- up to there nothing reached the sink
+  pub row_untouched : (kind : ListKind) (ts all : Trees) (old now new : State W) (e : Asn1DerError) → RefusesToAddRow g ts now e new → Awaits kind ts all old now → new.sink ≡ old.sink
+  row_untouched kind Trees.none all old now new e h a = absurd h
+  row_untouched kind (Trees.more t ts) all old now new e h a = h.same ∙ ap (λ (s : State W). s.sink) a.is

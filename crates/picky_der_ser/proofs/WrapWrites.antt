@@ -31,7 +31,7 @@ numbers-push [] w h k = (k, tt)
 numbers-push (v ∷ ws) w h k = (h.0, numbers-push ws w h.1 k)
 
 module _ {W : Type 0} (g : Ghosts W) where
-  pub writes-wrapped : (w : Wrapper) (t : Tree) (old new : State W) (r : Result ℕ Asn1DerError) → IfOk r (λ n. Writes g t (record old { around = old.around ++ (w ∷ []) }) n new) → IfOk r (λ n. Writes g (Tree.wrapped w t) old n new)
+  writes-wrapped : (w : Wrapper) (t : Tree) (old new : State W) (r : Result ℕ Asn1DerError) → IfOk r (λ n. Writes g t (record old { around = old.around ++ (w ∷ []) }) n new) → IfOk r (λ n. Writes g (Tree.wrapped w t) old n new)
   writes-wrapped w t old new (Ok n) h =
       let u = under-push old.around w t in
       record {
@@ -45,14 +45,14 @@ module _ {W : Type 0} (g : Ghosts W) where
       }
   writes-wrapped w t old new (Err e) h = tt
 
-  pub fails-wrapped : (w : Wrapper) (t : Tree) (old new : State W) (r : Result ℕ Asn1DerError) → IfErr r (λ e. RefusesWrite g t (record old { around = old.around ++ (w ∷ []) }) e new) → IfErr r (λ e. RefusesWrite g (Tree.wrapped w t) old e new)
+  fails-wrapped : (w : Wrapper) (t : Tree) (old new : State W) (r : Result ℕ Asn1DerError) → IfErr r (λ e. RefusesWrite g t (record old { around = old.around ++ (w ∷ []) }) e new) → IfErr r (λ e. RefusesWrite g (Tree.wrapped w t) old e new)
   fails-wrapped w t old new (Ok n) h = tt
   fails-wrapped w t old new (Err e) h =
       let u = under-push old.around w t in
       record { failed = h.failed; again = h.again; reason = subst (λ v. IfNone old.failed (RefusesIn g old.inside v old.sink e new.sink)) u h.reason }
 
   -- no wrapper was opened
-  pub fails-declined : (w : Wrapper) (t : Tree) (old new : State W) (e : Asn1DerError) → RefusesWrapper g w old e new → RefusesWrite g (Tree.wrapped w t) old e new
+  fails-declined : (w : Wrapper) (t : Tree) (old new : State W) (e : Asn1DerError) → RefusesWrapper g w old e new → RefusesWrite g (Tree.wrapped w t) old e new
   fails-declined w t old new e h = record { failed = h.failed; again = again old.failed h.again; reason = reason old.failed refl }
     where
       u : Tree
@@ -70,6 +70,18 @@ module _ {W : Type 0} (g : Ghosts W) where
             let beyond : has_tag_numbers (Tree.wrapped w t) ≡ false = ap (λ b. b && has_tag_numbers t) past.0 in
             rw (h.past (sym q) past.1, h.same) (refused_unwritable g old.inside u old.sink (unwritable-by u (past_under old.around (Tree.wrapped w t) beyond)))
       ]
+
+  pub wrapped_wrote : (w : Wrapper) (t : Tree) (old mid new : State W) (r : Result ℕ Asn1DerError) → mid ≡ record old { around = old.around ++ (w ∷ []) } → IfOk r (λ n. Writes g t mid n new) → IfOk r (λ n. Writes g (Tree.wrapped w t) old n new)
+  wrapped_wrote w t old mid new r is h = writes-wrapped w t old new r (subst (λ s. IfOk r (λ n. Writes g t s n new)) is h)
+
+  pub wrapped_failed : (w : Wrapper) (t : Tree) (old mid new : State W) (r : Result ℕ Asn1DerError) → mid ≡ record old { around = old.around ++ (w ∷ []) } → IfErr r (λ e. RefusesWrite g t mid e new) → IfErr r (λ e. RefusesWrite g (Tree.wrapped w t) old e new)
+  wrapped_failed w t old mid new r is h = fails-wrapped w t old new r (subst (λ s. IfErr r (λ e. RefusesWrite g t s e new)) is h)
+
+  pub wrapped_declined : (w : Wrapper) (t : Tree) (old new : State W) (d e : Asn1DerError) → RefusesWrapper g w old e new → d ≡ e → RefusesWrite g (Tree.wrapped w t) old d new
+  wrapped_declined w t old new d e h i = rw i (fails-declined w t old new e h)
+
+-- all that a wrapper asks for
+pub ruleset wrapped = (wrapped_wrote, wrapped_failed, wrapped_declined)
 
 -- ---- an application tag: its level was opened, gained one member, and ended
 
@@ -118,8 +130,10 @@ module _ {W : Type 0} (g : Ghosts W) (n : ℕ) (t : Tree) (old now : State W) (o
       subst (λ s. IfSome s.pending (λ l. WritesContent g l.header (final_content l) (record s { around = l.around }) r new)) (gained d h) f.ended in
       subst (λ e. WritesContent g (Application n) (der t) (record { sink = old.sink; around = old.around; failed = e; inside = old.inside; pending = Some full }) r new) (sym none) (subst (λ c. WritesContent g (Application n) c (record { sink = old.sink; around = old.around; failed = None; inside = old.inside; pending = Some full }) r new) (final_content-uncut full refl) at)
 
-  pub application_wrote : (d new : State W) (r : Result ℕ Asn1DerError) → AddsMember g t now d → EndsLevel g d r new → IfOk r (λ m. Writes g (Tree.wrapped (wrapper.Application n) t) old m new)
-  application_wrote d new r h f = writes-alike g _ _ old new r (alike_application n t h.writable.numbers) (writes_whatever g _ old new _ r (ended d new r h f).wrote)
+  pub application_wrote : (d new : State W) (r : Result ℕ Asn1DerError) (m : ℕ) → AddsMember g t now d → EndsLevel g d r new → r ≡ Ok m → Writes g (Tree.wrapped (wrapper.Application n) t) old m new
+  application_wrote d new r m h f i =
+      let whole = writes-alike g _ _ old new r (alike_application n t h.writable.numbers) (writes_whatever g _ old new _ r (ended d new r h f).wrote) in
+      subst (λ v. IfOk v (λ k. Writes g (Tree.wrapped (wrapper.Application n) t) old k new)) i whole
 
   pub application_failed : (d new : State W) (r : Result ℕ Asn1DerError) (e : Asn1DerError) → AddsMember g t now d → EndsLevel g d r new → r ≡ Err e → RefusesWrite g (Tree.wrapped (wrapper.Application n) t) old e new
   application_failed d new r e h f i =

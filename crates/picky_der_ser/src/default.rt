@@ -105,7 +105,7 @@ impl<T: Serialize + PartialEq, D: DefaultOf<T>> SerializeMember for DefaultedRef
         if D::is_default(self.value) {
             return Ok(());
         }
-        sequence.serialize_element(self.value)
+        self.value.serialize_member(sequence)
     }
 }
 

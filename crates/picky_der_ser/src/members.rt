@@ -30,6 +30,7 @@ pub trait SerializeMember {
 impl<T: Serialize> SerializeMember for T {
     ghost in_front = { λ value. Trees.more (T.meaning value) };
 
+    #[tactic(auto, using(crate::proofs::MemberWrites::leads_row))]
     fn serialize_member<W: WriteExt>(&self, sequence: &mut Sequence<'_, W>) -> Result<()> {
         sequence.ser.write_member(self)
     }
@@ -51,7 +52,7 @@ impl<T: Serialize> SerializeMember for Element<T> {
     ghost in_front = { λ element. Trees.more (T.meaning element.0) };
 
     fn serialize_member<W: WriteExt>(&self, sequence: &mut Sequence<'_, W>) -> Result<()> {
-        sequence.ser.write_member(&self.0)
+        self.0.serialize_member(sequence)
     }
 }
 

@@ -57,7 +57,7 @@ impl<T: Serialize> SerializeMember for OptionalRef<'_, T> {
 
     fn serialize_member<W: WriteExt>(&self, sequence: &mut Sequence<'_, W>) -> Result<()> {
         match self.0 {
-            Some(value) => sequence.serialize_element(value),
+            Some(value) => value.serialize_member(sequence),
             None => Ok(()),
         }
     }

@@ -90,8 +90,7 @@ impl<A: SerializeMember, B: SerializeMember, Z: SerializeMembers> SerializeMembe
     ghost members = { λ row. A.in_front row.0.now (B.in_front row.1.now (Z.members row.2.now)) };
 
     fn serialize_members<W: WriteExt>(&self, sequence: &mut Sequence<'_, W>) -> Result<()> {
-        self.0.serialize_member(sequence)?;
-        One(self.1, self.2).serialize_members(sequence)
+        One(self.0, &One(self.1, self.2)).serialize_members(sequence)
     }
 }
 
@@ -104,8 +103,7 @@ impl<
     ghost members = { λ row. A.in_front row.0.now (B.in_front row.1.now (C.in_front row.2.now (Z.members row.3.now))) };
 
     fn serialize_members<W: WriteExt>(&self, sequence: &mut Sequence<'_, W>) -> Result<()> {
-        self.0.serialize_member(sequence)?;
-        Two(self.1, self.2, self.3).serialize_members(sequence)
+        One(self.0, &Two(self.1, self.2, self.3)).serialize_members(sequence)
     }
 }
 
@@ -119,8 +117,7 @@ impl<
     ghost members = { λ row. A.in_front row.0.now (B.in_front row.1.now (C.in_front row.2.now (D.in_front row.3.now (Z.members row.4.now)))) };
 
     fn serialize_members<W: WriteExt>(&self, sequence: &mut Sequence<'_, W>) -> Result<()> {
-        self.0.serialize_member(sequence)?;
-        Three(self.1, self.2, self.3, self.4).serialize_members(sequence)
+        One(self.0, &Three(self.1, self.2, self.3, self.4)).serialize_members(sequence)
     }
 }
 
@@ -135,8 +132,7 @@ impl<
     ghost members = { λ row. A.in_front row.0.now (B.in_front row.1.now (C.in_front row.2.now (D.in_front row.3.now (E.in_front row.4.now (Z.members row.5.now))))) };
 
     fn serialize_members<W: WriteExt>(&self, sequence: &mut Sequence<'_, W>) -> Result<()> {
-        self.0.serialize_member(sequence)?;
-        Four(self.1, self.2, self.3, self.4, self.5).serialize_members(sequence)
+        One(self.0, &Four(self.1, self.2, self.3, self.4, self.5)).serialize_members(sequence)
     }
 }
 
@@ -152,8 +148,11 @@ impl<
     ghost members = { λ row. A.in_front row.0.now (B.in_front row.1.now (C.in_front row.2.now (D.in_front row.3.now (E.in_front row.4.now (F.in_front row.5.now (Z.members row.6.now)))))) };
 
     fn serialize_members<W: WriteExt>(&self, sequence: &mut Sequence<'_, W>) -> Result<()> {
-        self.0.serialize_member(sequence)?;
-        Five(self.1, self.2, self.3, self.4, self.5, self.6).serialize_members(sequence)
+        One(
+            self.0,
+            &Five(self.1, self.2, self.3, self.4, self.5, self.6),
+        )
+        .serialize_members(sequence)
     }
 }
 
@@ -170,8 +169,11 @@ impl<
     ghost members = { λ row. A.in_front row.0.now (B.in_front row.1.now (C.in_front row.2.now (D.in_front row.3.now (E.in_front row.4.now (F.in_front row.5.now (G.in_front row.6.now (Z.members row.7.now))))))) };
 
     fn serialize_members<W: WriteExt>(&self, sequence: &mut Sequence<'_, W>) -> Result<()> {
-        self.0.serialize_member(sequence)?;
-        Six(self.1, self.2, self.3, self.4, self.5, self.6, self.7).serialize_members(sequence)
+        One(
+            self.0,
+            &Six(self.1, self.2, self.3, self.4, self.5, self.6, self.7),
+        )
+        .serialize_members(sequence)
     }
 }
 
@@ -189,9 +191,11 @@ impl<
     ghost members = { λ row. A.in_front row.0.now (B.in_front row.1.now (C.in_front row.2.now (D.in_front row.3.now (E.in_front row.4.now (F.in_front row.5.now (G.in_front row.6.now (H.in_front row.7.now (Z.members row.8.now)))))))) };
 
     fn serialize_members<W: WriteExt>(&self, sequence: &mut Sequence<'_, W>) -> Result<()> {
-        self.0.serialize_member(sequence)?;
-        Seven(
-            self.1, self.2, self.3, self.4, self.5, self.6, self.7, self.8,
+        One(
+            self.0,
+            &Seven(
+                self.1, self.2, self.3, self.4, self.5, self.6, self.7, self.8,
+            ),
         )
         .serialize_members(sequence)
     }

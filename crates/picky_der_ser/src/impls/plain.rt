@@ -77,6 +77,7 @@ impl Serialize for String {
 impl Serialize for () {
     ghost meaning = { λ _. (Tree.primitive Primitive.null) };
 
+    #[tactic(auto, using(crate::proofs::Alike::primitive))]
     fn serialize<W: WriteExt>(&self, ser: &mut Serializer<W>) -> Result<usize>
         ensures plain { WritesPrimitive W.WriteExt.own Primitive.null ser.old result ser.new }
     {

@@ -11,6 +11,7 @@ use picky_der_core::misc::WriteExt;
 impl<W: WriteExt> Serializer<W> {
     /// Drops the open wrappers, writes nothing and returns 0. Nothing is allocated. The only error is the earlier one, if the
     /// serializer has failed.
+    #[tactic(auto, using(crate::proofs::Alike::writes_absent))]
     pub fn serialize_none(&mut self) -> Result<usize>
         ensures { WritesAbsent W.WriteExt.own self.old result self.new }
     {

@@ -98,6 +98,7 @@ impl<W: WriteExt> Serializer<W> {
 
     // Writes an unsigned number of any length.
     #[inline(never)]
+    #[tactic(auto, using(crate::proofs::Alike::primitive))]
     fn write_unsigned(&mut self, number: u128) -> Result<usize>
         ensures { WritesPrimitive W.WriteExt.own (Primitive.unsigned number) self.old result self.new }
     {
@@ -108,6 +109,7 @@ impl<W: WriteExt> Serializer<W> {
     /// Writes a BOOLEAN (X.690, 8.2 and 11.1). Outside wrappers, sequences and application tags nothing is allocated, and each
     /// error is the sink's. The same holds for the other calls of plain values.
     #[inline(always)]
+    #[tactic(auto, using(crate::proofs::Alike::primitive))]
     pub fn serialize_bool(&mut self, value: bool) -> Result<usize>
         ensures { WritesPrimitive W.WriteExt.own (Primitive.boolean value) self.old result self.new }
     {
@@ -148,6 +150,7 @@ impl<W: WriteExt> Serializer<W> {
 
     /// Writes a number of 128 bits.
     #[inline(always)]
+    #[tactic(auto, using(crate::proofs::Alike::unsigned))]
     pub fn serialize_u128(&mut self, value: u128) -> Result<usize>
         ensures { WritesPrimitive W.WriteExt.own (Primitive.unsigned value) self.old result self.new }
     {
@@ -159,6 +162,7 @@ impl<W: WriteExt> Serializer<W> {
     }
 
     /// Writes a number of an integer type, signed or not, as an INTEGER (X.690, 8.3).
+    #[tactic(auto, using(crate::proofs::Alike::integer))]
     pub fn serialize_int<N: Int>(&mut self, number: N) -> Result<usize>
         ensures written { WritesPlain W.WriteExt.own (integer_tree (N.number number))
             self.old result self.new }
@@ -178,6 +182,7 @@ impl<W: WriteExt> Serializer<W> {
 
     /// Writes a null (X.690, 8.8).
     #[inline(always)]
+    #[tactic(auto, using(crate::proofs::Alike::primitive))]
     pub fn serialize_unit(&mut self) -> Result<usize>
         ensures { WritesPrimitive W.WriteExt.own Primitive.null self.old result self.new }
     {
@@ -201,6 +206,7 @@ impl<W: WriteExt> Serializer<W> {
     }
 
     /// Writes a text in UTF-8 (X.690, 8.23).
+    #[tactic(auto, using(crate::proofs::Alike::primitive))]
     pub fn serialize_str(&mut self, value: &str) -> Result<usize>
         ensures { WritesPrimitive W.WriteExt.own (Primitive.text value.now) self.old result self.new }
     {

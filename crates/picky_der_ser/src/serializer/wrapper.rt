@@ -40,6 +40,7 @@ impl<W: WriteExt> Serializer<W> {
     }
 
     // Writes the value in this wrapper, inside the open ones.
+    #[tactic(auto, using(crate::proofs::WrapWrites::wrapped))]
     fn write_wrapped<T: Serialize>(&mut self, wrapper: Wrapper, value: &T) -> Result<usize>
         requires { IsTrue (can_vanish wrapper) }
         ensures wrote { IfOk result (λ n. Writes W.WriteExt.own

@@ -2,7 +2,7 @@ use Rattle.std.proofs.Common.{rules, refl, arith}
 use Rattle.std.proofs.lemmas.Result.{err_from_is_err_and}
 use Rattle.picky_der_core.specs.Tree.{ListKind}
 use Rattle.picky_der_ser.proofs.MemberWrites.{list_opened, list_wrote, list_failed, list_untouched}
-use Rattle.picky_der_ser.proofs.RowWrites.{row_gained, row_rejected, row_untouched}
+use Rattle.picky_der_ser.proofs.MemberWrites.{row_gained, row_rejected, row_untouched}
 use Rattle.picky_der_ser.proofs.members.SerializeMembers.serialize_sequence.Goals as goal
 
 pub returns-in_err-serialize_members : goal.returns-in_err-serialize_members
