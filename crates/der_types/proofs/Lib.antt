@@ -1,3 +1,4 @@
 pub mod ContentReads
 pub mod DottedLemmas
+pub mod LawProofs
 pub mod OidTexts

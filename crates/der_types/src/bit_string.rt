@@ -35,6 +35,7 @@ impl BitString {
     }
 
     /// Returns the bit string of these bits, first bit first. `OutOfMemory` if the allocation fails.
+    #[tactic(auto, using(crate::proofs::LawProofs::made_bit_string))]
     pub fn from_bits(alloc: Global, bits: &[bool]) -> Result<BitString>
         ensures ok { IfOk result (λ it. it.content.items ≡ bit_string_content bits.now) }
         ensures err { IfErr result (λ e. e ≡ Asn1DerError.OutOfMemory) }

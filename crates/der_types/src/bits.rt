@@ -53,6 +53,7 @@ fn byte_bit(byte: u8, place: u8) -> bool
 }
 
 // How many bits a content has.
+#[tactic(auto, using(crate::proofs::LawProofs::counted_bits))]
 pub(crate) fn len_of(content: &[u8]) -> u128
     requires { is_bit_string content.now ≡ true }
     ensures { result ≡ length (bits_of content.now) }

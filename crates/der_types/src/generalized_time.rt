@@ -28,6 +28,7 @@ impl GeneralizedTime {
     ghost use Rattle.der_types.specs.GeneralizedTimes.{time_key};
 
     /// This second, without a fraction. `OutOfMemory` if the allocation fails.
+    #[tactic(auto, using(crate::proofs::LawProofs::made_time))]
     pub fn from_date_time(alloc: Global, at: DateTime) -> Result<GeneralizedTime>
         ensures ok { IfOk result (λ it. it.content.items ≡ generalized_content at []) }
         ensures err { IfErr result (λ e. e ≡ Asn1DerError.OutOfMemory) }

@@ -22,6 +22,7 @@ impl Integer {
     }
 
     /// Returns the integer that is this number. `OutOfMemory` if the allocation fails.
+    #[tactic(auto, using(crate::proofs::LawProofs::made_integer))]
     pub fn from_int<N: Int>(alloc: Global, number: N) -> Result<Integer>
         ensures ok { IfOk result (λ it. it.content.items ≡ integer_content (N.number number)) }
         ensures err { IfErr result (λ e. e ≡ Asn1DerError.OutOfMemory) }

@@ -29,6 +29,7 @@ use crate::{
 pub use picky_der_core::laws::integers;
 
 /// Two values are equal by `==` exactly if their contents are the same.
+#[tactic(auto, using(crate::proofs::LawProofs::same_contents))]
 pub fn equality()
     ensures integer { IsEqualityOf ⟦<Integer as PartialEq>⟧.eq (λ it. it.content.items) }
     ensures enumerated { IsEqualityOf ⟦<Enumerated as PartialEq>⟧.eq (λ it. it.0.content.items) }
@@ -46,6 +47,7 @@ pub fn copies()
 {}
 
 /// Each valid list of arcs has a content, each content encodes a list of arcs, and different lists have different contents.
+#[tactic(auto, using(crate::proofs::LawProofs::object_identifiers))]
 pub fn object_identifiers()
     ensures made { (arcs : List ℕ) → are_arcs arcs ≡ true
         → is_object_identifier (object_identifier_content arcs) ≡ true }
@@ -57,6 +59,7 @@ pub fn object_identifiers()
 
 /// Each list of at least one arc has a content as a RELATIVE-OID, each content encodes such a list, and different lists have different
 /// contents.
+#[tactic(auto, using(crate::proofs::LawProofs::relative_oids))]
 pub fn relative_oids()
     ensures made { (arcs : List ℕ) → are_relative_arcs arcs ≡ true
         → is_relative_oid (relative_oid_content arcs) ≡ true }
@@ -72,6 +75,7 @@ pub fn sets<T: TagOrdered>()
 {}
 
 /// Each list of bits has a content, each content encodes a list of bits, and different lists have different contents.
+#[tactic(auto, using(crate::proofs::LawProofs::bit_strings))]
 pub fn bit_strings()
     ensures made { (bits : List Bool) → is_bit_string (bit_string_content bits) ≡ true }
     ensures all { (bs : List ℕ) → AreBytes bs → is_bit_string bs ≡ true
@@ -82,6 +86,7 @@ pub fn bit_strings()
 
 /// Each list of bits has a content as a list of named bits, in which zeros at the end are left out. Each such content is one of a bit
 /// string.
+#[tactic(auto, using(crate::proofs::LawProofs::named_bits))]
 pub fn named_bits()
     ensures made { (bits : List Bool)
         → is_named_bits (bit_string_content (without_zeros bits)) ≡ true }
@@ -89,12 +94,14 @@ pub fn named_bits()
 {}
 
 /// Two strings of a set are equal by `==` exactly if their contents are the same.
+#[tactic(auto, using(crate::proofs::LawProofs::same_contents))]
 pub fn string_equality<S: CharacterSet>()
     ensures { IsEqualityOf ⟦<RestrictedString<S> as PartialEq>⟧.eq (λ it. it.content.items) }
 {}
 
 /// Each text whose characters are all in a set has a content, each content encodes its characters, and different texts have different
 /// contents.
+#[tactic(auto, using(crate::proofs::LawProofs::character_strings))]
 pub fn character_strings()
     ensures made { (width : Width) (is_character : ℕ → Bool) (text : List ℕ)
         → is_string_content width is_character (string_content width text)
@@ -112,6 +119,7 @@ pub fn character_strings()
 {}
 
 /// The content of a text in ASCII is the text's UTF-8. A character of a BMPString is one code unit of UTF-16.
+#[tactic(auto, using(crate::proofs::LawProofs::unicode_contents))]
 pub fn unicode_contents()
     ensures ascii { (text : List ℕ) → IsUtf8 text → list_all is_ia5 (chars text) ≡ true
         → string_content Width.One (chars text) ≡ text }
@@ -126,6 +134,7 @@ pub fn date_times()
 {}
 
 /// Each second of the years 1950 to 2049 has a content as a UTCTime, and different seconds have different contents (X.690, 11.8).
+#[tactic(auto, using(crate::proofs::LawProofs::utc_times))]
 pub fn utc_times()
     ensures made { (t : DateTime) → 1950 ≤ t.year → t.year ≤ 2049
         → is_utc_time (utc_content t) ≡ true }
@@ -135,6 +144,7 @@ pub fn utc_times()
 
 /// Times are ordered by the number of 10^k-ths of a second from the beginning of the year 0. This holds for each k that is at least the
 /// number of digits of both fractions. They are equal exactly if their contents are the same.
+#[tactic(auto, using(crate::proofs::LawProofs::generalized_times))]
 pub fn generalized_times()
     ensures order { (k : ℕ) (x y : GeneralizedTime) → length (fraction_of x.content.items) ≤ k
         → length (fraction_of y.content.items) ≤ k

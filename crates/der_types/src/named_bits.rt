@@ -19,6 +19,7 @@ pub struct NamedBits {
 
 impl NamedBits {
     /// Returns the set of these bits, first bit first. Zeros at the end are left out. `OutOfMemory` if the allocation fails.
+    #[tactic(auto, using(crate::proofs::LawProofs::made_named_bits))]
     pub fn from_bits(alloc: Global, bits: &[bool]) -> Result<NamedBits>
         ensures ok { IfOk result (λ it. it.content.items
             ≡ bit_string_content (without_zeros bits.now)) }

@@ -52,6 +52,7 @@ impl ObjectIdentifier {
     /// The object identifier with these arcs.
     ///
     /// `TooFewArcs`, `FirstArc` and `SecondArc` where they aren't arcs of one (X.690, 8.19.4), and `OutOfMemory`.
+    #[tactic(auto, using(crate::proofs::LawProofs::made_identifier))]
     pub fn from_arcs(alloc: Global, arcs: &[u64]) -> std::result::Result<ObjectIdentifier, OidError>
         ensures arcs { OnOk result (are_arcs arcs.now ≡ true) }
         ensures ok { IfOk result (λ it. ⟦<ObjectIdentifier as Contents>⟧.content it ≡ object_identifier_content arcs.now) }

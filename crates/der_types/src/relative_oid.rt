@@ -32,6 +32,7 @@ fn content_of(alloc: Global, arcs: &[u64]) -> std::result::Result<Vec<u8>, Alloc
 
 impl RelativeOid {
     /// Returns the relative object identifier with these arcs. `TooFewArcs` if there is no arc, and `OutOfMemory` if the allocation fails.
+    #[tactic(auto, using(crate::proofs::LawProofs::made_relative))]
     pub fn from_arcs(alloc: Global, arcs: &[u64]) -> std::result::Result<RelativeOid, OidError>
         ensures arcs { OnOk result (are_relative_arcs arcs.now ≡ true) }
         ensures ok { IfOk result (λ it. it.content.items ≡ relative_oid_content arcs.now) }

@@ -26,6 +26,7 @@ pub trait Size: Serialize {
 }
 
 // How many characters a text has.
+#[tactic(auto, using(std::proofs::lemmas::Str::chars_from_encodes))]
 fn char_count(text: &str) -> usize
     ensures { result ≡ length (chars text.now) }
 {
