@@ -1,9 +1,9 @@
 -- Elements in a row, added one by one to a sequence that is being written.
 use Rattle.picky_der_core.specs.declared.misc.writer.WriteExt.{Ghosts}
 use Rattle.picky_der_core.specs.declared.error.Asn1DerError.{Asn1DerError}
-use Rattle.picky_der_core.specs.Tree.{Tree, Trees}
+use Rattle.picky_der_core.specs.Tree.{Trees}
 use Rattle.picky_der_ser.specs.State.{State}
-use Rattle.picky_der_ser.specs.Calls.{AddsRow, RefusesToAddRow, AddsInFront, RefusesInFront}
+use Rattle.picky_der_ser.specs.Calls.{AddsRow, RefusesToAddRow}
 
 module _ {W : Type 0} (g : Ghosts W) where
   -- where the rest is added, or refused, all of them are
@@ -13,12 +13,3 @@ module _ {W : Type 0} (g : Ghosts W) where
 
   pub leads_all : (ts : Trees) (a : State W) → LeadsTo ts ts a a
   leads_all ts a = record { added = λ last h. h; refused = λ e last h. h }
-
-  module _ {t : Tree} {rest all : Trees} {old now : State W} (h : LeadsTo (Trees.more t rest) all old now) where
-    -- the next one was added
-    pub leads_next : (new : State W) → AddsInFront g (Trees.more t) now new → LeadsTo rest all old new
-    leads_next new a = record { added = λ last k. h.added last (a.added rest last k); refused = λ e last k. h.refused e last (a.refused rest e last k) }
-
-    -- it was refused
-    pub leads_refused : (new : State W) (e : Asn1DerError) → RefusesInFront g (Trees.more t) now e new → RefusesToAddRow g all old e new
-    leads_refused new e r = h.refused e new (r rest)

@@ -1,4 +1,4 @@
-mod LaterWrites
+pub mod LaterWrites
 pub mod RawTags
-mod ListContents
+pub mod ListContents
 mod RoundTrips

@@ -19,3 +19,5 @@ der-list_tree t h = der-plain t (plain_list t h)
 
 pub der-retagged_list : (tag : ℕ) (t : Tree) → IsListTree t → der (Tree.wrapped (Retagged tag) t) ≡ tlv tag (content t)
 der-retagged_list tag t h = der-wrapped_present (Retagged tag) t (present_list t h) ∙ ap (tlv tag) (implicit_content-plain t (plain_list t h))
+
+pub ruleset contents = (der-list_tree, der-retagged_list)

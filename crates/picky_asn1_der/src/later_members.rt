@@ -75,6 +75,7 @@ impl<A: Alternatives> LaterMembers<A> {
 impl<A: Alternatives> SerializeMembers for LaterMembers<A> {
     ghost members = { λ it. others_of (λ raw. raw.0.items) it.elements.items };
 
+    #[tactic(auto, using(crate::proofs::LaterWrites::leads_all))]
     fn serialize_members<W: WriteExt>(
         &self,
         sequence: &mut picky_der_ser::Sequence<'_, W>,

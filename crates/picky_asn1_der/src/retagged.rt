@@ -7,6 +7,7 @@ use crate::asn1::Retagged;
 use crate::{List, Serialize};
 
 /// A list has the same content under its own tag, 30 or 31, and in a `Retagged` under `TAG`.
+#[tactic(auto, using(crate::proofs::ListContents::contents))]
 pub fn same_content<T: List, const TAG: u8>()
     ensures own { (value : T) → der (T.meaning value)
         ≡ tlv (plain_tag (T.meaning value)) (content (T.meaning value)) }
